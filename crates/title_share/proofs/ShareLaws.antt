@@ -1,0 +1,99 @@
+-- Laws of shares and their texts.
+use Rattle.std.proofs.Common.{◌≡◌, ◌≢◌, ◌<◌, ◌≤◌, ◌+◌, ◌-◌, ◌*◌, ◌^◌, ◌%◌, ◌/◌, ◌∙◌, ◌&&◌, ℕ, zero, suc, Bool, true, refl, sym, ap, subst, eqb, ltb, leb, List, [], ◌∷◌, length, get_or, arith, rules, Option}
+use Rattle.std.specs.Prelude.{MatchOption}
+use Rattle.std.specs.Str.Parse.{AllDigits, digits_value}
+use Rattle.std.proofs.lemmas.Bool.{cond-true, cond-false, eq-eqb, ne_eqb, agree_below_at, and_parts, eqb-true, ltb-true, leb-true}
+use Rattle.std.proofs.lemmas.Str.Parse.{IsNumeralModel, numerals_by_fold, tells_digits, not_in_digits, digit_at}
+use Rattle.std.proofs.lemmas.Str.Pattern.{IsSplitOnceResult, split_after}
+use denote.Ref.{Bor}
+use Rattle.std.proofs.Math.Nat.{mul_assoc, mul-le-mul, mul-le-mul_right}
+use Rattle.title_share.specs.Share.{IsNumber, IsPart, IsShareText, lowest}
+
+abbrev weighs : ℕ → Bool
+weighs k = eqb (1 * 2 ^ (32 - k) % 18446744073709551616 * 2 ^ k) 4294967296 && ltb 0 (1 * 2 ^ (32 - k) % 18446744073709551616)
+
+-- how often 2^k goes into the whole
+pub weight_is : (k : ℕ) → k < 33 → (1 * 2 ^ (32 - k) % 18446744073709551616 * 2 ^ k ≡ 4294967296) × (0 < 1 * 2 ^ (32 - k) % 18446744073709551616)
+weight_is k low =
+    let both = and_parts _ _ (agree_below_at weighs (λ _. true) 33 k refl low) in
+    (eqb-true _ _ both.0, ltb-true _ _ both.1)
+
+read_on : ℕ → List ℕ → ℕ
+read_on n [] = n
+read_on n (c ∷ cs) = read_on (n * 10 + (c - 48)) cs
+
+own : IsNumeralModel (AllDigits 10) (read_on 0)
+unfolding read_on
+own = numerals_by_fold _ tells_digits read_on (search rules)
+
+read_more : (n : ℕ) (cs : List ℕ) → n ≤ read_on n cs
+unfolding read_on
+read_more n [] = omega arith
+read_more n (c ∷ cs) = let e = read_more (n * 10 + (c - 48)) cs in omega arith
+
+some_digits : (text : List ℕ) → 0 < length text → AllDigits 10 text → get_or text 0 0 ≢ 48 → 0 < read_on 0 text
+unfolding read_on
+some_digits [] none digits lead = absurd (omega arith)
+some_digits (c ∷ cs) some digits lead =
+    let range = digit_at (c ∷ cs) 0 digits some in
+    let low : 48 ≤ c = range.0 in
+    let differs : c ≡ 48 → ⊥ = lead in
+    let e = read_more (0 * 10 + (c - 48)) cs in
+    omega arith
+
+-- a number without leading zeros is above 0
+pub number_some : (text : List ℕ) (n : ℕ) → IsNumber text n → 0 < n
+number_some text n h =
+    let e = own.same text h.digits.1 ∙ h.value in
+    subst (λ (x : ℕ). 0 < x) e (some_digits text h.digits.0 h.digits.1 h.leading)
+
+pub same_number : (text other : List ℕ) (m n : ℕ) → text ≡ other → IsNumber text m → IsNumber other n → m ≡ n
+same_number text other m n e h k = sym h.value ∙ ap (digits_value 10) e ∙ k.value
+
+abbrev power_fits : ℕ → Bool
+power_fits k = leb (2 ^ k) 4294967296
+
+abbrev power_stays : ℕ → Bool
+power_stays k = eqb (1 * 2 ^ k % 18446744073709551616) (2 ^ k)
+
+pub power_is : (k : ℕ) → k < 33 → 1 * 2 ^ k % 18446744073709551616 ≡ 2 ^ k
+power_is k low = eqb-true _ _ (agree_below_at power_stays (λ _. true) 33 k refl low)
+
+-- the numbers of a share fit
+pub part_fits : (b : ℕ) → IsPart b → b ≤ 4294967296
+part_fits b p = subst (λ (x : ℕ). x ≤ 4294967296) (sym p.2) (let low : p.0 < 33 = let h = p.1 in omega arith in leb-true _ _ (agree_below_at power_fits (λ _. true) 33 p.0 refl low))
+
+-- where a share's text is split
+pub parts_are : (bs : List ℕ) (n : ℕ) (r : Option (Bor (List ℕ) × Bor (List ℕ))) → IsSplitOnceResult 47 bs r → (s : IsShareText bs n) → MatchOption r ⊥ (λ x. (x.0.now ≡ s.top) × (x.1.now ≡ s.bottom))
+parts_are bs n r is s =
+    split_after 47 bs s.top s.bottom r is (omega arith) s.joined
+    (not_in_digits own s.top 47 s.top_is.digits.1 (λ range. let low : 48 ≤ 47 = range.0 in omega arith))
+
+pub units_product : (a w b : ℕ) → w * b ≡ 4294967296 → (a * w) * b ≡ a * 4294967296
+units_product a w b e = mul_assoc a w b ∙ ap (λ (x : ℕ). a * x) e
+
+pub units_most : (a w b : ℕ) → w * b ≡ 4294967296 → a ≤ b → a * w ≤ 4294967296
+units_most a w b e low = omega (arith, mul-le-mul_right w low)
+
+pub units_some : (a w : ℕ) → 0 < a → 0 < w → 0 < a * w
+units_some a w x y = omega (arith, mul-le-mul x y)
+
+lowest_halved : (k n : ℕ) → 0 < k → n % 2 ≡ 0 → lowest k n ≡ lowest (k - 1) (n / 2)
+unfolding lowest
+lowest_halved zero n some even = absurd (omega arith)
+lowest_halved (suc k) n some even =
+    cond-true (eqb (n % 2) 0) _ _ (eq-eqb (n % 2) 0 even) ∙ ap (λ (j : ℕ). lowest j (n / 2)) (let e : k ≡ suc k - 1 = omega arith in e)
+
+lowest_stays : (k n : ℕ) → (0 < k → n % 2 ≡ 0 → ⊥) → lowest k n ≡ (n, 2 ^ k)
+unfolding lowest
+lowest_stays zero n odd = refl
+lowest_stays (suc k) n odd = cond-false (eqb (n % 2) 0) _ _ (ne_eqb (n % 2) 0 (odd (omega arith)))
+
+-- a turn of the loop that reduces
+pub reduced_more : (start : ℕ × ℕ) (k n : ℕ) → 0 < k → n % 2 ≡ 0 → start ≡ lowest k n → start ≡ lowest (k - 1) (n / 2)
+reduced_more start k n some even e = e ∙ lowest_halved k n some even
+
+pub reduced_done : (start : ℕ × ℕ) (k n : ℕ) → k ≤ 32 → (0 < k → n % 2 ≡ 0 → ⊥) → start ≡ lowest k n → ◌≡◌ {A = ℕ × ℕ} (n, 1 * 2 ^ k % 18446744073709551616) start
+reduced_done start k n low odd e =
+    let pow = power_is k (let h : k < 33 = omega arith in h) in
+    ap (λ (x : ℕ). (n, x)) pow ∙ sym (lowest_stays k n odd) ∙ sym e

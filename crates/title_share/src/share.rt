@@ -1,0 +1,106 @@
+//! Shares of a whole.
+
+ghost use Rattle.std.specs.Prelude.{◌≡◌, ◌≤◌, ◌<◌, ◌*◌, ◌^◌, ℕ, MatchOption, Some};
+ghost use Rattle.title_share.specs.Share.{IsNumber, IsPart, IsShareText, lowest, share_text};
+
+use std::fmt;
+use std::marker::Model;
+
+/// A share of a whole: from 1 to 4,294,967,296 units, which are the whole.
+#[derive(Clone, Copy, Debug, PartialEq, Eq)]
+pub struct Share {
+    units: u64,
+}
+
+impl Model for Share {
+    ghost use Rattle.std.specs.Prelude.{ℕ, ◌≤◌, ◌<◌};
+
+    ghost Value = { ℕ };
+
+    ghost view = { λ s. s.units };
+
+    ghost invariant = { λ s. (0 < s.units) × (s.units ≤ 4294967296) };
+
+    ghost inverse = { λ n. record { units = n } };
+}
+
+// A number in decimal, without leading zeros, where it fits.
+fn number(text: &str) -> Option<u64>
+    ensures number { MatchOption result ((n : ℕ) → n < 2 ^ 64 → IsNumber text.now n → ⊥) (λ n. IsNumber text.now n) }
+{
+    match text.as_bytes() {
+        [b'1'..=b'9', ..] => text.parse::<u64>().ok(),
+        _ => None,
+    }
+}
+
+// How often a power of two goes into the whole.
+fn weight(bottom: u64) -> Option<u64>
+    ensures weight { MatchOption result (IsPart bottom → ⊥) (λ w. IsPart bottom × (w * bottom ≡ 4294967296) × (0 < w)) }
+{
+    for k in 0..33u32 {
+        if bottom == 1 << k {
+            return Some(1 << (32 - k));
+        }
+    }
+    None
+}
+
+impl Share {
+    /// The share that a text `a/b` names, a/b of the whole. `None` where it names none: both are
+    /// decimal numbers without leading zeros, b is a power of two up to the whole, 1 <= a <= b.
+    pub fn parse(text: &str) -> Option<Share>
+        ensures share { MatchOption result ((n : ℕ) → IsShareText text.now n → ⊥) (λ s. IsShareText text.now s) }
+    {
+        let Some((top, bottom)) = text.split_once('/') else {
+            return None;
+        };
+        let Some(top) = number(top) else {
+            return None;
+        };
+        let Some(bottom) = number(bottom) else {
+            return None;
+        };
+        let Some(weight) = weight(bottom) else {
+            return None;
+        };
+        if top > bottom {
+            return None;
+        }
+        Some(Share {
+            units: top * weight,
+        })
+    }
+
+    /// Its units, from 1 to the whole.
+    pub fn units(self) -> u64
+        ensures units { result ≡ self }
+        ensures some { 0 < result }
+        ensures most { result ≤ 4294967296 }
+    {
+        self.units
+    }
+}
+
+// Units in lowest terms: the number above the line, and the one below.
+fn reduced(units: u64) -> (u64, u64)
+    ensures lowest { (result.0, result.1) ≡ lowest 32 units }
+{
+    let mut above = units;
+    let mut exponent = 32u32;
+    while exponent > 0 && above % 2 == 0 {
+        above /= 2;
+        exponent -= 1;
+    }
+    (above, 1 << exponent)
+}
+
+/// The share in lowest terms, as `3/8`; the whole is `1/1`.
+impl fmt::Display for Share {
+    ghost output = { λ s. Some (share_text s) };
+
+    fn fmt<W: fmt::Write>(&self, f: &mut fmt::Formatter<W>) -> fmt::Result {
+        let (above, below) = reduced(self.units);
+        write!(f, "{above}/{below}")
+    }
+}
