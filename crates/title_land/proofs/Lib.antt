@@ -1,0 +1,3 @@
+pub mod Ranges
+pub mod CoverLaws
+pub mod Doubled

@@ -1,0 +1,48 @@
+-- Sets of a section's cells.
+use Rattle.std.specs.Prelude.{◌≡◌, ℕ, zero, suc, ◌+◌, Bool, true, false, ◌&&◌, ◌||◌, List, [], ◌∷◌, slice_get, unwrap_or, option_and_then, sum_by, count_by}
+use Rattle.std.specs.List.{list_any}
+use Rattle.title_land.specs.declared.grid.Grid.{Grid}
+use Rattle.title_land.specs.declared.rectangle.Rectangle.{Rectangle}
+
+-- the cell of this row and column lies in the set; off the grid no cell does
+abbrev pub grid_has : Grid → ℕ → ℕ → Bool
+grid_has g row column = unwrap_or (option_and_then (λ cells. slice_get cells column) (slice_get g.rows row)) false
+
+-- a test holds at each of n numbers from start on
+abbrev pub range_all : (ℕ → Bool) → ℕ → ℕ → Bool
+range_all test start zero = true
+range_all test start (suc n) = test start && range_all test (start + 1) n
+
+-- a set has each cell of a rectangle in one row
+abbrev pub row_fills : (ℕ → ℕ → Bool) → Rectangle → ℕ → Bool
+row_fills has r row = range_all (λ column. has row column) r.left r.width
+
+-- a set has each cell of a rectangle
+abbrev pub fills : (ℕ → ℕ → Bool) → Rectangle → Bool
+fills has r = range_all (λ row. row_fills has r row) r.top r.height
+
+-- two rows of cells have one in common
+abbrev pub rows_meet : List Bool → List Bool → Bool
+rows_meet [] cells = false
+rows_meet (a ∷ row) [] = false
+rows_meet (a ∷ row) (b ∷ cells) = (a && b) || rows_meet row cells
+
+abbrev pub lists_meet : List (List Bool) → List (List Bool) → Bool
+lists_meet [] rows = false
+lists_meet (a ∷ more) [] = false
+lists_meet (a ∷ more) (b ∷ rows) = rows_meet a b || lists_meet more rows
+
+-- two sets share a cell
+abbrev pub grids_meet : Grid → Grid → Bool
+grids_meet g h = lists_meet g.rows h.rows
+
+-- a set has a cell
+abbrev pub has_some : Grid → Bool
+has_some g = list_any (λ row. list_any (λ cell. cell) row) g.rows
+
+abbrev pub row_count : List Bool → ℕ
+row_count row = count_by (λ cell. cell) row
+
+-- the number of cells in a set
+abbrev pub cell_count : Grid → ℕ
+cell_count g = sum_by row_count g.rows

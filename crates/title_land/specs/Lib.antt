@@ -1,0 +1,6 @@
+pub mod Places
+pub mod Rectangles
+pub mod Nodes
+pub mod Grids
+pub mod Covers
+pub mod Lands

@@ -1,0 +1,104 @@
+-- Nodes of the tree of tracts, and the cells that each has.
+use Rattle.std.specs.Prelude.{◌≡◌, ℕ, Bool, true, false, ◌&&◌, ◌||◌, ◌==◌, List, [], ◌∷◌, ◌++◌, Option, Some, None}
+use Rattle.std.specs.List.{list_any}
+use Rattle.title_land.specs.declared.place.Township.{Township}
+use Rattle.title_land.specs.declared.place.Section.{Section}
+use Rattle.title_land.specs.declared.place.Cell.{Cell}
+use Rattle.title_land.specs.declared.rectangle.Quarter.{Quarter}
+use Rattle.title_land.specs.declared.rectangle.Quarter.TheVariants.{Northeast, Northwest, Southwest, Southeast}
+use Rattle.title_land.specs.declared.rectangle.Rectangle.{Rectangle}
+use Rattle.title_land.specs.declared.node.Within.{Within}
+use Rattle.title_land.specs.declared.node.Within.TheVariants as within
+use Rattle.title_land.specs.declared.node.Node.{Node}
+use Rattle.title_land.specs.declared.node.Node.TheVariants as node
+use Rattle.title_land.specs.Places.{same_township, same_section}
+use Rattle.title_land.specs.Rectangles.{section_square, quarter_of, holds}
+
+-- a square's quarters, the innermost first
+abbrev pub path : Within → List Quarter
+path within.Whole = []
+path (within.Quarter a) = a ∷ []
+path (within.Sixteenth a b) = a ∷ b ∷ []
+path (within.Cell a b c) = a ∷ b ∷ c ∷ []
+
+-- the square with these quarters, of which there are three at most
+abbrev pub within_at : List Quarter → Within
+within_at [] = within.Whole
+within_at (a ∷ []) = within.Quarter a
+within_at (a ∷ b ∷ []) = within.Sixteenth a b
+within_at (a ∷ b ∷ c ∷ more) = within.Cell a b c
+
+-- the cells of the square with these quarters
+abbrev pub square : ℕ → List Quarter → Rectangle
+square depth [] = section_square depth
+square depth (q ∷ quarters) = quarter_of q (square depth quarters)
+
+-- the quarters in their order
+abbrev pub quarters : List Quarter
+quarters = Northeast ∷ Northwest ∷ Southwest ∷ Southeast ∷ []
+
+abbrev pub in_quarter : Bool → Bool → Bool → Bool → Quarter → Bool
+in_quarter a b c d Northeast = a
+in_quarter a b c d Northwest = b
+in_quarter a b c d Southwest = c
+in_quarter a b c d Southeast = d
+
+abbrev pub same_quarter : Quarter → Quarter → Bool
+same_quarter Northeast = in_quarter true false false false
+same_quarter Northwest = in_quarter false true false false
+same_quarter Southwest = in_quarter false false true false
+same_quarter Southeast = in_quarter false false false true
+
+abbrev pub same_path : List Quarter → List Quarter → Bool
+same_path [] [] = true
+same_path [] (b ∷ q) = false
+same_path (a ∷ p) [] = false
+same_path (a ∷ p) (b ∷ q) = same_quarter a b && same_path p q
+
+-- the nodes are one
+abbrev pub same_node : Node → Node → Bool
+same_node node.Everything node.Everything = true
+same_node node.Everything (node.Township u) = false
+same_node node.Everything (node.Part u w) = false
+same_node (node.Township t) node.Everything = false
+same_node (node.Township t) (node.Township u) = same_township t u
+same_node (node.Township t) (node.Part u w) = false
+same_node (node.Part s v) node.Everything = false
+same_node (node.Part s v) (node.Township u) = false
+same_node (node.Part s v) (node.Part u w) = same_section s u && same_path (path v) (path w)
+
+-- the square above, which for the section's own is the township
+abbrev pub parent_in : Section → List Quarter → Node
+parent_in s [] = node.Township s.township
+parent_in s (q ∷ quarters) = node.Part s (within_at quarters)
+
+-- the node above; the whole plant has none
+abbrev pub parent_of : Node → Option Node
+parent_of node.Everything = None
+parent_of (node.Township t) = Some node.Everything
+parent_of (node.Part s w) = Some (parent_in s (path w))
+
+-- the squares above one with these quarters, the nearest first
+abbrev pub above_in : Section → List Quarter → List Node
+above_in s [] = []
+above_in s (q ∷ quarters) = node.Part s (within_at quarters) ∷ above_in s quarters
+
+-- the nodes above a node, the nearest first
+abbrev pub above : Node → List Node
+above node.Everything = []
+above (node.Township t) = node.Everything ∷ []
+above (node.Part s w) = above_in s (path w) ++ (node.Township s.township ∷ node.Everything ∷ [])
+
+-- the first node lies above the second
+abbrev pub is_above : Node → Node → Bool
+is_above a b = list_any (same_node a) (above b)
+
+-- the nodes are one, or one lies above the other
+abbrev pub are_related : Node → Node → Bool
+are_related a b = same_node a b || (is_above a b || is_above b a)
+
+-- the cell lies in the node; the whole plant has the cells of every township that has a name
+abbrev pub node_has : ℕ → Node → Cell → Bool
+node_has depth node.Everything c = true
+node_has depth (node.Township t) c = same_township t c.section.township
+node_has depth (node.Part s w) c = same_section s c.section && holds (square depth (path w)) c.row c.column

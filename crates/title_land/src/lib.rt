@@ -1,0 +1,15 @@
+//! Land of the public survey as sets of cells: townships, sections, their quarters down to cells, and tracts.
+#![tactic(auto)]
+
+pub mod cover;
+pub mod grid;
+pub mod node;
+pub mod place;
+pub mod rectangle;
+pub mod tract;
+
+pub use grid::Grid;
+pub use node::{Node, Within};
+pub use place::{Cell, Section, Township};
+pub use rectangle::{DEPTH, Half, Quarter, Rectangle, SIDE, Step};
+pub use tract::{Land, Tract};
