@@ -1,0 +1,27 @@
+-- Who passes units to whom by an instrument, in which estates, and what it reserves.
+use Rattle.std.specs.Prelude.{ℕ, Option, None, slice_index_or}
+use Rattle.title_instrument.specs.declared.parts.Estate.{Estate}
+use Rattle.title_instrument.specs.declared.parts.Estates.{Estates}
+use Rattle.title_instrument.specs.declared.instrument.Instrument.{Instrument}
+use Rattle.title_instrument.specs.declared.instrument.Instrument.TheVariants as i
+use Rattle.title_instrument.specs.declared.instrument.Deed.{Deed}
+use Rattle.title_instrument.specs.Estates.{place_in}
+
+-- the party that passes units: a deed's grantor, or the releasor
+abbrev pub grantor_of : Instrument → ℕ
+grantor_of (i.Deed d) = d.grantor
+grantor_of (i.Release r) = r.«from»
+
+-- the party to which they pass
+abbrev pub grantee_of : Instrument → ℕ
+grantee_of (i.Deed d) = d.grantee
+grantee_of (i.Release r) = r.to
+
+-- the estates that are named
+abbrev pub estates_of : Instrument → Estates
+estates_of (i.Deed d) = d.estates
+estates_of (i.Release r) = r.estates
+
+-- what a deed reserves in an estate, if anything
+abbrev pub reservation_of : Deed → Estate → Option ℕ
+reservation_of d e = slice_index_or d.reserve (place_in e) None

@@ -1,0 +1,148 @@
+//! Deeds and releases.
+
+ghost use Rattle.std.specs.Prelude.{◌≡◌, ◌≤◌, Some, None, MatchResult, IfOk};
+ghost use Rattle.title_instrument.specs.Parties.{grantor_of, grantee_of, estates_of, reservation_of};
+ghost use Rattle.title_instrument.specs.Passing.{reserved, passes};
+ghost use Rattle.title_instrument.specs.Check.{reserves_unnamed, has_stray, first_cause};
+
+use crate::parts::{Cause, Estate, Estates, Quantum, Rule};
+use title_share::Share;
+
+/// A deed: the grantor passes the quantum of each named estate, less what it reserves there, to
+/// the grantee. Parties go by number; a reservation is a share of the whole.
+#[derive(Clone, Copy, Debug, PartialEq, Eq)]
+pub struct Deed {
+    pub grantor: u32,
+    pub grantee: u32,
+    pub estates: Estates,
+    pub quantum: Quantum,
+    /// What is reserved in S, O and M.
+    pub reserve: [Option<Share>; 3],
+}
+
+/// A release: a party passes all that it holds in each named estate.
+#[derive(Clone, Copy, Debug, PartialEq, Eq)]
+pub struct Release {
+    pub from: u32,
+    pub to: u32,
+    pub estates: Estates,
+}
+
+/// What is posted.
+#[derive(Clone, Copy, Debug, PartialEq, Eq)]
+pub enum Instrument {
+    Deed(Deed),
+    Release(Release),
+}
+
+impl Deed {
+    // What is reserved in an estate.
+    fn reservation(&self, estate: Estate) -> Option<Share>
+        ensures reservation { result ≡ reservation_of self.now estate }
+    {
+        match estate {
+            Estate::S => self.reserve[0],
+            Estate::O => self.reserve[1],
+            Estate::M => self.reserve[2],
+        }
+    }
+
+    // The units that are reserved in an estate.
+    fn reserved(&self, estate: Estate) -> u64
+        ensures reserved { result ≡ reserved self.now estate }
+    {
+        match self.reservation(estate) {
+            Some(share) => share.units(),
+            None => 0,
+        }
+    }
+
+    // Whether something is reserved in an estate that isn't named.
+    fn reserves_unnamed(&self, estate: Estate) -> bool
+        ensures unnamed { result ≡ reserves_unnamed self.now estate }
+    {
+        !self.estates.has(estate) && self.reservation(estate).is_some()
+    }
+}
+
+impl Instrument {
+    /// The party that passes units: a deed's grantor, or the releasor.
+    pub fn grantor(&self) -> u32
+        ensures grantor { result ≡ grantor_of self.now }
+    {
+        match self {
+            Instrument::Deed(deed) => deed.grantor,
+            Instrument::Release(release) => release.from,
+        }
+    }
+
+    /// The party to which they pass.
+    pub fn grantee(&self) -> u32
+        ensures grantee { result ≡ grantee_of self.now }
+    {
+        match self {
+            Instrument::Deed(deed) => deed.grantee,
+            Instrument::Release(release) => release.to,
+        }
+    }
+
+    /// The estates that are named.
+    pub fn estates(&self) -> Estates
+        ensures estates { result ≡ estates_of self.now }
+    {
+        match self {
+            Instrument::Deed(deed) => deed.estates,
+            Instrument::Release(release) => release.estates,
+        }
+    }
+
+    /// The units that pass in an estate, from a grantor that holds `held`, or the first rule that
+    /// refuses. No rule refuses a release.
+    pub fn passes(&self, estate: Estate, held: u64) -> Result<u64, Rule>
+        ensures passes { result ≡ passes self.now estate held }
+        ensures within { IfOk result (λ n. n ≤ held) }
+    {
+        if !self.estates().has(estate) {
+            return Ok(0);
+        }
+        match self {
+            Instrument::Deed(deed) => deed.quantum.passed(deed.reserved(estate), held),
+            Instrument::Release(_) => Ok(held),
+        }
+    }
+
+    // Whether something is reserved in an estate that isn't named.
+    fn has_stray(&self) -> bool
+        ensures stray { result ≡ has_stray self.now }
+    {
+        match self {
+            Instrument::Deed(deed) => {
+                deed.reserves_unnamed(Estate::S)
+                    || deed.reserves_unnamed(Estate::O)
+                    || deed.reserves_unnamed(Estate::M)
+            }
+            Instrument::Release(_) => false,
+        }
+    }
+
+    /// Whether the instrument can stand among so many parties, which are numbered from 0, or else
+    /// the first cause why not.
+    #[tactic(auto, using(std::proofs::lemmas::Bool::Decides::nat_tests), unfolding(crate::specs::Check::first_cause))]
+    pub fn check(&self, parties: u32) -> Result<(), Cause>
+        ensures cause { MatchResult result (λ _. first_cause parties self.now ≡ None) (λ c. first_cause parties self.now ≡ Some c) }
+    {
+        if self.grantor() >= parties || self.grantee() >= parties {
+            return Err(Cause::Party);
+        }
+        if self.grantor() == self.grantee() {
+            return Err(Cause::SameParty);
+        }
+        if self.estates().is_empty() {
+            return Err(Cause::NoEstate);
+        }
+        if self.has_stray() {
+            return Err(Cause::Reservation);
+        }
+        Ok(())
+    }
+}

@@ -1,0 +1,10 @@
+//! Deeds and releases, and what they do to the owners of one cell.
+#![tactic(auto)]
+
+pub mod instrument;
+pub mod owners;
+pub mod parts;
+
+pub use instrument::{Deed, Instrument, Release};
+pub use owners::{Effect, Owners};
+pub use parts::{Cause, Estate, Estates, Quantum, Rule};

@@ -1,0 +1,164 @@
+//! The parts of an instrument, and of the answers that it gets.
+
+ghost use Rattle.std.specs.Prelude.{◌≡◌, ◌≤◌, ◌↔◌, ℕ, IsTrue, IfOk, IfSome, MatchOption, Some};
+ghost use Rattle.title_instrument.specs.Estates.{names, names_none, estate_text, estates_text};
+ghost use Rattle.title_instrument.specs.Numbers.{rule_number, cause_number};
+ghost use Rattle.title_instrument.specs.Passing.{IsNamed, units_named, passed};
+
+use std::fmt;
+use title_share::{Share, WHOLE};
+
+/// What of a cell is owned: the surface, the oil and gas, the other minerals.
+#[derive(Clone, Copy, Debug, PartialEq, Eq, PartialOrd, Ord)]
+pub enum Estate {
+    S,
+    O,
+    M,
+}
+
+/// The estates that an instrument names.
+#[derive(Clone, Copy, Debug, PartialEq, Eq)]
+pub struct Estates {
+    pub s: bool,
+    pub o: bool,
+    pub m: bool,
+}
+
+/// How much a deed names: a share of the whole, or of what the grantor holds.
+#[derive(Clone, Copy, Debug, PartialEq, Eq)]
+pub enum Quantum {
+    Whole(Share),
+    Interest(Share),
+}
+
+/// Why a cell refuses an instrument: the grantor holds nothing or less than is named, the interest
+/// is no whole number of units, or more is reserved than named.
+#[derive(Clone, Copy, Debug, PartialEq, Eq)]
+pub enum Rule {
+    ShortTitle,
+    TooFine,
+    OverReserved,
+}
+
+/// Why an instrument can't stand: a party's number is too high, it goes to the party that it comes
+/// from, it names no estate, or it has a reservation for an estate that it doesn't name.
+#[derive(Clone, Copy, Debug, PartialEq, Eq)]
+pub enum Cause {
+    Party,
+    SameParty,
+    NoEstate,
+    Reservation,
+}
+
+/// The estate's letter.
+impl fmt::Display for Estate {
+    ghost output = { λ e. Some (estate_text e) };
+
+    fn fmt<W: fmt::Write>(&self, f: &mut fmt::Formatter<W>) -> fmt::Result {
+        f.write_str(match self {
+            Estate::S => "S",
+            Estate::O => "O",
+            Estate::M => "M",
+        })
+    }
+}
+
+/// The letters of the estates that are named, in order, as `SOM`.
+impl fmt::Display for Estates {
+    ghost output = { λ e. Some (estates_text e) };
+
+    fn fmt<W: fmt::Write>(&self, f: &mut fmt::Formatter<W>) -> fmt::Result {
+        let s = if self.s { "S" } else { "" };
+        let o = if self.o { "O" } else { "" };
+        let m = if self.m { "M" } else { "" };
+        write!(f, "{s}{o}{m}")
+    }
+}
+
+impl Estates {
+    /// Whether an estate is named.
+    pub fn has(self, estate: Estate) -> bool
+        ensures has { result ≡ names self estate }
+    {
+        match estate {
+            Estate::S => self.s,
+            Estate::O => self.o,
+            Estate::M => self.m,
+        }
+    }
+
+    /// Whether no estate is named.
+    pub fn is_empty(self) -> bool
+        ensures empty { result ≡ names_none self }
+    {
+        !(self.s || self.o || self.m)
+    }
+}
+
+impl Rule {
+    /// The rule's number: 11 to 13.
+    pub fn number(self) -> u32
+        ensures number { result ≡ rule_number self }
+    {
+        match self {
+            Rule::ShortTitle => 11,
+            Rule::TooFine => 12,
+            Rule::OverReserved => 13,
+        }
+    }
+}
+
+impl Cause {
+    /// The cause's number: 1 to 4.
+    pub fn number(self) -> u32
+        ensures number { result ≡ cause_number self }
+    {
+        match self {
+            Cause::Party => 1,
+            Cause::SameParty => 2,
+            Cause::NoEstate => 3,
+            Cause::Reservation => 4,
+        }
+    }
+}
+
+impl Quantum {
+    /// The units that are named, of `held` units of the grantor. `None` where an interest is no
+    /// whole number of units.
+    pub fn units(self, held: u64) -> Option<u64>
+        ensures units { result ≡ units_named self held }
+        ensures named { MatchOption result ((m : ℕ) → IsNamed self held m → ⊥) (IsNamed self held) }
+    {
+        match self {
+            Quantum::Whole(share) => Some(share.units()),
+            Quantum::Interest(share) => {
+                let product = u128::from(share.units()) * u128::from(held);
+                if product % u128::from(WHOLE) != 0 {
+                    return None;
+                }
+                Some((product / u128::from(WHOLE)) as u64)
+            }
+        }
+    }
+
+    /// The units that pass from a grantor that holds `held`, `reserved` of those named being
+    /// reserved, or the first rule that refuses.
+    pub fn passed(self, reserved: u64, held: u64) -> Result<u64, Rule>
+        ensures passed { result ≡ passed self reserved held }
+        ensures within { IfOk result (λ n. n ≤ held) }
+    {
+        if held == 0 {
+            return Err(Rule::ShortTitle);
+        }
+        let Some(units) = self.units(held) else {
+            return Err(Rule::TooFine);
+        };
+        if units > held {
+            return Err(Rule::ShortTitle);
+        }
+        if units < reserved {
+            return Err(Rule::OverReserved);
+        }
+        Ok(units - reserved)
+    }
+}
