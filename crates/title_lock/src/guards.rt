@@ -7,6 +7,7 @@ ghost use Rattle.title_lock.specs.Asking.{mode_at};
 
 use crate::modes::Mode;
 use std::alloc::Global;
+use thiserror::Error;
 use title_land::{Node, Tract};
 
 /// What a tract is asked for.
@@ -25,11 +26,13 @@ pub struct Entry {
 }
 
 /// Why an access isn't granted.
-#[derive(Clone, Copy, Debug, PartialEq, Eq, Drop)]
+#[derive(Clone, Copy, Debug, PartialEq, Eq, Drop, Error)]
 pub enum LockFault {
     /// Another examiner's entry overlaps it: they share a cell and one is a post. The least such examiner.
+    #[error("examiner {0} is in the way")]
     Conflict(u32),
     /// A growth was refused; nobody was in the way.
+    #[error("out of memory")]
     Memory,
 }
 
