@@ -4,3 +4,4 @@ pub mod Nodes
 pub mod Grids
 pub mod Covers
 pub mod Lands
+pub mod CellLists
