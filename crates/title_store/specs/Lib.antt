@@ -1,0 +1,3 @@
+pub mod Plants
+pub mod Loans
+pub mod Sheets

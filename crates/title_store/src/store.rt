@@ -1,0 +1,94 @@
+//! What every store of a plant promises.
+
+ghost use Rattle.std.specs.Prelude.{◌≡◌, ℕ, IfOk, OnOk, OnErr, List, [], true, cond};
+ghost use Rattle.title_land.specs.declared.place.Cell.{Cell};
+ghost use Rattle.title_land.specs.declared.place.Township.{Township};
+ghost use Rattle.title_land.specs.Lands.{is_in_plant};
+ghost use Rattle.title_instrument.specs.Owners.{opening_owners};
+ghost use Rattle.title_store.specs.Plants.{Plant, SameContent, IsEachOnce, is_cell_of, plant_effect, refused_in};
+ghost use Rattle.title_store.specs.Loans.{Loan, IsOut, IsLentAs, IsLast, IsFirst, IsTaken, PutBy, without};
+ghost use Rattle.title_store.specs.Sheets.{sheet_of};
+
+use crate::sheet_row::SheetRow;
+use std::alloc::{AllocError, Global};
+use title_instrument::{Estate, Instrument, Rule};
+use title_land::{Node, Township, Tract};
+
+/// What came of a put: the before-image of the tract's cells, or the rule and the estate by which the first failing
+/// cell refused the instrument, and the node of the tract's cover in which that cell lies.
+#[derive(Debug, Drop)]
+pub enum Put<I> {
+    Done(I),
+    Refused(Rule, Estate, Node),
+}
+
+/// A plant with the before-images of posts that may still be undone. A contract sees the owners of each cell, the
+/// declared townships and the list of images that are out; an image is a token that carries its number alone.
+pub trait Store {
+    /// A before-image: it goes back by `restore` or is let go by `forget`, once.
+    type Image: Drop;
+
+    /// The owners of each cell.
+    ghost content: { Self → Plant };
+
+    /// The declared townships, in their order.
+    ghost declared: { Self → List Township };
+
+    /// The images that are out, in the order of their puts.
+    ghost out: { Self → List Loan };
+
+    /// The number of an image.
+    ghost number: { Self.Image → ℕ };
+
+    /// The opening plant of these townships: party 0 owns all of each estate in every cell.
+    fn open(alloc: Global, townships: &[Township]) -> Result<Self, AllocError>
+        requires once { IsEachOnce townships.now }
+        ensures content { IfOk result (λ s. SameContent (λ c. opening_owners) (content s)) }
+        ensures declared { IfOk result (λ s. declared s ≡ townships.now) }
+        ensures out { IfOk result (λ s. out s ≡ []) };
+
+    /// Posts an instrument in all cells of a tract, or in none. `Err` changes nothing.
+    fn put(
+        &mut self,
+        tract: &Tract,
+        instrument: &Instrument,
+    ) -> Result<Put<Self::Image>, AllocError>
+        requires within { is_in_plant (declared self.old) tract.now ≡ true }
+        ensures put { IfOk result (λ put. PutBy put (refused_in 3 (declared self.old) instrument.now (content self.old) tract.now)
+            (λ image. IsTaken (number image) (declared self.old) tract.now (content self.old) (out self.old) (out self.new))
+            (out self.new ≡ out self.old)) }
+        ensures content { OnOk result (SameContent
+            (plant_effect 3 (declared self.old) instrument.now (content self.old) tract.now) (content self.new)) }
+        ensures declared { declared self.new ≡ declared self.old }
+        ensures err_content { OnErr result (SameContent (content self.old) (content self.new)) }
+        ensures err_out { OnErr result (out self.new ≡ out self.old) };
+
+    /// Puts back what an image's cells held before its put. Takes no memory.
+    fn restore(&mut self, image: Self::Image)
+        requires out { IsOut (number image) (out self.old) }
+        requires last { IsLast (number image) (out self.old) }
+        ensures content { (b : Loan) → IsLentAs b (number image) (out self.old) → SameContent
+            (λ c. cond (is_cell_of 3 (declared self.old) b.land c) (b.held c) (content self.old c)) (content self.new) }
+        ensures declared { declared self.new ≡ declared self.old }
+        ensures out { out self.new ≡ without (number image) (out self.old) };
+
+    /// Lets an image go: its put will not be undone. Takes no memory.
+    fn forget(&mut self, image: Self::Image)
+        requires out { IsOut (number image) (out self.old) }
+        requires first { IsFirst (number image) (out self.old) }
+        ensures content { SameContent (content self.old) (content self.new) }
+        ensures declared { declared self.new ≡ declared self.old }
+        ensures out { out self.new ≡ without (number image) (out self.old) };
+
+    /// The sheet of a tract: for each estate, for each node of the cover, the owners of its cells.
+    fn sheet(&self, alloc: Global, tract: &Tract) -> Result<Vec<SheetRow>, AllocError>
+        requires within { is_in_plant (declared self.now) tract.now ≡ true }
+        ensures sheet { IfOk result (λ rows. rows.items ≡ sheet_of 3 (declared self.now) (content self.now) tract.now) };
+
+    /// Tidies up while no image is out. Takes no memory and changes nothing that a contract sees.
+    fn tidy(&mut self)
+        requires none { out self.old ≡ [] }
+        ensures content { SameContent (content self.old) (content self.new) }
+        ensures declared { declared self.new ≡ declared self.old }
+        ensures out { out self.new ≡ [] };
+}
