@@ -1,8 +1,9 @@
 -- Laws of divisions.
-use Rattle.std.proofs.Common.{◌≡◌, ◌≤◌, ◌+◌, ◌-◌, ◌∙◌, ◌||◌, ℕ, Bool, true, false, cond, refl, sym, ap, subst, eqb, List, [], ◌∷◌, arith}
+use Rattle.std.proofs.Common.{◌≡◌, ◌↔◌, ◌≤◌, ◌+◌, ◌-◌, ◌∙◌, ◌||◌, ℕ, Bool, true, false, cond, refl, sym, ap, subst, eqb, List, [], ◌∷◌, arith}
 use Rattle.std.proofs.lemmas.Bool.{and_parts, and_from, eqb-true, eq-eqb, ne_eqb, or_parts, eqb-false, cond-false, cond-true}
+use Rattle.std.proofs.lemmas.Bool.Decides.{nat_tests}
 use Rattle.title_share.specs.Rows.{units_in, total, in_order, is_division, with_units, moved_rows, whole_units}
-use Rattle.title_share.specs.Division.{Division, rows_of, rows_divide, same_rows, all_to, checked, division_or, division_of, units_of, moved}
+use Rattle.title_share.specs.Division.{Division, rows_of, rows_divide, same_rows, all_to, checked, division_or, division_of, units_of, units_after, moved}
 use Rattle.title_share.proofs.RowLaws.{order_with, total_with, units_with, units_within, rows_same}
 
 -- the rows of the division in which a party has the whole
@@ -10,6 +11,11 @@ pub rows-all_to : (party : ℕ) → rows_of (all_to party) ≡ (party, whole_uni
 unfolding rows_of all_to
 rows-all_to party = refl
 
+-- what each party has where one has the whole
+pub units-all_to : (q party : ℕ) → units_of q (all_to party) ≡ cond (eqb party q) whole_units 0
+units-all_to q party = ap (units_in q) (rows-all_to party)
+
+-- rows that pass the test are those of the division
 rows-checked : (rows : List (ℕ × ℕ)) (b : Bool) (e : is_division rows ≡ b) (other : Division) → b ≡ true → rows_of (checked rows b e other) ≡ rows
 unfolding rows_of checked
 rows-checked rows true e other h = refl
@@ -95,13 +101,17 @@ pub moved_steps : (from to n : ℕ) (d : Division) (start mid end : List (ℕ ×
 moved_steps from to n d start mid end u v enough some apart s a b m e =
     moved_is from to n d end enough some apart (let is : end ≡ with_units to (units_of to d + n) (with_units from (units_of from d - n) (rows_of d)) = cc in is)
 
+-- the two rows that a move sets, in the words of `units_after`
+in_units : (from to n q : ℕ) (had : ℕ → ℕ) →
+    cond (eqb n 0 || eqb from to) (had q) (cond (eqb to q) (had to + n) (cond (eqb from q) (had from - n) (had q))) ≡ units_after from to n had q
+in_units from to n q had = grind (arith, nat_tests)
+
 units_either : (b : Bool) (q : ℕ) (xs ys : List (ℕ × ℕ)) → units_in q (cond b xs ys) ≡ cond b (units_in q xs) (units_in q ys)
 units_either true q xs ys = refl
 units_either false q xs ys = refl
 
 -- what each party has after a move
-pub units-moved : (q from to n : ℕ) (d : Division) → n ≤ units_of from d →
-    units_of q (moved from to n d) ≡ cond (eqb n 0 || eqb from to) (units_of q d) (cond (eqb to q) (units_of to d + n) (cond (eqb from q) (units_of from d - n) (units_of q d)))
+pub units-moved : (q from to n : ℕ) (d : Division) → n ≤ units_of from d → units_of q (moved from to n d) ≡ units_after from to n (λ p. units_of p d) q
 units-moved q from to n d enough =
     let rows = rows_of d in
     let ordered = ordered_rows d in
@@ -111,7 +121,12 @@ units-moved q from to n d enough =
     ∙ ap (cond (eqb n 0 || eqb from to) (units_of q d))
     (units_with q to (units_in to rows + n) 0 (with_units from (units_in from rows - n) rows) lower
     ∙ ap (cond (eqb to q) (units_in to rows + n)) (units_with q from (units_in from rows - n) 0 rows ordered))
+    ∙ in_units from to n q (λ p. units_in p rows)
 
 -- divisions in which each party has the same are equal
 pub same_units : (d e : Division) → ((q : ℕ) → units_of q d ≡ units_of q e) → d ≡ e
 same_units d e same = same_rows d e (rows_same 0 0 (rows_of d) (rows_of e) (ordered_rows d) (ordered_rows e) same)
+
+-- divisions are equal exactly where their rows are
+pub same_rows_iff : (d e : Division) → (rows_of d ≡ rows_of e) ↔ (d ≡ e)
+same_rows_iff d e = (same_rows d e, λ h. ap rows_of h)

@@ -1,13 +1,16 @@
 -- Laws of shares and their texts.
-use Rattle.std.proofs.Common.{◌≡◌, ◌≢◌, ◌<◌, ◌≤◌, ◌+◌, ◌-◌, ◌*◌, ◌^◌, ◌%◌, ◌/◌, ◌∙◌, ◌&&◌, ℕ, zero, suc, Bool, true, refl, sym, ap, subst, eqb, ltb, leb, List, [], ◌∷◌, length, get_or, arith, rules, Option}
+use Rattle.std.proofs.Common.{◌≡◌, ◌≢◌, ◌<◌, ◌≤◌, ◌+◌, ◌-◌, ◌*◌, ◌^◌, ◌%◌, ◌/◌, ◌∙◌, ◌&&◌, ℕ, zero, suc, Bool, true, refl, sym, ap, subst, eqb, ltb, leb, List, [], ◌∷◌, length, get_or, arith, rules, Option, inl, inr}
 use Rattle.std.specs.Prelude.{MatchOption}
 use Rattle.std.specs.Str.Parse.{AllDigits, digits_value}
-use Rattle.std.proofs.lemmas.Bool.{cond-true, cond-false, eq-eqb, ne_eqb, agree_below_at, and_parts, eqb-true, ltb-true, leb-true}
+use Rattle.std.proofs.lemmas.Bool.{cond-true, cond-false, eq-eqb, ne_eqb, agree_below_at, and_parts, eqb-true, ltb-true, leb-true, cases_eq}
 use Rattle.std.proofs.lemmas.Str.Parse.{IsNumeralModel, numerals_by_fold, tells_digits, not_in_digits, digit_at}
 use Rattle.std.proofs.lemmas.Str.Pattern.{IsSplitOnceResult, split_after}
 use denote.Ref.{Bor}
-use Rattle.std.proofs.Math.Nat.{mul_assoc, mul-le-mul, mul-le-mul_right}
-use Rattle.title_share.specs.Share.{IsNumber, IsPart, IsShareText, lowest}
+use Rattle.std.proofs.Math.Nat.{mul_assoc, mul-le-mul, mul-le-mul_right, mul_left_comm, pow-succ', two-pow-succ}
+use Rattle.std.specs.Fmt.{decimal}
+use Rattle.std.proofs.lemmas.Fmt.{decimal_is_IsNumeral, first_decimal}
+use Rattle.title_share.specs.Rows.{whole_units}
+use Rattle.title_share.specs.Share.{IsFraction, IsLowest, IsNumber, IsPart, IsShareText, lowest, share_text}
 
 abbrev weighs : ℕ → Bool
 weighs k = eqb (1 * 2 ^ (32 - k) % 18446744073709551616 * 2 ^ k) 4294967296 && ltb 0 (1 * 2 ^ (32 - k) % 18446744073709551616)
@@ -97,3 +100,74 @@ pub reduced_done : (start : ℕ × ℕ) (k n : ℕ) → k ≤ 32 → (0 < k → 
 reduced_done start k n low odd e =
     let pow = power_is k (let h : k < 33 = omega arith in h) in
     ap (λ (x : ℕ). (n, x)) pow ∙ sym (lowest_stays k n odd) ∙ sym e
+
+-- units of 2^k as a fraction in lowest terms
+pub record IsHalved (k units : ℕ) (p : ℕ × ℕ) : Type 0 where
+  pub exponent : ℕ
+  pub within : exponent ≤ k
+  pub below : p.1 ≡ 2 ^ exponent
+  pub some : 0 < p.0
+  pub most : p.0 ≤ p.1
+  pub product : units * p.1 ≡ p.0 * 2 ^ k
+  pub odd : IsLowest p.0 p.1
+
+halved_more : (k u : ℕ) → u % 2 ≡ 0 → IsHalved k (u / 2) (lowest k (u / 2)) → IsHalved (suc k) u (lowest k (u / 2))
+halved_more k u even h =
+    let product = h.product in
+    let within = h.within in
+    let twice : u ≡ 2 * (u / 2) = omega arith in
+    record {
+      exponent = h.exponent;
+      within = omega arith;
+      below = h.below;
+      some = h.some;
+      most = h.most;
+      product = ap (λ (x : ℕ). x * (lowest k (u / 2)).1) twice ∙ mul_assoc 2 (u / 2) (lowest k (u / 2)).1 ∙ ap (λ (x : ℕ). 2 * x) product ∙ sym (ap (λ (x : ℕ). (lowest k (u / 2)).0 * x) (pow-succ' 2 k) ∙ mul_left_comm (lowest k (u / 2)).0 2 (2 ^ k));
+      odd = h.odd;
+    }
+
+halved_stays : (k u : ℕ) → 0 < u → u ≤ 2 ^ k → (u % 2 ≡ 0 → 2 ^ k ≡ 1) → IsHalved k u (u, 2 ^ k)
+halved_stays k u some most odd = record { exponent = k; within = omega arith; below = refl; some = some; most = most; product = refl; odd = odd }
+
+pub lowest_is : (k u : ℕ) → 0 < u → u ≤ 2 ^ k → IsHalved k u (lowest k u)
+unfolding lowest
+lowest_is zero u some most = halved_stays 0 u some most (λ _. refl)
+lowest_is (suc k) u some most =
+    let bound : u ≤ 2 ^ k + 2 ^ k = rw (← two-pow-succ k) most in
+    elim (cases_eq (u % 2) 0) [
+      | inl even ↦ subst (IsHalved (suc k) u) (sym (cond-true (eqb (u % 2) 0) _ _ (eq-eqb (u % 2) 0 even)))
+          (halved_more k u even (lowest_is k (u / 2) (omega arith) (omega arith)))
+      | inr odd ↦ subst (IsHalved (suc k) u) (sym (cond-false (eqb (u % 2) 0) _ _ (ne_eqb (u % 2) 0 odd)))
+          (halved_stays (suc k) u some most (λ even. absurd (odd even)))
+    ]
+
+-- the same of units of the whole
+pub lowest_fraction : (u : ℕ) → 0 < u → u ≤ whole_units → IsFraction (lowest 32 u).0 (lowest 32 u).1 u × IsLowest (lowest 32 u).0 (lowest 32 u).1
+lowest_fraction u some most =
+    let h = lowest_is 32 u some most in
+    (record { part = (h.exponent, h.within, h.below); some = h.some; most = h.most; product = h.product }, h.odd)
+
+-- a number above 0 is printed in decimal, without leading zeros
+printed_number : (n : ℕ) → 0 < n → n < 2 ^ 64 → IsNumber (decimal n) n
+printed_number n some low =
+    let is = decimal_is_IsNumeral n low in
+    let first = first_decimal n some low in
+    record { digits = is.0; leading = (λ zero_first. let e : get_or (decimal n) 0 0 ≡ 48 = zero_first in omega arith); value = is.1 }
+
+-- what a share is printed as names it
+pub text_named : (u : ℕ) → 0 < u → u ≤ whole_units → IsShareText (share_text u) u
+text_named u some most =
+    let f = (lowest_fraction u some most).0 in
+    let top = f.some in
+    let within = f.most in
+    let fits = part_fits _ f.part in
+    record {
+      top = decimal (lowest 32 u).0;
+      bottom = decimal (lowest 32 u).1;
+      a = (lowest 32 u).0;
+      b = (lowest 32 u).1;
+      joined = refl;
+      top_is = printed_number _ top (omega arith);
+      bottom_is = printed_number _ (omega arith) (omega arith);
+      fraction = f;
+    }

@@ -1,5 +1,5 @@
 -- How a whole is divided among parties: a finite map from parties to units above 0 whose sum is the whole.
-use Rattle.std.specs.Prelude.{ℕ, ◌≡◌, ◌&&◌, Bool, true, false, List, [], ◌∷◌, refl}
+use Rattle.std.specs.Prelude.{ℕ, ◌≡◌, ◌+◌, ◌-◌, ◌&&◌, Bool, true, false, cond, eqb, List, [], ◌∷◌, refl}
 use Rattle.std.proofs.Common.{ap}
 use Rattle.std.proofs.Math.Dec.{leb-zero}
 use base.Stored.{Coded, coded_via, coded_list, coded×, coded_ℕ}
@@ -56,6 +56,12 @@ division_or other rows = checked rows _ refl other
 -- the division with these rows; where they divide nothing, party 0 has the whole
 abbrev pub division_of : List (ℕ × ℕ) → Division
 division_of rows = division_or (all_to 0) rows
+
+-- what a party has after n units have passed, by what each had before: nothing changes where they pass to the same party
+abbrev pub units_after : ℕ → ℕ → ℕ → (ℕ → ℕ) → ℕ → ℕ
+units_after from to n had party =
+    cond (eqb from to) (had party)
+    (cond (eqb from party) (had from - n) (cond (eqb to party) (had to + n) (had party)))
 
 -- the division after units have passed from a party to another
 abbrev pub moved : ℕ → ℕ → ℕ → Division → Division

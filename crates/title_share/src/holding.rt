@@ -1,7 +1,7 @@
 //! Who holds a whole.
 
-ghost use Rattle.std.specs.Prelude.{◌≡◌, ◌≤◌, ◌<◌, ◌+◌, ◌↔◌, IsTrue, IfOk, OnOk, OnErr, true, vec_len, vec_capacity, MatchResult, length};
-ghost use Rattle.title_share.specs.Rows.{units_in, with_units, in_order};
+ghost use Rattle.std.specs.Prelude.{ℕ, ◌≡◌, ◌≤◌, ◌<◌, ◌+◌, ◌↔◌, IsTrue, IfOk, OnOk, OnErr, true, cond, eqb, vec_len, vec_capacity, MatchResult, length};
+ghost use Rattle.title_share.specs.Rows.{whole_units, units_in, with_units, in_order};
 ghost use Rattle.title_share.specs.Places.{place_of, IsAt, IsNotAt};
 
 use std::alloc::{AllocError, Global};
@@ -83,11 +83,12 @@ fn set_units(rows: &mut Vec<(u32, u64)>, party: u32, units: u64)
 }
 
 impl Holding {
-    ghost use Rattle.title_share.specs.Division.{rows_of, units_of, all_to, moved};
+    ghost use Rattle.title_share.specs.Division.{rows_of, units_of, all_to, units_after, moved};
 
     /// The holding in which a party has the whole.
     pub fn whole(alloc: Global, party: u32) -> Result<Holding, AllocError>
         ensures whole { IfOk result (λ h. h ≡ all_to party) }
+        ensures units { IfOk result (λ h. (q : ℕ) → units_of q h ≡ cond (eqb party q) whole_units 0) }
     {
         let mut rows = Vec::with_capacity(alloc, 1)?;
         rows.push_reserved((party, WHOLE));
@@ -97,7 +98,7 @@ impl Holding {
     /// A party's units, 0 where it has none.
     pub fn units(&self, party: u32) -> u64
         ensures units { result ≡ units_of party self.now }
-        ensures bound { result ≤ 4294967296 }
+        ensures bound { result ≤ whole_units }
     {
         units_among(&self.rows, party)
     }
@@ -128,6 +129,7 @@ impl Holding {
     /// party to itself, nothing changes.
     pub fn move_units(&mut self, from: u32, to: u32, units: u64) -> Result<(), AllocError>
         requires held { units ≤ units_of from self.old }
+        ensures units { OnOk result ((q : ℕ) → units_of q self.new ≡ units_after from to units (λ p. units_of p self.old) q) }
         ensures moved { OnOk result (self.new ≡ moved from to units self.old) }
         ensures err { OnErr result (self.new ≡ self.old) }
     {

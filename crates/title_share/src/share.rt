@@ -1,7 +1,9 @@
 //! Shares of a whole.
 
-ghost use Rattle.std.specs.Prelude.{◌≡◌, ◌≤◌, ◌<◌, ◌*◌, ◌^◌, ℕ, MatchOption, Some};
-ghost use Rattle.title_share.specs.Share.{IsNumber, IsPart, IsShareText, lowest, share_text};
+ghost use Rattle.std.specs.Prelude.{◌≡◌, ◌≤◌, ◌<◌, ◌*◌, ◌^◌, ◌++◌, ◌∷◌, ℕ, MatchOption, Some};
+ghost use Rattle.std.specs.Fmt.{decimal};
+ghost use Rattle.title_share.specs.Rows.{whole_units};
+ghost use Rattle.title_share.specs.Share.{IsFraction, IsLowest, IsNumber, IsPart, IsShareText, lowest, share_text};
 
 use std::fmt;
 use std::marker::Model;
@@ -14,12 +16,13 @@ pub struct Share {
 
 impl Model for Share {
     ghost use Rattle.std.specs.Prelude.{ℕ, ◌≤◌, ◌<◌};
+    ghost use Rattle.title_share.specs.Rows.{whole_units};
 
     ghost Value = { ℕ };
 
     ghost view = { λ s. s.units };
 
-    ghost invariant = { λ s. (0 < s.units) × (s.units ≤ 4294967296) };
+    ghost invariant = { λ s. (0 < s.units) × (s.units ≤ whole_units) };
 
     ghost inverse = { λ n. record { units = n } };
 }
@@ -36,7 +39,7 @@ fn number(text: &str) -> Option<u64>
 
 // How often a power of two goes into the whole.
 fn weight(bottom: u64) -> Option<u64>
-    ensures weight { MatchOption result (IsPart bottom → ⊥) (λ w. IsPart bottom × (w * bottom ≡ 4294967296) × (0 < w)) }
+    ensures weight { MatchOption result (IsPart bottom → ⊥) (λ w. IsPart bottom × (w * bottom ≡ whole_units) × (0 < w)) }
 {
     for k in 0..33u32 {
         if bottom == 1 << k {
@@ -76,9 +79,20 @@ impl Share {
     pub fn units(self) -> u64
         ensures units { result ≡ self }
         ensures some { 0 < result }
-        ensures most { result ≤ 4294967296 }
+        ensures most { result ≤ whole_units }
     {
         self.units
+    }
+
+    /// The share as a fraction in lowest terms: the numbers above and below the line. So it is
+    /// printed, and that text names the same share.
+    pub fn fraction(self) -> (u64, u64)
+        ensures fraction { IsFraction result.0 result.1 self }
+        ensures lowest { IsLowest result.0 result.1 }
+        ensures text { share_text self ≡ decimal result.0 ++ 47 ∷ decimal result.1 }
+        ensures named { IsShareText (share_text self) self }
+    {
+        reduced(self.units)
     }
 }
 
@@ -100,7 +114,7 @@ impl fmt::Display for Share {
     ghost output = { λ s. Some (share_text s) };
 
     fn fmt<W: fmt::Write>(&self, f: &mut fmt::Formatter<W>) -> fmt::Result {
-        let (above, below) = reduced(self.units);
+        let (above, below) = self.fraction();
         write!(f, "{above}/{below}")
     }
 }

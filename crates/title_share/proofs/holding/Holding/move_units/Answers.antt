@@ -2,9 +2,9 @@
 use Rattle.std.proofs.Common.{◌∙◌, sym, ap, ◌-◌, arith}
 use Rattle.std.proofs.lemmas.Bool.{eq-eqb, or_left, or_right}
 use Rattle.title_share.specs.Rows.{units_in}
-use Rattle.title_share.specs.Division.{rows_of}
+use Rattle.title_share.specs.Division.{rows_of, units_of}
 use Rattle.title_share.proofs.RowLaws.{order_with}
-use Rattle.title_share.proofs.DivisionLaws.{viewed_rows, units_bound, moved_none, moved_steps, ordered_rows}
+use Rattle.title_share.proofs.DivisionLaws.{viewed_rows, units_bound, moved_none, moved_steps, units-moved, ordered_rows}
 use Rattle.title_share.proofs.holding.Holding.move_units.Goals as goal
 use Rattle.title_share.proofs.holding.Holding.move_units.Goals.{then-units-eq0-via-then-units-eq0, then-units-eq0-via-else-units-eq0+then-from-to}
 
@@ -59,3 +59,6 @@ returns-clause-moved c =
     (c.units_among.ensures.units ∙ ap (units_in c.args.from) c.deref.ensures.value)
     (c.units_among-2.ensures.units ∙ ap (units_in c.args.to) c.deref-2.ensures.value)
     c.set_units.ensures.rows c.set_units-2.ensures.rows).0
+
+pub returns-clause-units : goal.returns-clause-units
+returns-clause-units c q = ap (units_of q) (returns-clause-moved c) ∙ units-moved q c.args.from c.args.to c.args.units c.args.self.now c.requires.held

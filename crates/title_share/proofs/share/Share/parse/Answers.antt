@@ -15,8 +15,8 @@ pub returns-in_default-number : goal.returns-in_default-number
 returns-in_default-number c = record {
   share = λ n s.
       let parts = rw c.in-Some.is at (parts_are c.args.text.now n c.split_once.result c.split_once.ensures.cases s) in
-      let fits = part_fits s.b s.part in
-      let most = s.most in
+      let fits = part_fits s.b s.fraction.part in
+      let most = s.fraction.most in
       c.in_default-number.ensures.number s.a (omega arith) (subst (λ (t : List ℕ). IsNumber t s.a) (sym parts.0) s.top_is);
 }
 
@@ -24,7 +24,7 @@ pub returns-in_default-number-2 : goal.returns-in_default-number-2
 returns-in_default-number-2 c = record {
   share = λ n s.
       let parts = rw c.in-Some.is at (parts_are c.args.text.now n c.split_once.result c.split_once.ensures.cases s) in
-      let fits = part_fits s.b s.part in
+      let fits = part_fits s.b s.fraction.part in
       c.in_default-number-2.ensures.number s.b (omega arith) (subst (λ (t : List ℕ). IsNumber t s.b) (sym parts.1) s.bottom_is);
 }
 
@@ -33,7 +33,7 @@ returns-in_default-weight c = record {
   share = λ n s.
       let parts = rw c.in-Some.is at (parts_are c.args.text.now n c.split_once.result c.split_once.ensures.cases s) in
       let same = same_number c.in-Some.bottom.now s.bottom c.in-Some-number-2.bottom s.b parts.1 c.in-Some-number-2.ensures.number s.bottom_is in
-      c.in_default-weight.ensures.weight (subst IsPart (sym same) s.part);
+      c.in_default-weight.ensures.weight (subst IsPart (sym same) s.fraction.part);
 }
 
 pub returns-then-top-bottom : goal.returns-then-top-bottom
@@ -42,7 +42,7 @@ returns-then-top-bottom c = record {
       let parts = rw c.in-Some.is at (parts_are c.args.text.now n c.split_once.result c.split_once.ensures.cases s) in
       let below = same_number c.in-Some.bottom.now s.bottom c.in-Some-number-2.bottom s.b parts.1 c.in-Some-number-2.ensures.number s.bottom_is in
       let above = same_number c.in-Some.top.now s.top c.in-Some-number.top s.a parts.0 c.in-Some-number.ensures.number s.top_is in
-      let most = s.most in
+      let most = s.fraction.most in
       omega arith;
 }
 
@@ -66,9 +66,11 @@ returns c =
         joined = parts.0;
         top_is = c.in-Some-number.ensures.number;
         bottom_is = c.in-Some-number-2.ensures.number;
-        part = weight.0;
-        some = number_some c.in-Some.top.now c.in-Some-number.top c.in-Some-number.ensures.number;
-        most = c.if-top-bottom.false;
-        units_are = units_product c.in-Some-number.top c.in-Some-weight.weight c.in-Some-number-2.bottom weight.1;
+        fraction = record {
+          part = weight.0;
+          some = number_some c.in-Some.top.now c.in-Some-number.top c.in-Some-number.ensures.number;
+          most = c.if-top-bottom.false;
+          product = units_product c.in-Some-number.top c.in-Some-weight.weight c.in-Some-number-2.bottom weight.1;
+        };
       };
     }
