@@ -1,3 +1,4 @@
 pub mod Ranges
 pub mod CoverLaws
 pub mod Doubled
+pub mod GridLaws

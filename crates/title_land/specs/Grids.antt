@@ -1,6 +1,8 @@
 -- Sets of a section's cells.
-use Rattle.std.specs.Prelude.{◌≡◌, ℕ, zero, suc, ◌+◌, Bool, true, false, ◌&&◌, ◌||◌, List, [], ◌∷◌, slice_get, unwrap_or, option_and_then, sum_by, count_by}
-use Rattle.std.specs.List.{list_any}
+use Rattle.std.specs.Prelude.{◌≡◌, ◌<◌, ℕ, zero, suc, ◌+◌, Bool, true, false, ◌&&◌, ◌||◌, List, [], ◌∷◌, map, nat_lt, slice_get, unwrap_or, option_and_then, sum_by, count_by}
+use Rattle.std.specs.List.{list_any, range_with_len}
+use Rattle.title_land.specs.Places.{side}
+use Rattle.title_land.specs.Rectangles.{holds}
 use Rattle.title_land.specs.declared.grid.Grid.{Grid}
 use Rattle.title_land.specs.declared.rectangle.Rectangle.{Rectangle}
 
@@ -46,3 +48,21 @@ row_count row = count_by (λ cell. cell) row
 -- the number of cells in a set
 abbrev pub cell_count : Grid → ℕ
 cell_count g = sum_by row_count g.rows
+
+-- the numbers of a section's rows, and of its columns
+abbrev pub places : ℕ → List ℕ
+places depth = range_with_len 0 (side depth)
+
+-- the set of a section's cells at which a test holds
+unfoldable pub grid_of : ℕ → (ℕ → ℕ → Bool) → Grid
+grid_of depth test = record { rows = map (λ row. map (λ column. test row column) (places depth)) (places depth) }
+
+-- the set with a rectangle's cells added
+unfoldable pub with_rectangle : ℕ → Grid → Rectangle → Grid
+with_rectangle depth g r = grid_of depth (λ row column. grid_has g row column || holds r row column)
+
+-- the second set is the first with a rectangle's cells added, said cell by cell
+abbrev pub AddsRectangle : ℕ → Grid → Rectangle → Grid → Type 0
+AddsRectangle depth g r h =
+    (row column : ℕ) → row < side depth → column < side depth →
+    grid_has h row column ≡ (grid_has g row column || holds r row column)

@@ -1,5 +1,5 @@
 -- Rectangles of a section's cells. The depth is how often a section is quartered: its side is 2 ^ depth cells.
-use Rattle.std.specs.Prelude.{◌≡◌, ℕ, ◌+◌, ◌/◌, ◌%◌, ◌≤◌, Bool, true, false, ◌&&◌, List, [], ◌∷◌, Option, Some, None, option_and_then, nat_lt, nat_le, ◌==◌, if◌then◌else◌}
+use Rattle.std.specs.Prelude.{◌≡◌, ℕ, ◌+◌, ◌/◌, ◌%◌, ◌≤◌, Bool, true, false, ◌&&◌, List, [], ◌∷◌, Option, Some, None, option_and_then, nat_lt, nat_le, ◌==◌, if◌then◌else◌, max, min}
 use Rattle.title_land.specs.Places.{side}
 use Rattle.title_land.specs.declared.rectangle.Quarter.{Quarter}
 use Rattle.title_land.specs.declared.rectangle.Quarter.TheVariants.{Northeast, Northwest, Southwest, Southeast}
@@ -59,3 +59,15 @@ part_of depth (s ∷ steps) = option_and_then (step_of s) (part_of depth steps)
 abbrev pub holds : Rectangle → ℕ → ℕ → Bool
 holds r row column =
     nat_le r.top row && nat_lt row (r.top + r.height) && nat_le r.left column && nat_lt column (r.left + r.width)
+
+-- the ranges of n numbers from a and of m numbers from b have one in common
+abbrev pub ranges_meet : ℕ → ℕ → ℕ → ℕ → Bool
+ranges_meet a n b m = nat_lt (max a b) (min (a + n) (b + m))
+
+-- the rectangles share a cell, computed by their sides
+abbrev pub rectangles_meet : Rectangle → Rectangle → Bool
+rectangles_meet r s = ranges_meet r.top r.height s.top s.height && ranges_meet r.left r.width s.left s.width
+
+-- the rectangles share a cell
+abbrev pub SharesCell : Rectangle → Rectangle → Type 0
+SharesCell r s = (row : ℕ) × (column : ℕ) × (holds r row column ≡ true) × (holds s row column ≡ true)

@@ -1,10 +1,10 @@
 //! Sets of a section's cells.
 
-ghost use Rattle.std.specs.Prelude.{◌≡◌, ◌<◌, ◌≤◌, ◌||◌, ℕ, false, sum_by, count_by};
-ghost use Rattle.title_land.specs.Grids.{grid_has, fills, row_fills, cell_count, row_count};
+ghost use Rattle.std.specs.Prelude.{◌≡◌, ◌<◌, ◌||◌, ℕ, map};
+ghost use Rattle.title_land.specs.Grids.{grid_has, fills, row_fills, places, with_rectangle, AddsRectangle};
 ghost use Rattle.title_land.specs.Rectangles.{InSection, holds};
 
-use crate::rectangle::Rectangle;
+use crate::rectangle::{Rectangle, SIDE};
 
 /// A set of a section's cells, by rows from the north and columns from the west.
 #[derive(Clone, Copy, Debug, PartialEq, Eq)]
@@ -35,6 +35,39 @@ impl Grid {
             None => false,
         }
     }
+
+    /// The set with a rectangle's cells added.
+    pub fn with(self, r: Rectangle) -> Grid
+        requires inside { InSection 3 r }
+        ensures with { result ≡ with_rectangle 3 self r }
+        ensures adds { AddsRectangle 3 self r result }
+    {
+        let mut rows = Grid::EMPTY.rows;
+        for row in 0..SIDE {
+            rows[row as usize] = row_with(self, r, row);
+        }
+        Grid { rows }
+    }
+}
+
+/// Whether a cell lies in a set or in a rectangle.
+fn either_has(grid: Grid, r: Rectangle, row: u8, column: u8) -> bool
+    requires inside { InSection 3 r }
+    ensures has { result ≡ (grid_has grid row column || holds r row column) }
+{
+    grid.has(row, column) || r.holds(row, column)
+}
+
+/// One row of a set with a rectangle's cells added.
+fn row_with(grid: Grid, r: Rectangle, row: u8) -> [bool; 8]
+    requires inside { InSection 3 r }
+    ensures row { result ≡ map (λ column. grid_has grid row column || holds r row column) (places 3) }
+{
+    let mut cells = [false; 8];
+    for column in 0..SIDE {
+        cells[column as usize] = either_has(grid, r, row, column);
+    }
+    cells
 }
 
 /// Whether a set has each cell of a rectangle in one row.

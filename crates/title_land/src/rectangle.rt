@@ -1,7 +1,7 @@
 //! Rectangles of a section's cells, their halves and quarters.
 
-ghost use Rattle.std.specs.Prelude.{◌≡◌, IfSome};
-ghost use Rattle.title_land.specs.Rectangles.{half_of, quarter_of, step_of, is_even, holds, InSection};
+ghost use Rattle.std.specs.Prelude.{◌≡◌, ◌↔◌, IfSome, true};
+ghost use Rattle.title_land.specs.Rectangles.{half_of, quarter_of, step_of, is_even, holds, InSection, rectangles_meet, SharesCell};
 
 /// How often a section is quartered down to its cells.
 pub const DEPTH: u8 = 3;
@@ -141,5 +141,17 @@ impl Rectangle {
             && row < self.top + self.height
             && self.left <= column
             && column < self.left + self.width
+    }
+    /// Whether they share a cell; an empty one shares none.
+    pub fn meets(self, other: Rectangle) -> bool
+        requires inside { InSection 3 self }
+        requires other_inside { InSection 3 other }
+        ensures meets { result ≡ rectangles_meet self other }
+        ensures shares { (result ≡ true) ↔ SharesCell self other }
+    {
+        let (bottom, right) = (self.top + self.height, self.left + self.width);
+        let (other_bottom, other_right) = (other.top + other.height, other.left + other.width);
+        self.top.max(other.top) < bottom.min(other_bottom)
+            && self.left.max(other.left) < right.min(other_right)
     }
 }
