@@ -1,0 +1,34 @@
+-- Chains: the posted instruments of a tract. Lists of steps and of records here have the newest first.
+use Rattle.std.specs.Prelude.{◌≡◌, ℕ, suc, Bool, true, false, cond, List, [], ◌∷◌, ◌++◌, length, reverse}
+use Rattle.title_land.specs.declared.tract.Land.{Land}
+use Rattle.title_land.specs.Lands.{meets}
+use Rattle.title_chain.specs.declared.ask.Ask.{Ask}
+use Rattle.title_chain.specs.declared.ask.Ask.TheVariants as ask
+use Rattle.title_chain.specs.declared.ask.Answer.{Answer}
+use Rattle.title_chain.specs.declared.ask.Answer.TheVariants as answer
+use Rattle.title_chain.specs.declared.ask.Entry.{Entry}
+use Rattle.title_chain.specs.declared.ask.Step.{Step}
+use Rattle.title_chain.specs.declared.record.Record.{Record}
+
+-- the entry that a step gives to the chain of a tract: it was posted, and its tract shares a cell
+abbrev pub entry_of : ℕ → Land → Ask → Answer → List Entry
+entry_of place land (ask.Sheet t) given = []
+entry_of place land (ask.Chain t) given = []
+entry_of place land (ask.Post p) (answer.Rows rows) = []
+entry_of place land (ask.Post p) (answer.Entries entries) = []
+entry_of place land (ask.Post p) answer.Posted = cond (meets land p.tract) (record { place = place; posting = p } ∷ []) []
+entry_of place land (ask.Post p) (answer.Refused rule estate node) = []
+
+-- the entries that these steps give, in order, each with this place
+abbrev pub step_entries : ℕ → Land → List Step → List Entry
+step_entries place land [] = []
+step_entries place land (s ∷ earlier) = step_entries place land earlier ++ entry_of place land s.ask s.answer
+
+-- the entries that these records give, in order, each with its record's number from 1
+abbrev pub record_entries : Land → List Record → List Entry
+record_entries land [] = []
+record_entries land (r ∷ older) = record_entries land older ++ step_entries (suc (length older)) land (reverse r.steps)
+
+-- the chain of a tract: the records' entries, then those of the transaction's own steps with place 0
+abbrev pub chain_of : List Record → List Step → Land → List Entry
+chain_of records own land = record_entries land records ++ step_entries 0 land own

@@ -1,0 +1,10 @@
+//! Asks, answers, records and chains: what one ask answers when nothing else is open, and what a list of records means.
+#![tactic(auto)]
+
+pub mod ask;
+pub mod lists;
+pub mod record;
+
+pub use ask::{Answer, Ask, Entry, Posting, Step};
+pub use lists::{Entries, Records, SheetRows, Steps};
+pub use record::Record;
