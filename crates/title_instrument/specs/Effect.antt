@@ -31,3 +31,8 @@ joined (Ok s) (Ok o) (Ok m) = Done (record { s = s; o = o; m = m })
 -- the owners of a cell after an instrument, or the rule at the first estate that refuses
 unfoldable pub cell_effect : Instrument → Owners → Effect
 cell_effect i w = joined (holding_effect i S (holding_of S w)) (holding_effect i O (holding_of O w)) (holding_effect i M (holding_of M w))
+
+-- the owners that a cell has after an effect: where a rule refused, those before
+abbrev pub owners_after : Owners → Effect → Owners
+owners_after before (Done after) = after
+owners_after before (Refused rule estate) = before

@@ -2,7 +2,7 @@
 
 ghost use Rattle.std.specs.Prelude.{◌≡◌, ◌≤◌, Some, None, MatchResult, IfOk};
 ghost use Rattle.title_instrument.specs.Parties.{grantor_of, grantee_of, estates_of, reservation_of};
-ghost use Rattle.title_instrument.specs.Passing.{reserved, passes};
+ghost use Rattle.title_instrument.specs.Passing.{reserved, passed, passes};
 ghost use Rattle.title_instrument.specs.Check.{reserves_unnamed, has_stray, first_cause};
 
 use crate::parts::{Cause, Estate, Estates, Quantum, Rule};
@@ -57,6 +57,28 @@ impl Deed {
         }
     }
 
+    // The units that pass in a named estate, from a grantor that holds `held`, or the first rule
+    // that refuses.
+    fn passed(&self, estate: Estate, held: u64) -> Result<u64, Rule>
+        ensures passed { result ≡ passed self.now.quantum (reserved self.now estate) held }
+        ensures within { IfOk result (λ n. n ≤ held) }
+    {
+        if held == 0 {
+            return Err(Rule::ShortTitle);
+        }
+        let Some(units) = self.quantum.units(held) else {
+            return Err(Rule::TooFine);
+        };
+        if units > held {
+            return Err(Rule::ShortTitle);
+        }
+        let reserved = self.reserved(estate);
+        if units < reserved {
+            return Err(Rule::OverReserved);
+        }
+        Ok(units - reserved)
+    }
+
     // Whether something is reserved in an estate that isn't named.
     fn reserves_unnamed(&self, estate: Estate) -> bool
         ensures unnamed { result ≡ reserves_unnamed self.now estate }
@@ -106,7 +128,7 @@ impl Instrument {
             return Ok(0);
         }
         match self {
-            Instrument::Deed(deed) => deed.quantum.passed(deed.reserved(estate), held),
+            Instrument::Deed(deed) => deed.passed(estate, held),
             Instrument::Release(_) => Ok(held),
         }
     }

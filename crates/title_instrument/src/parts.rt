@@ -3,7 +3,7 @@
 ghost use Rattle.std.specs.Prelude.{◌≡◌, ◌≤◌, ◌↔◌, ℕ, IsTrue, IfOk, IfSome, MatchOption, Some};
 ghost use Rattle.title_instrument.specs.Estates.{names, names_none, estate_text, estates_text};
 ghost use Rattle.title_instrument.specs.Numbers.{rule_number, cause_number};
-ghost use Rattle.title_instrument.specs.Passing.{IsNamed, units_named, passed};
+ghost use Rattle.title_instrument.specs.Passing.{IsNamed, units_named};
 
 use std::fmt;
 use title_share::{Share, WHOLE};
@@ -139,26 +139,5 @@ impl Quantum {
                 Some((product / u128::from(WHOLE)) as u64)
             }
         }
-    }
-
-    /// The units that pass from a grantor that holds `held`, `reserved` of those named being
-    /// reserved, or the first rule that refuses.
-    pub fn passed(self, reserved: u64, held: u64) -> Result<u64, Rule>
-        ensures passed { result ≡ passed self reserved held }
-        ensures within { IfOk result (λ n. n ≤ held) }
-    {
-        if held == 0 {
-            return Err(Rule::ShortTitle);
-        }
-        let Some(units) = self.units(held) else {
-            return Err(Rule::TooFine);
-        };
-        if units > held {
-            return Err(Rule::ShortTitle);
-        }
-        if units < reserved {
-            return Err(Rule::OverReserved);
-        }
-        Ok(units - reserved)
     }
 }

@@ -1,0 +1,2 @@
+-- Laws of instruments, public to the crates above.
+pub mod EffectLaws
