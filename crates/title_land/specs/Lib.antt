@@ -5,3 +5,4 @@ pub mod Grids
 pub mod Covers
 pub mod Lands
 pub mod CellLists
+pub mod Texts

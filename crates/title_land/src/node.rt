@@ -1,10 +1,12 @@
 //! Nodes of the tree of tracts.
 
-ghost use Rattle.std.specs.Prelude.{◌≡◌, ◌<◌, ◌∷◌, length};
+ghost use Rattle.std.specs.Prelude.{◌≡◌, ◌<◌, ◌∷◌, length, Some};
 ghost use Rattle.title_land.specs.Nodes.{path, parent_of};
+ghost use Rattle.title_land.specs.Texts.{path_text, node_text};
 
 use crate::place::{Section, Township};
 use crate::rectangle::Quarter;
+use std::fmt;
 
 /// A square part of a section, by its quarters, the innermost first.
 #[derive(Clone, Copy, Debug, PartialEq, Eq)]
@@ -54,6 +56,33 @@ impl Node {
             Node::Part(section, Within::Cell(_, b, c)) => {
                 Some(Node::Part(section, Within::Sixteenth(b, c)))
             }
+        }
+    }
+}
+
+/// What it adds to its section's text: nothing for the whole, else a space and its quarters, the innermost first.
+impl fmt::Display for Within {
+    ghost output = { λ w. Some (path_text (path w)) };
+
+    fn fmt<W: fmt::Write>(&self, f: &mut fmt::Formatter<W>) -> fmt::Result {
+        match self {
+            Within::Whole => Ok(()),
+            Within::Quarter(a) => write!(f, " {a}"),
+            Within::Sixteenth(a, b) => write!(f, " {a}{b}"),
+            Within::Cell(a, b, c) => write!(f, " {a}{b}{c}"),
+        }
+    }
+}
+
+/// Its canonical text: `everything`, `T3N R2W`, `T3N R2W sec 5` or `T3N R2W sec 5 NE1/4SW1/4`.
+impl fmt::Display for Node {
+    ghost output = { λ n. Some (node_text n) };
+
+    fn fmt<W: fmt::Write>(&self, f: &mut fmt::Formatter<W>) -> fmt::Result {
+        match self {
+            Node::Everything => write!(f, "everything"),
+            Node::Township(township) => write!(f, "{township}"),
+            Node::Part(section, within) => write!(f, "{section}{within}"),
         }
     }
 }

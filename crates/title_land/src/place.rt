@@ -2,6 +2,8 @@
 
 ghost use Rattle.std.specs.Prelude.{◌≡◌, ◌≤◌, ◌<◌, MatchOption};
 
+use std::fmt;
+
 /// A township of the public survey, by its number north or south of a base line and its range number east or
 /// west of a principal meridian, each 1 to 99 (BLM, Manual of Surveying Instructions, 2009).
 #[derive(Clone, Copy, Debug, PartialEq, Eq, PartialOrd, Ord)]
@@ -45,6 +47,21 @@ impl Township {
     }
 }
 
+/// Its canonical text, as `T3N R2W`.
+impl fmt::Display for Township {
+    ghost use Rattle.std.specs.Prelude.{Some};
+    ghost use Rattle.title_land.specs.Texts.{township_text};
+
+    ghost output = { λ t. Some (township_text t) };
+
+    fn fmt<W: fmt::Write>(&self, f: &mut fmt::Formatter<W>) -> fmt::Result {
+        let (number, range) = (self.number, self.range);
+        let side = if self.north { "N" } else { "S" };
+        let hand = if self.east { "E" } else { "W" };
+        write!(f, "T{number}{side} R{range}{hand}")
+    }
+}
+
 /// One of a township's 36 sections, numbered from 1 in its northeast corner (BLM, Manual of Surveying
 /// Instructions, 2009).
 #[derive(Clone, Copy, Debug, PartialEq, Eq, PartialOrd, Ord)]
@@ -72,6 +89,19 @@ impl Section {
         ensures is { result ≡ same_section self other }
     {
         self.township.is(other.township) && self.number == other.number
+    }
+}
+
+/// Its canonical text, as `T3N R2W sec 5`.
+impl fmt::Display for Section {
+    ghost use Rattle.std.specs.Prelude.{Some};
+    ghost use Rattle.title_land.specs.Texts.{section_text};
+
+    ghost output = { λ s. Some (section_text s) };
+
+    fn fmt<W: fmt::Write>(&self, f: &mut fmt::Formatter<W>) -> fmt::Result {
+        let (township, number) = (self.township, self.number);
+        write!(f, "{township} sec {number}")
     }
 }
 

@@ -1,7 +1,10 @@
 //! Rectangles of a section's cells, their halves and quarters.
 
-ghost use Rattle.std.specs.Prelude.{◌≡◌, ◌↔◌, IfSome, true};
+ghost use Rattle.std.specs.Prelude.{◌≡◌, ◌↔◌, IfSome, Some, true};
 ghost use Rattle.title_land.specs.Rectangles.{half_of, quarter_of, step_of, is_even, holds, InSection, rectangles_meet, SharesCell};
+ghost use Rattle.title_land.specs.Texts.{quarter_text};
+
+use std::fmt;
 
 /// How often a section is quartered down to its cells.
 pub const DEPTH: u8 = 3;
@@ -16,6 +19,20 @@ pub enum Quarter {
     Northwest,
     Southwest,
     Southeast,
+}
+
+/// Its name with its mark, as `NE1/4`.
+impl fmt::Display for Quarter {
+    ghost output = { λ q. Some (quarter_text q) };
+
+    fn fmt<W: fmt::Write>(&self, f: &mut fmt::Formatter<W>) -> fmt::Result {
+        match self {
+            Quarter::Northeast => write!(f, "NE1/4"),
+            Quarter::Northwest => write!(f, "NW1/4"),
+            Quarter::Southwest => write!(f, "SW1/4"),
+            Quarter::Southeast => write!(f, "SE1/4"),
+        }
+    }
 }
 
 /// A half of a rectangle.
