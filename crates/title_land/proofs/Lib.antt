@@ -2,3 +2,8 @@ pub mod Ranges
 pub mod CoverLaws
 pub mod Doubled
 pub mod GridLaws
+pub mod SameLand
+pub mod SameNode
+pub mod Squares
+pub mod Members
+pub mod NodeSharing

@@ -6,3 +6,4 @@ pub mod Covers
 pub mod Lands
 pub mod CellLists
 pub mod Texts
+pub mod NodeLaws

@@ -3,6 +3,7 @@
 
 pub mod cover;
 pub mod grid;
+pub mod laws;
 pub mod node;
 pub mod place;
 pub mod rectangle;

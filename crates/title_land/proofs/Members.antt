@@ -1,0 +1,49 @@
+-- Members of lists.
+use Rattle.std.proofs.Common.{◌≡◌, Bool, true, ◌⊎◌, inl, inr, List, [], ◌∷◌, ◌++◌, map, refl, sym, ap, ◌∙◌}
+use Rattle.std.proofs.lemmas.Bool.{or_cases, or_left, or_right}
+use Rattle.std.specs.List.{list_any}
+
+-- x stands in the list
+abbrev pub In : {X : Type 0} → X → List X → Type 0
+In x [] = ⊥
+In x (y ∷ ys) = (x ≡ y) ⊎ In x ys
+
+pub any_found : {X : Type 0} (p : X → Bool) (xs : List X) → list_any p xs ≡ true → (x : X) × In x xs × (p x ≡ true)
+any_found p [] h = absurd cc
+any_found p (x ∷ xs) h = elim (or_cases (p x) (list_any p xs) h) [
+  | inl e ↦ (x, inl refl, e)
+  | inr e ↦ let k = any_found p xs e in (k.0, inr k.1, k.2)
+]
+
+pub any_from : {X : Type 0} (p : X → Bool) (xs : List X) (x : X) → In x xs → p x ≡ true → list_any p xs ≡ true
+any_from p [] x i h = absurd i
+any_from p (y ∷ ys) x i h = elim i [
+  | inl e ↦ or_left (p y) (list_any p ys) (sym (ap p e) ∙ h)
+  | inr k ↦ or_right (p y) (list_any p ys) (any_from p ys x k h)
+]
+
+pub in_left : {X : Type 0} (x : X) (xs ys : List X) → In x xs → In x (xs ++ ys)
+in_left x [] ys i = absurd i
+in_left x (y ∷ xs) ys i = elim i [ inl e ↦ inl e | inr k ↦ inr (in_left x xs ys k) ]
+
+pub in_right : {X : Type 0} (x : X) (xs ys : List X) → In x ys → In x (xs ++ ys)
+in_right x [] ys i = i
+in_right x (y ∷ xs) ys i = inr (in_right x xs ys i)
+
+pub in_append : {X : Type 0} (x : X) (xs ys : List X) → In x (xs ++ ys) → In x xs ⊎ In x ys
+in_append x [] ys i = inr i
+in_append x (y ∷ xs) ys i = elim i [
+  | inl e ↦ inl (inl e)
+  | inr k ↦ elim (in_append x xs ys k) [ inl m ↦ inl (inr m) | inr m ↦ inr m ]
+]
+
+pub in_map : {X Y : Type 0} (f : X → Y) (x : X) (xs : List X) → In x xs → In (f x) (map f xs)
+in_map f x [] i = absurd i
+in_map f x (y ∷ xs) i = elim i [ inl e ↦ inl (ap f e) | inr k ↦ inr (in_map f x xs k) ]
+
+pub in_mapped : {X Y : Type 0} (f : X → Y) (y : Y) (xs : List X) → In y (map f xs) → (x : X) × In x xs × (y ≡ f x)
+in_mapped f y [] i = absurd i
+in_mapped f y (x ∷ xs) i = elim i [
+  | inl e ↦ (x, inl refl, e)
+  | inr k ↦ let m = in_mapped f y xs k in (m.0, inr m.1, m.2)
+]

@@ -1,0 +1,24 @@
+-- Laws of nodes.
+use Rattle.std.specs.Prelude.{◌≡◌, ℕ, true, ◌↔◌}
+use Rattle.title_land.specs.declared.place.Cell.{Cell}
+use Rattle.title_land.specs.declared.node.Node.{Node}
+use Rattle.title_land.specs.Places.{is_on_grid}
+use Rattle.title_land.specs.Nodes.{same_node, is_above, are_related, node_has}
+
+-- a test of nodes is their equality: the same numbers and quarters make one node
+abbrev pub SameNodesAreEqual : Type 0
+SameNodesAreEqual = (a b : Node) → (same_node a b ≡ true) ↔ (a ≡ b)
+
+-- what lies above a node that lies above a third lies above that
+abbrev pub AboveIsTransitive : Type 0
+AboveIsTransitive = (a b c : Node) → is_above a b ≡ true → is_above b c ≡ true → is_above a c ≡ true
+
+-- a node that lies above another has its cells
+abbrev pub AboveHasTheCells : ℕ → Type 0
+AboveHasTheCells depth = (a b : Node) (c : Cell) → is_above a b ≡ true → node_has depth b c ≡ true → node_has depth a c ≡ true
+
+-- two nodes share a cell exactly where they are one or one lies above the other (Gray, Lorie, Putzolu, Traiger,
+-- Granularity of Locks and Degrees of Consistency, 1976: a lock on a node covers what lies below it)
+abbrev pub NodesShareACell : ℕ → Type 0
+NodesShareACell depth = (a b : Node)
+    → ((c : Cell) × (is_on_grid depth c ≡ true) × (node_has depth a c ≡ true) × (node_has depth b c ≡ true)) ↔ (are_related a b ≡ true)

@@ -1,0 +1,23 @@
+//! Laws of land, for the crates above. Each function does nothing: its clause is the law, proved.
+
+ghost use Rattle.title_land.specs.NodeLaws.{SameNodesAreEqual, AboveIsTransitive, AboveHasTheCells, NodesShareACell};
+
+/// The test of nodes is their equality.
+pub fn same_nodes_are_equal()
+    ensures law { SameNodesAreEqual }
+{}
+
+/// What lies above a node that lies above a third lies above that.
+pub fn above_is_transitive()
+    ensures law { AboveIsTransitive }
+{}
+
+/// A node that lies above another has its cells.
+pub fn above_has_the_cells()
+    ensures law { AboveHasTheCells 3 }
+{}
+
+/// Two nodes share a cell exactly where they are one or one lies above the other.
+pub fn nodes_share_a_cell()
+    ensures law { NodesShareACell 3 }
+{}
