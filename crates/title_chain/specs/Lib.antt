@@ -1,3 +1,4 @@
 pub mod Asks
 pub mod Chains
 pub mod Alone
+pub mod Overlaps
