@@ -1,0 +1,6 @@
+pub mod Each
+pub mod Squares
+pub mod PlantCells
+pub mod EffectLaws
+pub mod TractNodes
+pub mod SheetLaws

@@ -1,3 +1,4 @@
 pub mod Plants
 pub mod Loans
 pub mod Sheets
+pub mod StoreLaws

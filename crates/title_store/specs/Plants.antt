@@ -1,5 +1,5 @@
 -- A plant: the owners of each cell; and what an instrument does to a tract of it.
-use Rattle.std.specs.Prelude.{◌≡◌, ℕ, Bool, true, false, cond, ◌&&◌, List, [], ◌∷◌, Option, Some, None, find, unwrap_or, is_some}
+use Rattle.std.specs.Prelude.{◌≡◌, ℕ, Bool, false, cond, ◌&&◌, List, [], ◌∷◌, Option, Some, None, find, unwrap_or, is_some}
 use Rattle.std.specs.List.{list_any}
 use Rattle.title_land.specs.declared.place.Cell.{Cell}
 use Rattle.title_land.specs.declared.place.Township.{Township}

@@ -1,5 +1,5 @@
 -- Sheets: who owns what in a tract.
-use Rattle.std.specs.Prelude.{◌≡◌, ℕ, zero, suc, ◌+◌, Bool, true, false, cond, ◌&&◌, ◌==◌, List, [], ◌∷◌, Option, Some, None, map}
+use Rattle.std.specs.Prelude.{ℕ, zero, suc, ◌+◌, Bool, true, false, cond, ◌&&◌, ◌==◌, List, [], ◌∷◌, Option, Some, None, map}
 use Rattle.std.specs.List.{list_all, flat_map}
 use Rattle.title_share.specs.Division.{Division, rows_of}
 use Rattle.title_land.specs.declared.place.Cell.{Cell}
