@@ -1,0 +1,64 @@
+-- The due reply to a request after a trace, with no lock and no undo in it. Lists of calls and steps have the newest first.
+use Rattle.std.specs.Prelude.{◌≡◌, ◌≢◌, ℕ, suc, ◌<◌, Bool, true, false, cond, nat_le, List, [], ◌∷◌, length, Option, Some, None}
+use Rattle.title_land.specs.declared.place.Township.{Township}
+use Rattle.title_land.specs.Lands.{is_in_plant}
+use Rattle.title_instrument.specs.declared.parts.Cause.{Cause}
+use Rattle.title_chain.specs.declared.ask.Ask.{Ask}
+use Rattle.title_chain.specs.declared.ask.Step.{Step}
+use Rattle.title_chain.specs.Asks.{tract_of, cause_of}
+use Rattle.title_chain.specs.Alone.{alone}
+use Rattle.title_chain.specs.Overlaps.{overlaps}
+use Rattle.title_trace.specs.declared.call.Call.{Call}
+use Rattle.title_trace.specs.declared.call.Request.{Request}
+use Rattle.title_trace.specs.declared.call.Request.TheVariants as request
+use Rattle.title_trace.specs.declared.call.Reply.{Reply}
+use Rattle.title_trace.specs.declared.call.Reply.TheVariants as reply
+use Rattle.title_trace.specs.Trace.{is_open, open_steps, committed}
+
+-- the most steps that a transaction has
+abbrev pub most_steps : ℕ
+most_steps = 10000
+
+-- what the desk was opened with: how many parties there are, and the declared townships
+pub record Setting : Type 0 where
+  pub parties : ℕ
+  pub townships : List Township
+
+-- who stands in the way of an examiner's ask: nobody, or the least other examiner with an open step that overlaps it
+abbrev pub InTheWay : List Call → ℕ → Ask → Option ℕ → Type 0
+InTheWay before e a None = (f : ℕ) → f ≢ e → overlaps a (open_steps before f) ≡ false
+InTheWay before e a (Some f) =
+    (f ≢ e) × (overlaps a (open_steps before f) ≡ true)
+    × ((g : ℕ) → g < f → g ≢ e → overlaps a (open_steps before g) ≡ false)
+
+-- nobody being in the way, the ask is answered as it would be alone, after the committed records and its own open steps
+abbrev pub reply_past : ℕ → Setting → List Call → ℕ → Ask → Option ℕ → Reply
+reply_past depth setting before e a (Some f) = reply.Conflict f
+reply_past depth setting before e a None =
+    reply.Answered (alone depth setting.townships (committed before) (open_steps before e) a)
+
+-- the due reply to a step, the first line that holds: not open; a township that isn't declared; an instrument that can't
+-- stand; as many steps as a transaction may have; an examiner in the way; else the answer that it gets alone
+abbrev pub DueStep : ℕ → Setting → List Call → ℕ → Ask → Reply → (begun inside : Bool) → Option Cause → (full : Bool) → Type 0
+DueStep depth setting before e a r false inside cause full = r ≡ reply.NotOpen
+DueStep depth setting before e a r true false cause full = r ≡ reply.NoSuchTownship
+DueStep depth setting before e a r true true (Some cause) full = r ≡ reply.Invalid cause
+DueStep depth setting before e a r true true None true = r ≡ reply.TooLong
+DueStep depth setting before e a r true true None false =
+    (way : Option ℕ) × InTheWay before e a way × (r ≡ reply_past depth setting before e a way)
+
+-- the due reply to a request after a trace
+abbrev pub DueReply : ℕ → Setting → List Call → Request → Reply → Type 0
+DueReply depth setting before (request.Begin e) r = r ≡ cond (is_open e before) reply.AlreadyOpen reply.Began
+DueReply depth setting before (request.Step e a) r =
+    DueStep depth setting before e a r (is_open e before) (is_in_plant setting.townships (tract_of a))
+    (cause_of setting.parties a) (nat_le most_steps (length (open_steps before e)))
+DueReply depth setting before (request.Commit e) r =
+    r ≡ cond (is_open e before) (reply.Committed (suc (length (committed before)))) reply.NotOpen
+DueReply depth setting before (request.Abort e) r = r ≡ cond (is_open e before) reply.Aborted reply.NotOpen
+
+-- a trace is due where each reply is the due reply after the calls before it
+abbrev pub IsDue : ℕ → Setting → List Call → Type 0
+IsDue depth setting [] = Unit {0}
+IsDue depth setting (call ∷ before) =
+    IsDue depth setting before × DueReply depth setting before call.request call.reply

@@ -1,0 +1,3 @@
+pub mod Trace
+pub mod Due
+pub mod Serial

@@ -1,0 +1,41 @@
+//! Requests, replies and calls.
+
+ghost use Rattle.std.specs.Prelude.{◌≡◌, IfOk};
+
+use std::alloc::{AllocError, Global};
+use title_chain::{Answer, Ask};
+use title_instrument::Cause;
+
+/// What an examiner asks of a desk.
+#[derive(Debug, Drop)]
+pub enum Request {
+    Begin(u32),
+    Step(u32, Ask),
+    Commit(u32),
+    Abort(u32),
+}
+
+/// What a desk replies. `Answered` is the answer to a step, a refused post among them; `Committed` names the place of the
+/// record, from 1; `Conflict` names the least examiner in the way. `Memory` stands in place of any reply but `Aborted`
+/// where a growth was refused, and then nothing has changed.
+#[derive(Debug, Drop)]
+pub enum Reply {
+    Began,
+    Answered(Answer),
+    Committed(u64),
+    Aborted,
+    NotOpen,
+    AlreadyOpen,
+    NoSuchTownship,
+    Invalid(Cause),
+    TooLong,
+    Conflict(u32),
+    Memory,
+}
+
+/// A request with its reply.
+#[derive(Debug, Drop)]
+pub struct Call {
+    pub request: Request,
+    pub reply: Reply,
+}
