@@ -2,3 +2,4 @@ pub mod Asks
 pub mod Chains
 pub mod Alone
 pub mod Overlaps
+pub mod ChainLaws
