@@ -7,3 +7,7 @@ pub mod SameNode
 pub mod Squares
 pub mod Members
 pub mod NodeSharing
+pub mod Filling
+pub mod CoverCells
+pub mod LandSharing
+pub mod CoverOrder

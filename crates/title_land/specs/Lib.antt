@@ -7,3 +7,4 @@ pub mod Lands
 pub mod CellLists
 pub mod Texts
 pub mod NodeLaws
+pub mod CoverSets

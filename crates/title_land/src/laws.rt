@@ -1,5 +1,6 @@
 //! Laws of land, for the crates above. Each function does nothing: its clause is the law, proved.
 
+ghost use Rattle.title_land.specs.CoverSets.{CoverHasItsCells, LandsShareACell};
 ghost use Rattle.title_land.specs.NodeLaws.{SameNodesAreEqual, AboveIsTransitive, AboveHasTheCells, NodesShareACell};
 
 /// The test of nodes is their equality.
@@ -20,4 +21,14 @@ pub fn above_has_the_cells()
 /// Two nodes share a cell exactly where they are one or one lies above the other.
 pub fn nodes_share_a_cell()
     ensures law { NodesShareACell 3 }
+{}
+
+/// A cell of the grid lies in a land exactly where it lies in a node of its cover.
+pub fn cover_has_its_cells()
+    ensures law { CoverHasItsCells 3 }
+{}
+
+/// Two lands share a cell exactly where a node of the one's cover and a node of the other's are related.
+pub fn lands_share_a_cell()
+    ensures law { LandsShareACell 3 }
 {}
