@@ -1,4 +1,4 @@
-use Rattle.std.proofs.Common.{◌≡◌, ◌-◌}
+use Rattle.std.proofs.Common.{◌≡◌, ℕ, ◌+◌, ◌-◌}
 use Rattle.title_land.specs.Grids.{fills, row_fills, range_all, grid_has}
 use Rattle.title_land.proofs.grid.fills.Given as goal
 
