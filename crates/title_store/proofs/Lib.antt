@@ -1,5 +1,4 @@
 pub mod Each
-pub mod Squares
 pub mod PlantCells
 pub mod EffectLaws
 pub mod TractNodes

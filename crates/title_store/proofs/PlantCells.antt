@@ -1,6 +1,6 @@
 -- The listed cells of a plant are its cells.
 use Rattle.std.proofs.Common.{◌≡◌, ℕ, zero, suc, ◌+◌, ◌^◌, Bool, true, false, ◌&&◌, List, [], ◌∷◌, length, refl, ap, ◌∙◌, arith}
-use Rattle.std.proofs.lemmas.Bool.{lt-ltb, and_from, or_left, or_right, eq-eqb}
+use Rattle.std.proofs.lemmas.Bool.{lt-ltb, and_from, or_left, or_right}
 use Rattle.std.specs.Prelude.{nat_le}
 use Rattle.std.specs.List.{AllByRecursion, list_any}
 use Rattle.title_land.specs.declared.place.Township.{Township}
@@ -10,13 +10,14 @@ use Rattle.title_land.specs.declared.rectangle.Quarter.{Quarter}
 use Rattle.title_land.specs.declared.rectangle.Quarter.TheVariants.{Northeast, Northwest, Southwest, Southeast}
 use Rattle.title_land.specs.declared.node.Node.{Node}
 use Rattle.title_land.specs.declared.tract.Land.{Land}
-use Rattle.title_land.specs.Places.{same_flag, same_township, is_on_grid}
+use Rattle.title_land.specs.Places.{same_township, is_on_grid}
 use Rattle.title_land.specs.Nodes.{square, quarters, node_has}
 use Rattle.title_land.specs.Lands.{has, is_plant_cell}
 use Rattle.title_land.specs.CellLists.{section_if, sections_from, sections_of, corner_of, cells_below, section_cells, township_cells, plant_cells, cells_of, node_cells}
 use Rattle.title_store.specs.Plants.{is_cell_of}
 use Rattle.title_store.proofs.Each.{each_from, each_append, each_flat, each_filter}
-use Rattle.title_store.proofs.Squares.{sized}
+use Rattle.title_land.proofs.Squares.{sized}
+use Rattle.title_land.proofs.SameLand.{same_township-self}
 
 -- a cell of this section, on its grid
 abbrev InSectionOf : ℕ → Section → Cell → Type 0
@@ -68,13 +69,6 @@ township_each d t =
     (each_from (λ s. s.township ≡ t) (λ s. AllByRecursion (InTownshipOf d t) (section_cells d s)) (sections_of t)
     (λ s e. each_from (InSectionOf d s) (InTownshipOf d t) (section_cells d s) (λ c h. (ap (λ (x : Section). x.township) h.0 ∙ e, h.1)) (section_each d s))
     (sections_each t))
-
-same_flag-self : (a : Bool) → same_flag a a ≡ true
-same_flag-self true = refl
-same_flag-self false = refl
-
-pub same_township-self : (t : Township) → same_township t t ≡ true
-same_township-self t = and_from _ _ (and_from _ _ (and_from _ _ (eq-eqb t.number t.number refl) (same_flag-self t.north)) (eq-eqb t.range t.range refl)) (same_flag-self t.east)
 
 -- each of a list of townships is one of them
 own_each : (ts : List Township) → AllByRecursion (λ t. list_any (same_township t) ts ≡ true) ts

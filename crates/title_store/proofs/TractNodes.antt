@@ -17,14 +17,15 @@ use Rattle.title_land.specs.declared.node.Within.TheVariants as within
 use Rattle.title_land.specs.declared.tract.Land.{Land}
 use Rattle.title_land.specs.declared.tract.Land.TheVariants as land
 use Rattle.title_land.specs.Places.{same_township, same_section}
-use Rattle.title_land.specs.Rectangles.{holds}
+use Rattle.title_land.specs.Rectangles.{holds, quarter_of}
 use Rattle.title_land.specs.Nodes.{path, within_at, square, quarters, node_has}
 use Rattle.title_land.specs.Grids.{grid_has, range_all, row_fills, fills}
 use Rattle.title_land.specs.Covers.{cover_below, node_at}
 use Rattle.title_land.specs.Lands.{has, cover_of}
 use Rattle.title_land.specs.CellLists.{sections_of, children_of}
 use Rattle.title_store.proofs.Each.{each_from, each_append, each_map}
-use Rattle.title_store.proofs.Squares.{inside, quarter_holds}
+use Rattle.title_land.proofs.Squares.{inside, quarter_inside, holds_from}
+use Rattle.title_land.proofs.NodeSharing.{path-within_at}
 use Rattle.title_store.proofs.PlantCells.{sections_each}
 
 range_at : (test : ℕ → Bool) (start n k : ℕ) → range_all test start n ≡ true → start ≤ k → k < start + n → test k ≡ true
@@ -67,20 +68,13 @@ cover_each_below d set (suc levels) q l =
     go true e ne nw sw se = ((e, omega arith), tt)
     go false e ne nw sw se = each_append (Listed d set) _ _ (each_append (Listed d set) _ _ (each_append (Listed d set) _ _ ne nw) sw) se
 
-path_of : (q : List Quarter) → length q ≤ 3 → path (within_at q) ≡ q
-path_of [] l = refl
-path_of (a ∷ []) l = refl
-path_of (a ∷ b ∷ []) l = refl
-path_of (a ∷ b ∷ c ∷ []) l = refl
-path_of (a ∷ b ∷ c ∷ e ∷ q) l = absurd (omega arith)
-
 abbrev HasWithin : ℕ → Land → Node → Type 0
 HasWithin d land n = (c : Cell) → node_has d n c ≡ true → has land c ≡ true
 
 part_within : (d : ℕ) → d ≤ 3 → (s : Section) (set : ℕ → ℕ → Bool) (q : List Quarter) (c : Cell) → Listed d set q → node_has d (node_at s q) c ≡ true → (same_section s c.section && set c.row c.column) ≡ true
 part_within d small s set q c h in_node =
     let parts = and_parts (same_section s c.section) _ in_node in
-    and_from _ _ parts.0 (filled_at set (square d q) c.row c.column h.0 (sym (ap (λ (x : List Quarter). holds (square d x) c.row c.column) (path_of q (omega (arith, h)))) ∙ parts.1))
+    and_from _ _ parts.0 (filled_at set (square d q) c.row c.column h.0 (sym (ap (λ (x : List Quarter). holds (square d x) c.row c.column) (path-within_at q (omega (arith, h)))) ∙ parts.1))
 
 -- the cells of a cover's nodes are the tract's
 pub cover_within : (d : ℕ) → d ≤ 3 → (land : Land) → AllByRecursion (HasWithin d land) (cover_of d land)
@@ -91,6 +85,9 @@ cover_within d small (land.Part s g) =
     each_map (node_at s) (HasWithin d (land.Part s g)) (cover_below d (grid_has g) d [])
     (each_from (Listed d (grid_has g)) (λ q. HasWithin d (land.Part s g) (node_at s q)) _ (λ q h c k. part_within d small s (grid_has g) q c h k)
     (cover_each_below d (grid_has g) d [] (omega arith)))
+
+quarter_holds : (q : Quarter) (r : Rectangle) (row column : ℕ) → holds (quarter_of q r) row column ≡ true → holds r row column ≡ true
+quarter_holds q r row column h = holds_from r row column (quarter_inside q r row column (inside (quarter_of q r) row column h))
 
 abbrev LiesIn : ℕ → Node → Node → Type 0
 LiesIn d above n = (c : Cell) → node_has d n c ≡ true → node_has d above c ≡ true
@@ -107,7 +104,7 @@ section_in d t s e c h =
 quarter_in : (d : ℕ) (s : Section) (w : Within) (q : Quarter) → length (path w) < 3 → LiesIn d (node.Part s w) (node.Part s (within_at (q ∷ path w)))
 quarter_in d s w q l c h =
     let parts = and_parts (same_section s c.section) _ h in
-    and_from _ _ parts.0 (quarter_holds q (square d (path w)) c.row c.column (sym (ap (λ (x : List Quarter). holds (square d x) c.row c.column) (path_of (q ∷ path w) (omega arith))) ∙ parts.1))
+    and_from _ _ parts.0 (quarter_holds q (square d (path w)) c.row c.column (sym (ap (λ (x : List Quarter). holds (square d x) c.row c.column) (path-within_at (q ∷ path w) (omega arith))) ∙ parts.1))
 
 -- the cells of a node's children are its cells
 pub children_within : (d : ℕ) → d ≤ 3 → (ts : List Township) (n : Node) → AllByRecursion (LiesIn d n) (children_of d ts n)
