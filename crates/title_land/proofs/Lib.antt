@@ -11,3 +11,5 @@ pub mod Filling
 pub mod CoverCells
 pub mod LandSharing
 pub mod CoverOrder
+pub mod GridSharing
+pub mod TractSharing

@@ -1,6 +1,6 @@
 -- Sets of a section's cells.
-use Rattle.std.specs.Prelude.{◌≡◌, ◌<◌, ℕ, zero, suc, ◌+◌, Bool, true, false, ◌&&◌, ◌||◌, List, [], ◌∷◌, map, nat_lt, slice_get, unwrap_or, option_and_then, sum_by, count_by}
-use Rattle.std.specs.List.{list_any, range_with_len}
+use Rattle.std.specs.Prelude.{◌≡◌, ◌<◌, ℕ, zero, suc, ◌+◌, Bool, true, false, ◌&&◌, ◌||◌, List, [], ◌∷◌, map, length, nat_lt, slice_get, unwrap_or, option_and_then, sum_by, count_by}
+use Rattle.std.specs.List.{list_any, range_with_len, zip, All}
 use Rattle.title_land.specs.Places.{side}
 use Rattle.title_land.specs.Rectangles.{holds}
 use Rattle.title_land.specs.declared.grid.Grid.{Grid}
@@ -25,18 +25,11 @@ fills has r = range_all (λ row. row_fills has r row) r.top r.height
 
 -- two rows of cells have one in common
 abbrev pub rows_meet : List Bool → List Bool → Bool
-rows_meet [] cells = false
-rows_meet (a ∷ row) [] = false
-rows_meet (a ∷ row) (b ∷ cells) = (a && b) || rows_meet row cells
-
-abbrev pub lists_meet : List (List Bool) → List (List Bool) → Bool
-lists_meet [] rows = false
-lists_meet (a ∷ more) [] = false
-lists_meet (a ∷ more) (b ∷ rows) = rows_meet a b || lists_meet more rows
+rows_meet row cells = list_any (λ pair. pair.0 && pair.1) (zip row cells)
 
 -- two sets share a cell
 abbrev pub grids_meet : Grid → Grid → Bool
-grids_meet g h = lists_meet g.rows h.rows
+grids_meet g h = list_any (λ pair. rows_meet pair.0 pair.1) (zip g.rows h.rows)
 
 -- a set has a cell
 abbrev pub has_some : Grid → Bool
@@ -48,6 +41,10 @@ row_count row = count_by (λ cell. cell) row
 -- the number of cells in a set
 abbrev pub cell_count : Grid → ℕ
 cell_count g = sum_by row_count g.rows
+
+-- the set has as many rows as a section's side, each with as many cells
+abbrev pub IsGrid : ℕ → Grid → Type 0
+IsGrid depth g = (length g.rows ≡ side depth) × All (λ row. length row ≡ side depth) g.rows
 
 -- the numbers of a section's rows, and of its columns
 abbrev pub places : ℕ → List ℕ

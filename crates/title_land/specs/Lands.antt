@@ -9,7 +9,7 @@ use Rattle.title_land.specs.declared.node.Node.TheVariants as node
 use Rattle.title_land.specs.declared.tract.Land.{Land}
 use Rattle.title_land.specs.declared.tract.Land.TheVariants as land
 use Rattle.title_land.specs.Places.{is_on_grid}
-use Rattle.title_land.specs.Grids.{grid_has, has_some, grids_meet}
+use Rattle.title_land.specs.Grids.{grid_has, has_some, grids_meet, IsGrid}
 use Rattle.title_land.specs.Places.{same_township, same_section}
 use Rattle.title_land.specs.Covers.{section_cover}
 
@@ -54,3 +54,9 @@ meets (land.Part s g) (land.Part u h) = same_section s u && grids_meet g h
 -- the tracts share a cell
 abbrev pub Meets : ℕ → Land → Land → Type 0
 Meets depth a b = (c : Cell) × (is_on_grid depth c ≡ true) × (has a c ≡ true) × (has b c ≡ true)
+
+-- a part's set is as large as its section's grid
+abbrev pub IsLand : ℕ → Land → Type 0
+IsLand depth land.Everything = Unit {0}
+IsLand depth (land.Township t) = Unit {0}
+IsLand depth (land.Part s g) = IsGrid depth g

@@ -8,3 +8,4 @@ pub mod CellLists
 pub mod Texts
 pub mod NodeLaws
 pub mod CoverSets
+pub mod SharedCells

@@ -1,7 +1,8 @@
 //! Sets of a section's cells.
 
 ghost use Rattle.std.specs.Prelude.{◌≡◌, ◌<◌, ◌||◌, ℕ, map};
-ghost use Rattle.title_land.specs.Grids.{grid_has, fills, row_fills, places, with_rectangle, AddsRectangle};
+ghost use Rattle.title_land.specs.Grids.{IsGrid, grid_has, fills, row_fills, has_some, rows_meet, grids_meet, places, with_rectangle, AddsRectangle};
+ghost use Rattle.std.specs.List.{list_any};
 ghost use Rattle.title_land.specs.Rectangles.{InSection, holds};
 
 use crate::rectangle::{Rectangle, SIDE};
@@ -34,6 +35,28 @@ impl Grid {
             },
             None => false,
         }
+    }
+
+    /// It has as many rows as a section's side, each as long. It does nothing: its type says so, and a proof may cite it.
+    pub fn is_sized(self)
+        ensures sized { IsGrid 3 self }
+    {}
+
+    /// Whether it has a cell.
+    pub fn has_some(&self) -> bool
+        ensures some { result ≡ has_some self.now }
+    {
+        self.rows.iter().any(|row| row_has_some(row))
+    }
+
+    /// Whether the sets share a cell.
+    pub fn meets(&self, other: &Grid) -> bool
+        ensures meets { result ≡ grids_meet self.now other.now }
+    {
+        self.rows
+            .iter()
+            .zip(other.rows.iter())
+            .any(|(row, cells)| rows_meet(row, cells))
     }
 
     /// The set with a rectangle's cells added.
@@ -94,4 +117,18 @@ pub fn fills(grid: &Grid, r: Rectangle) -> bool
         }
     }
     true
+}
+
+/// Whether a row has a cell.
+fn row_has_some(row: &[bool; 8]) -> bool
+    ensures some { result ≡ list_any (λ cell. cell) row.now }
+{
+    row.iter().any(|cell| *cell)
+}
+
+/// Whether two rows have a cell in common.
+fn rows_meet(row: &[bool; 8], cells: &[bool; 8]) -> bool
+    ensures meets { result ≡ rows_meet row.now cells.now }
+{
+    row.iter().zip(cells.iter()).any(|(a, b)| *a && *b)
 }

@@ -7,6 +7,7 @@ pub mod laws;
 pub mod node;
 pub mod place;
 pub mod rectangle;
+pub mod sharing;
 pub mod tract;
 
 pub use grid::Grid;

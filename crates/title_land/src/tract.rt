@@ -1,8 +1,8 @@
 //! Tracts.
 
-ghost use Rattle.std.specs.Prelude.{◌≡◌, IfOk};
+ghost use Rattle.std.specs.Prelude.{◌≡◌, ◌↔◌, IfOk, true};
 ghost use Rattle.title_land.specs.declared.tract.Land.{Land};
-ghost use Rattle.title_land.specs.Lands.{has, cover_of};
+ghost use Rattle.title_land.specs.Lands.{has, cover_of, meets, Meets, IsLand};
 
 use crate::cover::add_cover;
 use crate::grid::Grid;
@@ -18,6 +18,17 @@ pub enum Land {
     Everything,
     Township(Township),
     Part(Section, Grid),
+}
+
+impl Land {
+    /// A part's set is as large as its section's grid. It does nothing: its type says so, and a proof may cite it.
+    pub fn is_sized(self)
+        ensures sized { IsLand 3 self }
+    {
+        if let Land::Part(_, grid) = self {
+            grid.is_sized();
+        }
+    }
 }
 
 /// A set of cells, with its cover. A contract sees it as its `Land`.
@@ -58,6 +69,23 @@ fn cover_land(alloc: Global, land: Land) -> Result<Vec<Node>, AllocError>
     Ok(nodes)
 }
 
+/// Whether two lands share a cell.
+#[tactic(auto, unfolding(crate::specs::Lands::meets))]
+fn lands_meet(a: &Land, b: &Land) -> bool
+    ensures meets { result ≡ meets a.now b.now }
+{
+    match (a, b) {
+        (Land::Everything, Land::Part(_, grid)) | (Land::Part(_, grid), Land::Everything) => {
+            grid.has_some()
+        }
+        (Land::Everything, _) | (_, Land::Everything) => true,
+        (Land::Township(t), Land::Township(u)) => t.is(*u),
+        (Land::Township(t), Land::Part(u, grid)) => t.is(u.township) && grid.has_some(),
+        (Land::Part(s, grid), Land::Township(u)) => s.township.is(*u) && grid.has_some(),
+        (Land::Part(s, grid), Land::Part(u, cells)) => s.is(*u) && grid.meets(cells),
+    }
+}
+
 impl Tract {
     /// The tract of this land.
     pub fn new(alloc: Global, land: Land) -> Result<Tract, AllocError>
@@ -93,6 +121,16 @@ impl Tract {
                 section.is(cell.section) && grid.has(cell.row, cell.column)
             }
         }
+    }
+
+    /// Whether the tracts share a cell.
+    pub fn meets(&self, other: &Tract) -> bool
+        ensures meets { result ≡ meets self.now other.now }
+        ensures shares { (result ≡ true) ↔ Meets 3 self.now other.now }
+    {
+        self.land.is_sized();
+        other.land.is_sized();
+        lands_meet(&self.land, &other.land)
     }
 
     /// An equal tract.
