@@ -1,6 +1,9 @@
 //! Asks and answers.
 
+ghost use Rattle.std.specs.Prelude.{◌≡◌, IfOk};
+
 use crate::lists::{Entries, SheetRows};
+use std::alloc::{AllocError, Global};
 use title_instrument::{Estate, Instrument, Rule};
 use title_land::{Node, Tract};
 
@@ -42,4 +45,68 @@ pub enum Answer {
 pub struct Step {
     pub ask: Ask,
     pub answer: Answer,
+}
+
+impl Posting {
+    /// An equal posting.
+    pub fn copy(&self, alloc: Global) -> Result<Posting, AllocError>
+        ensures copy { IfOk result (λ posting. posting ≡ self.now) }
+    {
+        Ok(Posting {
+            doc: self.doc,
+            tract: self.tract.copy(alloc)?,
+            instrument: self.instrument,
+        })
+    }
+}
+
+impl Ask {
+    /// An equal ask.
+    pub fn copy(&self, alloc: Global) -> Result<Ask, AllocError>
+        ensures copy { IfOk result (λ ask. ask ≡ self.now) }
+    {
+        Ok(match self {
+            Ask::Sheet(tract) => Ask::Sheet(tract.copy(alloc)?),
+            Ask::Chain(tract) => Ask::Chain(tract.copy(alloc)?),
+            Ask::Post(posting) => Ask::Post(posting.copy(alloc)?),
+        })
+    }
+}
+
+impl Entry {
+    /// An equal entry.
+    pub fn copy(&self, alloc: Global) -> Result<Entry, AllocError>
+        ensures copy { IfOk result (λ entry. entry ≡ self.now) }
+    {
+        Ok(Entry {
+            place: self.place,
+            posting: self.posting.copy(alloc)?,
+        })
+    }
+}
+
+impl Answer {
+    /// An equal answer.
+    pub fn copy(&self, alloc: Global) -> Result<Answer, AllocError>
+        ensures copy { IfOk result (λ answer. answer ≡ self.now) }
+    {
+        Ok(match self {
+            Answer::Rows(rows) => Answer::Rows(rows.copy(alloc)?),
+            Answer::Entries(entries) => Answer::Entries(entries.copy(alloc)?),
+            Answer::Posted => Answer::Posted,
+            Answer::Refused(rule, estate, node) => Answer::Refused(*rule, *estate, *node),
+        })
+    }
+}
+
+impl Step {
+    /// An equal step.
+    pub fn copy(&self, alloc: Global) -> Result<Step, AllocError>
+        ensures copy { IfOk result (λ step. step ≡ self.now) }
+    {
+        Ok(Step {
+            ask: self.ask.copy(alloc)?,
+            answer: self.answer.copy(alloc)?,
+        })
+    }
 }

@@ -1,9 +1,10 @@
 //! Lists of rows, entries, steps and records, which contracts compare as lists.
 
-ghost use Rattle.std.specs.Prelude.{◌≡◌};
+ghost use Rattle.std.specs.Prelude.{◌≡◌, IfOk};
 
 use crate::ask::{Entry, Step};
 use crate::record::Record;
+use std::alloc::{AllocError, Global};
 use std::marker::Model;
 use title_store::SheetRow;
 
@@ -43,6 +44,14 @@ impl SheetRows {
     {
         self.items
     }
+
+    /// An equal list.
+    pub fn copy(&self, alloc: Global) -> Result<SheetRows, AllocError>
+        ensures copy { IfOk result (λ items. items ≡ self.now) }
+    {
+        let items = Vec::from_slice(alloc, &self.items)?;
+        Ok(SheetRows { items })
+    }
 }
 
 /// The entries of a chain, in order.
@@ -80,6 +89,17 @@ impl Entries {
         ensures vec { result.items ≡ self }
     {
         self.items
+    }
+
+    /// An equal list.
+    pub fn copy(&self, alloc: Global) -> Result<Entries, AllocError>
+        ensures copy { IfOk result (λ items. items ≡ self.now) }
+    {
+        let mut items = Vec::new(alloc);
+        for entry in &self.items {
+            items.push(entry.copy(alloc)?)?;
+        }
+        Ok(Entries { items })
     }
 }
 
@@ -119,6 +139,17 @@ impl Steps {
     {
         self.items
     }
+
+    /// An equal list.
+    pub fn copy(&self, alloc: Global) -> Result<Steps, AllocError>
+        ensures copy { IfOk result (λ items. items ≡ self.now) }
+    {
+        let mut items = Vec::new(alloc);
+        for step in &self.items {
+            items.push(step.copy(alloc)?)?;
+        }
+        Ok(Steps { items })
+    }
 }
 
 /// Records in the order of their commits; the place of a record is its number in the list, from 1.
@@ -156,5 +187,16 @@ impl Records {
         ensures vec { result.items ≡ self }
     {
         self.items
+    }
+
+    /// An equal list.
+    pub fn copy(&self, alloc: Global) -> Result<Records, AllocError>
+        ensures copy { IfOk result (λ items. items ≡ self.now) }
+    {
+        let mut items = Vec::new(alloc);
+        for record in &self.items {
+            items.push(record.copy(alloc)?)?;
+        }
+        Ok(Records { items })
     }
 }
