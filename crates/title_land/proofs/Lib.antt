@@ -13,3 +13,4 @@ pub mod LandSharing
 pub mod CoverOrder
 pub mod GridSharing
 pub mod TractSharing
+pub mod CoverSet

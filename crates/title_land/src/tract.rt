@@ -2,6 +2,7 @@
 
 ghost use Rattle.std.specs.Prelude.{◌≡◌, ◌↔◌, IfOk, true};
 ghost use Rattle.title_land.specs.declared.tract.Land.{Land};
+ghost use Rattle.title_land.specs.CoverSets.{IsCover};
 ghost use Rattle.title_land.specs.Lands.{has, cover_of, meets, Meets, IsLand};
 
 use crate::cover::add_cover;
@@ -105,6 +106,7 @@ impl Tract {
     /// The nodes whose cells all lie in the tract and whose parent's don't, in order.
     pub fn cover(&self) -> &[Node]
         ensures cover { result.now ≡ cover_of 3 self.now }
+        ensures set { IsCover 3 self.now result.now }
     {
         self.cover.as_slice()
     }
