@@ -9,10 +9,8 @@ use Rattle.title_land.specs.declared.rectangle.Half.TheVariants.{North, South, E
 use Rattle.title_land.specs.declared.rectangle.Step.{Step}
 use Rattle.title_land.specs.declared.rectangle.Step.TheVariants as step
 use Rattle.title_land.specs.declared.rectangle.Rectangle.{Rectangle}
+use Rattle.title_land.specs.Doubled.{double, APartDoubles}
 use Rattle.title_land.specs.Rectangles.{section_square, half_of, quarter_of, taken_of, exists, is_even, step_of, part_of}
-
-abbrev pub double : Rectangle → Rectangle
-double r = record { top = 2 * r.top; left = 2 * r.left; height = 2 * r.height; width = 2 * r.width }
 
 abbrev record_of : ℕ → ℕ → ℕ → ℕ → Rectangle
 record_of t l h w = record { top = t; left = l; height = h; width = w }
@@ -82,3 +80,6 @@ part_double d [] x h = let k : section_square d ≡ x = cc in ap (λ (z : Rectan
 part_double d (s ∷ steps) x h =
     let k = then_some (part_of d steps) (step_of s) x h in
     rw (part_double d steps k.0 k.1) (step_double s k.0 x k.2)
+
+pub a_part_doubles : APartDoubles
+a_part_doubles depth steps r h = part_double depth steps r h

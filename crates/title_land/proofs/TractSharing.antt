@@ -15,6 +15,7 @@ use Rattle.title_land.specs.SharedCells.{MeetsAtACell, CommonCellMeets, MeetsEit
 use Rattle.title_land.proofs.SameLand.{same_township-is, same_township-self, same_section-is, same_section-self}
 use Rattle.title_land.proofs.Squares.{pow_positive}
 use Rattle.title_land.proofs.NodeSharing.{some_township, first_section, cell_at}
+use Rattle.title_land.proofs.LandSharing.{equal_tests}
 use Rattle.title_land.proofs.GridSharing.{grids_found, grids_from, some_found, some_from, grid_places}
 
 -- a cell that lies in both, on the grid where both are as large as it
@@ -126,17 +127,12 @@ common_meets (land.Part s g) (land.Part u h) c x y =
     let f = same_section-is u c.section m.0 in
     and_from (same_section s u) (grids_meet g h) (rw (e, f) (same_section-self c.section)) (grids_from g h c.row c.column k.1 m.1)
 
-same_test : (a b : Bool) → (a ≡ true → b ≡ true) → (b ≡ true → a ≡ true) → a ≡ b
-same_test true b f g = sym (f refl)
-same_test false true f g = g refl
-same_test false false f g = refl
-
 meets_turned : (a b : Land) → meets a b ≡ true → meets b a ≡ true
 meets_turned a b h = let c = common_cell a b h in common_meets b a c.cell c.in_b c.in_a
 
 -- the test is the same either way
 pub meets_either_way : MeetsEitherWay
-meets_either_way a b = same_test (meets a b) (meets b a) (meets_turned a b) (meets_turned b a)
+meets_either_way a b = equal_tests (meets a b) (meets b a) (meets_turned a b) (meets_turned b a)
 
 -- where both are as large as the grid, they meet exactly where a cell of the grid lies in both
 pub meets_at_a_cell : (depth : ℕ) → MeetsAtACell depth

@@ -9,3 +9,5 @@ pub mod Texts
 pub mod NodeLaws
 pub mod CoverSets
 pub mod SharedCells
+pub mod Acres
+pub mod Doubled

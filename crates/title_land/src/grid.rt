@@ -1,7 +1,7 @@
 //! Sets of a section's cells.
 
-ghost use Rattle.std.specs.Prelude.{◌≡◌, ◌<◌, ◌||◌, ℕ, map};
-ghost use Rattle.title_land.specs.Grids.{IsGrid, grid_has, fills, row_fills, has_some, rows_meet, grids_meet, places, with_rectangle, AddsRectangle};
+ghost use Rattle.std.specs.Prelude.{◌≡◌, ◌<◌, ◌≤◌, ◌||◌, ℕ, map};
+ghost use Rattle.title_land.specs.Grids.{IsGrid, grid_has, fills, row_fills, has_some, row_count, cell_count, rows_meet, grids_meet, places, with_rectangle, AddsRectangle};
 ghost use Rattle.std.specs.List.{list_any};
 ghost use Rattle.title_land.specs.Rectangles.{InSection, holds};
 
@@ -47,6 +47,18 @@ impl Grid {
         ensures some { result ≡ has_some self.now }
     {
         self.rows.iter().any(|row| row_has_some(row))
+    }
+
+    /// The number of its cells.
+    pub fn cell_count(&self) -> u32
+        ensures count { result ≡ cell_count self.now }
+        ensures most { result ≤ 64 }
+    {
+        let mut count = 0;
+        for row in &self.rows {
+            count += row_count(row);
+        }
+        count
     }
 
     /// Whether the sets share a cell.
@@ -117,6 +129,14 @@ pub fn fills(grid: &Grid, r: Rectangle) -> bool
         }
     }
     true
+}
+
+/// The number of cells in a row.
+fn row_count(row: &[bool; 8]) -> u32
+    ensures count { result ≡ row_count row.now }
+    ensures most { result ≤ 8 }
+{
+    row.iter().filter(|cell| **cell).count() as u32
 }
 
 /// Whether a row has a cell.

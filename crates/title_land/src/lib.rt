@@ -1,6 +1,7 @@
 //! Land of the public survey as sets of cells: townships, sections, their quarters down to cells, and tracts.
 #![tactic(auto)]
 
+pub mod acres;
 pub mod cover;
 pub mod grid;
 pub mod laws;
@@ -10,6 +11,7 @@ pub mod rectangle;
 pub mod sharing;
 pub mod tract;
 
+pub use acres::Acres;
 pub use grid::Grid;
 pub use node::{Node, Within};
 pub use place::{Cell, Section, Township};

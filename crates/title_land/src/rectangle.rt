@@ -1,6 +1,7 @@
 //! Rectangles of a section's cells, their halves and quarters.
 
 ghost use Rattle.std.specs.Prelude.{◌≡◌, ◌↔◌, IfSome, Some, true};
+ghost use Rattle.title_land.specs.Doubled.{APartDoubles};
 ghost use Rattle.title_land.specs.Rectangles.{half_of, quarter_of, step_of, is_even, holds, InSection, rectangles_meet, SharesCell};
 ghost use Rattle.title_land.specs.Texts.{quarter_text};
 
@@ -172,3 +173,9 @@ impl Rectangle {
             && self.left.max(other.left) < right.min(other_right)
     }
 }
+
+/// A law: a part that isn't too small is, in a section quartered once more, the same part with its sides doubled.
+/// The function does nothing: its clause is the law, proved.
+pub fn a_part_doubles()
+    ensures law { APartDoubles }
+{}

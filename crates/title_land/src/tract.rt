@@ -3,8 +3,10 @@
 ghost use Rattle.std.specs.Prelude.{◌≡◌, ◌↔◌, IfOk, true};
 ghost use Rattle.title_land.specs.declared.tract.Land.{Land};
 ghost use Rattle.title_land.specs.CoverSets.{IsCover};
+ghost use Rattle.title_land.specs.Acres.{half_acres_of};
 ghost use Rattle.title_land.specs.Lands.{has, cover_of, meets, Meets, IsLand};
 
+use crate::acres::{CELL_HALF_ACRES, TOWNSHIP_HALF_ACRES};
 use crate::cover::add_cover;
 use crate::grid::Grid;
 use crate::node::{Node, Within};
@@ -133,6 +135,18 @@ impl Tract {
         self.land.is_sized();
         other.land.is_sized();
         lands_meet(&self.land, &other.land)
+    }
+
+    /// Its nominal acres, in half acres: 20 for each of its cells. `None` for the whole plant alone, whose cells
+    /// aren't numbered.
+    pub fn half_acres(&self) -> Option<u32>
+        ensures half_acres { result ≡ half_acres_of 3 self.now }
+    {
+        match &self.land {
+            Land::Everything => None,
+            Land::Township(_) => Some(TOWNSHIP_HALF_ACRES),
+            Land::Part(_, grid) => Some(grid.cell_count() * CELL_HALF_ACRES),
+        }
     }
 
     /// An equal tract.
