@@ -1,0 +1,136 @@
+-- What a parse of the program's command without a fault has, and which fault stands for an error.
+use Rattle.std.proofs.Common.{◌≡◌, ◌∙◌, inl, inr, ℕ, Bool, true, false, true≢false, List, [], ◌∷◌, Option, Some, None, refl, sym, ap, ap₂, subst, le_refl, option_map, is_some, codes}
+use Rattle.std.specs.Prelude.{Box, find, unwrap_or}
+use Rattle.std.specs.Box.{box_value}
+use Rattle.std.specs.Option.{option_map_or}
+use Rattle.std.specs.List.{slice_index_or}
+use Rattle.std.specs.Str.{bytes_eq}
+use Rattle.std.proofs.lemmas.Slice.Eq.{bytes_eq-Decides}
+use Rattle.clap.specs.Walk.{Row, Text, answers_to, first_of, has_row, nothing_held, rows_after, stop_after, walk_from}
+use Rattle.clap.specs.Simple.{Shape, argument_words, built, entered, label_of, names_of, rows_at, subcommand_of, subcommand_rows, subcommand_rows_of}
+use Rattle.clap.specs.Kinds.{HasKind, IsAmong, Kinds}
+use Rattle.clap.specs.Takes.{is_given}
+use Rattle.clap.specs.Faults.{check_fault, entered_fault, fault_of, level_fault, walk_fault}
+use Rattle.clap.specs.Values.{kind_of}
+use Rattle.clap.specs.Matches.{subcommand_name_of}
+use Rattle.clap.specs.declared.error.Error.{Error}
+use Rattle.clap.specs.declared.error.kind.ErrorKind.{ErrorKind}
+use Rattle.clap.specs.declared.error.kind.ErrorKind.TheVariants.{OutOfMemory}
+use Rattle.clap.specs.declared.parser.matches.ArgMatches.{ArgMatches}
+use Rattle.clap.specs.declared.parser.matches.SubCommand.{SubCommand}
+use Rattle.clap.specs.declared.parser.matches.ArgMatches.TheViews.{out-ArgMatches, out-SubCommand}
+use Rattle.title_command.specs.declared.choice.LineFault.{LineFault}
+use Rattle.title_command.specs.declared.choice.LineFault.TheVariants.{Help, Bad, Memory}
+use Rattle.title_command.specs.CommandLine.{Explains, IsFaultFor, IsReadable, command, tract}
+use Rattle.title_command.proofs.ValueRows.{Each, first_read, found_has, level_keeps, no_fault}
+
+-- ---- each subcommand has the values that its line takes from it
+
+-- a subcommand has them where the parse of its words finds no fault
+abbrev Level : Shape → Type 0
+Level s = (words : List Text) → level_fault s [] nothing_held words false [] ≡ [] → IsReadable s.name (rows_after s.rules [] words)
+
+-- the subcommand at this place
+abbrev at : ℕ → Shape
+at k = slice_index_or (built command).subs k tract
+
+-- an argument that is given has a row
+given_row : (id : Text) (rows : List Row) → is_given id rows ≡ true → has_row id rows ≡ true
+given_row id [] e = absurd (true≢false (sym e))
+given_row id (r ∷ rs) e = go (bytes_eq r.id id) refl (given_row id rs)
+  where
+    go : (b : Bool) → bytes_eq r.id id ≡ b → (is_given id rs ≡ true → has_row id rs ≡ true) → has_row id (r ∷ rs) ≡ true
+    go true is rest = rw is refl
+    go false is rest =
+        let given : is_given id rs ≡ true = rw is at e in
+        rw is (rest given)
+
+-- `tract` without a fault has its text
+tract_level : Level (at 2)
+tract_level words e =
+    let rows = rows_after (at 2).rules [] words in
+    let kept = level_keeps (at 2) words (inl (refl, le_refl 1), (inr refl, tt)) e in
+    inr (inr (refl, first_read (codes "TEXT") rows (given_row (codes "TEXT") rows (given rows (is_given (codes "TEXT") rows) refl kept.1)) kept.0))
+  where
+    given : (rows : List Row) (b : Bool) → is_given (codes "TEXT") rows ≡ b → check_fault (at 2) rows false ≡ [] → is_given (codes "TEXT") rows ≡ true
+    given rows true is ok = is
+    given rows false is ok =
+        let bad = rw is at ok in
+        absurd (cc)
+
+-- each subcommand without a fault is readable
+levels : Each Level (built command).subs
+levels = ((λ words e. inl refl), ((λ words e. inr (inl refl)), (tract_level, tt)))
+
+-- the subcommand that was entered is one of these
+entered_reads : (p : Text × List Text) (o : Option Shape) → ((s : Shape) → o ≡ Some s → Level s)
+    → option_map_or (λ (s : Shape). level_fault s [] nothing_held p.1 false []) o [] ≡ []
+    → (name : Text) (rows : List Row) → option_map (λ (s : Shape). rows_at s p.1) o ≡ Some (name, rows) → IsReadable name rows
+entered_reads p None level ok name rows e = absurd (cc)
+entered_reads p (Some s) level ok name rows e =
+    let same = ap (λ (m : Option (Text × List Row)). unwrap_or m (s.name, [])) e in
+    let same_name : s.name ≡ name = ap (λ (m : Text × List Row). m.0) same in
+    let same_rows : rows_after s.rules [] p.1 ≡ rows = ap (λ (m : Text × List Row). m.1) same in
+    subst (λ (t : Text). IsReadable t rows) same_name (subst (λ (rs : List Row). IsReadable s.name rs) same_rows (level s refl p.1 ok))
+
+-- the subcommand that words without a fault name
+pub readable : (words : List Text) → fault_of command words ≡ [] → (name : Text) (rows : List Row) → subcommand_of command words ≡ Some (name, rows) → IsReadable name rows
+readable words e name rows met =
+    let a = built command in
+    let ws = argument_words command words in
+    let walks = no_fault (walk_fault a.top (names_of a) (walk_from nothing_held) ws) _ e in
+    let below = no_fault (entered_fault a (stop_after a.top.rules (names_of a) ws)) _ walks.1 in
+    go (stop_after a.top.rules (names_of a) ws) below.0 met
+  where
+    go : (o : Option (Text × List Text)) → entered_fault (built command) o ≡ [] → entered (built command) o ≡ Some (name, rows) → IsReadable name rows
+    go None ok is = absurd (cc)
+    go (Some p) ok is = entered_reads p (find (λ (s : Shape). answers_to p.0 (label_of s)) (built command).subs)
+        (found_has Level (λ (s : Shape). answers_to p.0 (label_of s)) (built command).subs levels) ok name rows is
+
+-- ---- the matches that hold it
+
+-- the name beside the rows of a subcommand
+name_is : {Z : Type 0} (o : Option (Box SubCommand Z)) → option_map (λ (b : Box SubCommand Z). (out-SubCommand (box_value b)).name.now) o ≡ option_map (λ (p : Text × List Row). p.0) (subcommand_rows o)
+name_is None = refl
+name_is (Some b) = refl
+
+-- the name and the rows of the subcommand together
+pub met_is : (m : ArgMatches) (name : Text) (rows : List Row) → Some name ≡ subcommand_name_of m → Some rows ≡ option_map (λ (p : Text × List Row). p.1) (subcommand_rows_of m)
+    → subcommand_rows_of m ≡ Some (name, rows)
+met_is m name rows e f = go (subcommand_rows_of m) (e ∙ name_is (out-ArgMatches m).subcommand) f
+  where
+    go : (o : Option (Text × List Row)) → Some name ≡ option_map (λ (p : Text × List Row). p.0) o → Some rows ≡ option_map (λ (p : Text × List Row). p.1) o → o ≡ Some (name, rows)
+    go None x y = absurd (cc)
+    go (Some p) x y =
+        let n : p.0 ≡ name = sym (ap (λ (o : Option Text). unwrap_or o []) x) in
+        let r : p.1 ≡ rows = sym (ap (λ (o : Option (List Row)). unwrap_or o []) y) in
+        ap₂ (λ (a : Text) (b : List Row). Some (a, b)) n r
+
+-- ---- the dispatch on a name
+
+-- two names that a test tells apart differ
+differ : (a b : Text) → false ≡ bytes_eq a b → a ≡ b → ⊥
+differ a b e same = true≢false (sym ((bytes_eq-Decides a b).1 same) ∙ sym e)
+
+-- a name that is neither of the first two is that of `tract`
+pub tract_reads : (name : Text) (rows : List Row) → false ≡ bytes_eq name (codes "run") → false ≡ bytes_eq name (codes "alone")
+    → IsReadable name rows → (name ≡ codes "tract") × (is_some (first_of (codes "TEXT") rows) ≡ true)
+tract_reads name rows not_run not_alone (inl is) = absurd (differ name (codes "run") not_run is)
+tract_reads name rows not_run not_alone (inr (inl is)) = absurd (differ name (codes "alone") not_alone is)
+tract_reads name rows not_run not_alone (inr (inr is)) = is
+
+-- ---- the fault that stands for an error
+
+-- memory is the fault of one kind of error alone
+pub memory_is : (kind : ErrorKind) (fault : LineFault) → IsFaultFor kind fault → kind ≡ OutOfMemory → fault ≡ Memory
+memory_is kind (Help error) is memory = absurd (cc)
+memory_is kind (Bad error) is memory = absurd (is.1 memory)
+memory_is kind Memory is memory = refl
+
+-- an error of a kind that clap may give for the words explains its fault
+pub explains : (kinds : Kinds) (error : Error) (fault : LineFault) → HasKind kinds error → IsFaultFor (kind_of error) fault → Explains kinds fault
+explains kinds error Memory among is = tt
+explains kinds error (Help shown) (inl memory) is = absurd (cc)
+explains kinds error (Help shown) (inr among) is = subst (λ (kind : ErrorKind). IsAmong kind kinds) is among
+explains kinds error (Bad shown) (inl memory) is = absurd (is.1 memory)
+explains kinds error (Bad shown) (inr among) is = (kind_of error, is.0, among)

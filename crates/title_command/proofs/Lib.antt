@@ -1,0 +1,2 @@
+mod ValueRows
+mod CommandLemmas

@@ -1,0 +1,26 @@
+//! What the words of a command line ask for.
+
+/// One of the program's commands.
+#[derive(Clone, Copy, Debug, PartialEq, Eq)]
+pub enum Line<'a> {
+    /// Serve a script of interleaved transactions.
+    Run,
+    /// Serve a script of transactions that follow one another.
+    Alone,
+    /// List the parts of the land that this description names.
+    Tract(&'a str),
+}
+
+/// Why the words give no command. The text of `Help` and `Bad`, by `Display`, is for the user.
+#[derive(Debug, Drop, thiserror::Error)]
+pub enum LineFault {
+    /// The words ask for help.
+    #[error(transparent)]
+    Help(clap::Error),
+    /// The words aren't understood.
+    #[error(transparent)]
+    Bad(clap::Error),
+    /// Memory ran out.
+    #[error("fault,6")]
+    Memory,
+}

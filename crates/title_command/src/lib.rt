@@ -1,0 +1,11 @@
+//! The command line of the program `titleplant`, read by `clap`.
+#![tactic(auto)]
+
+mod choice;
+mod command_line;
+mod program;
+#[cfg(test)]
+mod tests;
+
+pub use choice::{Line, LineFault};
+pub use command_line::line;

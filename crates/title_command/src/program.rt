@@ -1,0 +1,121 @@
+//! The program's command, as `clap` is told it, with its help.
+
+ghost use Rattle.std.specs.Prelude.{◌≡◌, IfOk, false, true, []};
+ghost use Rattle.clap.specs.Words.{app_of, new_app, rule_of};
+ghost use Rattle.clap.specs.declared.builder.command.Command.TheViews.{out-Command};
+ghost use Rattle.title_command.specs.CommandLine.{command, text_rule, titleplant, tract};
+
+use clap::{Arg, ArgAction, Command};
+use std::alloc::{AllocError, Global};
+
+/// What the help of a command says: what it is for in a line and in full, its usage and an example.
+#[derive(Clone, Copy)]
+struct Help<'a> {
+    about: &'a str,
+    long_about: &'a str,
+    usage: &'a str,
+    example: &'a str,
+}
+
+const TITLEPLANT: Help<'static> = Help {
+    about: "A title plant: an index of deeds by tract, with the owners of each tract",
+    long_about: "\
+A title plant: it posts deeds and releases of land to a tract index, lists the chain of
+instruments that touch a tract, and works out who owns which share of the surface, of the
+oil and gas, and of the other minerals in it.
+
+Land is described by township, range, section and parts of a section. A script of work is
+read from standard input as CSV, and its report is written to standard output as CSV.",
+    usage: "titleplant <COMMAND>",
+    example: "\
+Examples:
+  titleplant run < script.csv
+  titleplant alone < script.csv
+  titleplant tract \"T3N R2W sec 5 NE1/4\"",
+};
+
+const RUN: Help<'static> = Help {
+    about: "Serve several examiners at once: CSV script on standard input, CSV report on standard output",
+    long_about: "\
+Reads a CSV script from standard input and writes a CSV report to standard output.
+
+Several examiners may be at work at once: each begins a transaction, takes its steps (a
+sheet, a chain, a deed, a release), and commits or aborts. A step is refused where another
+examiner has an open step on some of the same land and one of the two is a deed or a
+release; the report names that examiner.",
+    usage: "titleplant run",
+    example: "Example: titleplant run < script.csv",
+};
+
+const ALONE: Help<'static> = Help {
+    about: "Serve transactions one by one: CSV script on standard input, CSV report on standard output",
+    long_about: "\
+Reads a CSV script from standard input and writes a CSV report to standard output.
+
+Each transaction ends before the next one begins. A step outside a transaction is a
+transaction of its own and is committed at once, so a script may be a plain list of deeds.",
+    usage: "titleplant alone",
+    example: "Example: titleplant alone < script.csv",
+};
+
+const TRACT: Help<'static> = Help {
+    about: "List the parts and acres of one description of land: CSV on standard output",
+    long_about: "\
+Reads the description TEXT, and nothing from standard input. Writes to standard output, as
+CSV, a row for each township, section, quarter or smaller part that makes up the land, and
+a row with its acres.",
+    usage: "titleplant tract <TEXT>",
+    example: "Example: titleplant tract \"T3N R2W sec 5 NE1/4\"",
+};
+
+// A command with its name and its help, and nothing that follows it.
+fn named<'a>(alloc: Global, name: &'a str, help: Help<'a>) -> Command<'a>
+    ensures app { app_of result ≡ new_app name.entry.now }
+    ensures local { (out-Command result).has_globals ≡ false }
+{
+    Command::new(alloc, name)
+        .about(help.about)
+        .long_about(help.long_about)
+        .override_usage(help.usage)
+        .after_help(help.example)
+}
+
+fn text_argument<'a>(alloc: Global) -> Arg<'a>
+    ensures rule { rule_of result ≡ text_rule }
+    ensures local { result.global ≡ false }
+{
+    Arg::new(alloc, "TEXT")
+        .required(true)
+        .action(ArgAction::Set)
+        .help("The description of land, in quotes; after -- where it begins with a dash")
+}
+
+fn tract_command<'a>(alloc: Global) -> Result<Command<'a>, AllocError>
+    ensures app { IfOk result (λ c. app_of c ≡ record { top = tract; subs = [] }) }
+    ensures local { IfOk result (λ c. (out-Command c).has_globals ≡ false) }
+{
+    let text = text_argument(alloc);
+    named(alloc, "tract", TRACT).arg(text)
+}
+
+fn top<'a>(alloc: Global) -> Command<'a>
+    ensures app { app_of result ≡ record { top = record titleplant { is_leaf = true }; subs = [] } }
+    ensures local { (out-Command result).has_globals ≡ false }
+{
+    named(alloc, "titleplant", TITLEPLANT)
+        .no_binary_name(true)
+        .subcommand_required(true)
+        .disable_help_subcommand(true)
+}
+
+/// The command of the program `titleplant`, with each of its subcommands.
+pub fn program<'a>(alloc: Global) -> Result<Command<'a>, AllocError>
+    ensures app { IfOk result (λ c. app_of c ≡ command) }
+{
+    let tract = tract_command(alloc)?;
+    let bare = top(alloc);
+    let with_run = bare.subcommand(named(alloc, "run", RUN))?;
+    let with_alone = with_run.subcommand(named(alloc, "alone", ALONE))?;
+    let with_tract = with_alone.subcommand(tract)?;
+    Ok(with_tract)
+}
