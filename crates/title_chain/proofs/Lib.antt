@@ -1,3 +1,3 @@
 -- The lemmas.
-pub mod Laws
+pub mod AskLaws
 pub mod Past

@@ -14,7 +14,7 @@ use Rattle.title_chain.specs.Chains.{step_entries, record_entries, chain_of}
 use Rattle.title_chain.specs.Alone.{after_steps, plant_after, Plays}
 use Rattle.title_chain.specs.Overlaps.{overlaps, Clear, record_of}
 use Rattle.title_chain.specs.ChainLaws.{SameIn}
-use Rattle.title_chain.proofs.Laws.{answer_same, effect_same, effect_past, entry_past, overlap_symmetric}
+use Rattle.title_chain.proofs.AskLaws.{answer_same, effect_same, effect_past, entry_past, overlap_symmetric}
 
 pub clear_nothing : (own : List Step) → Clear own []
 clear_nothing [] = tt

@@ -2,9 +2,12 @@
 #![tactic(auto)]
 
 pub mod ask;
+pub mod chains;
+pub mod laws;
 pub mod lists;
 pub mod record;
 
 pub use ask::{Answer, Ask, Entry, Posting, Step};
+pub use chains::chain;
 pub use lists::{Entries, Records, SheetRows, Steps};
 pub use record::Record;

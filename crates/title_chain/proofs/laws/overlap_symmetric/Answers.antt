@@ -1,0 +1,6 @@
+-- The law is a lemma.
+use Rattle.title_chain.proofs.AskLaws.{overlap_symmetric as lemma}
+use Rattle.title_chain.proofs.laws.overlap_symmetric.Goals as goal
+
+pub returns : goal.returns
+returns c = record { law = lemma }
