@@ -9,6 +9,8 @@ pub mod node;
 pub mod place;
 pub mod rectangle;
 pub mod sharing;
+#[cfg(test)]
+mod tests;
 pub mod tract;
 
 pub use acres::Acres;
