@@ -2,5 +2,6 @@
 #![tactic(auto)]
 
 pub mod call;
+pub mod laws;
 
 pub use call::{Call, Reply, Request};
