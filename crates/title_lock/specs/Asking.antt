@@ -1,11 +1,11 @@
 -- What an access asks at each node, what an examiner holds there, and what is granted by modes alone (Gray, Lorie,
 -- Putzolu, Traiger, Granularity of Locks and Degrees of Consistency in a Shared Data Base, 1976). The depth is how often
 -- a section is quartered.
-use Rattle.std.specs.Prelude.{ℕ, ◌≡◌, ◌≢◌, ◌↔◌, ◌==◌, Bool, true, false, if◌then◌else◌, List, [], ◌∷◌, Option, Some, None, is_some}
+use Rattle.std.specs.Prelude.{ℕ, ◌≡◌, ◌≢◌, ◌↔◌, ◌==◌, Bool, true, false, if◌then◌else◌, List, [], ◌∷◌, Option, Some, None, is_some, All}
 use Rattle.title_land.specs.declared.node.Node.{Node}
 use Rattle.title_land.specs.declared.tract.Land.{Land}
 use Rattle.title_land.specs.Nodes.{same_node, is_above}
-use Rattle.title_land.specs.Lands.{cover_of}
+use Rattle.title_land.specs.Lands.{cover_of, IsLand}
 use Rattle.title_lock.specs.declared.modes.Mode.{Mode}
 use Rattle.title_lock.specs.declared.modes.Mode.TheVariants.{Is, Ix, S, X}
 use Rattle.title_lock.specs.declared.guards.Entry.{Entry}
@@ -47,11 +47,16 @@ abbrev pub AllGranted : ℕ → List Entry → Type 0
 AllGranted depth [] = Unit {0}
 AllGranted depth (x ∷ older) = AllGranted depth older × GrantedByModes depth older x.examiner x.tract (is_post x.access)
 
+-- each entry's set of cells is as large as the grid of its section, which every tract's type says of it
+abbrev pub AreSized : ℕ → List Entry → Type 0
+AreSized depth entries = All (λ x. IsLand depth x.tract) entries
+
 -- an entry is granted by modes at every node exactly where no other examiner's entry overlaps it, given that every
 -- entry there was itself so granted
 abbrev pub ModesDecideOverlap : ℕ → Type 0
 ModesDecideOverlap depth =
-    (entries : List Entry) → AllGranted depth entries → (e : ℕ) (land : Land) (post : Bool) →
+    (entries : List Entry) → AreSized depth entries → AllGranted depth entries →
+    (e : ℕ) (land : Land) (post : Bool) → IsLand depth land →
     GrantedByModes depth entries e land post ↔ ((f : ℕ) → f ≢ e → against land post f entries ≡ false)
 
 -- what is left when an examiner gives its locks back was granted entry by entry, too

@@ -1,3 +1,4 @@
 pub mod Modes
 pub mod Overlaps
 pub mod Asking
+pub mod Rows

@@ -5,6 +5,11 @@
 pub mod guards;
 pub mod laws;
 pub mod modes;
+pub mod row_locks;
+mod rows;
+#[cfg(test)]
+mod tests;
 
 pub use guards::{Access, Entry, Guards, LockFault};
 pub use modes::{Mode, compat, sup};
+pub use row_locks::RowLocks;
