@@ -1,0 +1,87 @@
+-- Before-images of open transactions. Lists of steps and of images here have the newest first.
+use Rattle.std.specs.Prelude.{◌≡◌, ℕ, ◌<◌, Bool, true, false, cond, ◌&&◌, ◌||◌, eqb, List, [], ◌∷◌, map, Option, Some, None, ◌⊎◌}
+use Rattle.title_land.specs.declared.place.Township.{Township}
+use Rattle.title_land.specs.declared.place.Cell.{Cell}
+use Rattle.title_store.specs.Plants.{Plant, is_cell_of}
+use Rattle.title_store.specs.Loans.{Loan, IsLentAs, IsOut, IsLast, IsFirst, without}
+use Rattle.title_chain.specs.declared.ask.Ask.{Ask}
+use Rattle.title_chain.specs.declared.ask.Ask.TheVariants as ask
+use Rattle.title_chain.specs.declared.ask.Answer.{Answer}
+use Rattle.title_chain.specs.declared.ask.Answer.TheVariants as answer
+use Rattle.title_chain.specs.declared.ask.Step.{Step}
+use Rattle.title_chain.specs.Asks.{tract_of, effect}
+use Rattle.title_chain.specs.Alone.{after_steps}
+
+-- the ask is a post, and it was posted
+abbrev pub is_posted : Ask → Answer → Bool
+is_posted (ask.Sheet t) a = false
+is_posted (ask.Chain t) a = false
+is_posted (ask.Post p) (answer.Rows rows) = false
+is_posted (ask.Post p) (answer.Entries entries) = false
+is_posted (ask.Post p) answer.Posted = true
+is_posted (ask.Post p) (answer.Refused rule estate node) = false
+
+-- one of these steps was posted at the cell
+abbrev pub posted_at : List Township → Cell → List Step → Bool
+posted_at townships c [] = false
+posted_at townships c (s ∷ earlier) =
+    (is_posted s.ask s.answer && is_cell_of 3 townships (tract_of s.ask) c) || posted_at townships c earlier
+
+-- the number stands in the list
+abbrev pub IsOf : ℕ → List ℕ → Type 0
+IsOf n [] = ⊥
+IsOf n (m ∷ numbers) = (n ≡ m) ⊎ IsOf n numbers
+
+-- the image of a posted step is out and holds what the step's tract held before the step; those before it have lower
+-- numbers
+pub record Backs {I : Type 0} (number : I → ℕ) (out : List Loan) (townships : List Township) (before : Plant) (s : Step) (image : I) (older : List I) : Type 0 where
+  pub loan : Loan
+  pub is_out : IsLentAs loan (number image) out
+  pub land_is : loan.land ≡ tract_of s.ask
+  pub holds : (c : Cell) → is_cell_of 3 townships (tract_of s.ask) c ≡ true → loan.held c ≡ before c
+  pub above : (n : ℕ) → IsOf n (map number older) → n < number image
+
+-- a posted step has the first of these images; another has none and leaves the plant
+abbrev pub Peels : {I : Type 0} → (I → ℕ) → List Loan → List Township → Plant → Step → List I → List I → Bool → Type 0
+Peels number out townships before s images older true =
+    (image : _) × (images ≡ image ∷ older) × Backs number out townships before s image older
+Peels number out townships before s images older false =
+    (images ≡ older) × ((c : Cell) → effect 3 townships before s.ask c ≡ before c)
+
+-- the images of these steps, made one after another from a plant
+abbrev pub Backed : {I : Type 0} → (I → ℕ) → List Loan → List Township → Plant → List Step → List I → Type 0
+Backed number out townships plant [] images = images ≡ []
+Backed number out townships plant (s ∷ earlier) images =
+    (older : List _)
+    × Peels number out townships (after_steps 3 townships plant earlier) s images older (is_posted s.ask s.answer)
+    × Backed number out townships plant earlier older
+
+-- the image that is out under a number
+abbrev pub lent : ℕ → List Loan → Option Loan
+lent n [] = None
+lent n (x ∷ out) = cond (eqb n x.number) (Some x) (lent n out)
+
+-- the plant after what an image holds has been put back
+abbrev pub put_back : List Township → Option Loan → Plant → Plant
+put_back townships None plant = plant
+put_back townships (Some b) plant = λ c. cond (is_cell_of 3 townships b.land c) (b.held c) (plant c)
+
+-- the plant after the images of these numbers have been put back, the first of them first
+abbrev pub restored : List Township → List ℕ → List Loan → Plant → Plant
+restored townships [] out plant = plant
+restored townships (n ∷ numbers) out plant =
+    restored townships numbers (without n out) (put_back townships (lent n out) plant)
+
+abbrev pub without_all : List ℕ → List Loan → List Loan
+without_all [] out = out
+without_all (n ∷ numbers) out = without_all numbers (without n out)
+
+-- each of the images can be put back in its turn
+abbrev pub Restorable : List ℕ → List Loan → Type 0
+Restorable [] out = Unit {0}
+Restorable (n ∷ numbers) out = IsOut n out × IsLast n out × Restorable numbers (without n out)
+
+-- each of the images can be let go in its turn
+abbrev pub Forgettable : List ℕ → List Loan → Type 0
+Forgettable [] out = Unit {0}
+Forgettable (n ∷ numbers) out = IsOut n out × IsFirst n out × Forgettable numbers (without n out)

@@ -1,0 +1,4 @@
+pub mod Told
+pub mod Slots
+pub mod Images
+pub mod Keeps
