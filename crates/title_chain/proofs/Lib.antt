@@ -1,3 +1,4 @@
 -- The lemmas.
 pub mod AskLaws
 pub mod Past
+pub mod PostsAgain

@@ -3,3 +3,4 @@ pub mod Chains
 pub mod Alone
 pub mod Overlaps
 pub mod ChainLaws
+pub mod Replays

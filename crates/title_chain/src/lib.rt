@@ -6,6 +6,7 @@ pub mod chains;
 pub mod laws;
 pub mod lists;
 pub mod record;
+pub mod replay;
 
 pub use ask::{Answer, Ask, Entry, Posting, Step};
 pub use chains::chain;

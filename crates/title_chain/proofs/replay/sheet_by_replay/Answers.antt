@@ -1,0 +1,20 @@
+-- Each record can be replayed in its turn, and has its effect.
+use Rattle.std.proofs.Common.{◌∙◌, reverse}
+use Rattle.title_store.specs.Plants.{SameContent}
+use Rattle.title_chain.specs.Alone.{after_steps, IsSerial}
+use Rattle.title_chain.proofs.PostsAgain.{can_replay_record, record_content}
+use Rattle.title_chain.proofs.replay.sheet_by_replay.Goals as goal
+
+pub post_all_again-requires-clause-replays : goal.post_all_again-requires-clause-replays
+post_all_again-requires-clause-replays g c =
+    let serial : IsSerial 3 c.args.townships.now (reverse c.as_slice-record-items.result.now) = rw c.as_slice-record-items.ensures.slice c.requires.serial in
+    rw c.as_slice.ensures.slice (can_replay_record _ _ _ _ _ _ _ c.loop-record-test.true c.record-item.is c.loop-record.invariant.declared c.loop-record.invariant.content serial)
+
+pub loop-record-preserved : goal.loop-record-preserved
+loop-record-preserved g c =
+    let next : SameContent (after_steps 3 (g.S.Store.declared c.loop-record.store) (g.S.Store.content c.loop-record.store) (reverse c.record-item.result.steps)) (g.S.Store.content c.post_all_again.new.store) =
+    rw c.as_slice.ensures.slice at c.in_ok-post_all_again.ensures.content in record {
+      none = c.in_ok-post_all_again.ensures.out;
+      declared = c.in_ok-post_all_again.ensures.declared ∙ c.loop-record.invariant.declared;
+      content = record_content _ _ _ _ _ _ _ _ c.loop-record-test.true c.record-item.is c.loop-record.invariant.declared c.loop-record.invariant.content next;
+    }

@@ -1,0 +1,65 @@
+//! The sheet after a list of records, made from the posted instruments alone.
+
+ghost use Rattle.std.specs.Prelude.{◌≡◌, IfOk, OnOk, [], true, reverse};
+ghost use Rattle.title_land.specs.Lands.{is_in_plant};
+ghost use Rattle.title_store.specs.Plants.{SameContent, IsEachOnce};
+ghost use Rattle.title_store.specs.Sheets.{sheet_of};
+ghost use Rattle.title_chain.specs.Asks.{effect};
+ghost use Rattle.title_chain.specs.Alone.{after_steps, plant_after, IsSerial};
+ghost use Rattle.title_chain.specs.Replays.{CanReplay, Replays};
+
+use crate::ask::{Answer, Ask, Step};
+use crate::lists::{Records, SheetRows};
+use std::alloc::{AllocError, Global};
+use title_land::{Township, Tract};
+use title_store::{Put, Store};
+
+// Posts a step's instrument again, if it was posted.
+fn post_again<S: Store>(store: &mut S, step: &Step) -> Result<(), AllocError>
+    requires none { S.out store.old ≡ [] }
+    requires replays { CanReplay 3 (S.declared store.old) (S.content store.old) step.now }
+    ensures content { OnOk result (SameContent (effect 3 (S.declared store.old) (S.content store.old) step.now.ask) (S.content store.new)) }
+    ensures declared { S.declared store.new ≡ S.declared store.old }
+    ensures out { OnOk result (S.out store.new ≡ []) }
+{
+    let (Ask::Post(posting), Answer::Posted) = (&step.ask, &step.answer) else {
+        return Ok(());
+    };
+    if let Put::Done(image) = store.put(&posting.tract, &posting.instrument)? {
+        store.forget(image);
+    }
+    Ok(())
+}
+
+// Posts again what these steps posted.
+fn post_all_again<S: Store>(store: &mut S, steps: &[Step]) -> Result<(), AllocError>
+    requires none { S.out store.old ≡ [] }
+    requires replays { Replays 3 (S.declared store.old) (S.content store.old) (reverse steps.now) }
+    ensures content { OnOk result (SameContent (after_steps 3 (S.declared store.old) (S.content store.old) (reverse steps.now)) (S.content store.new)) }
+    ensures declared { S.declared store.new ≡ S.declared store.old }
+    ensures out { OnOk result (S.out store.new ≡ []) }
+{
+    for step in steps {
+        post_again(store, step)?;
+    }
+    Ok(())
+}
+
+// The sheet after these records, by any store.
+fn sheet_by_replay<S: Store + Drop>(
+    alloc: Global,
+    records: &Records,
+    townships: &[Township],
+    tract: &Tract,
+) -> Result<SheetRows, AllocError>
+    requires once { IsEachOnce townships.now }
+    requires within { is_in_plant townships.now tract.now ≡ true }
+    requires serial { IsSerial 3 townships.now (reverse records.now) }
+    ensures sheet { IfOk result (λ rows. rows ≡ sheet_of 3 townships.now (plant_after 3 townships.now (reverse records.now)) tract.now) }
+{
+    let mut store = S::open(alloc, townships)?;
+    for record in records.as_slice() {
+        post_all_again(&mut store, record.steps.as_slice())?;
+    }
+    Ok(SheetRows::new(store.sheet(alloc, tract)?))
+}
