@@ -75,7 +75,7 @@ no_whole_township d s t f =
     let n : s.number ≡ 2 = ap (λ (u : Section). u.number) (same_section-is s (second_section t) b) in
     omega arith
 
-cell_in_grid : (d : ℕ) (s : Section) (q : List Quarter) (row column : ℕ) → length q ≤ d → Inside (square d q) row column → is_on_grid d (cell_at s row column) ≡ true
+pub cell_in_grid : (d : ℕ) (s : Section) (q : List Quarter) (row column : ℕ) → length q ≤ d → Inside (square d q) row column → is_on_grid d (cell_at s row column) ≡ true
 cell_in_grid d s q row column l i =
     let levels : (d - length q) + length q ≡ d = omega arith in
     let z = sized d (d - length q) q levels in

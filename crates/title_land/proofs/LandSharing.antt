@@ -62,7 +62,7 @@ cover_has d l (land.Township t) n c i h = elim i [
 ]
 cover_has d l (land.Part s g) n c i h = part_has d s g n c (part_found d l s g n i) h
 
-whole_section : (d : ℕ) (c : Cell) → is_on_grid d c ≡ true → Inside (square d []) c.row c.column
+pub whole_section : (d : ℕ) (c : Cell) → is_on_grid d c ≡ true → Inside (square d []) c.row c.column
 whole_section d c h =
     let k = and_parts (nat_lt c.row (side d)) (nat_lt c.column (side d)) h in
     let row = ltb-true c.row (side d) k.0 in

@@ -14,3 +14,7 @@ pub mod CoverOrder
 pub mod GridSharing
 pub mod TractSharing
 pub mod CoverSet
+pub mod CoversMeet
+pub mod CellMembers
+pub mod CellFilters
+pub mod CellSquares

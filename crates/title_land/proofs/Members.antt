@@ -1,7 +1,7 @@
 -- Members of lists.
-use Rattle.std.proofs.Common.{◌≡◌, Bool, true, ◌⊎◌, inl, inr, List, [], ◌∷◌, ◌++◌, map, refl, sym, ap, ◌∙◌}
-use Rattle.std.proofs.lemmas.Bool.{or_cases, or_left, or_right}
-use Rattle.std.specs.List.{list_any}
+use Rattle.std.proofs.Common.{cond, ◌≡◌, Bool, true, false, ◌⊎◌, inl, inr, List, [], ◌∷◌, ◌++◌, map, refl, sym, ap, subst, ◌∙◌}
+use Rattle.std.proofs.lemmas.Bool.{or_cases, or_left, or_right, cases_Bool}
+use Rattle.std.specs.List.{list_any, flat_map, filter}
 
 -- x stands in the list
 abbrev pub In : {X : Type 0} → X → List X → Type 0
@@ -47,3 +47,41 @@ in_mapped f y (x ∷ xs) i = elim i [
   | inl e ↦ (x, inl refl, e)
   | inr k ↦ let m = in_mapped f y xs k in (m.0, inr m.1, m.2)
 ]
+
+pub in_flat_map : {X Y : Type 0} (f : X → List Y) (xs : List X) (x : X) (y : Y) → In x xs → In y (f x) → In y (flat_map f xs)
+in_flat_map f [] x y i j = absurd i
+in_flat_map f (z ∷ xs) x y i j = elim i [
+  | inl e ↦ in_left y (f z) (flat_map f xs) (subst (λ (w : _). In y (f w)) e j)
+  | inr k ↦ in_right y (f z) (flat_map f xs) (in_flat_map f xs x y k j)
+]
+
+pub in_flat_mapped : {X Y : Type 0} (f : X → List Y) (xs : List X) (y : Y) → In y (flat_map f xs) → (x : X) × In x xs × In y (f x)
+in_flat_mapped f [] y i = absurd i
+in_flat_mapped f (x ∷ xs) y i = elim (in_append y (f x) (flat_map f xs) i) [
+  | inl j ↦ (x, inl refl, j)
+  | inr j ↦ let k = in_flat_mapped f xs y j in (k.0, inr k.1, k.2)
+]
+
+pub in_filter : {X : Type 0} (p : X → Bool) (xs : List X) (x : X) → In x xs → p x ≡ true → In x (filter p xs)
+in_filter p [] x i h = absurd i
+in_filter p (y ∷ xs) x i h = elim i [
+  | inl e ↦ let f : p y ≡ true = sym (ap p e) ∙ h in rw f (inl e)
+  | inr k ↦ elim (p y) as (λ (b : Bool). In x (cond b (y ∷ filter p xs) (filter p xs))) [
+    | true ↦ inr (in_filter p xs x k h)
+    | false ↦ in_filter p xs x k h
+  ]
+]
+
+pub in_filtered : {X : Type 0} (p : X → Bool) (xs : List X) (x : X) → In x (filter p xs) → In x xs × (p x ≡ true)
+in_filtered p [] x i = absurd i
+in_filtered p (y ∷ xs) x i = elim (cases_Bool (p y)) [
+  | inl e ↦ elim (rw e at i) [
+    | inl f ↦ (inl f, ap p f ∙ e)
+    | inr j ↦ let k = in_filtered p xs x j in (inr k.0, k.1)
+  ]
+  | inr e ↦ let k = in_filtered p xs x (rw e at i) in (inr k.0, k.1)
+]
+
+pub filter_none : {X : Type 0} (p : X → Bool) (xs : List X) → ((x : X) → In x xs → p x ≡ false) → filter p xs ≡ []
+filter_none p [] f = refl
+filter_none p (x ∷ xs) f = rw (f x (inl refl)) (filter_none p xs (λ y i. f y (inr i)))

@@ -9,7 +9,7 @@ use Rattle.title_land.specs.declared.node.Node.TheVariants as node
 use Rattle.title_land.specs.declared.tract.Land.{Land}
 use Rattle.title_land.specs.Places.{is_on_grid, same_section}
 use Rattle.title_land.specs.Nodes.{path, in_quarter, same_quarter, same_node, are_related, parent_of, node_has}
-use Rattle.title_land.specs.Lands.{has, cover_of, Meets}
+use Rattle.title_land.specs.Lands.{has, cover_of, meets, Meets, IsLand}
 
 -- all cells of the node lie in the land; the whole plant has those of every township that has a name
 abbrev pub LiesIn : ℕ → Land → Node → Type 0
@@ -63,3 +63,7 @@ covers_meet depth a b = list_any (λ m. list_any (are_related m) (cover_of depth
 -- two lands share a cell exactly where two nodes of their covers are related
 abbrev pub LandsShareACell : ℕ → Type 0
 LandsShareACell depth = (a b : Land) → Meets depth a b ↔ (covers_meet depth a b ≡ true)
+
+-- the test of two lands is that of their covers, where their sets are as large as a section's grid
+abbrev pub MeetsByCovers : ℕ → Type 0
+MeetsByCovers depth = (a b : Land) → IsLand depth a → IsLand depth b → meets a b ≡ covers_meet depth a b

@@ -11,3 +11,4 @@ pub mod CoverSets
 pub mod SharedCells
 pub mod Acres
 pub mod Doubled
+pub mod CellLaws

@@ -1,6 +1,7 @@
 //! Laws of land, for the crates above. Each function does nothing: its clause is the law, proved.
 
-ghost use Rattle.title_land.specs.CoverSets.{CoverHasItsCells, LandsShareACell};
+ghost use Rattle.title_land.specs.CellLaws.{SameCellsAreEqual, PlantHasItsCells, ListHasTheCells, NodeListHasTheCells};
+ghost use Rattle.title_land.specs.CoverSets.{CoverHasItsCells, LandsShareACell, MeetsByCovers};
 ghost use Rattle.title_land.specs.NodeLaws.{SameNodesAreEqual, AboveIsTransitive, AboveHasTheCells, NodesShareACell};
 
 /// The test of nodes is their equality.
@@ -31,4 +32,29 @@ pub fn cover_has_its_cells()
 /// Two lands share a cell exactly where a node of the one's cover and a node of the other's are related.
 pub fn lands_share_a_cell()
     ensures law { LandsShareACell 3 }
+{}
+
+/// The test of two lands is that of their covers.
+pub fn meets_by_covers()
+    ensures law { MeetsByCovers 3 }
+{}
+
+/// The test of cells is their equality.
+pub fn same_cells_are_equal()
+    ensures law { SameCellsAreEqual }
+{}
+
+/// The plant's list of cells has exactly the cells on the grid of the declared townships.
+pub fn plant_has_its_cells()
+    ensures law { PlantHasItsCells 3 }
+{}
+
+/// A land's list of cells has exactly the plant's cells that lie in it.
+pub fn list_has_the_cells()
+    ensures law { ListHasTheCells 3 }
+{}
+
+/// A node's list of cells has exactly the plant's cells that lie in it.
+pub fn node_list_has_the_cells()
+    ensures law { NodeListHasTheCells 3 }
 {}

@@ -2,6 +2,7 @@
 #![tactic(auto)]
 
 pub mod acres;
+pub mod cells;
 pub mod cover;
 pub mod grid;
 pub mod laws;
@@ -14,6 +15,7 @@ mod tests;
 pub mod tract;
 
 pub use acres::Acres;
+pub use cells::cells_of;
 pub use grid::Grid;
 pub use node::{Node, Within};
 pub use place::{Cell, Section, Township};

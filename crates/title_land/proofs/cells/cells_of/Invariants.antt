@@ -1,0 +1,10 @@
+-- The cells so far are those of the townships so far.
+use Rattle.std.proofs.Common.{◌≡◌, take}
+use Rattle.std.specs.List.{filter, flat_map}
+use Rattle.title_land.specs.Lands.{has}
+use Rattle.title_land.specs.CellLists.{township_cells}
+use Rattle.title_land.proofs.cells.cells_of.Given as goal
+
+abbrev pub invariant-loop-township : goal.invariant-loop-township
+invariant-loop-township l =
+    l.cells.items ≡ filter (has l.tract) (flat_map (township_cells 3) (take l.township-index l.townships))

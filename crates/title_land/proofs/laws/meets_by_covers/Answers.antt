@@ -1,0 +1,6 @@
+-- The law meets by covers.
+use Rattle.title_land.proofs.CoversMeet.{meets_by_covers_3 as lemma}
+use Rattle.title_land.proofs.laws.meets_by_covers.Goals as goal
+
+pub returns : goal.returns
+returns c = record { law = lemma }

@@ -1,0 +1,174 @@
+//! Cells of tracts in their order: townships as declared, sections 1 to 36, quarters as they are listed.
+
+ghost use Rattle.std.specs.Prelude.{◌≡◌, ◌+◌, ◌++◌, OnOk, IfOk, filter, find, length};
+ghost use Rattle.std.specs.List.{list_any};
+ghost use Rattle.title_land.specs.Places.{same_township};
+ghost use Rattle.title_land.specs.Rectangles.{InSection};
+ghost use Rattle.title_land.specs.Nodes.{path, square, node_has};
+ghost use Rattle.title_land.specs.Lands.{has, cover_of, is_in_plant};
+ghost use Rattle.title_land.specs.CellLists.{same_cell, cells_below, section_cells, township_cells, cells_of};
+
+use crate::node::{Node, Within};
+use crate::place::{Cell, Section, Township};
+use crate::rectangle::{DEPTH, Quarter, Rectangle};
+use crate::tract::{Land, Tract};
+use std::alloc::{AllocError, Global};
+
+impl Township {
+    /// Whether it is one of these.
+    pub fn is_among(self, townships: &[Township]) -> bool
+        ensures among { result ≡ list_any (same_township self) townships.now }
+    {
+        townships.iter().any(|other| self.is(*other))
+    }
+}
+
+impl Cell {
+    /// Whether it is this cell.
+    pub fn is(self, other: Cell) -> bool
+        ensures is { result ≡ same_cell self other }
+    {
+        self.section.is(other.section) && self.row == other.row && self.column == other.column
+    }
+}
+
+impl Within {
+    /// The cells of the square.
+    pub fn square(self) -> Rectangle
+        ensures square { result ≡ square 3 (path self) }
+        ensures inside { InSection 3 result }
+    {
+        let whole = Rectangle::SECTION;
+        match self {
+            Within::Whole => whole,
+            Within::Quarter(a) => whole.quarter(a),
+            Within::Sixteenth(a, b) => whole.quarter(b).quarter(a),
+            Within::Cell(a, b, c) => whole.quarter(c).quarter(b).quarter(a),
+        }
+    }
+}
+
+impl Node {
+    /// Whether the cell lies in it.
+    pub fn has(self, cell: Cell) -> bool
+        ensures has { result ≡ node_has 3 self cell }
+    {
+        match self {
+            Node::Everything => true,
+            Node::Township(township) => township.is(cell.section.township),
+            Node::Part(section, within) => {
+                section.is(cell.section) && within.square().holds(cell.row, cell.column)
+            }
+        }
+    }
+}
+
+impl Tract {
+    /// Whether all its townships are declared; every cell needs one township at least.
+    pub fn is_in(&self, townships: &[Township]) -> bool
+        ensures is_in { result ≡ is_in_plant townships.now self.now }
+    {
+        match self.land() {
+            Land::Everything => !townships.is_empty(),
+            Land::Township(township) => township.is_among(townships),
+            Land::Part(section, _) => section.township.is_among(townships),
+        }
+    }
+
+    /// The first node of the cover that has the cell; `None` where the cell doesn't lie in the tract.
+    pub fn node_of(&self, cell: Cell) -> Option<Node>
+        ensures node { result ≡ find (λ n. node_has 3 n cell) (cover_of 3 self.now) }
+    {
+        self.cover().iter().copied().find(|node| node.has(cell))
+    }
+}
+
+/// Adds the cells of a square, with so many levels below it, that lie in the tract.
+fn add_square(
+    tract: &Tract,
+    section: Section,
+    levels: u8,
+    within: Within,
+    cells: &mut Vec<Cell>,
+) -> Result<(), AllocError>
+    requires levels { levels + length (path within) ≡ 3 }
+    ensures cells { OnOk result (cells.new.items
+        ≡ cells.old.items ++ filter (has tract.now) (cells_below 3 section levels (path within))) }
+{
+    if levels == 0 {
+        let corner = within.square();
+        let cell = Cell {
+            section,
+            row: corner.top,
+            column: corner.left,
+        };
+        if tract.has_cell(cell) {
+            cells.push(cell)?;
+        }
+        return Ok(());
+    }
+    let below = levels - 1;
+    let northeast = within.quarter(Quarter::Northeast);
+    add_square(tract, section, below, northeast, cells)?;
+    let northwest = within.quarter(Quarter::Northwest);
+    add_square(tract, section, below, northwest, cells)?;
+    let southwest = within.quarter(Quarter::Southwest);
+    add_square(tract, section, below, southwest, cells)?;
+    let southeast = within.quarter(Quarter::Southeast);
+    add_square(tract, section, below, southeast, cells)
+}
+
+/// Adds the cells of a section that lie in the tract.
+fn add_section(tract: &Tract, section: Section, cells: &mut Vec<Cell>) -> Result<(), AllocError>
+    ensures cells { OnOk result (cells.new.items
+        ≡ cells.old.items ++ filter (has tract.now) (section_cells 3 section)) }
+{
+    add_square(tract, section, DEPTH, Within::Whole, cells)
+}
+
+/// Adds the cells of a township that lie in the tract, trying each.
+fn add_township(tract: &Tract, township: Township, cells: &mut Vec<Cell>) -> Result<(), AllocError>
+    ensures cells { OnOk result (cells.new.items
+        ≡ cells.old.items ++ filter (has tract.now) (township_cells 3 township)) }
+{
+    for number in 1..37 {
+        let Some(section) = Section::new(township, number) else {
+            continue;
+        };
+        add_section(tract, section, cells)?;
+    }
+    Ok(())
+}
+
+/// Adds the cells of a township that lie in the tract, trying those alone that may.
+fn add_cells(tract: &Tract, township: Township, cells: &mut Vec<Cell>) -> Result<(), AllocError>
+    ensures cells { OnOk result (cells.new.items
+        ≡ cells.old.items ++ filter (has tract.now) (township_cells 3 township)) }
+{
+    match tract.land() {
+        Land::Township(other) if !other.is(township) => Ok(()),
+        Land::Part(section, _) => {
+            if section.township.is(township) {
+                add_section(tract, section, cells)
+            } else {
+                Ok(())
+            }
+        }
+        _ => add_township(tract, township, cells),
+    }
+}
+
+/// The cells of the tract in the declared townships, in order.
+pub fn cells_of(
+    alloc: Global,
+    townships: &[Township],
+    tract: &Tract,
+) -> Result<Vec<Cell>, AllocError>
+    ensures cells { IfOk result (λ cells. cells.items ≡ cells_of 3 townships.now tract.now) }
+{
+    let mut cells = Vec::new(alloc);
+    for township in townships {
+        add_cells(tract, *township, &mut cells)?;
+    }
+    Ok(cells)
+}
