@@ -1,0 +1,3 @@
+pub mod Grammar
+pub mod Loops
+pub mod Offsets

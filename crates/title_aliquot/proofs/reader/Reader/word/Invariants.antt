@@ -1,0 +1,6 @@
+use Rattle.std.proofs.Common.{◌≡◌, drop}
+use Rattle.title_grammar.specs.Reading.{word_at}
+use Rattle.title_aliquot.proofs.reader.Reader.word.Given as goal
+
+abbrev pub invariant-loop-b : goal.invariant-loop-b
+invariant-loop-b l = word_at (drop l.b-index l.b-items) l.self ≡ word_at l.fn.word l.fn.self

@@ -1,0 +1,70 @@
+-- What the numbers and parts of a text stand for. The depth is how often a section is quartered down to its cells.
+use Rattle.std.specs.Prelude.{◌≡◌, ℕ, Bool, List, [], ◌∷◌, Option, Some, None, ◌⊎◌}
+use Rattle.std.specs.Option.{is_some}
+use Rattle.std.specs.List.{list_any, list_all, filter_map}
+use Rattle.title_land.specs.declared.rectangle.Step.{Step}
+use Rattle.title_land.specs.declared.rectangle.Rectangle.{Rectangle}
+use Rattle.title_land.specs.declared.place.Township.{Township}
+use Rattle.title_land.specs.declared.place.Section.{Section}
+use Rattle.title_land.specs.declared.tract.Land.{Land}
+use Rattle.title_land.specs.declared.tract.Land.TheVariants as land
+use Rattle.title_land.specs.Places.{IsTownshipNumber, IsTownship, IsSectionNumber, IsSection}
+use Rattle.title_land.specs.Rectangles.{part_of, holds, SharesCell}
+use Rattle.title_land.specs.Grids.{grid_of}
+use Rattle.title_aliquot.specs.Grammar.{Syntax, Everything, InPlace, PlaceSyntax, SectionSyntax}
+
+-- ---- numbers
+
+abbrev pub SectionIsNumbered : Option SectionSyntax → Type 0
+SectionIsNumbered None = Unit {0}
+SectionIsNumbered (Some s) = IsSectionNumber s.number
+
+-- township and range numbers are 1 to 99, and a section's number is 1 to 36
+abbrev pub IsNumbered : Syntax → Type 0
+IsNumbered Everything = Unit {0}
+IsNumbered (InPlace p) = IsTownshipNumber p.township × IsTownshipNumber p.range × SectionIsNumbered p.section
+
+-- ---- parts
+
+abbrev pub section_parts : Option SectionSyntax → List (List Step)
+section_parts None = []
+section_parts (Some s) = s.parts
+
+abbrev pub parts_of : Syntax → List (List Step)
+parts_of Everything = []
+parts_of (InPlace p) = section_parts p.section
+
+-- no step of a part halves a side of one cell
+abbrev pub parts_exist : ℕ → List (List Step) → Bool
+parts_exist depth parts = list_all (λ steps. is_some (part_of depth steps)) parts
+
+-- the rectangles of the parts that exist
+abbrev pub rectangles : ℕ → List (List Step) → List Rectangle
+rectangles depth parts = filter_map (part_of depth) parts
+
+abbrev pub SharesCellWithOne : Rectangle → List Rectangle → Type 0
+SharesCellWithOne r [] = ⊥
+SharesCellWithOne r (s ∷ others) = SharesCell r s ⊎ SharesCellWithOne r others
+
+-- two of the rectangles share a cell
+abbrev pub Overlap : List Rectangle → Type 0
+Overlap [] = ⊥
+Overlap (r ∷ others) = SharesCellWithOne r others ⊎ Overlap others
+
+-- ---- the land
+
+-- the cells of the rectangles
+abbrev pub union : List Rectangle → ℕ → ℕ → Bool
+union shapes row column = list_any (λ r. holds r row column) shapes
+
+-- the township, or in the section the union of the parts
+abbrev pub IsLandIn : ℕ → Township → Option SectionSyntax → Land → Type 0
+IsLandIn depth t None l = l ≡ land.Township t
+IsLandIn depth t (Some s) l =
+    (z : Section) × IsSection t s.number z × (l ≡ land.Part z (grid_of depth (union (rectangles depth s.parts))))
+
+-- the land is every cell, or the land in the township with these numbers
+abbrev pub IsLandOf : ℕ → Syntax → Land → Type 0
+IsLandOf depth Everything l = l ≡ land.Everything
+IsLandOf depth (InPlace p) l =
+    (t : Township) × IsTownship p.township p.north p.range p.east t × IsLandIn depth t p.section l

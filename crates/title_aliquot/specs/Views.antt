@@ -1,0 +1,19 @@
+-- What was read, without where it lies in memory.
+use Rattle.std.specs.Prelude.{ℕ, List, map, Option, Some, None}
+use Rattle.std.specs.Option.{option_map}
+use Rattle.title_land.specs.declared.rectangle.Step.{Step}
+use Rattle.title_aliquot.specs.declared.syntax.SectionWords.{SectionWords}
+use Rattle.title_aliquot.specs.declared.syntax.PlaceWords.{PlaceWords}
+use Rattle.title_aliquot.specs.declared.syntax.Words.{Words}
+use Rattle.title_aliquot.specs.declared.syntax.Words.TheVariants as words
+use Rattle.title_aliquot.specs.Grammar.{SectionSyntax, PlaceSyntax, Syntax, Everything, InPlace}
+
+abbrev pub section_view : SectionWords → SectionSyntax
+section_view s = record { number = s.number; parts = map (λ p. p.items) s.parts.items }
+
+abbrev pub place_view : PlaceWords → PlaceSyntax
+place_view d = record { township = d.township; north = d.north; range = d.range; east = d.east; section = option_map section_view d.section }
+
+abbrev pub words_view : Words → Syntax
+words_view words.Everything = Everything
+words_view (words.Place p) = InPlace (place_view p)

@@ -1,0 +1,16 @@
+//! Reading descriptions of land, as `T3N R2W sec 5 NE1/4SW1/4`, exactly.
+#![tactic(auto)]
+
+pub mod describe;
+pub mod fault;
+mod letters;
+mod meaning;
+mod reader;
+mod syntax;
+
+// pub use describe::read;
+pub use fault::DescFault;
+pub use title_land::{
+    Cell, DEPTH, Grid, Half, Land, Node, Quarter, Rectangle, SIDE, Section, Step, Township, Tract,
+    Within,
+};
