@@ -1,5 +1,5 @@
 -- The readers read the grammar.
-use Rattle.std.proofs.Common.{◌≡◌, ℕ, zero, suc, ◌+◌, ◌*◌, ◌-◌, min, fold, Bool, true, false, ◌&&◌, List, [], ◌∷◌, ◌++◌, length, refl, sym, ap, subst, ◌∙◌, inl, inr, ◌⊎◌, arith, append_assoc, Option, Some, None}
+use Rattle.std.proofs.Common.{◌≡◌, ℕ, true, false, List, [], ◌∷◌, ◌++◌, refl, ap, ◌∙◌, inl, inr, None}
 use Rattle.std.specs.Prelude.{codes}
 use Rattle.title_land.specs.declared.rectangle.Quarter.{Quarter}
 use Rattle.title_land.specs.declared.rectangle.Quarter.TheVariants.{Northeast, Northwest, Southwest, Southeast}
@@ -7,12 +7,12 @@ use Rattle.title_land.specs.declared.rectangle.Half.{Half}
 use Rattle.title_land.specs.declared.rectangle.Half.TheVariants.{North, South, East, West}
 use Rattle.title_land.specs.declared.rectangle.Step.{Step}
 use Rattle.title_land.specs.declared.rectangle.Step.TheVariants as step
-use Rattle.title_grammar.specs.Language.{Language, Gives, OneOf, Then, Or, Many, Word, Maybe, cons, ◌*>◌, ◌<|>◌}
-use Rattle.title_grammar.specs.Reading.{Read, Got, Stuck, gives_at, one_of_at, then_at, or_at, many_at, word_at, behind, as_at, choice, maybe_at}
+use Rattle.title_grammar.specs.Language.{Language, Gives, Then, Word, Maybe, cons, ◌*>◌, ◌<|>◌}
+use Rattle.title_grammar.specs.Reading.{as_at}
 use Rattle.title_grammar.proofs.Exact.{Exact, one_of_exact}
 use Rattle.title_grammar.proofs.Repeat.{gives_exact}
 use Rattle.title_grammar.proofs.Combine.{sequence, choose, repeat, word, same_language, maybe_exact, un_word}
-use Rattle.title_aliquot.specs.Grammar.{SectionText, SectionParts, PlaceText, Description, SectionNumber, RangeText, TownshipText, digits, decimal, Syntax, Everything, section_of, place_of, whole_section, Number, QuarterMark, HalfMark, QuarterName, HalfName, StepText, Part, Parts, quarter_sign, half_sign}
+use Rattle.title_aliquot.specs.Grammar.{SectionText, SectionParts, PlaceText, Description, SectionNumber, RangeText, TownshipText, digits, decimal, Everything, section_of, place_of, whole_section, Number, QuarterMark, HalfMark, QuarterName, HalfName, StepText, Part, Parts}
 use Rattle.title_aliquot.specs.Readers.{section_number_at, range_at, township_at, section_parts_at, section_at, place_at, description_at, number_at, quarter_mark_at, half_mark_at, behind_at, step_at, joined_at, part_at, parts_at, next_part_at}
 
 pub number_exact : Exact number_at Number digits digits false
@@ -51,15 +51,15 @@ behind_exact : (east west : Quarter) (half : Half) → Exact (behind_at east wes
 unfolding behind_at
 behind_exact east west half =
     choose (sequence (λ u v. v) (word (codes "e")) (with_quarter (step.Quarter east)) refl)
-        (choose (sequence (λ u v. v) (word (codes "w")) (with_quarter (step.Quarter west)) refl) (with_half (step.Half half)) refl) refl
+    (choose (sequence (λ u v. v) (word (codes "w")) (with_quarter (step.Quarter west)) refl) (with_half (step.Half half)) refl) refl
 
 steps_exact : Exact step_at Steps (codes "nsew") [] false
 unfolding step_at
 steps_exact =
     choose (sequence (λ u v. v) (word (codes "n")) (behind_exact Northeast Northwest North) refl)
-        (choose (sequence (λ u v. v) (word (codes "s")) (behind_exact Southeast Southwest South) refl)
-            (choose (sequence (λ u v. v) (word (codes "e")) (with_half (step.Half East)) refl)
-                (sequence (λ u v. v) (word (codes "w")) (with_half (step.Half West)) refl) refl) refl) refl
+    (choose (sequence (λ u v. v) (word (codes "s")) (behind_exact Southeast Southwest South) refl)
+    (choose (sequence (λ u v. v) (word (codes "e")) (with_half (step.Half East)) refl)
+    (sequence (λ u v. v) (word (codes "w")) (with_half (step.Half West)) refl) refl) refl) refl
 
 one : (c : ℕ) (v : Step) (M : Language (Unit {0})) (x : Unit {0}) (q : List ℕ) → M x q → (Word (c ∷ []) *> With v M) v (c ∷ q)
 one c v M x q m = (tt, v, c ∷ [], q, refl, refl, (refl, refl), (v, x, [], q, refl, refl, (refl, refl), m))
@@ -183,5 +183,5 @@ place_exact = sequence place_of township_exact
     (sequence (λ u v. v) (choose (word (codes ",")) (maybe_exact (word (codes "-")) refl) refl) (sequence (λ r s. (r, s)) range_exact section_exact refl) refl) refl
 
 pub description_exact : Exact description_at Description (codes "et") (codes ",onsewonsew,:ansew0123456789,s") false
-unfolding description_at
+unfolding description_at Description
 description_exact = choose (gives_exact Everything (codes "everything")) place_exact refl

@@ -1,14 +1,14 @@
 -- The loops of the readers.
-use Rattle.std.proofs.Common.{◌≡◌, ℕ, zero, suc, ◌+◌, ◌-◌, ◌≤◌, ◌<◌, Bool, true, false, List, [], ◌∷◌, ◌++◌, length, map, fold, refl, sym, ap, subst, ◌∙◌, arith, append_assoc}
+use Rattle.std.proofs.Common.{◌≡◌, ℕ, ◌+◌, ◌<◌, true, false, List, [], ◌∷◌, ◌++◌, length, map, fold, refl, sym, ap, ◌∙◌, arith, append_assoc}
 use Rattle.std.specs.Prelude.{codes}
 use Rattle.std.proofs.lemmas.List.{append-nil, map-append}
 use Rattle.title_land.specs.declared.rectangle.Step.{Step}
 use Rattle.title_grammar.specs.Reading.{Read, Got, Stuck, and_then, starts, gives_at, one_of_at, many_at}
 use Rattle.title_grammar.proofs.Exact.{one_of_exact}
 use Rattle.title_grammar.proofs.Repeat.{takes_some, many_next, many_ends, many_stops}
-use Rattle.title_aliquot.specs.Grammar.{digits, more_digits, decimal, whole_section}
+use Rattle.title_aliquot.specs.Grammar.{digits, more_digits, whole_section}
 use Rattle.title_aliquot.specs.Readers.{number_at, step_at, joined_at, part_at, parts_at, next_part_at}
-use Rattle.title_aliquot.proofs.Grammar.{number_exact, step_exact, joined_exact, part_exact, next_part_exact}
+use Rattle.title_aliquot.proofs.Grammar.{joined_exact, next_part_exact}
 
 -- a number of which n was read
 abbrev pub number_from : ℕ → List ℕ → Read ℕ
@@ -38,7 +38,7 @@ part_from steps s = and_then (many_at (codes "onsew") joined_at s) (λ vs t. Got
 pub part_next : (steps : List Step) (s : List ℕ) (v : Step) (r : List ℕ) → starts (codes "onsew") s ≡ true → joined_at s ≡ Got v r → part_from steps s ≡ part_from (steps ++ v ∷ []) r
 part_next steps s v r h e =
     many_next joined_exact s v r (λ vs t. Got (steps ++ vs) t) h e
-        ∙ simp append_assoc refl
+    ∙ simp append_assoc refl
 
 pub part_ends : (steps : List Step) (s : List ℕ) → starts (codes "onsew") s ≡ false → part_from steps s ≡ Got steps s
 part_ends steps s h = many_ends (codes "onsew") joined_at s (λ vs t. Got (steps ++ vs) t) h ∙ simp append-nil refl
@@ -95,4 +95,4 @@ pub parts_pushed : {X : Type 0} (f : X → List Step) (xs ys : List X) (x : X) (
     parts_from (map f xs) s ≡ parts_from (map f ys) r
 parts_pushed {X} f xs ys x s r p h e =
     parts_next (map f xs) s (f x) r h e
-        ∙ ap (λ (ps : List (List Step)). parts_from ps r) (sym (ap (λ (zs : List X). map f zs) p ∙ map-append f xs (x ∷ [])))
+    ∙ ap (λ (ps : List (List Step)). parts_from ps r) (sym (ap (λ (zs : List X). map f zs) p ∙ map-append f xs (x ∷ [])))

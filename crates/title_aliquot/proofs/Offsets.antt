@@ -1,5 +1,5 @@
 -- Steps of the loop over a text's characters.
-use Rattle.std.proofs.Common.{◌≡◌, ℕ, zero, suc, ◌+◌, ◌-◌, ◌≤◌, ◌<◌, Bool, true, false, ◌==◌, List, [], ◌∷◌, length, get_or, take, drop, refl, sym, ap, subst, ◌∙◌, arith, drop-cons, add-one}
+use Rattle.std.proofs.Common.{◌≡◌, ℕ, zero, suc, ◌+◌, ◌-◌, ◌≤◌, ◌<◌, true, false, ◌==◌, List, length, get_or, drop, refl, ap, arith, drop-cons, add-one}
 use Rattle.std.specs.Char.{len_utf8}
 use Rattle.std.proofs.lemmas.List.{drop_all}
 use Rattle.std.specs.Str.{IsUtf8, chars}
@@ -27,4 +27,3 @@ chars_fit bs cs u e h =
     let p = length-le-encodes (chars bs) in
     let q = ap (λ (z : List ℕ). length z) (encodes-chars bs u) in
     omega (arith, p, q, ap (λ (z : List ℕ). length z) e)
-

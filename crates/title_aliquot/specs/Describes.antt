@@ -1,5 +1,5 @@
 -- The land that a text describes, and the fault of a text that describes none.
-use Rattle.std.specs.Prelude.{◌≡◌, ℕ, ◌≤◌, ◌<◌, Bool, true, false, List, [], ◌∷◌, ◌++◌, length, take, drop, codes, Result, Ok, Err, ◌⊎◌}
+use Rattle.std.specs.Prelude.{◌≡◌, ℕ, ◌≤◌, ◌<◌, List, ◌++◌, length, take, drop, codes, ◌⊎◌}
 use Rattle.std.specs.Str.{chars}
 use Rattle.title_grammar.specs.Language.{Begins, FaultAt}
 use Rattle.title_land.specs.declared.tract.Land.{Land}
@@ -7,21 +7,16 @@ use Rattle.title_aliquot.specs.declared.fault.DescFault.{DescFault}
 use Rattle.title_aliquot.specs.declared.fault.DescFault.TheVariants as fault
 use Rattle.title_aliquot.specs.Grammar.{Syntax, Description}
 use Rattle.title_aliquot.specs.Letters.{letters, offset}
-use Rattle.title_aliquot.specs.Meaning.{IsNumbered, parts_of, parts_exist, rectangles, Overlap, IsLandOf}
+use Rattle.title_aliquot.specs.Meaning.{StandsFor, IsOutOfRange, IsTooSmall, IsOverlapping}
 
 -- the text has at most 1,000 bytes, and its letters say s
 pub record Says (text : List ℕ) (s : Syntax) : Type 0 where
   pub short : length text ≤ 1000
   pub spells : Description s (letters (chars text))
 
--- the text stands for the land
-pub record Describes (depth : ℕ) (text : List ℕ) (l : Land) : Type 0 where
-  pub syntax_of : Syntax
-  pub says : Says text syntax_of
-  pub numbered : IsNumbered syntax_of
-  pub exist : parts_exist depth (parts_of syntax_of) ≡ true
-  pub apart : Overlap (rectangles depth (parts_of syntax_of)) → ⊥
-  pub land_is : IsLandOf depth syntax_of l
+-- the text describes the land
+abbrev pub Describes : ℕ → List ℕ → Land → Type 0
+Describes depth text l = (s : Syntax) × Says text s × StandsFor depth s l
 
 -- ---- faults
 
@@ -30,9 +25,12 @@ pub record Describes (depth : ℕ) (text : List ℕ) (l : Land) : Type 0 where
 abbrev pub StepMayBegin : List ℕ → Type 0
 StepMayBegin p = Begins Description (p ++ codes "n1/2")
 
--- the letters go on with the word lot where a step may begin
+abbrev pub BeginsWithLot : List ℕ → Type 0
+BeginsWithLot r = (t : List ℕ) × (r ≡ codes "lot" ++ t)
+
+-- the letters p go on with the word lot where a step may begin
 abbrev pub IsLot : List ℕ → List ℕ → Type 0
-IsLot p r = StepMayBegin p × ((t : List ℕ) × (r ≡ codes "lot" ++ t))
+IsLot p r = StepMayBegin p × BeginsWithLot r
 
 -- The letters of a text of at most 1,000 bytes are not in the grammar, and letter i is the first that no text of the
 -- grammar has there; where i is their number, they end too early.
@@ -54,32 +52,11 @@ IsBadText text byte =
 abbrev pub IsLots : List ℕ → Type 0
 IsLots text = (i : ℕ) × BadLetter text i × LotAt text i
 
--- a township or range number is not 1 to 99, or a section is not 1 to 36
-pub record IsOutOfRange (text : List ℕ) : Type 0 where
-  pub syntax_of : Syntax
-  pub says : Says text syntax_of
-  pub unnumbered : IsNumbered syntax_of → ⊥
-
--- a step halves a side of one cell
-pub record IsTooSmall (depth : ℕ) (text : List ℕ) : Type 0 where
-  pub syntax_of : Syntax
-  pub says : Says text syntax_of
-  pub numbered : IsNumbered syntax_of
-  pub exist_not : parts_exist depth (parts_of syntax_of) ≡ false
-
--- two parts share a cell
-pub record IsOverlap (depth : ℕ) (text : List ℕ) : Type 0 where
-  pub syntax_of : Syntax
-  pub says : Says text syntax_of
-  pub numbered : IsNumbered syntax_of
-  pub exist : parts_exist depth (parts_of syntax_of) ≡ true
-  pub overlap : Overlap (rectangles depth (parts_of syntax_of))
-
 -- the first fault of a text that describes no land; want of memory is no fault of a text
 abbrev pub FaultOf : ℕ → List ℕ → DescFault → Type 0
 FaultOf depth text (fault.BadText byte) = IsBadText text byte
-FaultOf depth text fault.Range = IsOutOfRange text
-FaultOf depth text fault.TooSmall = IsTooSmall depth text
+FaultOf depth text fault.Range = (s : Syntax) × Says text s × IsOutOfRange s
+FaultOf depth text fault.TooSmall = (s : Syntax) × Says text s × IsTooSmall depth s
 FaultOf depth text fault.Lots = IsLots text
-FaultOf depth text fault.Overlap = IsOverlap depth text
+FaultOf depth text fault.Overlap = (s : Syntax) × Says text s × IsOverlapping depth s
 FaultOf depth text fault.Memory = ⊥

@@ -1,6 +1,6 @@
 -- The grammar of descriptions, over letters in lower case with spaces and periods left out, and what a text of it says.
-use Rattle.std.specs.Prelude.{◌≡◌, ℕ, ◌+◌, ◌*◌, ◌-◌, Bool, true, false, min, fold, List, [], ◌∷◌, codes, Option, Some, None}
-use Rattle.title_grammar.specs.Language.{Language, Gives, OneOf, Then, Or, Many, Word, Maybe, cons, ◌*>◌, ◌<|>◌}
+use Rattle.std.specs.Prelude.{ℕ, ◌+◌, ◌*◌, ◌-◌, Bool, true, false, min, fold, List, [], ◌∷◌, codes, Option, Some, None}
+use Rattle.title_grammar.specs.Language.{Language, Gives, OneOf, Then, Many, Word, Maybe, cons, ◌*>◌, ◌<|>◌}
 use Rattle.title_land.specs.declared.rectangle.Quarter.{Quarter}
 use Rattle.title_land.specs.declared.rectangle.Quarter.TheVariants.{Northeast, Northwest, Southwest, Southeast}
 use Rattle.title_land.specs.declared.rectangle.Half.{Half}
@@ -112,5 +112,5 @@ abbrev pub PlaceText : Language Syntax
 PlaceText = Then place_of TownshipText ((Word (codes ",") <|> Word (codes "-") <|> Word []) *> Then (λ r s. (r, s)) RangeText SectionText)
 
 -- text = "everything" | place
-abbrev pub Description : Language Syntax
+unfoldable pub Description : Language Syntax
 Description = Gives Everything (codes "everything") <|> PlaceText

@@ -1,5 +1,5 @@
 -- The letters of a text: its characters without spaces and periods, in lower case.
-use Rattle.std.specs.Prelude.{◌≡◌, ℕ, ◌+◌, ◌-◌, Bool, ◌||◌, ◌==◌, List, [], ◌∷◌, map, filter, if◌then◌else◌, not}
+use Rattle.std.specs.Prelude.{ℕ, ◌+◌, ◌-◌, Bool, ◌||◌, ◌==◌, List, [], ◌∷◌, map, filter, if◌then◌else◌, not}
 use Rattle.std.specs.Char.{to_ascii_lowercase, len_utf8}
 
 -- a space or a period

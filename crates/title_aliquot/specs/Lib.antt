@@ -6,3 +6,4 @@ pub mod Readers
 pub mod Views
 pub mod Outcomes
 pub mod Describes
+pub mod Answers

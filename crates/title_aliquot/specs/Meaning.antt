@@ -1,5 +1,5 @@
--- What the numbers and parts of a text stand for. The depth is how often a section is quartered down to its cells.
-use Rattle.std.specs.Prelude.{◌≡◌, ℕ, Bool, List, [], ◌∷◌, Option, Some, None, ◌⊎◌}
+-- What a text's numbers and parts stand for. The depth is how often a section is quartered down to its cells.
+use Rattle.std.specs.Prelude.{◌≡◌, ℕ, true, false, Bool, List, [], ◌∷◌, Option, Some, None, ◌⊎◌}
 use Rattle.std.specs.Option.{is_some}
 use Rattle.std.specs.List.{list_any, list_all, filter_map}
 use Rattle.title_land.specs.declared.rectangle.Step.{Step}
@@ -11,7 +11,7 @@ use Rattle.title_land.specs.declared.tract.Land.TheVariants as land
 use Rattle.title_land.specs.Places.{IsTownshipNumber, IsTownship, IsSectionNumber, IsSection}
 use Rattle.title_land.specs.Rectangles.{part_of, holds, SharesCell}
 use Rattle.title_land.specs.Grids.{grid_of}
-use Rattle.title_aliquot.specs.Grammar.{Syntax, Everything, InPlace, PlaceSyntax, SectionSyntax}
+use Rattle.title_aliquot.specs.Grammar.{Syntax, Everything, InPlace, SectionSyntax}
 
 -- ---- numbers
 
@@ -68,3 +68,27 @@ abbrev pub IsLandOf : ℕ → Syntax → Land → Type 0
 IsLandOf depth Everything l = l ≡ land.Everything
 IsLandOf depth (InPlace p) l =
     (t : Township) × IsTownship p.township p.north p.range p.east t × IsLandIn depth t p.section l
+
+-- the numbers fit, each part exists, no two share a cell, and the land is the one that they name
+pub record StandsFor (depth : ℕ) (s : Syntax) (l : Land) : Type 0 where
+  pub numbered : IsNumbered s
+  pub exist : parts_exist depth (parts_of s) ≡ true
+  pub apart : Overlap (rectangles depth (parts_of s)) → ⊥
+  pub land_is : IsLandOf depth s l
+
+-- ---- its faults, in their order
+
+-- a township or range number is not 1 to 99, or a section is not 1 to 36
+abbrev pub IsOutOfRange : Syntax → Type 0
+IsOutOfRange s = IsNumbered s → ⊥
+
+-- a step halves a side of one cell
+pub record IsTooSmall (depth : ℕ) (s : Syntax) : Type 0 where
+  pub numbered : IsNumbered s
+  pub missing : parts_exist depth (parts_of s) ≡ false
+
+-- two parts share a cell
+pub record IsOverlapping (depth : ℕ) (s : Syntax) : Type 0 where
+  pub numbered : IsNumbered s
+  pub exist : parts_exist depth (parts_of s) ≡ true
+  pub overlap : Overlap (rectangles depth (parts_of s))

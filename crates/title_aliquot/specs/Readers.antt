@@ -1,7 +1,7 @@
 -- Readers of the grammar, one for each line.
-use Rattle.std.specs.Prelude.{◌≡◌, ℕ, Bool, true, false, List, [], ◌∷◌, codes, Option, Some, None}
+use Rattle.std.specs.Prelude.{ℕ, Bool, true, false, List, [], codes, Option, None}
 use Rattle.title_grammar.specs.Language.{cons}
-use Rattle.title_grammar.specs.Reading.{Read, Got, Stuck, gives_at, one_of_at, then_at, or_at, many_at, word_at, behind, as_at, choice, maybe_at}
+use Rattle.title_grammar.specs.Reading.{Read, gives_at, one_of_at, then_at, or_at, many_at, word_at, behind, as_at, choice, maybe_at}
 use Rattle.title_land.specs.declared.rectangle.Quarter.{Quarter}
 use Rattle.title_land.specs.declared.rectangle.Quarter.TheVariants.{Northeast, Northwest, Southwest, Southeast}
 use Rattle.title_land.specs.declared.rectangle.Half.{Half}
@@ -23,15 +23,15 @@ half_mark_at s = or_at (codes "1") (word_at (codes "1/2")) (or_at (codes "/") (w
 unfoldable pub behind_at : Quarter → Quarter → Half → List ℕ → Read Step
 behind_at east west half s =
     or_at (codes "e") (behind (word_at (codes "e")) (as_at (step.Quarter east) quarter_mark_at))
-        (or_at (codes "w") (behind (word_at (codes "w")) (as_at (step.Quarter west) quarter_mark_at))
-            (as_at (step.Half half) half_mark_at)) s
+    (or_at (codes "w") (behind (word_at (codes "w")) (as_at (step.Quarter west) quarter_mark_at))
+    (as_at (step.Half half) half_mark_at)) s
 
 unfoldable pub step_at : List ℕ → Read Step
 step_at s =
     or_at (codes "n") (behind (word_at (codes "n")) (behind_at Northeast Northwest North))
-        (or_at (codes "s") (behind (word_at (codes "s")) (behind_at Southeast Southwest South))
-            (or_at (codes "e") (behind (word_at (codes "e")) (as_at (step.Half East) half_mark_at))
-                (behind (word_at (codes "w")) (as_at (step.Half West) half_mark_at)))) s
+    (or_at (codes "s") (behind (word_at (codes "s")) (behind_at Southeast Southwest South))
+    (or_at (codes "e") (behind (word_at (codes "e")) (as_at (step.Half East) half_mark_at))
+    (behind (word_at (codes "w")) (as_at (step.Half West) half_mark_at)))) s
 
 -- [ "of" ["the"] ] step
 unfoldable pub joined_at : List ℕ → Read Step

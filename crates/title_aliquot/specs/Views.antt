@@ -1,7 +1,6 @@
 -- What was read, without where it lies in memory.
-use Rattle.std.specs.Prelude.{ℕ, List, map, Option, Some, None}
+use Rattle.std.specs.Prelude.{map}
 use Rattle.std.specs.Option.{option_map}
-use Rattle.title_land.specs.declared.rectangle.Step.{Step}
 use Rattle.title_aliquot.specs.declared.syntax.SectionWords.{SectionWords}
 use Rattle.title_aliquot.specs.declared.syntax.PlaceWords.{PlaceWords}
 use Rattle.title_aliquot.specs.declared.syntax.Words.{Words}

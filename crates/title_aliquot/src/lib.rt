@@ -8,7 +8,7 @@ mod meaning;
 mod reader;
 mod syntax;
 
-// pub use describe::read;
+pub use describe::read;
 pub use fault::DescFault;
 pub use title_land::{
     Cell, DEPTH, Grid, Half, Land, Node, Quarter, Rectangle, SIDE, Section, Step, Township, Tract,

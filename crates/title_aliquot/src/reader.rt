@@ -174,7 +174,8 @@ impl<'a> Reader<'a> {
     }
 
     #[tactic(auto, using(crate::proofs::Loops::number_begins, crate::proofs::Loops::number_none, crate::proofs::Loops::number_next, crate::proofs::Loops::number_ends, crate::proofs::Loops::number_stops))]
-    fn number(&mut self) -> Result<u16, Stop>
+    /// A number; those from 100 on are all read as 100.
+    fn number(&mut self) -> Result<u8, Stop>
         ensures read { Reads (λ n. n) result self.new (number_at self.old) }
     {
         let mut number = self.digit()? as u16;
@@ -182,7 +183,7 @@ impl<'a> Reader<'a> {
             let digit = self.digit()?;
             number = (number * 10 + digit as u16).min(100);
         }
-        Ok(number)
+        Ok(number as u8)
     }
 
     /// A step, with an "of" or "of the" before it or not.
@@ -263,7 +264,7 @@ impl<'a> Reader<'a> {
     }
 
     #[tactic(auto, unfolding(crate::specs::Readers::township_at))]
-    fn township(&mut self) -> Result<(u16, bool), Stop>
+    fn township(&mut self) -> Result<(u8, bool), Stop>
         ensures read { Reads (λ p. (p.0, p.1)) result self.new (township_at self.old) }
     {
         self.word("t")?;
@@ -273,7 +274,7 @@ impl<'a> Reader<'a> {
     }
 
     #[tactic(auto, unfolding(crate::specs::Readers::range_at))]
-    fn range(&mut self) -> Result<(u16, bool), Stop>
+    fn range(&mut self) -> Result<(u8, bool), Stop>
         ensures read { Reads (λ p. (p.0, p.1)) result self.new (range_at self.old) }
     {
         self.word("r")?;
@@ -283,7 +284,7 @@ impl<'a> Reader<'a> {
     }
 
     #[tactic(auto, unfolding(crate::specs::Readers::section_number_at))]
-    fn section_number(&mut self) -> Result<u16, Stop>
+    fn section_number(&mut self) -> Result<u8, Stop>
         ensures read { Reads (λ n. n) result self.new (section_number_at self.old) }
     {
         self.word("sec")?;
@@ -337,7 +338,13 @@ impl<'a> Reader<'a> {
         }
         let (range, east) = self.range()?;
         let section = self.section(alloc)?;
-        Ok(PlaceWords { township, north, range, east, section })
+        Ok(PlaceWords {
+            township,
+            north,
+            range,
+            east,
+            section,
+        })
     }
 
     #[tactic(auto, unfolding(crate::specs::Readers::description_at), using(title_grammar::proofs::Words::gives_by_word, title_grammar::proofs::Words::gives_not_word))]

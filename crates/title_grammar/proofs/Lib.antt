@@ -4,3 +4,4 @@ pub mod Exact
 pub mod Repeat
 pub mod Combine
 pub mod Words
+pub mod Places

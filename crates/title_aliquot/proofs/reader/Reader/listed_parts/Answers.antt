@@ -1,4 +1,4 @@
-use Rattle.std.proofs.Common.{◌≡◌, ◌∙◌, sym, map}
+use Rattle.std.proofs.Common.{◌∙◌, sym}
 use Rattle.title_aliquot.proofs.Loops.{parts_pushed}
 use Rattle.title_aliquot.proofs.reader.Reader.listed_parts.Goals as goal
 

@@ -1,4 +1,4 @@
-use Rattle.std.proofs.Common.{◌≡◌, ◌≤◌, length, map}
+use Rattle.std.proofs.Common.{◌≡◌, length, map}
 use Rattle.title_aliquot.specs.Readers.{parts_at}
 use Rattle.title_aliquot.proofs.Loops.{parts_from}
 use Rattle.title_aliquot.proofs.reader.Reader.listed_parts.Given as goal

@@ -1,4 +1,4 @@
-use Rattle.std.proofs.Common.{◌≡◌, ◌≤◌, length}
+use Rattle.std.proofs.Common.{◌≡◌, length}
 use Rattle.title_aliquot.specs.Readers.{part_at}
 use Rattle.title_aliquot.proofs.Loops.{part_from}
 use Rattle.title_aliquot.proofs.reader.Reader.part.Given as goal
