@@ -18,3 +18,4 @@ pub mod CoversMeet
 pub mod CellMembers
 pub mod CellFilters
 pub mod CellSquares
+pub mod GridCounts

@@ -5,7 +5,7 @@ use Rattle.std.specs.Fmt.{decimal}
 use Rattle.title_land.specs.declared.tract.Land.{Land}
 use Rattle.title_land.specs.declared.tract.Land.TheVariants as land
 use Rattle.title_land.specs.Places.{side}
-use Rattle.title_land.specs.Grids.{cell_count}
+use Rattle.title_land.specs.Grids.{grid_has, cells_counted}
 
 -- the cells of a section, and the half acres of one of them
 abbrev pub cells_in_section : ℕ → ℕ
@@ -18,7 +18,7 @@ cell_half_acres depth = 1280 / cells_in_section depth
 abbrev pub cells_in : ℕ → Land → Option ℕ
 cells_in depth land.Everything = None
 cells_in depth (land.Township t) = Some (36 * cells_in_section depth)
-cells_in depth (land.Part s g) = Some (cell_count g)
+cells_in depth (land.Part s g) = Some (cells_counted depth (grid_has g))
 
 -- the half acres of a land: those of one cell for each of its cells
 abbrev pub half_acres_of : ℕ → Land → Option ℕ

@@ -63,3 +63,7 @@ abbrev pub AddsRectangle : ℕ → Grid → Rectangle → Grid → Type 0
 AddsRectangle depth g r h =
     (row column : ℕ) → row < side depth → column < side depth →
     grid_has h row column ≡ (grid_has g row column || holds r row column)
+
+-- the number of a section's cells at which a test holds, row by row
+unfoldable pub cells_counted : ℕ → (ℕ → ℕ → Bool) → ℕ
+cells_counted depth test = sum_by (λ row. count_by (λ column. test row column) (places depth)) (places depth)

@@ -1,7 +1,7 @@
 //! Sets of a section's cells.
 
 ghost use Rattle.std.specs.Prelude.{◌≡◌, ◌<◌, ◌≤◌, ◌||◌, ℕ, map};
-ghost use Rattle.title_land.specs.Grids.{IsGrid, grid_has, fills, row_fills, has_some, row_count, cell_count, rows_meet, grids_meet, places, with_rectangle, AddsRectangle};
+ghost use Rattle.title_land.specs.Grids.{IsGrid, grid_has, fills, row_fills, has_some, row_count, cell_count, cells_counted, rows_meet, grids_meet, places, with_rectangle, AddsRectangle};
 ghost use Rattle.std.specs.List.{list_any};
 ghost use Rattle.title_land.specs.Rectangles.{InSection, holds};
 
@@ -52,8 +52,10 @@ impl Grid {
     /// The number of its cells.
     pub fn cell_count(&self) -> u32
         ensures count { result ≡ cell_count self.now }
+        ensures cells { result ≡ cells_counted 3 (grid_has self.now) }
         ensures most { result ≤ 64 }
     {
+        self.is_sized();
         let mut count = 0;
         for row in &self.rows {
             count += row_count(row);
