@@ -5,4 +5,4 @@ pub mod Whole
 pub mod Shapes
 pub mod Texts
 pub mod Lands
-pub mod Laws
+pub mod Unique

@@ -7,3 +7,4 @@ pub mod Views
 pub mod Outcomes
 pub mod Describes
 pub mod Answers
+pub mod TextLaws

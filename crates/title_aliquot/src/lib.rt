@@ -3,10 +3,13 @@
 
 pub mod describe;
 pub mod fault;
+pub mod laws;
 mod letters;
 mod meaning;
 mod reader;
 mod syntax;
+#[cfg(test)]
+mod tests;
 
 pub use describe::read;
 pub use fault::DescFault;

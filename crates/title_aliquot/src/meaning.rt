@@ -51,7 +51,7 @@ fn meets_one(shape: Rectangle, others: &[Rectangle]) -> bool
     requires others_inside { All (InSection 3) others.now }
     ensures meets { result ≡ list_any (rectangles_meet shape) others.now }
 {
-    for other in others {
+    'others: for other in others {
         if shape.meets(*other) {
             return true;
         }

@@ -8,7 +8,8 @@ ghost use Rattle.title_aliquot.specs.Readers.{number_at, quarter_mark_at, half_m
 ghost use Rattle.title_aliquot.specs.Views.{section_view, place_view, words_view};
 ghost use Rattle.title_aliquot.specs.declared.reader.Stop.TheVariants.{Memory};
 ghost use Rattle.title_grammar.specs.Language.{member};
-ghost use Rattle.title_grammar.specs.Reading.{starts, one_of_at, word_at, choice};
+ghost use Rattle.title_grammar.specs.Reading.{starts, one_of_at, word_at, as_at, choice};
+ghost use Rattle.title_land.specs.declared.rectangle.Step.TheVariants as step;
 
 use crate::syntax::{PlaceWords, SectionWords, Words};
 use std::alloc::{AllocError, AllocFailed, Global};
@@ -87,7 +88,7 @@ impl<'a> Reader<'a> {
     fn word(&mut self, word: &str) -> Result<(), Stop>
         ensures read { Reads (λ u. tt) result self.new (word_at word.now self.old) }
     {
-        for b in word.as_bytes() {
+        'bytes: for b in word.as_bytes() {
             self.letter(*b as char)?;
         }
         Ok(())
@@ -107,6 +108,7 @@ impl<'a> Reader<'a> {
         }
     }
 
+    /// The mark of a quarter.
     #[tactic(auto, unfolding(crate::specs::Readers::quarter_mark_at))]
     fn quarter_mark(&mut self) -> Result<(), Stop>
         ensures read { Reads (λ u. tt) result self.new (quarter_mark_at self.old) }
@@ -120,6 +122,7 @@ impl<'a> Reader<'a> {
         }
     }
 
+    /// The mark of a half.
     #[tactic(auto, unfolding(crate::specs::Readers::half_mark_at))]
     fn half_mark(&mut self) -> Result<(), Stop>
         ensures read { Reads (λ u. tt) result self.new (half_mark_at self.old) }
@@ -133,6 +136,22 @@ impl<'a> Reader<'a> {
         }
     }
 
+    /// The mark of a quarter, whose name was taken.
+    fn quarter(&mut self, which: Quarter) -> Result<Step, Stop>
+        ensures read { Reads (λ s. s) result self.new (as_at (step.Quarter which) quarter_mark_at self.old) }
+    {
+        self.quarter_mark()?;
+        Ok(Step::Quarter(which))
+    }
+
+    /// The mark of a half, whose name was taken.
+    fn half(&mut self, which: Half) -> Result<Step, Stop>
+        ensures read { Reads (λ s. s) result self.new (as_at (step.Half which) half_mark_at self.old) }
+    {
+        self.half_mark()?;
+        Ok(Step::Half(which))
+    }
+
     /// What stands behind an n or an s: the rest of a quarter, or the mark of a half.
     #[tactic(auto, unfolding(crate::specs::Readers::behind_at))]
     fn behind(&mut self, east: Quarter, west: Quarter, half: Half) -> Result<Step, Stop>
@@ -140,18 +159,16 @@ impl<'a> Reader<'a> {
     {
         if self.starts("e") {
             self.word("e")?;
-            self.quarter_mark()?;
-            Ok(Step::Quarter(east))
+            self.quarter(east)
         } else if self.starts("w") {
             self.word("w")?;
-            self.quarter_mark()?;
-            Ok(Step::Quarter(west))
+            self.quarter(west)
         } else {
-            self.half_mark()?;
-            Ok(Step::Half(half))
+            self.half(half)
         }
     }
 
+    /// A quarter or a half, with its mark.
     #[tactic(auto, unfolding(crate::specs::Readers::step_at))]
     fn step(&mut self) -> Result<Step, Stop>
         ensures read { Reads (λ s. s) result self.new (step_at self.old) }
@@ -164,22 +181,20 @@ impl<'a> Reader<'a> {
             self.behind(Quarter::Southeast, Quarter::Southwest, Half::South)
         } else if self.starts("e") {
             self.word("e")?;
-            self.half_mark()?;
-            Ok(Step::Half(Half::East))
+            self.half(Half::East)
         } else {
             self.word("w")?;
-            self.half_mark()?;
-            Ok(Step::Half(Half::West))
+            self.half(Half::West)
         }
     }
 
-    #[tactic(auto, using(crate::proofs::Loops::number_begins, crate::proofs::Loops::number_none, crate::proofs::Loops::number_next, crate::proofs::Loops::number_ends, crate::proofs::Loops::number_stops))]
     /// A number; those from 100 on are all read as 100.
+    #[tactic(auto, using(crate::proofs::Loops::number_begins, crate::proofs::Loops::number_none, crate::proofs::Loops::number_next, crate::proofs::Loops::number_ends, crate::proofs::Loops::number_stops))]
     fn number(&mut self) -> Result<u8, Stop>
         ensures read { Reads (λ n. n) result self.new (number_at self.old) }
     {
         let mut number = self.digit()? as u16;
-        while self.starts("0123456789") {
+        'digits: while self.starts("0123456789") {
             let digit = self.digit()?;
             number = (number * 10 + digit as u16).min(100);
         }
@@ -200,6 +215,7 @@ impl<'a> Reader<'a> {
         self.step()
     }
 
+    /// Steps, one after another.
     #[tactic(auto, using(crate::proofs::Loops::joined_shorter, crate::proofs::Loops::part_first, crate::proofs::Loops::part_none, crate::proofs::Loops::part_next, crate::proofs::Loops::part_ends, crate::proofs::Loops::part_stops))]
     fn part(&mut self, alloc: Global) -> Result<Vec<Step>, Stop>
         ensures read { Reads (λ v. v.items) result self.new (part_at self.old) }
@@ -207,7 +223,7 @@ impl<'a> Reader<'a> {
         let mut steps = Vec::new(alloc);
         let first = self.step()?;
         steps.push(first)?;
-        while self.starts("onsew") {
+        'steps: while self.starts("onsew") {
             let step = self.joined()?;
             steps.push(step)?;
         }
@@ -222,6 +238,7 @@ impl<'a> Reader<'a> {
         self.part(alloc)
     }
 
+    /// Parts, with commas between them.
     #[tactic(auto, using(crate::proofs::Loops::next_part_shorter, crate::proofs::Loops::parts_begin, crate::proofs::Loops::parts_none, crate::proofs::Loops::parts_next, crate::proofs::Loops::parts_end, crate::proofs::Loops::parts_stop))]
     fn listed_parts(&mut self, alloc: Global) -> Result<Vec<Vec<Step>>, Stop>
         requires named { starts (codes "a") self.old ≡ false }
@@ -230,13 +247,14 @@ impl<'a> Reader<'a> {
         let mut parts = Vec::new(alloc);
         let first = self.part(alloc)?;
         parts.push(first)?;
-        while self.starts(",") {
+        'more: while self.starts(",") {
             let part = self.next_part(alloc)?;
             parts.push(part)?;
         }
         Ok(parts)
     }
 
+    /// The word all, or parts.
     #[tactic(auto, using(crate::proofs::Loops::parts_all, title_grammar::proofs::Words::gives_by_word, title_grammar::proofs::Words::gives_not_word))]
     fn parts(&mut self, alloc: Global) -> Result<Vec<Vec<Step>>, Stop>
         ensures read { Reads (λ v. map (λ p. p.items) v.items) result self.new (parts_at self.old) }
@@ -263,6 +281,7 @@ impl<'a> Reader<'a> {
         }
     }
 
+    /// A township number, and whether it is north.
     #[tactic(auto, unfolding(crate::specs::Readers::township_at))]
     fn township(&mut self) -> Result<(u8, bool), Stop>
         ensures read { Reads (λ p. (p.0, p.1)) result self.new (township_at self.old) }
@@ -273,6 +292,7 @@ impl<'a> Reader<'a> {
         Ok((number, north))
     }
 
+    /// A range number, and whether it is east.
     #[tactic(auto, unfolding(crate::specs::Readers::range_at))]
     fn range(&mut self) -> Result<(u8, bool), Stop>
         ensures read { Reads (λ p. (p.0, p.1)) result self.new (range_at self.old) }
@@ -283,6 +303,7 @@ impl<'a> Reader<'a> {
         Ok((number, east))
     }
 
+    /// The word section or sec, and its number.
     #[tactic(auto, unfolding(crate::specs::Readers::section_number_at))]
     fn section_number(&mut self) -> Result<u8, Stop>
         ensures read { Reads (λ n. n) result self.new (section_number_at self.old) }
@@ -294,6 +315,7 @@ impl<'a> Reader<'a> {
         self.number()
     }
 
+    /// A section's parts, behind a comma, a colon or nothing; or the whole section.
     #[tactic(auto, unfolding(crate::specs::Readers::section_parts_at))]
     fn section_parts(&mut self, alloc: Global) -> Result<Vec<Vec<Step>>, Stop>
         ensures read { Reads (λ v. map (λ p. p.items) v.items) result self.new (section_parts_at self.old) }
@@ -310,6 +332,7 @@ impl<'a> Reader<'a> {
         }
     }
 
+    /// A section with its parts, where one is named.
     #[tactic(auto, unfolding(crate::specs::Readers::section_at))]
     fn section(&mut self, alloc: Global) -> Result<Option<SectionWords>, Stop>
         ensures read { Reads (λ s. option_map section_view s) result self.new (section_at self.old) }
@@ -326,6 +349,7 @@ impl<'a> Reader<'a> {
         }
     }
 
+    /// A township, and a section of it where one is named.
     #[tactic(auto, unfolding(crate::specs::Readers::place_at))]
     fn place(&mut self, alloc: Global) -> Result<PlaceWords, Stop>
         ensures read { Reads (λ d. InPlace (place_view d)) result self.new (place_at self.old) }
@@ -347,8 +371,8 @@ impl<'a> Reader<'a> {
         })
     }
 
-    #[tactic(auto, unfolding(crate::specs::Readers::description_at), using(title_grammar::proofs::Words::gives_by_word, title_grammar::proofs::Words::gives_not_word))]
     /// A whole description.
+    #[tactic(auto, unfolding(crate::specs::Readers::description_at), using(title_grammar::proofs::Words::gives_by_word, title_grammar::proofs::Words::gives_not_word))]
     pub fn description(&mut self, alloc: Global) -> Result<Words, Stop>
         ensures read { Reads words_view result self.new (description_at self.old) }
     {

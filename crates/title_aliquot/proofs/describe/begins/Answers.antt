@@ -1,3 +1,4 @@
+-- What was left to show of `begins`.
 use Rattle.title_grammar.proofs.Places.{begins_decided}
 use Rattle.title_aliquot.specs.Views.{words_view}
 use Rattle.title_aliquot.proofs.Whole.{found_begins}

@@ -1,3 +1,4 @@
+-- What was left to show of `is_lot`.
 use Rattle.std.proofs.Common.{take, drop}
 use Rattle.title_aliquot.proofs.Texts.{lot_result}
 use Rattle.title_aliquot.proofs.describe.is_lot.Goals as goal

@@ -1,3 +1,4 @@
+-- What was left to show of `read_letters`.
 use Rattle.std.proofs.Common.{◌≡◌, ◌∙◌, length, sym, ap, arith}
 use Rattle.title_aliquot.specs.Readers.{description_at}
 use Rattle.title_aliquot.specs.Views.{words_view}

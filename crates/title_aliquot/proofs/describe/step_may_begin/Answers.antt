@@ -1,3 +1,4 @@
+-- What was left to show of `step_may_begin`.
 use Rattle.std.proofs.Common.{◌∙◌, ◌++◌, List, ℕ, ap, subst}
 use Rattle.std.specs.Bool.{Decides}
 use Rattle.std.specs.Prelude.{IfOk, codes}

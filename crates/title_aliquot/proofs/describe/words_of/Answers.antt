@@ -1,3 +1,4 @@
+-- What was left to show of `words_of`.
 use Rattle.std.proofs.Common.{◌∙◌, ◌≤◌, length, ap, arith}
 use Rattle.title_aliquot.specs.Letters.{letters}
 use Rattle.title_aliquot.specs.Views.{words_view}

@@ -1,3 +1,4 @@
+-- What the loop of `offset_of` keeps.
 use Rattle.std.proofs.Common.{◌≡◌, ◌+◌, ◌*◌, ◌≤◌, drop}
 use Rattle.title_aliquot.specs.Letters.{offset}
 use Rattle.title_aliquot.proofs.letters.offset_of.Given as goal

@@ -1,3 +1,4 @@
+-- What was left to show of `overlap`.
 use Rattle.title_aliquot.proofs.Shapes.{overlap_found, overlap_later}
 use Rattle.title_aliquot.proofs.meaning.+overlap.Goals as goal
 

@@ -1,3 +1,4 @@
+-- What falls at each call in `overlap`.
 use Rattle.std.proofs.Common.{length}
 use Rattle.title_aliquot.proofs.meaning.+overlap.Given as goal
 

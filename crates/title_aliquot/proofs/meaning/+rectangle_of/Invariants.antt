@@ -1,3 +1,4 @@
+-- What falls at each call in `rectangle_of`.
 use Rattle.std.proofs.Common.{length}
 use Rattle.title_aliquot.proofs.meaning.+rectangle_of.Given as goal
 

@@ -1,3 +1,4 @@
+-- What was left to show of `land_of_place`.
 use Rattle.std.proofs.Common.{ap, map}
 use Rattle.std.specs.Option.{option_map}
 use Rattle.title_aliquot.specs.Views.{section_view, place_view}

@@ -1,3 +1,4 @@
+-- What the loop of `rectangles_of` keeps.
 use Rattle.std.proofs.Common.{◌≡◌, ◌++◌, map, drop}
 use Rattle.std.specs.List.{All}
 use Rattle.title_land.specs.Rectangles.{InSection}

@@ -1,3 +1,4 @@
+-- What was left to show of `union_of`.
 use Rattle.std.proofs.Common.{refl}
 use Rattle.title_land.specs.Grids.{grid_of}
 use Rattle.title_aliquot.proofs.Shapes.{union_next}

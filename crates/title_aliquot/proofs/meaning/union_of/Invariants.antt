@@ -1,3 +1,4 @@
+-- What the loop of `union_of` keeps.
 use Rattle.std.proofs.Common.{◌≡◌, take}
 use Rattle.title_land.specs.Grids.{grid_of}
 use Rattle.title_aliquot.specs.Meaning.{union}

@@ -1,0 +1,27 @@
+-- Laws of descriptions. The depth is how often a section is quartered down to its cells.
+use Rattle.std.specs.Prelude.{◌≡◌, ℕ, ◌<◌, List}
+use Rattle.title_land.specs.declared.rectangle.Step.{Step}
+use Rattle.title_land.specs.declared.tract.Land.{Land}
+use Rattle.title_land.specs.Places.{side}
+use Rattle.title_land.specs.Grids.{grid_has, grid_of}
+use Rattle.title_aliquot.specs.declared.fault.DescFault.{DescFault}
+use Rattle.title_aliquot.specs.Meaning.{rectangles, union}
+use Rattle.title_aliquot.specs.Describes.{Describes, FaultOf}
+
+-- a text describes one land at most
+abbrev pub OneLand : ℕ → Type 0
+OneLand depth = (text : List ℕ) (l m : Land) → Describes depth text l → Describes depth text m → l ≡ m
+
+-- a text that describes a land has no fault
+abbrev pub NoFaultBesideLand : ℕ → Type 0
+NoFaultBesideLand depth = (text : List ℕ) (l : Land) (f : DescFault) → Describes depth text l → FaultOf depth text f → ⊥
+
+-- a text has one fault at most, and one byte of it
+abbrev pub OneFault : ℕ → Type 0
+OneFault depth = (text : List ℕ) (f g : DescFault) → FaultOf depth text f → FaultOf depth text g → f ≡ g
+
+-- on the grid, the set of a section's parts has the cells of their rectangles and no others
+abbrev pub PartsHaveTheirCells : ℕ → Type 0
+PartsHaveTheirCells depth =
+    (parts : List (List Step)) (row column : ℕ) → row < side depth → column < side depth →
+    grid_has (grid_of depth (union (rectangles depth parts))) row column ≡ union (rectangles depth parts) row column

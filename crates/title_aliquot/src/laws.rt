@@ -1,0 +1,23 @@
+//! Laws of descriptions, for the crates above. Each function does nothing: its clause is the law, proved.
+
+ghost use Rattle.title_aliquot.specs.TextLaws.{OneLand, NoFaultBesideLand, OneFault, PartsHaveTheirCells};
+
+/// A text describes one land at most.
+pub fn one_land_at_most()
+    ensures law { OneLand 3 }
+{}
+
+/// A text that describes a land has no fault.
+pub fn no_fault_beside_a_land()
+    ensures law { NoFaultBesideLand 3 }
+{}
+
+/// A text has one fault at most, and one byte of it.
+pub fn one_fault_at_most()
+    ensures law { OneFault 3 }
+{}
+
+/// The set of a section's parts has the cells of their rectangles and no others.
+pub fn parts_have_their_cells()
+    ensures law { PartsHaveTheirCells 3 }
+{}
