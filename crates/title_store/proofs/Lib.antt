@@ -3,3 +3,10 @@ pub mod PlantCells
 pub mod EffectLaws
 pub mod TractNodes
 pub mod SheetLaws
+pub mod CellKeys
+pub mod MapLaws
+pub mod LoanLaws
+pub mod Backing
+pub mod SheetSteps
+pub mod ListSteps
+pub mod Puts

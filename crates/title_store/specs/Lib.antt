@@ -2,3 +2,4 @@ pub mod Plants
 pub mod Loans
 pub mod Sheets
 pub mod StoreLaws
+pub mod CellMaps

@@ -1,0 +1,111 @@
+//! The plant as an ordered map by cell.
+
+ghost use Rattle.std.proofs.Math.Bool.{Bool-set};
+ghost use Rattle.std.proofs.Props.{props};
+ghost use Rattle.std.specs.Ordering.{nat_cmp};
+ghost use Rattle.std.specs.BTreeMap.{IsOrdered};
+ghost use Rattle.std.specs.Prelude.{◌≡◌};
+ghost use Rattle.title_store.specs.Plants.{node_of};
+ghost use Rattle.title_store.specs.Loans.{AllBelow};
+ghost use Rattle.title_store.specs.CellMaps.{content_of, loans_of, AreBacked};
+
+use crate::cell_map::CellMap;
+use crate::kept::Lent;
+use crate::posts::{Computed, compute};
+use crate::sheet_row::SheetRow;
+use crate::sheets::add_estate;
+use crate::store::{Put, Store};
+use std::alloc::{AllocError, Global};
+use std::collections::BTreeMap;
+use title_instrument::{Estate, Instrument};
+use title_land::{Cell, Node, Township, Tract, cells_of};
+
+/// A before-image of a `CellStore`: its number. The store keeps what it holds.
+#[derive(Debug, Drop)]
+pub struct Image {
+    number: u64,
+}
+
+/// A plant as an ordered map by cell; a cell that it doesn't hold has its opening owners. What is out is kept under its number.
+#[derive(Drop)]
+pub struct CellStore {
+    alloc: Global,
+    townships: Vec<Township>,
+    map: CellMap,
+    lent: BTreeMap<u64, Lent>,
+    next: u64,
+    ghost ordered: { IsOrdered nat_cmp lent } by { Prim.hlevel props },
+    ghost numbered: { AllBelow next (loans_of lent.entries) },
+    ghost backed: { AreBacked townships.items map lent } by { Prim.hlevel Bool-set },
+}
+
+// The node of a tract's cover in which a cell lies; the whole plant where it lies in none.
+fn node_of(tract: &Tract, cell: Cell) -> Node
+    ensures node { result ≡ node_of 3 tract.now cell }
+{
+    tract.node_of(cell).unwrap_or(Node::Everything)
+}
+
+impl Store for CellStore {
+    type Image = Image;
+
+    ghost content = { λ s. content_of s.map };
+
+    ghost declared = { λ s. s.townships.items };
+
+    ghost out = { λ s. loans_of s.lent.entries };
+
+    ghost number = { λ i. i.number };
+
+    fn open(alloc: Global, townships: &[Township]) -> Result<CellStore, AllocError> {
+        let map = CellMap::new(alloc)?;
+        let townships = Vec::from_slice(alloc, townships)?;
+        Ok(CellStore {
+            alloc,
+            townships,
+            map,
+            lent: BTreeMap::new(alloc),
+            next: 0,
+        })
+    }
+
+    fn put(&mut self, tract: &Tract, instrument: &Instrument) -> Result<Put<Image>, AllocError> {
+        let number = self.next;
+        let Some(next) = number.checked_add(1) else {
+            return Err(AllocError);
+        };
+        let cells = cells_of(self.alloc, &self.townships, tract)?;
+        match compute(self.alloc, &self.map, &cells, instrument)? {
+            Computed::Refused(rule, estate, cell) => {
+                Ok(Put::Refused(rule, estate, node_of(tract, cell)))
+            }
+            Computed::Done(old, new) => {
+                self.map.make_places(self.alloc, &cells)?;
+                let land = tract.land();
+                self.lent.insert(number, Lent { land, old })?;
+                self.map.write_all(new);
+                self.next = next;
+                Ok(Put::Done(Image { number }))
+            }
+        }
+    }
+
+    fn restore(&mut self, image: Image) {
+        let lent = self.lent.remove(&image.number).unwrap();
+        self.map.write_all(lent.old);
+    }
+
+    fn forget(&mut self, image: Image) {
+        self.lent.remove(&image.number);
+    }
+
+    fn sheet(&self, alloc: Global, tract: &Tract) -> Result<Vec<SheetRow>, AllocError> {
+        let mut rows = Vec::new(alloc);
+        for estate in [Estate::S, Estate::O, Estate::M] {
+            add_estate(alloc, &self.map, &self.townships, estate, tract, &mut rows)?;
+        }
+        Ok(rows)
+    }
+
+    fn tidy(&mut self) {}
+}
