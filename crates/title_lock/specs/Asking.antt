@@ -52,7 +52,7 @@ abbrev pub AreSized : ℕ → List Entry → Type 0
 AreSized depth entries = All (λ x. IsLand depth x.tract) entries
 
 -- an entry is granted by modes at every node exactly where no other examiner's entry overlaps it, given that every
--- entry there was itself so granted
+-- entry there was itself so granted, and that all their sets are as large as the grid
 abbrev pub ModesDecideOverlap : ℕ → Type 0
 ModesDecideOverlap depth =
     (entries : List Entry) → AreSized depth entries → AllGranted depth entries →
