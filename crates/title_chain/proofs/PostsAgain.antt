@@ -6,7 +6,6 @@ use Rattle.std.proofs.lemmas.List.{reverse-append, take_more, take-append-drop}
 use Rattle.title_land.specs.declared.place.Township.{Township}
 use Rattle.title_land.specs.declared.tract.Land.{Land}
 use Rattle.title_store.specs.Plants.{Plant, SameContent, Refusal, refused_in, plant_effect}
-use Rattle.title_store.specs.Sheets.{sheet_of}
 use Rattle.title_store.specs.Loans.{Loan, IsTaken, IsOut}
 use Rattle.title_chain.specs.declared.ask.Ask.{Ask}
 use Rattle.title_chain.specs.declared.ask.Ask.TheVariants as ask
@@ -141,10 +140,3 @@ record_content depth declared townships p q records k x h e d same next =
     subst (λ (r : Plant). SameContent (after_steps depth townships r (reverse x.steps)) q) (same_plant _ p same)
     (subst (λ (ts : List Township). SameContent (after_steps depth ts p (reverse x.steps)) q) d next) in
     subst (λ (records : List Record). SameContent (plant_after depth townships records) q) (sym (one_more records k x h e)) here
-
--- the sheet of a plant with the same owners is the same
-pub sheet_at :
-    (depth : ℕ) (declared townships : List Township) (p q : Plant) (land : Land) →
-    declared ≡ townships → SameContent p q → sheet_of depth declared q land ≡ sheet_of depth townships p land
-sheet_at depth declared townships p q land d same =
-    let e = same_plant p q same in cc

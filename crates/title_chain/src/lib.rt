@@ -12,3 +12,6 @@ pub use ask::{Answer, Ask, Entry, Posting, Step};
 pub use chains::chain;
 pub use lists::{Entries, Records, SheetRows, Steps};
 pub use record::Record;
+
+#[cfg(test)]
+mod tests;

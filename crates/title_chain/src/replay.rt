@@ -5,11 +5,12 @@ ghost use Rattle.title_land.specs.Lands.{is_in_plant};
 ghost use Rattle.title_store.specs.Plants.{SameContent, IsEachOnce};
 ghost use Rattle.title_store.specs.Sheets.{sheet_of};
 ghost use Rattle.title_chain.specs.Asks.{effect};
-ghost use Rattle.title_chain.specs.Alone.{after_steps, plant_after, IsSerial};
+ghost use Rattle.title_chain.specs.Alone.{opening_plant, after_steps, plant_after, IsSerial};
 ghost use Rattle.title_chain.specs.Replays.{CanReplay, Replays};
 
 use crate::ask::{Answer, Ask, Step};
 use crate::lists::{Records, SheetRows};
+use crate::record::Record;
 use std::alloc::{AllocError, Global};
 use title_land::{Township, Tract};
 use title_store::{Put, Store};
@@ -45,6 +46,20 @@ fn post_all_again<S: Store>(store: &mut S, steps: &[Step]) -> Result<(), AllocEr
     Ok(())
 }
 
+// Posts again what these records posted, one record after another.
+fn post_records_again<S: Store>(store: &mut S, records: &[Record]) -> Result<(), AllocError>
+    requires none { S.out store.old ≡ [] }
+    requires opening { SameContent opening_plant (S.content store.old) }
+    requires serial { IsSerial 3 (S.declared store.old) (reverse records.now) }
+    ensures content { OnOk result (SameContent (plant_after 3 (S.declared store.old) (reverse records.now)) (S.content store.new)) }
+    ensures declared { S.declared store.new ≡ S.declared store.old }
+{
+    for record in records {
+        post_all_again(store, record.steps.as_slice())?;
+    }
+    Ok(())
+}
+
 // The sheet after these records, by any store.
 fn sheet_by_replay<S: Store + Drop>(
     alloc: Global,
@@ -58,8 +73,6 @@ fn sheet_by_replay<S: Store + Drop>(
     ensures sheet { IfOk result (λ rows. rows ≡ sheet_of 3 townships.now (plant_after 3 townships.now (reverse records.now)) tract.now) }
 {
     let mut store = S::open(alloc, townships)?;
-    for record in records.as_slice() {
-        post_all_again(&mut store, record.steps.as_slice())?;
-    }
+    post_records_again(&mut store, records.as_slice())?;
     Ok(SheetRows::new(store.sheet(alloc, tract)?))
 }

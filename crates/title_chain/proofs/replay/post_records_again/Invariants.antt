@@ -2,11 +2,11 @@
 use Rattle.std.proofs.Common.{◌≡◌, [], reverse, take}
 use Rattle.title_store.specs.Plants.{SameContent}
 use Rattle.title_chain.specs.Alone.{plant_after}
-use Rattle.title_chain.proofs.replay.sheet_by_replay.Given as goal
+use Rattle.title_chain.proofs.replay.post_records_again.Given as goal
 
 abbrev pub invariant-loop-record : goal.invariant-loop-record
 invariant-loop-record g l = record {
   none : g.S.Store.out l.store ≡ [];
-  declared : g.S.Store.declared l.store ≡ l.fn.townships;
-  content : SameContent (plant_after 3 l.fn.townships (reverse (take l.record-index l.record-items))) (g.S.Store.content l.store);
+  declared : g.S.Store.declared l.store ≡ g.S.Store.declared l.initial.store;
+  content : SameContent (plant_after 3 (g.S.Store.declared l.initial.store) (reverse (take l.record-index l.records))) (g.S.Store.content l.store);
 }

@@ -1,14 +1,13 @@
 -- Each record can be replayed in its turn, and has its effect.
 use Rattle.std.proofs.Common.{◌∙◌, reverse}
 use Rattle.title_store.specs.Plants.{SameContent}
-use Rattle.title_chain.specs.Alone.{after_steps, IsSerial}
+use Rattle.title_chain.specs.Alone.{after_steps}
 use Rattle.title_chain.proofs.PostsAgain.{can_replay_record, record_content}
-use Rattle.title_chain.proofs.replay.sheet_by_replay.Goals as goal
+use Rattle.title_chain.proofs.replay.post_records_again.Goals as goal
 
 pub post_all_again-requires-clause-replays : goal.post_all_again-requires-clause-replays
 post_all_again-requires-clause-replays g c =
-    let serial : IsSerial 3 c.args.townships.now (reverse c.as_slice-record-items.result.now) = rw c.as_slice-record-items.ensures.slice c.requires.serial in
-    rw c.as_slice.ensures.slice (can_replay_record _ _ _ _ _ _ _ c.loop-record-test.true c.record-item.is c.loop-record.invariant.declared c.loop-record.invariant.content serial)
+    rw c.as_slice.ensures.slice (can_replay_record _ _ _ _ _ _ _ c.loop-record-test.true c.record-item.is c.loop-record.invariant.declared c.loop-record.invariant.content c.requires.serial)
 
 pub loop-record-preserved : goal.loop-record-preserved
 loop-record-preserved g c =
