@@ -118,3 +118,62 @@ impl fmt::Display for Share {
         write!(f, "{above}/{below}")
     }
 }
+
+#[cfg(test)]
+mod tests {
+    use super::*;
+    use std::test::Fail;
+
+    #[test]
+    fn reads_and_prints(rt: HostRuntime) -> Result<(), Fail> {
+        for (text, units, printed) in [
+            ("1/1", 4_294_967_296, "1/1"),
+            ("2/4", 2_147_483_648, "1/2"),
+            ("3/8", 1_610_612_736, "3/8"),
+            ("6/32", 805_306_368, "3/16"),
+            ("4294967296/4294967296", 4_294_967_296, "1/1"),
+            ("1/4294967296", 1, "1/4294967296"),
+            (
+                "4294967295/4294967296",
+                4_294_967_295,
+                "4294967295/4294967296",
+            ),
+        ] {
+            let share = Share::parse(text).ok_or("a share")?;
+            assert_eq!(rt; share.units(), units, "at {text}");
+            let shown = format!(in rt.alloc(); "{share}")?;
+            assert_eq!(rt; shown.as_str(), printed, "at {text}");
+        }
+        Ok(())
+    }
+
+    #[test]
+    fn refuses_what_is_no_share(rt: HostRuntime) {
+        for text in [
+            "W1/3",
+            "1/3",
+            "01/2",
+            "1/02",
+            "0/1",
+            "3/2",
+            "1/8589934592",
+            "1",
+            "1/",
+            "/2",
+            "1/2/4",
+            "+1/2",
+            "1 /2",
+            "",
+        ] {
+            assert_eq!(rt; Share::parse(text), None, "at {text}");
+        }
+    }
+
+    #[test]
+    fn reduces(rt: HostRuntime) -> Result<(), Fail> {
+        let share = Share::parse("6/16").ok_or("a share")?;
+        assert_eq!(rt; share.fraction(), (3, 8));
+        assert_eq!(rt; Share::parse("3/8"), Some(share));
+        Ok(())
+    }
+}
