@@ -8,3 +8,6 @@ pub mod parts;
 pub use instrument::{Deed, Instrument, Release};
 pub use owners::{Effect, Owners};
 pub use parts::{Cause, Estate, Estates, Quantum, Rule};
+
+#[cfg(test)]
+mod tests;

@@ -1,0 +1,278 @@
+//! Worked instruments on one cell.
+
+use crate::{Cause, Deed, Effect, Estate, Estates, Instrument, Owners, Quantum, Release, Rule};
+use std::alloc::Global;
+use std::test::Fail;
+use title_share::{Share, WHOLE};
+
+const UNITED_STATES: u32 = 0;
+
+const ADAMS: u32 = 1;
+
+const BELL: u32 = 2;
+
+const CLARK: u32 = 3;
+
+const SURFACE: Estates = Estates {
+    s: true,
+    o: false,
+    m: false,
+};
+
+const OIL: Estates = Estates {
+    s: false,
+    o: true,
+    m: false,
+};
+
+const MINERALS: Estates = Estates {
+    s: false,
+    o: true,
+    m: true,
+};
+
+const ALL: Estates = Estates {
+    s: true,
+    o: true,
+    m: true,
+};
+
+fn whole(text: &str) -> Option<Quantum> {
+    Some(Quantum::Whole(Share::parse(text)?))
+}
+
+fn interest(text: &str) -> Option<Quantum> {
+    Some(Quantum::Interest(Share::parse(text)?))
+}
+
+// A deed that reserves shares of S, O and M, where their texts are shares.
+fn deed(
+    grantor: u32,
+    grantee: u32,
+    estates: Estates,
+    quantum: Option<Quantum>,
+    reserve: [&str; 3],
+) -> Option<Instrument> {
+    let Some(quantum) = quantum else {
+        return None;
+    };
+    let [s, o, m] = reserve;
+    Some(Instrument::Deed(Deed {
+        grantor,
+        grantee,
+        estates,
+        quantum,
+        reserve: [Share::parse(s), Share::parse(o), Share::parse(m)],
+    }))
+}
+
+fn release(from: u32, to: u32, estates: Estates) -> Option<Instrument> {
+    Some(Instrument::Release(Release { from, to, estates }))
+}
+
+// What the last of some instruments does, one after another from the opening owners.
+fn last(alloc: Global, instruments: &[Option<Instrument>]) -> Result<Effect, Fail> {
+    let mut owners = Owners::opening(alloc)?;
+    for instrument in instruments {
+        let instrument = instrument.ok_or("no instrument")?;
+        match instrument.apply_cell(alloc, &owners)? {
+            Effect::Done(after) => owners = after,
+            refused => return Ok(refused),
+        }
+    }
+    Ok(Effect::Done(owners))
+}
+
+fn refusal(effect: &Effect) -> Option<(Rule, Estate)> {
+    match effect {
+        Effect::Done(_) => None,
+        Effect::Refused(rule, estate) => Some((*rule, *estate)),
+    }
+}
+
+// The rows of an estate, none where a rule refused.
+fn rows(effect: &Effect, estate: Estate) -> &[(u32, u64)] {
+    match effect {
+        Effect::Done(owners) => owners.of(estate).rows(),
+        Effect::Refused(..) => &[],
+    }
+}
+
+#[test]
+fn a_quantum_of_the_whole_is_short(rt: HostRuntime) -> Result<(), Fail> {
+    let patent = deed(UNITED_STATES, ADAMS, OIL, whole("3/8"), ["", "", ""]);
+    let half = deed(ADAMS, BELL, OIL, whole("1/2"), ["", "", ""]);
+    let effect = last(rt.alloc(), &[patent, half])?;
+    assert_eq!(rt; refusal(&effect), Some((Rule::ShortTitle, Estate::O)));
+    Ok(())
+}
+
+#[test]
+fn an_interest_is_too_fine(rt: HostRuntime) -> Result<(), Fail> {
+    let patent = deed(UNITED_STATES, ADAMS, OIL, whole("3/8"), ["", "", ""]);
+    let unit = deed(ADAMS, BELL, OIL, interest("1/4294967296"), ["", "", ""]);
+    let effect = last(rt.alloc(), &[patent, unit])?;
+    assert_eq!(rt; refusal(&effect), Some((Rule::TooFine, Estate::O)));
+    Ok(())
+}
+
+#[test]
+fn an_interest_is_of_what_the_grantor_holds(rt: HostRuntime) -> Result<(), Fail> {
+    let patent = deed(UNITED_STATES, ADAMS, OIL, whole("3/8"), ["", "", ""]);
+    let half = deed(ADAMS, BELL, OIL, interest("1/2"), ["", "", ""]);
+    let effect = last(rt.alloc(), &[patent, half])?;
+    let oil = [
+        (UNITED_STATES, 2_684_354_560),
+        (ADAMS, 805_306_368),
+        (BELL, 805_306_368),
+    ];
+    assert_eq!(rt; rows(&effect, Estate::O), oil.as_slice());
+    assert_eq!(rt;
+        rows(&effect, Estate::S),
+        [(UNITED_STATES, WHOLE)].as_slice()
+    );
+    assert_eq!(rt;
+        rows(&effect, Estate::M),
+        [(UNITED_STATES, WHOLE)].as_slice()
+    );
+    Ok(())
+}
+
+#[test]
+fn what_is_reserved_stays(rt: HostRuntime) -> Result<(), Fail> {
+    let patent = deed(UNITED_STATES, ADAMS, ALL, whole("1/1"), ["", "1/2", "1/1"]);
+    let effect = last(rt.alloc(), &[patent])?;
+    let oil = [(UNITED_STATES, 2_147_483_648), (ADAMS, 2_147_483_648)];
+    assert_eq!(rt; rows(&effect, Estate::S), [(ADAMS, WHOLE)].as_slice());
+    assert_eq!(rt; rows(&effect, Estate::O), oil.as_slice());
+    assert_eq!(rt;
+        rows(&effect, Estate::M),
+        [(UNITED_STATES, WHOLE)].as_slice()
+    );
+    Ok(())
+}
+
+#[test]
+fn more_is_reserved_than_named(rt: HostRuntime) -> Result<(), Fail> {
+    let patent = deed(UNITED_STATES, ADAMS, ALL, whole("1/1"), ["", "1/2", "1/1"]);
+    let quarter = deed(ADAMS, BELL, SURFACE, whole("1/4"), ["1/2", "", ""]);
+    let effect = last(rt.alloc(), &[patent, quarter])?;
+    assert_eq!(rt; refusal(&effect), Some((Rule::OverReserved, Estate::S)));
+    Ok(())
+}
+
+// ADAMS has half of the oil and BELL nothing.
+fn half_of_the_oil() -> Option<Instrument> {
+    deed(UNITED_STATES, ADAMS, OIL, whole("1/2"), ["", "", ""])
+}
+
+#[test]
+fn a_reservation_is_of_the_whole(rt: HostRuntime) -> Result<(), Fail> {
+    let half = deed(ADAMS, BELL, OIL, interest("1/2"), ["", "1/2", ""]);
+    let effect = last(rt.alloc(), &[half_of_the_oil(), half])?;
+    assert_eq!(rt; refusal(&effect), Some((Rule::OverReserved, Estate::O)));
+    Ok(())
+}
+
+#[test]
+fn too_fine_before_over_reserved(rt: HostRuntime) -> Result<(), Fail> {
+    let unit = deed(ADAMS, BELL, OIL, interest("1/4294967296"), ["", "1/1", ""]);
+    let effect = last(rt.alloc(), &[half_of_the_oil(), unit])?;
+    assert_eq!(rt; refusal(&effect), Some((Rule::TooFine, Estate::O)));
+    Ok(())
+}
+
+#[test]
+fn short_title_before_too_fine(rt: HostRuntime) -> Result<(), Fail> {
+    let unit = deed(BELL, ADAMS, OIL, interest("1/4294967296"), ["", "1/1", ""]);
+    let effect = last(rt.alloc(), &[half_of_the_oil(), unit])?;
+    assert_eq!(rt; refusal(&effect), Some((Rule::ShortTitle, Estate::O)));
+    Ok(())
+}
+
+#[test]
+fn the_first_estate_that_refuses(rt: HostRuntime) -> Result<(), Fail> {
+    let half = deed(ADAMS, BELL, MINERALS, whole("1/2"), ["", "", ""]);
+    let effect = last(rt.alloc(), &[half_of_the_oil(), half])?;
+    assert_eq!(rt; refusal(&effect), Some((Rule::ShortTitle, Estate::M)));
+    Ok(())
+}
+
+#[test]
+fn nothing_passes(rt: HostRuntime) -> Result<(), Fail> {
+    let half = deed(ADAMS, BELL, OIL, whole("1/2"), ["", "1/2", ""]);
+    let effect = last(rt.alloc(), &[half_of_the_oil(), half])?;
+    let oil = [(UNITED_STATES, 2_147_483_648), (ADAMS, 2_147_483_648)];
+    assert_eq!(rt; rows(&effect, Estate::O), oil.as_slice());
+    Ok(())
+}
+
+#[test]
+fn a_unit_passes(rt: HostRuntime) -> Result<(), Fail> {
+    let unit = deed(
+        UNITED_STATES,
+        BELL,
+        SURFACE,
+        interest("1/4294967296"),
+        ["", "", ""],
+    );
+    let effect = last(rt.alloc(), &[half_of_the_oil(), unit])?;
+    let surface = [(UNITED_STATES, 4_294_967_295), (BELL, 1)];
+    assert_eq!(rt; rows(&effect, Estate::S), surface.as_slice());
+    Ok(())
+}
+
+#[test]
+fn releases(rt: HostRuntime) -> Result<(), Fail> {
+    let patent = deed(UNITED_STATES, ADAMS, SURFACE, whole("1/1"), ["", "", ""]);
+    let all = release(ADAMS, BELL, SURFACE);
+    let none = release(CLARK, ADAMS, SURFACE);
+    let effect = last(rt.alloc(), &[patent, all, none])?;
+    assert_eq!(rt; rows(&effect, Estate::S), [(BELL, WHOLE)].as_slice());
+    Ok(())
+}
+
+#[test]
+fn copies_are_the_same(rt: HostRuntime) -> Result<(), Fail> {
+    let owners = Owners::opening(rt.alloc())?;
+    let copy = owners.copy(rt.alloc())?;
+    assert!(rt; copy.same(&owners));
+    Ok(())
+}
+
+#[test]
+fn causes_in_their_order(rt: HostRuntime) -> Result<(), Fail> {
+    let none = Estates {
+        s: false,
+        o: false,
+        m: false,
+    };
+    let stray = deed(ADAMS, BELL, SURFACE, whole("1/1"), ["", "1/2", ""]);
+    for (instrument, parties, answer) in [
+        (release(ADAMS, BELL, SURFACE), 3, Ok(())),
+        (release(ADAMS, ADAMS, none), 1, Err(Cause::Party)),
+        (release(ADAMS, ADAMS, none), 2, Err(Cause::SameParty)),
+        (release(ADAMS, BELL, none), 3, Err(Cause::NoEstate)),
+        (stray, 3, Err(Cause::Reservation)),
+    ] {
+        let instrument = instrument.ok_or("no instrument")?;
+        assert_eq!(rt; instrument.check(parties), answer);
+    }
+    Ok(())
+}
+
+#[test]
+fn numbers_and_letters(rt: HostRuntime) -> Result<(), Fail> {
+    let rules = [Rule::ShortTitle, Rule::TooFine, Rule::OverReserved];
+    assert_eq!(rt; rules.map(Rule::number), [11, 12, 13]);
+    let causes = [
+        Cause::Party,
+        Cause::SameParty,
+        Cause::NoEstate,
+        Cause::Reservation,
+    ];
+    assert_eq!(rt; causes.map(Cause::number), [1, 2, 3, 4]);
+    let text = format!(in rt.alloc(); "{ALL} {MINERALS} {}", Estate::S)?;
+    assert_eq!(rt; text.as_str(), "SOM OM S");
+    Ok(())
+}
