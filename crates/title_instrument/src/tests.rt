@@ -13,6 +13,9 @@ const BELL: u32 = 2;
 
 const CLARK: u32 = 3;
 
+// The share of a unit.
+const UNIT: &str = "1/4294967296";
+
 const SURFACE: Estates = Estates {
     s: true,
     o: false,
@@ -99,20 +102,16 @@ fn rows(effect: &Effect, estate: Estate) -> &[(u32, u64)] {
 }
 
 #[test]
-fn a_quantum_of_the_whole_is_short(rt: HostRuntime) -> Result<(), Fail> {
-    let patent = deed(UNITED_STATES, ADAMS, OIL, whole("3/8"), ["", "", ""]);
-    let half = deed(ADAMS, BELL, OIL, whole("1/2"), ["", "", ""]);
-    let effect = last(rt.alloc(), &[patent, half])?;
-    assert_eq!(rt; refusal(&effect), Some((Rule::ShortTitle, Estate::O)));
-    Ok(())
-}
-
-#[test]
-fn an_interest_is_too_fine(rt: HostRuntime) -> Result<(), Fail> {
-    let patent = deed(UNITED_STATES, ADAMS, OIL, whole("3/8"), ["", "", ""]);
-    let unit = deed(ADAMS, BELL, OIL, interest("1/4294967296"), ["", "", ""]);
-    let effect = last(rt.alloc(), &[patent, unit])?;
-    assert_eq!(rt; refusal(&effect), Some((Rule::TooFine, Estate::O)));
+fn a_quantum_short_and_an_interest_too_fine(rt: HostRuntime) -> Result<(), Fail> {
+    for (quantum, rule) in [
+        (whole("1/2"), Rule::ShortTitle),
+        (interest(UNIT), Rule::TooFine),
+    ] {
+        let patent = deed(UNITED_STATES, ADAMS, OIL, whole("3/8"), ["", "", ""]);
+        let next = deed(ADAMS, BELL, OIL, quantum, ["", "", ""]);
+        let effect = last(rt.alloc(), &[patent, next])?;
+        assert_eq!(rt; refusal(&effect), Some((rule, Estate::O)));
+    }
     Ok(())
 }
 
@@ -167,34 +166,28 @@ fn half_of_the_oil() -> Option<Instrument> {
 }
 
 #[test]
-fn a_reservation_is_of_the_whole(rt: HostRuntime) -> Result<(), Fail> {
-    let half = deed(ADAMS, BELL, OIL, interest("1/2"), ["", "1/2", ""]);
-    let effect = last(rt.alloc(), &[half_of_the_oil(), half])?;
-    assert_eq!(rt; refusal(&effect), Some((Rule::OverReserved, Estate::O)));
-    Ok(())
-}
-
-#[test]
-fn too_fine_before_over_reserved(rt: HostRuntime) -> Result<(), Fail> {
-    let unit = deed(ADAMS, BELL, OIL, interest("1/4294967296"), ["", "1/1", ""]);
-    let effect = last(rt.alloc(), &[half_of_the_oil(), unit])?;
-    assert_eq!(rt; refusal(&effect), Some((Rule::TooFine, Estate::O)));
-    Ok(())
-}
-
-#[test]
-fn short_title_before_too_fine(rt: HostRuntime) -> Result<(), Fail> {
-    let unit = deed(BELL, ADAMS, OIL, interest("1/4294967296"), ["", "1/1", ""]);
-    let effect = last(rt.alloc(), &[half_of_the_oil(), unit])?;
-    assert_eq!(rt; refusal(&effect), Some((Rule::ShortTitle, Estate::O)));
-    Ok(())
-}
-
-#[test]
-fn the_first_estate_that_refuses(rt: HostRuntime) -> Result<(), Fail> {
-    let half = deed(ADAMS, BELL, MINERALS, whole("1/2"), ["", "", ""]);
-    let effect = last(rt.alloc(), &[half_of_the_oil(), half])?;
-    assert_eq!(rt; refusal(&effect), Some((Rule::ShortTitle, Estate::M)));
+fn the_first_rule_at_the_first_estate(rt: HostRuntime) -> Result<(), Fail> {
+    for (deed, refused) in [
+        (
+            deed(ADAMS, BELL, OIL, interest("1/2"), ["", "1/2", ""]),
+            Some((Rule::OverReserved, Estate::O)),
+        ),
+        (
+            deed(ADAMS, BELL, OIL, interest(UNIT), ["", "1/1", ""]),
+            Some((Rule::TooFine, Estate::O)),
+        ),
+        (
+            deed(BELL, ADAMS, OIL, interest(UNIT), ["", "1/1", ""]),
+            Some((Rule::ShortTitle, Estate::O)),
+        ),
+        (
+            deed(ADAMS, BELL, MINERALS, whole("1/2"), ["", "", ""]),
+            Some((Rule::ShortTitle, Estate::M)),
+        ),
+    ] {
+        let effect = last(rt.alloc(), &[half_of_the_oil(), deed])?;
+        assert_eq!(rt; refusal(&effect), refused);
+    }
     Ok(())
 }
 
@@ -209,13 +202,7 @@ fn nothing_passes(rt: HostRuntime) -> Result<(), Fail> {
 
 #[test]
 fn a_unit_passes(rt: HostRuntime) -> Result<(), Fail> {
-    let unit = deed(
-        UNITED_STATES,
-        BELL,
-        SURFACE,
-        interest("1/4294967296"),
-        ["", "", ""],
-    );
+    let unit = deed(UNITED_STATES, BELL, SURFACE, interest(UNIT), ["", "", ""]);
     let effect = last(rt.alloc(), &[half_of_the_oil(), unit])?;
     let surface = [(UNITED_STATES, 4_294_967_295), (BELL, 1)];
     assert_eq!(rt; rows(&effect, Estate::S), surface.as_slice());
