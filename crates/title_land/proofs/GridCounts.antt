@@ -1,7 +1,7 @@
 -- The cells of a set, counted by rows and columns.
 use Rattle.std.proofs.Common.{◌≡◌, ℕ, suc, ◌+◌, Bool, false, List, [], ◌∷◌, Option, Some, length, take, ◌≤◌, cond, sum_by, count_by, refl, sym, ap, ◌∙◌, arith}
 use Rattle.std.specs.Prelude.{slice_get, option_and_then, unwrap_or}
-use Rattle.std.specs.List.{fold, range_with_len, All}
+use Rattle.std.specs.List.{fold, range_with_len}
 use Rattle.std.proofs.lemmas.Option.{slice_get_within, get_or_from_slice_get}
 use Rattle.std.proofs.lemmas.List.{take_all}
 use Rattle.std.proofs.lemmas.List.Elements.{All-get_or}
@@ -16,18 +16,22 @@ fold_same f h (x ∷ xs) a start e =
     let first : f x ≡ h start = e 0 x refl ∙ ap h (omega arith) in
     rw first (fold_same f h xs (a + h start) (start + 1) (λ i y k. e (suc i) y k ∙ ap h (omega arith)))
 
+-- the same from 0 on
 sum_same : {X : Type 0} (f : X → ℕ) (h : ℕ → ℕ) (xs : List X) (n : ℕ) → length xs ≡ n → ((i : ℕ) (x : X) → slice_get xs i ≡ Some x → f x ≡ h i) → sum_by f xs ≡ sum_by h (range_with_len 0 n)
 sum_same f h xs n long e = fold_same f h xs 0 0 (λ i x k. e i x k ∙ ap h (omega arith)) ∙ ap (λ (m : ℕ). sum_by h (range_with_len 0 m)) long
 
+-- a row's cell is that of the set
 cell_is : (g : Grid) (row column : ℕ) (cells : List Bool) (cell : Bool) → slice_get g.rows row ≡ Some cells → slice_get cells column ≡ Some cell → cell ≡ grid_has g row column
 cell_is g row column cells cell h k =
     sym (ap (λ (m : Option (List Bool)). unwrap_or (option_and_then (λ row. slice_get row column) m) false) h ∙ ap (λ (m : Option Bool). unwrap_or m false) k)
 
+-- a row's count is that of its places
 row_is : (depth : ℕ) (g : Grid) (row : ℕ) (cells : List Bool) → slice_get g.rows row ≡ Some cells → length cells ≡ side depth → row_count cells ≡ count_by (λ column. grid_has g row column) (places depth)
 row_is depth g row cells h long =
     sum_same (λ cell. cond cell 1 0) (λ column. cond (grid_has g row column) 1 0) cells (side depth) long
     (λ column cell k. ap (λ (b : Bool). cond b 1 0) (cell_is g row column cells cell h k))
 
+-- a row is as long as the section's side
 row_long : (depth : ℕ) (g : Grid) (row : ℕ) (cells : List Bool) → IsGrid depth g → slice_get g.rows row ≡ Some cells → length cells ≡ side depth
 row_long depth g row cells size h =
     let inside = slice_get_within g.rows row cells h in

@@ -1,5 +1,5 @@
 -- Sets of cells made from a test, and a rectangle added to a set.
-use Rattle.std.proofs.Common.{◌≡◌, ℕ, ◌+◌, ◌<◌, ◌≤◌, Bool, true, false, ◌&&◌, ◌||◌, List, Option, Some, None, map, length, nat_lt, refl, sym, ap, ◌∙◌, arith}
+use Rattle.std.proofs.Common.{◌≡◌, ℕ, ◌<◌, ◌≤◌, Bool, true, false, ◌&&◌, ◌||◌, List, Option, Some, None, map, length, nat_lt, refl, ap, ◌∙◌, arith}
 use Rattle.std.specs.Prelude.{slice_get, option_and_then, unwrap_or}
 use Rattle.std.specs.List.{range_with_len}
 use Rattle.std.proofs.lemmas.Bool.Decides.{nat_tests}
@@ -38,6 +38,7 @@ unfolding grid_of
 grid_of-rows depth test row column r =
     ap (λ (cells : Option (List Bool)). row_get cells column) (made_past (λ row. map (λ column. test row column) (places depth)) (side depth) row r)
 
+-- nor past the last column
 pub grid_of-columns : (depth : ℕ) (test : ℕ → ℕ → Bool) (row column : ℕ) → row < side depth → side depth ≤ column → grid_has (grid_of depth test) row column ≡ false
 unfolding grid_of
 grid_of-columns depth test row column r c =
@@ -58,6 +59,7 @@ on_side depth row column = nat_lt row (side depth) && nat_lt column (side depth)
 pub grid_has-everywhere : (depth : ℕ) (test : ℕ → ℕ → Bool) (row column : ℕ) → grid_has (grid_of depth test) row column ≡ (on_side depth row column && test row column)
 grid_has-everywhere depth test row column = grind (arith, nat_tests, grid_has-grid_of, grid_of-rows, grid_of-columns)
 
+-- the same of a set that equals it
 pub adds_rectangle : (depth : ℕ) (g h : Grid) (r : Rectangle) → h ≡ with_rectangle depth g r → AddsRectangle depth g r h
 adds_rectangle depth g h r e row column in_rows in_columns =
     ap (λ (x : Grid). grid_has x row column) e ∙ grid_has-with_rectangle depth g r row column in_rows in_columns
@@ -66,6 +68,7 @@ adds_rectangle depth g h r e row column in_rows in_columns =
 abbrev pub StaysOnGrid : ℕ → Grid → Type 0
 StaysOnGrid depth g = (row column : ℕ) → on_side depth row column ≡ false → grid_has g row column ≡ false
 
+-- a set with a rectangle's cells added has none
 pub with_rectangle-stays : (depth : ℕ) (g : Grid) (r : Rectangle) → StaysOnGrid depth (with_rectangle depth g r)
 unfolding with_rectangle
 with_rectangle-stays depth g r row column off =
@@ -75,6 +78,7 @@ with_rectangle-stays depth g r row column off =
 inside_holds : (depth : ℕ) (r : Rectangle) (row column : ℕ) → InSection depth r → on_side depth row column ≡ false → holds r row column ≡ false
 inside_holds depth r row column inside off = grind (arith, nat_tests)
 
+-- a test of the grid may be left out where both others imply it
 both_off : (a b on : Bool) → (on ≡ false → a ≡ false) → (on ≡ false → b ≡ false) → (on && (a || b)) ≡ (a || b)
 both_off a b true f g = refl
 both_off a b false f g = rw (f refl, g refl) refl

@@ -1,8 +1,8 @@
 -- Two sets of cells meet exactly where they share a cell.
-use Rattle.std.proofs.Common.{◌≡◌, ℕ, zero, suc, ◌<◌, Bool, true, false, ◌&&◌, ◌||◌, inl, inr, List, [], ◌∷◌, Option, Some, None, length, refl, sym, ap, ◌∙◌, arith}
+use Rattle.std.proofs.Common.{◌≡◌, ℕ, zero, suc, ◌<◌, Bool, true, false, ◌&&◌, inl, inr, List, [], ◌∷◌, Option, Some, None, length, refl, sym, ap, ◌∙◌, arith}
 use Rattle.std.specs.Prelude.{slice_get, option_and_then, unwrap_or}
-use Rattle.std.specs.List.{list_any, zip, All}
-use Rattle.std.proofs.lemmas.Bool.{and_parts, and_from, or_cases, or_left, or_right}
+use Rattle.std.specs.List.{list_any, zip}
+use Rattle.std.proofs.lemmas.Bool.{and_parts, or_cases, or_left, or_right}
 use Rattle.std.proofs.lemmas.Option.{slice_get_within, get_or_from_slice_get}
 use Rattle.std.proofs.lemmas.List.Elements.{All-get_or}
 use Rattle.title_land.specs.declared.grid.Grid.{Grid}
@@ -18,9 +18,11 @@ record Pair {X Y : Type 0} (f : X → Y → Bool) (xs : List X) (ys : List Y) : 
   right_at : slice_get ys place ≡ Some right
   holds : f left right ≡ true
 
+-- a pair of two tails is one of the lists
 pair_later : {X Y : Type 0} (f : X → Y → Bool) (x : X) (y : Y) (xs : List X) (ys : List Y) → Pair f xs ys → Pair f (x ∷ xs) (y ∷ ys)
 pair_later f x y xs ys p = record { place = suc p.place; left = p.left; right = p.right; left_at = p.left_at; right_at = p.right_at; holds = p.holds }
 
+-- a test that holds of some pair of two lists holds at a place of both
 pair_found : {X Y : Type 0} (f : X → Y → Bool) (xs : List X) (ys : List Y) → list_any (λ p. f p.0 p.1) (zip xs ys) ≡ true → Pair f xs ys
 pair_found f [] ys h = absurd cc
 pair_found f (x ∷ xs) [] h = absurd cc
@@ -29,6 +31,7 @@ pair_found f (x ∷ xs) (y ∷ ys) h = elim (or_cases (f x y) (list_any (λ p. f
   | inr e ↦ pair_later f x y xs ys (pair_found f xs ys e)
 ]
 
+-- and the other way
 pair_from : {X Y : Type 0} (f : X → Y → Bool) (xs : List X) (ys : List Y) (i : ℕ) (x : X) (y : Y) → slice_get xs i ≡ Some x → slice_get ys i ≡ Some y → f x y ≡ true → list_any (λ p. f p.0 p.1) (zip xs ys) ≡ true
 pair_from f [] ys i x y h k t = absurd cc
 pair_from f (a ∷ xs) [] i x y h k t = absurd cc
@@ -46,6 +49,7 @@ record One {X : Type 0} (f : X → Bool) (xs : List X) : Type 0 where
   value_at : slice_get xs place ≡ Some value
   holds : f value ≡ true
 
+-- a test that holds of some element holds at a place
 one_found : {X : Type 0} (f : X → Bool) (xs : List X) → list_any f xs ≡ true → One f xs
 one_found f [] h = absurd cc
 one_found f (x ∷ xs) h = elim (or_cases (f x) (list_any f xs) h) [
@@ -53,11 +57,13 @@ one_found f (x ∷ xs) h = elim (or_cases (f x) (list_any f xs) h) [
   | inr e ↦ let k = one_found f xs e in record { place = suc k.place; value = k.value; value_at = k.value_at; holds = k.holds }
 ]
 
+-- and the other way
 one_from : {X : Type 0} (f : X → Bool) (xs : List X) (i : ℕ) (x : X) → slice_get xs i ≡ Some x → f x ≡ true → list_any f xs ≡ true
 one_from f [] i x h t = absurd cc
 one_from f (a ∷ xs) zero x h t = let e : a ≡ x = cc in or_left (f a) (list_any f xs) (rw e t)
 one_from f (a ∷ xs) (suc i) x h t = or_right (f a) (list_any f xs) (one_from f xs i x h t)
 
+-- a cell that reads true is there
 cell_of : (m : Option Bool) → unwrap_or m false ≡ true → m ≡ Some true
 cell_of None h = absurd cc
 cell_of (Some b) h = ap (λ (x : Bool). Some x) h
@@ -65,6 +71,7 @@ cell_of (Some b) h = ap (λ (x : Bool). Some x) h
 abbrev cell_in : Option (List Bool) → ℕ → Bool
 cell_in m column = unwrap_or (option_and_then (λ cells. slice_get cells column) m) false
 
+-- and so is its row
 row_of : (m : Option (List Bool)) (column : ℕ) → cell_in m column ≡ true → (cells : List Bool) × (m ≡ Some cells) × (slice_get cells column ≡ Some true)
 row_of None column h = absurd cc
 row_of (Some cells) column h = (cells, refl, cell_of (slice_get cells column) h)
@@ -73,6 +80,7 @@ row_of (Some cells) column h = (cells, refl, cell_of (slice_get cells column) h)
 has_parts : (g : Grid) (row column : ℕ) → grid_has g row column ≡ true → (cells : List Bool) × (slice_get g.rows row ≡ Some cells) × (slice_get cells column ≡ Some true)
 has_parts g row column h = row_of (slice_get g.rows row) column h
 
+-- and the other way
 has_from : (g : Grid) (row column : ℕ) (cells : List Bool) (cell : Bool) → slice_get g.rows row ≡ Some cells → slice_get cells column ≡ Some cell → cell ≡ true → grid_has g row column ≡ true
 has_from g row column cells cell h k t = ap (λ (m : Option (List Bool)). cell_in m column) h ∙ ap (λ (m : Option Bool). unwrap_or m false) k ∙ t
 
@@ -98,6 +106,7 @@ some_found g m =
     let cells = one_found (λ cell. cell) rows.value rows.holds in
     (rows.place, cells.place, has_from g _ _ _ _ rows.value_at cells.value_at cells.holds)
 
+-- and the other way
 pub some_from : (g : Grid) (row column : ℕ) → grid_has g row column ≡ true → has_some g ≡ true
 some_from g row column a =
     let p = has_parts g row column a in

@@ -1,5 +1,5 @@
 -- Tests at each number of a range.
-use Rattle.std.proofs.Common.{◌≡◌, ℕ, zero, suc, ◌+◌, ◌-◌, ◌<◌, ◌≤◌, Bool, true, false, ◌&&◌, refl, sym, ap, ◌∙◌, arith}
+use Rattle.std.proofs.Common.{◌≡◌, ℕ, suc, ◌+◌, ◌-◌, ◌<◌, ◌≤◌, Bool, true, false, ◌&&◌, refl, ◌∙◌, arith}
 use Rattle.title_land.specs.Grids.{range_all}
 
 pub range_all_step : (test : ℕ → Bool) (start end : ℕ) → start < end → range_all test start (end - start) ≡ (test start && range_all test (start + 1) (end - (start + 1)))

@@ -1,5 +1,5 @@
 -- Two tracts meet exactly where they share a cell.
-use Rattle.std.proofs.Common.{◌≡◌, ◌↔◌, ℕ, ◌<◌, Bool, true, false, ◌&&◌, refl, sym, ap, ◌∙◌, arith}
+use Rattle.std.proofs.Common.{◌≡◌, ◌↔◌, ℕ, ◌<◌, Bool, true, ◌&&◌, refl}
 use Rattle.std.specs.Prelude.{nat_lt}
 use Rattle.std.proofs.lemmas.Bool.{and_parts, and_from, lt-ltb}
 use Rattle.title_land.specs.declared.place.Township.{Township}
@@ -25,12 +25,15 @@ record Common (a b : Land) : Type 0 where
   in_b : has b cell ≡ true
   on_grid : (depth : ℕ) → IsLand depth a → IsLand depth b → is_on_grid depth cell ≡ true
 
+-- the same cell, the lands turned
 turned : (a b : Land) → Common a b → Common b a
 turned a b c = record { cell = c.cell; in_a = c.in_b; in_b = c.in_a; on_grid = λ depth h k. c.on_grid depth k h }
 
+-- a place on the grid
 stands : (depth row column : ℕ) → row < side depth → column < side depth → (nat_lt row (side depth) && nat_lt column (side depth)) ≡ true
 stands depth row column h k = and_from (nat_lt row (side depth)) (nat_lt column (side depth)) (lt-ltb row (side depth) h) (lt-ltb column (side depth) k)
 
+-- a section's northwest cell stands on the grid
 corner : (depth : ℕ) (s : Section) → is_on_grid depth (cell_at s 0 0) ≡ true
 corner depth s = stands depth 0 0 (pow_positive depth) (pow_positive depth)
 
@@ -38,6 +41,7 @@ corner depth s = stands depth 0 0 (pow_positive depth) (pow_positive depth)
 abbrev first_cell : Township → Cell
 first_cell t = cell_at (first_section t) 0 0
 
+-- tests of townships and sections are the same either way
 same_township_turned : (t u : Township) → same_township t u ≡ true → same_township u t ≡ true
 same_township_turned t u h = let e = same_township-is t u h in rw e (same_township-self u)
 
@@ -56,6 +60,7 @@ part_everything s g h =
       on_grid = λ depth a b. let p = grid_places depth g k.0 k.1 a k.2 in stands depth k.0 k.1 p.0 p.1;
     }
 
+-- with the cell's township
 part_township : (s : Section) (g : Grid) (t : Township) → (same_township s.township t && has_some g) ≡ true → Common (land.Part s g) (land.Township t)
 unfolding has
 part_township s g t h =
@@ -68,6 +73,7 @@ part_township s g t h =
       on_grid = λ depth a b. let p = grid_places depth g k.0 k.1 a k.2 in stands depth k.0 k.1 p.0 p.1;
     }
 
+-- with a set of the same section
 part_part : (s u : Section) (g h : Grid) → (same_section s u && grids_meet g h) ≡ true → Common (land.Part s g) (land.Part u h)
 unfolding has
 part_part s u g h m =
@@ -127,6 +133,7 @@ common_meets (land.Part s g) (land.Part u h) c x y =
     let f = same_section-is u c.section m.0 in
     and_from (same_section s u) (grids_meet g h) (rw (e, f) (same_section-self c.section)) (grids_from g h c.row c.column k.1 m.1)
 
+-- lands that meet do so the other way too
 meets_turned : (a b : Land) → meets a b ≡ true → meets b a ≡ true
 meets_turned a b h = let c = common_cell a b h in common_meets b a c.cell c.in_b c.in_a
 

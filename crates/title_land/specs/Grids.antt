@@ -1,5 +1,5 @@
 -- Sets of a section's cells.
-use Rattle.std.specs.Prelude.{◌≡◌, ◌<◌, ℕ, zero, suc, ◌+◌, Bool, true, false, ◌&&◌, ◌||◌, List, [], ◌∷◌, map, length, nat_lt, slice_get, unwrap_or, option_and_then, sum_by, count_by}
+use Rattle.std.specs.Prelude.{◌≡◌, ◌<◌, ℕ, zero, suc, ◌+◌, Bool, true, false, ◌&&◌, ◌||◌, List, map, length, slice_get, unwrap_or, option_and_then, sum_by, count_by}
 use Rattle.std.specs.List.{list_any, range_with_len, zip, All}
 use Rattle.title_land.specs.Places.{side}
 use Rattle.title_land.specs.Rectangles.{holds}

@@ -3,7 +3,6 @@ use Rattle.std.specs.Prelude.{◌≡◌, ℕ, Bool, true, false, ◌&&◌, List,
 use Rattle.std.specs.List.{list_any}
 use Rattle.title_land.specs.declared.place.Township.{Township}
 use Rattle.title_land.specs.declared.place.Cell.{Cell}
-use Rattle.title_land.specs.declared.grid.Grid.{Grid}
 use Rattle.title_land.specs.declared.node.Node.{Node}
 use Rattle.title_land.specs.declared.node.Node.TheVariants as node
 use Rattle.title_land.specs.declared.tract.Land.{Land}

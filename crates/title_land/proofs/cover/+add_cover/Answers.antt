@@ -1,11 +1,12 @@
-use Rattle.std.proofs.Common.{◌≡◌, ◌∙◌, ◌++◌, ◌∷◌, ◌-◌, [], List, map, ap, sym, arith, refl}
+-- What a square adds to the cover: itself, nothing, or what its quarters add.
+use Rattle.std.proofs.Common.{◌∙◌, ◌++◌, ◌∷◌, [], List, map, ap, sym}
 use Rattle.title_land.specs.declared.rectangle.Quarter.{Quarter}
 use Rattle.title_land.specs.declared.rectangle.Rectangle.{Rectangle}
 use Rattle.title_land.specs.declared.node.Node.{Node}
 use Rattle.std.proofs.lemmas.List.{append-nil}
-use Rattle.title_land.specs.Covers.{cover_below, node_at}
+use Rattle.title_land.specs.Covers.{node_at}
 use Rattle.title_land.specs.Grids.{grid_has, fills}
-use Rattle.title_land.specs.Nodes.{path, square}
+use Rattle.title_land.specs.Nodes.{path}
 use Rattle.title_land.proofs.CoverLaws.{cover_filled, cover_cell, cover_split, four, map_four, node_at-path}
 use Rattle.title_land.proofs.cover.+add_cover.Goals as goal
 

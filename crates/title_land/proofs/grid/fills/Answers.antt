@@ -1,4 +1,5 @@
-use Rattle.std.proofs.Common.{◌≡◌, ◌∙◌, sym}
+-- The next row.
+use Rattle.std.proofs.Common.{◌∙◌, sym}
 use Rattle.title_land.proofs.Ranges.{range_all_next}
 use Rattle.title_land.proofs.grid.fills.Goals as goal
 

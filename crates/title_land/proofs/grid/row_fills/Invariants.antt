@@ -1,4 +1,5 @@
-use Rattle.std.proofs.Common.{◌≡◌, ℕ, ◌+◌, ◌-◌}
+-- The cells of a row that are left to look at.
+use Rattle.std.proofs.Common.{◌≡◌, ◌-◌}
 use Rattle.title_land.specs.Grids.{row_fills, range_all, grid_has}
 use Rattle.title_land.proofs.grid.row_fills.Given as goal
 

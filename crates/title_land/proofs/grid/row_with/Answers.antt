@@ -1,3 +1,4 @@
+-- A row is made of all its cells.
 use Rattle.std.proofs.Common.{◌||◌, false, rules}
 use Rattle.std.proofs.lemmas.List.FromFn.{fill_by_all}
 use Rattle.title_land.specs.Grids.{grid_has}

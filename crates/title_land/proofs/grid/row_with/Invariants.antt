@@ -1,3 +1,4 @@
+-- The cells of a row made so far.
 use Rattle.std.proofs.Common.{◌≡◌, ℕ, ◌<◌, ◌||◌, length, get_or, false}
 use Rattle.title_land.specs.Grids.{grid_has}
 use Rattle.title_land.specs.Rectangles.{holds}

@@ -1,4 +1,5 @@
-use Rattle.std.proofs.Common.{◌≡◌, ◌∙◌, ◌||◌, ℕ, map, List, Bool, [], ap, rules}
+-- A set is made of all its rows.
+use Rattle.std.proofs.Common.{◌||◌, map, List, Bool, [], ap, rules}
 use Rattle.std.proofs.lemmas.List.FromFn.{fill_by_all}
 use Rattle.title_land.specs.declared.grid.Grid.{Grid}
 use Rattle.title_land.specs.Grids.{grid_has, places, with_rectangle, grid_of}

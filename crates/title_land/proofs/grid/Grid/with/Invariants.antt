@@ -1,3 +1,4 @@
+-- The rows of a set made so far.
 use Rattle.std.proofs.Common.{◌≡◌, ℕ, ◌<◌, ◌||◌, length, get_or, [], map}
 use Rattle.title_land.specs.Grids.{grid_has, places}
 use Rattle.title_land.specs.Rectangles.{holds}
