@@ -1,8 +1,8 @@
 -- A land's cover is exactly the nodes whose cells all lie in the land and whose parent's don't, in order.
-use Rattle.std.proofs.Common.{◌≡◌, ℕ, suc, ◌+◌, ◌-◌, ◌≤◌, Bool, true, false, not, ◌&&◌, ◌||◌, inl, inr, List, ◌∷◌, length, Some, refl, sym, ap, subst, ◌∙◌, arith, lit≤}
-use Rattle.std.specs.Prelude.{nat_lt}
-use Rattle.std.specs.List.{list_any}
-use Rattle.std.proofs.lemmas.Bool.{and_parts, and_from, or_cases, both_ways, lt-ltb}
+use Rattle.std.proofs.Common.{cond, ◌≡◌, ℕ, suc, ◌+◌, ◌-◌, ◌≤◌, Bool, true, false, not, ◌&&◌, ◌||◌, inl, inr, List, [], ◌∷◌, length, Some, refl, sym, ap, subst, ◌∙◌, arith, lit≤}
+use Rattle.std.specs.Prelude.{is_some, nat_lt}
+use Rattle.std.specs.List.{list_any, find}
+use Rattle.std.proofs.lemmas.Bool.{false_from_ne_true, cases_Bool, and_parts, and_from, or_cases, both_ways, lt-ltb}
 use Rattle.title_land.specs.declared.place.Township.{Township}
 use Rattle.title_land.specs.declared.place.Section.{Section}
 use Rattle.title_land.specs.declared.place.Cell.{Cell}
@@ -18,14 +18,15 @@ use Rattle.title_land.specs.Rectangles.{holds}
 use Rattle.title_land.specs.Nodes.{path, within_at, square, node_has, same_node, is_above, above, parent_of, parent_in}
 use Rattle.title_land.specs.Grids.{grid_has, fills}
 use Rattle.title_land.specs.Lands.{has, cover_of}
-use Rattle.title_land.specs.CoverSets.{LiesIn, IsCoverNode, IsCover, are_in_order}
+use Rattle.title_land.specs.NodeLaws.{AboveByParent}
+use Rattle.title_land.specs.CoverSets.{CoverNodesLieApart, CoverFindsTheNode, LiesIn, IsCoverNode, IsCover, are_in_order}
 use Rattle.title_land.proofs.SameLand.{same_township-is, same_township-self, same_section-is, same_section-self}
 use Rattle.title_land.proofs.Squares.{Inside, holds_from, sized, pow_positive}
 use Rattle.title_land.proofs.Members.{In, any_found, any_from}
 use Rattle.title_land.proofs.Filling.{fills_from}
 use Rattle.title_land.proofs.CoverOrder.{section_in_order}
 use Rattle.title_land.proofs.NodeSharing.{path-within_at, equal_from_same, same_from_equal, in_from_above, above_from_in, above_has_the_cells, related_from_cell, cell_of, cell_at, first_section}
-use Rattle.title_land.proofs.LandSharing.{Part, part_found, cover_has, cover_has_each}
+use Rattle.title_land.proofs.LandSharing.{cover_has_its_cells_3, Part, part_found, cover_has, cover_has_each}
 
 -- what lies above a node is its parent and what lies above that
 above_parent : (n p : Node) → parent_of n ≡ Some p → above n ≡ p ∷ above p
@@ -164,3 +165,36 @@ is_listed x n k = any_from (same_node n) (cover_of 3 x) n (cover_listed 3 (lit�
 -- the list of the computing definition is the cover
 pub cover_is_cover : (x : Land) → IsCover 3 x (cover_of 3 x)
 cover_is_cover x = record { members = λ n. (listed_is x n, is_listed x n); order = cover_in_order 3 (lit≤ tt) x }
+
+-- above a node lie its parent and what lies above that
+pub above_by_parent : AboveByParent
+above_by_parent = (refl, above_parent)
+
+-- no node of a cover lies above another
+pub cover_nodes_apart_3 : CoverNodesLieApart 3
+cover_nodes_apart_3 x m n h k = false_from_ne_true (is_above m n) (λ e.
+    let i = in_from_above m n e in
+    let p = has_parent n m i in
+    let lies = (listed_is x m h).lies_in in
+    (listed_is x n k).parent_does_not p.0 p.1 (λ c o f. lies c o (above_parent_has 3 n m p.0 c i p.1 f)))
+
+found_passes : {X : Type 0} (p : X → Bool) (xs : List X) (x : X) → find p xs ≡ Some x → p x ≡ true
+found_passes p [] x e = absurd cc
+found_passes p (y ∷ xs) x e = elim (cases_Bool (p y)) [
+  | inl f ↦ let g = rw f at e in let h : y ≡ x = cc in sym (ap p h) ∙ f
+  | inr f ↦ found_passes p xs x (rw f at e)
+]
+
+found_any : {X : Type 0} (p : X → Bool) (xs : List X) → is_some (find p xs) ≡ list_any p xs
+found_any p [] = refl
+found_any p (x ∷ xs) = elim (p x) as (λ b. is_some (cond b (Some x) (find p xs)) ≡ (b || list_any p xs)) [
+  | true ↦ refl
+  | false ↦ found_any p xs
+]
+
+-- the node that the cover gives a cell
+pub cover_finds_3 : CoverFindsTheNode 3
+cover_finds_3 x c o = (
+  found_any (λ (n : Node). node_has 3 n c) (cover_of 3 x) ∙ sym (cover_has_its_cells_3 x c o),
+  λ n e. found_passes (λ (m : Node). node_has 3 m c) (cover_of 3 x) n e,
+)

@@ -1,5 +1,5 @@
 -- The cover of a set of cells, as a set of nodes, and its laws.
-use Rattle.std.specs.Prelude.{◌≡◌, ℕ, Bool, true, false, ◌&&◌, ◌||◌, ◌↔◌, List, [], ◌∷◌, Some, reverse}
+use Rattle.std.specs.Prelude.{◌≡◌, ℕ, Bool, true, false, ◌&&◌, ◌||◌, ◌↔◌, List, [], ◌∷◌, Some, reverse, is_some, find}
 use Rattle.std.specs.List.{list_any, list_all}
 use Rattle.title_land.specs.declared.place.Cell.{Cell}
 use Rattle.title_land.specs.declared.rectangle.Quarter.{Quarter}
@@ -8,7 +8,7 @@ use Rattle.title_land.specs.declared.node.Node.{Node}
 use Rattle.title_land.specs.declared.node.Node.TheVariants as node
 use Rattle.title_land.specs.declared.tract.Land.{Land}
 use Rattle.title_land.specs.Places.{is_on_grid, same_section}
-use Rattle.title_land.specs.Nodes.{path, in_quarter, same_quarter, same_node, are_related, parent_of, node_has}
+use Rattle.title_land.specs.Nodes.{path, in_quarter, same_quarter, same_node, are_related, parent_of, node_has, is_above}
 use Rattle.title_land.specs.Lands.{has, cover_of, meets, Meets, IsLand}
 
 -- all cells of the node lie in the land; the whole plant has those of every township that has a name
@@ -67,3 +67,14 @@ LandsShareACell depth = (a b : Land) → Meets depth a b ↔ (covers_meet depth 
 -- the test of two lands is that of their covers, where their sets are as large as a section's grid
 abbrev pub MeetsByCovers : ℕ → Type 0
 MeetsByCovers depth = (a b : Land) → IsLand depth a → IsLand depth b → meets a b ≡ covers_meet depth a b
+
+-- no node of a cover lies above another
+abbrev pub CoverNodesLieApart : ℕ → Type 0
+CoverNodesLieApart depth = (land : Land) (m n : Node) → list_any (same_node m) (cover_of depth land) ≡ true
+    → list_any (same_node n) (cover_of depth land) ≡ true → is_above m n ≡ false
+
+-- the node that the cover gives a cell of the grid: one with the cell, and none exactly where the land doesn't have it
+abbrev pub CoverFindsTheNode : ℕ → Type 0
+CoverFindsTheNode depth = (land : Land) (c : Cell) → is_on_grid depth c ≡ true
+    → (is_some (find (λ n. node_has depth n c) (cover_of depth land)) ≡ has land c)
+    × ((n : Node) → find (λ n. node_has depth n c) (cover_of depth land) ≡ Some n → node_has depth n c ≡ true)

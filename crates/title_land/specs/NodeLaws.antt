@@ -1,9 +1,10 @@
 -- Laws of nodes.
-use Rattle.std.specs.Prelude.{◌≡◌, ℕ, true, ◌↔◌}
+use Rattle.std.specs.Prelude.{◌≡◌, ℕ, true, ◌↔◌, [], ◌∷◌, Some}
 use Rattle.title_land.specs.declared.place.Cell.{Cell}
 use Rattle.title_land.specs.declared.node.Node.{Node}
+use Rattle.title_land.specs.declared.node.Node.TheVariants as node
 use Rattle.title_land.specs.Places.{is_on_grid}
-use Rattle.title_land.specs.Nodes.{same_node, is_above, are_related, node_has}
+use Rattle.title_land.specs.Nodes.{same_node, parent_of, above, is_above, are_related, node_has}
 
 -- a test of nodes is their equality: the same numbers and quarters make one node
 abbrev pub SameNodesAreEqual : Type 0
@@ -22,3 +23,7 @@ AboveHasTheCells depth = (a b : Node) (c : Cell) → is_above a b ≡ true → n
 abbrev pub NodesShareACell : ℕ → Type 0
 NodesShareACell depth = (a b : Node)
     → ((c : Cell) × (is_on_grid depth c ≡ true) × (node_has depth a c ≡ true) × (node_has depth b c ≡ true)) ↔ (are_related a b ≡ true)
+
+-- above a node lie its parent and what lies above that; nothing lies above the whole plant
+abbrev pub AboveByParent : Type 0
+AboveByParent = (above node.Everything ≡ []) × ((n p : Node) → parent_of n ≡ Some p → above n ≡ p ∷ above p)

@@ -172,3 +172,81 @@ pub fn cells_of(
     }
     Ok(cells)
 }
+
+#[cfg(test)]
+mod tests {
+    use super::cells_of;
+    use crate::{Cell, Grid, Land, Node, Quarter, Rectangle, Section, Township, Tract, Within};
+    use std::process::Abort;
+    use std::test::Fail;
+
+    fn township(rt: &impl Abort, number: u8) -> Township {
+        Township::new(number, true, 2, false).expect(rt, "the numbers are in range")
+    }
+
+    fn section(rt: &impl Abort, township: Township, number: u8) -> Section {
+        Section::new(township, number).expect(rt, "the number is in range")
+    }
+
+    #[test]
+    fn a_part_has_its_cells_in_order(rt: HostRuntime) -> Result<(), Fail> {
+        let alloc = rt.alloc();
+        let (third, fourth) = (township(&rt, 3), township(&rt, 4));
+        let fifth = section(&rt, fourth, 5);
+        let northeast = Rectangle::SECTION
+            .quarter(Quarter::Northeast)
+            .quarter(Quarter::Northeast);
+        let tract = Tract::new(alloc, Land::Part(fifth, Grid::EMPTY.with(northeast)))?;
+        let cells = cells_of(alloc, &[third, fourth], &tract)?;
+        assert_eq!(rt; cells.len(), 4);
+        for (cell, (row, column)) in cells.iter().zip([(0, 7), (0, 6), (1, 6), (1, 7)]) {
+            let want = Cell {
+                section: fifth,
+                row,
+                column,
+            };
+            assert_eq!(rt; cell.is(want), true, "row {row} column {column}");
+        }
+        assert_eq!(rt; tract.is_in(&[third, fourth]), true);
+        assert_eq!(rt; tract.is_in(&[third]), false);
+        assert_eq!(rt; cells_of(alloc, &[third], &tract)?.len(), 0);
+        Ok(())
+    }
+
+    #[test]
+    fn townships_come_as_declared(rt: HostRuntime) -> Result<(), Fail> {
+        let alloc = rt.alloc();
+        let (third, fourth) = (township(&rt, 3), township(&rt, 4));
+        let everything = Tract::new(alloc, Land::Everything)?;
+        let cells = cells_of(alloc, &[fourth, third], &everything)?;
+        assert_eq!(rt; cells.len(), 2 * 36 * 64);
+        assert_eq!(rt; cells[0].section, section(&rt, fourth, 1));
+        assert_eq!(rt; cells[64].section, section(&rt, fourth, 2));
+        assert_eq!(rt; cells[4607].section, section(&rt, third, 36));
+        let township = Tract::new(alloc, Land::Township(third))?;
+        let of_third = cells_of(alloc, &[fourth, third], &township)?;
+        assert_eq!(rt; of_third.len(), 36 * 64);
+        assert_eq!(rt; of_third[0], cells[2304]);
+        Ok(())
+    }
+
+    #[test]
+    fn a_cell_has_a_node(rt: HostRuntime) -> Result<(), Fail> {
+        let alloc = rt.alloc();
+        let fifth = section(&rt, township(&rt, 3), 5);
+        let south = Rectangle::SECTION.half(crate::Half::South);
+        let tract = Tract::new(alloc, Land::Part(fifth, Grid::EMPTY.with(south)))?;
+        let cell = |row, column| Cell {
+            section: fifth,
+            row,
+            column,
+        };
+        let southwest = Node::Part(fifth, Within::Quarter(Quarter::Southwest));
+        assert_eq!(rt; tract.node_of(cell(4, 3)), Some(southwest));
+        assert_eq!(rt; tract.node_of(cell(3, 3)), None);
+        assert_eq!(rt; southwest.has(cell(7, 0)), true);
+        assert_eq!(rt; southwest.has(cell(7, 4)), false);
+        assert_eq!(rt; Within::Quarter(Quarter::Southwest).square().top, 4);
+        Ok(())
+    }
+}

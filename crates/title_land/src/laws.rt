@@ -1,12 +1,17 @@
 //! Laws of land, for the crates above. Each function does nothing: its clause is the law, proved.
 
 ghost use Rattle.title_land.specs.CellLaws.{SameCellsAreEqual, PlantHasItsCells, ListHasTheCells, NodeListHasTheCells};
-ghost use Rattle.title_land.specs.CoverSets.{CoverHasItsCells, LandsShareACell, MeetsByCovers};
-ghost use Rattle.title_land.specs.NodeLaws.{SameNodesAreEqual, AboveIsTransitive, AboveHasTheCells, NodesShareACell};
+ghost use Rattle.title_land.specs.CoverSets.{CoverNodesLieApart, CoverFindsTheNode, CoverHasItsCells, LandsShareACell, MeetsByCovers};
+ghost use Rattle.title_land.specs.NodeLaws.{AboveByParent, SameNodesAreEqual, AboveIsTransitive, AboveHasTheCells, NodesShareACell};
 
 /// The test of nodes is their equality.
 pub fn same_nodes_are_equal()
     ensures law { SameNodesAreEqual }
+{}
+
+/// Above a node lie its parent and what lies above that.
+pub fn above_by_parent()
+    ensures law { AboveByParent }
 {}
 
 /// What lies above a node that lies above a third lies above that.
@@ -57,4 +62,14 @@ pub fn list_has_the_cells()
 /// A node's list of cells has exactly the plant's cells that lie in it.
 pub fn node_list_has_the_cells()
     ensures law { NodeListHasTheCells 3 }
+{}
+
+/// No node of a cover lies above another.
+pub fn cover_nodes_lie_apart()
+    ensures law { CoverNodesLieApart 3 }
+{}
+
+/// The cover has a node with the cell exactly where the cell lies in the land, and the node found has it.
+pub fn cover_finds_the_node()
+    ensures law { CoverFindsTheNode 3 }
 {}

@@ -1,0 +1,6 @@
+-- The law cover nodes lie apart.
+use Rattle.title_land.proofs.CoverSet.{cover_nodes_apart_3 as lemma}
+use Rattle.title_land.proofs.laws.cover_nodes_lie_apart.Goals as goal
+
+pub returns : goal.returns
+returns c = record { law = lemma }
