@@ -12,6 +12,7 @@ pub use ask::{Answer, Ask, Entry, Posting, Step};
 pub use chains::chain;
 pub use lists::{Entries, Records, SheetRows, Steps};
 pub use record::Record;
+pub use replay::sheet_by_chain;
 
 #[cfg(test)]
 mod tests;

@@ -13,7 +13,7 @@ use crate::lists::{Records, SheetRows};
 use crate::record::Record;
 use std::alloc::{AllocError, Global};
 use title_land::{Township, Tract};
-use title_store::{Put, Store};
+use title_store::{CellStore, Put, Store};
 
 // Posts a step's instrument again, if it was posted.
 fn post_again<S: Store>(store: &mut S, step: &Step) -> Result<(), AllocError>
@@ -75,4 +75,21 @@ fn sheet_by_replay<S: Store + Drop>(
     let mut store = S::open(alloc, townships)?;
     post_records_again(&mut store, records.as_slice())?;
     Ok(SheetRows::new(store.sheet(alloc, tract)?))
+}
+
+/// The sheet after these records, made from their posted instruments alone, in order: a plant of these townships is opened
+/// and each of them is posted again. No township stands twice, and each record's answers are those that its asks get alone,
+/// one after another, after the records before it.
+pub fn sheet_by_chain(
+    alloc: Global,
+    records: &Records,
+    townships: &[Township],
+    tract: &Tract,
+) -> Result<SheetRows, AllocError>
+    requires once { IsEachOnce townships.now }
+    requires within { is_in_plant townships.now tract.now ≡ true }
+    requires serial { IsSerial 3 townships.now (reverse records.now) }
+    ensures sheet { IfOk result (λ rows. rows ≡ sheet_of 3 townships.now (plant_after 3 townships.now (reverse records.now)) tract.now) }
+{
+    sheet_by_replay::<CellStore>(alloc, records, townships, tract)
 }
