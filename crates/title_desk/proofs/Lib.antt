@@ -1,1 +1,6 @@
-mod Found
+pub mod Found
+pub mod Content
+pub mod Loaned
+pub mod Undo
+pub mod Facts
+pub mod Moves

@@ -1,8 +1,8 @@
 -- Before-images of open transactions. Lists of steps and of images here have the newest first.
-use Rattle.std.specs.Prelude.{◌≡◌, ℕ, ◌<◌, Bool, true, false, cond, ◌&&◌, ◌||◌, eqb, List, [], ◌∷◌, map, Option, Some, None, ◌⊎◌}
+use Rattle.std.specs.Prelude.{◌≡◌, ℕ, ◌<◌, Bool, true, false, cond, ◌&&◌, ◌||◌, List, [], ◌∷◌, map, ◌⊎◌}
 use Rattle.title_land.specs.declared.place.Township.{Township}
 use Rattle.title_land.specs.declared.place.Cell.{Cell}
-use Rattle.title_store.specs.Plants.{Plant, is_cell_of}
+use Rattle.title_store.specs.Plants.{Plant, SameContent, is_cell_of}
 use Rattle.title_store.specs.Loans.{Loan, IsLentAs, IsOut, IsLast, IsFirst, without}
 use Rattle.title_chain.specs.declared.ask.Ask.{Ask}
 use Rattle.title_chain.specs.declared.ask.Ask.TheVariants as ask
@@ -32,13 +32,12 @@ abbrev pub IsOf : ℕ → List ℕ → Type 0
 IsOf n [] = ⊥
 IsOf n (m ∷ numbers) = (n ≡ m) ⊎ IsOf n numbers
 
--- the image of a posted step is out and holds what the step's tract held before the step; those before it have lower
--- numbers
+-- the image of a posted step is out, for the step's tract, and holds what the tract held before the step; those before it
+-- have lower numbers
 pub record Backs {I : Type 0} (number : I → ℕ) (out : List Loan) (townships : List Township) (before : Plant) (s : Step) (image : I) (older : List I) : Type 0 where
-  pub loan : Loan
-  pub is_out : IsLentAs loan (number image) out
-  pub land_is : loan.land ≡ tract_of s.ask
-  pub holds : (c : Cell) → is_cell_of 3 townships (tract_of s.ask) c ≡ true → loan.held c ≡ before c
+  pub is_out : IsOut (number image) out
+  pub land_is : (b : Loan) → IsLentAs b (number image) out → b.land ≡ tract_of s.ask
+  pub holds : (b : Loan) → IsLentAs b (number image) out → (c : Cell) → is_cell_of 3 townships (tract_of s.ask) c ≡ true → b.held c ≡ before c
   pub above : (n : ℕ) → IsOf n (map number older) → n < number image
 
 -- a posted step has the first of these images; another has none and leaves the plant
@@ -56,22 +55,18 @@ Backed number out townships plant (s ∷ earlier) images =
     × Peels number out townships (after_steps 3 townships plant earlier) s images older (is_posted s.ask s.answer)
     × Backed number out townships plant earlier older
 
--- the image that is out under a number
-abbrev pub lent : ℕ → List Loan → Option Loan
-lent n [] = None
-lent n (x ∷ out) = cond (eqb n x.number) (Some x) (lent n out)
-
 -- the plant after what an image holds has been put back
-abbrev pub put_back : List Township → Option Loan → Plant → Plant
-put_back townships None plant = plant
-put_back townships (Some b) plant = λ c. cond (is_cell_of 3 townships b.land c) (b.held c) (plant c)
+abbrev pub put_back : List Township → Loan → Plant → Plant
+put_back townships b plant = λ c. cond (is_cell_of 3 townships b.land c) (b.held c) (plant c)
 
--- the plant after the images of these numbers have been put back, the first of them first
-abbrev pub restored : List Township → List ℕ → List Loan → Plant → Plant
-restored townships [] out plant = plant
-restored townships (n ∷ numbers) out plant =
-    restored townships numbers (without n out) (put_back townships (lent n out) plant)
+-- the new plant is the old one after the images of these numbers have been put back, the first of them first
+abbrev pub IsRestored : List Township → List ℕ → List Loan → Plant → Plant → Type 0
+IsRestored townships [] out old new = SameContent old new
+IsRestored townships (n ∷ numbers) out old new =
+    (mid : Plant) × ((b : Loan) → IsLentAs b n out → SameContent (put_back townships b old) mid)
+    × IsRestored townships numbers (without n out) mid new
 
+-- the list without the images of these numbers
 abbrev pub without_all : List ℕ → List Loan → List Loan
 without_all [] out = out
 without_all (n ∷ numbers) out = without_all numbers (without n out)

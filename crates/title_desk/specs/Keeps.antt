@@ -1,5 +1,5 @@
 -- What a desk's parts have to do with its trace.
-use Rattle.std.specs.Prelude.{◌≡◌, ℕ, Bool, true, false, List, map, reverse, is_some}
+use Rattle.std.specs.Prelude.{◌≡◌, ℕ, ◌≤◌, Bool, true, false, List, map, reverse, is_some}
 use Rattle.title_land.specs.declared.place.Township.{Township}
 use Rattle.title_land.specs.declared.place.Cell.{Cell}
 use Rattle.title_lock.specs.declared.guards.Entry.{Entry}
@@ -42,6 +42,7 @@ abbrev pub images_of : {I : Type 0} → List (Slot I) → ℕ → List I
 images_of slots e = images_in (found e slots)
 
 pub record Keeps {I : Type 0} (number : I → ℕ) (setting : Setting) (content : Plant) (declared : List Township) (out : List Loan) (locks : List Entry) (trace : List Call) (records : List Record) (slots : List (Slot I)) : Type 0 where
+  pub few : setting.parties ≤ 65536
   pub due : IsDue 3 setting trace
   pub declared_are : declared ≡ setting.townships
   pub records_are : reverse records ≡ committed trace

@@ -2,3 +2,4 @@ pub mod Told
 pub mod Slots
 pub mod Images
 pub mod Keeps
+pub mod Refusals

@@ -1,25 +1,41 @@
 -- What a call of the desk tells.
-use Rattle.std.specs.Prelude.{◌≡◌, List, ◌∷◌}
+use Rattle.std.specs.Prelude.{◌≡◌, ℕ, ◌≤◌, Bool, true, false, nat_le, List, ◌∷◌, length, None}
+use Rattle.title_land.specs.declared.place.Township.{Township}
+use Rattle.title_land.specs.Lands.{is_in_plant}
+use Rattle.title_store.specs.Plants.{IsEachOnce}
+use Rattle.title_chain.specs.declared.ask.Ask.{Ask}
+use Rattle.title_chain.specs.Asks.{tract_of, cause_of}
 use Rattle.title_trace.specs.declared.call.Call.{Call}
 use Rattle.title_trace.specs.declared.call.Request.{Request}
 use Rattle.title_trace.specs.declared.call.Reply.{Reply}
 use Rattle.title_trace.specs.declared.call.Reply.TheVariants as reply
-use Rattle.title_trace.specs.Due.{Setting, DueReply}
+use Rattle.title_trace.specs.Trace.{is_open, open_steps}
+use Rattle.title_trace.specs.Due.{Setting, most_steps, InTheWay, DueReply}
 
--- a desk as its callers see it: what it was opened with, and its trace, the newest call first
+-- what a desk can be opened with: 1 to 65,536 parties, at most 64 townships, none of them twice
+abbrev pub MayOpen : ℕ → List Township → Type 0
+MayOpen parties townships = (1 ≤ parties) × (parties ≤ 65536) × (length townships ≤ 64) × IsEachOnce townships
+
+-- a desk as its callers see it: what it was opened with, its trace, the newest call first, and whether it has room for
+-- one call more and one record more
 pub record Books : Type 0 where
   pub setting : Setting
   pub trace : List Call
+  pub is_ready : Bool
+
+-- neither the setting nor the trace has changed
+abbrev pub Stays : Books → Books → Type 0
+Stays old new = (new.setting ≡ old.setting) × (new.trace ≡ old.trace)
 
 -- the call is added to the trace, and its reply is the due one
 abbrev pub Added : Books → Request → Reply → Books → Type 0
 Added old q r new =
-    (new ≡ record { setting = old.setting; trace = record { request = q; reply = r } ∷ old.trace })
+    (new.setting ≡ old.setting) × (new.trace ≡ record { request = q; reply = r } ∷ old.trace)
     × DueReply 3 old.setting old.trace q r
 
 -- a call adds its pair with the due reply, or wants memory and changes nothing
 abbrev pub Told : Books → Request → Reply → Books → Type 0
-Told old q reply.Memory new = new ≡ old
+Told old q reply.Memory new = Stays old new
 Told old q reply.Began new = Added old q reply.Began new
 Told old q (reply.Answered given) new = Added old q (reply.Answered given) new
 Told old q (reply.Committed place) new = Added old q (reply.Committed place) new
@@ -30,3 +46,11 @@ Told old q reply.NoSuchTownship new = Added old q reply.NoSuchTownship new
 Told old q (reply.Invalid cause) new = Added old q (reply.Invalid cause) new
 Told old q reply.TooLong new = Added old q reply.TooLong new
 Told old q (reply.Conflict f) new = Added old q (reply.Conflict f) new
+
+-- nothing refuses the step: the examiner is open, the tract is in the plant, the instrument can stand, the transaction has
+-- room for a step, and nobody is in the way
+abbrev pub Passes : Books → ℕ → Ask → Type 0
+Passes books e a =
+    (is_open e books.trace ≡ true) × (is_in_plant books.setting.townships (tract_of a) ≡ true)
+    × (cause_of books.setting.parties a ≡ None) × (nat_le most_steps (length (open_steps books.trace e)) ≡ false)
+    × InTheWay books.trace e a None

@@ -1,4 +1,9 @@
 //! The desk: interleaved transactions of any number of examiners over any store and any guards.
 #![tactic(auto)]
 
+mod images;
+mod refusal;
 mod slots;
+pub mod transactions;
+
+pub use transactions::{Desk, may_open};

@@ -1,0 +1,83 @@
+-- What the store holds answers as the definitions do.
+use Rattle.std.proofs.Common.{◌≡◌, ◌≢◌, ℕ, Bool, true, false, ◌&&◌, List, [], ◌∷◌, refl, ap, ◌∙◌, sym, eqb, inl, inr}
+use Rattle.std.proofs.lemmas.Bool.{eqb-true, eqb-false, and_parts, and_from, or_parts, or_from, or_right, false_from_ne_true, both_ways, cases_eq, cases_Bool}
+use Rattle.title_land.specs.declared.place.Township.{Township}
+use Rattle.title_land.specs.declared.place.Cell.{Cell}
+use Rattle.title_store.specs.Plants.{Plant, is_cell_of}
+use Rattle.title_store.specs.Loans.{Loan}
+use Rattle.title_chain.specs.declared.ask.Ask.{Ask}
+use Rattle.title_chain.specs.declared.ask.Ask.TheVariants as ask
+use Rattle.title_chain.specs.declared.ask.Answer.{Answer}
+use Rattle.title_chain.specs.declared.ask.Step.{Step}
+use Rattle.title_chain.specs.declared.record.Record.{Record}
+use Rattle.title_chain.specs.Asks.{tract_of, is_post, overlap, effect}
+use Rattle.title_chain.specs.Alone.{after_steps, plant_after}
+use Rattle.title_chain.specs.Overlaps.{overlaps, Clear}
+use Rattle.title_chain.specs.ChainLaws.{SameIn}
+use Rattle.title_chain.proofs.AskLaws.{cell_meets, effect_outside}
+use Rattle.title_lock.specs.declared.guards.Entry.{Entry}
+use Rattle.title_desk.specs.Images.{is_posted, posted_at, Peels, Backed}
+use Rattle.title_desk.specs.Keeps.{Facts}
+
+case_at : (P : Bool → Type 0) (f e : ℕ) → (f ≡ e → P true) → (f ≢ e → P false) → (b : Bool) → eqb f e ≡ b → P b
+case_at P f e same other true h = same (eqb-true f e h)
+case_at P f e same other false h = other (eqb-false f e h)
+
+-- cases on whether two numbers are one
+pub case_eqb : (P : Bool → Type 0) (f e : ℕ) → (f ≡ e → P true) → (f ≢ e → P false) → P (eqb f e)
+case_eqb P f e same other = case_at P f e same other (eqb f e) refl
+
+-- a step that was posted is a post
+pub post_of : (b : Ask) (given : Answer) → is_posted b given ≡ true → is_post b ≡ true
+post_of (ask.Sheet t) given h = h
+post_of (ask.Chain t) given h = h
+post_of (ask.Post p) given h = refl
+
+unposted_step : (ts : List Township) (a b : Ask) (given : Answer) (c : Cell) → overlap a b ≡ false → is_cell_of 3 ts (tract_of a) c ≡ true → (is_posted b given && is_cell_of 3 ts (tract_of b) c) ≡ false
+unposted_step ts a b given c n h = false_from_ne_true _ (λ k.
+    let parts = and_parts (is_posted b given) (is_cell_of 3 ts (tract_of b) c) k in
+    both_ways _ n (and_from _ _ (or_right (is_post a) (is_post b) (post_of b given parts.0)) (cell_meets 3 ts (tract_of a) (tract_of b) c h parts.1)))
+
+-- of steps that don't overlap an ask none was posted at a cell of its tract
+pub unposted : (ts : List Township) (a : Ask) (own : List Step) (c : Cell) → overlaps a own ≡ false → is_cell_of 3 ts (tract_of a) c ≡ true → posted_at ts c own ≡ false
+unposted ts a [] c n h = refl
+unposted ts a (o ∷ earlier) c n h =
+    let parts = or_parts (overlap a o.ask) (overlaps a earlier) n in
+    or_from _ _ (unposted_step ts a o.ask o.answer c parts.0 h) (unposted ts a earlier c parts.1 h)
+
+-- at a cell where one examiner's step was posted no other's was
+pub posted_apart : (ts : List Township) (own theirs : List Step) (c : Cell) → Clear own theirs → posted_at ts c theirs ≡ true → posted_at ts c own ≡ false
+posted_apart ts [] theirs c clear h = refl
+posted_apart ts (s ∷ earlier) theirs c clear h =
+    or_from _ _ (false_from_ne_true _ (λ k. both_ways _ (unposted ts s.ask theirs c clear.1 (and_parts (is_posted s.ask s.answer) (is_cell_of 3 ts (tract_of s.ask) c) k).1) h))
+    (posted_apart ts earlier theirs c clear.0 h)
+
+-- a step that wasn't posted at a cell leaves it
+step_keeps : {I : Type 0} (number : I → ℕ) (out : List Loan) (ts : List Township) (before : Plant) (s : Step) (images older : List I) (b : Bool) (c : Cell) →
+    Peels number out ts before s images older b → (b && is_cell_of 3 ts (tract_of s.ask) c) ≡ false → effect 3 ts before s.ask c ≡ before c
+step_keeps number out ts before s images older true c p n = effect_outside 3 ts before s.ask c n
+step_keeps number out ts before s images older false c p n = p.1 c
+
+-- steps of which none was posted at a cell leave it
+pub steps_keep : {I : Type 0} (number : I → ℕ) (out : List Loan) (ts : List Township) (p : Plant) (own : List Step) (images : List I) (c : Cell) →
+    Backed number out ts p own images → posted_at ts c own ≡ false → after_steps 3 ts p own c ≡ p c
+steps_keep number out ts p [] images c b n = refl
+steps_keep number out ts p (s ∷ earlier) images c b n =
+    let parts = or_parts (is_posted s.ask s.answer && is_cell_of 3 ts (tract_of s.ask) c) (posted_at ts c earlier) n in
+    step_keeps number out ts (after_steps 3 ts p earlier) s images b.0 (is_posted s.ask s.answer) c b.1 parts.0
+    ∙ steps_keep number out ts p earlier b.0 c b.2 parts.1
+
+-- in the tract of an ask that nobody else's steps overlap, the store holds what the examiner sees
+pub content_is : {I : Type 0} {number : I → ℕ} {ts : List Township} {own : ℕ → List Step} {images : ℕ → List I} {done : List Record} {content : Plant} {out : List Loan} {locks : List Entry} →
+    Facts number ts own images done content out locks → (e : ℕ) (a : Ask) → ((f : ℕ) → f ≢ e → overlaps a (own f) ≡ false) →
+    SameIn 3 ts (tract_of a) content (after_steps 3 ts (plant_after 3 ts done) (own e))
+content_is {number = number} {ts = ts} {own = own} {images = images} {done = done} {out = out} facts e a free c inside =
+    elim (cases_Bool (posted_at ts c (own e))) [
+      | inl mine ↦ facts.posted e c mine
+      | inr none ↦
+          let nobody : (f : ℕ) → posted_at ts c (own f) ≡ false = λ f. elim (cases_eq f e) [
+            | inl same ↦ ap (λ g. posted_at ts c (own g)) same ∙ none
+            | inr other ↦ unposted ts a (own f) c (free f other) inside
+          ] in
+          facts.rest c nobody ∙ sym (steps_keep number out ts (plant_after 3 ts done) (own e) (images e) c (facts.backed e) none)
+    ]

@@ -1,0 +1,15 @@
+-- The trace is due, so the committed transactions are serial.
+use Rattle.std.proofs.Common.{◌∷◌, subst, lit≤}
+use Rattle.title_chain.specs.Alone.{IsSerial}
+use Rattle.title_chain.specs.Overlaps.{record_of}
+use Rattle.title_trace.specs.Trace.{committed, open_steps}
+use Rattle.title_trace.proofs.Law.{committed_serial, open_last}
+use Rattle.title_desk.specs.Told.{Books}
+use Rattle.title_desk.proofs.transactions.Desk.is_serial.Goals as goal
+
+pub returns : goal.returns
+returns g c =
+    let k = c.self.invariant.0 in record {
+      committed_records = subst (λ (b : Books). IsSerial 3 b.setting.townships (committed b.trace)) c.self.view_is (committed_serial 3 (lit≤ tt) _ k.few _ k.due);
+      open_last = λ e. subst (λ (b : Books). IsSerial 3 b.setting.townships (record_of e (open_steps b.trace e) ∷ committed b.trace)) c.self.view_is (open_last 3 (lit≤ tt) _ k.few _ e k.due);
+    }

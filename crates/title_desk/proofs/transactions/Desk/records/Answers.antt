@@ -1,0 +1,10 @@
+-- The records are those of the trace.
+use Rattle.std.proofs.Common.{◌≡◌, ◌∙◌, ap, reverse, subst}
+use Rattle.title_trace.specs.Trace.{committed}
+use Rattle.title_desk.specs.Told.{Books}
+use Rattle.title_desk.proofs.transactions.Desk.records.Goals as goal
+
+pub returns : goal.returns
+returns g c = record {
+  records = ap reverse c.deref.ensures.value ∙ subst (λ (b : Books). reverse c.self.inside.records.items ≡ committed b.trace) c.self.view_is c.self.invariant.0.records_are;
+}

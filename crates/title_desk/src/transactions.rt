@@ -1,0 +1,283 @@
+//! The desk.
+
+ghost use Rattle.std.specs.Prelude.{◌≡◌, ◌≢◌, ℕ, List, [], ◌∷◌, IfOk, OnOk, ◌↔◌, reverse, true, false};
+ghost use Rattle.title_store.specs.Plants.{IsEachOnce};
+ghost use Rattle.title_land.specs.declared.place.Cell.{Cell};
+ghost use Rattle.title_trace.specs.declared.call.Request.TheVariants.{Begin, Step, Commit, Abort};
+ghost use Rattle.title_trace.specs.declared.call.Reply.TheVariants.{Aborted, Memory};
+ghost use Rattle.title_chain.specs.Alone.{after_steps, plant_after, IsSerial};
+ghost use Rattle.title_chain.specs.Overlaps.{record_of};
+ghost use Rattle.title_trace.specs.Trace.{is_open, open_steps, committed};
+ghost use Rattle.title_trace.specs.Due.{DueReply};
+ghost use Rattle.title_desk.specs.Refusals.{reply_of};
+ghost use Rattle.title_desk.specs.Images.{posted_at};
+ghost use Rattle.title_desk.specs.Told.{Books, MayOpen, Told};
+
+use crate::images::{forget_all, restore_all, tidy_up};
+use crate::refusal::Refusal;
+use crate::slots::{Slot, is_in, take_slot};
+use std::alloc::{AllocError, Global};
+use std::marker::Model;
+use title_chain::{Ask, Record, Steps};
+use title_land::Township;
+use title_lock::Guards;
+use title_store::Store;
+use title_trace::{Call, Reply, Request};
+
+/// The most parties that a desk can be opened with.
+pub const MOST_PARTIES: u32 = 65_536;
+
+/// The most townships that a desk can be opened with.
+pub const MOST_TOWNSHIPS: usize = 64;
+
+// Whether no township stands twice.
+fn each_once(townships: &[Township]) -> bool
+    ensures once { (result ≡ true) ↔ IsEachOnce townships.now }
+{
+    let mut rest = townships;
+    while let [first, more @ ..] = rest {
+        if first.is_among(more) {
+            return false;
+        }
+        rest = more;
+    }
+    true
+}
+
+/// Whether a desk can be opened with these: 1 to 65,536 parties, at most 64 townships, none of them twice.
+pub fn may_open(parties: u32, townships: &[Township]) -> bool
+    ensures tells { (result ≡ true) ↔ MayOpen parties townships.now }
+{
+    if parties == 0 || parties > MOST_PARTIES || townships.len() > MOST_TOWNSHIPS {
+        return false;
+    }
+    each_once(townships)
+}
+
+/// The transactions of any number of examiners over a store and guards. A contract sees its setting, its trace and
+/// whether it has room for one call more.
+#[derive(Drop)]
+pub struct Desk<S: Store + Drop, G: Guards + Drop> {
+    alloc: Global,
+    parties: u32,
+    townships: Vec<Township>,
+    store: S,
+    guards: G,
+    trace: Vec<Call>,
+    records: Vec<Record>,
+    slots: Vec<Slot<S::Image>>,
+}
+
+impl<S: Store + Drop, G: Guards + Drop> Model for Desk<S, G> {
+    ghost use Rattle.std.specs.Prelude.{reverse, ◌+◌, ◌≤◌, ◌&&◌, nat_lt, vec_len, vec_capacity};
+    ghost use Rattle.title_desk.specs.Told.{Books};
+    ghost use Rattle.title_desk.specs.Keeps.{Keeps};
+
+    ghost Value = { Books };
+
+    ghost view = { λ d. record {
+      setting = record { parties = d.parties; townships = d.townships.items };
+      trace = reverse d.trace.items;
+      is_ready = nat_lt (vec_len d.records) (vec_capacity d.records) && nat_lt (vec_len d.trace + vec_len d.slots) (vec_capacity d.trace);
+    } };
+
+    ghost invariant = { λ d. Keeps S.number (record { parties = d.parties; townships = d.townships.items }) (S.content d.store) (S.declared d.store) (S.out d.store) (G.entries d.guards) (reverse d.trace.items) d.records.items d.slots.items × (vec_len d.trace + vec_len d.slots ≤ vec_capacity d.trace) };
+}
+
+impl<S: Store + Drop, G: Guards + Drop> Desk<S, G> {
+    /// A desk with no call yet, for parties numbered from 0 and these townships.
+    pub fn open(
+        alloc: Global,
+        parties: u32,
+        townships: &[Township],
+    ) -> Result<Desk<S, G>, AllocError>
+        requires may_open { MayOpen parties townships.now }
+        ensures setting { IfOk result (λ d. d.setting ≡ record { parties = parties; townships = townships.now }) }
+        ensures trace { IfOk result (λ d. d.trace ≡ []) }
+    {
+        let store = S::open(alloc, townships)?;
+        let townships = Vec::from_slice(alloc, townships)?;
+        Ok(Desk {
+            alloc,
+            parties,
+            townships,
+            store,
+            guards: G::new(alloc),
+            trace: Vec::new(alloc),
+            records: Vec::new(alloc),
+            slots: Vec::new(alloc),
+        })
+    }
+
+    // Refuses a request.
+    fn refuse(&mut self, request: Request, refusal: Refusal) -> Reply
+        requires due { DueReply 3 self.old.setting self.old.trace request (reply_of refusal) }
+        ensures told { Told self.old request result self.new }
+        ensures ready { self.old.is_ready ≡ true → result ≢ Memory }
+    {
+        if self.trace.reserve(self.slots.len() + 1).is_err() {
+            return Reply::Memory;
+        }
+        self.trace.push_reserved(Call {
+            request,
+            reply: refusal.reply(),
+        });
+        refusal.reply()
+    }
+
+    fn begin(&mut self, examiner: u32) -> Reply
+        ensures told { Told self.old (Begin examiner) result self.new }
+    {
+        let request = Request::Begin(examiner);
+        if is_in(&self.slots, examiner) {
+            return self.refuse(request, Refusal::AlreadyOpen);
+        }
+        if self.trace.reserve(self.slots.len() + 2).is_err() {
+            return Reply::Memory;
+        }
+        if self.slots.reserve(1).is_err() {
+            return Reply::Memory;
+        }
+        self.trace.push_reserved(Call {
+            request,
+            reply: Reply::Began,
+        });
+        self.slots.push_reserved(Slot {
+            examiner,
+            steps: Vec::new(self.alloc),
+            images: Vec::new(self.alloc),
+        });
+        Reply::Began
+    }
+
+    fn abort(&mut self, examiner: u32) -> Reply
+        ensures told { Told self.old (Abort examiner) result self.new }
+        ensures always { is_open examiner self.old.trace ≡ true → result ≡ Aborted }
+    {
+        let request = Request::Abort(examiner);
+        if !is_in(&self.slots, examiner) {
+            return self.refuse(request, Refusal::NotOpen);
+        }
+        let Some(slot) = take_slot(&mut self.slots, examiner) else {
+            return Reply::Memory;
+        };
+        restore_all(&mut self.store, slot.images);
+        self.guards.give_back(examiner);
+        tidy_up(&mut self.store, &self.slots);
+        self.trace.push_reserved(Call {
+            request,
+            reply: Reply::Aborted,
+        });
+        Reply::Aborted
+    }
+
+    fn commit(&mut self, examiner: u32) -> Reply
+        ensures told { Told self.old (Commit examiner) result self.new }
+        ensures ready { self.old.is_ready ≡ true → result ≢ Memory }
+    {
+        let request = Request::Commit(examiner);
+        if !is_in(&self.slots, examiner) {
+            return self.refuse(request, Refusal::NotOpen);
+        }
+        if self.records.reserve(1).is_err() {
+            return Reply::Memory;
+        }
+        let Some(slot) = take_slot(&mut self.slots, examiner) else {
+            return Reply::Memory;
+        };
+        forget_all(&mut self.store, slot.images);
+        self.guards.give_back(examiner);
+        tidy_up(&mut self.store, &self.slots);
+        self.records.push_reserved(Record {
+            examiner,
+            steps: Steps::new(slot.steps),
+        });
+        let place = self.records.len() as u64;
+        self.trace.push_reserved(Call {
+            request,
+            reply: Reply::Committed(place),
+        });
+        Reply::Committed(place)
+    }
+
+    fn step(&mut self, _examiner: u32, _ask: Ask) -> Reply
+        ensures told { Told self.old (Step _examiner _ask) result self.new }
+    {
+        Reply::Memory
+    }
+
+    /// Serves a request: adds it with the due reply to the trace, or answers `Memory` where a growth was refused, and then
+    /// nothing has changed. `Memory` is never the reply to `Abort` of an open examiner, nor to `Commit` of a ready desk.
+    pub fn serve(&mut self, request: Request) -> Reply
+        ensures told { Told self.old request result self.new }
+        ensures always_aborts { (e : ℕ) → request ≡ Abort e → is_open e self.old.trace ≡ true → result ≡ Aborted }
+        ensures ready_commits { (e : ℕ) → request ≡ Commit e → self.old.is_ready ≡ true → result ≢ Memory }
+    {
+        match request {
+            Request::Begin(examiner) => self.begin(examiner),
+            Request::Step(examiner, ask) => self.step(examiner, ask),
+            Request::Commit(examiner) => self.commit(examiner),
+            Request::Abort(examiner) => self.abort(examiner),
+        }
+    }
+
+    /// Aborts for an examiner who is gone: the same as to serve its `Abort`.
+    pub fn sweep(&mut self, examiner: u32) -> Reply
+        ensures told { Told self.old (Abort examiner) result self.new }
+        ensures always_aborts { is_open examiner self.old.trace ≡ true → result ≡ Aborted }
+    {
+        self.abort(examiner)
+    }
+
+    /// Makes room so that a commit served next wants no memory. Nothing else changes.
+    pub fn make_room(&mut self, _examiner: u32) -> Result<(), AllocError>
+        ensures setting { self.new.setting ≡ self.old.setting }
+        ensures trace { self.new.trace ≡ self.old.trace }
+        ensures ready { OnOk result (self.new.is_ready ≡ true) }
+    {
+        self.trace.reserve(self.slots.len() + 1)?;
+        self.records.reserve(1)
+    }
+
+    /// The calls with their replies, the oldest first.
+    pub fn trace(&self) -> &[Call]
+        ensures trace { reverse result.now ≡ self.now.trace }
+    {
+        &self.trace
+    }
+
+    /// The committed transactions, in the order of their commits.
+    pub fn records(&self) -> &[Record]
+        ensures records { reverse result.now ≡ committed self.now.trace }
+    {
+        &self.records
+    }
+
+    /// Whether an examiner has a transaction open.
+    pub fn is_open(&self, examiner: u32) -> bool
+        ensures opened { result ≡ is_open examiner self.now.trace }
+    {
+        is_in(&self.slots, examiner)
+    }
+
+    /// The plant: in a cell where a step of an open examiner was posted, what the committed records followed by that
+    /// examiner's open steps leave there; in every other cell what the committed records leave.
+    pub fn store(&self) -> &S
+        ensures declared { S.declared result.now ≡ self.now.setting.townships }
+        ensures posted { (e : ℕ) (c : Cell) → posted_at self.now.setting.townships c (open_steps self.now.trace e) ≡ true →
+            S.content result.now c ≡ after_steps 3 self.now.setting.townships (plant_after 3 self.now.setting.townships (committed self.now.trace)) (open_steps self.now.trace e) c }
+        ensures rest { (c : Cell) → ((e : ℕ) → posted_at self.now.setting.townships c (open_steps self.now.trace e) ≡ false) →
+            S.content result.now c ≡ plant_after 3 self.now.setting.townships (committed self.now.trace) c }
+    {
+        &self.store
+    }
+
+    /// The committed transactions are serial: run alone, in the order of their commits, they get their answers; and so
+    /// they are with the open steps of any one examiner as a last record. It does nothing: the desk's type says so.
+    pub fn is_serial(&self)
+        ensures committed_records { IsSerial 3 self.now.setting.townships (committed self.now.trace) }
+        ensures open_last { (e : ℕ) → IsSerial 3 self.now.setting.townships (record_of e (open_steps self.now.trace e) ∷ committed self.now.trace) }
+    {
+        let _ = &self.trace;
+    }
+}
