@@ -13,7 +13,7 @@ use std::alloc::{AllocError, Global};
 use title_share::Holding;
 
 /// Who holds each estate of one cell.
-#[derive(Drop)]
+#[derive(Debug, Drop)]
 pub struct Owners {
     pub s: Holding,
     pub o: Holding,
@@ -22,7 +22,7 @@ pub struct Owners {
 
 /// What an instrument does to a cell: its new owners, or the rule that refuses and the first estate
 /// at which one does.
-#[derive(Drop)]
+#[derive(Debug, Drop)]
 pub enum Effect {
     Done(Owners),
     Refused(Rule, Estate),

@@ -8,11 +8,14 @@ ghost use Rattle.title_instrument.specs.Passing.{IsNamed, units_named};
 use std::fmt;
 use title_share::{Share, WHOLE};
 
-/// What of a cell is owned: the surface, the oil and gas, the other minerals.
+/// What of a cell is owned, in order.
 #[derive(Clone, Copy, Debug, PartialEq, Eq, PartialOrd, Ord)]
 pub enum Estate {
+    /// The surface.
     S,
+    /// The oil and gas.
     O,
+    /// The other minerals.
     M,
 }
 
@@ -24,29 +27,36 @@ pub struct Estates {
     pub m: bool,
 }
 
-/// How much a deed names: a share of the whole, or of what the grantor holds.
+/// How much a deed names.
 #[derive(Clone, Copy, Debug, PartialEq, Eq)]
 pub enum Quantum {
+    /// A share of the whole.
     Whole(Share),
+    /// A share of what the grantor holds.
     Interest(Share),
 }
 
-/// Why a cell refuses an instrument: the grantor holds nothing or less than is named, the interest
-/// is no whole number of units, or more is reserved than named.
+/// Why a cell refuses an instrument. The first that holds is told.
 #[derive(Clone, Copy, Debug, PartialEq, Eq)]
 pub enum Rule {
+    /// The grantor holds nothing, or less than is named.
     ShortTitle,
+    /// The interest is no whole number of units.
     TooFine,
+    /// More is reserved than named.
     OverReserved,
 }
 
-/// Why an instrument can't stand: a party's number is too high, it goes to the party that it comes
-/// from, it names no estate, or it has a reservation for an estate that it doesn't name.
+/// Why an instrument can't stand. The first that holds is told.
 #[derive(Clone, Copy, Debug, PartialEq, Eq)]
 pub enum Cause {
+    /// A party's number isn't below the number of parties.
     Party,
+    /// It passes from a party to itself.
     SameParty,
+    /// It names no estate.
     NoEstate,
+    /// It has a reservation for an estate that it doesn't name.
     Reservation,
 }
 

@@ -2,6 +2,7 @@
 use Rattle.std.proofs.Common.{◌≡◌, ◌<◌, ◌≤◌, ℕ, Bool, true, false, refl, eqb, ltb}
 use Rattle.std.proofs.lemmas.Bool.{eqb-true, eqb-false, ltb-true, ltb-false}
 
+-- by cases of a test `<`
 pub case_ltb : (P : Bool → Type 0) (a b : ℕ) → (a < b → P true) → (b ≤ a → P false) → P (ltb a b)
 case_ltb P a b below above = go (ltb a b) refl
   where
@@ -9,6 +10,7 @@ case_ltb P a b below above = go (ltb a b) refl
     go true e = below (ltb-true a b e)
     go false e = above (ltb-false a b e)
 
+-- by cases of a test of equality
 pub case_eqb : (P : Bool → Type 0) (a b : ℕ) → (a ≡ b → P true) → ((a ≡ b → ⊥) → P false) → P (eqb a b)
 case_eqb P a b same other = go (eqb a b) refl
   where

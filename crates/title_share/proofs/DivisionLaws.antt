@@ -1,6 +1,6 @@
 -- Laws of divisions.
 use Rattle.std.proofs.Common.{◌≡◌, ◌↔◌, ◌≤◌, ◌+◌, ◌-◌, ◌∙◌, ◌||◌, ℕ, Bool, true, false, cond, refl, sym, ap, subst, eqb, List, [], ◌∷◌, arith}
-use Rattle.std.proofs.lemmas.Bool.{and_parts, and_from, eqb-true, eq-eqb, ne_eqb, or_parts, eqb-false, cond-false, cond-true}
+use Rattle.std.proofs.lemmas.Bool.{and_parts, and_from, eqb-true, eq-eqb, ne_eqb, or_parts, or_from, eqb-false, cond-false, cond-true}
 use Rattle.std.proofs.lemmas.Bool.Decides.{nat_tests}
 use Rattle.title_share.specs.Rows.{units_in, total, in_order, is_division, with_units, moved_rows, whole_units}
 use Rattle.title_share.specs.Division.{Division, rows_of, rows_divide, same_rows, all_to, checked, division_or, division_of, units_of, units_after, moved}
@@ -31,20 +31,25 @@ pub record Divides (rows : List (ℕ × ℕ)) : Type 0 where
   pub ordered : in_order 0 rows ≡ true
   pub sum : total rows ≡ whole_units
 
+-- what the test of a division says
 pub divides : (rows : List (ℕ × ℕ)) → is_division rows ≡ true → Divides rows
 divides rows h = let parts = and_parts _ _ h in record { ordered = parts.0; sum = eqb-true _ _ parts.1 }
 
+-- and the other way round
 pub divides_from : (rows : List (ℕ × ℕ)) → Divides rows → is_division rows ≡ true
 divides_from rows d = and_from _ _ d.ordered (eq-eqb _ _ d.sum)
 
+-- rows of a division are those of that division alone
 pub division_is : (d : Division) (rows : List (ℕ × ℕ)) → rows ≡ rows_of d → division_of rows ≡ d
 division_is d rows e =
     let h : is_division rows ≡ true = subst (λ (x : List (ℕ × ℕ)). is_division x ≡ true) (sym e) (rows_divide d) in
     same_rows _ _ (rows-division_or _ rows h ∙ e)
 
+-- a division's rows are in order
 pub ordered_rows : (d : Division) → in_order 0 (rows_of d) ≡ true
 ordered_rows d = (divides (rows_of d) (rows_divide d)).ordered
 
+-- no party has more than the whole
 pub units_bound : (party : ℕ) (d : Division) → units_of party d ≤ whole_units
 units_bound party d = subst (λ (n : ℕ). units_of party d ≤ n) (divides (rows_of d) (rows_divide d)).sum (units_within party (rows_of d))
 
@@ -63,6 +68,7 @@ both_moves from to n rows d enough apart =
       sum = omega arith;
     }
 
+-- rows after a move divide the whole
 pub moved_divides : (from to n : ℕ) (rows : List (ℕ × ℕ)) → is_division rows ≡ true → n ≤ units_in from rows → is_division (moved_rows from to n rows) ≡ true
 moved_divides from to n rows h enough = go (eqb n 0 || eqb from to) refl
   where
@@ -70,6 +76,7 @@ moved_divides from to n rows h enough = go (eqb n 0 || eqb from to) refl
     go true e = h
     go false e = divides_from _ (both_moves from to n rows (divides rows h) enough (eqb-false from to (or_parts _ _ e).1))
 
+-- the rows of a division after a move
 pub rows-moved : (from to n : ℕ) (d : Division) → n ≤ units_of from d → rows_of (moved from to n d) ≡ moved_rows from to n (rows_of d)
 rows-moved from to n d enough = rows-division_or d _ (moved_divides from to n (rows_of d) (rows_divide d) enough)
 
@@ -77,21 +84,18 @@ rows-moved from to n d enough = rows-division_or d _ (moved_divides from to n (r
 pub viewed_rows : (rows : List (ℕ × ℕ)) (d : Division) → is_division rows ≡ true → division_of rows ≡ d → rows_of d ≡ rows
 viewed_rows rows d h e = ap rows_of (sym e) ∙ rows-division_or _ rows h
 
+-- a move of 0 units, or to the same party, changes nothing
 pub moved_none : (from to n : ℕ) (d : Division) → (eqb n 0 || eqb from to) ≡ true → moved from to n d ≡ d
 moved_none from to n d e =
     let same : moved_rows from to n (rows_of d) ≡ rows_of d = cond-true _ _ _ e in
     same_rows _ _ (rows-division_or d _ (subst (λ (x : List (ℕ × ℕ)). is_division x ≡ true) (sym same) (rows_divide d)) ∙ same)
-
-or_false : (a b : Bool) → a ≡ false → b ≡ false → (a || b) ≡ false
-or_false true b x y = x
-or_false false b x y = y
 
 -- rows after both parts of a move
 pub moved_is : (from to n : ℕ) (d : Division) (rows : List (ℕ × ℕ)) → n ≤ units_of from d → (n ≡ 0 → ⊥) → (from ≡ to → ⊥) →
     rows ≡ with_units to (units_of to d + n) (with_units from (units_of from d - n) (rows_of d)) → (division_of rows ≡ moved from to n d) × (is_division rows ≡ true)
 moved_is from to n d rows enough some apart e =
     let all : rows ≡ rows_of (moved from to n d) =
-    e ∙ sym (rows-moved from to n d enough ∙ cond-false (eqb n 0 || eqb from to) _ _ (let a = ne_eqb n 0 some in let b = ne_eqb from to apart in or_false (eqb n 0) (eqb from to) a b)) in
+    e ∙ sym (rows-moved from to n d enough ∙ cond-false (eqb n 0 || eqb from to) _ _ (let a = ne_eqb n 0 some in let b = ne_eqb from to apart in or_from (eqb n 0) (eqb from to) a b)) in
     (division_is _ rows all, subst (λ (x : List (ℕ × ℕ)). is_division x ≡ true) (sym all) (rows_divide (moved from to n d)))
 
 -- the same, step by step
@@ -106,6 +110,7 @@ in_units : (from to n q : ℕ) (had : ℕ → ℕ) →
     cond (eqb n 0 || eqb from to) (had q) (cond (eqb to q) (had to + n) (cond (eqb from q) (had from - n) (had q))) ≡ units_after from to n had q
 in_units from to n q had = grind (arith, nat_tests)
 
+-- a party's units in one of two lists of rows
 units_either : (b : Bool) (q : ℕ) (xs ys : List (ℕ × ℕ)) → units_in q (cond b xs ys) ≡ cond b (units_in q xs) (units_in q ys)
 units_either true q xs ys = refl
 units_either false q xs ys = refl

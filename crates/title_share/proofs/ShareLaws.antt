@@ -12,6 +12,7 @@ use Rattle.std.proofs.lemmas.Fmt.{decimal_is_IsNumeral, first_decimal}
 use Rattle.title_share.specs.Rows.{whole_units}
 use Rattle.title_share.specs.Share.{IsFraction, IsLowest, IsNumber, IsPart, IsShareText, lowest, share_text}
 
+-- 2^k goes that often into the whole, and at least once
 abbrev weighs : ℕ → Bool
 weighs k = eqb (1 * 2 ^ (32 - k) % 18446744073709551616 * 2 ^ k) 4294967296 && ltb 0 (1 * 2 ^ (32 - k) % 18446744073709551616)
 
@@ -21,19 +22,23 @@ weight_is k low =
     let both = and_parts _ _ (agree_below_at weighs (λ _. true) 33 k refl low) in
     (eqb-true _ _ both.0, ltb-true _ _ both.1)
 
+-- the value of digits, read on from a number
 read_on : ℕ → List ℕ → ℕ
 read_on n [] = n
 read_on n (c ∷ cs) = read_on (n * 10 + (c - 48)) cs
 
+-- that value is the one of the text
 own : IsNumeralModel (AllDigits 10) (read_on 0)
 unfolding read_on
 own = numerals_by_fold _ tells_digits read_on (search rules)
 
+-- reading on gives no less
 read_more : (n : ℕ) (cs : List ℕ) → n ≤ read_on n cs
 unfolding read_on
 read_more n [] = omega arith
 read_more n (c ∷ cs) = let e = read_more (n * 10 + (c - 48)) cs in omega arith
 
+-- digits without a leading zero are above 0
 some_digits : (text : List ℕ) → 0 < length text → AllDigits 10 text → get_or text 0 0 ≢ 48 → 0 < read_on 0 text
 unfolding read_on
 some_digits [] none digits lead = absurd (omega arith)
@@ -50,15 +55,19 @@ number_some text n h =
     let e = own.same text h.digits.1 ∙ h.value in
     subst (λ (x : ℕ). 0 < x) e (some_digits text h.digits.0 h.digits.1 h.leading)
 
+-- one text is one number
 pub same_number : (text other : List ℕ) (m n : ℕ) → text ≡ other → IsNumber text m → IsNumber other n → m ≡ n
 same_number text other m n e h k = sym h.value ∙ ap (digits_value 10) e ∙ k.value
 
+-- 2^k fits the whole
 abbrev power_fits : ℕ → Bool
 power_fits k = leb (2 ^ k) 4294967296
 
+-- 2^k is not cut off
 abbrev power_stays : ℕ → Bool
 power_stays k = eqb (1 * 2 ^ k % 18446744073709551616) (2 ^ k)
 
+-- the same as a fact
 pub power_is : (k : ℕ) → k < 33 → 1 * 2 ^ k % 18446744073709551616 ≡ 2 ^ k
 power_is k low = eqb-true _ _ (agree_below_at power_stays (λ _. true) 33 k refl low)
 
@@ -72,21 +81,26 @@ parts_are bs n r is s =
     split_after 47 bs s.top s.bottom r is (omega arith) s.joined
     (not_in_digits own s.top 47 s.top_is.digits.1 (λ range. let low : 48 ≤ 47 = range.0 in omega arith))
 
+-- so many units are a/b of the whole
 pub units_product : (a w b : ℕ) → w * b ≡ 4294967296 → (a * w) * b ≡ a * 4294967296
 units_product a w b e = mul_assoc a w b ∙ ap (λ (x : ℕ). a * x) e
 
+-- they are no more than the whole
 pub units_most : (a w b : ℕ) → w * b ≡ 4294967296 → a ≤ b → a * w ≤ 4294967296
 units_most a w b e low = omega (arith, mul-le-mul_right w low)
 
+-- they are at least one
 pub units_some : (a w : ℕ) → 0 < a → 0 < w → 0 < a * w
 units_some a w x y = omega (arith, mul-le-mul x y)
 
+-- an even number of units is halved
 lowest_halved : (k n : ℕ) → 0 < k → n % 2 ≡ 0 → lowest k n ≡ lowest (k - 1) (n / 2)
 unfolding lowest
 lowest_halved zero n some even = absurd (omega arith)
 lowest_halved (suc k) n some even =
     cond-true (eqb (n % 2) 0) _ _ (eq-eqb (n % 2) 0 even) ∙ ap (λ (j : ℕ). lowest j (n / 2)) (let e : k ≡ suc k - 1 = omega arith in e)
 
+-- an odd number stays
 lowest_stays : (k n : ℕ) → (0 < k → n % 2 ≡ 0 → ⊥) → lowest k n ≡ (n, 2 ^ k)
 unfolding lowest
 lowest_stays zero n odd = refl
@@ -96,6 +110,7 @@ lowest_stays (suc k) n odd = cond-false (eqb (n % 2) 0) _ _ (ne_eqb (n % 2) 0 (o
 pub reduced_more : (start : ℕ × ℕ) (k n : ℕ) → 0 < k → n % 2 ≡ 0 → start ≡ lowest k n → start ≡ lowest (k - 1) (n / 2)
 reduced_more start k n some even e = e ∙ lowest_halved k n some even
 
+-- the loop ends in lowest terms
 pub reduced_done : (start : ℕ × ℕ) (k n : ℕ) → k ≤ 32 → (0 < k → n % 2 ≡ 0 → ⊥) → start ≡ lowest k n → ◌≡◌ {A = ℕ × ℕ} (n, 1 * 2 ^ k % 18446744073709551616) start
 reduced_done start k n low odd e =
     let pow = power_is k (let h : k < 33 = omega arith in h) in
@@ -111,6 +126,7 @@ pub record IsHalved (k units : ℕ) (p : ℕ × ℕ) : Type 0 where
   pub product : units * p.1 ≡ p.0 * 2 ^ k
   pub odd : IsLowest p.0 p.1
 
+-- a half in lowest terms is the double in lowest terms
 halved_more : (k u : ℕ) → u % 2 ≡ 0 → IsHalved k (u / 2) (lowest k (u / 2)) → IsHalved (suc k) u (lowest k (u / 2))
 halved_more k u even h =
     let product = h.product in
@@ -126,9 +142,11 @@ halved_more k u even h =
       odd = h.odd;
     }
 
+-- what is odd is in lowest terms
 halved_stays : (k u : ℕ) → 0 < u → u ≤ 2 ^ k → (u % 2 ≡ 0 → 2 ^ k ≡ 1) → IsHalved k u (u, 2 ^ k)
 halved_stays k u some most odd = record { exponent = k; within = omega arith; below = refl; some = some; most = most; product = refl; odd = odd }
 
+-- halving gives lowest terms
 pub lowest_is : (k u : ℕ) → 0 < u → u ≤ 2 ^ k → IsHalved k u (lowest k u)
 unfolding lowest
 lowest_is zero u some most = halved_stays 0 u some most (λ _. refl)

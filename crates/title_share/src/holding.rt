@@ -1,7 +1,7 @@
 //! Who holds a whole.
 
 ghost use Rattle.std.specs.Prelude.{ℕ, ◌≡◌, ◌≤◌, ◌<◌, ◌+◌, ◌↔◌, IsTrue, IfOk, OnOk, OnErr, true, cond, eqb, vec_len, vec_capacity, MatchResult, length};
-ghost use Rattle.title_share.specs.Rows.{whole_units, units_in, with_units, in_order};
+ghost use Rattle.title_share.specs.Rows.{whole_units, is_division, units_in, with_units, in_order};
 ghost use Rattle.title_share.specs.Places.{place_of, IsAt, IsNotAt};
 
 use std::alloc::{AllocError, Global};
@@ -11,7 +11,7 @@ use std::marker::Model;
 pub const WHOLE: u64 = 4_294_967_296;
 
 /// The units of each party that has some, in order of party. Together they are the whole.
-#[derive(Drop)]
+#[derive(Debug, Drop)]
 pub struct Holding {
     rows: Vec<(u32, u64)>,
 }
@@ -103,9 +103,11 @@ impl Holding {
         units_among(&self.rows, party)
     }
 
-    /// The parties that have some units, each with its units, in order of party.
+    /// The parties that have some units, each with its units, in order of party. They sum to the
+    /// whole.
     pub fn rows(&self) -> &[(u32, u64)]
         ensures rows { result.now ≡ rows_of self.now }
+        ensures divide { is_division result.now ≡ true }
     {
         self.rows.as_slice()
     }
