@@ -6,3 +6,6 @@ pub mod Shapes
 pub mod Texts
 pub mod Lands
 pub mod Unique
+pub mod Spellings
+pub mod NodeTexts
+pub mod NodeCovers

@@ -1,7 +1,10 @@
 -- Laws of descriptions. The depth is how often a section is quartered down to its cells.
-use Rattle.std.specs.Prelude.{◌≡◌, ℕ, ◌<◌, List}
+use Rattle.std.specs.Prelude.{◌≡◌, ℕ, ◌<◌, List, [], ◌∷◌}
 use Rattle.title_land.specs.declared.rectangle.Step.{Step}
 use Rattle.title_land.specs.declared.tract.Land.{Land}
+use Rattle.title_land.specs.declared.node.Node.{Node}
+use Rattle.title_land.specs.Texts.{node_text}
+use Rattle.title_land.specs.Lands.{cover_of}
 use Rattle.title_land.specs.Places.{side}
 use Rattle.title_land.specs.Grids.{grid_has, grid_of}
 use Rattle.title_aliquot.specs.declared.fault.DescFault.{DescFault}
@@ -25,3 +28,7 @@ abbrev pub PartsHaveTheirCells : ℕ → Type 0
 PartsHaveTheirCells depth =
     (parts : List (List Step)) (row column : ℕ) → row < side depth → column < side depth →
     grid_has (grid_of depth (union (rectangles depth parts))) row column ≡ union (rectangles depth parts) row column
+
+-- a node's canonical text describes a land whose cover is that node alone
+abbrev pub ReadsBack : ℕ → Type 0
+ReadsBack depth = (n : Node) → (l : Land) × Describes depth (node_text n) l × (cover_of depth l ≡ n ∷ [])

@@ -1,6 +1,6 @@
 //! Laws of descriptions, for the crates above. Each function does nothing: its clause is the law, proved.
 
-ghost use Rattle.title_aliquot.specs.TextLaws.{OneLand, NoFaultBesideLand, OneFault, PartsHaveTheirCells};
+ghost use Rattle.title_aliquot.specs.TextLaws.{OneLand, NoFaultBesideLand, OneFault, PartsHaveTheirCells, ReadsBack};
 
 /// A text describes one land at most.
 pub fn one_land_at_most()
@@ -20,4 +20,9 @@ pub fn one_fault_at_most()
 /// The set of a section's parts has the cells of their rectangles and no others.
 pub fn parts_have_their_cells()
     ensures law { PartsHaveTheirCells 3 }
+{}
+
+/// A node's canonical text describes a land whose cover is that node alone.
+pub fn reads_back()
+    ensures law { ReadsBack 3 }
 {}

@@ -90,6 +90,7 @@ fn faults_with_their_bytes(rt: HostRuntime) -> Result<(), Fail> {
         ("T3N R2W sec lot 1", "fault,21,12\n"),
         ("T3N R2W sec 5 NE¼ É", "fault,21,19\n"),
         ("T3N R2W\tsec 5", "fault,21,7\n"),
+        ("T3N R2W sec 5 NEÂ", "fault,21,16\n"),
         ("T3N R2W sec 5 Lot 1", "fault,24\n"),
         ("T3N R2W sec 5, L. o t 1", "fault,24\n"),
         ("T3N R2W sec 5 lottery", "fault,24\n"),
@@ -120,7 +121,7 @@ fn faults_with_their_bytes(rt: HostRuntime) -> Result<(), Fail> {
 fn texts_of_more_than_a_thousand_bytes(rt: HostRuntime) -> Result<(), Fail> {
     let alloc = rt.alloc();
     let mut text = format!(in alloc; "T3N R2W")?;
-    while text.len() < 1000 {
+    for _ in 0..993 {
         text.push(' ')?;
     }
     assert_printed(&rt, alloc, text.as_str(), "node,T3N R2W\nacres,23040\n")?;
