@@ -4,3 +4,4 @@ pub mod Loaned
 pub mod Undo
 pub mod Facts
 pub mod Moves
+pub mod Steps

@@ -1,6 +1,7 @@
 //! The desk: interleaved transactions of any number of examiners over any store and any guards.
 #![tactic(auto)]
 
+mod asks;
 mod images;
 mod refusal;
 mod slots;

@@ -1,31 +1,36 @@
 //! The desk.
 
-ghost use Rattle.std.specs.Prelude.{◌≡◌, ◌≢◌, ℕ, List, [], ◌∷◌, IfOk, OnOk, ◌↔◌, reverse, true, false};
+ghost use Rattle.std.specs.Prelude.{MatchOption, ◌≡◌, ◌≢◌, ℕ, List, [], ◌∷◌, IfOk, OnOk, ◌↔◌, reverse, true, false};
 ghost use Rattle.title_store.specs.Plants.{IsEachOnce};
 ghost use Rattle.title_land.specs.declared.place.Cell.{Cell};
 ghost use Rattle.title_trace.specs.declared.call.Request.TheVariants.{Begin, Step, Commit, Abort};
 ghost use Rattle.title_trace.specs.declared.call.Reply.TheVariants.{Aborted, Memory};
-ghost use Rattle.title_chain.specs.Alone.{after_steps, plant_after, IsSerial};
+ghost use Rattle.title_chain.specs.declared.ask.Ask.TheVariants.{Sheet, Chain, Post};
+ghost use Rattle.title_chain.specs.Alone.{alone, after_steps, plant_after, IsSerial};
 ghost use Rattle.title_chain.specs.Overlaps.{record_of};
 ghost use Rattle.title_trace.specs.Trace.{is_open, open_steps, committed};
 ghost use Rattle.title_trace.specs.Due.{DueReply};
 ghost use Rattle.title_desk.specs.Refusals.{reply_of};
-ghost use Rattle.title_desk.specs.Images.{posted_at};
-ghost use Rattle.title_desk.specs.Told.{Books, MayOpen, Told};
+ghost use Rattle.title_desk.specs.Images.{is_posted, posted_at};
+ghost use Rattle.title_desk.specs.Told.{Books, MayOpen, Passes, Told};
 
+use crate::asks::{access_in, add_step, cause_in, tract_in};
 use crate::images::{forget_all, restore_all, tidy_up};
 use crate::refusal::Refusal;
-use crate::slots::{Slot, is_in, take_slot};
+use crate::slots::{Slot, count_steps, is_in, take_slot};
 use std::alloc::{AllocError, Global};
 use std::marker::Model;
-use title_chain::{Ask, Record, Steps};
-use title_land::Township;
+use title_chain::{Answer, Ask, Record, SheetRows, Steps};
+use title_land::{Township, Tract};
 use title_lock::Guards;
 use title_store::Store;
 use title_trace::{Call, Reply, Request};
 
 /// The most parties that a desk can be opened with.
 pub const MOST_PARTIES: u32 = 65_536;
+
+/// The most steps that a transaction has.
+pub const MOST_STEPS: usize = 10_000;
 
 /// The most townships that a desk can be opened with.
 pub const MOST_TOWNSHIPS: usize = 64;
@@ -200,10 +205,99 @@ impl<S: Store + Drop, G: Guards + Drop> Desk<S, G> {
         Reply::Committed(place)
     }
 
-    fn step(&mut self, _examiner: u32, _ask: Ask) -> Reply
-        ensures told { Told self.old (Step _examiner _ask) result self.new }
+    // Why a step is refused, in the order of refusals; nothing where it passes.
+    fn refusal(&self, examiner: u32, ask: &Ask) -> Option<Refusal>
+        ensures refusal { MatchOption result (Passes self.now examiner ask.now) (λ why. DueReply 3 self.now.setting self.now.trace (Step examiner ask.now) (reply_of why)) }
     {
-        Reply::Memory
+        if !is_in(&self.slots, examiner) {
+            return Some(Refusal::NotOpen);
+        }
+        if !tract_in(ask).is_in(&self.townships) {
+            return Some(Refusal::NoSuchTownship);
+        }
+        if let Some(cause) = cause_in(ask, self.parties) {
+            return Some(Refusal::Invalid(cause));
+        }
+        if count_steps(&self.slots, examiner) >= MOST_STEPS {
+            return Some(Refusal::TooLong);
+        }
+        if let Some(other) = self.guards.would(examiner, tract_in(ask), access_in(ask)) {
+            return Some(Refusal::Conflict(other));
+        }
+        None
+    }
+
+    // Adds a step that was answered and posted nothing.
+    fn add_answer(&mut self, examiner: u32, ask: Ask, answer: Answer) -> Reply
+        requires passes { Passes self.old examiner ask }
+        requires alone { answer ≡ alone 3 self.old.setting.townships (committed self.old.trace) (open_steps self.old.trace examiner) ask }
+        requires unposted { is_posted ask answer ≡ false }
+        ensures told { Told self.old (Step examiner ask) result self.new }
+    {
+        let Ok(told) = answer.copy(self.alloc) else {
+            return Reply::Memory;
+        };
+        let Ok(kept) = answer.copy(self.alloc) else {
+            return Reply::Memory;
+        };
+        let Ok(copied) = ask.copy(self.alloc) else {
+            return Reply::Memory;
+        };
+        if self.trace.reserve(self.slots.len() + 1).is_err() {
+            return Reply::Memory;
+        }
+        let Some(mut slot) = take_slot(&mut self.slots, examiner) else {
+            return Reply::Memory;
+        };
+        let access = access_in(&copied);
+        let step = title_chain::Step {
+            ask: copied,
+            answer: kept,
+        };
+        let added = add_step(&mut self.guards, &mut slot, access, step).is_ok();
+        self.slots.push_reserved(slot);
+        if !added {
+            return Reply::Memory;
+        }
+        self.trace.push_reserved(Call {
+            request: Request::Step(examiner, ask),
+            reply: Reply::Answered(told),
+        });
+        Reply::Answered(answer)
+    }
+
+    fn sheet(&mut self, examiner: u32, tract: Tract) -> Reply
+        requires passes { Passes self.old examiner (Sheet tract) }
+        ensures told { Told self.old (Step examiner (Sheet tract)) result self.new }
+    {
+        let Ok(rows) = self.store.sheet(self.alloc, &tract) else {
+            return Reply::Memory;
+        };
+        self.add_answer(
+            examiner,
+            Ask::Sheet(tract),
+            Answer::Rows(SheetRows::new(rows)),
+        )
+    }
+
+    fn pass(&mut self, examiner: u32, ask: Ask) -> Reply
+        requires passes { Passes self.old examiner ask }
+        ensures told { Told self.old (Step examiner ask) result self.new }
+    {
+        match ask {
+            Ask::Sheet(tract) => self.sheet(examiner, tract),
+            Ask::Chain(_) => Reply::Memory,
+            Ask::Post(_) => Reply::Memory,
+        }
+    }
+
+    fn step(&mut self, examiner: u32, ask: Ask) -> Reply
+        ensures told { Told self.old (Step examiner ask) result self.new }
+    {
+        match self.refusal(examiner, &ask) {
+            Some(refusal) => self.refuse(Request::Step(examiner, ask), refusal),
+            None => self.pass(examiner, ask),
+        }
     }
 
     /// Serves a request: adds it with the due reply to the trace, or answers `Memory` where a growth was refused, and then

@@ -1,0 +1,70 @@
+//! The parts of an ask, and what a step adds to a transaction.
+
+ghost use Rattle.std.specs.Prelude.{◌≡◌, ◌++◌, ◌∷◌, [], OnOk, OnErr};
+ghost use Rattle.title_lock.specs.Overlaps.{is_post as is_post_access};
+ghost use Rattle.title_chain.specs.Asks.{tract_of, is_post, cause_of};
+
+use crate::slots::Slot;
+use std::alloc::AllocError;
+use title_chain::{Ask, Step};
+use title_instrument::Cause;
+use title_land::Tract;
+use title_lock::{Access, Guards};
+
+/// The tract of an ask.
+pub(crate) fn tract_in(ask: &Ask) -> &Tract
+    ensures tract { result.now ≡ tract_of ask.now }
+{
+    match ask {
+        Ask::Sheet(tract) => tract,
+        Ask::Chain(tract) => tract,
+        Ask::Post(posting) => &posting.tract,
+    }
+}
+
+/// What an ask wants of its tract.
+pub(crate) fn access_in(ask: &Ask) -> Access
+    ensures access { is_post_access result ≡ is_post ask.now }
+{
+    match ask {
+        Ask::Sheet(_) => Access::Read,
+        Ask::Chain(_) => Access::Read,
+        Ask::Post(_) => Access::Post,
+    }
+}
+
+/// Why an ask can't stand among so many parties, if it can't.
+pub(crate) fn cause_in(ask: &Ask, parties: u32) -> Option<Cause>
+    ensures cause { result ≡ cause_of parties ask.now }
+{
+    match ask {
+        Ask::Sheet(_) => None,
+        Ask::Chain(_) => None,
+        Ask::Post(posting) => posting.instrument.check(parties).err(),
+    }
+}
+
+/// Adds a step to a slot and its lock to the guards, or leaves both as they were.
+pub(crate) fn add_step<G: Guards, I>(
+    guards: &mut G,
+    slot: &mut Slot<I>,
+    access: Access,
+    step: Step,
+) -> Result<(), AllocError>
+    ensures examiner { slot.new.examiner ≡ slot.old.examiner }
+    ensures images { slot.new.images ≡ slot.old.images }
+    ensures steps { OnOk result (slot.new.steps.items ≡ slot.old.steps.items ++ step ∷ []) }
+    ensures locked { OnOk result (G.entries guards.new ≡ record { examiner = slot.old.examiner; tract = tract_of step.ask; access = access } ∷ G.entries guards.old) }
+    ensures err_steps { OnErr result (slot.new.steps.items ≡ slot.old.steps.items) }
+    ensures err_locked { OnErr result (G.entries guards.new ≡ G.entries guards.old) }
+{
+    slot.steps.reserve(1)?;
+    if guards
+        .ask(slot.examiner, tract_in(&step.ask), access)
+        .is_err()
+    {
+        return Err(AllocError);
+    }
+    slot.steps.push_reserved(step);
+    Ok(())
+}
