@@ -50,6 +50,16 @@ fn weight(bottom: u64) -> Option<u64>
 }
 
 impl Share {
+    /// The share of so many units; `None` exactly where they aren't 1 to 2^32.
+    pub fn new(units: u64) -> Option<Share>
+        ensures new { MatchOption result (¬ ((0 < units) × (units ≤ 4294967296))) (λ s. s ≡ units) }
+    {
+        if units == 0 || units > 4_294_967_296 {
+            return None;
+        }
+        Some(Share { units })
+    }
+
     /// The share that a text `a/b` names, a/b of the whole. `None` where it names none: both are
     /// decimal numbers without leading zeros, b is a power of two up to the whole, 1 <= a <= b.
     pub fn parse(text: &str) -> Option<Share>

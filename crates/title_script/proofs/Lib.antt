@@ -1,0 +1,2 @@
+mod RowFields
+mod TownshipLists
