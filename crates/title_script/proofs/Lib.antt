@@ -1,2 +1,3 @@
 mod RowFields
 mod TownshipLists
+mod Taken

@@ -108,7 +108,11 @@ fn read_item(text: &str) -> Option<(Estate, Share)> {
 }
 
 // Adds an item to a reserve that has none for its estate.
-fn with_item(reserve: [Option<Share>; 3], estate: Estate, share: Share) -> Option<[Option<Share>; 3]> {
+fn with_item(
+    reserve: [Option<Share>; 3],
+    estate: Estate,
+    share: Share,
+) -> Option<[Option<Share>; 3]> {
     let [s, o, m] = reserve;
     match estate {
         Estate::S if s.is_none() => Some([Some(share), o, m]),

@@ -1,16 +1,18 @@
 //! What the rows of a script declare and ask for.
 
-ghost use Rattle.std.specs.Prelude.{◌≡◌, ◌≤◌, IfErr, OnOk, false, true};
+ghost use Rattle.std.specs.Prelude.{◌≡◌, ◌≤◌, IfErr, OnOk, false, length, true};
+ghost use Rattle.csv.specs.Records.{fields_of};
 ghost use Rattle.std.specs.List.{list_any};
 ghost use Rattle.title_land.specs.Places.{same_township};
 ghost use Rattle.title_script.specs.Faults.{IsRowFault};
 ghost use Rattle.title_script.specs.Townships.{each_once};
 
-use crate::rows::{read_row, DeedRow, ReleaseRow, Row, StepRow};
+use crate::fields::{EXAMINERS, field, has_name_form, read_number};
+use crate::rows::{DeedTerms, read_deed, read_release};
 use csv::{ByteRecord, StringRecord};
 use indexmap::IndexSet;
 use std::alloc::{AllocError, Global};
-use title_aliquot::{read, DescFault};
+use title_aliquot::{DescFault, read};
 use title_chain::{Ask, Posting};
 use title_device::RunFault;
 use title_instrument::{Deed, Instrument, Release};
@@ -87,16 +89,6 @@ fn add_township(townships: &mut Vec<Township>, township: Township) -> Result<(),
 {
     townships.push(township)?;
     Ok(())
-}
-
-// The act of a step row whose description has this outcome, given what it asks of a tract.
-fn described(fault: DescFault) -> Result<Act, RunFault>
-    ensures fault { IfErr result (λ e. e ≡ RunFault.Memory) }
-{
-    match fault {
-        DescFault::Memory => Err(RunFault::Memory),
-        other => Ok(Act::Described(other)),
-    }
 }
 
 impl Plan {
@@ -178,24 +170,27 @@ impl Plan {
                 tract,
                 instrument,
             }))),
-            Err(fault) => described(fault),
+            Err(DescFault::Memory) => Err(RunFault::Memory),
+            Err(fault) => Ok(Act::Described(fault)),
         }
     }
 
-    fn deed(&self, n: u64, row: DeedRow<'_>) -> Result<Act, RunFault>
+    // What a deed's row asks.
+    fn deed(&self, n: u64, row: &StringRecord) -> Result<Act, RunFault>
+        requires nine { length (fields_of row.now) ≡ 9 }
         ensures fault { IfErr result (IsRowFault n) }
     {
-        let DeedRow {
+        let Some(terms) = read_deed(row) else {
+            return Err(RunFault::Row(n));
+        };
+        let DeedTerms {
             doc,
-            grantor,
-            grantee,
             estates,
             quantum,
             reserve,
-            text,
-        } = row;
-        let grantor = self.party(n, grantor)?;
-        let grantee = self.party(n, grantee)?;
+        } = terms;
+        let grantor = self.party(n, field(row, 3))?;
+        let grantee = self.party(n, field(row, 4))?;
         let deed = Deed {
             grantor,
             grantee,
@@ -203,50 +198,84 @@ impl Plan {
             quantum,
             reserve,
         };
-        self.post(doc, Instrument::Deed(deed), text)
+        self.post(doc, Instrument::Deed(deed), field(row, 8))
     }
 
-    fn release(&self, n: u64, release: &ReleaseRow<'_>) -> Result<Act, RunFault>
+    // What a release's row asks.
+    fn release(&self, n: u64, row: &StringRecord) -> Result<Act, RunFault>
+        requires seven { length (fields_of row.now) ≡ 7 }
         ensures fault { IfErr result (IsRowFault n) }
     {
-        let from = self.party(n, release.from)?;
-        let to = self.party(n, release.to)?;
-        let instrument = Instrument::Release(Release {
+        let Some(terms) = read_release(row) else {
+            return Err(RunFault::Row(n));
+        };
+        let from = self.party(n, field(row, 3))?;
+        let to = self.party(n, field(row, 4))?;
+        let release = Release {
             from,
             to,
-            estates: release.estates,
-        });
-        self.post(release.doc, instrument, release.text)
+            estates: terms.estates,
+        };
+        self.post(terms.doc, Instrument::Release(release), field(row, 6))
     }
 
-    fn sheet(&self, text: &str) -> Result<Act, RunFault>
-        ensures fault { IfErr result (λ e. e ≡ RunFault.Memory) }
+    // What a sheet's row asks.
+    fn sheet(&self, n: u64, row: &StringRecord) -> Result<Act, RunFault>
+        requires three { length (fields_of row.now) ≡ 3 }
+        ensures fault { IfErr result (IsRowFault n) }
     {
-        match read(self.alloc, text) {
+        if field(row, 1) != "sheet" {
+            return Err(RunFault::Row(n));
+        }
+        match read(self.alloc, field(row, 2)) {
             Ok(tract) => Ok(Act::Ask(Ask::Sheet(tract))),
-            Err(fault) => described(fault),
+            Err(DescFault::Memory) => Err(RunFault::Memory),
+            Err(fault) => Ok(Act::Described(fault)),
         }
     }
 
     // What a step row asks.
-    fn act(&self, n: u64, step: StepRow<'_>) -> Result<Act, RunFault>
+    fn act(&self, n: u64, row: &StringRecord) -> Result<Act, RunFault>
         ensures fault { IfErr result (IsRowFault n) }
     {
-        match step {
-            StepRow::Sheet(text) => self.sheet(text),
-            StepRow::Deed(deed) => self.deed(n, deed),
-            StepRow::Release(release) => self.release(n, &release),
+        match row.len() {
+            3 => self.sheet(n, row),
+            7 => self.release(n, row),
+            9 => self.deed(n, row),
+            _ => Err(RunFault::Row(n)),
         }
     }
 
-    fn take_step(&mut self, n: u64, examiner: u32, step: StepRow<'_>) -> Result<(), RunFault>
+    fn take_step(&mut self, n: u64, row: &StringRecord) -> Result<(), RunFault>
         ensures fault { IfErr result (IsRowFault n) }
     {
-        let act = self.act(n, step)?;
-        match add_line(&mut self.lines, Line { examiner, act }) {
+        let Some(first) = row.get(0) else {
+            return Err(RunFault::Row(n));
+        };
+        let Some(examiner) = read_number(first, EXAMINERS) else {
+            return Err(RunFault::Row(n));
+        };
+        let act = self.act(n, row)?;
+        let line = Line {
+            examiner: examiner as u32,
+            act,
+        };
+        match add_line(&mut self.lines, line) {
             Ok(()) => Ok(()),
             Err(_) => Err(RunFault::Memory),
         }
+    }
+
+    fn take_declaration(&mut self, n: u64, word: &str, text: &str) -> Result<(), RunFault>
+        ensures fault { IfErr result (IsRowFault n) }
+    {
+        if word == "township" {
+            return self.take_township(n, text);
+        }
+        if word == "party" && has_name_form(text) {
+            return self.take_party(n, text);
+        }
+        Err(RunFault::Row(n))
     }
 
     /// How many parties there are, UNITED STATES among them.
@@ -266,11 +295,9 @@ impl Plan {
         let Ok(row) = StringRecord::from_byte_record(raw) else {
             return Err(RunFault::Row(n));
         };
-        match read_row(&row) {
-            None => Err(RunFault::Row(n)),
-            Some(Row::Township(text)) => self.take_township(n, text),
-            Some(Row::Party(name)) => self.take_party(n, name),
-            Some(Row::Step(examiner, step)) => self.take_step(n, examiner, step),
+        if row.len() == 2 {
+            return self.take_declaration(n, field(&row, 0), field(&row, 1));
         }
+        self.take_step(n, &row)
     }
 }

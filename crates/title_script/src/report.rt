@@ -40,11 +40,12 @@ fn number_text(alloc: Global, number: u64) -> Result<String, RunFault>
     }
 }
 
-fn estate_word(estate: Estate) -> &'static str {
-    match estate {
-        Estate::S => "S",
-        Estate::O => "O",
-        Estate::M => "M",
+fn estate_text(alloc: Global, estate: Estate) -> Result<String, RunFault>
+    ensures fault { IfErr result (λ e. e ≡ RunFault.Memory) }
+{
+    match estate.to_string(alloc) {
+        Ok(text) => Ok(text),
+        Err(_) => Err(RunFault::Memory),
     }
 }
 
@@ -90,7 +91,7 @@ fn write_sheet_row(
     let examiner = number_text(alloc, u64::from(examiner))?;
     let node = node_text(alloc, row.node)?;
     let share = share_text(alloc, row.units)?;
-    let estate = estate_word(row.estate);
+    let estate = estate_text(alloc, row.estate)?;
     let name = name_bytes(names, row.party);
     write_row(
         writer,
@@ -105,10 +106,16 @@ fn write_sheet_row(
     )
 }
 
-fn kind_word(instrument: &Instrument) -> &'static str {
-    match instrument {
+fn kind_text(alloc: Global, instrument: &Instrument) -> Result<String, RunFault>
+    ensures fault { IfErr result (λ e. e ≡ RunFault.Memory) }
+{
+    let kind = match instrument {
         Instrument::Deed(_) => "deed",
         Instrument::Release(_) => "release",
+    };
+    match String::from_str(alloc, kind) {
+        Ok(text) => Ok(text),
+        Err(_) => Err(RunFault::Memory),
     }
 }
 
@@ -134,7 +141,7 @@ fn write_entry(
     let place = number_text(alloc, entry.place)?;
     let doc = number_text(alloc, entry.posting.doc)?;
     let instrument = entry.posting.instrument;
-    let kind = kind_word(&instrument);
+    let kind = kind_text(alloc, &instrument)?;
     let estates = estates_text(alloc, instrument.estates())?;
     let from = name_bytes(names, instrument.grantor());
     let to = name_bytes(names, instrument.grantee());
@@ -206,20 +213,29 @@ impl<'a> Report<'a> {
         Ok(())
     }
 
-    fn refused(&mut self, examiner: u32, rule: Rule, estate: Estate, node: Node) -> Result<(), RunFault>
+    fn refused(
+        &mut self,
+        examiner: u32,
+        rule: Rule,
+        estate: Estate,
+        node: Node,
+    ) -> Result<(), RunFault>
         ensures fault { IfErr result (λ e. e ≡ RunFault.Memory) }
     {
         let examiner = number_text(self.alloc, u64::from(examiner))?;
         let rule = number_text(self.alloc, u64::from(rule.number()))?;
+        let estate = estate_text(self.alloc, estate)?;
         let node = node_text(self.alloc, node)?;
-        let fields: [&[u8]; 5] = [
-            examiner.as_bytes(),
-            b"refused",
-            rule.as_bytes(),
-            estate_word(estate).as_bytes(),
-            node.as_bytes(),
-        ];
-        write_row(&mut self.writer, &fields)
+        write_row(
+            &mut self.writer,
+            &[
+                examiner.as_bytes(),
+                b"refused",
+                rule.as_bytes(),
+                estate.as_bytes(),
+                node.as_bytes(),
+            ],
+        )
     }
 
     fn answer(&mut self, examiner: u32, answer: &Answer) -> Result<(), RunFault>
