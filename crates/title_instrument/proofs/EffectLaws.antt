@@ -14,7 +14,7 @@ use Rattle.title_instrument.specs.Estates.{names}
 use Rattle.title_instrument.specs.Parties.{grantor_of, grantee_of, estates_of}
 use Rattle.title_instrument.specs.Passing.{passes}
 use Rattle.title_instrument.specs.Owners.{holding_of}
-use Rattle.title_instrument.specs.Effect.{after_passing, holding_effect, joined, cell_effect, owners_after}
+use Rattle.title_instrument.specs.Effect.{after_passing, holding_effect, joined, cell_effect, owners_after, KeepsUnnamed}
 
 -- nothing passes in an estate that isn't named
 pub passes_unnamed : (d : Instrument) (e : Estate) (g : ℕ) → names (estates_of d) e ≡ false → passes d e g ≡ Ok 0
@@ -52,5 +52,5 @@ unnamed_stays d w M none =
     ap (λ (r : Result Division Rule). (owners_after w (joined (holding_effect d S w.s) (holding_effect d O w.o) r)).m) (holding_unnamed d M w.m none) ∙ kept_m w _ _
 
 -- the same of an effect that is the cell's
-pub unnamed_in : (d : Instrument) (w : Owners) (e : Effect) → e ≡ cell_effect d w → (x : Estate) → names (estates_of d) x ≡ false → holding_of x (owners_after w e) ≡ holding_of x w
+pub unnamed_in : (d : Instrument) (w : Owners) (e : Effect) → e ≡ cell_effect d w → KeepsUnnamed d w e
 unnamed_in d w e is x none = ap (λ (f : Effect). holding_of x (owners_after w f)) is ∙ unnamed_stays d w x none

@@ -1,5 +1,5 @@
 -- What an instrument does to the owners of one cell.
-use Rattle.std.specs.Prelude.{ℕ, Result, Ok, Err}
+use Rattle.std.specs.Prelude.{ℕ, ◌≡◌, false, Result, Ok, Err}
 use Rattle.title_share.specs.Division.{Division, moved, units_of}
 use Rattle.title_instrument.specs.declared.parts.Estate.{Estate}
 use Rattle.title_instrument.specs.declared.parts.Estate.TheVariants.{S, O, M}
@@ -8,8 +8,9 @@ use Rattle.title_instrument.specs.declared.instrument.Instrument.{Instrument}
 use Rattle.title_instrument.specs.declared.owners.Owners.{Owners}
 use Rattle.title_instrument.specs.declared.owners.Effect.{Effect}
 use Rattle.title_instrument.specs.declared.owners.Effect.TheVariants.{Done, Refused}
+use Rattle.title_instrument.specs.Estates.{names}
 use Rattle.title_instrument.specs.Owners.{holding_of}
-use Rattle.title_instrument.specs.Parties.{grantor_of, grantee_of}
+use Rattle.title_instrument.specs.Parties.{grantor_of, grantee_of, estates_of}
 use Rattle.title_instrument.specs.Passing.{passes}
 
 -- a holding after units have passed from grantor to grantee, where a number of units passes
@@ -36,3 +37,7 @@ cell_effect i w = joined (holding_effect i S (holding_of S w)) (holding_effect i
 abbrev pub owners_after : Owners → Effect → Owners
 owners_after before (Done after) = after
 owners_after before (Refused rule estate) = before
+
+-- estates that an instrument doesn't name stay
+abbrev pub KeepsUnnamed : Instrument → Owners → Effect → Type 0
+KeepsUnnamed i w e = (x : Estate) → names (estates_of i) x ≡ false → holding_of x (owners_after w e) ≡ holding_of x w

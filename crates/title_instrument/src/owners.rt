@@ -1,11 +1,8 @@
 //! The owners of one cell, and what an instrument does to them.
 
-ghost use Rattle.std.specs.Prelude.{◌≡◌, ◌↔◌, IsTrue, IfOk, false};
+ghost use Rattle.std.specs.Prelude.{◌≡◌, ◌↔◌, IsTrue, IfOk};
 ghost use Rattle.title_instrument.specs.Owners.{holding_of, opening_owners};
-ghost use Rattle.title_instrument.specs.Effect.{holding_effect, cell_effect, owners_after};
-ghost use Rattle.title_instrument.specs.Estates.{names};
-ghost use Rattle.title_instrument.specs.Parties.{estates_of};
-ghost use Rattle.title_instrument.specs.declared.parts.Estate.{Estate};
+ghost use Rattle.title_instrument.specs.Effect.{holding_effect, cell_effect, KeepsUnnamed};
 
 use crate::instrument::Instrument;
 use crate::parts::{Estate, Rule};
@@ -95,7 +92,7 @@ impl Instrument {
     #[tactic(auto, unfolding(crate::specs::Effect::cell_effect))]
     pub fn apply_cell(&self, alloc: Global, owners: &Owners) -> Result<Effect, AllocError>
         ensures effect { IfOk result (λ e. e ≡ cell_effect self.now owners.now) }
-        ensures unnamed { IfOk result (λ e. (x : Estate) → names (estates_of self.now) x ≡ false → holding_of x (owners_after owners.now e) ≡ holding_of x owners.now) }
+        ensures unnamed { IfOk result (KeepsUnnamed self.now owners.now) }
     {
         let s = match holding_after(alloc, self, Estate::S, owners.of(Estate::S))? {
             Ok(s) => s,
