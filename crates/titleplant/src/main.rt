@@ -16,10 +16,6 @@ fn borrowed<'a>(alloc: Global, words: &'a Vec<String>) -> Result<Vec<&'a str>, A
 
 fn obey(rt: &HostRuntime, words: &[&str]) -> io::Result<ExitCode> {
     match line(rt.alloc(), words) {
-        Ok(Line::Run) => {
-            eprintln!(rt; "error: `run` is not there yet")?;
-            Ok(ExitCode::from(2))
-        }
         Ok(Line::Alone) => alone(rt),
         Ok(Line::Tract(text)) => tract(rt, text),
         Err(LineFault::Help(error)) => {
