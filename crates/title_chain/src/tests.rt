@@ -1,10 +1,18 @@
-use crate::{Answer, Ask, Entries, Entry, Posting, Record, Records, SheetRows, Step, Steps, chain};
-use std::alloc::Global;
+ghost use Rattle.std.specs.Prelude.{◌≡◌, IfOk, List, [], ◌∷◌, true, reverse};
+ghost use Rattle.title_share.specs.Rows.{whole_units};
+ghost use Rattle.title_land.specs.Lands.{is_in_plant};
+ghost use Rattle.title_chain.specs.Alone.{IsSerial};
+
+use crate::{
+    Answer, Ask, Entries, Entry, Posting, Record, Records, SheetRows, Step, Steps, chain,
+    sheet_by_chain,
+};
+use std::alloc::{AllocError, Global};
 use std::process::Abort;
 use std::test::Fail;
 use title_instrument::{Deed, Estate, Estates, Instrument, Quantum, Release, Rule};
 use title_land::{Grid, Land, Node, Quarter, Rectangle, Section, Township, Tract, Within};
-use title_share::Share;
+use title_share::{Share, WHOLE};
 use title_store::SheetRow;
 
 const UNITED_STATES: u32 = 0;
@@ -33,6 +41,10 @@ fn whole_section(alloc: Global, rt: &impl Abort, number: u8) -> Result<Tract, Fa
     Ok(Tract::new(alloc, Land::Part(section(rt, number), Grid::FULL))?)
 }
 
+fn whole(rt: &impl Abort) -> Share {
+    Share::parse("1/1").expect(rt, "a share")
+}
+
 // The northeast quarter of section 5.
 fn quarter(alloc: Global, rt: &impl Abort) -> Result<Tract, Fail> {
     let cells = Grid::EMPTY.with(Rectangle::SECTION.quarter(Quarter::Northeast));
@@ -46,46 +58,83 @@ fn sixteenth(alloc: Global, rt: &impl Abort) -> Result<Tract, Fail> {
     Ok(Tract::new(alloc, Land::Part(section(rt, 5), cells))?)
 }
 
-// A deed of the whole surface.
-fn deed(rt: &impl Abort, doc: u64, tract: Tract, grantor: u32, grantee: u32) -> Ask {
-    let share = Share::parse("1/1").expect(rt, "a share");
-    Ask::Post(Posting {
-        doc,
-        tract,
-        instrument: Instrument::Deed(Deed {
-            grantor,
-            grantee,
-            estates: SURFACE,
-            quantum: Quantum::Whole(share),
-            reserve: [None; 3],
-        }),
+// A deed of a share of the surface.
+fn deed(share: Share, grantor: u32, grantee: u32) -> Instrument
+    ensures deed { result ≡ Instrument.Deed (record {
+      grantor = grantor;
+      grantee = grantee;
+      estates = SURFACE;
+      quantum = Quantum.Whole share;
+      reserve = None ∷ None ∷ None ∷ [];
+    }) }
+{
+    Instrument::Deed(Deed {
+        grantor,
+        grantee,
+        estates: SURFACE,
+        quantum: Quantum::Whole(share),
+        reserve: [None; 3],
     })
 }
 
 // A release of the surface.
-fn release(doc: u64, tract: Tract, from: u32, to: u32) -> Ask {
-    Ask::Post(Posting {
-        doc,
-        tract,
-        instrument: Instrument::Release(Release {
-            from,
-            to,
-            estates: SURFACE,
-        }),
+fn release(from: u32, to: u32) -> Instrument
+    ensures release { result ≡ Instrument.Release (record { «from» = from; to = to; estates = SURFACE }) }
+{
+    Instrument::Release(Release {
+        from,
+        to,
+        estates: SURFACE,
     })
 }
 
-fn record(examiner: u32, steps: Vec<Step>) -> Record {
+fn record(examiner: u32, steps: Vec<Step>) -> Record
+    ensures record { result ≡ record { examiner = examiner; steps = steps.items } }
+{
     Record {
         examiner,
         steps: Steps::new(steps),
     }
 }
 
-// A transaction of one post.
-fn posted(alloc: Global, examiner: u32, ask: Ask) -> Result<Record, Fail> {
-    let answer = Answer::Posted;
-    Ok(record(examiner, vec![in alloc; Step { ask, answer }]?))
+fn posted(doc: u64, tract: Tract, instrument: Instrument) -> Step
+    ensures posted { result ≡ record {
+      ask = Ask.Post (record { doc = doc; tract = tract; instrument = instrument });
+      answer = Answer.Posted;
+    } }
+{
+    Step {
+        ask: Ask::Post(Posting {
+            doc,
+            tract,
+            instrument,
+        }),
+        answer: Answer::Posted,
+    }
+}
+
+// Three transactions of one post each: a deed of a sixteenth and two releases of its quarter.
+fn releases(
+    alloc: Global,
+    township: Township,
+    share: Share,
+    sixteenth: Tract,
+    quarter: &Tract,
+) -> Result<Records, AllocError>
+    requires whole { share ≡ whole_units }
+    requires sixteenth { is_in_plant (township ∷ []) sixteenth ≡ true }
+    requires quarter { is_in_plant (township ∷ []) quarter.now ≡ true }
+    ensures serial { IfOk result (λ records. IsSerial 3 (township ∷ []) (reverse records)) }
+{
+    let first = posted(1, sixteenth, deed(share, UNITED_STATES, ADAMS));
+    let second = posted(2, quarter.copy(alloc)?, release(ADAMS, BELL));
+    let third = posted(3, quarter.copy(alloc)?, release(CLARK, BELL));
+    let records = vec![in alloc;
+        record(1, vec![in alloc; first]?),
+        record(1, vec![in alloc; second]?),
+        record(1, vec![in alloc; third]?),
+    ]?;
+    Ok(Records::new(records))
 }
 
 /// The entries have these places and document numbers.
@@ -98,56 +147,79 @@ fn assert_entries(rt: &impl Abort, entries: &Entries, want: &[(u64, u64)]) {
     }
 }
 
+/// The rows have these nodes, estates and parties, with the whole each.
+fn assert_rows(
+    alloc: Global,
+    rt: &impl Abort,
+    rows: &SheetRows,
+    want: &[(&str, Estate, u32)],
+) -> Result<(), Fail> {
+    let rows = rows.as_slice();
+    assert_eq!(rt; rows.len(), want.len());
+    for (row, (node, estate, party)) in rows.iter().zip(want.iter()) {
+        assert_eq!(rt; format!(in alloc; "{}", row.node)?.as_str(), *node);
+        assert_eq!(rt; row.estate, *estate);
+        assert_eq!(rt; row.party, *party);
+        assert_eq!(rt; row.units, WHOLE);
+    }
+    Ok(())
+}
+
 #[test]
-fn a_deed_and_two_releases_in_order(rt: HostRuntime) -> Result<(), Fail> {
+fn a_deed_and_two_releases(rt: HostRuntime) -> Result<(), Fail> {
     let alloc = rt.alloc();
-    let records = Records::new(vec![in alloc;
-        posted(
-            alloc,
-            1,
-            deed(&rt, 1, sixteenth(alloc, &rt)?, UNITED_STATES, ADAMS)
-        )?,
-        posted(alloc, 1, release(2, quarter(alloc, &rt)?, ADAMS, BELL))?,
-        posted(alloc, 1, release(3, quarter(alloc, &rt)?, CLARK, BELL))?,
-    ]?);
-    let entries = chain(alloc, &records, &[], &quarter(alloc, &rt)?)?;
+    let townships = [third_north(&rt)];
+    let (sixteenth, quarter) = (sixteenth(alloc, &rt)?, quarter(alloc, &rt)?);
+    assert!(rt; sixteenth.is_in(&townships));
+    assert!(rt; quarter.is_in(&townships));
+    let share = whole(&rt);
+    assert!(rt; share.units() == WHOLE);
+    let records = releases(alloc, townships[0], share, sixteenth, &quarter)?;
+    let entries = chain(alloc, &records, &[], &quarter)?;
     assert_entries(&rt, &entries, &[(1, 1), (2, 2), (3, 3)]);
     let last = entries.into_vec().pop().expect(&rt, "three entries");
-    assert_eq!(rt; last.posting.instrument.grantor(), CLARK);
-    Ok(())
+    assert_eq!(rt; last.posting.instrument, release(CLARK, BELL));
+    let rows = sheet_by_chain(alloc, &records, &townships, &quarter)?;
+    assert_rows(
+        alloc,
+        &rt,
+        &rows,
+        &[
+            ("T3N R2W sec 5 NE1/4NE1/4", Estate::S, BELL),
+            ("T3N R2W sec 5 NW1/4NE1/4", Estate::S, UNITED_STATES),
+            ("T3N R2W sec 5 SW1/4NE1/4", Estate::S, UNITED_STATES),
+            ("T3N R2W sec 5 SE1/4NE1/4", Estate::S, UNITED_STATES),
+            ("T3N R2W sec 5 NE1/4", Estate::O, UNITED_STATES),
+            ("T3N R2W sec 5 NE1/4", Estate::M, UNITED_STATES),
+        ],
+    )
 }
 
 // Examiner 2 posts after examiner 1 and commits before.
 #[test]
 fn places_follow_the_order_of_commits(rt: HostRuntime) -> Result<(), Fail> {
     let alloc = rt.alloc();
-    let first = deed(&rt, 11, whole_section(alloc, &rt, 5)?, UNITED_STATES, ADAMS);
-    let second = deed(&rt, 12, whole_section(alloc, &rt, 6)?, UNITED_STATES, BELL);
-    let own = vec![in alloc;
-        Step {
-            ask: first,
-            answer: Answer::Posted
-        },
-    ]?;
-    let fifth = whole_section(alloc, &rt, 5)?;
+    let (fifth, sixth) = (whole_section(alloc, &rt, 5)?, whole_section(alloc, &rt, 6)?);
+    let township = Tract::new(alloc, Land::Township(third_north(&rt)))?;
+    let first = posted(
+        11,
+        fifth.copy(alloc)?,
+        deed(whole(&rt), UNITED_STATES, ADAMS),
+    );
+    let second = posted(12, sixth, deed(whole(&rt), UNITED_STATES, BELL));
+    let own = vec![in alloc; first]?;
     let entries = chain(alloc, &Records::new(Vec::new(alloc)), &own, &fifth)?;
     assert_entries(&rt, &entries, &[(0, 11)]);
-    let before = Records::new(vec![in alloc; posted(alloc, 2, second)?]?);
-    let township = Tract::new(alloc, Land::Township(third_north(&rt)))?;
-    assert_entries(
-        &rt,
-        &chain(alloc, &before, &own, &township)?,
-        &[(1, 12), (0, 11)],
-    );
+    let before = Records::new(vec![in alloc; record(2, vec![in alloc; second]?)]?);
+    let entries = chain(alloc, &before, &own, &township)?;
+    assert_entries(&rt, &entries, &[(1, 12), (0, 11)]);
     let mut records = before.into_vec();
     records.push(record(1, own))?;
     let records = Records::new(records);
-    assert_entries(
-        &rt,
-        &chain(alloc, &records, &[], &township)?,
-        &[(1, 12), (2, 11)],
-    );
-    assert_entries(&rt, &chain(alloc, &records, &[], &fifth)?, &[(2, 11)]);
+    let entries = chain(alloc, &records, &[], &township)?;
+    assert_entries(&rt, &entries, &[(1, 12), (2, 11)]);
+    let entries = chain(alloc, &records, &[], &fifth)?;
+    assert_entries(&rt, &entries, &[(2, 11)]);
     Ok(())
 }
 
@@ -161,37 +233,26 @@ fn a_refused_post_is_not_in_the_chain(rt: HostRuntime) -> Result<(), Fail> {
         node,
         estate: Estate::S,
         party: UNITED_STATES,
-        units: 1 << 32,
+        units: WHOLE,
     };
-    let listed = Entry {
-        place: 1,
-        posting: Posting {
-            doc: 7,
-            tract: fifth.copy(alloc)?,
-            instrument: Instrument::Release(Release {
-                from: ADAMS,
-                to: BELL,
-                estates: SURFACE,
-            }),
-        },
+    let mut refused = posted(8, fifth.copy(alloc)?, deed(whole(&rt), BELL, ADAMS));
+    refused.answer = Answer::Refused(Rule::ShortTitle, Estate::S, node);
+    let posting = Posting {
+        doc: 7,
+        tract: fifth.copy(alloc)?,
+        instrument: release(ADAMS, BELL),
     };
     let steps = vec![in alloc;
         Step {
             ask: Ask::Sheet(fifth.copy(alloc)?),
             answer: Answer::Rows(SheetRows::new(vec![in alloc; row]?)),
         },
-        Step {
-            ask: deed(&rt, 8, fifth.copy(alloc)?, BELL, ADAMS),
-            answer: Answer::Refused(Rule::ShortTitle, Estate::S, node),
-        },
+        refused,
         Step {
             ask: Ask::Chain(fifth.copy(alloc)?),
-            answer: Answer::Entries(Entries::new(vec![in alloc; listed]?)),
+            answer: Answer::Entries(Entries::new(vec![in alloc; Entry { place: 1, posting }]?)),
         },
-        Step {
-            ask: release(9, fifth.copy(alloc)?, BELL, ADAMS),
-            answer: Answer::Posted,
-        },
+        posted(9, fifth.copy(alloc)?, release(BELL, ADAMS)),
     ]?;
     let records = Records::new(vec![in alloc; record(1, steps)]?);
     let copy = records.copy(alloc)?;
