@@ -5,3 +5,4 @@ pub mod Undo
 pub mod Facts
 pub mod Moves
 pub mod Steps
+pub mod Posts

@@ -1,5 +1,5 @@
 -- Steps: what is due to them, and what an answered one makes of what the desk keeps.
-use Rattle.std.proofs.Common.{◌≡◌, ◌≢◌, ◌<◌, ℕ, Bool, true, false, cond, ◌&&◌, ◌||◌, List, [], ◌∷◌, ◌++◌, map, reverse, refl, ap, ◌∙◌, sym, subst, eqb, Option, Some, None, is_some, inl, inr, length, lit≤, Result, Ok, Err, is_ok, OnOk, OnErr}
+use Rattle.std.proofs.Common.{◌≡◌, ℕ, Bool, true, false, cond, ◌&&◌, ◌||◌, List, [], ◌∷◌, ◌++◌, reverse, refl, ap, ◌∙◌, sym, subst, eqb, Option, Some, None, is_some, length, lit≤, Result, Ok, Err, is_ok, OnOk, OnErr}
 use Rattle.std.proofs.Math.Path.{fun_ext}
 use Rattle.std.specs.Prelude.{nat_le}
 use Rattle.std.proofs.lemmas.List.{reverse-append}
@@ -18,11 +18,11 @@ use Rattle.title_chain.specs.declared.ask.Answer.TheVariants as answer
 use Rattle.title_chain.specs.declared.ask.Posting.{Posting}
 use Rattle.title_chain.specs.declared.ask.Step.{Step}
 use Rattle.title_chain.specs.declared.record.Record.{Record}
-use Rattle.title_chain.specs.Asks.{tract_of, is_post, cause_of, effect, answer_to, post_answer}
+use Rattle.title_chain.specs.Asks.{tract_of, is_post, cause_of, effect, post_answer}
 use Rattle.title_chain.specs.Chains.{chain_of}
 use Rattle.title_chain.specs.Alone.{after_steps, plant_after, alone}
 use Rattle.title_chain.specs.Overlaps.{overlaps}
-use Rattle.title_chain.proofs.AskLaws.{answer_same, answer_sheet, answer_post, effect_read, effect_refused}
+use Rattle.title_chain.proofs.AskLaws.{answer_same, answer_sheet, answer_chain, answer_post, effect_read, effect_refused}
 use Rattle.title_lock.specs.declared.guards.Access.{Access}
 use Rattle.title_lock.specs.declared.guards.Entry.{Entry}
 use Rattle.title_lock.specs.Overlaps.{against, Stands, is_post as is_post_access}
@@ -224,3 +224,11 @@ on_ok (Err x) P h p = cc
 pub on_err : {T E : Type 0} (r : Result T E) (P : Type 0) → is_ok r ≡ false → OnErr r P → P
 on_err (Ok x) P h p = cc
 on_err (Err x) P h p = p
+
+-- the chain that is made of the records and of the examiner's steps is the one that it sees
+pub chain_due : {I : Type 0} {number : I → ℕ} {setting : Setting} {content : Plant} {declared : List Township} {out : List Loan} {locks : List Entry} {trace : List Call} {records : List Record} {slots : List (Slot I)} →
+    (e : ℕ) (t : Land) → Keeps number setting content declared out locks trace records slots →
+    answer.Entries (chain_of (reverse records) (steps_in (found e slots)) t) ≡ alone 3 setting.townships (committed trace) (open_steps trace e) (ask.Chain t)
+chain_due {setting = setting} {trace = trace} {records = records} {slots = slots} e t k =
+    ap answer.Entries (ap (λ r. chain_of r (steps_in (found e slots)) t) k.records_are ∙ ap (λ s. chain_of (committed trace) s t) (k.slots_are.steps_are e))
+    ∙ sym (answer_chain 3 setting.townships (after_steps 3 setting.townships (plant_after 3 setting.townships (committed trace)) (open_steps trace e)) (chain_of (committed trace) (open_steps trace e) t) t)

@@ -1,7 +1,11 @@
 //! The parts of an ask, and what a step adds to a transaction.
 
 ghost use Rattle.std.specs.Prelude.{◌≡◌, ◌++◌, ◌∷◌, [], OnOk, OnErr};
+ghost use Rattle.title_lock.specs.declared.guards.Access.TheVariants.{Post};
 ghost use Rattle.title_lock.specs.Overlaps.{is_post as is_post_access};
+ghost use Rattle.title_store.specs.Loans.{Loan, IsOut, IsLast, IsLentAs, without};
+ghost use Rattle.title_store.specs.Plants.{SameContent};
+ghost use Rattle.title_desk.specs.Images.{put_back};
 ghost use Rattle.title_chain.specs.Asks.{tract_of, is_post, cause_of};
 
 use crate::slots::Slot;
@@ -10,6 +14,7 @@ use title_chain::{Ask, Step};
 use title_instrument::Cause;
 use title_land::Tract;
 use title_lock::{Access, Guards};
+use title_store::Store;
 
 /// The tract of an ask.
 pub(crate) fn tract_in(ask: &Ask) -> &Tract
@@ -66,5 +71,40 @@ pub(crate) fn add_step<G: Guards, I>(
         return Err(AllocError);
     }
     slot.steps.push_reserved(step);
+    Ok(())
+}
+
+/// Adds a post that was done: its step and image to a slot and its lock to the guards; or takes it back.
+pub(crate) fn keep_post<S: Store, G: Guards>(
+    store: &mut S,
+    guards: &mut G,
+    slot: &mut Slot<S::Image>,
+    image: S::Image,
+    step: Step,
+) -> Result<(), AllocError>
+    requires out { IsOut (S.number image) (S.out store.old) }
+    requires last { IsLast (S.number image) (S.out store.old) }
+    ensures examiner { slot.new.examiner ≡ slot.old.examiner }
+    ensures declared { S.declared store.new ≡ S.declared store.old }
+    ensures images { OnOk result (slot.new.images.items ≡ slot.old.images.items ++ image ∷ []) }
+    ensures steps { OnOk result (slot.new.steps.items ≡ slot.old.steps.items ++ step ∷ []) }
+    ensures locked { OnOk result (G.entries guards.new ≡ record { examiner = slot.old.examiner; tract = tract_of step.ask; access = Post } ∷ G.entries guards.old) }
+    ensures content { OnOk result (SameContent (S.content store.old) (S.content store.new)) }
+    ensures out { OnOk result (S.out store.new ≡ S.out store.old) }
+    ensures err_images { OnErr result (slot.new.images.items ≡ slot.old.images.items) }
+    ensures err_steps { OnErr result (slot.new.steps.items ≡ slot.old.steps.items) }
+    ensures err_locked { OnErr result (G.entries guards.new ≡ G.entries guards.old) }
+    ensures err_content { OnErr result ((b : Loan) → IsLentAs b (S.number image) (S.out store.old) → SameContent (put_back (S.declared store.old) b (S.content store.old)) (S.content store.new)) }
+    ensures err_out { OnErr result (S.out store.new ≡ without (S.number image) (S.out store.old)) }
+{
+    if slot.images.reserve(1).is_err() {
+        store.restore(image);
+        return Err(AllocError);
+    }
+    if add_step(guards, slot, Access::Post, step).is_err() {
+        store.restore(image);
+        return Err(AllocError);
+    }
+    slot.images.push_reserved(image);
     Ok(())
 }

@@ -1,6 +1,6 @@
 //! The open transactions.
 
-ghost use Rattle.std.specs.Prelude.{◌≡◌, ◌<◌, OnSome, is_some, length, vec_capacity, vec_len};
+ghost use Rattle.std.specs.Prelude.{◌≡◌, ◌<◌, OnSome, is_some, length, reverse, vec_capacity, vec_len};
 ghost use Rattle.title_desk.specs.Slots.{IsDistinct, Takes, found, steps_in};
 
 use title_chain::Step;
@@ -49,4 +49,16 @@ pub(crate) fn count_steps<I>(slots: &[Slot<I>], examiner: u32) -> usize
         }
     }
     0
+}
+
+/// The steps of an examiner, the oldest first; none where it has no slot.
+pub(crate) fn steps_of<I>(slots: &[Slot<I>], examiner: u32) -> &[Step]
+    ensures steps { reverse result.now ≡ steps_in (found examiner slots.now) }
+{
+    for slot in slots {
+        if slot.examiner == examiner {
+            return &slot.steps;
+        }
+    }
+    &[]
 }

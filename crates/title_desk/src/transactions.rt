@@ -14,16 +14,17 @@ ghost use Rattle.title_desk.specs.Refusals.{reply_of};
 ghost use Rattle.title_desk.specs.Images.{is_posted, posted_at};
 ghost use Rattle.title_desk.specs.Told.{Books, MayOpen, Passes, Told};
 
-use crate::asks::{access_in, add_step, cause_in, tract_in};
+use crate::asks::{access_in, add_step, cause_in, keep_post, tract_in};
 use crate::images::{forget_all, restore_all, tidy_up};
 use crate::refusal::Refusal;
-use crate::slots::{Slot, count_steps, is_in, take_slot};
+use crate::slots::{Slot, count_steps, is_in, steps_of, take_slot};
 use std::alloc::{AllocError, Global};
 use std::marker::Model;
-use title_chain::{Answer, Ask, Record, SheetRows, Steps};
+use std::mem::replace;
+use title_chain::{Answer, Ask, Posting, Record, Records, SheetRows, Steps, chain};
 use title_land::{Township, Tract};
 use title_lock::Guards;
-use title_store::Store;
+use title_store::{Put, Store};
 use title_trace::{Call, Reply, Request};
 
 /// The most parties that a desk can be opened with.
@@ -280,14 +281,72 @@ impl<S: Store + Drop, G: Guards + Drop> Desk<S, G> {
         )
     }
 
+    fn chain(&mut self, examiner: u32, tract: Tract) -> Reply
+        requires passes { Passes self.old examiner (Chain tract) }
+        ensures told { Told self.old (Step examiner (Chain tract)) result self.new }
+    {
+        let records = Records::new(replace(&mut self.records, Vec::new(self.alloc)));
+        let entries = chain(
+            self.alloc,
+            &records,
+            steps_of(&self.slots, examiner),
+            &tract,
+        );
+        self.records = records.into_vec();
+        let Ok(entries) = entries else {
+            return Reply::Memory;
+        };
+        self.add_answer(examiner, Ask::Chain(tract), Answer::Entries(entries))
+    }
+
+    // Posts an instrument that nothing refuses but the plant.
+    fn post(&mut self, examiner: u32, posting: Posting) -> Reply
+        requires passes { Passes self.old examiner (Post posting) }
+        ensures told { Told self.old (Step examiner (Post posting)) result self.new }
+    {
+        let Ok(copied) = posting.copy(self.alloc) else {
+            return Reply::Memory;
+        };
+        if self.trace.reserve(self.slots.len() + 1).is_err() {
+            return Reply::Memory;
+        }
+        let Ok(put) = self.store.put(&posting.tract, &posting.instrument) else {
+            return Reply::Memory;
+        };
+        let image = match put {
+            Put::Refused(rule, estate, node) => {
+                let answer = Answer::Refused(rule, estate, node);
+                return self.add_answer(examiner, Ask::Post(posting), answer);
+            }
+            Put::Done(image) => image,
+        };
+        let Some(mut slot) = take_slot(&mut self.slots, examiner) else {
+            return Reply::Memory;
+        };
+        let step = title_chain::Step {
+            ask: Ask::Post(copied),
+            answer: Answer::Posted,
+        };
+        let kept = keep_post(&mut self.store, &mut self.guards, &mut slot, image, step).is_ok();
+        self.slots.push_reserved(slot);
+        if !kept {
+            return Reply::Memory;
+        }
+        self.trace.push_reserved(Call {
+            request: Request::Step(examiner, Ask::Post(posting)),
+            reply: Reply::Answered(Answer::Posted),
+        });
+        Reply::Answered(Answer::Posted)
+    }
+
     fn pass(&mut self, examiner: u32, ask: Ask) -> Reply
         requires passes { Passes self.old examiner ask }
         ensures told { Told self.old (Step examiner ask) result self.new }
     {
         match ask {
             Ask::Sheet(tract) => self.sheet(examiner, tract),
-            Ask::Chain(_) => Reply::Memory,
-            Ask::Post(_) => Reply::Memory,
+            Ask::Chain(tract) => self.chain(examiner, tract),
+            Ask::Post(posting) => self.post(examiner, posting),
         }
     }
 

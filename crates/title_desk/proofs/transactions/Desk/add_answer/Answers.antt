@@ -1,8 +1,8 @@
 -- A step that posted nothing is added, or all stays as it was.
-use Rattle.std.proofs.Common.{◌≡◌, ◌++◌, ◌∷◌, [], reverse, refl, ap, ◌∙◌, sym, subst, arith, is_ok, true, false}
+use Rattle.std.proofs.Common.{◌≡◌, refl, ap, ◌∙◌, sym, subst, arith, is_ok, true, false}
 use Rattle.std.proofs.lemmas.Grind.{common_steps}
 use Rattle.std.proofs.lemmas.List.{reverse-append}
-use Rattle.title_chain.specs.Asks.{tract_of, is_post}
+use Rattle.title_chain.specs.Asks.{is_post}
 use Rattle.title_chain.specs.Alone.{alone}
 use Rattle.title_trace.specs.declared.call.Request.TheVariants.{Step}
 use Rattle.title_trace.specs.declared.call.Reply.TheVariants.{Answered}
