@@ -1,3 +1,4 @@
+-- The definitions that the contracts cite.
 pub mod Asks
 pub mod Chains
 pub mod Alone
