@@ -20,8 +20,8 @@ Describes depth text l = (s : Syntax) × Says text s × StandsFor depth s l
 
 -- ---- faults
 
--- A step may begin after the letters p. Steps all stand at the same places, and no other text of the grammar has an n
--- before 1/2: so one may begin where the north half's text may stand.
+-- A step may begin after the letters p: the text n1/2, which is a step wherever the grammar has it, may stand there. Steps
+-- all stand at the same places, so one of them tells.
 abbrev pub StepMayBegin : List ℕ → Type 0
 StepMayBegin p = Begins Description (p ++ codes "n1/2")
 
