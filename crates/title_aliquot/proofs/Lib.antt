@@ -9,3 +9,4 @@ pub mod Unique
 pub mod Spellings
 pub mod NodeTexts
 pub mod NodeCovers
+pub mod Total

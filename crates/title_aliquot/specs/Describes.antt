@@ -25,6 +25,7 @@ Describes depth text l = (s : Syntax) × Says text s × StandsFor depth s l
 abbrev pub StepMayBegin : List ℕ → Type 0
 StepMayBegin p = Begins Description (p ++ codes "n1/2")
 
+-- letters begin with the word lot
 abbrev pub BeginsWithLot : List ℕ → Type 0
 BeginsWithLot r = (t : List ℕ) × (r ≡ codes "lot" ++ t)
 
@@ -49,6 +50,7 @@ IsBadText text byte =
     ((1000 < length text) × (byte ≡ 1000))
     ⊎ ((i : ℕ) × BadLetter text i × (LotAt text i → ⊥) × (byte ≡ offset (chars text) i))
 
+-- the text has a lot for its first bad letter
 abbrev pub IsLots : List ℕ → Type 0
 IsLots text = (i : ℕ) × BadLetter text i × LotAt text i
 

@@ -23,12 +23,14 @@ pub record PlaceSyntax : Type 0 where
   pub east : Bool
   pub section : Option SectionSyntax
 
+-- what a text says
 pub data Syntax : Type 0 where
   Everything : Syntax
   InPlace : PlaceSyntax → Syntax
 
 -- ---- the grammar
 
+-- the digits, 0 to 9
 abbrev pub digits : List ℕ
 digits = codes "0123456789"
 
@@ -36,6 +38,7 @@ digits = codes "0123456789"
 abbrev pub more_digits : ℕ → ℕ → ℕ
 more_digits n c = min 100 (n * 10 + (c - 48))
 
+-- the number that digits spell
 abbrev pub decimal : ℕ → List ℕ → ℕ
 decimal c cs = fold more_digits (more_digits 0 c) cs
 
@@ -74,6 +77,7 @@ StepText = Then (λ q u. step.Quarter q) QuarterName QuarterMark <|> Then (λ h 
 abbrev pub Part : Language (List Step)
 Part = Then cons StepText (Many (Maybe (Word (codes "of") *> Maybe (Word (codes "the"))) *> StepText))
 
+-- the one part that is the whole section
 abbrev pub whole_section : List (List Step)
 whole_section = [] ∷ []
 
@@ -97,6 +101,7 @@ TownshipText = Word (codes "t") *> Then (λ n e. (n, e)) Number (Gives true (cod
 abbrev pub SectionParts : Language (List (List Step))
 SectionParts = ((Word (codes ",") <|> Word (codes ":") <|> Word []) *> Parts) <|> Gives whole_section []
 
+-- a section with its number and parts
 abbrev pub section_of : ℕ → List (List Step) → Option SectionSyntax
 section_of n ps = Some (record { number = n; parts = ps })
 
@@ -104,6 +109,7 @@ section_of n ps = Some (record { number = n; parts = ps })
 abbrev pub SectionText : Language (Option SectionSyntax)
 SectionText = (Maybe (Word (codes ",")) *> Then section_of SectionNumber SectionParts) <|> Gives None []
 
+-- a place, from its township, its range and its section
 abbrev pub place_of : (ℕ × Bool) → ((ℕ × Bool) × Option SectionSyntax) → Syntax
 place_of t r = InPlace (record { township = t.0; north = t.1; range = r.0.0; east = r.0.1; section = r.1 })
 

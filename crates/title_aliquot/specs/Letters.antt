@@ -6,6 +6,7 @@ use Rattle.std.specs.Char.{to_ascii_lowercase, len_utf8}
 abbrev pub passed_over : ℕ → Bool
 passed_over c = (c == 32) || (c == 46)
 
+-- the other characters, ASCII capitals as small letters
 abbrev pub letters : List ℕ → List ℕ
 letters cs = map to_ascii_lowercase (filter (λ c. not (passed_over c)) cs)
 

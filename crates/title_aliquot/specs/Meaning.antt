@@ -15,6 +15,7 @@ use Rattle.title_aliquot.specs.Grammar.{Syntax, Everything, InPlace, SectionSynt
 
 -- ---- numbers
 
+-- a section that is named has a number from 1 to 36
 abbrev pub SectionIsNumbered : Option SectionSyntax → Type 0
 SectionIsNumbered None = Unit {0}
 SectionIsNumbered (Some s) = IsSectionNumber s.number
@@ -26,6 +27,7 @@ IsNumbered (InPlace p) = IsTownshipNumber p.township × IsTownshipNumber p.range
 
 -- ---- parts
 
+-- the parts that are named; all and no part name one without steps, the whole section
 abbrev pub section_parts : Option SectionSyntax → List (List Step)
 section_parts None = []
 section_parts (Some s) = s.parts
@@ -42,6 +44,7 @@ parts_exist depth parts = list_all (λ steps. is_some (part_of depth steps)) par
 abbrev pub rectangles : ℕ → List (List Step) → List Rectangle
 rectangles depth parts = filter_map (part_of depth) parts
 
+-- a rectangle shares a cell with one of others
 abbrev pub SharesCellWithOne : Rectangle → List Rectangle → Type 0
 SharesCellWithOne r [] = ⊥
 SharesCellWithOne r (s ∷ others) = SharesCell r s ⊎ SharesCellWithOne r others

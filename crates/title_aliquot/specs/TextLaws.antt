@@ -1,5 +1,5 @@
 -- Laws of descriptions. The depth is how often a section is quartered down to its cells.
-use Rattle.std.specs.Prelude.{◌≡◌, ℕ, ◌<◌, List, [], ◌∷◌}
+use Rattle.std.specs.Prelude.{◌≡◌, ℕ, ◌<◌, List, [], ◌∷◌, ◌⊎◌}
 use Rattle.title_land.specs.declared.rectangle.Step.{Step}
 use Rattle.title_land.specs.declared.tract.Land.{Land}
 use Rattle.title_land.specs.declared.node.Node.{Node}
@@ -22,6 +22,13 @@ NoFaultBesideLand depth = (text : List ℕ) (l : Land) (f : DescFault) → Descr
 -- a text has one fault at most, and one byte of it
 abbrev pub OneFault : ℕ → Type 0
 OneFault depth = (text : List ℕ) (f g : DescFault) → FaultOf depth text f → FaultOf depth text g → f ≡ g
+
+abbrev pub LandOrFault : ℕ → List ℕ → Type 0
+LandOrFault depth text = ((l : Land) × Describes depth text l) ⊎ ((f : DescFault) × FaultOf depth text f)
+
+-- each text, of any bytes, describes a land or has a fault
+abbrev pub EachTextIsAnswered : ℕ → Type 0
+EachTextIsAnswered depth = (text : List ℕ) → LandOrFault depth text
 
 -- on the grid, the set of a section's parts has the cells of their rectangles and no others
 abbrev pub PartsHaveTheirCells : ℕ → Type 0

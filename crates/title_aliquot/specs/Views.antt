@@ -1,4 +1,4 @@
--- What was read, without where it lies in memory.
+-- What the words that were read say, without where they lie in memory.
 use Rattle.std.specs.Prelude.{map}
 use Rattle.std.specs.Option.{option_map}
 use Rattle.title_aliquot.specs.declared.syntax.SectionWords.{SectionWords}

@@ -1,6 +1,6 @@
 //! Laws of descriptions, for the crates above. Each function does nothing: its clause is the law, proved.
 
-ghost use Rattle.title_aliquot.specs.TextLaws.{OneLand, NoFaultBesideLand, OneFault, PartsHaveTheirCells, ReadsBack};
+ghost use Rattle.title_aliquot.specs.TextLaws.{OneLand, NoFaultBesideLand, OneFault, EachTextIsAnswered, PartsHaveTheirCells, ReadsBack};
 
 /// A text describes one land at most.
 pub fn one_land_at_most()
@@ -15,6 +15,11 @@ pub fn no_fault_beside_a_land()
 /// A text has one fault at most, and one byte of it.
 pub fn one_fault_at_most()
     ensures law { OneFault 3 }
+{}
+
+/// Each text describes a land or has a fault.
+pub fn each_text_is_answered()
+    ensures law { EachTextIsAnswered 3 }
 {}
 
 /// The set of a section's parts has the cells of their rectangles and no others.

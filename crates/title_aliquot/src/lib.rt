@@ -14,6 +14,6 @@ mod tests;
 pub use describe::read;
 pub use fault::DescFault;
 pub use title_land::{
-    Cell, DEPTH, Grid, Half, Land, Node, Quarter, Rectangle, SIDE, Section, Step, Township, Tract,
-    Within,
+    Acres, Cell, DEPTH, Grid, Half, Land, Node, Quarter, Rectangle, SIDE, Section, Step, Township,
+    Tract, Within, cells_of,
 };
