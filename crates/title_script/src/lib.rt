@@ -7,6 +7,8 @@ mod plan;
 mod report;
 mod rows;
 mod script;
+#[cfg(test)]
+mod tests;
 
 pub use alone::run_alone;
 pub use plan::{Act, Line, Plan};
