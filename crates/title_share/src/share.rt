@@ -5,6 +5,7 @@ ghost use Rattle.std.specs.Fmt.{decimal};
 ghost use Rattle.title_share.specs.Rows.{whole_units};
 ghost use Rattle.title_share.specs.Share.{IsFraction, IsLowest, IsNumber, IsPart, IsShareText, lowest, share_text};
 
+use crate::holding::WHOLE;
 use std::fmt;
 use std::marker::Model;
 
@@ -50,11 +51,11 @@ fn weight(bottom: u64) -> Option<u64>
 }
 
 impl Share {
-    /// The share of so many units; `None` exactly where they aren't 1 to 2^32.
+    /// The share of so many units. `None` exactly where they aren't from 1 to the whole.
     pub fn new(units: u64) -> Option<Share>
-        ensures new { MatchOption result (¬ ((0 < units) × (units ≤ 4294967296))) (λ s. s ≡ units) }
+        ensures new { MatchOption result (¬ ((0 < units) × (units ≤ whole_units))) (λ s. s ≡ units) }
     {
-        if units == 0 || units > 4_294_967_296 {
+        if units == 0 || units > WHOLE {
             return None;
         }
         Some(Share { units })
@@ -184,6 +185,7 @@ mod tests {
         let share = Share::parse("6/16").ok_or("a share")?;
         assert_eq!(rt; share.fraction(), (3, 8));
         assert_eq!(rt; Share::parse("3/8"), Some(share));
+        assert_eq!(rt; Share::new(1_610_612_736), Some(share));
         Ok(())
     }
 }
