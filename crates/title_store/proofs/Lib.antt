@@ -10,3 +10,4 @@ pub mod Backing
 pub mod SheetSteps
 pub mod ListSteps
 pub mod Puts
+pub mod Taking
