@@ -4,7 +4,7 @@ use std::io;
 use std::process::ExitCode;
 use title_aliquot::read;
 use title_land::acres::Acres;
-use title_script::{run_alone, Device};
+use title_script::{Device, run_alone};
 
 /// Serves the script on standard input, transactions one after another; its report, or the line of its fault, goes to
 /// standard output.

@@ -8,7 +8,7 @@ use commands::{alone, tract};
 use std::alloc::{AllocError, Global};
 use std::process::ExitCode;
 use std::{env, io};
-use title_command::{line, Line, LineFault};
+use title_command::{Line, LineFault, line};
 
 fn borrowed<'a>(alloc: Global, words: &'a Vec<String>) -> Result<Vec<&'a str>, AllocError> {
     words.iter().map(|word| word.as_str()).collect(alloc)
