@@ -8,4 +8,4 @@ pub mod holding;
 pub mod share;
 
 pub use holding::{Holding, WHOLE};
-pub use share::Share;
+pub use share::{Fraction, Share};

@@ -130,6 +130,21 @@ impl fmt::Display for Share {
     }
 }
 
+/// So many units of a whole, from 0 on, printed as a fraction of it in lowest terms: 1,610,612,736 as `3/8`.
+#[derive(Clone, Copy, Debug, PartialEq, Eq)]
+pub struct Fraction {
+    pub units: u64,
+}
+
+impl fmt::Display for Fraction {
+    ghost output = { λ f. Some (share_text f.units) };
+
+    fn fmt<W: fmt::Write>(&self, f: &mut fmt::Formatter<W>) -> fmt::Result {
+        let (top, bottom) = reduced(self.units);
+        write!(f, "{top}/{bottom}")
+    }
+}
+
 #[cfg(test)]
 mod tests {
     use super::*;

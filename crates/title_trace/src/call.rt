@@ -1,8 +1,8 @@
 //! Requests, replies and calls.
 
-ghost use Rattle.std.specs.Prelude.{◌≡◌, IfOk};
+ghost use Rattle.std.specs.Prelude.{◌≡◌};
+ghost use Rattle.title_trace.specs.Trace.{examiner_of};
 
-use std::alloc::{AllocError, Global};
 use title_chain::{Answer, Ask};
 use title_instrument::Cause;
 
@@ -38,4 +38,18 @@ pub enum Reply {
 pub struct Call {
     pub request: Request,
     pub reply: Reply,
+}
+
+impl Request {
+    /// The examiner who asks.
+    pub fn examiner(&self) -> u32
+        ensures examiner { result ≡ examiner_of self.now }
+    {
+        match self {
+            Request::Begin(examiner)
+            | Request::Step(examiner, _)
+            | Request::Commit(examiner)
+            | Request::Abort(examiner) => *examiner,
+        }
+    }
 }
