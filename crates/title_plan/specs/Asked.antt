@@ -1,0 +1,37 @@
+-- What the rows of a script have declared and asked for.
+use Rattle.std.specs.Prelude.{ℕ, ◌≤◌, Bool, true, false, List, [], ◌∷◌, map, codes, length, Option, None, codes}
+use Rattle.std.specs.String.{string_bytes}
+use Rattle.title_land.specs.declared.place.Township.{Township}
+use Rattle.title_store.specs.Plants.{IsEachOnce}
+use Rattle.title_plan.specs.declared.line.Line.{Line}
+use Rattle.title_plan.specs.declared.plan.Plan.{Plan}
+use Rattle.title_plan.specs.declared.plan.TheConstants.{PARTIES, TOWNSHIPS}
+
+-- the townships; the names of the parties, whose numbers are their places from 0; the steps; and the examiner whose
+-- transaction is open where the steps come one after another
+pub record Asked : Type 0 where
+  pub townships : List Township
+  pub names : List (List ℕ)
+  pub lines : List Line
+  pub inside : Option ℕ
+
+-- before the first row there is one party, of which the land comes
+abbrev pub nothing_asked : Asked
+nothing_asked = record { townships = []; names = codes "UNITED STATES" ∷ []; lines = []; inside = None }
+
+-- what a plan holds
+abbrev pub asked_in : Plan → Asked
+asked_in p = record {
+  townships = p.townships.items;
+  names = map string_bytes p.parties.keys;
+  lines = p.lines.items;
+  inside = p.inside;
+}
+
+abbrev pub is_none : {A : Type 0} → List A → Bool
+is_none [] = true
+is_none (x ∷ more) = false
+
+-- a plant can be opened with them: 1 to 65,536 parties, at most 64 townships, none of them twice
+abbrev pub CanOpen : ℕ → List Township → Type 0
+CanOpen parties townships = (1 ≤ parties) × (parties ≤ PARTIES) × (length townships ≤ TOWNSHIPS) × IsEachOnce townships

@@ -1,0 +1,5 @@
+pub mod Asked
+pub mod Declarations
+pub mod Steps
+pub mod Plans
+pub mod Faults

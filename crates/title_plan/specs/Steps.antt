@@ -1,0 +1,65 @@
+-- Step rows: what each asks of the desk, or the fault of its description.
+use Rattle.std.specs.Prelude.{◌≡◌, ℕ, ◌==◌, not, Bool, true, false, List, [], ◌∷◌, ◌++◌, Option, Some, None, Result, Ok, Err}
+use Rattle.std.specs.List.{position}
+use Rattle.std.specs.Str.{bytes_eq}
+use Rattle.title_device.specs.declared.fault.RunFault.{RunFault}
+use Rattle.title_device.specs.declared.fault.RunFault.TheVariants as fault
+use Rattle.title_land.specs.declared.tract.Land.{Land}
+use Rattle.title_instrument.specs.declared.instrument.Instrument.{Instrument}
+use Rattle.title_instrument.specs.declared.instrument.Instrument.TheVariants as instrument
+use Rattle.title_chain.specs.declared.ask.Ask.{Ask}
+use Rattle.title_chain.specs.declared.ask.Ask.TheVariants as ask
+use Rattle.title_trace.specs.declared.call.Request.{Request}
+use Rattle.title_trace.specs.declared.call.Request.TheVariants as request
+use Rattle.title_aliquot.specs.Describes.{Describes, FaultOf}
+use Rattle.title_row.specs.declared.terms.DeedTerms.{DeedTerms}
+use Rattle.title_row.specs.declared.terms.ReleaseTerms.{ReleaseTerms}
+use Rattle.title_plan.specs.declared.line.Line.{Line}
+use Rattle.title_plan.specs.declared.line.Line.TheVariants as line
+use Rattle.title_plan.specs.declared.line.Schedule.{Schedule}
+use Rattle.title_plan.specs.declared.line.Schedule.TheVariants as schedule
+use Rattle.title_plan.specs.Asked.{Asked}
+
+-- in a script of transactions one after another, a row of another examiner than the one whose transaction is open
+abbrev pub is_out_of_turn : Schedule → Option ℕ → ℕ → Bool
+is_out_of_turn schedule.Interleaved inside e = false
+is_out_of_turn schedule.Serial None e = false
+is_out_of_turn schedule.Serial (Some f) e = not (f == e)
+
+-- one step more, after which this examiner's transaction is open
+abbrev pub with_line : Asked → Line → Option ℕ → Asked
+with_line asked added inside =
+    record { townships = asked.townships; names = asked.names; lines = asked.lines ++ added ∷ []; inside = inside }
+
+-- the step of an examiner whose tract a text describes: it asks, or has the text's fault
+abbrev pub IsLineOf : ℕ → (Land → Ask) → List ℕ → Line → Type 0
+IsLineOf e asks text (line.Asks q) = (l : Land) × Describes 3 text l × (q ≡ request.Step e (asks l))
+IsLineOf e asks text (line.Described f why) = (f ≡ e) × FaultOf 3 text why
+
+-- after a step row with a text
+abbrev pub AfterStep : Asked → ℕ → (Land → Ask) → List ℕ → Result Asked RunFault → Type 0
+AfterStep asked e asks text result =
+    (added : Line) × IsLineOf e asks text added × (result ≡ Ok (with_line asked added asked.inside))
+
+-- the number of a party
+abbrev pub number_of : Asked → List ℕ → Option ℕ
+number_of asked name = position (bytes_eq name) asked.names
+
+-- what a deed's terms do between two parties
+abbrev pub deed_of : DeedTerms → ℕ → ℕ → Instrument
+deed_of terms grantor grantee =
+    instrument.Deed (record { grantor = grantor; grantee = grantee; estates = terms.estates; quantum = terms.quantum; reserve = terms.reserve })
+
+-- what a release's terms do between two parties
+abbrev pub release_of : ReleaseTerms → ℕ → ℕ → Instrument
+release_of terms releasor releasee = instrument.Release (record { «from» = releasor; to = releasee; estates = terms.estates })
+
+-- a post under a document's number
+abbrev pub post : ℕ → Instrument → Land → Ask
+post doc posted l = ask.Post (record { doc = doc; tract = l; instrument = posted })
+
+-- after the n-th row, a step that posts what two parties do: at fault where one of them has no number
+abbrev pub AfterPost : ℕ → Asked → ℕ → ℕ → (ℕ → ℕ → Instrument) → Option ℕ → Option ℕ → List ℕ → Result Asked RunFault → Type 0
+AfterPost n asked e doc between (Some giver) (Some taker) text result = AfterStep asked e (post doc (between giver taker)) text result
+AfterPost n asked e doc between (Some giver) None text result = result ≡ Err (fault.Party n)
+AfterPost n asked e doc between None taker text result = result ≡ Err (fault.Party n)

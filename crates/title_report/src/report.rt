@@ -1,0 +1,74 @@
+//! Reports as they are written.
+
+ghost use Rattle.std.specs.Prelude.{◌≡◌, ◌++◌, [], ◌∷◌, IfErr, IfOk, map};
+ghost use Rattle.std.specs.String.{string_bytes};
+ghost use Rattle.title_device.specs.declared.fault.RunFault.TheVariants as fault;
+ghost use Rattle.title_report.specs.Replies.{described_row, end_row, reply_rows};
+ghost use Rattle.title_report.specs.Writing.{row, rows_text};
+
+use csv::{Writer, WriterBuilder};
+use indexmap::IndexSet;
+use std::alloc::Global;
+use std::marker::Model;
+use title_aliquot::DescFault;
+use title_device::RunFault;
+use title_trace::Reply;
+
+/// A report as far as it is written: whole rows. A contract sees its bytes.
+#[derive(Drop)]
+pub struct Report {
+    alloc: Global,
+    writer: Writer<Vec<u8>>,
+}
+
+impl Model for Report {
+    ghost use Rattle.std.specs.Prelude.{◌≡◌, ℕ, List, Option, Some, None, false};
+    ghost use Rattle.csv.specs.Writing.{fields_written, has_written, text_written, writer_setup};
+    ghost use Rattle.title_report.specs.Writing.{report_writer, bytes_or_none};
+
+    ghost Value = { List ℕ };
+
+    ghost view = { λ r. bytes_or_none (text_written (λ v. Some v.items) r.writer) };
+
+    ghost invariant = { λ r. (writer_setup r.writer ≡ report_writer) × (fields_written r.writer ≡ 0) × (has_written r.writer ≡ false) × (text_written (λ v. Some v.items) r.writer ≡ Some (bytes_or_none (text_written (λ v. Some v.items) r.writer))) };
+}
+
+impl Report {
+    /// Nothing written yet.
+    pub fn new(alloc: Global) -> Report
+        ensures nothing { result ≡ [] }
+    {
+        let writer = WriterBuilder::new()
+            .flexible(true)
+            .from_writer(Vec::new(alloc));
+        Report { alloc, writer }
+    }
+
+    /// The rows of a reply to an examiner, the names having the parties' numbers as places. A Memory reply has none: it
+    /// ends the report. `Err` is Memory.
+    pub fn reply(self, names: &IndexSet<String>, examiner: u32, reply: &Reply) -> Result<Report, RunFault>
+        requires stub { ⊥ }
+        ensures rows { IfOk result (λ r. r ≡ self ++ rows_text (reply_rows (map string_bytes names.now.keys) examiner reply.now)) }
+        ensures fault { IfErr result (λ e. e ≡ fault.Memory) }
+    {
+        Err(RunFault::Memory)
+    }
+
+    /// The row of a description that is none. `Err` is Memory.
+    pub fn described(self, examiner: u32, why: DescFault) -> Result<Report, RunFault>
+        requires stub { ⊥ }
+        ensures row { IfOk result (λ r. r ≡ self ++ row (described_row examiner why)) }
+        ensures fault { IfErr result (λ e. e ≡ fault.Memory) }
+    {
+        Err(RunFault::Memory)
+    }
+
+    /// The last row, with the number of step rows; the report's bytes. `Err` is Memory.
+    pub fn end(self, steps: usize) -> Result<Vec<u8>, RunFault>
+        requires stub { ⊥ }
+        ensures text { IfOk result (λ v. v.items ≡ self ++ row (end_row steps)) }
+        ensures fault { IfErr result (λ e. e ≡ fault.Memory) }
+    {
+        Err(RunFault::Memory)
+    }
+}
