@@ -6,6 +6,8 @@ use Rattle.title_land.specs.declared.node.Node.{Node}
 use Rattle.title_land.specs.Texts.{node_text}
 use Rattle.title_instrument.specs.declared.instrument.Instrument.{Instrument}
 use Rattle.title_instrument.specs.declared.instrument.Instrument.TheVariants as instrument
+use Rattle.title_instrument.specs.declared.parts.Estate.{Estate}
+use Rattle.title_instrument.specs.declared.parts.Rule.{Rule}
 use Rattle.title_instrument.specs.Estates.{estate_text, estates_text}
 use Rattle.title_instrument.specs.Numbers.{rule_number, cause_number}
 use Rattle.title_instrument.specs.Parties.{grantor_of, grantee_of, estates_of}
@@ -48,13 +50,16 @@ entry_row names e x =
     ∷ name_of names (grantor_of x.posting.instrument) ∷ name_of names (grantee_of x.posting.instrument)
     ∷ estates_text (estates_of x.posting.instrument) ∷ []
 
+-- a refused post: `E,refused,N,ESTATE,NODE`
+abbrev pub refused_row : ℕ → Rule → Estate → Node → List (List ℕ)
+refused_row e rule estate node = decimal e ∷ codes "refused" ∷ decimal (rule_number rule) ∷ estate_text estate ∷ node_text node ∷ []
+
 -- the rows of an answer
 abbrev pub answer_rows : List (List ℕ) → ℕ → Answer → List (List (List ℕ))
 answer_rows names e (answer.Rows rows) = number_row e (codes "sheet") (length rows) ∷ map (sheet_row names e) rows
 answer_rows names e (answer.Entries entries) = number_row e (codes "chain") (length entries) ∷ map (entry_row names e) entries
 answer_rows names e answer.Posted = word_row e (codes "posted") ∷ []
-answer_rows names e (answer.Refused rule estate node) =
-    (decimal e ∷ codes "refused" ∷ decimal (rule_number rule) ∷ estate_text estate ∷ node_text node ∷ []) ∷ []
+answer_rows names e (answer.Refused rule estate node) = refused_row e rule estate node ∷ []
 
 -- the rows of a reply to an examiner; want of memory has none, and is never due
 abbrev pub reply_rows : List (List ℕ) → ℕ → Reply → List (List (List ℕ))

@@ -1,11 +1,12 @@
 //! Reports as they are written.
 
-ghost use Rattle.std.specs.Prelude.{◌≡◌, ◌++◌, [], ◌∷◌, IfErr, IfOk, map};
+ghost use Rattle.std.specs.Prelude.{◌≡◌, ◌++◌, [], IfErr, IfOk, map};
 ghost use Rattle.std.specs.String.{string_bytes};
 ghost use Rattle.title_device.specs.declared.fault.RunFault.TheVariants as fault;
 ghost use Rattle.title_report.specs.Replies.{described_row, end_row, reply_rows};
 ghost use Rattle.title_report.specs.Writing.{row, rows_text};
 
+use crate::replies::{write_described, write_end, write_reply};
 use csv::{Writer, WriterBuilder};
 use indexmap::IndexSet;
 use std::alloc::Global;
@@ -46,29 +47,43 @@ impl Report {
 
     /// The rows of a reply to an examiner, the names having the parties' numbers as places. A Memory reply has none: it
     /// ends the report. `Err` is Memory.
-    pub fn reply(self, names: &IndexSet<String>, examiner: u32, reply: &Reply) -> Result<Report, RunFault>
-        requires stub { ⊥ }
+    pub fn reply(
+        self,
+        names: &IndexSet<String>,
+        examiner: u32,
+        reply: &Reply,
+    ) -> Result<Report, RunFault>
         ensures rows { IfOk result (λ r. r ≡ self ++ rows_text (reply_rows (map string_bytes names.now.keys) examiner reply.now)) }
         ensures fault { IfErr result (λ e. e ≡ fault.Memory) }
     {
-        Err(RunFault::Memory)
+        let alloc = self.alloc;
+        let mut writer = self.writer;
+        write_reply(alloc, &mut writer, names, examiner, reply)?;
+        Ok(Report { alloc, writer })
     }
 
     /// The row of a description that is none. `Err` is Memory.
     pub fn described(self, examiner: u32, why: DescFault) -> Result<Report, RunFault>
-        requires stub { ⊥ }
         ensures row { IfOk result (λ r. r ≡ self ++ row (described_row examiner why)) }
         ensures fault { IfErr result (λ e. e ≡ fault.Memory) }
     {
-        Err(RunFault::Memory)
+        let alloc = self.alloc;
+        let mut writer = self.writer;
+        write_described(alloc, &mut writer, examiner, why)?;
+        Ok(Report { alloc, writer })
     }
 
     /// The last row, with the number of step rows; the report's bytes. `Err` is Memory.
     pub fn end(self, steps: usize) -> Result<Vec<u8>, RunFault>
-        requires stub { ⊥ }
         ensures text { IfOk result (λ v. v.items ≡ self ++ row (end_row steps)) }
         ensures fault { IfErr result (λ e. e ≡ fault.Memory) }
     {
-        Err(RunFault::Memory)
+        let alloc = self.alloc;
+        let mut writer = self.writer;
+        write_end(alloc, &mut writer, steps)?;
+        match writer.into_inner() {
+            Ok(text) => Ok(text),
+            Err(_) => Err(RunFault::Memory),
+        }
     }
 }

@@ -1,0 +1,17 @@
+use Rattle.std.proofs.Common.{Some, refl}
+use Rattle.csv.specs.Writing.{text_written}
+use Rattle.title_report.specs.Writing.{bytes_or_none}
+use Rattle.title_report.specs.Written.{HasWritten}
+use Rattle.title_report.proofs.report.Report.described.Goals as goal
+
+pub invariant_of-result : goal.invariant_of-result
+invariant_of-result c =
+    let writer = c.self.inside.writer in
+    let before : HasWritten (λ v. Some v.items) writer (bytes_or_none (text_written (λ v. Some v.items) writer)) = record {
+      setup = c.self.invariant.0;
+      between = c.self.invariant.1;
+      clean = c.self.invariant.2;
+      written = c.self.invariant.3;
+    } in
+    let after = c.in_ok-write_described.ensures.row _ before in
+    (after.setup, after.between, after.clean, refl)

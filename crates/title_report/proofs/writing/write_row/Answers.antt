@@ -1,0 +1,8 @@
+use Rattle.std.proofs.Common.{rules}
+use Rattle.std.proofs.lemmas.List.{append-nil}
+use Rattle.title_report.specs.Writing.{row}
+use Rattle.title_report.proofs.writing.write_row.Goals as goal
+
+pub returns-clause-row : goal.returns-clause-row
+unfolding row
+returns-clause-row c = rw append-nil (search rules)
