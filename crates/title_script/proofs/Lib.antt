@@ -1,3 +1,2 @@
-mod RowFields
-mod TownshipLists
-mod Taken
+mod ServedLaws
+mod FaultLaws

@@ -1,3 +1,3 @@
-pub mod Fields
-pub mod Faults
-pub mod Townships
+pub mod Served
+pub mod Reports
+pub mod Runs

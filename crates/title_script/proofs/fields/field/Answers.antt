@@ -1,7 +1,0 @@
-use Rattle.std.proofs.Common.{sym}
-use Rattle.csv.specs.Records.{fields_of}
-use Rattle.title_script.proofs.RowFields.{field-there}
-use Rattle.title_script.proofs.fields.field.Goals as goal
-
-pub unreachable-requires : goal.unreachable-requires
-unreachable-requires c = field-there (fields_of c.args.row.now) c.args.i c.requires.there (sym c.in-None.ensures.value)
