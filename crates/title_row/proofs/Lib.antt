@@ -1,0 +1,2 @@
+-- Laws of rows and their fields.
+pub mod RowFields

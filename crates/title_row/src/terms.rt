@@ -1,6 +1,12 @@
 //! The terms of instruments, by their fields.
 
-use title_instrument::{Estates, Quantum};
+ghost use Rattle.std.specs.Prelude.{◌≡◌, ◌∷◌, ℕ, List, MatchOption};
+ghost use Rattle.title_instrument.specs.declared.parts.Estate.{Estate};
+ghost use Rattle.title_instrument.specs.declared.parts.Quantum.{Quantum};
+ghost use Rattle.title_instrument.specs.Estates.{letter_of};
+ghost use Rattle.title_row.specs.Terms.{Adds, IsItem, IsQuantum, IsReserve, Reserve, shares_of};
+
+use title_instrument::{Estate, Estates, Quantum};
 use title_share::Share;
 
 /// What a deed's row says beside its examiner, its parties and its tract. The reserve has the shares of S, O and M.
@@ -17,4 +23,70 @@ pub struct DeedTerms {
 pub struct ReleaseTerms {
     pub doc: u64,
     pub estates: Estates,
+}
+
+/// The quantum that a text names: `W` or `I` and a share.
+pub(crate) fn read_quantum(text: &str) -> Option<Quantum>
+    ensures quantum { MatchOption result ((quantum : Quantum) → IsQuantum text.now quantum → ⊥) (IsQuantum text.now) }
+{
+    if let Some(rest) = text.strip_prefix('W') {
+        return match Share::parse(rest) {
+            Some(share) => Some(Quantum::Whole(share)),
+            None => None,
+        };
+    }
+    if let Some(rest) = text.strip_prefix('I') {
+        return match Share::parse(rest) {
+            Some(share) => Some(Quantum::Interest(share)),
+            None => None,
+        };
+    }
+    None
+}
+
+// The estate whose letter a text begins with, and what stands behind it.
+fn split_letter(text: &str) -> Option<(Estate, &str)>
+    ensures letter { MatchOption result ((e : Estate) (rest : List ℕ) → text.now ≡ letter_of e ∷ rest → ⊥) (λ p. text.now ≡ letter_of p.0 ∷ p.1.now) }
+{
+    if let Some(rest) = text.strip_prefix('S') {
+        return Some((Estate::S, rest));
+    }
+    if let Some(rest) = text.strip_prefix('O') {
+        return Some((Estate::O, rest));
+    }
+    if let Some(rest) = text.strip_prefix('M') {
+        return Some((Estate::M, rest));
+    }
+    None
+}
+
+// The item of a reserve that a text names: an estate's letter and a share.
+fn read_item(text: &str) -> Option<(Estate, Share)>
+    ensures item { MatchOption result ((e : Estate) (share : ℕ) → IsItem text.now e share → ⊥) (λ p. IsItem text.now p.0 p.1) }
+{
+    let Some((estate, rest)) = split_letter(text) else {
+        return None;
+    };
+    let Some(share) = Share::parse(rest) else {
+        return None;
+    };
+    Some((estate, share))
+}
+
+// A reserve with one more item, where it has none of the item's estate.
+fn with_item(
+    reserve: [Option<Share>; 3],
+    estate: Estate,
+    share: Share,
+) -> Option<[Option<Share>; 3]>
+    ensures added { (before : Reserve) → reserve ≡ shares_of before
+        → MatchOption result ((after : Reserve) → Adds before estate share after → ⊥) (λ shares. (after : Reserve) × Adds before estate share after × (shares ≡ shares_of after)) }
+{
+    let [s, o, m] = reserve;
+    match estate {
+        Estate::S if s.is_none() => Some([Some(share), o, m]),
+        Estate::O if o.is_none() => Some([s, Some(share), m]),
+        Estate::M if m.is_none() => Some([s, o, Some(share)]),
+        _ => None,
+    }
 }
