@@ -1,10 +1,10 @@
 //! The terms of instruments, by their fields.
 
-ghost use Rattle.std.specs.Prelude.{◌≡◌, ◌∷◌, ℕ, List, MatchOption};
+ghost use Rattle.std.specs.Prelude.{◌≡◌, ◌∷◌, [], ℕ, List, MatchOption};
 ghost use Rattle.title_instrument.specs.declared.parts.Estate.{Estate};
 ghost use Rattle.title_instrument.specs.declared.parts.Quantum.{Quantum};
 ghost use Rattle.title_instrument.specs.Estates.{letter_of};
-ghost use Rattle.title_row.specs.Terms.{Adds, IsItem, IsQuantum, IsReserve, Reserve, shares_of};
+ghost use Rattle.title_row.specs.Terms.{AddAll, Adds, IsQuantum, IsReserve, Reserve, shares_of};
 
 use title_instrument::{Estate, Estates, Quantum};
 use title_share::Share;
@@ -60,19 +60,6 @@ fn split_letter(text: &str) -> Option<(Estate, &str)>
     None
 }
 
-// The item of a reserve that a text names: an estate's letter and a share.
-fn read_item(text: &str) -> Option<(Estate, Share)>
-    ensures item { MatchOption result ((e : Estate) (share : ℕ) → IsItem text.now e share → ⊥) (λ p. IsItem text.now p.0 p.1) }
-{
-    let Some((estate, rest)) = split_letter(text) else {
-        return None;
-    };
-    let Some(share) = Share::parse(rest) else {
-        return None;
-    };
-    Some((estate, share))
-}
-
 // A reserve with one more item, where it has none of the item's estate.
 fn with_item(
     reserve: [Option<Share>; 3],
@@ -89,4 +76,37 @@ fn with_item(
         Estate::M if m.is_none() => Some([s, o, Some(share)]),
         _ => None,
     }
+}
+
+// A reserve with the item that a text names, where it has none of the item's estate.
+fn add_item(reserve: [Option<Share>; 3], item: &str) -> Option<[Option<Share>; 3]>
+    ensures added { (before : Reserve) → reserve ≡ shares_of before
+        → MatchOption result ((after : Reserve) → AddAll before (item.now ∷ []) after → ⊥) (λ shares. (after : Reserve) × AddAll before (item.now ∷ []) after × (shares ≡ shares_of after)) }
+{
+    let Some((estate, rest)) = split_letter(item) else {
+        return None;
+    };
+    let Some(share) = Share::parse(rest) else {
+        return None;
+    };
+    with_item(reserve, estate, share)
+}
+
+/// The shares of S, O and M that a text reserves: nothing, or items separated by `;`, no estate twice.
+pub(crate) fn read_reserve(text: &str) -> Option<[Option<Share>; 3]>
+    ensures reserve { MatchOption result ((reserved : Reserve) → IsReserve text.now reserved → ⊥) (λ shares. (reserved : Reserve) × IsReserve text.now reserved × (shares ≡ shares_of reserved)) }
+{
+    let mut reserve = [None; 3];
+    if text.is_empty() {
+        return Some(reserve);
+    }
+    let mut rest = text;
+    while let Some((item, more)) = rest.split_once(';') {
+        let Some(next) = add_item(reserve, item) else {
+            return None;
+        };
+        reserve = next;
+        rest = more;
+    }
+    add_item(reserve, rest)
 }
