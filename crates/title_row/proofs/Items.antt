@@ -5,7 +5,7 @@ use Rattle.title_instrument.specs.declared.parts.Estate.{Estate}
 use Rattle.title_instrument.specs.declared.parts.Estate.TheVariants.{S, O, M}
 use Rattle.title_instrument.specs.Estates.{letter_of}
 use Rattle.title_share.specs.Share.{IsShareText}
-use Rattle.title_row.specs.Terms.{IsItem, Reserve, nothing_reserved, Adds, AddAll, joined, IsItems, shares_of}
+use Rattle.title_row.specs.Terms.{IsItem, Reserve, Adds, AddAll, joined, shares_of}
 use Rattle.title_row.proofs.Texts.{Lacks, lacks-more, stands-between, one-split, share-lacks, one-share}
 
 -- a letter is of one estate

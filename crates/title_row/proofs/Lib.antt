@@ -4,3 +4,4 @@ pub mod Texts
 pub mod Items
 pub mod Quanta
 pub mod Reserves
+pub mod Forms

@@ -1,8 +1,8 @@
 -- A reserve read item by item.
-use Rattle.std.proofs.Common.{◌≡◌, ◌<◌, ◌++◌, ◌∷◌, [], refl, sym, subst, ap, ◌∙◌, ℕ, List, Option, None, Some, length, true, false, ◌==◌, inl, inr, ◌⊎◌, arith}
+use Rattle.std.proofs.Common.{◌≡◌, ◌++◌, ◌∷◌, [], refl, sym, subst, ℕ, List, Option, None, Some, length, true, false, ◌==◌, inl, inr, arith}
 use Rattle.std.specs.Prelude.{MatchOption}
 use Rattle.std.proofs.lemmas.Bool.{eqb-true}
-use Rattle.title_row.specs.Terms.{AddAll, IsItems, IsReserve, Reserve, nothing_reserved, shares_of}
+use Rattle.title_row.specs.Terms.{AddAll, IsItems, IsReserve, Reserve, shares_of}
 use Rattle.title_row.proofs.Texts.{Lacks}
 use Rattle.title_row.proofs.Items.{ItemsFrom, items-join, items-part, items-last, items-alone, one-more}
 

@@ -1,7 +1,6 @@
 -- Texts around a mark, and the shares that they name.
 use Rattle.std.proofs.Common.{◌≡◌, ◌≢◌, ◌<◌, ◌≤◌, ◌*◌, ◌/◌, ◌∙◌, ◌++◌, ◌∷◌, [], refl, sym, ap, subst, ℕ, zero, suc, List, length, get_or, arith}
 use Rattle.std.proofs.Math.Nat.{mul-div_cancel}
-use Rattle.std.specs.Str.Parse.{AllDigits}
 use Rattle.std.proofs.lemmas.Str.Parse.{digit_at}
 use Rattle.title_share.specs.Rows.{whole_units}
 use Rattle.title_share.specs.Share.{IsNumber, IsShareText}

@@ -1,6 +1,5 @@
 -- What a row of a script says, by its fields.
 use Rattle.std.specs.Prelude.{◌≡◌, ℕ, true, List, [], ◌∷◌, codes}
-use Rattle.title_instrument.specs.declared.parts.Estates.{Estates}
 use Rattle.title_row.specs.declared.terms.DeedTerms.{DeedTerms}
 use Rattle.title_row.specs.declared.terms.ReleaseTerms.{ReleaseTerms}
 use Rattle.title_row.specs.declared.row.Row.{Row}

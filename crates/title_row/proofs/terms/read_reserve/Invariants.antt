@@ -1,5 +1,5 @@
 -- What is left of the text comes to the reserve so far as the whole text comes to nothing.
-use Rattle.std.proofs.Common.{ℕ, length}
+use Rattle.std.proofs.Common.{length}
 use denote.Text.{Utf8}
 use denote.Shadow.{shadow}
 use Rattle.title_row.proofs.Reserves.{Stands}
