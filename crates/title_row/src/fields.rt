@@ -57,9 +57,7 @@ fn decimal(text: &str) -> Option<u64>
 fn read_number(text: &str, most: u64) -> Option<u64>
     ensures number { MatchOption result ((n : ℕ) → IsNumber text.now n → n ≤ most → ⊥) (λ n. IsNumber text.now n × (n ≤ most)) }
 {
-    let Some(number) = decimal(text) else {
-        return None;
-    };
+    let number = decimal(text)?;
     if number > most {
         return None;
     }
@@ -70,10 +68,8 @@ fn read_number(text: &str, most: u64) -> Option<u64>
 pub(crate) fn read_examiner(text: &str) -> Option<u32>
     ensures examiner { MatchOption result ((e : ℕ) → IsExaminer text.now e → ⊥) (IsExaminer text.now) }
 {
-    match read_number(text, EXAMINERS) {
-        Some(number) => Some(number as u32),
-        None => None,
-    }
+    let number = read_number(text, EXAMINERS)?;
+    Some(number as u32)
 }
 
 /// The number of a document that a text writes: from 1 to 999,999,999,999.

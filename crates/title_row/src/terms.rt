@@ -30,16 +30,12 @@ pub(crate) fn read_quantum(text: &str) -> Option<Quantum>
     ensures quantum { MatchOption result ((quantum : Quantum) → IsQuantum text.now quantum → ⊥) (IsQuantum text.now) }
 {
     if let Some(rest) = text.strip_prefix('W') {
-        return match Share::parse(rest) {
-            Some(share) => Some(Quantum::Whole(share)),
-            None => None,
-        };
+        let share = Share::parse(rest)?;
+        return Some(Quantum::Whole(share));
     }
     if let Some(rest) = text.strip_prefix('I') {
-        return match Share::parse(rest) {
-            Some(share) => Some(Quantum::Interest(share)),
-            None => None,
-        };
+        let share = Share::parse(rest)?;
+        return Some(Quantum::Interest(share));
     }
     None
 }
@@ -83,12 +79,8 @@ fn add_item(reserve: [Option<Share>; 3], item: &str) -> Option<[Option<Share>; 3
     ensures added { (before : Reserve) → reserve ≡ shares_of before
         → MatchOption result ((after : Reserve) → AddAll before (item.now ∷ []) after → ⊥) (λ shares. (after : Reserve) × AddAll before (item.now ∷ []) after × (shares ≡ shares_of after)) }
 {
-    let Some((estate, rest)) = split_letter(item) else {
-        return None;
-    };
-    let Some(share) = Share::parse(rest) else {
-        return None;
-    };
+    let (estate, rest) = split_letter(item)?;
+    let share = Share::parse(rest)?;
     with_item(reserve, estate, share)
 }
 
@@ -102,10 +94,7 @@ pub(crate) fn read_reserve(text: &str) -> Option<[Option<Share>; 3]>
     }
     let mut rest = text;
     while let Some((item, more)) = rest.split_once(';') {
-        let Some(next) = add_item(reserve, item) else {
-            return None;
-        };
-        reserve = next;
+        reserve = add_item(reserve, item)?;
         rest = more;
     }
     add_item(reserve, rest)

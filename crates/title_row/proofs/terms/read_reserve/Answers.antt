@@ -11,21 +11,22 @@ returns-then-is_empty c = record { reserve = (nothing_reserved, inl (no-text c.a
 pub loop-item-init : goal.loop-item-init
 loop-item-init c = (c.utf8.text, (nothing_reserved, refl, λ after all. all, λ after all. all))
 
-pub returns-in_default-add_item : goal.returns-in_default-add_item
-returns-in_default-add_item c =
+pub returns-in_err-reserve : goal.returns-in_err-reserve
+returns-in_err-reserve c =
     let parts = rw c.in-Some.is at (split_parts 59 c.loop-item.rest.now c.split_once.result c.split_once.ensures.cases (omega arith)) in
     record {
       reserve =
-          stands-none c.args.text.now c.loop-item.rest.now c.in-Some.item.now c.in-Some.more.now c.loop-item.reserve c.loop-item.invariant.1 c.if-is_empty.ensures parts.0 parts.1
-          c.in_default-add_item.ensures.added;
+          rw c.from_residual.ensures
+          (stands-none c.args.text.now c.loop-item.rest.now c.in-Some.item.now c.in-Some.more.now c.loop-item.reserve c.loop-item.invariant.1 c.if-is_empty.ensures parts.0 parts.1
+          c.in_err-reserve.ensures.added);
     }
 
 pub loop-item-preserved : goal.loop-item-preserved
 loop-item-preserved c =
     let parts = rw c.in-Some.is at (split_parts 59 c.loop-item.rest.now c.split_once.result c.split_once.ensures.cases (omega arith)) in (
       search rules,
-      stands-more c.args.text.now c.loop-item.rest.now c.in-Some.item.now c.in-Some.more.now c.loop-item.reserve c.in-Some-add_item.next c.loop-item.invariant.1 parts.0 parts.1
-          c.in-Some-add_item.ensures.added,
+      stands-more c.args.text.now c.loop-item.rest.now c.in-Some.item.now c.in-Some.more.now c.loop-item.reserve c.in_ok-reserve.reserve c.loop-item.invariant.1 parts.0 parts.1
+          c.in_ok-reserve.ensures.added,
     )
 
 pub returns : goal.returns
