@@ -46,13 +46,13 @@ given_row id (r ∷ rs) e = go (bytes_eq r.id id) refl (given_row id rs)
         rw is (rest given)
 
 -- `tract` without a fault has its text
-tract_level : Level (at 1)
+tract_level : Level (at 2)
 tract_level words e =
-    let rows = rows_after (at 1).rules [] words in
-    let kept = level_keeps (at 1) words (inl (refl, le_refl 1), (inr refl, tt)) e in
-    inr (refl, first_read (codes "TEXT") rows (given_row (codes "TEXT") rows (given rows (is_given (codes "TEXT") rows) refl kept.1)) kept.0)
+    let rows = rows_after (at 2).rules [] words in
+    let kept = level_keeps (at 2) words (inl (refl, le_refl 1), (inr refl, tt)) e in
+    inr (inr (refl, first_read (codes "TEXT") rows (given_row (codes "TEXT") rows (given rows (is_given (codes "TEXT") rows) refl kept.1)) kept.0))
   where
-    given : (rows : List Row) (b : Bool) → is_given (codes "TEXT") rows ≡ b → check_fault (at 1) rows false ≡ [] → is_given (codes "TEXT") rows ≡ true
+    given : (rows : List Row) (b : Bool) → is_given (codes "TEXT") rows ≡ b → check_fault (at 2) rows false ≡ [] → is_given (codes "TEXT") rows ≡ true
     given rows true is ok = is
     given rows false is ok =
         let bad = rw is at ok in
@@ -60,7 +60,7 @@ tract_level words e =
 
 -- each subcommand without a fault is readable
 levels : Each Level (built command).subs
-levels = ((λ words e. inl refl), (tract_level, tt))
+levels = ((λ words e. inl refl), ((λ words e. inr (inl refl)), (tract_level, tt)))
 
 -- the subcommand that was entered is one of these
 entered_reads : (p : Text × List Text) (o : Option Shape) → ((s : Shape) → o ≡ Some s → Level s)
@@ -112,11 +112,12 @@ met_is m name rows e f = go (subcommand_rows_of m) (e ∙ name_is (out-ArgMatche
 differ : (a b : Text) → false ≡ bytes_eq a b → a ≡ b → ⊥
 differ a b e same = true≢false (sym ((bytes_eq-Decides a b).1 same) ∙ sym e)
 
--- a name that is not `alone` is that of `tract`
-pub tract_reads : (name : Text) (rows : List Row) → false ≡ bytes_eq name (codes "alone")
+-- a name that is neither of the first two is that of `tract`
+pub tract_reads : (name : Text) (rows : List Row) → false ≡ bytes_eq name (codes "run") → false ≡ bytes_eq name (codes "alone")
     → IsReadable name rows → (name ≡ codes "tract") × (is_some (first_of (codes "TEXT") rows) ≡ true)
-tract_reads name rows not_alone (inl is) = absurd (differ name (codes "alone") not_alone is)
-tract_reads name rows not_alone (inr is) = is
+tract_reads name rows not_run not_alone (inl is) = absurd (differ name (codes "run") not_run is)
+tract_reads name rows not_run not_alone (inr (inl is)) = absurd (differ name (codes "alone") not_alone is)
+tract_reads name rows not_run not_alone (inr (inr is)) = is
 
 -- ---- the fault that stands for an error
 

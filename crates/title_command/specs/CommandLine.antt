@@ -7,11 +7,15 @@ use Rattle.clap.specs.declared.builder.action.ArgAction.TheVariants.{Set}
 use Rattle.clap.specs.declared.error.kind.ErrorKind.{ErrorKind}
 use Rattle.clap.specs.declared.error.kind.ErrorKind.TheVariants.{DisplayHelp, OutOfMemory}
 use Rattle.title_command.specs.declared.choice.Line.{Line}
-use Rattle.title_command.specs.declared.choice.Line.TheVariants.{Alone, Tract}
+use Rattle.title_command.specs.declared.choice.Line.TheVariants.{Run, Alone, Tract}
 use Rattle.title_command.specs.declared.choice.LineFault.{LineFault}
 use Rattle.title_command.specs.declared.choice.LineFault.TheVariants.{Help, Bad, Memory}
 
 -- ---- the command
+
+-- nothing follows `run`
+abbrev pub run : Shape
+run = new_shape (codes "run")
 
 -- nothing follows `alone`
 abbrev pub alone : Shape
@@ -36,17 +40,19 @@ titleplant = record (new_shape (codes "titleplant")) {
 
 -- the program's command
 abbrev pub command : App
-command = record { top = titleplant; subs = alone ∷ tract ∷ [] }
+command = record { top = titleplant; subs = run ∷ alone ∷ tract ∷ [] }
 
 -- ---- what the matches mean
 
 -- the subcommand has the values that its line takes from it
 abbrev pub IsReadable : Text → List Row → Type 0
-IsReadable name rows = (name ≡ codes "alone")
+IsReadable name rows = (name ≡ codes "run")
+    ⊎ (name ≡ codes "alone")
     ⊎ ((name ≡ codes "tract") × (is_some (first_of (codes "TEXT") rows) ≡ true))
 
 -- the line is the subcommand of this name with its values
 abbrev pub IsLine : Text → List Row → Line → Type 0
+IsLine name rows Run = name ≡ codes "run"
 IsLine name rows Alone = name ≡ codes "alone"
 IsLine name rows (Tract text) =
     (name ≡ codes "tract") × (first_of (codes "TEXT") rows ≡ Some text.now)

@@ -3,6 +3,8 @@
 /// One of the program's commands.
 #[derive(Clone, Copy, Debug, PartialEq, Eq)]
 pub enum Line<'a> {
+    /// Serve a script of interleaved transactions.
+    Run,
     /// Serve a script of transactions that follow one another.
     Alone,
     /// List the parts of the land that this description names.

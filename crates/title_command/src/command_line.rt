@@ -26,6 +26,9 @@ fn read_line<'a>(name: &'a str, values: &ArgMatches<'a>) -> Line<'a>
     requires readable { IsReadable name.now (rows_of (found_of values.now)) }
     ensures line { IsLine name.entry.now (rows_of (found_of values.now)) result }
 {
+    if name == "run" {
+        return Line::Run;
+    }
     if name == "alone" {
         return Line::Alone;
     }

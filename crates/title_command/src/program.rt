@@ -20,16 +20,42 @@ struct Help<'a> {
 const TITLEPLANT: Help<'static> = Help {
     about: "A title plant: an index of deeds by tract, with the owners of each tract",
     long_about: "\
-A title plant: it posts deeds and releases of land to a tract index, and works out who owns
-which share of the surface, of the oil and gas, and of the other minerals in a tract.
+A title plant: it posts deeds and releases of land to a tract index, lists the chain of
+instruments that touch a tract, and works out who owns which share of the surface, of the
+oil and gas, and of the other minerals in it.
 
 Land is described by township, range, section and parts of a section. A script of work is
 read from standard input as CSV, and its report is written to standard output as CSV.",
     usage: "titleplant <COMMAND>",
     example: "\
 Examples:
+  titleplant run < script.csv
   titleplant alone < script.csv
   titleplant tract \"T3N R2W sec 5 NE1/4\"",
+};
+
+const RUN: Help<'static> = Help {
+    about: "Serve several examiners at once: CSV script on standard input, CSV report on standard output",
+    long_about: "\
+Reads a CSV script from standard input and writes a CSV report to standard output.
+
+A script declares its townships and parties, and then has a row for each step. A step's row
+begins with the number of the examiner who takes it. Several examiners may be at work at
+once: each begins a transaction, takes its steps (a sheet of owners, a chain of instruments,
+a deed, a release), and commits or aborts. A step is refused where another examiner has an
+open step on some of the same land and one of the two is a deed or a release; the report
+names that examiner.",
+    usage: "titleplant run",
+    example: "\
+Example: titleplant run < script.csv, where script.csv has
+  township,T3N R2W
+  party,ADAMS
+  1,begin
+  1,deed,101,UNITED STATES,ADAMS,S,W1/2,,T3N R2W sec 5 NE1/4
+  2,begin
+  2,chain,T3N R2W sec 6
+  1,commit
+  2,abort",
 };
 
 const ALONE: Help<'static> = Help {
@@ -37,10 +63,16 @@ const ALONE: Help<'static> = Help {
     long_about: "\
 Reads a CSV script from standard input and writes a CSV report to standard output.
 
-Each row that asks something, a deed, a release or a sheet, is a transaction of its own and
-is committed at once, so a script is a plain list of deeds and questions.",
+A script is as for the command run, but each transaction ends before the next one begins. A
+step outside a transaction is a transaction of its own and is committed at once, so a script
+may be a plain list of deeds and questions.",
     usage: "titleplant alone",
-    example: "Example: titleplant alone < script.csv",
+    example: "\
+Example: titleplant alone < script.csv, where script.csv has
+  township,T3N R2W
+  party,ADAMS
+  1,deed,101,UNITED STATES,ADAMS,S,W1/2,,T3N R2W sec 5 NE1/4
+  1,sheet,T3N R2W sec 5",
 };
 
 const TRACT: Help<'static> = Help {
@@ -99,7 +131,8 @@ pub fn program<'a>(alloc: Global) -> Result<Command<'a>, AllocError>
 {
     let tract = tract_command(alloc)?;
     let bare = top(alloc);
-    let with_alone = bare.subcommand(named(alloc, "alone", ALONE))?;
+    let with_run = bare.subcommand(named(alloc, "run", RUN))?;
+    let with_alone = with_run.subcommand(named(alloc, "alone", ALONE))?;
     let with_tract = with_alone.subcommand(tract)?;
     Ok(with_tract)
 }

@@ -4,7 +4,8 @@ use std::test::Fail;
 #[test]
 fn reads_each_command(rt: HostRuntime) -> Result<(), Fail> {
     let alloc = rt.alloc();
-    let cases: [(&[&str], Line); 4] = [
+    let cases: [(&[&str], Line); 5] = [
+        (&["run"], Line::Run),
         (&["alone"], Line::Alone),
         (&["tract", "T3N R2W sec 5"], Line::Tract("T3N R2W sec 5")),
         (&["tract", ""], Line::Tract("")),
@@ -19,9 +20,8 @@ fn reads_each_command(rt: HostRuntime) -> Result<(), Fail> {
 #[test]
 fn refuses_other_words(rt: HostRuntime) -> Result<(), Fail> {
     let alloc = rt.alloc();
-    let cases: [&[&str]; 10] = [
+    let cases: [&[&str]; 9] = [
         &[],
-        &["run"],
         &["office"],
         &["Run"],
         &["help"],
@@ -43,11 +43,14 @@ fn refuses_other_words(rt: HostRuntime) -> Result<(), Fail> {
 #[test]
 fn shows_help(rt: HostRuntime) -> Result<(), Fail> {
     let alloc = rt.alloc();
+    let run = "titleplant run < script.csv";
     let alone = "titleplant alone < script.csv";
     let tract = "titleplant tract \"T3N R2W sec 5 NE1/4\"";
-    let cases: [(&[&str], &str); 6] = [
+    let cases: [(&[&str], &str); 8] = [
         (&["--help"], alone),
         (&["-h"], alone),
+        (&["run", "--help"], run),
+        (&["run", "-h"], run),
         (&["alone", "--help"], alone),
         (&["alone", "-h"], alone),
         (&["tract", "--help"], tract),
