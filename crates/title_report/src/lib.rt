@@ -8,3 +8,6 @@ mod sheets;
 mod writing;
 
 pub use report::Report;
+
+#[cfg(test)]
+mod tests;
