@@ -1,0 +1,5 @@
+mod Names
+mod Declared
+mod ReadOn
+mod Rows
+mod Kept

@@ -16,8 +16,8 @@ abbrev pub with_township : ℕ → Asked → Township → Result Asked RunFault
 with_township n asked t =
     cond (nat_le TOWNSHIPS (length asked.townships) || list_any (λ other. same_township other t) asked.townships) (Err (fault.Row n))
     (cond (is_none asked.lines)
-      (Ok (record { townships = asked.townships ++ t ∷ []; names = asked.names; lines = asked.lines; inside = asked.inside }))
-      (Err (fault.Order n)))
+    (Ok (record { townships = asked.townships ++ t ∷ []; names = asked.names; lines = asked.lines; inside = asked.inside }))
+    (Err (fault.Order n)))
 
 -- a text declares the township that it describes as a whole; one that describes none is at fault
 abbrev pub AfterTownship : ℕ → Asked → List ℕ → Result Asked RunFault → Type 0
@@ -31,6 +31,6 @@ abbrev pub with_party : ℕ → Asked → List ℕ → Result Asked RunFault
 with_party n asked name =
     cond (nat_le PARTIES (length asked.names)) (Err (fault.Row n))
     (cond (is_none asked.lines)
-      (cond (list_any (bytes_eq name) asked.names) (Err (fault.Party n))
-        (Ok (record { townships = asked.townships; names = asked.names ++ name ∷ []; lines = asked.lines; inside = asked.inside })))
-      (Err (fault.Order n)))
+    (cond (list_any (bytes_eq name) asked.names) (Err (fault.Party n))
+    (Ok (record { townships = asked.townships; names = asked.names ++ name ∷ []; lines = asked.lines; inside = asked.inside })))
+    (Err (fault.Order n)))

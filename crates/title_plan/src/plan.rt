@@ -1,18 +1,24 @@
 //! What the rows of a script declare and ask for.
 
-ghost use Rattle.std.specs.Prelude.{◌≡◌, ◌≤◌, ◌⊎◌, Ok, Err, IfErr, IfOk, OnOk};
+ghost use Rattle.std.specs.Prelude.{◌≡◌, ◌≤◌, ◌⊎◌, Result, Ok, Err, IfErr, IfOk, OnOk};
 ghost use Rattle.csv.specs.Records.{fields_of};
-ghost use Rattle.title_plan.specs.Asked.{asked_in, nothing_asked};
-ghost use Rattle.title_plan.specs.Plans.{AfterRow};
+ghost use Rattle.indexmap.specs.IndexSet.{index_set_len};
+ghost use Rattle.title_device.specs.declared.fault.RunFault.{RunFault as Fault};
 ghost use Rattle.title_device.specs.declared.fault.RunFault.TheVariants as fault;
+ghost use Rattle.title_row.specs.Rows.{said};
 
 use crate::line::{Line, Schedule};
-use csv::ByteRecord;
+use csv::{ByteRecord, StringRecord};
 use indexmap::IndexSet;
 use std::alloc::Global;
 use std::collections::VecDeque;
 use title_device::RunFault;
 use title_land::Township;
+use title_row::{Row, read_row};
+use title_trace::Request;
+
+mod declarations;
+mod steps;
 
 /// The most rows of a script.
 pub const ROWS: u64 = 100_000;
@@ -23,6 +29,9 @@ pub const PARTIES: usize = 65_536;
 /// The most townships of a plant.
 pub const TOWNSHIPS: usize = 64;
 
+/// The name of party 0.
+const FIRST_PARTY: &str = "UNITED STATES";
+
 /// What the rows of a script declare and ask for. The parties have their numbers as places, UNITED STATES being 0; the
 /// steps stand in order; `inside` is the examiner whose transaction is open where they come one after another.
 #[derive(Drop)]
@@ -32,26 +41,109 @@ pub struct Plan {
     pub townships: Vec<Township>,
     pub lines: VecDeque<Line>,
     pub inside: Option<u32>,
+    ghost few: { index_set_len parties ≤ 65536 },
 }
 
 impl Plan {
+    ghost use Rattle.title_plan.specs.Asked.{Asked, asked_in, nothing_asked};
+    ghost use Rattle.title_plan.specs.Plans.{AfterRow, AfterSaid};
+    ghost use Rattle.title_plan.specs.declared.line.Schedule.TheVariants as turns;
+
     /// Nothing but UNITED STATES as party 0. `Err` is Memory.
     pub fn new(alloc: Global) -> Result<Plan, RunFault>
-        requires stub { ⊥ }
         ensures nothing { IfOk result (λ plan. asked_in plan ≡ nothing_asked) }
         ensures fault { IfErr result (λ e. e ≡ fault.Memory) }
     {
-        Err(RunFault::Memory)
+        let mut parties = IndexSet::new(alloc);
+        let Ok(name) = String::from_str(alloc, FIRST_PARTY) else {
+            return Err(RunFault::Memory);
+        };
+        if parties.insert(name).is_err() {
+            return Err(RunFault::Memory);
+        }
+        Ok(Plan {
+            alloc,
+            parties,
+            townships: Vec::new(alloc),
+            lines: VecDeque::new(alloc),
+            inside: None,
+        })
+    }
+
+    // Whether a row may stand here: not where another examiner's transaction is open and no two may be.
+    fn check_turn(&self, schedule: Schedule, n: u64, row: &Row<'_>) -> Result<(), RunFault>
+        ensures turn { OnOk result ((after : Result Asked Fault)
+            → AfterSaid turns.Interleaved n (asked_in self.now) (said row.now) after
+            → AfterSaid schedule n (asked_in self.now) (said row.now) after) }
+        ensures out { IfErr result (λ e. AfterSaid schedule n (asked_in self.now) (said row.now) (Err e)) }
+    {
+        let examiner = match *row {
+            Row::Township(_) | Row::Party(_) => return Ok(()),
+            Row::Begin(examiner)
+            | Row::Commit(examiner)
+            | Row::Abort(examiner)
+            | Row::Sheet(examiner, _)
+            | Row::Chain(examiner, _)
+            | Row::Deed(examiner, ..)
+            | Row::Release(examiner, ..) => examiner,
+        };
+        if self.is_out_of_turn(schedule, examiner) {
+            return Err(RunFault::Order(n));
+        }
+        Ok(())
+    }
+
+    // Takes what the n-th row says, a step in its turn.
+    fn take_turn(&mut self, n: u64, row: &Row<'_>) -> Result<(), RunFault>
+        ensures ok { OnOk result (AfterSaid turns.Interleaved n (asked_in self.old) (said row.now) (Ok (asked_in self.new))) }
+        ensures err { IfErr result (λ e. (e ≡ fault.Memory)
+            ⊎ AfterSaid turns.Interleaved n (asked_in self.old) (said row.now) (Err e)) }
+    {
+        match *row {
+            Row::Township(text) => self.take_township(n, text),
+            Row::Party(name) => self.take_party(n, name),
+            Row::Begin(examiner) => self.take_request(Request::Begin(examiner), Some(examiner)),
+            Row::Commit(examiner) => self.take_request(Request::Commit(examiner), None),
+            Row::Abort(examiner) => self.take_request(Request::Abort(examiner), None),
+            Row::Sheet(examiner, text) => self.take_sheet(examiner, text),
+            Row::Chain(examiner, text) => self.take_chain(examiner, text),
+            Row::Deed(examiner, terms, grantor, grantee, text) => {
+                self.take_deed(n, examiner, terms, grantor, grantee, text)
+            }
+            Row::Release(examiner, terms, releasor, releasee, text) => {
+                self.take_release(n, examiner, terms, releasor, releasee, text)
+            }
+        }
+    }
+
+    // Takes what the n-th row says.
+    fn take_said(&mut self, schedule: Schedule, n: u64, row: &Row<'_>) -> Result<(), RunFault>
+        ensures ok { OnOk result (AfterSaid schedule n (asked_in self.old) (said row.now) (Ok (asked_in self.new))) }
+        ensures err { IfErr result (λ e. (e ≡ fault.Memory)
+            ⊎ AfterSaid schedule n (asked_in self.old) (said row.now) (Err e)) }
+    {
+        match self.check_turn(schedule, n, row) {
+            Ok(()) => self.take_turn(n, row),
+            Err(fault) => Err(fault),
+        }
     }
 
     /// Takes the n-th row. Faults in their order: Row(n) where it isn't understood, Order(n) where it declares something
     /// after the first step or is out of its turn, Party(n) for a name that is there already or isn't declared; Memory.
     pub fn take_row(&mut self, schedule: Schedule, n: u64, raw: ByteRecord) -> Result<(), RunFault>
-        requires stub { ⊥ }
         ensures ok { OnOk result (AfterRow schedule n (asked_in self.old) (fields_of raw) (Ok (asked_in self.new))) }
         ensures within { OnOk result (n ≤ ROWS) }
         ensures err { IfErr result (λ e. (e ≡ fault.Memory) ⊎ AfterRow schedule n (asked_in self.old) (fields_of raw) (Err e)) }
     {
-        Err(RunFault::Memory)
+        if n > ROWS {
+            return Err(RunFault::Row(n));
+        }
+        let Ok(row) = StringRecord::from_byte_record(raw) else {
+            return Err(RunFault::Row(n));
+        };
+        match read_row(&row) {
+            Some(row) => self.take_said(schedule, n, &row),
+            None => Err(RunFault::Row(n)),
+        }
     }
 }

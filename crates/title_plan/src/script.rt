@@ -2,23 +2,53 @@
 
 ghost use Rattle.std.specs.Prelude.{◌≡◌, ◌⊎◌, Ok, Err, IfErr, IfOk, length};
 ghost use Rattle.title_plan.specs.Asked.{CanOpen, asked_in};
-ghost use Rattle.title_plan.specs.Faults.{IsScriptFault};
+ghost use Rattle.csv.specs.Reading.{error_kind};
+ghost use Rattle.title_plan.specs.Faults.{IsScriptFault, IsWant};
 ghost use Rattle.title_plan.specs.Plans.{IsScript};
 ghost use Rattle.title_device.specs.declared.fault.RunFault.TheVariants as fault;
 
 use crate::line::Schedule;
 use crate::plan::Plan;
+use csv::{Error, ErrorKind, ReaderBuilder};
 use std::alloc::Global;
 use title_device::RunFault;
+
+// Splitting a text in memory into rows ends early for want of memory only: rows may have any lengths, and their bytes are
+// not looked at.
+fn fault_of(error: Error) -> RunFault
+    requires want { IsWant (error_kind error) }
+    ensures memory { result ≡ fault.Memory }
+{
+    match error.into_kind() {
+        ErrorKind::OutOfMemory | ErrorKind::Io(_) => RunFault::Memory,
+        ErrorKind::Utf8 { .. } => unreachable!(),
+        ErrorKind::UnequalLengths { .. } => unreachable!(),
+        ErrorKind::Serialize(_) => unreachable!(),
+        ErrorKind::Deserialize { .. } => unreachable!(),
+    }
+}
 
 /// What a script declares and asks for, or the fault of its first row at fault: Row, Order or Party with the row's number
 /// from 1; or Memory. With what it declares a plant can be opened.
 pub fn read_script(alloc: Global, schedule: Schedule, text: &[u8]) -> Result<Plan, RunFault>
-        requires stub { ⊥ }
     ensures script { IfOk result (λ plan. IsScript schedule text.now (Ok (asked_in plan))) }
     ensures opens { IfOk result (λ plan. CanOpen (length plan.parties.keys) plan.townships.items) }
     ensures why { IfErr result (λ e. (e ≡ fault.Memory) ⊎ IsScript schedule text.now (Err e)) }
     ensures fault { IfErr result IsScriptFault }
 {
-    Err(RunFault::Memory)
+    let rdr = ReaderBuilder::new()
+        .has_headers(false)
+        .flexible(true)
+        .from_reader(alloc, text);
+    let mut plan = Plan::new(alloc)?;
+    let mut n = 0;
+    for row in rdr.into_byte_records() {
+        let raw = match row {
+            Ok(raw) => raw,
+            Err(error) => return Err(fault_of(error)),
+        };
+        n += 1;
+        plan.take_row(schedule, n, raw)?;
+    }
+    Ok(plan)
 }

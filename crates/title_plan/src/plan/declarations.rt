@@ -1,0 +1,108 @@
+//! Rows that declare.
+
+ghost use Rattle.std.specs.Prelude.{◌≡◌, ◌⊎◌, ◌||◌, ◌∷◌, ◌++◌, [], Ok, Err, IfErr, IfOk, OnOk, length, nat_le};
+ghost use Rattle.std.specs.List.{list_any};
+ghost use Rattle.title_aliquot.specs.Describes.{Describes};
+ghost use Rattle.title_device.specs.declared.fault.RunFault.TheVariants as fault;
+ghost use Rattle.title_land.specs.Places.{same_township};
+ghost use Rattle.title_land.specs.declared.place.Township.{Township as Place};
+ghost use Rattle.title_land.specs.declared.tract.Land.TheVariants as land;
+ghost use Rattle.title_plan.specs.Asked.{asked_in};
+ghost use Rattle.title_plan.specs.Declarations.{AfterTownship, with_party, with_township};
+
+use crate::plan::{PARTIES, Plan, TOWNSHIPS};
+use std::alloc::{AllocError, Global};
+use title_aliquot::{DescFault, read};
+use title_device::RunFault;
+use title_land::{Land, Township};
+
+// The township that a text describes as a whole.
+fn read_township(alloc: Global, n: u64, text: &str) -> Result<Township, RunFault>
+    ensures described { IfOk result (λ t. Describes 3 text.now (land.Township t)) }
+    ensures none { IfErr result (λ e. (e ≡ fault.Memory)
+        ⊎ (((t : Place) → Describes 3 text.now (land.Township t) → ⊥) × (e ≡ fault.Row n))) }
+{
+    match read(alloc, text) {
+        Ok(tract) => match tract.land() {
+            Land::Township(township) => Ok(township),
+            _ => Err(RunFault::Row(n)),
+        },
+        Err(fault) => match fault {
+            DescFault::Memory => Err(RunFault::Memory),
+            _ => Err(RunFault::Row(n)),
+        },
+    }
+}
+
+// Whether a township is declared.
+fn is_declared(townships: &[Township], township: Township) -> bool
+    ensures declared { result ≡ list_any (λ other. same_township other township) townships.now }
+{
+    townships.iter().any(|other| other.is(township))
+}
+
+// Whether a township is refused: it is declared, or as many are as may be.
+fn is_refused(townships: &[Township], township: Township) -> bool
+    ensures refused { result ≡ (nat_le TOWNSHIPS (length townships.now)
+        || list_any (λ other. same_township other township) townships.now) }
+{
+    townships.len() >= TOWNSHIPS || is_declared(townships, township)
+}
+
+fn push(townships: &mut Vec<Township>, township: Township) -> Result<(), AllocError>
+    ensures pushed { OnOk result (townships.new.items ≡ townships.old.items ++ township ∷ []) }
+{
+    townships.push(township)?;
+    Ok(())
+}
+
+impl Plan {
+    // Declares a township.
+    fn declare(&mut self, n: u64, township: Township) -> Result<(), RunFault>
+        ensures ok { OnOk result (with_township n (asked_in self.old) township ≡ Ok (asked_in self.new)) }
+        ensures err { IfErr result (λ e. (e ≡ fault.Memory) ⊎ (with_township n (asked_in self.old) township ≡ Err e)) }
+    {
+        if is_refused(self.townships.as_slice(), township) {
+            return Err(RunFault::Row(n));
+        }
+        if !self.lines.is_empty() {
+            return Err(RunFault::Order(n));
+        }
+        match push(&mut self.townships, township) {
+            Ok(()) => Ok(()),
+            Err(_) => Err(RunFault::Memory),
+        }
+    }
+
+    pub(super) fn take_township(&mut self, n: u64, text: &str) -> Result<(), RunFault>
+        ensures ok { OnOk result (AfterTownship n (asked_in self.old) text.now (Ok (asked_in self.new))) }
+        ensures err { IfErr result (λ e. (e ≡ fault.Memory) ⊎ AfterTownship n (asked_in self.old) text.now (Err e)) }
+    {
+        match read_township(self.alloc, n, text) {
+            Ok(township) => self.declare(n, township),
+            Err(fault) => Err(fault),
+        }
+    }
+
+    pub(super) fn take_party(&mut self, n: u64, name: &str) -> Result<(), RunFault>
+        ensures ok { OnOk result (with_party n (asked_in self.old) name.now ≡ Ok (asked_in self.new)) }
+        ensures err { IfErr result (λ e. (e ≡ fault.Memory) ⊎ (with_party n (asked_in self.old) name.now ≡ Err e)) }
+    {
+        if self.parties.len() >= PARTIES {
+            return Err(RunFault::Row(n));
+        }
+        if !self.lines.is_empty() {
+            return Err(RunFault::Order(n));
+        }
+        if self.parties.contains(name) {
+            return Err(RunFault::Party(n));
+        }
+        let Ok(name) = String::from_str(self.alloc, name) else {
+            return Err(RunFault::Memory);
+        };
+        match self.parties.insert(name) {
+            Ok(_) => Ok(()),
+            Err(_) => Err(RunFault::Memory),
+        }
+    }
+}
