@@ -1,5 +1,5 @@
 -- What stays so from row to row: a plant can be opened with what is declared. And which faults rows have.
-use Rattle.std.proofs.Common.{◌≡◌, ◌≤◌, ◌<◌, ◌+◌, ◌∙◌, ℕ, List, [], ◌∷◌, ◌++◌, Bool, true, false, ◌||◌, cond, Option, Some, None, Result, Ok, Err, length, nat_le, refl, sym, arith, inl, inr}
+use Rattle.std.proofs.Common.{◌≡◌, ◌≤◌, ◌+◌, ◌∙◌, ℕ, List, [], ◌∷◌, ◌++◌, Bool, true, false, ◌||◌, Option, Some, None, Result, Ok, Err, length, nat_le, refl, arith, inl, inr}
 use Rattle.std.specs.List.{list_any}
 use Rattle.std.specs.Str.{bytes_eq}
 use Rattle.std.proofs.lemmas.Bool.{or_parts, or_from}
@@ -9,9 +9,7 @@ use Rattle.std.proofs.lemmas.List.Folds.{list_any-append}
 use Rattle.title_device.specs.declared.fault.RunFault.{RunFault}
 use Rattle.title_device.specs.declared.fault.RunFault.TheVariants as fault
 use Rattle.title_land.specs.declared.place.Township.{Township}
-use Rattle.title_land.specs.declared.tract.Land.{Land}
 use Rattle.title_land.specs.Places.{same_township}
-use Rattle.title_chain.specs.declared.ask.Ask.{Ask}
 use Rattle.title_instrument.specs.declared.instrument.Instrument.{Instrument}
 use Rattle.title_store.specs.Plants.{IsEachOnce}
 use Rattle.title_row.specs.Rows.{Said}
@@ -22,7 +20,7 @@ use Rattle.title_plan.specs.Asked.{Asked, CanOpen, is_none, nothing_asked}
 use Rattle.title_plan.specs.Declarations.{with_party, with_township}
 use Rattle.title_plan.specs.Faults.{IsScriptFault}
 use Rattle.title_plan.specs.Plans.{AfterRow, AfterRows, AfterSaid, AfterStepRow, AfterTurn, GoesOn}
-use Rattle.title_plan.specs.Steps.{AfterPost, AfterStep, is_out_of_turn, with_line}
+use Rattle.title_plan.specs.Steps.{AfterPost, with_line}
 
 -- a plant can be opened with what is declared
 abbrev pub Opens : Asked → Type 0

@@ -1,5 +1,5 @@
 -- Names and their bytes, and rows that are text.
-use Rattle.std.proofs.Common.{◌≡◌, ◌∙◌, ◌∷◌, ◌++◌, [], refl, sym, ℕ, List, Bool, true, false, length, map, not, inl, inr}
+use Rattle.std.proofs.Common.{◌≡◌, ◌∷◌, ◌++◌, [], refl, sym, ℕ, List, Bool, true, false, map, not, inl, inr}
 use Rattle.std.specs.List.{list_all, list_any, position, prefix_len}
 use Rattle.std.specs.Str.{bytes_eq, is_utf8}
 use Rattle.std.specs.String.{string_bytes, string_eq}

@@ -1,5 +1,4 @@
 -- Which faults a script can have.
-use Rattle.std.specs.Prelude.{ℕ}
 use Rattle.csv.specs.declared.error.ErrorKind.{ErrorKind}
 use Rattle.csv.specs.declared.error.ErrorKind.TheVariants as kind
 use Rattle.title_device.specs.declared.fault.RunFault.{RunFault}

@@ -1,15 +1,13 @@
-use Rattle.std.proofs.Common.{Bor, List, ℕ, ◌≡◌, ◌≤◌, ◌+◌, ◌∙◌, sym, refl, ap, arith, inl, inr, true, Some, Result, Ok, Err, ◌∷◌, ◌++◌, [], length}
+use Rattle.std.proofs.Common.{Bor, List, ℕ, ◌≡◌, ◌+◌, ◌∙◌, sym, refl, ap, arith, inl, inr, true, Some, Result, Ok, Err, ◌∷◌, ◌++◌, [], length}
 use Rattle.std.proofs.lemmas.List.{length-append, length-map}
 use Rattle.std.proofs.lemmas.Result.{err_from_is_err_and}
-use Rattle.csv.specs.Reading.{Reached, ExplainsRead, default_config, strip_bom, with_flexible}
+use Rattle.csv.specs.Reading.{Reached, default_config, strip_bom, with_flexible}
 use Rattle.csv.specs.declared.reader.ReaderBuilder.{ReaderBuilder}
 use Rattle.csv.specs.Records.{fields_of}
 use Rattle.csv.specs.declared.parser.State.TheVariants as st
 use Rattle.csv.proofs.ReadFacts.{rows-end, rows-more}
 use Rattle.title_device.specs.declared.fault.RunFault.{RunFault}
-use Rattle.title_device.specs.declared.fault.RunFault.TheVariants as fault
 use Rattle.title_plan.specs.Asked.{Asked, asked_in, nothing_asked}
-use Rattle.title_plan.specs.Plans.{AfterRows}
 use Rattle.title_plan.proofs.Rows.{after_push, fault_stands}
 use Rattle.title_plan.proofs.Kept.{rows_open, row_fault, nothing_opens}
 use Rattle.title_plan.proofs.ReadOn.{reached-all, reached-rest}

@@ -1,4 +1,4 @@
-use Rattle.std.proofs.Common.{◌≡◌, ◌<◌, ◌∙◌, sym, inl, inr, refl, length, arith, rules}
+use Rattle.std.proofs.Common.{◌≡◌, ◌<◌, ◌∙◌, sym, inr, length, arith, rules}
 use Rattle.std.proofs.lemmas.List.{length-map}
 use Rattle.title_plan.specs.Asked.{asked_in}
 use Rattle.title_plan.specs.declared.plan.TheConstants.{PARTIES}

@@ -1,4 +1,4 @@
-use Rattle.std.proofs.Common.{◌≡◌, ◌∙◌, sym, inr, refl}
+use Rattle.std.proofs.Common.{◌∙◌, inr, refl}
 use Rattle.title_land.specs.declared.tract.Land.TheVariants as land
 use Rattle.title_plan.proofs.plan.declarations.read_township.Goals as goal
 
