@@ -3,6 +3,8 @@
 
 mod runs;
 mod serving;
+#[cfg(test)]
+mod tests;
 
 pub use runs::{run, run_alone};
 pub use title_device::{Device, Failed, RunFault, SCRIPT_LIMIT, Sink, Source, read_all, write_all};

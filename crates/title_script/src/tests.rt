@@ -1,0 +1,178 @@
+ghost use Rattle.std.specs.Prelude.{◌≡◌, false};
+
+use crate::{RunFault, Schedule, run, run_alone};
+use std::alloc::Global;
+use std::test::Fail;
+use title_device::fake::{FakeSink, FakeSource};
+
+mod cuts;
+mod descriptions;
+mod first_run;
+mod instruments;
+mod interleaved;
+mod transactions;
+
+use cuts::{CUTS, REPORT, SCRIPT};
+
+/// A script, how its transactions come, and its report or the line of its fault.
+#[derive(Clone, Copy)]
+pub struct Row {
+    pub name: &'static str,
+    pub schedule: Schedule,
+    pub script: &'static [u8],
+    pub wanted: Result<&'static [u8], &'static str>,
+}
+
+// A source of a script that fails after `good_pulls` pulls of `piece` bytes.
+fn source_of(script: &[u8], piece: usize, good_pulls: u64) -> FakeSource<'_>
+    ensures works { result.has_failed ≡ false }
+{
+    FakeSource {
+        left: script,
+        piece,
+        good_pulls,
+        pulls: 0,
+        has_failed: false,
+    }
+}
+
+// A sink that takes `piece` bytes a push, and fails after `room` bytes.
+fn sink_of(alloc: Global, piece: usize, room: usize) -> FakeSink
+    ensures works { result.has_failed ≡ false }
+{
+    FakeSink {
+        taken: Vec::new(alloc),
+        piece,
+        room,
+        has_failed: false,
+    }
+}
+
+// The report of a script.
+fn report_of(alloc: Global, schedule: Schedule, script: &[u8]) -> Result<Vec<u8>, RunFault> {
+    let mut source = source_of(script, 4096, u64::MAX);
+    let mut sink = sink_of(alloc, usize::MAX, usize::MAX);
+    match schedule {
+        Schedule::Interleaved => run(alloc, &mut source, &mut sink)?,
+        Schedule::Serial => run_alone(alloc, &mut source, &mut sink)?,
+    }
+    Ok(sink.taken)
+}
+
+// Whether a script gives the report, or the line of the fault, that is wanted.
+fn gives(
+    alloc: Global,
+    schedule: Schedule,
+    script: &[u8],
+    wanted: Result<&[u8], &str>,
+) -> Result<bool, Fail> {
+    match (report_of(alloc, schedule, script), wanted) {
+        (Ok(report), Ok(wanted)) => Ok(report.as_slice() == wanted),
+        (Err(fault), Err(wanted)) => Ok(format!(in alloc; "{fault}")?.as_str() == wanted),
+        _ => Ok(false),
+    }
+}
+
+#[test]
+fn reports_of_scripts(rt: HostRuntime) -> Result<(), Fail> {
+    let tables: [&[Row]; 5] = [
+        &first_run::ROWS,
+        &descriptions::ROWS,
+        &instruments::ROWS,
+        &transactions::ROWS,
+        &interleaved::ROWS,
+    ];
+    for table in tables {
+        for row in table {
+            assert!(rt;
+                gives(rt.alloc(), row.schedule, row.script, row.wanted)?,
+                "{}",
+                row.name
+            );
+        }
+    }
+    Ok(())
+}
+
+// Each beginning of a script gives its report, or the fault of its last row.
+#[test]
+fn beginnings_of_a_script(rt: HostRuntime) -> Result<(), Fail> {
+    let alloc = rt.alloc();
+    let mut at = 0;
+    for bytes in 0..SCRIPT.len() + 1 {
+        if at + 1 < CUTS.len() && CUTS[at + 1].bytes <= bytes {
+            at += 1;
+        }
+        let script = &SCRIPT[..bytes];
+        let is_given = match CUTS[at].given {
+            Err(fault) => gives(alloc, Schedule::Interleaved, script, Err(fault))?,
+            Ok((kept, more)) => {
+                let mut report = Vec::from_slice(alloc, &REPORT[..kept])?;
+                report.extend_from_slice(more.as_bytes())?;
+                gives(alloc, Schedule::Interleaved, script, Ok(report.as_slice()))?
+            }
+        };
+        assert!(rt; is_given, "{bytes} bytes");
+    }
+    Ok(())
+}
+
+// Quotes, ends of lines, empty lines and the mark of byte order are as in other CSV: they change no report but by the
+// text that a field has.
+#[test]
+fn scripts_are_csv(rt: HostRuntime) -> Result<(), Fail> {
+    let scripts: [&[u8]; 3] = [
+        b"\xef\xbb\xbftownship,T3N R2W\r\nparty,\"ADAMS, A\"\r\n\r\n1,deed,7,UNITED STATES,\"ADAMS, A\",S,W1/1,,T3N R2W\r\n1,sheet,T3N R2W\r\n",
+        b"\"township\",T3N R2W\n\nparty,\"ADAMS, A\"\n1,deed,7,UNITED STATES,\"ADAMS, A\",S,W1/1,,T3N R2W\n\n\n1,\"sheet\",T3N R2W",
+        b"township,T3N R2W\rparty,\"ADAMS, A\"\r1,deed,7,UNITED STATES,\"ADAMS, A\",S,W1/1,,T3N R2W\r1,sheet,\"T3N R2W",
+    ];
+    let wanted: &[u8] =
+        b"1,posted\n1,sheet,3\n1,row,T3N R2W,S,\"ADAMS, A\",1/1\n1,row,T3N R2W,O,UNITED STATES,1/1\n1,row,T3N R2W,M,UNITED STATES,1/1\nend,2\n";
+    for script in scripts {
+        assert!(rt; gives(rt.alloc(), Schedule::Serial, script, Ok(wanted))?);
+    }
+    Ok(())
+}
+
+// A name may have quotes, and a line end makes a field of another form.
+#[test]
+fn quotes_in_names(rt: HostRuntime) -> Result<(), Fail> {
+    let alloc = rt.alloc();
+    let script: &[u8] =
+        b"township,T3N R2W\nparty,\"A \"\"B\"\"\"\n1,release,1,\"A \"\"B\"\"\",UNITED STATES,S,T3N R2W\n1,chain,T3N R2W\n";
+    let wanted: &[u8] =
+        b"1,posted\n1,chain,1\n1,entry,1,1,release,\"A \"\"B\"\"\",UNITED STATES,S\nend,2\n";
+    assert!(rt; gives(alloc, Schedule::Serial, script, Ok(wanted))?);
+    let broken: &[u8] = b"township,T3N R2W\nparty,\"A\nB\"\n";
+    assert!(rt; gives(alloc, Schedule::Serial, broken, Err("fault,31,2"))?);
+    Ok(())
+}
+
+// A source that fails at any of its pulls is the fault Read, and nothing is written.
+#[test]
+fn sources_that_fail(rt: HostRuntime) -> Result<(), Fail> {
+    for good_pulls in 0..SCRIPT.len() as u64 / 16 + 1 {
+        let mut source = source_of(SCRIPT, 16, good_pulls);
+        let mut sink = sink_of(rt.alloc(), usize::MAX, usize::MAX);
+        let fault = run(rt.alloc(), &mut source, &mut sink).err();
+        assert_eq!(rt; fault, Some(RunFault::Read), "{good_pulls} pulls");
+        assert!(rt; sink.taken.is_empty(), "{good_pulls} pulls");
+    }
+    Ok(())
+}
+
+// A sink that fails after so many bytes has taken the beginning of the report; one byte a push makes no difference, and
+// one that takes none fails.
+#[test]
+fn sinks_that_fail(rt: HostRuntime) -> Result<(), Fail> {
+    for room in 0..REPORT.len() + 2 {
+        let mut source = source_of(SCRIPT, 4096, u64::MAX);
+        let mut sink = sink_of(rt.alloc(), 1, room);
+        let fault = run(rt.alloc(), &mut source, &mut sink).err();
+        let wanted = (room < REPORT.len()).then_some(RunFault::Write);
+        assert_eq!(rt; fault, wanted, "room {room}");
+        let kept = room.min(REPORT.len());
+        assert_eq!(rt; sink.taken.as_slice(), &REPORT[..kept], "room {room}");
+    }
+    Ok(())
+}
