@@ -1,5 +1,5 @@
 -- What a declaration does, case by case.
-use Rattle.std.proofs.Common.{◌≡◌, ◌<◌, ℕ, List, [], ◌∷◌, ◌++◌, true, false, ◌||◌, Ok, Err, length, nat_le, refl, arith}
+use Rattle.std.proofs.Common.{◌≡◌, ◌<◌, ℕ, List, [], ◌∷◌, ◌++◌, Bool, true, false, not, ◌||◌, Ok, Err, length, nat_le, refl, arith}
 use Rattle.std.specs.List.{list_any}
 use Rattle.std.specs.Str.{bytes_eq}
 use Rattle.std.proofs.lemmas.Bool.Decides.{nat_tests}
@@ -14,9 +14,9 @@ pub is_none_from : {A : Type 0} (xs : List A) → length xs ≡ 0 → is_none xs
 is_none_from [] e = refl
 is_none_from (x ∷ xs) e = absurd (omega arith)
 
-pub is_none_not : {A : Type 0} (xs : List A) → (length xs ≡ 0 → ⊥) → is_none xs ≡ false
-is_none_not [] h = absurd (h refl)
-is_none_not (x ∷ xs) h = refl
+pub not_true : (b : Bool) → not b ≡ true → b ≡ false
+not_true false h = refl
+not_true true h = absurd (cc h)
 
 -- a township that is refused, one that comes after a step, and a new one
 pub township_refused : (n : ℕ) (asked : Asked) (t : Township) → (nat_le TOWNSHIPS (length asked.townships) || list_any (λ other. same_township other t) asked.townships) ≡ true

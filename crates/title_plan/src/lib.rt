@@ -4,6 +4,8 @@
 pub mod line;
 pub mod plan;
 pub mod script;
+#[cfg(test)]
+mod tests;
 
 pub use line::{Line, Schedule};
 pub use plan::{PARTIES, Plan, ROWS, TOWNSHIPS};

@@ -5,6 +5,7 @@ ghost use Rattle.csv.specs.Records.{fields_of};
 ghost use Rattle.indexmap.specs.IndexSet.{index_set_len};
 ghost use Rattle.title_device.specs.declared.fault.RunFault.{RunFault as Fault};
 ghost use Rattle.title_device.specs.declared.fault.RunFault.TheVariants as fault;
+ghost use Rattle.title_plan.specs.declared.plan.TheConstants.{PARTIES};
 ghost use Rattle.title_row.specs.Rows.{said};
 
 use crate::line::{Line, Schedule};
@@ -41,7 +42,7 @@ pub struct Plan {
     pub townships: Vec<Township>,
     pub lines: VecDeque<Line>,
     pub inside: Option<u32>,
-    ghost few: { index_set_len parties ≤ 65536 },
+    ghost few: { index_set_len parties ≤ PARTIES },
 }
 
 impl Plan {

@@ -1,13 +1,13 @@
 //! Rows that declare.
 
-ghost use Rattle.std.specs.Prelude.{◌≡◌, ◌⊎◌, ◌||◌, ◌∷◌, ◌++◌, [], Ok, Err, IfErr, IfOk, OnOk, length, nat_le};
+ghost use Rattle.std.specs.Prelude.{◌≡◌, ◌⊎◌, ◌||◌, ◌∷◌, ◌++◌, [], Ok, Err, IfErr, IfOk, OnOk, length, nat_le, not};
 ghost use Rattle.std.specs.List.{list_any};
 ghost use Rattle.title_aliquot.specs.Describes.{Describes};
 ghost use Rattle.title_device.specs.declared.fault.RunFault.TheVariants as fault;
 ghost use Rattle.title_land.specs.Places.{same_township};
 ghost use Rattle.title_land.specs.declared.place.Township.{Township as Place};
 ghost use Rattle.title_land.specs.declared.tract.Land.TheVariants as land;
-ghost use Rattle.title_plan.specs.Asked.{asked_in};
+ghost use Rattle.title_plan.specs.Asked.{asked_in, is_none};
 ghost use Rattle.title_plan.specs.Declarations.{AfterTownship, with_party, with_township};
 
 use crate::plan::{PARTIES, Plan, TOWNSHIPS};
@@ -57,6 +57,13 @@ fn push(townships: &mut Vec<Township>, township: Township) -> Result<(), AllocEr
 }
 
 impl Plan {
+    // Whether a step was taken.
+    fn has_steps(&self) -> bool
+        ensures steps { result ≡ not (is_none (asked_in self.now).lines) }
+    {
+        !self.lines.is_empty()
+    }
+
     // Declares a township.
     fn declare(&mut self, n: u64, township: Township) -> Result<(), RunFault>
         ensures ok { OnOk result (with_township n (asked_in self.old) township ≡ Ok (asked_in self.new)) }
@@ -65,7 +72,7 @@ impl Plan {
         if is_refused(self.townships.as_slice(), township) {
             return Err(RunFault::Row(n));
         }
-        if !self.lines.is_empty() {
+        if self.has_steps() {
             return Err(RunFault::Order(n));
         }
         match push(&mut self.townships, township) {
@@ -91,7 +98,7 @@ impl Plan {
         if self.parties.len() >= PARTIES {
             return Err(RunFault::Row(n));
         }
-        if !self.lines.is_empty() {
+        if self.has_steps() {
             return Err(RunFault::Order(n));
         }
         if self.parties.contains(name) {

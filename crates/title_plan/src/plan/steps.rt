@@ -1,6 +1,7 @@
 //! Rows of steps.
 
-ghost use Rattle.std.specs.Prelude.{◌≡◌, ◌⊎◌, ◌∷◌, ◌++◌, [], Ok, Err, IfErr, IfOk, OnOk};
+ghost use Rattle.std.specs.Prelude.{◌≡◌, ◌≢◌, ◌⊎◌, ◌∷◌, ◌++◌, [], Ok, Err, IfErr, IfOk, OnOk};
+ghost use Rattle.title_aliquot.specs.declared.fault.DescFault.TheVariants as desc_fault;
 ghost use Rattle.title_chain.specs.declared.ask.Ask.TheVariants as ask;
 ghost use Rattle.title_device.specs.declared.fault.RunFault.TheVariants as fault;
 ghost use Rattle.title_plan.specs.Asked.{asked_in};
@@ -18,6 +19,17 @@ use title_instrument::{Deed, Instrument, Release};
 use title_row::{DeedTerms, ReleaseTerms};
 use title_trace::Request;
 
+// The step of an examiner whose text has this fault.
+fn described(examiner: u32, why: DescFault) -> Result<Line, RunFault>
+    ensures line { IfOk result (λ added. (added ≡ line.Described examiner why) × (why ≢ desc_fault.Memory)) }
+    ensures fault { IfErr result (λ e. e ≡ fault.Memory) }
+{
+    match why {
+        DescFault::Memory => Err(RunFault::Memory),
+        _ => Ok(Line::Described(examiner, why)),
+    }
+}
+
 // A sheet of what a text describes.
 fn sheet(alloc: Global, examiner: u32, text: &str) -> Result<Line, RunFault>
     ensures line { IfOk result (λ added. IsLineOf examiner ask.Sheet text.now added) }
@@ -25,8 +37,7 @@ fn sheet(alloc: Global, examiner: u32, text: &str) -> Result<Line, RunFault>
 {
     match read(alloc, text) {
         Ok(tract) => Ok(Line::Asks(Request::Step(examiner, Ask::Sheet(tract)))),
-        Err(DescFault::Memory) => Err(RunFault::Memory),
-        Err(fault) => Ok(Line::Described(examiner, fault)),
+        Err(fault) => described(examiner, fault),
     }
 }
 
@@ -37,8 +48,7 @@ fn chain(alloc: Global, examiner: u32, text: &str) -> Result<Line, RunFault>
 {
     match read(alloc, text) {
         Ok(tract) => Ok(Line::Asks(Request::Step(examiner, Ask::Chain(tract)))),
-        Err(DescFault::Memory) => Err(RunFault::Memory),
-        Err(fault) => Ok(Line::Described(examiner, fault)),
+        Err(fault) => described(examiner, fault),
     }
 }
 
@@ -62,8 +72,7 @@ fn posting(
                 instrument,
             }),
         ))),
-        Err(DescFault::Memory) => Err(RunFault::Memory),
-        Err(fault) => Ok(Line::Described(examiner, fault)),
+        Err(fault) => described(examiner, fault),
     }
 }
 
