@@ -12,8 +12,9 @@ use crate::fields::{field, has_name_form, read_document, read_estates, read_exam
 use crate::terms::{DeedTerms, ReleaseTerms, read_quantum, read_reserve};
 use csv::StringRecord;
 
-/// What a row of a script says: a township's text, a party's name, or a step of an examiner. Steps that read or post have
-/// the text of their tract last; a deed names its grantor and its grantee, a release its releasor and its releasee.
+/// What a row of a script says: a township's text, a party's name of 1 to 60 bytes, or a step of an examiner, a number from
+/// 1 to 9,999. Steps that read or post have the text of their tract last, which may be any; a deed names its grantor and
+/// its grantee, a release its releasor and its releasee.
 #[derive(Clone, Copy, Debug)]
 pub enum Row<'a> {
     Township(&'a str),

@@ -9,7 +9,8 @@ ghost use Rattle.title_row.specs.Terms.{AddAll, Adds, IsQuantum, IsReserve, Rese
 use title_instrument::{Estate, Estates, Quantum};
 use title_share::Share;
 
-/// What a deed's row says beside its examiner, its parties and its tract. The reserve has the shares of S, O and M.
+/// What a deed's row says beside its examiner, its parties and its tract. The document's number is from 1 to
+/// 999,999,999,999, one estate at least is named, and the reserve has the shares of S, O and M.
 #[derive(Clone, Copy, Debug)]
 pub struct DeedTerms {
     pub doc: u64,
@@ -18,7 +19,8 @@ pub struct DeedTerms {
     pub reserve: [Option<Share>; 3],
 }
 
-/// What a release's row says beside its examiner, its parties and its tract.
+/// What a release's row says beside its examiner, its parties and its tract. The document's number is from 1 to
+/// 999,999,999,999, and one estate at least is named.
 #[derive(Clone, Copy, Debug)]
 pub struct ReleaseTerms {
     pub doc: u64,
