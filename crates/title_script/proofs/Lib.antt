@@ -1,2 +1,7 @@
 mod ServedLaws
 mod FaultLaws
+mod OneTerm
+mod OneRow
+mod OneStep
+mod OnePlan
+mod OneReport

@@ -1,3 +1,4 @@
 pub mod Served
 pub mod Reports
 pub mod Runs
+pub mod ReportLaws

@@ -1,6 +1,7 @@
 //! Scripts and their reports: from the bytes of a script to the bytes of its report.
 #![tactic(auto)]
 
+pub mod laws;
 mod runs;
 mod serving;
 #[cfg(test)]
