@@ -5,6 +5,8 @@ mod asks;
 mod images;
 mod refusal;
 mod slots;
+#[cfg(test)]
+mod tests;
 pub mod transactions;
 
 pub use transactions::{Desk, may_open};
