@@ -1,22 +1,22 @@
 //! What each command does.
 
+use std::fmt::Display;
 use std::io;
 use std::process::ExitCode;
-use title_aliquot::read;
-use title_land::acres::Acres;
-use title_script::{Device, run_alone};
+use title_aliquot::{Acres, read};
+use title_script::{Device, Schedule, run, run_alone};
 
-/// Serves the script on standard input, transactions one after another; its report, or the line of its fault, goes to
-/// standard output.
-pub(crate) fn alone(rt: &HostRuntime) -> io::Result<ExitCode> {
+/// Serves the script on standard input by this schedule; its report, or the line of its fault, goes to standard output.
+pub(crate) fn script(rt: &HostRuntime, schedule: Schedule) -> io::Result<ExitCode> {
     let mut source = Device::new(rt.stdin());
     let mut sink = Device::new(io::writer(rt));
-    match run_alone(rt.alloc(), &mut source, &mut sink) {
+    let served = match schedule {
+        Schedule::Interleaved => run(rt.alloc(), &mut source, &mut sink),
+        Schedule::Serial => run_alone(rt.alloc(), &mut source, &mut sink),
+    };
+    match served {
         Ok(()) => Ok(ExitCode::SUCCESS),
-        Err(fault) => {
-            println!(rt; "{fault}")?;
-            Ok(ExitCode::from(1))
-        }
+        Err(fault) => fail(rt, fault),
     }
 }
 
@@ -24,10 +24,7 @@ pub(crate) fn alone(rt: &HostRuntime) -> io::Result<ExitCode> {
 pub(crate) fn tract(rt: &HostRuntime, text: &str) -> io::Result<ExitCode> {
     let tract = match read(rt.alloc(), text) {
         Ok(tract) => tract,
-        Err(fault) => {
-            println!(rt; "{fault}")?;
-            return Ok(ExitCode::from(1));
-        }
+        Err(fault) => return fail(rt, fault),
     };
     for node in tract.cover() {
         println!(rt; "node,{node}")?;
@@ -37,4 +34,16 @@ pub(crate) fn tract(rt: &HostRuntime, text: &str) -> io::Result<ExitCode> {
         None => println!(rt; "acres,unknown")?,
     }
     Ok(ExitCode::SUCCESS)
+}
+
+/// Prints the line of a fault, which is its text.
+pub(crate) fn fail<F: Display + Drop>(rt: &HostRuntime, fault: F) -> io::Result<ExitCode> {
+    println!(rt; "{fault}")?;
+    Ok(ExitCode::from(1))
+}
+
+/// Tells on standard error, where that can be written, why a command line isn't understood.
+pub(crate) fn refuse<E: Display + Drop>(rt: &HostRuntime, error: E) -> ExitCode {
+    let _told = rt.eprint(error);
+    ExitCode::from(2)
 }
