@@ -2,6 +2,7 @@ ghost use Rattle.std.specs.Prelude.{◌≡◌, false};
 
 use crate::{RunFault, Schedule, run, run_alone};
 use std::alloc::Global;
+use std::process::Abort;
 use std::test::Fail;
 use title_device::fake::{FakeSink, FakeSource};
 
@@ -12,7 +13,7 @@ mod instruments;
 mod interleaved;
 mod transactions;
 
-use cuts::{CUTS, REPORT, SCRIPT};
+use cuts::{CUTS, Cut, REPORT, SCRIPT};
 
 /// A script, how its transactions come, and its report or the line of its fault.
 #[derive(Clone, Copy)]
@@ -73,23 +74,83 @@ fn gives(
     }
 }
 
+// Each row of a table is given what is wanted.
+fn are_given(rt: &impl Abort, alloc: Global, rows: &[Row]) -> Result<(), Fail> {
+    for row in rows {
+        assert!(rt;
+            gives(alloc, row.schedule, row.script, row.wanted)?,
+            "{}",
+            row.name
+        );
+    }
+    Ok(())
+}
+
 #[test]
-fn reports_of_scripts(rt: HostRuntime) -> Result<(), Fail> {
-    let tables: [&[Row]; 5] = [
-        &first_run::ROWS,
-        &descriptions::ROWS,
-        &instruments::ROWS,
-        &transactions::ROWS,
-        &interleaved::ROWS,
-    ];
-    for table in tables {
-        for row in table {
-            assert!(rt;
-                gives(rt.alloc(), row.schedule, row.script, row.wanted)?,
-                "{}",
-                row.name
-            );
+fn first_runs(rt: HostRuntime) -> Result<(), Fail> {
+    are_given(&rt, rt.alloc(), &first_run::ROWS)
+}
+
+#[test]
+fn sheets_of_everything(rt: HostRuntime) -> Result<(), Fail> {
+    are_given(&rt, rt.alloc(), &descriptions::ROWS)
+}
+
+#[test]
+fn deeds_and_releases(rt: HostRuntime) -> Result<(), Fail> {
+    are_given(&rt, rt.alloc(), &instruments::ROWS)
+}
+
+#[test]
+fn transactions_one_after_another(rt: HostRuntime) -> Result<(), Fail> {
+    are_given(&rt, rt.alloc(), &transactions::ROWS)
+}
+
+#[test]
+fn interleaved_transactions(rt: HostRuntime) -> Result<(), Fail> {
+    are_given(&rt, rt.alloc(), &interleaved::ROWS)
+}
+
+// Whether bytes are the first `kept` of a report and then more.
+fn is_joined(found: &[u8], report: &[u8], kept: usize, more: &[u8]) -> bool {
+    found.get(..kept) == report.get(..kept) && found.get(kept..) == Some(more)
+}
+
+// Whether a beginning of a script gives what a cut says.
+fn cut_gives(alloc: Global, script: &[u8], report: &[u8], cut: &Cut) -> Result<bool, Fail> {
+    match (report_of(alloc, Schedule::Interleaved, script), cut.given) {
+        (Ok(found), Ok((kept, more))) => {
+            Ok(is_joined(found.as_slice(), report, kept, more.as_bytes()))
         }
+        (Err(fault), Err(wanted)) => Ok(format!(in alloc; "{fault}")?.as_str() == wanted),
+        _ => Ok(false),
+    }
+}
+
+// Each beginning of the script between a cut's bounds gives what the cut says.
+fn cut_is_given(
+    rt: &impl Abort,
+    alloc: Global,
+    script: &[u8],
+    report: &[u8],
+    cut: &Cut,
+) -> Result<(), Fail> {
+    for bytes in cut.from..cut.to {
+        let part = script.get(..bytes).unwrap_or(&[]);
+        assert!(rt; cut_gives(alloc, part, report, cut)?, "{bytes} bytes");
+    }
+    Ok(())
+}
+
+fn cuts_are_given(
+    rt: &impl Abort,
+    alloc: Global,
+    script: &[u8],
+    report: &[u8],
+    cuts: &[Cut],
+) -> Result<(), Fail> {
+    for cut in cuts {
+        cut_is_given(rt, alloc, script, report, cut)?;
     }
     Ok(())
 }
@@ -97,24 +158,7 @@ fn reports_of_scripts(rt: HostRuntime) -> Result<(), Fail> {
 // Each beginning of a script gives its report, or the fault of its last row.
 #[test]
 fn beginnings_of_a_script(rt: HostRuntime) -> Result<(), Fail> {
-    let alloc = rt.alloc();
-    let mut at = 0;
-    for bytes in 0..SCRIPT.len() + 1 {
-        if at + 1 < CUTS.len() && CUTS[at + 1].bytes <= bytes {
-            at += 1;
-        }
-        let script = &SCRIPT[..bytes];
-        let is_given = match CUTS[at].given {
-            Err(fault) => gives(alloc, Schedule::Interleaved, script, Err(fault))?,
-            Ok((kept, more)) => {
-                let mut report = Vec::from_slice(alloc, &REPORT[..kept])?;
-                report.extend_from_slice(more.as_bytes())?;
-                gives(alloc, Schedule::Interleaved, script, Ok(report.as_slice()))?
-            }
-        };
-        assert!(rt; is_given, "{bytes} bytes");
-    }
-    Ok(())
+    cuts_are_given(&rt, rt.alloc(), SCRIPT, REPORT, &CUTS)
 }
 
 // Quotes, ends of lines, empty lines and the mark of byte order are as in other CSV: they change no report but by the
