@@ -10,7 +10,7 @@ use Rattle.title_device.specs.declared.fault.RunFault.{RunFault}
 use Rattle.title_plan.specs.Asked.{Asked, asked_in, nothing_asked}
 use Rattle.title_plan.proofs.Rows.{after_push, fault_stands}
 use Rattle.title_plan.proofs.Kept.{rows_open, row_fault, nothing_opens}
-use Rattle.title_plan.proofs.ReadOn.{reached-all, reached-rest}
+use Rattle.title_plan.proofs.ReadOn.{reached_all, reached_rest}
 use Rattle.title_plan.proofs.script.read_script.Goals as goal
 
 pub loop-row-init : goal.loop-row-init
@@ -64,7 +64,7 @@ returns-clause-script c =
     let inv = c.loop-row.invariant in
     let s = rw c.in-None.is at ((c.next.ensures.steps inv.left inv.trims).0 inv.ready) in
     let none = rows-end (λ (s : Bor (List ℕ)). Some s.now) c.loop-row.row-iterator.rdr c.next.new.self.rdr [] default_config inv.rest inv.config inv.source s in
-    let all = reached-all default_config (strip_bom c.args.text.now) inv.rows c.loop-row.row-iterator.rdr.state inv.rest inv.reached none in
+    let all = reached_all default_config (strip_bom c.args.text.now) inv.rows c.loop-row.row-iterator.rdr.state inv.rest inv.reached none in
     rw all inv.after
 
 pub returns-clause-opens : goal.returns-clause-opens
@@ -81,7 +81,7 @@ returns-in_err-take_row-clause-why c =
     let m = rows-more (λ (s : Bor (List ℕ)). Some s.now) c.loop-row.row-iterator.rdr c.next.new.self.rdr f default_config st.StartRecord (strip_bom c.args.text.now) inv.rest inv.rows
     inv.config inv.source inv.reached s.0 in
     let place : c.loop-row.n + 1 ≡ 1 + length inv.rows = omega (arith, inv.count) in
-    let rest = reached-rest default_config (strip_bom c.args.text.now) (inv.rows ++ (f ∷ [])) c.next.new.self.rdr.state m.0 m.2 in
+    let rest = reached_rest default_config (strip_bom c.args.text.now) (inv.rows ++ (f ∷ [])) c.next.new.self.rdr.state m.0 m.2 in
     let out = err_from_is_err_and c.from_residual-in_err-take_row.result c.from_residual-in_err-take_row.ensures.1 in
     rw (out.1, out.2) (elim c.in_err-take_row.ensures.err [
       | inl memory ↦ inl memory
