@@ -4,9 +4,10 @@ use std::fmt::Display;
 use std::io;
 use std::process::ExitCode;
 use title_aliquot::{Acres, read};
-use title_script::{Device, Schedule, run, run_alone};
+use title_script::{Device, RunFault, Schedule, run, run_alone};
 
 /// Serves the script on standard input by this schedule; its report, or the line of its fault, goes to standard output.
+/// Where the report can't be written nothing more is written there.
 pub(crate) fn script(rt: &HostRuntime, schedule: Schedule) -> io::Result<ExitCode> {
     let mut source = Device::new(rt.stdin());
     let mut sink = Device::new(io::writer(rt));
@@ -16,8 +17,15 @@ pub(crate) fn script(rt: &HostRuntime, schedule: Schedule) -> io::Result<ExitCod
     };
     match served {
         Ok(()) => Ok(ExitCode::SUCCESS),
+        Err(RunFault::Write) => Ok(unwritten(rt)),
         Err(fault) => fail(rt, fault),
     }
+}
+
+/// Tells on standard error, where that can be written, that standard output can't.
+fn unwritten(rt: &HostRuntime) -> ExitCode {
+    let _told = rt.eprint("error: the report can't be written\n");
+    ExitCode::from(1)
 }
 
 /// Prints the nodes of the tract that a description names and its acres, or the line of its fault.
