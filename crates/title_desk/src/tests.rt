@@ -8,9 +8,10 @@ use std::alloc::Global;
 use std::process::Abort;
 use std::test::Fail;
 use title_chain::{Answer, Ask, Entries, Posting, SheetRows};
-use title_instrument::{Estates, Instrument, Release};
+use title_instrument::{Deed, Estates, Instrument, Quantum, Release};
 use title_land::{Grid, Land, Quarter, Section, Township, Tract, Within};
 use title_lock::RowLocks;
+use title_share::Share;
 use title_store::CellStore;
 use title_trace::{Reply, Request};
 
@@ -69,6 +70,19 @@ fn post(doc: u64, land: Land, from: u32, to: u32) -> Act {
         from,
         to,
         estates: SURFACE,
+    });
+    Act::Post(doc, land, instrument)
+}
+
+/// A post of a deed of the whole surface.
+fn deed(rt: &impl Abort, doc: u64, land: Land, from: u32, to: u32) -> Act {
+    let share = Share::parse("1/1").expect(rt, "it is a share");
+    let instrument = Instrument::Deed(Deed {
+        grantor: from,
+        grantee: to,
+        estates: SURFACE,
+        quantum: Quantum::Whole(share),
+        reserve: [None; 3],
     });
     Act::Post(doc, land, instrument)
 }

@@ -1,6 +1,6 @@
 use crate::tests::{
-    ADAMS, Act, BELL, NORTHEAST, OPENING_PLANT, UNITED_STATES, assert_run, assert_told, open, post,
-    section, square, township,
+    ADAMS, Act, BELL, NORTHEAST, OPENING_PLANT, UNITED_STATES, assert_run, assert_told, deed, open,
+    post, section, square, township,
 };
 use crate::transactions::MOST_STEPS;
 use std::process::Abort;
@@ -22,6 +22,25 @@ fn inner(rt: &impl Abort) -> Land {
 /// A cell of the northeast quarter of the northeast quarter.
 fn cell(rt: &impl Abort, which: Quarter) -> Land {
     square(rt, NORTHEAST.quarter(Quarter::Northeast).quarter(which))
+}
+
+#[test]
+fn a_refused_post_keeps_its_lock(rt: HostRuntime) -> Result<(), Fail> {
+    let (quarter, inner) = (square(&rt, NORTHEAST), inner(&rt));
+    let lines = [
+        (1, Act::Begin, "began"),
+        (
+            1,
+            deed(&rt, 1, quarter, ADAMS, BELL),
+            "refused,ShortTitle,S,T3N R2W sec 5 NE1/4",
+        ),
+        (2, Act::Begin, "began"),
+        (2, deed(&rt, 2, inner, UNITED_STATES, ADAMS), "conflict,1"),
+        (1, Act::Commit, "committed,1"),
+        (2, deed(&rt, 2, inner, UNITED_STATES, ADAMS), "posted"),
+        (2, Act::Commit, "committed,2"),
+    ];
+    assert_run(rt.alloc(), &rt, &lines)
 }
 
 #[test]
