@@ -1,0 +1,140 @@
+#!/usr/bin/env python3
+"""Writes a large valid script of the program `titleplant` to standard output.
+
+    generate.py --kind deeds|sheets|chains|interleaved|short|long [--rows N] [--seed N]
+
+deeds        plain deeds and releases of one examiner, each a transaction of its own       (for `alone`)
+sheets       sheets of whole sections, after a few deeds                                   (for `alone`)
+chains       deeds and releases of sections with a chain of a section among each four      (for `alone`)
+interleaved  eight examiners at work at once, in transactions of up to 20 steps            (for `run`)
+short        the same in transactions of two deeds of single cells                         (for `run`)
+long         one examiner's transactions of 5,000 deeds of single cells each               (for `run`)
+
+The same kind, rows and seed give the same script. The rows counted are all of its rows, declarations among them.
+"""
+
+import argparse
+import random
+import sys
+
+TOWNSHIPS = [f"T{number}N R{range_}W" for number in range(1, 9) for range_ in range(1, 9)]
+PARTIES = [f"PARTY {number}" for number in range(1, 201)]
+QUARTERS = ["NE1/4", "NW1/4", "SW1/4", "SE1/4"]
+HALVES = ["N1/2", "S1/2", "E1/2", "W1/2"]
+ESTATES = ["S", "O", "M", "SO", "SM", "OM", "SOM"]
+EXAMINERS = 8
+
+
+def section(chance):
+    return f"{chance.choice(TOWNSHIPS)} sec {chance.randint(1, 36)}"
+
+
+def tract(chance):
+    """A section, or a half, a quarter or a smaller part of one."""
+    whole = section(chance)
+    depth = chance.choice([0, 1, 1, 2, 2, 3])
+    if depth == 0:
+        return whole
+    steps = [chance.choice(QUARTERS) for _ in range(depth - 1)]
+    return f"{whole} {chance.choice(QUARTERS + HALVES)}{''.join(steps)}"
+
+
+def cell(chance):
+    return f"{section(chance)} {chance.choice(QUARTERS)}{chance.choice(QUARTERS)}{chance.choice(QUARTERS)}"
+
+
+def instrument(chance, document, where):
+    """The fields of a deed or a release, after the examiner's."""
+    estates = chance.choice(ESTATES)
+    grantee = chance.choice(PARTIES)
+    grantor = "UNITED STATES" if chance.random() < 0.7 else chance.choice([name for name in PARTIES if name != grantee])
+    if chance.random() < 0.1:
+        return f"release,{document},{grantor},{grantee},{estates},{where}"
+    kind, share = chance.choice([("I", "1/2"), ("I", "1/1"), ("W", "1/4"), ("W", "1/64"), ("W", "1/1024")])
+    reserve = f"{estates[0]}1/4096" if chance.random() < 0.1 else ""
+    return f"deed,{document},{grantor},{grantee},{estates},{kind}{share},{reserve},{where}"
+
+
+def deeds(chance, count):
+    for document in range(1, count + 1):
+        yield f"1,{instrument(chance, document, tract(chance))}"
+
+
+def sheets(chance, count):
+    posted = min(count // 100, 200)
+    yield from deeds(chance, posted)
+    for _ in range(count - posted):
+        yield f"1,sheet,{section(chance)}"
+
+
+def chains(chance, count):
+    for document in range(1, count + 1):
+        if document % 4 == 0:
+            yield f"1,chain,{section(chance)}"
+        else:
+            yield f"1,{instrument(chance, document, section(chance))}"
+
+
+def interleaved(chance, count):
+    """Each turn is that of an examiner by chance; a transaction has up to 20 steps, and one of ten is aborted."""
+    left = [0] * (EXAMINERS + 1)
+    for document in range(1, count + 1):
+        examiner = chance.randint(1, EXAMINERS)
+        if left[examiner] == 0:
+            left[examiner] = chance.randint(2, 21)
+            yield f"{examiner},begin"
+        elif left[examiner] == 1:
+            left[examiner] = 0
+            yield f"{examiner},{'abort' if chance.random() < 0.1 else 'commit'}"
+        else:
+            left[examiner] -= 1
+            if chance.random() < 0.3:
+                yield f"{examiner},sheet,{tract(chance)}"
+            else:
+                yield f"{examiner},{instrument(chance, document, tract(chance))}"
+
+
+def short(chance, count):
+    """Each turn is that of an examiner by chance: it begins, posts a deed, posts another, commits."""
+    turns = [0] * (EXAMINERS + 1)
+    for document in range(1, count + 1):
+        examiner = chance.randint(1, EXAMINERS)
+        turn = turns[examiner]
+        turns[examiner] = (turn + 1) % 4
+        if turn in (1, 2):
+            yield f"{examiner},{instrument(chance, document, cell(chance))}"
+        else:
+            yield f"{examiner},{'begin' if turn == 0 else 'commit'}"
+
+
+def long(chance, count):
+    for document in range(1, count + 1):
+        turn = document % 5002
+        if turn == 1:
+            yield "1,begin"
+        elif turn == 0:
+            yield "1,commit"
+        else:
+            yield f"1,{instrument(chance, document, cell(chance))}"
+
+
+KINDS = {"deeds": deeds, "sheets": sheets, "chains": chains, "interleaved": interleaved, "short": short, "long": long}
+
+
+def main():
+    options = argparse.ArgumentParser(description="Writes a large valid script of the program titleplant.")
+    options.add_argument("--kind", choices=sorted(KINDS), required=True)
+    options.add_argument("--rows", type=int, default=10_000, help="all rows, 300 to 100000 (default 10000)")
+    options.add_argument("--seed", type=int, default=1)
+    asked = options.parse_args()
+    declared = [f"township,{name}" for name in TOWNSHIPS] + [f"party,{name}" for name in PARTIES]
+    if not 300 <= asked.rows <= 100_000:
+        options.error("--rows has to be from 300 to 100000")
+    chance = random.Random(asked.seed)
+    steps = KINDS[asked.kind](chance, asked.rows - len(declared))
+    sys.stdout.writelines(f"{row}\n" for row in declared)
+    sys.stdout.writelines(f"{row}\n" for row in steps)
+
+
+if __name__ == "__main__":
+    main()
