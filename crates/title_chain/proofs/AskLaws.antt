@@ -18,7 +18,7 @@ use Rattle.title_chain.specs.declared.ask.Answer.TheVariants as answer
 use Rattle.title_chain.specs.declared.ask.Entry.{Entry}
 use Rattle.title_chain.specs.declared.ask.Posting.{Posting}
 use Rattle.title_chain.specs.Asks.{tract_of, is_post, effect, answer_to, post_answer, overlap}
-use Rattle.title_chain.specs.Chains.{entry_of}
+use Rattle.title_chain.specs.StepEntries.{entry_of}
 use Rattle.title_chain.specs.ChainLaws.{SameIn}
 
 -- an answer depends on the tract's cells and on the chain alone

@@ -10,7 +10,8 @@ use Rattle.title_chain.specs.declared.ask.Ask.{Ask}
 use Rattle.title_chain.specs.declared.ask.Step.{Step}
 use Rattle.title_chain.specs.declared.record.Record.{Record}
 use Rattle.title_chain.specs.Asks.{tract_of, overlap}
-use Rattle.title_chain.specs.Chains.{step_entries, record_entries, chain_of}
+use Rattle.title_chain.specs.StepEntries.{step_entries}
+use Rattle.title_chain.specs.Chains.{record_entries, chain_of}
 use Rattle.title_chain.specs.Alone.{after_steps, plant_after, Plays}
 use Rattle.title_chain.specs.Overlaps.{overlaps, Clear, record_of}
 use Rattle.title_chain.specs.ChainLaws.{SameIn}

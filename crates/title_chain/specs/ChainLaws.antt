@@ -10,7 +10,7 @@ use Rattle.title_chain.specs.declared.ask.Answer.{Answer}
 use Rattle.title_chain.specs.declared.ask.Entry.{Entry}
 use Rattle.title_chain.specs.declared.ask.Posting.{Posting}
 use Rattle.title_chain.specs.Asks.{tract_of, is_post, effect, answer_to, overlap}
-use Rattle.title_chain.specs.Chains.{entry_of}
+use Rattle.title_chain.specs.StepEntries.{entry_of}
 
 -- two plants have the same owners in every cell of a tract
 abbrev pub SameIn : ℕ → List Township → Land → Plant → Plant → Type 0

@@ -1,7 +1,9 @@
 -- The definitions that the contracts cite.
 pub mod Asks
+pub mod StepEntries
 pub mod Chains
 pub mod Alone
 pub mod Overlaps
 pub mod ChainLaws
 pub mod Replays
+pub mod Extents

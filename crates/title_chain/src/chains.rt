@@ -1,10 +1,11 @@
 //! Chains of tracts.
 
 ghost use Rattle.std.specs.Prelude.{◌≡◌, IfOk, ◌++◌, reverse};
-ghost use Rattle.title_chain.specs.Chains.{entry_of, step_entries, chain_of};
+ghost use Rattle.title_chain.specs.StepEntries.{entry_of, step_entries};
+ghost use Rattle.title_chain.specs.Chains.{chain_of};
 
 use crate::ask::{Answer, Ask, Entry, Step};
-use crate::lists::{Entries, Records};
+use crate::lists::{Entries, Records, Steps};
 use std::alloc::{AllocError, Global};
 use title_land::Tract;
 
@@ -45,6 +46,22 @@ fn add_entries(
     Ok(())
 }
 
+// Adds the entries of a record's steps, which are looked at only where one of them may be in the chain.
+fn add_record(
+    alloc: Global,
+    entries: &mut Vec<Entry>,
+    place: u64,
+    steps: &Steps,
+    tract: &Tract,
+) -> Result<(), AllocError>
+    ensures added { IfOk result (λ _. entries.new.items ≡ entries.old.items ++ step_entries place tract.now (reverse steps.now)) }
+{
+    if !steps.may_touch(tract) {
+        return Ok(());
+    }
+    add_entries(alloc, entries, place, steps.as_slice(), tract)
+}
+
 /// The chain of a tract: the posted instruments whose tracts share a cell with it, first those of these records, each
 /// with its record's number from 1, then those of a transaction's own steps with 0. A refused post isn't in it.
 pub fn chain(
@@ -59,7 +76,7 @@ pub fn chain(
     let mut place = 0;
     for record in records.as_slice() {
         place += 1;
-        add_entries(alloc, &mut entries, place, record.steps.as_slice(), tract)?;
+        add_record(alloc, &mut entries, place, &record.steps, tract)?;
     }
     add_entries(alloc, &mut entries, 0, own, tract)?;
     Ok(Entries::new(entries))

@@ -3,6 +3,7 @@
 
 pub mod ask;
 pub mod chains;
+pub mod extent;
 pub mod laws;
 pub mod lists;
 pub mod record;

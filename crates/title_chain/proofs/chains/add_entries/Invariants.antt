@@ -1,6 +1,6 @@
 -- The entries of the steps so far are added.
 use Rattle.std.proofs.Common.{◌≡◌, ◌++◌, reverse, take}
-use Rattle.title_chain.specs.Chains.{step_entries}
+use Rattle.title_chain.specs.StepEntries.{step_entries}
 use Rattle.title_chain.proofs.chains.add_entries.Given as goal
 
 abbrev pub invariant-loop-step : goal.invariant-loop-step
