@@ -9,7 +9,7 @@ use crate::rectangle::Quarter;
 use std::fmt;
 
 /// A square part of a section, by its quarters, the innermost first.
-#[derive(Clone, Copy, Debug, PartialEq, Eq)]
+#[derive(Clone, Copy, Debug, PartialEq, Eq, PartialOrd, Ord)]
 pub enum Within {
     Whole,
     Quarter(Quarter),
@@ -18,7 +18,7 @@ pub enum Within {
 }
 
 /// A node of the tree of tracts: the whole plant, a township, or a section with its squares down to cells.
-#[derive(Clone, Copy, Debug, PartialEq, Eq)]
+#[derive(Clone, Copy, Debug, PartialEq, Eq, PartialOrd, Ord)]
 pub enum Node {
     Everything,
     Township(Township),

@@ -14,7 +14,7 @@ pub const DEPTH: u8 = 3;
 pub const SIDE: u8 = 8;
 
 /// A quarter of a square, in the order in which quarters are listed.
-#[derive(Clone, Copy, Debug, PartialEq, Eq)]
+#[derive(Clone, Copy, Debug, PartialEq, Eq, PartialOrd, Ord)]
 pub enum Quarter {
     Northeast,
     Northwest,
