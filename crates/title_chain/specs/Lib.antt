@@ -7,3 +7,4 @@ pub mod Overlaps
 pub mod ChainLaws
 pub mod Replays
 pub mod Extents
+pub mod TractIndexes

@@ -8,12 +8,14 @@ pub mod laws;
 pub mod lists;
 pub mod record;
 pub mod replay;
+pub mod tract_index;
 
 pub use ask::{Answer, Ask, Entry, Posting, Step};
 pub use chains::chain;
 pub use lists::{Entries, Records, SheetRows, Steps};
 pub use record::Record;
 pub use replay::sheet_by_chain;
+pub use tract_index::TractIndex;
 
 #[cfg(test)]
 mod tests;
