@@ -2,4 +2,7 @@
 pub mod AskLaws
 pub mod Past
 pub mod PostsAgain
-pub mod Extents
+pub mod PlaceKeys
+pub mod PlaceOrder
+pub mod PlaceEntries
+pub mod Filings

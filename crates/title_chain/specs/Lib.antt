@@ -6,5 +6,7 @@ pub mod Alone
 pub mod Overlaps
 pub mod ChainLaws
 pub mod Replays
-pub mod Extents
+pub mod PostPlaces
+pub mod Orders
+pub mod PlaceMaps
 pub mod TractIndexes

@@ -2,10 +2,13 @@
 
 ghost use Rattle.std.specs.Prelude.{◌≡◌, IfOk, ◌++◌, reverse};
 ghost use Rattle.title_chain.specs.StepEntries.{entry_of, step_entries};
-ghost use Rattle.title_chain.specs.Chains.{chain_of};
+ghost use Rattle.title_chain.specs.Chains.{record_entries, chain_of};
+ghost use Rattle.title_chain.specs.PostPlaces.{entry_at, entries_at};
 
 use crate::ask::{Answer, Ask, Entry, Step};
-use crate::lists::{Entries, Records, Steps};
+use crate::lists::{Entries, Records};
+use crate::place::{Merge, Place};
+use crate::record::Record;
 use std::alloc::{AllocError, Global};
 use title_land::Tract;
 
@@ -30,8 +33,8 @@ fn add_entry(
     Ok(())
 }
 
-// Adds the entries of these steps, each with this place.
-fn add_entries(
+/// Adds the entries of these steps, each with this place.
+pub(crate) fn add_entries(
     alloc: Global,
     entries: &mut Vec<Entry>,
     place: u64,
@@ -46,20 +49,56 @@ fn add_entries(
     Ok(())
 }
 
-// Adds the entries of a record's steps, which are looked at only where one of them may be in the chain.
-fn add_record(
+/// Adds the entries of these records, each with its record's number from 1.
+pub(crate) fn add_records(
     alloc: Global,
     entries: &mut Vec<Entry>,
-    place: u64,
-    steps: &Steps,
+    records: &[Record],
     tract: &Tract,
 ) -> Result<(), AllocError>
-    ensures added { IfOk result (λ _. entries.new.items ≡ entries.old.items ++ step_entries place tract.now (reverse steps.now)) }
+    ensures added { IfOk result (λ _. entries.new.items ≡ entries.old.items ++ record_entries tract.now (reverse records.now)) }
 {
-    if !steps.may_touch(tract) {
-        return Ok(());
+    let mut place = 0;
+    for record in records {
+        place += 1;
+        add_entries(alloc, entries, place, record.steps.as_slice(), tract)?;
     }
-    add_entries(alloc, entries, place, steps.as_slice(), tract)
+    Ok(())
+}
+
+// Adds the entry of the step at a place, if these records have it, with its record's number from 1.
+fn add_entry_at(
+    alloc: Global,
+    entries: &mut Vec<Entry>,
+    records: &[Record],
+    place: Place,
+    tract: &Tract,
+) -> Result<(), AllocError>
+    ensures added { IfOk result (λ _. entries.new.items ≡ entries.old.items ++ entry_at records.now tract.now place) }
+{
+    let Some(record) = records.get(place.record) else {
+        return Ok(());
+    };
+    let Some(step) = record.steps.as_slice().get(place.step) else {
+        return Ok(());
+    };
+    add_entry(alloc, entries, place.record as u64 + 1, step, tract)
+}
+
+/// Adds the entries of the steps at these places of records, each with its record's number from 1.
+pub(crate) fn add_entries_at(
+    alloc: Global,
+    entries: &mut Vec<Entry>,
+    records: &[Record],
+    mut places: Merge<'_>,
+    tract: &Tract,
+) -> Result<(), AllocError>
+    ensures added { IfOk result (λ _. entries.new.items ≡ entries.old.items ++ entries_at records.now tract.now places.entry) }
+{
+    while let Some(place) = places.next() {
+        add_entry_at(alloc, entries, records, place, tract)?;
+    }
+    Ok(())
 }
 
 /// The chain of a tract: the posted instruments whose tracts share a cell with it, first those of these records, each
@@ -73,11 +112,7 @@ pub fn chain(
     ensures chain { IfOk result (λ entries. entries ≡ chain_of (reverse records.now) (reverse own.now) tract.now) }
 {
     let mut entries = Vec::new(alloc);
-    let mut place = 0;
-    for record in records.as_slice() {
-        place += 1;
-        add_record(alloc, &mut entries, place, &record.steps, tract)?;
-    }
+    add_records(alloc, &mut entries, records.as_slice(), tract)?;
     add_entries(alloc, &mut entries, 0, own, tract)?;
     Ok(Entries::new(entries))
 }

@@ -3,9 +3,10 @@
 
 pub mod ask;
 pub mod chains;
-pub mod extent;
+mod filing;
 pub mod laws;
 pub mod lists;
+mod place;
 pub mod record;
 pub mod replay;
 pub mod tract_index;

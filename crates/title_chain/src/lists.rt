@@ -3,11 +3,9 @@
 ghost use Rattle.std.specs.Prelude.{◌≡◌, IfOk};
 
 use crate::ask::{Entry, Step};
-use crate::extent::{Extent, extent_of};
 use crate::record::Record;
 use std::alloc::{AllocError, Global};
 use std::marker::Model;
-use title_land::Tract;
 use title_store::SheetRow;
 
 /// The rows of a sheet, in order.
@@ -105,35 +103,27 @@ impl Entries {
     }
 }
 
-/// The steps of a transaction, the oldest first. The land in which their posts lie is kept beside them.
+/// The steps of a transaction, the oldest first.
 #[derive(Debug, Drop)]
 pub struct Steps {
     items: Vec<Step>,
-    extent: Extent,
 }
 
 impl Model for Steps {
-    ghost use Rattle.std.specs.Prelude.{List, reverse};
+    ghost use Rattle.std.specs.Prelude.{List};
     ghost use Rattle.title_chain.specs.declared.ask.Step.{Step};
-    ghost use Rattle.title_chain.specs.Extents.{IsExtent};
 
     ghost Value = { List Step };
 
     ghost view = { λ s. s.items.items };
-
-    ghost invariant = { λ s. IsExtent s.extent (reverse s.items.items) };
 }
 
 impl Steps {
-    ghost use Rattle.std.specs.Prelude.{ℕ, [], false, reverse};
-    ghost use Rattle.title_chain.specs.StepEntries.{step_entries};
-
     /// The list of these steps.
     pub fn new(items: Vec<Step>) -> Steps
         ensures new { result ≡ items.items }
     {
-        let extent = extent_of(items.as_slice());
-        Steps { items, extent }
+        Steps { items }
     }
 
     /// The steps, in order.
@@ -150,13 +140,6 @@ impl Steps {
         self.items
     }
 
-    /// Whether a posted instrument of theirs may share a cell with a tract; else none is in its chain.
-    pub fn may_touch(&self, tract: &Tract) -> bool
-        ensures apart { result ≡ false → (place : ℕ) → step_entries place tract.now (reverse self.now) ≡ [] }
-    {
-        self.extent.reaches(tract)
-    }
-
     /// An equal list.
     pub fn copy(&self, alloc: Global) -> Result<Steps, AllocError>
         ensures copy { IfOk result (λ items. items ≡ self.now) }
@@ -165,7 +148,7 @@ impl Steps {
         for step in &self.items {
             items.push(step.copy(alloc)?)?;
         }
-        Ok(Steps::new(items))
+        Ok(Steps { items })
     }
 }
 

@@ -4,6 +4,8 @@ ghost use Rattle.std.specs.Prelude.{◌≡◌, ◌∷◌, ◌++◌, [], IfOk, On
 ghost use Rattle.title_chain.specs.Chains.{chain_of};
 
 use crate::ask::Step;
+use crate::chains::add_entries;
+use crate::filing::Filing;
 use crate::lists::Entries;
 use crate::record::Record;
 use std::alloc::{AllocError, Global};
@@ -16,15 +18,18 @@ use title_land::Tract;
 pub struct TractIndex {
     alloc: Global,
     records: Vec<Record>,
+    filing: Filing,
 }
 
 impl Model for TractIndex {
     ghost use Rattle.std.specs.Prelude.{nat_lt, vec_len, vec_capacity};
-    ghost use Rattle.title_chain.specs.TractIndexes.{Recorded};
+    ghost use Rattle.title_chain.specs.TractIndexes.{Recorded, IsReadFrom};
 
     ghost Value = { Recorded };
 
     ghost view = { λ t. record { records = t.records.items; has_room = nat_lt (vec_len t.records) (vec_capacity t.records) } };
+
+    ghost invariant = { λ t. IsReadFrom t.filing t.records.items };
 }
 
 impl TractIndex {
@@ -35,6 +40,7 @@ impl TractIndex {
         TractIndex {
             alloc,
             records: Vec::new(alloc),
+            filing: Filing::new(alloc),
         }
     }
 
@@ -76,6 +82,11 @@ impl TractIndex {
         ensures room { self.new.has_room ≡ self.old.has_room }
         ensures chain { IfOk result (λ entries. entries ≡ chain_of (reverse self.old.records) (reverse own.now) tract.now) }
     {
-        Err(AllocError)
+        self.filing.read_on(self.alloc, &self.records)?;
+        let mut entries = Vec::new(self.alloc);
+        self.filing
+            .add_entries(self.alloc, &mut entries, &self.records, tract)?;
+        add_entries(self.alloc, &mut entries, 0, own, tract)?;
+        Ok(Entries::new(entries))
     }
 }

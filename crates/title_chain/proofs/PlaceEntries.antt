@@ -1,0 +1,166 @@
+-- The entries of the steps at the places of posts are those of the records.
+use Rattle.std.proofs.Common.{◌≡◌, ℕ, ◌+◌, ◌≤◌, suc, Bool, true, false, cond, ◌||◌, List, [], ◌∷◌, ◌++◌, length, reverse, Option, Some, refl, sym, ap, subst, ◌∙◌, append_assoc, add-one}
+use Rattle.std.specs.Prelude.{slice_get}
+use Rattle.std.specs.List.{AllByRecursion}
+use Rattle.std.proofs.lemmas.Bool.{or_parts, true≢false}
+use Rattle.std.proofs.lemmas.List.{append-nil, reverse-append, reverse-reverse, length-reverse}
+use Rattle.std.proofs.lemmas.Option.{slice_get_past}
+use Rattle.title_land.specs.declared.tract.Land.{Land}
+use Rattle.title_land.specs.Lands.{meets}
+use Rattle.title_store.proofs.Each.{each_from, each_append}
+use Rattle.title_chain.specs.declared.ask.Ask.{Ask}
+use Rattle.title_chain.specs.declared.ask.Ask.TheVariants as ask
+use Rattle.title_chain.specs.declared.ask.Answer.{Answer}
+use Rattle.title_chain.specs.declared.ask.Answer.TheVariants as answer
+use Rattle.title_chain.specs.declared.ask.Entry.{Entry}
+use Rattle.title_chain.specs.declared.ask.Step.{Step}
+use Rattle.title_chain.specs.declared.place.Place.{Place}
+use Rattle.title_chain.specs.declared.record.Record.{Record}
+use Rattle.title_chain.specs.StepEntries.{entry_of, step_entries}
+use Rattle.title_chain.specs.Chains.{record_entries}
+use Rattle.title_chain.specs.PostPlaces.{PlacedPost, post_of, place_at, step_posts, record_posts, places_where, merge, step_entry, entry_in, entry_at, entries_at}
+use Rattle.title_chain.proofs.PlaceOrder.{IsAmong, steps_among, records_ascend, merge_where}
+
+-- a place past the records, or past the steps of its record, gives no entry
+pub past_records : (records : List Record) (land : Land) (p : Place) (entries : List Entry) → length records ≤ p.record → entries ≡ entries ++ entry_at records land p
+past_records records land p entries h =
+    sym (ap (λ (o : Option Record). entries ++ entry_in (suc p.record) land p.step o) (slice_get_past records p.record h) ∙ append-nil entries)
+
+pub past_steps :
+    (records : List Record) (land : Land) (p : Place) (r : Record) (entries : List Entry) →
+    slice_get records p.record ≡ Some r → length r.steps ≤ p.step → entries ≡ entries ++ entry_at records land p
+past_steps records land p r entries is h =
+    sym (ap (λ (o : Option Record). entries ++ entry_in (suc p.record) land p.step o) is
+    ∙ ap (λ (o : Option Step). entries ++ step_entry (suc p.record) land o) (slice_get_past r.steps p.step h) ∙ append-nil entries)
+
+-- else it gives that of its step
+pub entry_is :
+    (records : List Record) (land : Land) (p : Place) (r : Record) (s : Step) →
+    slice_get records p.record ≡ Some r → slice_get r.steps p.step ≡ Some s → entry_of (p.record + 1) land s.ask s.answer ≡ entry_at records land p
+entry_is records land p r s is there =
+    ap (λ (n : ℕ). entry_of n land s.ask s.answer) (add-one p.record)
+    ∙ sym (ap (entry_in (suc p.record) land p.step) is ∙ ap (step_entry (suc p.record) land) there)
+
+-- the entry that a post gives to the chain of a tract, with a record's number
+abbrev pub post_entry : ℕ → Land → PlacedPost → List Entry
+post_entry n land x = cond (meets land x.posting.tract) (record { place = n; posting = x.posting } ∷ []) []
+
+-- those of these posts, each with its record's number from 1
+abbrev pub post_entries : Land → List PlacedPost → List Entry
+post_entries land [] = []
+post_entries land (x ∷ posts) = post_entry (suc x.place.record) land x ++ post_entries land posts
+
+entries_append : (land : Land) (xs ys : List PlacedPost) → post_entries land (xs ++ ys) ≡ post_entries land xs ++ post_entries land ys
+entries_append land [] ys = refl
+entries_append land (x ∷ xs) ys =
+    ap (λ (es : List Entry). post_entry (suc x.place.record) land x ++ es) (entries_append land xs ys)
+    ∙ sym (append_assoc (post_entry (suc x.place.record) land x) (post_entries land xs) (post_entries land ys))
+
+one_entry : (land : Land) (i j : ℕ) (a : Ask) (given : Answer) → post_entries land (post_of (place_at i j) a given) ≡ entry_of (suc i) land a given
+one_entry land i j (ask.Sheet t) given = refl
+one_entry land i j (ask.Chain t) given = refl
+one_entry land i j (ask.Post p) (answer.Rows rows) = refl
+one_entry land i j (ask.Post p) (answer.Entries entries) = refl
+one_entry land i j (ask.Post p) answer.Posted = append-nil _
+one_entry land i j (ask.Post p) (answer.Refused rule estate node) = refl
+
+steps_entries : (land : Land) (i : ℕ) (steps : List Step) → post_entries land (step_posts i steps) ≡ step_entries (suc i) land steps
+steps_entries land i [] = refl
+steps_entries land i (s ∷ earlier) =
+    entries_append land (step_posts i earlier) (post_of (place_at i (length earlier)) s.ask s.answer)
+    ∙ (let before = steps_entries land i earlier in let here = one_entry land i (length earlier) s.ask s.answer in cc)
+
+pub records_entries : (land : Land) (records : List Record) → post_entries land (record_posts records) ≡ record_entries land records
+records_entries land [] = refl
+records_entries land (r ∷ older) =
+    entries_append land (record_posts older) (step_posts (length older) (reverse r.steps))
+    ∙ (let before = records_entries land older in let here = steps_entries land (length older) (reverse r.steps) in cc)
+
+seam : {A : Type 0} (xs : List A) (y : A) (ys : List A) → slice_get (xs ++ y ∷ ys) (length xs) ≡ Some y
+seam [] y ys = refl
+seam (x ∷ xs) y ys = seam xs y ys
+
+back_seam : {A : Type 0} (xs : List A) (y : A) (ys : List A) → slice_get (reverse xs ++ y ∷ ys) (length xs) ≡ Some y
+back_seam {A} xs y ys = ap (slice_get (reverse xs ++ y ∷ ys)) (sym (length-reverse xs)) ∙ seam (reverse xs) y ys
+
+back_more : {A : Type 0} (xs : List A) (y : A) (ys : List A) → reverse (y ∷ xs) ++ ys ≡ reverse xs ++ y ∷ ys
+back_more {A} xs y ys = ap (λ (zs : List A). zs ++ ys) (reverse-append (y ∷ []) xs) ∙ append_assoc (reverse xs) (y ∷ []) ys
+
+-- the step of the post among these, which have the oldest first, gives the post's entry
+abbrev pub IsStepOf : List Step → PlacedPost → Type 0
+IsStepOf steps x = (n : ℕ) (l : Land) → step_entry n l (slice_get steps x.place.step) ≡ post_entry n l x
+
+one_step : (steps : List Step) (i j : ℕ) (s : Step) (a : Ask) (given : Answer) → s.ask ≡ a → s.answer ≡ given → slice_get steps j ≡ Some s → AllByRecursion (IsStepOf steps) (post_of (place_at i j) a given)
+one_step steps i j s (ask.Sheet t) given asked answered is = tt
+one_step steps i j s (ask.Chain t) given asked answered is = tt
+one_step steps i j s (ask.Post p) (answer.Rows rows) asked answered is = tt
+one_step steps i j s (ask.Post p) (answer.Entries entries) asked answered is = tt
+one_step steps i j s (ask.Post p) answer.Posted asked answered is =
+    (λ n l. ap (step_entry n l) is ∙ ap (λ (a : Ask). entry_of n l a s.answer) asked ∙ ap (entry_of n l (ask.Post p)) answered, tt)
+one_step steps i j s (ask.Post p) (answer.Refused rule estate node) asked answered is = tt
+
+steps_found : (i : ℕ) (steps later : List Step) → AllByRecursion (IsStepOf (reverse steps ++ later)) (step_posts i steps)
+steps_found i [] later = tt
+steps_found i (s ∷ earlier) later =
+    subst (λ (all : List Step). AllByRecursion (IsStepOf all) (step_posts i (s ∷ earlier))) (sym (back_more earlier s later))
+    (each_append (IsStepOf (reverse earlier ++ s ∷ later)) (step_posts i earlier) (post_of (place_at i (length earlier)) s.ask s.answer) (steps_found i earlier (s ∷ later))
+    (one_step (reverse earlier ++ s ∷ later) i (length earlier) s s.ask s.answer refl refl (back_seam earlier s later)))
+
+both_of : {A : Type 0} (P Q : A → Type 0) (xs : List A) → AllByRecursion P xs → AllByRecursion Q xs → AllByRecursion (λ x. P x × Q x) xs
+both_of P Q [] h k = tt
+both_of P Q (x ∷ xs) h k = ((h.0, k.0), both_of P Q xs h.1 k.1)
+
+-- the step at the place of the post of these records, which have the oldest first, gives the post's entry
+abbrev pub IsPlaced : List Record → PlacedPost → Type 0
+IsPlaced records x = (l : Land) → entry_at records l x.place ≡ post_entry (suc x.place.record) l x
+
+record_placed : (records : List Record) (r : Record) (x : PlacedPost) → slice_get records x.place.record ≡ Some r → IsStepOf r.steps x → IsPlaced records x
+record_placed records r x is step l = ap (entry_in (suc x.place.record) l x.place.step) is ∙ step (suc x.place.record) l
+
+record_found : (i : ℕ) (records : List Record) (r : Record) → slice_get records i ≡ Some r → AllByRecursion (IsPlaced records) (step_posts i (reverse r.steps))
+record_found i records r is =
+    let steps : List Step = reverse r.steps in
+    let all : reverse steps ++ [] ≡ r.steps = append-nil (reverse steps) ∙ reverse-reverse r.steps in
+    each_from (λ x. IsAmong i (length steps) x × IsStepOf (reverse steps ++ []) x) (IsPlaced records) (step_posts i steps)
+    (λ x h. record_placed records r x (ap (slice_get records) h.0.0 ∙ is) (subst (λ (items : List Step). IsStepOf items x) all h.1))
+    (both_of (IsAmong i (length steps)) (IsStepOf (reverse steps ++ [])) (step_posts i steps) (steps_among i steps) (steps_found i steps []))
+
+records_found : (records later : List Record) → AllByRecursion (IsPlaced (reverse records ++ later)) (record_posts records)
+records_found [] later = tt
+records_found (r ∷ older) later =
+    subst (λ (all : List Record). AllByRecursion (IsPlaced all) (record_posts (r ∷ older))) (sym (back_more older r later))
+    (each_append (IsPlaced (reverse older ++ r ∷ later)) (record_posts older) (step_posts (length older) (reverse r.steps)) (records_found older (r ∷ later))
+    (record_found (length older) (reverse older ++ r ∷ later) r (back_seam older r later)))
+
+-- posts of which none shares a cell give no entries
+where_entries :
+    (records : List Record) (land : Land) (test : Land → Bool) → ((l : Land) → test l ≡ false → meets land l ≡ false) →
+    (posts : List PlacedPost) → AllByRecursion (IsPlaced records) posts → entries_at records land (places_where test posts) ≡ post_entries land posts
+where_entries records land test apart [] h = refl
+where_entries records land test apart (x ∷ posts) h = go (test x.posting.tract) (apart x.posting.tract) (where_entries records land test apart posts h.1)
+  where
+    places : List Place
+    places = places_where test posts
+
+    none : (b : Bool) → b ≡ false → cond b (record { place = suc x.place.record; posting = x.posting } ∷ []) [] ++ post_entries land posts ≡ post_entries land posts
+    none true e = absurd (true≢false e)
+    none false e = refl
+
+    go : (b : Bool) → (b ≡ false → meets land x.posting.tract ≡ false) → entries_at records land places ≡ post_entries land posts →
+        entries_at records land (cond b (x.place ∷ places) places) ≡ post_entries land (x ∷ posts)
+    go true past rest = let here = h.0 land in cc
+    go false past rest = rest ∙ sym (none (meets land x.posting.tract) (past refl))
+
+-- the entries at the places of the posts of two kinds that have none in common, of which others share no cell
+pub merged_entries :
+    (records : List Record) (land : Land) (left right : Land → Bool) →
+    ((l : Land) → left l ≡ true → right l ≡ false) →
+    ((l : Land) → left l ≡ false → right l ≡ false → meets land l ≡ false) →
+    entries_at (reverse records) land (merge (places_where left (record_posts records)) (places_where right (record_posts records))) ≡ record_entries land records
+merged_entries records land left right apart past =
+    let posts : List PlacedPost = record_posts records in
+    let either : Land → Bool = λ l. left l || right l in
+    let placed : AllByRecursion (IsPlaced (reverse records)) posts = subst (λ (all : List Record). AllByRecursion (IsPlaced all) posts) (append-nil (reverse records)) (records_found records []) in
+    ap (entries_at (reverse records) land) (merge_where left right apart posts (records_ascend records))
+    ∙ where_entries (reverse records) land either (λ l e. let parts = or_parts (left l) (right l) e in past l parts.0 parts.1) posts placed
+    ∙ records_entries land records
