@@ -15,11 +15,12 @@ use title_aliquot::DescFault;
 use title_device::RunFault;
 use title_trace::Reply;
 
-/// A report as far as it is written: whole rows. A contract sees its bytes.
+/// A report as far as it is written: whole rows. A contract sees its bytes. It is handed on by value; its writer, with a
+/// buffer of 8 KB, stays in its box.
 #[derive(Drop)]
 pub struct Report {
     alloc: Global,
-    writer: Writer<Vec<u8>>,
+    writer: Box<Writer<Vec<u8>>>,
 }
 
 impl Model for Report {
@@ -29,26 +30,30 @@ impl Model for Report {
 
     ghost Value = { List ℕ };
 
-    ghost view = { λ r. bytes_or_none (text_written (λ v. Some v.items) r.writer) };
+    ghost view = { λ r. bytes_or_none (text_written (λ v. Some v.items) r.writer.value) };
 
-    ghost invariant = { λ r. (writer_setup r.writer ≡ report_writer) × (fields_written r.writer ≡ 0) × (has_written r.writer ≡ false) × (text_written (λ v. Some v.items) r.writer ≡ Some (bytes_or_none (text_written (λ v. Some v.items) r.writer))) };
+    ghost invariant = { λ r. (writer_setup r.writer.value ≡ report_writer) × (fields_written r.writer.value ≡ 0) × (has_written r.writer.value ≡ false) × (text_written (λ v. Some v.items) r.writer.value ≡ Some (bytes_or_none (text_written (λ v. Some v.items) r.writer.value))) };
 }
 
 impl Report {
-    /// Nothing written yet.
-    pub fn new(alloc: Global) -> Report
-        ensures nothing { result ≡ [] }
+    /// Nothing written yet. `Err` is Memory.
+    pub fn new(alloc: Global) -> Result<Report, RunFault>
+        ensures nothing { IfOk result (λ r. r ≡ []) }
+        ensures fault { IfErr result (λ e. e ≡ fault.Memory) }
     {
         let writer = WriterBuilder::new()
             .flexible(true)
             .from_writer(Vec::new(alloc));
-        Report { alloc, writer }
+        match Box::new(alloc, writer) {
+            Ok(writer) => Ok(Report { alloc, writer }),
+            Err(_) => Err(RunFault::Memory),
+        }
     }
 
     /// The rows of a reply to an examiner, the names having the parties' numbers as places. A Memory reply has none: it
     /// ends the report. `Err` is Memory.
     pub fn reply(
-        self,
+        mut self,
         names: &IndexSet<String>,
         examiner: u32,
         reply: &Reply,
@@ -56,32 +61,26 @@ impl Report {
         ensures rows { IfOk result (λ r. r ≡ self ++ rows_text (reply_rows (map string_bytes names.now.keys) examiner reply.now)) }
         ensures fault { IfErr result (λ e. e ≡ fault.Memory) }
     {
-        let alloc = self.alloc;
-        let mut writer = self.writer;
-        write_reply(alloc, &mut writer, names, examiner, reply)?;
-        Ok(Report { alloc, writer })
+        write_reply(self.alloc, &mut self.writer, names, examiner, reply)?;
+        Ok(self)
     }
 
     /// The row of a description that is none. `Err` is Memory.
-    pub fn described(self, examiner: u32, why: DescFault) -> Result<Report, RunFault>
+    pub fn described(mut self, examiner: u32, why: DescFault) -> Result<Report, RunFault>
         ensures row { IfOk result (λ r. r ≡ self ++ row (described_row examiner why)) }
         ensures fault { IfErr result (λ e. e ≡ fault.Memory) }
     {
-        let alloc = self.alloc;
-        let mut writer = self.writer;
-        write_described(alloc, &mut writer, examiner, why)?;
-        Ok(Report { alloc, writer })
+        write_described(self.alloc, &mut self.writer, examiner, why)?;
+        Ok(self)
     }
 
     /// The last row, with the number of step rows; the report's bytes. `Err` is Memory.
-    pub fn end(self, steps: usize) -> Result<Vec<u8>, RunFault>
+    pub fn end(mut self, steps: usize) -> Result<Vec<u8>, RunFault>
         ensures text { IfOk result (λ v. v.items ≡ self ++ row (end_row steps)) }
         ensures fault { IfErr result (λ e. e ≡ fault.Memory) }
     {
-        let alloc = self.alloc;
-        let mut writer = self.writer;
-        write_end(alloc, &mut writer, steps)?;
-        match writer.into_inner() {
+        write_end(self.alloc, &mut self.writer, steps)?;
+        match Box::into_inner(self.writer).into_inner() {
             Ok(text) => Ok(text),
             Err(_) => Err(RunFault::Memory),
         }

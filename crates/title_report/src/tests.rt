@@ -127,7 +127,7 @@ fn writes_each_reply(rt: HostRuntime) -> Result<(), Fail> {
         Reply::TooLong,
         Reply::Conflict(9),
     ];
-    let mut report = Report::new(alloc);
+    let mut report = Report::new(alloc)?;
     for reply in &replies {
         report = report.reply(&names, 7, reply)?;
     }

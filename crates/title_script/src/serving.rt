@@ -146,7 +146,7 @@ pub(crate) fn write_report<S: Store + Drop, G: Guards + Drop>(
     ensures fault { IfErr result (λ e. e ≡ fault.Memory) }
 {
     let mut desk = open_desk::<S, G>(alloc, &plan)?;
-    let mut report = Report::new(alloc);
+    let mut report = Report::new(alloc)?;
     let steps = plan.lines.len();
     let names = plan.parties;
     let mut lines = plan.lines;

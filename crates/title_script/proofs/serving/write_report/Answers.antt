@@ -10,8 +10,8 @@ pub loop-line-preserved : goal.loop-line-preserved
 loop-line-preserved g c = (
   c.serve_line.ensures.setting ∙ c.loop-line.invariant.0,
   done_taken c.args.schedule (setting_of (asked_in c.args.plan)) c.loop-line.desk.setting (map string_bytes c.args.plan.parties.keys) c.args.plan.lines.items
-      c.loop-line.desk.trace c.serve_line.new.desk.trace c.in-Some.line c.pop_front.new.self.items c.loop-line.lines.items c.loop-line.report c.in_ok-report.report
-      c.loop-line.invariant.0 c.in-Some.ensures.items c.loop-line.invariant.1 c.in_ok-report.ensures.served,
+      c.loop-line.desk.trace c.serve_line.new.desk.trace c.in-Some.line c.pop_front.new.self.items c.loop-line.lines.items c.loop-line.report c.in_ok-report-2.report
+      c.loop-line.invariant.0 c.in-Some.ensures.items c.loop-line.invariant.1 c.in_ok-report-2.ensures.served,
 )
 
 pub returns-clause-report : goal.returns-clause-report
