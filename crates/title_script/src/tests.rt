@@ -1,6 +1,6 @@
 ghost use Rattle.std.specs.Prelude.{◌≡◌, false};
 
-use crate::{RunFault, Schedule, run, run_alone};
+use crate::{Device, RunFault, Schedule, run, run_alone};
 use std::alloc::Global;
 use std::process::Abort;
 use std::test::Fail;
@@ -192,21 +192,32 @@ fn quotes_in_names(rt: HostRuntime) -> Result<(), Fail> {
     Ok(())
 }
 
-// A source that fails at any of its pulls is the fault Read, and nothing is written.
+// A source that gives 16 bytes a pull is pulled once for each piece of the script, and once more for its end. One that fails
+// at any of these pulls is the fault Read, and nothing is written; one that would fail at the next gives the whole report.
 #[test]
 fn sources_that_fail(rt: HostRuntime) -> Result<(), Fail> {
-    for good_pulls in 0..SCRIPT.len() as u64 / 16 + 1 {
+    let pulls = SCRIPT.len().div_ceil(16) as u64 + 1;
+    for good_pulls in 0..pulls + 1 {
         let mut source = source_of(SCRIPT, 16, good_pulls);
         let mut sink = sink_of(rt.alloc(), usize::MAX, usize::MAX);
         let fault = run(rt.alloc(), &mut source, &mut sink).err();
-        assert_eq!(rt; fault, Some(RunFault::Read), "{good_pulls} pulls");
-        assert!(rt; sink.taken.is_empty(), "{good_pulls} pulls");
+        let (wanted, written) = if good_pulls < pulls {
+            (Some(RunFault::Read), 0)
+        } else {
+            (None, REPORT.len())
+        };
+        assert_eq!(rt; fault, wanted, "{good_pulls} pulls");
+        assert_eq!(rt;
+            sink.taken.as_slice(),
+            &REPORT[..written],
+            "{good_pulls} pulls"
+        );
     }
     Ok(())
 }
 
-// A sink that fails after so many bytes has taken the beginning of the report; one byte a push makes no difference, and
-// one that takes none fails.
+// A sink that takes one byte a push, and fails once it has `room` bytes, is the fault Write and has just these bytes of the
+// report; where it has room for the whole report, it gets that and nothing more.
 #[test]
 fn sinks_that_fail(rt: HostRuntime) -> Result<(), Fail> {
     for room in 0..REPORT.len() + 2 {
@@ -217,6 +228,23 @@ fn sinks_that_fail(rt: HostRuntime) -> Result<(), Fail> {
         assert_eq!(rt; fault, wanted, "room {room}");
         let kept = room.min(REPORT.len());
         assert_eq!(rt; sink.taken.as_slice(), &REPORT[..kept], "room {room}");
+    }
+    Ok(())
+}
+
+// A writer over `room` bytes takes nothing once they are full, at its first write where there are none. It is the fault
+// Write, and has just these bytes of the report; one with room for the whole report gets that.
+#[test]
+fn writers_that_take_nothing(rt: HostRuntime) -> Result<(), Fail> {
+    for room in 0..REPORT.len() + 1 {
+        let mut space = vec![in rt.alloc(); 0u8; room]?;
+        let mut source = source_of(SCRIPT, 4096, u64::MAX);
+        let mut sink = Device::new(space.as_mut_slice());
+        let fault = run(rt.alloc(), &mut source, &mut sink).err();
+        let wanted = (room < REPORT.len()).then_some(RunFault::Write);
+        assert_eq!(rt; fault, wanted, "room {room}");
+        assert_eq!(rt; sink.into_inner().len(), 0, "room {room}");
+        assert_eq!(rt; space.as_slice(), &REPORT[..room], "room {room}");
     }
     Ok(())
 }
