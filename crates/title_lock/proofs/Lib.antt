@@ -1,7 +1,10 @@
 pub mod ModeLaws
 pub mod NodeLaws
+pub mod NodeKeys
 pub mod Overlap
-pub mod RowLaws
+pub mod HolderLaws
+pub mod AccessLaws
+pub mod TableLaws
 pub mod WayLaws
 pub mod GiveBack
 pub mod Granted

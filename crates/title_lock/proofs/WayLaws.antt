@@ -1,8 +1,9 @@
--- What rows of locks say of who is in the way is what the entries say.
+-- What a table of locks says of who is in the way is what the entries say.
 use Rattle.std.proofs.Common.{◌≡◌, ◌≢◌, ℕ, Bool, true, false, cond, ◌&&◌, ◌||◌, not, List, [], ◌∷◌, Option, Some, None, eqb, ltb, refl, sym, ap, subst, ◌∙◌, arith, inl, inr}
 use Rattle.std.proofs.lemmas.Bool.{and_from, and_left, and_right, or_parts, or_cases, or_from, or_left, or_right, eqb-true, eqb-false, eq-eqb, ne_eqb, false_from_ne_true, both_ways, ltb-true, ltb-false, cond_both, not-false, not_from_true}
 use Rattle.title_lock.specs.declared.modes.Mode.{Mode}
-use Rattle.title_lock.specs.declared.rows.Row.{Row}
+use Rattle.title_lock.specs.declared.holders.Holder.{Holder}
+use Rattle.title_lock.specs.declared.table.Table.{Table}
 use Rattle.std.specs.List.{list_any}
 use Rattle.title_land.specs.declared.node.Node.{Node}
 use Rattle.title_land.specs.declared.tract.Land.{Land}
@@ -12,7 +13,8 @@ use Rattle.title_lock.specs.declared.guards.Entry.{Entry}
 use Rattle.title_lock.specs.Modes.{compat, bound, allows}
 use Rattle.title_lock.specs.Overlaps.{IsLeast, against}
 use Rattle.title_lock.specs.Asking.{own_mode, above_mode, asked_for, asked, mode_at}
-use Rattle.title_lock.specs.Rows.{row_mode, least, blocker, way_at, joined, way_of, way_above, way_for, ways, RowsAre}
+use Rattle.title_lock.specs.Holders.{holder_mode, least, blocker, way_at, joined, way_more}
+use Rattle.title_lock.specs.Tables.{holders_of, table_mode, way_of, way_above, way_for, ways, TableIs}
 use Rattle.title_lock.proofs.ModeLaws.{bound_allows, allows_turn}
 use Rattle.title_lock.proofs.NodeLaws.{same_self, same_true, above_apart}
 use Rattle.title_lock.proofs.Overlap.{MeetByCovers, Allow, allow_bound, allow_parts, entries_fit, entries_clear}
@@ -37,7 +39,7 @@ least_one_at x e true k h = λ f o. and_left (eqb f x) k (ne_eqb f x (λ s. o (s
 least_one_at x e false true h = (eqb-false x e h, and_from (eqb x x) true (eq-eqb x x refl) refl, λ g lt o. and_left (eqb g x) true (ne_eqb g x (λ s. omega (arith, lt, s))))
 least_one_at x e false false h = λ f o. and_right (eqb f x) false refl
 
--- ---- rows at one node
+-- ---- the holders of one node
 
 de_morgan : (a b : Bool) → (not a || not b) ≡ not (a && b)
 de_morgan true b = refl
@@ -47,34 +49,36 @@ bound_allows_right : (a b c : Option Mode) → allows c (bound a b) ≡ (allows 
 bound_allows_right a b c =
     allows_turn c (bound a b) ∙ bound_allows a b c ∙ ap (λ (z : Bool). z && allows b c) (allows_turn a c) ∙ ap (λ (z : Bool). allows c a && z) (allows_turn b c)
 
-block_row : (b s : Bool) (m a : Mode) (r : Option Mode) → ((b && (s && not (compat m a))) || not (allows (Some m) r)) ≡ not (allows (Some m) (bound (cond (b && s) (Some a) None) r))
-block_row false s m a r = refl
-block_row true false m a r = refl
-block_row true true m a r = de_morgan (compat m a) (allows (Some m) r) ∙ ap not (sym (bound_allows_right (Some a) r (Some m)))
+block_holder : (b : Bool) (m a : Mode) (r : Option Mode) → ((b && not (compat m a)) || not (allows (Some m) r)) ≡ not (allows (Some m) (bound (cond b (Some a) None) r))
+block_holder false m a r = refl
+block_holder true m a r = de_morgan (compat m a) (allows (Some m) r) ∙ ap not (sym (bound_allows_right (Some a) r (Some m)))
 
-way_at_least : (rows : List Row) (e : ℕ) (n : Node) (m : Mode) → IsLeast (λ f. not (allows (Some m) (row_mode rows f n))) e (way_at rows e n m)
-way_at_least [] e n m = λ f o. refl
-way_at_least (x ∷ xs) e n m =
-    let k = same_node n x.node && not (compat m x.mode) in
-    least_same (λ f. (eqb f x.examiner && k) || not (allows (Some m) (row_mode xs f n))) (λ f. not (allows (Some m) (row_mode (x ∷ xs) f n))) e (way_at (x ∷ xs) e n m)
-    (λ f o. block_row (eqb f x.examiner) (same_node n x.node) m x.mode (row_mode xs f n))
-    (least_join (λ f. eqb f x.examiner && k) (λ f. not (allows (Some m) (row_mode xs f n))) e (blocker e n m x) (way_at xs e n m)
+way_at_least : (hs : List Holder) (e : ℕ) (m : Mode) → IsLeast (λ f. not (allows (Some m) (holder_mode hs f))) e (way_at hs e m)
+way_at_least [] e m = λ f o. refl
+way_at_least (x ∷ xs) e m =
+    let k = not (compat m x.mode) in
+    least_same (λ f. (eqb f x.examiner && k) || not (allows (Some m) (holder_mode xs f))) (λ f. not (allows (Some m) (holder_mode (x ∷ xs) f))) e (way_at (x ∷ xs) e m)
+    (λ f o. block_holder (eqb f x.examiner) m x.mode (holder_mode xs f))
+    (least_join (λ f. eqb f x.examiner && k) (λ f. not (allows (Some m) (holder_mode xs f))) e (blocker e m x) (way_at xs e m)
     (least_one_at x.examiner e (eqb x.examiner e) k refl)
-    (way_at_least xs e n m))
+    (way_at_least xs e m))
 
 -- an examiner's modes stand beside those of all others
-abbrev pub Beside : List Row → ℕ → Type 0
-Beside rows e = (f : ℕ) → f ≢ e → (n : Node) → allows (row_mode rows e n) (row_mode rows f n) ≡ true
+abbrev pub Beside : Table → ℕ → Type 0
+Beside t e = (f : ℕ) → f ≢ e → (n : Node) → allows (table_mode t e n) (table_mode t f n) ≡ true
 
 joined_allows : (r : Option Mode) (m : Mode) (o : Option Mode) → allows r o ≡ true → allows (Some (joined r m)) o ≡ allows (Some m) o
 joined_allows None m o h = refl
 joined_allows (Some a) m o h = bound_allows (Some a) (Some m) o ∙ ap (λ (b : Bool). b && allows (Some m) o) h
 
-way_of_least : (rows : List Row) (e : ℕ) (n : Node) (m : Mode) → Beside rows e → IsLeast (λ f. not (allows (Some m) (row_mode rows f n))) e (way_of rows e n m)
-way_of_least rows e n m beside =
-    least_same (λ f. not (allows (Some (joined (row_mode rows e n) m)) (row_mode rows f n))) (λ f. not (allows (Some m) (row_mode rows f n))) e (way_of rows e n m)
-    (λ f o. ap not (joined_allows (row_mode rows e n) m (row_mode rows f n) (beside f o n)))
-    (way_at_least rows e n (joined (row_mode rows e n) m))
+way_more_least : (hs : List Holder) (e : ℕ) (m : Mode) → ((f : ℕ) → f ≢ e → allows (holder_mode hs e) (holder_mode hs f) ≡ true) → IsLeast (λ f. not (allows (Some m) (holder_mode hs f))) e (way_more hs e m)
+way_more_least hs e m beside =
+    least_same (λ f. not (allows (Some (joined (holder_mode hs e) m)) (holder_mode hs f))) (λ f. not (allows (Some m) (holder_mode hs f))) e (way_more hs e m)
+    (λ f o. ap not (joined_allows (holder_mode hs e) m (holder_mode hs f) (beside f o)))
+    (way_at_least hs e (joined (holder_mode hs e) m))
+
+way_of_least : (t : Table) (e : ℕ) (n : Node) (m : Mode) → Beside t e → IsLeast (λ f. not (allows (Some m) (table_mode t f n))) e (way_of t e n m)
+way_of_least t e n m beside = way_more_least (holders_of t n) e m (λ f o. beside f o n)
 
 -- ---- all nodes of an access
 
@@ -90,20 +94,20 @@ abbrev pub blocks : Bool → (Node → Option Mode) → List Node → Bool
 blocks p held [] = false
 blocks p held (c ∷ t) = blocks_for p held c || blocks p held t
 
-way_above_least : (rows : List Row) (e : ℕ) (nodes : List Node) (m : Mode) → Beside rows e → IsLeast (λ f. any_above (λ n. not (allows (Some m) (row_mode rows f n))) nodes) e (way_above rows e nodes m)
-way_above_least rows e [] m beside = λ f o. refl
-way_above_least rows e (c ∷ nodes) m beside =
-    least_join (λ f. any_above (λ n. not (allows (Some m) (row_mode rows f n))) nodes) (λ f. not (allows (Some m) (row_mode rows f c))) e (way_above rows e nodes m) (way_of rows e c m)
-    (way_above_least rows e nodes m beside) (way_of_least rows e c m beside)
+way_above_least : (table : Table) (e : ℕ) (nodes : List Node) (m : Mode) → Beside table e → IsLeast (λ f. any_above (λ n. not (allows (Some m) (table_mode table f n))) nodes) e (way_above table e nodes m)
+way_above_least table e [] m beside = λ f o. refl
+way_above_least table e (c ∷ nodes) m beside =
+    least_join (λ f. any_above (λ n. not (allows (Some m) (table_mode table f n))) nodes) (λ f. not (allows (Some m) (table_mode table f c))) e (way_above table e nodes m) (way_of table e c m)
+    (way_above_least table e nodes m beside) (way_of_least table e c m beside)
 
-ways_least : (rows : List Row) (e : ℕ) (p : Bool) (t : List Node) → Beside rows e → IsLeast (λ f. blocks p (λ n. row_mode rows f n) t) e (ways rows e p t)
-ways_least rows e p [] beside = λ f o. refl
-ways_least rows e p (c ∷ t) beside =
-    least_join (λ f. blocks_for p (λ n. row_mode rows f n) c) (λ f. blocks p (λ n. row_mode rows f n) t) e (way_for rows e p c) (ways rows e p t)
-    (least_join (λ f. any_above (λ n. not (allows (Some (above_mode p)) (row_mode rows f n))) (above c)) (λ f. not (allows (Some (own_mode p)) (row_mode rows f c))) e
-    (way_above rows e (above c) (above_mode p)) (way_of rows e c (own_mode p))
-    (way_above_least rows e (above c) (above_mode p) beside) (way_of_least rows e c (own_mode p) beside))
-    (ways_least rows e p t beside)
+ways_least : (table : Table) (e : ℕ) (p : Bool) (t : List Node) → Beside table e → IsLeast (λ f. blocks p (λ n. table_mode table f n) t) e (ways table e p t)
+ways_least table e p [] beside = λ f o. refl
+ways_least table e p (c ∷ t) beside =
+    least_join (λ f. blocks_for p (λ n. table_mode table f n) c) (λ f. blocks p (λ n. table_mode table f n) t) e (way_for table e p c) (ways table e p t)
+    (least_join (λ f. any_above (λ n. not (allows (Some (above_mode p)) (table_mode table f n))) (above c)) (λ f. not (allows (Some (own_mode p)) (table_mode table f c))) e
+    (way_above table e (above c) (above_mode p)) (way_of table e c (own_mode p))
+    (way_above_least table e (above c) (above_mode p) beside) (way_of_least table e c (own_mode p) beside))
+    (ways_least table e p t beside)
 
 -- ---- in the way exactly where the modes don't stand beside each other
 
@@ -156,7 +160,7 @@ blocked p held (c ∷ t) fit =
     let k = allow_parts (asked_for p c) (asked p t) held fit in
     or_from (blocks_for p held c) (blocks p held t) (blocked_for p held c k.0) (blocked p held t k.1)
 
--- ---- rows and entries
+-- ---- the table and entries
 
 same_when_false : (a b : Bool) → (a ≡ false → b ≡ false) → (b ≡ false → a ≡ false) → a ≡ b
 same_when_false true true h k = refl
@@ -164,12 +168,12 @@ same_when_false true false h k = k refl
 same_when_false false true h k = sym (h refl)
 same_when_false false false h k = refl
 
--- the least examiner in the way by rows is the least whose entry overlaps
-pub stands : (depth : ℕ) → MeetByCovers depth → (es : List Entry) (rows : List Row) (e : ℕ) (p : Bool) (land : Land) → IsLand depth land → RowsAre depth es rows → IsLeast (λ f. against land p f es) e (ways rows e p (cover_of depth land))
-stands depth by es rows e p land wide are =
+-- the least examiner in the way by the table is the least whose entry overlaps
+pub stands : (depth : ℕ) → MeetByCovers depth → (es : List Entry) (table : Table) (e : ℕ) (p : Bool) (land : Land) → IsLand depth land → TableIs depth es table → IsLeast (λ f. against land p f es) e (ways table e p (cover_of depth land))
+stands depth by es table e p land wide are =
     let t = cover_of depth land in
-    least_same (λ f. blocks p (λ n. row_mode rows f n) t) (λ f. against land p f es) e (ways rows e p t)
-    (λ f o. same_when_false (blocks p (λ n. row_mode rows f n) t) (against land p f es)
-    (λ h. entries_clear depth by p land wide f es are.sized (λ n. ap (allows (asked p t n)) (sym (are.modes f n)) ∙ unblocked p (λ z. row_mode rows f z) t h n))
-    (λ h. blocked p (λ z. row_mode rows f z) t (λ n. ap (allows (asked p t n)) (are.modes f n) ∙ entries_fit depth by p land wide f es are.sized h n)))
-    (ways_least rows e p t (λ f o n. ap (λ (z : Option Mode). allows z (row_mode rows f n)) (are.modes e n) ∙ ap (allows (mode_at depth es e n)) (are.modes f n) ∙ are.apart e f o n))
+    least_same (λ f. blocks p (λ n. table_mode table f n) t) (λ f. against land p f es) e (ways table e p t)
+    (λ f o. same_when_false (blocks p (λ n. table_mode table f n) t) (against land p f es)
+    (λ h. entries_clear depth by p land wide f es are.sized (λ n. ap (allows (asked p t n)) (sym (are.modes f n)) ∙ unblocked p (λ z. table_mode table f z) t h n))
+    (λ h. blocked p (λ z. table_mode table f z) t (λ n. ap (allows (asked p t n)) (are.modes f n) ∙ entries_fit depth by p land wide f es are.sized h n)))
+    (ways_least table e p t (λ f o n. ap (λ (z : Option Mode). allows z (table_mode table f n)) (are.modes e n) ∙ ap (allows (mode_at depth es e n)) (are.modes f n) ∙ are.apart e f o n))

@@ -1,4 +1,5 @@
 pub mod Modes
 pub mod Overlaps
 pub mod Asking
-pub mod Rows
+pub mod Holders
+pub mod Tables

@@ -3,10 +3,11 @@
 #![tactic(auto)]
 
 pub mod guards;
+mod holders;
 pub mod laws;
 pub mod modes;
 pub mod row_locks;
-mod rows;
+mod table;
 #[cfg(test)]
 mod tests;
 

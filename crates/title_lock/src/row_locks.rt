@@ -1,23 +1,25 @@
-//! A table of locks that is a list of rows.
+//! Locks as a table of the holders of each node.
 
-ghost use Rattle.std.specs.Prelude.{◌≡◌, List, reverse, filter, not, ◌==◌};
+ghost use Rattle.std.specs.Prelude.{◌≡◌, ℕ, List, None, reverse, filter, not, ◌==◌, ◌&&◌, if◌then◌else◌};
+ghost use Rattle.std.specs.List.{list_any};
+ghost use Rattle.title_land.specs.declared.node.Node.{Node};
 ghost use Rattle.title_lock.specs.declared.guards.Entry.{Entry};
-ghost use Rattle.title_lock.specs.Rows.{RowsAre};
+ghost use Rattle.title_lock.specs.Tables.{table_mode, is_asked_by, TableIs};
 
 use crate::guards::{Access, Entry, Guards, LockFault};
 use crate::modes::Mode;
-use crate::rows::{LEVELS, Row, give_back_rows, mode_in, raise_all, ways};
+use crate::table::Table;
 use std::alloc::Global;
 use std::marker::Model;
 use title_land::{Node, Tract};
 
-/// Locks as rows of an examiner, a node and a mode, which alone decide; the entries stand beside them. A request is
-/// decided before anything grows, and everything grows before a row is added, so that a refused one leaves no lock.
+/// Locks by node, which alone decide; the entries stand beside them. A request is decided before anything grows, and
+/// everything grows before a mode is raised, so that a refused one leaves no lock.
 #[derive(Drop)]
 pub struct RowLocks {
     alloc: Global,
     entries: Vec<Entry>,
-    rows: Vec<Row>,
+    table: Table,
 }
 
 impl Model for RowLocks {
@@ -25,7 +27,19 @@ impl Model for RowLocks {
 
     ghost view = { λ l. reverse l.entries.items };
 
-    ghost invariant = { λ l. RowsAre 3 (reverse l.entries.items) l.rows.items };
+    ghost invariant = { λ l. TableIs 3 (reverse l.entries.items) l.table };
+}
+
+/// Takes an examiner out of the holders of all nodes that its entries ask for.
+fn release_entries(table: &mut Table, entries: &[Entry], examiner: u32)
+    ensures modes { (f : ℕ) → (n : Node) → table_mode table.new f n
+        ≡ (if f == examiner && list_any (is_asked_by 3 examiner n) entries.now then None else table_mode table.old f n) }
+{
+    for entry in entries {
+        if entry.examiner == examiner {
+            table.release_all(examiner, entry.tract.cover());
+        }
+    }
 }
 
 /// Takes out an examiner's entries.
@@ -42,13 +56,13 @@ impl Guards for RowLocks {
         RowLocks {
             alloc,
             entries: Vec::new(alloc),
-            rows: Vec::new(alloc),
+            table: Table::new(alloc),
         }
     }
 
     fn would(&self, examiner: u32, tract: &Tract, access: Access) -> Option<u32> {
         tract.land().is_sized();
-        ways(&self.rows, examiner, tract.cover(), access)
+        self.table.ways(examiner, tract.cover(), access)
     }
 
     fn ask(&mut self, examiner: u32, tract: &Tract, access: Access) -> Result<(), LockFault> {
@@ -63,10 +77,11 @@ impl Guards for RowLocks {
         if self.entries.reserve(1).is_err() {
             return Err(LockFault::Memory);
         }
-        if self.rows.reserve(LEVELS * tract.cover().len()).is_err() {
+        let cover = tract.cover();
+        let Ok(()) = self.table.make_room_all(cover) else {
             return Err(LockFault::Memory);
-        }
-        raise_all(&mut self.rows, examiner, tract.cover(), access);
+        };
+        self.table.raise_all(examiner, cover, access);
         self.entries.push_reserved(Entry {
             examiner,
             tract: copy,
@@ -76,11 +91,11 @@ impl Guards for RowLocks {
     }
 
     fn give_back(&mut self, examiner: u32) {
+        release_entries(&mut self.table, &self.entries, examiner);
         give_back_entries(&mut self.entries, examiner);
-        give_back_rows(&mut self.rows, examiner);
     }
 
     fn mode(&self, examiner: u32, node: Node) -> Option<Mode> {
-        mode_in(&self.rows, examiner, node)
+        self.table.mode(examiner, node)
     }
 }

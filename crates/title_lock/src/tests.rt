@@ -108,6 +108,20 @@ fn the_least_examiner_in_the_way(rt: HostRuntime) -> Result<(), Fail> {
 }
 
 #[test]
+fn another_keeps_its_lock(rt: HostRuntime) -> Result<(), Fail> {
+    let alloc = rt.alloc();
+    let northeast = quarter(alloc, NORTHEAST)?;
+    let mut locks = RowLocks::new(alloc);
+    locks.ask(2, &northeast, Access::Read)?;
+    locks.ask(3, &northeast, Access::Read)?;
+    locks.give_back(2);
+    assert_eq!(rt; locks.would(4, &northeast, Access::Post), Some(3));
+    locks.give_back(3);
+    assert_eq!(rt; locks.would(4, &northeast, Access::Post), None);
+    Ok(())
+}
+
+#[test]
 fn a_refused_growth_leaves_no_lock(rt: HostRuntime) -> Result<(), Fail> {
     let alloc = rt.alloc();
     let northeast = quarter(alloc, NORTHEAST)?;

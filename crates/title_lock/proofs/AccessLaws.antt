@@ -1,0 +1,55 @@
+-- What an access asks for at nodes, added up.
+use Rattle.std.proofs.Common.{◌≡◌, Bool, true, false, cond, ◌&&◌, ◌||◌, List, Option, Some, None, refl, sym, ap, ◌∙◌}
+use Rattle.std.specs.List.{list_any}
+use Rattle.title_lock.specs.declared.modes.Mode.{Mode}
+use Rattle.title_land.specs.declared.node.Node.{Node}
+use Rattle.title_land.specs.Nodes.{same_node, parent_of, above, is_above}
+use Rattle.title_lock.specs.Modes.{bound}
+use Rattle.title_lock.specs.Asking.{own_mode, above_mode, asked_for}
+use Rattle.title_lock.proofs.ModeLaws.{bound_none, bound_assoc, sup_self}
+use Rattle.title_lock.proofs.NodeLaws.{above_of, above_apart}
+
+above_cases : (r : Option Mode) (b s a : Bool) (m : Mode) →
+    bound (bound r (cond (b && a) (Some m) None)) (cond (b && s) (Some m) None) ≡ bound r (cond (b && (s || a)) (Some m) None)
+above_cases r false s a m = bound_none (bound r None)
+above_cases r true true true m = bound_assoc r (Some m) (Some m) ∙ ap (λ (z : Mode). bound r (Some z)) (sup_self m)
+above_cases r true true false m = ap (λ (z : Option Mode). bound z (Some m)) (bound_none r)
+above_cases r true false a m = bound_none (bound r (cond a (Some m) None))
+
+-- a mode at a node and at all above it is a mode at all above its child
+pub above_join : (b : Bool) (m : Mode) (r : Option Mode) (p c k : Node) → Some c ≡ parent_of p →
+    bound (bound r (cond (b && is_above k c) (Some m) None)) (cond (b && same_node k c) (Some m) None) ≡ bound r (cond (b && is_above k p) (Some m) None)
+above_join b m r p c k h =
+    above_cases r b (same_node k c) (is_above k c) m ∙ ap (λ (z : List Node). bound r (cond (b && list_any (same_node k) z) (Some m) None)) (sym (above_of p c h))
+
+for_cases : (r : Option Mode) (b s a : Bool) (own above : Mode) → (s ≡ true → a ≡ false) →
+    bound (bound r (cond (b && a) (Some above) None)) (cond (b && s) (Some own) None) ≡ bound r (cond b (cond s (Some own) (cond a (Some above) None)) None)
+for_cases r false s a own above h = bound_none (bound r None)
+for_cases r true true true own above h = absurd (let e = h refl in cc)
+for_cases r true true false own above h = ap (λ (y : Option Mode). bound y (Some own)) (bound_none r)
+for_cases r true false true own above h = bound_none (bound r (Some above))
+for_cases r true false false own above h = bound_none (bound r None)
+
+-- one node of the cover
+pub for_join : (b p : Bool) (r : Option Mode) (c n : Node) →
+    bound (bound r (cond (b && is_above n c) (Some (above_mode p)) None)) (cond (b && same_node n c) (Some (own_mode p)) None) ≡ bound r (cond b (asked_for p c n) None)
+for_join b p r c n = for_cases r b (same_node n c) (is_above n c) (own_mode p) (above_mode p) (above_apart n c)
+
+-- one node of the cover, and the rest
+pub rest_join : (b : Bool) (r x y : Option Mode) → bound (bound r (cond b x None)) (cond b y None) ≡ bound r (cond b (bound x y) None)
+rest_join true r x y = bound_assoc r x y
+rest_join false r x y = bound_none (bound r None)
+
+-- ---- and taken out
+
+-- what is gone with one part and then with another
+pub gone_join : (b x y : Bool) (r : Option Mode) → cond (b && y) None (cond (b && x) None r) ≡ cond (b && (x || y)) None r
+gone_join true true true r = refl
+gone_join true true false r = refl
+gone_join true false y r = refl
+gone_join false x y r = refl
+
+-- nothing at a node and at all above it is nothing at all above its child
+pub above_gone : (b : Bool) (r : Option Mode) (p c k : Node) → Some c ≡ parent_of p → cond (b && is_above k c) None (cond (b && same_node k c) None r) ≡ cond (b && is_above k p) None r
+above_gone b r p c k h =
+    gone_join b (same_node k c) (is_above k c) r ∙ ap (λ (z : List Node). cond (b && list_any (same_node k) z) None r) (sym (above_of p c h))

@@ -1,0 +1,14 @@
+-- A mode at the parent and at all above it.
+use Rattle.std.proofs.Common.{◌∙◌, ap, Option, Some, None, cond, ◌&&◌, eqb}
+use Rattle.title_land.specs.Nodes.{same_node}
+use Rattle.title_lock.specs.declared.modes.Mode.{Mode}
+use Rattle.title_lock.specs.Modes.{bound}
+use Rattle.title_lock.specs.Tables.{table_mode}
+use Rattle.title_lock.proofs.AccessLaws.{above_join}
+use Rattle.title_lock.proofs.table.Table.+raise_above.Goals as goal
+
+pub returns-in-Some-clause-modes : goal.returns-in-Some-clause-modes
+returns-in-Some-clause-modes t c f n =
+    c.raise.ensures.modes f n
+    ∙ ap (λ (r : Option Mode). bound r (cond (eqb f c.args.examiner && same_node n c.in-Some.parent) (Some c.args.mode) None)) (c.raise_above.ensures.modes f n)
+    ∙ above_join (eqb f c.args.examiner) c.args.mode (table_mode c.args.self.now f n) c.args.node c.in-Some.parent n c.in-Some.ensures.parent
