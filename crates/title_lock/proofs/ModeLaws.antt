@@ -42,7 +42,7 @@ compat_turn a b =
     agree (compat a b) (compat b a)
     (at_each (λ y. agrees (compat a y) (compat y a)) (at_each (λ x. at_all (λ y. agrees (compat x y) (compat y x))) refl a) b)
 
-and_true : (b : Bool) → (b && true) ≡ b
+pub and_true : (b : Bool) → (b && true) ≡ b
 and_true true = refl
 and_true false = refl
 

@@ -129,7 +129,7 @@ and_join : (b x y : Bool) → (b && x) ≡ false → (b && y) ≡ false → (b &
 and_join true x y h k = or_from x y h k
 and_join false x y h k = refl
 
-and_none : (b : Bool) → (b && false) ≡ false
+pub and_none : (b : Bool) → (b && false) ≡ false
 and_none true = refl
 and_none false = refl
 

@@ -13,9 +13,10 @@ use Rattle.title_lock.specs.declared.table.Table.{Table}
 use Rattle.title_lock.specs.Modes.{bound}
 use Rattle.title_lock.specs.Holders.{holder_mode}
 use Rattle.title_lock.specs.Tables.{node_cmp, holders_in, room_in, room_at, KeepsRoom, RoomAbove, RoomFor}
-use Rattle.title_lock.proofs.ModeLaws.{bound_none}
+use Rattle.title_lock.proofs.ModeLaws.{and_true, bound_none}
 use Rattle.title_lock.proofs.NodeLaws.{same_true, above_of}
 use Rattle.title_lock.proofs.NodeKeys.{at_node}
+use Rattle.title_lock.proofs.Overlap.{and_none}
 
 abbrev pub Places : Type 0
 Places = BTreeMap Node (Vec Holder)
@@ -58,51 +59,37 @@ module _ (m n : Places) (k : Node) (w : Option (Vec Holder)) (h : Writes m n k w
       holder_mode (held n q) f ≡ bound (holder_mode (held m q) f) (cond (eqb f e && same_node q k) (Some a) None)
   raised e f a here q = written (λ o. holder_mode (holders_in o) f) q ∙ go (same_node q k) refl
     where
-      and_true : (b : Bool) → cond b (Some a) None ≡ cond (b && true) (Some a) None
-      and_true true = refl
-      and_true false = refl
-
-      nothing : (b : Bool) (r : Option Mode) → r ≡ bound r (cond (b && false) (Some a) None)
-      nothing true r = sym (bound_none r)
-      nothing false r = sym (bound_none r)
-
       go : (b : Bool) → same_node q k ≡ b → cond b (holder_mode (holders_in w) f) (holder_mode (held m q) f) ≡ bound (holder_mode (held m q) f) (cond (eqb f e && b) (Some a) None)
-      go true s = here ∙ ap (λ (x : Node). bound (holder_mode (held m x) f) (cond (eqb f e) (Some a) None)) (sym (same_true q k s)) ∙ ap (bound (holder_mode (held m q) f)) (and_true (eqb f e))
-      go false s = nothing (eqb f e) (holder_mode (held m q) f)
+      go true s =
+          here
+          ∙ ap (λ (x : Node). bound (holder_mode (held m x) f) (cond (eqb f e) (Some a) None)) (sym (same_true q k s))
+          ∙ ap (λ (b : Bool). bound (holder_mode (held m q) f) (cond b (Some a) None)) (sym (and_true (eqb f e)))
+      go false s = sym (bound_none (holder_mode (held m q) f)) ∙ ap (λ (b : Bool). bound (holder_mode (held m q) f) (cond b (Some a) None)) (sym (and_none (eqb f e)))
 
   -- an examiner taken out at a node
   pub released : (e f : ℕ) → holder_mode (holders_in w) f ≡ cond (eqb f e) None (holder_mode (held m k) f) → (q : Node) →
       holder_mode (held n q) f ≡ cond (eqb f e && same_node q k) None (holder_mode (held m q) f)
   released e f here q = written (λ o. holder_mode (holders_in o) f) q ∙ go (same_node q k) refl
     where
-      and_true : (b : Bool) (r : Option Mode) → cond b None r ≡ cond (b && true) None r
-      and_true true r = refl
-      and_true false r = refl
-
-      nothing : (b : Bool) (r : Option Mode) → r ≡ cond (b && false) None r
-      nothing true r = refl
-      nothing false r = refl
-
       go : (b : Bool) → same_node q k ≡ b → cond b (holder_mode (holders_in w) f) (holder_mode (held m q) f) ≡ cond (eqb f e && b) None (holder_mode (held m q) f)
-      go true s = here ∙ ap (λ (x : Node). cond (eqb f e) None (holder_mode (held m x) f)) (sym (same_true q k s)) ∙ and_true (eqb f e) (holder_mode (held m q) f)
-      go false s = nothing (eqb f e) (holder_mode (held m q) f)
+      go true s =
+          here ∙ ap (λ (x : Node). cond (eqb f e) None (holder_mode (held m x) f)) (sym (same_true q k s)) ∙ ap (λ (b : Bool). cond b None (holder_mode (held m q) f)) (sym (and_true (eqb f e)))
+      go false s = ap (λ (b : Bool). cond b None (holder_mode (held m q) f)) (sym (and_none (eqb f e)))
 
 -- nobody is taken out where nobody stands
 pub none_released : (m : Places) (k : Node) → held m k ≡ [] → (e f : ℕ) (q : Node) → holder_mode (held m q) f ≡ cond (eqb f e && same_node q k) None (holder_mode (held m q) f)
 none_released m k none e f q = go (same_node q k) refl
   where
-    both : (b : Bool) (r : Option Mode) → r ≡ None → r ≡ cond (b && true) None r
-    both true r e = e
-    both false r e = refl
-
-    nothing : (b : Bool) (r : Option Mode) → r ≡ cond (b && false) None r
-    nothing true r = refl
-    nothing false r = refl
+    nothing : (b : Bool) (r : Option Mode) → r ≡ None → r ≡ cond b None r
+    nothing true r h = h
+    nothing false r h = refl
 
     go : (b : Bool) → same_node q k ≡ b → holder_mode (held m q) f ≡ cond (eqb f e && b) None (holder_mode (held m q) f)
-    go true s = both (eqb f e) (holder_mode (held m q) f) (ap (λ (x : Node). holder_mode (held m x) f) (same_true q k s) ∙ ap (λ (hs : List Holder). holder_mode hs f) none)
-    go false s = nothing (eqb f e) (holder_mode (held m q) f)
+    go true s =
+        nothing (eqb f e && true) (holder_mode (held m q) f) (ap (λ (x : Node). holder_mode (held m x) f) (same_true q k s) ∙ ap (λ (hs : List Holder). holder_mode hs f) none)
+    go false s = ap (λ (b : Bool). cond b None (holder_mode (held m q) f)) (sym (and_none (eqb f e)))
 
+-- what a borrowed place was found with
 pub is_found : (v : Vec Holder) (o : Option (Vec Holder)) → Some v ≡ o → IsSome o
 is_found v o h = subst (λ (z : Option (Vec Holder)). IsSome z) h refl
 
@@ -120,9 +107,6 @@ each_append P (x ∷ xs) ys h k = (h.0, each_append P xs ys h.1 k)
 pub room_above_child : (t : Table) (e : ℕ) (p c : Node) → Some c ≡ parent_of p → RoomFor t e c → RoomAbove t e p
 room_above_child t e p c h room = subst (AllByRecursion (λ x. room_at t e x ≡ true)) (sym (above_of p c h)) room
 
-pub room_of_parent : (t : Table) (e : ℕ) (p c : Node) → Some c ≡ parent_of p → RoomAbove t e p → RoomFor t e c
-room_of_parent t e p c h room = subst (AllByRecursion (λ x. room_at t e x ≡ true)) (above_of p c h) room
-
 pub room_above_stays : (t u : Table) (e : ℕ) (c : Node) → KeepsRoom e t u → RoomAbove t e c → RoomAbove u e c
 room_above_stays t u e c keeps room = each_from (λ x. room_at t e x ≡ true) (λ x. room_at u e x ≡ true) (above c) keeps room
 
@@ -133,8 +117,7 @@ room_for_stays t u e keeps c room = (keeps c room.0, room_above_stays t u e c ke
 pub each_more : (P : Node → Type 0) (nodes : List Node) (i : ℕ) (d : Node) → i < length nodes → P (get_or nodes i d) → AllByRecursion P (take i nodes) → AllByRecursion P (take (i + 1) nodes)
 each_more P nodes i d low here before = rw (take_more nodes i d low) (each_append P (take i nodes) (get_or nodes i d ∷ []) before (here, tt))
 
--- a fact at each of a list's last nodes but the first of them
-pub each_rest : (P : Node → Type 0) (nodes : List Node) (i : ℕ) (d : Node) → i < length nodes → AllByRecursion P (drop i nodes) → P (get_or nodes i d) × AllByRecursion P (drop (i + 1) nodes)
+-- a fact at each of a list's last nodes, without the first of them
+pub each_rest : (P : Node → Type 0) (nodes : List Node) (i : ℕ) (d : Node) → i < length nodes → AllByRecursion P (drop i nodes) → AllByRecursion P (drop (i + 1) nodes)
 each_rest P nodes i d low h =
-    let parts : AllByRecursion P (get_or nodes i d ∷ drop (suc i) nodes) = subst (AllByRecursion P) (drop-cons nodes i d low) h in
-    (parts.0, rw add-one parts.1)
+    let parts : AllByRecursion P (get_or nodes i d ∷ drop (suc i) nodes) = subst (AllByRecursion P) (drop-cons nodes i d low) h in rw add-one parts.1

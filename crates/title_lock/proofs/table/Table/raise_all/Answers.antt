@@ -15,5 +15,5 @@ loop-node-preserved c =
       modes = λ f n. grind (arith, common_steps, rest_join, c.raise_for.ensures.modes f n, c.loop-node.invariant.modes f n);
       room = each_from (RoomFor c.loop-node.self e) (RoomFor c.raise_for.new.self e) (drop (i + 1) c.args.cover.now)
           (room_for_stays c.loop-node.self c.raise_for.new.self e c.raise_for.ensures.stays)
-          (each_rest (RoomFor c.loop-node.self e) c.args.cover.now i c.node-item.result low c.loop-node.invariant.room).1;
+          (each_rest (RoomFor c.loop-node.self e) c.args.cover.now i c.node-item.result low c.loop-node.invariant.room);
     }
