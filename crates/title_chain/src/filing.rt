@@ -38,7 +38,6 @@ fn file_under<K: Ord + Drop>(
 }
 
 impl Filing {
-    ghost use Rattle.title_land.specs.declared.tract.Land.TheVariants as land;
     ghost use Rattle.title_chain.specs.Chains.{record_entries};
     ghost use Rattle.title_chain.specs.Orders.{section_cmp, township_cmp};
     ghost use Rattle.title_chain.specs.PostPlaces.{PlacedPost, post_of, step_posts, record_posts};

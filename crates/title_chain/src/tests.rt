@@ -4,8 +4,8 @@ ghost use Rattle.title_land.specs.Lands.{is_in_plant};
 ghost use Rattle.title_chain.specs.Alone.{IsSerial};
 
 use crate::{
-    Answer, Ask, Entries, Entry, Posting, Record, Records, SheetRows, Step, Steps, chain,
-    sheet_by_chain,
+    Answer, Ask, Entries, Entry, Posting, Record, Records, SheetRows, Step, Steps, TractIndex,
+    chain, sheet_by_chain,
 };
 use std::alloc::{AllocError, Global};
 use std::process::Abort;
@@ -265,4 +265,137 @@ fn a_refused_post_is_not_in_the_chain(rt: HostRuntime) -> Result<(), Fail> {
         format!(in alloc; "{records:?}")?.as_str()
     );
     Ok(())
+}
+
+// The land of a whole section.
+fn section_land(rt: &impl Abort, number: u8) -> Land {
+    Land::Part(section(rt, number), Grid::FULL)
+}
+
+// Section 5 of the township north of the others'.
+fn fifth_further_north(rt: &impl Abort) -> Land {
+    let township = Township::new(4, true, 2, false).expect(rt, "the numbers are in range");
+    let section = Section::new(township, 5).expect(rt, "the number is in range");
+    Land::Part(section, Grid::FULL)
+}
+
+// A release of this land.
+fn post(alloc: Global, doc: u64, land: Land) -> Result<Step, AllocError> {
+    Ok(posted(doc, Tract::new(alloc, land)?, release(ADAMS, BELL)))
+}
+
+// One record more.
+fn commit(index: &mut TractIndex, examiner: u32, steps: Vec<Step>) -> Result<(), AllocError> {
+    index.reserve()?;
+    index.push_reserved(record(examiner, steps));
+    Ok(())
+}
+
+// A refused post of section 5, and a post of section 6.
+fn refused_and_posted(alloc: Global, rt: &impl Abort) -> Result<Vec<Step>, AllocError> {
+    let mut refused = post(alloc, 24, section_land(rt, 5))?;
+    let node = Node::Part(section(rt, 5), Within::Whole);
+    refused.answer = Answer::Refused(Rule::ShortTitle, Estate::S, node);
+    let done = post(alloc, 25, section_land(rt, 6))?;
+    Ok(vec![in alloc; refused, done]?)
+}
+
+// One record more, of posts of these lands.
+fn commit_posts(
+    alloc: Global,
+    index: &mut TractIndex,
+    examiner: u32,
+    posts: &[(u64, Land)],
+) -> Result<(), AllocError> {
+    let mut steps = Vec::new(alloc);
+    for (doc, land) in posts {
+        steps.push(post(alloc, *doc, *land)?)?;
+    }
+    commit(index, examiner, steps)
+}
+
+// Posts of two sections, then a post of their township, then a refused one and another, then posts of a section of the
+// first's number and of everything.
+fn four_records(alloc: Global, rt: &impl Abort) -> Result<TractIndex, AllocError> {
+    let (fifth, sixth) = (section_land(rt, 5), section_land(rt, 6));
+    let township = Land::Township(third_north(rt));
+    let further = fifth_further_north(rt);
+    let mut index = TractIndex::new(alloc);
+    commit_posts(alloc, &mut index, 1, &[(21, fifth), (22, sixth)])?;
+    commit_posts(alloc, &mut index, 2, &[(23, township)])?;
+    commit(&mut index, 1, refused_and_posted(alloc, rt)?)?;
+    commit_posts(
+        alloc,
+        &mut index,
+        3,
+        &[(26, further), (27, Land::Everything)],
+    )?;
+    Ok(index)
+}
+
+/// The chain of this land has these places and document numbers, also where memory is refused once and it is asked again.
+fn assert_chain(
+    alloc: Global,
+    rt: &impl Abort,
+    index: &mut TractIndex,
+    own: &[Step],
+    land: Land,
+    want: &[(u64, u64)],
+) -> Result<(), Fail> {
+    let tract = Tract::new(alloc, land)?;
+    let entries = match index.chain(own, &tract) {
+        Ok(entries) => entries,
+        Err(_) => index.chain(own, &tract)?,
+    };
+    assert_entries(rt, &entries, want);
+    Ok(())
+}
+
+// A record that is pushed after a chain was asked stands in the next one.
+#[test]
+fn an_index_lists_what_may_be_in_a_chain(rt: HostRuntime) -> Result<(), Fail> {
+    let alloc = rt.alloc();
+    let mut index = four_records(alloc, &rt)?;
+    let own = vec![in alloc; post(alloc, 28, section_land(&rt, 5))?]?;
+    let want = [(1, 21), (2, 23), (4, 27), (0, 28)];
+    assert_chain(alloc, &rt, &mut index, &own, section_land(&rt, 5), &want)?;
+    let want = [(1, 22), (2, 23), (3, 25), (4, 27)];
+    assert_chain(alloc, &rt, &mut index, &own, section_land(&rt, 6), &want)?;
+    commit(
+        &mut index,
+        2,
+        vec![in alloc; post(alloc, 29, section_land(&rt, 5))?]?,
+    )?;
+    assert_eq!(rt; index.len(), 5);
+    let want = [(1, 21), (2, 23), (4, 27), (5, 29), (0, 28)];
+    assert_chain(alloc, &rt, &mut index, &own, section_land(&rt, 5), &want)
+}
+
+#[test]
+fn an_index_gives_chains_of_townships_and_of_everything(rt: HostRuntime) -> Result<(), Fail> {
+    let alloc = rt.alloc();
+    let mut index = four_records(alloc, &rt)?;
+    let own = vec![in alloc; post(alloc, 28, section_land(&rt, 5))?]?;
+    let township = Land::Township(third_north(&rt));
+    let want = [(1, 21), (1, 22), (2, 23), (3, 25), (4, 27), (0, 28)];
+    assert_chain(alloc, &rt, &mut index, &own, township, &want)?;
+    let want = [(4, 26), (4, 27)];
+    assert_chain(
+        alloc,
+        &rt,
+        &mut index,
+        &own,
+        fifth_further_north(&rt),
+        &want,
+    )?;
+    let want = [
+        (1, 21),
+        (1, 22),
+        (2, 23),
+        (3, 25),
+        (4, 26),
+        (4, 27),
+        (0, 28),
+    ];
+    assert_chain(alloc, &rt, &mut index, &own, Land::Everything, &want)
 }
