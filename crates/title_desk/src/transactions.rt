@@ -20,8 +20,7 @@ use crate::refusal::Refusal;
 use crate::slots::{Slot, count_steps, is_in, steps_of, take_slot};
 use std::alloc::{AllocError, Global};
 use std::marker::Model;
-use std::mem::replace;
-use title_chain::{Answer, Ask, Posting, Record, Records, SheetRows, Steps, chain};
+use title_chain::{Answer, Ask, Posting, Record, SheetRows, Steps, TractIndex};
 use title_land::{Township, Tract};
 use title_lock::Guards;
 use title_store::{Put, Store};
@@ -70,7 +69,7 @@ pub struct Desk<S: Store + Drop, G: Guards + Drop> {
     store: S,
     guards: G,
     trace: Vec<Call>,
-    records: Vec<Record>,
+    records: TractIndex,
     slots: Vec<Slot<S::Image>>,
 }
 
@@ -84,10 +83,10 @@ impl<S: Store + Drop, G: Guards + Drop> Model for Desk<S, G> {
     ghost view = { λ d. record {
       setting = record { parties = d.parties; townships = d.townships.items };
       trace = reverse d.trace.items;
-      is_ready = nat_lt (vec_len d.records) (vec_capacity d.records) && nat_lt (vec_len d.trace + vec_len d.slots) (vec_capacity d.trace);
+      is_ready = d.records.has_room && nat_lt (vec_len d.trace + vec_len d.slots) (vec_capacity d.trace);
     } };
 
-    ghost invariant = { λ d. Keeps S.number (record { parties = d.parties; townships = d.townships.items }) (S.content d.store) (S.declared d.store) (S.out d.store) (G.entries d.guards) (reverse d.trace.items) d.records.items d.slots.items × (vec_len d.trace + vec_len d.slots ≤ vec_capacity d.trace) };
+    ghost invariant = { λ d. Keeps S.number (record { parties = d.parties; townships = d.townships.items }) (S.content d.store) (S.declared d.store) (S.out d.store) (G.entries d.guards) (reverse d.trace.items) d.records.records d.slots.items × (vec_len d.trace + vec_len d.slots ≤ vec_capacity d.trace) };
 }
 
 impl<S: Store + Drop, G: Guards + Drop> Desk<S, G> {
@@ -110,7 +109,7 @@ impl<S: Store + Drop, G: Guards + Drop> Desk<S, G> {
             store,
             guards: G::new(alloc),
             trace: Vec::new(alloc),
-            records: Vec::new(alloc),
+            records: TractIndex::new(alloc),
             slots: Vec::new(alloc),
         })
     }
@@ -185,7 +184,7 @@ impl<S: Store + Drop, G: Guards + Drop> Desk<S, G> {
         if !is_in(&self.slots, examiner) {
             return self.refuse(request, Refusal::NotOpen);
         }
-        if self.records.reserve(1).is_err() {
+        if self.records.reserve().is_err() {
             return Reply::Memory;
         }
         let Some(slot) = take_slot(&mut self.slots, examiner) else {
@@ -285,15 +284,8 @@ impl<S: Store + Drop, G: Guards + Drop> Desk<S, G> {
         requires passes { Passes self.old examiner (Chain tract) }
         ensures told { Told self.old (Step examiner (Chain tract)) result self.new }
     {
-        let records = Records::new(replace(&mut self.records, Vec::new(self.alloc)));
-        let entries = chain(
-            self.alloc,
-            &records,
-            steps_of(&self.slots, examiner),
-            &tract,
-        );
-        self.records = records.into_vec();
-        let Ok(entries) = entries else {
+        let own = steps_of(&self.slots, examiner);
+        let Ok(entries) = self.records.chain(own, &tract) else {
             return Reply::Memory;
         };
         self.add_answer(examiner, Ask::Chain(tract), Answer::Entries(entries))
@@ -389,7 +381,7 @@ impl<S: Store + Drop, G: Guards + Drop> Desk<S, G> {
         ensures ready { OnOk result (self.new.is_ready ≡ true) }
     {
         self.trace.reserve(self.slots.len() + 1)?;
-        self.records.reserve(1)
+        self.records.reserve()
     }
 
     /// The calls with their replies, the oldest first.
@@ -403,7 +395,7 @@ impl<S: Store + Drop, G: Guards + Drop> Desk<S, G> {
     pub fn records(&self) -> &[Record]
         ensures records { reverse result.now ≡ committed self.now.trace }
     {
-        &self.records
+        self.records.as_slice()
     }
 
     /// Whether an examiner has a transaction open.

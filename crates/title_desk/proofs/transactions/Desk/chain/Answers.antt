@@ -8,7 +8,6 @@ use Rattle.title_desk.proofs.transactions.Desk.chain.Goals as goal
 
 pub add_answer-requires-clause-alone : goal.add_answer-requires-clause-alone
 add_answer-requires-clause-alone g c =
-    let records : c.new-records.result ≡ c.self.inside.records.items = c.new-records.ensures.new ∙ ap (λ v. v.items) c.replace.ensures.value in
-    let own : reverse c.steps_of.result.now ≡ steps_in (found c.args.examiner c.self.inside.slots.items) = c.steps_of.ensures.steps ∙ ap (λ xs. steps_in (found c.args.examiner xs)) c.deref.ensures.value in
-    ap Entries (c.in-Ok.ensures.chain ∙ ap (λ r. chain_of (reverse r) (reverse c.steps_of.result.now) c.args.tract) records ∙ ap (λ o. chain_of (reverse c.self.inside.records.items) o c.args.tract) own)
+    let own : reverse c.steps_of-own.result.now ≡ steps_in (found c.args.examiner c.self.inside.slots.items) = c.steps_of-own.ensures.steps ∙ ap (λ xs. steps_in (found c.args.examiner xs)) c.deref.ensures.value in
+    ap Entries (c.in-Ok.ensures.chain ∙ ap (λ o. chain_of (reverse c.self.inside.records.records) o c.args.tract) own)
     ∙ chain_due c.args.examiner c.args.tract c.self.invariant.0

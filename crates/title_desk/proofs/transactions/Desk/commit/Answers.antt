@@ -15,10 +15,10 @@ tidy_up-requires g c = record {
 
 pub invariant_of-self-2 : goal.invariant_of-self-2
 invariant_of-self-2 g c =
-    let place : c.len-place.result ≡ length c.push_reserved.new.self.items = grind (arith, common_steps, c.len-place.ensures) in (
+    let place : c.len-place.result ≡ length c.push_reserved.new.self.records = grind (arith, common_steps, c.len-place.ensures) in (
       rw (c.push_reserved-2.ensures.items, reverse-append)
           (keeps_committed c.args.examiner _ c.in-Some.slot c.self.invariant.0 c.in-Some.ensures.taken
           (λ d. c.tidy_up.ensures.content d ∙ c.forget_all.ensures.content d) (c.tidy_up.ensures.declared ∙ c.forget_all.ensures.declared) (c.tidy_up.ensures.out ∙ c.forget_all.ensures.out) c.give_back.ensures.left
-          (rw (c.push_reserved.ensures.items, c.reserve.ensures.items, c.new.ensures.new) refl) place),
+          (rw (c.push_reserved.ensures.records, c.reserve.ensures.records, c.new.ensures.new) refl) place),
       grind (arith, common_steps, c.self.invariant.1, c.in-Some.ensures.taken.3),
     )
