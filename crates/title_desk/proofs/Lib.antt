@@ -1,5 +1,5 @@
-pub mod Found
 pub mod Content
+pub mod Found
 pub mod Loaned
 pub mod Undo
 pub mod Facts

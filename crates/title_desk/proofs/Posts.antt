@@ -1,8 +1,7 @@
 -- Posts: what a done one makes of what the desk keeps, and one that is taken back.
-use Rattle.std.proofs.Common.{◌≡◌, ◌≢◌, ◌<◌, ℕ, true, false, cond, ◌||◌, List, [], ◌∷◌, ◌++◌, map, reverse, refl, ap, ◌∙◌, sym, subst, eqb, ◌⊎◌, inl, inr, arith, Option, Some, None, lit≤}
+use Rattle.std.proofs.Common.{◌≡◌, ◌≢◌, ◌<◌, ℕ, true, false, cond, ◌||◌, List, [], ◌∷◌, ◌++◌, map, refl, ap, ◌∙◌, sym, subst, eqb, ◌⊎◌, inl, inr, arith, Option, None, lit≤}
 use Rattle.std.proofs.Math.Path.{fun_ext}
 use Rattle.std.proofs.lemmas.Bool.{or_parts, false_from_ne_true, both_ways, cases_Bool, cond_both}
-use Rattle.std.proofs.lemmas.List.{reverse-append}
 use Rattle.title_land.specs.declared.place.Township.{Township}
 use Rattle.title_land.specs.declared.place.Cell.{Cell}
 use Rattle.title_land.specs.declared.tract.Land.{Land}
@@ -30,14 +29,13 @@ use Rattle.title_trace.specs.declared.call.Reply.TheVariants as reply
 use Rattle.title_trace.specs.Trace.{is_open, open_steps, committed}
 use Rattle.title_trace.specs.Due.{Setting, InTheWay, DueReply}
 use Rattle.title_desk.specs.declared.slots.Slot.{Slot}
-use Rattle.title_desk.specs.Slots.{Takes, images_in}
+use Rattle.title_desk.specs.Slots.{StepAdded, ImageAdded}
 use Rattle.title_desk.specs.Images.{posted_at, IsOf, Backs, Backed, put_back}
-use Rattle.title_desk.specs.Keeps.{images_of, Facts, Keeps}
-use Rattle.title_desk.proofs.Found.{found_examiner}
+use Rattle.title_desk.specs.Keeps.{Facts, Keeps}
 use Rattle.title_desk.proofs.Content.{case_eqb, unposted, content_is}
 use Rattle.title_desk.proofs.Loaned.{Remain, backed_in, backed_out}
 use Rattle.title_desk.proofs.Moves.{facts_same}
-use Rattle.title_desk.proofs.Steps.{step_locks, slots_longer, images_back}
+use Rattle.title_desk.proofs.Steps.{step_locks, slots_longer}
 
 among_last : (b : Loan) (out : List Loan) → IsAmong b (out ++ b ∷ [])
 among_last b [] = inl refl
@@ -170,25 +168,15 @@ facts_posted {number = number} {ts = ts} {own = own} {images = images} {done = d
           (λ _ h. (or_parts (is_cell_of 3 ts p.tract c) (posted_at ts c (own f)) h).1) (λ _ h. h) (none f));
     }
 
--- the images after a slot went back with one more
-images_more : {I : Type 0} (slots mid : List (Slot I)) (e : ℕ) (image : I) (s s' : Slot I) → Takes e slots (Some s) mid → s'.examiner ≡ s.examiner → s'.images.items ≡ s.images.items ++ image ∷ [] →
-    (f : ℕ) → cond (eqb f e) (image ∷ images_of slots f) (images_of slots f) ≡ images_of (mid ++ s' ∷ []) f
-images_more slots mid e image s s' takes examiner more f =
-    let mine : images_of slots e ≡ reverse s.images.items = ap images_in takes.0 in
-    let rev : reverse s'.images.items ≡ image ∷ images_of slots e = ap reverse more ∙ reverse-append s.images.items (image ∷ []) ∙ ap (λ z. image ∷ z) (sym mine) in
-    case_eqb (λ b. cond b (image ∷ images_of slots f) (images_of slots f) ≡ cond b (reverse s'.images.items) (images_of slots f)) f e
-    (λ is. ap (λ g. image ∷ images_of slots g) is ∙ sym rev) (λ _. refl)
-    ∙ sym (images_back slots mid e s s' takes examiner f)
-
 -- a done post is answered
-pub keeps_posted : {I : Type 0} {number : I → ℕ} {setting : Setting} {content content' : Plant} {declared declared' : List Township} {out out' : List Loan} {locks locks' : List Entry} {trace : List Call} {records : List Record} {slots : List (Slot I)} →
-    (mid : List (Slot I)) (e : ℕ) (p : Posting) (image : I) (s s' : Slot I) → Keeps number setting content declared out locks trace records slots → Takes e slots (Some s) mid →
-    s'.examiner ≡ s.examiner → s'.steps.items ≡ s.steps.items ++ record { ask = ask.Post p; answer = answer.Posted } ∷ [] → s'.images.items ≡ s.images.items ++ image ∷ [] →
-    locks' ≡ record { examiner = s.examiner; tract = p.tract; access = access.Post } ∷ locks → declared' ≡ declared →
+pub keeps_posted : {I : Type 0} {number : I → ℕ} {setting : Setting} {content content' : Plant} {declared declared' : List Township} {out out' : List Loan} {locks locks' : List Entry} {trace : List Call} {records : List Record} {slots : ℕ → Option (Slot I)} →
+    (slots' : ℕ → Option (Slot I)) (e : ℕ) (p : Posting) (image : I) → Keeps number setting content declared out locks trace records slots →
+    StepAdded e (record { ask = ask.Post p; answer = answer.Posted }) slots slots' → ImageAdded e image slots slots' →
+    locks' ≡ record { examiner = e; tract = p.tract; access = access.Post } ∷ locks → declared' ≡ declared →
     IsTaken (number image) declared p.tract content out out' → SameContent (plant_effect 3 declared p.instrument content p.tract) content' →
     ((f : ℕ) → f ≢ e → overlaps (ask.Post p) (open_steps trace f) ≡ false) → DueReply 3 setting trace (request.Step e (ask.Post p)) (reply.Answered answer.Posted) →
-    Keeps number setting content' declared' out' locks' (record { request = request.Step e (ask.Post p); reply = reply.Answered answer.Posted } ∷ trace) records (mid ++ s' ∷ [])
-keeps_posted {number = number} {setting = setting} {content = content} {content' = content'} {out = out} {out' = out'} {locks = locks} {trace = trace} {slots = slots} mid e p image s s' k takes examiner more more_images locked declared_is taken same free due =
+    Keeps number setting content' declared' out' locks' (record { request = request.Step e (ask.Post p); reply = reply.Answered answer.Posted } ∷ trace) records slots'
+keeps_posted {number = number} {setting = setting} {content = content} {content' = content'} {out = out} {out' = out'} {trace = trace} {slots = slots} slots' e p image k added more locked declared_is taken same free due =
     let taken' : IsTaken (number image) setting.townships p.tract content out out' = subst (λ ts. IsTaken (number image) ts p.tract content out out') k.declared_are taken in
     let same' : SameContent (plant_effect 3 setting.townships p.instrument content p.tract) content' = subst (λ ts. SameContent (plant_effect 3 ts p.instrument content p.tract) content') k.declared_are same in
     record {
@@ -196,13 +184,12 @@ keeps_posted {number = number} {setting = setting} {content = content} {content'
       due = (k.due, due);
       declared_are = declared_is ∙ k.declared_are;
       records_are = k.records_are;
-      slots_are = slots_longer (λ f. is_open f trace) (open_steps trace) slots mid e (record { ask = ask.Post p; answer = answer.Posted }) s s' k.slots_are takes examiner more;
-      facts = facts_same refl (fun_ext (images_more slots mid e image s s' takes examiner more_images)) refl refl
-          (ap (λ z. record { examiner = z; tract = p.tract; access = access.Post } ∷ locks) (sym (found_examiner e slots s takes.0)) ∙ sym locked) (facts_posted e p image taken' same' free k.facts);
+      slots_are = slots_longer (λ f. is_open f trace) (open_steps trace) slots slots' e (record { ask = ask.Post p; answer = answer.Posted }) k.slots_are added;
+      facts = facts_same refl (fun_ext (λ f. sym (more f))) refl refl (sym locked) (facts_posted e p image taken' same' free k.facts);
     }
 
 -- a plant with the same owners and the same list of images
-pub keeps_same : {I : Type 0} {number : I → ℕ} {setting : Setting} {content content' : Plant} {declared declared' : List Township} {out out' : List Loan} {locks : List Entry} {trace : List Call} {records : List Record} {slots : List (Slot I)} →
+pub keeps_same : {I : Type 0} {number : I → ℕ} {setting : Setting} {content content' : Plant} {declared declared' : List Township} {out out' : List Loan} {locks : List Entry} {trace : List Call} {records : List Record} {slots : ℕ → Option (Slot I)} →
     Keeps number setting content declared out locks trace records slots → SameContent content content' → declared' ≡ declared → out' ≡ out →
     Keeps number setting content' declared' out' locks trace records slots
 keeps_same k same declared_is out_is = record {
@@ -215,7 +202,7 @@ keeps_same k same declared_is out_is = record {
 }
 
 -- what the store says to a post is what the ask gets alone
-pub post_due : {I : Type 0} {number : I → ℕ} {setting : Setting} {content : Plant} {declared : List Township} {out : List Loan} {locks : List Entry} {trace : List Call} {records : List Record} {slots : List (Slot I)} →
+pub post_due : {I : Type 0} {number : I → ℕ} {setting : Setting} {content : Plant} {declared : List Township} {out : List Loan} {locks : List Entry} {trace : List Call} {records : List Record} {slots : ℕ → Option (Slot I)} →
     (e : ℕ) (p : Posting) (refused : Option Refusal) → Keeps number setting content declared out locks trace records slots → InTheWay trace e (ask.Post p) None →
     refused_in 3 declared p.instrument content p.tract ≡ refused →
     post_answer refused ≡ alone 3 setting.townships (committed trace) (open_steps trace e) (ask.Post p)

@@ -1,8 +1,7 @@
 -- Steps: what is due to them, and what an answered one makes of what the desk keeps.
-use Rattle.std.proofs.Common.{◌≡◌, ℕ, Bool, true, false, cond, ◌&&◌, ◌||◌, List, [], ◌∷◌, ◌++◌, reverse, refl, ap, ◌∙◌, sym, subst, eqb, Option, Some, None, is_some, length, lit≤, Result, Ok, Err, is_ok, OnOk, OnErr}
+use Rattle.std.proofs.Common.{◌≡◌, ℕ, Bool, true, false, cond, ◌&&◌, ◌||◌, List, ◌∷◌, reverse, refl, ap, ◌∙◌, sym, subst, eqb, Option, Some, None, length, lit≤, Result, Ok, Err, is_err, OnOk, OnErr}
 use Rattle.std.proofs.Math.Path.{fun_ext}
 use Rattle.std.specs.Prelude.{nat_le}
-use Rattle.std.proofs.lemmas.List.{reverse-append}
 use Rattle.title_land.specs.declared.place.Township.{Township}
 use Rattle.title_land.specs.declared.place.Cell.{Cell}
 use Rattle.title_land.specs.declared.tract.Land.{Land}
@@ -33,11 +32,10 @@ use Rattle.title_trace.specs.declared.call.Reply.TheVariants as reply
 use Rattle.title_trace.specs.Trace.{is_open, open_steps, committed}
 use Rattle.title_trace.specs.Due.{Setting, most_steps, InTheWay, DueStep, DueReply}
 use Rattle.title_desk.specs.declared.slots.Slot.{Slot}
-use Rattle.title_desk.specs.Slots.{found, Takes, steps_in, images_in}
+use Rattle.title_desk.specs.Slots.{StepAdded, SameImages, steps_in}
 use Rattle.title_desk.specs.Images.{is_posted, posted_at, Peels, Backed}
-use Rattle.title_desk.specs.Keeps.{images_of, SlotsAre, Facts, Keeps}
+use Rattle.title_desk.specs.Keeps.{SlotsAre, Facts, Keeps}
 use Rattle.title_desk.specs.Told.{Books, Passes}
-use Rattle.title_desk.proofs.Found.{found_back, found_examiner}
 use Rattle.title_desk.proofs.Content.{case_eqb, content_is}
 use Rattle.title_desk.proofs.Moves.{facts_same}
 
@@ -76,7 +74,7 @@ pub due_alone : (books : Books) (e : ℕ) (a : Ask) (given : Answer) → Passes 
 due_alone books e a given p is = due_from books.setting books.trace e a (reply.Answered given) true true None false p.0 p.1 p.2 p.3 (None, p.4, ap reply.Answered is)
 
 -- who is in the way by the locks is in the way by the trace
-pub in_the_way : {I : Type 0} {number : I → ℕ} {setting : Setting} {content : Plant} {declared : List Township} {out : List Loan} {locks : List Entry} {trace : List Call} {records : List Record} {slots : List (Slot I)} →
+pub in_the_way : {I : Type 0} {number : I → ℕ} {setting : Setting} {content : Plant} {declared : List Township} {out : List Loan} {locks : List Entry} {trace : List Call} {records : List Record} {slots : ℕ → Option (Slot I)} →
     (e : ℕ) (a : Ask) (post : Bool) (way : Option ℕ) → Keeps number setting content declared out locks trace records slots → post ≡ is_post a → Stands locks e (tract_of a) post way → InTheWay trace e a way
 in_the_way {locks = locks} e a post None k p h = λ f ne. sym (k.facts.locks_are a f) ∙ ap (λ b. against (tract_of a) b f locks) (sym p) ∙ h f ne
 in_the_way {locks = locks} e a post (Some f) k p h = (
@@ -86,7 +84,7 @@ in_the_way {locks = locks} e a post (Some f) k p h = (
 )
 
 -- the sheet of what the store holds is what the examiner sees
-pub sheet_due : {I : Type 0} {number : I → ℕ} {setting : Setting} {content : Plant} {declared : List Township} {out : List Loan} {locks : List Entry} {trace : List Call} {records : List Record} {slots : List (Slot I)} →
+pub sheet_due : {I : Type 0} {number : I → ℕ} {setting : Setting} {content : Plant} {declared : List Township} {out : List Loan} {locks : List Entry} {trace : List Call} {records : List Record} {slots : ℕ → Option (Slot I)} →
     (e : ℕ) (t : Land) → Keeps number setting content declared out locks trace records slots → InTheWay trace e (ask.Sheet t) None →
     answer.Rows (sheet_of 3 setting.townships content t) ≡ alone 3 setting.townships (committed trace) (open_steps trace e) (ask.Sheet t)
 sheet_due {setting = setting} {content = content} {trace = trace} e t k h =
@@ -146,89 +144,43 @@ facts_answered {number = number} {ts = ts} {own = own} {images = images} {done =
           (λ _ h. sym (posted_skip ts c a given (own f) n) ∙ h) (λ _ h. h) (none f));
     }
 
-view_back : {I X : Type 0} (view : Option (Slot I) → X) (b : Bool) (s : Slot I) (o : Option (Slot I)) → view (cond b (Some s) o) ≡ cond b (view (Some s)) (view o)
-view_back view true s o = refl
-view_back view false s o = refl
-
-pub cond_same : {X : Type 0} (f e : ℕ) (g : ℕ → X) (x : X) → g e ≡ x → cond (eqb f e) x (g f) ≡ g f
-cond_same f e g x h = case_eqb (λ b. cond b x (g f) ≡ g f) f e (λ same. sym h ∙ ap g (sym same)) (λ _. refl)
-
--- the images after a slot went back with these images
-pub images_back : {I : Type 0} (slots mid : List (Slot I)) (e : ℕ) (s s' : Slot I) → Takes e slots (Some s) mid → s'.examiner ≡ s.examiner →
-    (f : ℕ) → images_of (mid ++ s' ∷ []) f ≡ cond (eqb f e) (reverse s'.images.items) (images_of slots f)
-images_back slots mid e s s' takes examiner f = let back = found_back e slots mid s s' takes examiner in ap images_in (back.1 f) ∙ view_back images_in (eqb f e) s' (found f slots)
-
-images_kept : {I : Type 0} (slots mid : List (Slot I)) (e : ℕ) (s s' : Slot I) → Takes e slots (Some s) mid → s'.examiner ≡ s.examiner → s'.images.items ≡ s.images.items →
-    (f : ℕ) → images_of slots f ≡ images_of (mid ++ s' ∷ []) f
-images_kept slots mid e s s' takes examiner same f =
-    sym (images_back slots mid e s s' takes examiner f ∙ cond_same f e (images_of slots) (reverse s'.images.items) (ap images_in takes.0 ∙ ap reverse (sym same)))
-
--- a slot goes back as it was
-pub keeps_back : {I : Type 0} {number : I → ℕ} {setting : Setting} {content : Plant} {declared : List Township} {out : List Loan} {locks : List Entry} {trace : List Call} {records : List Record} {slots : List (Slot I)} →
-    (mid : List (Slot I)) (e : ℕ) (s s' : Slot I) → Keeps number setting content declared out locks trace records slots → Takes e slots (Some s) mid →
-    s'.examiner ≡ s.examiner → s'.steps.items ≡ s.steps.items → s'.images.items ≡ s.images.items →
-    Keeps number setting content declared out locks trace records (mid ++ s' ∷ [])
-keeps_back {trace = trace} {slots = slots} mid e s s' k takes examiner same_steps same_images =
-    let back = found_back e slots mid s s' takes examiner in
-    let steps_same : steps_in (found e slots) ≡ steps_in (Some s') = ap steps_in takes.0 ∙ ap reverse (sym same_steps) in
-    record {
-      few = k.few;
-      due = k.due;
-      declared_are = k.declared_are;
-      records_are = k.records_are;
-      slots_are = record {
-        distinct = back.0;
-        begun_are = λ f. ap is_some (back.1 f) ∙ view_back is_some (eqb f e) s' (found f slots) ∙ cond_same f e (λ g. is_some (found g slots)) true (ap is_some takes.0) ∙ k.slots_are.begun_are f;
-        steps_are = λ f. ap steps_in (back.1 f) ∙ view_back steps_in (eqb f e) s' (found f slots) ∙ cond_same f e (λ g. steps_in (found g slots)) (steps_in (Some s')) steps_same ∙ k.slots_are.steps_are f;
-      };
-      facts = facts_same refl (fun_ext (images_kept slots mid e s s' takes examiner same_images)) refl refl refl k.facts;
-    }
-
 -- the slots after a step went to one of them
-pub slots_longer : {I : Type 0} (begun : ℕ → Bool) (own : ℕ → List Step) (slots mid : List (Slot I)) (e : ℕ) (step : Step) (s s' : Slot I) → SlotsAre begun own slots → Takes e slots (Some s) mid →
-    s'.examiner ≡ s.examiner → s'.steps.items ≡ s.steps.items ++ step ∷ [] → SlotsAre begun (λ f. cond (eqb f e) (step ∷ own f) (own f)) (mid ++ s' ∷ [])
-slots_longer begun own slots mid e step s s' are takes examiner more =
-    let back = found_back e slots mid s s' takes examiner in
-    let mine : steps_in (Some s) ≡ own e = sym (ap steps_in takes.0) ∙ are.steps_are e in
-    let longer : steps_in (Some s') ≡ step ∷ own e = ap reverse more ∙ reverse-append s.steps.items (step ∷ []) ∙ ap (λ x. step ∷ x) mine in
-    record {
-      distinct = back.0;
-      begun_are = λ f. ap is_some (back.1 f) ∙ view_back is_some (eqb f e) s' (found f slots) ∙ cond_same f e (λ g. is_some (found g slots)) true (ap is_some takes.0) ∙ are.begun_are f;
-      steps_are = λ f. ap steps_in (back.1 f) ∙ view_back steps_in (eqb f e) s' (found f slots)
-          ∙ case_eqb (λ b. cond b (steps_in (Some s')) (steps_in (found f slots)) ≡ cond b (step ∷ own f) (own f)) f e
-          (λ same. longer ∙ ap (λ g. step ∷ own g) (sym same)) (λ _. are.steps_are f);
-    }
+pub slots_longer : {I : Type 0} (begun : ℕ → Bool) (own : ℕ → List Step) (slots slots' : ℕ → Option (Slot I)) (e : ℕ) (step : Step) → SlotsAre begun own slots → StepAdded e step slots slots' →
+    SlotsAre begun (λ f. cond (eqb f e) (step ∷ own f) (own f)) slots'
+slots_longer begun own slots slots' e step are added = record {
+  begun_are = λ f. (added f).0 ∙ are.begun_are f;
+  steps_are = λ f. (added f).1 ∙ ap (λ steps. cond (eqb f e) (step ∷ steps) steps) (are.steps_are f);
+}
 
 -- a step that posted nothing is answered
-pub keeps_answered : {I : Type 0} {number : I → ℕ} {setting : Setting} {content : Plant} {declared : List Township} {out : List Loan} {locks locks' : List Entry} {trace : List Call} {records : List Record} {slots : List (Slot I)} →
-    (mid : List (Slot I)) (e : ℕ) (a : Ask) (given : Answer) (access : Access) (s s' : Slot I) → Keeps number setting content declared out locks trace records slots → Takes e slots (Some s) mid →
-    s'.examiner ≡ s.examiner → s'.steps.items ≡ s.steps.items ++ record { ask = a; answer = given } ∷ [] → s'.images.items ≡ s.images.items →
-    locks' ≡ record { examiner = s.examiner; tract = tract_of a; access = access } ∷ locks → is_post_access access ≡ is_post a → is_posted a given ≡ false →
+pub keeps_answered : {I : Type 0} {number : I → ℕ} {setting : Setting} {content : Plant} {declared : List Township} {out : List Loan} {locks locks' : List Entry} {trace : List Call} {records : List Record} {slots : ℕ → Option (Slot I)} →
+    (slots' : ℕ → Option (Slot I)) (e : ℕ) (a : Ask) (given : Answer) (access : Access) → Keeps number setting content declared out locks trace records slots →
+    StepAdded e (record { ask = a; answer = given }) slots slots' → SameImages slots slots' →
+    locks' ≡ record { examiner = e; tract = tract_of a; access = access } ∷ locks → is_post_access access ≡ is_post a → is_posted a given ≡ false →
     given ≡ alone 3 setting.townships (committed trace) (open_steps trace e) a → DueReply 3 setting trace (request.Step e a) (reply.Answered given) →
-    Keeps number setting content declared out locks' (record { request = request.Step e a; reply = reply.Answered given } ∷ trace) records (mid ++ s' ∷ [])
-keeps_answered {locks = locks} {trace = trace} {slots = slots} mid e a given access s s' k takes examiner more same_images locked post idle is due =
+    Keeps number setting content declared out locks' (record { request = request.Step e a; reply = reply.Answered given } ∷ trace) records slots'
+keeps_answered {trace = trace} {slots = slots} slots' e a given access k added same locked post idle is due =
     record {
       few = k.few;
       due = (k.due, due);
       declared_are = k.declared_are;
       records_are = k.records_are;
-      slots_are = slots_longer (λ f. is_open f trace) (open_steps trace) slots mid e (record { ask = a; answer = given }) s s' k.slots_are takes examiner more;
-      facts = facts_same refl (fun_ext (images_kept slots mid e s s' takes examiner same_images)) refl refl
-          (ap (λ z. record { examiner = z; tract = tract_of a; access = access } ∷ locks) (sym (found_examiner e slots s takes.0)) ∙ sym locked) (facts_answered e a given access post idle is k.facts);
+      slots_are = slots_longer (λ f. is_open f trace) (open_steps trace) slots slots' e (record { ask = a; answer = given }) k.slots_are added;
+      facts = facts_same refl (fun_ext (λ f. sym (same f))) refl refl (sym locked) (facts_answered e a given access post idle is k.facts);
     }
 
-pub on_ok : {T E : Type 0} (r : Result T E) (P : Type 0) → is_ok r ≡ true → OnOk r P → P
-on_ok (Ok x) P h p = p
-on_ok (Err x) P h p = cc
+pub on_good : {T E : Type 0} (r : Result T E) (P : Type 0) → is_err r ≡ false → OnOk r P → P
+on_good (Ok x) P h p = p
+on_good (Err x) P h p = cc
 
-pub on_err : {T E : Type 0} (r : Result T E) (P : Type 0) → is_ok r ≡ false → OnErr r P → P
-on_err (Ok x) P h p = cc
-on_err (Err x) P h p = p
+pub on_bad : {T E : Type 0} (r : Result T E) (P : Type 0) → is_err r ≡ true → OnErr r P → P
+on_bad (Ok x) P h p = cc
+on_bad (Err x) P h p = p
 
 -- the chain that is made of the records and of the examiner's steps is the one that it sees
-pub chain_due : {I : Type 0} {number : I → ℕ} {setting : Setting} {content : Plant} {declared : List Township} {out : List Loan} {locks : List Entry} {trace : List Call} {records : List Record} {slots : List (Slot I)} →
+pub chain_due : {I : Type 0} {number : I → ℕ} {setting : Setting} {content : Plant} {declared : List Township} {out : List Loan} {locks : List Entry} {trace : List Call} {records : List Record} {slots : ℕ → Option (Slot I)} →
     (e : ℕ) (t : Land) → Keeps number setting content declared out locks trace records slots →
-    answer.Entries (chain_of (reverse records) (steps_in (found e slots)) t) ≡ alone 3 setting.townships (committed trace) (open_steps trace e) (ask.Chain t)
+    answer.Entries (chain_of (reverse records) (steps_in (slots e)) t) ≡ alone 3 setting.townships (committed trace) (open_steps trace e) (ask.Chain t)
 chain_due {setting = setting} {trace = trace} {records = records} {slots = slots} e t k =
-    ap answer.Entries (ap (λ r. chain_of r (steps_in (found e slots)) t) k.records_are ∙ ap (λ s. chain_of (committed trace) s t) (k.slots_are.steps_are e))
+    ap answer.Entries (ap (λ r. chain_of r (steps_in (slots e)) t) k.records_are ∙ ap (λ s. chain_of (committed trace) s t) (k.slots_are.steps_are e))
     ∙ sym (answer_chain 3 setting.townships (after_steps 3 setting.townships (plant_after 3 setting.townships (committed trace)) (open_steps trace e)) (chain_of (committed trace) (open_steps trace e) t) t)

@@ -1,5 +1,5 @@
 -- What a desk's parts have to do with its trace.
-use Rattle.std.specs.Prelude.{◌≡◌, ℕ, ◌≤◌, Bool, true, false, List, map, reverse, is_some}
+use Rattle.std.specs.Prelude.{◌≡◌, ℕ, ◌≤◌, Bool, true, false, List, map, reverse, Option, is_some}
 use Rattle.title_land.specs.declared.place.Township.{Township}
 use Rattle.title_land.specs.declared.place.Cell.{Cell}
 use Rattle.title_lock.specs.declared.guards.Entry.{Entry}
@@ -16,14 +16,13 @@ use Rattle.title_trace.specs.declared.call.Call.{Call}
 use Rattle.title_trace.specs.Trace.{is_open, open_steps, committed}
 use Rattle.title_trace.specs.Due.{Setting, IsDue}
 use Rattle.title_desk.specs.declared.slots.Slot.{Slot}
-use Rattle.title_desk.specs.Slots.{found, IsDistinct, steps_in, images_in}
+use Rattle.title_desk.specs.Slots.{steps_in, images_in}
 use Rattle.title_desk.specs.Images.{Backed, IsOf, posted_at}
 
 -- the slots are those of the open examiners, with their steps
-pub record SlotsAre {I : Type 0} (begun : ℕ → Bool) (own : ℕ → List Step) (slots : List (Slot I)) : Type 0 where
-  pub distinct : IsDistinct slots
-  pub begun_are : (e : ℕ) → is_some (found e slots) ≡ begun e
-  pub steps_are : (e : ℕ) → steps_in (found e slots) ≡ own e
+pub record SlotsAre {I : Type 0} (begun : ℕ → Bool) (own : ℕ → List Step) (slots : ℕ → Option (Slot I)) : Type 0 where
+  pub begun_are : (e : ℕ) → is_some (slots e) ≡ begun e
+  pub steps_are : (e : ℕ) → steps_in (slots e) ≡ own e
 
 -- the store and the guards are where the open steps and the committed records leave them: the locks are those of the open
 -- steps; each examiner's images undo its posts; in a cell where an examiner's open step was posted stands what the
@@ -38,10 +37,10 @@ pub record Facts {I : Type 0} (number : I → ℕ) (townships : List Township) (
   pub rest : (c : Cell) → ((e : ℕ) → posted_at townships c (own e) ≡ false) → content c ≡ plant_after 3 townships done c
 
 -- the images of each examiner, the newest first
-abbrev pub images_of : {I : Type 0} → List (Slot I) → ℕ → List I
-images_of slots e = images_in (found e slots)
+abbrev pub images_of : {I : Type 0} → (ℕ → Option (Slot I)) → ℕ → List I
+images_of slots e = images_in (slots e)
 
-pub record Keeps {I : Type 0} (number : I → ℕ) (setting : Setting) (content : Plant) (declared : List Township) (out : List Loan) (locks : List Entry) (trace : List Call) (records : List Record) (slots : List (Slot I)) : Type 0 where
+pub record Keeps {I : Type 0} (number : I → ℕ) (setting : Setting) (content : Plant) (declared : List Township) (out : List Loan) (locks : List Entry) (trace : List Call) (records : List Record) (slots : ℕ → Option (Slot I)) : Type 0 where
   pub few : setting.parties ≤ 65536
   pub due : IsDue 3 setting trace
   pub declared_are : declared ≡ setting.townships

@@ -1,15 +1,18 @@
 //! The parts of an ask, and what a step adds to a transaction.
 
 ghost use Rattle.std.specs.Prelude.{◌≡◌, ◌++◌, ◌∷◌, [], OnOk, OnErr};
+ghost use Rattle.std.specs.BTreeMap.{btree_map_len};
 ghost use Rattle.title_lock.specs.declared.guards.Access.TheVariants.{Post};
 ghost use Rattle.title_lock.specs.Overlaps.{is_post as is_post_access};
 ghost use Rattle.title_store.specs.Loans.{Loan, IsOut, IsLast, IsLentAs, without};
 ghost use Rattle.title_store.specs.Plants.{SameContent};
 ghost use Rattle.title_desk.specs.Images.{put_back};
+ghost use Rattle.title_desk.specs.Slots.{ImageAdded, SameImages, SameSlots, StepAdded, found};
 ghost use Rattle.title_chain.specs.Asks.{tract_of, is_post, cause_of};
 
 use crate::slots::Slot;
 use std::alloc::AllocError;
+use std::collections::BTreeMap;
 use title_chain::{Ask, Step};
 use title_instrument::Cause;
 use title_land::Tract;
@@ -49,46 +52,64 @@ pub(crate) fn cause_in(ask: &Ask, parties: u32) -> Option<Cause>
     }
 }
 
-/// Adds a step to a slot and its lock to the guards, or leaves both as they were.
-pub(crate) fn add_step<G: Guards, I>(
+// Adds a step to an examiner's slot and its lock to the guards, or leaves both as they were.
+fn lengthen<G: Guards, I>(
     guards: &mut G,
+    examiner: u32,
     slot: &mut Slot<I>,
     access: Access,
     step: Step,
 ) -> Result<(), AllocError>
-    ensures examiner { slot.new.examiner ≡ slot.old.examiner }
     ensures images { slot.new.images ≡ slot.old.images }
     ensures steps { OnOk result (slot.new.steps.items ≡ slot.old.steps.items ++ step ∷ []) }
-    ensures locked { OnOk result (G.entries guards.new ≡ record { examiner = slot.old.examiner; tract = tract_of step.ask; access = access } ∷ G.entries guards.old) }
+    ensures locked { OnOk result (G.entries guards.new ≡ record { examiner = examiner; tract = tract_of step.ask; access = access } ∷ G.entries guards.old) }
     ensures err_steps { OnErr result (slot.new.steps.items ≡ slot.old.steps.items) }
     ensures err_locked { OnErr result (G.entries guards.new ≡ G.entries guards.old) }
 {
     slot.steps.reserve(1)?;
-    if guards
-        .ask(slot.examiner, tract_in(&step.ask), access)
-        .is_err()
-    {
+    if guards.ask(examiner, tract_in(&step.ask), access).is_err() {
         return Err(AllocError);
     }
     slot.steps.push_reserved(step);
     Ok(())
 }
 
-/// Adds a post that was done: its step and image to a slot and its lock to the guards; or takes it back.
-pub(crate) fn keep_post<S: Store, G: Guards>(
+/// Adds a step to an open examiner's slot and its lock to the guards, or leaves both as they were.
+pub(crate) fn add_step<G: Guards, I>(
+    guards: &mut G,
+    slots: &mut BTreeMap<u32, Slot<I>>,
+    examiner: u32,
+    access: Access,
+    step: Step,
+) -> Result<(), AllocError>
+    ensures len { btree_map_len slots.new ≡ btree_map_len slots.old }
+    ensures images { SameImages (found slots.old) (found slots.new) }
+    ensures added { OnOk result (StepAdded examiner step (found slots.old) (found slots.new)) }
+    ensures locked { OnOk result (G.entries guards.new ≡ record { examiner = examiner; tract = tract_of step.ask; access = access } ∷ G.entries guards.old) }
+    ensures err { OnErr result (SameSlots (found slots.old) (found slots.new)) }
+    ensures err_locked { OnErr result (G.entries guards.new ≡ G.entries guards.old) }
+{
+    let Some(slot) = slots.get_mut(&examiner) else {
+        return Err(AllocError);
+    };
+    lengthen(guards, examiner, slot, access, step)
+}
+
+// Adds a post that was done: its step and image to an examiner's slot and its lock to the guards; or takes it back.
+fn extend<S: Store, G: Guards>(
     store: &mut S,
     guards: &mut G,
+    examiner: u32,
     slot: &mut Slot<S::Image>,
     image: S::Image,
     step: Step,
 ) -> Result<(), AllocError>
     requires out { IsOut (S.number image) (S.out store.old) }
     requires last { IsLast (S.number image) (S.out store.old) }
-    ensures examiner { slot.new.examiner ≡ slot.old.examiner }
     ensures declared { S.declared store.new ≡ S.declared store.old }
     ensures images { OnOk result (slot.new.images.items ≡ slot.old.images.items ++ image ∷ []) }
     ensures steps { OnOk result (slot.new.steps.items ≡ slot.old.steps.items ++ step ∷ []) }
-    ensures locked { OnOk result (G.entries guards.new ≡ record { examiner = slot.old.examiner; tract = tract_of step.ask; access = Post } ∷ G.entries guards.old) }
+    ensures locked { OnOk result (G.entries guards.new ≡ record { examiner = examiner; tract = tract_of step.ask; access = Post } ∷ G.entries guards.old) }
     ensures content { OnOk result (SameContent (S.content store.old) (S.content store.new)) }
     ensures out { OnOk result (S.out store.new ≡ S.out store.old) }
     ensures err_images { OnErr result (slot.new.images.items ≡ slot.old.images.items) }
@@ -101,10 +122,40 @@ pub(crate) fn keep_post<S: Store, G: Guards>(
         store.restore(image);
         return Err(AllocError);
     }
-    if add_step(guards, slot, Access::Post, step).is_err() {
+    if lengthen(guards, examiner, slot, Access::Post, step).is_err() {
         store.restore(image);
         return Err(AllocError);
     }
     slot.images.push_reserved(image);
     Ok(())
+}
+
+/// Adds a post that was done: its step and image to an open examiner's slot and its lock to the guards; or takes it back.
+pub(crate) fn keep_post<S: Store, G: Guards>(
+    store: &mut S,
+    guards: &mut G,
+    slots: &mut BTreeMap<u32, Slot<S::Image>>,
+    examiner: u32,
+    image: S::Image,
+    step: Step,
+) -> Result<(), AllocError>
+    requires out { IsOut (S.number image) (S.out store.old) }
+    requires last { IsLast (S.number image) (S.out store.old) }
+    ensures declared { S.declared store.new ≡ S.declared store.old }
+    ensures len { btree_map_len slots.new ≡ btree_map_len slots.old }
+    ensures images { OnOk result (ImageAdded examiner image (found slots.old) (found slots.new)) }
+    ensures steps { OnOk result (StepAdded examiner step (found slots.old) (found slots.new)) }
+    ensures locked { OnOk result (G.entries guards.new ≡ record { examiner = examiner; tract = tract_of step.ask; access = Post } ∷ G.entries guards.old) }
+    ensures content { OnOk result (SameContent (S.content store.old) (S.content store.new)) }
+    ensures out { OnOk result (S.out store.new ≡ S.out store.old) }
+    ensures err { OnErr result (SameSlots (found slots.old) (found slots.new)) }
+    ensures err_locked { OnErr result (G.entries guards.new ≡ G.entries guards.old) }
+    ensures err_content { OnErr result ((b : Loan) → IsLentAs b (S.number image) (S.out store.old) → SameContent (put_back (S.declared store.old) b (S.content store.old)) (S.content store.new)) }
+    ensures err_out { OnErr result (S.out store.new ≡ without (S.number image) (S.out store.old)) }
+{
+    let Some(slot) = slots.get_mut(&examiner) else {
+        store.restore(image);
+        return Err(AllocError);
+    };
+    extend(store, guards, examiner, slot, image, step)
 }

@@ -1,10 +1,12 @@
 //! The before-images of a transaction that ends.
 
-ghost use Rattle.std.specs.Prelude.{◌≡◌, [], map, reverse};
+ghost use Rattle.std.specs.Prelude.{◌≡◌, ℕ, None, [], map, reverse};
 ghost use Rattle.title_store.specs.Plants.{SameContent};
+ghost use Rattle.title_desk.specs.Slots.{found};
 ghost use Rattle.title_desk.specs.Images.{IsRestored, without_all, Restorable, Forgettable};
 
 use crate::slots::Slot;
+use std::collections::BTreeMap;
 use title_store::Store;
 
 /// Puts images back, the newest first.
@@ -33,8 +35,8 @@ pub(crate) fn forget_all<S: Store>(store: &mut S, mut images: Vec<S::Image>)
 }
 
 /// Tidies the store up where nobody is open.
-pub(crate) fn tidy_up<S: Store, I>(store: &mut S, slots: &[Slot<I>])
-    requires idle { slots.now ≡ [] → S.out store.old ≡ [] }
+pub(crate) fn tidy_up<S: Store, I>(store: &mut S, slots: &BTreeMap<u32, Slot<I>>)
+    requires idle { ((e : ℕ) → found slots.now e ≡ None) → S.out store.old ≡ [] }
     ensures content { SameContent (S.content store.old) (S.content store.new) }
     ensures declared { S.declared store.new ≡ S.declared store.old }
     ensures out { S.out store.new ≡ S.out store.old }

@@ -1,64 +1,68 @@
 //! The open transactions.
 
-ghost use Rattle.std.specs.Prelude.{◌≡◌, ◌<◌, OnSome, is_some, length, reverse, vec_capacity, vec_len};
-ghost use Rattle.title_desk.specs.Slots.{IsDistinct, Takes, found, steps_in};
+ghost use Rattle.std.specs.Prelude.{◌≡◌, ◌+◌, ◌≤◌, OnErr, OnOk, OnSome, None, is_some, length, reverse};
+ghost use Rattle.std.specs.BTreeMap.{btree_map_len};
+ghost use Rattle.title_desk.specs.Slots.{IsBegun, IsSet, SameSlots, found, steps_in};
 
+use std::alloc::{AllocError, Global};
+use std::collections::BTreeMap;
 use title_chain::Step;
 
-/// An open transaction: its examiner, its steps and the before-images of its posts, each the oldest first.
+/// What an open transaction has: its steps and the before-images of its posts, each the oldest first.
 #[derive(Drop)]
 pub struct Slot<I> {
-    pub examiner: u32,
     pub steps: Vec<Step>,
     pub images: Vec<I>,
 }
 
 /// Whether an examiner has a slot.
-pub(crate) fn is_in<I>(slots: &[Slot<I>], examiner: u32) -> bool
-    ensures found { result ≡ is_some (found examiner slots.now) }
+pub(crate) fn is_in<I>(slots: &BTreeMap<u32, Slot<I>>, examiner: u32) -> bool
+    ensures found { result ≡ is_some (found slots.now examiner) }
 {
-    for slot in slots {
-        if slot.examiner == examiner {
-            return true;
-        }
-    }
-    false
+    slots.contains_key(&examiner)
 }
 
-/// Takes an examiner's slot out, where there is one; a push into the room that it left takes no memory.
-pub(crate) fn take_slot<I>(slots: &mut Vec<Slot<I>>, examiner: u32) -> Option<Slot<I>>
-    requires distinct { IsDistinct slots.old.items }
-    ensures taken { Takes examiner slots.old.items result slots.new.items }
-    ensures room { OnSome result (vec_len slots.new < vec_capacity slots.new) }
+/// Gives an examiner a slot with nothing in it.
+pub(crate) fn add_slot<I: Drop>(
+    alloc: Global,
+    slots: &mut BTreeMap<u32, Slot<I>>,
+    examiner: u32,
+) -> Result<(), AllocError>
+    ensures begun { OnOk result (IsBegun examiner (found slots.old) (found slots.new)) }
+    ensures len { OnOk result (btree_map_len slots.new ≤ btree_map_len slots.old + 1) }
+    ensures err { OnErr result (SameSlots (found slots.old) (found slots.new)) }
+    ensures err_len { OnErr result (btree_map_len slots.new ≡ btree_map_len slots.old) }
 {
-    for i in 0..slots.len() {
-        if slots[i].examiner == examiner {
-            return Some(slots.remove(i));
-        }
-    }
-    None
+    let slot = Slot {
+        steps: Vec::new(alloc),
+        images: Vec::new(alloc),
+    };
+    slots.insert(examiner, slot)?;
+    Ok(())
+}
+
+/// Takes an examiner's slot out, where there is one.
+pub(crate) fn take_slot<I>(slots: &mut BTreeMap<u32, Slot<I>>, examiner: u32) -> Option<Slot<I>>
+    ensures slot { result ≡ found slots.old examiner }
+    ensures left { IsSet examiner None (found slots.old) (found slots.new) }
+    ensures len { OnSome result (btree_map_len slots.new + 1 ≡ btree_map_len slots.old) }
+{
+    slots.remove(&examiner)
 }
 
 /// How many steps an examiner has.
-pub(crate) fn count_steps<I>(slots: &[Slot<I>], examiner: u32) -> usize
-    ensures count { result ≡ length (steps_in (found examiner slots.now)) }
+pub(crate) fn count_steps<I>(slots: &BTreeMap<u32, Slot<I>>, examiner: u32) -> usize
+    ensures count { result ≡ length (steps_in (found slots.now examiner)) }
 {
-    for slot in slots {
-        if slot.examiner == examiner {
-            return slot.steps.len();
-        }
-    }
-    0
+    steps_of(slots, examiner).len()
 }
 
 /// The steps of an examiner, the oldest first; none where it has no slot.
-pub(crate) fn steps_of<I>(slots: &[Slot<I>], examiner: u32) -> &[Step]
-    ensures steps { reverse result.now ≡ steps_in (found examiner slots.now) }
+pub(crate) fn steps_of<I>(slots: &BTreeMap<u32, Slot<I>>, examiner: u32) -> &[Step]
+    ensures steps { reverse result.now ≡ steps_in (found slots.now examiner) }
 {
-    for slot in slots {
-        if slot.examiner == examiner {
-            return &slot.steps;
-        }
+    match slots.get(&examiner) {
+        Some(slot) => slot.steps.as_slice(),
+        None => &[],
     }
-    &[]
 }

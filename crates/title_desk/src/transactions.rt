@@ -17,8 +17,9 @@ ghost use Rattle.title_desk.specs.Told.{Books, MayOpen, Passes, Told};
 use crate::asks::{access_in, add_step, cause_in, keep_post, tract_in};
 use crate::images::{forget_all, restore_all, tidy_up};
 use crate::refusal::Refusal;
-use crate::slots::{Slot, count_steps, is_in, steps_of, take_slot};
+use crate::slots::{Slot, add_slot, count_steps, is_in, steps_of, take_slot};
 use std::alloc::{AllocError, Global};
+use std::collections::BTreeMap;
 use std::marker::Model;
 use title_chain::{Answer, Ask, Posting, Record, SheetRows, Steps, TractIndex};
 use title_land::{Township, Tract};
@@ -70,12 +71,14 @@ pub struct Desk<S: Store + Drop, G: Guards + Drop> {
     guards: G,
     trace: Vec<Call>,
     records: TractIndex,
-    slots: Vec<Slot<S::Image>>,
+    slots: BTreeMap<u32, Slot<S::Image>>,
 }
 
 impl<S: Store + Drop, G: Guards + Drop> Model for Desk<S, G> {
     ghost use Rattle.std.specs.Prelude.{reverse, ◌+◌, ◌≤◌, ◌&&◌, nat_lt, vec_len, vec_capacity};
     ghost use Rattle.title_desk.specs.Told.{Books};
+    ghost use Rattle.std.specs.BTreeMap.{btree_map_len};
+    ghost use Rattle.title_desk.specs.Slots.{found};
     ghost use Rattle.title_desk.specs.Keeps.{Keeps};
 
     ghost Value = { Books };
@@ -83,10 +86,10 @@ impl<S: Store + Drop, G: Guards + Drop> Model for Desk<S, G> {
     ghost view = { λ d. record {
       setting = record { parties = d.parties; townships = d.townships.items };
       trace = reverse d.trace.items;
-      is_ready = d.records.has_room && nat_lt (vec_len d.trace + vec_len d.slots) (vec_capacity d.trace);
+      is_ready = d.records.has_room && nat_lt (vec_len d.trace + btree_map_len d.slots) (vec_capacity d.trace);
     } };
 
-    ghost invariant = { λ d. Keeps S.number (record { parties = d.parties; townships = d.townships.items }) (S.content d.store) (S.declared d.store) (S.out d.store) (G.entries d.guards) (reverse d.trace.items) d.records.records d.slots.items × (vec_len d.trace + vec_len d.slots ≤ vec_capacity d.trace) };
+    ghost invariant = { λ d. Keeps S.number (record { parties = d.parties; townships = d.townships.items }) (S.content d.store) (S.declared d.store) (S.out d.store) (G.entries d.guards) (reverse d.trace.items) d.records.records (found d.slots) × (vec_len d.trace + btree_map_len d.slots ≤ vec_capacity d.trace) };
 }
 
 impl<S: Store + Drop, G: Guards + Drop> Desk<S, G> {
@@ -110,7 +113,7 @@ impl<S: Store + Drop, G: Guards + Drop> Desk<S, G> {
             guards: G::new(alloc),
             trace: Vec::new(alloc),
             records: TractIndex::new(alloc),
-            slots: Vec::new(alloc),
+            slots: BTreeMap::new(alloc),
         })
     }
 
@@ -140,17 +143,12 @@ impl<S: Store + Drop, G: Guards + Drop> Desk<S, G> {
         if self.trace.reserve(self.slots.len() + 2).is_err() {
             return Reply::Memory;
         }
-        if self.slots.reserve(1).is_err() {
+        if add_slot(self.alloc, &mut self.slots, examiner).is_err() {
             return Reply::Memory;
         }
         self.trace.push_reserved(Call {
             request,
             reply: Reply::Began,
-        });
-        self.slots.push_reserved(Slot {
-            examiner,
-            steps: Vec::new(self.alloc),
-            images: Vec::new(self.alloc),
         });
         Reply::Began
     }
@@ -246,17 +244,13 @@ impl<S: Store + Drop, G: Guards + Drop> Desk<S, G> {
         if self.trace.reserve(self.slots.len() + 1).is_err() {
             return Reply::Memory;
         }
-        let Some(mut slot) = take_slot(&mut self.slots, examiner) else {
-            return Reply::Memory;
-        };
         let access = access_in(&copied);
         let step = title_chain::Step {
             ask: copied,
             answer: kept,
         };
-        let added = add_step(&mut self.guards, &mut slot, access, step).is_ok();
-        self.slots.push_reserved(slot);
-        if !added {
+        let (guards, slots) = (&mut self.guards, &mut self.slots);
+        if add_step(guards, slots, examiner, access, step).is_err() {
             return Reply::Memory;
         }
         self.trace.push_reserved(Call {
@@ -312,16 +306,12 @@ impl<S: Store + Drop, G: Guards + Drop> Desk<S, G> {
             }
             Put::Done(image) => image,
         };
-        let Some(mut slot) = take_slot(&mut self.slots, examiner) else {
-            return Reply::Memory;
-        };
         let step = title_chain::Step {
             ask: Ask::Post(copied),
             answer: Answer::Posted,
         };
-        let kept = keep_post(&mut self.store, &mut self.guards, &mut slot, image, step).is_ok();
-        self.slots.push_reserved(slot);
-        if !kept {
+        let (store, guards, slots) = (&mut self.store, &mut self.guards, &mut self.slots);
+        if keep_post(store, guards, slots, examiner, image, step).is_err() {
             return Reply::Memory;
         }
         self.trace.push_reserved(Call {

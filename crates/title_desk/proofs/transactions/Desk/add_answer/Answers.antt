@@ -1,5 +1,5 @@
 -- A step that posted nothing is added, or all stays as it was.
-use Rattle.std.proofs.Common.{◌≡◌, refl, ap, ◌∙◌, sym, subst, arith, is_ok, true, false}
+use Rattle.std.proofs.Common.{◌≡◌, refl, ap, ◌∙◌, sym, subst, arith}
 use Rattle.std.proofs.lemmas.Grind.{common_steps}
 use Rattle.std.proofs.lemmas.List.{reverse-append}
 use Rattle.title_chain.specs.Asks.{is_post}
@@ -9,29 +9,28 @@ use Rattle.title_trace.specs.declared.call.Reply.TheVariants.{Answered}
 use Rattle.title_trace.specs.Trace.{committed, open_steps}
 use Rattle.title_trace.specs.Due.{DueReply}
 use Rattle.title_desk.specs.Told.{Books}
-use Rattle.title_desk.proofs.Steps.{keeps_back, keeps_answered, due_alone, on_ok, on_err}
+use Rattle.title_desk.proofs.Moves.{keeps_back}
+use Rattle.title_desk.proofs.Steps.{keeps_answered, due_alone, on_good, on_bad}
 use Rattle.title_desk.proofs.transactions.Desk.add_answer.Goals as goal
 
-pub invariant_of-self-then-not-added : goal.invariant_of-self-then-not-added
-invariant_of-self-then-not-added g c =
-    let failed : is_ok c.add_step.result ≡ false = sym c.is_ok-added.ensures.value ∙ c.if-not-added.true in
-    let steps = on_err c.add_step.result _ failed c.add_step.ensures.err_steps in
-    let locks = on_err c.add_step.result _ failed c.add_step.ensures.err_locked in (
-      rw (c.reserve.ensures.items, c.push_reserved.ensures.items, locks)
-          (keeps_back _ c.args.examiner c.in-Some.slot _ c.self.invariant.0 c.in-Some.ensures.taken c.add_step.ensures.examiner steps (ap (λ v. v.items) c.add_step.ensures.images)),
-      grind (arith, common_steps, c.self.invariant.1, c.in-Some.ensures.taken.3),
+pub invariant_of-self-then-is_err-2 : goal.invariant_of-self-then-is_err-2
+invariant_of-self-then-is_err-2 g c =
+    let failed = sym c.is_err-2.ensures.value ∙ c.if-is_err-2.true in
+    let locks = on_bad c.add_step.result _ failed c.add_step.ensures.err_locked in (
+      rw (c.reserve.ensures.items, locks) (keeps_back _ (on_bad c.add_step.result _ failed c.add_step.ensures.err) c.self.invariant.0),
+      grind (arith, common_steps, c.self.invariant.1, c.add_step.ensures.len),
     )
 
 pub invariant_of-self-2 : goal.invariant_of-self-2
 invariant_of-self-2 g c =
-    let done : is_ok c.add_step.result ≡ true = sym c.is_ok-added.ensures.value ∙ c.if-not-added.false in
-    let more = on_ok c.add_step.result _ done c.add_step.ensures.steps in
-    let locked = on_ok c.add_step.result _ done c.add_step.ensures.locked in
+    let done = sym c.is_err-2.ensures.value ∙ c.if-is_err-2.false in
+    let added = on_good c.add_step.result _ done c.add_step.ensures.added in
+    let locked = on_good c.add_step.result _ done c.add_step.ensures.locked in
     let due = subst (λ (b : Books). DueReply 3 b.setting b.trace (Step c.args.examiner c.args.ask) (Answered c.args.answer)) (sym c.self.view_is) (due_alone c.args.self.now c.args.examiner c.args.ask c.args.answer c.requires.passes c.requires.alone) in
     let is = subst (λ (b : Books). c.args.answer ≡ alone 3 b.setting.townships (committed b.trace) (open_steps b.trace c.args.examiner) c.args.ask) (sym c.self.view_is) c.requires.alone in (
-      rw (c.push_reserved-2.ensures.items, c.reserve.ensures.items, reverse-append, c.push_reserved.ensures.items, c.in-Ok.ensures.copy)
-          (keeps_answered _ c.args.examiner c.args.ask c.args.answer c.access_in-access.result c.in-Some.slot _ c.self.invariant.0 c.in-Some.ensures.taken c.add_step.ensures.examiner
-          (more ∙ rw (c.in-Ok-copy-2.ensures.copy, c.in-Ok-copy.ensures.copy) refl) (ap (λ v. v.items) c.add_step.ensures.images) (locked ∙ rw c.in-Ok-copy-2.ensures.copy refl)
+      rw (c.push_reserved.ensures.items, c.reserve.ensures.items, reverse-append, c.in-Ok.ensures.copy)
+          (keeps_answered _ c.args.examiner c.args.ask c.args.answer c.access_in-access.result c.self.invariant.0
+          (rw (c.in-Ok-copy-2.ensures.copy, c.in-Ok-copy.ensures.copy) at added) c.add_step.ensures.images (locked ∙ rw c.in-Ok-copy-2.ensures.copy refl)
           (c.access_in-access.ensures.access ∙ ap is_post c.in-Ok-copy-2.ensures.copy) c.requires.unposted is due),
-      grind (arith, common_steps, c.self.invariant.1, c.in-Some.ensures.taken.3),
+      grind (arith, common_steps, c.self.invariant.1, c.add_step.ensures.len),
     )

@@ -1,5 +1,5 @@
 -- A post is added with its lock and its image, or answered as refused, or all stays as it was.
-use Rattle.std.proofs.Common.{◌≡◌, ◌∷◌, refl, ap, ◌∙◌, sym, subst, arith, is_ok, true, false, None}
+use Rattle.std.proofs.Common.{◌≡◌, ◌∷◌, refl, ap, ◌∙◌, sym, subst, arith, None}
 use Rattle.std.proofs.lemmas.Grind.{common_steps}
 use Rattle.std.proofs.lemmas.List.{reverse-append}
 use Rattle.title_store.specs.Plants.{SameContent}
@@ -14,7 +14,8 @@ use Rattle.title_trace.specs.Trace.{committed, open_steps}
 use Rattle.title_trace.specs.Due.{InTheWay, DueReply}
 use Rattle.title_desk.specs.Images.{put_back}
 use Rattle.title_desk.specs.Told.{Books}
-use Rattle.title_desk.proofs.Steps.{keeps_back, due_alone, on_ok, on_err}
+use Rattle.title_desk.proofs.Moves.{keeps_back}
+use Rattle.title_desk.proofs.Steps.{due_alone, on_good, on_bad}
 use Rattle.title_desk.proofs.Posts.{keeps_same, post_due, keeps_posted, image_out, image_last, taken_back, taken_out}
 use Rattle.title_desk.proofs.transactions.Desk.post.Goals as goal
 
@@ -39,44 +40,42 @@ keep_post-requires-clause-out g c = let h = rw c.in-Done.is at c.in-Ok-put.ensur
 pub keep_post-requires-clause-last : goal.keep_post-requires-clause-last
 keep_post-requires-clause-last g c = let h = rw c.in-Done.is at c.in-Ok-put.ensures.put in image_last _ _ _ _ _ _ h.1
 
-pub invariant_of-self-then-not-kept : goal.invariant_of-self-then-not-kept
-invariant_of-self-then-not-kept g c =
+pub invariant_of-self-then-is_err-2 : goal.invariant_of-self-then-is_err-2
+invariant_of-self-then-is_err-2 g c =
     let h = rw c.in-Done.is at c.in-Ok-put.ensures.put in
-    let failed : is_ok c.keep_post.result ≡ false = sym c.is_ok-kept.ensures.value ∙ c.if-not-kept.true in
-    let steps = on_err c.keep_post.result _ failed c.keep_post.ensures.err_steps in
-    let images = on_err c.keep_post.result _ failed c.keep_post.ensures.err_images in
-    let locks = on_err c.keep_post.result _ failed c.keep_post.ensures.err_locked in
-    let back = on_err c.keep_post.result _ failed c.keep_post.ensures.err_content in
-    let gone = on_err c.keep_post.result _ failed c.keep_post.ensures.err_out in
+    let failed = sym c.is_err-2.ensures.value ∙ c.if-is_err-2.true in
+    let locks = on_bad c.keep_post.result _ failed c.keep_post.ensures.err_locked in
+    let back = on_bad c.keep_post.result _ failed c.keep_post.ensures.err_content in
+    let gone = on_bad c.keep_post.result _ failed c.keep_post.ensures.err_out in
     let mid = g.S.Store.content c.put.new.self in
     let after = g.S.Store.content c.keep_post.new.store in
     let same : SameContent (g.S.Store.content c.self.inside.store) after =
     taken_back _ (g.S.Store.declared c.self.inside.store) c.args.posting.instrument c.args.posting.tract _ mid after _ _ h.1 c.in-Ok-put.ensures.content
     (λ b lent. subst (λ ts. SameContent (put_back ts b mid) after) c.in-Ok-put.ensures.declared (back b lent)) in (
-      rw (c.reserve.ensures.items, c.push_reserved.ensures.items, locks)
-          (keeps_same (keeps_back _ c.args.examiner c.in-Some.slot _ c.self.invariant.0 c.in-Some.ensures.taken c.keep_post.ensures.examiner steps images)
+      rw (c.reserve.ensures.items, locks)
+          (keeps_same (keeps_back _ (on_bad c.keep_post.result _ failed c.keep_post.ensures.err) c.self.invariant.0)
           same (c.keep_post.ensures.declared ∙ c.in-Ok-put.ensures.declared) (gone ∙ taken_out _ _ _ _ _ _ h.1)),
-      grind (arith, common_steps, c.self.invariant.1, c.in-Some.ensures.taken.3),
+      grind (arith, common_steps, c.self.invariant.1, c.keep_post.ensures.len),
     )
 
 pub invariant_of-self-2 : goal.invariant_of-self-2
 invariant_of-self-2 g c =
     let h = rw c.in-Done.is at c.in-Ok-put.ensures.put in
-    let done : is_ok c.keep_post.result ≡ true = sym c.is_ok-kept.ensures.value ∙ c.if-not-kept.false in
-    let more = on_ok c.keep_post.result _ done c.keep_post.ensures.steps in
-    let images = on_ok c.keep_post.result _ done c.keep_post.ensures.images in
-    let locked = on_ok c.keep_post.result _ done c.keep_post.ensures.locked in
-    let kept = on_ok c.keep_post.result _ done c.keep_post.ensures.content in
-    let out = on_ok c.keep_post.result _ done c.keep_post.ensures.out in
+    let done = sym c.is_err-2.ensures.value ∙ c.if-is_err-2.false in
+    let added = on_good c.keep_post.result _ done c.keep_post.ensures.steps in
+    let images = on_good c.keep_post.result _ done c.keep_post.ensures.images in
+    let locked = on_good c.keep_post.result _ done c.keep_post.ensures.locked in
+    let kept = on_good c.keep_post.result _ done c.keep_post.ensures.content in
+    let out = on_good c.keep_post.result _ done c.keep_post.ensures.out in
     let free = subst (λ (b : Books). InTheWay b.trace c.args.examiner (Post c.args.posting) None) (sym c.self.view_is) c.requires.passes.4 in
     let is = subst (λ (b : Books). Posted ≡ alone 3 b.setting.townships (committed b.trace) (open_steps b.trace c.args.examiner) (Post c.args.posting)) c.self.view_is (post_due c.args.examiner c.args.posting None c.self.invariant.0 free h.0) in
     let due = subst (λ (b : Books). DueReply 3 b.setting b.trace (Step c.args.examiner (Post c.args.posting)) (Answered Posted)) (sym c.self.view_is) (due_alone c.args.self.now c.args.examiner (Post c.args.posting) Posted c.requires.passes is) in (
-      rw (c.push_reserved-2.ensures.items, c.reserve.ensures.items, reverse-append, c.push_reserved.ensures.items)
-          (keeps_posted _ c.args.examiner c.args.posting c.in-Done.image c.in-Some.slot _ c.self.invariant.0 c.in-Some.ensures.taken c.keep_post.ensures.examiner
-          (more ∙ rw c.in-Ok.ensures.copy refl) images (locked ∙ rw c.in-Ok.ensures.copy refl) (c.keep_post.ensures.declared ∙ c.in-Ok-put.ensures.declared)
+      rw (c.push_reserved.ensures.items, c.reserve.ensures.items, reverse-append)
+          (keeps_posted _ c.args.examiner c.args.posting c.in-Done.image c.self.invariant.0
+          (rw c.in-Ok.ensures.copy at added) images (locked ∙ rw c.in-Ok.ensures.copy refl) (c.keep_post.ensures.declared ∙ c.in-Ok-put.ensures.declared)
           (subst (λ o. IsTaken (g.S.Store.number c.in-Done.image) (g.S.Store.declared c.self.inside.store) c.args.posting.tract (g.S.Store.content c.self.inside.store) (g.S.Store.out c.self.inside.store) o) (sym out) h.1)
           (λ d. kept d ∙ c.in-Ok-put.ensures.content d) free due),
-      grind (arith, common_steps, c.self.invariant.1, c.in-Some.ensures.taken.3),
+      grind (arith, common_steps, c.self.invariant.1, c.keep_post.ensures.len),
     )
 
 pub returns : goal.returns
@@ -87,7 +86,7 @@ returns g c =
     record {
       told = (
         ap (λ (b : Books). b.setting) c.self.view_is,
-        rw (c.push_reserved-2.ensures.items, c.reserve.ensures.items, reverse-append) (ap (λ (b : Books). record { request = Step c.args.examiner (Post c.args.posting); reply = Answered Posted } ∷ b.trace) c.self.view_is),
+        rw (c.push_reserved.ensures.items, c.reserve.ensures.items, reverse-append) (ap (λ (b : Books). record { request = Step c.args.examiner (Post c.args.posting); reply = Answered Posted } ∷ b.trace) c.self.view_is),
         due_alone c.args.self.now c.args.examiner (Post c.args.posting) Posted c.requires.passes is,
       );
     }
