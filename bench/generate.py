@@ -1,7 +1,7 @@
 #!/usr/bin/env python3
 """Writes a large valid script of the program `titleplant` to standard output.
 
-    generate.py --kind deeds|sheets|chains|interleaved|short|long [--rows N] [--seed N]
+    generate.py --kind deeds|sheets|chains|interleaved|short|long|crowd [--rows N] [--seed N]
 
 deeds        plain deeds and releases of one examiner, each a transaction of its own       (for `alone`)
 sheets       sheets of whole sections, after a few deeds                                   (for `alone`)
@@ -9,6 +9,7 @@ chains       deeds and releases of sections with a chain of a section among each
 interleaved  eight examiners at work at once, in transactions of up to 20 steps            (for `run`)
 short        the same in transactions of two deeds of single cells                         (for `run`)
 long         one examiner's transactions of 5,000 deeds of single cells each               (for `run`)
+crowd        9,999 examiners, or a third of the rows, open at once, with deeds of cells    (for `run`)
 
 The same kind, rows and seed give the same script. The rows counted are all of its rows, declarations among them.
 """
@@ -118,7 +119,24 @@ def long(chance, count):
             yield f"1,{instrument(chance, document, cell(chance))}"
 
 
-KINDS = {"deeds": deeds, "sheets": sheets, "chains": chains, "interleaved": interleaved, "short": short, "long": long}
+def crowd(chance, count):
+    """All examiners begin, then each posts deeds in its turn, and at last all commit."""
+    examiners = min(9_999, count // 3)
+    yield from (f"{examiner},begin" for examiner in range(1, examiners + 1))
+    for document in range(1, count - 2 * examiners + 1):
+        yield f"{document % examiners + 1},{instrument(chance, document, cell(chance))}"
+    yield from (f"{examiner},commit" for examiner in range(1, examiners + 1))
+
+
+KINDS = {
+    "deeds": deeds,
+    "sheets": sheets,
+    "chains": chains,
+    "interleaved": interleaved,
+    "short": short,
+    "long": long,
+    "crowd": crowd,
+}
 
 
 def main():
