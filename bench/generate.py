@@ -1,15 +1,17 @@
 #!/usr/bin/env python3
 """Writes a large valid script of the program `titleplant` to standard output.
 
-    generate.py --kind deeds|sheets|chains|interleaved|short|long|crowd [--rows N] [--seed N]
+    generate.py --kind deeds|sheets|chains|parts|interleaved|short|long|crowd|refused [--rows N] [--seed N]
 
 deeds        plain deeds and releases of one examiner, each a transaction of its own       (for `alone`)
 sheets       sheets of whole sections, after a few deeds                                   (for `alone`)
 chains       deeds and releases of sections with a chain of a section among each four      (for `alone`)
+parts        deeds and releases of parts of eight sections, with a chain of a cell for each (for `alone`)
 interleaved  eight examiners at work at once, in transactions of up to 20 steps            (for `run`)
 short        the same in transactions of two deeds of single cells                         (for `run`)
 long         one examiner's transactions of 5,000 deeds of single cells each               (for `run`)
 crowd        9,999 examiners, or a third of the rows, open at once, with deeds of cells    (for `run`)
+refused      as many examiners have read a section, and one more posts there in vain       (for `run`)
 
 The same kind, rows and seed give the same script. The rows counted are all of its rows, declarations among them.
 """
@@ -76,6 +78,16 @@ def chains(chance, count):
             yield f"1,{instrument(chance, document, section(chance))}"
 
 
+def parts(chance, count):
+    """Every second step asks for the chain of a cell of one of the eight sections."""
+    for document in range(1, count + 1):
+        where = f"{TOWNSHIPS[0]} sec {chance.randint(1, 8)} {chance.choice(QUARTERS)}{chance.choice(QUARTERS)}"
+        if document % 2 == 0:
+            yield f"1,chain,{where}{chance.choice(QUARTERS)}"
+        else:
+            yield f"1,{instrument(chance, document, where)}"
+
+
 def interleaved(chance, count):
     """Each turn is that of an examiner by chance; a transaction has up to 20 steps, and one of ten is aborted."""
     left = [0] * (EXAMINERS + 1)
@@ -128,14 +140,27 @@ def crowd(chance, count):
     yield from (f"{examiner},commit" for examiner in range(1, examiners + 1))
 
 
+def refused(chance, count):
+    """All examiners but the first begin and ask for the sheet of a section, and then the first posts in it."""
+    where = f"{TOWNSHIPS[0]} sec 1"
+    readers = min(9_998, count // 3)
+    yield from (f"{examiner},begin" for examiner in range(2, readers + 2))
+    yield from (f"{examiner},sheet,{where}" for examiner in range(2, readers + 2))
+    yield "1,begin"
+    for document in range(1, count - 2 * readers):
+        yield f"1,{instrument(chance, document, where)}"
+
+
 KINDS = {
     "deeds": deeds,
     "sheets": sheets,
     "chains": chains,
+    "parts": parts,
     "interleaved": interleaved,
     "short": short,
     "long": long,
     "crowd": crowd,
+    "refused": refused,
 }
 
 

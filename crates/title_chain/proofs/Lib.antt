@@ -2,7 +2,8 @@
 pub mod AskLaws
 pub mod Past
 pub mod PostsAgain
-pub mod PlaceKeys
 pub mod PlaceOrder
 pub mod PlaceEntries
 pub mod Filings
+pub mod FoundLaws
+pub mod Nearness

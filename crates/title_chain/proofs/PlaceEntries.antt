@@ -1,8 +1,8 @@
 -- The entries of the steps at the places of posts are those of the records.
-use Rattle.std.proofs.Common.{◌≡◌, ℕ, ◌+◌, ◌≤◌, suc, Bool, true, false, cond, ◌||◌, List, [], ◌∷◌, ◌++◌, length, reverse, Option, Some, refl, sym, ap, subst, ◌∙◌, append_assoc, add-one}
+use Rattle.std.proofs.Common.{◌≡◌, ℕ, ◌+◌, ◌≤◌, suc, Bool, true, false, cond, List, [], ◌∷◌, ◌++◌, length, reverse, Option, Some, refl, sym, ap, subst, ◌∙◌, append_assoc, add-one}
 use Rattle.std.specs.Prelude.{slice_get}
+use Rattle.std.specs.BTreeSet.{BTreeSet, IsOrdered}
 use Rattle.std.specs.List.{AllByRecursion}
-use Rattle.std.proofs.lemmas.Bool.{or_parts, true≢false}
 use Rattle.std.proofs.lemmas.List.{append-nil, reverse-append, reverse-reverse, length-reverse}
 use Rattle.std.proofs.lemmas.Option.{slice_get_past}
 use Rattle.title_land.specs.declared.tract.Land.{Land}
@@ -18,8 +18,9 @@ use Rattle.title_chain.specs.declared.place.Place.{Place}
 use Rattle.title_chain.specs.declared.record.Record.{Record}
 use Rattle.title_chain.specs.StepEntries.{entry_of, step_entries}
 use Rattle.title_chain.specs.Chains.{record_entries}
-use Rattle.title_chain.specs.PostPlaces.{PlacedPost, post_of, place_at, step_posts, record_posts, places_where, merge, step_entry, entry_in, entry_at, entries_at}
-use Rattle.title_chain.proofs.PlaceOrder.{IsAmong, steps_among, records_ascend, merge_where}
+use Rattle.title_chain.specs.PlaceMaps.{place_cmp, is_found}
+use Rattle.title_chain.specs.PostPlaces.{PlacedPost, post_of, place_at, step_posts, record_posts, places_where, is_place_where, step_entry, entry_in, entry_at, entries_at}
+use Rattle.title_chain.proofs.PlaceOrder.{IsAmong, steps_among, records_ascend, keys_are}
 
 -- a place past the records, or past the steps of its record, gives no entry
 pub past_records : (records : List Record) (land : Land) (p : Place) (entries : List Entry) → length records ≤ p.record → entries ≡ entries ++ entry_at records land p
@@ -132,35 +133,34 @@ records_found (r ∷ older) later =
     (each_append (IsPlaced (reverse older ++ r ∷ later)) (record_posts older) (step_posts (length older) (reverse r.steps)) (records_found older (r ∷ later))
     (record_found (length older) (reverse older ++ r ∷ later) r (back_seam older r later)))
 
--- posts of which none shares a cell give no entries
+-- the places of the posts that share a cell give the entries of all: the others have none
 where_entries :
-    (records : List Record) (land : Land) (test : Land → Bool) → ((l : Land) → test l ≡ false → meets land l ≡ false) →
-    (posts : List PlacedPost) → AllByRecursion (IsPlaced records) posts → entries_at records land (places_where test posts) ≡ post_entries land posts
-where_entries records land test apart [] h = refl
-where_entries records land test apart (x ∷ posts) h = go (test x.posting.tract) (apart x.posting.tract) (where_entries records land test apart posts h.1)
+    (records : List Record) (land : Land) (posts : List PlacedPost) → AllByRecursion (IsPlaced records) posts →
+    entries_at records land (places_where (meets land) posts) ≡ post_entries land posts
+where_entries records land [] h = refl
+where_entries records land (x ∷ posts) h = go (meets land x.posting.tract) (h.0 land) (where_entries records land posts h.1)
   where
     places : List Place
-    places = places_where test posts
+    places = places_where (meets land) posts
 
-    none : (b : Bool) → b ≡ false → cond b (record { place = suc x.place.record; posting = x.posting } ∷ []) [] ++ post_entries land posts ≡ post_entries land posts
-    none true e = absurd (true≢false e)
-    none false e = refl
+    entry_if : Bool → List Entry
+    entry_if b = cond b (record { place = suc x.place.record; posting = x.posting } ∷ []) []
 
-    go : (b : Bool) → (b ≡ false → meets land x.posting.tract ≡ false) → entries_at records land places ≡ post_entries land posts →
-        entries_at records land (cond b (x.place ∷ places) places) ≡ post_entries land (x ∷ posts)
-    go true past rest = let here = h.0 land in cc
-    go false past rest = rest ∙ sym (none (meets land x.posting.tract) (past refl))
+    go : (b : Bool) → entry_at records land x.place ≡ entry_if b → entries_at records land places ≡ post_entries land posts →
+        entries_at records land (cond b (x.place ∷ places) places) ≡ entry_if b ++ post_entries land posts
+    go true here rest = λ i. here i ++ rest i
+    go false here rest = rest
 
--- the entries at the places of the posts of two kinds that have none in common, of which others share no cell
-pub merged_entries :
-    (records : List Record) (land : Land) (left right : Land → Bool) →
-    ((l : Land) → left l ≡ true → right l ≡ false) →
-    ((l : Land) → left l ≡ false → right l ≡ false → meets land l ≡ false) →
-    entries_at (reverse records) land (merge (places_where left (record_posts records)) (places_where right (record_posts records))) ≡ record_entries land records
-merged_entries records land left right apart past =
-    let posts : List PlacedPost = record_posts records in
-    let either : Land → Bool = λ l. left l || right l in
-    let placed : AllByRecursion (IsPlaced (reverse records)) posts = subst (λ (all : List Record). AllByRecursion (IsPlaced all) posts) (append-nil (reverse records)) (records_found records []) in
-    ap (entries_at (reverse records) land) (merge_where left right apart posts (records_ascend records))
-    ∙ where_entries (reverse records) land either (λ l e. let parts = or_parts (left l) (right l) e in past l parts.0 parts.1) posts placed
-    ∙ records_entries land records
+-- the entries at the places of the posts that share a cell are those of the records
+pub place_entries :
+    (records : List Record) (land : Land) (found : BTreeSet Place) → IsOrdered place_cmp found →
+    ((p : Place) → is_found found p ≡ is_place_where (meets land) (record_posts (reverse records)) p) →
+    entries_at records land found.keys ≡ record_entries land (reverse records)
+place_entries records land found ordered same =
+    let newest : List Record = reverse records in
+    let posts : List PlacedPost = record_posts newest in
+    let all : reverse newest ++ [] ≡ records = append-nil (reverse newest) ∙ reverse-reverse records in
+    let placed : AllByRecursion (IsPlaced records) posts = subst (λ (items : List Record). AllByRecursion (IsPlaced items) posts) all (records_found newest []) in
+    ap (entries_at records land) (keys_are found posts (meets land) ordered (records_ascend newest) same)
+    ∙ where_entries records land posts placed
+    ∙ records_entries land newest

@@ -1,8 +1,13 @@
--- The places of posts ascend, and two lists of them merge into the places of the posts of either kind.
-use Rattle.std.proofs.Common.{◌≡◌, ℕ, ◌<◌, ◌≤◌, suc, Bool, true, false, cond, ◌&&◌, ◌||◌, List, [], ◌∷◌, ◌++◌, length, reverse, refl, ap, ◌∙◌, inl, inr, arith}
-use Rattle.std.proofs.lemmas.Bool.{or_cases, or_from, and_parts, ltb-true, lt-ltb, le-ltb, eqb-true, eq-eqb, true≢false}
-use Rattle.std.specs.Prelude.{nat_lt, nat_eq}
-use Rattle.std.specs.List.{AllByRecursion}
+-- The places of posts ascend, and a set of the places of posts of a kind lists them in their order.
+use Rattle.std.proofs.Common.{◌≡◌, ℕ, ◌<◌, suc, Bool, true, false, cond, ◌&&◌, ◌||◌, List, [], ◌∷◌, ◌++◌, length, reverse, refl, sym, ◌∙◌, arith}
+use Rattle.std.proofs.lemmas.Bool.{lt-ltb}
+use Rattle.std.proofs.lemmas.Map.Lookups.{btree_set_from_contains}
+use Rattle.std.specs.declared.cmp.Ordering.TheVariants.{Less}
+use Rattle.std.specs.Cmp.{nat_cmp_total, tied_itself}
+use Rattle.std.specs.BTreeMap.{is_at}
+use Rattle.std.specs.BTreeSet.{BTreeSet, IsOrdered}
+use Rattle.std.specs.List.{AllByRecursion, list_any}
+use Rattle.std.specs.List.Sorted.{IsStrictlySortedBy}
 use Rattle.title_land.specs.declared.tract.Land.{Land}
 use Rattle.title_store.proofs.Each.{each_from, each_append}
 use Rattle.title_chain.specs.declared.ask.Ask.{Ask}
@@ -12,38 +17,22 @@ use Rattle.title_chain.specs.declared.ask.Answer.TheVariants as answer
 use Rattle.title_chain.specs.declared.ask.Step.{Step}
 use Rattle.title_chain.specs.declared.place.Place.{Place}
 use Rattle.title_chain.specs.declared.record.Record.{Record}
-use Rattle.title_chain.specs.PostPlaces.{PlacedPost, post_of, place_at, step_posts, record_posts, places_where, is_before, merge}
+use Rattle.title_chain.specs.contracts.place.PlaceOrd.TheImpl.Laws as place_laws
+use Rattle.title_chain.specs.PlaceMaps.{place_cmp, is_found}
+use Rattle.title_chain.specs.PostPlaces.{PlacedPost, post_of, place_at, step_posts, record_posts, places_where, same_place, is_place_where}
+use Rattle.title_chain.proofs.FoundLaws.{place_tied, place_at_is}
 
-before_record : (a b : Place) → a.record < b.record → is_before a b ≡ true
+-- a place of an earlier record stands before one of a later record
+before_record : (a b : Place) → a.record < b.record → place_cmp a b ≡ Less
 before_record a b h = rw (lt-ltb a.record b.record h) refl
 
-or_true : (x : Bool) → (x || true) ≡ true
-or_true true = refl
-or_true false = refl
-
-before_step : (a b : Place) → a.record ≡ b.record → a.step < b.step → is_before a b ≡ true
-before_step a b e h = rw (eq-eqb a.record b.record e, lt-ltb a.step b.step h) (or_true (nat_lt a.record b.record))
-
-not_before : (a b : Place) → is_before a b ≡ true → is_before b a ≡ false
-not_before a b h = elim (or_cases (nat_lt a.record b.record) _ h) [
-  | inl e ↦ let low : a.record < b.record = ltb-true a.record b.record e in later (omega arith) (λ same. absurd (omega (arith, same, low)))
-  | inr e ↦
-      let parts = and_parts (nat_eq a.record b.record) (nat_lt a.step b.step) e in
-      let same : a.record ≡ b.record = eqb-true a.record b.record parts.0 in
-      let low : a.step < b.step = ltb-true a.step b.step parts.1 in
-      later (omega arith) (λ _. omega arith)
-]
-  where
-    last : (t : Bool) → nat_eq b.record a.record ≡ t → (b.record ≡ a.record → a.step ≤ b.step) → (t && nat_lt b.step a.step) ≡ false
-    last true e f = le-ltb b.step a.step (f (eqb-true b.record a.record e))
-    last false e f = refl
-
-    later : a.record ≤ b.record → (b.record ≡ a.record → a.step ≤ b.step) → is_before b a ≡ false
-    later low f = or_from _ _ (le-ltb b.record a.record low) (last (nat_eq b.record a.record) refl f)
+-- a place of an earlier step stands before one of a later step of its record
+before_step : (a b : Place) → a.record ≡ b.record → a.step < b.step → place_cmp a b ≡ Less
+before_step a b e h = rw (e, tied_itself nat_cmp_total b.record, lt-ltb a.step b.step h) refl
 
 -- the post stands before each of these
 abbrev pub IsBefore : PlacedPost → List PlacedPost → Type 0
-IsBefore x posts = AllByRecursion (λ y. is_before x.place y.place ≡ true) posts
+IsBefore x posts = AllByRecursion (λ y. place_cmp x.place y.place ≡ Less) posts
 
 -- each post stands before those after it
 abbrev pub Ascend : List PlacedPost → Type 0
@@ -113,12 +102,12 @@ records_ascend (r ∷ older) =
     let i : ℕ = length older in
     ascend_append (record_posts older) (step_posts i steps) (records_ascend older) (steps_ascend i steps)
     (each_from (IsWithin i) (λ x. IsBefore x (step_posts i steps)) (record_posts older)
-    (λ x h. each_from (IsAmong i (length steps)) (λ y. is_before x.place y.place ≡ true) (step_posts i steps) (λ y k. before_record x.place y.place (omega (arith, h, k.0))) (steps_among i steps))
+    (λ x h. each_from (IsAmong i (length steps)) (λ y. place_cmp x.place y.place ≡ Less) (step_posts i steps) (λ y k. before_record x.place y.place (omega (arith, h, k.0))) (steps_among i steps))
     (records_within older))
 
 -- the place stands before each of these
 abbrev pub Precedes : Place → List Place → Type 0
-Precedes p places = AllByRecursion (λ q. is_before p q ≡ true) places
+Precedes p places = AllByRecursion (λ q. place_cmp p q ≡ Less) places
 
 where_after : (x : PlacedPost) (test : Land → Bool) (posts : List PlacedPost) → IsBefore x posts → Precedes x.place (places_where test posts)
 where_after x test [] h = tt
@@ -128,32 +117,41 @@ where_after x test (y ∷ posts) h = go (test y.posting.tract) (where_after x te
     go true rest = (h.0, rest)
     go false rest = rest
 
-left_first : (p : Place) (places others : List Place) → Precedes p others → merge (p ∷ places) others ≡ p ∷ merge places others
-left_first p places [] h = refl
-left_first p places (q ∷ others) h = rw h.0 refl
-
-right_first : (p : Place) (places others : List Place) → Precedes p places → merge places (p ∷ others) ≡ p ∷ merge places others
-right_first p [] others h = refl
-right_first p (q ∷ places) others h = rw (not_before p q h.0) refl
-
--- the places of the posts of two kinds that have none in common merge into those of the posts of either kind
-pub merge_where :
-    (left right : Land → Bool) → ((l : Land) → left l ≡ true → right l ≡ false) → (posts : List PlacedPost) → Ascend posts →
-    merge (places_where left posts) (places_where right posts) ≡ places_where (λ l. left l || right l) posts
-merge_where left right apart [] h = refl
-merge_where left right apart (x ∷ posts) h = go (left x.posting.tract) (right x.posting.tract) (apart x.posting.tract) (merge_where left right apart posts h.1)
+-- the places of posts of a kind ascend where the posts do
+where_sorted : (test : Land → Bool) (posts : List PlacedPost) → Ascend posts → IsStrictlySortedBy place_cmp (places_where test posts)
+unfolding IsStrictlySortedBy
+where_sorted test [] h = tt
+where_sorted test (x ∷ posts) h = go (test x.posting.tract) (where_sorted test posts h.1)
   where
-    lefts : List Place
-    lefts = places_where left posts
+    go : (b : Bool) → IsStrictlySortedBy place_cmp (places_where test posts) → IsStrictlySortedBy place_cmp (cond b (x.place ∷ places_where test posts) (places_where test posts))
+    go true rest = (where_after x test posts h.0, rest)
+    go false rest = rest
 
-    rights : List Place
-    rights = places_where right posts
+with_true : (b : Bool) → b ≡ (b && true)
+with_true true = refl
+with_true false = refl
 
-    either : List Place
-    either = places_where (λ l. left l || right l) posts
+with_false : (b : Bool) → false ≡ (b && false)
+with_false true = refl
+with_false false = refl
 
-    go : (a b : Bool) → (a ≡ true → b ≡ false) → merge lefts rights ≡ either → merge (cond a (x.place ∷ lefts) lefts) (cond b (x.place ∷ rights) rights) ≡ cond (a || b) (x.place ∷ either) either
-    go true true one rest = absurd (true≢false (one refl))
-    go true false one rest = left_first x.place lefts rights (where_after x right posts h.0) ∙ ap (λ (places : List Place). x.place ∷ places) rest
-    go false true one rest = right_first x.place lefts rights (where_after x left posts h.0) ∙ ap (λ (places : List Place). x.place ∷ places) rest
-    go false false one rest = rest
+-- a place is among those of posts of a kind exactly if it is that of such a post
+where_found : (test : Land → Bool) (posts : List PlacedPost) (p : Place) → list_any (is_at (place_cmp p)) (places_where test posts) ≡ is_place_where test posts p
+where_found test [] p = refl
+where_found test (x ∷ posts) p = go (test x.posting.tract) (where_found test posts p)
+  where
+    found : List Place → Bool
+    found places = list_any (is_at (place_cmp p)) places
+
+    go : (b : Bool) → found (places_where test posts) ≡ is_place_where test posts p →
+        found (cond b (x.place ∷ places_where test posts) (places_where test posts)) ≡ ((same_place p x.place && b) || is_place_where test posts p)
+    go true rest = λ i. (place_at_is p x.place ∙ with_true (same_place p x.place)) i || rest i
+    go false rest = λ i. with_false (same_place p x.place) i || rest i
+
+-- a set of the places of posts of a kind lists them in the posts' order
+pub keys_are :
+    (found : BTreeSet Place) (posts : List PlacedPost) (test : Land → Bool) → IsOrdered place_cmp found → Ascend posts →
+    ((p : Place) → is_found found p ≡ is_place_where test posts p) → found.keys ≡ places_where test posts
+keys_are found posts test ordered ascend same =
+    btree_set_from_contains place_laws.total-law found (record { keys = places_where test posts }) ordered (where_sorted test posts ascend)
+    (λ p. same p ∙ sym (where_found test posts p)) place_tied

@@ -7,6 +7,5 @@ pub mod Overlaps
 pub mod ChainLaws
 pub mod Replays
 pub mod PostPlaces
-pub mod Orders
 pub mod PlaceMaps
 pub mod TractIndexes

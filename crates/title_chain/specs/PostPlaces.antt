@@ -1,11 +1,8 @@
 -- Places of posts in a list of records. Lists of steps and of records here have the newest first, lists of posts and of
 -- places the oldest.
-use Rattle.std.specs.Prelude.{ℕ, suc, Bool, true, false, cond, ◌&&◌, ◌||◌, ◌==◌, nat_lt, List, [], ◌∷◌, ◌++◌, length, reverse, Option, Some, None, slice_get}
-use Rattle.title_land.specs.declared.place.Township.{Township}
-use Rattle.title_land.specs.declared.place.Section.{Section}
+use Rattle.std.specs.Prelude.{ℕ, suc, Bool, cond, ◌&&◌, ◌==◌, List, [], ◌∷◌, ◌++◌, length, reverse, Option, Some, None, slice_get}
+use Rattle.std.specs.List.{list_any}
 use Rattle.title_land.specs.declared.tract.Land.{Land}
-use Rattle.title_land.specs.declared.tract.Land.TheVariants as land
-use Rattle.title_land.specs.Places.{same_township, same_section}
 use Rattle.title_chain.specs.declared.ask.Ask.{Ask}
 use Rattle.title_chain.specs.declared.ask.Ask.TheVariants as ask
 use Rattle.title_chain.specs.declared.ask.Answer.{Answer}
@@ -50,37 +47,17 @@ abbrev pub places_where : (Land → Bool) → List PlacedPost → List Place
 places_where test [] = []
 places_where test (x ∷ posts) = cond (test x.posting.tract) (x.place ∷ places_where test posts) (places_where test posts)
 
--- a whole township, or everything
-abbrev pub is_wide : Land → Bool
-is_wide land.Everything = true
-is_wide (land.Township t) = true
-is_wide (land.Part s g) = false
+-- two places are one
+abbrev pub same_place : Place → Place → Bool
+same_place a b = a.record == b.record && a.step == b.step
 
--- a part of this section
-abbrev pub is_part_of : Section → Land → Bool
-is_part_of s land.Everything = false
-is_part_of s (land.Township t) = false
-is_part_of s (land.Part u g) = same_section s u
+-- the place stands among these
+abbrev pub is_listed : Place → List Place → Bool
+is_listed p places = list_any (same_place p) places
 
--- a part of a section of this township
-abbrev pub is_part_within : Township → Land → Bool
-is_part_within t land.Everything = false
-is_part_within t (land.Township u) = false
-is_part_within t (land.Part u g) = same_township t u.township
-
--- the first place is that of an earlier step
-abbrev pub is_before : Place → Place → Bool
-is_before a b = nat_lt a.record b.record || (a.record == b.record && nat_lt a.step b.step)
-
--- a place and what comes after it, together with further places: those before it come first
-abbrev pub merge_from : Place → (List Place → List Place) → List Place → List Place
-merge_from a after [] = a ∷ after []
-merge_from a after (b ∷ others) = cond (is_before a b) (a ∷ after (b ∷ others)) (b ∷ merge_from a after others)
-
--- two ascending lists of places as one
-abbrev pub merge : List Place → List Place → List Place
-merge [] others = others
-merge (a ∷ places) others = merge_from a (merge places) others
+-- the place is that of one of these posts, of such a land
+abbrev pub is_place_where : (Land → Bool) → List PlacedPost → Place → Bool
+is_place_where test posts p = list_any (λ x. same_place p x.place && test x.posting.tract) posts
 
 -- the entry of a step, if there is one
 abbrev pub step_entry : ℕ → Land → Option Step → List Entry

@@ -1,11 +1,14 @@
 -- Records with an index of their posts by tract. Lists of records here have the oldest first.
-use Rattle.std.specs.Prelude.{◌≡◌, ◌≤◌, Bool, List, length, take, reverse}
-use Rattle.title_land.specs.declared.place.Township.{Township}
-use Rattle.title_land.specs.declared.place.Section.{Section}
+use Rattle.std.specs.Prelude.{ℕ, ◌≡◌, ◌≤◌, Bool, ◌||◌, List, length, take, reverse}
+use Rattle.std.specs.List.{AllByRecursion, list_any}
+use Rattle.title_land.specs.declared.node.Node.{Node}
+use Rattle.title_land.specs.declared.tract.Land.{Land}
+use Rattle.title_land.specs.Nodes.{same_node, above, is_above}
+use Rattle.title_land.specs.Lands.{cover_of, IsLand}
 use Rattle.title_chain.specs.declared.filing.Filing.{Filing}
+use Rattle.title_chain.specs.declared.place.Place.{Place}
 use Rattle.title_chain.specs.declared.record.Record.{Record}
-use Rattle.title_chain.specs.Orders.{township_cmp, section_cmp}
-use Rattle.title_chain.specs.PostPlaces.{PlacedPost, record_posts, places_where, is_wide, is_part_of, is_part_within}
+use Rattle.title_chain.specs.PostPlaces.{PlacedPost, record_posts, is_listed, is_place_where}
 use Rattle.title_chain.specs.PlaceMaps.{places_under}
 
 -- the records in the order of their commits, and whether one more can be added without memory
@@ -13,13 +16,26 @@ pub record Recorded : Type 0 where
   pub records : List Record
   pub has_room : Bool
 
--- the places of these posts are filed, each list in their order
-pub record IsFiled (f : Filing) (posts : List PlacedPost) : Type 0 where
-  pub sections : (s : Section) → places_under section_cmp f.sections s ≡ places_where (is_part_of s) posts
-  pub townships : (t : Township) → places_under township_cmp f.townships t ≡ places_where (is_part_within t) posts
-  pub wide : f.wide.items ≡ places_where is_wide posts
+-- the node is one of the land's cover
+abbrev pub covers : ℕ → Node → Land → Bool
+covers depth n l = list_any (same_node n) (cover_of depth l)
+
+-- the land's cover has a node below this one
+abbrev pub covers_below : ℕ → Node → Land → Bool
+covers_below depth n l = list_any (is_above n) (cover_of depth l)
+
+-- the places of these posts are filed under the nodes of their covers, and under all nodes above those; their sets of
+-- cells are as large as the grid
+pub record IsFiled (depth : ℕ) (f : Filing) (posts : List PlacedPost) : Type 0 where
+  pub at : (n : Node) (p : Place) → is_listed p (places_under f.at n) ≡ is_place_where (covers depth n) posts p
+  pub below : (n : Node) (p : Place) → is_listed p (places_under f.below n) ≡ is_place_where (covers_below depth n) posts p
+  pub sized : AllByRecursion (λ x. IsLand depth x.posting.tract) posts
 
 -- the posts of the first records are filed, as many as were read
-pub record IsReadFrom (f : Filing) (records : List Record) : Type 0 where
+pub record IsReadFrom (depth : ℕ) (f : Filing) (records : List Record) : Type 0 where
   pub within : f.read ≤ length records
-  pub filed : IsFiled f (record_posts (reverse (take f.read records)))
+  pub filed : IsFiled depth f (record_posts (reverse (take f.read records)))
+
+-- the place is filed at the node, below it, or at a node above it
+abbrev pub is_near : Filing → Place → Node → Bool
+is_near f p n = is_listed p (places_under f.at n) || (is_listed p (places_under f.below n) || list_any (λ a. is_listed p (places_under f.at a)) (above n))

@@ -3,13 +3,16 @@
 ghost use Rattle.std.specs.Prelude.{◌≡◌, IfOk, ◌++◌, reverse};
 ghost use Rattle.title_chain.specs.StepEntries.{entry_of, step_entries};
 ghost use Rattle.title_chain.specs.Chains.{record_entries, chain_of};
+ghost use Rattle.std.specs.BTreeSet.{IsOrdered};
 ghost use Rattle.title_chain.specs.PostPlaces.{entry_at, entries_at};
+ghost use Rattle.title_chain.specs.PlaceMaps.{place_cmp};
 
 use crate::ask::{Answer, Ask, Entry, Step};
 use crate::lists::{Entries, Records};
-use crate::place::{Merge, Place};
+use crate::place::Place;
 use crate::record::Record;
 use std::alloc::{AllocError, Global};
+use std::collections::BTreeSet;
 use title_land::Tract;
 
 // Adds the entry of a step: it was posted, and its tract shares a cell.
@@ -90,13 +93,14 @@ pub(crate) fn add_entries_at(
     alloc: Global,
     entries: &mut Vec<Entry>,
     records: &[Record],
-    mut places: Merge<'_>,
+    places: &BTreeSet<Place>,
     tract: &Tract,
 ) -> Result<(), AllocError>
-    ensures added { IfOk result (λ _. entries.new.items ≡ entries.old.items ++ entries_at records.now tract.now places.entry) }
+    ensures added { IfOk result (λ _. entries.new.items ≡ entries.old.items ++ entries_at records.now tract.now places.now.keys) }
+    ensures ordered { IsOrdered place_cmp places.now }
 {
-    while let Some(place) = places.next() {
-        add_entry_at(alloc, entries, records, place, tract)?;
+    for place in places {
+        add_entry_at(alloc, entries, records, *place, tract)?;
     }
     Ok(())
 }

@@ -1,110 +1,155 @@
-//! An index of posts by section and township.
+//! An index of posts by the nodes of the tree of tracts.
 
-ghost use Rattle.std.specs.Prelude.{◌≡◌, ◌++◌, ◌∷◌, [], List, OnOk, false, length, reverse};
-ghost use Rattle.std.specs.BTreeMap.{is_at};
-ghost use Rattle.title_chain.specs.PlaceMaps.{places_under};
+ghost use Rattle.std.specs.Prelude.{◌≡◌, ◌++◌, ◌∷◌, ◌&&◌, ◌||◌, [], List, IfOk, OnOk, length, reverse};
+ghost use Rattle.std.specs.List.{list_any};
+ghost use Rattle.title_land.specs.declared.node.Node.{Node};
+ghost use Rattle.title_land.specs.Nodes.{same_node, above, is_above};
+ghost use Rattle.title_chain.specs.declared.place.Place.{Place};
+ghost use Rattle.title_chain.specs.PostPlaces.{same_place, is_listed};
+ghost use Rattle.title_chain.specs.PlaceMaps.{places_under, is_found};
 
 use crate::ask::{Answer, Ask, Entry, Step};
-use crate::chains::{add_entries_at, add_records};
-use crate::place::{Merge, Place};
+use crate::chains::add_entries_at;
+use crate::place::Place;
 use crate::record::Record;
 use std::alloc::{AllocError, Global};
-use std::collections::BTreeMap;
-use title_land::{Land, Section, Township, Tract};
+use std::collections::{BTreeMap, BTreeSet};
+use title_land::{Node, Tract};
 
-/// The places of the posts of a list's first records, in their order: those in a part of a section under the section and
-/// under its township, those of a whole township and of everything in a list of their own.
+/// The places of the posts of a list's first records: under each node those of the posts whose cover has the node, and
+/// those of the posts whose cover has a node below it.
 #[derive(Debug, Drop)]
 pub(crate) struct Filing {
     read: usize,
-    sections: BTreeMap<Section, Vec<Place>>,
-    townships: BTreeMap<Township, Vec<Place>>,
-    wide: Vec<Place>,
+    at: BTreeMap<Node, Vec<Place>>,
+    below: BTreeMap<Node, Vec<Place>>,
 }
 
-// Adds a place to the list under a key.
-fn file_under<K: Ord + Drop>(
+// The places under a node.
+fn places_at(lists: &BTreeMap<Node, Vec<Place>>, node: Node) -> &[Place]
+    ensures places { result.now ≡ places_under lists.now node }
+{
+    match lists.get(&node) {
+        Some(places) => places.as_slice(),
+        None => &[],
+    }
+}
+
+// Adds a place to a list, unless it is the last there.
+fn push_once(list: &mut Vec<Place>, place: Place) -> Result<(), AllocError>
+    ensures listed { OnOk result ((p : Place) → is_listed p list.new.items ≡ (is_listed p list.old.items || same_place p place)) }
+{
+    if let Some(last) = list.last() {
+        if last.is(place) {
+            return Ok(());
+        }
+    }
+    list.push(place)?;
+    Ok(())
+}
+
+// Adds a place to those under a node.
+fn file_under(
     alloc: Global,
-    lists: &mut BTreeMap<K, Vec<Place>>,
-    key: K,
+    lists: &mut BTreeMap<Node, Vec<Place>>,
+    node: Node,
     place: Place,
 ) -> Result<(), AllocError>
-    ensures here { OnOk result (places_under K.cmp lists.new key ≡ places_under K.cmp lists.old key ++ place ∷ []) }
-    ensures apart { OnOk result ((k : K) → is_at (K.cmp key) k ≡ false → places_under K.cmp lists.new k ≡ places_under K.cmp lists.old k) }
+    ensures filed { OnOk result ((n : Node) (p : Place) → is_listed p (places_under lists.new n)
+        ≡ (is_listed p (places_under lists.old n) || (same_node n node && same_place p place))) }
 {
-    let list = lists.entry(key)?.or_insert(Vec::new(alloc));
-    list.push(place)?;
+    if let Some(list) = lists.get_mut(&node) {
+        return push_once(list, place);
+    }
+    let mut list = Vec::new(alloc);
+    push_once(&mut list, place)?;
+    lists.insert(node, list)?;
+    Ok(())
+}
+
+// Adds a place to those under each node above.
+fn file_above(
+    alloc: Global,
+    lists: &mut BTreeMap<Node, Vec<Place>>,
+    node: Node,
+    place: Place,
+) -> Result<(), AllocError>
+    ensures filed { OnOk result ((n : Node) (p : Place) → is_listed p (places_under lists.new n)
+        ≡ (is_listed p (places_under lists.old n) || (is_above n node && same_place p place))) }
+{
+    if let Some(parent) = node.parent() {
+        file_under(alloc, lists, parent, place)?;
+        file_above(alloc, lists, parent, place)?;
+    }
+    Ok(())
+}
+
+// Adds places to those found.
+fn find_all(found: &mut BTreeSet<Place>, places: &[Place]) -> Result<(), AllocError>
+    ensures found { OnOk result ((p : Place) → is_found found.new p ≡ (is_found found.old p || is_listed p places.now)) }
+{
+    for place in places {
+        found.insert(*place)?;
+    }
     Ok(())
 }
 
 impl Filing {
     ghost use Rattle.title_chain.specs.Chains.{record_entries};
-    ghost use Rattle.title_chain.specs.Orders.{section_cmp, township_cmp};
     ghost use Rattle.title_chain.specs.PostPlaces.{PlacedPost, post_of, step_posts, record_posts};
-    ghost use Rattle.title_chain.specs.TractIndexes.{IsFiled, IsReadFrom};
+    ghost use Rattle.title_chain.specs.TractIndexes.{IsFiled, IsReadFrom, is_near};
 
     /// Nothing was read yet; takes no memory.
     pub(crate) fn new(alloc: Global) -> Filing
         ensures read { result.read ≡ 0 }
-        ensures filed { IsFiled result [] }
+        ensures filed { IsFiled 3 result [] }
     {
         Filing {
             read: 0,
-            sections: BTreeMap::new(alloc),
-            townships: BTreeMap::new(alloc),
-            wide: Vec::new(alloc),
+            at: BTreeMap::new(alloc),
+            below: BTreeMap::new(alloc),
         }
     }
 
-    // The places of the posts in parts of a section.
-    fn of_section(&self, section: Section) -> &[Place]
-        ensures places { result.now ≡ places_under section_cmp self.now.sections section }
-    {
-        match self.sections.get(&section) {
-            Some(places) => places.as_slice(),
-            None => &[],
-        }
-    }
-
-    // The places of the posts in parts of a township's sections.
-    fn of_township(&self, township: Township) -> &[Place]
-        ensures places { result.now ≡ places_under township_cmp self.now.townships township }
-    {
-        match self.townships.get(&township) {
-            Some(places) => places.as_slice(),
-            None => &[],
-        }
-    }
-
-    // Files a post of this land.
-    fn file_post(&mut self, alloc: Global, place: Place, land: Land) -> Result<(), AllocError>
+    // Files a post whose tract has this cover.
+    fn file_cover(&mut self, alloc: Global, place: Place, cover: &[Node]) -> Result<(), AllocError>
         ensures read { self.new.read ≡ self.old.read }
-        ensures filed { OnOk result ((posts : List PlacedPost) (x : PlacedPost) → x.place ≡ place → x.posting.tract ≡ land → IsFiled self.old posts → IsFiled self.new (posts ++ x ∷ [])) }
+        ensures at { OnOk result ((n : Node) (p : Place) → is_listed p (places_under self.new.at n)
+            ≡ (is_listed p (places_under self.old.at n) || (list_any (same_node n) cover.now && same_place p place))) }
+        ensures below { OnOk result ((n : Node) (p : Place) → is_listed p (places_under self.new.below n)
+            ≡ (is_listed p (places_under self.old.below n) || (list_any (is_above n) cover.now && same_place p place))) }
     {
-        let Land::Part(section, _) = land else {
-            self.wide.push(place)?;
-            return Ok(());
-        };
-        file_under(alloc, &mut self.sections, section, place)?;
-        file_under(alloc, &mut self.townships, section.township, place)?;
+        for node in cover {
+            file_under(alloc, &mut self.at, *node, place)?;
+            file_above(alloc, &mut self.below, *node, place)?;
+        }
         Ok(())
+    }
+
+    // Files a post of this tract.
+    fn file_post(&mut self, alloc: Global, place: Place, tract: &Tract) -> Result<(), AllocError>
+        ensures read { self.new.read ≡ self.old.read }
+        ensures filed { OnOk result ((posts : List PlacedPost) (x : PlacedPost) → x.place ≡ place → x.posting.tract ≡ tract.now → IsFiled 3 self.old posts → IsFiled 3 self.new (posts ++ x ∷ [])) }
+    {
+        tract.land().is_sized();
+        self.file_cover(alloc, place, tract.cover())
     }
 
     // Files a step, if it was posted.
     fn file_step(&mut self, alloc: Global, place: Place, step: &Step) -> Result<(), AllocError>
         ensures read { self.new.read ≡ self.old.read }
-        ensures filed { OnOk result ((posts : List PlacedPost) → IsFiled self.old posts → IsFiled self.new (posts ++ post_of place step.now.ask step.now.answer)) }
+        ensures filed { OnOk result ((posts : List PlacedPost) → IsFiled 3 self.old posts → IsFiled 3 self.new (posts ++ post_of place step.now.ask step.now.answer)) }
     {
         let (Ask::Post(posting), Answer::Posted) = (&step.ask, &step.answer) else {
             return Ok(());
         };
-        self.file_post(alloc, place, posting.tract.land())
+        self.file_post(alloc, place, &posting.tract)
     }
 
     // Files the steps of the record at an index.
     fn file_steps(&mut self, alloc: Global, index: usize, steps: &[Step]) -> Result<(), AllocError>
         ensures read { self.new.read ≡ self.old.read }
-        ensures filed { OnOk result ((posts : List PlacedPost) → IsFiled self.old posts → IsFiled self.new (posts ++ step_posts index (reverse steps.now))) }
+        ensures filed { OnOk result ((posts : List PlacedPost) → IsFiled 3 self.old posts → IsFiled 3 self.new (posts ++ step_posts index (reverse steps.now))) }
     {
         for (i, step) in steps.iter().enumerate() {
             let place = Place {
@@ -118,8 +163,8 @@ impl Filing {
 
     // Files the records that weren't read yet.
     fn file_records(&mut self, alloc: Global, records: &[Record]) -> Result<(), AllocError>
-        requires read { IsReadFrom self.old records.now }
-        ensures filed { OnOk result (IsFiled self.new (record_posts (reverse records.now))) }
+        requires read { IsReadFrom 3 self.old records.now }
+        ensures filed { OnOk result (IsFiled 3 self.new (record_posts (reverse records.now))) }
         ensures read { OnOk result (self.new.read ≡ length records.now) }
     {
         while let Some(record) = records.get(self.read) {
@@ -131,15 +176,47 @@ impl Filing {
 
     /// Files the records that weren't read yet. An error leaves a filing that read nothing.
     pub(crate) fn read_on(&mut self, alloc: Global, records: &[Record]) -> Result<(), AllocError>
-        requires read { IsReadFrom self.old records.now }
-        ensures read { IsReadFrom self.new records.now }
-        ensures filed { OnOk result (IsFiled self.new (record_posts (reverse records.now))) }
+        requires read { IsReadFrom 3 self.old records.now }
+        ensures read { IsReadFrom 3 self.new records.now }
+        ensures filed { OnOk result (IsFiled 3 self.new (record_posts (reverse records.now))) }
     {
         let filed = self.file_records(alloc, records);
         if filed.is_err() {
             *self = Filing::new(alloc);
         }
         filed
+    }
+
+    // Adds the places of the posts whose cover has a node above.
+    fn find_above(&self, found: &mut BTreeSet<Place>, node: Node) -> Result<(), AllocError>
+        ensures found { OnOk result ((p : Place) → is_found found.new p
+            ≡ (is_found found.old p || list_any (λ a. is_listed p (places_under self.now.at a)) (above node))) }
+    {
+        if let Some(parent) = node.parent() {
+            find_all(found, places_at(&self.at, parent))?;
+            self.find_above(found, parent)?;
+        }
+        Ok(())
+    }
+
+    // Adds the places of the posts whose cover has the node, or one above or below it.
+    fn find_near(&self, found: &mut BTreeSet<Place>, node: Node) -> Result<(), AllocError>
+        ensures found { OnOk result ((p : Place) → is_found found.new p ≡ (is_found found.old p || is_near self.now p node)) }
+    {
+        find_all(found, places_at(&self.at, node))?;
+        find_all(found, places_at(&self.below, node))?;
+        self.find_above(found, node)
+    }
+
+    // The places of the posts whose cover has one of these nodes, or one above or below one of them.
+    fn find(&self, alloc: Global, cover: &[Node]) -> Result<BTreeSet<Place>, AllocError>
+        ensures found { IfOk result (λ found. (p : Place) → is_found found p ≡ list_any (is_near self.now p) cover.now) }
+    {
+        let mut found = BTreeSet::new(alloc);
+        for node in cover {
+            self.find_near(&mut found, *node)?;
+        }
+        Ok(found)
     }
 
     /// Adds the entries of records that were all read to the chain of a tract.
@@ -150,14 +227,11 @@ impl Filing {
         records: &[Record],
         tract: &Tract,
     ) -> Result<(), AllocError>
-        requires filed { IsFiled self.now (record_posts (reverse records.now)) }
+        requires filed { IsFiled 3 self.now (record_posts (reverse records.now)) }
         ensures added { OnOk result (entries.new.items ≡ entries.old.items ++ record_entries tract.now (reverse records.now)) }
     {
-        let places = match tract.land() {
-            Land::Everything => return add_records(alloc, entries, records, tract),
-            Land::Township(township) => Merge::new(self.of_township(township), &self.wide),
-            Land::Part(section, _) => Merge::new(self.of_section(section), &self.wide),
-        };
-        add_entries_at(alloc, entries, records, places, tract)
+        tract.land().is_sized();
+        let found = self.find(alloc, tract.cover())?;
+        add_entries_at(alloc, entries, records, &found, tract)
     }
 }

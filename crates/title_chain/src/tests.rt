@@ -353,7 +353,7 @@ fn assert_chain(
 
 // A record that is pushed after a chain was asked stands in the next one.
 #[test]
-fn an_index_lists_what_may_be_in_a_chain(rt: HostRuntime) -> Result<(), Fail> {
+fn an_index_lists_what_was_posted_since(rt: HostRuntime) -> Result<(), Fail> {
     let alloc = rt.alloc();
     let mut index = four_records(alloc, &rt)?;
     let own = vec![in alloc; post(alloc, 28, section_land(&rt, 5))?]?;
@@ -398,4 +398,88 @@ fn an_index_gives_chains_of_townships_and_of_everything(rt: HostRuntime) -> Resu
         (0, 28),
     ];
     assert_chain(alloc, &rt, &mut index, &own, Land::Everything, &want)
+}
+
+// Quarters of section 5.
+fn quarters(rt: &impl Abort, which: &[Quarter]) -> Land {
+    let mut cells = Grid::EMPTY;
+    for quarter in which {
+        cells = cells.with(Rectangle::SECTION.quarter(*quarter));
+    }
+    Land::Part(section(rt, 5), cells)
+}
+
+// A quarter of section 5's northeast quarter.
+fn northeast_sixteenth(rt: &impl Abort, which: Quarter) -> Land {
+    let quarter = Rectangle::SECTION.quarter(Quarter::Northeast);
+    Land::Part(section(rt, 5), Grid::EMPTY.with(quarter.quarter(which)))
+}
+
+// Posts of two quarters, then of the two others as one tract and of the township, then of everything, of a quarter of the
+// first quarter and of another section.
+fn parts_of_one_section(alloc: Global, rt: &impl Abort) -> Result<TractIndex, AllocError> {
+    let northeast = quarters(rt, &[Quarter::Northeast]);
+    let southwest = quarters(rt, &[Quarter::Southwest]);
+    let across = quarters(rt, &[Quarter::Northwest, Quarter::Southeast]);
+    let township = Land::Township(third_north(rt));
+    let corner = northeast_sixteenth(rt, Quarter::Northeast);
+    let sixth = section_land(rt, 6);
+    let mut index = TractIndex::new(alloc);
+    commit_posts(alloc, &mut index, 1, &[(31, northeast), (32, southwest)])?;
+    commit_posts(alloc, &mut index, 2, &[(33, across), (34, township)])?;
+    let last = [(35, Land::Everything), (36, corner), (37, sixth)];
+    commit_posts(alloc, &mut index, 3, &last)?;
+    Ok(index)
+}
+
+/// The chain of each land has these places and document numbers.
+fn assert_chains(
+    alloc: Global,
+    rt: &impl Abort,
+    index: &mut TractIndex,
+    cases: &[(Land, &[(u64, u64)])],
+) -> Result<(), Fail> {
+    for (land, want) in cases {
+        assert_chain(alloc, rt, index, &[], *land, want)?;
+    }
+    Ok(())
+}
+
+// A chain of a part lists the posts that share a cell with it, each once, and no others of its section.
+#[test]
+fn an_index_tells_the_parts_of_a_section_apart(rt: HostRuntime) -> Result<(), Fail> {
+    let alloc = rt.alloc();
+    let mut index = parts_of_one_section(alloc, &rt)?;
+    let across = [Quarter::Northwest, Quarter::Southeast];
+    let west = [Quarter::Northwest, Quarter::Southwest];
+    assert_chains(
+        alloc,
+        &rt,
+        &mut index,
+        &[
+            (
+                quarters(&rt, &[Quarter::Northeast]),
+                &[(1, 31), (2, 34), (3, 35), (3, 36)],
+            ),
+            (
+                quarters(&rt, &[Quarter::Southeast]),
+                &[(2, 33), (2, 34), (3, 35)],
+            ),
+            (quarters(&rt, &across), &[(2, 33), (2, 34), (3, 35)]),
+            (quarters(&rt, &west), &[(1, 32), (2, 33), (2, 34), (3, 35)]),
+            (
+                northeast_sixteenth(&rt, Quarter::Northeast),
+                &[(1, 31), (2, 34), (3, 35), (3, 36)],
+            ),
+            (
+                northeast_sixteenth(&rt, Quarter::Southwest),
+                &[(1, 31), (2, 34), (3, 35)],
+            ),
+            (
+                section_land(&rt, 5),
+                &[(1, 31), (1, 32), (2, 33), (2, 34), (3, 35), (3, 36)],
+            ),
+            (section_land(&rt, 6), &[(2, 34), (3, 35), (3, 37)]),
+        ],
+    )
 }

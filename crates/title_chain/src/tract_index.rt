@@ -12,8 +12,8 @@ use std::alloc::{AllocError, Global};
 use std::marker::Model;
 use title_land::Tract;
 
-/// Committed transactions in the order of their commits, with an index of their posts by section and township, which is
-/// brought up to date when a chain is asked for. The place of a record is its number in the list, from 1.
+/// Committed transactions in the order of their commits, with an index of their posts by the nodes of their tracts' covers,
+/// which is brought up to date when a chain is asked for. The place of a record is its number in the list, from 1.
 #[derive(Debug, Drop)]
 pub struct TractIndex {
     alloc: Global,
@@ -29,7 +29,7 @@ impl Model for TractIndex {
 
     ghost view = { λ t. record { records = t.records.items; has_room = nat_lt (vec_len t.records) (vec_capacity t.records) } };
 
-    ghost invariant = { λ t. IsReadFrom t.filing t.records.items };
+    ghost invariant = { λ t. IsReadFrom 3 t.filing t.records.items };
 }
 
 impl TractIndex {
@@ -44,7 +44,7 @@ impl TractIndex {
         }
     }
 
-    /// Makes room so that the next record takes no memory. An error changes nothing; where there was room there is none.
+    /// Makes room so that the next record takes no memory. An error changes nothing, and there is none where there was room.
     pub fn reserve(&mut self) -> Result<(), AllocError>
         ensures records { self.new.records ≡ self.old.records }
         ensures room { OnOk result (self.new.has_room ≡ true) }
@@ -76,7 +76,7 @@ impl TractIndex {
     }
 
     /// The chain of a tract, as `chain` gives it: the entries of these records, then those of a transaction's own steps. It
-    /// looks at the posts in the tract's section or township, and at those of whole townships and of the whole plant.
+    /// looks at the records' posts that share a cell with the tract and at no others, and at all of the own steps.
     pub fn chain(&mut self, own: &[Step], tract: &Tract) -> Result<Entries, AllocError>
         ensures records { self.new.records ≡ self.old.records }
         ensures room { self.new.has_room ≡ self.old.has_room }

@@ -19,3 +19,5 @@ pub mod CellMembers
 pub mod CellFilters
 pub mod CellSquares
 pub mod GridCounts
+pub mod Keys
+pub mod NodeKeys

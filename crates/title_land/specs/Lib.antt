@@ -5,6 +5,7 @@ pub mod Grids
 pub mod Covers
 pub mod Lands
 pub mod CellLists
+pub mod Orders
 pub mod Texts
 pub mod NodeLaws
 pub mod CoverSets

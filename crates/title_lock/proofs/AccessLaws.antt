@@ -3,11 +3,13 @@ use Rattle.std.proofs.Common.{◌≡◌, Bool, true, false, cond, ◌&&◌, ◌|
 use Rattle.std.specs.List.{list_any}
 use Rattle.title_lock.specs.declared.modes.Mode.{Mode}
 use Rattle.title_land.specs.declared.node.Node.{Node}
+use Rattle.title_land.specs.declared.node.Node.TheVariants as node
 use Rattle.title_land.specs.Nodes.{same_node, parent_of, above, is_above}
 use Rattle.title_lock.specs.Modes.{bound}
 use Rattle.title_lock.specs.Asking.{own_mode, above_mode, asked_for}
 use Rattle.title_lock.proofs.ModeLaws.{bound_none, bound_assoc, sup_self}
 use Rattle.title_lock.proofs.NodeLaws.{above_of, above_apart}
+use Rattle.title_lock.proofs.Overlap.{and_none}
 
 above_cases : (r : Option Mode) (b s a : Bool) (m : Mode) →
     bound (bound r (cond (b && a) (Some m) None)) (cond (b && s) (Some m) None) ≡ bound r (cond (b && (s || a)) (Some m) None)
@@ -15,6 +17,16 @@ above_cases r false s a m = bound_none (bound r None)
 above_cases r true true true m = bound_assoc r (Some m) (Some m) ∙ ap (λ (z : Mode). bound r (Some z)) (sup_self m)
 above_cases r true true false m = ap (λ (z : Option Mode). bound z (Some m)) (bound_none r)
 above_cases r true false a m = bound_none (bound r (cond a (Some m) None))
+
+-- no node lies above one that has no parent
+above_none : (p k : Node) → None ≡ parent_of p → is_above k p ≡ false
+above_none node.Everything k h = refl
+above_none (node.Township t) k h = absurd cc
+above_none (node.Part s w) k h = absurd cc
+
+-- no mode is asked above a node that has no parent
+pub none_above : (b : Bool) (m : Mode) (r : Option Mode) (p k : Node) → None ≡ parent_of p → r ≡ bound r (cond (b && is_above k p) (Some m) None)
+none_above b m r p k h = sym (bound_none r) ∙ ap (λ (z : Bool). bound r (cond z (Some m) None)) (sym (ap (λ (z : Bool). b && z) (above_none p k h) ∙ and_none b))
 
 -- a mode at a node and at all above it is a mode at all above its child
 pub above_join : (b : Bool) (m : Mode) (r : Option Mode) (p c k : Node) → Some c ≡ parent_of p →
@@ -39,6 +51,11 @@ for_join b p r c n = for_cases r b (same_node n c) (is_above n c) (own_mode p) (
 pub rest_join : (b : Bool) (r x y : Option Mode) → bound (bound r (cond b x None)) (cond b y None) ≡ bound r (cond b (bound x y) None)
 rest_join true r x y = bound_assoc r x y
 rest_join false r x y = bound_none (bound r None)
+
+-- no node of the cover is left
+pub rest_none : (b : Bool) (r : Option Mode) → r ≡ bound r (cond b None None)
+rest_none true r = sym (bound_none r)
+rest_none false r = sym (bound_none r)
 
 -- ---- and taken out
 

@@ -1,8 +1,7 @@
 -- Tables and entries after an entry more, and after an examiner's are given back.
-use Rattle.std.proofs.Common.{◌≡◌, ℕ, Bool, true, false, cond, not, ◌&&◌, ◌||◌, List, [], ◌∷◌, filter, reverse, Option, Some, None, eqb, refl, sym, ap, ◌∙◌}
-use Rattle.std.proofs.lemmas.Bool.{or_parts, eqb-true}
+use Rattle.std.proofs.Common.{◌≡◌, ℕ, Bool, true, false, cond, not, ◌&&◌, ◌||◌, List, [], ◌∷◌, ◌++◌, Option, Some, None, eqb, refl, sym, ap, ◌∙◌}
+use Rattle.std.proofs.lemmas.Bool.{or_parts, eqb-true, eqb-false, ne_eqb, eq-eqb}
 use Rattle.std.specs.List.{list_any}
-use mathlib.Core.List.{reverse_aux}
 use Rattle.title_lock.specs.declared.modes.Mode.{Mode}
 use Rattle.title_lock.specs.declared.table.Table.{Table}
 use Rattle.title_lock.specs.declared.guards.Entry.{Entry}
@@ -14,8 +13,8 @@ use Rattle.title_lock.specs.Modes.{bound, allows}
 use Rattle.title_lock.specs.Overlaps.{Stands, is_post, without}
 use Rattle.title_lock.specs.Asking.{own_mode, above_mode, asked_for, asked, mode_at}
 use Rattle.title_lock.specs.Tables.{table_mode, is_asked, is_asked_by, TableIs}
+use Rattle.title_lock.specs.Books.{IsOneMore}
 use Rattle.title_lock.proofs.ModeLaws.{bound_turn}
-use Rattle.title_lock.proofs.HolderLaws.{none_cond, one_gone, mine_other, other_mine}
 use Rattle.title_lock.proofs.Overlap.{MeetByCovers, apart_more, entries_fit}
 
 -- ---- one entry more
@@ -30,6 +29,26 @@ table_more depth by es table more x wide are free modes = record {
 }
 
 -- ---- an examiner's entries fewer
+
+none_cond : (b : Bool) (z : Option Mode) → z ≡ cond b z z
+none_cond true z = refl
+none_cond false z = refl
+
+-- mine: the first is the leaver's; his: it is f's; gone: f is the leaver
+one_gone : (mine his gone : Bool) (a r s : Option Mode) → (mine ≡ true → gone ≡ false → his ≡ false) → (mine ≡ false → gone ≡ true → his ≡ false) → s ≡ cond gone None r →
+    cond (not mine) (bound (cond his a None) s) s ≡ cond gone None (bound (cond his a None) r)
+one_gone true his true a r s h k e = e
+one_gone true true false a r s h k e = absurd (let z = h refl refl in cc)
+one_gone true false false a r s h k e = e
+one_gone false true true a r s h k e = absurd (let z = k refl refl in cc)
+one_gone false false true a r s h k e = e
+one_gone false his false a r s h k e = ap (bound (cond his a None)) e
+
+mine_other : (x e f : ℕ) → eqb x e ≡ true → eqb f e ≡ false → eqb f x ≡ false
+mine_other x e f h k = ne_eqb f x (λ s. eqb-false f e k (s ∙ eqb-true x e h))
+
+other_mine : (x e f : ℕ) → eqb x e ≡ false → eqb f e ≡ true → eqb f x ≡ false
+other_mine x e f h k = ne_eqb f x (λ s. eqb-false x e h (sym s ∙ eqb-true f e k))
 
 mode_at_cond : (depth : ℕ) (b : Bool) (x : Entry) (xs : List Entry) (f : ℕ) (n : Node) → mode_at depth (cond b (x ∷ xs) xs) f n ≡ cond b (mode_at depth (x ∷ xs) f n) (mode_at depth xs f n)
 mode_at_cond depth true x xs f n = refl
@@ -76,45 +95,68 @@ left_none true true r h = refl
 left_none true false r h = h refl refl
 left_none false a r h = refl
 
-any_turned : {V : Type 0} (p : V → Bool) (xs ys : List V) → list_any p (reverse_aux xs ys) ≡ (list_any p xs || list_any p ys)
-any_turned p [] ys = refl
-any_turned p (x ∷ xs) ys = any_turned p xs (x ∷ ys) ∙ or_moved (p x) (list_any p xs) (list_any p ys)
-  where
-    or_moved : (a b c : Bool) → (b || (a || c)) ≡ ((a || b) || c)
-    or_moved true true c = refl
-    or_moved true false c = refl
-    or_moved false b c = refl
-
-or_false : (b : Bool) → (b || false) ≡ b
-or_false true = refl
-or_false false = refl
-
-any_reverse : {V : Type 0} (p : V → Bool) (xs : List V) → list_any p (reverse xs) ≡ list_any p xs
-any_reverse p xs = any_turned p xs [] ∙ or_false (list_any p xs)
-
-pub table_fewer : (depth : ℕ) (e : ℕ) (xs : List Entry) (table fewer : Table) → TableIs depth (reverse xs) table →
-    ((f : ℕ) (n : Node) → table_mode fewer f n ≡ cond (eqb f e && list_any (is_asked_by depth e n) xs) None (table_mode table f n)) → TableIs depth (without e (reverse xs)) fewer
-table_fewer depth e xs table fewer are left =
-    let es = reverse xs in
+-- the table without what an examiner's entries ask for is that of the others' entries
+pub table_fewer : (depth : ℕ) (e : ℕ) (es : List Entry) (table fewer : Table) → TableIs depth es table →
+    ((f : ℕ) (n : Node) → table_mode fewer f n ≡ cond (eqb f e && list_any (is_asked_by depth e n) es) None (table_mode table f n)) → TableIs depth (without e es) fewer
+table_fewer depth e es table fewer are left =
     record {
       apart = λ f g o n. ap (λ (z : Option Mode). allows z (mode_at depth (without e es) g n)) (modes_without depth e es f n)
           ∙ ap (allows (cond (eqb f e) None (mode_at depth es f n))) (modes_without depth e es g n)
           ∙ allows_fewer (eqb f e) (eqb g e) (mode_at depth es f n) (mode_at depth es g n) (are.apart f g o n);
       sized = All-filter (λ (z : Entry). not (eqb z.examiner e)) (λ (z : Entry). IsLand depth z.tract) es are.sized;
       modes = λ f n. left f n
-          ∙ ap (cond (eqb f e && list_any (is_asked_by depth e n) xs) None) (are.modes f n)
-          ∙ left_none (eqb f e) (list_any (is_asked_by depth e n) xs) (mode_at depth es f n)
-          (λ mine none. ap (λ (g : ℕ). mode_at depth es g n) (eqb-true f e mine) ∙ modes_none depth e es n (any_reverse (is_asked_by depth e n) xs ∙ none))
+          ∙ ap (cond (eqb f e && list_any (is_asked_by depth e n) es) None) (are.modes f n)
+          ∙ left_none (eqb f e) (list_any (is_asked_by depth e n) es) (mode_at depth es f n)
+          (λ mine none. ap (λ (g : ℕ). mode_at depth es g n) (eqb-true f e mine) ∙ modes_none depth e es n none)
           ∙ sym (modes_without depth e es f n);
     }
 
-turned_cond : {V : Type 0} (b : Bool) (x : V) (xs ys : List V) → reverse_aux xs (cond b (x ∷ ys) ys) ≡ reverse_aux (cond b (x ∷ xs) xs) ys
-turned_cond true x xs ys = refl
-turned_cond false x xs ys = refl
+-- ---- one entry of an examiner taken out, and none of it left
 
-filter_turned : {V : Type 0} (p : V → Bool) (xs ys : List V) → filter p (reverse_aux xs ys) ≡ reverse_aux (filter p xs) (filter p ys)
-filter_turned p [] ys = refl
-filter_turned p (x ∷ xs) ys = filter_turned p xs (x ∷ ys) ∙ turned_cond (p x) x (filter p xs) (filter p ys)
+-- a test holds somewhere: of the one, or of the others
+any_more : {V : Type 0} (p : V → Bool) (x : V) (xs ys : List V) → list_any p (xs ++ x ∷ ys) ≡ (p x || list_any p (xs ++ ys))
+any_more p x [] ys = refl
+any_more p x (z ∷ xs) ys = ap (λ (b : Bool). p z || b) (any_more p x xs ys) ∙ or_moved (p z) (p x) (list_any p (xs ++ ys))
+  where
+    or_moved : (a b c : Bool) → (a || (b || c)) ≡ (b || (a || c))
+    or_moved true true c = refl
+    or_moved true false c = refl
+    or_moved false b c = refl
 
-pub filter-reverse : {V : Type 0} (p : V → Bool) (xs : List V) → filter p (reverse xs) ≡ reverse (filter p xs)
-filter-reverse p xs = filter_turned p xs []
+-- what is asked for by an examiner's entry and by the others is what is asked for by all
+pub asked_more : (depth : ℕ) (e : ℕ) (n : Node) (x : Entry) (fewer more : List Entry) → x.examiner ≡ e → IsOneMore x fewer more →
+    (list_any (is_asked n) (cover_of depth x.tract) || list_any (is_asked_by depth e n) fewer) ≡ list_any (is_asked_by depth e n) more
+asked_more depth e n x fewer more mine (newer, older, was, now) =
+    ap (λ (b : Bool). (b && list_any (is_asked n) (cover_of depth x.tract)) || list_any (is_asked_by depth e n) fewer) (sym (eq-eqb e x.examiner (sym mine)))
+    ∙ ap (λ (t : List Entry). is_asked_by depth e n x || list_any (is_asked_by depth e n) t) now
+    ∙ sym (any_more (is_asked_by depth e n) x newer older)
+    ∙ ap (λ (t : List Entry). list_any (is_asked_by depth e n) t) (sym was)
+
+-- one of an examiner's entries, between others, goes with them
+without_around : (e : ℕ) (x : Entry) (newer older : List Entry) → x.examiner ≡ e → without e (newer ++ x ∷ older) ≡ without e (newer ++ older)
+without_around e x [] older mine = ap (λ (b : Bool). cond (not b) (x ∷ without e older) (without e older)) (eq-eqb x.examiner e mine)
+without_around e x (z ∷ newer) older mine = ap (λ (t : List Entry). cond (not (eqb z.examiner e)) (z ∷ t) t) (without_around e x newer older mine)
+
+-- without an examiner's entries it is the same with one of them more
+pub without_more : (e : ℕ) (x : Entry) (fewer more : List Entry) → x.examiner ≡ e → IsOneMore x fewer more → without e fewer ≡ without e more
+without_more e x fewer more mine (newer, older, was, now) = ap (without e) now ∙ sym (without_around e x newer older mine) ∙ ap (without e) (sym was)
+
+asks_cond : (depth : ℕ) (e : ℕ) (n : Node) (b : Bool) (x : Entry) (es : List Entry) → eqb x.examiner e ≡ b → list_any (is_asked_by depth e n) es ≡ false →
+    list_any (is_asked_by depth e n) (cond (not b) (x ∷ es) es) ≡ false
+asks_cond depth e n true x es at h = h
+asks_cond depth e n false x es at h =
+    ap (λ (b : Bool). (b && list_any (is_asked n) (cover_of depth x.tract)) || list_any (is_asked_by depth e n) es) (ne_eqb e x.examiner (λ s. eqb-false x.examiner e at (sym s))) ∙ h
+
+-- the others' entries ask for nothing in an examiner's name
+asks_none : (depth : ℕ) (e : ℕ) (n : Node) (es : List Entry) → list_any (is_asked_by depth e n) (without e es) ≡ false
+asks_none depth e n [] = refl
+asks_none depth e n (x ∷ es) = asks_cond depth e n (eqb x.examiner e) x (without e es) refl (asks_none depth e n es)
+
+none_kept : (b : Bool) (r : Option Mode) → r ≡ cond (b && false) None r
+none_kept true r = refl
+none_kept false r = refl
+
+-- an examiner with no entry asks for nothing
+pub none_left : (depth : ℕ) (e : ℕ) (n : Node) (es : List Entry) (b : Bool) (r : Option Mode) → without e es ≡ es → r ≡ cond (b && list_any (is_asked_by depth e n) es) None r
+none_left depth e n es b r h =
+    none_kept b r ∙ ap (λ (a : Bool). cond (b && a) None r) (sym (ap (λ (t : List Entry). list_any (is_asked_by depth e n) t) (sym h) ∙ asks_none depth e n es))

@@ -1,11 +1,12 @@
 pub mod ModeLaws
 pub mod NodeLaws
-pub mod NodeKeys
 pub mod Overlap
-pub mod HolderLaws
 pub mod AccessLaws
 pub mod TableLaws
 pub mod WayLaws
+pub mod BookLaws
 pub mod GiveBack
 pub mod Granted
 pub mod MeetLaws
+pub mod SharerLaws
+pub mod PlaceLaws

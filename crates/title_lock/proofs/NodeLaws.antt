@@ -1,5 +1,5 @@
 -- Nodes: the test of sameness is equality, and what lies above a node is its parent and what lies above that.
-use Rattle.std.proofs.Common.{◌≡◌, ◌<◌, ◌≤◌, ℕ, true, false, List, [], ◌∷◌, length, Some, refl, sym, ap, subst, arith, inl, inr}
+use Rattle.std.proofs.Common.{◌≡◌, ◌<◌, ◌≤◌, ℕ, true, false, List, [], ◌∷◌, length, Some, sym, ap, subst, arith, inl, inr}
 use Rattle.std.specs.List.{list_any}
 use Rattle.std.proofs.lemmas.Bool.{or_cases, false_from_ne_true, both_ways}
 use Rattle.title_land.specs.declared.node.Within.TheVariants as within
@@ -7,6 +7,7 @@ use Rattle.title_land.specs.declared.node.Node.{Node}
 use Rattle.title_land.specs.declared.node.Node.TheVariants as node
 use Rattle.title_land.specs.Nodes.{same_node, parent_of, above, is_above}
 use Rattle.title_land.proofs.SameNode.{same_node-is, same_node-self}
+use Rattle.title_land.proofs.CoverSet.{above_by_parent}
 
 pub same_self : (n : Node) → same_node n n ≡ true
 same_self n = same_node-self n
@@ -20,12 +21,7 @@ same_turned n c h =
 
 -- above a node lie its parent and the nodes above that
 pub above_of : (p c : Node) → Some c ≡ parent_of p → above p ≡ c ∷ above c
-above_of node.Everything c h = absurd cc
-above_of (node.Township t) c h = let e : c ≡ node.Everything = cc in rw e refl
-above_of (node.Part s within.Whole) c h = let e : c ≡ node.Township s.township = cc in rw e refl
-above_of (node.Part s (within.Quarter x)) c h = let e : c ≡ node.Part s within.Whole = cc in rw e refl
-above_of (node.Part s (within.Sixteenth x y)) c h = let e : c ≡ node.Part s (within.Quarter y) = cc in rw e refl
-above_of (node.Part s (within.Cell x y z)) c h = let e : c ≡ node.Part s (within.Sixteenth y z) = cc in rw e refl
+above_of p c h = above_by_parent.1 p c (sym h)
 
 -- at most five nodes lie above a node
 pub above_short : (p : Node) → length (above p) ≤ 5

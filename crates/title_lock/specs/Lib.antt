@@ -1,5 +1,7 @@
 pub mod Modes
 pub mod Overlaps
 pub mod Asking
-pub mod Holders
+pub mod Sharers
+pub mod Places
 pub mod Tables
+pub mod Books

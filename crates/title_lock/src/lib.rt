@@ -2,11 +2,13 @@
 //! (Gray, Lorie, Putzolu, Traiger, Granularity of Locks and Degrees of Consistency in a Shared Data Base, 1976).
 #![tactic(auto)]
 
+mod book;
 pub mod guards;
-mod holders;
 pub mod laws;
 pub mod modes;
+mod place;
 pub mod row_locks;
+mod sharers;
 mod table;
 #[cfg(test)]
 mod tests;

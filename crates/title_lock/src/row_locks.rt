@@ -1,11 +1,13 @@
 //! Locks as a table of the holders of each node.
 
-ghost use Rattle.std.specs.Prelude.{◌≡◌, ℕ, List, None, reverse, filter, not, ◌==◌, ◌&&◌, if◌then◌else◌};
+ghost use Rattle.std.specs.Prelude.{◌≡◌, ℕ, List, None, ◌==◌, ◌&&◌, if◌then◌else◌};
 ghost use Rattle.std.specs.List.{list_any};
 ghost use Rattle.title_land.specs.declared.node.Node.{Node};
 ghost use Rattle.title_lock.specs.declared.guards.Entry.{Entry};
+ghost use Rattle.title_lock.specs.Overlaps.{without};
 ghost use Rattle.title_lock.specs.Tables.{table_mode, is_asked_by, TableIs};
 
+use crate::book::Book;
 use crate::guards::{Access, Entry, Guards, LockFault};
 use crate::modes::Mode;
 use crate::table::Table;
@@ -18,35 +20,27 @@ use title_land::{Node, Tract};
 #[derive(Drop)]
 pub struct RowLocks {
     alloc: Global,
-    entries: Vec<Entry>,
+    book: Book,
     table: Table,
 }
 
 impl Model for RowLocks {
     ghost Value = { List Entry };
 
-    ghost view = { λ l. reverse l.entries.items };
+    ghost view = { λ l. l.book };
 
-    ghost invariant = { λ l. TableIs 3 (reverse l.entries.items) l.table };
+    ghost invariant = { λ l. TableIs 3 l.book l.table };
 }
 
-/// Takes an examiner out of the holders of all nodes that its entries ask for.
-fn release_entries(table: &mut Table, entries: &[Entry], examiner: u32)
+/// Takes out an examiner's entries, and the examiner out of the holders of all nodes that they ask for.
+fn give_back_all(table: &mut Table, book: &mut Book, examiner: u32)
+    ensures left { book.new ≡ without examiner book.old }
     ensures modes { (f : ℕ) → (n : Node) → table_mode table.new f n
-        ≡ (if f == examiner && list_any (is_asked_by 3 examiner n) entries.now then None else table_mode table.old f n) }
+        ≡ (if f == examiner && list_any (is_asked_by 3 examiner n) book.old then None else table_mode table.old f n) }
 {
-    for entry in entries {
-        if entry.examiner == examiner {
-            table.release_all(examiner, entry.tract.cover());
-        }
+    while let Some(entry) = book.take(examiner) {
+        table.release_all(examiner, entry.tract.cover());
     }
-}
-
-/// Takes out an examiner's entries.
-fn give_back_entries(entries: &mut Vec<Entry>, examiner: u32)
-    ensures left { entries.new.items ≡ filter (λ x. not (x.examiner == examiner)) entries.old.items }
-{
-    entries.retain(|entry| entry.examiner != examiner);
 }
 
 impl Guards for RowLocks {
@@ -55,7 +49,7 @@ impl Guards for RowLocks {
     fn new(alloc: Global) -> RowLocks {
         RowLocks {
             alloc,
-            entries: Vec::new(alloc),
+            book: Book::new(alloc),
             table: Table::new(alloc),
         }
     }
@@ -74,25 +68,24 @@ impl Guards for RowLocks {
         let Ok(copy) = tract.copy(self.alloc) else {
             return Err(LockFault::Memory);
         };
-        if self.entries.reserve(1).is_err() {
-            return Err(LockFault::Memory);
-        }
         let cover = tract.cover();
-        let Ok(()) = self.table.make_room_all(cover) else {
+        let Ok(()) = self.table.make_room_all(examiner, cover, access) else {
             return Err(LockFault::Memory);
         };
-        self.table.raise_all(examiner, cover, access);
-        self.entries.push_reserved(Entry {
+        let entry = Entry {
             examiner,
             tract: copy,
             access,
-        });
+        };
+        let Ok(()) = self.book.push(entry) else {
+            return Err(LockFault::Memory);
+        };
+        self.table.raise_all(examiner, cover, access);
         Ok(())
     }
 
     fn give_back(&mut self, examiner: u32) {
-        release_entries(&mut self.table, &self.entries, examiner);
-        give_back_entries(&mut self.entries, examiner);
+        give_back_all(&mut self.table, &mut self.book, examiner);
     }
 
     fn mode(&self, examiner: u32, node: Node) -> Option<Mode> {

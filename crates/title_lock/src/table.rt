@@ -1,17 +1,17 @@
 //! A table of locks: the holders of each node.
 
-ghost use Rattle.std.specs.Prelude.{◌≡◌, ◌∷◌, [], ℕ, true, false, None, ◌&&◌, ◌==◌, if◌then◌else◌, OnOk};
+ghost use Rattle.std.specs.Prelude.{◌≡◌, ℕ, true, false, None, Some, not, ◌&&◌, ◌==◌, if◌then◌else◌, OnOk};
 ghost use Rattle.std.specs.List.{AllByRecursion, list_any};
 ghost use Rattle.title_land.specs.declared.node.Node.{Node};
 ghost use Rattle.title_land.specs.Nodes.{same_node, above, is_above};
 ghost use Rattle.title_lock.specs.Modes.{bound};
-ghost use Rattle.title_lock.specs.Overlaps.{is_post};
+ghost use Rattle.title_lock.specs.Overlaps.{is_post, IsLeast};
 ghost use Rattle.title_lock.specs.Asking.{own_mode, above_mode, asked_for, asked};
-ghost use Rattle.title_lock.specs.Tables.{holders_of, is_placed, table_mode, way_of, way_above, ways, room_at, KeepsRoom, RoomAbove, RoomFor, is_asked};
+ghost use Rattle.title_lock.specs.Tables.{table_mode, table_room, is_placed, holds_none, clashes, clashes_above, clashes_for, clashes_with, KeepsRoom, RoomAbove, RoomFor, is_asked};
 
 use crate::guards::Access;
-use crate::holders::{self, Holder, least};
 use crate::modes::Mode;
+use crate::place::{Place, least};
 use std::alloc::{AllocError, Global};
 use std::collections::BTreeMap;
 use title_land::Node;
@@ -20,7 +20,7 @@ use title_land::Node;
 #[derive(Drop)]
 pub(crate) struct Table {
     alloc: Global,
-    places: BTreeMap<Node, Vec<Holder>>,
+    places: BTreeMap<Node, Place>,
 }
 
 /// What an access asks of a node of the cover.
@@ -46,7 +46,7 @@ fn above_mode(access: Access) -> Mode
 impl Table {
     /// The table where nobody holds a node. Takes no memory.
     pub(crate) fn new(alloc: Global) -> Table
-        ensures free { (n : Node) → holders_of result n ≡ [] }
+        ensures free { (e : ℕ) → (n : Node) → table_mode result e n ≡ None }
     {
         Table {
             alloc,
@@ -54,123 +54,135 @@ impl Table {
         }
     }
 
-    // The holders of a node.
-    fn holders(&self, node: Node) -> &[Holder]
-        ensures holders { result.now ≡ holders_of self.now node }
-    {
-        match self.places.get(&node) {
-            Some(holders) => holders,
-            None => &[],
-        }
-    }
-
     /// The mode of an examiner at a node.
     pub(crate) fn mode(&self, examiner: u32, node: Node) -> Option<Mode>
         ensures mode { result ≡ table_mode self.now examiner node }
     {
-        holders::mode_in(self.holders(node), examiner)
+        match self.places.get(&node) {
+            Some(place) => place.mode(examiner),
+            None => None,
+        }
     }
 
-    // The least other examiner in the way of one request more.
+    // The least other examiner that a mode can't stand beside at a node.
     fn way_of(&self, examiner: u32, node: Node, mode: Mode) -> Option<u32>
-        ensures way { result ≡ way_of self.now examiner node mode }
+        ensures way { IsLeast (λ f. clashes mode (table_mode self.now f node)) examiner result }
     {
-        holders::way_more(self.holders(node), examiner, mode)
+        match self.places.get(&node) {
+            Some(place) => place.way(examiner, mode),
+            None => None,
+        }
     }
 
-    // The least other examiner in the way of requests for all nodes above.
+    // The least other examiner that a mode can't stand beside at some node above.
     fn way_above(&self, examiner: u32, node: Node, mode: Mode) -> Option<u32>
-        ensures way { result ≡ way_above self.now examiner (above node) mode }
+        ensures way { IsLeast (λ f. clashes_above mode (λ n. table_mode self.now f n) (above node)) examiner result }
     {
         match node.parent() {
             None => None,
             Some(parent) => least(
-                self.way_above(examiner, parent, mode),
                 self.way_of(examiner, parent, mode),
+                self.way_above(examiner, parent, mode),
             ),
         }
     }
 
+    // The least other examiner in the way of an access at a node of the cover or above it.
+    fn way_for(&self, examiner: u32, node: Node, access: Access) -> Option<u32>
+        ensures way { IsLeast (λ f. clashes_for (is_post access) (λ n. table_mode self.now f n) node) examiner result }
+    {
+        let above = above_mode(access);
+        let own = own_mode(access);
+        least(
+            self.way_above(examiner, node, above),
+            self.way_of(examiner, node, own),
+        )
+    }
+
     /// The least other examiner in the way of an access, by modes. Takes no memory.
     pub(crate) fn ways(&self, examiner: u32, cover: &[Node], access: Access) -> Option<u32>
-        ensures way { result ≡ ways self.now examiner (is_post access) cover.now }
+        ensures way { IsLeast (λ f. clashes_with (is_post access) (λ n. table_mode self.now f n) cover.now) examiner result }
     {
         let mut way = None;
         for node in cover {
-            let above = self.way_above(examiner, *node, above_mode(access));
-            let own = self.way_of(examiner, *node, own_mode(access));
-            way = least(way, least(above, own));
+            way = least(way, self.way_for(examiner, *node, access));
         }
         way
     }
 
-    // Makes room for one holder more at a node.
-    fn make_room(&mut self, node: Node) -> Result<(), AllocError>
-        ensures holders { (n : Node) → holders_of self.new n ≡ holders_of self.old n }
-        ensures room { OnOk result ((e : ℕ) → room_at self.new e node ≡ true) }
-        ensures stays { (e : ℕ) → KeepsRoom e self.old self.new }
+    // Makes room for an examiner in a mode at a node.
+    fn make_room(&mut self, examiner: u32, node: Node, mode: Mode) -> Result<(), AllocError>
+        ensures modes { (f : ℕ) → (n : Node) → table_mode self.new f n ≡ table_mode self.old f n }
+        ensures room { OnOk result (table_room self.new examiner mode node ≡ true) }
+        ensures stays { KeepsRoom self.old self.new }
     {
-        if let Some(holders) = self.places.get_mut(&node) {
-            return holders::make_room(holders);
+        if let Some(place) = self.places.get_mut(&node) {
+            return place.make_room(examiner, mode);
         }
-        let holders = Vec::with_capacity(self.alloc, 1)?;
-        self.places.insert(node, holders)?;
+        let mut place = Place::new(self.alloc);
+        place.make_room(examiner, mode)?;
+        self.places.insert(node, place)?;
         Ok(())
     }
 
     // Makes room at all nodes above.
-    fn make_room_above(&mut self, node: Node) -> Result<(), AllocError>
-        ensures holders { (n : Node) → holders_of self.new n ≡ holders_of self.old n }
-        ensures room { OnOk result ((e : ℕ) → RoomAbove self.new e node) }
-        ensures stays { (e : ℕ) → KeepsRoom e self.old self.new }
+    fn make_room_above(&mut self, examiner: u32, node: Node, mode: Mode) -> Result<(), AllocError>
+        ensures modes { (f : ℕ) → (n : Node) → table_mode self.new f n ≡ table_mode self.old f n }
+        ensures room { OnOk result (RoomAbove self.new examiner mode node) }
+        ensures stays { KeepsRoom self.old self.new }
     {
         if let Some(parent) = node.parent() {
-            self.make_room_above(parent)?;
-            self.make_room(parent)?;
+            self.make_room_above(examiner, parent, mode)?;
+            self.make_room(examiner, parent, mode)?;
         }
         Ok(())
     }
 
     // Makes room at a node of the cover and at all above it.
-    fn make_room_for(&mut self, node: Node) -> Result<(), AllocError>
-        ensures holders { (n : Node) → holders_of self.new n ≡ holders_of self.old n }
-        ensures room { OnOk result ((e : ℕ) → RoomFor self.new e node) }
-        ensures stays { (e : ℕ) → KeepsRoom e self.old self.new }
+    fn make_room_for(&mut self, examiner: u32, node: Node, access: Access) -> Result<(), AllocError>
+        ensures modes { (f : ℕ) → (n : Node) → table_mode self.new f n ≡ table_mode self.old f n }
+        ensures room { OnOk result (RoomFor self.new examiner (is_post access) node) }
+        ensures stays { KeepsRoom self.old self.new }
     {
-        self.make_room_above(node)?;
-        self.make_room(node)?;
+        self.make_room_above(examiner, node, above_mode(access))?;
+        self.make_room(examiner, node, own_mode(access))?;
         Ok(())
     }
 
     /// Makes room for what an access asks for. No mode changes, also where memory is refused.
-    pub(crate) fn make_room_all(&mut self, cover: &[Node]) -> Result<(), AllocError>
-        ensures holders { (n : Node) → holders_of self.new n ≡ holders_of self.old n }
-        ensures room { OnOk result ((e : ℕ) → AllByRecursion (RoomFor self.new e) cover.now) }
+    pub(crate) fn make_room_all(
+        &mut self,
+        examiner: u32,
+        cover: &[Node],
+        access: Access,
+    ) -> Result<(), AllocError>
+        ensures modes { (f : ℕ) → (n : Node) → table_mode self.new f n ≡ table_mode self.old f n }
+        ensures room { OnOk result (AllByRecursion (RoomFor self.new examiner (is_post access)) cover.now) }
     {
         for node in cover {
-            self.make_room_for(*node)?;
+            self.make_room_for(examiner, *node, access)?;
         }
         Ok(())
     }
 
     // Gives an examiner one mode more at a node.
     fn raise(&mut self, examiner: u32, node: Node, mode: Mode)
-        requires room { room_at self.old examiner node ≡ true }
+        requires room { table_room self.old examiner mode node ≡ true }
         ensures modes { (f : ℕ) → (n : Node) → table_mode self.new f n
             ≡ bound (table_mode self.old f n) (if f == examiner && same_node n node then Some mode else None) }
-        ensures stays { KeepsRoom examiner self.old self.new }
+        ensures stays { KeepsRoom self.old self.new }
     {
-        if let Some(holders) = self.places.get_mut(&node) {
-            holders::raise(holders, examiner, mode);
+        if let Some(place) = self.places.get_mut(&node) {
+            place.raise(examiner, mode);
         }
     }
 
     // Gives an examiner a mode at all nodes above, from the whole plant on.
     fn raise_above(&mut self, examiner: u32, node: Node, mode: Mode)
-        requires room { RoomAbove self.old examiner node }
+        requires room { RoomAbove self.old examiner mode node }
         ensures modes { (f : ℕ) → (n : Node) → table_mode self.new f n
             ≡ bound (table_mode self.old f n) (if f == examiner && is_above n node then Some mode else None) }
-        ensures stays { KeepsRoom examiner self.old self.new }
+        ensures stays { KeepsRoom self.old self.new }
     {
         if let Some(parent) = node.parent() {
             self.raise_above(examiner, parent, mode);
@@ -180,10 +192,10 @@ impl Table {
 
     // Gives an examiner what an access asks for at one node of the cover.
     fn raise_for(&mut self, examiner: u32, node: Node, access: Access)
-        requires room { RoomFor self.old examiner node }
+        requires room { RoomFor self.old examiner (is_post access) node }
         ensures modes { (f : ℕ) → (n : Node) → table_mode self.new f n
             ≡ bound (table_mode self.old f n) (if f == examiner then asked_for (is_post access) node n else None) }
-        ensures stays { KeepsRoom examiner self.old self.new }
+        ensures stays { KeepsRoom self.old self.new }
     {
         self.raise_above(examiner, node, above_mode(access));
         self.raise(examiner, node, own_mode(access));
@@ -191,7 +203,7 @@ impl Table {
 
     /// Gives an examiner what an access asks for, where there is room for it. Takes no memory.
     pub(crate) fn raise_all(&mut self, examiner: u32, cover: &[Node], access: Access)
-        requires room { AllByRecursion (RoomFor self.old examiner) cover.now }
+        requires room { AllByRecursion (RoomFor self.old examiner (is_post access)) cover.now }
         ensures modes { (f : ℕ) → (n : Node) → table_mode self.new f n
             ≡ bound (table_mode self.old f n) (if f == examiner then asked (is_post access) cover.now n else None) }
     {
@@ -204,12 +216,12 @@ impl Table {
     fn release(&mut self, examiner: u32, node: Node)
         ensures modes { (f : ℕ) → (n : Node) → table_mode self.new f n
             ≡ (if f == examiner && same_node n node then None else table_mode self.old f n) }
-        ensures dropped { holders_of self.new node ≡ [] → is_placed self.new node ≡ false }
+        ensures dropped { holds_none self.new node ≡ true → is_placed self.new node ≡ false }
     {
-        let Some(holders) = self.places.get_mut(&node) else {
+        let Some(place) = self.places.get_mut(&node) else {
             return;
         };
-        if holders::release(holders, examiner) {
+        if place.release(examiner) {
             self.places.remove(&node);
         }
     }

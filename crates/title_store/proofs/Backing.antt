@@ -17,7 +17,7 @@ use Rattle.title_store.specs.declared.kept.Lent.{Lent}
 use Rattle.title_store.specs.Plants.{Plant, is_cell_of}
 use Rattle.title_store.specs.Loans.{Loan, IsLentAs}
 use Rattle.title_store.specs.CellMaps.{content_of, is_there, kept_at, kept_cells, keep_from, keeps, loan_of, loans_of, IsBacked, AreBacked}
-use Rattle.title_store.proofs.CellKeys.{same_cell-self}
+use Rattle.title_land.proofs.Keys.{same_cell-self}
 use Rattle.title_store.proofs.LoanLaws.{found_as}
 use Rattle.title_store.proofs.MapLaws.{lists, kept_from, listed_is, each_listed}
 

@@ -3,7 +3,6 @@ pub mod PlantCells
 pub mod EffectLaws
 pub mod TractNodes
 pub mod SheetLaws
-pub mod CellKeys
 pub mod MapLaws
 pub mod LoanLaws
 pub mod Backing

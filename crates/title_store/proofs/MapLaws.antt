@@ -15,9 +15,10 @@ use Rattle.title_land.specs.declared.place.Township.{Township}
 use Rattle.title_land.specs.declared.tract.Land.{Land}
 use Rattle.title_instrument.specs.declared.instrument.Instrument.{Instrument}
 use Rattle.title_instrument.specs.Effect.{cell_effect}
-use Rattle.title_store.specs.CellMaps.{cell_cmp, kept_at, kept_cells, keep_from}
+use Rattle.title_land.specs.Orders.{cell_cmp}
+use Rattle.title_store.specs.CellMaps.{kept_at, kept_cells, keep_from}
 use Rattle.title_land.proofs.CellMembers.{list_has_the_cells}
-use Rattle.title_store.proofs.CellKeys.{cell_is, at_cell}
+use Rattle.title_land.proofs.Keys.{cell_is, cell_at}
 use Rattle.title_store.proofs.Each.{each_append}
 
 -- the second map is the first with these owners written at a cell
@@ -39,7 +40,7 @@ placed_content m n k h none q = ap (λ (o : Option Owners). unwrap_or o opening_
     absent (Some w) e = absurd (true≢false e)
 
     go : (b : Bool) → is_at (cell_cmp k) q ≡ b → unwrap_or (cond b (Some opening_owners) (get cell_cmp m q)) opening_owners ≡ in_map m q
-    go true e = sym (absent (get cell_cmp m q) (ap (holds m) (cell_is q k (sym (at_cell k q) ∙ e)) ∙ none))
+    go true e = sym (absent (get cell_cmp m q) (ap (holds m) (cell_is q k (sym (cell_at k q) ∙ e)) ∙ none))
     go false e = refl
 
 pub written_stays : (m n : BTreeMap Cell Owners) (k : Cell) (w : Owners) → Writes m n k w → (q : Cell) → holds m q ≡ true → holds n q ≡ true
@@ -73,7 +74,7 @@ pub write_last : (m n : BTreeMap Cell Owners) (ks : List Kept) (k : Kept) → Wr
 write_last m n ks k h c =
     kept_last ks k c (in_map m c)
     ∙ ap (unwrap_or (kept_at ks c)) (sym (ap (λ (o : Option Owners). unwrap_or o opening_owners) (h c)
-    ∙ ap (λ (b : Bool). unwrap_or (cond b (Some k.owners) (get cell_cmp m c)) opening_owners) (at_cell k.cell c) ∙ go (same_cell c k.cell)))
+    ∙ ap (λ (b : Bool). unwrap_or (cond b (Some k.owners) (get cell_cmp m c)) opening_owners) (cell_at k.cell c) ∙ go (same_cell c k.cell)))
   where
     go : (b : Bool) → unwrap_or (cond b (Some k.owners) (get cell_cmp m c)) opening_owners ≡ cond b k.owners (in_map m c)
     go true = refl

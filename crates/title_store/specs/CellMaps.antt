@@ -1,12 +1,11 @@
 -- Maps from cells to owners, what is kept of cells, and the images that a map of them lends.
 use Rattle.std.specs.Prelude.{◌≡◌, ℕ, Bool, true, cond, List, [], ◌∷◌, Option, Some, None, is_some, unwrap_or, map}
-use Rattle.std.specs.declared.cmp.Ordering.{Ordering}
-use Rattle.std.specs.Ordering.{nat_cmp, bool_cmp, ordering_then}
+use Rattle.std.specs.Ordering.{nat_cmp}
 use Rattle.std.specs.BTreeMap.{BTreeMap, get, is_at}
 use Rattle.title_land.specs.declared.place.Township.{Township}
-use Rattle.title_land.specs.declared.place.Section.{Section}
 use Rattle.title_land.specs.declared.place.Cell.{Cell}
 use Rattle.title_land.specs.CellLists.{same_cell}
+use Rattle.title_land.specs.Orders.{cell_cmp}
 use Rattle.title_instrument.specs.declared.instrument.Instrument.{Instrument}
 use Rattle.title_instrument.specs.declared.owners.Owners.{Owners}
 use Rattle.title_instrument.specs.Owners.{opening_owners}
@@ -18,19 +17,6 @@ use Rattle.title_store.specs.declared.posts.Computed.{Computed}
 use Rattle.title_store.specs.declared.posts.Computed.TheVariants as computed
 use Rattle.title_store.specs.Plants.{Plant, is_cell_of, first_failing, done_or}
 use Rattle.title_store.specs.Loans.{Loan}
-
--- the order of cells in a map
-abbrev pub township_cmp : Township → Township → Ordering
-township_cmp t u =
-    ordering_then (nat_cmp t.number u.number)
-    (ordering_then (bool_cmp t.north u.north)
-    (ordering_then (nat_cmp t.range u.range) (bool_cmp t.east u.east)))
-
-abbrev pub section_cmp : Section → Section → Ordering
-section_cmp s u = ordering_then (township_cmp s.township u.township) (nat_cmp s.number u.number)
-
-abbrev pub cell_cmp : Cell → Cell → Ordering
-cell_cmp a b = ordering_then (section_cmp a.section b.section) (ordering_then (nat_cmp a.row b.row) (nat_cmp a.column b.column))
 
 -- what a map has at each cell: a cell that it doesn't hold has the opening owners
 abbrev pub content_of : CellMap → Plant

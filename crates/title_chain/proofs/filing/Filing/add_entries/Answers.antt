@@ -1,25 +1,26 @@
--- The places that are merged are those of all posts that may share a cell with the tract.
-use Rattle.std.proofs.Common.{◌≡◌, List, ◌++◌, subst, ◌∙◌}
+-- The places found near the nodes of the tract's cover are those of the posts that share a cell with it.
+use Rattle.std.proofs.Common.{◌≡◌, ◌++◌, List, reverse, ap, subst, ◌∙◌}
+use Rattle.std.specs.List.{list_any}
 use Rattle.std.specs.Prelude.{OnOk}
+use Rattle.title_land.specs.declared.node.Node.{Node}
+use Rattle.title_land.specs.Lands.{IsLand}
 use Rattle.title_chain.specs.declared.ask.Entry.{Entry}
-use Rattle.title_chain.proofs.Filings.{section_entries, township_entries}
+use Rattle.title_chain.specs.PostPlaces.{record_posts}
+use Rattle.title_chain.specs.TractIndexes.{is_near}
+use Rattle.title_chain.proofs.Nearness.{near_meets}
+use Rattle.title_chain.proofs.PlaceEntries.{place_entries}
 use Rattle.title_chain.proofs.filing.Filing.add_entries.Goals as goal
-use Rattle.title_chain.proofs.filing.Filing.add_entries.Goals.{in-Township, in-Part}
 
 pub returns : goal.returns
 returns c =
-    let Adds : List Entry → Type 0 = λ es. OnOk c.add_entries_at.result (c.add_entries_at.new.entries.items ≡ c.args.entries.now.items ++ es) in
-    elim c.match-land.branch [
-      | in-Township w ↦ record {
-        added = subst Adds
-            (township_entries c.args.self.now c.args.records.now c.args.tract.now c.land.result w.in-Township.township c.match-land.places w.of_township.result.now w.deref.result.now
-            c.land.ensures.land w.in-Township.is c.requires.filed (w.places-is ∙ w.new-places.ensures.new) w.of_township.ensures.places w.deref.ensures.value)
-            c.add_entries_at.ensures.added;
-      }
-      | in-Part w ↦ record {
-        added = subst Adds
-            (section_entries c.args.self.now c.args.records.now c.args.tract.now c.land.result w.in-Part.section w.in-Part.field-1 c.match-land.places w.of_section.result.now w.deref-in-Part.result.now
-            c.land.ensures.land w.in-Part.is c.requires.filed (w.places-is ∙ w.new-places-in-Part.ensures.new) w.of_section.ensures.places w.deref-in-Part.ensures.value)
-            c.add_entries_at.ensures.added;
-      }
-    ]
+    let f = c.args.self.now in
+    let records = c.args.records.now in
+    let land = c.args.tract.now in
+    let sized : IsLand 3 land = subst (IsLand 3) c.land.ensures.land c.is_sized.ensures.sized in record {
+      added = subst (λ (es : List Entry). OnOk c.add_entries_at.result (c.add_entries_at.new.entries.items ≡ c.args.entries.now.items ++ es))
+          (place_entries records land c.in_ok-found.found c.add_entries_at.ensures.ordered
+          (λ p. c.in_ok-found.ensures.found p
+          ∙ ap (λ (cover : List Node). list_any (is_near f p) cover) c.cover.ensures.cover
+          ∙ near_meets f (record_posts (reverse records)) c.requires.filed land sized p))
+          c.add_entries_at.ensures.added;
+    }

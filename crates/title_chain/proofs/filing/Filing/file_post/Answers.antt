@@ -1,16 +1,18 @@
--- A part is filed under its section and its township, and any other land is filed as wide.
-use Rattle.std.proofs.Common.{refl}
-use Rattle.title_chain.proofs.Filings.{part_filed, wide_filed}
+-- The post is filed where its cover is.
+use Rattle.std.proofs.Common.{subst, Result, Ok, Err, OnOk}
+use Rattle.title_land.specs.declared.tract.Land.{Land}
+use Rattle.title_land.specs.Lands.{IsLand}
+use Rattle.title_chain.proofs.Filings.{post_filed}
 use Rattle.title_chain.proofs.filing.Filing.file_post.Goals as goal
 
-pub returns-in_default : goal.returns-in_default
-returns-in_default c = record {
-  read = refl;
-  filed = wide_filed c.args.self.now _ c.args.place c.args.land c.in_default.not-Part refl refl c.in_ok-push.ensures.items;
-}
+-- what follows from two facts of an `Ok`
+on_ok_both : {T E P Q R : Type 0} (r : Result T E) → (P → Q → R) → OnOk r P → OnOk r Q → OnOk r R
+on_ok_both (Ok x) f p q = f p q
+on_ok_both (Err e) f p q = tt
 
 pub returns-clause-filed : goal.returns-clause-filed
 returns-clause-filed c =
-    let section = c.in_ok-file_under.ensures in
-    let township = c.in_ok-file_under-2.ensures in
-    part_filed c.args.self.now _ c.args.place c.in-Part.section c.in-Part.field-1 c.args.land c.in-Part.is section.here section.apart township.here township.apart refl
+    on_ok_both c.file_cover.result
+    (post_filed 3 c.args.self.now c.file_cover.new.self c.args.place c.args.tract.now c.cover.result.now c.cover.ensures.cover
+    (subst (λ (l : Land). IsLand 3 l) c.land.ensures.land c.is_sized.ensures.sized))
+    c.file_cover.ensures.at c.file_cover.ensures.below

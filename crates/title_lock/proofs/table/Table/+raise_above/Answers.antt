@@ -4,8 +4,11 @@ use Rattle.title_land.specs.Nodes.{same_node}
 use Rattle.title_lock.specs.declared.modes.Mode.{Mode}
 use Rattle.title_lock.specs.Modes.{bound}
 use Rattle.title_lock.specs.Tables.{table_mode}
-use Rattle.title_lock.proofs.AccessLaws.{above_join}
+use Rattle.title_lock.proofs.AccessLaws.{none_above, above_join}
 use Rattle.title_lock.proofs.table.Table.+raise_above.Goals as goal
+
+pub returns-in_default-clause-modes : goal.returns-in_default-clause-modes
+returns-in_default-clause-modes t c f n = none_above (eqb f c.args.examiner) c.args.mode (table_mode c.args.self.now f n) c.args.node n c.in_default.ensures.parent
 
 pub returns-in-Some-clause-modes : goal.returns-in-Some-clause-modes
 returns-in-Some-clause-modes t c f n =

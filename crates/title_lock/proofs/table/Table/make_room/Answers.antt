@@ -1,32 +1,33 @@
 -- A place gets room, and a new place holds nobody.
 use Rattle.std.proofs.Common.{◌∙◌, ap, sym, subst, Some, true≢false}
-use Rattle.title_lock.specs.Tables.{holders_in, room_in}
-use Rattle.title_lock.proofs.TableLaws.{Places, Writes, is_found, same_holders, room_stays}
+use Rattle.title_lock.specs.Tables.{mode_in, room_in}
+use Rattle.title_lock.proofs.TableLaws.{Places, Writes, is_found, same_everywhere, room_stays}
 use Rattle.title_lock.proofs.table.Table.make_room.Goals as goal
 
-pub returns-in-Some-clause-holders : goal.returns-in-Some-clause-holders
-returns-in-Some-clause-holders c =
-    let w = c.make_room.new.holders in
+pub returns-in-Some-clause-modes : goal.returns-in-Some-clause-modes
+returns-in-Some-clause-modes c f =
+    let w = c.make_room.new.self in
     let had = c.in-Some.ensures.value in
-    same_holders c.args.self.now.places (c.get_mut.follows.lender w) c.args.node (Some w) ((c.get_mut.follows.holds w).3 (is_found _ _ had)).0 (c.make_room.ensures.items ∙ ap holders_in had)
+    same_everywhere c.args.self.now.places (c.get_mut.follows.lender w) c.args.node (Some w) ((c.get_mut.follows.holds w).3 (is_found _ _ had)).0 (mode_in f) (c.make_room.ensures.modes f ∙ ap (mode_in f) had)
 
 pub returns-in-Some-clause-stays : goal.returns-in-Some-clause-stays
-returns-in-Some-clause-stays c e =
-    let w = c.make_room.new.holders in
+returns-in-Some-clause-stays c e m =
+    let w = c.make_room.new.self in
     let had = c.in-Some.ensures.value in
-    room_stays c.args.self.now.places (c.get_mut.follows.lender w) c.args.node (Some w) ((c.get_mut.follows.holds w).3 (is_found _ _ had)).0 e
-    (λ h. c.make_room.ensures.stays e (ap (room_in e) had ∙ h))
+    room_stays c.args.self.now.places (c.get_mut.follows.lender w) c.args.node (Some w) ((c.get_mut.follows.holds w).3 (is_found _ _ had)).0 e m
+    (λ h. c.make_room.ensures.stays e m (ap (room_in e m) had ∙ h))
 
-pub returns-clause-holders : goal.returns-clause-holders
-returns-clause-holders c =
-    let v = c.in_ok-holders.holders in
-    same_holders c.args.self.now.places c.insert.new.self c.args.node (Some v)
+pub returns-clause-modes : goal.returns-clause-modes
+returns-clause-modes c f =
+    let v = c.make_room-2.new.self in
+    same_everywhere c.args.self.now.places c.insert.new.self c.args.node (Some v)
     (subst (λ (m : Places). Writes m c.insert.new.self c.args.node (Some v)) c.get_mut.follows.holds-at-none c.in_ok-insert.ensures.updates.0)
-    (c.in_ok-holders.ensures.items ∙ ap holders_in c.in_default.ensures.value)
+    (mode_in f)
+    (c.make_room-2.ensures.modes f ∙ c.new-place.ensures.free f ∙ ap (mode_in f) c.in_default.ensures.value)
 
 pub returns-clause-stays : goal.returns-clause-stays
-returns-clause-stays c e =
-    let v = c.in_ok-holders.holders in
+returns-clause-stays c e m =
+    let v = c.make_room-2.new.self in
     room_stays c.args.self.now.places c.insert.new.self c.args.node (Some v)
-    (subst (λ (m : Places). Writes m c.insert.new.self c.args.node (Some v)) c.get_mut.follows.holds-at-none c.in_ok-insert.ensures.updates.0) e
-    (λ h. absurd (true≢false (sym h ∙ ap (room_in e) (sym c.in_default.ensures.value))))
+    (subst (λ (m : Places). Writes m c.insert.new.self c.args.node (Some v)) c.get_mut.follows.holds-at-none c.in_ok-insert.ensures.updates.0) e m
+    (λ h. absurd (true≢false (sym h ∙ ap (room_in e m) (sym c.in_default.ensures.value))))

@@ -1,24 +1,22 @@
 -- One place changes, and it keeps its room.
 use Rattle.std.proofs.Common.{◌∙◌, ap, Some, None, cond, eqb, Option}
-use Rattle.std.specs.Global.{Vec}
-use Rattle.title_lock.specs.declared.holders.Holder.{Holder}
+use Rattle.title_lock.specs.declared.place.Place.{Place}
 use Rattle.title_lock.specs.Modes.{bound}
-use Rattle.title_lock.specs.Holders.{holder_mode}
-use Rattle.title_lock.specs.Tables.{holders_in}
+use Rattle.title_lock.specs.Tables.{mode_in, room_in}
 use Rattle.title_lock.proofs.TableLaws.{is_found, raised, room_stays}
 use Rattle.title_lock.proofs.table.Table.raise.Goals as goal
 
 pub returns-in-Some-clause-modes : goal.returns-in-Some-clause-modes
 returns-in-Some-clause-modes c f =
     let e = c.args.examiner in
-    let w = c.raise.new.holders in
+    let w = c.raise.new.self in
     let had = c.in-Some.ensures.value in
     raised c.args.self.now.places (c.get_mut.follows.lender w) c.args.node (Some w) ((c.get_mut.follows.holds w).3 (is_found _ _ had)).0 e f c.args.mode
-    (c.raise.ensures.modes f ∙ ap (λ (o : Option (Vec Holder)). bound (holder_mode (holders_in o) f) (cond (eqb f e) (Some c.args.mode) None)) had)
+    (c.raise.ensures.modes f ∙ ap (λ (o : Option Place). bound (mode_in f o) (cond (eqb f e) (Some c.args.mode) None)) had)
 
 pub returns-in-Some-clause-stays : goal.returns-in-Some-clause-stays
-returns-in-Some-clause-stays c =
-    let w = c.raise.new.holders in
+returns-in-Some-clause-stays c f m =
+    let w = c.raise.new.self in
     let had = c.in-Some.ensures.value in
-    room_stays c.args.self.now.places (c.get_mut.follows.lender w) c.args.node (Some w) ((c.get_mut.follows.holds w).3 (is_found _ _ had)).0 c.args.examiner
-    (λ h. c.raise.ensures.room)
+    room_stays c.args.self.now.places (c.get_mut.follows.lender w) c.args.node (Some w) ((c.get_mut.follows.holds w).3 (is_found _ _ had)).0 f m
+    (λ h. c.raise.ensures.stays f m (ap (room_in f m) had ∙ h))

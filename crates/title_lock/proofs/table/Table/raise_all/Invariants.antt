@@ -14,5 +14,5 @@ invariant-loop-node l = record {
   modes : (f : ℕ) (n : Node) →
       bound (table_mode l.self f n) (cond (eqb f l.examiner) (asked (is_post l.access) (drop l.node-index l.cover) n) None)
       ≡ bound (table_mode l.fn.self f n) (cond (eqb f l.examiner) (asked (is_post l.access) l.cover n) None);
-  room : AllByRecursion (RoomFor l.self l.examiner) (drop l.node-index l.cover);
+  room : AllByRecursion (RoomFor l.self l.examiner (is_post l.access)) (drop l.node-index l.cover);
 }

@@ -1,0 +1,17 @@
+-- One node of the cover more.
+use Rattle.std.proofs.Common.{◌<◌, length, arith}
+use Rattle.title_land.specs.Nodes.{same_node, is_above}
+use Rattle.title_chain.proofs.Filings.{one_node_more}
+use Rattle.title_chain.proofs.filing.Filing.file_cover.Goals as goal
+
+pub loop-node-preserved : goal.loop-node-preserved
+loop-node-preserved c =
+    let low : c.loop-node.node-index < length c.args.cover.now = omega arith in
+    let nodes = c.args.cover.now in
+    let i = c.loop-node.node-index in
+    let k = c.node-item.result in
+    record {
+      read = c.loop-node.invariant.read;
+      at = λ n p. one_node_more (same_node n) nodes i k _ _ _ _ low c.node-item.is (c.loop-node.invariant.at n p) (c.in_ok-file_under.ensures.filed n p);
+      below = λ n p. one_node_more (is_above n) nodes i k _ _ _ _ low c.node-item.is (c.loop-node.invariant.below n p) (c.in_ok-file_above.ensures.filed n p);
+    }

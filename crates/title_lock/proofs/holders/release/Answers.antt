@@ -1,7 +1,0 @@
--- What is kept is a filter of the holders.
-use Rattle.std.proofs.Common.{rules}
-use Rattle.std.proofs.lemmas.Fn.{filter_same}
-use Rattle.title_lock.proofs.holders.release.Goals as goal
-
-pub returns-clause-left : goal.returns-clause-left
-returns-clause-left c = filter_same _ _ _ (λ x b f' k. search rules) _ _ c.retain.ensures.filtered
