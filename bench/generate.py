@@ -1,7 +1,7 @@
 #!/usr/bin/env python3
 """Writes a large valid script of the program `titleplant` to standard output.
 
-    generate.py --kind deeds|sheets|chains|parts|interleaved|short|long|crowd|refused [--rows N] [--seed N]
+    generate.py --kind deeds|sheets|chains|parts|interleaved|short|long|reviewed|crowd|refused [--rows N] [--seed N]
 
 deeds        plain deeds and releases of one examiner, each a transaction of its own       (for `alone`)
 sheets       sheets of whole sections, after a few deeds                                   (for `alone`)
@@ -10,6 +10,7 @@ parts        deeds and releases of parts of eight sections, with a chain of a ce
 interleaved  eight examiners at work at once, in transactions of up to 20 steps            (for `run`)
 short        the same in transactions of two deeds of single cells                         (for `run`)
 long         one examiner's transactions of 5,000 deeds of single cells each               (for `run`)
+reviewed     the same, then a chain of each of those cells in the same transaction         (for `run`)
 crowd        9,999 examiners, or a third of the rows, open at once, with deeds of cells    (for `run`)
 refused      as many examiners have read a section, and one more posts there in vain       (for `run`)
 
@@ -131,6 +132,21 @@ def long(chance, count):
             yield f"1,{instrument(chance, document, cell(chance))}"
 
 
+def reviewed(chance, count):
+    places = []
+    for document in range(1, count + 1):
+        turn = document % 10002
+        if turn == 1:
+            yield "1,begin"
+        elif turn == 0:
+            yield "1,commit"
+        elif turn <= 5001:
+            places.append(cell(chance))
+            yield f"1,{instrument(chance, document, places[-1])}"
+        else:
+            yield f"1,chain,{places.pop()}"
+
+
 def crowd(chance, count):
     """All examiners begin, then each posts deeds in its turn, and at last all commit."""
     examiners = min(9_999, count // 3)
@@ -159,6 +175,7 @@ KINDS = {
     "interleaved": interleaved,
     "short": short,
     "long": long,
+    "reviewed": reviewed,
     "crowd": crowd,
     "refused": refused,
 }

@@ -16,9 +16,9 @@ fi
 work=$(mktemp -d)
 trap 'rm -rf "$work"' EXIT
 printf '%-12s %8s %8s %8s %8s %9s %8s %8s %8s\n' kind rows steps wall cpu steps/s MB time steps
-for kind in deeds sheets chains parts interleaved short long crowd refused; do
+for kind in deeds sheets chains parts interleaved short long reviewed crowd refused; do
     case $kind in
-        interleaved | short | long | crowd | refused) command=run ;;
+        interleaved | short | long | reviewed | crowd | refused) command=run ;;
         *) command=alone ;;
     esac
     before=

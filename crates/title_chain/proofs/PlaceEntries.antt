@@ -1,4 +1,4 @@
--- The entries of the steps at the places of posts are those of the records.
+-- The entries of the steps at the places of posts are those of the records, or of a transaction's own steps.
 use Rattle.std.proofs.Common.{◌≡◌, ℕ, ◌+◌, ◌≤◌, suc, Bool, true, false, cond, List, [], ◌∷◌, ◌++◌, length, reverse, Option, Some, refl, sym, ap, subst, ◌∙◌, append_assoc, add-one}
 use Rattle.std.specs.Prelude.{slice_get}
 use Rattle.std.specs.BTreeSet.{BTreeSet, IsOrdered}
@@ -19,8 +19,8 @@ use Rattle.title_chain.specs.declared.record.Record.{Record}
 use Rattle.title_chain.specs.StepEntries.{entry_of, step_entries}
 use Rattle.title_chain.specs.Chains.{record_entries}
 use Rattle.title_chain.specs.PlaceMaps.{place_cmp, is_found}
-use Rattle.title_chain.specs.PostPlaces.{PlacedPost, post_of, place_at, step_posts, record_posts, places_where, is_place_where, step_entry, entry_in, entry_at, entries_at}
-use Rattle.title_chain.proofs.PlaceOrder.{IsAmong, steps_among, records_ascend, keys_are}
+use Rattle.title_chain.specs.PostPlaces.{PlacedPost, post_of, place_at, step_posts, record_posts, places_where, is_place_where, step_entry, entry_in, entry_at, own_entry_at, entries_at}
+use Rattle.title_chain.proofs.PlaceOrder.{IsAmong, steps_among, steps_ascend, records_ascend, keys_are}
 
 -- a place past the records, or past the steps of its record, gives no entry
 pub past_records : (records : List Record) (land : Land) (p : Place) (entries : List Entry) → length records ≤ p.record → entries ≡ entries ++ entry_at records land p
@@ -42,40 +42,54 @@ entry_is records land p r s is there =
     ap (λ (n : ℕ). entry_of n land s.ask s.answer) (add-one p.record)
     ∙ sym (ap (entry_in (suc p.record) land p.step) is ∙ ap (step_entry (suc p.record) land) there)
 
+-- a transaction's own step gives the entry at its place, and past the steps there is none
+pub past_own : (steps : List Step) (land : Land) (i : ℕ) (entries : List Entry) → length steps ≤ i → entries ≡ entries ++ step_entry 0 land (slice_get steps i)
+past_own steps land i entries h = sym (ap (λ (o : Option Step). entries ++ step_entry 0 land o) (slice_get_past steps i h) ∙ append-nil entries)
+
+pub own_entry_is : (steps : List Step) (land : Land) (i : ℕ) (s : Step) → slice_get steps i ≡ Some s → entry_of 0 land s.ask s.answer ≡ step_entry 0 land (slice_get steps i)
+own_entry_is steps land i s there = sym (ap (step_entry 0 land) there)
+
 -- the entry that a post gives to the chain of a tract, with a record's number
 abbrev pub post_entry : ℕ → Land → PlacedPost → List Entry
 post_entry n land x = cond (meets land x.posting.tract) (record { place = n; posting = x.posting } ∷ []) []
 
--- those of these posts, each with its record's number from 1
-abbrev pub post_entries : Land → List PlacedPost → List Entry
-post_entries land [] = []
-post_entries land (x ∷ posts) = post_entry (suc x.place.record) land x ++ post_entries land posts
+-- those of these posts, each with the number that its record's index is given
+abbrev pub post_entries : (ℕ → ℕ) → Land → List PlacedPost → List Entry
+post_entries number land [] = []
+post_entries number land (x ∷ posts) = post_entry (number x.place.record) land x ++ post_entries number land posts
 
-entries_append : (land : Land) (xs ys : List PlacedPost) → post_entries land (xs ++ ys) ≡ post_entries land xs ++ post_entries land ys
-entries_append land [] ys = refl
-entries_append land (x ∷ xs) ys =
-    ap (λ (es : List Entry). post_entry (suc x.place.record) land x ++ es) (entries_append land xs ys)
-    ∙ sym (append_assoc (post_entry (suc x.place.record) land x) (post_entries land xs) (post_entries land ys))
+entries_append : (number : ℕ → ℕ) (land : Land) (xs ys : List PlacedPost) → post_entries number land (xs ++ ys) ≡ post_entries number land xs ++ post_entries number land ys
+entries_append number land [] ys = refl
+entries_append number land (x ∷ xs) ys =
+    ap (λ (es : List Entry). post_entry (number x.place.record) land x ++ es) (entries_append number land xs ys)
+    ∙ sym (append_assoc (post_entry (number x.place.record) land x) (post_entries number land xs) (post_entries number land ys))
 
-one_entry : (land : Land) (i j : ℕ) (a : Ask) (given : Answer) → post_entries land (post_of (place_at i j) a given) ≡ entry_of (suc i) land a given
-one_entry land i j (ask.Sheet t) given = refl
-one_entry land i j (ask.Chain t) given = refl
-one_entry land i j (ask.Post p) (answer.Rows rows) = refl
-one_entry land i j (ask.Post p) (answer.Entries entries) = refl
-one_entry land i j (ask.Post p) answer.Posted = append-nil _
-one_entry land i j (ask.Post p) (answer.Refused rule estate node) = refl
+one_entry : (number : ℕ → ℕ) (land : Land) (i j : ℕ) (a : Ask) (given : Answer) → post_entries number land (post_of (place_at i j) a given) ≡ entry_of (number i) land a given
+one_entry number land i j (ask.Sheet t) given = refl
+one_entry number land i j (ask.Chain t) given = refl
+one_entry number land i j (ask.Post p) (answer.Rows rows) = refl
+one_entry number land i j (ask.Post p) (answer.Entries entries) = refl
+one_entry number land i j (ask.Post p) answer.Posted = append-nil _
+one_entry number land i j (ask.Post p) (answer.Refused rule estate node) = refl
 
-steps_entries : (land : Land) (i : ℕ) (steps : List Step) → post_entries land (step_posts i steps) ≡ step_entries (suc i) land steps
-steps_entries land i [] = refl
-steps_entries land i (s ∷ earlier) =
-    entries_append land (step_posts i earlier) (post_of (place_at i (length earlier)) s.ask s.answer)
-    ∙ (let before = steps_entries land i earlier in let here = one_entry land i (length earlier) s.ask s.answer in cc)
+steps_entries : (number : ℕ → ℕ) (land : Land) (i : ℕ) (steps : List Step) → post_entries number land (step_posts i steps) ≡ step_entries (number i) land steps
+steps_entries number land i [] = refl
+steps_entries number land i (s ∷ earlier) =
+    entries_append number land (step_posts i earlier) (post_of (place_at i (length earlier)) s.ask s.answer)
+    ∙ (let before = steps_entries number land i earlier in let here = one_entry number land i (length earlier) s.ask s.answer in cc)
 
-pub records_entries : (land : Land) (records : List Record) → post_entries land (record_posts records) ≡ record_entries land records
+-- records are numbered from 1, and the steps of an open transaction have place 0
+abbrev from_one : ℕ → ℕ
+from_one i = suc i
+
+abbrev own_place : ℕ → ℕ
+own_place i = 0
+
+records_entries : (land : Land) (records : List Record) → post_entries from_one land (record_posts records) ≡ record_entries land records
 records_entries land [] = refl
 records_entries land (r ∷ older) =
-    entries_append land (record_posts older) (step_posts (length older) (reverse r.steps))
-    ∙ (let before = records_entries land older in let here = steps_entries land (length older) (reverse r.steps) in cc)
+    entries_append from_one land (record_posts older) (step_posts (length older) (reverse r.steps))
+    ∙ (let before = records_entries land older in let here = steps_entries from_one land (length older) (reverse r.steps) in cc)
 
 seam : {A : Type 0} (xs : List A) (y : A) (ys : List A) → slice_get (xs ++ y ∷ ys) (length xs) ≡ Some y
 seam [] y ys = refl
@@ -133,21 +147,25 @@ records_found (r ∷ older) later =
     (each_append (IsPlaced (reverse older ++ r ∷ later)) (record_posts older) (step_posts (length older) (reverse r.steps)) (records_found older (r ∷ later))
     (record_found (length older) (reverse older ++ r ∷ later) r (back_seam older r later)))
 
+-- at the post's place stands its entry
+abbrev IsAt : (ℕ → ℕ) → Land → (Place → List Entry) → PlacedPost → Type 0
+IsAt number land at x = at x.place ≡ post_entry (number x.place.record) land x
+
 -- the places of the posts that share a cell give the entries of all: the others have none
 where_entries :
-    (records : List Record) (land : Land) (posts : List PlacedPost) → AllByRecursion (IsPlaced records) posts →
-    entries_at records land (places_where (meets land) posts) ≡ post_entries land posts
-where_entries records land [] h = refl
-where_entries records land (x ∷ posts) h = go (meets land x.posting.tract) (h.0 land) (where_entries records land posts h.1)
+    (number : ℕ → ℕ) (land : Land) (at : Place → List Entry) (posts : List PlacedPost) → AllByRecursion (IsAt number land at) posts →
+    entries_at at (places_where (meets land) posts) ≡ post_entries number land posts
+where_entries number land at [] h = refl
+where_entries number land at (x ∷ posts) h = go (meets land x.posting.tract) h.0 (where_entries number land at posts h.1)
   where
     places : List Place
     places = places_where (meets land) posts
 
     entry_if : Bool → List Entry
-    entry_if b = cond b (record { place = suc x.place.record; posting = x.posting } ∷ []) []
+    entry_if b = cond b (record { place = number x.place.record; posting = x.posting } ∷ []) []
 
-    go : (b : Bool) → entry_at records land x.place ≡ entry_if b → entries_at records land places ≡ post_entries land posts →
-        entries_at records land (cond b (x.place ∷ places) places) ≡ entry_if b ++ post_entries land posts
+    go : (b : Bool) → at x.place ≡ entry_if b → entries_at at places ≡ post_entries number land posts →
+        entries_at at (cond b (x.place ∷ places) places) ≡ entry_if b ++ post_entries number land posts
     go true here rest = λ i. here i ++ rest i
     go false here rest = rest
 
@@ -155,12 +173,26 @@ where_entries records land (x ∷ posts) h = go (meets land x.posting.tract) (h.
 pub place_entries :
     (records : List Record) (land : Land) (found : BTreeSet Place) → IsOrdered place_cmp found →
     ((p : Place) → is_found found p ≡ is_place_where (meets land) (record_posts (reverse records)) p) →
-    entries_at records land found.keys ≡ record_entries land (reverse records)
+    entries_at (entry_at records land) found.keys ≡ record_entries land (reverse records)
 place_entries records land found ordered same =
     let newest : List Record = reverse records in
     let posts : List PlacedPost = record_posts newest in
     let all : reverse newest ++ [] ≡ records = append-nil (reverse newest) ∙ reverse-reverse records in
     let placed : AllByRecursion (IsPlaced records) posts = subst (λ (items : List Record). AllByRecursion (IsPlaced items) posts) all (records_found newest []) in
-    ap (entries_at records land) (keys_are found posts (meets land) ordered (records_ascend newest) same)
-    ∙ where_entries records land posts placed
+    ap (entries_at (entry_at records land)) (keys_are found posts (meets land) ordered (records_ascend newest) same)
+    ∙ where_entries from_one land (entry_at records land) posts (each_from (IsPlaced records) (IsAt from_one land (entry_at records land)) posts (λ x h. h land) placed)
     ∙ records_entries land newest
+
+-- and those of a transaction's own steps
+pub own_entries :
+    (steps : List Step) (land : Land) (found : BTreeSet Place) → IsOrdered place_cmp found →
+    ((p : Place) → is_found found p ≡ is_place_where (meets land) (step_posts 0 (reverse steps)) p) →
+    entries_at (own_entry_at steps land) found.keys ≡ step_entries 0 land (reverse steps)
+own_entries steps land found ordered same =
+    let newest : List Step = reverse steps in
+    let posts : List PlacedPost = step_posts 0 newest in
+    let all : reverse newest ++ [] ≡ steps = append-nil (reverse newest) ∙ reverse-reverse steps in
+    let placed : AllByRecursion (IsStepOf steps) posts = subst (λ (items : List Step). AllByRecursion (IsStepOf items) posts) all (steps_found 0 newest []) in
+    ap (entries_at (own_entry_at steps land)) (keys_are found posts (meets land) ordered (steps_ascend 0 newest) same)
+    ∙ where_entries own_place land (own_entry_at steps land) posts (each_from (IsStepOf steps) (IsAt own_place land (own_entry_at steps land)) posts (λ x h. h 0 land) placed)
+    ∙ steps_entries own_place land 0 newest

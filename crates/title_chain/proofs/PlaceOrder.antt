@@ -78,7 +78,7 @@ one_after i n x (ask.Post p) (answer.Entries entries) h = tt
 one_after i n x (ask.Post p) answer.Posted h = (before_step x.place (place_at i n) h.0 h.1, tt)
 one_after i n x (ask.Post p) (answer.Refused rule estate node) h = tt
 
-steps_ascend : (i : ℕ) (steps : List Step) → Ascend (step_posts i steps)
+pub steps_ascend : (i : ℕ) (steps : List Step) → Ascend (step_posts i steps)
 steps_ascend i [] = tt
 steps_ascend i (s ∷ earlier) =
     ascend_append (step_posts i earlier) _ (steps_ascend i earlier) (one_ascends (place_at i (length earlier)) s.ask s.answer)

@@ -73,7 +73,11 @@ entry_in n land j (Some r) = step_entry n land (slice_get r.steps j)
 abbrev pub entry_at : List Record → Land → Place → List Entry
 entry_at records land p = entry_in (suc p.record) land p.step (slice_get records p.record)
 
--- the entries of the steps at these places
-abbrev pub entries_at : List Record → Land → List Place → List Entry
-entries_at records land [] = []
-entries_at records land (p ∷ places) = entry_at records land p ++ entries_at records land places
+-- the entry of the step at a place of a transaction's own steps, which have the oldest first here, with place 0
+abbrev pub own_entry_at : List Step → Land → Place → List Entry
+own_entry_at steps land p = step_entry 0 land (slice_get steps p.step)
+
+-- the entries at these places, given the entry at each
+abbrev pub entries_at : (Place → List Entry) → List Place → List Entry
+entries_at at [] = []
+entries_at at (p ∷ places) = at p ++ entries_at at places

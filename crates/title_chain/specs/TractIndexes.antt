@@ -1,19 +1,25 @@
--- Records with an index of their posts by tract. Lists of records here have the oldest first.
+-- Records, and the steps of an open transaction, with an index of their posts by tract. Lists here have the oldest first.
 use Rattle.std.specs.Prelude.{ℕ, ◌≡◌, ◌≤◌, Bool, ◌||◌, List, length, take, reverse}
 use Rattle.std.specs.List.{AllByRecursion, list_any}
 use Rattle.title_land.specs.declared.node.Node.{Node}
 use Rattle.title_land.specs.declared.tract.Land.{Land}
 use Rattle.title_land.specs.Nodes.{same_node, above, is_above}
 use Rattle.title_land.specs.Lands.{cover_of, IsLand}
+use Rattle.title_chain.specs.declared.ask.Step.{Step}
 use Rattle.title_chain.specs.declared.filing.Filing.{Filing}
 use Rattle.title_chain.specs.declared.place.Place.{Place}
 use Rattle.title_chain.specs.declared.record.Record.{Record}
-use Rattle.title_chain.specs.PostPlaces.{PlacedPost, record_posts, is_listed, is_place_where}
+use Rattle.title_chain.specs.PostPlaces.{PlacedPost, step_posts, record_posts, is_listed, is_place_where}
 use Rattle.title_chain.specs.PlaceMaps.{places_under}
 
 -- the records in the order of their commits, and whether one more can be added without memory
 pub record Recorded : Type 0 where
   pub records : List Record
+  pub has_room : Bool
+
+-- the steps of an open transaction, and whether one more can be added without memory
+pub record Owned : Type 0 where
+  pub steps : List Step
   pub has_room : Bool
 
 -- the node is one of the land's cover
@@ -35,6 +41,11 @@ pub record IsFiled (depth : ℕ) (f : Filing) (posts : List PlacedPost) : Type 0
 pub record IsReadFrom (depth : ℕ) (f : Filing) (records : List Record) : Type 0 where
   pub within : f.read ≤ length records
   pub filed : IsFiled depth f (record_posts (reverse (take f.read records)))
+
+-- the posts of the first steps of an open transaction are filed as those of the record at index 0, as many as were read
+pub record AreReadFrom (depth : ℕ) (f : Filing) (steps : List Step) : Type 0 where
+  pub within : f.read ≤ length steps
+  pub filed : IsFiled depth f (step_posts 0 (reverse (take f.read steps)))
 
 -- the place is filed at the node, below it, or at a node above it
 abbrev pub is_near : Filing → Place → Node → Bool

@@ -1,10 +1,10 @@
 //! Chains of tracts.
 
-ghost use Rattle.std.specs.Prelude.{◌≡◌, IfOk, ◌++◌, reverse};
+ghost use Rattle.std.specs.Prelude.{◌≡◌, IfOk, ◌++◌, reverse, slice_get};
 ghost use Rattle.title_chain.specs.StepEntries.{entry_of, step_entries};
 ghost use Rattle.title_chain.specs.Chains.{record_entries, chain_of};
 ghost use Rattle.std.specs.BTreeSet.{IsOrdered};
-ghost use Rattle.title_chain.specs.PostPlaces.{entry_at, entries_at};
+ghost use Rattle.title_chain.specs.PostPlaces.{step_entry, entry_at, own_entry_at, entries_at};
 ghost use Rattle.title_chain.specs.PlaceMaps.{place_cmp};
 
 use crate::ask::{Answer, Ask, Entry, Step};
@@ -96,11 +96,44 @@ pub(crate) fn add_entries_at(
     places: &BTreeSet<Place>,
     tract: &Tract,
 ) -> Result<(), AllocError>
-    ensures added { IfOk result (λ _. entries.new.items ≡ entries.old.items ++ entries_at records.now tract.now places.now.keys) }
+    ensures added { IfOk result (λ _. entries.new.items ≡ entries.old.items ++ entries_at (entry_at records.now tract.now) places.now.keys) }
     ensures ordered { IsOrdered place_cmp places.now }
 {
     for place in places {
         add_entry_at(alloc, entries, records, *place, tract)?;
+    }
+    Ok(())
+}
+
+// Adds the entry of the step at an index, if there is one, with place 0.
+fn add_own_entry_at(
+    alloc: Global,
+    entries: &mut Vec<Entry>,
+    steps: &[Step],
+    index: usize,
+    tract: &Tract,
+) -> Result<(), AllocError>
+    ensures added { IfOk result (λ _. entries.new.items ≡ entries.old.items ++ step_entry 0 tract.now (slice_get steps.now index)) }
+{
+    let Some(step) = steps.get(index) else {
+        return Ok(());
+    };
+    add_entry(alloc, entries, 0, step, tract)
+}
+
+/// Adds the entries of a transaction's own steps at these places, each with place 0.
+pub(crate) fn add_own_entries_at(
+    alloc: Global,
+    entries: &mut Vec<Entry>,
+    steps: &[Step],
+    places: &BTreeSet<Place>,
+    tract: &Tract,
+) -> Result<(), AllocError>
+    ensures added { IfOk result (λ _. entries.new.items ≡ entries.old.items ++ entries_at (own_entry_at steps.now tract.now) places.now.keys) }
+    ensures ordered { IsOrdered place_cmp places.now }
+{
+    for place in places {
+        add_own_entry_at(alloc, entries, steps, place.step, tract)?;
     }
     Ok(())
 }

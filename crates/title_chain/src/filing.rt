@@ -9,15 +9,15 @@ ghost use Rattle.title_chain.specs.PostPlaces.{same_place, is_listed};
 ghost use Rattle.title_chain.specs.PlaceMaps.{places_under, is_found};
 
 use crate::ask::{Answer, Ask, Entry, Step};
-use crate::chains::add_entries_at;
+use crate::chains::{add_entries_at, add_own_entries_at};
 use crate::place::Place;
 use crate::record::Record;
 use std::alloc::{AllocError, Global};
 use std::collections::{BTreeMap, BTreeSet};
 use title_land::{Node, Tract};
 
-/// The places of the posts of a list's first records: under each node those of the posts whose cover has the node, and
-/// those of the posts whose cover has a node below it.
+/// The places of the posts of a list's first records, or of a transaction's first steps as those of a record at index 0:
+/// under each node those of the posts whose cover has the node, and those of the posts whose cover has a node below it.
 #[derive(Debug, Drop)]
 pub(crate) struct Filing {
     read: usize,
@@ -96,8 +96,9 @@ fn find_all(found: &mut BTreeSet<Place>, places: &[Place]) -> Result<(), AllocEr
 
 impl Filing {
     ghost use Rattle.title_chain.specs.Chains.{record_entries};
+    ghost use Rattle.title_chain.specs.StepEntries.{step_entries};
     ghost use Rattle.title_chain.specs.PostPlaces.{PlacedPost, post_of, step_posts, record_posts};
-    ghost use Rattle.title_chain.specs.TractIndexes.{IsFiled, IsReadFrom, is_near};
+    ghost use Rattle.title_chain.specs.TractIndexes.{IsFiled, IsReadFrom, AreReadFrom, is_near};
 
     /// Nothing was read yet; takes no memory.
     pub(crate) fn new(alloc: Global) -> Filing
@@ -187,6 +188,36 @@ impl Filing {
         filed
     }
 
+    // Files the steps of an open transaction that weren't read yet.
+    fn file_own(&mut self, alloc: Global, steps: &[Step]) -> Result<(), AllocError>
+        requires read { AreReadFrom 3 self.old steps.now }
+        ensures filed { OnOk result (IsFiled 3 self.new (step_posts 0 (reverse steps.now))) }
+        ensures read { OnOk result (self.new.read ≡ length steps.now) }
+    {
+        while let Some(step) = steps.get(self.read) {
+            let place = Place {
+                record: 0,
+                step: self.read,
+            };
+            self.file_step(alloc, place, step)?;
+            self.read += 1;
+        }
+        Ok(())
+    }
+
+    /// Files the steps of an open transaction that weren't read yet. An error leaves a filing that read nothing.
+    pub(crate) fn read_on_own(&mut self, alloc: Global, steps: &[Step]) -> Result<(), AllocError>
+        requires read { AreReadFrom 3 self.old steps.now }
+        ensures read { AreReadFrom 3 self.new steps.now }
+        ensures filed { OnOk result (IsFiled 3 self.new (step_posts 0 (reverse steps.now))) }
+    {
+        let filed = self.file_own(alloc, steps);
+        if filed.is_err() {
+            *self = Filing::new(alloc);
+        }
+        filed
+    }
+
     // Adds the places of the posts whose cover has a node above.
     fn find_above(&self, found: &mut BTreeSet<Place>, node: Node) -> Result<(), AllocError>
         ensures found { OnOk result ((p : Place) → is_found found.new p
@@ -233,5 +264,20 @@ impl Filing {
         tract.land().is_sized();
         let found = self.find(alloc, tract.cover())?;
         add_entries_at(alloc, entries, records, &found, tract)
+    }
+    /// Adds the entries of an open transaction's steps that were all read to the chain of a tract, each with place 0.
+    pub(crate) fn add_own_entries(
+        &self,
+        alloc: Global,
+        entries: &mut Vec<Entry>,
+        steps: &[Step],
+        tract: &Tract,
+    ) -> Result<(), AllocError>
+        requires filed { IsFiled 3 self.now (step_posts 0 (reverse steps.now)) }
+        ensures added { OnOk result (entries.new.items ≡ entries.old.items ++ step_entries 0 tract.now (reverse steps.now)) }
+    {
+        tract.land().is_sized();
+        let found = self.find(alloc, tract.cover())?;
+        add_own_entries_at(alloc, entries, steps, &found, tract)
     }
 }

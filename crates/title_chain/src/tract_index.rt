@@ -3,10 +3,9 @@
 ghost use Rattle.std.specs.Prelude.{◌≡◌, ◌∷◌, ◌++◌, [], IfOk, OnOk, IsOk, length, reverse, true};
 ghost use Rattle.title_chain.specs.Chains.{chain_of};
 
-use crate::ask::Step;
-use crate::chains::add_entries;
 use crate::filing::Filing;
 use crate::lists::Entries;
+use crate::own_steps::OwnSteps;
 use crate::record::Record;
 use std::alloc::{AllocError, Global};
 use std::marker::Model;
@@ -76,17 +75,18 @@ impl TractIndex {
     }
 
     /// The chain of a tract, as `chain` gives it: the entries of these records, then those of a transaction's own steps. It
-    /// looks at the records' posts that share a cell with the tract and at no others, and at all of the own steps.
-    pub fn chain(&mut self, own: &[Step], tract: &Tract) -> Result<Entries, AllocError>
+    /// looks at the posts that share a cell with the tract and at no others.
+    pub fn chain(&mut self, own: &mut OwnSteps, tract: &Tract) -> Result<Entries, AllocError>
         ensures records { self.new.records ≡ self.old.records }
         ensures room { self.new.has_room ≡ self.old.has_room }
-        ensures chain { IfOk result (λ entries. entries ≡ chain_of (reverse self.old.records) (reverse own.now) tract.now) }
+        ensures own { own.new ≡ own.old }
+        ensures chain { IfOk result (λ entries. entries ≡ chain_of (reverse self.old.records) (reverse own.old.steps) tract.now) }
     {
         self.filing.read_on(self.alloc, &self.records)?;
         let mut entries = Vec::new(self.alloc);
         self.filing
             .add_entries(self.alloc, &mut entries, &self.records, tract)?;
-        add_entries(self.alloc, &mut entries, 0, own, tract)?;
+        own.add_entries(self.alloc, &mut entries, tract)?;
         Ok(Entries::new(entries))
     }
 }

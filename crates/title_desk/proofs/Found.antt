@@ -43,7 +43,7 @@ pub view_kept : {I X : Type 0} (view : Option (Slot I) → X) (e : ℕ) (o : Opt
 view_kept view e o old new set same f = view_set view e o old new set f ∙ cond_same f e (λ g. view (old g)) (view o) same
 
 -- a slot that looks as it did
-pub same_slots : {I : Type 0} (e : ℕ) (s s' : Slot I) (old new : ℕ → Option (Slot I)) → old e ≡ Some s → IsSet e (Some s') old new → s'.steps.items ≡ s.steps.items → s'.images.items ≡ s.images.items → SameSlots old new
+pub same_slots : {I : Type 0} (e : ℕ) (s s' : Slot I) (old new : ℕ → Option (Slot I)) → old e ≡ Some s → IsSet e (Some s') old new → s'.steps.steps ≡ s.steps.steps → s'.images.items ≡ s.images.items → SameSlots old new
 same_slots e s s' old new at set steps images f = (
   view_kept is_some e (Some s') old new set (ap is_some at) f,
   view_kept steps_in e (Some s') old new set (ap steps_in at ∙ ap reverse (sym steps)) f,
@@ -54,9 +54,9 @@ pub same_images : {I : Type 0} (e : ℕ) (s s' : Slot I) (old new : ℕ → Opti
 same_images e s s' old new at set images f = view_kept images_in e (Some s') old new set (ap images_in at ∙ ap reverse (sym images)) f
 
 -- a slot with one step more
-pub step_added : {I : Type 0} (e : ℕ) (step : Step) (s s' : Slot I) (old new : ℕ → Option (Slot I)) → old e ≡ Some s → IsSet e (Some s') old new → s'.steps.items ≡ s.steps.items ++ step ∷ [] → StepAdded e step old new
+pub step_added : {I : Type 0} (e : ℕ) (step : Step) (s s' : Slot I) (old new : ℕ → Option (Slot I)) → old e ≡ Some s → IsSet e (Some s') old new → s'.steps.steps ≡ s.steps.steps ++ step ∷ [] → StepAdded e step old new
 step_added e step s s' old new at set more f =
-    let longer : steps_in (Some s') ≡ step ∷ steps_in (old e) = ap reverse more ∙ reverse-append s.steps.items (step ∷ []) ∙ ap (λ x. step ∷ x) (sym (ap steps_in at)) in (
+    let longer : steps_in (Some s') ≡ step ∷ steps_in (old e) = ap reverse more ∙ reverse-append s.steps.steps (step ∷ []) ∙ ap (λ x. step ∷ x) (sym (ap steps_in at)) in (
       view_kept is_some e (Some s') old new set (ap is_some at) f,
       view_set steps_in e (Some s') old new set f
           ∙ case_eqb (λ b. cond b (steps_in (Some s')) (steps_in (old f)) ≡ cond b (step ∷ steps_in (old f)) (steps_in (old f))) f e

@@ -186,14 +186,14 @@ commits {number = number} {setting = setting} {out = out} {trace = trace} {slots
 pub keeps_committed : {I : Type 0} {number : I → ℕ} {setting : Setting} {content : Plant} {content' : Plant} {declared declared' : List Township} {out out' : List Loan} {locks locks' : List Entry} {trace : List Call} {records records' : List Record} {slots slots' : ℕ → Option (Slot I)} →
     (e place : ℕ) (s : Slot I) → Keeps number setting content declared out locks trace records slots → slots e ≡ Some s → IsSet e None slots slots' →
     SameContent content content' → declared' ≡ declared → out' ≡ without_all (map number s.images.items) out → locks' ≡ without e locks →
-    records' ≡ records ++ record { examiner = e; steps = s.steps.items } ∷ [] → place ≡ length records' →
+    records' ≡ records ++ record { examiner = e; steps = s.steps.steps } ∷ [] → place ≡ length records' →
     Keeps number setting content' declared' out' locks' (record { request = request.Commit e; reply = reply.Committed place } ∷ trace) records' slots'
 keeps_committed {number = number} {setting = setting} {content = content} {out = out} {locks = locks} {trace = trace} {records = records} {records' = records'} {slots = slots} {slots' = slots'} e place s k mine_is left same declared_is out_is locks_are more at =
     let opened : is_open e trace ≡ true = sym (k.slots_are.begun_are e) ∙ ap is_some mine_is in
     let mine : images_of slots e ≡ reverse s.images.items = ap images_in mine_is in
-    let own : open_steps trace e ≡ reverse s.steps.items = sym (k.slots_are.steps_are e) ∙ ap steps_in mine_is in
-    let r : Record = record { examiner = e; steps = s.steps.items } in
-    let r_is : r ≡ record_of e (open_steps trace e) = ap (λ (z : List Step). record { examiner = e; steps = z }) (sym (ap reverse own ∙ reverse-reverse s.steps.items)) in
+    let own : open_steps trace e ≡ reverse s.steps.steps = sym (k.slots_are.steps_are e) ∙ ap steps_in mine_is in
+    let r : Record = record { examiner = e; steps = s.steps.steps } in
+    let r_is : r ≡ record_of e (open_steps trace e) = ap (λ (z : List Step). record { examiner = e; steps = z }) (sym (ap reverse own ∙ reverse-reverse s.steps.steps)) in
     let records_are : reverse records' ≡ record_of e (open_steps trace e) ∷ committed trace =
     ap reverse more ∙ reverse-append records (r ∷ []) ∙ ap (λ z. z ∷ reverse records) r_is ∙ ap (λ z. record_of e (open_steps trace e) ∷ z) k.records_are in
     let place_is : place ≡ suc (length (committed trace)) = at ∙ sym (length-reverse records') ∙ ap length records_are in

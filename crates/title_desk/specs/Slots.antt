@@ -15,12 +15,12 @@ IsSet e s old new = (f : ℕ) → new f ≡ cond (eqb f e) s (old f)
 
 -- the new slots are the old ones with one more, of this examiner, in which nothing is
 abbrev pub IsBegun : {I : Type 0} → ℕ → (ℕ → Option (Slot I)) → (ℕ → Option (Slot I)) → Type 0
-IsBegun e old new = (s : Slot _) × (s.steps.items ≡ []) × (s.images.items ≡ []) × IsSet e (Some s) old new
+IsBegun e old new = (s : Slot _) × (s.steps.steps ≡ []) × (s.images.items ≡ []) × IsSet e (Some s) old new
 
 -- the steps of a slot, and its images, the newest first
 abbrev pub steps_in : {I : Type 0} → Option (Slot I) → List Step
 steps_in None = []
-steps_in (Some s) = reverse s.steps.items
+steps_in (Some s) = reverse s.steps.steps
 
 abbrev pub images_in : {I : Type 0} → Option (Slot I) → List I
 images_in None = []

@@ -61,12 +61,12 @@ fn lengthen<G: Guards, I>(
     step: Step,
 ) -> Result<(), AllocError>
     ensures images { slot.new.images ≡ slot.old.images }
-    ensures steps { OnOk result (slot.new.steps.items ≡ slot.old.steps.items ++ step ∷ []) }
+    ensures steps { OnOk result (slot.new.steps.steps ≡ slot.old.steps.steps ++ step ∷ []) }
     ensures locked { OnOk result (G.entries guards.new ≡ record { examiner = examiner; tract = tract_of step.ask; access = access } ∷ G.entries guards.old) }
-    ensures err_steps { OnErr result (slot.new.steps.items ≡ slot.old.steps.items) }
+    ensures err_steps { OnErr result (slot.new.steps.steps ≡ slot.old.steps.steps) }
     ensures err_locked { OnErr result (G.entries guards.new ≡ G.entries guards.old) }
 {
-    slot.steps.reserve(1)?;
+    slot.steps.reserve()?;
     if guards.ask(examiner, tract_in(&step.ask), access).is_err() {
         return Err(AllocError);
     }
@@ -108,12 +108,12 @@ fn extend<S: Store, G: Guards>(
     requires last { IsLast (S.number image) (S.out store.old) }
     ensures declared { S.declared store.new ≡ S.declared store.old }
     ensures images { OnOk result (slot.new.images.items ≡ slot.old.images.items ++ image ∷ []) }
-    ensures steps { OnOk result (slot.new.steps.items ≡ slot.old.steps.items ++ step ∷ []) }
+    ensures steps { OnOk result (slot.new.steps.steps ≡ slot.old.steps.steps ++ step ∷ []) }
     ensures locked { OnOk result (G.entries guards.new ≡ record { examiner = examiner; tract = tract_of step.ask; access = Post } ∷ G.entries guards.old) }
     ensures content { OnOk result (SameContent (S.content store.old) (S.content store.new)) }
     ensures out { OnOk result (S.out store.new ≡ S.out store.old) }
     ensures err_images { OnErr result (slot.new.images.items ≡ slot.old.images.items) }
-    ensures err_steps { OnErr result (slot.new.steps.items ≡ slot.old.steps.items) }
+    ensures err_steps { OnErr result (slot.new.steps.steps ≡ slot.old.steps.steps) }
     ensures err_locked { OnErr result (G.entries guards.new ≡ G.entries guards.old) }
     ensures err_content { OnErr result ((b : Loan) → IsLentAs b (S.number image) (S.out store.old) → SameContent (put_back (S.declared store.old) b (S.content store.old)) (S.content store.new)) }
     ensures err_out { OnErr result (S.out store.new ≡ without (S.number image) (S.out store.old)) }

@@ -1,17 +1,19 @@
 //! The open transactions.
 
-ghost use Rattle.std.specs.Prelude.{◌≡◌, ◌+◌, ◌≤◌, OnErr, OnOk, OnSome, None, is_some, length, reverse};
+ghost use Rattle.std.specs.Prelude.{◌≡◌, ◌+◌, ◌≤◌, IfOk, OnErr, OnOk, OnSome, None, is_some, length, reverse};
 ghost use Rattle.std.specs.BTreeMap.{btree_map_len};
+ghost use Rattle.title_chain.specs.Chains.{chain_of};
 ghost use Rattle.title_desk.specs.Slots.{IsBegun, IsSet, SameSlots, found, steps_in};
 
 use std::alloc::{AllocError, Global};
 use std::collections::BTreeMap;
-use title_chain::Step;
+use title_chain::{Entries, OwnSteps, TractIndex};
+use title_land::Tract;
 
 /// What an open transaction has: its steps and the before-images of its posts, each the oldest first.
 #[derive(Drop)]
 pub struct Slot<I> {
-    pub steps: Vec<Step>,
+    pub steps: OwnSteps,
     pub images: Vec<I>,
 }
 
@@ -34,7 +36,7 @@ pub(crate) fn add_slot<I: Drop>(
     ensures err_len { OnErr result (btree_map_len slots.new ≡ btree_map_len slots.old) }
 {
     let slot = Slot {
-        steps: Vec::new(alloc),
+        steps: OwnSteps::new(alloc),
         images: Vec::new(alloc),
     };
     slots.insert(examiner, slot)?;
@@ -50,19 +52,31 @@ pub(crate) fn take_slot<I>(slots: &mut BTreeMap<u32, Slot<I>>, examiner: u32) ->
     slots.remove(&examiner)
 }
 
-/// How many steps an examiner has.
+/// How many steps an examiner has; none where it has no slot.
 pub(crate) fn count_steps<I>(slots: &BTreeMap<u32, Slot<I>>, examiner: u32) -> usize
     ensures count { result ≡ length (steps_in (found slots.now examiner)) }
 {
-    steps_of(slots, examiner).len()
+    match slots.get(&examiner) {
+        Some(slot) => slot.steps.len(),
+        None => 0,
+    }
 }
 
-/// The steps of an examiner, the oldest first; none where it has no slot.
-pub(crate) fn steps_of<I>(slots: &BTreeMap<u32, Slot<I>>, examiner: u32) -> &[Step]
-    ensures steps { reverse result.now ≡ steps_in (found slots.now examiner) }
+/// The chain of a tract for an open examiner: the entries of these records, then those of its own steps.
+pub(crate) fn chain_for<I>(
+    records: &mut TractIndex,
+    slots: &mut BTreeMap<u32, Slot<I>>,
+    examiner: u32,
+    tract: &Tract,
+) -> Result<Entries, AllocError>
+    ensures records { records.new.records ≡ records.old.records }
+    ensures room { records.new.has_room ≡ records.old.has_room }
+    ensures len { btree_map_len slots.new ≡ btree_map_len slots.old }
+    ensures slots { SameSlots (found slots.old) (found slots.new) }
+    ensures chain { IfOk result (λ entries. entries ≡ chain_of (reverse records.old.records) (steps_in (found slots.old examiner)) tract.now) }
 {
-    match slots.get(&examiner) {
-        Some(slot) => slot.steps.as_slice(),
-        None => &[],
-    }
+    let Some(slot) = slots.get_mut(&examiner) else {
+        return Err(AllocError);
+    };
+    records.chain(&mut slot.steps, tract)
 }

@@ -17,11 +17,11 @@ ghost use Rattle.title_desk.specs.Told.{Books, MayOpen, Passes, Told};
 use crate::asks::{access_in, add_step, cause_in, keep_post, tract_in};
 use crate::images::{forget_all, restore_all, tidy_up};
 use crate::refusal::Refusal;
-use crate::slots::{Slot, add_slot, count_steps, is_in, steps_of, take_slot};
+use crate::slots::{Slot, add_slot, chain_for, count_steps, is_in, take_slot};
 use std::alloc::{AllocError, Global};
 use std::collections::BTreeMap;
 use std::marker::Model;
-use title_chain::{Answer, Ask, Posting, Record, SheetRows, Steps, TractIndex};
+use title_chain::{Answer, Ask, Posting, Record, SheetRows, TractIndex};
 use title_land::{Township, Tract};
 use title_lock::Guards;
 use title_store::{Put, Store};
@@ -193,7 +193,7 @@ impl<S: Store + Drop, G: Guards + Drop> Desk<S, G> {
         tidy_up(&mut self.store, &self.slots);
         self.records.push_reserved(Record {
             examiner,
-            steps: Steps::new(slot.steps),
+            steps: slot.steps.into_steps(),
         });
         let place = self.records.len() as u64;
         self.trace.push_reserved(Call {
@@ -278,8 +278,8 @@ impl<S: Store + Drop, G: Guards + Drop> Desk<S, G> {
         requires passes { Passes self.old examiner (Chain tract) }
         ensures told { Told self.old (Step examiner (Chain tract)) result self.new }
     {
-        let own = steps_of(&self.slots, examiner);
-        let Ok(entries) = self.records.chain(own, &tract) else {
+        let (records, slots) = (&mut self.records, &mut self.slots);
+        let Ok(entries) = chain_for(records, slots, examiner, &tract) else {
             return Reply::Memory;
         };
         self.add_answer(examiner, Ask::Chain(tract), Answer::Entries(entries))

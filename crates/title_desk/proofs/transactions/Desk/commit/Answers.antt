@@ -19,6 +19,6 @@ invariant_of-self-2 g c =
       rw (c.push_reserved-2.ensures.items, reverse-append)
           (keeps_committed c.args.examiner _ c.in-Some.slot c.self.invariant.0 (sym c.take_slot.ensures.slot ∙ c.in-Some.is) c.take_slot.ensures.left
           (λ d. c.tidy_up.ensures.content d ∙ c.forget_all.ensures.content d) (c.tidy_up.ensures.declared ∙ c.forget_all.ensures.declared) (c.tidy_up.ensures.out ∙ c.forget_all.ensures.out) c.give_back.ensures.left
-          (rw (c.push_reserved.ensures.records, c.reserve.ensures.records, c.new.ensures.new) refl) place),
+          (rw (c.push_reserved.ensures.records, c.reserve.ensures.records, c.into_steps.ensures.steps) refl) place),
       grind (arith, common_steps, c.self.invariant.1, c.in-Some.ensures.len),
     )

@@ -1,0 +1,26 @@
+-- The places found near the nodes of the tract's cover are those of the own posts that share a cell with it.
+use Rattle.std.proofs.Common.{◌≡◌, ◌++◌, List, reverse, ap, subst, ◌∙◌}
+use Rattle.std.specs.List.{list_any}
+use Rattle.std.specs.Prelude.{OnOk}
+use Rattle.title_land.specs.declared.node.Node.{Node}
+use Rattle.title_land.specs.Lands.{IsLand}
+use Rattle.title_chain.specs.declared.ask.Entry.{Entry}
+use Rattle.title_chain.specs.PostPlaces.{step_posts}
+use Rattle.title_chain.specs.TractIndexes.{is_near}
+use Rattle.title_chain.proofs.Nearness.{near_meets}
+use Rattle.title_chain.proofs.PlaceEntries.{own_entries}
+use Rattle.title_chain.proofs.filing.Filing.add_own_entries.Goals as goal
+
+pub returns : goal.returns
+returns c =
+    let f = c.args.self.now in
+    let steps = c.args.steps.now in
+    let land = c.args.tract.now in
+    let sized : IsLand 3 land = subst (IsLand 3) c.land.ensures.land c.is_sized.ensures.sized in record {
+      added = subst (λ (es : List Entry). OnOk c.add_own_entries_at.result (c.add_own_entries_at.new.entries.items ≡ c.args.entries.now.items ++ es))
+          (own_entries steps land c.in_ok-found.found c.add_own_entries_at.ensures.ordered
+          (λ p. c.in_ok-found.ensures.found p
+          ∙ ap (λ (cover : List Node). list_any (is_near f p) cover) c.cover.ensures.cover
+          ∙ near_meets f (step_posts 0 (reverse steps)) c.requires.filed land sized p))
+          c.add_own_entries_at.ensures.added;
+    }
