@@ -86,13 +86,13 @@ impl Entry {
 }
 
 impl Answer {
-    /// An equal answer.
-    pub fn copy(&self, alloc: Global) -> Result<Answer, AllocError>
+    /// An equal answer, which shares its list. Takes no memory; refused only where 2^63 - 1 copies live.
+    pub fn copy(&self) -> Result<Answer, AllocError>
         ensures copy { IfOk result (λ answer. answer ≡ self.now) }
     {
         Ok(match self {
-            Answer::Rows(rows) => Answer::Rows(rows.copy(alloc)?),
-            Answer::Entries(entries) => Answer::Entries(entries.copy(alloc)?),
+            Answer::Rows(rows) => Answer::Rows(rows.copy()?),
+            Answer::Entries(entries) => Answer::Entries(entries.copy()?),
             Answer::Posted => Answer::Posted,
             Answer::Refused(rule, estate, node) => Answer::Refused(*rule, *estate, *node),
         })
@@ -106,7 +106,7 @@ impl Step {
     {
         Ok(Step {
             ask: self.ask.copy(alloc)?,
-            answer: self.answer.copy(alloc)?,
+            answer: self.answer.copy()?,
         })
     }
 }

@@ -151,5 +151,5 @@ pub fn chain(
     let mut entries = Vec::new(alloc);
     add_records(alloc, &mut entries, records.as_slice(), tract)?;
     add_entries(alloc, &mut entries, 0, own, tract)?;
-    Ok(Entries::new(entries))
+    Entries::new(entries)
 }

@@ -265,6 +265,7 @@ impl Filing {
         let found = self.find(alloc, tract.cover())?;
         add_entries_at(alloc, entries, records, &found, tract)
     }
+
     /// Adds the entries of an open transaction's steps that were all read to the chain of a tract, each with place 0.
     pub(crate) fn add_own_entries(
         &self,

@@ -6,29 +6,33 @@ use crate::ask::{Entry, Step};
 use crate::record::Record;
 use std::alloc::{AllocError, Global};
 use std::marker::Model;
+use std::sync::ArcSlice;
 use title_store::SheetRow;
 
-/// The rows of a sheet, in order.
+/// The rows of a sheet, in order. Copies share them.
 #[derive(Debug, Drop)]
 pub struct SheetRows {
-    items: Vec<SheetRow>,
+    items: ArcSlice<SheetRow>,
 }
 
 impl Model for SheetRows {
+    ghost use Rattle.std.specs.Arc.{arc_slice_items};
     ghost use Rattle.std.specs.Prelude.{List};
     ghost use Rattle.title_store.specs.declared.sheet_row.SheetRow.{SheetRow};
 
     ghost Value = { List SheetRow };
 
-    ghost view = { λ s. s.items.items };
+    ghost view = { λ s. arc_slice_items s.items };
 }
 
 impl SheetRows {
     /// The list of these rows.
-    pub fn new(items: Vec<SheetRow>) -> SheetRows
-        ensures new { result ≡ items.items }
+    pub fn new(mut rows: Vec<SheetRow>) -> Result<SheetRows, AllocError>
+        ensures new { IfOk result (λ list. list ≡ rows.items) }
     {
-        SheetRows { items }
+        rows.shrink_to_fit();
+        let items = ArcSlice::from_vec(rows)?;
+        Ok(SheetRows { items })
     }
 
     /// The rows, in order.
@@ -38,43 +42,39 @@ impl SheetRows {
         self.items.as_slice()
     }
 
-    /// The rows as a `Vec`; takes no memory.
-    pub fn into_vec(self) -> Vec<SheetRow>
-        ensures vec { result.items ≡ self }
+    /// An equal list, which shares the rows. Takes no memory; refused only where 2^63 - 1 copies live.
+    pub fn copy(&self) -> Result<SheetRows, AllocError>
+        ensures copy { IfOk result (λ list. list ≡ self.now) }
     {
-        self.items
-    }
-
-    /// An equal list.
-    pub fn copy(&self, alloc: Global) -> Result<SheetRows, AllocError>
-        ensures copy { IfOk result (λ items. items ≡ self.now) }
-    {
-        let items = Vec::from_slice(alloc, &self.items)?;
+        let items = self.items.clone()?;
         Ok(SheetRows { items })
     }
 }
 
-/// The entries of a chain, in order.
+/// The entries of a chain, in order. Copies share them.
 #[derive(Debug, Drop)]
 pub struct Entries {
-    items: Vec<Entry>,
+    items: ArcSlice<Entry>,
 }
 
 impl Model for Entries {
+    ghost use Rattle.std.specs.Arc.{arc_slice_items};
     ghost use Rattle.std.specs.Prelude.{List};
     ghost use Rattle.title_chain.specs.declared.ask.Entry.{Entry};
 
     ghost Value = { List Entry };
 
-    ghost view = { λ s. s.items.items };
+    ghost view = { λ s. arc_slice_items s.items };
 }
 
 impl Entries {
     /// The list of these entries.
-    pub fn new(items: Vec<Entry>) -> Entries
-        ensures new { result ≡ items.items }
+    pub fn new(mut entries: Vec<Entry>) -> Result<Entries, AllocError>
+        ensures new { IfOk result (λ list. list ≡ entries.items) }
     {
-        Entries { items }
+        entries.shrink_to_fit();
+        let items = ArcSlice::from_vec(entries)?;
+        Ok(Entries { items })
     }
 
     /// The entries, in order.
@@ -84,21 +84,11 @@ impl Entries {
         self.items.as_slice()
     }
 
-    /// The entries as a `Vec`; takes no memory.
-    pub fn into_vec(self) -> Vec<Entry>
-        ensures vec { result.items ≡ self }
+    /// An equal list, which shares the entries. Takes no memory; refused only where 2^63 - 1 copies live.
+    pub fn copy(&self) -> Result<Entries, AllocError>
+        ensures copy { IfOk result (λ list. list ≡ self.now) }
     {
-        self.items
-    }
-
-    /// An equal list.
-    pub fn copy(&self, alloc: Global) -> Result<Entries, AllocError>
-        ensures copy { IfOk result (λ items. items ≡ self.now) }
-    {
-        let mut items = Vec::new(alloc);
-        for entry in &self.items {
-            items.push(entry.copy(alloc)?)?;
-        }
+        let items = self.items.clone()?;
         Ok(Entries { items })
     }
 }

@@ -70,11 +70,13 @@ impl OwnSteps {
         self.steps.as_slice()
     }
 
-    /// The steps as those of a record; takes no memory.
+    /// The steps as those of a record, without spare room; takes no memory.
     pub fn into_steps(self) -> Steps
         ensures steps { result ≡ self.steps }
     {
-        Steps::new(self.steps)
+        let mut steps = self.steps;
+        steps.shrink_to_fit();
+        Steps::new(steps)
     }
 
     /// Adds the entries of these steps, each with place 0, to the chain of a tract.

@@ -74,7 +74,7 @@ fn sheet_by_replay<S: Store + Drop>(
 {
     let mut store = S::open(alloc, townships)?;
     post_records_again(&mut store, records.as_slice())?;
-    Ok(SheetRows::new(store.sheet(alloc, tract)?))
+    SheetRows::new(store.sheet(alloc, tract)?)
 }
 
 /// The sheet after these records, made from their posted instruments alone, in order: a plant of these townships is opened

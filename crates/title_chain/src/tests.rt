@@ -179,7 +179,7 @@ fn a_deed_and_two_releases(rt: HostRuntime) -> Result<(), Fail> {
     let records = releases(alloc, townships[0], share, sixteenth, &quarter)?;
     let entries = chain(alloc, &records, &[], &quarter)?;
     assert_entries(&rt, &entries, &[(1, 1), (2, 2), (3, 3)]);
-    let last = entries.into_vec().pop().expect(&rt, "three entries");
+    let last = entries.as_slice().last().expect(&rt, "three entries");
     assert_eq!(rt; last.posting.instrument, release(CLARK, BELL));
     let rows = sheet_by_chain(alloc, &records, &townships, &quarter)?;
     assert_rows(
@@ -247,12 +247,12 @@ fn a_refused_post_is_not_in_the_chain(rt: HostRuntime) -> Result<(), Fail> {
     let steps = vec![in alloc;
         Step {
             ask: Ask::Sheet(fifth.copy(alloc)?),
-            answer: Answer::Rows(SheetRows::new(vec![in alloc; row]?)),
+            answer: Answer::Rows(SheetRows::new(vec![in alloc; row]?)?),
         },
         refused,
         Step {
             ask: Ask::Chain(fifth.copy(alloc)?),
-            answer: Answer::Entries(Entries::new(vec![in alloc; Entry { place: 1, posting }]?)),
+            answer: Answer::Entries(Entries::new(vec![in alloc; Entry { place: 1, posting }]?)?),
         },
         posted(9, fifth.copy(alloc)?, release(BELL, ADAMS)),
     ]?;

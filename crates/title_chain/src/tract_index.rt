@@ -87,6 +87,6 @@ impl TractIndex {
         self.filing
             .add_entries(self.alloc, &mut entries, &self.records, tract)?;
         own.add_entries(self.alloc, &mut entries, tract)?;
-        Ok(Entries::new(entries))
+        Entries::new(entries)
     }
 }

@@ -232,10 +232,10 @@ impl<S: Store + Drop, G: Guards + Drop> Desk<S, G> {
         requires unposted { is_posted ask answer ≡ false }
         ensures told { Told self.old (Step examiner ask) result self.new }
     {
-        let Ok(told) = answer.copy(self.alloc) else {
+        let Ok(told) = answer.copy() else {
             return Reply::Memory;
         };
-        let Ok(kept) = answer.copy(self.alloc) else {
+        let Ok(kept) = answer.copy() else {
             return Reply::Memory;
         };
         let Ok(copied) = ask.copy(self.alloc) else {
@@ -267,11 +267,10 @@ impl<S: Store + Drop, G: Guards + Drop> Desk<S, G> {
         let Ok(rows) = self.store.sheet(self.alloc, &tract) else {
             return Reply::Memory;
         };
-        self.add_answer(
-            examiner,
-            Ask::Sheet(tract),
-            Answer::Rows(SheetRows::new(rows)),
-        )
+        let Ok(rows) = SheetRows::new(rows) else {
+            return Reply::Memory;
+        };
+        self.add_answer(examiner, Ask::Sheet(tract), Answer::Rows(rows))
     }
 
     fn chain(&mut self, examiner: u32, tract: Tract) -> Reply

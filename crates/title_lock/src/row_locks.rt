@@ -60,9 +60,8 @@ impl Guards for RowLocks {
     }
 
     fn ask(&mut self, examiner: u32, tract: &Tract, access: Access) -> Result<(), LockFault> {
-        match self.would(examiner, tract, access) {
-            Some(other) => return Err(LockFault::Conflict(other)),
-            None => {}
+        if let Some(other) = self.would(examiner, tract, access) {
+            return Err(LockFault::Conflict(other));
         }
         tract.land().is_sized();
         let Ok(copy) = tract.copy(self.alloc) else {

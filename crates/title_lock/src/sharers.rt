@@ -27,7 +27,7 @@ impl Sharers {
     pub(crate) fn is_empty(&self) -> bool
         ensures empty { result ≡ (size self.now == 0) }
     {
-        self.members.len() == 0
+        self.members.is_empty()
     }
 
     /// Whether an examiner holds it.

@@ -91,7 +91,7 @@ fn sheet(alloc: Global, rt: &impl Abort) -> Result<Answer, Fail> {
             units,
         })?;
     }
-    Ok(Answer::Rows(SheetRows::new(rows)))
+    Ok(Answer::Rows(SheetRows::new(rows)?))
 }
 
 fn chain(alloc: Global, rt: &impl Abort) -> Result<Answer, Fail> {
@@ -104,7 +104,7 @@ fn chain(alloc: Global, rt: &impl Abort) -> Result<Answer, Fail> {
         };
         entries.push(Entry { place, posting })?;
     }
-    Ok(Answer::Entries(Entries::new(entries)))
+    Ok(Answer::Entries(Entries::new(entries)?))
 }
 
 #[test]

@@ -51,7 +51,7 @@ fn a_new_desk_has_an_opening_plant(rt: HostRuntime) -> Result<(), Fail> {
     let desk: TestDesk = Desk::open(alloc, PARTIES, &townships)?;
     let plant = Tract::new(alloc, Land::Everything)?;
     assert!(rt; plant.is_in(&townships));
-    let rows = SheetRows::new(desk.store().sheet(alloc, &plant)?);
+    let rows = SheetRows::new(desk.store().sheet(alloc, &plant)?)?;
     assert_eq!(rt; rows_told(alloc, &rows)?.as_str(), OPENING_PLANT);
     Ok(())
 }

@@ -1,6 +1,6 @@
 -- An index past the steps gives no entry, and else it gives that of its step.
-use Rattle.std.proofs.Common.{◌≡◌, ◌++◌, List, Some, refl, subst}
-use Rattle.std.specs.Prelude.{IfOk, slice_get}
+use Rattle.std.proofs.Common.{◌≡◌, ◌++◌, List, refl, subst}
+use Rattle.std.specs.Prelude.{IfOk}
 use Rattle.std.proofs.lemmas.Option.{slice_get_read}
 use Rattle.title_chain.specs.declared.ask.Entry.{Entry}
 use Rattle.title_chain.proofs.PlaceEntries.{past_own, own_entry_is}

@@ -22,7 +22,7 @@ invariant_of-self-2 c =
     let x : Entry = record { examiner = e; tract = c.in-Ok.copy; access = c.args.access } in
     let free : Stands old e x.tract p None =
     subst (λ (es : List Entry). Stands es e x.tract p None) (sym c.self.view_is)
-    (subst (λ (t : Land). Stands c.args.self.now e t p None) (sym c.in-Ok.ensures.copy) c.in-None.ensures.would) in
+    (subst (λ (t : Land). Stands c.args.self.now e t p None) (sym c.in-Ok.ensures.copy) c.in_default.ensures.would) in
     let wide : IsLand 3 x.tract = subst (λ (l : Land). IsLand 3 l) (c.land.ensures.land ∙ sym c.in-Ok.ensures.copy) c.is_sized.ensures.sized in
     subst (λ (es : List Entry). TableIs 3 es c.raise_all.new.self) (sym c.in-Ok-push.ensures.ok)
     (table_more 3 meet_by_covers old table c.raise_all.new.self x wide c.self.invariant free
