@@ -2,6 +2,7 @@
 """Writes a large valid script of the program `titleplant` to standard output.
 
     generate.py --kind deeds|sheets|chains|parts|interleaved|short|long|reviewed|crowd|refused [--rows N] [--seed N]
+        [--side 8|16]
 
 deeds        plain deeds and releases of one examiner, each a transaction of its own       (for `alone`)
 sheets       sheets of whole sections, after a few deeds                                   (for `alone`)
@@ -14,7 +15,9 @@ reviewed     the same, then a chain of each of those cells in the same transacti
 crowd        9,999 examiners, or a third of the rows, open at once, with deeds of cells    (for `run`)
 refused      as many examiners have read a section, and one more posts there in vain       (for `run`)
 
-The same kind, rows and seed give the same script. The rows counted are all of its rows, declarations among them.
+The same kind, rows, seed and side give the same script. The rows counted are all of its rows, declarations among them. With a
+side of 8 a single cell is a quarter of a quarter of a quarter, as it was before a section had 16 by 16 cells; deeds, sheets and
+interleaved have no part smaller than that, and are the same script at both sides.
 """
 
 import argparse
@@ -27,6 +30,7 @@ QUARTERS = ["NE1/4", "NW1/4", "SW1/4", "SE1/4"]
 HALVES = ["N1/2", "S1/2", "E1/2", "W1/2"]
 ESTATES = ["S", "O", "M", "SO", "SM", "OM", "SOM"]
 EXAMINERS = 8
+QUARTERINGS = {8: 3, 16: 4}
 
 
 def section(chance):
@@ -43,8 +47,13 @@ def tract(chance):
     return f"{whole} {chance.choice(QUARTERS + HALVES)}{''.join(steps)}"
 
 
+def quarters(chance, count):
+    return "".join(chance.choice(QUARTERS) for _ in range(count))
+
+
 def cell(chance):
-    return f"{section(chance)} {chance.choice(QUARTERS)}{chance.choice(QUARTERS)}{chance.choice(QUARTERS)}"
+    """A single cell: as many quarters as it takes down to one."""
+    return f"{section(chance)} {quarters(chance, chance.quarterings)}"
 
 
 def instrument(chance, document, where):
@@ -84,7 +93,7 @@ def parts(chance, count):
     for document in range(1, count + 1):
         where = f"{TOWNSHIPS[0]} sec {chance.randint(1, 8)} {chance.choice(QUARTERS)}{chance.choice(QUARTERS)}"
         if document % 2 == 0:
-            yield f"1,chain,{where}{chance.choice(QUARTERS)}"
+            yield f"1,chain,{where}{quarters(chance, chance.quarterings - 2)}"
         else:
             yield f"1,{instrument(chance, document, where)}"
 
@@ -186,11 +195,13 @@ def main():
     options.add_argument("--kind", choices=sorted(KINDS), required=True)
     options.add_argument("--rows", type=int, default=10_000, help="all rows, 300 to 100000 (default 10000)")
     options.add_argument("--seed", type=int, default=1)
+    options.add_argument("--side", type=int, choices=sorted(QUARTERINGS), default=16, help="cells of a section's side (default 16)")
     asked = options.parse_args()
     declared = [f"township,{name}" for name in TOWNSHIPS] + [f"party,{name}" for name in PARTIES]
     if not 300 <= asked.rows <= 100_000:
         options.error("--rows has to be from 300 to 100000")
     chance = random.Random(asked.seed)
+    chance.quarterings = QUARTERINGS[asked.side]
     steps = KINDS[asked.kind](chance, asked.rows - len(declared))
     sys.stdout.writelines(f"{row}\n" for row in declared)
     sys.stdout.writelines(f"{row}\n" for row in steps)

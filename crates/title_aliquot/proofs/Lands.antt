@@ -1,5 +1,6 @@
 -- The land that words stand for, and that there is one at most.
 use Rattle.std.proofs.Common.{◌≡◌, ◌∙◌, ℕ, Bool, true, List, Option, Some, None, refl, sym, ap, subst}
+use Rattle.title_land.specs.Depth.{depth}
 use Rattle.std.proofs.Math.Bridge.{le_prop}
 use Rattle.title_land.specs.declared.rectangle.Step.{Step}
 use Rattle.title_land.specs.declared.grid.Grid.{Grid}
@@ -20,31 +21,31 @@ number_as n m e h = let P : ℕ → Type 0 = λ k. IsTownshipNumber k in subst P
 section_as : (n m : ℕ) → n ≡ m → IsSectionNumber n → IsSectionNumber m
 section_as n m e h = let P : ℕ → Type 0 = λ k. IsSectionNumber k in subst P e h
 
-pub township_stands : (p : PlaceSyntax) (t : Township) → IsTownship p.township p.north p.range p.east t → p.section ≡ None → StandsFor 3 (InPlace p) (land.Township t)
+pub township_stands : (p : PlaceSyntax) (t : Township) → IsTownship p.township p.north p.range p.east t → p.section ≡ None → StandsFor depth (InPlace p) (land.Township t)
 township_stands p t h e = record {
   numbered = (number_as t.number p.township h.number_is t.numbered, number_as t.range p.range h.range_is t.ranged, subst SectionIsNumbered (sym e) tt);
-  exist = ap (λ (s : Option SectionSyntax). parts_exist 3 (section_parts s)) e;
-  apart = λ o. subst (λ (s : Option SectionSyntax). Overlap (rectangles 3 (section_parts s))) e o;
-  land_is = (t, h, subst (λ (s : Option SectionSyntax). IsLandIn 3 t s (land.Township t)) (sym e) refl);
+  exist = ap (λ (s : Option SectionSyntax). parts_exist depth (section_parts s)) e;
+  apart = λ o. subst (λ (s : Option SectionSyntax). Overlap (rectangles depth (section_parts s))) e o;
+  land_is = (t, h, subst (λ (s : Option SectionSyntax). IsLandIn depth t s (land.Township t)) (sym e) refl);
 }
 
 -- what is known of a section's parts
 pub record PartsStand (parts : List (List Step)) (g : Grid) : Type 0 where
-  pub exist : parts_exist 3 parts ≡ true
-  pub apart : Overlap (rectangles 3 parts) → ⊥
-  pub union_is : g ≡ grid_of 3 (union (rectangles 3 parts))
+  pub exist : parts_exist depth parts ≡ true
+  pub apart : Overlap (rectangles depth parts) → ⊥
+  pub union_is : g ≡ grid_of depth (union (rectangles depth parts))
 
 pub section_stands : (p : PlaceSyntax) (t : Township) (s : SectionSyntax) (z : Section) (g : Grid) → IsTownship p.township p.north p.range p.east t → p.section ≡ Some s →
-    IsSection t s.number z → PartsStand s.parts g → StandsFor 3 (InPlace p) (land.Part z g)
+    IsSection t s.number z → PartsStand s.parts g → StandsFor depth (InPlace p) (land.Part z g)
 section_stands p t s z g h e k w = record {
   numbered = (
     number_as t.number p.township h.number_is t.numbered,
     number_as t.range p.range h.range_is t.ranged,
     subst SectionIsNumbered (sym e) (section_as z.number s.number k.number_is z.numbered),
   );
-  exist = ap (λ (x : Option SectionSyntax). parts_exist 3 (section_parts x)) e ∙ w.exist;
-  apart = λ o. w.apart (subst (λ (x : Option SectionSyntax). Overlap (rectangles 3 (section_parts x))) e o);
-  land_is = (t, h, subst (λ (x : Option SectionSyntax). IsLandIn 3 t x (land.Part z g)) (sym e) (z, k, ap (λ (x : Grid). land.Part z x) w.union_is));
+  exist = ap (λ (x : Option SectionSyntax). parts_exist depth (section_parts x)) e ∙ w.exist;
+  apart = λ o. w.apart (subst (λ (x : Option SectionSyntax). Overlap (rectangles depth (section_parts x))) e o);
+  land_is = (t, h, subst (λ (x : Option SectionSyntax). IsLandIn depth t x (land.Part z g)) (sym e) (z, k, ap (λ (x : Grid). land.Part z x) w.union_is));
 }
 
 pub parts_stand_as : (ps qs : List (List Step)) (g : Grid) → ps ≡ qs → PartsStand ps g → PartsStand qs g
@@ -96,12 +97,12 @@ one_section t n z y h k =
 -- ---- one land
 
 one_land_in : (depth : ℕ) (t : Township) (s : Option SectionSyntax) (l m : Land) → IsLandIn depth t s l → IsLandIn depth t s m → l ≡ m
-one_land_in depth t None l m h k = h ∙ sym k
-one_land_in depth t (Some s) l m h k =
-    h.2 ∙ ap (λ (z : Section). land.Part z (grid_of depth (union (rectangles depth s.parts)))) (one_section t s.number h.0 k.0 h.1 k.1) ∙ sym k.2
+one_land_in d t None l m h k = h ∙ sym k
+one_land_in d t (Some s) l m h k =
+    h.2 ∙ ap (λ (z : Section). land.Part z (grid_of d (union (rectangles d s.parts)))) (one_section t s.number h.0 k.0 h.1 k.1) ∙ sym k.2
 
 pub one_land_of : (depth : ℕ) (s : Syntax) (l m : Land) → IsLandOf depth s l → IsLandOf depth s m → l ≡ m
-one_land_of depth Everything l m h k = h ∙ sym k
-one_land_of depth (InPlace p) l m h k =
+one_land_of d Everything l m h k = h ∙ sym k
+one_land_of d (InPlace p) l m h k =
     let e = one_township p.township p.north p.range p.east h.0 k.0 h.1 k.1 in
-    one_land_in depth k.0 p.section l m (subst (λ (t : Township). IsLandIn depth t p.section l) e h.2) k.2
+    one_land_in d k.0 p.section l m (subst (λ (t : Township). IsLandIn d t p.section l) e h.2) k.2

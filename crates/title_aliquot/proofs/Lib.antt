@@ -1,8 +1,10 @@
 pub mod Grammar
 pub mod Loops
-pub mod Offsets
+pub mod TextWalks
+pub mod Entries
 pub mod Whole
 pub mod Shapes
+pub mod Areas
 pub mod Texts
 pub mod Lands
 pub mod Unique
@@ -10,3 +12,4 @@ pub mod Spellings
 pub mod NodeTexts
 pub mod NodeCovers
 pub mod Total
+pub mod TextsDoubled

@@ -17,9 +17,10 @@ use Rattle.title_land.specs.declared.place.Township.{Township}
 use Rattle.title_land.specs.declared.place.Section.{Section}
 use Rattle.title_land.specs.declared.node.Node.{Node}
 use Rattle.title_land.specs.declared.node.Node.TheVariants as node
-use Rattle.title_land.specs.Nodes.{path}
+use Rattle.title_land.specs.Depth.{depth}
+use Rattle.title_land.specs.Nodes.{IsNode}
+use Rattle.title_land.proofs.PathNumbers.{depth_fits}
 use Rattle.title_land.specs.Texts.{township_text, section_text, quarter_text, quarters_text, path_text, node_text}
-use Rattle.title_land.proofs.NodeSharing.{path_short}
 use Rattle.title_grammar.specs.Language.{Gives, ◌<|>◌}
 use Rattle.title_aliquot.specs.Grammar.{Syntax, Everything, SectionSyntax, Description, PlaceText, TownshipText, RangeText, SectionText, SectionParts, section_of, place_of}
 use Rattle.title_aliquot.specs.Letters.{letters}
@@ -169,7 +170,7 @@ abbrev pub node_syntax : Node → Syntax
 node_syntax node.Everything = Everything
 node_syntax (node.Township t) = place_of (t.number, t.north) ((t.range, t.east), None)
 node_syntax (node.Part s w) =
-    place_of (s.township.number, s.township.north) ((s.township.range, s.township.east), section_of s.number (parts_named (path w)))
+    place_of (s.township.number, s.township.north) ((s.township.range, s.township.east), section_of s.number (parts_named w))
 
 node_spelled : (n : Node) → Description (node_syntax n) (letters (node_text n))
 unfolding Description
@@ -184,8 +185,8 @@ node_spelled (node.Part s w) =
     let r : s.township.range < 100 = omega arith in
     let m : s.number < 100 = omega arith in
     let t = s.township in
-    inr (subst (λ (z : List ℕ). PlaceText (node_syntax (node.Part s w)) z) (sym (part_letters s (path w)))
-    (place_spelled t.number t.north t.range t.east (section_of s.number (parts_named (path w))) (section_spelling s.number (path w)) n r (section_spelled s.number (path w) m)))
+    inr (subst (λ (z : List ℕ). PlaceText (node_syntax (node.Part s w)) z) (sym (part_letters s w))
+    (place_spelled t.number t.north t.range t.east (section_of s.number (parts_named w)) (section_spelling s.number w) n r (section_spelled s.number w m)))
 
 -- ---- its bytes are ASCII, and few
 
@@ -236,11 +237,10 @@ plain_quarters (q ∷ p) =
     plain_more (quarter_text q ++ quarters_text p) (5 + 5 * length p) (5 * length (q ∷ p)) (omega arith)
     (plain_two (quarter_text q) (quarters_text p) 5 (5 * length p) (plain_quarter q) (plain_quarters p))
 
-plain_path : (p : List Quarter) → length p ≤ 3 → Plain (path_text p) 16
-plain_path [] l = plain_more [] 0 16 (omega arith) (plain_word [] refl)
-plain_path (q ∷ p) l =
-    plain_more (codes " " ++ quarters_text (q ∷ p)) (1 + 5 * length (q ∷ p)) 16 (omega arith)
-    (plain_two (codes " ") (quarters_text (q ∷ p)) 1 (5 * length (q ∷ p)) (plain_word (codes " ") refl) (plain_quarters (q ∷ p)))
+plain_path : (p : List Quarter) → Plain (path_text p) (1 + 5 * length p)
+plain_path [] = plain_more [] 0 (1 + 5 * length {A = Quarter} []) (omega arith) (plain_word [] refl)
+plain_path (q ∷ p) =
+    plain_two (codes " ") (quarters_text (q ∷ p)) 1 (5 * length (q ∷ p)) (plain_word (codes " ") refl) (plain_quarters (q ∷ p))
 
 plain_township : (t : Township) → Plain (township_text t) 9
 plain_township t =
@@ -268,17 +268,18 @@ plain_section s =
     (plain_two (township_text s.township) (codes " sec ") 9 5 (plain_township s.township) (plain_word (codes " sec ") refl))
     (plain_number s.number n)
 
-plain_node : (n : Node) → Plain (node_text n) 1000
-plain_node node.Everything = plain_more (codes "everything") 10 1000 (omega arith) (plain_word (codes "everything") refl)
-plain_node (node.Township t) = plain_more (township_text t) 9 1000 (omega arith) (plain_township t)
-plain_node (node.Part s w) =
-    plain_more (section_text s ++ path_text (path w)) (16 + 16) 1000 (omega arith)
-    (plain_two (section_text s) (path_text (path w)) 16 16 (plain_section s) (plain_path (path w) (path_short w)))
+plain_node : (n : Node) → IsNode depth n → Plain (node_text n) 1000
+plain_node node.Everything h = plain_more (codes "everything") 10 1000 (omega arith) (plain_word (codes "everything") refl)
+plain_node (node.Township t) h = plain_more (township_text t) 9 1000 (omega arith) (plain_township t)
+plain_node (node.Part s w) h =
+    let low = depth_fits in
+    plain_more (section_text s ++ path_text w) (16 + (1 + 5 * length w)) 1000 (omega arith)
+    (plain_two (section_text s) (path_text w) 16 (1 + 5 * length w) (plain_section s) (plain_path w))
 
--- a node's text says the node
-pub node_says : (n : Node) → Says (node_text n) (node_syntax n)
-node_says n =
-    let h = plain_node n in
+-- the text of a node of the tree says the node
+pub node_says : (n : Node) → IsNode depth n → Says (node_text n) (node_syntax n)
+node_says n l =
+    let h = plain_node n l in
     record {
       short = h.few;
       spells = subst (λ (z : List ℕ). Description (node_syntax n) (letters z)) (sym (chars-IsAscii (node_text n) h.ascii)) (node_spelled n);

@@ -1,14 +1,15 @@
 -- Each text describes a land or has a fault.
-use Rattle.std.proofs.Common.{◌≡◌, ◌∙◌, ℕ, ◌-◌, ◌==◌, ◌<◌, ◌≤◌, ◌⊎◌, inl, inr, Bool, true, false, ◌||◌, List, [], ◌∷◌, ◌++◌, length, take, drop, Option, Some, None, refl, sym, ap, arith}
+use Rattle.std.proofs.Common.{◌≡◌, ◌∙◌, ℕ, ◌-◌, ◌==◌, ◌<◌, ◌≤◌, ◌⊎◌, inl, inr, Bool, true, false, ◌||◌, List, [], ◌∷◌, ◌++◌, length, take}
+use Rattle.title_land.specs.Depth.{depth}
+use Rattle.std.proofs.Common.{drop, Option, Some, None, refl, sym, arith}
 use Rattle.std.specs.Bool.{Decides}
 use Rattle.std.specs.List.{list_any}
 use Rattle.std.specs.Prelude.{codes}
 use Rattle.std.specs.Str.{chars}
 use Rattle.std.proofs.lemmas.Bool.Decides.{nat_tests}
 use Rattle.title_grammar.specs.Language.{Begins}
-use Rattle.title_grammar.specs.Reading.{Read, Got, Stuck, starts, word_at}
+use Rattle.title_grammar.specs.Reading.{Read, Got, Stuck, word_at}
 use Rattle.title_grammar.proofs.Exact.{tells}
-use Rattle.title_grammar.proofs.Combine.{word}
 use Rattle.title_grammar.proofs.Places.{FaultAfter, begins_decided}
 use Rattle.title_land.specs.declared.rectangle.Rectangle.{Rectangle}
 use Rattle.title_land.specs.declared.place.Township.{Township}
@@ -20,11 +21,13 @@ use Rattle.title_land.specs.Grids.{grid_of}
 use Rattle.title_aliquot.specs.declared.fault.DescFault.TheVariants as fault
 use Rattle.title_aliquot.specs.Grammar.{Syntax, Everything, InPlace, SectionSyntax, Description}
 use Rattle.title_aliquot.specs.Letters.{letters, offset}
-use Rattle.title_aliquot.specs.Meaning.{IsNumbered, SectionIsNumbered, IsLandIn, IsLandOf, parts_of, parts_exist, rectangles, union, Overlap}
+use Rattle.title_aliquot.specs.Meaning.{IsNumbered, SectionIsNumbered, IsLandIn, IsLandOf, parts_of, parts_exist, rectangles, union}
+use Rattle.title_aliquot.specs.Meaning.{Overlap}
 use Rattle.title_aliquot.specs.Describes.{Says, BadLetter, BeginsWithLot, IsLot}
 use Rattle.title_aliquot.specs.Readers.{description_at}
 use Rattle.title_aliquot.specs.TextLaws.{LandOrFault, EachTextIsAnswered}
 use Rattle.title_aliquot.proofs.Shapes.{overlap_none, overlap_next}
+use Rattle.title_aliquot.proofs.Texts.{lot_word, no_lot_word}
 use Rattle.title_aliquot.proofs.Whole.{words_found, left_after, stuck_after, found_begins}
 
 -- ---- what letters say
@@ -52,18 +55,9 @@ begins_or_not s = elim (words_or_fault s) [
   | inr f ↦ decided (f.0 == length s) (Begins Description s) (begins_decided Description s f.0 f.1)
 ]
 
-nothing_starts : (r : List ℕ) → starts [] r ≡ false
-nothing_starts [] = refl
-nothing_starts (c ∷ r) = refl
-
 lot_as : (r : List ℕ) (m : Read (Unit {0})) → word_at (codes "lot") r ≡ m → BeginsWithLot r ⊎ (BeginsWithLot r → ⊥)
-lot_as r (Got u t) e =
-    let g = (word (codes "lot")).got r u t e in
-    inl (t, g.whole ∙ ap (λ (z : List ℕ). z ++ t) g.spells.1)
-lot_as r (Stuck t) e = inr (λ h.
-    let k = (word (codes "lot")).complete tt (codes "lot") h.0 (refl, refl) (nothing_starts h.0) in
-    let l = sym e ∙ ap (λ (z : List ℕ). word_at (codes "lot") z) h.1 ∙ k in
-    absurd cc)
+lot_as r (Got u t) e = inl (lot_word r t e)
+lot_as r (Stuck t) e = inr (no_lot_word r t e)
 
 lot_or_not : (p r : List ℕ) → IsLot p r ⊎ (IsLot p r → ⊥)
 lot_or_not p r = elim (lot_as r (word_at (codes "lot") r) refl) [
@@ -105,13 +99,13 @@ numbered_or_not (InPlace p) = elim (number_or_not 99 p.township) [
   | inr n ↦ inr (λ h. n h.0)
 ]
 
-land_in : (t : Township) (s : Option SectionSyntax) → SectionIsNumbered s → (l : Land) × IsLandIn 3 t s l
+land_in : (t : Township) (s : Option SectionSyntax) → SectionIsNumbered s → (l : Land) × IsLandIn depth t s l
 land_in t None h = (land.Township t, refl)
 land_in t (Some s) h =
     let z : Section = record { township = t; number = s.number; numbered = h } in
-    (land.Part z (grid_of 3 (union (rectangles 3 s.parts))), (z, record { township_is = refl; number_is = refl }, refl))
+    (land.Part z (grid_of depth (union (rectangles depth s.parts))), (z, record { township_is = refl; number_is = refl }, refl))
 
-land_there : (s : Syntax) → IsNumbered s → (l : Land) × IsLandOf 3 s l
+land_there : (s : Syntax) → IsNumbered s → (l : Land) × IsLandOf depth s l
 land_there Everything h = (land.Everything, refl)
 land_there (InPlace p) h =
     let t : Township = record { number = p.township; north = p.north; range = p.range; east = p.east; numbered = h.0; ranged = h.1 } in
@@ -127,27 +121,30 @@ unfolding overlaps
 overlap_decides [] = overlap_none
 overlap_decides (r ∷ others) = overlap_next r others (list_any (rectangles_meet r) others) (overlaps others) refl (overlap_decides others)
 
+overlap_or_not : (shapes : List Rectangle) → Overlap shapes ⊎ (Overlap shapes → ⊥)
+overlap_or_not shapes = decided (overlaps shapes) (Overlap shapes) (overlap_decides shapes)
+
 -- ---- each text
 
-said : (text : List ℕ) (s : Syntax) → Says text s → LandOrFault 3 text
+said : (text : List ℕ) (s : Syntax) → Says text s → LandOrFault depth text
 said text s h = elim (numbered_or_not s) [
   | inr n ↦ inr (fault.Range, (s, h, n))
-  | inl a ↦ elim (tells (parts_exist 3 (parts_of s))) [
+  | inl a ↦ elim (tells (parts_exist depth (parts_of s))) [
     | inr e ↦ inr (fault.TooSmall, (s, h, record { numbered = a; missing = e }))
-    | inl e ↦ elim (decided (overlaps (rectangles 3 (parts_of s))) (Overlap (rectangles 3 (parts_of s))) (overlap_decides (rectangles 3 (parts_of s)))) [
+    | inl e ↦ elim (overlap_or_not (rectangles depth (parts_of s))) [
       | inl o ↦ inr (fault.Overlap, (s, h, record { numbered = a; exist = e; overlap = o }))
       | inr n ↦ let l = land_there s a in inl (l.0, (s, h, record { numbered = a; exist = e; apart = n; land_is = l.1 }))
     ]
   ]
 ]
 
-unsaid : (text : List ℕ) (i : ℕ) → BadLetter text i → LandOrFault 3 text
+unsaid : (text : List ℕ) (i : ℕ) → BadLetter text i → LandOrFault depth text
 unsaid text i b = elim (lot_or_not (take i (letters (chars text))) (drop i (letters (chars text)))) [
   | inl l ↦ inr (fault.Lots, (i, b, l))
   | inr n ↦ inr (fault.BadText (offset (chars text) i), inr (i, b, n, refl))
 ]
 
-pub each_text : EachTextIsAnswered 3
+pub each_text : EachTextIsAnswered depth
 each_text text = elim (le_or_more (length text) 1000) [
   | inr m ↦ inr (fault.BadText 1000, inl (m, refl))
   | inl l ↦ elim (words_or_fault (letters (chars text))) [

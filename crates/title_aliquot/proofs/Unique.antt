@@ -1,5 +1,6 @@
 -- A text describes one land at most, or has one fault.
 use Rattle.std.proofs.Common.{◌≡◌, ◌≢◌, ◌∙◌, ℕ, ◌⊎◌, inl, inr, true, false, List, drop, refl, sym, ap, subst, arith}
+use Rattle.title_land.specs.Depth.{depth}
 use Rattle.std.specs.Prelude.{Result, Ok, Err, IfOk, IfErr}
 use Rattle.std.specs.Str.{chars}
 use Rattle.title_grammar.proofs.Repeat.{fault_none}
@@ -65,48 +66,48 @@ apart depth s t e h k =
     cc
 
 pub one_fault : (depth : ℕ) (text : List ℕ) (f g : DescFault) → FaultOf depth text f → FaultOf depth text g → f ≡ g
-one_fault depth text (fault.BadText a) (fault.BadText b) h k = ap (λ (n : ℕ). fault.BadText n) (one_byte text a b h k)
-one_fault depth text (fault.BadText a) fault.Range h k = absurd (bad_unsaid text a k.0 h k.1)
-one_fault depth text (fault.BadText a) fault.TooSmall h k = absurd (bad_unsaid text a k.0 h k.1)
-one_fault depth text (fault.BadText a) fault.Lots h k = absurd (bad_no_lots text a h k)
-one_fault depth text (fault.BadText a) fault.Overlap h k = absurd (bad_unsaid text a k.0 h k.1)
-one_fault depth text (fault.BadText a) fault.Memory h k = absurd k
-one_fault depth text fault.Range (fault.BadText b) h k = absurd (bad_unsaid text b h.0 k h.1)
-one_fault depth text fault.Range fault.Range h k = refl
-one_fault depth text fault.Range fault.TooSmall h k = absurd (h.2 (subst IsNumbered (sym (same_words text h.0 k.0 h.1 k.1)) k.2.numbered))
-one_fault depth text fault.Range fault.Lots h k = absurd (lots_unsaid text h.0 k h.1)
-one_fault depth text fault.Range fault.Overlap h k = absurd (h.2 (subst IsNumbered (sym (same_words text h.0 k.0 h.1 k.1)) k.2.numbered))
-one_fault depth text fault.Range fault.Memory h k = absurd k
-one_fault depth text fault.TooSmall (fault.BadText b) h k = absurd (bad_unsaid text b h.0 k h.1)
-one_fault depth text fault.TooSmall fault.Range h k = absurd (k.2 (subst IsNumbered (same_words text h.0 k.0 h.1 k.1) h.2.numbered))
-one_fault depth text fault.TooSmall fault.TooSmall h k = refl
-one_fault depth text fault.TooSmall fault.Lots h k = absurd (lots_unsaid text h.0 k h.1)
-one_fault depth text fault.TooSmall fault.Overlap h k = absurd (apart depth h.0 k.0 (same_words text h.0 k.0 h.1 k.1) h.2.missing k.2.exist)
-one_fault depth text fault.TooSmall fault.Memory h k = absurd k
-one_fault depth text fault.Lots (fault.BadText b) h k = absurd (bad_no_lots text b k h)
-one_fault depth text fault.Lots fault.Range h k = absurd (lots_unsaid text k.0 h k.1)
-one_fault depth text fault.Lots fault.TooSmall h k = absurd (lots_unsaid text k.0 h k.1)
-one_fault depth text fault.Lots fault.Lots h k = refl
-one_fault depth text fault.Lots fault.Overlap h k = absurd (lots_unsaid text k.0 h k.1)
-one_fault depth text fault.Lots fault.Memory h k = absurd k
-one_fault depth text fault.Overlap (fault.BadText b) h k = absurd (bad_unsaid text b h.0 k h.1)
-one_fault depth text fault.Overlap fault.Range h k = absurd (k.2 (subst IsNumbered (same_words text h.0 k.0 h.1 k.1) h.2.numbered))
-one_fault depth text fault.Overlap fault.TooSmall h k = absurd (apart depth k.0 h.0 (sym (same_words text h.0 k.0 h.1 k.1)) k.2.missing h.2.exist)
-one_fault depth text fault.Overlap fault.Lots h k = absurd (lots_unsaid text h.0 k h.1)
-one_fault depth text fault.Overlap fault.Overlap h k = refl
-one_fault depth text fault.Overlap fault.Memory h k = absurd k
-one_fault depth text fault.Memory g h k = absurd h
+one_fault d text (fault.BadText a) (fault.BadText b) h k = ap (λ (n : ℕ). fault.BadText n) (one_byte text a b h k)
+one_fault d text (fault.BadText a) fault.Range h k = absurd (bad_unsaid text a k.0 h k.1)
+one_fault d text (fault.BadText a) fault.TooSmall h k = absurd (bad_unsaid text a k.0 h k.1)
+one_fault d text (fault.BadText a) fault.Lots h k = absurd (bad_no_lots text a h k)
+one_fault d text (fault.BadText a) fault.Overlap h k = absurd (bad_unsaid text a k.0 h k.1)
+one_fault d text (fault.BadText a) fault.Memory h k = absurd k
+one_fault d text fault.Range (fault.BadText b) h k = absurd (bad_unsaid text b h.0 k h.1)
+one_fault d text fault.Range fault.Range h k = refl
+one_fault d text fault.Range fault.TooSmall h k = absurd (h.2 (subst IsNumbered (sym (same_words text h.0 k.0 h.1 k.1)) k.2.numbered))
+one_fault d text fault.Range fault.Lots h k = absurd (lots_unsaid text h.0 k h.1)
+one_fault d text fault.Range fault.Overlap h k = absurd (h.2 (subst IsNumbered (sym (same_words text h.0 k.0 h.1 k.1)) k.2.numbered))
+one_fault d text fault.Range fault.Memory h k = absurd k
+one_fault d text fault.TooSmall (fault.BadText b) h k = absurd (bad_unsaid text b h.0 k h.1)
+one_fault d text fault.TooSmall fault.Range h k = absurd (k.2 (subst IsNumbered (same_words text h.0 k.0 h.1 k.1) h.2.numbered))
+one_fault d text fault.TooSmall fault.TooSmall h k = refl
+one_fault d text fault.TooSmall fault.Lots h k = absurd (lots_unsaid text h.0 k h.1)
+one_fault d text fault.TooSmall fault.Overlap h k = absurd (apart d h.0 k.0 (same_words text h.0 k.0 h.1 k.1) h.2.missing k.2.exist)
+one_fault d text fault.TooSmall fault.Memory h k = absurd k
+one_fault d text fault.Lots (fault.BadText b) h k = absurd (bad_no_lots text b k h)
+one_fault d text fault.Lots fault.Range h k = absurd (lots_unsaid text k.0 h k.1)
+one_fault d text fault.Lots fault.TooSmall h k = absurd (lots_unsaid text k.0 h k.1)
+one_fault d text fault.Lots fault.Lots h k = refl
+one_fault d text fault.Lots fault.Overlap h k = absurd (lots_unsaid text k.0 h k.1)
+one_fault d text fault.Lots fault.Memory h k = absurd k
+one_fault d text fault.Overlap (fault.BadText b) h k = absurd (bad_unsaid text b h.0 k h.1)
+one_fault d text fault.Overlap fault.Range h k = absurd (k.2 (subst IsNumbered (same_words text h.0 k.0 h.1 k.1) h.2.numbered))
+one_fault d text fault.Overlap fault.TooSmall h k = absurd (apart d k.0 h.0 (sym (same_words text h.0 k.0 h.1 k.1)) k.2.missing h.2.exist)
+one_fault d text fault.Overlap fault.Lots h k = absurd (lots_unsaid text h.0 k h.1)
+one_fault d text fault.Overlap fault.Overlap h k = refl
+one_fault d text fault.Overlap fault.Memory h k = absurd k
+one_fault d text fault.Memory g h k = absurd h
 
 -- a text that describes a land has no fault
 pub no_fault : (depth : ℕ) (text : List ℕ) (l : Land) (f : DescFault) → Describes depth text l → FaultOf depth text f → ⊥
-no_fault depth text l (fault.BadText byte) h k = bad_unsaid text byte h.0 k h.1
-no_fault depth text l fault.Range h k = k.2 (subst IsNumbered (same_words text h.0 k.0 h.1 k.1) h.2.numbered)
-no_fault depth text l fault.TooSmall h k = apart depth k.0 h.0 (same_words text k.0 h.0 k.1 h.1) k.2.missing h.2.exist
-no_fault depth text l fault.Lots h k = lots_unsaid text h.0 k h.1
-no_fault depth text l fault.Overlap h k =
-    let g = subst (λ (s : Syntax). StandsFor depth s l) (same_words text h.0 k.0 h.1 k.1) h.2 in
+no_fault d text l (fault.BadText byte) h k = bad_unsaid text byte h.0 k h.1
+no_fault d text l fault.Range h k = k.2 (subst IsNumbered (same_words text h.0 k.0 h.1 k.1) h.2.numbered)
+no_fault d text l fault.TooSmall h k = apart d k.0 h.0 (same_words text k.0 h.0 k.1 h.1) k.2.missing h.2.exist
+no_fault d text l fault.Lots h k = lots_unsaid text h.0 k h.1
+no_fault d text l fault.Overlap h k =
+    let g = subst (λ (s : Syntax). StandsFor d s l) (same_words text h.0 k.0 h.1 k.1) h.2 in
     g.apart k.2.overlap
-no_fault depth text l fault.Memory h k = k
+no_fault d text l fault.Memory h k = k
 
 -- ---- answers
 
@@ -119,19 +120,19 @@ memory_or fault.Overlap = inr (λ q. cc)
 memory_or fault.Memory = inl refl
 
 -- an answer that is a tract of the text, or a fault of it, or want of memory, is that of its land
-pub only_tract : (text : List ℕ) (r : Result Land DescFault) → IfOk r (λ t. Describes 3 text t) → IfErr r (λ e. e ≢ fault.Memory → FaultOf 3 text e) →
-    (l : Land) → Describes 3 text l → IsTractOf l r
-only_tract text (Ok m) h k l d = one_land 3 text m l h d
+pub only_tract : (text : List ℕ) (r : Result Land DescFault) → IfOk r (λ t. Describes depth text t) → IfErr r (λ e. e ≢ fault.Memory → FaultOf depth text e) →
+    (l : Land) → Describes depth text l → IsTractOf l r
+only_tract text (Ok m) h k l d = one_land depth text m l h d
 only_tract text (Err e) h k l d = elim (memory_or e) [
   | inl q ↦ q
-  | inr q ↦ absurd (no_fault 3 text l e d (k q))
+  | inr q ↦ absurd (no_fault depth text l e d (k q))
 ]
 
 -- or of its fault
-pub only_fault : (text : List ℕ) (r : Result Land DescFault) → IfOk r (λ t. Describes 3 text t) → IfErr r (λ e. e ≢ fault.Memory → FaultOf 3 text e) →
-    (f : DescFault) → FaultOf 3 text f → IsFault f r
-only_fault text (Ok m) h k f d = no_fault 3 text m f h d
+pub only_fault : (text : List ℕ) (r : Result Land DescFault) → IfOk r (λ t. Describes depth text t) → IfErr r (λ e. e ≢ fault.Memory → FaultOf depth text e) →
+    (f : DescFault) → FaultOf depth text f → IsFault f r
+only_fault text (Ok m) h k f d = no_fault depth text m f h d
 only_fault text (Err e) h k f d = elim (memory_or e) [
   | inl q ↦ inr q
-  | inr q ↦ inl (one_fault 3 text e f (k q) d)
+  | inr q ↦ inl (one_fault depth text e f (k q) d)
 ]

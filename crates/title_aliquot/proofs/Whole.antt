@@ -1,12 +1,13 @@
 -- Whole texts: what was read to its end, and the place where reading stopped.
-use Rattle.std.proofs.Common.{◌≡◌, ℕ, ◌-◌, ◌≤◌, ◌<◌, List, [], ◌∷◌, length, refl, sym, subst, arith}
+use Rattle.std.proofs.Common.{◌≡◌, ℕ, ◌-◌, ◌≤◌, ◌<◌, ◌==◌, Bool, false, List, [], ◌∷◌, length, refl, sym, subst, arith}
 use Rattle.std.specs.Bool.{Decides}
 use Rattle.std.specs.Prelude.{true}
+use Rattle.std.proofs.lemmas.Bool.Decides.{nat_tests}
 use Rattle.std.proofs.lemmas.List.{append-nil}
 use Rattle.title_grammar.specs.Language.{Begins}
 use Rattle.title_grammar.specs.Reading.{Got, Stuck}
 use Rattle.title_grammar.proofs.Repeat.{Fault, whole_found, whole_left, whole_stuck}
-use Rattle.title_grammar.proofs.Places.{nothing_left, fault_shorter, FaultAfter, fault_after}
+use Rattle.title_grammar.proofs.Places.{nothing_left, fault_shorter, FaultAfter, fault_after, begins_decided}
 use Rattle.title_aliquot.specs.Grammar.{Syntax, Description}
 use Rattle.title_aliquot.specs.Readers.{description_at}
 use Rattle.title_aliquot.proofs.Grammar.{description_exact}
@@ -24,7 +25,8 @@ stuck_fault : (s r : List ℕ) → description_at s ≡ Stuck r → Fault Descri
 stuck_fault s r h = whole_stuck description_at Description _ _ _ description_exact s r h
 
 -- more letters stood behind what was read
-pub left_after : (s : List ℕ) (v : Syntax) (r : List ℕ) (n : ℕ) → description_at s ≡ Got v r → n ≡ length r → 0 < n → FaultAfter Description s (length s - n)
+pub left_after : (s : List ℕ) (v : Syntax) (r : List ℕ) (n : ℕ) → description_at s ≡ Got v r → n ≡ length r → 0 < n →
+    FaultAfter Description s (length s - n)
 left_after s v r n h e l = fault_after Description s r n (left_fault s v r h (omega arith)) e
 
 -- reading got stuck
@@ -41,3 +43,26 @@ left_shorter s v (c ∷ r) h = fault_shorter Description s (c ∷ r) (whole_left
 -- letters that say something begin a text
 pub found_begins : (s : List ℕ) (v : Syntax) → Description v s → Decides true (Begins Description s)
 found_begins s v h = ((λ e. ([], v, subst (λ (z : List ℕ). Description v z) (sym (append-nil s)) h)), (λ b. refl))
+
+-- letters are left where not none are
+pub left_some : (n : ℕ) → (n == 0) ≡ false → 0 < n
+left_some n h = grind (arith, nat_tests)
+
+-- ---- letters that begin a text: reading them leaves none
+
+same_test : (n m : ℕ) → m ≤ n → (n - m == n) ≡ (m == 0)
+same_test n m h = grind (arith, nat_tests)
+
+begins_by_fault : (s r : List ℕ) → FaultAfter Description s (length s - length r) → length r ≤ length s →
+    Decides (length r == 0) (Begins Description s)
+begins_by_fault s r f l =
+    subst (λ (b : Bool). Decides b (Begins Description s)) (same_test (length s) (length r) l)
+    (begins_decided Description s (length s - length r) f)
+
+pub stuck_begins : (s r : List ℕ) → description_at s ≡ Stuck r → Decides (length r == 0) (Begins Description s)
+stuck_begins s r h = begins_by_fault s r (stuck_after s r (length r) h refl) (stuck_shorter s r h)
+
+pub got_begins : (s : List ℕ) (v : Syntax) (r : List ℕ) → description_at s ≡ Got v r → Decides (length r == 0) (Begins Description s)
+got_begins s v [] h = found_begins s v (words_found s v [] h refl)
+got_begins s v (c ∷ r) h =
+    begins_by_fault s (c ∷ r) (left_after s v (c ∷ r) (length (c ∷ r)) h refl (omega arith)) (left_shorter s v (c ∷ r) h)

@@ -1,6 +1,8 @@
 -- The letters of a text: its characters without spaces and periods, in lower case.
-use Rattle.std.specs.Prelude.{ℕ, ◌+◌, ◌-◌, Bool, ◌||◌, ◌==◌, List, [], ◌∷◌, map, filter, if◌then◌else◌, not}
+use Rattle.std.specs.Prelude.{ℕ, ◌+◌, ◌-◌, Bool, ◌||◌, ◌==◌, List, [], ◌∷◌, ◌++◌, map, filter, if◌then◌else◌, not, Option, Some, None}
 use Rattle.std.specs.Char.{to_ascii_lowercase, len_utf8}
+use Rattle.std.specs.Str.{chars}
+use denote.Ref.{Bor}
 
 -- a space or a period
 abbrev pub passed_over : ℕ → Bool
@@ -16,3 +18,8 @@ offset [] i = 0
 offset (c ∷ cs) i =
     if passed_over c then len_utf8 c + offset cs i
     else (if i == 0 then 0 else len_utf8 c + offset cs (i - 1))
+
+-- the next letter, those of the text behind its character and those of one more text; none where nothing is next
+abbrev pub letters_from : Option (ℕ × Bor (List ℕ)) → List ℕ → List ℕ
+letters_from None more = []
+letters_from (Some p) more = p.0 ∷ (letters (chars p.1.now) ++ letters (chars more))

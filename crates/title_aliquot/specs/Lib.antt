@@ -1,10 +1,13 @@
 pub mod Faults
 pub mod Grammar
 pub mod Letters
+pub mod Entries
 pub mod Meaning
+pub mod Areas
 pub mod Readers
 pub mod Views
 pub mod Outcomes
 pub mod Describes
 pub mod Answers
 pub mod TextLaws
+pub mod DepthLaws

@@ -1,14 +1,16 @@
 -- Readers of the grammar, one for each line.
-use Rattle.std.specs.Prelude.{ℕ, Bool, true, false, List, [], codes, Option, None}
+use Rattle.std.specs.Prelude.{ℕ, Bool, true, false, List, [], ◌∷◌, ◌++◌, codes, Option, None}
 use Rattle.title_grammar.specs.Language.{cons}
-use Rattle.title_grammar.specs.Reading.{Read, gives_at, one_of_at, then_at, or_at, many_at, word_at, behind, as_at, choice, maybe_at}
+use Rattle.title_grammar.specs.Reading.{Read, Got, and_then, gives_at, one_of_at, then_at, or_at, many_at, word_at, behind, as_at, choice}
+use Rattle.title_grammar.specs.Reading.{maybe_at}
 use Rattle.title_land.specs.declared.rectangle.Quarter.{Quarter}
 use Rattle.title_land.specs.declared.rectangle.Quarter.TheVariants.{Northeast, Northwest, Southwest, Southeast}
 use Rattle.title_land.specs.declared.rectangle.Half.{Half}
 use Rattle.title_land.specs.declared.rectangle.Half.TheVariants.{North, South, East, West}
 use Rattle.title_land.specs.declared.rectangle.Step.{Step}
 use Rattle.title_land.specs.declared.rectangle.Step.TheVariants as step
-use Rattle.title_aliquot.specs.Grammar.{digits, decimal, quarter_sign, half_sign, SectionSyntax, Syntax, Everything, section_of, place_of, whole_section}
+use Rattle.title_aliquot.specs.Grammar.{digits, decimal, quarter_sign, half_sign, SectionSyntax, Syntax, Everything, section_of, place_of}
+use Rattle.title_aliquot.specs.Grammar.{whole_section}
 
 unfoldable pub number_at : List ℕ → Read ℕ
 number_at s = then_at decimal (one_of_at digits) (many_at digits (one_of_at digits)) s
@@ -40,6 +42,10 @@ joined_at s = behind (maybe_at (codes "o") (behind (word_at (codes "of")) (maybe
 unfoldable pub part_at : List ℕ → Read (List Step)
 part_at s = then_at cons step_at (many_at (codes "onsew") joined_at) s
 
+-- parts, with the one that a reads behind them
+abbrev pub with_part : List (List Step) → (List ℕ → Read (List Step)) → List ℕ → Read (List (List Step))
+with_part parts a s = and_then (a s) (λ part r. Got (parts ++ part ∷ []) r)
+
 abbrev pub next_part_at : List ℕ → Read (List Step)
 next_part_at s = behind (word_at (codes ",")) part_at s
 
@@ -57,14 +63,21 @@ township_at s = behind (word_at (codes "t")) (then_at (λ n e. (n, e)) number_at
 
 -- [ ["," | ":"] parts ]
 unfoldable pub section_parts_at : List ℕ → Read (List (List Step))
-section_parts_at s = or_at (codes ",:ansew") (behind (or_at (codes ",") (word_at (codes ",")) (maybe_at (codes ":") (word_at (codes ":")))) parts_at) (gives_at whole_section []) s
+section_parts_at s =
+    or_at (codes ",:ansew") (behind (or_at (codes ",") (word_at (codes ",")) (maybe_at (codes ":") (word_at (codes ":")))) parts_at)
+    (gives_at whole_section []) s
 
 -- [ [","] sec [ ["," | ":"] parts ] ]
 unfoldable pub section_at : List ℕ → Read (Option SectionSyntax)
-section_at s = or_at (codes ",s") (behind (maybe_at (codes ",") (word_at (codes ","))) (then_at section_of section_number_at section_parts_at)) (gives_at None []) s
+section_at s =
+    or_at (codes ",s") (behind (maybe_at (codes ",") (word_at (codes ","))) (then_at section_of section_number_at section_parts_at))
+    (gives_at None []) s
 
 unfoldable pub place_at : List ℕ → Read Syntax
-place_at s = then_at place_of township_at (behind (or_at (codes ",") (word_at (codes ",")) (maybe_at (codes "-") (word_at (codes "-")))) (then_at (λ r s. (r, s)) range_at section_at)) s
+place_at s =
+    then_at place_of township_at
+    (behind (or_at (codes ",") (word_at (codes ",")) (maybe_at (codes "-") (word_at (codes "-"))))
+    (then_at (λ r s. (r, s)) range_at section_at)) s
 
 unfoldable pub description_at : List ℕ → Read Syntax
 description_at s = or_at (codes "e") (gives_at Everything (codes "everything")) place_at s

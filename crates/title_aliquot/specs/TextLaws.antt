@@ -6,6 +6,7 @@ use Rattle.title_land.specs.declared.node.Node.{Node}
 use Rattle.title_land.specs.Texts.{node_text}
 use Rattle.title_land.specs.Lands.{cover_of}
 use Rattle.title_land.specs.Places.{side}
+use Rattle.title_land.specs.Nodes.{IsNode}
 use Rattle.title_land.specs.Grids.{grid_has, grid_of}
 use Rattle.title_aliquot.specs.declared.fault.DescFault.{DescFault}
 use Rattle.title_aliquot.specs.Meaning.{rectangles, union}
@@ -36,6 +37,6 @@ PartsHaveTheirCells depth =
     (parts : List (List Step)) (row column : ℕ) → row < side depth → column < side depth →
     grid_has (grid_of depth (union (rectangles depth parts))) row column ≡ union (rectangles depth parts) row column
 
--- a node's canonical text describes a land whose cover is that node alone
+-- the canonical text of a node of the tree describes a land whose cover is that node alone
 abbrev pub ReadsBack : ℕ → Type 0
-ReadsBack depth = (n : Node) → (l : Land) × Describes depth (node_text n) l × (cover_of depth l ≡ n ∷ [])
+ReadsBack depth = (n : Node) → IsNode depth n → (l : Land) × Describes depth (node_text n) l × (cover_of depth l ≡ n ∷ [])

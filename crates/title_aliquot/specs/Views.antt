@@ -1,5 +1,4 @@
 -- What the words that were read say, without where they lie in memory.
-use Rattle.std.specs.Prelude.{map}
 use Rattle.std.specs.Option.{option_map}
 use Rattle.title_aliquot.specs.declared.syntax.SectionWords.{SectionWords}
 use Rattle.title_aliquot.specs.declared.syntax.PlaceWords.{PlaceWords}
@@ -8,10 +7,11 @@ use Rattle.title_aliquot.specs.declared.syntax.Words.TheVariants as words
 use Rattle.title_aliquot.specs.Grammar.{SectionSyntax, PlaceSyntax, Syntax, Everything, InPlace}
 
 abbrev pub section_view : SectionWords → SectionSyntax
-section_view s = record { number = s.number; parts = map (λ p. p.items) s.parts.items }
+section_view s = record { number = s.number; parts = s.parts }
 
 abbrev pub place_view : PlaceWords → PlaceSyntax
-place_view d = record { township = d.township; north = d.north; range = d.range; east = d.east; section = option_map section_view d.section }
+place_view d =
+    record { township = d.township; north = d.north; range = d.range; east = d.east; section = option_map section_view d.section }
 
 abbrev pub words_view : Words → Syntax
 words_view words.Everything = Everything

@@ -1,18 +1,21 @@
 //! Reading descriptions.
 
 ghost use Rattle.std.specs.Bool.{Decides};
-ghost use Rattle.std.specs.Prelude.{◌≡◌, ◌≢◌, ◌≤◌, ◌++◌, List, ℕ, length, take, drop, codes, IfOk, IfErr};
+ghost use Rattle.title_land.specs.Depth.{depth};
+ghost use Rattle.std.specs.Prelude.{◌≡◌, ◌≢◌, take, drop, IfOk, IfErr};
+ghost use Rattle.std.specs.Str.{chars};
+ghost use Rattle.title_aliquot.specs.Letters.{letters};
 ghost use Rattle.title_aliquot.specs.Answers.{Answers, IsTractOf, IsFault};
 ghost use Rattle.title_aliquot.specs.Grammar.{Description};
 ghost use Rattle.title_grammar.specs.Language.{Begins};
-ghost use Rattle.title_aliquot.specs.Describes.{Describes, FaultOf, Says, StepMayBegin, BeginsWithLot, IsLot};
+ghost use Rattle.title_aliquot.specs.Describes.{Describes, FaultOf, Says, StepMayBegin, IsLot};
 ghost use Rattle.title_aliquot.specs.Views.{words_view};
 ghost use Rattle.title_aliquot.specs.declared.fault.DescFault.TheVariants as fault;
 ghost use Rattle.title_land.specs.declared.tract.Land.{Land};
 ghost use Rattle.title_aliquot.specs.declared.fault.DescFault.{DescFault};
 
 use crate::fault::DescFault;
-use crate::letters::{characters_of, letters_of, offset_of};
+use crate::letters::{offset_of, split_at_letter};
 use crate::meaning::land_of;
 use crate::reader::{Reader, Stop};
 use crate::syntax::Words;
@@ -30,94 +33,76 @@ pub enum Unread {
     Memory,
 }
 
-/// What letters say, or the first of them that can't stand there.
-fn read_letters(alloc: Global, letters: &[char]) -> Result<Words, Unread>
-    ensures answers { Answers result letters.now }
+/// What a text's letters say, or the first of them that can't stand there.
+fn read_letters(alloc: Global, text: &str) -> Result<Words, Unread>
+    ensures answers { Answers result (letters (chars text.now)) }
 {
-    let mut reader = Reader::new(letters);
+    let mut reader = Reader::new(text);
     let words = match reader.description(alloc) {
         Ok(words) => words,
-        Err(Stop::Stuck) => return Err(Unread::Letter(letters.len() - reader.left())),
+        Err(Stop::Stuck) => return Err(Unread::Letter(reader.letters_before(text))),
         Err(Stop::Memory) => return Err(Unread::Memory),
     };
-    let left = reader.left();
-    if left > 0 {
-        return Err(Unread::Letter(letters.len() - left));
+    if !reader.is_done() {
+        return Err(Unread::Letter(reader.letters_before(text)));
     }
     Ok(words)
 }
 
-/// Whether letters begin a text.
-fn begins(alloc: Global, letters: &[char]) -> Result<bool, DescFault>
-    ensures begins { IfOk result (λ b. Decides b (Begins Description letters.now)) }
+/// Whether a step may begin after a text's letters.
+fn step_may_begin(alloc: Global, before: &str) -> Result<bool, DescFault>
+    ensures may { IfOk result (λ may. Decides may (StepMayBegin (letters (chars before.now)))) }
     ensures memory { IfErr result (λ e. e ≡ fault.Memory) }
 {
-    let place = match read_letters(alloc, letters) {
-        Ok(_) => return Ok(true),
-        Err(Unread::Letter(place)) => place,
-        Err(Unread::Memory) => return Err(DescFault::Memory),
+    let mut reader = Reader::of_both(before, "n1/2");
+    let Err(stop) = reader.description(alloc) else {
+        return Ok(reader.is_done());
     };
-    Ok(place == letters.len())
-}
-
-/// Whether a step may begin after these letters.
-fn step_may_begin(alloc: Global, before: &[char]) -> Result<bool, DescFault>
-    ensures may { IfOk result (λ may. Decides may (StepMayBegin before.now)) }
-    ensures memory { IfErr result (λ e. e ≡ fault.Memory) }
-{
-    let mut letters = Vec::from_slice(alloc, before)?;
-    letters.extend_from_slice(&['n', '1', '/', '2'])?;
-    begins(alloc, letters.as_slice())
-}
-
-/// Whether letters begin with the word lot.
-fn begins_with_lot(letters: &[char]) -> bool
-    ensures lot { Decides result (BeginsWithLot letters.now) }
-{
-    matches!(letters, ['l', 'o', 't', ..])
+    match stop {
+        Stop::Stuck => Ok(reader.is_done()),
+        Stop::Memory => Err(DescFault::Memory),
+    }
 }
 
 /// Whether the letters after this place go on with the word lot, and a step may begin there.
-fn is_lot(alloc: Global, letters: &[char], place: usize) -> Result<bool, DescFault>
-    requires within { place ≤ length letters.now }
-    ensures lot { IfOk result (λ lot. Decides lot (IsLot (take place letters.now) (drop place letters.now))) }
+fn is_lot(alloc: Global, text: &str, place: usize) -> Result<bool, DescFault>
+    ensures lot { IfOk result (λ lot. Decides lot (IsLot (take place (letters (chars text.now))) (drop place (letters (chars text.now))))) }
     ensures memory { IfErr result (λ e. e ≡ fault.Memory) }
 {
-    let (before, after) = letters.split_at(place);
-    if !begins_with_lot(after) {
-        return Ok(false);
+    let (before, after) = split_at_letter(text, place);
+    match Reader::new(after).word("lot") {
+        Ok(()) => step_may_begin(alloc, before),
+        Err(Stop::Stuck) => Ok(false),
+        Err(Stop::Memory) => Err(DescFault::Memory),
     }
-    step_may_begin(alloc, before)
 }
 
 /// What a text says.
 fn words_of(alloc: Global, text: &str) -> Result<Words, DescFault>
     ensures says { IfOk result (λ w. Says text.now (words_view w)) }
-    ensures fault { IfErr result (λ e. e ≢ fault.Memory → FaultOf 3 text.now e) }
+    ensures fault { IfErr result (λ e. e ≢ fault.Memory → FaultOf depth text.now e) }
 {
     if text.len() > LONGEST {
         return Err(DescFault::BadText(LONGEST));
     }
-    let characters = characters_of(alloc, text)?;
-    let letters = letters_of(alloc, characters.as_slice())?;
-    let place = match read_letters(alloc, letters.as_slice()) {
+    let place = match read_letters(alloc, text) {
         Ok(words) => return Ok(words),
         Err(Unread::Letter(place)) => place,
         Err(Unread::Memory) => return Err(DescFault::Memory),
     };
-    if is_lot(alloc, letters.as_slice(), place)? {
+    if is_lot(alloc, text, place)? {
         return Err(DescFault::Lots);
     }
-    Err(DescFault::BadText(offset_of(characters.as_slice(), place)))
+    Err(DescFault::BadText(offset_of(text, place)))
 }
 
 /// The tract that a text describes.
 fn tract_of(alloc: Global, text: &str) -> Result<Tract, DescFault>
-    ensures described { IfOk result (λ t. Describes 3 text.now t) }
-    ensures fault { IfErr result (λ e. e ≢ fault.Memory → FaultOf 3 text.now e) }
+    ensures described { IfOk result (λ t. Describes depth text.now t) }
+    ensures fault { IfErr result (λ e. e ≢ fault.Memory → FaultOf depth text.now e) }
 {
     let words = words_of(alloc, text)?;
-    let land = land_of(alloc, &words)?;
+    let land = land_of(&words)?;
     Ok(Tract::new(alloc, land)?)
 }
 
@@ -125,10 +110,10 @@ fn tract_of(alloc: Global, text: &str) -> Result<Tract, DescFault>
 /// either. Townships and sections are those of the public survey (BLM, Manual of Surveying Instructions, 2009); the
 /// grammar of descriptions is this project's.
 pub fn read(alloc: Global, text: &str) -> Result<Tract, DescFault>
-    ensures described { IfOk result (λ t. Describes 3 text.now t) }
-    ensures fault { IfErr result (λ e. e ≢ fault.Memory → FaultOf 3 text.now e) }
-    ensures only { (land : Land) → Describes 3 text.now land → IsTractOf land result }
-    ensures only_fault { (f : DescFault) → FaultOf 3 text.now f → IsFault f result }
+    ensures described { IfOk result (λ t. Describes depth text.now t) }
+    ensures fault { IfErr result (λ e. e ≢ fault.Memory → FaultOf depth text.now e) }
+    ensures only { (land : Land) → Describes depth text.now land → IsTractOf land result }
+    ensures only_fault { (f : DescFault) → FaultOf depth text.now f → IsFault f result }
 {
     tract_of(alloc, text)
 }

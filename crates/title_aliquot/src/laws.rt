@@ -1,33 +1,34 @@
 //! Laws of descriptions, for the crates above. Each function does nothing: its clause is the law, proved.
 
 ghost use Rattle.title_aliquot.specs.TextLaws.{OneLand, NoFaultBesideLand, OneFault, EachTextIsAnswered, PartsHaveTheirCells, ReadsBack};
+ghost use Rattle.title_land.specs.Depth.{depth};
 
 /// A text describes one land at most.
 pub fn one_land_at_most()
-    ensures law { OneLand 3 }
+    ensures law { OneLand depth }
 {}
 
 /// A text that describes a land has no fault.
 pub fn no_fault_beside_a_land()
-    ensures law { NoFaultBesideLand 3 }
+    ensures law { NoFaultBesideLand depth }
 {}
 
 /// A text has one fault at most, and one byte of it.
 pub fn one_fault_at_most()
-    ensures law { OneFault 3 }
+    ensures law { OneFault depth }
 {}
 
 /// Each text describes a land or has a fault.
 pub fn each_text_is_answered()
-    ensures law { EachTextIsAnswered 3 }
+    ensures law { EachTextIsAnswered depth }
 {}
 
 /// The set of a section's parts has the cells of their rectangles and no others.
 pub fn parts_have_their_cells()
-    ensures law { PartsHaveTheirCells 3 }
+    ensures law { PartsHaveTheirCells depth }
 {}
 
 /// A node's canonical text describes a land whose cover is that node alone.
 pub fn reads_back()
-    ensures law { ReadsBack 3 }
+    ensures law { ReadsBack depth }
 {}

@@ -1,10 +1,9 @@
 //! The letters of a text: its characters without spaces and periods, in lower case.
 
-ghost use Rattle.std.specs.Prelude.{◌≡◌, ◌≤◌, length, IfOk};
+ghost use Rattle.std.specs.Char.{to_ascii_lowercase};
+ghost use Rattle.std.specs.Prelude.{◌≡◌, true, false, [], ◌∷◌, length, take, drop, MatchOption};
 ghost use Rattle.std.specs.Str.{chars};
 ghost use Rattle.title_aliquot.specs.Letters.{passed_over, letters, offset};
-
-use std::alloc::{AllocError, Global};
 
 /// Whether a character is passed over.
 fn is_passed_over(c: char) -> bool
@@ -13,41 +12,56 @@ fn is_passed_over(c: char) -> bool
     c == ' ' || c == '.'
 }
 
-/// The characters of a text.
-pub fn characters_of(alloc: Global, text: &str) -> Result<Vec<char>, AllocError>
-    ensures chars { IfOk result (λ v. v.items ≡ chars text.now) }
+/// The letter that a character gives; `None` where it's passed over.
+fn letter_of(c: char) -> Option<char>
+    ensures letter { MatchOption result (passed_over c ≡ true) (λ l. (passed_over c ≡ false) × (l ≡ to_ascii_lowercase c)) }
 {
-    text.chars().collect(alloc)
+    if is_passed_over(c) {
+        return None;
+    }
+    Some(c.to_ascii_lowercase())
 }
 
-/// The letters among a text's characters.
-pub fn letters_of(alloc: Global, characters: &[char]) -> Result<Vec<char>, AllocError>
-    ensures letters { IfOk result (λ v. v.items ≡ letters characters.now) }
+/// The first letter of a text, and the text behind its character; `None` where there are no letters.
+pub fn split_letter(text: &str) -> Option<(char, &str)>
+    ensures split { MatchOption result (letters (chars text.now) ≡ []) (λ p. letters (chars text.now) ≡ p.0 ∷ letters (chars p.1.now)) }
 {
-    characters
-        .iter()
-        .copied()
-        .filter(|c| !is_passed_over(*c))
-        .map(|c| c.to_ascii_lowercase())
-        .collect(alloc)
+    let mut characters = text.chars();
+    'passed: while let Some(c) = characters.next() {
+        if let Some(letter) = letter_of(c) {
+            return Some((letter, characters.as_str()));
+        }
+    }
+    None
+}
+
+/// The number of a text's letters.
+pub fn count_letters(text: &str) -> usize
+    ensures count { result ≡ length (letters (chars text.now)) }
+{
+    text.chars().filter(|c| !is_passed_over(*c)).count()
 }
 
 /// The byte offset of the character that gives this letter; the text's length where there are no more letters.
-#[tactic(auto, using(crate::proofs::Offsets::offset_passed, crate::proofs::Offsets::offset_here, crate::proofs::Offsets::offset_on, crate::proofs::Offsets::offset_end))]
-pub fn offset_of(characters: &[char], letter: usize) -> usize
-    requires short { length characters.now ≤ 1000 }
-    ensures offset { result ≡ offset characters.now letter }
+pub fn offset_of(text: &str, letter: usize) -> usize
+    ensures offset { result ≡ offset (chars text.now) letter }
 {
-    let mut at = 0;
     let mut left = letter;
-    'walk: for c in characters {
-        if !is_passed_over(*c) {
+    'walk: for (at, c) in text.char_indices() {
+        if !is_passed_over(c) {
             if left == 0 {
                 return at;
             }
             left -= 1;
         }
-        at += c.len_utf8();
     }
-    at
+    text.len()
+}
+
+/// A text before the character that gives this letter, and from it on.
+pub fn split_at_letter(text: &str, letter: usize) -> (&str, &str)
+    ensures before { letters (chars result.0.now) ≡ take letter (letters (chars text.now)) }
+    ensures after { letters (chars result.1.now) ≡ drop letter (letters (chars text.now)) }
+{
+    text.split_at(offset_of(text, letter))
 }

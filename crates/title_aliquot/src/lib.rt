@@ -1,6 +1,7 @@
 //! Reading descriptions of land, as `T3N R2W sec 5 NE1/4SW1/4`, exactly.
 #![tactic(auto)]
 
+pub mod depth_laws;
 pub mod describe;
 pub mod fault;
 pub mod laws;

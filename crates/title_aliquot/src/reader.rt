@@ -1,17 +1,22 @@
 //! Reading letters by the grammar, one method for each of its lines.
 
 ghost use Rattle.std.specs.Option.{option_map};
-ghost use Rattle.std.specs.Prelude.{◌≡◌, ℕ, ◌+◌, ◌<◌, List, [], ◌∷◌, true, false, length, codes, map, IfOk, IfErr};
-ghost use Rattle.title_aliquot.specs.Grammar.{digits, InPlace, whole_section};
+ghost use Rattle.std.specs.Str.{chars};
+ghost use Rattle.std.specs.Prelude.{◌≡◌, ℕ, ◌+◌, ◌-◌, ◌<◌, ◌≤◌, ◌==◌, List, [], ◌∷◌, ◌++◌, true, false, length, codes, IfOk};
+ghost use Rattle.title_aliquot.specs.Grammar.{digits, InPlace};
+ghost use Rattle.title_aliquot.specs.Letters.{letters, letters_from};
 ghost use Rattle.title_aliquot.specs.Outcomes.{Reads};
-ghost use Rattle.title_aliquot.specs.Readers.{number_at, quarter_mark_at, half_mark_at, behind_at, step_at, joined_at, part_at, next_part_at, parts_at, township_at, range_at, section_number_at, section_parts_at, section_at, place_at, description_at};
+ghost use Rattle.title_aliquot.specs.Readers.{number_at, quarter_mark_at, half_mark_at, behind_at, step_at, joined_at, part_at, with_part};
+ghost use Rattle.title_aliquot.specs.Readers.{next_part_at, parts_at, township_at, range_at, section_number_at, section_parts_at};
+ghost use Rattle.title_aliquot.specs.Readers.{section_at, place_at, description_at};
 ghost use Rattle.title_aliquot.specs.Views.{section_view, place_view, words_view};
 ghost use Rattle.title_aliquot.specs.declared.reader.Stop.TheVariants.{Memory};
 ghost use Rattle.title_grammar.specs.Language.{member};
 ghost use Rattle.title_grammar.specs.Reading.{starts, one_of_at, word_at, as_at, choice};
 ghost use Rattle.title_land.specs.declared.rectangle.Step.TheVariants as step;
 
-use crate::syntax::{PlaceWords, SectionWords, Words};
+use crate::letters::{count_letters, split_letter};
+use crate::syntax::{Parts, PlaceWords, SectionWords, Words};
 use std::alloc::{AllocError, AllocFailed, Global};
 use std::marker::Model;
 use title_land::{Half, Quarter, Step};
@@ -24,16 +29,19 @@ pub enum Stop {
     Memory,
 }
 
-/// The letters that are left. Where reading gets stuck, these begin with the letter at fault.
+/// The letters that are left of a text, or of two. Where reading gets stuck, these begin with the letter at fault.
 #[derive(Drop)]
 pub struct Reader<'a> {
-    rest: &'a [char],
+    /// The next letter, and the text behind its character.
+    next: Option<(char, &'a str)>,
+    /// The text whose letters come after those.
+    more: &'a str,
 }
 
 impl<'a> Model for Reader<'a> {
     ghost Value = { List ℕ };
 
-    ghost view = { λ r. r.rest.now };
+    ghost view = { λ r. letters_from r.next r.more.now };
 }
 
 /// Whether a set of ASCII characters has this one.
@@ -43,31 +51,37 @@ fn is_one_of(c: char, set: &str) -> bool
     set.as_bytes().iter().any(|b| c == *b as char)
 }
 
-/// The one part that is the whole section.
-fn whole_section(alloc: Global) -> Result<Vec<Vec<Step>>, Stop>
-    ensures whole { IfOk result (λ v. map (λ p. p.items) v.items ≡ whole_section) }
-    ensures memory { IfErr result (λ e. e ≡ Memory) }
-{
-    let mut parts = Vec::new(alloc);
-    parts.push(Vec::new(alloc))?;
-    Ok(parts)
-}
-
 impl<'a> Reader<'a> {
-    /// A reader of these letters.
-    pub fn new(letters: &'a [char]) -> Reader<'a>
-        ensures new { result ≡ letters.now }
+    /// A reader of this text's letters.
+    pub fn new(text: &'a str) -> Reader<'a>
+        ensures new { result ≡ letters (chars text.now) }
     {
-        Reader { rest: letters }
+        Reader::of_both(text, "")
+    }
+
+    /// A reader of this text's letters and then of another's.
+    pub fn of_both(text: &'a str, more: &'a str) -> Reader<'a>
+        ensures both { result ≡ letters (chars text.now) ++ letters (chars more.now) }
+    {
+        match split_letter(text) {
+            Some(next) => Reader {
+                next: Some(next),
+                more,
+            },
+            None => Reader {
+                next: split_letter(more),
+                more: "",
+            },
+        }
     }
 
     /// Whether one of these characters comes next.
     fn starts(&self, set: &str) -> bool
         ensures starts { result ≡ starts set.now self.now }
     {
-        match self.rest {
-            [first, ..] => is_one_of(*first, set),
-            [] => false,
+        match self.next {
+            Some((letter, _)) => is_one_of(letter, set),
+            None => false,
         }
     }
 
@@ -75,9 +89,9 @@ impl<'a> Reader<'a> {
     fn letter(&mut self, letter: char) -> Result<(), Stop>
         ensures read { Reads (λ u. tt) result self.new (word_at (letter ∷ []) self.old) }
     {
-        match self.rest {
-            [first, rest @ ..] if *first == letter => {
-                self.rest = rest;
+        match self.next {
+            Some((next, rest)) if next == letter => {
+                *self = Reader::of_both(rest, self.more);
                 Ok(())
             }
             _ => Err(Stop::Stuck),
@@ -85,7 +99,7 @@ impl<'a> Reader<'a> {
     }
 
     /// Takes the letters of an ASCII word.
-    fn word(&mut self, word: &str) -> Result<(), Stop>
+    pub fn word(&mut self, word: &str) -> Result<(), Stop>
         ensures read { Reads (λ u. tt) result self.new (word_at word.now self.old) }
     {
         'bytes: for b in word.as_bytes() {
@@ -99,10 +113,10 @@ impl<'a> Reader<'a> {
         ensures read { Reads (λ d. d + 48) result self.new (one_of_at digits self.old) }
         ensures below { IfOk result (λ d. d < 10) }
     {
-        match self.rest {
-            [first @ '0'..='9', rest @ ..] => {
-                self.rest = rest;
-                Ok((*first as u32 - 48) as u8)
+        match self.next {
+            Some((next @ '0'..='9', rest)) => {
+                *self = Reader::of_both(rest, self.more);
+                Ok((next as u32 - 48) as u8)
             }
             _ => Err(Stop::Stuck),
         }
@@ -189,7 +203,7 @@ impl<'a> Reader<'a> {
     }
 
     /// A number; those from 100 on are all read as 100.
-    #[tactic(auto, using(crate::proofs::Loops::number_begins, crate::proofs::Loops::number_none, crate::proofs::Loops::number_next, crate::proofs::Loops::number_ends, crate::proofs::Loops::number_stops))]
+    #[tactic(auto, using(crate::proofs::Loops::number_loop))]
     fn number(&mut self) -> Result<u8, Stop>
         ensures read { Reads (λ n. n) result self.new (number_at self.old) }
     {
@@ -215,60 +229,66 @@ impl<'a> Reader<'a> {
         self.step()
     }
 
-    /// Steps, one after another.
-    #[tactic(auto, using(crate::proofs::Loops::joined_shorter, crate::proofs::Loops::part_first, crate::proofs::Loops::part_none, crate::proofs::Loops::part_next, crate::proofs::Loops::part_ends, crate::proofs::Loops::part_stops))]
-    fn part(&mut self, alloc: Global) -> Result<Vec<Step>, Stop>
-        ensures read { Reads (λ v. v.items) result self.new (part_at self.old) }
+    /// Steps, one after another: a part behind others.
+    #[tactic(auto, using(crate::proofs::Loops::part_loop))]
+    fn part(&mut self, parts: &mut Parts) -> Result<(), Stop>
+        ensures read { Reads (λ u. parts.new) result self.new (with_part parts.old part_at self.old) }
     {
-        let mut steps = Vec::new(alloc);
+        parts.begin()?;
         let first = self.step()?;
-        steps.push(first)?;
+        parts.push(first)?;
         'steps: while self.starts("onsew") {
             let step = self.joined()?;
-            steps.push(step)?;
+            parts.push(step)?;
         }
-        Ok(steps)
+        Ok(())
     }
 
     /// A comma and a part.
-    fn next_part(&mut self, alloc: Global) -> Result<Vec<Step>, Stop>
-        ensures read { Reads (λ v. v.items) result self.new (next_part_at self.old) }
+    fn next_part(&mut self, parts: &mut Parts) -> Result<(), Stop>
+        ensures read { Reads (λ u. parts.new) result self.new (with_part parts.old next_part_at self.old) }
     {
         self.word(",")?;
-        self.part(alloc)
+        self.part(parts)
+    }
+
+    /// How many bytes of the text stand behind the next letter.
+    fn bytes_left(&self) -> usize {
+        match self.next {
+            Some((_, rest)) => rest.len(),
+            None => 0,
+        }
     }
 
     /// Parts, with commas between them.
-    #[tactic(auto, using(crate::proofs::Loops::next_part_shorter, crate::proofs::Loops::parts_begin, crate::proofs::Loops::parts_none, crate::proofs::Loops::parts_next, crate::proofs::Loops::parts_end, crate::proofs::Loops::parts_stop))]
-    fn listed_parts(&mut self, alloc: Global) -> Result<Vec<Vec<Step>>, Stop>
+    #[tactic(auto, using(crate::proofs::Loops::parts_loop))]
+    fn listed_parts(&mut self, alloc: Global) -> Result<Parts, Stop>
         requires named { starts (codes "a") self.old ≡ false }
-        ensures read { Reads (λ v. map (λ p. p.items) v.items) result self.new (parts_at self.old) }
+        ensures read { Reads (λ p. p) result self.new (parts_at self.old) }
     {
-        let mut parts = Vec::new(alloc);
-        let first = self.part(alloc)?;
-        parts.push(first)?;
+        let mut parts = Parts::with_room(alloc, self.bytes_left())?;
+        self.part(&mut parts)?;
         'more: while self.starts(",") {
-            let part = self.next_part(alloc)?;
-            parts.push(part)?;
+            self.next_part(&mut parts)?;
         }
         Ok(parts)
     }
 
     /// The word all, or parts.
-    #[tactic(auto, using(crate::proofs::Loops::parts_all, title_grammar::proofs::Words::gives_by_word, title_grammar::proofs::Words::gives_not_word))]
-    fn parts(&mut self, alloc: Global) -> Result<Vec<Vec<Step>>, Stop>
-        ensures read { Reads (λ v. map (λ p. p.items) v.items) result self.new (parts_at self.old) }
+    #[tactic(auto, using(crate::proofs::Loops::parts_all, crate::proofs::Loops::word_given))]
+    fn parts(&mut self, alloc: Global) -> Result<Parts, Stop>
+        ensures read { Reads (λ p. p) result self.new (parts_at self.old) }
     {
         if self.starts("a") {
             self.word("all")?;
-            whole_section(alloc)
+            Ok(Parts::whole_section(alloc)?)
         } else {
             self.listed_parts(alloc)
         }
     }
 
     /// One of two words, which begin with different letters.
-    #[tactic(auto, using(title_grammar::proofs::Words::gives_by_word, title_grammar::proofs::Words::gives_not_word))]
+    #[tactic(auto, using(crate::proofs::Loops::word_given))]
     fn either(&mut self, yes: &str, no: &str) -> Result<bool, Stop>
         ensures read { Reads (λ b. b) result self.new (choice true false yes.now no.now self.old) }
     {
@@ -317,8 +337,8 @@ impl<'a> Reader<'a> {
 
     /// A section's parts, behind a comma, a colon or nothing; or the whole section.
     #[tactic(auto, unfolding(crate::specs::Readers::section_parts_at))]
-    fn section_parts(&mut self, alloc: Global) -> Result<Vec<Vec<Step>>, Stop>
-        ensures read { Reads (λ v. map (λ p. p.items) v.items) result self.new (section_parts_at self.old) }
+    fn section_parts(&mut self, alloc: Global) -> Result<Parts, Stop>
+        ensures read { Reads (λ p. p) result self.new (section_parts_at self.old) }
     {
         if self.starts(",:ansew") {
             if self.starts(",") {
@@ -328,7 +348,7 @@ impl<'a> Reader<'a> {
             }
             self.parts(alloc)
         } else {
-            whole_section(alloc)
+            Ok(Parts::whole_section(alloc)?)
         }
     }
 
@@ -372,7 +392,7 @@ impl<'a> Reader<'a> {
     }
 
     /// A whole description.
-    #[tactic(auto, unfolding(crate::specs::Readers::description_at), using(title_grammar::proofs::Words::gives_by_word, title_grammar::proofs::Words::gives_not_word))]
+    #[tactic(auto, unfolding(crate::specs::Readers::description_at), using(crate::proofs::Loops::word_given))]
     pub fn description(&mut self, alloc: Global) -> Result<Words, Stop>
         ensures read { Reads words_view result self.new (description_at self.old) }
     {
@@ -384,11 +404,23 @@ impl<'a> Reader<'a> {
         }
     }
 
-    /// The number of letters that are left.
-    pub fn left(&self) -> usize
-        ensures left { result ≡ length self.now }
+    /// Whether no letter is left.
+    pub fn is_done(&self) -> bool
+        ensures done { result ≡ (length self.now == 0) }
     {
-        self.rest.len()
+        self.next.is_none()
+    }
+
+    /// How many letters of a text stand before those that are left of it.
+    pub fn letters_before(&self, text: &str) -> usize
+        requires left { length self.now ≤ length (letters (chars text.now)) }
+        ensures before { result ≡ length (letters (chars text.now)) - length self.now }
+    {
+        let all = count_letters(text);
+        match self.next {
+            Some((_, rest)) => all - count_letters(rest) - count_letters(self.more) - 1,
+            None => all,
+        }
     }
 }
 

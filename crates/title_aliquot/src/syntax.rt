@@ -1,16 +1,95 @@
 //! What a text says.
 
+ghost use Rattle.std.specs.Prelude.{◌≡◌, ◌<◌, List, [], ◌∷◌, ◌++◌, length, IfOk};
+ghost use Rattle.title_aliquot.specs.Entries.{leading, parts_in, with_step};
+ghost use Rattle.title_aliquot.specs.Grammar.{whole_section};
+ghost use Rattle.title_land.specs.declared.rectangle.Step.{Step};
+
+use std::alloc::{AllocError, Global};
+use std::marker::Model;
 use title_land::Step;
 
-/// A section's number and its parts, each by its steps; a part without steps is the whole section.
-#[derive(Debug, Drop)]
+/// An entry of a list of parts.
+#[derive(Clone, Copy, Debug, PartialEq, Eq)]
+pub enum Entry {
+    /// A part begins.
+    Part,
+    /// The next step of the part that began last.
+    Step(Step),
+}
+
+/// Parts, each by its steps; a part without steps is the whole section. One list has them all, each part's steps behind
+/// the entry that begins it.
+#[derive(Drop)]
+pub struct Parts {
+    entries: Vec<Entry>,
+}
+
+impl Model for Parts {
+    ghost Value = { List (List Step) };
+
+    ghost view = { λ p. parts_in p.entries.items };
+
+    ghost invariant = { λ p. leading p.entries.items ≡ [] };
+}
+
+impl Parts {
+    /// No parts, and room for those of a text of this many bytes: a step has three at least, and each part behind the first
+    /// has a comma before it.
+    pub fn with_room(alloc: Global, bytes: usize) -> Result<Parts, AllocError>
+        ensures none { IfOk result (λ p. p ≡ []) }
+    {
+        Ok(Parts {
+            entries: Vec::with_capacity(alloc, bytes / 2 + 2)?,
+        })
+    }
+
+    /// The one part that is the whole section.
+    pub fn whole_section(alloc: Global) -> Result<Parts, AllocError>
+        ensures whole { IfOk result (λ p. p ≡ whole_section) }
+    {
+        let mut parts = Parts::with_room(alloc, 0)?;
+        parts.begin()?;
+        Ok(parts)
+    }
+
+    /// Begins a part.
+    #[tactic(auto, using(crate::proofs::Entries::parts_begun, crate::proofs::Entries::leading_begun))]
+    pub fn begin(&mut self) -> Result<(), AllocError>
+        ensures begun { IfOk result (λ u. self.new ≡ self.old ++ [] ∷ []) }
+    {
+        self.entries.push(Entry::Part)?;
+        Ok(())
+    }
+
+    /// Adds a step to the part that began last.
+    #[tactic(auto, using(crate::proofs::Entries::parts_pushed, crate::proofs::Entries::leading_pushed))]
+    pub fn push(&mut self, step: Step) -> Result<(), AllocError>
+        requires begun { 0 < length self.old }
+        ensures pushed { IfOk result (λ u. self.new ≡ with_step self.old step) }
+    {
+        self.entries.push(Entry::Step(step))?;
+        Ok(())
+    }
+
+    /// The entries of the list.
+    pub fn entries(&self) -> &[Entry]
+        ensures parts { parts_in result.now ≡ self.now }
+        ensures begun { leading result.now ≡ [] }
+    {
+        self.entries.as_slice()
+    }
+}
+
+/// A section's number and its parts.
+#[derive(Drop)]
 pub struct SectionWords {
     pub number: u8,
-    pub parts: Vec<Vec<Step>>,
+    pub parts: Parts,
 }
 
 /// A township's numbers, and a section of it where one is named. A number of 100 stands for that or any above.
-#[derive(Debug, Drop)]
+#[derive(Drop)]
 pub struct PlaceWords {
     pub township: u8,
     pub north: bool,
@@ -20,7 +99,7 @@ pub struct PlaceWords {
 }
 
 /// What a text says.
-#[derive(Debug, Drop)]
+#[derive(Drop)]
 pub enum Words {
     Everything,
     Place(PlaceWords),

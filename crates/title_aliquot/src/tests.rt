@@ -43,6 +43,18 @@ fn worked_rows(rt: HostRuntime) -> Result<(), Fail> {
             "node,T3N R2W sec 5 NE1/4NE1/4NE1/4\nnode,T3N R2W sec 5 NW1/4NE1/4NE1/4\nacres,20\n",
         ),
         (
+            "T3N R2W sec 5 N1/2NE1/4NE1/4NE1/4",
+            "node,T3N R2W sec 5 NE1/4NE1/4NE1/4NE1/4\nnode,T3N R2W sec 5 NW1/4NE1/4NE1/4NE1/4\nacres,5\n",
+        ),
+        (
+            "T3N R2W sec 5 NE1/4NE1/4NE1/4NE1/4",
+            "node,T3N R2W sec 5 NE1/4NE1/4NE1/4NE1/4\nacres,2.5\n",
+        ),
+        (
+            "T3N R2W sec 5 W1/2, NE1/4NE1/4NE1/4NE1/4",
+            "node,T3N R2W sec 5 NE1/4NE1/4NE1/4NE1/4\nnode,T3N R2W sec 5 NW1/4\nnode,T3N R2W sec 5 SW1/4\nacres,322.5\n",
+        ),
+        (
             "T3N R2W sec 5 NE1/4, SE1/4",
             "node,T3N R2W sec 5 NE1/4\nnode,T3N R2W sec 5 SE1/4\nacres,320\n",
         ),
@@ -101,12 +113,12 @@ fn faults_with_their_bytes(rt: HostRuntime) -> Result<(), Fail> {
         ("T0N R2W", "fault,22\n"),
         ("T3N R100W", "fault,22\n"),
         ("T3N R4294967297W", "fault,22\n"),
-        ("T3N R2W sec 37 N1/2NE1/4NE1/4NE1/4", "fault,22\n"),
-        ("T3N R2W sec 5 N1/2NE1/4NE1/4NE1/4", "fault,23\n"),
-        ("T3N R2W sec 5 NE1/4NE1/4NE1/4NE1/4", "fault,23\n"),
+        ("T3N R2W sec 37 N1/2NE1/4NE1/4NE1/4NE1/4", "fault,22\n"),
+        ("T3N R2W sec 5 N1/2NE1/4NE1/4NE1/4NE1/4", "fault,23\n"),
+        ("T3N R2W sec 5 NE1/4NE1/4NE1/4NE1/4NE1/4", "fault,23\n"),
         ("T3N R2W sec 5 all, N1/2", "fault,21,17\n"),
         (
-            "T3N R2W sec 5 N1/2, N1/2, N1/2NE1/4NE1/4NE1/4",
+            "T3N R2W sec 5 N1/2, N1/2, N1/2NE1/4NE1/4NE1/4NE1/4",
             "fault,23\n",
         ),
         ("T3N R2W sec 5 NE1/4, N1/2", "fault,25\n"),

@@ -23,13 +23,13 @@ use Rattle.title_chain.specs.ChainLaws.{SameIn}
 
 -- an answer depends on the tract's cells and on the chain alone
 pub answer_same :
-    (depth : ℕ) (townships : List Township) → depth ≤ 3 → (p q : Plant) (listed other : List Entry) (a : Ask) →
+    (depth : ℕ) (townships : List Township) (p q : Plant) (listed other : List Entry) (a : Ask) →
     SameIn depth townships (tract_of a) p q → listed ≡ other →
     answer_to depth townships p listed a ≡ answer_to depth townships q other a
 unfolding answer_to
-answer_same depth townships small p q listed other (ask.Sheet t) h e = ap answer.Rows (sheet_same depth townships t p q small h)
-answer_same depth townships small p q listed other (ask.Chain t) h e = ap answer.Entries e
-answer_same depth townships small p q listed other (ask.Post x) h e = ap post_answer (refused_same depth townships x.instrument x.tract p q h)
+answer_same depth townships p q listed other (ask.Sheet t) h e = ap answer.Rows (sheet_same depth townships t p q h)
+answer_same depth townships p q listed other (ask.Chain t) h e = ap answer.Entries e
+answer_same depth townships p q listed other (ask.Post x) h e = ap post_answer (refused_same depth townships x.instrument x.tract p q h)
 
 -- the answer to a sheet is the sheet of the plant
 pub answer_sheet :

@@ -1,6 +1,7 @@
 -- The places filed near the nodes of a tract's cover are those of the posts that share a cell with it.
 use Rattle.std.proofs.Common.{◌≡◌, ℕ, Bool, true, false, ◌&&◌, ◌||◌, List, [], ◌∷◌, refl, sym, ap, ◌∙◌}
 use Rattle.std.specs.List.{AllByRecursion, list_any}
+use Rattle.title_land.specs.Depth.{depth}
 use Rattle.title_land.specs.declared.node.Node.{Node}
 use Rattle.title_land.specs.declared.tract.Land.{Land}
 use Rattle.title_land.specs.Nodes.{same_node, above, is_above, are_related}
@@ -8,7 +9,7 @@ use Rattle.title_land.specs.Lands.{cover_of, meets, IsLand}
 use Rattle.title_land.specs.CoverSets.{covers_meet, MeetsByCovers}
 use Rattle.title_land.proofs.SameNode.{same_node-is}
 use Rattle.title_land.proofs.LandSharing.{equal_tests}
-use Rattle.title_land.proofs.CoversMeet.{meets_by_covers_3}
+use Rattle.title_land.proofs.CoversMeet.{meets_by_covers}
 use Rattle.title_chain.specs.declared.filing.Filing.{Filing}
 use Rattle.title_chain.specs.declared.place.Place.{Place}
 use Rattle.title_chain.specs.PostPlaces.{PlacedPost, same_place, is_place_where}
@@ -101,9 +102,9 @@ near_is depth f posts filed p n =
 -- the places of the posts whose covers meet a tract's are those of the posts that share a cell with it
 where_meets : (depth : ℕ) → MeetsByCovers depth → (land : Land) → IsLand depth land → (posts : List PlacedPost) →
     AllByRecursion (λ x. IsLand depth x.posting.tract) posts → (p : Place) → is_place_where (covers_meet depth land) posts p ≡ is_place_where (meets land) posts p
-where_meets depth law land sized [] all p = refl
-where_meets depth law land sized (x ∷ posts) all p =
-    λ i. (same_place p x.place && sym (law land x.posting.tract sized all.0) i) || where_meets depth law land sized posts all.1 p i
+where_meets d law land sized [] all p = refl
+where_meets d law land sized (x ∷ posts) all p =
+    λ i. (same_place p x.place && sym (law land x.posting.tract sized all.0) i) || where_meets d law land sized posts all.1 p i
 
 -- the places filed near the nodes of a tract's cover are those of the posts that share a cell with it
 near_meets_at : (depth : ℕ) → MeetsByCovers depth → (f : Filing) (posts : List PlacedPost) → IsFiled depth f posts → (land : Land) → IsLand depth land →
@@ -113,6 +114,6 @@ near_meets_at depth law f posts filed land sized p =
     ∙ where_any (covers_near depth) (cover_of depth land) posts p
     ∙ where_meets depth law land sized posts filed.sized p
 
-pub near_meets : (f : Filing) (posts : List PlacedPost) → IsFiled 3 f posts → (land : Land) → IsLand 3 land →
-    (p : Place) → list_any (is_near f p) (cover_of 3 land) ≡ is_place_where (meets land) posts p
-near_meets = near_meets_at 3 meets_by_covers_3
+pub near_meets : (f : Filing) (posts : List PlacedPost) → IsFiled depth f posts → (land : Land) → IsLand depth land →
+    (p : Place) → list_any (is_near f p) (cover_of depth land) ≡ is_place_where (meets land) posts p
+near_meets = near_meets_at depth (meets_by_covers depth)

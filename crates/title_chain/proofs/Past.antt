@@ -74,11 +74,11 @@ steps_same depth townships p q (s ∷ earlier) h c e =
 
 -- what a transaction's steps are answered is the same after one more record which none of them overlaps
 pub plays_past :
-    (depth : ℕ) (townships : List Township) → depth ≤ 3 →
+    (depth : ℕ) (townships : List Township)
     (records : List Record) (e : ℕ) (own theirs : List Step) → Clear theirs own →
     Plays depth townships records theirs → Plays depth townships (record_of e own ∷ records) theirs
-plays_past depth townships small records e own [] clear plays = tt
-plays_past depth townships small records e own (s ∷ earlier) clear plays =
+plays_past depth townships records e own [] clear plays = tt
+plays_past depth townships records e own (s ∷ earlier) clear plays =
     let p : Plant = plant_after depth townships records in
     let t : Land = tract_of s.ask in
     let same : SameIn depth townships t (after_steps depth townships p earlier) (after_steps depth townships (after_steps depth townships p own) earlier) =
@@ -86,8 +86,8 @@ plays_past depth townships small records e own (s ∷ earlier) clear plays =
     (clear_same depth townships p own earlier clear.0) d (steps_past depth townships p own s.ask clear.1 d inside)) in
     let listed : chain_of records earlier t ≡ (record_entries t records ++ step_entries (suc (length records)) t own) ++ step_entries 0 t earlier =
     rw (entries_past (suc (length records)) own s.ask clear.1, append-nil) refl in (
-      plays_past depth townships small records e own earlier clear.0 plays.0,
+      plays_past depth townships records e own earlier clear.0 plays.0,
       plays.1,
-      plays.2 ∙ (rw reverse-reverse (answer_same depth townships small (after_steps depth townships p earlier)
+      plays.2 ∙ (rw reverse-reverse (answer_same depth townships (after_steps depth townships p earlier)
           (after_steps depth townships (after_steps depth townships p own) earlier) _ _ s.ask same listed)),
     )

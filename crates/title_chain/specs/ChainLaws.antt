@@ -20,7 +20,7 @@ SameIn depth townships land p q = (c : Cell) → is_cell_of depth townships land
 -- quarters
 abbrev pub AnswerSame : Type 0
 AnswerSame =
-    (depth : ℕ) (townships : List Township) → depth ≤ 3 → (p q : Plant) (listed other : List Entry) (a : Ask) →
+    (depth : ℕ) (townships : List Township) (p q : Plant) (listed other : List Entry) (a : Ask) →
     SameIn depth townships (tract_of a) p q → listed ≡ other →
     answer_to depth townships p listed a ≡ answer_to depth townships q other a
 

@@ -1,6 +1,7 @@
 //! An index of posts by the nodes of the tree of tracts.
 
 ghost use Rattle.std.specs.Prelude.{◌≡◌, ◌++◌, ◌∷◌, ◌&&◌, ◌||◌, [], List, IfOk, OnOk, length, reverse};
+ghost use Rattle.title_land.specs.Depth.{depth};
 ghost use Rattle.std.specs.List.{list_any};
 ghost use Rattle.title_land.specs.declared.node.Node.{Node};
 ghost use Rattle.title_land.specs.Nodes.{same_node, above, is_above};
@@ -26,10 +27,10 @@ pub(crate) struct Filing {
 }
 
 // The places under a node.
-fn places_at(lists: &BTreeMap<Node, Vec<Place>>, node: Node) -> &[Place]
-    ensures places { result.now ≡ places_under lists.now node }
+fn places_at<'a>(lists: &'a BTreeMap<Node, Vec<Place>>, node: &Node) -> &'a [Place]
+    ensures places { result.now ≡ places_under lists.now node.now }
 {
-    match lists.get(&node) {
+    match lists.get(node) {
         Some(places) => places.as_slice(),
         None => &[],
     }
@@ -52,18 +53,18 @@ fn push_once(list: &mut Vec<Place>, place: Place) -> Result<(), AllocError>
 fn file_under(
     alloc: Global,
     lists: &mut BTreeMap<Node, Vec<Place>>,
-    node: Node,
+    node: &Node,
     place: Place,
 ) -> Result<(), AllocError>
     ensures filed { OnOk result ((n : Node) (p : Place) → is_listed p (places_under lists.new n)
-        ≡ (is_listed p (places_under lists.old n) || (same_node n node && same_place p place))) }
+        ≡ (is_listed p (places_under lists.old n) || (same_node n node.now && same_place p place))) }
 {
-    if let Some(list) = lists.get_mut(&node) {
+    if let Some(list) = lists.get_mut(node) {
         return push_once(list, place);
     }
     let mut list = Vec::new(alloc);
     push_once(&mut list, place)?;
-    lists.insert(node, list)?;
+    lists.insert(*node, list)?;
     Ok(())
 }
 
@@ -71,15 +72,15 @@ fn file_under(
 fn file_above(
     alloc: Global,
     lists: &mut BTreeMap<Node, Vec<Place>>,
-    node: Node,
+    node: &Node,
     place: Place,
 ) -> Result<(), AllocError>
     ensures filed { OnOk result ((n : Node) (p : Place) → is_listed p (places_under lists.new n)
-        ≡ (is_listed p (places_under lists.old n) || (is_above n node && same_place p place))) }
+        ≡ (is_listed p (places_under lists.old n) || (is_above n node.now && same_place p place))) }
 {
     if let Some(parent) = node.parent() {
-        file_under(alloc, lists, parent, place)?;
-        file_above(alloc, lists, parent, place)?;
+        file_under(alloc, lists, &parent, place)?;
+        file_above(alloc, lists, &parent, place)?;
     }
     Ok(())
 }
@@ -103,7 +104,7 @@ impl Filing {
     /// Nothing was read yet; takes no memory.
     pub(crate) fn new(alloc: Global) -> Filing
         ensures read { result.read ≡ 0 }
-        ensures filed { IsFiled 3 result [] }
+        ensures filed { IsFiled depth result [] }
     {
         Filing {
             read: 0,
@@ -121,8 +122,8 @@ impl Filing {
             ≡ (is_listed p (places_under self.old.below n) || (list_any (is_above n) cover.now && same_place p place))) }
     {
         for node in cover {
-            file_under(alloc, &mut self.at, *node, place)?;
-            file_above(alloc, &mut self.below, *node, place)?;
+            file_under(alloc, &mut self.at, node, place)?;
+            file_above(alloc, &mut self.below, node, place)?;
         }
         Ok(())
     }
@@ -130,16 +131,15 @@ impl Filing {
     // Files a post of this tract.
     fn file_post(&mut self, alloc: Global, place: Place, tract: &Tract) -> Result<(), AllocError>
         ensures read { self.new.read ≡ self.old.read }
-        ensures filed { OnOk result ((posts : List PlacedPost) (x : PlacedPost) → x.place ≡ place → x.posting.tract ≡ tract.now → IsFiled 3 self.old posts → IsFiled 3 self.new (posts ++ x ∷ [])) }
+        ensures filed { OnOk result ((posts : List PlacedPost) (x : PlacedPost) → x.place ≡ place → x.posting.tract ≡ tract.now → IsFiled depth self.old posts → IsFiled depth self.new (posts ++ x ∷ [])) }
     {
-        tract.land().is_sized();
         self.file_cover(alloc, place, tract.cover())
     }
 
     // Files a step, if it was posted.
     fn file_step(&mut self, alloc: Global, place: Place, step: &Step) -> Result<(), AllocError>
         ensures read { self.new.read ≡ self.old.read }
-        ensures filed { OnOk result ((posts : List PlacedPost) → IsFiled 3 self.old posts → IsFiled 3 self.new (posts ++ post_of place step.now.ask step.now.answer)) }
+        ensures filed { OnOk result ((posts : List PlacedPost) → IsFiled depth self.old posts → IsFiled depth self.new (posts ++ post_of place step.now.ask step.now.answer)) }
     {
         let (Ask::Post(posting), Answer::Posted) = (&step.ask, &step.answer) else {
             return Ok(());
@@ -150,7 +150,7 @@ impl Filing {
     // Files the steps of the record at an index.
     fn file_steps(&mut self, alloc: Global, index: usize, steps: &[Step]) -> Result<(), AllocError>
         ensures read { self.new.read ≡ self.old.read }
-        ensures filed { OnOk result ((posts : List PlacedPost) → IsFiled 3 self.old posts → IsFiled 3 self.new (posts ++ step_posts index (reverse steps.now))) }
+        ensures filed { OnOk result ((posts : List PlacedPost) → IsFiled depth self.old posts → IsFiled depth self.new (posts ++ step_posts index (reverse steps.now))) }
     {
         for (i, step) in steps.iter().enumerate() {
             let place = Place {
@@ -164,8 +164,8 @@ impl Filing {
 
     // Files the records that weren't read yet.
     fn file_records(&mut self, alloc: Global, records: &[Record]) -> Result<(), AllocError>
-        requires read { IsReadFrom 3 self.old records.now }
-        ensures filed { OnOk result (IsFiled 3 self.new (record_posts (reverse records.now))) }
+        requires read { IsReadFrom depth self.old records.now }
+        ensures filed { OnOk result (IsFiled depth self.new (record_posts (reverse records.now))) }
         ensures read { OnOk result (self.new.read ≡ length records.now) }
     {
         while let Some(record) = records.get(self.read) {
@@ -177,9 +177,9 @@ impl Filing {
 
     /// Files the records that weren't read yet. An error leaves a filing that read nothing.
     pub(crate) fn read_on(&mut self, alloc: Global, records: &[Record]) -> Result<(), AllocError>
-        requires read { IsReadFrom 3 self.old records.now }
-        ensures read { IsReadFrom 3 self.new records.now }
-        ensures filed { OnOk result (IsFiled 3 self.new (record_posts (reverse records.now))) }
+        requires read { IsReadFrom depth self.old records.now }
+        ensures read { IsReadFrom depth self.new records.now }
+        ensures filed { OnOk result (IsFiled depth self.new (record_posts (reverse records.now))) }
     {
         let filed = self.file_records(alloc, records);
         if filed.is_err() {
@@ -190,8 +190,8 @@ impl Filing {
 
     // Files the steps of an open transaction that weren't read yet.
     fn file_own(&mut self, alloc: Global, steps: &[Step]) -> Result<(), AllocError>
-        requires read { AreReadFrom 3 self.old steps.now }
-        ensures filed { OnOk result (IsFiled 3 self.new (step_posts 0 (reverse steps.now))) }
+        requires read { AreReadFrom depth self.old steps.now }
+        ensures filed { OnOk result (IsFiled depth self.new (step_posts 0 (reverse steps.now))) }
         ensures read { OnOk result (self.new.read ≡ length steps.now) }
     {
         while let Some(step) = steps.get(self.read) {
@@ -207,9 +207,9 @@ impl Filing {
 
     /// Files the steps of an open transaction that weren't read yet. An error leaves a filing that read nothing.
     pub(crate) fn read_on_own(&mut self, alloc: Global, steps: &[Step]) -> Result<(), AllocError>
-        requires read { AreReadFrom 3 self.old steps.now }
-        ensures read { AreReadFrom 3 self.new steps.now }
-        ensures filed { OnOk result (IsFiled 3 self.new (step_posts 0 (reverse steps.now))) }
+        requires read { AreReadFrom depth self.old steps.now }
+        ensures read { AreReadFrom depth self.new steps.now }
+        ensures filed { OnOk result (IsFiled depth self.new (step_posts 0 (reverse steps.now))) }
     {
         let filed = self.file_own(alloc, steps);
         if filed.is_err() {
@@ -219,20 +219,20 @@ impl Filing {
     }
 
     // Adds the places of the posts whose cover has a node above.
-    fn find_above(&self, found: &mut BTreeSet<Place>, node: Node) -> Result<(), AllocError>
+    fn find_above(&self, found: &mut BTreeSet<Place>, node: &Node) -> Result<(), AllocError>
         ensures found { OnOk result ((p : Place) → is_found found.new p
-            ≡ (is_found found.old p || list_any (λ a. is_listed p (places_under self.now.at a)) (above node))) }
+            ≡ (is_found found.old p || list_any (λ a. is_listed p (places_under self.now.at a)) (above node.now))) }
     {
         if let Some(parent) = node.parent() {
-            find_all(found, places_at(&self.at, parent))?;
-            self.find_above(found, parent)?;
+            find_all(found, places_at(&self.at, &parent))?;
+            self.find_above(found, &parent)?;
         }
         Ok(())
     }
 
     // Adds the places of the posts whose cover has the node, or one above or below it.
-    fn find_near(&self, found: &mut BTreeSet<Place>, node: Node) -> Result<(), AllocError>
-        ensures found { OnOk result ((p : Place) → is_found found.new p ≡ (is_found found.old p || is_near self.now p node)) }
+    fn find_near(&self, found: &mut BTreeSet<Place>, node: &Node) -> Result<(), AllocError>
+        ensures found { OnOk result ((p : Place) → is_found found.new p ≡ (is_found found.old p || is_near self.now p node.now)) }
     {
         find_all(found, places_at(&self.at, node))?;
         find_all(found, places_at(&self.below, node))?;
@@ -245,7 +245,7 @@ impl Filing {
     {
         let mut found = BTreeSet::new(alloc);
         for node in cover {
-            self.find_near(&mut found, *node)?;
+            self.find_near(&mut found, node)?;
         }
         Ok(found)
     }
@@ -258,10 +258,9 @@ impl Filing {
         records: &[Record],
         tract: &Tract,
     ) -> Result<(), AllocError>
-        requires filed { IsFiled 3 self.now (record_posts (reverse records.now)) }
+        requires filed { IsFiled depth self.now (record_posts (reverse records.now)) }
         ensures added { OnOk result (entries.new.items ≡ entries.old.items ++ record_entries tract.now (reverse records.now)) }
     {
-        tract.land().is_sized();
         let found = self.find(alloc, tract.cover())?;
         add_entries_at(alloc, entries, records, &found, tract)
     }
@@ -274,10 +273,9 @@ impl Filing {
         steps: &[Step],
         tract: &Tract,
     ) -> Result<(), AllocError>
-        requires filed { IsFiled 3 self.now (step_posts 0 (reverse steps.now)) }
+        requires filed { IsFiled depth self.now (step_posts 0 (reverse steps.now)) }
         ensures added { OnOk result (entries.new.items ≡ entries.old.items ++ step_entries 0 tract.now (reverse steps.now)) }
     {
-        tract.land().is_sized();
         let found = self.find(alloc, tract.cover())?;
         add_own_entries_at(alloc, entries, steps, &found, tract)
     }

@@ -1,6 +1,7 @@
 //! The steps of an open transaction.
 
 ghost use Rattle.std.specs.Prelude.{◌≡◌, ◌∷◌, ◌++◌, [], OnOk, length, reverse, true};
+ghost use Rattle.title_land.specs.Depth.{depth};
 ghost use Rattle.title_chain.specs.StepEntries.{step_entries};
 
 use crate::ask::{Entry, Step};
@@ -19,6 +20,7 @@ pub struct OwnSteps {
 }
 
 impl Model for OwnSteps {
+    ghost use Rattle.title_land.specs.Depth.{depth};
     ghost use Rattle.std.specs.Prelude.{nat_lt, vec_len, vec_capacity};
     ghost use Rattle.title_chain.specs.TractIndexes.{Owned, AreReadFrom};
 
@@ -26,7 +28,7 @@ impl Model for OwnSteps {
 
     ghost view = { λ t. record { steps = t.steps.items; has_room = nat_lt (vec_len t.steps) (vec_capacity t.steps) } };
 
-    ghost invariant = { λ t. AreReadFrom 3 t.filing t.steps.items };
+    ghost invariant = { λ t. AreReadFrom depth t.filing t.steps.items };
 }
 
 impl OwnSteps {

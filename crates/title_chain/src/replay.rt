@@ -1,6 +1,7 @@
 //! The sheet after a list of records, made from the posted instruments alone.
 
 ghost use Rattle.std.specs.Prelude.{◌≡◌, IfOk, OnOk, [], true, reverse};
+ghost use Rattle.title_land.specs.Depth.{depth};
 ghost use Rattle.title_land.specs.Lands.{is_in_plant};
 ghost use Rattle.title_store.specs.Plants.{SameContent, IsEachOnce};
 ghost use Rattle.title_store.specs.Sheets.{sheet_of};
@@ -18,8 +19,8 @@ use title_store::{CellStore, Put, Store};
 // Posts a step's instrument again, if it was posted.
 fn post_again<S: Store>(store: &mut S, step: &Step) -> Result<(), AllocError>
     requires none { S.out store.old ≡ [] }
-    requires replays { CanReplay 3 (S.declared store.old) (S.content store.old) step.now }
-    ensures content { OnOk result (SameContent (effect 3 (S.declared store.old) (S.content store.old) step.now.ask) (S.content store.new)) }
+    requires replays { CanReplay depth (S.declared store.old) (S.content store.old) step.now }
+    ensures content { OnOk result (SameContent (effect depth (S.declared store.old) (S.content store.old) step.now.ask) (S.content store.new)) }
     ensures declared { S.declared store.new ≡ S.declared store.old }
     ensures out { OnOk result (S.out store.new ≡ []) }
 {
@@ -35,8 +36,8 @@ fn post_again<S: Store>(store: &mut S, step: &Step) -> Result<(), AllocError>
 // Posts again what these steps posted.
 fn post_all_again<S: Store>(store: &mut S, steps: &[Step]) -> Result<(), AllocError>
     requires none { S.out store.old ≡ [] }
-    requires replays { Replays 3 (S.declared store.old) (S.content store.old) (reverse steps.now) }
-    ensures content { OnOk result (SameContent (after_steps 3 (S.declared store.old) (S.content store.old) (reverse steps.now)) (S.content store.new)) }
+    requires replays { Replays depth (S.declared store.old) (S.content store.old) (reverse steps.now) }
+    ensures content { OnOk result (SameContent (after_steps depth (S.declared store.old) (S.content store.old) (reverse steps.now)) (S.content store.new)) }
     ensures declared { S.declared store.new ≡ S.declared store.old }
     ensures out { OnOk result (S.out store.new ≡ []) }
 {
@@ -50,8 +51,8 @@ fn post_all_again<S: Store>(store: &mut S, steps: &[Step]) -> Result<(), AllocEr
 fn post_records_again<S: Store>(store: &mut S, records: &[Record]) -> Result<(), AllocError>
     requires none { S.out store.old ≡ [] }
     requires opening { SameContent opening_plant (S.content store.old) }
-    requires serial { IsSerial 3 (S.declared store.old) (reverse records.now) }
-    ensures content { OnOk result (SameContent (plant_after 3 (S.declared store.old) (reverse records.now)) (S.content store.new)) }
+    requires serial { IsSerial depth (S.declared store.old) (reverse records.now) }
+    ensures content { OnOk result (SameContent (plant_after depth (S.declared store.old) (reverse records.now)) (S.content store.new)) }
     ensures declared { S.declared store.new ≡ S.declared store.old }
 {
     for record in records {
@@ -69,8 +70,8 @@ fn sheet_by_replay<S: Store + Drop>(
 ) -> Result<SheetRows, AllocError>
     requires once { IsEachOnce townships.now }
     requires within { is_in_plant townships.now tract.now ≡ true }
-    requires serial { IsSerial 3 townships.now (reverse records.now) }
-    ensures sheet { IfOk result (λ rows. rows ≡ sheet_of 3 townships.now (plant_after 3 townships.now (reverse records.now)) tract.now) }
+    requires serial { IsSerial depth townships.now (reverse records.now) }
+    ensures sheet { IfOk result (λ rows. rows ≡ sheet_of depth townships.now (plant_after depth townships.now (reverse records.now)) tract.now) }
 {
     let mut store = S::open(alloc, townships)?;
     post_records_again(&mut store, records.as_slice())?;
@@ -88,8 +89,8 @@ pub fn sheet_by_chain(
 ) -> Result<SheetRows, AllocError>
     requires once { IsEachOnce townships.now }
     requires within { is_in_plant townships.now tract.now ≡ true }
-    requires serial { IsSerial 3 townships.now (reverse records.now) }
-    ensures sheet { IfOk result (λ rows. rows ≡ sheet_of 3 townships.now (plant_after 3 townships.now (reverse records.now)) tract.now) }
+    requires serial { IsSerial depth townships.now (reverse records.now) }
+    ensures sheet { IfOk result (λ rows. rows ≡ sheet_of depth townships.now (plant_after depth townships.now (reverse records.now)) tract.now) }
 {
     sheet_by_replay::<CellStore>(alloc, records, townships, tract)
 }

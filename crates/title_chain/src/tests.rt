@@ -1,4 +1,5 @@
-ghost use Rattle.std.specs.Prelude.{◌≡◌, IfOk, List, [], ◌∷◌, true, reverse};
+ghost use Rattle.std.specs.Prelude.{◌≡◌, IfOk, List, [], ◌∷◌, true, false, reverse};
+ghost use Rattle.title_land.specs.Depth.{depth};
 ghost use Rattle.title_share.specs.Rows.{whole_units};
 ghost use Rattle.title_land.specs.Lands.{is_in_plant};
 ghost use Rattle.title_chain.specs.Alone.{IsSerial};
@@ -13,7 +14,7 @@ use std::alloc::{AllocError, Global};
 use std::process::Abort;
 use std::test::Fail;
 use title_instrument::{Deed, Estate, Estates, Instrument, Quantum, Release, Rule};
-use title_land::{Grid, Land, Node, Quarter, Rectangle, Section, Township, Tract, Within};
+use title_land::{Node, Quarter, Section, Township, Tract, Within};
 use title_share::{Share, WHOLE};
 use title_store::SheetRow;
 
@@ -39,8 +40,14 @@ fn section(rt: &impl Abort, number: u8) -> Section {
     Section::new(third_north(rt), number).expect(rt, "the number is in range")
 }
 
-fn whole_section(alloc: Global, rt: &impl Abort, number: u8) -> Result<Tract, Fail> {
-    Ok(Tract::new(alloc, Land::Part(section(rt, number), Grid::FULL))?)
+// The square of a section with these quarters, the innermost first.
+fn square(rt: &impl Abort, number: u8, quarters: &[Quarter]) -> Node {
+    let within = Within::named(quarters).expect(rt, "no more than four quarters");
+    Node::Part(section(rt, number), within)
+}
+
+fn whole_section(rt: &impl Abort, number: u8) -> Tract {
+    Tract::of(square(rt, number, &[]))
 }
 
 fn whole(rt: &impl Abort) -> Share {
@@ -48,16 +55,13 @@ fn whole(rt: &impl Abort) -> Share {
 }
 
 // The northeast quarter of section 5.
-fn quarter(alloc: Global, rt: &impl Abort) -> Result<Tract, Fail> {
-    let cells = Grid::EMPTY.with(Rectangle::SECTION.quarter(Quarter::Northeast));
-    Ok(Tract::new(alloc, Land::Part(section(rt, 5), cells))?)
+fn quarter(rt: &impl Abort) -> Tract {
+    Tract::of(square(rt, 5, &[Quarter::Northeast]))
 }
 
 // The northeast quarter of that quarter.
-fn sixteenth(alloc: Global, rt: &impl Abort) -> Result<Tract, Fail> {
-    let quarter = Rectangle::SECTION.quarter(Quarter::Northeast);
-    let cells = Grid::EMPTY.with(quarter.quarter(Quarter::Northeast));
-    Ok(Tract::new(alloc, Land::Part(section(rt, 5), cells))?)
+fn sixteenth(rt: &impl Abort) -> Tract {
+    Tract::of(square(rt, 5, &[Quarter::Northeast; 2]))
 }
 
 // A deed of a share of the surface.
@@ -68,6 +72,7 @@ fn deed(share: Share, grantor: u32, grantee: u32) -> Instrument
       estates = SURFACE;
       quantum = Quantum.Whole share;
       reserve = None ∷ None ∷ None ∷ [];
+      warranty = false;
     }) }
 {
     Instrument::Deed(Deed {
@@ -76,6 +81,7 @@ fn deed(share: Share, grantor: u32, grantee: u32) -> Instrument
         estates: SURFACE,
         quantum: Quantum::Whole(share),
         reserve: [None; 3],
+        warranty: false,
     })
 }
 
@@ -126,7 +132,7 @@ fn releases(
     requires whole { share ≡ whole_units }
     requires sixteenth { is_in_plant (township ∷ []) sixteenth ≡ true }
     requires quarter { is_in_plant (township ∷ []) quarter.now ≡ true }
-    ensures serial { IfOk result (λ records. IsSerial 3 (township ∷ []) (reverse records)) }
+    ensures serial { IfOk result (λ records. IsSerial depth (township ∷ []) (reverse records)) }
 {
     let first = posted(1, sixteenth, deed(share, UNITED_STATES, ADAMS));
     let second = posted(2, quarter.copy(alloc)?, release(ADAMS, BELL));
@@ -171,7 +177,7 @@ fn assert_rows(
 fn a_deed_and_two_releases(rt: HostRuntime) -> Result<(), Fail> {
     let alloc = rt.alloc();
     let townships = [third_north(&rt)];
-    let (sixteenth, quarter) = (sixteenth(alloc, &rt)?, quarter(alloc, &rt)?);
+    let (sixteenth, quarter) = (sixteenth(&rt), quarter(&rt));
     assert!(rt; sixteenth.is_in(&townships));
     assert!(rt; quarter.is_in(&townships));
     let share = whole(&rt);
@@ -201,8 +207,8 @@ fn a_deed_and_two_releases(rt: HostRuntime) -> Result<(), Fail> {
 #[test]
 fn places_follow_the_order_of_commits(rt: HostRuntime) -> Result<(), Fail> {
     let alloc = rt.alloc();
-    let (fifth, sixth) = (whole_section(alloc, &rt, 5)?, whole_section(alloc, &rt, 6)?);
-    let township = Tract::new(alloc, Land::Township(third_north(&rt)))?;
+    let (fifth, sixth) = (whole_section(&rt, 5), whole_section(&rt, 6));
+    let township = Tract::of(Node::Township(third_north(&rt)));
     let first = posted(
         11,
         fifth.copy(alloc)?,
@@ -229,16 +235,16 @@ fn places_follow_the_order_of_commits(rt: HostRuntime) -> Result<(), Fail> {
 #[test]
 fn a_refused_post_is_not_in_the_chain(rt: HostRuntime) -> Result<(), Fail> {
     let alloc = rt.alloc();
-    let fifth = whole_section(alloc, &rt, 5)?;
-    let node = Node::Part(section(&rt, 5), Within::Whole);
+    let node = &square(&rt, 5, &[]);
+    let fifth = Tract::of(*node);
     let row = SheetRow {
-        node,
+        node: *node,
         estate: Estate::S,
         party: UNITED_STATES,
         units: WHOLE,
     };
     let mut refused = posted(8, fifth.copy(alloc)?, deed(whole(&rt), BELL, ADAMS));
-    refused.answer = Answer::Refused(Rule::ShortTitle, Estate::S, node);
+    refused.answer = Answer::Refused(Rule::ShortTitle, Estate::S, *node);
     let posting = Posting {
         doc: 7,
         tract: fifth.copy(alloc)?,

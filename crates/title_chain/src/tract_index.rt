@@ -1,6 +1,7 @@
 //! The tract index.
 
 ghost use Rattle.std.specs.Prelude.{◌≡◌, ◌∷◌, ◌++◌, [], IfOk, OnOk, IsOk, length, reverse, true};
+ghost use Rattle.title_land.specs.Depth.{depth};
 ghost use Rattle.title_chain.specs.Chains.{chain_of};
 
 use crate::filing::Filing;
@@ -21,6 +22,7 @@ pub struct TractIndex {
 }
 
 impl Model for TractIndex {
+    ghost use Rattle.title_land.specs.Depth.{depth};
     ghost use Rattle.std.specs.Prelude.{nat_lt, vec_len, vec_capacity};
     ghost use Rattle.title_chain.specs.TractIndexes.{Recorded, IsReadFrom};
 
@@ -28,7 +30,7 @@ impl Model for TractIndex {
 
     ghost view = { λ t. record { records = t.records.items; has_room = nat_lt (vec_len t.records) (vec_capacity t.records) } };
 
-    ghost invariant = { λ t. IsReadFrom 3 t.filing t.records.items };
+    ghost invariant = { λ t. IsReadFrom depth t.filing t.records.items };
 }
 
 impl TractIndex {

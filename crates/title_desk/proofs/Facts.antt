@@ -1,5 +1,6 @@
 -- What stays of the facts of a desk when one transaction ends.
 use Rattle.std.proofs.Common.{◌≡◌, ◌≢◌, ℕ, Bool, true, false, cond, not, ◌&&◌, ◌||◌, List, [], ◌∷◌, map, refl, ap, ◌∙◌, sym, subst, eqb, inl, inr}
+use Rattle.title_land.specs.Depth.{depth}
 use Rattle.std.proofs.lemmas.Bool.{cases_Bool, cases_eq, or_cases, and_parts, ne_eqb}
 use Rattle.std.proofs.lemmas.List.{reverse-reverse}
 use Rattle.title_land.specs.declared.place.Township.{Township}
@@ -76,7 +77,7 @@ apart {number = number} {ts = ts} {own = own} {images = images} {done = done} {o
     let owner = facts.owned x xt in
     elim (cases_eq owner.0 e) [
       | inl same ↦ inl (subst (λ z. IsOf x.number (map number (images z))) same owner.1)
-      | inr other ↦ inr (images_apart number out ts (plant_after 3 ts done) (own e) (own owner.0) (images e) (images owner.0) b x
+      | inr other ↦ inr (images_apart number out ts (plant_after depth ts done) (own e) (own owner.0) (images e) (images owner.0) b x
           (facts.backed e) (facts.backed owner.0) (clear e owner.0 (λ k. other (sym k))) at bt owner.1 xt)
     ]
 
@@ -91,7 +92,7 @@ pub facts_aborted : {I : Type 0} {number : I → ℕ} {ts : List Township} {own 
     IsRestored ts (map number (images e)) out content content' →
     Facts number ts (λ f. cond (eqb f e) [] (own f)) (λ f. cond (eqb f e) [] (images f)) done content' (without_all (map number (images e)) out) (without e locks)
 facts_aborted {number = number} {ts = ts} {own = own} {images = images} {done = done} {content = content} {content' = content'} {out = out} {locks = locks} clear e facts back =
-    let p : Plant = plant_after 3 ts done in
+    let p : Plant = plant_after depth ts done in
     let ns : List ℕ = map number (images e) in
     let g : Gone number (images e) ns = record { into = λ n k. k; all = λ n k. k } in
     let stay : Remain ns out out = record { there = λ b at k. k; back = λ b at k. k } in
@@ -101,7 +102,7 @@ facts_aborted {number = number} {ts = ts} {own = own} {images = images} {done = 
           (λ ne. backed_in number out (without_all ns out) ts p (own f) (images f) (facts.backed f) (others_remain number images ns out e f ne facts.numbers g));
       numbers = λ f h n at bt. facts.numbers f h n (of_left number images e f n at) (of_left number images e h n bt);
       owned = owned_left number images ns out e facts.owned g;
-      posted = λ f c. case_eqb (λ b. posted_at ts c (cond b [] (own f)) ≡ true → content' c ≡ after_steps 3 ts p (cond b [] (own f)) c) f e
+      posted = λ f c. case_eqb (λ b. posted_at ts c (cond b [] (own f)) ≡ true → content' c ≡ after_steps depth ts p (cond b [] (own f)) c) f e
           (λ _ h. cc)
           (λ ne h. restored_outside number out out ts p (own e) (images e) content content' c (facts.backed e) stay back (posted_apart ts (own e) (own f) c (clear e f (λ k. ne (sym k))) h) ∙ facts.posted f c h);
       rest = λ c none. elim (cases_Bool (posted_at ts c (own e))) [
@@ -113,35 +114,35 @@ facts_aborted {number = number} {ts = ts} {own = own} {images = images} {done = 
     }
 
 -- a step that leaves a plant leaves also one that is the same in its tract
-leaves_too : (ts : List Township) (p q : Plant) (s : Step) → SameIn 3 ts (tract_of s.ask) q p → ((c : Cell) → effect 3 ts p s.ask c ≡ p c) → (c : Cell) → effect 3 ts q s.ask c ≡ q c
+leaves_too : (ts : List Township) (p q : Plant) (s : Step) → SameIn depth ts (tract_of s.ask) q p → ((c : Cell) → effect depth ts p s.ask c ≡ p c) → (c : Cell) → effect depth ts q s.ask c ≡ q c
 leaves_too ts p q s same leaves c =
-    elim (cases_Bool (is_cell_of 3 ts (tract_of s.ask) c)) [
-      | inl inside ↦ effect_same 3 ts q p s.ask c same (same c inside) ∙ leaves c ∙ sym (same c inside)
-      | inr outside ↦ effect_outside 3 ts q s.ask c outside
+    elim (cases_Bool (is_cell_of depth ts (tract_of s.ask) c)) [
+      | inl inside ↦ effect_same depth ts q p s.ask c same (same c inside) ∙ leaves c ∙ sym (same c inside)
+      | inr outside ↦ effect_outside depth ts q s.ask c outside
     ]
 
 peels_over : {I : Type 0} (number : I → ℕ) (out : List Loan) (ts : List Township) (p q : Plant) (s : Step) (images older : List I) (b : Bool) →
-    SameIn 3 ts (tract_of s.ask) q p → Peels number out ts p s images older b → Peels number out ts q s images older b
+    SameIn depth ts (tract_of s.ask) q p → Peels number out ts p s images older b → Peels number out ts q s images older b
 peels_over number out ts p q s images older false same h = (h.0, leaves_too ts p q s same h.1)
 peels_over number out ts p q s images older true same h =
     (h.0, h.1, record { is_out = h.2.is_out; land_is = h.2.land_is; holds = λ b lent c inside. h.2.holds b lent c inside ∙ sym (same c inside); above = h.2.above })
 
 -- the images of steps serve also over a plant that is the same in all their tracts
 backed_over : {I : Type 0} (number : I → ℕ) (out : List Loan) (ts : List Township) (p q : Plant) (own : List Step) (images : List I) →
-    SameAt 3 ts own q p → Backed number out ts p own images → Backed number out ts q own images
+    SameAt depth ts own q p → Backed number out ts p own images → Backed number out ts q own images
 backed_over number out ts p q [] images same b = b
 backed_over number out ts p q (s ∷ earlier) images same b = (
   b.0,
-  peels_over number out ts (after_steps 3 ts p earlier) (after_steps 3 ts q earlier) s images b.0 (is_posted s.ask s.answer) (λ c inside. steps_same 3 ts q p earlier same.0 c (same.1 c inside)) b.1,
+  peels_over number out ts (after_steps depth ts p earlier) (after_steps depth ts q earlier) s images b.0 (is_posted s.ask s.answer) (λ c inside. steps_same depth ts q p earlier same.0 c (same.1 c inside)) b.1,
   backed_over number out ts p q earlier b.0 same.0 b.2,
 )
 
 -- at a cell where one of the steps was posted both plants were the same
-same_posted : (ts : List Township) (p q : Plant) (own : List Step) (c : Cell) → SameAt 3 ts own q p → posted_at ts c own ≡ true → q c ≡ p c
+same_posted : (ts : List Township) (p q : Plant) (own : List Step) (c : Cell) → SameAt depth ts own q p → posted_at ts c own ≡ true → q c ≡ p c
 same_posted ts p q [] c same h = cc
 same_posted ts p q (s ∷ earlier) c same h =
-    elim (or_cases (is_posted s.ask s.answer && is_cell_of 3 ts (tract_of s.ask) c) (posted_at ts c earlier) h) [
-      | inl here ↦ same.1 c (and_parts (is_posted s.ask s.answer) (is_cell_of 3 ts (tract_of s.ask) c) here).1
+    elim (or_cases (is_posted s.ask s.answer && is_cell_of depth ts (tract_of s.ask) c) (posted_at ts c earlier) h) [
+      | inl here ↦ same.1 c (and_parts (is_posted s.ask s.answer) (is_cell_of depth ts (tract_of s.ask) c) here).1
       | inr before ↦ same_posted ts p q earlier c same.0 before
     ]
 
@@ -150,10 +151,10 @@ pub facts_committed : {I : Type 0} {number : I → ℕ} {ts : List Township} {ow
     ((f g : ℕ) → f ≢ g → Clear (own f) (own g)) → (e : ℕ) (gone : List ℕ) → Gone number (images e) gone → Facts number ts own images done content out locks →
     Facts number ts (λ f. cond (eqb f e) [] (own f)) (λ f. cond (eqb f e) [] (images f)) (record_of e (own e) ∷ done) content (without_all gone out) (without e locks)
 facts_committed {number = number} {ts = ts} {own = own} {images = images} {done = done} {content = content} {out = out} {locks = locks} clear e gone g facts =
-    let p : Plant = plant_after 3 ts done in
-    let q : Plant = after_steps 3 ts p (own e) in
-    let back : plant_after 3 ts (record_of e (own e) ∷ done) ≡ q = ap (after_steps 3 ts p) (reverse-reverse (own e)) in
-    let same : (f : ℕ) → f ≢ e → SameAt 3 ts (own f) q p = λ f ne. clear_same 3 ts p (own e) (own f) (clear f e ne) in
+    let p : Plant = plant_after depth ts done in
+    let q : Plant = after_steps depth ts p (own e) in
+    let back : plant_after depth ts (record_of e (own e) ∷ done) ≡ q = ap (after_steps depth ts p) (reverse-reverse (own e)) in
+    let same : (f : ℕ) → f ≢ e → SameAt depth ts (own f) q p = λ f ne. clear_same depth ts p (own e) (own f) (clear f e ne) in
     record {
       locks_are = locks_left own locks e facts.locks_are;
       backed = λ f. subst (λ x. Backed number (without_all gone out) ts x (cond (eqb f e) [] (own f)) (cond (eqb f e) [] (images f))) (sym back)
@@ -162,9 +163,9 @@ facts_committed {number = number} {ts = ts} {own = own} {images = images} {done 
           (others_remain number images gone out e f ne facts.numbers g)));
       numbers = λ f h n at bt. facts.numbers f h n (of_left number images e f n at) (of_left number images e h n bt);
       owned = owned_left number images gone out e facts.owned g;
-      posted = λ f c. case_eqb (λ b. posted_at ts c (cond b [] (own f)) ≡ true → content c ≡ after_steps 3 ts (plant_after 3 ts (record_of e (own e) ∷ done)) (cond b [] (own f)) c) f e
+      posted = λ f c. case_eqb (λ b. posted_at ts c (cond b [] (own f)) ≡ true → content c ≡ after_steps depth ts (plant_after depth ts (record_of e (own e) ∷ done)) (cond b [] (own f)) c) f e
           (λ _ h. cc)
-          (λ ne h. facts.posted f c h ∙ sym (steps_same 3 ts q p (own f) (same f ne) c (same_posted ts p q (own f) c (same f ne) h)) ∙ ap (λ x. after_steps 3 ts x (own f) c) (sym back));
+          (λ ne h. facts.posted f c h ∙ sym (steps_same depth ts q p (own f) (same f ne) c (same_posted ts p q (own f) c (same f ne) h)) ∙ ap (λ x. after_steps depth ts x (own f) c) (sym back));
       rest = λ c none. elim (cases_Bool (posted_at ts c (own e))) [
         | inl mine ↦ facts.posted e c mine ∙ ap (λ x. x c) (sym back)
         | inr not_mine ↦

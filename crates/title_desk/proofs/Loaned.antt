@@ -1,5 +1,6 @@
 -- Images that are out, and those of a transaction that go back or are let go in their turn.
 use Rattle.std.proofs.Common.{◌≡◌, ◌≢◌, ◌<◌, ℕ, Bool, true, false, cond, ◌&&◌, ◌||◌, List, [], ◌∷◌, ◌++◌, reverse, map, refl, ap, ◌∙◌, sym, subst, ◌⊎◌, inl, inr, arith}
+use Rattle.title_land.specs.Depth.{depth}
 use Rattle.std.proofs.lemmas.Bool.{or_parts}
 use Rattle.std.proofs.lemmas.List.{reverse-append, reverse-reverse}
 use Rattle.title_land.specs.declared.place.Township.{Township}
@@ -76,7 +77,7 @@ pub backed_in : {I : Type 0} (number : I → ℕ) (out out' : List Loan) (ts : L
     Backed number out ts p own images → Remain (map number images) out out' → Backed number out' ts p own images
 backed_in number out out' ts p [] images b r = b
 backed_in number out out' ts p (s ∷ earlier) images b r =
-    let peeled = peels_in number out out' ts (after_steps 3 ts p earlier) s images b.0 (is_posted s.ask s.answer) b.1 r in
+    let peeled = peels_in number out out' ts (after_steps depth ts p earlier) s images b.0 (is_posted s.ask s.answer) b.1 r in
     (b.0, peeled.0, backed_in number out out' ts p earlier b.0 b.2 peeled.1)
 
 peels_out : {I : Type 0} (number : I → ℕ) (out : List Loan) (ts : List Township) (before : Plant) (s : Step) (images older : List I) (posted : Bool) (n : ℕ) →
@@ -90,7 +91,7 @@ pub backed_out : {I : Type 0} (number : I → ℕ) (out : List Loan) (ts : List 
     Backed number out ts p own images → IsOf n (map number images) → IsOut n out
 backed_out number out ts p [] images n b h = absurd (subst (λ is. IsOf n (map number is)) b h)
 backed_out number out ts p (s ∷ earlier) images n b h =
-    peels_out number out ts (after_steps 3 ts p earlier) s images b.0 (is_posted s.ask s.answer) n b.1 h (λ k. backed_out number out ts p earlier b.0 n b.2 k)
+    peels_out number out ts (after_steps depth ts p earlier) s images b.0 (is_posted s.ask s.answer) n b.1 h (λ k. backed_out number out ts p earlier b.0 n b.2 k)
 
 -- each number is above all later ones
 abbrev pub IsFalling : List ℕ → Type 0
@@ -110,7 +111,7 @@ peels_fall number out ts before s images older true p h = subst (λ is. IsFallin
 -- the numbers of the images fall
 pub falling : {I : Type 0} (number : I → ℕ) (out : List Loan) (ts : List Township) (p : Plant) (own : List Step) (images : List I) → Backed number out ts p own images → IsFalling (map number images)
 falling number out ts p [] images b = subst (λ is. IsFalling (map number is)) (sym b) tt
-falling number out ts p (s ∷ earlier) images b = peels_fall number out ts (after_steps 3 ts p earlier) s images b.0 (is_posted s.ask s.answer) b.1 (falling number out ts p earlier b.0 b.2)
+falling number out ts p (s ∷ earlier) images b = peels_fall number out ts (after_steps depth ts p earlier) s images b.0 (is_posted s.ask s.answer) b.1 (falling number out ts p earlier b.0 b.2)
 
 of_append : (ms ns : List ℕ) (m : ℕ) → IsOf m (ms ++ ns) → IsOf m ms ⊎ IsOf m ns
 of_append [] ns m h = inr h
@@ -204,7 +205,7 @@ backed_away : {I : Type 0} (number : I → ℕ) (out : List Loan) (ts : List Tow
 backed_away number out ts p [] images a x b n post h at = absurd (subst (λ is. IsOf x.number (map number is)) b h)
 backed_away number out ts p (s ∷ earlier) images a x b n post h at =
     let parts = or_parts (overlap a s.ask) (overlaps a earlier) n in
-    peeled_away number out ts (after_steps 3 ts p earlier) s images b.0 (is_posted s.ask s.answer) a x b.1 parts.0 post h at
+    peeled_away number out ts (after_steps depth ts p earlier) s images b.0 (is_posted s.ask s.answer) a x b.1 parts.0 post h at
     (λ k. backed_away number out ts p earlier b.0 a x b.2 parts.1 post k at)
 
 peeled_apart : {I : Type 0} (number : I → ℕ) (out : List Loan) (ts : List Township) (before : Plant) (s : Step) (images older : List I) (posted : Bool) (b x : Loan) →
@@ -223,6 +224,6 @@ pub images_apart : {I : Type 0} (number : I → ℕ) (out : List Loan) (ts : Lis
     IsOf b.number (map number images) → IsAmong b out → IsOf x.number (map number others) → IsAmong x out → meets b.land x.land ≡ false
 images_apart number out ts p [] theirs images others b x mine yours clear h at k xt = absurd (subst (λ is. IsOf b.number (map number is)) mine h)
 images_apart number out ts p (s ∷ earlier) theirs images others b x mine yours clear h at k xt =
-    peeled_apart number out ts (after_steps 3 ts p earlier) s images mine.0 (is_posted s.ask s.answer) b x refl mine.1 h at
+    peeled_apart number out ts (after_steps depth ts p earlier) s images mine.0 (is_posted s.ask s.answer) b x refl mine.1 h at
     (λ post. backed_away number out ts p theirs others s.ask x yours clear.1 post k xt)
     (λ r. images_apart number out ts p earlier theirs mine.0 others b x mine.2 yours clear.0 r at k xt)

@@ -1,5 +1,6 @@
 -- What each call makes of what the desk keeps.
-use Rattle.std.proofs.Common.{◌≡◌, ◌≢◌, ℕ, suc, Bool, true, false, cond, List, [], ◌∷◌, ◌++◌, map, reverse, refl, ap, ◌∙◌, sym, subst, eqb, Option, Some, None, is_some, inl, inr, length, lit≤}
+use Rattle.std.proofs.Common.{◌≡◌, ◌≢◌, ℕ, suc, Bool, true, false, cond, List, [], ◌∷◌, ◌++◌, map, reverse, refl, ap, ◌∙◌, sym, subst, eqb, Option, Some, None, is_some, inl, inr, length}
+use Rattle.title_land.specs.Depth.{depth}
 use Rattle.std.proofs.Math.Path.{fun_ext}
 use Rattle.std.proofs.lemmas.Bool.{eqb-true, cond_both}
 use Rattle.std.proofs.lemmas.List.{reverse-append, reverse-reverse, length-reverse}
@@ -32,7 +33,7 @@ use Rattle.title_desk.proofs.Facts.{Gone, apart, owned_left, facts_aborted, fact
 
 -- a refusal that is due changes nothing that is kept
 pub keeps_refused : {I : Type 0} {number : I → ℕ} {setting : Setting} {content : Plant} {declared : List Township} {out : List Loan} {locks : List Entry} {trace : List Call} {records : List Record} {slots : ℕ → Option (Slot I)} →
-    (q : Request) (why : Refusal) → DueReply 3 setting trace q (reply_of why) → Keeps number setting content declared out locks trace records slots →
+    (q : Request) (why : Refusal) → DueReply depth setting trace q (reply_of why) → Keeps number setting content declared out locks trace records slots →
     Keeps number setting content declared out locks (record { request = q; reply = reply_of why } ∷ trace) records slots
 keeps_refused q refusal.NotOpen due k = record { few = k.few; due = (k.due, due); declared_are = k.declared_are; records_are = k.records_are; slots_are = record { begun_are = k.slots_are.begun_are; steps_are = k.slots_are.steps_are }; facts = k.facts }
 keeps_refused q refusal.AlreadyOpen due k = record { few = k.few; due = (k.due, due); declared_are = k.declared_are; records_are = k.records_are; slots_are = record { begun_are = k.slots_are.begun_are; steps_are = k.slots_are.steps_are }; facts = k.facts }
@@ -109,7 +110,7 @@ images_ended slots slots' e left f = sym (view_set images_in e None slots slots'
 -- no step of one examiner overlaps another's
 clear_of : {I : Type 0} {number : I → ℕ} {setting : Setting} {content : Plant} {declared : List Township} {out : List Loan} {locks : List Entry} {trace : List Call} {records : List Record} {slots : ℕ → Option (Slot I)} →
     Keeps number setting content declared out locks trace records slots → (f g : ℕ) → f ≢ g → Clear (open_steps trace f) (open_steps trace g)
-clear_of {setting = setting} {trace = trace} k = (kept 3 setting (lit≤ tt) k.few trace k.due).clear
+clear_of {setting = setting} {trace = trace} k = (kept depth setting k.few trace k.due).clear
 
 -- an examiner aborts
 pub keeps_aborted : {I : Type 0} {number : I → ℕ} {setting : Setting} {content : Plant} (mid : Plant) {content' : Plant} {declared declared' : List Township} {out out' : List Loan} {locks locks' : List Entry} {trace : List Call} {records : List Record} {slots slots' : ℕ → Option (Slot I)} →
@@ -136,7 +137,7 @@ keeps_aborted {number = number} {setting = setting} {content = content} mid {con
 mine_out : {I : Type 0} {number : I → ℕ} {setting : Setting} {content : Plant} {declared : List Township} {out : List Loan} {locks : List Entry} {trace : List Call} {records : List Record} {slots : ℕ → Option (Slot I)} →
     (e n : ℕ) → Keeps number setting content declared out locks trace records slots → IsOf n (map number (images_of slots e)) → IsOut n out
 mine_out {number = number} {setting = setting} {out = out} {trace = trace} {slots = slots} e n k at =
-    backed_out number out setting.townships (plant_after 3 setting.townships (committed trace)) (open_steps trace e) (images_of slots e) n (k.facts.backed e) at
+    backed_out number out setting.townships (plant_after depth setting.townships (committed trace)) (open_steps trace e) (images_of slots e) n (k.facts.backed e) at
 
 -- before an abort the images can go back
 pub aborts : {I : Type 0} {number : I → ℕ} {setting : Setting} {content : Plant} {declared : List Township} {out : List Loan} {locks : List Entry} {trace : List Call} {records : List Record} {slots : ℕ → Option (Slot I)} →
@@ -144,7 +145,7 @@ pub aborts : {I : Type 0} {number : I → ℕ} {setting : Setting} {content : Pl
 aborts {number = number} {setting = setting} {out = out} {trace = trace} {slots = slots} e s k h =
     subst (λ is. Restorable (map number is) out) (ap images_in h)
     (restorable (map number (images_of slots e)) out
-    (falling number out setting.townships (plant_after 3 setting.townships (committed trace)) (open_steps trace e) (images_of slots e) (k.facts.backed e))
+    (falling number out setting.townships (plant_after depth setting.townships (committed trace)) (open_steps trace e) (images_of slots e) (k.facts.backed e))
     (λ n at. mine_out e n k at) (apart (clear_of k) e k.facts))
 
 map_append : {X Y : Type 0} (f : X → Y) (xs ys : List X) → map f (xs ++ ys) ≡ map f xs ++ map f ys
@@ -176,7 +177,7 @@ commits {number = number} {setting = setting} {out = out} {trace = trace} {slots
     let ns : List ℕ = map number (images_of slots e) in
     let xs = s.images.items in
     let mine : images_of slots e ≡ reverse xs = ap images_in h in
-    let falls = falling number out setting.townships (plant_after 3 setting.townships (committed trace)) (open_steps trace e) (images_of slots e) (k.facts.backed e) in
+    let falls = falling number out setting.townships (plant_after depth setting.townships (committed trace)) (open_steps trace e) (images_of slots e) (k.facts.backed e) in
     let far = apart (clear_of k) e k.facts in
     subst (λ zs. Forgettable zs out) (ap (λ is. reverse (map number is)) mine ∙ oldest_first number xs)
     (forgettable (reverse ns) out (rising_reverse ns falls) (λ n at. mine_out e n k (of_reverse ns n at))

@@ -1,5 +1,6 @@
 -- Posts: what a done one makes of what the desk keeps, and one that is taken back.
-use Rattle.std.proofs.Common.{◌≡◌, ◌≢◌, ◌<◌, ℕ, true, false, cond, ◌||◌, List, [], ◌∷◌, ◌++◌, map, refl, ap, ◌∙◌, sym, subst, eqb, ◌⊎◌, inl, inr, arith, Option, None, lit≤}
+use Rattle.std.proofs.Common.{◌≡◌, ◌≢◌, ◌<◌, ℕ, true, false, cond, ◌||◌, List, [], ◌∷◌, ◌++◌, map, refl, ap, ◌∙◌, sym, subst, eqb, ◌⊎◌, inl, inr, arith, Option, None}
+use Rattle.title_land.specs.Depth.{depth}
 use Rattle.std.proofs.Math.Path.{fun_ext}
 use Rattle.std.proofs.lemmas.Bool.{or_parts, false_from_ne_true, both_ways, cases_Bool, cond_both}
 use Rattle.title_land.specs.declared.place.Township.{Township}
@@ -79,12 +80,12 @@ image_last n ts land before out out' taken b x lent at higher =
 
 -- put back at once, it leaves the plant and the list as they were
 pub taken_back : (n : ℕ) (ts : List Township) (i : Instrument) (land : Land) (before mid after : Plant) (out out' : List Loan) → IsTaken n ts land before out out' →
-    SameContent (plant_effect 3 ts i before land) mid → ((b : Loan) → IsLentAs b n out' → SameContent (put_back ts b mid) after) → SameContent before after
+    SameContent (plant_effect depth ts i before land) mid → ((b : Loan) → IsLentAs b n out' → SameContent (put_back ts b mid) after) → SameContent before after
 taken_back n ts i land before mid after out out' taken posted back c =
     let b : Loan = record { number = n; land = land; held = taken.held } in
     back b (subst (IsAmong b) (sym taken.last) (among_last b out), refl) c
-    ∙ cond_both (is_cell_of 3 ts land c) (taken.held c) (mid c) (λ x. x ≡ before c) (λ inside. taken.holds c inside)
-    (λ outside. posted c ∙ store.effect_outside 3 ts i land before c outside)
+    ∙ cond_both (is_cell_of depth ts land c) (taken.held c) (mid c) (λ x. x ≡ before c) (λ inside. taken.holds c inside)
+    (λ outside. posted c ∙ store.effect_outside depth ts i land before c outside)
 
 pub taken_out : (n : ℕ) (ts : List Township) (land : Land) (before : Plant) (out out' : List Loan) → IsTaken n ts land before out out' → without n out' ≡ out
 taken_out n ts land before out out' taken = ap (without n) taken.last ∙ without_last (record { number = n; land = land; held = taken.held }) out taken.above
@@ -102,18 +103,18 @@ here_more number images image e = case_eqb (λ b. IsOf (number image) (map numbe
 
 -- a post that was done
 pub facts_posted : {I : Type 0} {number : I → ℕ} {ts : List Township} {own : ℕ → List Step} {images : ℕ → List I} {done : List Record} {content content' : Plant} {out out' : List Loan} {locks : List Entry} →
-    (e : ℕ) (p : Posting) (image : I) → IsTaken (number image) ts p.tract content out out' → SameContent (plant_effect 3 ts p.instrument content p.tract) content' →
+    (e : ℕ) (p : Posting) (image : I) → IsTaken (number image) ts p.tract content out out' → SameContent (plant_effect depth ts p.instrument content p.tract) content' →
     ((f : ℕ) → f ≢ e → overlaps (ask.Post p) (own f) ≡ false) → Facts number ts own images done content out locks →
     Facts number ts (λ f. cond (eqb f e) (record { ask = ask.Post p; answer = answer.Posted } ∷ own f) (own f)) (λ f. cond (eqb f e) (image ∷ images f) (images f)) done content' out'
     (record { examiner = e; tract = p.tract; access = access.Post } ∷ locks)
 facts_posted {number = number} {ts = ts} {own = own} {images = images} {done = done} {content = content} {content' = content'} {out = out} {out' = out'} {locks = locks} e p image taken same free facts =
     let a : Ask = ask.Post p in
     let s : Step = record { ask = ask.Post p; answer = answer.Posted } in
-    let plant : Plant = plant_after 3 ts done in
-    let seen : Plant = after_steps 3 ts plant (own e) in
+    let plant : Plant = plant_after depth ts done in
+    let seen : Plant = after_steps depth ts plant (own e) in
     let new : Loan = record { number = number image; land = p.tract; held = taken.held } in
-    let same_in : SameIn 3 ts p.tract content seen = content_is facts e a free in
-    let now : (c : Cell) → content' c ≡ effect 3 ts content a c = λ c. same c ∙ ap (λ (q : Plant). q c) (sym (effect_post 3 ts content p)) in
+    let same_in : SameIn depth ts p.tract content seen = content_is facts e a free in
+    let now : (c : Cell) → content' c ≡ effect depth ts content a c = λ c. same c ∙ ap (λ (q : Plant). q c) (sym (effect_post depth ts content p)) in
     let low : (f n : ℕ) → IsOf n (map number (images f)) → n < number image =
     λ f n at. (let is_out : IsOut n out = backed_out number out ts plant (own f) (images f) n (facts.backed f) at in
     let below : is_out.0.number < number image = taken.above is_out.0 is_out.1.0 in let is : is_out.0.number ≡ n = is_out.1.1 in omega arith) in
@@ -150,22 +151,22 @@ facts_posted {number = number} {ts = ts} {own = own} {images = images} {done = d
         | inl old ↦ (let owner = facts.owned b old in (owner.0, into_more number images image e owner.0 b.number owner.1))
         | inr is ↦ (e, subst (λ (n : ℕ). IsOf n (map number (cond (eqb e e) (image ∷ images e) (images e)))) (sym (ap (λ z. z.number) is)) (here_more number images image e))
       ];
-      posted = λ f c. case_eqb (λ b. posted_at ts c (cond b (s ∷ own f) (own f)) ≡ true → content' c ≡ after_steps 3 ts plant (cond b (s ∷ own f) (own f)) c) f e
-          (λ is h. subst (λ g. content' c ≡ after_steps 3 ts plant (s ∷ own g) c) (sym is)
-          (elim (cases_Bool (is_cell_of 3 ts p.tract c)) [
-            | inl inside ↦ now c ∙ effect_same 3 ts content seen a c same_in (same_in c inside)
-            | inr outside ↦ now c ∙ effect_outside 3 ts content a c outside
+      posted = λ f c. case_eqb (λ b. posted_at ts c (cond b (s ∷ own f) (own f)) ≡ true → content' c ≡ after_steps depth ts plant (cond b (s ∷ own f) (own f)) c) f e
+          (λ is h. subst (λ g. content' c ≡ after_steps depth ts plant (s ∷ own g) c) (sym is)
+          (elim (cases_Bool (is_cell_of depth ts p.tract c)) [
+            | inl inside ↦ now c ∙ effect_same depth ts content seen a c same_in (same_in c inside)
+            | inr outside ↦ now c ∙ effect_outside depth ts content a c outside
                 ∙ facts.posted e c (sym (ap (λ b. b || posted_at ts c (own e)) outside) ∙ sym (ap (λ g. posted_at ts c (s ∷ own g)) is) ∙ h)
-                ∙ sym (effect_outside 3 ts seen a c outside)
+                ∙ sym (effect_outside depth ts seen a c outside)
           ]))
-          (λ ne h. now c ∙ effect_outside 3 ts content a c (false_from_ne_true _ (λ inside. both_ways _ (unposted ts a (own f) c (free f ne) inside) h)) ∙ facts.posted f c h);
+          (λ ne h. now c ∙ effect_outside depth ts content a c (false_from_ne_true _ (λ inside. both_ways _ (unposted ts a (own f) c (free f ne) inside) h)) ∙ facts.posted f c h);
       rest = λ c none.
-          let outside : is_cell_of 3 ts p.tract c ≡ false =
-          case_eqb (λ b. posted_at ts c (cond b (s ∷ own e) (own e)) ≡ false → is_cell_of 3 ts p.tract c ≡ false) e e
-          (λ _ h. (or_parts (is_cell_of 3 ts p.tract c) (posted_at ts c (own e)) h).0) (λ ne _. absurd (ne refl)) (none e) in
-          now c ∙ effect_outside 3 ts content a c outside
+          let outside : is_cell_of depth ts p.tract c ≡ false =
+          case_eqb (λ b. posted_at ts c (cond b (s ∷ own e) (own e)) ≡ false → is_cell_of depth ts p.tract c ≡ false) e e
+          (λ _ h. (or_parts (is_cell_of depth ts p.tract c) (posted_at ts c (own e)) h).0) (λ ne _. absurd (ne refl)) (none e) in
+          now c ∙ effect_outside depth ts content a c outside
           ∙ facts.rest c (λ f. case_eqb (λ b. posted_at ts c (cond b (s ∷ own f) (own f)) ≡ false → posted_at ts c (own f) ≡ false) f e
-          (λ _ h. (or_parts (is_cell_of 3 ts p.tract c) (posted_at ts c (own f)) h).1) (λ _ h. h) (none f));
+          (λ _ h. (or_parts (is_cell_of depth ts p.tract c) (posted_at ts c (own f)) h).1) (λ _ h. h) (none f));
     }
 
 -- a done post is answered
@@ -173,12 +174,12 @@ pub keeps_posted : {I : Type 0} {number : I → ℕ} {setting : Setting} {conten
     (slots' : ℕ → Option (Slot I)) (e : ℕ) (p : Posting) (image : I) → Keeps number setting content declared out locks trace records slots →
     StepAdded e (record { ask = ask.Post p; answer = answer.Posted }) slots slots' → ImageAdded e image slots slots' →
     locks' ≡ record { examiner = e; tract = p.tract; access = access.Post } ∷ locks → declared' ≡ declared →
-    IsTaken (number image) declared p.tract content out out' → SameContent (plant_effect 3 declared p.instrument content p.tract) content' →
-    ((f : ℕ) → f ≢ e → overlaps (ask.Post p) (open_steps trace f) ≡ false) → DueReply 3 setting trace (request.Step e (ask.Post p)) (reply.Answered answer.Posted) →
+    IsTaken (number image) declared p.tract content out out' → SameContent (plant_effect depth declared p.instrument content p.tract) content' →
+    ((f : ℕ) → f ≢ e → overlaps (ask.Post p) (open_steps trace f) ≡ false) → DueReply depth setting trace (request.Step e (ask.Post p)) (reply.Answered answer.Posted) →
     Keeps number setting content' declared' out' locks' (record { request = request.Step e (ask.Post p); reply = reply.Answered answer.Posted } ∷ trace) records slots'
 keeps_posted {number = number} {setting = setting} {content = content} {content' = content'} {out = out} {out' = out'} {trace = trace} {slots = slots} slots' e p image k added more locked declared_is taken same free due =
     let taken' : IsTaken (number image) setting.townships p.tract content out out' = subst (λ ts. IsTaken (number image) ts p.tract content out out') k.declared_are taken in
-    let same' : SameContent (plant_effect 3 setting.townships p.instrument content p.tract) content' = subst (λ ts. SameContent (plant_effect 3 ts p.instrument content p.tract) content') k.declared_are same in
+    let same' : SameContent (plant_effect depth setting.townships p.instrument content p.tract) content' = subst (λ ts. SameContent (plant_effect depth ts p.instrument content p.tract) content') k.declared_are same in
     record {
       few = k.few;
       due = (k.due, due);
@@ -204,12 +205,12 @@ keeps_same k same declared_is out_is = record {
 -- what the store says to a post is what the ask gets alone
 pub post_due : {I : Type 0} {number : I → ℕ} {setting : Setting} {content : Plant} {declared : List Township} {out : List Loan} {locks : List Entry} {trace : List Call} {records : List Record} {slots : ℕ → Option (Slot I)} →
     (e : ℕ) (p : Posting) (refused : Option Refusal) → Keeps number setting content declared out locks trace records slots → InTheWay trace e (ask.Post p) None →
-    refused_in 3 declared p.instrument content p.tract ≡ refused →
-    post_answer refused ≡ alone 3 setting.townships (committed trace) (open_steps trace e) (ask.Post p)
+    refused_in depth declared p.instrument content p.tract ≡ refused →
+    post_answer refused ≡ alone depth setting.townships (committed trace) (open_steps trace e) (ask.Post p)
 post_due {setting = setting} {content = content} {trace = trace} e p refused k free h =
     let ts = setting.townships in
-    let seen : Plant = after_steps 3 ts (plant_after 3 ts (committed trace)) (open_steps trace e) in
+    let seen : Plant = after_steps depth ts (plant_after depth ts (committed trace)) (open_steps trace e) in
     let listed = chain_of (committed trace) (open_steps trace e) p.tract in
-    let here : refused_in 3 ts p.instrument content p.tract ≡ refused = sym (ap (λ z. refused_in 3 z p.instrument content p.tract) k.declared_are) ∙ h in
-    sym (ap post_answer here) ∙ sym (answer_post 3 ts content listed p)
-    ∙ answer_same 3 ts (lit≤ tt) content seen listed listed (ask.Post p) (content_is k.facts e (ask.Post p) free) refl
+    let here : refused_in depth ts p.instrument content p.tract ≡ refused = sym (ap (λ z. refused_in depth z p.instrument content p.tract) k.declared_are) ∙ h in
+    sym (ap post_answer here) ∙ sym (answer_post depth ts content listed p)
+    ∙ answer_same depth ts content seen listed listed (ask.Post p) (content_is k.facts e (ask.Post p) free) refl

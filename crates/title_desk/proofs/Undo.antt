@@ -1,5 +1,6 @@
 -- What the plant holds once images have gone back.
 use Rattle.std.proofs.Common.{◌≡◌, ℕ, Bool, true, false, cond, ◌&&◌, List, [], ◌∷◌, ◌++◌, reverse, map, refl, ap, ◌∙◌, sym, subst, inl}
+use Rattle.title_land.specs.Depth.{depth}
 use Rattle.std.proofs.lemmas.Bool.{or_parts, cond_both, cond-false}
 use Rattle.std.proofs.lemmas.List.{reverse-append}
 use Rattle.title_land.specs.declared.place.Township.{Township}
@@ -19,8 +20,8 @@ record Peeled {I : Type 0} (number : I → ℕ) (out : List Loan) (ts : List Tow
   mid : Plant
   remain : Remain (map number older) out now
   rest : IsRestored ts (map number older) now mid new
-  outside : (posted && is_cell_of 3 ts (tract_of s.ask) c) ≡ false → mid c ≡ old c
-  undone : old c ≡ effect 3 ts before s.ask c → mid c ≡ before c
+  outside : (posted && is_cell_of depth ts (tract_of s.ask) c) ≡ false → mid c ≡ old c
+  undone : old c ≡ effect depth ts before s.ask c → mid c ≡ before c
 
 peeled : {I : Type 0} (number : I → ℕ) (out now : List Loan) (ts : List Township) (before : Plant) (s : Step) (images older : List I) (posted : Bool) (old new : Plant) (c : Cell) →
     Peels number out ts before s images older posted → Remain (map number images) out now → IsRestored ts (map number images) now old new →
@@ -39,24 +40,24 @@ peeled number out now ts before s images older true old new c p r h =
     let h' : IsRestored ts (number image ∷ map number older) now old new = subst (λ is. IsRestored ts (map number is) now old new) p.1 h in
     let b : Loan = p.2.is_out.0 in
     let lent : IsLentAs b (number image) out = p.2.is_out.1 in
-    let here : h'.0 c ≡ cond (is_cell_of 3 ts b.land c) (b.held c) (old c) = h'.1 b (r'.there b (inl lent.1) lent.0, lent.1) c in
+    let here : h'.0 c ≡ cond (is_cell_of depth ts b.land c) (b.held c) (old c) = h'.1 b (r'.there b (inl lent.1) lent.0, lent.1) c in
     let land : b.land ≡ tract_of s.ask = p.2.land_is b lent in record {
       now = without (number image) now;
       mid = h'.0;
       remain = remain_later (number image) (map number older) out now p.2.above r';
       rest = h'.2;
-      outside = λ n. here ∙ cond-false (is_cell_of 3 ts b.land c) (b.held c) (old c) (ap (λ l. is_cell_of 3 ts l c) land ∙ n);
-      undone = λ e. here ∙ cond_both (is_cell_of 3 ts b.land c) (b.held c) (old c) (λ x. x ≡ before c)
-          (λ t. p.2.holds b lent c (ap (λ l. is_cell_of 3 ts l c) (sym land) ∙ t))
-          (λ f. e ∙ effect_outside 3 ts before s.ask c (ap (λ l. is_cell_of 3 ts l c) (sym land) ∙ f));
+      outside = λ n. here ∙ cond-false (is_cell_of depth ts b.land c) (b.held c) (old c) (ap (λ l. is_cell_of depth ts l c) land ∙ n);
+      undone = λ e. here ∙ cond_both (is_cell_of depth ts b.land c) (b.held c) (old c) (λ x. x ≡ before c)
+          (λ t. p.2.holds b lent c (ap (λ l. is_cell_of depth ts l c) (sym land) ∙ t))
+          (λ f. e ∙ effect_outside depth ts before s.ask c (ap (λ l. is_cell_of depth ts l c) (sym land) ∙ f));
     }
 
 -- where the steps left the cell as it is, it is as it was before them
 pub restored_back : {I : Type 0} (number : I → ℕ) (out now : List Loan) (ts : List Township) (p : Plant) (own : List Step) (images : List I) (old new : Plant) (c : Cell) →
-    Backed number out ts p own images → Remain (map number images) out now → IsRestored ts (map number images) now old new → old c ≡ after_steps 3 ts p own c → new c ≡ p c
+    Backed number out ts p own images → Remain (map number images) out now → IsRestored ts (map number images) now old new → old c ≡ after_steps depth ts p own c → new c ≡ p c
 restored_back number out now ts p [] images old new c b r h e = subst (λ is. IsRestored ts (map number is) now old new) b h c ∙ e
 restored_back number out now ts p (s ∷ earlier) images old new c b r h e =
-    let next = peeled number out now ts (after_steps 3 ts p earlier) s images b.0 (is_posted s.ask s.answer) old new c b.1 r h in
+    let next = peeled number out now ts (after_steps depth ts p earlier) s images b.0 (is_posted s.ask s.answer) old new c b.1 r h in
     restored_back number out next.now ts p earlier b.0 next.mid new c b.2 next.remain next.rest (next.undone e)
 
 -- a cell where no step was posted keeps what it has
@@ -64,8 +65,8 @@ pub restored_outside : {I : Type 0} (number : I → ℕ) (out now : List Loan) (
     Backed number out ts p own images → Remain (map number images) out now → IsRestored ts (map number images) now old new → posted_at ts c own ≡ false → new c ≡ old c
 restored_outside number out now ts p [] images old new c b r h n = subst (λ is. IsRestored ts (map number is) now old new) b h c
 restored_outside number out now ts p (s ∷ earlier) images old new c b r h n =
-    let parts = or_parts (is_posted s.ask s.answer && is_cell_of 3 ts (tract_of s.ask) c) (posted_at ts c earlier) n in
-    let next = peeled number out now ts (after_steps 3 ts p earlier) s images b.0 (is_posted s.ask s.answer) old new c b.1 r h in
+    let parts = or_parts (is_posted s.ask s.answer && is_cell_of depth ts (tract_of s.ask) c) (posted_at ts c earlier) n in
+    let next = peeled number out now ts (after_steps depth ts p earlier) s images b.0 (is_posted s.ask s.answer) old new c b.1 r h in
     restored_outside number out next.now ts p earlier b.0 next.mid new c b.2 next.remain next.rest parts.1 ∙ next.outside parts.0
 
 -- the numbers of a list that ends with an image, from its end

@@ -1,5 +1,6 @@
 -- Before-images of open transactions. Lists of steps and of images here have the newest first.
 use Rattle.std.specs.Prelude.{◌≡◌, ℕ, ◌<◌, Bool, true, false, cond, ◌&&◌, ◌||◌, List, [], ◌∷◌, map, ◌⊎◌}
+use Rattle.title_land.specs.Depth.{depth}
 use Rattle.title_land.specs.declared.place.Township.{Township}
 use Rattle.title_land.specs.declared.place.Cell.{Cell}
 use Rattle.title_store.specs.Plants.{Plant, SameContent, is_cell_of}
@@ -25,7 +26,7 @@ is_posted (ask.Post p) (answer.Refused rule estate node) = false
 abbrev pub posted_at : List Township → Cell → List Step → Bool
 posted_at townships c [] = false
 posted_at townships c (s ∷ earlier) =
-    (is_posted s.ask s.answer && is_cell_of 3 townships (tract_of s.ask) c) || posted_at townships c earlier
+    (is_posted s.ask s.answer && is_cell_of depth townships (tract_of s.ask) c) || posted_at townships c earlier
 
 -- the number stands in the list
 abbrev pub IsOf : ℕ → List ℕ → Type 0
@@ -37,7 +38,7 @@ IsOf n (m ∷ numbers) = (n ≡ m) ⊎ IsOf n numbers
 pub record Backs {I : Type 0} (number : I → ℕ) (out : List Loan) (townships : List Township) (before : Plant) (s : Step) (image : I) (older : List I) : Type 0 where
   pub is_out : IsOut (number image) out
   pub land_is : (b : Loan) → IsLentAs b (number image) out → b.land ≡ tract_of s.ask
-  pub holds : (b : Loan) → IsLentAs b (number image) out → (c : Cell) → is_cell_of 3 townships (tract_of s.ask) c ≡ true → b.held c ≡ before c
+  pub holds : (b : Loan) → IsLentAs b (number image) out → (c : Cell) → is_cell_of depth townships (tract_of s.ask) c ≡ true → b.held c ≡ before c
   pub above : (n : ℕ) → IsOf n (map number older) → n < number image
 
 -- a posted step has the first of these images; another has none and leaves the plant
@@ -45,19 +46,19 @@ abbrev pub Peels : {I : Type 0} → (I → ℕ) → List Loan → List Township 
 Peels number out townships before s images older true =
     (image : _) × (images ≡ image ∷ older) × Backs number out townships before s image older
 Peels number out townships before s images older false =
-    (images ≡ older) × ((c : Cell) → effect 3 townships before s.ask c ≡ before c)
+    (images ≡ older) × ((c : Cell) → effect depth townships before s.ask c ≡ before c)
 
 -- the images of these steps, made one after another from a plant
 abbrev pub Backed : {I : Type 0} → (I → ℕ) → List Loan → List Township → Plant → List Step → List I → Type 0
 Backed number out townships plant [] images = images ≡ []
 Backed number out townships plant (s ∷ earlier) images =
     (older : List _)
-    × Peels number out townships (after_steps 3 townships plant earlier) s images older (is_posted s.ask s.answer)
+    × Peels number out townships (after_steps depth townships plant earlier) s images older (is_posted s.ask s.answer)
     × Backed number out townships plant earlier older
 
 -- the plant after what an image holds has been put back
 abbrev pub put_back : List Township → Loan → Plant → Plant
-put_back townships b plant = λ c. cond (is_cell_of 3 townships b.land c) (b.held c) (plant c)
+put_back townships b plant = λ c. cond (is_cell_of depth townships b.land c) (b.held c) (plant c)
 
 -- the new plant is the old one after the images of these numbers have been put back, the first of them first
 abbrev pub IsRestored : List Township → List ℕ → List Loan → Plant → Plant → Type 0

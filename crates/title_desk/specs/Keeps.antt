@@ -1,5 +1,6 @@
 -- What a desk's parts have to do with its trace.
 use Rattle.std.specs.Prelude.{◌≡◌, ℕ, ◌≤◌, Bool, true, false, List, map, reverse, Option, is_some}
+use Rattle.title_land.specs.Depth.{depth}
 use Rattle.title_land.specs.declared.place.Township.{Township}
 use Rattle.title_land.specs.declared.place.Cell.{Cell}
 use Rattle.title_lock.specs.declared.guards.Entry.{Entry}
@@ -29,12 +30,12 @@ pub record SlotsAre {I : Type 0} (begun : ℕ → Bool) (own : ℕ → List Step
 -- committed plant followed by that examiner's open steps has there, in every other cell the committed plant
 pub record Facts {I : Type 0} (number : I → ℕ) (townships : List Township) (own : ℕ → List Step) (images : ℕ → List I) (done : List Record) (content : Plant) (out : List Loan) (locks : List Entry) : Type 0 where
   pub locks_are : (a : Ask) (f : ℕ) → against (tract_of a) (is_post a) f locks ≡ overlaps a (own f)
-  pub backed : (e : ℕ) → Backed number out townships (plant_after 3 townships done) (own e) (images e)
+  pub backed : (e : ℕ) → Backed number out townships (plant_after depth townships done) (own e) (images e)
   pub numbers : (e f : ℕ) (n : ℕ) → IsOf n (map number (images e)) → IsOf n (map number (images f)) → e ≡ f
   pub owned : (b : Loan) → IsAmong b out → (e : ℕ) × IsOf b.number (map number (images e))
   pub posted : (e : ℕ) (c : Cell) → posted_at townships c (own e) ≡ true →
-      content c ≡ after_steps 3 townships (plant_after 3 townships done) (own e) c
-  pub rest : (c : Cell) → ((e : ℕ) → posted_at townships c (own e) ≡ false) → content c ≡ plant_after 3 townships done c
+      content c ≡ after_steps depth townships (plant_after depth townships done) (own e) c
+  pub rest : (c : Cell) → ((e : ℕ) → posted_at townships c (own e) ≡ false) → content c ≡ plant_after depth townships done c
 
 -- the images of each examiner, the newest first
 abbrev pub images_of : {I : Type 0} → (ℕ → Option (Slot I)) → ℕ → List I
@@ -42,7 +43,7 @@ images_of slots e = images_in (slots e)
 
 pub record Keeps {I : Type 0} (number : I → ℕ) (setting : Setting) (content : Plant) (declared : List Township) (out : List Loan) (locks : List Entry) (trace : List Call) (records : List Record) (slots : ℕ → Option (Slot I)) : Type 0 where
   pub few : setting.parties ≤ 65536
-  pub due : IsDue 3 setting trace
+  pub due : IsDue depth setting trace
   pub declared_are : declared ≡ setting.townships
   pub records_are : reverse records ≡ committed trace
   pub slots_are : SlotsAre (λ e. is_open e trace) (open_steps trace) slots

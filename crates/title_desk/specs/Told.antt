@@ -1,5 +1,6 @@
 -- What a call of the desk tells.
 use Rattle.std.specs.Prelude.{◌≡◌, ℕ, ◌≤◌, Bool, true, false, nat_le, List, ◌∷◌, length, None}
+use Rattle.title_land.specs.Depth.{depth}
 use Rattle.title_land.specs.declared.place.Township.{Township}
 use Rattle.title_land.specs.Lands.{is_in_plant}
 use Rattle.title_store.specs.Plants.{IsEachOnce}
@@ -31,7 +32,7 @@ Stays old new = (new.setting ≡ old.setting) × (new.trace ≡ old.trace)
 abbrev pub Added : Books → Request → Reply → Books → Type 0
 Added old q r new =
     (new.setting ≡ old.setting) × (new.trace ≡ record { request = q; reply = r } ∷ old.trace)
-    × DueReply 3 old.setting old.trace q r
+    × DueReply depth old.setting old.trace q r
 
 -- a call adds its pair with the due reply, or wants memory and changes nothing
 abbrev pub Told : Books → Request → Reply → Books → Type 0

@@ -9,7 +9,7 @@ use std::process::Abort;
 use std::test::Fail;
 use title_chain::{Answer, Ask, Entries, Posting, SheetRows};
 use title_instrument::{Deed, Estates, Instrument, Quantum, Release};
-use title_land::{Grid, Land, Quarter, Section, Township, Tract, Within};
+use title_land::{Land, Node, Quarter, Section, Township, Tract, Within};
 use title_lock::RowLocks;
 use title_share::Share;
 use title_store::CellStore;
@@ -25,7 +25,9 @@ const BELL: u32 = 2;
 
 const PARTIES: u32 = 3;
 
-const NORTHEAST: Within = Within::Quarter(Quarter::Northeast);
+const NORTHEAST: Quarter = Quarter::Northeast;
+
+const SOUTHEAST: Quarter = Quarter::Southeast;
 
 /// The sheet of a plant without posts.
 const OPENING_PLANT: &str =
@@ -59,9 +61,10 @@ fn section(rt: &impl Abort, number: u8) -> Section {
     Section::new(township(rt, 3), number).expect(rt, "the number is in range")
 }
 
-/// A square of section 5.
-fn square(rt: &impl Abort, within: Within) -> Land {
-    Land::Part(section(rt, 5), Grid::EMPTY.with(within.square()))
+/// The square of section 5 with these quarters, the innermost first.
+fn square(rt: &impl Abort, quarters: &[Quarter]) -> Land {
+    let within = Within::named(quarters).expect(rt, "no more than four quarters");
+    Land::of(Node::Part(section(rt, 5), within))
 }
 
 /// A post of a release of the surface.
@@ -83,6 +86,7 @@ fn deed(rt: &impl Abort, doc: u64, land: Land, from: u32, to: u32) -> Act {
         estates: SURFACE,
         quantum: Quantum::Whole(share),
         reserve: [None; 3],
+        warranty: false,
     });
     Act::Post(doc, land, instrument)
 }
@@ -174,10 +178,10 @@ fn serve_at_last(
     desk: &mut TestDesk,
     line: &Line,
 ) -> Result<(Reply, bool), Fail> {
-    let (examiner, act, _) = *line;
+    let (examiner, act, _) = line;
     let calls = desk.trace().len();
-    let again = request(alloc, examiner, act)?;
-    let reply = desk.serve(request(alloc, examiner, act)?);
+    let again = request(alloc, *examiner, *act)?;
+    let reply = desk.serve(request(alloc, *examiner, *act)?);
     if !matches!(&reply, Reply::Memory) {
         return Ok((reply, false));
     }

@@ -1,6 +1,7 @@
 //! The desk.
 
 ghost use Rattle.std.specs.Prelude.{MatchOption, ◌≡◌, ◌≢◌, ℕ, List, [], ◌∷◌, IfOk, OnOk, ◌↔◌, reverse, true, false};
+ghost use Rattle.title_land.specs.Depth.{depth};
 ghost use Rattle.title_store.specs.Plants.{IsEachOnce};
 ghost use Rattle.title_land.specs.declared.place.Cell.{Cell};
 ghost use Rattle.title_trace.specs.declared.call.Request.TheVariants.{Begin, Step, Commit, Abort};
@@ -119,7 +120,7 @@ impl<S: Store + Drop, G: Guards + Drop> Desk<S, G> {
 
     // Refuses a request.
     fn refuse(&mut self, request: Request, refusal: Refusal) -> Reply
-        requires due { DueReply 3 self.old.setting self.old.trace request (reply_of refusal) }
+        requires due { DueReply depth self.old.setting self.old.trace request (reply_of refusal) }
         ensures told { Told self.old request result self.new }
         ensures ready { self.old.is_ready ≡ true → result ≢ Memory }
     {
@@ -205,7 +206,7 @@ impl<S: Store + Drop, G: Guards + Drop> Desk<S, G> {
 
     // Why a step is refused, in the order of refusals; nothing where it passes.
     fn refusal(&self, examiner: u32, ask: &Ask) -> Option<Refusal>
-        ensures refusal { MatchOption result (Passes self.now examiner ask.now) (λ why. DueReply 3 self.now.setting self.now.trace (Step examiner ask.now) (reply_of why)) }
+        ensures refusal { MatchOption result (Passes self.now examiner ask.now) (λ why. DueReply depth self.now.setting self.now.trace (Step examiner ask.now) (reply_of why)) }
     {
         if !is_in(&self.slots, examiner) {
             return Some(Refusal::NotOpen);
@@ -228,7 +229,7 @@ impl<S: Store + Drop, G: Guards + Drop> Desk<S, G> {
     // Adds a step that was answered and posted nothing.
     fn add_answer(&mut self, examiner: u32, ask: Ask, answer: Answer) -> Reply
         requires passes { Passes self.old examiner ask }
-        requires alone { answer ≡ alone 3 self.old.setting.townships (committed self.old.trace) (open_steps self.old.trace examiner) ask }
+        requires alone { answer ≡ alone depth self.old.setting.townships (committed self.old.trace) (open_steps self.old.trace examiner) ask }
         requires unposted { is_posted ask answer ≡ false }
         ensures told { Told self.old (Step examiner ask) result self.new }
     {
@@ -399,9 +400,9 @@ impl<S: Store + Drop, G: Guards + Drop> Desk<S, G> {
     pub fn store(&self) -> &S
         ensures declared { S.declared result.now ≡ self.now.setting.townships }
         ensures posted { (e : ℕ) (c : Cell) → posted_at self.now.setting.townships c (open_steps self.now.trace e) ≡ true →
-            S.content result.now c ≡ after_steps 3 self.now.setting.townships (plant_after 3 self.now.setting.townships (committed self.now.trace)) (open_steps self.now.trace e) c }
+            S.content result.now c ≡ after_steps depth self.now.setting.townships (plant_after depth self.now.setting.townships (committed self.now.trace)) (open_steps self.now.trace e) c }
         ensures rest { (c : Cell) → ((e : ℕ) → posted_at self.now.setting.townships c (open_steps self.now.trace e) ≡ false) →
-            S.content result.now c ≡ plant_after 3 self.now.setting.townships (committed self.now.trace) c }
+            S.content result.now c ≡ plant_after depth self.now.setting.townships (committed self.now.trace) c }
     {
         &self.store
     }
@@ -409,8 +410,8 @@ impl<S: Store + Drop, G: Guards + Drop> Desk<S, G> {
     /// The committed transactions are serial: run alone, in the order of their commits, they get their answers; and so
     /// they are with the open steps of any one examiner as a last record. It does nothing: the desk's type says so.
     pub fn is_serial(&self)
-        ensures committed_records { IsSerial 3 self.now.setting.townships (committed self.now.trace) }
-        ensures open_last { (e : ℕ) → IsSerial 3 self.now.setting.townships (record_of e (open_steps self.now.trace e) ∷ committed self.now.trace) }
+        ensures committed_records { IsSerial depth self.now.setting.townships (committed self.now.trace) }
+        ensures open_last { (e : ℕ) → IsSerial depth self.now.setting.townships (record_of e (open_steps self.now.trace e) ∷ committed self.now.trace) }
     {
         let _ = &self.trace;
     }

@@ -1,5 +1,5 @@
 -- How many units an instrument passes in an estate of one cell, of which the party that passes them holds g units.
-use Rattle.std.specs.Prelude.{ℕ, ◌≡◌, ◌*◌, ◌-◌, ◌/◌, ◌%◌, cond, Option, Some, None, Result, Ok, Err, ltb, eqb}
+use Rattle.std.specs.Prelude.{ℕ, Bool, true, false, ◌≡◌, ◌*◌, ◌-◌, ◌/◌, ◌%◌, cond, Option, Some, None, Result, Ok, Err, ltb, eqb}
 use Rattle.title_share.specs.Rows.{whole_units}
 use Rattle.title_instrument.specs.declared.parts.Estate.{Estate}
 use Rattle.title_instrument.specs.declared.parts.Quantum.{Quantum}
@@ -31,9 +31,19 @@ abbrev pub passed_of : Option ℕ → ℕ → ℕ → Result ℕ Rule
 passed_of None r g = Err TooFine
 passed_of (Some m) r g = cond (ltb g m) (Err ShortTitle) (cond (ltb m r) (Err OverReserved) (Ok (m - r)))
 
+-- the units that pass of m named where the reservation yields first: what it leaves of them, if the grantor has that much
+abbrev pub passed_yielding : ℕ → ℕ → ℕ → Result ℕ Rule
+passed_yielding m r g = cond (ltb m r) (Err OverReserved) (cond (ltb g (m - r)) (Err ShortTitle) (Ok (m - r)))
+
+-- the units that a grantor with some title passes: with warranty, the reservation of a share of the whole yields first
+abbrev pub passed_by : (warranty : Bool) → Quantum → ℕ → ℕ → Result ℕ Rule
+passed_by true (Whole a) r g = passed_yielding a r g
+passed_by true (Interest a) r g = passed_of (units_named (Interest a) g) r g
+passed_by false q r g = passed_of (units_named q g) r g
+
 -- the units that a deed passes, r being reserved, or the first rule that refuses: a grantor that holds nothing has no title
-abbrev pub passed : Quantum → ℕ → ℕ → Result ℕ Rule
-passed q r g = cond (eqb g 0) (Err ShortTitle) (passed_of (units_named q g) r g)
+abbrev pub passed : (warranty : Bool) → Quantum → ℕ → ℕ → Result ℕ Rule
+passed warranty q r g = cond (eqb g 0) (Err ShortTitle) (passed_by warranty q r g)
 
 -- the units of a reservation, 0 where there is none
 abbrev pub units_or_none : Option ℕ → ℕ
@@ -46,5 +56,5 @@ reserved d e = units_or_none (reservation_of d e)
 
 -- the units that an instrument passes in an estate: none where it doesn't name it, all by a release
 abbrev pub passes : Instrument → Estate → ℕ → Result ℕ Rule
-passes (i.Deed d) e g = cond (names d.estates e) (passed d.quantum (reserved d e) g) (Ok 0)
+passes (i.Deed d) e g = cond (names d.estates e) (passed d.warranty d.quantum (reserved d e) g) (Ok 0)
 passes (i.Release r) e g = Ok (cond (names r.estates e) g 0)

@@ -2,14 +2,15 @@
 
 ghost use Rattle.std.specs.Prelude.{◌≡◌, ◌≤◌, Some, None, MatchResult, IfOk};
 ghost use Rattle.title_instrument.specs.Parties.{grantor_of, grantee_of, estates_of, reservation_of};
-ghost use Rattle.title_instrument.specs.Passing.{reserved, passed, passes};
+ghost use Rattle.title_instrument.specs.Passing.{reserved, passed, passed_of, passed_yielding, passes};
 ghost use Rattle.title_instrument.specs.Check.{reserves_unnamed, has_stray, first_cause};
 
 use crate::parts::{Cause, Estate, Estates, Quantum, Rule};
 use title_share::Share;
 
 /// A deed: the grantor passes the quantum of each named estate, less what it reserves there, to
-/// the grantee. Parties go by number; a reservation is a share of the whole.
+/// the grantee. Parties go by number; a reservation is a share of the whole. With warranty, the
+/// reservation of a deed of a share of the whole yields first.
 #[derive(Clone, Copy, Debug, PartialEq, Eq)]
 pub struct Deed {
     pub grantor: u32,
@@ -18,6 +19,7 @@ pub struct Deed {
     pub quantum: Quantum,
     /// What is reserved in S, O and M.
     pub reserve: [Option<Share>; 3],
+    pub warranty: bool,
 }
 
 /// A release: a party passes all that it holds in each named estate.
@@ -33,6 +35,39 @@ pub struct Release {
 pub enum Instrument {
     Deed(Deed),
     Release(Release),
+}
+
+// The units that pass of those named, from a grantor that holds `held` and keeps back what is
+// reserved of them, or the first rule that refuses.
+fn passed_of(named: Option<u64>, reserved: u64, held: u64) -> Result<u64, Rule>
+    ensures passed { result ≡ passed_of named reserved held }
+    ensures within { IfOk result (λ n. n ≤ held) }
+{
+    let Some(units) = named else {
+        return Err(Rule::TooFine);
+    };
+    if units > held {
+        return Err(Rule::ShortTitle);
+    }
+    if units < reserved {
+        return Err(Rule::OverReserved);
+    }
+    Ok(units - reserved)
+}
+
+// The same where the reservation yields first: the grantor has to hold only what is left.
+fn passed_yielding(named: u64, reserved: u64, held: u64) -> Result<u64, Rule>
+    ensures passed { result ≡ passed_yielding named reserved held }
+    ensures within { IfOk result (λ n. n ≤ held) }
+{
+    if named < reserved {
+        return Err(Rule::OverReserved);
+    }
+    let left = named - reserved;
+    if left > held {
+        return Err(Rule::ShortTitle);
+    }
+    Ok(left)
 }
 
 impl Deed {
@@ -60,23 +95,19 @@ impl Deed {
     // The units that pass in a named estate, from a grantor that holds `held`, or the first rule
     // that refuses.
     fn passed(&self, estate: Estate, held: u64) -> Result<u64, Rule>
-        ensures passed { result ≡ passed self.now.quantum (reserved self.now estate) held }
+        ensures passed { result ≡ passed self.now.warranty self.now.quantum (reserved self.now estate) held }
         ensures within { IfOk result (λ n. n ≤ held) }
     {
+        let reserved = self.reserved(estate);
         if held == 0 {
             return Err(Rule::ShortTitle);
         }
-        let Some(units) = self.quantum.units(held) else {
-            return Err(Rule::TooFine);
-        };
-        if units > held {
-            return Err(Rule::ShortTitle);
+        match self.quantum {
+            Quantum::Whole(share) if self.warranty => {
+                passed_yielding(share.units(), reserved, held)
+            }
+            quantum => passed_of(quantum.units(held), reserved, held),
         }
-        let reserved = self.reserved(estate);
-        if units < reserved {
-            return Err(Rule::OverReserved);
-        }
-        Ok(units - reserved)
     }
 
     // Whether something is reserved in an estate that isn't named.

@@ -2,6 +2,7 @@
 
 use crate::{Cause, Deed, Effect, Estate, Estates, Instrument, Owners, Quantum, Release, Rule};
 use std::alloc::Global;
+use std::mem::size_of;
 use std::test::Fail;
 use title_share::{Share, WHOLE};
 
@@ -66,7 +67,19 @@ fn deed(
         estates,
         quantum,
         reserve: [Share::parse(s), Share::parse(o), Share::parse(m)],
+        warranty: false,
     }))
+}
+
+// The same deed with warranty.
+fn with_warranty(instrument: Option<Instrument>) -> Option<Instrument> {
+    match instrument {
+        Some(Instrument::Deed(deed)) => Some(Instrument::Deed(Deed {
+            warranty: true,
+            ..deed
+        })),
+        other => other,
+    }
 }
 
 fn release(from: u32, to: u32, estates: Estates) -> Option<Instrument> {
@@ -219,6 +232,48 @@ fn releases(rt: HostRuntime) -> Result<(), Fail> {
     Ok(())
 }
 
+// ADAMS has three eighths of the oil and BELL nothing.
+fn three_eighths_of_the_oil() -> Option<Instrument> {
+    deed(UNITED_STATES, ADAMS, OIL, whole("3/8"), ["", "", ""])
+}
+
+#[test]
+fn with_warranty_the_reservation_yields_first(rt: HostRuntime) -> Result<(), Fail> {
+    for (quantum, kept, adams, bell) in [
+        (whole("1/2"), "1/4", 536_870_912, 1_073_741_824),
+        (whole("1/1"), "5/8", 0, 1_610_612_736),
+        (whole("1/1"), "1/1", 1_610_612_736, 0),
+    ] {
+        let warranty = with_warranty(deed(ADAMS, BELL, OIL, quantum, ["", kept, ""]));
+        let effect = last(rt.alloc(), &[three_eighths_of_the_oil(), warranty])?;
+        let Effect::Done(owners) = &effect else {
+            return Err("refused".into());
+        };
+        assert_eq!(rt; owners.o.units(ADAMS), adams);
+        assert_eq!(rt; owners.o.units(BELL), bell);
+    }
+    Ok(())
+}
+
+#[test]
+fn refusals_of_deeds_with_warranty(rt: HostRuntime) -> Result<(), Fail> {
+    let half = ["", "1/2", ""];
+    for (deed, rule) in [
+        (deed(ADAMS, BELL, OIL, whole("1/1"), half), Rule::ShortTitle),
+        (
+            deed(ADAMS, BELL, OIL, whole("1/4"), half),
+            Rule::OverReserved,
+        ),
+        (deed(BELL, ADAMS, OIL, whole("1/4"), half), Rule::ShortTitle),
+        (deed(ADAMS, BELL, OIL, interest(UNIT), half), Rule::TooFine),
+    ] {
+        let warranty = with_warranty(deed);
+        let effect = last(rt.alloc(), &[three_eighths_of_the_oil(), warranty])?;
+        assert_eq!(rt; refusal(&effect), Some((rule, Estate::O)));
+    }
+    Ok(())
+}
+
 #[test]
 fn copies_are_the_same(rt: HostRuntime) -> Result<(), Fail> {
     let owners = Owners::opening(rt.alloc())?;
@@ -262,4 +317,11 @@ fn numbers_and_letters(rt: HostRuntime) -> Result<(), Fail> {
     let text = format!(in rt.alloc(); "{ALL} {MINERALS} {}", Estate::S)?;
     assert_eq!(rt; text.as_str(), "SOM OM S");
     Ok(())
+}
+
+#[test]
+fn an_instrument_takes_52_bytes(rt: HostRuntime) {
+    assert_eq!(rt; size_of::<Deed>(), 48);
+    assert_eq!(rt; size_of::<Release>(), 12);
+    assert_eq!(rt; size_of::<Instrument>(), 52);
 }

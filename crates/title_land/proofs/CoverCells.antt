@@ -1,5 +1,6 @@
 -- The cells of a cover are those of its land.
-use Rattle.std.proofs.Common.{◌≡◌, ℕ, zero, suc, ◌+◌, ◌-◌, ◌*◌, ◌/◌, ◌≤◌, ◌^◌, Bool, true, false, ◌⊎◌, inl, inr, List, [], ◌∷◌, ◌++◌, length, refl, sym, ap, subst, ◌∙◌, arith, append_assoc}
+use Rattle.std.proofs.Common.{◌≡◌, ℕ, zero, suc, ◌+◌, ◌-◌, ◌*◌, ◌/◌, ◌≤◌, ◌^◌, Bool, true, false, ◌⊎◌, inl, inr, List, [], ◌∷◌, ◌++◌}
+use Rattle.std.proofs.Common.{length, refl, sym, ap, subst, ◌∙◌, arith, append_assoc}
 use Rattle.std.proofs.lemmas.Bool.{cases_Bool, cases_lt}
 use Rattle.title_land.specs.declared.rectangle.Quarter.{Quarter}
 use Rattle.title_land.specs.declared.rectangle.Quarter.TheVariants.{Northeast, Northwest, Southwest, Southeast}
@@ -24,7 +25,8 @@ in_four p a b c d i = elim (in_append p (a ++ b ++ c) d i) [
 ]
 
 -- a square of a cover that isn't the whole lies in one of the quarters
-pub cover_part : (d : ℕ) (has : ℕ → ℕ → Bool) (levels : ℕ) (q p : List Quarter) → fills has (square d q) ≡ false → In p (cover_below d has (suc levels) q) → (x : Quarter) × In p (cover_below d has levels (x ∷ q))
+pub cover_part : (d : ℕ) (has : ℕ → ℕ → Bool) (levels : ℕ) (q p : List Quarter) → fills has (square d q) ≡ false
+    → In p (cover_below d has (suc levels) q) → (x : Quarter) × In p (cover_below d has levels (x ∷ q))
 cover_part d has levels q p e i =
     let f : (suc levels - 1) ≡ levels = omega arith in
     let k = rw f at (cover_split d has (suc levels) q e (omega arith)) in
@@ -40,13 +42,18 @@ cover_part d has levels q p e i =
       ]
     ]
 
-quarter_in : (x : Quarter) (p : List Quarter) (f : Quarter → List (List Quarter)) → In p (f x) → In p (f Northeast ++ f Northwest ++ f Southwest ++ f Southeast)
-quarter_in Northeast p f i = in_left p (f Northeast ++ f Northwest ++ f Southwest) (f Southeast) (in_left p (f Northeast ++ f Northwest) (f Southwest) (in_left p (f Northeast) (f Northwest) i))
-quarter_in Northwest p f i = in_left p (f Northeast ++ f Northwest ++ f Southwest) (f Southeast) (in_left p (f Northeast ++ f Northwest) (f Southwest) (in_right p (f Northeast) (f Northwest) i))
-quarter_in Southwest p f i = in_left p (f Northeast ++ f Northwest ++ f Southwest) (f Southeast) (in_right p (f Northeast ++ f Northwest) (f Southwest) i)
+quarter_in : (x : Quarter) (p : List Quarter) (f : Quarter → List (List Quarter)) → In p (f x)
+    → In p (f Northeast ++ f Northwest ++ f Southwest ++ f Southeast)
+quarter_in Northeast p f i = in_left p (f Northeast ++ f Northwest ++ f Southwest) (f Southeast)
+    (in_left p (f Northeast ++ f Northwest) (f Southwest) (in_left p (f Northeast) (f Northwest) i))
+quarter_in Northwest p f i = in_left p (f Northeast ++ f Northwest ++ f Southwest) (f Southeast)
+    (in_left p (f Northeast ++ f Northwest) (f Southwest) (in_right p (f Northeast) (f Northwest) i))
+quarter_in Southwest p f i = in_left p (f Northeast ++ f Northwest ++ f Southwest) (f Southeast)
+    (in_right p (f Northeast ++ f Northwest) (f Southwest) i)
 quarter_in Southeast p f i = in_right p (f Northeast ++ f Northwest ++ f Southwest) (f Southeast) i
 
-pub cover_part_in : (d : ℕ) (has : ℕ → ℕ → Bool) (levels : ℕ) (q p : List Quarter) → fills has (square d q) ≡ false → (x : Quarter) → In p (cover_below d has levels (x ∷ q)) → In p (cover_below d has (suc levels) q)
+pub cover_part_in : (d : ℕ) (has : ℕ → ℕ → Bool) (levels : ℕ) (q p : List Quarter) → fills has (square d q) ≡ false → (x : Quarter)
+    → In p (cover_below d has levels (x ∷ q)) → In p (cover_below d has (suc levels) q)
 cover_part_in d has levels q p e x i =
     let f : (suc levels - 1) ≡ levels = omega arith in
     let k = rw f at (cover_split d has (suc levels) q e (omega arith)) in
@@ -60,7 +67,8 @@ pub record Found (d : ℕ) (has : ℕ → ℕ → Bool) (levels : ℕ) (q p : Li
   pub path_is : p ≡ inner ++ q
   pub parent : (p ≡ q) ⊎ ((a : Quarter) × (rest : List Quarter) × (p ≡ a ∷ rest) × (fills has (square d rest) ≡ false))
 
-found_whole : (d : ℕ) (has : ℕ → ℕ → Bool) (levels : ℕ) (q p : List Quarter) → fills has (square d q) ≡ true → p ≡ q → Found d has levels q p
+found_whole : (d : ℕ) (has : ℕ → ℕ → Bool) (levels : ℕ) (q p : List Quarter) → fills has (square d q) ≡ true → p ≡ q
+    → Found d has levels q p
 found_whole d has levels q p e f = record {
   filled = ap (λ (x : List Quarter). fills has (square d x)) f ∙ e;
   long = let g : length p ≡ length q = ap length f in omega arith;
@@ -69,7 +77,8 @@ found_whole d has levels q p e f = record {
   parent = inl f;
 }
 
-found_part : (d : ℕ) (has : ℕ → ℕ → Bool) (levels : ℕ) (q p : List Quarter) (x : Quarter) → fills has (square d q) ≡ false → Found d has levels (x ∷ q) p → Found d has (suc levels) q p
+found_part : (d : ℕ) (has : ℕ → ℕ → Bool) (levels : ℕ) (q p : List Quarter) (x : Quarter) → fills has (square d q) ≡ false
+    → Found d has levels (x ∷ q) p → Found d has (suc levels) q p
 found_part d has levels q p x e f = record {
   filled = f.filled;
   long = let k = f.long in omega arith;
@@ -81,7 +90,8 @@ found_part d has levels q p x e f = record {
   ];
 }
 
-pub cover_found : (d : ℕ) (has : ℕ → ℕ → Bool) (levels : ℕ) (q p : List Quarter) → In p (cover_below d has levels q) → Found d has levels q p
+pub cover_found : (d : ℕ) (has : ℕ → ℕ → Bool) (levels : ℕ) (q p : List Quarter) → In p (cover_below d has levels q)
+    → Found d has levels q p
 cover_found d has zero q p i = elim (cases_Bool (fills has (square d q))) [
   | inl e ↦ elim (subst (λ (ps : List (List Quarter)). In p ps) (cover_filled d has zero q e) i) [
     | inl f ↦ found_whole d has zero q p e f
@@ -98,24 +108,58 @@ cover_found d has (suc levels) q p i = elim (cases_Bool (fills has (square d q))
 ]
 
 -- a cell of a square lies in one of its quarters
-pub in_a_quarter : (d levels : ℕ) (r : Rectangle) (row column : ℕ) → Sized d (suc levels) r → Inside r row column → (x : Quarter) × Inside (quarter_of x r) row column
+pub in_a_quarter : (d levels : ℕ) (r : Rectangle) (row column : ℕ) → Sized d (suc levels) r → Inside r row column
+    → (x : Quarter) × Inside (quarter_of x r) row column
 in_a_quarter d levels r row column s i =
     let h = s.height_is in
     let w = s.width_is in
     let e : 2 ^ suc levels ≡ 2 * 2 ^ levels = grind arith in
     elim (cases_lt row (r.top + r.height / 2)) [
       | inl north ↦ elim (cases_lt column (r.left + r.width / 2)) [
-        | inl west ↦ (Northwest, record { below = omega (arith, i.below); above = omega arith; right = omega (arith, i.right); left = omega arith })
-        | inr east ↦ (Northeast, record { below = omega (arith, i.below); above = omega arith; right = omega arith; left = omega (arith, i.left) })
+        | inl west ↦ (
+          Northwest,
+          record {
+            below = omega (arith, i.below);
+            above = omega arith;
+            right = omega (arith, i.right);
+            left = omega arith;
+          },
+        )
+        | inr east ↦ (
+          Northeast,
+          record {
+            below = omega (arith, i.below);
+            above = omega arith;
+            right = omega arith;
+            left = omega (arith, i.left);
+          },
+        )
       ]
       | inr south ↦ elim (cases_lt column (r.left + r.width / 2)) [
-        | inl west ↦ (Southwest, record { below = omega arith; above = omega (arith, i.above); right = omega (arith, i.right); left = omega arith })
-        | inr east ↦ (Southeast, record { below = omega arith; above = omega (arith, i.above); right = omega arith; left = omega (arith, i.left) })
+        | inl west ↦ (
+          Southwest,
+          record {
+            below = omega arith;
+            above = omega (arith, i.above);
+            right = omega (arith, i.right);
+            left = omega arith;
+          },
+        )
+        | inr east ↦ (
+          Southeast,
+          record {
+            below = omega arith;
+            above = omega (arith, i.above);
+            right = omega arith;
+            left = omega (arith, i.left);
+          },
+        )
       ]
     ]
 
 -- a set that has a square's only cell fills it
-fills_one : (d : ℕ) (has : ℕ → ℕ → Bool) (r : Rectangle) (row column : ℕ) → Sized d zero r → Inside r row column → has row column ≡ true → fills has r ≡ true
+pub fills_one : (d : ℕ) (has : ℕ → ℕ → Bool) (r : Rectangle) (row column : ℕ) → Sized d zero r → Inside r row column → has row column ≡ true
+    → fills has r ≡ true
 fills_one d has r row column s i e =
     let h : r.height ≡ 1 = s.height_is in
     let w : r.width ≡ 1 = s.width_is in
@@ -125,7 +169,9 @@ fills_one d has r row column s i e =
     ap (λ (x : ℕ). has x b) (sym f) ∙ ap (λ (x : ℕ). has row x) (sym g) ∙ e)
 
 -- each cell of the set that lies in a square lies in a square of the cover there
-pub cover_complete : (d : ℕ) (has : ℕ → ℕ → Bool) (levels : ℕ) (q : List Quarter) (row column : ℕ) → levels + length q ≡ d → Inside (square d q) row column → has row column ≡ true → (p : List Quarter) × In p (cover_below d has levels q) × Inside (square d p) row column
+pub cover_complete : (d : ℕ) (has : ℕ → ℕ → Bool) (levels : ℕ) (q : List Quarter) (row column : ℕ) → levels + length q ≡ d
+    → Inside (square d q) row column → has row column ≡ true
+    → (p : List Quarter) × In p (cover_below d has levels q) × Inside (square d p) row column
 cover_complete d has zero q row column l i h =
     let e = fills_one d has (square d q) row column (sized d zero q l) i h in
     (q, subst (λ (ps : List (List Quarter)). In q ps) (sym (cover_filled d has zero q e)) (inl refl), i)

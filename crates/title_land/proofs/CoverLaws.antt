@@ -1,40 +1,61 @@
--- Covers by squares, and lists made in four pieces.
+-- Covers by squares.
 use Rattle.std.proofs.Common.{◌≡◌, ℕ, zero, suc, ◌-◌, ◌<◌, ◌≤◌, Bool, true, false, List, [], ◌∷◌, ◌++◌, refl, ap, ◌∙◌, append_assoc, arith}
 use Rattle.title_land.specs.declared.rectangle.Quarter.{Quarter}
 use Rattle.title_land.specs.declared.rectangle.Quarter.TheVariants.{Northeast, Northwest, Southwest, Southeast}
 use Rattle.std.proofs.Common.{map}
-use Rattle.std.proofs.lemmas.List.{map-append}
-use Rattle.title_land.specs.declared.node.Within.{Within}
-use Rattle.title_land.specs.declared.node.Within.TheVariants as within
-use Rattle.title_land.specs.declared.node.Node.TheVariants as node
+use Rattle.std.proofs.Common.{◌+◌, get_or, length, take, sym}
+use Rattle.std.proofs.lemmas.List.{append-nil, flat_map_more, map-append, take_all, take_more}
+use Rattle.std.specs.List.{flat_map}
+use Rattle.title_land.specs.declared.node.Node.{Node}
 use Rattle.title_land.specs.declared.place.Section.{Section}
+use Rattle.title_land.specs.Nodes.{quarters}
 use Rattle.title_land.specs.Covers.{cover_below, node_at}
 use Rattle.title_land.specs.Grids.{fills}
-use Rattle.title_land.specs.Nodes.{square, path}
+use Rattle.title_land.specs.Nodes.{square}
 
-pub cover_filled : (depth : ℕ) (has : ℕ → ℕ → Bool) (levels : ℕ) (path : List Quarter) → fills has (square depth path) ≡ true → cover_below depth has levels path ≡ path ∷ []
+pub cover_filled : (depth : ℕ) (has : ℕ → ℕ → Bool) (levels : ℕ) (path : List Quarter) → fills has (square depth path) ≡ true
+    → cover_below depth has levels path ≡ path ∷ []
 cover_filled depth has zero path e = rw e refl
 cover_filled depth has (suc levels) path e = rw e refl
 
-pub cover_cell : (depth : ℕ) (has : ℕ → ℕ → Bool) (levels : ℕ) (path : List Quarter) → fills has (square depth path) ≡ false → levels ≤ 0 → cover_below depth has levels path ≡ []
+pub cover_cell : (depth : ℕ) (has : ℕ → ℕ → Bool) (levels : ℕ) (path : List Quarter) → fills has (square depth path) ≡ false → levels ≤ 0
+    → cover_below depth has levels path ≡ []
 cover_cell depth has zero path e l = rw e refl
 cover_cell depth has (suc levels) path e l = absurd (omega arith)
 
-pub cover_split : (depth : ℕ) (has : ℕ → ℕ → Bool) (levels : ℕ) (path : List Quarter) → fills has (square depth path) ≡ false → 0 < levels → cover_below depth has levels path ≡ cover_below depth has (levels - 1) (Northeast ∷ path) ++ cover_below depth has (levels - 1) (Northwest ∷ path) ++ cover_below depth has (levels - 1) (Southwest ∷ path) ++ cover_below depth has (levels - 1) (Southeast ∷ path)
+pub cover_split : (depth : ℕ) (has : ℕ → ℕ → Bool) (levels : ℕ) (path : List Quarter) → fills has (square depth path) ≡ false → 0 < levels
+    → cover_below depth has levels path ≡ cover_below depth has (levels - 1) (Northeast ∷ path)
+    ++ cover_below depth has (levels - 1) (Northwest ∷ path) ++ cover_below depth has (levels - 1) (Southwest ∷ path)
+    ++ cover_below depth has (levels - 1) (Southeast ∷ path)
 cover_split depth has zero path e l = absurd (omega arith)
 cover_split depth has (suc levels) path e l =
     let k : suc levels - 1 ≡ levels = omega arith in
     rw (e, k) refl
 
-pub four : {A : Type 0} (s s1 s2 s3 s4 a b c d : List A) → s1 ≡ s ++ a → s2 ≡ s1 ++ b → s3 ≡ s2 ++ c → s4 ≡ s3 ++ d → s4 ≡ s ++ (a ++ b ++ c ++ d)
-four s s1 s2 s3 s4 a b c d e1 e2 e3 e4 = e4 ∙ rw e3 (rw e2 (rw e1 (simp append_assoc)))
+-- the nodes of a list of squares, those of its quarters one after another
+map_flat : {X Y : Type 0} (f : X → Y) (g : Quarter → List X) (qs : List Quarter) → flat_map (λ q. map f (g q)) qs ≡ map f (flat_map g qs)
+map_flat f g [] = refl
+map_flat f g (q ∷ qs) = ap (λ ys. map f (g q) ++ ys) (map_flat f g qs) ∙ sym (map-append f (g q) (flat_map g qs))
 
--- a node of a section is the one with its quarters
-pub node_at-path : (s : Section) (w : Within) → node_at s (path w) ≡ node.Part s w
-node_at-path s within.Whole = refl
-node_at-path s (within.Quarter a) = refl
-node_at-path s (within.Sixteenth a b) = refl
-node_at-path s (within.Cell a b c) = refl
+-- one quarter's nodes more
+pub cover_more : (f : Quarter → List Node) (qs : List Quarter) (i : ℕ) (d : Quarter) (old some new : List Node) → i < length qs
+    → some ≡ old ++ flat_map f (take i qs) → new ≡ some ++ f (get_or qs i d) → new ≡ old ++ flat_map f (take (i + 1) qs)
+cover_more f qs i d old some new l h e =
+    e ∙ ap (λ ns. ns ++ f (get_or qs i d)) h ∙ flat_map_more f old (take i qs) (get_or qs i d)
+    ∙ ap (λ xs. old ++ flat_map f xs) (sym (take_more qs i d l))
 
-pub map_four : {A B : Type 0} (f : A → B) (a b c d : List A) → map f (a ++ b ++ c ++ d) ≡ map f a ++ map f b ++ map f c ++ map f d
-map_four {B = B} f a b c d = map-append f (a ++ b ++ c) d ∙ ap (λ (x : List B). x ++ map f d) (map-append f (a ++ b) c ∙ ap (λ (x : List B). x ++ map f c) (map-append f a b))
+-- after the last quarter the square's are there
+pub cover_done : (s : Section) (depth : ℕ) (has : ℕ → ℕ → Bool) (levels : ℕ) (path : List Quarter) (old new : List Node) (i : ℕ)
+    → fills has (square depth path) ≡ false → 0 < levels → 4 ≤ i
+    → new ≡ old ++ flat_map (λ q. map (node_at s) (cover_below depth has (levels - 1) (q ∷ path))) (take i quarters)
+    → new ≡ old ++ map (node_at s) (cover_below depth has levels path)
+cover_done s depth has levels path old new i f l h e =
+    let below : Quarter → List (List Quarter) = λ q. cover_below depth has (levels - 1) (q ∷ path) in
+    let all : flat_map below quarters ≡ cover_below depth has levels path =
+    ap (λ ps. below Northeast ++ (below Northwest ++ (below Southwest ++ ps))) (append-nil (below Southeast))
+    ∙ sym (append_assoc (below Northeast) (below Northwest) (below Southwest ++ below Southeast))
+    ∙ sym (append_assoc (below Northeast ++ below Northwest) (below Southwest) (below Southeast))
+    ∙ sym (cover_split depth has levels path f l) in
+    e ∙ ap (λ qs. old ++ flat_map (λ q. map (node_at s) (below q)) qs) (take_all i quarters h)
+    ∙ ap (λ ns. old ++ ns) (map_flat (node_at s) below quarters)
+    ∙ ap (λ ps. old ++ map (node_at s) ps) all

@@ -21,12 +21,17 @@ range_all_at test start (suc n) k h l m =
 pub range_all_from : (test : ℕ → Bool) (start n : ℕ) → ((k : ℕ) → start ≤ k → k < start + n → test k ≡ true) → range_all test start n ≡ true
 range_all_from test start zero f = refl
 range_all_from test start (suc n) f =
-    and_from (test start) (range_all test (start + 1) n) (f start (omega arith) (omega arith)) (range_all_from test (start + 1) n (λ k l m. f k (omega arith) (omega arith)))
+    and_from (test start) (range_all test (start + 1) n) (f start (omega arith) (omega arith))
+    (range_all_from test (start + 1) n (λ k l m. f k (omega arith) (omega arith)))
 
 pub fills_at : (has : ℕ → ℕ → Bool) (r : Rectangle) (row column : ℕ) → fills has r ≡ true → Inside r row column → has row column ≡ true
 fills_at has r row column h i =
-    range_all_at (λ (x : ℕ). has row x) r.left r.width column (range_all_at (λ (x : ℕ). row_fills has r x) r.top r.height row h i.below i.above) i.right i.left
+    range_all_at (λ (x : ℕ). has row x) r.left r.width column
+    (range_all_at (λ (x : ℕ). row_fills has r x) r.top r.height row h i.below i.above) i.right i.left
 
-pub fills_from : (has : ℕ → ℕ → Bool) (r : Rectangle) → ((row column : ℕ) → Inside r row column → has row column ≡ true) → fills has r ≡ true
+pub fills_from : (has : ℕ → ℕ → Bool) (r : Rectangle) → ((row column : ℕ) → Inside r row column → has row column ≡ true)
+    → fills has r ≡ true
 fills_from has r f =
-    range_all_from (λ (x : ℕ). row_fills has r x) r.top r.height (λ row a b. range_all_from (λ (x : ℕ). has row x) r.left r.width (λ column c d. f row column record { below = a; above = b; right = c; left = d }))
+    range_all_from (λ (x : ℕ). row_fills has r x) r.top r.height
+    (λ row a b. range_all_from (λ (x : ℕ). has row x) r.left r.width
+    (λ column c d. f row column record { below = a; above = b; right = c; left = d }))

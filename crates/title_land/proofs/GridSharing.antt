@@ -1,5 +1,6 @@
 -- Two sets of cells meet exactly where they share a cell.
-use Rattle.std.proofs.Common.{◌≡◌, ℕ, zero, suc, ◌<◌, Bool, true, false, ◌&&◌, inl, inr, List, [], ◌∷◌, Option, Some, None, length, refl, sym, ap, ◌∙◌, arith}
+use Rattle.std.proofs.Common.{◌≡◌, ℕ, zero, suc, ◌<◌, Bool, true, false, ◌&&◌, inl, inr, List, [], ◌∷◌, Option, Some, None, length, refl}
+use Rattle.std.proofs.Common.{sym, ap, ◌∙◌, arith}
 use Rattle.std.specs.Prelude.{slice_get, option_and_then, unwrap_or}
 use Rattle.std.specs.List.{list_any, zip}
 use Rattle.std.proofs.lemmas.Bool.{and_parts, or_cases, or_left, or_right}
@@ -20,7 +21,14 @@ record Pair {X Y : Type 0} (f : X → Y → Bool) (xs : List X) (ys : List Y) : 
 
 -- a pair of two tails is one of the lists
 pair_later : {X Y : Type 0} (f : X → Y → Bool) (x : X) (y : Y) (xs : List X) (ys : List Y) → Pair f xs ys → Pair f (x ∷ xs) (y ∷ ys)
-pair_later f x y xs ys p = record { place = suc p.place; left = p.left; right = p.right; left_at = p.left_at; right_at = p.right_at; holds = p.holds }
+pair_later f x y xs ys p = record {
+  place = suc p.place;
+  left = p.left;
+  right = p.right;
+  left_at = p.left_at;
+  right_at = p.right_at;
+  holds = p.holds;
+}
 
 -- a test that holds of some pair of two lists holds at a place of both
 pair_found : {X Y : Type 0} (f : X → Y → Bool) (xs : List X) (ys : List Y) → list_any (λ p. f p.0 p.1) (zip xs ys) ≡ true → Pair f xs ys
@@ -32,7 +40,8 @@ pair_found f (x ∷ xs) (y ∷ ys) h = elim (or_cases (f x y) (list_any (λ p. f
 ]
 
 -- and the other way
-pair_from : {X Y : Type 0} (f : X → Y → Bool) (xs : List X) (ys : List Y) (i : ℕ) (x : X) (y : Y) → slice_get xs i ≡ Some x → slice_get ys i ≡ Some y → f x y ≡ true → list_any (λ p. f p.0 p.1) (zip xs ys) ≡ true
+pair_from : {X Y : Type 0} (f : X → Y → Bool) (xs : List X) (ys : List Y) (i : ℕ) (x : X) (y : Y) → slice_get xs i ≡ Some x
+    → slice_get ys i ≡ Some y → f x y ≡ true → list_any (λ p. f p.0 p.1) (zip xs ys) ≡ true
 pair_from f [] ys i x y h k t = absurd cc
 pair_from f (a ∷ xs) [] i x y h k t = absurd cc
 pair_from f (a ∷ xs) (b ∷ ys) zero x y h k t =
@@ -72,22 +81,27 @@ abbrev cell_in : Option (List Bool) → ℕ → Bool
 cell_in m column = unwrap_or (option_and_then (λ cells. slice_get cells column) m) false
 
 -- and so is its row
-row_of : (m : Option (List Bool)) (column : ℕ) → cell_in m column ≡ true → (cells : List Bool) × (m ≡ Some cells) × (slice_get cells column ≡ Some true)
+row_of : (m : Option (List Bool)) (column : ℕ) → cell_in m column ≡ true
+    → (cells : List Bool) × (m ≡ Some cells) × (slice_get cells column ≡ Some true)
 row_of None column h = absurd cc
 row_of (Some cells) column h = (cells, refl, cell_of (slice_get cells column) h)
 
 -- a cell of a set stands in one of its rows
-has_parts : (g : Grid) (row column : ℕ) → grid_has g row column ≡ true → (cells : List Bool) × (slice_get g.rows row ≡ Some cells) × (slice_get cells column ≡ Some true)
-has_parts g row column h = row_of (slice_get g.rows row) column h
+has_parts : (g : Grid) (row column : ℕ) → grid_has g row column ≡ true
+    → (cells : List Bool) × (slice_get g row ≡ Some cells) × (slice_get cells column ≡ Some true)
+has_parts g row column h = row_of (slice_get g row) column h
 
 -- and the other way
-has_from : (g : Grid) (row column : ℕ) (cells : List Bool) (cell : Bool) → slice_get g.rows row ≡ Some cells → slice_get cells column ≡ Some cell → cell ≡ true → grid_has g row column ≡ true
-has_from g row column cells cell h k t = ap (λ (m : Option (List Bool)). cell_in m column) h ∙ ap (λ (m : Option Bool). unwrap_or m false) k ∙ t
+has_from : (g : Grid) (row column : ℕ) (cells : List Bool) (cell : Bool) → slice_get g row ≡ Some cells
+    → slice_get cells column ≡ Some cell → cell ≡ true → grid_has g row column ≡ true
+has_from g row column cells cell h k t = ap (λ (m : Option (List Bool)). cell_in m column) h
+    ∙ ap (λ (m : Option Bool). unwrap_or m false) k ∙ t
 
 -- two sets that meet have a cell in common
-pub grids_found : (g h : Grid) → grids_meet g h ≡ true → (row : ℕ) × (column : ℕ) × (grid_has g row column ≡ true) × (grid_has h row column ≡ true)
+pub grids_found : (g h : Grid) → grids_meet g h ≡ true
+    → (row : ℕ) × (column : ℕ) × (grid_has g row column ≡ true) × (grid_has h row column ≡ true)
 grids_found g h m =
-    let rows = pair_found rows_meet g.rows h.rows m in
+    let rows = pair_found rows_meet g h m in
     let cells = pair_found (λ a b. a && b) rows.left rows.right rows.holds in
     let both = and_parts cells.left cells.right cells.holds in
     (rows.place, cells.place, has_from g _ _ _ _ rows.left_at cells.left_at both.0, has_from h _ _ _ _ rows.right_at cells.right_at both.1)
@@ -97,12 +111,12 @@ pub grids_from : (g h : Grid) (row column : ℕ) → grid_has g row column ≡ t
 grids_from g h row column a b =
     let p = has_parts g row column a in
     let q = has_parts h row column b in
-    pair_from rows_meet g.rows h.rows row p.0 q.0 p.1 q.1 (pair_from (λ a b. a && b) p.0 q.0 column true true p.2 q.2 refl)
+    pair_from rows_meet g h row p.0 q.0 p.1 q.1 (pair_from (λ a b. a && b) p.0 q.0 column true true p.2 q.2 refl)
 
 -- a set with a cell
 pub some_found : (g : Grid) → has_some g ≡ true → (row : ℕ) × (column : ℕ) × (grid_has g row column ≡ true)
 some_found g m =
-    let rows = one_found (λ row. list_any (λ cell. cell) row) g.rows m in
+    let rows = one_found (λ row. list_any (λ cell. cell) row) g m in
     let cells = one_found (λ cell. cell) rows.value rows.holds in
     (rows.place, cells.place, has_from g _ _ _ _ rows.value_at cells.value_at cells.holds)
 
@@ -110,14 +124,15 @@ some_found g m =
 pub some_from : (g : Grid) (row column : ℕ) → grid_has g row column ≡ true → has_some g ≡ true
 some_from g row column a =
     let p = has_parts g row column a in
-    one_from (λ row. list_any (λ cell. cell) row) g.rows row p.0 p.1 (one_from (λ cell. cell) p.0 column true p.2 refl)
+    one_from (λ row. list_any (λ cell. cell) row) g row p.0 p.1 (one_from (λ cell. cell) p.0 column true p.2 refl)
 
 -- the cells of a set as large as its section's grid stand on the grid
-pub grid_places : (depth : ℕ) (g : Grid) (row column : ℕ) → IsGrid depth g → grid_has g row column ≡ true → (row < side depth) × (column < side depth)
+pub grid_places : (depth : ℕ) (g : Grid) (row column : ℕ) → IsGrid depth g → grid_has g row column ≡ true
+    → (row < side depth) × (column < side depth)
 grid_places depth g row column size a =
     let p = has_parts g row column a in
-    let inside : row < length g.rows = slice_get_within g.rows row p.0 p.1 in
-    let wide = All-get_or (λ (cells : List Bool). length cells ≡ side depth) g.rows row p.0 inside size.1 in
-    let same = get_or_from_slice_get g.rows row p.0 p.0 p.1 in
+    let inside : row < length g = slice_get_within g row p.0 p.1 in
+    let wide = All-get_or (λ (cells : List Bool). length cells ≡ side depth) g row p.0 inside size.1 in
+    let same = get_or_from_slice_get g row p.0 p.0 p.1 in
     let long : length p.0 ≡ side depth = sym (ap (λ (cells : List Bool). length cells) same) ∙ wide in
     (omega (arith, size.0), omega (arith, slice_get_within p.0 column true p.2))

@@ -43,7 +43,8 @@ township_same t u h =
     let number = then_parts (nat_cmp t.number u.number) _ h in
     let north = then_parts (bool_cmp t.north u.north) _ number.1 in
     let range = then_parts (nat_cmp t.range u.range) (bool_cmp t.east u.east) north.1 in
-    and_from _ _ (and_from _ _ (and_from _ _ (eq-eqb t.number u.number (exact_unsigned t.number u.number number.0)) (flag_tied t.north u.north north.0))
+    and_from _ _ (and_from _ _ (and_from _ _ (eq-eqb t.number u.number (exact_unsigned t.number u.number number.0))
+    (flag_tied t.north u.north north.0))
     (eq-eqb t.range u.range (exact_unsigned t.range u.range range.0))) (flag_tied t.east u.east range.1)
 
 section_same : (s u : Section) → section_cmp s u ≡ Equal → same_section s u ≡ true
@@ -55,7 +56,8 @@ cell_same : (a b : Cell) → cell_cmp a b ≡ Equal → same_cell a b ≡ true
 cell_same a b h =
     let parts = then_parts (section_cmp a.section b.section) _ h in
     let grid = then_parts (nat_cmp a.row b.row) (nat_cmp a.column b.column) parts.1 in
-    and_from _ _ (and_from _ _ (section_same a.section b.section parts.0) (eq-eqb a.row b.row (exact_unsigned a.row b.row grid.0))) (eq-eqb a.column b.column (exact_unsigned a.column b.column grid.1))
+    and_from _ _ (and_from _ _ (section_same a.section b.section parts.0) (eq-eqb a.row b.row (exact_unsigned a.row b.row grid.0)))
+    (eq-eqb a.column b.column (exact_unsigned a.column b.column grid.1))
 
 pub township_tied : (t u : Township) → township_cmp t u ≡ Equal → t ≡ u
 township_tied t u h = same_township-is t u (township_same t u h)
@@ -96,7 +98,8 @@ cell_self a = rw (section_self a.section, number_self a.row, number_self a.colum
 -- ---- a map finds a place exactly at that place
 
 pub township_at : (t q : Township) → is_at (township_cmp t) q ≡ same_township q t
-township_at t q = found_at township_cmp same_township t q (same_township-is q t) (township_tied t q) (township_self t) (same_township-self t)
+township_at t q = found_at township_cmp same_township t q (same_township-is q t) (township_tied t q) (township_self t)
+    (same_township-self t)
 
 pub section_at : (s q : Section) → is_at (section_cmp s) q ≡ same_section q s
 section_at s q = found_at section_cmp same_section s q (same_section-is q s) (section_tied s q) (section_self s) (same_section-self s)

@@ -1,6 +1,11 @@
+pub mod Sides
 pub mod Ranges
 pub mod CoverLaws
-pub mod Doubled
+pub mod PartsDoubled
+pub mod SquaresDoubled
+pub mod CoversDoubled
+pub mod CellsDoubled
+pub mod ListsDoubled
 pub mod GridLaws
 pub mod SameLand
 pub mod SameNode
@@ -16,8 +21,14 @@ pub mod TractSharing
 pub mod CoverSet
 pub mod CoversMeet
 pub mod CellMembers
+pub mod Sections
 pub mod CellFilters
 pub mod CellSquares
 pub mod GridCounts
 pub mod Keys
 pub mod NodeKeys
+pub mod PathNumbers
+pub mod NodeLands
+pub mod ListSteps
+pub mod RowBits
+pub mod GridRows

@@ -4,44 +4,26 @@ use Rattle.std.specs.declared.cmp.Ordering.{Ordering}
 use Rattle.std.specs.declared.cmp.Ordering.TheVariants.{Equal}
 use Rattle.std.specs.Cmp.{tied_itself}
 use Rattle.std.specs.BTreeMap.{is_at}
-use Rattle.title_land.specs.declared.rectangle.Quarter.{Quarter}
-use Rattle.title_land.specs.declared.rectangle.Quarter.TheVariants.{Northeast, Northwest, Southwest, Southeast}
+use Rattle.std.proofs.lemmas.Map.Lookups.{exact_unsigned}
 use Rattle.title_land.specs.declared.node.Within.{Within}
-use Rattle.title_land.specs.declared.node.Within.TheVariants as within
 use Rattle.title_land.specs.declared.node.Node.{Node}
 use Rattle.title_land.specs.declared.node.Node.TheVariants as node
-use Rattle.title_land.specs.contracts.rectangle.QuarterOrd.TheImpl as quarter_ord
 use Rattle.title_land.specs.contracts.node.WithinOrd.TheImpl as within_ord
 use Rattle.title_land.specs.contracts.node.NodeOrd.TheImpl.Laws as node_laws
 use Rattle.title_land.specs.Nodes.{same_node}
 use Rattle.title_land.specs.Orders.{section_cmp, node_cmp}
+use Rattle.title_land.specs.Paths.{path_number}
+use Rattle.title_land.proofs.PathNumbers.{path_number-is}
 use Rattle.title_land.proofs.Keys.{found_at, then_parts, township_tied, section_tied}
 use Rattle.title_land.proofs.SameNode.{same_node-self, same_node-is}
 
 -- ---- squares
 
-abbrev quarter_cmp : Quarter → Quarter → Ordering
-quarter_cmp = (quarter_ord.ghosts).cmp
-
-quarter_tied : (a b : Quarter) → quarter_cmp a b ≡ Equal → a ≡ b
-quarter_tied Northeast Northeast h = refl
-quarter_tied Northwest Northwest h = refl
-quarter_tied Southwest Southwest h = refl
-quarter_tied Southeast Southeast h = refl
-quarter_tied a b h = absurd cc
-
 abbrev within_cmp : Within → Within → Ordering
 within_cmp = (within_ord.ghosts).cmp
 
 within_tied : (v w : Within) → within_cmp v w ≡ Equal → v ≡ w
-within_tied within.Whole within.Whole h = refl
-within_tied (within.Quarter a) (within.Quarter b) h = ap within.Quarter (quarter_tied a b h)
-within_tied (within.Sixteenth a b) (within.Sixteenth c d) h =
-    let parts = then_parts (quarter_cmp a c) (quarter_cmp b d) h in rw (quarter_tied a c parts.0, quarter_tied b d parts.1) refl
-within_tied (within.Cell a b c) (within.Cell d e f) h =
-    let parts = then_parts (quarter_cmp a d) _ h in
-    let more = then_parts (quarter_cmp b e) (quarter_cmp c f) parts.1 in rw (quarter_tied a d parts.0, quarter_tied b e more.0, quarter_tied c f more.1) refl
-within_tied v w h = absurd cc
+within_tied v w h = path_number-is v w (exact_unsigned (path_number v) (path_number w) h)
 
 -- ---- nodes
 

@@ -15,7 +15,8 @@ numbered_once top n = hlevel le_prop
 abbrev township_of : (n : ℕ) (north : Bool) (r : ℕ) (east : Bool) → Numbered 99 n → Numbered 99 r → Township
 township_of n north r east h k = record { number = n; north = north; range = r; east = east; numbered = h; ranged = k }
 
-township_equal : (n m : ℕ) (x y : Bool) (r q : ℕ) (z w : Bool) (h : Numbered 99 n) (i : Numbered 99 m) (j : Numbered 99 r) (k : Numbered 99 q) → n ≡ m → x ≡ y → r ≡ q → z ≡ w → township_of n x r z h j ≡ township_of m y q w i k
+township_equal : (n m : ℕ) (x y : Bool) (r q : ℕ) (z w : Bool) (h : Numbered 99 n) (i : Numbered 99 m) (j : Numbered 99 r) (k : Numbered
+    99 q) → n ≡ m → x ≡ y → r ≡ q → z ≡ w → township_of n x r z h j ≡ township_of m y q w i k
 township_equal n m x y r q z w h i j k a b c d =
     subst (λ (m2 : ℕ). (i2 : Numbered 99 m2) → township_of n x r z h j ≡ township_of m2 y q w i2 k) a
     (λ i2. subst (λ (q2 : ℕ). (k2 : Numbered 99 q2) → township_of n x r z h j ≡ township_of n y q2 w i2 k2) c
@@ -37,10 +38,12 @@ same_township-is t u h =
     let east = and_parts _ _ h in
     let range = and_parts _ _ east.0 in
     let north = and_parts _ _ range.0 in
-    township_equal t.number u.number t.north u.north t.range u.range t.east u.east t.numbered u.numbered t.ranged u.ranged (eqb-true _ _ north.0) (same_flag-is _ _ north.1) (eqb-true _ _ range.1) (same_flag-is _ _ east.1)
+    township_equal t.number u.number t.north u.north t.range u.range t.east u.east t.numbered u.numbered t.ranged u.ranged
+    (eqb-true _ _ north.0) (same_flag-is _ _ north.1) (eqb-true _ _ range.1) (same_flag-is _ _ east.1)
 
 pub same_township-self : (t : Township) → same_township t t ≡ true
-same_township-self t = and_from _ _ (and_from _ _ (and_from _ _ (eq-eqb t.number t.number refl) (same_flag-self t.north)) (eq-eqb t.range t.range refl)) (same_flag-self t.east)
+same_township-self t = and_from _ _ (and_from _ _ (and_from _ _ (eq-eqb t.number t.number refl) (same_flag-self t.north))
+    (eq-eqb t.range t.range refl)) (same_flag-self t.east)
 
 abbrev section_of : Township → (n : ℕ) → Numbered 36 n → Section
 section_of t n h = record { township = t; number = n; numbered = h }

@@ -1,14 +1,12 @@
 -- Nodes that are the same by their parts are one value.
-use Rattle.std.proofs.Common.{◌≡◌, true, List, [], ◌∷◌, refl, sym, ap, ◌∙◌}
+use Rattle.std.proofs.Common.{◌≡◌, true, List, [], ◌∷◌, refl, ap, ◌∙◌}
 use Rattle.std.proofs.lemmas.Bool.{and_parts, and_from}
 use Rattle.std.specs.Prelude.{◌↔◌}
 use Rattle.title_land.specs.declared.rectangle.Quarter.{Quarter}
 use Rattle.title_land.specs.declared.rectangle.Quarter.TheVariants.{Northeast, Northwest, Southwest, Southeast}
-use Rattle.title_land.specs.declared.node.Within.{Within}
-use Rattle.title_land.specs.declared.node.Within.TheVariants as within
 use Rattle.title_land.specs.declared.node.Node.{Node}
 use Rattle.title_land.specs.declared.node.Node.TheVariants as node
-use Rattle.title_land.specs.Nodes.{path, within_at, same_quarter, same_path, same_node}
+use Rattle.title_land.specs.Nodes.{same_quarter, same_path, same_node}
 use Rattle.title_land.specs.Places.{same_section}
 use Rattle.title_land.proofs.SameLand.{same_township-is, same_township-self, same_section-is, same_section-self}
 
@@ -48,13 +46,6 @@ pub same_path-self : (p : List Quarter) → same_path p p ≡ true
 same_path-self [] = refl
 same_path-self (a ∷ p) = and_from _ _ (same_quarter-self a) (same_path-self p)
 
--- a square is the one with its quarters
-pub within_at-path : (w : Within) → within_at (path w) ≡ w
-within_at-path within.Whole = refl
-within_at-path (within.Quarter a) = refl
-within_at-path (within.Sixteenth a b) = refl
-within_at-path (within.Cell a b c) = refl
-
 same_node-to : (a b : Node) → same_node a b ≡ true → a ≡ b
 same_node-to node.Everything node.Everything h = refl
 same_node-to node.Everything (node.Township u) h = absurd cc
@@ -65,14 +56,14 @@ same_node-to (node.Township t) (node.Part u w) h = absurd cc
 same_node-to (node.Part s v) node.Everything h = absurd cc
 same_node-to (node.Part s v) (node.Township u) h = absurd cc
 same_node-to (node.Part s v) (node.Part u w) h =
-    let k = and_parts (same_section s u) (same_path (path v) (path w)) h in
-    let e : v ≡ w = sym (within_at-path v) ∙ ap within_at (same_path-is (path v) (path w) k.1) ∙ within_at-path w in
+    let k = and_parts (same_section s u) (same_path v w) h in
+    let e : v ≡ w = same_path-is v w k.1 in
     rw (same_section-is s u k.0, e) refl
 
 pub same_node-self : (a : Node) → same_node a a ≡ true
 same_node-self node.Everything = refl
 same_node-self (node.Township t) = same_township-self t
-same_node-self (node.Part s v) = and_from _ _ (same_section-self s) (same_path-self (path v))
+same_node-self (node.Part s v) = and_from _ _ (same_section-self s) (same_path-self v)
 
 -- two nodes are the same exactly where they are one value
 pub same_node-is : (a b : Node) → (same_node a b ≡ true) ↔ (a ≡ b)

@@ -1,5 +1,6 @@
 -- Squares of a section: which cells they hold, and that two with a cell in common lie one in the other.
-use Rattle.std.proofs.Common.{◌≡◌, ℕ, zero, suc, ◌+◌, ◌*◌, ◌^◌, ◌<◌, ◌≤◌, true, ◌&&◌, inl, inr, List, [], ◌∷◌, ◌++◌, length, refl, sym, ap, subst, ◌∙◌, arith}
+use Rattle.std.proofs.Common.{◌≡◌, ℕ, zero, suc, ◌+◌, ◌*◌, ◌^◌, ◌<◌, ◌≤◌, true, ◌&&◌, inl, inr, List, [], ◌∷◌, ◌++◌, length, refl, sym}
+use Rattle.std.proofs.Common.{ap, subst, ◌∙◌, arith}
 use Rattle.std.proofs.lemmas.Bool.{leb-true, ltb-true, le-leb, lt-ltb, and_parts, and_from, cases_lt}
 use Rattle.std.specs.Prelude.{nat_le, nat_lt}
 use Rattle.title_land.specs.declared.rectangle.Quarter.{Quarter}
@@ -20,20 +21,47 @@ inside r row column h =
     let k = and_parts (nat_le r.top row && nat_lt row (r.top + r.height) && nat_le r.left column) (nat_lt column (r.left + r.width)) h in
     let m = and_parts (nat_le r.top row && nat_lt row (r.top + r.height)) (nat_le r.left column) k.0 in
     let n = and_parts (nat_le r.top row) (nat_lt row (r.top + r.height)) m.0 in
-    record { below = leb-true r.top row n.0; above = ltb-true row (r.top + r.height) n.1; right = leb-true r.left column m.1; left = ltb-true column (r.left + r.width) k.1 }
+    record {
+      below = leb-true r.top row n.0;
+      above = ltb-true row (r.top + r.height) n.1;
+      right = leb-true r.left column m.1;
+      left = ltb-true column (r.left + r.width) k.1;
+    }
 
 pub holds_from : (r : Rectangle) (row column : ℕ) → Inside r row column → holds r row column ≡ true
 holds_from r row column i =
-    and_from _ _ (and_from _ _ (and_from _ _ (le-leb r.top row i.below) (lt-ltb row (r.top + r.height) i.above)) (le-leb r.left column i.right)) (lt-ltb column (r.left + r.width) i.left)
+    and_from _ _ (and_from _ _ (and_from _ _ (le-leb r.top row i.below) (lt-ltb row (r.top + r.height) i.above))
+    (le-leb r.left column i.right)) (lt-ltb column (r.left + r.width) i.left)
 
 pub quarter_inside : (q : Quarter) (r : Rectangle) (row column : ℕ) → Inside (quarter_of q r) row column → Inside r row column
-quarter_inside Northeast r row column i = record { below = omega (arith, i.below); above = omega (arith, i.above); right = omega (arith, i.right); left = omega (arith, i.left) }
-quarter_inside Northwest r row column i = record { below = omega (arith, i.below); above = omega (arith, i.above); right = omega (arith, i.right); left = omega (arith, i.left) }
-quarter_inside Southwest r row column i = record { below = omega (arith, i.below); above = omega (arith, i.above); right = omega (arith, i.right); left = omega (arith, i.left) }
-quarter_inside Southeast r row column i = record { below = omega (arith, i.below); above = omega (arith, i.above); right = omega (arith, i.right); left = omega (arith, i.left) }
+quarter_inside Northeast r row column i = record {
+  below = omega (arith, i.below);
+  above = omega (arith, i.above);
+  right = omega (arith, i.right);
+  left = omega (arith, i.left);
+}
+quarter_inside Northwest r row column i = record {
+  below = omega (arith, i.below);
+  above = omega (arith, i.above);
+  right = omega (arith, i.right);
+  left = omega (arith, i.left);
+}
+quarter_inside Southwest r row column i = record {
+  below = omega (arith, i.below);
+  above = omega (arith, i.above);
+  right = omega (arith, i.right);
+  left = omega (arith, i.left);
+}
+quarter_inside Southeast r row column i = record {
+  below = omega (arith, i.below);
+  above = omega (arith, i.above);
+  right = omega (arith, i.right);
+  left = omega (arith, i.left);
+}
 
 -- no cell lies in two quarters
-pub quarters_apart : (a b : Quarter) (r : Rectangle) (row column : ℕ) → Inside (quarter_of a r) row column → Inside (quarter_of b r) row column → a ≡ b
+pub quarters_apart : (a b : Quarter) (r : Rectangle) (row column : ℕ) → Inside (quarter_of a r) row column
+    → Inside (quarter_of b r) row column → a ≡ b
 quarters_apart Northeast Northeast r row column i j = refl
 quarters_apart Northeast Northwest r row column i j = absurd (omega (arith, i.right, j.left))
 quarters_apart Northeast Southwest r row column i j = absurd (omega (arith, i.right, j.left))
@@ -52,7 +80,8 @@ quarters_apart Southeast Southwest r row column i j = absurd (omega (arith, i.ri
 quarters_apart Southeast Southeast r row column i j = refl
 
 -- two squares of one size with a cell in common are one
-pub one_square : (d : ℕ) (p q : List Quarter) (row column : ℕ) → length p ≡ length q → Inside (square d p) row column → Inside (square d q) row column → p ≡ q
+pub one_square : (d : ℕ) (p q : List Quarter) (row column : ℕ) → length p ≡ length q → Inside (square d p) row column
+    → Inside (square d q) row column → p ≡ q
 one_square d [] [] row column l i j = refl
 one_square d [] (b ∷ q) row column l i j = absurd (omega arith)
 one_square d (a ∷ p) [] row column l i j = absurd (omega arith)
@@ -69,7 +98,8 @@ pub record LiesAt (p q : List Quarter) : Type 0 where
   pub path_is : p ≡ within ++ q
 
 -- of two squares with a cell in common, the one with more quarters lies in the other
-pub nested : (d : ℕ) (p q : List Quarter) (row column : ℕ) → length q ≤ length p → Inside (square d p) row column → Inside (square d q) row column → LiesAt p q
+pub nested : (d : ℕ) (p q : List Quarter) (row column : ℕ) → length q ≤ length p → Inside (square d p) row column
+    → Inside (square d q) row column → LiesAt p q
 nested d [] q row column l i j = record { within = []; path_is = one_square d [] q row column (omega arith) i j }
 nested d (a ∷ p) q row column l i j =
     elim (cases_lt (length q) (suc (length p))) [
@@ -98,10 +128,14 @@ two_pow : (n : ℕ) → 2 ^ suc n ≡ 2 * 2 ^ n
 two_pow n = grind arith
 
 sized_quarter : (d levels : ℕ) (q : Quarter) (r : Rectangle) → Sized d (suc levels) r → Sized d levels (quarter_of q r)
-sized_quarter d levels Northeast r s = let e = two_pow levels in record { height_is = omega (arith, s, e); width_is = omega (arith, s, e); high = omega (arith, s, e); wide = omega (arith, s, e) }
-sized_quarter d levels Northwest r s = let e = two_pow levels in record { height_is = omega (arith, s, e); width_is = omega (arith, s, e); high = omega (arith, s, e); wide = omega (arith, s, e) }
-sized_quarter d levels Southwest r s = let e = two_pow levels in record { height_is = omega (arith, s, e); width_is = omega (arith, s, e); high = omega (arith, s, e); wide = omega (arith, s, e) }
-sized_quarter d levels Southeast r s = let e = two_pow levels in record { height_is = omega (arith, s, e); width_is = omega (arith, s, e); high = omega (arith, s, e); wide = omega (arith, s, e) }
+sized_quarter d levels Northeast r s = let e = two_pow levels in
+    record { height_is = omega (arith, s, e); width_is = omega (arith, s, e); high = omega (arith, s, e); wide = omega (arith, s, e) }
+sized_quarter d levels Northwest r s = let e = two_pow levels in
+    record { height_is = omega (arith, s, e); width_is = omega (arith, s, e); high = omega (arith, s, e); wide = omega (arith, s, e) }
+sized_quarter d levels Southwest r s = let e = two_pow levels in
+    record { height_is = omega (arith, s, e); width_is = omega (arith, s, e); high = omega (arith, s, e); wide = omega (arith, s, e) }
+sized_quarter d levels Southeast r s = let e = two_pow levels in
+    record { height_is = omega (arith, s, e); width_is = omega (arith, s, e); high = omega (arith, s, e); wide = omega (arith, s, e) }
 
 pub sized : (d levels : ℕ) (q : List Quarter) → levels + length q ≡ d → Sized d levels (square d q)
 sized d levels [] l =

@@ -31,7 +31,8 @@ turned a b c = record { cell = c.cell; in_a = c.in_b; in_b = c.in_a; on_grid = �
 
 -- a place on the grid
 stands : (depth row column : ℕ) → row < side depth → column < side depth → (nat_lt row (side depth) && nat_lt column (side depth)) ≡ true
-stands depth row column h k = and_from (nat_lt row (side depth)) (nat_lt column (side depth)) (lt-ltb row (side depth) h) (lt-ltb column (side depth) k)
+stands depth row column h k = and_from (nat_lt row (side depth)) (nat_lt column (side depth)) (lt-ltb row (side depth) h)
+    (lt-ltb column (side depth) k)
 
 -- a section's northwest cell stands on the grid
 corner : (depth : ℕ) (s : Section) → is_on_grid depth (cell_at s 0 0) ≡ true
@@ -61,7 +62,8 @@ part_everything s g h =
     }
 
 -- with the cell's township
-part_township : (s : Section) (g : Grid) (t : Township) → (same_township s.township t && has_some g) ≡ true → Common (land.Part s g) (land.Township t)
+part_township : (s : Section) (g : Grid) (t : Township) → (same_township s.township t && has_some g) ≡ true
+    → Common (land.Part s g) (land.Township t)
 unfolding has
 part_township s g t h =
     let m = and_parts (same_township s.township t) (has_some g) h in
@@ -89,20 +91,31 @@ part_part s u g h m =
 -- tracts that meet have a cell in common
 common_cell : (a b : Land) → meets a b ≡ true → Common a b
 unfolding meets has
-common_cell land.Everything land.Everything m = record { cell = first_cell some_township; in_a = refl; in_b = refl; on_grid = λ depth a b. corner depth (first_section some_township) }
-common_cell land.Everything (land.Township u) m = record { cell = first_cell u; in_a = refl; in_b = same_township-self u; on_grid = λ depth a b. corner depth (first_section u) }
+common_cell land.Everything land.Everything m =
+    record { cell = first_cell some_township; in_a = refl; in_b = refl; on_grid = λ depth a b. corner depth (first_section some_township) }
+common_cell land.Everything (land.Township u) m =
+    record { cell = first_cell u; in_a = refl; in_b = same_township-self u; on_grid = λ depth a b. corner depth (first_section u) }
 common_cell land.Everything (land.Part u h) m = turned (land.Part u h) land.Everything (part_everything u h m)
-common_cell (land.Township t) land.Everything m = record { cell = first_cell t; in_a = same_township-self t; in_b = refl; on_grid = λ depth a b. corner depth (first_section t) }
-common_cell (land.Township t) (land.Township u) m = record { cell = first_cell t; in_a = same_township-self t; in_b = same_township_turned t u m; on_grid = λ depth a b. corner depth (first_section t) }
+common_cell (land.Township t) land.Everything m =
+    record { cell = first_cell t; in_a = same_township-self t; in_b = refl; on_grid = λ depth a b. corner depth (first_section t) }
+common_cell (land.Township t) (land.Township u) m =
+    record {
+      cell = first_cell t;
+      in_a = same_township-self t;
+      in_b = same_township_turned t u m;
+      on_grid = λ depth a b. corner depth (first_section t);
+    }
 common_cell (land.Township t) (land.Part u h) m =
     let e = and_parts (same_township t u.township) (has_some h) m in
-    turned (land.Part u h) (land.Township t) (part_township u h t (and_from (same_township u.township t) (has_some h) (same_township_turned t u.township e.0) e.1))
+    turned (land.Part u h) (land.Township t) (part_township u h t
+    (and_from (same_township u.township t) (has_some h) (same_township_turned t u.township e.0) e.1))
 common_cell (land.Part s g) land.Everything m = part_everything s g m
 common_cell (land.Part s g) (land.Township u) m = part_township s g u m
 common_cell (land.Part s g) (land.Part u h) m = part_part s u g h m
 
 -- the townships of a cell's section
-of_section : (s : Section) (t : Township) (c : Cell) → same_section s c.section ≡ true → same_township t c.section.township ≡ true → same_township s.township t ≡ true
+of_section : (s : Section) (t : Township) (c : Cell) → same_section s c.section ≡ true → same_township t c.section.township ≡ true
+    → same_township s.township t ≡ true
 of_section s t c h k =
     let e = same_township-is s.township c.section.township ((and_parts (same_township s.township c.section.township) _ h).0) in
     let f = same_township-is t c.section.township k in
@@ -113,7 +126,8 @@ pub common_meets : CommonCellMeets
 unfolding meets has
 common_meets land.Everything land.Everything c x y = refl
 common_meets land.Everything (land.Township u) c x y = refl
-common_meets land.Everything (land.Part u h) c x y = some_from h c.row c.column ((and_parts (same_section u c.section) (grid_has h c.row c.column) y).1)
+common_meets land.Everything (land.Part u h) c x y =
+    some_from h c.row c.column ((and_parts (same_section u c.section) (grid_has h c.row c.column) y).1)
 common_meets (land.Township t) land.Everything c x y = refl
 common_meets (land.Township t) (land.Township u) c x y =
     let e = same_township-is t c.section.township x in
@@ -121,8 +135,10 @@ common_meets (land.Township t) (land.Township u) c x y =
     rw (e, f) (same_township-self c.section.township)
 common_meets (land.Township t) (land.Part u h) c x y =
     let k = and_parts (same_section u c.section) (grid_has h c.row c.column) y in
-    and_from (same_township t u.township) (has_some h) (same_township_turned u.township t (of_section u t c k.0 x)) (some_from h c.row c.column k.1)
-common_meets (land.Part s g) land.Everything c x y = some_from g c.row c.column ((and_parts (same_section s c.section) (grid_has g c.row c.column) x).1)
+    and_from (same_township t u.township) (has_some h) (same_township_turned u.township t (of_section u t c k.0 x))
+    (some_from h c.row c.column k.1)
+common_meets (land.Part s g) land.Everything c x y =
+    some_from g c.row c.column ((and_parts (same_section s c.section) (grid_has g c.row c.column) x).1)
 common_meets (land.Part s g) (land.Township u) c x y =
     let k = and_parts (same_section s c.section) (grid_has g c.row c.column) x in
     and_from (same_township s.township u) (has_some g) (of_section s u c k.0 y) (some_from g c.row c.column k.1)
@@ -149,5 +165,6 @@ meets_at_a_cell depth a b h k = (
 )
 
 -- the same, of a test's result
-pub result_at_a_cell : (depth : ℕ) (a b x y : Land) (r : Bool) → x ≡ a → y ≡ b → IsLand depth x → IsLand depth y → r ≡ meets x y → (r ≡ true) ↔ Meets depth a b
+pub result_at_a_cell : (depth : ℕ) (a b x y : Land) (r : Bool) → x ≡ a → y ≡ b → IsLand depth x → IsLand depth y → r ≡ meets x y
+    → (r ≡ true) ↔ Meets depth a b
 result_at_a_cell depth a b x y r e f h k m = rw (m, ← e, ← f) (meets_at_a_cell depth x y h k)

@@ -1,5 +1,6 @@
 -- Cells and nodes in their order: townships as declared, sections 1 to 36, quarters NE, NW, SW, SE.
-use Rattle.std.specs.Prelude.{◌≡◌, ℕ, zero, suc, ◌+◌, Bool, true, false, ◌&&◌, ◌==◌, List, [], ◌∷◌, ◌++◌, map, filter, length, nat_le, nat_lt, refl, if◌then◌else◌}
+use Rattle.std.specs.Prelude.{◌≡◌, ℕ, zero, suc, ◌+◌, ◌-◌, Bool, true, false, ◌&&◌, ◌==◌, List, [], ◌∷◌, ◌++◌, map, filter, length}
+use Rattle.std.specs.Prelude.{nat_le, nat_lt, refl, if◌then◌else◌}
 use Rattle.std.specs.List.{flat_map}
 use Rattle.std.proofs.lemmas.Bool.{leb-true}
 use Rattle.title_land.specs.declared.place.Township.{Township}
@@ -9,10 +10,9 @@ use Rattle.title_land.specs.declared.rectangle.Quarter.{Quarter}
 use Rattle.title_land.specs.declared.rectangle.Rectangle.{Rectangle}
 use Rattle.title_land.specs.declared.node.Node.{Node}
 use Rattle.title_land.specs.declared.node.Node.TheVariants as node
-use Rattle.title_land.specs.declared.node.Within.TheVariants as within
 use Rattle.title_land.specs.declared.tract.Land.{Land}
 use Rattle.title_land.specs.Places.{same_section}
-use Rattle.title_land.specs.Nodes.{path, square, quarters, within_at, node_has}
+use Rattle.title_land.specs.Nodes.{square, quarters, node_has}
 use Rattle.title_land.specs.Lands.{has}
 
 -- the cells are one
@@ -26,7 +26,11 @@ both_true false false e = (e, e)
 
 -- the township's section of this number, where there is one
 unfoldable pub section_if : (t : Township) (n : ℕ) (b : Bool) → (nat_le 1 n && nat_le n 36) ≡ b → List Section
-section_if t n true e = record { township = t; number = n; numbered = (leb-true 1 n (both_true _ _ e).0, leb-true n 36 (both_true _ _ e).1) } ∷ []
+section_if t n true e = record {
+  township = t;
+  number = n;
+  numbered = (leb-true 1 n (both_true _ _ e).0, leb-true n 36 (both_true _ _ e).1);
+} ∷ []
 section_if t n false e = []
 
 -- so many of a township's sections, from this number on
@@ -37,6 +41,10 @@ sections_from t n (suc count) = section_if t n (nat_le 1 n && nat_le n 36) refl 
 -- the sections of a township, 1 to 36
 unfoldable pub sections_of : Township → List Section
 sections_of t = sections_from t 1 36
+
+-- those of them from a number on
+unfoldable pub sections_left : Township → ℕ → List Section
+sections_left t n = sections_from t n (37 - n)
 
 -- the cell in the northwest corner of a square, which is the square's only cell where it has one
 abbrev pub corner_of : Section → Rectangle → Cell
@@ -70,9 +78,9 @@ node_cells depth townships n = filter (node_has depth n) (plant_cells depth town
 -- the nodes right below a node, in order; those of the whole plant are the declared townships, a cell has none
 abbrev pub children_of : ℕ → List Township → Node → List Node
 children_of depth townships node.Everything = map (λ t. node.Township t) townships
-children_of depth townships (node.Township t) = map (λ s. node.Part s within.Whole) (sections_of t)
+children_of depth townships (node.Township t) = map (λ s. node.Part s []) (sections_of t)
 children_of depth townships (node.Part s w) =
-    if nat_lt (length (path w)) depth then map (λ q. node.Part s (within_at (q ∷ path w))) quarters else []
+    if nat_lt (length w) depth then map (λ q. node.Part s (q ∷ w)) quarters else []
 
 -- the first and the last section, and how many there are
 pub sections_are_36 : (t : Township) → length (sections_of t) ≡ 36

@@ -1,6 +1,6 @@
 -- The cover of a set of cells, as a set of nodes, and its laws.
 use Rattle.std.specs.Prelude.{◌≡◌, ℕ, Bool, true, false, ◌&&◌, ◌||◌, ◌↔◌, List, [], ◌∷◌, Some, reverse, is_some, find}
-use Rattle.std.specs.List.{list_any, list_all}
+use Rattle.std.specs.List.{list_any, list_all, All}
 use Rattle.title_land.specs.declared.place.Cell.{Cell}
 use Rattle.title_land.specs.declared.rectangle.Quarter.{Quarter}
 use Rattle.title_land.specs.declared.rectangle.Quarter.TheVariants.{Northeast, Northwest, Southwest, Southeast}
@@ -8,7 +8,7 @@ use Rattle.title_land.specs.declared.node.Node.{Node}
 use Rattle.title_land.specs.declared.node.Node.TheVariants as node
 use Rattle.title_land.specs.declared.tract.Land.{Land}
 use Rattle.title_land.specs.Places.{is_on_grid, same_section}
-use Rattle.title_land.specs.Nodes.{path, in_quarter, same_quarter, same_node, are_related, parent_of, node_has, is_above}
+use Rattle.title_land.specs.Nodes.{in_quarter, same_quarter, same_node, are_related, parent_of, node_has, is_above, IsNode}
 use Rattle.title_land.specs.Lands.{has, cover_of, meets, Meets, IsLand}
 
 -- all cells of the node lie in the land; the whole plant has those of every township that has a name
@@ -39,7 +39,7 @@ comes_before node.Everything n = false
 comes_before (node.Township t) n = false
 comes_before (node.Part s v) node.Everything = false
 comes_before (node.Part s v) (node.Township t) = false
-comes_before (node.Part s v) (node.Part u w) = same_section s u && path_before (reverse (path v)) (reverse (path w))
+comes_before (node.Part s v) (node.Part u w) = same_section s u && path_before (reverse v) (reverse w)
 
 -- each node comes before all after it
 abbrev pub are_in_order : List Node → Bool
@@ -48,7 +48,8 @@ are_in_order (n ∷ nodes) = list_all (comes_before n) nodes && are_in_order nod
 
 -- the cover of the land: exactly the nodes whose cells all lie in it and whose parent's don't, in order
 pub record IsCover (depth : ℕ) (land : Land) (nodes : List Node) : Type 0 where
-  pub members : (n : Node) → (list_any (same_node n) nodes ≡ true) ↔ IsCoverNode depth land n
+  pub in_tree : All (IsNode depth) nodes
+  pub members : (n : Node) → IsNode depth n → (list_any (same_node n) nodes ≡ true) ↔ IsCoverNode depth land n
   pub order : are_in_order nodes ≡ true
 
 -- a cell lies in the land exactly where it lies in a node of its cover

@@ -5,7 +5,7 @@ use Rattle.title_land.specs.declared.rectangle.Quarter.TheVariants.{Northeast, N
 use Rattle.title_land.specs.declared.place.Section.{Section}
 use Rattle.title_land.specs.declared.node.Node.{Node}
 use Rattle.title_land.specs.declared.node.Node.TheVariants as node
-use Rattle.title_land.specs.Nodes.{square, within_at}
+use Rattle.title_land.specs.Nodes.{square}
 use Rattle.title_land.specs.Grids.{fills}
 
 -- the squares that list a set within one square that still has levels below it, each by its quarters
@@ -20,7 +20,7 @@ cover_below depth has (suc levels) quarters =
 
 -- the node of a section with these quarters
 abbrev pub node_at : Section → List Quarter → Node
-node_at s quarters = node.Part s (within_at quarters)
+node_at s quarters = node.Part s quarters
 
 -- the nodes that list a set of a section's cells
 abbrev pub section_cover : ℕ → Section → (ℕ → ℕ → Bool) → List Node

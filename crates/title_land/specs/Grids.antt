@@ -1,5 +1,6 @@
 -- Sets of a section's cells.
-use Rattle.std.specs.Prelude.{◌≡◌, ◌<◌, ℕ, zero, suc, ◌+◌, Bool, true, false, ◌&&◌, ◌||◌, List, map, length, slice_get, unwrap_or, option_and_then, sum_by, count_by}
+use Rattle.std.specs.Prelude.{◌≡◌, ◌<◌, ℕ, zero, suc, ◌+◌, Bool, true, false, ◌&&◌, ◌||◌, List, map, length, slice_get, unwrap_or}
+use Rattle.std.specs.Prelude.{option_and_then, sum_by, count_by}
 use Rattle.std.specs.List.{list_any, range_with_len, zip, All}
 use Rattle.title_land.specs.Places.{side}
 use Rattle.title_land.specs.Rectangles.{holds}
@@ -8,7 +9,7 @@ use Rattle.title_land.specs.declared.rectangle.Rectangle.{Rectangle}
 
 -- the cell of this row and column lies in the set; off the grid no cell does
 abbrev pub grid_has : Grid → ℕ → ℕ → Bool
-grid_has g row column = unwrap_or (option_and_then (λ cells. slice_get cells column) (slice_get g.rows row)) false
+grid_has g row column = unwrap_or (option_and_then (λ cells. slice_get cells column) (slice_get g row)) false
 
 -- a test holds at each of n numbers from start on
 abbrev pub range_all : (ℕ → Bool) → ℕ → ℕ → Bool
@@ -29,22 +30,22 @@ rows_meet row cells = list_any (λ pair. pair.0 && pair.1) (zip row cells)
 
 -- two sets share a cell
 abbrev pub grids_meet : Grid → Grid → Bool
-grids_meet g h = list_any (λ pair. rows_meet pair.0 pair.1) (zip g.rows h.rows)
+grids_meet g h = list_any (λ pair. rows_meet pair.0 pair.1) (zip g h)
 
 -- a set has a cell
 abbrev pub has_some : Grid → Bool
-has_some g = list_any (λ row. list_any (λ cell. cell) row) g.rows
+has_some g = list_any (λ row. list_any (λ cell. cell) row) g
 
 abbrev pub row_count : List Bool → ℕ
 row_count row = count_by (λ cell. cell) row
 
 -- the number of cells in a set
 abbrev pub cell_count : Grid → ℕ
-cell_count g = sum_by row_count g.rows
+cell_count g = sum_by row_count g
 
 -- the set has as many rows as a section's side, each with as many cells
 abbrev pub IsGrid : ℕ → Grid → Type 0
-IsGrid depth g = (length g.rows ≡ side depth) × All (λ row. length row ≡ side depth) g.rows
+IsGrid depth g = (length g ≡ side depth) × All (λ row. length row ≡ side depth) g
 
 -- the numbers of a section's rows, and of its columns
 abbrev pub places : ℕ → List ℕ
@@ -52,7 +53,7 @@ places depth = range_with_len 0 (side depth)
 
 -- the set of a section's cells at which a test holds
 unfoldable pub grid_of : ℕ → (ℕ → ℕ → Bool) → Grid
-grid_of depth test = record { rows = map (λ row. map (λ column. test row column) (places depth)) (places depth) }
+grid_of depth test = map (λ row. map (λ column. test row column) (places depth)) (places depth)
 
 -- the set with a rectangle's cells added
 unfoldable pub with_rectangle : ℕ → Grid → Rectangle → Grid

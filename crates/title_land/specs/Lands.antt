@@ -8,7 +8,9 @@ use Rattle.title_land.specs.declared.node.Node.TheVariants as node
 use Rattle.title_land.specs.declared.tract.Land.{Land}
 use Rattle.title_land.specs.declared.tract.Land.TheVariants as land
 use Rattle.title_land.specs.Places.{is_on_grid}
-use Rattle.title_land.specs.Grids.{grid_has, has_some, grids_meet, IsGrid}
+use Rattle.title_land.specs.Grids.{grid_has, grid_of, has_some, grids_meet, IsGrid}
+use Rattle.title_land.specs.Rectangles.{holds}
+use Rattle.title_land.specs.Nodes.{square}
 use Rattle.title_land.specs.Places.{same_township, same_section}
 use Rattle.title_land.specs.Covers.{section_cover}
 
@@ -59,3 +61,9 @@ abbrev pub IsLand : ℕ → Land → Type 0
 IsLand depth land.Everything = Unit {0}
 IsLand depth (land.Township t) = Unit {0}
 IsLand depth (land.Part s g) = IsGrid depth g
+
+-- the land that has a node's cells
+abbrev pub land_of : ℕ → Node → Land
+land_of depth node.Everything = land.Everything
+land_of depth (node.Township t) = land.Township t
+land_of depth (node.Part s w) = land.Part s (grid_of depth (holds (square depth w)))

@@ -1,9 +1,15 @@
+pub mod Depth
 pub mod Places
 pub mod Rectangles
+pub mod Constants
+pub mod Paths
 pub mod Nodes
+pub mod RowBits
+pub mod RowNumbers
 pub mod Grids
 pub mod Covers
 pub mod Lands
+pub mod Extents
 pub mod CellLists
 pub mod Orders
 pub mod Texts

@@ -4,7 +4,7 @@ use Rattle.title_land.specs.declared.place.Cell.{Cell}
 use Rattle.title_land.specs.declared.node.Node.{Node}
 use Rattle.title_land.specs.declared.node.Node.TheVariants as node
 use Rattle.title_land.specs.Places.{is_on_grid}
-use Rattle.title_land.specs.Nodes.{same_node, parent_of, above, is_above, are_related, node_has}
+use Rattle.title_land.specs.Nodes.{same_node, parent_of, above, is_above, are_related, node_has, IsNode}
 
 -- a test of nodes is their equality: the same numbers and quarters make one node
 abbrev pub SameNodesAreEqual : Type 0
@@ -21,7 +21,7 @@ AboveHasTheCells depth = (a b : Node) (c : Cell) → is_above a b ≡ true → n
 -- two nodes share a cell exactly where they are one or one lies above the other (Gray, Lorie, Putzolu, Traiger,
 -- Granularity of Locks and Degrees of Consistency, 1976: a lock on a node covers what lies below it)
 abbrev pub NodesShareACell : ℕ → Type 0
-NodesShareACell depth = (a b : Node)
+NodesShareACell depth = (a b : Node) → IsNode depth a → IsNode depth b
     → ((c : Cell) × (is_on_grid depth c ≡ true) × (node_has depth a c ≡ true) × (node_has depth b c ≡ true)) ↔ (are_related a b ≡ true)
 
 -- above a node lie its parent and what lies above that; nothing lies above the whole plant

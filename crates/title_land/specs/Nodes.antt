@@ -1,31 +1,15 @@
--- Nodes of the tree of tracts, and the cells that each has.
-use Rattle.std.specs.Prelude.{ℕ, Bool, true, false, ◌&&◌, ◌||◌, List, [], ◌∷◌, ◌++◌, Option, Some, None}
+-- Nodes of the tree of tracts, and the cells that each has. A square of a section is seen as its quarters, the innermost first.
+use Rattle.std.specs.Prelude.{ℕ, ◌≤◌, Bool, true, false, ◌&&◌, ◌||◌, List, [], ◌∷◌, ◌++◌, length, Option, Some, None}
 use Rattle.std.specs.List.{list_any}
 use Rattle.title_land.specs.declared.place.Section.{Section}
 use Rattle.title_land.specs.declared.place.Cell.{Cell}
 use Rattle.title_land.specs.declared.rectangle.Quarter.{Quarter}
 use Rattle.title_land.specs.declared.rectangle.Quarter.TheVariants.{Northeast, Northwest, Southwest, Southeast}
 use Rattle.title_land.specs.declared.rectangle.Rectangle.{Rectangle}
-use Rattle.title_land.specs.declared.node.Within.{Within}
-use Rattle.title_land.specs.declared.node.Within.TheVariants as within
 use Rattle.title_land.specs.declared.node.Node.{Node}
 use Rattle.title_land.specs.declared.node.Node.TheVariants as node
 use Rattle.title_land.specs.Places.{same_township, same_section}
 use Rattle.title_land.specs.Rectangles.{section_square, quarter_of, holds}
-
--- a square's quarters, the innermost first
-abbrev pub path : Within → List Quarter
-path within.Whole = []
-path (within.Quarter a) = a ∷ []
-path (within.Sixteenth a b) = a ∷ b ∷ []
-path (within.Cell a b c) = a ∷ b ∷ c ∷ []
-
--- the square with these quarters, of which there are three at most
-abbrev pub within_at : List Quarter → Within
-within_at [] = within.Whole
-within_at (a ∷ []) = within.Quarter a
-within_at (a ∷ b ∷ []) = within.Sixteenth a b
-within_at (a ∷ b ∷ c ∷ more) = within.Cell a b c
 
 -- the cells of the square with these quarters
 abbrev pub square : ℕ → List Quarter → Rectangle
@@ -64,29 +48,29 @@ same_node (node.Township t) (node.Township u) = same_township t u
 same_node (node.Township t) (node.Part u w) = false
 same_node (node.Part s v) node.Everything = false
 same_node (node.Part s v) (node.Township u) = false
-same_node (node.Part s v) (node.Part u w) = same_section s u && same_path (path v) (path w)
+same_node (node.Part s v) (node.Part u w) = same_section s u && same_path v w
 
 -- the square above, which for the section's own is the township
 abbrev pub parent_in : Section → List Quarter → Node
 parent_in s [] = node.Township s.township
-parent_in s (q ∷ quarters) = node.Part s (within_at quarters)
+parent_in s (q ∷ quarters) = node.Part s quarters
 
 -- the node above; the whole plant has none
 abbrev pub parent_of : Node → Option Node
 parent_of node.Everything = None
 parent_of (node.Township t) = Some node.Everything
-parent_of (node.Part s w) = Some (parent_in s (path w))
+parent_of (node.Part s w) = Some (parent_in s w)
 
 -- the squares above one with these quarters, the nearest first
 abbrev pub above_in : Section → List Quarter → List Node
 above_in s [] = []
-above_in s (q ∷ quarters) = node.Part s (within_at quarters) ∷ above_in s quarters
+above_in s (q ∷ quarters) = node.Part s quarters ∷ above_in s quarters
 
 -- the nodes above a node, the nearest first
 abbrev pub above : Node → List Node
 above node.Everything = []
 above (node.Township t) = node.Everything ∷ []
-above (node.Part s w) = above_in s (path w) ++ (node.Township s.township ∷ node.Everything ∷ [])
+above (node.Part s w) = above_in s w ++ (node.Township s.township ∷ node.Everything ∷ [])
 
 -- the first node lies above the second
 abbrev pub is_above : Node → Node → Bool
@@ -100,4 +84,10 @@ are_related a b = same_node a b || (is_above a b || is_above b a)
 abbrev pub node_has : ℕ → Node → Cell → Bool
 node_has depth node.Everything c = true
 node_has depth (node.Township t) c = same_township t c.section.township
-node_has depth (node.Part s w) c = same_section s c.section && holds (square depth (path w)) c.row c.column
+node_has depth (node.Part s w) c = same_section s c.section && holds (square depth w) c.row c.column
+
+-- the node is one of the tree: a square has no more quarters than the depth, so it has a cell
+abbrev pub IsNode : ℕ → Node → Type 0
+IsNode depth node.Everything = Unit {0}
+IsNode depth (node.Township t) = Unit {0}
+IsNode depth (node.Part s w) = length w ≤ depth

@@ -7,7 +7,6 @@ use Rattle.title_land.specs.declared.rectangle.Quarter.{Quarter}
 use Rattle.title_land.specs.declared.rectangle.Quarter.TheVariants.{Northeast, Northwest, Southwest, Southeast}
 use Rattle.title_land.specs.declared.node.Node.{Node}
 use Rattle.title_land.specs.declared.node.Node.TheVariants as node
-use Rattle.title_land.specs.Nodes.{path}
 
 -- a township: its number with N or S, its range number with E or W, as `T3N R2W`
 abbrev pub township_text : Township → List ℕ
@@ -40,4 +39,4 @@ path_text (q ∷ quarters) = codes " " ++ quarters_text (q ∷ quarters)
 abbrev pub node_text : Node → List ℕ
 node_text node.Everything = codes "everything"
 node_text (node.Township t) = township_text t
-node_text (node.Part s w) = section_text s ++ path_text (path w)
+node_text (node.Part s w) = section_text s ++ path_text w

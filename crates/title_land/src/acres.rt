@@ -3,10 +3,11 @@
 ghost use Rattle.std.specs.Prelude.{Some};
 ghost use Rattle.title_land.specs.Acres.{acres_text};
 
+use crate::rectangle::SIDE;
 use std::fmt;
 
-/// The half acres of a cell; a section of 640 acres has 64 cells.
-pub const CELL_HALF_ACRES: u32 = 20;
+/// The half acres of a cell: a section of 640 acres has as many as its side squared.
+pub const CELL_HALF_ACRES: u32 = 1_280 / (SIDE as u32 * SIDE as u32);
 
 /// The half acres of a township, which has 36 sections.
 pub const TOWNSHIP_HALF_ACRES: u32 = 46_080;

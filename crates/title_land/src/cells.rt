@@ -1,10 +1,11 @@
 //! Cells of tracts in their order: townships as declared, sections 1 to 36, quarters as they are listed.
 
-ghost use Rattle.std.specs.Prelude.{◌≡◌, ◌+◌, ◌++◌, OnOk, IfOk, filter, find, length};
+ghost use Rattle.std.specs.Prelude.{◌≡◌, ◌≤◌, ◌+◌, ◌++◌, OnOk, IfOk, filter, find, length};
+ghost use Rattle.title_land.specs.Depth.{depth};
 ghost use Rattle.std.specs.List.{list_any};
 ghost use Rattle.title_land.specs.Places.{same_township};
 ghost use Rattle.title_land.specs.Rectangles.{InSection};
-ghost use Rattle.title_land.specs.Nodes.{path, square, node_has};
+ghost use Rattle.title_land.specs.Nodes.{square, node_has, are_related};
 ghost use Rattle.title_land.specs.Lands.{has, cover_of, is_in_plant};
 ghost use Rattle.title_land.specs.CellLists.{same_cell, cells_below, section_cells, township_cells, cells_of};
 
@@ -35,15 +36,13 @@ impl Cell {
 impl Within {
     /// The cells of the square.
     pub fn square(self) -> Rectangle
-        ensures square { result ≡ square 3 (path self) }
-        ensures inside { InSection 3 result }
+        ensures square { result ≡ square depth self }
+        ensures inside { InSection depth result }
+        ensures short { length self ≤ depth }
     {
-        let whole = Rectangle::SECTION;
-        match self {
-            Within::Whole => whole,
-            Within::Quarter(a) => whole.quarter(a),
-            Within::Sixteenth(a, b) => whole.quarter(b).quarter(a),
-            Within::Cell(a, b, c) => whole.quarter(c).quarter(b).quarter(a),
+        match self.split() {
+            None => Rectangle::section(),
+            Some((which, outer)) => outer.square().quarter(which),
         }
     }
 }
@@ -51,7 +50,7 @@ impl Within {
 impl Node {
     /// Whether the cell lies in it.
     pub fn has(self, cell: Cell) -> bool
-        ensures has { result ≡ node_has 3 self cell }
+        ensures has { result ≡ node_has depth self cell }
     {
         match self {
             Node::Everything => true,
@@ -59,6 +58,27 @@ impl Node {
             Node::Part(section, within) => {
                 section.is(cell.section) && within.square().holds(cell.row, cell.column)
             }
+        }
+    }
+
+    /// Whether the nodes share a cell: they are one, or one lies above the other.
+    pub fn meets(self, other: Node) -> bool
+        ensures meets { result ≡ are_related self other }
+    {
+        self.is_in_tree();
+        other.is_in_tree();
+        match self {
+            Node::Everything => true,
+            Node::Township(t) => match other {
+                Node::Everything => true,
+                Node::Township(u) => t.is(u),
+                Node::Part(u, _) => t.is(u.township),
+            },
+            Node::Part(s, v) => match other {
+                Node::Everything => true,
+                Node::Township(u) => s.township.is(u),
+                Node::Part(u, w) => s.is(u) && v.square().meets(w.square()),
+            },
         }
     }
 }
@@ -77,7 +97,7 @@ impl Tract {
 
     /// The first node of the cover that has the cell; `None` where the cell doesn't lie in the tract.
     pub fn node_of(&self, cell: Cell) -> Option<Node>
-        ensures node { result ≡ find (λ n. node_has 3 n cell) (cover_of 3 self.now) }
+        ensures node { result ≡ find (λ n. node_has depth n cell) (cover_of depth self.now) }
     {
         self.cover().iter().copied().find(|node| node.has(cell))
     }
@@ -91,9 +111,9 @@ fn add_square(
     within: Within,
     cells: &mut Vec<Cell>,
 ) -> Result<(), AllocError>
-    requires levels { levels + length (path within) ≡ 3 }
+    requires levels { levels + length within ≡ depth }
     ensures cells { OnOk result (cells.new.items
-        ≡ cells.old.items ++ filter (has tract.now) (cells_below 3 section levels (path within))) }
+        ≡ cells.old.items ++ filter (has tract.now) (cells_below depth section levels within)) }
 {
     if levels == 0 {
         let corner = within.square();
@@ -107,34 +127,27 @@ fn add_square(
         }
         return Ok(());
     }
-    let below = levels - 1;
-    let northeast = within.quarter(Quarter::Northeast);
-    add_square(tract, section, below, northeast, cells)?;
-    let northwest = within.quarter(Quarter::Northwest);
-    add_square(tract, section, below, northwest, cells)?;
-    let southwest = within.quarter(Quarter::Southwest);
-    add_square(tract, section, below, southwest, cells)?;
-    let southeast = within.quarter(Quarter::Southeast);
-    add_square(tract, section, below, southeast, cells)
+    for which in Quarter::ALL {
+        add_square(tract, section, levels - 1, within.quarter(which), cells)?;
+    }
+    Ok(())
 }
 
 /// Adds the cells of a section that lie in the tract.
+#[tactic(auto, using(crate::proofs::Sides::depth_is))]
 fn add_section(tract: &Tract, section: Section, cells: &mut Vec<Cell>) -> Result<(), AllocError>
     ensures cells { OnOk result (cells.new.items
-        ≡ cells.old.items ++ filter (has tract.now) (section_cells 3 section)) }
+        ≡ cells.old.items ++ filter (has tract.now) (section_cells depth section)) }
 {
-    add_square(tract, section, DEPTH, Within::Whole, cells)
+    add_square(tract, section, DEPTH, Within::section(), cells)
 }
 
 /// Adds the cells of a township that lie in the tract, trying each.
 fn add_township(tract: &Tract, township: Township, cells: &mut Vec<Cell>) -> Result<(), AllocError>
     ensures cells { OnOk result (cells.new.items
-        ≡ cells.old.items ++ filter (has tract.now) (township_cells 3 township)) }
+        ≡ cells.old.items ++ filter (has tract.now) (township_cells depth township)) }
 {
-    for number in 1..37 {
-        let Some(section) = Section::new(township, number) else {
-            continue;
-        };
+    for section in township.sections() {
         add_section(tract, section, cells)?;
     }
     Ok(())
@@ -143,7 +156,7 @@ fn add_township(tract: &Tract, township: Township, cells: &mut Vec<Cell>) -> Res
 /// Adds the cells of a township that lie in the tract, trying those alone that may.
 fn add_cells(tract: &Tract, township: Township, cells: &mut Vec<Cell>) -> Result<(), AllocError>
     ensures cells { OnOk result (cells.new.items
-        ≡ cells.old.items ++ filter (has tract.now) (township_cells 3 township)) }
+        ≡ cells.old.items ++ filter (has tract.now) (township_cells depth township)) }
 {
     match tract.land() {
         Land::Township(other) if !other.is(township) => Ok(()),
@@ -164,7 +177,7 @@ pub fn cells_of(
     townships: &[Township],
     tract: &Tract,
 ) -> Result<Vec<Cell>, AllocError>
-    ensures cells { IfOk result (λ cells. cells.items ≡ cells_of 3 townships.now tract.now) }
+    ensures cells { IfOk result (λ cells. cells.items ≡ cells_of depth townships.now tract.now) }
 {
     let mut cells = Vec::new(alloc);
     for township in townships {
@@ -176,7 +189,7 @@ pub fn cells_of(
 #[cfg(test)]
 mod tests {
     use super::cells_of;
-    use crate::{Cell, Grid, Land, Node, Quarter, Rectangle, Section, Township, Tract, Within};
+    use crate::{Cell, Grid, Half, Land, Quarter, Rectangle, Section, Township, Tract};
     use std::process::Abort;
     use std::test::Fail;
 
@@ -193,13 +206,14 @@ mod tests {
         let alloc = rt.alloc();
         let (third, fourth) = (township(&rt, 3), township(&rt, 4));
         let fifth = section(&rt, fourth, 5);
-        let northeast = Rectangle::SECTION
+        let northeast = Rectangle::section()
+            .quarter(Quarter::Northeast)
             .quarter(Quarter::Northeast)
             .quarter(Quarter::Northeast);
-        let tract = Tract::new(alloc, Land::Part(fifth, Grid::EMPTY.with(northeast)))?;
+        let tract = Tract::new(alloc, Land::Part(fifth, Grid::empty().with(northeast)))?;
         let cells = cells_of(alloc, &[third, fourth], &tract)?;
         assert_eq!(rt; cells.len(), 4);
-        for (cell, (row, column)) in cells.iter().zip([(0, 7), (0, 6), (1, 6), (1, 7)]) {
+        for (cell, (row, column)) in cells.iter().zip([(0, 15), (0, 14), (1, 14), (1, 15)]) {
             let want = Cell {
                 section: fifth,
                 row,
@@ -219,14 +233,14 @@ mod tests {
         let (third, fourth) = (township(&rt, 3), township(&rt, 4));
         let everything = Tract::new(alloc, Land::Everything)?;
         let cells = cells_of(alloc, &[fourth, third], &everything)?;
-        assert_eq!(rt; cells.len(), 2 * 36 * 64);
+        assert_eq!(rt; cells.len(), 2 * 36 * 256);
         assert_eq!(rt; cells[0].section, section(&rt, fourth, 1));
-        assert_eq!(rt; cells[64].section, section(&rt, fourth, 2));
-        assert_eq!(rt; cells[4607].section, section(&rt, third, 36));
+        assert_eq!(rt; cells[256].section, section(&rt, fourth, 2));
+        assert_eq!(rt; cells[18431].section, section(&rt, third, 36));
         let township = Tract::new(alloc, Land::Township(third))?;
         let of_third = cells_of(alloc, &[fourth, third], &township)?;
-        assert_eq!(rt; of_third.len(), 36 * 64);
-        assert_eq!(rt; of_third[0], cells[2304]);
+        assert_eq!(rt; of_third.len(), 36 * 256);
+        assert_eq!(rt; of_third[0], cells[9216]);
         Ok(())
     }
 
@@ -234,19 +248,23 @@ mod tests {
     fn a_cell_has_a_node(rt: HostRuntime) -> Result<(), Fail> {
         let alloc = rt.alloc();
         let fifth = section(&rt, township(&rt, 3), 5);
-        let south = Rectangle::SECTION.half(crate::Half::South);
-        let tract = Tract::new(alloc, Land::Part(fifth, Grid::EMPTY.with(south)))?;
+        let south = Rectangle::section().half(Half::South);
+        let tract = Tract::new(alloc, Land::Part(fifth, Grid::empty().with(south)))?;
         let cell = |row, column| Cell {
             section: fifth,
             row,
             column,
         };
-        let southwest = Node::Part(fifth, Within::Quarter(Quarter::Southwest));
-        assert_eq!(rt; tract.node_of(cell(4, 3)), Some(southwest));
-        assert_eq!(rt; tract.node_of(cell(3, 3)), None);
-        assert_eq!(rt; southwest.has(cell(7, 0)), true);
-        assert_eq!(rt; southwest.has(cell(7, 4)), false);
-        assert_eq!(rt; Within::Quarter(Quarter::Southwest).square().top, 4);
+        assert!(rt; tract.node_of(cell(7, 7)).is_none());
+        let node = tract
+            .node_of(cell(8, 7))
+            .expect(&rt, "a node with the cell");
+        assert_eq!(rt;
+            format!(in alloc; "{node}")?.as_str(),
+            "T3N R2W sec 5 SW1/4"
+        );
+        assert!(rt; node.has(cell(15, 0)));
+        assert!(rt; !node.has(cell(15, 8)));
         Ok(())
     }
 }

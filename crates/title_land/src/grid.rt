@@ -1,64 +1,111 @@
 //! Sets of a section's cells.
 
-ghost use Rattle.std.specs.Prelude.{◌≡◌, ◌<◌, ◌≤◌, ◌||◌, ℕ, map};
-ghost use Rattle.title_land.specs.Grids.{IsGrid, grid_has, fills, row_fills, has_some, row_count, cell_count, cells_counted, rows_meet, grids_meet, places, with_rectangle, AddsRectangle};
-ghost use Rattle.std.specs.List.{list_any};
+ghost use Rattle.std.specs.List.{list_any, zip};
+ghost use Rattle.std.specs.Prelude.{◌==◌, not, bit_and, ◌≡◌, ◌↔◌, ◌<◌, ◌≤◌, ◌+◌, ◌*◌, ◌^◌, ◌&&◌, ℕ, true, false};
+ghost use Rattle.title_land.specs.Depth.{depth};
+ghost use Rattle.title_land.specs.Grids.{IsGrid, grid_has, grid_of, fills, has_some, cell_count, cells_counted, grids_meet};
+ghost use Rattle.title_land.specs.Grids.{with_rectangle, AddsRectangle};
+ghost use Rattle.title_land.specs.Places.{side};
 ghost use Rattle.title_land.specs.Rectangles.{InSection, holds};
+ghost use Rattle.title_land.specs.RowBits.{HasColumns};
 
-use crate::rectangle::{Rectangle, SIDE};
+use crate::rectangle::{ROWS, Rectangle, SIDE};
+use std::marker::Model;
 
-/// A set of a section's cells, by rows from the north and columns from the west.
+/// A set of a section's cells, by rows from the north and columns from the west. A contract sees it as its rows of cells.
 #[derive(Clone, Copy, Debug, PartialEq, Eq)]
 pub struct Grid {
-    pub rows: [[bool; 8]; 8],
+    rows: [u32; ROWS],
+}
+
+impl Model for Grid {
+    ghost use Rattle.std.specs.List.{list_any, zip};
+    ghost use Rattle.std.specs.Prelude.{◌==◌, not, bit_and, Bool, List};
+
+    ghost Value = { List (List Bool) };
+
+    ghost use Rattle.title_land.specs.Depth.{depth};
+    ghost use Rattle.title_land.specs.RowBits.{grid_cells, row_numbers, IsRows};
+    ghost use Rattle.title_land.specs.RowNumbers.{rows_back};
+
+    ghost view = { λ g. grid_cells depth g.rows };
+
+    ghost invariant = { λ g. IsRows depth g.rows };
+
+    ghost inverse = { λ cells. record { rows = row_numbers cells } };
+
+    ghost inverse_ok = { λ g h i. record { rows = rows_back depth g.rows h i } };
 }
 
 impl Grid {
     /// No cell.
-    pub const EMPTY: Grid = Grid {
-        rows: [[false; 8]; 8],
-    };
+    pub fn empty() -> Grid
+        ensures empty { result ≡ grid_of depth (λ row column. false) }
+        ensures has { (row column : ℕ) → grid_has result row column ≡ false }
+    {
+        Grid { rows: [0; ROWS] }
+    }
 
     /// All cells.
-    pub const FULL: Grid = Grid {
-        rows: [[true; 8]; 8],
-    };
+    pub fn full() -> Grid
+        ensures full { result ≡ grid_of depth (λ row column. true) }
+        ensures has { (row column : ℕ)
+            → row < side depth → column < side depth → grid_has result row column ≡ true }
+    {
+        let columns = columns_of(Rectangle::section());
+        Grid {
+            rows: [columns; ROWS],
+        }
+    }
+
+    /// The cells of a rectangle.
+    pub fn of(r: Rectangle) -> Grid
+        requires inside { InSection depth r }
+        ensures of { result ≡ grid_of depth (holds r) }
+    {
+        Grid::empty().with(r)
+    }
 
     /// Whether the cell of this row and column lies in it; off the grid no cell does.
     pub fn has(&self, row: u8, column: u8) -> bool
         ensures has { result ≡ grid_has self.now row column }
     {
         match self.rows.get(row as usize) {
-            Some(cells) => match cells.get(column as usize) {
-                Some(cell) => *cell,
-                None => false,
-            },
+            Some(cells) => column < SIDE && (cells >> column) & 1 == 1,
             None => false,
         }
     }
 
     /// It has as many rows as a section's side, each as long. It does nothing: its type says so, and a proof may cite it.
-    pub fn is_sized(self)
-        ensures sized { IsGrid 3 self }
-    {}
+    pub fn is_sized(&self)
+        ensures sized { IsGrid depth self.now }
+    {
+        let _ = &self.rows;
+    }
+
+    /// Whether the sets are one.
+    pub fn is(&self, other: &Grid) -> bool
+        ensures is { (result ≡ true) ↔ (self.now ≡ other.now) }
+    {
+        self.rows == other.rows
+    }
 
     /// Whether it has a cell.
     pub fn has_some(&self) -> bool
         ensures some { result ≡ has_some self.now }
     {
-        self.rows.iter().any(|row| row_has_some(row))
+        have_bits(&self.rows)
     }
 
     /// The number of its cells.
     pub fn cell_count(&self) -> u32
         ensures count { result ≡ cell_count self.now }
-        ensures cells { result ≡ cells_counted 3 (grid_has self.now) }
-        ensures most { result ≤ 64 }
+        ensures cells { result ≡ cells_counted depth (grid_has self.now) }
+        ensures most { result ≤ side depth * side depth }
     {
-        self.is_sized();
         let mut count = 0;
         for row in &self.rows {
-            count += row_count(row);
+            count += row.count_ones();
         }
         count
     }
@@ -67,90 +114,61 @@ impl Grid {
     pub fn meets(&self, other: &Grid) -> bool
         ensures meets { result ≡ grids_meet self.now other.now }
     {
-        self.rows
-            .iter()
-            .zip(other.rows.iter())
-            .any(|(row, cells)| rows_meet(row, cells))
+        share_bits(&self.rows, &other.rows)
     }
 
     /// The set with a rectangle's cells added.
     pub fn with(self, r: Rectangle) -> Grid
-        requires inside { InSection 3 r }
-        ensures with { result ≡ with_rectangle 3 self r }
-        ensures adds { AddsRectangle 3 self r result }
+        requires inside { InSection depth r }
+        ensures with { result ≡ with_rectangle depth self r }
+        ensures adds { AddsRectangle depth self r result }
     {
-        let mut rows = Grid::EMPTY.rows;
-        for row in 0..SIDE {
-            rows[row as usize] = row_with(self, r, row);
+        let columns = columns_of(r);
+        let mut rows = self.rows;
+        for row in r.top..r.top + r.height {
+            rows[row as usize] |= columns;
         }
         Grid { rows }
     }
 }
 
-/// Whether a cell lies in a set or in a rectangle.
-fn either_has(grid: Grid, r: Rectangle, row: u8, column: u8) -> bool
-    requires inside { InSection 3 r }
-    ensures has { result ≡ (grid_has grid row column || holds r row column) }
+/// The columns of a rectangle, as a row's number.
+fn columns_of(r: Rectangle) -> u32
+    requires inside { InSection depth r }
+    ensures fits { result < 2 ^ side depth }
+    ensures columns { HasColumns result r.left r.width }
 {
-    grid.has(row, column) || r.holds(row, column)
-}
-
-/// One row of a set with a rectangle's cells added.
-fn row_with(grid: Grid, r: Rectangle, row: u8) -> [bool; 8]
-    requires inside { InSection 3 r }
-    ensures row { result ≡ map (λ column. grid_has grid row column || holds r row column) (places 3) }
-{
-    let mut cells = [false; 8];
-    for column in 0..SIDE {
-        cells[column as usize] = either_has(grid, r, row, column);
-    }
-    cells
-}
-
-/// Whether a set has each cell of a rectangle in one row.
-fn row_fills(grid: &Grid, r: Rectangle, row: u8) -> bool
-    requires inside { InSection 3 r }
-    ensures fills { result ≡ row_fills (grid_has grid.now) r row }
-{
-    for column in r.left..r.left + r.width {
-        if !grid.has(row, column) {
-            return false;
-        }
-    }
-    true
+    (((1u64 << r.width) - 1) << r.left) as u32
 }
 
 /// Whether a set has each cell of a rectangle.
+#[tactic(auto, using(crate::proofs::Sides::side_fits))]
 pub fn fills(grid: &Grid, r: Rectangle) -> bool
-    requires inside { InSection 3 r }
+    requires inside { InSection depth r }
     ensures fills { result ≡ fills (grid_has grid.now) r }
 {
+    let columns = columns_of(r);
     for row in r.top..r.top + r.height {
-        if !row_fills(grid, r, row) {
+        if grid.rows[row as usize] & columns != columns {
             return false;
         }
     }
     true
 }
 
-/// The number of cells in a row.
-fn row_count(row: &[bool; 8]) -> u32
-    ensures count { result ≡ row_count row.now }
-    ensures most { result ≤ 8 }
+/// Whether a row's number has a bit set.
+fn have_bits(rows: &[u32]) -> bool
+    ensures some { result ≡ list_any (λ row. not (row == 0)) rows.now }
 {
-    row.iter().filter(|cell| **cell).count() as u32
+    rows.iter().any(|row| *row != 0)
 }
 
-/// Whether a row has a cell.
-fn row_has_some(row: &[bool; 8]) -> bool
-    ensures some { result ≡ list_any (λ cell. cell) row.now }
+/// Whether two rows of one place have a bit in common.
+fn share_bits(rows: &[u32], others: &[u32]) -> bool
+    ensures shared { result
+        ≡ list_any (λ pair. not (bit_and pair.0 pair.1 == 0)) (zip rows.now others.now) }
 {
-    row.iter().any(|cell| *cell)
-}
-
-/// Whether two rows have a cell in common.
-fn rows_meet(row: &[bool; 8], cells: &[bool; 8]) -> bool
-    ensures meets { result ≡ rows_meet row.now cells.now }
-{
-    row.iter().zip(cells.iter()).any(|(a, b)| *a && *b)
+    rows.iter()
+        .zip(others.iter())
+        .any(|(row, other)| row & other != 0)
 }

@@ -1,8 +1,15 @@
 //! Laws of land, for the crates above. Each function does nothing: its clause is the law, proved.
 
 ghost use Rattle.title_land.specs.CellLaws.{SameCellsAreEqual, PlantHasItsCells, ListHasTheCells, NodeListHasTheCells};
+ghost use Rattle.title_land.specs.Constants.{DepthIsSaidOnce};
+ghost use Rattle.title_land.specs.Depth.{depth};
 ghost use Rattle.title_land.specs.CoverSets.{CoverNodesLieApart, CoverFindsTheNode, CoverHasItsCells, LandsShareACell, MeetsByCovers};
 ghost use Rattle.title_land.specs.NodeLaws.{AboveByParent, SameNodesAreEqual, AboveIsTransitive, AboveHasTheCells, NodesShareACell};
+
+/// The code's numbers of the grid are those of the definitions: the depth is said once in each.
+pub fn depth_is_said_once()
+    ensures law { DepthIsSaidOnce }
+{}
 
 /// The test of nodes is their equality.
 pub fn same_nodes_are_equal()
@@ -21,27 +28,27 @@ pub fn above_is_transitive()
 
 /// A node that lies above another has its cells.
 pub fn above_has_the_cells()
-    ensures law { AboveHasTheCells 3 }
+    ensures law { AboveHasTheCells depth }
 {}
 
 /// Two nodes share a cell exactly where they are one or one lies above the other.
 pub fn nodes_share_a_cell()
-    ensures law { NodesShareACell 3 }
+    ensures law { NodesShareACell depth }
 {}
 
 /// A cell of the grid lies in a land exactly where it lies in a node of its cover.
 pub fn cover_has_its_cells()
-    ensures law { CoverHasItsCells 3 }
+    ensures law { CoverHasItsCells depth }
 {}
 
 /// Two lands share a cell exactly where a node of the one's cover and a node of the other's are related.
 pub fn lands_share_a_cell()
-    ensures law { LandsShareACell 3 }
+    ensures law { LandsShareACell depth }
 {}
 
 /// The test of two lands is that of their covers.
 pub fn meets_by_covers()
-    ensures law { MeetsByCovers 3 }
+    ensures law { MeetsByCovers depth }
 {}
 
 /// The test of cells is their equality.
@@ -51,25 +58,25 @@ pub fn same_cells_are_equal()
 
 /// The plant's list of cells has exactly the cells on the grid of the declared townships.
 pub fn plant_has_its_cells()
-    ensures law { PlantHasItsCells 3 }
+    ensures law { PlantHasItsCells depth }
 {}
 
 /// A land's list of cells has exactly the plant's cells that lie in it.
 pub fn list_has_the_cells()
-    ensures law { ListHasTheCells 3 }
+    ensures law { ListHasTheCells depth }
 {}
 
 /// A node's list of cells has exactly the plant's cells that lie in it.
 pub fn node_list_has_the_cells()
-    ensures law { NodeListHasTheCells 3 }
+    ensures law { NodeListHasTheCells depth }
 {}
 
 /// No node of a cover lies above another.
 pub fn cover_nodes_lie_apart()
-    ensures law { CoverNodesLieApart 3 }
+    ensures law { CoverNodesLieApart depth }
 {}
 
 /// The cover has a node with the cell exactly where the cell lies in the land, and the node found has it.
 pub fn cover_finds_the_node()
-    ensures law { CoverFindsTheNode 3 }
+    ensures law { CoverFindsTheNode depth }
 {}

@@ -4,8 +4,10 @@
 pub mod acres;
 pub mod cells;
 pub mod cover;
+pub mod doubled;
 pub mod grid;
 pub mod laws;
+pub mod lists;
 pub mod node;
 pub mod place;
 pub mod rectangle;
@@ -13,10 +15,12 @@ pub mod sharing;
 #[cfg(test)]
 mod tests;
 pub mod tract;
+pub mod walks;
 
 pub use acres::Acres;
 pub use cells::cells_of;
 pub use grid::Grid;
+pub use lists::{children_of, node_cells};
 pub use node::{Node, Within};
 pub use place::{Cell, Section, Township};
 pub use rectangle::{DEPTH, Half, Quarter, Rectangle, SIDE, Step};

@@ -1,20 +1,41 @@
 //! Nodes of the tree of tracts.
 
-ghost use Rattle.std.specs.Prelude.{◌≡◌, ◌<◌, ◌∷◌, length, Some};
-ghost use Rattle.title_land.specs.Nodes.{path, parent_of};
-ghost use Rattle.title_land.specs.Texts.{path_text, node_text};
+ghost use Rattle.std.specs.Prelude.{◌≡◌, ◌≤◌, ◌<◌, ◌∷◌, [], length, nat_le, Some, MatchOption};
+ghost use Rattle.title_land.specs.Depth.{depth};
+ghost use Rattle.title_land.specs.Nodes.{parent_of, IsNode};
+ghost use Rattle.title_land.specs.Texts.{path_text, quarters_text, node_text};
+ghost use Rattle.std.specs.Fmt.{WritesOnOk};
 
 use crate::place::{Section, Township};
-use crate::rectangle::Quarter;
+use crate::rectangle::{DEPTH, Quarter};
 use std::fmt;
+use std::marker::Model;
 
-/// A square part of a section, by its quarters, the innermost first.
+// The first number of a cell: the numbers below are those of larger squares.
+const FIRST_CELL: u16 = 1 << (2 * DEPTH);
+
+/// A square part of a section: the section itself, or a quarter of a larger square, down to one cell. A contract sees
+/// it as its quarters, the innermost first, as a description names them.
 #[derive(Clone, Copy, Debug, PartialEq, Eq, PartialOrd, Ord)]
-pub enum Within {
-    Whole,
-    Quarter(Quarter),
-    Sixteenth(Quarter, Quarter),
-    Cell(Quarter, Quarter, Quarter),
+pub struct Within {
+    // The section is 1, and the quarters of square n are 4 n to 4 n + 3.
+    number: u16,
+}
+
+impl Model for Within {
+    ghost use Rattle.std.specs.Prelude.{List};
+    ghost use Rattle.title_land.specs.declared.rectangle.Quarter.{Quarter};
+    ghost use Rattle.title_land.specs.Paths.{path_number, quarters_in, IsPathNumber};
+
+    ghost Value = { List Quarter };
+
+    ghost view = { λ w. quarters_in w.number };
+
+    ghost invariant = { λ w. IsPathNumber w.number };
+
+    ghost inverse = { λ quarters. record { number = path_number quarters } };
+
+    ghost inverse_ok = { λ w h. λ i. record { number = h i } };
 }
 
 /// A node of the tree of tracts: the whole plant, a township, or a section with its squares down to cells.
@@ -26,21 +47,70 @@ pub enum Node {
 }
 
 impl Within {
+    /// The whole section.
+    pub fn section() -> Within
+        ensures whole { result ≡ [] }
+    {
+        Within { number: 1 }
+    }
+
+    /// The square with these quarters, the innermost first; `None` exactly where they are more than the depth.
+    pub fn named(quarters: &[Quarter]) -> Option<Within>
+        ensures named { MatchOption result (depth < length quarters.now) (λ w. w ≡ quarters.now) }
+    {
+        let Some((which, outer)) = quarters.split_first() else {
+            return Some(Within::section());
+        };
+        let square = Within::named(outer)?;
+        if square.is_cell() {
+            return None;
+        }
+        Some(square.quarter(*which))
+    }
+
+    /// Whether it is a cell, which has no quarters.
+    pub fn is_cell(self) -> bool
+        ensures cell { result ≡ nat_le depth (length self) }
+    {
+        self.number >= FIRST_CELL
+    }
+
     /// A quarter of the square, which isn't a cell.
     pub fn quarter(self, which: Quarter) -> Within
-        requires wide { length (path self) < 3 }
-        ensures quarter { path result ≡ which ∷ path self }
+        requires wide { length self < depth }
+        ensures quarter { result ≡ which ∷ self }
     {
-        match self {
-            Within::Whole => Within::Quarter(which),
-            Within::Quarter(a) => Within::Sixteenth(which, a),
-            Within::Sixteenth(a, b) => Within::Cell(which, a, b),
-            Within::Cell(..) => unreachable!(),
+        Within {
+            number: self.number * 4 + which.number(),
         }
+    }
+
+    /// Which quarter it is, and of which square; `None` for the section itself.
+    pub fn split(self) -> Option<(Quarter, Within)>
+        ensures split { MatchOption result (self ≡ []) (λ p. self ≡ p.0 ∷ p.1) }
+        ensures short { length self ≤ depth }
+    {
+        if self.number < 4 {
+            return None;
+        }
+        let which = Quarter::numbered(self.number % 4);
+        let outer = Within {
+            number: self.number / 4,
+        };
+        Some((which, outer))
     }
 }
 
 impl Node {
+    /// It is a node of the tree: a square has no more quarters than the depth. The function does nothing: the type says so.
+    pub fn is_in_tree(&self)
+        ensures tree { IsNode depth self.now }
+    {
+        if let Node::Part(_, within) = self {
+            within.split();
+        }
+    }
+
     /// The node above; `None` for the whole plant alone.
     pub fn parent(self) -> Option<Node>
         ensures parent { result ≡ parent_of self }
@@ -48,29 +118,35 @@ impl Node {
         match self {
             Node::Everything => None,
             Node::Township(_) => Some(Node::Everything),
-            Node::Part(section, Within::Whole) => Some(Node::Township(section.township)),
-            Node::Part(section, Within::Quarter(_)) => Some(Node::Part(section, Within::Whole)),
-            Node::Part(section, Within::Sixteenth(_, b)) => {
-                Some(Node::Part(section, Within::Quarter(b)))
-            }
-            Node::Part(section, Within::Cell(_, b, c)) => {
-                Some(Node::Part(section, Within::Sixteenth(b, c)))
-            }
+            Node::Part(section, within) => match within.split() {
+                None => Some(Node::Township(section.township)),
+                Some((_, outer)) => Some(Node::Part(section, outer)),
+            },
         }
     }
 }
 
+// A square's quarters, one after another, the innermost first.
+fn write_quarters<W: fmt::Write>(within: Within, f: &mut fmt::Formatter<W>) -> fmt::Result
+    ensures writes { WritesOnOk W.write_str_gives f.old result (quarters_text within) f.new }
+{
+    if let Some((which, outer)) = within.split() {
+        write!(f, "{which}")?;
+        write_quarters(outer, f)?;
+    }
+    Ok(())
+}
+
 /// What it adds to its section's text: nothing for the whole, else a space and its quarters, the innermost first.
 impl fmt::Display for Within {
-    ghost output = { λ w. Some (path_text (path w)) };
+    ghost output = { λ w. Some (path_text w) };
 
     fn fmt<W: fmt::Write>(&self, f: &mut fmt::Formatter<W>) -> fmt::Result {
-        match self {
-            Within::Whole => Ok(()),
-            Within::Quarter(a) => write!(f, " {a}"),
-            Within::Sixteenth(a, b) => write!(f, " {a}{b}"),
-            Within::Cell(a, b, c) => write!(f, " {a}{b}{c}"),
+        if self.split().is_none() {
+            return Ok(());
         }
+        write!(f, " ")?;
+        write_quarters(*self, f)
     }
 }
 

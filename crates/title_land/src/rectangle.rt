@@ -1,17 +1,22 @@
 //! Rectangles of a section's cells, their halves and quarters.
 
-ghost use Rattle.std.specs.Prelude.{◌≡◌, ◌↔◌, IfSome, Some, true};
-ghost use Rattle.title_land.specs.Doubled.{APartDoubles};
-ghost use Rattle.title_land.specs.Rectangles.{half_of, quarter_of, step_of, is_even, holds, InSection, rectangles_meet, SharesCell};
+ghost use Rattle.std.specs.Prelude.{◌≡◌, ◌↔◌, ◌<◌, IfSome, Some, true};
+ghost use Rattle.title_land.specs.Depth.{depth};
+ghost use Rattle.title_land.specs.Paths.{quarter_number, quarter_at};
+ghost use Rattle.title_land.specs.Rectangles.{section_square, half_of, quarter_of, step_of, is_even};
+ghost use Rattle.title_land.specs.Rectangles.{holds, InSection, rectangles_meet, SharesCell};
 ghost use Rattle.title_land.specs.Texts.{quarter_text};
 
 use std::fmt;
 
 /// How often a section is quartered down to its cells.
-pub const DEPTH: u8 = 3;
+pub const DEPTH: u8 = 4;
 
-/// The cells on a section's side, 2 to the power of `DEPTH`.
-pub const SIDE: u8 = 8;
+/// The cells on a section's side.
+pub const SIDE: u8 = 1 << DEPTH;
+
+/// The rows of a section's cells, for an array's length.
+pub(crate) const ROWS: usize = 1 << DEPTH;
 
 /// A quarter of a square, in the order in which quarters are listed.
 #[derive(Clone, Copy, Debug, PartialEq, Eq, PartialOrd, Ord)]
@@ -20,6 +25,41 @@ pub enum Quarter {
     Northwest,
     Southwest,
     Southeast,
+}
+
+impl Quarter {
+    /// The quarters, in the order in which they are listed.
+    pub const ALL: [Quarter; 4] = [
+        Quarter::Northeast,
+        Quarter::Northwest,
+        Quarter::Southwest,
+        Quarter::Southeast,
+    ];
+
+    // Its place among the quarters.
+    pub(crate) fn number(self) -> u16
+        ensures number { result ≡ quarter_number self }
+    {
+        match self {
+            Quarter::Northeast => 0,
+            Quarter::Northwest => 1,
+            Quarter::Southwest => 2,
+            Quarter::Southeast => 3,
+        }
+    }
+
+    // The quarter at a place.
+    pub(crate) fn numbered(place: u16) -> Quarter
+        requires below { place < 4 }
+        ensures quarter { result ≡ quarter_at place }
+    {
+        match place {
+            0 => Quarter::Northeast,
+            1 => Quarter::Northwest,
+            2 => Quarter::Southwest,
+            _ => Quarter::Southeast,
+        }
+    }
 }
 
 /// Its name with its mark, as `NE1/4`.
@@ -69,18 +109,24 @@ fn even(n: u8) -> bool
 
 impl Rectangle {
     /// The whole section.
-    pub const SECTION: Rectangle = Rectangle {
-        top: 0,
-        left: 0,
-        height: SIDE,
-        width: SIDE,
-    };
+    pub fn section() -> Rectangle
+        ensures section { result ≡ section_square depth }
+        ensures inside { InSection depth result }
+    {
+        Rectangle {
+            top: 0,
+            left: 0,
+            height: SIDE,
+            width: SIDE,
+        }
+    }
 
     /// A half, the sides halved whether even or not.
+    #[tactic(auto, using(crate::proofs::Sides::side_fits))]
     pub fn half(self, which: Half) -> Rectangle
-        requires inside { InSection 3 self }
+        requires inside { InSection depth self }
         ensures half { result ≡ half_of which self }
-        ensures inside { InSection 3 result }
+        ensures inside { InSection depth result }
     {
         let Rectangle {
             top,
@@ -118,9 +164,9 @@ impl Rectangle {
 
     /// A quarter, the sides halved whether even or not.
     pub fn quarter(self, which: Quarter) -> Rectangle
-        requires inside { InSection 3 self }
+        requires inside { InSection depth self }
         ensures quarter { result ≡ quarter_of which self }
-        ensures inside { InSection 3 result }
+        ensures inside { InSection depth result }
     {
         match which {
             Quarter::Northeast => self.half(Half::East).half(Half::North),
@@ -132,9 +178,9 @@ impl Rectangle {
 
     /// The part that a step names; `None` exactly where a side that it halves is odd.
     pub fn step(self, step: Step) -> Option<Rectangle>
-        requires inside { InSection 3 self }
+        requires inside { InSection depth self }
         ensures step { result ≡ step_of step self }
-        ensures inside { IfSome result (InSection 3) }
+        ensures inside { IfSome result (InSection depth) }
     {
         let exists = match step {
             Step::Quarter(_) => even(self.height) && even(self.width),
@@ -151,8 +197,9 @@ impl Rectangle {
     }
 
     /// Whether a cell of the section lies in it.
+    #[tactic(auto, using(crate::proofs::Sides::side_fits))]
     pub fn holds(self, row: u8, column: u8) -> bool
-        requires inside { InSection 3 self }
+        requires inside { InSection depth self }
         ensures holds { result ≡ holds self row column }
     {
         self.top <= row
@@ -160,10 +207,12 @@ impl Rectangle {
             && self.left <= column
             && column < self.left + self.width
     }
+
     /// Whether they share a cell; an empty one shares none.
+    #[tactic(auto, using(crate::proofs::Sides::side_fits))]
     pub fn meets(self, other: Rectangle) -> bool
-        requires inside { InSection 3 self }
-        requires other_inside { InSection 3 other }
+        requires inside { InSection depth self }
+        requires other_inside { InSection depth other }
         ensures meets { result ≡ rectangles_meet self other }
         ensures shares { (result ≡ true) ↔ SharesCell self other }
     {
@@ -173,9 +222,3 @@ impl Rectangle {
             && self.left.max(other.left) < right.min(other_right)
     }
 }
-
-/// A law: a part that isn't too small is, in a section quartered once more, the same part with its sides doubled.
-/// The function does nothing: its clause is the law, proved.
-pub fn a_part_doubles()
-    ensures law { APartDoubles }
-{}

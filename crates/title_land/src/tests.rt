@@ -19,6 +19,10 @@ fn fifth(rt: &impl Abort) -> Section {
     Section::new(third_north(rt), 5).expect(rt, "the number is in range")
 }
 
+fn within(rt: &impl Abort, quarters: &[Quarter]) -> Within {
+    Within::named(quarters).expect(rt, "no more than four quarters")
+}
+
 fn tract_of(alloc: Global, rt: &impl Abort, grid: Grid) -> Result<Tract, Fail> {
     Ok(Tract::new(alloc, Land::Part(fifth(rt), grid))?)
 }
@@ -73,86 +77,128 @@ fn townships_and_sections_have_numbers(rt: HostRuntime) {
 }
 
 #[test]
-fn a_cell_lies_below_five_nodes(rt: HostRuntime) -> Result<(), Fail> {
+fn a_township_has_36_sections(rt: HostRuntime) {
+    let mut sections = third_north(&rt).sections();
+    for number in 1..37 {
+        let section = sections.next().expect(&rt, "a section more");
+        assert_eq!(rt; section.number, number);
+    }
+    assert!(rt; sections.next().is_none());
+}
+
+#[test]
+fn a_cell_lies_below_six_nodes(rt: HostRuntime) -> Result<(), Fail> {
     let alloc = rt.alloc();
-    let within = Within::Whole
-        .quarter(SOUTHEAST)
-        .quarter(SOUTHWEST)
-        .quarter(NORTHEAST);
-    let mut node = Node::Part(fifth(&rt), within);
+    let quarters = [NORTHEAST, SOUTHWEST, SOUTHEAST, NORTHEAST];
+    let node = Node::Part(fifth(&rt), within(&rt, &quarters));
     assert_eq!(rt;
         format!(in alloc; "{node}")?.as_str(),
-        "T3N R2W sec 5 NE1/4SW1/4SE1/4"
+        "T3N R2W sec 5 NE1/4SW1/4SE1/4NE1/4"
     );
+    let mut above = node.ancestors();
     for want in [
-        "T3N R2W sec 5 SW1/4SE1/4",
-        "T3N R2W sec 5 SE1/4",
+        "T3N R2W sec 5 SW1/4SE1/4NE1/4",
+        "T3N R2W sec 5 SE1/4NE1/4",
+        "T3N R2W sec 5 NE1/4",
         "T3N R2W sec 5",
         "T3N R2W",
         "everything",
     ] {
-        node = node.parent().expect(&rt, "a node above");
+        let node = above.next().expect(&rt, "a node above");
         assert_eq!(rt; format!(in alloc; "{node}")?.as_str(), want);
     }
-    assert_eq!(rt; node.parent(), None);
+    assert!(rt; above.next().is_none());
+    assert!(rt; Node::Everything.parent().is_none());
     let last = Township::new(99, false, 10, true).expect(&rt, "the numbers are in range");
     assert_eq!(rt; format!(in alloc; "{last}")?.as_str(), "T99S R10E");
     Ok(())
 }
 
 #[test]
+fn a_square_has_four_quarters_at_most(rt: HostRuntime) {
+    for (quarters, there) in [(0, true), (1, true), (4, true), (5, false)] {
+        assert_eq!(rt;
+            Within::named(&[SOUTHWEST; 5][..quarters]).is_some(),
+            there,
+            "{quarters} quarters"
+        );
+    }
+}
+
+#[test]
 fn a_strip_is_four_nodes(rt: HostRuntime) -> Result<(), Fail> {
     let alloc = rt.alloc();
-    let strip = Rectangle::SECTION.half(Half::West).half(Half::West);
-    let tract = tract_of(alloc, &rt, Grid::EMPTY.with(strip))?;
+    let strip = Rectangle::section().half(Half::West).half(Half::West);
+    let tract = tract_of(alloc, &rt, Grid::empty().with(strip))?;
     let nodes = [" NW1/4NW1/4", " SW1/4NW1/4", " NW1/4SW1/4", " SW1/4SW1/4"];
     assert_cover(alloc, &rt, &tract, &nodes)?;
     assert_acres(alloc, &rt, &tract, "160")
 }
 
-#[test]
-fn a_half_of_forty_acres_is_two_cells(rt: HostRuntime) -> Result<(), Fail> {
-    let alloc = rt.alloc();
-    let forty = Rectangle::SECTION.quarter(NORTHEAST).quarter(NORTHEAST);
-    let half = forty
+/// The north half of a square has these nodes and these acres.
+fn assert_north_half(
+    alloc: Global,
+    rt: &impl Abort,
+    quarters: &[Quarter],
+    nodes: &[&str],
+    acres: &str,
+) -> Result<(), Fail> {
+    let half = within(rt, quarters)
+        .square()
         .step(Step::Half(Half::North))
-        .expect(&rt, "a side of two cells");
-    let tract = tract_of(alloc, &rt, Grid::EMPTY.with(half))?;
-    assert_cover(
-        alloc,
-        &rt,
-        &tract,
-        &[" NE1/4NE1/4NE1/4", " NW1/4NE1/4NE1/4"],
-    )?;
-    assert_acres(alloc, &rt, &tract, "20")?;
-    assert_eq!(rt;
-        forty.quarter(NORTHEAST).step(Step::Half(Half::North)),
-        None
-    );
+        .expect(rt, "a side of two cells");
+    let tract = tract_of(alloc, rt, Grid::of(half))?;
+    assert_cover(alloc, rt, &tract, nodes)?;
+    assert_acres(alloc, rt, &tract, acres)
+}
+
+#[test]
+fn a_half_of_ten_acres_is_two_cells(rt: HostRuntime) -> Result<(), Fail> {
+    let alloc = rt.alloc();
+    let two_tens = [" NE1/4NE1/4NE1/4", " NW1/4NE1/4NE1/4"];
+    assert_north_half(alloc, &rt, &[NORTHEAST; 2], &two_tens, "20")?;
+    let two_cells = [" NE1/4NE1/4NE1/4NE1/4", " NW1/4NE1/4NE1/4NE1/4"];
+    assert_north_half(alloc, &rt, &[NORTHEAST; 3], &two_cells, "5")?;
+    let cell = within(&rt, &[NORTHEAST; 4]).square();
+    assert_eq!(rt; cell.step(Step::Half(Half::North)), None);
     Ok(())
+}
+
+#[test]
+fn a_cell_has_two_and_a_half_acres(rt: HostRuntime) -> Result<(), Fail> {
+    let alloc = rt.alloc();
+    let cell = within(&rt, &[NORTHEAST; 4]).square();
+    let northeast = " NE1/4NE1/4NE1/4NE1/4";
+    let tract = tract_of(alloc, &rt, Grid::of(cell))?;
+    assert_cover(alloc, &rt, &tract, &[northeast])?;
+    assert_acres(alloc, &rt, &tract, "2.5")?;
+    let west = Rectangle::section().half(Half::West);
+    let united = tract_of(alloc, &rt, Grid::of(cell).with(west))?;
+    assert_cover(alloc, &rt, &united, &[northeast, " NW1/4", " SW1/4"])?;
+    assert_acres(alloc, &rt, &united, "322.5")
 }
 
 #[test]
 fn parts_are_united(rt: HostRuntime) -> Result<(), Fail> {
     let alloc = rt.alloc();
     let (northeast, southeast) = (
-        Rectangle::SECTION.quarter(NORTHEAST),
-        Rectangle::SECTION.quarter(SOUTHEAST),
+        Rectangle::section().quarter(NORTHEAST),
+        Rectangle::section().quarter(SOUTHEAST),
     );
     let (north, south) = (
-        Rectangle::SECTION.half(Half::North),
-        Rectangle::SECTION.half(Half::South),
+        Rectangle::section().half(Half::North),
+        Rectangle::section().half(Half::South),
     );
     assert!(rt; northeast.meets(north));
     assert!(rt; !northeast.meets(southeast));
     assert!(rt; !north.meets(south));
-    let east = tract_of(alloc, &rt, Grid::EMPTY.with(northeast).with(southeast))?;
+    let east = tract_of(alloc, &rt, Grid::empty().with(northeast).with(southeast))?;
     assert_cover(alloc, &rt, &east, &[" NE1/4", " SE1/4"])?;
     assert_acres(alloc, &rt, &east, "320")?;
-    let all = tract_of(alloc, &rt, Grid::EMPTY.with(north).with(south))?;
+    let all = tract_of(alloc, &rt, Grid::empty().with(north).with(south))?;
     assert_cover(alloc, &rt, &all, &[""])?;
     assert_acres(alloc, &rt, &all, "640")?;
-    assert_eq!(rt; all.land(), Land::Part(fifth(&rt), Grid::FULL));
+    assert_eq!(rt; all.land(), Land::Part(fifth(&rt), Grid::full()));
     Ok(())
 }
 
@@ -164,17 +210,17 @@ fn tracts_share_cells(rt: HostRuntime) -> Result<(), Fail> {
     let quarter = tract_of(
         alloc,
         &rt,
-        Grid::EMPTY.with(Rectangle::SECTION.quarter(NORTHEAST)),
+        Grid::empty().with(Rectangle::section().quarter(NORTHEAST)),
     )?;
     let township = Tract::new(alloc, Land::Township(third_north(&rt)))?;
-    let neighbour = Tract::new(alloc, Land::Part(other, Grid::FULL))?;
+    let neighbour = Tract::new(alloc, Land::Part(other, Grid::full()))?;
     let everything = Tract::new(alloc, Land::Everything)?;
     for (row, column, there) in [
-        (0, 4, true),
-        (3, 7, true),
-        (4, 3, false),
-        (0, 3, false),
-        (4, 7, false),
+        (0, 8, true),
+        (7, 15, true),
+        (8, 7, false),
+        (0, 7, false),
+        (8, 15, false),
     ] {
         let cell = Cell {
             section,

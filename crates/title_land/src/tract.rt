@@ -1,19 +1,22 @@
 //! Tracts.
 
-ghost use Rattle.std.specs.Prelude.{◌≡◌, ◌↔◌, IfOk, true};
+ghost use Rattle.std.specs.Prelude.{◌≡◌, ◌↔◌, ◌≤◌, IfOk, IfSome, true, length};
+ghost use Rattle.title_land.specs.Depth.{depth};
 ghost use Rattle.title_land.specs.declared.tract.Land.{Land};
 ghost use Rattle.title_land.specs.CoverSets.{IsCover};
 ghost use Rattle.title_land.specs.Acres.{half_acres_of};
-ghost use Rattle.title_land.specs.Lands.{has, cover_of, meets, Meets, IsLand};
+ghost use Rattle.title_land.specs.Nodes.{IsNode};
+ghost use Rattle.title_land.specs.Lands.{has, cover_of, land_of, meets, Meets, IsLand};
 
 use crate::acres::{CELL_HALF_ACRES, TOWNSHIP_HALF_ACRES};
-use crate::cover::add_cover;
+use crate::cover::{cover_of, sole_square};
 use crate::grid::Grid;
-use crate::node::{Node, Within};
+use crate::node::Node;
 use crate::place::{Cell, Section, Township};
-use crate::rectangle::{DEPTH, Rectangle};
 use std::alloc::{AllocError, Global};
 use std::marker::Model;
+use std::slice;
+use std::sync::Arc;
 
 /// What a tract is: every cell, a township, or a set of one section's cells.
 #[derive(Clone, Copy, Debug, PartialEq, Eq)]
@@ -24,55 +27,61 @@ pub enum Land {
 }
 
 impl Land {
-    /// A part's set is as large as its section's grid. It does nothing: its type says so, and a proof may cite it.
-    pub fn is_sized(self)
-        ensures sized { IsLand 3 self }
+    /// The land that has a node's cells.
+    pub fn of(node: Node) -> Land
+        ensures of { result ≡ land_of depth node }
+        ensures sized { IsLand depth result }
+        ensures tree { IsNode depth node }
     {
-        if let Land::Part(_, grid) = self {
-            grid.is_sized();
+        match node {
+            Node::Everything => Land::Everything,
+            Node::Township(township) => Land::Township(township),
+            Node::Part(section, within) => Land::Part(section, Grid::of(within.square())),
         }
     }
 }
 
-/// A set of cells, with its cover. A contract sees it as its `Land`.
+// A set of a section's cells beside its cover.
 #[derive(Debug, Drop)]
-pub struct Tract {
-    land: Land,
+struct Shape {
+    cells: Grid,
     cover: Vec<Node>,
 }
 
+// What a tract keeps: the one node of its cover, or a shared set.
+#[derive(Debug, Drop)]
+enum Extent {
+    Node(Node),
+    Shape(Section, Arc<Shape>),
+}
+
+/// A set of cells, with its cover. A contract sees it as its `Land`. A tract that is a node takes no memory; copies of
+/// any other share what it keeps.
+#[derive(Debug)]
+pub struct Tract {
+    extent: Extent,
+}
+
+// Written out so that a caller's paths don't part where it lets a tract go.
+impl Drop for Tract {
+    fn drop(self) {
+        let Tract { extent } = self;
+        drop(extent);
+    }
+}
+
 impl Model for Tract {
+    ghost use Rattle.title_land.specs.declared.tract.Land.{Land};
+    ghost use Rattle.title_land.specs.Extents.{kept_land, IsExtent};
+
     ghost Value = { Land };
 
-    ghost view = { λ t. t.land };
+    ghost view = { λ t. kept_land t.extent };
 
-    ghost invariant = { λ t. t.cover.items ≡ cover_of 3 t.land };
+    ghost invariant = { λ t. IsExtent t.extent };
 }
 
-/// The nodes that list a land.
-#[tactic(auto, unfolding(crate::specs::Lands::cover_of))]
-fn cover_land(alloc: Global, land: Land) -> Result<Vec<Node>, AllocError>
-    ensures cover { IfOk result (λ nodes. nodes.items ≡ cover_of 3 land) }
-{
-    let mut nodes = Vec::new(alloc);
-    match land {
-        Land::Everything => nodes.push(Node::Everything)?,
-        Land::Township(township) => nodes.push(Node::Township(township))?,
-        Land::Part(section, grid) => {
-            add_cover(
-                &grid,
-                section,
-                DEPTH,
-                Within::Whole,
-                Rectangle::SECTION,
-                &mut nodes,
-            )?;
-        }
-    }
-    Ok(nodes)
-}
-
-/// Whether two lands share a cell.
+// Whether two lands share a cell.
 #[tactic(auto, unfolding(crate::specs::Lands::meets))]
 fn lands_meet(a: &Land, b: &Land) -> bool
     ensures meets { result ≡ meets a.now b.now }
@@ -90,27 +99,56 @@ fn lands_meet(a: &Land, b: &Land) -> bool
 }
 
 impl Tract {
+    /// The tract that has a node's cells. Takes no memory.
+    pub fn of(node: Node) -> Tract
+        ensures of { result ≡ land_of depth node }
+    {
+        node.is_in_tree();
+        Tract {
+            extent: Extent::Node(node),
+        }
+    }
+
     /// The tract of this land.
     pub fn new(alloc: Global, land: Land) -> Result<Tract, AllocError>
         ensures new { IfOk result (λ t. t ≡ land) }
     {
-        let cover = cover_land(alloc, land)?;
-        Ok(Tract { land, cover })
+        let (section, cells) = match land {
+            Land::Everything => return Ok(Tract::of(Node::Everything)),
+            Land::Township(township) => return Ok(Tract::of(Node::Township(township))),
+            Land::Part(section, cells) => (section, cells),
+        };
+        if let Some(within) = sole_square(&cells) {
+            return Ok(Tract::of(Node::Part(section, within)));
+        }
+        let cover = cover_of(alloc, section, &cells)?;
+        let shape = Arc::new(alloc, Shape { cells, cover })?;
+        Ok(Tract {
+            extent: Extent::Shape(section, shape),
+        })
     }
 
     /// The land of the tract.
     pub fn land(&self) -> Land
         ensures land { result ≡ self.now }
+        ensures sized { IsLand depth self.now }
     {
-        self.land
+        match &self.extent {
+            Extent::Node(node) => Land::of(*node),
+            Extent::Shape(section, shape) => Land::Part(*section, shape.cells),
+        }
     }
 
     /// The nodes whose cells all lie in the tract and whose parent's don't, in order.
     pub fn cover(&self) -> &[Node]
-        ensures cover { result.now ≡ cover_of 3 self.now }
-        ensures set { IsCover 3 self.now result.now }
+        ensures cover { result.now ≡ cover_of depth self.now }
+        ensures set { IsCover depth self.now result.now }
+        ensures sized { IsLand depth self.now }
     {
-        self.cover.as_slice()
+        match &self.extent {
+            Extent::Node(node) => slice::from_ref(node),
+            Extent::Shape(_, shape) => shape.cover.as_slice(),
+        }
     }
 
     /// Whether a cell lies in the tract.
@@ -118,11 +156,10 @@ impl Tract {
     pub fn has_cell(&self, cell: Cell) -> bool
         ensures has { result ≡ has self.now cell }
     {
-        match &self.land {
-            Land::Everything => true,
-            Land::Township(township) => township.is(cell.section.township),
-            Land::Part(section, grid) => {
-                section.is(cell.section) && grid.has(cell.row, cell.column)
+        match &self.extent {
+            Extent::Node(node) => node.has(cell),
+            Extent::Shape(section, shape) => {
+                section.is(cell.section) && shape.cells.has(cell.row, cell.column)
             }
         }
     }
@@ -130,33 +167,35 @@ impl Tract {
     /// Whether the tracts share a cell.
     pub fn meets(&self, other: &Tract) -> bool
         ensures meets { result ≡ meets self.now other.now }
-        ensures shares { (result ≡ true) ↔ Meets 3 self.now other.now }
+        ensures shares { (result ≡ true) ↔ Meets depth self.now other.now }
     {
-        self.land.is_sized();
-        other.land.is_sized();
-        lands_meet(&self.land, &other.land)
-    }
-
-    /// Its nominal acres, in half acres: 20 for each of its cells. `None` for the whole plant alone, whose cells
-    /// aren't numbered.
-    pub fn half_acres(&self) -> Option<u32>
-        ensures half_acres { result ≡ half_acres_of 3 self.now }
-    {
-        match &self.land {
-            Land::Everything => None,
-            Land::Township(_) => Some(TOWNSHIP_HALF_ACRES),
-            Land::Part(_, grid) => Some(grid.cell_count() * CELL_HALF_ACRES),
+        match (&self.extent, &other.extent) {
+            (Extent::Node(a), Extent::Node(b)) => a.meets(*b),
+            _ => lands_meet(&self.land(), &other.land()),
         }
     }
 
-    /// An equal tract.
-    pub fn copy(&self, alloc: Global) -> Result<Tract, AllocError>
+    /// Its nominal acres, in half acres: 5 for each of its cells. `None` for the whole plant alone, whose cells
+    /// aren't numbered.
+    pub fn half_acres(&self) -> Option<u32>
+        ensures half_acres { result ≡ half_acres_of depth self.now }
+    {
+        match &self.land() {
+            Land::Everything => None,
+            Land::Township(_) => Some(TOWNSHIP_HALF_ACRES),
+            Land::Part(_, cells) => Some(cells.cell_count() * CELL_HALF_ACRES),
+        }
+    }
+
+    /// An equal tract, which shares what this one keeps. Takes no memory; refused, as for want of memory, where
+    /// 2^63 - 1 copies share already.
+    pub fn copy(&self, _alloc: Global) -> Result<Tract, AllocError>
         ensures copy { IfOk result (λ t. t ≡ self.now) }
     {
-        let cover = Vec::from_slice(alloc, &self.cover)?;
-        Ok(Tract {
-            land: self.land,
-            cover,
-        })
+        let extent = match &self.extent {
+            Extent::Node(node) => Extent::Node(*node),
+            Extent::Shape(section, shape) => Extent::Shape(*section, shape.clone()?),
+        };
+        Ok(Tract { extent })
     }
 }

@@ -1,11 +1,12 @@
 -- Nodes: the test of sameness is equality, and what lies above a node is its parent and what lies above that.
-use Rattle.std.proofs.Common.{◌≡◌, ◌<◌, ◌≤◌, ℕ, true, false, List, [], ◌∷◌, length, Some, sym, ap, subst, arith, inl, inr}
+use Rattle.std.proofs.Common.{◌≡◌, ◌+◌, ◌<◌, ◌≤◌, ℕ, suc, true, false, List, [], ◌∷◌, ◌++◌, length, Some, refl, sym, ap, subst, arith, inl, inr}
 use Rattle.std.specs.List.{list_any}
 use Rattle.std.proofs.lemmas.Bool.{or_cases, false_from_ne_true, both_ways}
-use Rattle.title_land.specs.declared.node.Within.TheVariants as within
+use Rattle.title_land.specs.declared.place.Section.{Section}
+use Rattle.title_land.specs.declared.rectangle.Quarter.{Quarter}
 use Rattle.title_land.specs.declared.node.Node.{Node}
 use Rattle.title_land.specs.declared.node.Node.TheVariants as node
-use Rattle.title_land.specs.Nodes.{same_node, parent_of, above, is_above}
+use Rattle.title_land.specs.Nodes.{same_node, parent_of, above_in, above, is_above}
 use Rattle.title_land.proofs.SameNode.{same_node-is, same_node-self}
 use Rattle.title_land.proofs.CoverSet.{above_by_parent}
 
@@ -23,15 +24,6 @@ same_turned n c h =
 pub above_of : (p c : Node) → Some c ≡ parent_of p → above p ≡ c ∷ above c
 above_of p c h = above_by_parent.1 p c (sym h)
 
--- at most five nodes lie above a node
-pub above_short : (p : Node) → length (above p) ≤ 5
-above_short node.Everything = omega arith
-above_short (node.Township t) = omega arith
-above_short (node.Part s within.Whole) = omega arith
-above_short (node.Part s (within.Quarter x)) = omega arith
-above_short (node.Part s (within.Sixteenth x y)) = omega arith
-above_short (node.Part s (within.Cell x y z)) = omega arith
-
 -- each node of a list has fewer nodes above it than so many
 abbrev AllHigher : ℕ → List Node → Type 0
 AllHigher k [] = Unit {0}
@@ -45,13 +37,29 @@ higher_any k n (c ∷ nodes) h any =
       | inr more ↦ higher_any k n nodes h.1 more
     ]
 
+higher_more : (j k : ℕ) (nodes : List Node) → j ≤ k → AllHigher j nodes → AllHigher k nodes
+higher_more j k [] l h = tt
+higher_more j k (c ∷ nodes) l h = (omega (arith, h.0), higher_more j k nodes l h.1)
+
+-- the nodes above a square are as many as its quarters, and two
+abbrev above_square : Section → List Quarter → List Node
+above_square s q = above_in s q ++ (node.Township s.township ∷ node.Everything ∷ [])
+
+above_long : (s : Section) (q : List Quarter) → length (above_square s q) ≡ length q + 2
+above_long s [] = refl
+above_long s (a ∷ q) = omega (arith, above_long s q)
+
+square_higher : (s : Section) (q : List Quarter) → AllHigher (length q + 2) (above_square s q)
+square_higher s [] = (omega arith, (omega arith, tt))
+square_higher s (a ∷ q) = (
+  omega (arith, above_long s q),
+  higher_more (length q + 2) (suc (length q) + 2) (above_square s q) (omega arith) (square_higher s q),
+)
+
 above_higher : (p : Node) → AllHigher (length (above p)) (above p)
 above_higher node.Everything = tt
 above_higher (node.Township t) = (omega arith, tt)
-above_higher (node.Part s within.Whole) = (omega arith, (omega arith, tt))
-above_higher (node.Part s (within.Quarter x)) = (omega arith, (omega arith, (omega arith, tt)))
-above_higher (node.Part s (within.Sixteenth x y)) = (omega arith, (omega arith, (omega arith, (omega arith, tt))))
-above_higher (node.Part s (within.Cell x y z)) = (omega arith, (omega arith, (omega arith, (omega arith, (omega arith, tt)))))
+above_higher (node.Part s q) = subst (λ (k : ℕ). AllHigher k (above_square s q)) (sym (above_long s q)) (square_higher s q)
 
 -- a node doesn't lie above itself
 pub above_apart : (n c : Node) → same_node n c ≡ true → is_above n c ≡ false

@@ -1,6 +1,7 @@
 //! Who has asked for which tract, and who is in whose way.
 
 ghost use Rattle.std.specs.Prelude.{◌≡◌, List, [], ◌∷◌, OnOk, OnErr, IfErr};
+ghost use Rattle.title_land.specs.Depth.{depth};
 ghost use Rattle.title_lock.specs.declared.guards.Entry.{Entry};
 ghost use Rattle.title_lock.specs.Overlaps.{is_post, Stands, RefusedBy, without};
 ghost use Rattle.title_lock.specs.Asking.{mode_at};
@@ -64,6 +65,6 @@ pub trait Guards {
         ensures left { entries self.new ≡ without examiner (entries self.old) };
 
     /// The mode of an examiner at a node: the least upper bound of all that its entries ask there. Takes no memory.
-    fn mode(&self, examiner: u32, node: Node) -> Option<Mode>
-        ensures mode { result ≡ mode_at 3 (entries self.now) examiner node };
+    fn mode(&self, examiner: u32, node: &Node) -> Option<Mode>
+        ensures mode { result ≡ mode_at depth (entries self.now) examiner node.now };
 }

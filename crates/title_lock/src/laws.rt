@@ -1,6 +1,7 @@
 //! Laws of the definitions. Each function does nothing: its clause is the law, proved.
 
 ghost use Rattle.title_lock.specs.Modes.{BoundStandsBeside};
+ghost use Rattle.title_land.specs.Depth.{depth};
 ghost use Rattle.title_lock.specs.Asking.{ModesDecideOverlap, LeftAreGranted};
 
 /// The law of the two tables: a mode stands beside the bound of two modes exactly where it stands beside both.
@@ -11,10 +12,10 @@ pub fn bound_stands_beside()
 /// The law that joins modes and cells: an entry is granted by modes at every node exactly where no other examiner's
 /// entry overlaps it, given that every entry there was itself so granted.
 pub fn modes_decide_overlap()
-    ensures law { ModesDecideOverlap 3 }
+    ensures law { ModesDecideOverlap depth }
 {}
 
 /// What is left when an examiner gives its locks back was granted entry by entry, too.
 pub fn left_are_granted()
-    ensures law { LeftAreGranted 3 }
+    ensures law { LeftAreGranted depth }
 {}

@@ -1,6 +1,7 @@
 //! Locks as a table of the holders of each node.
 
 ghost use Rattle.std.specs.Prelude.{◌≡◌, ℕ, List, None, ◌==◌, ◌&&◌, if◌then◌else◌};
+ghost use Rattle.title_land.specs.Depth.{depth};
 ghost use Rattle.std.specs.List.{list_any};
 ghost use Rattle.title_land.specs.declared.node.Node.{Node};
 ghost use Rattle.title_lock.specs.declared.guards.Entry.{Entry};
@@ -29,14 +30,14 @@ impl Model for RowLocks {
 
     ghost view = { λ l. l.book };
 
-    ghost invariant = { λ l. TableIs 3 l.book l.table };
+    ghost invariant = { λ l. TableIs depth l.book l.table };
 }
 
 /// Takes out an examiner's entries, and the examiner out of the holders of all nodes that they ask for.
 fn give_back_all(table: &mut Table, book: &mut Book, examiner: u32)
     ensures left { book.new ≡ without examiner book.old }
     ensures modes { (f : ℕ) → (n : Node) → table_mode table.new f n
-        ≡ (if f == examiner && list_any (is_asked_by 3 examiner n) book.old then None else table_mode table.old f n) }
+        ≡ (if f == examiner && list_any (is_asked_by depth examiner n) book.old then None else table_mode table.old f n) }
 {
     while let Some(entry) = book.take(examiner) {
         table.release_all(examiner, entry.tract.cover());
@@ -55,7 +56,6 @@ impl Guards for RowLocks {
     }
 
     fn would(&self, examiner: u32, tract: &Tract, access: Access) -> Option<u32> {
-        tract.land().is_sized();
         self.table.ways(examiner, tract.cover(), access)
     }
 
@@ -63,7 +63,6 @@ impl Guards for RowLocks {
         if let Some(other) = self.would(examiner, tract, access) {
             return Err(LockFault::Conflict(other));
         }
-        tract.land().is_sized();
         let Ok(copy) = tract.copy(self.alloc) else {
             return Err(LockFault::Memory);
         };
@@ -87,7 +86,7 @@ impl Guards for RowLocks {
         give_back_all(&mut self.table, &mut self.book, examiner);
     }
 
-    fn mode(&self, examiner: u32, node: Node) -> Option<Mode> {
+    fn mode(&self, examiner: u32, node: &Node) -> Option<Mode> {
         self.table.mode(examiner, node)
     }
 }

@@ -1,12 +1,10 @@
 //! Locks in section 5 of T3N R2W, call by call.
 
-ghost use Rattle.title_land.specs.Rectangles.{InSection};
-
 use crate::laws::{bound_stands_beside, left_are_granted, modes_decide_overlap};
 use crate::*;
 use std::alloc::Global;
 use std::test::Fail;
-use title_land::{Grid, Land, Node, Quarter, Rectangle, Section, Township, Tract, Within};
+use title_land::{Grid, Half, Land, Node, Quarter, Rectangle, Section, Township, Tract, Within};
 
 const NORTHEAST: Quarter = Quarter::Northeast;
 
@@ -20,56 +18,63 @@ fn section() -> Result<Section, Fail> {
     Ok(Section::new(township()?, 5).ok_or("a section")?)
 }
 
-fn part(alloc: Global, area: Rectangle) -> Result<Tract, Fail>
-    requires inside { InSection 3 area }
-{
-    let land = Land::Part(section()?, Grid::EMPTY.with(area));
-    Ok(Tract::new(alloc, land)?)
+// the square of the section with these quarters, the innermost first
+fn square(quarters: &[Quarter]) -> Result<Node, Fail> {
+    let within = Within::named(quarters).ok_or("four quarters at most")?;
+    Ok(Node::Part(section()?, within))
 }
 
-fn quarter(alloc: Global, which: Quarter) -> Result<Tract, Fail> {
-    part(alloc, Rectangle::SECTION.quarter(which))
+fn quarter(which: Quarter) -> Result<Tract, Fail> {
+    Ok(Tract::of(square(&[which])?))
 }
 
-// a cell of the northeast quarter's northeast quarter
-fn cell(alloc: Global, which: Quarter) -> Result<Tract, Fail> {
-    let outer = Rectangle::SECTION.quarter(NORTHEAST).quarter(NORTHEAST);
-    part(alloc, outer.quarter(which))
+// a cell of the section's corner in the northeast
+fn cell(which: Quarter) -> Result<Tract, Fail> {
+    let quarters = [which, NORTHEAST, NORTHEAST, NORTHEAST];
+    Ok(Tract::of(square(&quarters)?))
 }
 
 fn east_half(alloc: Global) -> Result<Tract, Fail> {
-    let north = Grid::EMPTY.with(Rectangle::SECTION.quarter(NORTHEAST));
-    let both = north.with(Rectangle::SECTION.quarter(SOUTHEAST));
-    Ok(Tract::new(alloc, Land::Part(section()?, both))?)
+    let cells = Grid::of(Rectangle::section().half(Half::East));
+    Ok(Tract::new(alloc, Land::Part(section()?, cells))?)
 }
 
 // the nodes from the whole plant down to the cell in the section's northeast corner
-fn corner_nodes() -> Result<[Node; 6], Fail> {
-    let section = section()?;
+fn corner_nodes() -> Result<[Node; 7], Fail> {
+    let northeast = [NORTHEAST; 4];
     Ok([
         Node::Everything,
-        Node::Township(section.township),
-        Node::Part(section, Within::Whole),
-        Node::Part(section, Within::Quarter(NORTHEAST)),
-        Node::Part(section, Within::Sixteenth(NORTHEAST, NORTHEAST)),
-        Node::Part(section, Within::Cell(NORTHEAST, NORTHEAST, NORTHEAST)),
+        Node::Township(township()?),
+        square(&[])?,
+        square(&northeast[..1])?,
+        square(&northeast[..2])?,
+        square(&northeast[..3])?,
+        square(&northeast)?,
     ])
 }
 
 // examiner 1 has read the northeast quarter and posts in its corner
 fn first_examiner(alloc: Global) -> Result<RowLocks, Fail> {
     let mut locks = RowLocks::new(alloc);
-    locks.ask(1, &quarter(alloc, NORTHEAST)?, Access::Read)?;
-    locks.ask(1, &cell(alloc, NORTHEAST)?, Access::Post)?;
+    locks.ask(1, &quarter(NORTHEAST)?, Access::Read)?;
+    locks.ask(1, &cell(NORTHEAST)?, Access::Post)?;
     Ok(locks)
 }
 
 #[test]
 fn a_post_in_what_is_read(rt: HostRuntime) -> Result<(), Fail> {
     let locks = first_examiner(rt.alloc())?;
-    let wanted = [Mode::Ix, Mode::Ix, Mode::Ix, Mode::Six, Mode::Ix, Mode::X];
+    let wanted = [
+        Mode::Ix,
+        Mode::Ix,
+        Mode::Ix,
+        Mode::Six,
+        Mode::Ix,
+        Mode::Ix,
+        Mode::X,
+    ];
     for (node, mode) in corner_nodes()?.iter().zip(wanted) {
-        assert_eq!(rt; locks.mode(1, *node), Some(mode), "at {node}");
+        assert_eq!(rt; locks.mode(1, node), Some(mode), "at {node}");
     }
     Ok(())
 }
@@ -78,16 +83,12 @@ fn a_post_in_what_is_read(rt: HostRuntime) -> Result<(), Fail> {
 fn a_second_examiner(rt: HostRuntime) -> Result<(), Fail> {
     let alloc = rt.alloc();
     let mut locks = first_examiner(alloc)?;
-    let whole = part(alloc, Rectangle::SECTION)?;
+    let whole = Tract::of(square(&[])?);
     assert_eq!(rt; locks.would(2, &whole, Access::Read), Some(1));
-    assert_eq!(rt;
-        locks.would(2, &cell(alloc, SOUTHEAST)?, Access::Read),
-        None
-    );
+    assert_eq!(rt; locks.would(2, &cell(SOUTHEAST)?, Access::Read), None);
     let refused = locks.ask(2, &east_half(alloc)?, Access::Post);
     assert_eq!(rt; refused, Err(LockFault::Conflict(1)));
-    let southeast = Node::Part(section()?, Within::Quarter(SOUTHEAST));
-    assert_eq!(rt; locks.mode(2, southeast), None);
+    assert_eq!(rt; locks.mode(2, &square(&[SOUTHEAST])?), None);
     Ok(())
 }
 
@@ -96,10 +97,10 @@ fn the_least_examiner_in_the_way(rt: HostRuntime) -> Result<(), Fail> {
     let alloc = rt.alloc();
     let mut locks = first_examiner(alloc)?;
     locks.give_back(1);
-    for node in corner_nodes()? {
+    for node in &corner_nodes()? {
         assert_eq!(rt; locks.mode(1, node), None, "at {node}");
     }
-    let northeast = quarter(alloc, NORTHEAST)?;
+    let northeast = quarter(NORTHEAST)?;
     locks.ask(3, &northeast, Access::Read)?;
     locks.ask(2, &northeast, Access::Read)?;
     let refused = locks.ask(5, &northeast, Access::Post);
@@ -110,7 +111,7 @@ fn the_least_examiner_in_the_way(rt: HostRuntime) -> Result<(), Fail> {
 #[test]
 fn another_keeps_its_lock(rt: HostRuntime) -> Result<(), Fail> {
     let alloc = rt.alloc();
-    let northeast = quarter(alloc, NORTHEAST)?;
+    let northeast = quarter(NORTHEAST)?;
     let mut locks = RowLocks::new(alloc);
     locks.ask(2, &northeast, Access::Read)?;
     locks.ask(3, &northeast, Access::Read)?;
@@ -124,11 +125,11 @@ fn another_keeps_its_lock(rt: HostRuntime) -> Result<(), Fail> {
 #[test]
 fn a_refused_growth_leaves_no_lock(rt: HostRuntime) -> Result<(), Fail> {
     let alloc = rt.alloc();
-    let northeast = quarter(alloc, NORTHEAST)?;
+    let northeast = quarter(NORTHEAST)?;
     let mut locks = RowLocks::new(alloc);
     if let Err(fault) = locks.ask(1, &northeast, Access::Post) {
         assert_eq!(rt; fault, LockFault::Memory);
-        for node in corner_nodes()? {
+        for node in &corner_nodes()? {
             assert_eq!(rt; locks.mode(1, node), None, "at {node}");
         }
         assert_eq!(rt; locks.would(2, &northeast, Access::Post), None);

@@ -1,5 +1,6 @@
 -- Declarations: a township, a party.
 use Rattle.std.specs.Prelude.{◌≡◌, ℕ, ◌||◌, List, [], ◌∷◌, ◌++◌, length, nat_le, Result, Ok, Err, cond, ◌⊎◌}
+use Rattle.title_land.specs.Depth.{depth}
 use Rattle.std.specs.List.{list_any}
 use Rattle.std.specs.Str.{bytes_eq}
 use Rattle.title_device.specs.declared.fault.RunFault.{RunFault}
@@ -22,8 +23,8 @@ with_township n asked t =
 -- a text declares the township that it describes as a whole; one that describes none is at fault
 abbrev pub AfterTownship : ℕ → Asked → List ℕ → Result Asked RunFault → Type 0
 AfterTownship n asked text result =
-    ((t : Township) × Describes 3 text (land.Township t) × (result ≡ with_township n asked t))
-    ⊎ (((t : Township) → Describes 3 text (land.Township t) → ⊥) × (result ≡ Err (fault.Row n)))
+    ((t : Township) × Describes depth text (land.Township t) × (result ≡ with_township n asked t))
+    ⊎ (((t : Township) → Describes depth text (land.Township t) → ⊥) × (result ≡ Err (fault.Row n)))
 
 -- the n-th row declares a party: at fault where 65,536 have a number, after the first step, or where the name is there
 -- already

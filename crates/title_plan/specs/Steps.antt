@@ -1,5 +1,6 @@
 -- Step rows: what each asks of the desk, or the fault of its description.
 use Rattle.std.specs.Prelude.{◌≡◌, ℕ, ◌==◌, not, Bool, false, List, [], ◌∷◌, ◌++◌, Option, Some, None, Result, Ok, Err}
+use Rattle.title_land.specs.Depth.{depth}
 use Rattle.std.specs.List.{position}
 use Rattle.std.specs.Str.{bytes_eq}
 use Rattle.title_device.specs.declared.fault.RunFault.{RunFault}
@@ -32,8 +33,8 @@ with_line asked added inside =
 
 -- the step of an examiner whose tract a text describes: it asks, or has the text's fault
 abbrev pub IsLineOf : ℕ → (Land → Ask) → List ℕ → Line → Type 0
-IsLineOf e asks text (line.Asks q) = (l : Land) × Describes 3 text l × (q ≡ request.Step e (asks l))
-IsLineOf e asks text (line.Described f why) = (f ≡ e) × FaultOf 3 text why
+IsLineOf e asks text (line.Asks q) = (l : Land) × Describes depth text l × (q ≡ request.Step e (asks l))
+IsLineOf e asks text (line.Described f why) = (f ≡ e) × FaultOf depth text why
 
 -- after a step row with a text
 abbrev pub AfterStep : Asked → ℕ → (Land → Ask) → List ℕ → Result Asked RunFault → Type 0
@@ -47,7 +48,7 @@ number_of asked name = position (bytes_eq name) asked.names
 -- what a deed's terms do between two parties
 abbrev pub deed_of : DeedTerms → ℕ → ℕ → Instrument
 deed_of terms grantor grantee =
-    instrument.Deed (record { grantor = grantor; grantee = grantee; estates = terms.estates; quantum = terms.quantum; reserve = terms.reserve })
+    instrument.Deed (record { grantor = grantor; grantee = grantee; estates = terms.estates; quantum = terms.quantum; reserve = terms.reserve; warranty = terms.warranty })
 
 -- what a release's terms do between two parties
 abbrev pub release_of : ReleaseTerms → ℕ → ℕ → Instrument

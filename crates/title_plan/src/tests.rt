@@ -56,17 +56,17 @@ fn rows_of_scripts(rt: HostRuntime) -> Result<(), Fail> {
         (
             Schedule::Serial,
             "1,begin\n1,sheet,everything\n1,commit\n2,abort\n",
-            "0 UNITED STATES; [Asks(Begin(1)), Asks(Step(1, Sheet(Tract { land: Everything, cover: [Everything] }))), Asks(Commit(1)), Asks(Abort(2))] None",
+            "0 UNITED STATES; [Asks(Begin(1)), Asks(Step(1, Sheet(Tract { extent: Node(Everything) }))), Asks(Commit(1)), Asks(Abort(2))] None",
         ),
         (
             Schedule::Interleaved,
             "township,t3n r2w\n1,begin\n2,chain,everything\n",
-            "1 UNITED STATES; [Asks(Begin(1)), Asks(Step(2, Chain(Tract { land: Everything, cover: [Everything] })))] Some(1)",
+            "1 UNITED STATES; [Asks(Begin(1)), Asks(Step(2, Chain(Tract { extent: Node(Everything) })))] Some(1)",
         ),
         (
             Schedule::Serial,
             "party,ADAMS\n1,release,7,ADAMS,UNITED STATES,SM,everything\n",
-            "0 UNITED STATES;ADAMS; [Asks(Step(1, Post(Posting { doc: 7, tract: Tract { land: Everything, cover: [Everything] }, instrument: Release(Release { from: 1, to: 0, estates: Estates { s: true, o: false, m: true } }) })))] None",
+            "0 UNITED STATES;ADAMS; [Asks(Step(1, Post(Posting { doc: 7, tract: Tract { extent: Node(Everything) }, instrument: Release(Release { from: 1, to: 0, estates: Estates { s: true, o: false, m: true } }) })))] None",
         ),
         (
             Schedule::Serial,

@@ -1,5 +1,5 @@
 -- The rows of a report: those of each reply, of a description that is none, and the last.
-use Rattle.std.specs.Prelude.{ℕ, List, [], ◌∷◌, length, map, codes, slice_index_or}
+use Rattle.std.specs.Prelude.{ℕ, Bool, true, false, List, [], ◌∷◌, length, map, codes, slice_index_or}
 use Rattle.std.specs.Fmt.{decimal}
 use Rattle.title_share.specs.Share.{share_text}
 use Rattle.title_land.specs.declared.node.Node.{Node}
@@ -38,9 +38,14 @@ abbrev pub sheet_row : List (List ℕ) → ℕ → SheetRow → List (List ℕ)
 sheet_row names e r =
     decimal e ∷ codes "row" ∷ node_text r.node ∷ estate_text r.estate ∷ name_of names r.party ∷ share_text r.units ∷ []
 
+-- the kind of a deed, plain or with warranty
+abbrev pub deed_kind : (warranty : Bool) → List ℕ
+deed_kind false = codes "deed"
+deed_kind true = codes "warranty"
+
 -- the kind of an instrument
 abbrev pub kind_of : Instrument → List ℕ
-kind_of (instrument.Deed d) = codes "deed"
+kind_of (instrument.Deed d) = deed_kind d.warranty
 kind_of (instrument.Release r) = codes "release"
 
 -- a row of a chain: `E,entry,PLACE,DOC,KIND,FROM,TO,ESTATES`

@@ -20,6 +20,7 @@ fn kind_text(alloc: Global, instrument: &Instrument) -> Result<String, RunFault>
     ensures fault { IfErr result (λ e. e ≡ RunFault.Memory) }
 {
     let kind = match instrument {
+        Instrument::Deed(deed) if deed.warranty => "warranty",
         Instrument::Deed(_) => "deed",
         Instrument::Release(_) => "release",
     };

@@ -59,7 +59,8 @@ fn third_north(rt: &impl Abort) -> Township {
 
 fn quarter(rt: &impl Abort) -> Node {
     let section = Section::new(third_north(rt), 5).expect(rt, "the number is in range");
-    Node::Part(section, Within::Quarter(Quarter::Northeast))
+    let northeast = Within::named(&[Quarter::Northeast]).expect(rt, "it is no smaller than a cell");
+    Node::Part(section, northeast)
 }
 
 // The surface to ADAMS by a deed, or all that ADAMS has to BELL by a release.
@@ -77,6 +78,7 @@ fn instrument(rt: &impl Abort, is_deed: bool) -> Instrument {
         estates: SURFACE,
         quantum: Quantum::Whole(Share::new(WHOLE).expect(rt, "a share")),
         reserve: [None; 3],
+        warranty: false,
     })
 }
 

@@ -4,7 +4,7 @@ use Rattle.csv.specs.Records.{field_at}
 use Rattle.title_row.specs.declared.terms.DeedTerms.{DeedTerms}
 use Rattle.title_row.specs.declared.terms.ReleaseTerms.{ReleaseTerms}
 use Rattle.title_row.specs.Fields.{is_name, IsExaminer, IsDocument, IsEstates}
-use Rattle.title_row.specs.Terms.{IsQuantum, IsReserve, Reserve, shares_of}
+use Rattle.title_row.specs.Terms.{IsQuantum, IsReserve, Reserve, deed_word, shares_of}
 use Rattle.title_row.specs.Rows.{Said, Says, IsDeed, IsRelease}
 
 -- a row of seven fields is a release or says nothing
@@ -59,7 +59,7 @@ release-fields fields e terms releasor releasee text r = record {
 
 -- the fields of a deed, each of its form
 pub record DeedFields (fields : List (List ℕ)) (e : ℕ) (terms : DeedTerms) : Type 0 where
-  pub word : (x : List ℕ) → field_at fields 1 ≡ Some x → x ≡ codes "deed"
+  pub word : (x : List ℕ) → field_at fields 1 ≡ Some x → x ≡ deed_word terms.warranty
   pub from : (x : List ℕ) → field_at fields 3 ≡ Some x → is_name x ≡ true
   pub to : (x : List ℕ) → field_at fields 4 ≡ Some x → is_name x ≡ true
   pub first : (x : List ℕ) → field_at fields 0 ≡ Some x → IsExaminer x e
@@ -73,7 +73,7 @@ pub record DeedFields (fields : List (List ℕ)) (e : ℕ) (terms : DeedTerms) :
 pub deed-fields : (fields : List (List ℕ)) (e : ℕ) (terms : DeedTerms) (grantor grantee text : List ℕ) → IsDeed fields e terms grantor grantee text → DeedFields fields e terms
 unfolding field_at
 deed-fields fields e terms grantor grantee text r = record {
-  word = λ x at. sym (the-field fields _ 1 x (codes "deed") r.fields_are at refl);
+  word = λ x at. sym (the-field fields _ 1 x (deed_word terms.warranty) r.fields_are at refl);
   from = λ x at. subst (λ (t : List ℕ). is_name t ≡ true) (the-field fields _ 3 x grantor r.fields_are at refl) r.grantor_is;
   to = λ x at. subst (λ (t : List ℕ). is_name t ≡ true) (the-field fields _ 4 x grantee r.fields_are at refl) r.grantee_is;
   first = λ x at. subst (λ (t : List ℕ). IsExaminer t e) (the-field fields _ 0 x r.first r.fields_are at refl) r.examiner_is;

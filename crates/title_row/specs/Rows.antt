@@ -5,7 +5,7 @@ use Rattle.title_row.specs.declared.terms.ReleaseTerms.{ReleaseTerms}
 use Rattle.title_row.specs.declared.row.Row.{Row}
 use Rattle.title_row.specs.declared.row.Row.TheVariants as row
 use Rattle.title_row.specs.Fields.{is_name, IsExaminer, IsDocument, IsEstates}
-use Rattle.title_row.specs.Terms.{IsQuantum, Reserve, IsReserve, shares_of}
+use Rattle.title_row.specs.Terms.{IsQuantum, Reserve, IsReserve, deed_word, shares_of}
 
 -- what a row says: a declaration, or a step of an examiner
 pub data Said : Type 0 where
@@ -27,7 +27,7 @@ IsWord word fields e = (first : List ℕ) × IsExaminer first e × (fields ≡ f
 abbrev pub IsRead : List ℕ → List (List ℕ) → ℕ → List ℕ → Type 0
 IsRead word fields e text = (first : List ℕ) × IsExaminer first e × (fields ≡ first ∷ word ∷ text ∷ [])
 
--- a row `E,deed,DOC,GRANTOR,GRANTEE,ESTATES,QUANTUM,RESERVE,TEXT`
+-- a row `E,deed,DOC,GRANTOR,GRANTEE,ESTATES,QUANTUM,RESERVE,TEXT`, or the same with `warranty`
 pub record IsDeed (fields : List (List ℕ)) (e : ℕ) (terms : DeedTerms) (grantor grantee text : List ℕ) : Type 0 where
   pub first : List ℕ
   pub doc : List ℕ
@@ -35,7 +35,7 @@ pub record IsDeed (fields : List (List ℕ)) (e : ℕ) (terms : DeedTerms) (gran
   pub quantum : List ℕ
   pub reserve : List ℕ
   pub reserved : Reserve
-  pub fields_are : fields ≡ first ∷ codes "deed" ∷ doc ∷ grantor ∷ grantee ∷ estates ∷ quantum ∷ reserve ∷ text ∷ []
+  pub fields_are : fields ≡ first ∷ deed_word terms.warranty ∷ doc ∷ grantor ∷ grantee ∷ estates ∷ quantum ∷ reserve ∷ text ∷ []
   pub examiner_is : IsExaminer first e
   pub doc_is : IsDocument doc terms.doc
   pub grantor_is : is_name grantor ≡ true

@@ -4,12 +4,12 @@ ghost use Rattle.std.specs.Prelude.{◌≡◌, ◌∷◌, [], ℕ, List, MatchOp
 ghost use Rattle.csv.specs.Records.{fields_of};
 ghost use Rattle.title_row.specs.Fields.{IsDocument, IsEstates};
 ghost use Rattle.title_row.specs.Rows.{Said, Says, said};
-ghost use Rattle.title_row.specs.Terms.{IsQuantum, IsReserve, Reserve, shares_of};
+ghost use Rattle.title_row.specs.Terms.{IsQuantum, IsReserve, Reserve, deed_word, shares_of};
 ghost use Rattle.title_row.specs.declared.terms.DeedTerms.{DeedTerms};
 ghost use Rattle.title_row.specs.declared.terms.ReleaseTerms.{ReleaseTerms};
 
 use crate::fields::{field, has_name_form, read_document, read_estates, read_examiner};
-use crate::terms::{DeedTerms, ReleaseTerms, read_quantum, read_reserve};
+use crate::terms::{DeedTerms, ReleaseTerms, read_quantum, read_reserve, read_warranty};
 use csv::StringRecord;
 
 /// What a row of a script says: a township's text, a party's name of 1 to 60 bytes, or a step of an examiner, a number from
@@ -83,13 +83,20 @@ fn read_release(row: &StringRecord) -> Option<Row<'_>>
     Some(Row::Release(examiner, terms, releasor, releasee, field(row, 6)))
 }
 
-// The terms of a deed, by the fields DOC, ESTATES, QUANTUM and RESERVE.
-fn deed_terms(doc: &str, estates: &str, quantum: &str, reserve: &str) -> Option<DeedTerms>
+// The terms of a deed, by the word and the fields DOC, ESTATES, QUANTUM and RESERVE.
+fn deed_terms(
+    word: &str,
+    doc: &str,
+    estates: &str,
+    quantum: &str,
+    reserve: &str,
+) -> Option<DeedTerms>
     ensures terms { let are : DeedTerms → Type 0 = λ terms.
-        IsDocument doc.now terms.doc × IsEstates estates.now terms.estates × IsQuantum quantum.now terms.quantum
+        (word.now ≡ deed_word terms.warranty) × IsDocument doc.now terms.doc × IsEstates estates.now terms.estates × IsQuantum quantum.now terms.quantum
         × (reserved : Reserve) × IsReserve reserve.now reserved × (terms.reserve ≡ shares_of reserved)
         in MatchOption result ((terms : DeedTerms) → are terms → ⊥) are }
 {
+    let warranty = read_warranty(word)?;
     let doc = read_document(doc)?;
     let estates = read_estates(estates)?;
     let quantum = read_quantum(quantum)?;
@@ -99,20 +106,30 @@ fn deed_terms(doc: &str, estates: &str, quantum: &str, reserve: &str) -> Option<
         estates,
         quantum,
         reserve,
+        warranty,
     })
 }
 
-// A row `E,deed,DOC,GRANTOR,GRANTEE,ESTATES,QUANTUM,RESERVE,TEXT`.
+// A row `E,deed,DOC,GRANTOR,GRANTEE,ESTATES,QUANTUM,RESERVE,TEXT`, or the same with `warranty`.
 fn read_deed(row: &StringRecord) -> Option<Row<'_>>
     requires nine { length (fields_of row.now) ≡ 9 }
     ensures said { MatchOption result ((s : Said) → Says (fields_of row.now) s → ⊥) (λ r. Says (fields_of row.now) (said r)) }
 {
     let (grantor, grantee) = (field(row, 3), field(row, 4));
-    if field(row, 1) != "deed" || !has_name_form(grantor) || !has_name_form(grantee) {
+    if !has_name_form(grantor) {
+        return None;
+    }
+    if !has_name_form(grantee) {
         return None;
     }
     let examiner = read_examiner(field(row, 0))?;
-    let terms = deed_terms(field(row, 2), field(row, 5), field(row, 6), field(row, 7))?;
+    let terms = deed_terms(
+        field(row, 1),
+        field(row, 2),
+        field(row, 5),
+        field(row, 6),
+        field(row, 7),
+    )?;
     Some(Row::Deed(examiner, terms, grantor, grantee, field(row, 8)))
 }
 

@@ -1,10 +1,10 @@
 //! The terms of instruments, by their fields.
 
-ghost use Rattle.std.specs.Prelude.{◌≡◌, ◌∷◌, [], ℕ, List, MatchOption};
+ghost use Rattle.std.specs.Prelude.{◌≡◌, ◌∷◌, [], ℕ, Bool, List, MatchOption};
 ghost use Rattle.title_instrument.specs.declared.parts.Estate.{Estate};
 ghost use Rattle.title_instrument.specs.declared.parts.Quantum.{Quantum};
 ghost use Rattle.title_instrument.specs.Estates.{letter_of};
-ghost use Rattle.title_row.specs.Terms.{AddAll, Adds, IsQuantum, IsReserve, Reserve, shares_of};
+ghost use Rattle.title_row.specs.Terms.{AddAll, Adds, IsQuantum, IsReserve, Reserve, deed_word, shares_of};
 
 use title_instrument::{Estate, Estates, Quantum};
 use title_share::Share;
@@ -17,6 +17,7 @@ pub struct DeedTerms {
     pub estates: Estates,
     pub quantum: Quantum,
     pub reserve: [Option<Share>; 3],
+    pub warranty: bool,
 }
 
 /// What a release's row says beside its examiner, its parties and its tract. The document's number is from 1 to
@@ -25,6 +26,17 @@ pub struct DeedTerms {
 pub struct ReleaseTerms {
     pub doc: u64,
     pub estates: Estates,
+}
+
+/// Whether a deed's word says that it is with warranty.
+pub(crate) fn read_warranty(word: &str) -> Option<bool>
+    ensures warranty { MatchOption result ((warranty : Bool) → word.now ≡ deed_word warranty → ⊥) (λ warranty. word.now ≡ deed_word warranty) }
+{
+    match word {
+        "deed" => Some(false),
+        "warranty" => Some(true),
+        _ => None,
+    }
 }
 
 /// The quantum that a text names: `W` or `I` and a share.

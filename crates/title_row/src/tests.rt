@@ -29,11 +29,11 @@ fn reads_each_form(rt: HostRuntime) -> Result<(), Fail> {
         ("7|chain|", "Some(Chain(7, \"\"))"),
         (
             "7|deed|12|ADAMS|BELL|SO|W1/2|O1/4;S1/8|T2N R1W sec 5",
-            "Some(Deed(7, DeedTerms { doc: 12, estates: Estates { s: true, o: true, m: false }, quantum: Whole(Share { units: 2147483648 }), reserve: [Some(Share { units: 536870912 }), Some(Share { units: 1073741824 }), None] }, \"ADAMS\", \"BELL\", \"T2N R1W sec 5\"))",
+            "Some(Deed(7, DeedTerms { doc: 12, estates: Estates { s: true, o: true, m: false }, quantum: Whole(Share { units: 2147483648 }), reserve: [Some(Share { units: 536870912 }), Some(Share { units: 1073741824 }), None], warranty: false }, \"ADAMS\", \"BELL\", \"T2N R1W sec 5\"))",
         ),
         (
-            "7|deed|999999999999|ADAMS|BELL|M|I1/1||T2N R1W",
-            "Some(Deed(7, DeedTerms { doc: 999999999999, estates: Estates { s: false, o: false, m: true }, quantum: Interest(Share { units: 4294967296 }), reserve: [None, None, None] }, \"ADAMS\", \"BELL\", \"T2N R1W\"))",
+            "7|warranty|999999999999|ADAMS|BELL|M|I1/1||T2N R1W",
+            "Some(Deed(7, DeedTerms { doc: 999999999999, estates: Estates { s: false, o: false, m: true }, quantum: Interest(Share { units: 4294967296 }), reserve: [None, None, None], warranty: true }, \"ADAMS\", \"BELL\", \"T2N R1W\"))",
         ),
         (
             "7|release|3|BELL|CLARK|SOM|T2N R1W",
@@ -77,6 +77,8 @@ fn refuses_what_says_nothing(rt: HostRuntime) -> Result<(), Fail> {
         "1|deed|3|BELL|CLARK|S|W1/2|;S1/4|T2N R1W",
         "1|deed|3|BELL|CLARK|S|W1/2|S1/4;O1/8;M1/8;S1/8|T2N R1W",
         "1|deed|3|BELL|CLARK|S|W1/2||T2N R1W|",
+        "1|Warranty|3|BELL|CLARK|S|W1/2||T2N R1W",
+        "1|warranty|3|BELL|CLARK|S|T2N R1W",
     ] {
         let row = row_of(rt.alloc(), line)?;
         assert!(rt; read_row(&row).is_none(), "at {line}");

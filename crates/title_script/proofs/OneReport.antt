@@ -1,5 +1,6 @@
 -- What a script asks for has one report.
 use Rattle.std.proofs.Common.{◌≡◌, ◌∙◌, ◌++◌, ◌∷◌, [], ℕ, Bool, true, false, List, Option, Some, None, Result, Ok, Err, length, refl, sym, ap, ap₂, subst, inl, inr, true≢false, arith}
+use Rattle.title_land.specs.Depth.{depth}
 use Rattle.std.proofs.lemmas.Bool.{cases_lt}
 use Rattle.std.specs.Prelude.{nat_le}
 use Rattle.title_device.specs.declared.fault.RunFault.{RunFault}
@@ -40,16 +41,16 @@ one_way before e a (Some f) (Some g) h k = elim (cases_lt f g) [
 
 -- a step has one due reply
 one_step : (setting : Setting) (before : List Call) (e : ℕ) (a : Ask) (r s : Reply) (begun inside : Bool) (cause : Option Cause) (full : Bool) →
-    DueStep 3 setting before e a r begun inside cause full → DueStep 3 setting before e a s begun inside cause full → r ≡ s
+    DueStep depth setting before e a r begun inside cause full → DueStep depth setting before e a s begun inside cause full → r ≡ s
 one_step setting before e a r s false inside cause full h k = h ∙ sym k
 one_step setting before e a r s true false cause full h k = h ∙ sym k
 one_step setting before e a r s true true (Some cause) full h k = h ∙ sym k
 one_step setting before e a r s true true None true h k = h ∙ sym k
 one_step setting before e a r s true true None false h k =
-    h.2 ∙ ap (reply_past 3 setting before e a) (one_way before e a h.0 k.0 h.1 k.1) ∙ sym k.2
+    h.2 ∙ ap (reply_past depth setting before e a) (one_way before e a h.0 k.0 h.1 k.1) ∙ sym k.2
 
 -- a request has one due reply
-one_reply : (setting : Setting) (before : List Call) (q : Request) (r s : Reply) → DueReply 3 setting before q r → DueReply 3 setting before q s → r ≡ s
+one_reply : (setting : Setting) (before : List Call) (q : Request) (r s : Reply) → DueReply depth setting before q r → DueReply depth setting before q s → r ≡ s
 one_reply setting before (request.Begin e) r s h k = h ∙ sym k
 one_reply setting before (request.Step e a) r s h k =
     one_step setting before e a r s (is_open e before) (is_in_plant setting.townships (tract_of a))
@@ -60,7 +61,7 @@ one_reply setting before (request.Abort e) r s h k = h ∙ sym k
 -- and comes to one trace
 one_replied : (setting : Setting) (before : List Call) (p q : Request) (r s : Reply) (x y : List Call) → p ≡ q → IsReplied setting before p r x → IsReplied setting before q s y → (r ≡ s) × (x ≡ y)
 one_replied setting before p q r s x y same h k =
-    let told = one_reply setting before q r s (subst (λ (z : Request). DueReply 3 setting before z r) same h.0) k.0 in
+    let told = one_reply setting before q r s (subst (λ (z : Request). DueReply depth setting before z r) same h.0) k.0 in
     (told, h.1 ∙ ap₂ (λ (z : Request) (t : Reply). record { request = z; reply = t } ∷ before) same told ∙ sym k.1)
 
 -- ---- rows of steps

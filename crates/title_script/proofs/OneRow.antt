@@ -5,9 +5,9 @@ use Rattle.title_share.proofs.ShareLaws.{same_number}
 use Rattle.title_row.specs.declared.terms.DeedTerms.{DeedTerms}
 use Rattle.title_row.specs.declared.terms.ReleaseTerms.{ReleaseTerms}
 use Rattle.title_row.specs.Fields.{IsExaminer, IsDocument, IsEstates}
-use Rattle.title_row.specs.Terms.{IsQuantum, Reserve, IsReserve, shares_of}
+use Rattle.title_row.specs.Terms.{IsQuantum, Reserve, IsReserve, deed_word, shares_of}
 use Rattle.title_row.specs.Rows.{Said, Says, IsWord, IsRead, IsDeed, IsRelease}
-use Rattle.title_script.proofs.OneTerm.{one_estates, one_quantum, one_reserve}
+use Rattle.title_script.proofs.OneTerm.{one_estates, one_warranty, one_quantum, one_reserve}
 
 -- ---- fields
 
@@ -97,17 +97,18 @@ one_reader word fields e f x y h k = (one_examiner h.0 k.0 e f (same_at 0 fields
 one_deed : (fields : List (List ℕ)) (e f : ℕ) (s t : DeedTerms) (a b c x y z : List ℕ) → IsDeed fields e s a b c → IsDeed fields f t x y z →
     Said.Deed e s a b c ≡ Said.Deed f t x y z
 one_deed fields e f s t a b c x y z h k =
-    let mine : List (List ℕ) = h.first ∷ codes "deed" ∷ h.doc ∷ a ∷ b ∷ h.estates ∷ h.quantum ∷ h.reserve ∷ c ∷ [] in
-    let other : List (List ℕ) = k.first ∷ codes "deed" ∷ k.doc ∷ x ∷ y ∷ k.estates ∷ k.quantum ∷ k.reserve ∷ z ∷ [] in
+    let mine : List (List ℕ) = h.first ∷ deed_word s.warranty ∷ h.doc ∷ a ∷ b ∷ h.estates ∷ h.quantum ∷ h.reserve ∷ c ∷ [] in
+    let other : List (List ℕ) = k.first ∷ deed_word t.warranty ∷ k.doc ∷ x ∷ y ∷ k.estates ∷ k.quantum ∷ k.reserve ∷ z ∷ [] in
     let same : (i : ℕ) → at i mine ≡ at i other = λ i. same_at i fields mine other h.fields_are k.fields_are in
     let moved = subst (λ (w : List ℕ). IsReserve w h.reserved) (same 7) h.reserve_is in
     let reserved = one_reserve k.reserve h.reserved k.reserved moved k.reserve_is in
     let examiner = one_examiner h.first k.first e f (same 0) h.examiner_is k.examiner_is in
     let doc = one_document h.doc k.doc s.doc t.doc (same 2) h.doc_is k.doc_is in
     let estates = one_estates k.estates s.estates t.estates (subst (λ (w : List ℕ). IsEstates w s.estates) (same 5) h.estates_are) k.estates_are in
+    let warranty = one_warranty s.warranty t.warranty (same 1) in
     let quantum = one_quantum k.quantum s.quantum t.quantum (subst (λ (w : List ℕ). IsQuantum w s.quantum) (same 6) h.quantum_is) k.quantum_is in
     let shares = h.reserved_is ∙ ap (λ (r : Reserve). shares_of r) reserved ∙ sym k.reserved_is in
-    λ i. Said.Deed (examiner i) (record { doc = doc i; estates = estates i; quantum = quantum i; reserve = shares i }) (same 3 i) (same 4 i) (same 8 i)
+    λ i. Said.Deed (examiner i) (record { doc = doc i; estates = estates i; quantum = quantum i; reserve = shares i; warranty = warranty i }) (same 3 i) (same 4 i) (same 8 i)
 
 one_release : (fields : List (List ℕ)) (e f : ℕ) (s t : ReleaseTerms) (a b c x y z : List ℕ) → IsRelease fields e s a b c → IsRelease fields f t x y z →
     Said.Release e s a b c ≡ Said.Release f t x y z

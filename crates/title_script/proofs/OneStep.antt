@@ -1,5 +1,6 @@
 -- After a row of a script there is one state, or one fault.
 use Rattle.std.proofs.Common.{◌≡◌, ◌∙◌, ℕ, List, Bool, true, false, Option, Some, None, Result, Ok, sym, ap, subst, inl, inr}
+use Rattle.title_land.specs.Depth.{depth}
 use Rattle.title_device.specs.declared.fault.RunFault.{RunFault}
 use Rattle.title_land.specs.declared.place.Township.{Township}
 use Rattle.title_land.specs.declared.tract.Land.{Land}
@@ -22,8 +23,8 @@ use Rattle.title_script.proofs.OneRow.{one_said}
 
 -- ---- declarations
 
-one_township : (text : List ℕ) (t u : Township) → Describes 3 text (land.Township t) → Describes 3 text (land.Township u) → t ≡ u
-one_township text t u h k = let same = one_land 3 text (land.Township t) (land.Township u) h k in cc same
+one_township : (text : List ℕ) (t u : Township) → Describes depth text (land.Township t) → Describes depth text (land.Township u) → t ≡ u
+one_township text t u h k = let same = one_land depth text (land.Township t) (land.Township u) h k in cc same
 
 after_township : (n : ℕ) (asked : Asked) (text : List ℕ) (a b : Result Asked RunFault) → AfterTownship n asked text a → AfterTownship n asked text b → a ≡ b
 after_township n asked text a b (inl h) (inl k) = h.2 ∙ ap (with_township n asked) (one_township text h.0 k.0 h.1 k.1) ∙ sym k.2
@@ -35,12 +36,12 @@ after_township n asked text a b (inr h) (inr k) = h.1 ∙ sym k.1
 
 one_line : (e : ℕ) (asks : Land → Ask) (text : List ℕ) (a b : Line) → IsLineOf e asks text a → IsLineOf e asks text b → a ≡ b
 one_line e asks text (line.Asks q) (line.Asks r) h k =
-    ap line.Asks (h.2 ∙ ap (λ (l : Land). request.Step e (asks l)) (one_land 3 text h.0 k.0 h.1 k.1) ∙ sym k.2)
-one_line e asks text (line.Asks q) (line.Described f why) h k = absurd (no_fault 3 text h.0 why h.1 k.1)
-one_line e asks text (line.Described f why) (line.Asks q) h k = absurd (no_fault 3 text k.0 why k.1 h.1)
+    ap line.Asks (h.2 ∙ ap (λ (l : Land). request.Step e (asks l)) (one_land depth text h.0 k.0 h.1 k.1) ∙ sym k.2)
+one_line e asks text (line.Asks q) (line.Described f why) h k = absurd (no_fault depth text h.0 why h.1 k.1)
+one_line e asks text (line.Described f why) (line.Asks q) h k = absurd (no_fault depth text k.0 why k.1 h.1)
 one_line e asks text (line.Described f why) (line.Described g other) h k =
     let examiner = h.0 ∙ sym k.0 in
-    let cause = one_fault 3 text why other h.1 k.1 in
+    let cause = one_fault depth text why other h.1 k.1 in
     λ i. line.Described (examiner i) (cause i)
 
 after_step : (asked : Asked) (e : ℕ) (asks : Land → Ask) (text : List ℕ) (a b : Result Asked RunFault) → AfterStep asked e asks text a → AfterStep asked e asks text b → a ≡ b

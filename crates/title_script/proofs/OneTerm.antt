@@ -1,5 +1,5 @@
 -- A term of a deed is one: its estates, its quantum and its reserve.
-use Rattle.std.proofs.Common.{◌≡◌, ◌∙◌, ◌<◌, ◌++◌, ◌∷◌, [], ℕ, List, Bool, true, false, eqb, length, refl, sym, ap, subst, inl, inr, arith}
+use Rattle.std.proofs.Common.{◌≡◌, ◌∙◌, ◌<◌, ◌++◌, ◌∷◌, [], ℕ, List, Bool, true, false, eqb, length, get_or, refl, sym, ap, subst, inl, inr, arith}
 use Rattle.std.specs.List.{list_any}
 use Rattle.title_share.specs.Share.{IsShareText}
 use Rattle.title_instrument.specs.declared.parts.Estate.{Estate}
@@ -9,7 +9,7 @@ use Rattle.title_instrument.specs.declared.parts.Quantum.{Quantum}
 use Rattle.title_instrument.specs.declared.parts.Quantum.TheVariants as quantum
 use Rattle.title_instrument.specs.Estates.{letter_if, estates_text}
 use Rattle.title_row.specs.Fields.{IsEstates}
-use Rattle.title_row.specs.Terms.{IsQuantum, IsItem, Reserve, Adds, AddAll, joined, IsItems, IsReserve}
+use Rattle.title_row.specs.Terms.{deed_word, IsQuantum, IsItem, Reserve, Adds, AddAll, joined, IsItems, IsReserve}
 use Rattle.title_row.proofs.Texts.{stands-between, one-split, one-share}
 use Rattle.title_row.proofs.Items.{one-item, item-lacks, one-sum}
 
@@ -42,6 +42,14 @@ one_estates text e f h k =
     let q = letters_tell f.s f.o f.m in
     let same : estates_text e ≡ estates_text f = sym h.0 ∙ k.0 in
     same_estates e f (sym p.0 ∙ ap (has 83) same ∙ q.0) (sym p.1 ∙ ap (has 79) same ∙ q.1) (sym p.2 ∙ ap (has 77) same ∙ q.2)
+
+-- ---- words
+
+pub one_warranty : (v w : Bool) → deed_word v ≡ deed_word w → v ≡ w
+one_warranty false false h = refl
+one_warranty false true h = let first = ap (λ (text : List ℕ). get_or text 0 0) h in absurd (omega (arith, first))
+one_warranty true false h = let first = ap (λ (text : List ℕ). get_or text 0 0) h in absurd (omega (arith, first))
+one_warranty true true h = refl
 
 -- ---- quanta
 

@@ -1,5 +1,6 @@
 -- The rows of a report: those of the due replies to a script's steps, from an empty trace. Traces have the newest call first.
 use Rattle.std.specs.Prelude.{◌≡◌, ℕ, Bool, true, false, ◌&&◌, not, cond, List, [], ◌∷◌, ◌++◌}
+use Rattle.title_land.specs.Depth.{depth}
 use Rattle.title_trace.specs.declared.call.Call.{Call}
 use Rattle.title_trace.specs.declared.call.Request.{Request}
 use Rattle.title_trace.specs.declared.call.Request.TheVariants as request
@@ -15,7 +16,7 @@ use Rattle.title_report.specs.Replies.{reply_rows, described_row}
 
 -- the reply is due after the trace, and the call comes to it
 abbrev pub IsReplied : Setting → List Call → Request → Reply → List Call → Type 0
-IsReplied setting before q r after = DueReply 3 setting before q r × (after ≡ record { request = q; reply = r } ∷ before)
+IsReplied setting before q r after = DueReply depth setting before q r × (after ≡ record { request = q; reply = r } ∷ before)
 
 -- a request is asked as it stands
 abbrev pub IsAsked : Setting → List (List ℕ) → List Call → Request → List (List (List ℕ)) → List Call → Type 0

@@ -12,6 +12,7 @@ mod first_run;
 mod instruments;
 mod interleaved;
 mod transactions;
+mod warranties;
 
 use cuts::{CUTS, Cut, REPORT, SCRIPT};
 
@@ -99,6 +100,11 @@ fn sheets_of_everything(rt: HostRuntime) -> Result<(), Fail> {
 #[test]
 fn deeds_and_releases(rt: HostRuntime) -> Result<(), Fail> {
     are_given(&rt, rt.alloc(), &instruments::ROWS)
+}
+
+#[test]
+fn deeds_with_warranty(rt: HostRuntime) -> Result<(), Fail> {
+    are_given(&rt, rt.alloc(), &warranties::ROWS)
 }
 
 #[test]

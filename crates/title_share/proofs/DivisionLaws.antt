@@ -1,6 +1,6 @@
 -- Laws of divisions.
 use Rattle.std.proofs.Common.{◌≡◌, ◌↔◌, ◌≤◌, ◌+◌, ◌-◌, ◌∙◌, ◌||◌, ℕ, Bool, true, false, cond, refl, sym, ap, subst, eqb, List, [], ◌∷◌, arith}
-use Rattle.std.proofs.lemmas.Bool.{and_parts, and_from, eqb-true, eq-eqb, ne_eqb, or_parts, or_from, eqb-false, cond-false, cond-true}
+use Rattle.std.proofs.lemmas.Bool.{and_parts, and_from, eqb-true, eq-eqb, ne_eqb, or_parts, eqb-false, cond-false, cond-true}
 use Rattle.std.proofs.lemmas.Bool.Decides.{nat_tests}
 use Rattle.title_share.specs.Rows.{units_in, total, in_order, is_division, with_units, moved_rows, whole_units}
 use Rattle.title_share.specs.Division.{Division, rows_of, rows_divide, same_rows, all_to, checked, division_or, division_of, units_of, units_after, moved}
@@ -90,20 +90,12 @@ moved_none from to n d e =
     let same : moved_rows from to n (rows_of d) ≡ rows_of d = cond-true _ _ _ e in
     same_rows _ _ (rows-division_or d _ (subst (λ (x : List (ℕ × ℕ)). is_division x ≡ true) (sym same) (rows_divide d)) ∙ same)
 
--- rows after both parts of a move
-pub moved_is : (from to n : ℕ) (d : Division) (rows : List (ℕ × ℕ)) → n ≤ units_of from d → (n ≡ 0 → ⊥) → (from ≡ to → ⊥) →
-    rows ≡ with_units to (units_of to d + n) (with_units from (units_of from d - n) (rows_of d)) → (division_of rows ≡ moved from to n d) × (is_division rows ≡ true)
-moved_is from to n d rows enough some apart e =
-    let all : rows ≡ rows_of (moved from to n d) =
-    e ∙ sym (rows-moved from to n d enough ∙ cond-false (eqb n 0 || eqb from to) _ _ (let a = ne_eqb n 0 some in let b = ne_eqb from to apart in or_from (eqb n 0) (eqb from to) a b)) in
+-- rows after a move are those of the division after it
+pub moved_is : (from to n : ℕ) (d : Division) (start rows : List (ℕ × ℕ)) → n ≤ units_of from d → rows_of d ≡ start → rows ≡ moved_rows from to n start →
+    (division_of rows ≡ moved from to n d) × (is_division rows ≡ true)
+moved_is from to n d start rows enough s e =
+    let all : rows ≡ rows_of (moved from to n d) = e ∙ ap (moved_rows from to n) (sym s) ∙ sym (rows-moved from to n d enough) in
     (division_is _ rows all, subst (λ (x : List (ℕ × ℕ)). is_division x ≡ true) (sym all) (rows_divide (moved from to n d)))
-
--- the same, step by step
-pub moved_steps : (from to n : ℕ) (d : Division) (start mid end : List (ℕ × ℕ)) (u v : ℕ) → n ≤ units_of from d → (n ≡ 0 → ⊥) → (from ≡ to → ⊥) →
-    rows_of d ≡ start → u ≡ units_in from start → v ≡ units_in to start → mid ≡ with_units from (u - n) start → end ≡ with_units to (v + n) mid →
-    (division_of end ≡ moved from to n d) × (is_division end ≡ true)
-moved_steps from to n d start mid end u v enough some apart s a b m e =
-    moved_is from to n d end enough some apart (let is : end ≡ with_units to (units_of to d + n) (with_units from (units_of from d - n) (rows_of d)) = cc in is)
 
 -- the two rows that a move sets, in the words of `units_after`
 in_units : (from to n q : ℕ) (had : ℕ → ℕ) →

@@ -1,6 +1,6 @@
 -- Laws of shares and holdings, public to the crates above.
 pub mod Cases
 pub mod RowLaws
-pub mod Places
 pub mod DivisionLaws
 pub mod ShareLaws
+pub mod MoveLaws

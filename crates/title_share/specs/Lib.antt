@@ -1,5 +1,4 @@
 -- The definitions that the contracts cite.
 pub mod Rows
-pub mod Places
 pub mod Division
 pub mod Share

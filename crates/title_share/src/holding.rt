@@ -1,8 +1,8 @@
 //! Who holds a whole.
 
-ghost use Rattle.std.specs.Prelude.{ℕ, ◌≡◌, ◌≤◌, ◌<◌, ◌+◌, ◌↔◌, IsTrue, IfOk, OnOk, OnErr, true, cond, eqb, vec_len, vec_capacity, MatchResult, length};
-ghost use Rattle.title_share.specs.Rows.{whole_units, is_division, units_in, with_units, in_order};
-ghost use Rattle.title_share.specs.Places.{place_of, IsAt, IsNotAt};
+ghost use Rattle.std.specs.Prelude.{◌≡◌, ◌≢◌, ◌≤◌, ◌<◌, ◌+◌, ◌-◌, ◌^◌, ◌&&◌, ◌↔◌, ◌++◌};
+ghost use Rattle.std.specs.Prelude.{ℕ, [], IsTrue, IfOk, OnOk, OnErr, true, not, cond, eqb, leb};
+ghost use Rattle.title_share.specs.Rows.{whole_units, is_division, units_in, with_front, moved_rows};
 
 use std::alloc::{AllocError, Global};
 use std::marker::Model;
@@ -42,44 +42,63 @@ fn units_among(rows: &[(u32, u64)], party: u32) -> u64
     0
 }
 
-// Where a party's row stands, or else where it would.
-fn place(rows: &[(u32, u64)], party: u32) -> Result<usize, usize>
-    ensures place { MatchResult result
-        (λ at. (at ≡ place_of party rows.now) × IsAt party rows.now at)
-        (λ at. (at ≡ place_of party rows.now) × IsNotAt party rows.now at × (at ≤ length rows.now)) }
+// What the grantee's row has after a move, where it comes before a row or is it, and else 0.
+fn gained(given: bool, row: (u32, u64), to: u32, units: u64) -> u64
+    requires fits { row.1 + units < 2 ^ 64 }
+    ensures gained { result ≡ cond (not given && leb to row.0) (cond (eqb row.0 to) row.1 0 + units) 0 }
 {
-    for (at, row) in rows.iter().enumerate() {
-        if row.0 == party {
-            return Ok(at);
-        }
-        if row.0 > party {
-            return Err(at);
-        }
+    if given || row.0 < to {
+        return 0;
     }
-    Err(rows.len())
+    if row.0 == to { row.1 + units } else { units }
 }
 
-// Gives a party that many units, in a list with room for one more row.
-fn set_units(rows: &mut Vec<(u32, u64)>, party: u32, units: u64)
-    requires ordered { in_order 0 rows.old.items ≡ true }
-    requires room { vec_len rows.old < vec_capacity rows.old }
-    ensures rows { rows.new.items ≡ with_units party units rows.old.items }
-    ensures room { 0 < units_in party rows.old.items → vec_len rows.new < vec_capacity rows.new }
+// What a row has left after a move, 0 where it is the grantee's.
+fn left(row: (u32, u64), from: u32, to: u32, units: u64) -> u64
+    requires held { row.0 ≡ from → units ≤ row.1 }
+    ensures left { result ≡ cond (eqb row.0 from) (row.1 - units) (cond (eqb row.0 to) 0 row.1) }
 {
-    match place(rows, party) {
-        Ok(at) => {
-            if units == 0 {
-                rows.remove(at);
-            } else {
-                rows[at] = (party, units);
-            }
-        }
-        Err(at) => {
-            if units != 0 {
-                let _ = rows.insert(at, (party, units));
-            }
-        }
+    if row.0 == from {
+        return row.1 - units;
     }
+    if row.0 == to { 0 } else { row.1 }
+}
+
+// Gives rows one more at their end, where it has units.
+fn push_some(rows: &mut Vec<(u32, u64)>, party: u32, units: u64) -> Result<(), AllocError>
+    ensures rows { OnOk result (rows.new.items ≡ rows.old.items ++ with_front party units []) }
+{
+    if units != 0 {
+        rows.push((party, units))?;
+    }
+    Ok(())
+}
+
+// The rows after units have passed from a party, which has at least so many, to another.
+fn rows_after(
+    alloc: Global,
+    rows: &[(u32, u64)],
+    from: u32,
+    to: u32,
+    units: u64,
+) -> Result<Vec<(u32, u64)>, AllocError>
+    requires divide { is_division rows.now ≡ true }
+    requires held { units ≤ units_in from rows.now }
+    requires some { 0 < units }
+    requires apart { from ≢ to }
+    ensures rows { IfOk result (λ v. v.items ≡ moved_rows from to units rows.now) }
+{
+    let mut after = Vec::with_capacity(alloc, rows.len() + 1)?;
+    let mut given = false;
+    for row in rows {
+        push_some(&mut after, to, gained(given, *row, to, units))?;
+        push_some(&mut after, row.0, left(*row, from, to, units))?;
+        given |= to <= row.0;
+    }
+    if !given {
+        push_some(&mut after, to, units)?;
+    }
+    Ok(after)
 }
 
 impl Holding {
@@ -138,11 +157,8 @@ impl Holding {
         if units == 0 || from == to {
             return Ok(());
         }
-        self.rows.reserve(1)?;
-        let left = units_among(&self.rows, from) - units;
-        let more = units_among(&self.rows, to) + units;
-        set_units(&mut self.rows, from, left);
-        set_units(&mut self.rows, to, more);
+        let alloc = *self.rows.allocator();
+        self.rows = rows_after(alloc, &self.rows, from, to, units)?;
         Ok(())
     }
 }

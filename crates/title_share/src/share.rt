@@ -10,22 +10,23 @@ use std::fmt;
 use std::marker::Model;
 
 /// A share of a whole: from 1 to 4,294,967,296 units, which are the whole.
-#[derive(Clone, Copy, Debug, PartialEq, Eq)]
+#[derive(Clone, Copy, PartialEq, Eq)]
 pub struct Share {
-    units: u64,
+    // The units less one, so that the whole fits 32 bits too.
+    units_less_one: u32,
 }
 
 impl Model for Share {
-    ghost use Rattle.std.specs.Prelude.{ℕ, ◌≤◌, ◌<◌};
-    ghost use Rattle.title_share.specs.Rows.{whole_units};
+    ghost use Rattle.std.specs.Prelude.{ℕ, ◌+◌, ◌-◌};
+    ghost use Rattle.std.proofs.Math.Nat.{add-sub_cancel};
 
     ghost Value = { ℕ };
 
-    ghost view = { λ s. s.units };
+    ghost view = { λ s. s.units_less_one + 1 };
 
-    ghost invariant = { λ s. (0 < s.units) × (s.units ≤ whole_units) };
+    ghost inverse = { λ n. record { units_less_one = n - 1 } };
 
-    ghost inverse = { λ n. record { units = n } };
+    ghost inverse_ok = { λ s h i. record { units_less_one = add-sub_cancel s.units_less_one 1 i } };
 }
 
 // A number in decimal, without leading zeros, where it fits.
@@ -58,7 +59,18 @@ impl Share {
         if units == 0 || units > WHOLE {
             return None;
         }
-        Some(Share { units })
+        Some(Share::of(units))
+    }
+
+    // The share of so many units, which are from 1 to the whole.
+    fn of(units: u64) -> Share
+        requires some { 0 < units }
+        requires most { units ≤ whole_units }
+        ensures of { result ≡ units }
+    {
+        Share {
+            units_less_one: (units - 1) as u32,
+        }
     }
 
     /// The share that a text `a/b` names, a/b of the whole. `None` where it names none: both are
@@ -81,9 +93,7 @@ impl Share {
         if top > bottom {
             return None;
         }
-        Some(Share {
-            units: top * weight,
-        })
+        Some(Share::of(top * weight))
     }
 
     /// Its units, from 1 to the whole.
@@ -92,7 +102,7 @@ impl Share {
         ensures some { 0 < result }
         ensures most { result ≤ whole_units }
     {
-        self.units
+        u64::from(self.units_less_one) + 1
     }
 
     /// The share as a fraction in lowest terms: the numbers above and below the line. So it is
@@ -103,7 +113,7 @@ impl Share {
         ensures text { share_text self ≡ decimal result.0 ++ 47 ∷ decimal result.1 }
         ensures named { IsShareText (share_text self) self }
     {
-        reduced(self.units)
+        reduced(self.units())
     }
 }
 
@@ -118,6 +128,15 @@ fn reduced(units: u64) -> (u64, u64)
         exponent -= 1;
     }
     (above, 1 << exponent)
+}
+
+/// The share by its units.
+impl fmt::Debug for Share {
+    fn fmt<W: fmt::Write>(&self, f: &mut fmt::Formatter<W>) -> fmt::Result {
+        f.debug_struct("Share")
+            .field("units", &self.units())
+            .finish()
+    }
 }
 
 /// The share in lowest terms, as `3/8`; the whole is `1/1`.
@@ -148,6 +167,7 @@ impl fmt::Display for Fraction {
 #[cfg(test)]
 mod tests {
     use super::*;
+    use std::mem::size_of;
     use std::test::Fail;
 
     #[test]
@@ -202,5 +222,19 @@ mod tests {
         assert_eq!(rt; Share::parse("3/8"), Some(share));
         assert_eq!(rt; Share::new(1_610_612_736), Some(share));
         Ok(())
+    }
+
+    #[test]
+    fn shows_its_units(rt: HostRuntime) -> Result<(), Fail> {
+        let whole = Share::new(WHOLE).ok_or("a share")?;
+        let shown = format!(in rt.alloc(); "{whole:?}")?;
+        assert_eq!(rt; shown.as_str(), "Share { units: 4294967296 }");
+        Ok(())
+    }
+
+    #[test]
+    fn takes_32_bits(rt: HostRuntime) {
+        assert_eq!(rt; size_of::<Share>(), 4);
+        assert_eq!(rt; size_of::<Option<Share>>(), 8);
     }
 }

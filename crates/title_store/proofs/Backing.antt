@@ -1,5 +1,6 @@
 -- Every image that is out can go back without memory.
 use Rattle.std.proofs.Common.{◌≡◌, ℕ, Bool, true, false, cond, List, [], ◌∷◌, Option, Some, None, is_some, refl, sym, ap, subst, ◌∙◌}
+use Rattle.title_land.specs.Depth.{depth}
 use Rattle.std.specs.Prelude.{unwrap_or}
 use Rattle.std.specs.List.{AllByRecursion}
 use Rattle.std.specs.Ordering.{nat_cmp}
@@ -44,17 +45,17 @@ kept_or ks c z b e = go (kept_at ks c) b e
     go (Some w) false h = absurd cc
 
 -- what a plant has in a tract's cells is kept for these cells and no others
-pub keeps_from : (p : Plant) (ts : List Township) (land : Land) (ks : List Kept) → ks ≡ keep_from p (cells_of 3 ts land) → (c : Cell) → keeps ks c ≡ is_cell_of 3 ts land c
+pub keeps_from : (p : Plant) (ts : List Township) (land : Land) (ks : List Kept) → ks ≡ keep_from p (cells_of depth ts land) → (c : Cell) → keeps ks c ≡ is_cell_of depth ts land c
 keeps_from p ts land ks e c =
-    ap (λ (xs : List Kept). keeps xs c) e ∙ ap is_some (kept_from p (cells_of 3 ts land) c) ∙ go (lists (cells_of 3 ts land) c) ∙ listed_is ts land c
+    ap (λ (xs : List Kept). keeps xs c) e ∙ ap is_some (kept_from p (cells_of depth ts land) c) ∙ go (lists (cells_of depth ts land) c) ∙ listed_is ts land c
   where
     go : (b : Bool) → is_some (cond b (Some (p c)) None) ≡ b
     go true = refl
     go false = refl
 
 -- places for a tract's listed cells are places for its cells
-pub places_for : (ts : List Township) (land : Land) (m : CellMap) → AllByRecursion (λ c. is_there m c ≡ true) (cells_of 3 ts land) → (c : Cell) → is_cell_of 3 ts land c ≡ true → is_there m c ≡ true
-places_for ts land m h c l = each_listed (λ x. is_there m x ≡ true) (cells_of 3 ts land) c h (listed_is ts land c ∙ l)
+pub places_for : (ts : List Township) (land : Land) (m : CellMap) → AllByRecursion (λ c. is_there m c ≡ true) (cells_of depth ts land) → (c : Cell) → is_cell_of depth ts land c ≡ true → is_there m c ≡ true
+places_for ts land m h c l = each_listed (λ x. is_there m x ≡ true) (cells_of depth ts land) c h (listed_is ts land c ∙ l)
 
 -- places that stay back what is out
 pub backed_stays : (ts : List Township) (m k : CellMap) (lent : BTreeMap ℕ Lent) → ((c : Cell) → is_there m c ≡ true → is_there k c ≡ true) → AreBacked ts m lent → AreBacked ts k lent
@@ -88,10 +89,10 @@ some_is h = cc
 -- the map after the write of what an image holds
 pub restored : (ts : List Township) (m k : CellMap) (lent : BTreeMap ℕ Lent) (n : ℕ) (l : Lent) → get nat_cmp lent n ≡ Some l → IsOrdered nat_cmp lent → AreBacked ts m lent
     → ((c : Cell) → content_of k c ≡ unwrap_or (kept_at l.old.items c) (content_of m c))
-    → (b : Loan) → IsLentAs b n (loans_of lent.entries) → (c : Cell) → content_of k c ≡ cond (is_cell_of 3 ts b.land c) (b.held c) (content_of m c)
+    → (b : Loan) → IsLentAs b n (loans_of lent.entries) → (c : Cell) → content_of k c ≡ cond (is_cell_of depth ts b.land c) (b.held c) (content_of m c)
 restored ts m k lent n l is ordered backed h b out c =
     let found = found_as n lent.entries ordered b out in
     let same : found.0 ≡ l = some_is (sym found.1 ∙ is) in
     h c
-    ∙ kept_or l.old.items c (content_of m c) (is_cell_of 3 ts l.land c) (backed n l is c).0
-    ∙ sym (ap (λ (x : Loan). cond (is_cell_of 3 ts x.land c) (x.held c) (content_of m c)) (found.2 ∙ ap (λ (x : Lent). loan_of (n, x)) same))
+    ∙ kept_or l.old.items c (content_of m c) (is_cell_of depth ts l.land c) (backed n l is c).0
+    ∙ sym (ap (λ (x : Loan). cond (is_cell_of depth ts x.land c) (x.held c) (content_of m c)) (found.2 ∙ ap (λ (x : Lent). loan_of (n, x)) same))

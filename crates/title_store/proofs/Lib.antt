@@ -3,10 +3,11 @@ pub mod PlantCells
 pub mod EffectLaws
 pub mod TractNodes
 pub mod SheetLaws
+pub mod PostsDoubled
+pub mod SheetsDoubled
 pub mod MapLaws
 pub mod LoanLaws
 pub mod Backing
 pub mod SheetSteps
-pub mod ListSteps
 pub mod Puts
 pub mod Taking

@@ -1,5 +1,6 @@
 -- Laws of maps from cells to owners, and of what is kept of cells.
 use Rattle.std.proofs.Common.{◌≡◌, ℕ, ◌+◌, ◌<◌, Bool, true, false, cond, List, [], ◌∷◌, ◌++◌, Option, Some, None, is_some, take, get_or, length, refl, sym, ap, ◌∙◌, true≢false, subst, inl, inr, ◌||◌}
+use Rattle.title_land.specs.Depth.{depth}
 use Rattle.std.specs.Prelude.{unwrap_or}
 use Rattle.std.proofs.lemmas.List.{take_more}
 use Rattle.std.proofs.lemmas.Bool.{or_cases}
@@ -117,32 +118,32 @@ each_listed P (x ∷ xs) c h l = elim (or_cases (same_cell c x) (lists xs c) l) 
 ]
 
 -- the listed cells of a tract are those in it
-pub listed_is : (ts : List Township) (land : Land) (c : Cell) → lists (cells_of 3 ts land) c ≡ is_cell_of 3 ts land c
-listed_is ts land c = list_has_the_cells 3 ts land c
+pub listed_is : (ts : List Township) (land : Land) (c : Cell) → lists (cells_of depth ts land) c ≡ is_cell_of depth ts land c
+listed_is ts land c = list_has_the_cells depth ts land c
 
 -- the plant after new owners were written into a tract's cells
 pub post_content : (i : Instrument) (p : Plant) (ts : List Township) (land : Land) (ks : List Kept) (c : Cell) (z : Owners)
-    → first_failing i p (cells_of 3 ts land) ≡ None → ks ≡ keep_from (λ x. done_or (p x) (cell_effect i (p x))) (cells_of 3 ts land) → z ≡ p c
-    → unwrap_or (kept_at ks c) z ≡ plant_effect 3 ts i p land c
+    → first_failing i p (cells_of depth ts land) ≡ None → ks ≡ keep_from (λ x. done_or (p x) (cell_effect i (p x))) (cells_of depth ts land) → z ≡ p c
+    → unwrap_or (kept_at ks c) z ≡ plant_effect depth ts i p land c
 unfolding plant_effect refused_in
 post_content i p ts land ks c z none kept same =
     ap (λ (xs : List Kept). unwrap_or (kept_at xs c) z) kept
-    ∙ ap (λ (o : Option Owners). unwrap_or o z) (kept_from (λ x. done_or (p x) (cell_effect i (p x))) (cells_of 3 ts land) c)
+    ∙ ap (λ (o : Option Owners). unwrap_or o z) (kept_from (λ x. done_or (p x) (cell_effect i (p x))) (cells_of depth ts land) c)
     ∙ ap (λ (b : Bool). unwrap_or (cond b (Some (done_or (p c) (cell_effect i (p c)))) None) z) (listed_is ts land c)
-    ∙ go (is_cell_of 3 ts land c)
-    ∙ sym (ap (λ (f : Option Failing). cond (is_some (refusal_of 3 land f)) (p c) (cond (is_cell_of 3 ts land c) (done_or (p c) (cell_effect i (p c))) (p c))) none)
+    ∙ go (is_cell_of depth ts land c)
+    ∙ sym (ap (λ (f : Option Failing). cond (is_some (refusal_of depth land f)) (p c) (cond (is_cell_of depth ts land c) (done_or (p c) (cell_effect i (p c))) (p c))) none)
   where
     go : (b : Bool) → unwrap_or (cond b (Some (done_or (p c) (cell_effect i (p c)))) None) z ≡ cond b (done_or (p c) (cell_effect i (p c))) (p c)
     go true = refl
     go false = same
 
 -- a refused post leaves the plant
-pub refused_content : (i : Instrument) (p : Plant) (ts : List Township) (land : Land) (c : Cell) (f : Failing) → first_failing i p (cells_of 3 ts land) ≡ Some f → p c ≡ plant_effect 3 ts i p land c
+pub refused_content : (i : Instrument) (p : Plant) (ts : List Township) (land : Land) (c : Cell) (f : Failing) → first_failing i p (cells_of depth ts land) ≡ Some f → p c ≡ plant_effect depth ts i p land c
 unfolding plant_effect refused_in
 refused_content i p ts land c f some =
-    sym (ap (λ (g : Option Failing). cond (is_some (refusal_of 3 land g)) (p c) (cond (is_cell_of 3 ts land c) (done_or (p c) (cell_effect i (p c))) (p c))) some)
+    sym (ap (λ (g : Option Failing). cond (is_some (refusal_of depth land g)) (p c) (cond (is_cell_of depth ts land c) (done_or (p c) (cell_effect i (p c))) (p c))) some)
 
 -- what refuses a post, from its first failing cell
-pub refused_by : (i : Instrument) (p : Plant) (ts : List Township) (land : Land) (o : Option Failing) → first_failing i p (cells_of 3 ts land) ≡ o → refused_in 3 ts i p land ≡ refusal_of 3 land o
+pub refused_by : (i : Instrument) (p : Plant) (ts : List Township) (land : Land) (o : Option Failing) → first_failing i p (cells_of depth ts land) ≡ o → refused_in depth ts i p land ≡ refusal_of depth land o
 unfolding refused_in
-refused_by i p ts land o e = ap (refusal_of 3 land) e
+refused_by i p ts land o e = ap (refusal_of depth land) e

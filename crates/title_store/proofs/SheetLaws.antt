@@ -1,5 +1,5 @@
 -- A sheet depends on the cells of its tract alone.
-use Rattle.std.proofs.Common.{◌≡◌, ℕ, zero, suc, ◌+◌, ◌≤◌, true, cond, ◌&&◌, ◌==◌, List, [], ◌∷◌, ◌++◌, Option, Some, None, refl, sym, ap, ◌∙◌}
+use Rattle.std.proofs.Common.{◌≡◌, ℕ, zero, suc, ◌+◌, true, cond, ◌&&◌, ◌==◌, List, [], ◌∷◌, ◌++◌, Option, Some, None, refl, sym, ap, ◌∙◌}
 use Rattle.std.proofs.lemmas.Bool.{and_from, and_parts, eqb-true, eq-eqb}
 use Rattle.std.specs.List.{AllByRecursion, flat_map, list_all}
 use Rattle.title_share.specs.Division.{Division, rows_of, same_rows}
@@ -39,20 +39,22 @@ node_same d ts e p q n same =
     one_same e p q (node_cells d ts n)
     (each_from (λ c. (node_has d n c ≡ true) × (is_plant_cell d ts c ≡ true)) (λ c. p c ≡ q c) _ (λ c h. same c h.0 h.1) (node_each d ts n))
 
-below_same : (levels d : ℕ) → d ≤ 3 → (ts : List Township) (e : Estate) (p q : Plant) (n : Node) → SameIn d ts p q n → sheet_below levels d ts p e n ≡ sheet_below levels d ts q e n
-below_same zero d small ts e p q n same = ap (λ (o : Option Division). rows_or n e o []) (node_same d ts e p q n same)
-below_same (suc levels) d small ts e p q n same =
+below_same : (levels d : ℕ) (ts : List Township) (e : Estate) (p q : Plant) (n : Node) → SameIn d ts p q n
+    → sheet_below levels d ts p e n ≡ sheet_below levels d ts q e n
+below_same zero d ts e p q n same = ap (λ (o : Option Division). rows_or n e o []) (node_same d ts e p q n same)
+below_same (suc levels) d ts e p q n same =
     let parts = flat_map_same (sheet_below levels d ts p e) (sheet_below levels d ts q e) (children_of d ts n)
     (each_from (λ m. (c : Cell) → node_has d m c ≡ true → node_has d n c ≡ true) (λ m. sheet_below levels d ts p e m ≡ sheet_below levels d ts q e m) _
-    (λ m h. below_same levels d small ts e p q m (λ c k. same c (h c k))) (children_within d small ts n)) in
+    (λ m h. below_same levels d ts e p q m (λ c k. same c (h c k))) (children_within d ts n)) in
     λ i. rows_or n e (node_same d ts e p q n same i) (parts i)
 
-estate_same : (d : ℕ) → d ≤ 3 → (ts : List Township) (land : Land) (p q : Plant) → ((c : Cell) → (has land c && is_plant_cell d ts c) ≡ true → p c ≡ q c) → (e : Estate)
+estate_same : (d : ℕ) (ts : List Township) (land : Land) (p q : Plant)
+    → ((c : Cell) → (has land c && is_plant_cell d ts c) ≡ true → p c ≡ q c) → (e : Estate)
     → flat_map (sheet_below (d + 2) d ts p e) (cover_of d land) ≡ flat_map (sheet_below (d + 2) d ts q e) (cover_of d land)
-estate_same d small ts land p q same e =
+estate_same d ts land p q same e =
     flat_map_same (sheet_below (d + 2) d ts p e) (sheet_below (d + 2) d ts q e) (cover_of d land)
     (each_from (λ n. (c : Cell) → node_has d n c ≡ true → has land c ≡ true) (λ n. sheet_below (d + 2) d ts p e n ≡ sheet_below (d + 2) d ts q e n) _
-    (λ n h. below_same (d + 2) d small ts e p q n (λ c k l. same c (and_from (has land c) _ (h c k) l))) (cover_within d small land))
+    (λ n h. below_same (d + 2) d ts e p q n (λ c k l. same c (and_from (has land c) _ (h c k) l))) (cover_within d land))
 
 each_estate : (f g : Estate → List SheetRow) → ((e : Estate) → f e ≡ g e) → (es : List Estate) → flat_map f es ≡ flat_map g es
 each_estate f g h [] = refl
@@ -60,7 +62,7 @@ each_estate f g h (e ∷ es) = λ i. h e i ++ each_estate f g h es i
 
 pub sheet_same : SheetSame
 unfolding sheet_of
-sheet_same d ts land p q small same = each_estate _ _ (estate_same d small ts land p q same) estates
+sheet_same d ts land p q same = each_estate _ _ (estate_same d ts land p q same) estates
 
 entries_is : (xs ys : List (ℕ × ℕ)) → same_entries xs ys ≡ true → xs ≡ ys
 entries_is [] [] h = refl

@@ -13,19 +13,17 @@ use Rattle.title_land.specs.declared.rectangle.Rectangle.{Rectangle}
 use Rattle.title_land.specs.declared.node.Node.{Node}
 use Rattle.title_land.specs.declared.node.Node.TheVariants as node
 use Rattle.title_land.specs.declared.node.Within.{Within}
-use Rattle.title_land.specs.declared.node.Within.TheVariants as within
 use Rattle.title_land.specs.declared.tract.Land.{Land}
 use Rattle.title_land.specs.declared.tract.Land.TheVariants as land
 use Rattle.title_land.specs.Places.{same_township, same_section}
 use Rattle.title_land.specs.Rectangles.{holds, quarter_of}
-use Rattle.title_land.specs.Nodes.{path, within_at, square, quarters, node_has}
+use Rattle.title_land.specs.Nodes.{square, quarters, node_has}
 use Rattle.title_land.specs.Grids.{grid_has, range_all, row_fills, fills}
 use Rattle.title_land.specs.Covers.{cover_below, node_at}
 use Rattle.title_land.specs.Lands.{has, cover_of}
 use Rattle.title_land.specs.CellLists.{sections_of, children_of}
 use Rattle.title_store.proofs.Each.{each_from, each_append, each_map}
 use Rattle.title_land.proofs.Squares.{inside, quarter_inside, holds_from}
-use Rattle.title_land.proofs.NodeSharing.{path-within_at}
 use Rattle.title_store.proofs.PlantCells.{sections_each}
 
 range_at : (test : ℕ → Bool) (start n k : ℕ) → range_all test start n ≡ true → start ≤ k → k < start + n → test k ≡ true
@@ -71,19 +69,20 @@ cover_each_below d set (suc levels) q l =
 abbrev HasWithin : ℕ → Land → Node → Type 0
 HasWithin d land n = (c : Cell) → node_has d n c ≡ true → has land c ≡ true
 
-part_within : (d : ℕ) → d ≤ 3 → (s : Section) (set : ℕ → ℕ → Bool) (q : List Quarter) (c : Cell) → Listed d set q → node_has d (node_at s q) c ≡ true → (same_section s c.section && set c.row c.column) ≡ true
-part_within d small s set q c h in_node =
+part_within : (d : ℕ) (s : Section) (set : ℕ → ℕ → Bool) (q : List Quarter) (c : Cell) → Listed d set q → node_has d (node_at s q) c ≡ true
+    → (same_section s c.section && set c.row c.column) ≡ true
+part_within d s set q c h in_node =
     let parts = and_parts (same_section s c.section) _ in_node in
-    and_from _ _ parts.0 (filled_at set (square d q) c.row c.column h.0 (sym (ap (λ (x : List Quarter). holds (square d x) c.row c.column) (path-within_at q (omega (arith, h)))) ∙ parts.1))
+    and_from _ _ parts.0 (filled_at set (square d q) c.row c.column h.0 parts.1)
 
 -- the cells of a cover's nodes are the tract's
-pub cover_within : (d : ℕ) → d ≤ 3 → (land : Land) → AllByRecursion (HasWithin d land) (cover_of d land)
+pub cover_within : (d : ℕ) (land : Land) → AllByRecursion (HasWithin d land) (cover_of d land)
 unfolding cover_of has
-cover_within d small land.Everything = ((λ c h. refl), tt)
-cover_within d small (land.Township t) = ((λ c h. h), tt)
-cover_within d small (land.Part s g) =
+cover_within d land.Everything = ((λ c h. refl), tt)
+cover_within d (land.Township t) = ((λ c h. h), tt)
+cover_within d (land.Part s g) =
     each_map (node_at s) (HasWithin d (land.Part s g)) (cover_below d (grid_has g) d [])
-    (each_from (Listed d (grid_has g)) (λ q. HasWithin d (land.Part s g) (node_at s q)) _ (λ q h c k. part_within d small s (grid_has g) q c h k)
+    (each_from (Listed d (grid_has g)) (λ q. HasWithin d (land.Part s g) (node_at s q)) _ (λ q h c k. part_within d s (grid_has g) q c h k)
     (cover_each_below d (grid_has g) d [] (omega arith)))
 
 quarter_holds : (q : Quarter) (r : Rectangle) (row column : ℕ) → holds (quarter_of q r) row column ≡ true → holds r row column ≡ true
@@ -96,26 +95,25 @@ everywhere : (d : ℕ) (nodes : List Node) → AllByRecursion (LiesIn d node.Eve
 everywhere d [] = tt
 everywhere d (n ∷ nodes) = ((λ c h. refl), everywhere d nodes)
 
-section_in : (d : ℕ) (t : Township) (s : Section) → s.township ≡ t → LiesIn d (node.Township t) (node.Part s within.Whole)
+section_in : (d : ℕ) (t : Township) (s : Section) → s.township ≡ t → LiesIn d (node.Township t) (node.Part s [])
 section_in d t s e c h =
     let parts = and_parts (same_section s c.section) _ h in
     sym (ap (λ (x : Township). same_township x c.section.township) e) ∙ (and_parts (same_township s.township c.section.township) _ parts.0).0
 
-quarter_in : (d : ℕ) (s : Section) (w : Within) (q : Quarter) → length (path w) < 3 → LiesIn d (node.Part s w) (node.Part s (within_at (q ∷ path w)))
-quarter_in d s w q l c h =
+pub quarter_in : (d : ℕ) (s : Section) (w : Within) (q : Quarter) → LiesIn d (node.Part s w) (node.Part s (q ∷ w))
+quarter_in d s w q c h =
     let parts = and_parts (same_section s c.section) _ h in
-    and_from _ _ parts.0 (quarter_holds q (square d (path w)) c.row c.column (sym (ap (λ (x : List Quarter). holds (square d x) c.row c.column) (path-within_at (q ∷ path w) (omega arith))) ∙ parts.1))
+    and_from _ _ parts.0 (quarter_holds q (square d w) c.row c.column parts.1)
 
 -- the cells of a node's children are its cells
-pub children_within : (d : ℕ) → d ≤ 3 → (ts : List Township) (n : Node) → AllByRecursion (LiesIn d n) (children_of d ts n)
-children_within d small ts node.Everything = everywhere d _
-children_within d small ts (node.Township t) =
-    each_map (λ s. node.Part s within.Whole) (LiesIn d (node.Township t)) (sections_of t)
-    (each_from (λ s. s.township ≡ t) (λ s. LiesIn d (node.Township t) (node.Part s within.Whole)) (sections_of t) (section_in d t) (sections_each t))
-children_within d small ts (node.Part s w) = go (nat_lt (length (path w)) d) refl
+pub children_within : (d : ℕ) (ts : List Township) (n : Node) → AllByRecursion (LiesIn d n) (children_of d ts n)
+children_within d ts node.Everything = everywhere d _
+children_within d ts (node.Township t) =
+    each_map (λ s. node.Part s []) (LiesIn d (node.Township t)) (sections_of t)
+    (each_from (λ s. s.township ≡ t) (λ s. LiesIn d (node.Township t) (node.Part s [])) (sections_of t) (section_in d t) (sections_each t))
+children_within d ts (node.Part s w) = go (nat_lt (length w) d)
   where
-    go : (b : Bool) → nat_lt (length (path w)) d ≡ b → AllByRecursion (LiesIn d (node.Part s w)) (if b then map (λ q. node.Part s (within_at (q ∷ path w))) quarters else [])
-    go true e =
-        let l = ltb-true (length (path w)) d e in
-        (quarter_in d s w Northeast (omega (arith, l)), (quarter_in d s w Northwest (omega (arith, l)), (quarter_in d s w Southwest (omega (arith, l)), (quarter_in d s w Southeast (omega (arith, l)), tt))))
-    go false e = tt
+    go : (b : Bool) → AllByRecursion (LiesIn d (node.Part s w)) (if b then map (λ q. node.Part s (q ∷ w)) quarters else [])
+    go true =
+        (quarter_in d s w Northeast, (quarter_in d s w Northwest, (quarter_in d s w Southwest, (quarter_in d s w Southeast, tt))))
+    go false = tt

@@ -1,5 +1,6 @@
 -- Maps from cells to owners, what is kept of cells, and the images that a map of them lends.
 use Rattle.std.specs.Prelude.{◌≡◌, ℕ, Bool, true, cond, List, [], ◌∷◌, Option, Some, None, is_some, unwrap_or, map}
+use Rattle.title_land.specs.Depth.{depth}
 use Rattle.std.specs.Ordering.{nat_cmp}
 use Rattle.std.specs.BTreeMap.{BTreeMap, get, is_at}
 use Rattle.title_land.specs.declared.place.Township.{Township}
@@ -64,7 +65,7 @@ keeps kept c = is_some (kept_at kept c)
 -- an image can go back without memory: it keeps owners for the tract's cells and no others, and the map holds those cells
 abbrev pub IsBacked : List Township → CellMap → Lent → Type 0
 IsBacked townships m l = (c : Cell) →
-    (keeps l.old.items c ≡ is_cell_of 3 townships l.land c) × (is_cell_of 3 townships l.land c ≡ true → is_there m c ≡ true)
+    (keeps l.old.items c ≡ is_cell_of depth townships l.land c) × (is_cell_of depth townships l.land c ≡ true → is_there m c ≡ true)
 
 -- every image that is out can go back
 abbrev pub AreBacked : List Township → CellMap → BTreeMap ℕ Lent → Type 0

@@ -1,5 +1,6 @@
 -- Before-images that are out of a store.
 use Rattle.std.specs.Prelude.{◌≡◌, ℕ, ◌<◌, true, false, cond, eqb, List, [], ◌∷◌, ◌++◌, ◌⊎◌, Option, Some, None}
+use Rattle.title_land.specs.Depth.{depth}
 use Rattle.title_land.specs.declared.place.Cell.{Cell}
 use Rattle.title_land.specs.declared.place.Township.{Township}
 use Rattle.title_land.specs.declared.tract.Land.{Land}
@@ -42,7 +43,7 @@ AllBelow number out = (x : Loan) → IsAmong x out → x.number < number
 -- an image is out, last, with a number above all others, holding what the tract's cells held
 pub record IsTaken (number : ℕ) (townships : List Township) (land : Land) (before : Plant) (old new : List Loan) : Type 0 where
   pub held : Plant
-  pub holds : (c : Cell) → is_cell_of 3 townships land c ≡ true → held c ≡ before c
+  pub holds : (c : Cell) → is_cell_of depth townships land c ≡ true → held c ≡ before c
   pub above : AllBelow number old
   pub last : new ≡ old ++ record { number = number; land = land; held = held } ∷ []
 

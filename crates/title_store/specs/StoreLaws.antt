@@ -1,5 +1,5 @@
 -- Laws of plants, posts and sheets.
-use Rattle.std.specs.Prelude.{◌≡◌, ℕ, ◌≤◌, ◌↔◌, true, false, List, Some}
+use Rattle.std.specs.Prelude.{◌≡◌, ℕ, ◌↔◌, true, false, List, Some}
 use Rattle.title_share.specs.Division.{Division}
 use Rattle.title_land.specs.declared.place.Cell.{Cell}
 use Rattle.title_land.specs.declared.place.Township.{Township}
@@ -12,9 +12,9 @@ use Rattle.title_store.specs.Sheets.{sheet_of, same_division}
 abbrev pub SameOn : ℕ → List Township → Land → Plant → Plant → Type 0
 SameOn depth townships land p q = (c : Cell) → is_cell_of depth townships land c ≡ true → p c ≡ q c
 
--- a sheet depends on the tract's cells alone; a node has a name down to three quarters
+-- a sheet depends on the tract's cells alone
 abbrev pub SheetSame : Type 0
-SheetSame = (depth : ℕ) (townships : List Township) (land : Land) (p q : Plant) → depth ≤ 3 →
+SheetSame = (depth : ℕ) (townships : List Township) (land : Land) (p q : Plant) →
     SameOn depth townships land p q → sheet_of depth townships p land ≡ sheet_of depth townships q land
 
 -- what refuses a post depends on the tract's cells alone

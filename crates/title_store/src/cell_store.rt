@@ -1,6 +1,7 @@
 //! The plant as an ordered map by cell.
 
 ghost use Rattle.std.proofs.Math.Bool.{Bool-set};
+ghost use Rattle.title_land.specs.Depth.{depth};
 ghost use Rattle.std.proofs.Props.{props};
 ghost use Rattle.std.specs.Ordering.{nat_cmp};
 ghost use Rattle.std.specs.BTreeMap.{IsOrdered};
@@ -41,7 +42,7 @@ pub struct CellStore {
 
 // The node of a tract's cover in which a cell lies; the whole plant where it lies in none.
 fn node_of(tract: &Tract, cell: Cell) -> Node
-    ensures node { result ≡ node_of 3 tract.now cell }
+    ensures node { result ≡ node_of depth tract.now cell }
 {
     tract.node_of(cell).unwrap_or(Node::Everything)
 }

@@ -3,9 +3,9 @@
 
 mod cell_map;
 pub mod cell_store;
+pub mod depth_laws;
 mod kept;
 pub mod laws;
-mod lists;
 mod posts;
 pub mod sheet_row;
 mod sheets;

@@ -1,21 +1,26 @@
 //! Rows of sheets, made from a map of owners.
 
-ghost use Rattle.std.specs.Prelude.{◌≡◌, ◌++◌, Some, None, IfOk, OnOk, MatchOption};
+ghost use Rattle.std.specs.Prelude.{◌≡◌, ◌+◌, ◌++◌, Some, None, IfOk, OnOk, MatchOption};
+ghost use Rattle.title_land.specs.Depth.{depth};
 ghost use Rattle.std.specs.List.{flat_map};
 ghost use Rattle.title_land.specs.Lands.{cover_of};
 ghost use Rattle.title_store.specs.CellMaps.{content_of};
 ghost use Rattle.title_store.specs.Sheets.{one_holding, holding_rows, sheet_below};
 
 use crate::cell_map::CellMap;
-use crate::lists::{children_of, node_cells};
 use crate::sheet_row::SheetRow;
 use std::alloc::{AllocError, Global};
 use title_instrument::Estate;
-use title_land::{Cell, DEPTH, Node, Township, Tract};
+use title_land::{Cell, DEPTH, Node, Township, Tract, children_of, node_cells};
 use title_share::Holding;
 
-/// The levels of nodes below the whole plant: townships, sections, and as often as a section is quartered.
-const LEVELS: u8 = DEPTH + 2;
+// The levels of nodes below the whole plant: townships, sections, and as often as a section is quartered.
+#[tactic(auto, using(title_land::proofs::Sides::depth_is))]
+fn levels_below_plant() -> u8
+    ensures levels { result ≡ depth + 2 }
+{
+    DEPTH + 2
+}
 
 // The one holding that all these cells have of an estate, where they have one.
 fn one_holding<'a>(map: &'a CellMap, estate: Estate, cells: &[Cell]) -> Option<&'a Holding>
@@ -37,16 +42,16 @@ fn one_holding<'a>(map: &'a CellMap, estate: Estate, cells: &[Cell]) -> Option<&
 
 // Adds one row for each entry of a holding.
 fn add_entries(
-    node: Node,
+    node: &Node,
     estate: Estate,
     held: &Holding,
     rows: &mut Vec<SheetRow>,
 ) -> Result<(), AllocError>
-    ensures rows { OnOk result (rows.new.items ≡ rows.old.items ++ holding_rows node estate held.now) }
+    ensures rows { OnOk result (rows.new.items ≡ rows.old.items ++ holding_rows node.now estate held.now) }
 {
     for entry in held.rows() {
         rows.push(SheetRow {
-            node,
+            node: *node,
             estate,
             party: entry.0,
             units: entry.1,
@@ -66,11 +71,11 @@ fn add_sheet(
     rows: &mut Vec<SheetRow>,
 ) -> Result<(), AllocError>
     ensures rows { OnOk result (rows.new.items
-        ≡ rows.old.items ++ sheet_below levels 3 townships.now (content_of map.now) estate node) }
+        ≡ rows.old.items ++ sheet_below levels depth townships.now (content_of map.now) estate node) }
 {
     let cells = node_cells(alloc, townships, node)?;
     if let Some(held) = one_holding(map, estate, &cells) {
-        return add_entries(node, estate, held, rows);
+        return add_entries(&node, estate, held, rows);
     }
     if levels == 0 {
         return Ok(());
@@ -82,6 +87,7 @@ fn add_sheet(
 }
 
 /// Adds the sheet of a tract for one estate: the sheets of its cover's nodes in order.
+#[tactic(auto, using(title_land::proofs::Sides::depth_is))]
 pub(crate) fn add_estate(
     alloc: Global,
     map: &CellMap,
@@ -91,10 +97,11 @@ pub(crate) fn add_estate(
     rows: &mut Vec<SheetRow>,
 ) -> Result<(), AllocError>
     ensures rows { OnOk result (rows.new.items
-        ≡ rows.old.items ++ flat_map (sheet_below 5 3 townships.now (content_of map.now) estate) (cover_of 3 tract.now)) }
+        ≡ rows.old.items ++ flat_map (sheet_below (depth + 2) depth townships.now (content_of map.now) estate) (cover_of depth tract.now)) }
 {
+    let levels = levels_below_plant();
     for node in tract.cover() {
-        add_sheet(alloc, map, townships, LEVELS, estate, *node, rows)?;
+        add_sheet(alloc, map, townships, levels, estate, *node, rows)?;
     }
     Ok(())
 }

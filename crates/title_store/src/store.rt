@@ -1,6 +1,7 @@
 //! What every store of a plant promises.
 
 ghost use Rattle.std.specs.Prelude.{◌≡◌, ℕ, IfOk, OnOk, OnErr, List, [], true, cond};
+ghost use Rattle.title_land.specs.Depth.{depth};
 ghost use Rattle.title_land.specs.declared.place.Cell.{Cell};
 ghost use Rattle.title_land.specs.declared.place.Township.{Township};
 ghost use Rattle.title_land.specs.Lands.{is_in_plant};
@@ -54,11 +55,11 @@ pub trait Store {
         instrument: &Instrument,
     ) -> Result<Put<Self::Image>, AllocError>
         requires within { is_in_plant (declared self.old) tract.now ≡ true }
-        ensures put { IfOk result (λ put. PutBy put (refused_in 3 (declared self.old) instrument.now (content self.old) tract.now)
+        ensures put { IfOk result (λ put. PutBy put (refused_in depth (declared self.old) instrument.now (content self.old) tract.now)
             (λ image. IsTaken (number image) (declared self.old) tract.now (content self.old) (out self.old) (out self.new))
             (out self.new ≡ out self.old)) }
         ensures content { OnOk result (SameContent
-            (plant_effect 3 (declared self.old) instrument.now (content self.old) tract.now) (content self.new)) }
+            (plant_effect depth (declared self.old) instrument.now (content self.old) tract.now) (content self.new)) }
         ensures declared { declared self.new ≡ declared self.old }
         ensures err_content { OnErr result (SameContent (content self.old) (content self.new)) }
         ensures err_out { OnErr result (out self.new ≡ out self.old) };
@@ -68,7 +69,7 @@ pub trait Store {
         requires out { IsOut (number image) (out self.old) }
         requires last { IsLast (number image) (out self.old) }
         ensures content { (b : Loan) → IsLentAs b (number image) (out self.old) → SameContent
-            (λ c. cond (is_cell_of 3 (declared self.old) b.land c) (b.held c) (content self.old c)) (content self.new) }
+            (λ c. cond (is_cell_of depth (declared self.old) b.land c) (b.held c) (content self.old c)) (content self.new) }
         ensures declared { declared self.new ≡ declared self.old }
         ensures out { out self.new ≡ without (number image) (out self.old) };
 
@@ -83,7 +84,7 @@ pub trait Store {
     /// The sheet of a tract: for each estate, for each node of the cover, the owners of its cells.
     fn sheet(&self, alloc: Global, tract: &Tract) -> Result<Vec<SheetRow>, AllocError>
         requires within { is_in_plant (declared self.now) tract.now ≡ true }
-        ensures sheet { IfOk result (λ rows. rows.items ≡ sheet_of 3 (declared self.now) (content self.now) tract.now) };
+        ensures sheet { IfOk result (λ rows. rows.items ≡ sheet_of depth (declared self.now) (content self.now) tract.now) };
 
     /// Tidies up while no image is out. Takes no memory and changes nothing that a contract sees.
     fn tidy(&mut self)

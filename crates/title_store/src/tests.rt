@@ -10,10 +10,12 @@ use std::collections::VecDeque;
 use std::process::Abort;
 use std::test::Fail;
 use title_instrument::{Deed, Estate, Estates, Instrument, Quantum, Release, Rule};
-use title_land::{Grid, Land, Node, Quarter, Section, Township, Tract, Within};
+use title_land::{Node, Quarter, Section, Township, Tract, Within};
 use title_share::Share;
 
-const NORTHEAST: Within = Within::Quarter(Quarter::Northeast);
+const NORTHEAST: Quarter = Quarter::Northeast;
+
+const SOUTHEAST: Quarter = Quarter::Southeast;
 
 const WHOLE: u64 = 4_294_967_296;
 
@@ -45,12 +47,10 @@ fn section(rt: &impl Abort, number: u8) -> Section {
     Section::new(township(rt, 3), number).expect(rt, "the number is in range")
 }
 
-/// The tract of one square of a section.
-fn square(alloc: Global, section: Section, within: Within) -> Result<Tract, AllocError> {
-    Tract::new(
-        alloc,
-        Land::Part(section, Grid::EMPTY.with(within.square())),
-    )
+/// The square of a section with these quarters, the innermost first.
+fn square(rt: &impl Abort, section: Section, quarters: &[Quarter]) -> Node {
+    let within = Within::named(quarters).expect(rt, "no more than four quarters");
+    Node::Part(section, within)
 }
 
 fn share(rt: &impl Abort, text: &str) -> Share {
@@ -64,6 +64,7 @@ fn deed(grantor: u32, grantee: u32, estates: Estates, quantum: Quantum) -> Instr
         estates,
         quantum,
         reserve: [None, None, None],
+        warranty: false,
     })
 }
 
@@ -157,14 +158,14 @@ fn assert_opening<S: Store>(
     store: &S,
     townships: &[Township],
     tract: &Tract,
-    node: Node,
+    node: &Node,
 ) -> Result<(), AllocError>
     requires declared { S.declared store.now ≡ townships.now }
 {
     let rows = [
-        (node, Estate::S, UNITED_STATES, WHOLE),
-        (node, Estate::O, UNITED_STATES, WHOLE),
-        (node, Estate::M, UNITED_STATES, WHOLE),
+        (*node, Estate::S, UNITED_STATES, WHOLE),
+        (*node, Estate::O, UNITED_STATES, WHOLE),
+        (*node, Estate::M, UNITED_STATES, WHOLE),
     ];
     assert_sheet(alloc, rt, store, townships, tract, &rows)
 }
@@ -269,10 +270,11 @@ fn three_puts_go_back(rt: HostRuntime) -> Result<(), Fail> {
     let alloc = rt.alloc();
     let townships = [township(&rt, 3)];
     let fifth = section(&rt, 5);
-    let whole = square(alloc, fifth, Within::Whole)?;
-    let inner = square(alloc, fifth, NORTHEAST.quarter(Quarter::Northeast))?;
-    let northeast = square(alloc, fifth, NORTHEAST)?;
-    let southeast = square(alloc, fifth, Within::Quarter(Quarter::Southeast))?;
+    let node = &square(&rt, fifth, &[]);
+    let whole = Tract::of(*node);
+    let inner = Tract::of(square(&rt, fifth, &[NORTHEAST; 2]));
+    let northeast = Tract::of(square(&rt, fifth, &[NORTHEAST]));
+    let southeast = Tract::of(square(&rt, fifth, &[SOUTHEAST]));
     let tracts = [&inner, &northeast, &southeast];
     let half = deed(
         UNITED_STATES,
@@ -280,7 +282,6 @@ fn three_puts_go_back(rt: HostRuntime) -> Result<(), Fail> {
         SURFACE,
         Quantum::Interest(share(&rt, "1/2")),
     );
-    let node = Node::Part(fifth, Within::Whole);
     let mut store = CellStore::open(alloc, &townships)?;
     last_goes_first(&rt, &mut store, &townships, tracts, &half)?;
     assert_opening(alloc, &rt, &store, &townships, &whole, node)?;
@@ -293,7 +294,7 @@ fn three_puts_go_back(rt: HostRuntime) -> Result<(), Fail> {
 fn a_thousand_images_go(rt: HostRuntime) -> Result<(), Fail> {
     let alloc = rt.alloc();
     let townships = [township(&rt, 3)];
-    let northeast = square(alloc, section(&rt, 5), NORTHEAST)?;
+    let northeast = Tract::of(square(&rt, section(&rt, 5), &[NORTHEAST]));
     let mut store = CellStore::open(alloc, &townships)?;
     put_and_forget(alloc, &rt, &mut store, &townships, &northeast, 1000)?;
     Ok(())
@@ -305,8 +306,9 @@ fn memory_is_all_that_lacks(rt: HostRuntime) -> Result<(), Fail> {
     let alloc = rt.alloc();
     let townships = [township(&rt, 3)];
     let fifth = section(&rt, 5);
-    let whole = square(alloc, fifth, Within::Whole)?;
-    let northeast = square(alloc, fifth, NORTHEAST)?;
+    let node = &square(&rt, fifth, &[]);
+    let whole = Tract::of(*node);
+    let northeast = Tract::of(square(&rt, fifth, &[NORTHEAST]));
     let half = deed(
         UNITED_STATES,
         ADAMS,
@@ -316,7 +318,6 @@ fn memory_is_all_that_lacks(rt: HostRuntime) -> Result<(), Fail> {
     let mut store = CellStore::open(alloc, &townships)?;
     let tracts = [&northeast, &whole];
     let done = put_twice(&rt, &mut store, &townships, tracts, &half)?;
-    let node = Node::Part(fifth, Within::Whole);
     assert_opening(alloc, &rt, &store, &townships, &whole, node)?;
     assert!(rt; done, "memory was refused");
     Ok(())

@@ -1,14 +1,16 @@
-use crate::tests::{ADAMS, BELL, assert_entries, posted, record, release, section, third_north};
+use crate::tests::{
+    ADAMS, BELL, assert_entries, posted, record, release, section, square, third_north,
+};
 use crate::{Answer, OwnSteps, Step, TractIndex};
 use std::alloc::{AllocError, Global};
 use std::process::Abort;
 use std::test::Fail;
 use title_instrument::{Estate, Rule};
-use title_land::{Grid, Land, Node, Quarter, Rectangle, Section, Township, Tract, Within};
+use title_land::{Grid, Land, Quarter, Rectangle, Section, Township, Tract};
 
 // The land of a whole section.
 fn section_land(rt: &impl Abort, number: u8) -> Land {
-    Land::Part(section(rt, number), Grid::FULL)
+    Land::Part(section(rt, number), Grid::full())
 }
 
 // The land of the township.
@@ -20,7 +22,7 @@ fn third_north_land(rt: &impl Abort) -> Land {
 fn fifth_further_north(rt: &impl Abort) -> Land {
     let township = Township::new(4, true, 2, false).expect(rt, "the numbers are in range");
     let section = Section::new(township, 5).expect(rt, "the number is in range");
-    Land::Part(section, Grid::FULL)
+    Land::Part(section, Grid::full())
 }
 
 // A release of this land.
@@ -38,8 +40,7 @@ fn commit(index: &mut TractIndex, examiner: u32, steps: Vec<Step>) -> Result<(),
 // A refused post of section 5, and a post of section 6.
 fn refused_and_posted(alloc: Global, rt: &impl Abort) -> Result<Vec<Step>, AllocError> {
     let mut refused = post(alloc, 24, section_land(rt, 5))?;
-    let node = Node::Part(section(rt, 5), Within::Whole);
-    refused.answer = Answer::Refused(Rule::ShortTitle, Estate::S, node);
+    refused.answer = Answer::Refused(Rule::ShortTitle, Estate::S, square(rt, 5, &[]));
     let done = post(alloc, 25, section_land(rt, 6))?;
     Ok(vec![in alloc; refused, done]?)
 }
@@ -177,17 +178,17 @@ fn an_index_gives_chains_of_townships_and_of_everything(rt: HostRuntime) -> Resu
 
 // Quarters of section 5.
 fn quarters(rt: &impl Abort, which: &[Quarter]) -> Land {
-    let mut cells = Grid::EMPTY;
+    let mut cells = Grid::empty();
     for quarter in which {
-        cells = cells.with(Rectangle::SECTION.quarter(*quarter));
+        cells = cells.with(Rectangle::section().quarter(*quarter));
     }
     Land::Part(section(rt, 5), cells)
 }
 
 // A quarter of section 5's northeast quarter.
 fn northeast_sixteenth(rt: &impl Abort, which: Quarter) -> Land {
-    let quarter = Rectangle::SECTION.quarter(Quarter::Northeast);
-    Land::Part(section(rt, 5), Grid::EMPTY.with(quarter.quarter(which)))
+    let quarter = Rectangle::section().quarter(Quarter::Northeast);
+    Land::Part(section(rt, 5), Grid::of(quarter.quarter(which)))
 }
 
 // Posts of two quarters, then of the two others as one tract and of the township, then of everything, of a quarter of the
@@ -265,12 +266,12 @@ fn an_index_tells_the_parts_of_a_section_apart(rt: HostRuntime) -> Result<(), Fa
 fn an_index_lists_own_posts(rt: HostRuntime) -> Result<(), Fail> {
     let alloc = rt.alloc();
     let mut index = parts_of_one_section(alloc, &rt)?;
-    let northwest = quarters(&rt, &[Quarter::Northwest]);
-    let northeast = quarters(&rt, &[Quarter::Northeast]);
+    let northwest = &quarters(&rt, &[Quarter::Northwest]);
+    let northeast = &quarters(&rt, &[Quarter::Northeast]);
     let corner = northeast_sixteenth(&rt, Quarter::Northeast);
-    let mut own = own_posts(alloc, &[(41, northwest), (42, corner)])?;
+    let mut own = own_posts(alloc, &[(41, *northwest), (42, corner)])?;
     let want = [(1, 31), (2, 34), (3, 35), (3, 36), (0, 42)];
-    assert_chain(alloc, &rt, &mut index, &mut own, northeast, &want)?;
+    assert_chain(alloc, &rt, &mut index, &mut own, *northeast, &want)?;
     for step in refused_and_posted(alloc, &rt)? {
         own.reserve()?;
         own.push_reserved(step);
@@ -278,7 +279,7 @@ fn an_index_lists_own_posts(rt: HostRuntime) -> Result<(), Fail> {
     own.reserve()?;
     own.push_reserved(post(alloc, 43, third_north_land(&rt))?);
     let want = [(1, 31), (2, 34), (3, 35), (3, 36), (0, 42), (0, 43)];
-    assert_chain(alloc, &rt, &mut index, &mut own, northeast, &want)?;
+    assert_chain(alloc, &rt, &mut index, &mut own, *northeast, &want)?;
     let want = [(2, 34), (3, 35), (3, 37), (0, 25), (0, 43)];
     assert_chain(
         alloc,
@@ -293,5 +294,5 @@ fn an_index_lists_own_posts(rt: HostRuntime) -> Result<(), Fail> {
     commit(&mut index, 4, own.into_steps().into_vec())?;
     let want = [(2, 33), (2, 34), (3, 35), (4, 41), (4, 43)];
     let mut own = OwnSteps::new(alloc);
-    assert_chain(alloc, &rt, &mut index, &mut own, northwest, &want)
+    assert_chain(alloc, &rt, &mut index, &mut own, *northwest, &want)
 }

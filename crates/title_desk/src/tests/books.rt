@@ -1,11 +1,11 @@
 use crate::tests::{
-    ADAMS, Act, BELL, NORTHEAST, OPENING_PLANT, PARTIES, TestDesk, UNITED_STATES, assert_told,
-    open, post, rows_told, square, told, township,
+    ADAMS, Act, BELL, NORTHEAST, OPENING_PLANT, PARTIES, SOUTHEAST, TestDesk, UNITED_STATES,
+    assert_told, open, post, rows_told, square, told, township,
 };
 use crate::{Desk, may_open};
 use std::test::Fail;
 use title_chain::SheetRows;
-use title_land::{Land, Quarter, Tract, Within};
+use title_land::{Node, Tract};
 use title_store::Store;
 use title_trace::{Reply, Request};
 
@@ -13,8 +13,8 @@ use title_trace::{Reply, Request};
 #[test]
 fn a_desk_shows_its_books(rt: HostRuntime) -> Result<(), Fail> {
     let alloc = rt.alloc();
-    let northeast = square(&rt, NORTHEAST);
-    let southeast = square(&rt, Within::Quarter(Quarter::Southeast));
+    let northeast = square(&rt, &[NORTHEAST]);
+    let southeast = square(&rt, &[SOUTHEAST]);
     let mut desk = open(alloc, &rt)?;
     let lines = [
         (1, Act::Begin, "began"),
@@ -49,7 +49,7 @@ fn a_new_desk_has_an_opening_plant(rt: HostRuntime) -> Result<(), Fail> {
     let townships = [township(&rt, 3)];
     assert!(rt; may_open(PARTIES, &townships));
     let desk: TestDesk = Desk::open(alloc, PARTIES, &townships)?;
-    let plant = Tract::new(alloc, Land::Everything)?;
+    let plant = Tract::of(Node::Everything);
     assert!(rt; plant.is_in(&townships));
     let rows = SheetRows::new(desk.store().sheet(alloc, &plant)?)?;
     assert_eq!(rt; rows_told(alloc, &rows)?.as_str(), OPENING_PLANT);

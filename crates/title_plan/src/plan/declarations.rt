@@ -1,6 +1,7 @@
 //! Rows that declare.
 
 ghost use Rattle.std.specs.Prelude.{◌≡◌, ◌⊎◌, ◌||◌, ◌∷◌, ◌++◌, [], Ok, Err, IfErr, IfOk, OnOk, length, nat_le, not};
+ghost use Rattle.title_land.specs.Depth.{depth};
 ghost use Rattle.std.specs.List.{list_any};
 ghost use Rattle.title_aliquot.specs.Describes.{Describes};
 ghost use Rattle.title_device.specs.declared.fault.RunFault.TheVariants as fault;
@@ -18,9 +19,9 @@ use title_land::{Land, Township};
 
 // The township that a text describes as a whole.
 fn read_township(alloc: Global, n: u64, text: &str) -> Result<Township, RunFault>
-    ensures described { IfOk result (λ t. Describes 3 text.now (land.Township t)) }
+    ensures described { IfOk result (λ t. Describes depth text.now (land.Township t)) }
     ensures none { IfErr result (λ e. (e ≡ fault.Memory)
-        ⊎ (((t : Place) → Describes 3 text.now (land.Township t) → ⊥) × (e ≡ fault.Row n))) }
+        ⊎ (((t : Place) → Describes depth text.now (land.Township t) → ⊥) × (e ≡ fault.Row n))) }
 {
     match read(alloc, text) {
         Ok(tract) => match tract.land() {

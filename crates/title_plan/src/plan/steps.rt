@@ -85,6 +85,7 @@ fn deed(terms: DeedTerms, grantor: u32, grantee: u32) -> Instrument
         estates,
         quantum,
         reserve,
+        warranty,
     } = terms;
     Instrument::Deed(Deed {
         grantor,
@@ -92,6 +93,7 @@ fn deed(terms: DeedTerms, grantor: u32, grantee: u32) -> Instrument
         estates,
         quantum,
         reserve,
+        warranty,
     })
 }
 

@@ -3,7 +3,7 @@
 use super::Row;
 use crate::Schedule;
 
-pub const ROWS: [Row; 11] = [
+pub const ROWS: [Row; 10] = [
     Row {
         name: "all or none",
         schedule: Schedule::Serial,
@@ -98,15 +98,21 @@ pub const ROWS: [Row; 11] = [
             1,deed,3,ADAMS,ADAMS,S,W1/2,,T3N R2W sec 5\n\
             1,sheet,T4N R2W sec 5\n\
             1,sheet,T3N R2W sec 37\n\
-            1,sheet,T3N R2W sec 5 NE1/4NE1/4NE1/4NE1/4\n",
+            1,sheet,T3N R2W sec 5 NE1/4NE1/4NE1/4NE1/4\n\
+            1,sheet,T3N R2W sec 5 N1/2NE1/4NE1/4NE1/4NE1/4\n",
         wanted: Ok(
             b"1,posted\n\
             1,refused,11,S,T3N R2W sec 5\n\
             1,invalid,2\n\
             1,notownship\n\
             1,description,22\n\
+            1,sheet,4\n\
+            1,row,T3N R2W sec 5 NE1/4NE1/4NE1/4NE1/4,S,UNITED STATES,1/2\n\
+            1,row,T3N R2W sec 5 NE1/4NE1/4NE1/4NE1/4,S,ADAMS,1/2\n\
+            1,row,T3N R2W sec 5 NE1/4NE1/4NE1/4NE1/4,O,UNITED STATES,1/1\n\
+            1,row,T3N R2W sec 5 NE1/4NE1/4NE1/4NE1/4,M,UNITED STATES,1/1\n\
             1,description,23\n\
-            end,6\n",
+            end,7\n",
         ),
     },
     Row {
@@ -135,14 +141,5 @@ pub const ROWS: [Row; 11] = [
             party,BELL\n\
             1,deed,1,ADAM,ADAMS,S,W1/2,,T3N R2W sec 5 NE1/4\n",
         wanted: Err("fault,34,4"),
-    },
-    Row {
-        name: "warranty row before it is known",
-        schedule: Schedule::Serial,
-        script: b"township,T3N R2W\n\
-            party,ADAMS\n\
-            party,BELL\n\
-            1,warranty,3,ADAMS,BELL,O,W1/1,O1/2,T3N R2W sec 5 NE1/4\n",
-        wanted: Err("fault,31,4"),
     },
 ];

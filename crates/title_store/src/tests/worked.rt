@@ -1,11 +1,11 @@
 use crate::tests::{
-    ADAMS, BELL, CLARK, NORTHEAST, OIL, SURFACE, UNITED_STATES, WHOLE, assert_opening, assert_post,
-    assert_sheet, deed, release, section, share, square, township,
+    ADAMS, BELL, CLARK, NORTHEAST, OIL, SOUTHEAST, SURFACE, UNITED_STATES, WHOLE, assert_opening,
+    assert_post, assert_sheet, deed, release, section, share, square, township,
 };
 use crate::{CellStore, Store};
 use std::test::Fail;
 use title_instrument::{Deed, Estate, Estates, Instrument, Quantum, Rule};
-use title_land::{Land, Node, Quarter, Tract, Within};
+use title_land::{Node, Quarter, Tract};
 
 /// A half of the surface of a quarter: that quarter's sheet, those of the others, and the section's.
 #[test]
@@ -13,7 +13,7 @@ fn a_deed_splits_a_section(rt: HostRuntime) -> Result<(), Fail> {
     let alloc = rt.alloc();
     let townships = [township(&rt, 3)];
     let fifth = section(&rt, 5);
-    let northeast = square(alloc, fifth, NORTHEAST)?;
+    let northeast = Tract::of(square(&rt, fifth, &[NORTHEAST]));
     let mut store = CellStore::open(alloc, &townships)?;
     let half = deed(
         UNITED_STATES,
@@ -22,7 +22,8 @@ fn a_deed_splits_a_section(rt: HostRuntime) -> Result<(), Fail> {
         Quantum::Whole(share(&rt, "1/2")),
     );
     assert_post(&rt, &mut store, &townships, &northeast, &half, None)?;
-    let quarter = |which: Quarter| Node::Part(fifth, Within::Quarter(which));
+    let quarter = |which: Quarter| square(&rt, fifth, &[which]);
+    let node = &square(&rt, fifth, &[]);
     let rows = [
         (
             quarter(Quarter::Northeast),
@@ -34,20 +35,10 @@ fn a_deed_splits_a_section(rt: HostRuntime) -> Result<(), Fail> {
         (quarter(Quarter::Northwest), Estate::S, UNITED_STATES, WHOLE),
         (quarter(Quarter::Southwest), Estate::S, UNITED_STATES, WHOLE),
         (quarter(Quarter::Southeast), Estate::S, UNITED_STATES, WHOLE),
-        (
-            Node::Part(fifth, Within::Whole),
-            Estate::O,
-            UNITED_STATES,
-            WHOLE,
-        ),
-        (
-            Node::Part(fifth, Within::Whole),
-            Estate::M,
-            UNITED_STATES,
-            WHOLE,
-        ),
+        (*node, Estate::O, UNITED_STATES, WHOLE),
+        (*node, Estate::M, UNITED_STATES, WHOLE),
     ];
-    let whole = square(alloc, fifth, Within::Whole)?;
+    let whole = Tract::of(*node);
     assert_sheet(alloc, &rt, &store, &townships, &whole, &rows)?;
     Ok(())
 }
@@ -57,26 +48,26 @@ fn interests_are_of_what_is_held(rt: HostRuntime) -> Result<(), Fail> {
     let alloc = rt.alloc();
     let townships = [township(&rt, 3)];
     let fifth = section(&rt, 5);
-    let northeast = square(alloc, fifth, NORTHEAST)?;
-    let node = Node::Part(fifth, NORTHEAST);
+    let node = &square(&rt, fifth, &[NORTHEAST]);
+    let northeast = Tract::of(*node);
     let mut store = CellStore::open(alloc, &townships)?;
     let first = deed(UNITED_STATES, ADAMS, OIL, Quantum::Whole(share(&rt, "3/8")));
     assert_post(&rt, &mut store, &townships, &northeast, &first, None)?;
     let over = deed(ADAMS, BELL, OIL, Quantum::Whole(share(&rt, "1/2")));
-    let short = Some((Rule::ShortTitle, Estate::O, node));
+    let short = Some((Rule::ShortTitle, Estate::O, *node));
     assert_post(&rt, &mut store, &townships, &northeast, &over, short)?;
     let part = Quantum::Interest(share(&rt, "1/4294967296"));
     let small = deed(ADAMS, BELL, OIL, part);
-    let fine = Some((Rule::TooFine, Estate::O, node));
+    let fine = Some((Rule::TooFine, Estate::O, *node));
     assert_post(&rt, &mut store, &townships, &northeast, &small, fine)?;
     let half = deed(ADAMS, BELL, OIL, Quantum::Interest(share(&rt, "1/2")));
     assert_post(&rt, &mut store, &townships, &northeast, &half, None)?;
     let rows = [
-        (node, Estate::S, UNITED_STATES, WHOLE),
-        (node, Estate::O, UNITED_STATES, WHOLE / 8 * 5),
-        (node, Estate::O, ADAMS, WHOLE / 16 * 3),
-        (node, Estate::O, BELL, WHOLE / 16 * 3),
-        (node, Estate::M, UNITED_STATES, WHOLE),
+        (*node, Estate::S, UNITED_STATES, WHOLE),
+        (*node, Estate::O, UNITED_STATES, WHOLE / 8 * 5),
+        (*node, Estate::O, ADAMS, WHOLE / 16 * 3),
+        (*node, Estate::O, BELL, WHOLE / 16 * 3),
+        (*node, Estate::M, UNITED_STATES, WHOLE),
     ];
     assert_sheet(alloc, &rt, &store, &townships, &northeast, &rows)?;
     Ok(())
@@ -87,8 +78,8 @@ fn reservations_stay_with_the_grantor(rt: HostRuntime) -> Result<(), Fail> {
     let alloc = rt.alloc();
     let townships = [township(&rt, 3)];
     let fifth = section(&rt, 5);
-    let northeast = square(alloc, fifth, NORTHEAST)?;
-    let node = Node::Part(fifth, NORTHEAST);
+    let node = &square(&rt, fifth, &[NORTHEAST]);
+    let northeast = Tract::of(*node);
     let mut store = CellStore::open(alloc, &townships)?;
     let patent = Instrument::Deed(Deed {
         grantor: UNITED_STATES,
@@ -100,13 +91,14 @@ fn reservations_stay_with_the_grantor(rt: HostRuntime) -> Result<(), Fail> {
         },
         quantum: Quantum::Whole(share(&rt, "1/1")),
         reserve: [None, Some(share(&rt, "1/2")), Some(share(&rt, "1/1"))],
+        warranty: false,
     });
     assert_post(&rt, &mut store, &townships, &northeast, &patent, None)?;
     let rows = [
-        (node, Estate::S, ADAMS, WHOLE),
-        (node, Estate::O, UNITED_STATES, WHOLE / 2),
-        (node, Estate::O, ADAMS, WHOLE / 2),
-        (node, Estate::M, UNITED_STATES, WHOLE),
+        (*node, Estate::S, ADAMS, WHOLE),
+        (*node, Estate::O, UNITED_STATES, WHOLE / 2),
+        (*node, Estate::O, ADAMS, WHOLE / 2),
+        (*node, Estate::M, UNITED_STATES, WHOLE),
     ];
     assert_sheet(alloc, &rt, &store, &townships, &northeast, &rows)?;
     let over = Instrument::Deed(Deed {
@@ -115,8 +107,9 @@ fn reservations_stay_with_the_grantor(rt: HostRuntime) -> Result<(), Fail> {
         estates: SURFACE,
         quantum: Quantum::Whole(share(&rt, "1/4")),
         reserve: [Some(share(&rt, "1/2")), None, None],
+        warranty: false,
     });
-    let answer = Some((Rule::OverReserved, Estate::S, node));
+    let answer = Some((Rule::OverReserved, Estate::S, *node));
     assert_post(&rt, &mut store, &townships, &northeast, &over, answer)?;
     Ok(())
 }
@@ -126,8 +119,9 @@ fn releases_pass_what_is_held(rt: HostRuntime) -> Result<(), Fail> {
     let alloc = rt.alloc();
     let townships = [township(&rt, 3)];
     let fifth = section(&rt, 5);
-    let northeast = square(alloc, fifth, NORTHEAST)?;
-    let inner = square(alloc, fifth, NORTHEAST.quarter(Quarter::Northeast))?;
+    let node = &square(&rt, fifth, &[NORTHEAST]);
+    let northeast = Tract::of(*node);
+    let inner = Tract::of(square(&rt, fifth, &[NORTHEAST; 2]));
     let mut store = CellStore::open(alloc, &townships)?;
     let patent = deed(
         UNITED_STATES,
@@ -140,10 +134,7 @@ fn releases_pass_what_is_held(rt: HostRuntime) -> Result<(), Fail> {
     assert_post(&rt, &mut store, &townships, &northeast, &held, None)?;
     let nothing = release(CLARK, BELL);
     assert_post(&rt, &mut store, &townships, &northeast, &nothing, None)?;
-    let sixteenth = |which: Quarter| Node::Part(
-        fifth,
-        Within::Sixteenth(which, Quarter::Northeast),
-    );
+    let sixteenth = |which: Quarter| square(&rt, fifth, &[which, NORTHEAST]);
     let rows = [
         (sixteenth(Quarter::Northeast), Estate::S, BELL, WHOLE),
         (
@@ -164,18 +155,8 @@ fn releases_pass_what_is_held(rt: HostRuntime) -> Result<(), Fail> {
             UNITED_STATES,
             WHOLE,
         ),
-        (
-            Node::Part(fifth, NORTHEAST),
-            Estate::O,
-            UNITED_STATES,
-            WHOLE,
-        ),
-        (
-            Node::Part(fifth, NORTHEAST),
-            Estate::M,
-            UNITED_STATES,
-            WHOLE,
-        ),
+        (*node, Estate::O, UNITED_STATES, WHOLE),
+        (*node, Estate::M, UNITED_STATES, WHOLE),
     ];
     assert_sheet(alloc, &rt, &store, &townships, &northeast, &rows)?;
     Ok(())
@@ -186,11 +167,8 @@ fn releases_pass_what_is_held(rt: HostRuntime) -> Result<(), Fail> {
 fn all_cells_or_none(rt: HostRuntime) -> Result<(), Fail> {
     let alloc = rt.alloc();
     let townships = [township(&rt, 3)];
-    let corner = Within::Quarter(Quarter::Southeast)
-        .quarter(Quarter::Southeast)
-        .quarter(Quarter::Southeast);
-    let cell = square(alloc, section(&rt, 36), corner)?;
-    let all = Tract::new(alloc, Land::Township(townships[0]))?;
+    let cell = Tract::of(square(&rt, section(&rt, 36), &[SOUTHEAST; 4]));
+    let all = Tract::of(Node::Township(townships[0]));
     let mut store = CellStore::open(alloc, &townships)?;
     let patent = deed(
         UNITED_STATES,
@@ -207,8 +185,8 @@ fn all_cells_or_none(rt: HostRuntime) -> Result<(), Fail> {
     );
     let answer = Some((Rule::ShortTitle, Estate::S, Node::Township(townships[0])));
     assert_post(&rt, &mut store, &townships, &all, &next, answer)?;
-    let other = square(alloc, section(&rt, 35), Within::Whole)?;
-    let node = Node::Part(section(&rt, 35), Within::Whole);
+    let node = &square(&rt, section(&rt, 35), &[]);
+    let other = Tract::of(*node);
     assert_opening(alloc, &rt, &store, &townships, &other, node)?;
     Ok(())
 }
@@ -218,8 +196,8 @@ fn townships_come_as_declared(rt: HostRuntime) -> Result<(), Fail> {
     let alloc = rt.alloc();
     let (third, fourth) = (township(&rt, 3), township(&rt, 4));
     let townships = [fourth, third];
-    let tract = Tract::new(alloc, Land::Township(fourth))?;
-    let everything = Tract::new(alloc, Land::Everything)?;
+    let tract = Tract::of(Node::Township(fourth));
+    let everything = Tract::of(Node::Everything);
     assert!(rt; !fourth.is(third));
     let mut store = CellStore::open(alloc, &townships)?;
     let patent = deed(

@@ -1,23 +1,40 @@
 -- What was left to show of `read_letters`.
-use Rattle.std.proofs.Common.{◌≡◌, ◌∙◌, length, sym, ap, arith}
+use Rattle.std.proofs.Common.{◌∙◌, length, refl, sym, ap}
+use Rattle.std.specs.Str.{chars}
+use Rattle.std.proofs.lemmas.Bool.{eqb-true}
+use Rattle.title_aliquot.specs.Letters.{letters}
 use Rattle.title_aliquot.specs.Readers.{description_at}
 use Rattle.title_aliquot.specs.Views.{words_view}
-use Rattle.title_aliquot.proofs.Whole.{words_found, left_after, stuck_after, left_shorter, stuck_shorter}
+use Rattle.title_aliquot.proofs.Whole.{left_some, words_found, left_after, stuck_after, left_shorter, stuck_shorter}
 use Rattle.title_aliquot.proofs.describe.read_letters.Goals as goal
 
-pub overflow_sub-result : goal.overflow_sub-result
-overflow_sub-result c = omega (arith, c.left.ensures.left, stuck_shorter c.args.letters.now c.description.new.self (sym (ap description_at c.new-reader.ensures.new) ∙ (rw c.in-Err-Stuck.field-0-is at c.in-Err-Stuck.ensures.read)))
+pub letters_before-requires : goal.letters_before-requires
+letters_before-requires c =
+    let stuck = sym (ap description_at c.new-reader.ensures.new) ∙ (rw c.in-Err-Stuck.field-0-is at c.in-Err-Stuck.ensures.read) in
+    record { left = stuck_shorter (letters (chars c.args.text.now)) c.description.new.self stuck }
 
 pub returns-in-Err-Stuck : goal.returns-in-Err-Stuck
-returns-in-Err-Stuck c = record { answers = stuck_after c.args.letters.now c.description.new.self c.left.result (sym (ap description_at c.new-reader.ensures.new) ∙ (rw c.in-Err-Stuck.field-0-is at c.in-Err-Stuck.ensures.read)) c.left.ensures.left }
+returns-in-Err-Stuck c =
+    let stuck = sym (ap description_at c.new-reader.ensures.new) ∙ (rw c.in-Err-Stuck.field-0-is at c.in-Err-Stuck.ensures.read) in
+    let bad = stuck_after (letters (chars c.args.text.now)) c.description.new.self _ stuck refl in
+    record { answers = rw c.letters_before.ensures.before bad }
 
-pub overflow_sub-result-then-left-gt0 : goal.overflow_sub-result-then-left-gt0
-overflow_sub-result-then-left-gt0 c = omega (arith, c.left-left.ensures.left, left_shorter c.args.letters.now (words_view c.in-Ok.words) c.description.new.self (sym (ap description_at c.new-reader.ensures.new) ∙ c.in-Ok.ensures.read))
+pub letters_before-requires-then-not-is_done : goal.letters_before-requires-then-not-is_done
+letters_before-requires-then-not-is_done c =
+    let got = sym (ap description_at c.new-reader.ensures.new) ∙ c.in-Ok.ensures.read in
+    record { left = left_shorter (letters (chars c.args.text.now)) (words_view c.in-Ok.words) c.description.new.self got }
 
-pub returns-then-left-gt0 : goal.returns-then-left-gt0
-returns-then-left-gt0 c = record { answers = left_after c.args.letters.now (words_view c.in-Ok.words) c.description.new.self c.left-left.result (sym (ap description_at c.new-reader.ensures.new) ∙ c.in-Ok.ensures.read) c.left-left.ensures.left c.if-left-gt0.true }
+pub returns-then-not-is_done : goal.returns-then-not-is_done
+returns-then-not-is_done c =
+    let got = sym (ap description_at c.new-reader.ensures.new) ∙ c.in-Ok.ensures.read in
+    let some = left_some (length c.description.new.self) (sym c.is_done.ensures.done ∙ c.if-not-is_done.true) in
+    record {
+      answers = rw c.letters_before-then-not-is_done.ensures.before
+          (left_after (letters (chars c.args.text.now)) (words_view c.in-Ok.words) c.description.new.self _ got refl some);
+    }
 
 pub returns : goal.returns
 returns c =
-    let l : length c.description.new.self ≡ 0 = omega arith in
-    record { answers = words_found c.args.letters.now (words_view c.in-Ok.words) c.description.new.self (sym (ap description_at c.new-reader.ensures.new) ∙ c.in-Ok.ensures.read) l }
+    let l = eqb-true (length c.description.new.self) 0 (sym c.is_done.ensures.done ∙ c.if-not-is_done.false) in
+    let got = sym (ap description_at c.new-reader.ensures.new) ∙ c.in-Ok.ensures.read in
+    record { answers = words_found (letters (chars c.args.text.now)) (words_view c.in-Ok.words) c.description.new.self got l }

@@ -1,12 +1,21 @@
 -- What was left to show of `step_may_begin`.
-use Rattle.std.proofs.Common.{◌∙◌, ◌++◌, List, ℕ, ap, subst}
-use Rattle.std.specs.Bool.{Decides}
-use Rattle.std.specs.Prelude.{IfOk, codes}
-use Rattle.title_grammar.specs.Language.{Begins}
-use Rattle.title_aliquot.specs.Grammar.{Description}
+use Rattle.std.proofs.Common.{◌∙◌, ◌++◌, List, ℕ, sym, ap}
+use Rattle.std.specs.Str.{chars}
+use Rattle.title_aliquot.specs.Letters.{letters}
+use Rattle.title_aliquot.specs.Readers.{description_at}
+use Rattle.title_aliquot.specs.Views.{words_view}
+use Rattle.title_aliquot.proofs.TextWalks.{step_letters}
+use Rattle.title_aliquot.proofs.Whole.{got_begins, stuck_begins}
 use Rattle.title_aliquot.proofs.describe.step_may_begin.Goals as goal
 
-pub returns-clause-may : goal.returns-clause-may
-returns-clause-may c =
-    let e = c.as_slice.ensures.value ∙ c.in_ok-extend_from_slice.ensures.items ∙ ap (λ (z : List ℕ). z ++ codes "n1/2") c.in_ok-letters.ensures.items in
-    subst (λ (z : List ℕ). IfOk c.begins.result (λ may. Decides may (Begins Description z))) e c.begins.ensures.begins
+pub returns-in_default-clause-may : goal.returns-in_default-clause-may
+returns-in_default-clause-may c =
+    let both = c.of_both-reader.ensures.both ∙ ap (λ (z : List ℕ). letters (chars c.args.before.now) ++ z) step_letters in
+    let got = ap description_at (sym both) ∙ c.in_default.ensures.read in
+    rw c.is_done.ensures.done (got_begins _ (words_view c.in_default.field-0) c.description.new.self got)
+
+pub returns-in-Stuck-clause-may : goal.returns-in-Stuck-clause-may
+returns-in-Stuck-clause-may c =
+    let both = c.of_both-reader.ensures.both ∙ ap (λ (z : List ℕ). letters (chars c.args.before.now) ++ z) step_letters in
+    let stuck = ap description_at (sym both) ∙ (rw c.in-Stuck.is at c.in-Err.ensures.read) in
+    rw c.is_done-in-Stuck.ensures.done (stuck_begins _ c.description.new.self stuck)

@@ -1,7 +1,8 @@
 -- What was left to show of `parts_have_their_cells`.
 use Rattle.title_land.proofs.GridLaws.{grid_has-grid_of}
+use Rattle.title_land.specs.Depth.{depth}
 use Rattle.title_aliquot.specs.Meaning.{rectangles, union}
 use Rattle.title_aliquot.proofs.laws.parts_have_their_cells.Goals as goal
 
 pub returns : goal.returns
-returns c = record { law = λ parts row column l m. grid_has-grid_of 3 (union (rectangles 3 parts)) row column l m }
+returns c = record { law = λ parts row column l m. grid_has-grid_of depth (union (rectangles depth parts)) row column l m }

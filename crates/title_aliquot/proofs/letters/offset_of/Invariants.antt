@@ -1,7 +1,13 @@
 -- What the loop of `offset_of` keeps.
-use Rattle.std.proofs.Common.{◌≡◌, ◌+◌, ◌*◌, ◌≤◌, drop}
+use Rattle.std.proofs.Common.{◌≡◌, ◌+◌, length}
+use Rattle.std.specs.Str.{IsUtf8, chars}
+use Rattle.std.specs.Str.Iter.{char_indices_rest, char_indices_offset}
 use Rattle.title_aliquot.specs.Letters.{offset}
 use Rattle.title_aliquot.proofs.letters.offset_of.Given as goal
 
 abbrev pub invariant-walk : goal.invariant-walk
-invariant-walk l = record { fits : l.at ≤ 4 * l.c-index; read : l.at + offset (drop l.c-index l.characters) l.left ≡ offset l.characters l.letter }
+invariant-walk l = record {
+  utf8 : IsUtf8 (char_indices_rest l.at-iterator);
+  whole : char_indices_offset l.at-iterator + length (char_indices_rest l.at-iterator) ≡ length l.text;
+  same : offset (chars l.text) l.letter ≡ char_indices_offset l.at-iterator + offset (chars (char_indices_rest l.at-iterator)) l.left;
+}

@@ -1,18 +1,18 @@
 -- What was left to show of `land_of_place`.
-use Rattle.std.proofs.Common.{ap, map}
+use Rattle.std.proofs.Common.{ap}
 use Rattle.std.specs.Option.{option_map}
 use Rattle.title_aliquot.specs.Views.{section_view, place_view}
-use Rattle.title_aliquot.proofs.Lands.{township_stands, section_stands, parts_stand_as}
+use Rattle.title_aliquot.proofs.Lands.{township_stands, section_stands}
 use Rattle.title_aliquot.proofs.meaning.land_of_place.Goals as goal
 
 pub returns-in_default-section-clause-land : goal.returns-in_default-section-clause-land
 returns-in_default-section-clause-land c =
-    township_stands (place_view c.args.place.now) c.in-Some.township c.in-Some.ensures.new (ap (option_map section_view) c.in_default-section.is)
+    township_stands (place_view c.args.place.now) c.in-Some.township c.in-Some.ensures.new
+    (ap (option_map section_view) c.in_default-section.is)
 
 pub returns-clause-land : goal.returns-clause-land
 returns-clause-land c =
-    let e = c.as_slice.ensures.value in
-    section_stands (place_view c.args.place.now) c.in-Some.township (section_view c.in-Some-section.words) c.in-Some-new.section c.in_ok-grid.grid c.in-Some.ensures.new
+    section_stands (place_view c.args.place.now) c.in-Some.township (section_view c.in-Some-section.words)
+    c.in-Some-new.section c.in_ok-grid.grid c.in-Some.ensures.new
     (ap (option_map section_view) c.in-Some-section.is) c.in-Some-new.ensures.new
-    (parts_stand_as (map (λ p. p.items) c.as_slice.result.now) _ c.in_ok-grid.grid (ap (λ ps. map (λ p. p.items) ps) e)
-    (record { exist = c.in_ok-grid.ensures.exist; apart = c.in_ok-grid.ensures.apart; union_is = c.in_ok-grid.ensures.union }))
+    (record { exist = c.in_ok-grid.ensures.exist; apart = c.in_ok-grid.ensures.apart; union_is = c.in_ok-grid.ensures.union })

@@ -4,6 +4,7 @@ use Rattle.title_land.specs.declared.place.Cell.{Cell}
 use Rattle.title_land.specs.declared.place.Township.{Township}
 use Rattle.title_land.specs.declared.tract.Land.{Land}
 use Rattle.title_land.specs.Lands.{is_in_plant}
+use Rattle.title_land.specs.Depth.{depth}
 use Rattle.title_share.specs.Rows.{whole_units}
 use Rattle.title_share.specs.Division.{all_to, rows_of}
 use Rattle.title_instrument.specs.declared.instrument.Deed.{Deed}
@@ -71,7 +72,7 @@ surface = record { s = true; o = false; m = false }
 
 abbrev surface_deed : ℕ → ℕ → Deed
 surface_deed grantor grantee =
-    record { grantor = grantor; grantee = grantee; estates = surface; quantum = quantum.Whole whole_units; reserve = None ∷ None ∷ None ∷ [] }
+    record { grantor = grantor; grantee = grantee; estates = surface; quantum = quantum.Whole whole_units; reserve = None ∷ None ∷ None ∷ []; warranty = false }
 
 opening_deed_done : IsDone (instrument.Deed (surface_deed 0 1)) (λ c. opening_owners)
 unfolding cell_effect opening_owners all_to rows_of
@@ -93,14 +94,14 @@ three sixteenth quarter = one_post 1 (deed_of sixteenth) ∷ one_post 1 (release
 three_serial :
     (townships : List Township) (sixteenth quarter : Land) →
     is_in_plant townships sixteenth ≡ true → is_in_plant townships quarter ≡ true →
-    IsSerial 3 townships (reverse (three sixteenth quarter))
+    IsSerial depth townships (reverse (three sixteenth quarter))
 unfolding first_cause
 three_serial townships sixteenth quarter h k =
     let one : List Record = one_post 1 (deed_of sixteenth) ∷ [] in
     let two : List Record = one_post 1 (release_of 2 1 quarter) ∷ one in
-    let first = done_serial 3 townships [] 1 (deed_of sixteenth) tt h refl opening_deed_done in
-    let second = done_serial 3 townships one 1 (release_of 2 1 quarter) first k refl (release_done (surface_release 1 2) _) in
-    done_serial 3 townships two 1 (release_of 3 3 quarter) second k refl (release_done (surface_release 3 2) _)
+    let first = done_serial depth townships [] 1 (deed_of sixteenth) tt h refl opening_deed_done in
+    let second = done_serial depth townships one 1 (release_of 2 1 quarter) first k refl (release_done (surface_release 1 2) _) in
+    done_serial depth townships two 1 (release_of 3 3 quarter) second k refl (release_done (surface_release 3 2) _)
 
 pub returns : goal.returns
 returns c =

@@ -1,5 +1,6 @@
 -- The cells so far are those of the townships so far.
 use Rattle.std.proofs.Common.{◌≡◌, take}
+use Rattle.title_land.specs.Depth.{depth}
 use Rattle.std.specs.List.{filter, flat_map}
 use Rattle.title_land.specs.Lands.{has}
 use Rattle.title_land.specs.CellLists.{township_cells}
@@ -7,4 +8,4 @@ use Rattle.title_land.proofs.cells.cells_of.Given as goal
 
 abbrev pub invariant-loop-township : goal.invariant-loop-township
 invariant-loop-township l =
-    l.cells.items ≡ filter (has l.tract) (flat_map (township_cells 3) (take l.township-index l.townships))
+    l.cells.items ≡ filter (has l.tract) (flat_map (township_cells depth) (take l.township-index l.townships))

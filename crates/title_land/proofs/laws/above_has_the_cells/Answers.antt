@@ -1,6 +1,7 @@
 -- The law above has the cells.
-use Rattle.title_land.proofs.NodeSharing.{above_has_the_cells_3 as lemma}
+use Rattle.title_land.proofs.NodeSharing.{above_has_the_cells as lemma}
+use Rattle.title_land.specs.Depth.{depth}
 use Rattle.title_land.proofs.laws.above_has_the_cells.Goals as goal
 
 pub returns : goal.returns
-returns c = record { law = lemma }
+returns c = record { law = lemma depth }

@@ -1,6 +1,7 @@
 -- The law cover finds the node.
-use Rattle.title_land.proofs.CoverSet.{cover_finds_3 as lemma}
+use Rattle.title_land.proofs.CoverSet.{cover_finds as lemma}
+use Rattle.title_land.specs.Depth.{depth}
 use Rattle.title_land.proofs.laws.cover_finds_the_node.Goals as goal
 
 pub returns : goal.returns
-returns c = record { law = lemma }
+returns c = record { law = lemma depth }

@@ -1,6 +1,7 @@
 -- The law cover has its cells.
-use Rattle.title_land.proofs.LandSharing.{cover_has_its_cells_3 as lemma}
+use Rattle.title_land.proofs.LandSharing.{cover_has_its_cells as lemma}
+use Rattle.title_land.specs.Depth.{depth}
 use Rattle.title_land.proofs.laws.cover_has_its_cells.Goals as goal
 
 pub returns : goal.returns
-returns c = record { law = lemma }
+returns c = record { law = lemma depth }

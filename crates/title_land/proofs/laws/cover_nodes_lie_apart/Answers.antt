@@ -1,6 +1,7 @@
 -- The law cover nodes lie apart.
-use Rattle.title_land.proofs.CoverSet.{cover_nodes_apart_3 as lemma}
+use Rattle.title_land.proofs.CoverSet.{cover_nodes_apart as lemma}
+use Rattle.title_land.specs.Depth.{depth}
 use Rattle.title_land.proofs.laws.cover_nodes_lie_apart.Goals as goal
 
 pub returns : goal.returns
-returns c = record { law = lemma }
+returns c = record { law = lemma depth }

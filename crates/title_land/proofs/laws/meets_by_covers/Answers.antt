@@ -1,6 +1,7 @@
 -- The law meets by covers.
-use Rattle.title_land.proofs.CoversMeet.{meets_by_covers_3 as lemma}
+use Rattle.title_land.proofs.CoversMeet.{meets_by_covers as lemma}
+use Rattle.title_land.specs.Depth.{depth}
 use Rattle.title_land.proofs.laws.meets_by_covers.Goals as goal
 
 pub returns : goal.returns
-returns c = record { law = lemma }
+returns c = record { law = lemma depth }

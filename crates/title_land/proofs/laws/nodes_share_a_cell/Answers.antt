@@ -1,6 +1,7 @@
 -- The law nodes share a cell.
-use Rattle.title_land.proofs.NodeSharing.{nodes_share_3 as lemma}
+use Rattle.title_land.proofs.NodeSharing.{nodes_share as lemma}
+use Rattle.title_land.specs.Depth.{depth}
 use Rattle.title_land.proofs.laws.nodes_share_a_cell.Goals as goal
 
 pub returns : goal.returns
-returns c = record { law = lemma }
+returns c = record { law = lemma depth }

@@ -1,6 +1,7 @@
 -- The law of meets_at_a_cell.
 use Rattle.title_land.proofs.TractSharing.{meets_at_a_cell as lemma}
+use Rattle.title_land.specs.Depth.{depth}
 use Rattle.title_land.proofs.sharing.meets_at_a_cell.Goals as goal
 
 pub returns : goal.returns
-returns c = record { law = lemma 3 }
+returns c = record { law = lemma depth }

@@ -1,5 +1,6 @@
 -- After the last child the sheet has all parts.
 use Rattle.std.proofs.Common.{◌++◌, ◌-◌, List, sym, ap, ◌∙◌}
+use Rattle.title_land.specs.Depth.{depth}
 use Rattle.std.proofs.lemmas.List.{take_all}
 use Rattle.std.specs.List.{flat_map}
 use Rattle.title_land.specs.declared.place.Cell.{Cell}
@@ -14,10 +15,10 @@ pub returns : goal.returns
 returns t c =
     let cells = c.deref.ensures.value ∙ c.in_ok-cells.ensures.cells in
     let none = ap (λ (cs : List Cell). one_holding c.args.estate (content_of c.args.map.now) cs) (sym cells) ∙ c.in_default.ensures.holding in
-    let parts = sheet_parts c.args.levels 3 c.args.townships.now (content_of c.args.map.now) c.args.estate c.args.node c.if-levels-eq0.false none in
+    let parts = sheet_parts c.args.levels depth c.args.townships.now (content_of c.args.map.now) c.args.estate c.args.node c.if-levels-eq0.false none in
     let children = take_all c.loop-child.child-index c.deref-child-items.result.now c.loop-child-test.false ∙ c.deref-child-items.ensures.value ∙ c.in_ok-children_of.ensures.children in
     record {
       rows = c.loop-child.invariant
           ∙ ap (λ (rows : List SheetRow). c.args.rows.now.items ++ rows)
-          (ap (λ (ns : List Node). flat_map (sheet_below (c.args.levels - 1) 3 c.args.townships.now (content_of c.args.map.now) c.args.estate) ns) children ∙ sym parts);
+          (ap (λ (ns : List Node). flat_map (sheet_below (c.args.levels - 1) depth c.args.townships.now (content_of c.args.map.now) c.args.estate) ns) children ∙ sym parts);
     }

@@ -1,5 +1,6 @@
 -- The sheets of the children so far are added; each has one level fewer below it.
 use Rattle.std.proofs.Common.{◌≡◌, ◌++◌, ◌-◌, take}
+use Rattle.title_land.specs.Depth.{depth}
 use Rattle.std.specs.List.{flat_map}
 use Rattle.title_store.specs.CellMaps.{content_of}
 use Rattle.title_store.specs.Sheets.{sheet_below}
@@ -9,4 +10,4 @@ abbrev pub decreases-add_sheet : goal.decreases-add_sheet
 decreases-add_sheet l = l.levels
 
 abbrev pub invariant-loop-child : goal.invariant-loop-child
-invariant-loop-child l = l.rows.items ≡ l.fn.rows.items ++ flat_map (sheet_below (l.levels - 1) 3 l.townships (content_of l.map) l.estate) (take l.child-index l.child-items)
+invariant-loop-child l = l.rows.items ≡ l.fn.rows.items ++ flat_map (sheet_below (l.levels - 1) depth l.townships (content_of l.map) l.estate) (take l.child-index l.child-items)

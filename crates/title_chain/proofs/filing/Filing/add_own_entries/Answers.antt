@@ -1,5 +1,6 @@
 -- The places found near the nodes of the tract's cover are those of the own posts that share a cell with it.
 use Rattle.std.proofs.Common.{◌≡◌, ◌++◌, List, reverse, ap, subst, ◌∙◌}
+use Rattle.title_land.specs.Depth.{depth}
 use Rattle.std.specs.List.{list_any}
 use Rattle.std.specs.Prelude.{OnOk}
 use Rattle.title_land.specs.declared.node.Node.{Node}
@@ -16,7 +17,7 @@ returns c =
     let f = c.args.self.now in
     let steps = c.args.steps.now in
     let land = c.args.tract.now in
-    let sized : IsLand 3 land = subst (IsLand 3) c.land.ensures.land c.is_sized.ensures.sized in record {
+    let sized : IsLand depth land = c.cover.ensures.sized in record {
       added = subst (λ (es : List Entry). OnOk c.add_own_entries_at.result (c.add_own_entries_at.new.entries.items ≡ c.args.entries.now.items ++ es))
           (own_entries steps land c.in_ok-found.found c.add_own_entries_at.ensures.ordered
           (λ p. c.in_ok-found.ensures.found p

@@ -1,5 +1,6 @@
 -- The post is filed where its cover is.
 use Rattle.std.proofs.Common.{subst, Result, Ok, Err, OnOk}
+use Rattle.title_land.specs.Depth.{depth}
 use Rattle.title_land.specs.declared.tract.Land.{Land}
 use Rattle.title_land.specs.Lands.{IsLand}
 use Rattle.title_chain.proofs.Filings.{post_filed}
@@ -13,6 +14,6 @@ on_ok_both (Err e) f p q = tt
 pub returns-clause-filed : goal.returns-clause-filed
 returns-clause-filed c =
     on_ok_both c.file_cover.result
-    (post_filed 3 c.args.self.now c.file_cover.new.self c.args.place c.args.tract.now c.cover.result.now c.cover.ensures.cover
-    (subst (λ (l : Land). IsLand 3 l) c.land.ensures.land c.is_sized.ensures.sized))
+    (post_filed depth c.args.self.now c.file_cover.new.self c.args.place c.args.tract.now c.cover.result.now c.cover.ensures.cover
+    c.cover.ensures.sized)
     c.file_cover.ensures.at c.file_cover.ensures.below

@@ -1,5 +1,6 @@
 -- One step more.
 use Rattle.std.proofs.Common.{◌<◌, ◌∙◌, subst, List, length, arith}
+use Rattle.title_land.specs.Depth.{depth}
 use Rattle.title_chain.specs.PostPlaces.{PlacedPost}
 use Rattle.title_chain.specs.TractIndexes.{IsFiled}
 use Rattle.title_chain.proofs.Filings.{steps_more}
@@ -10,6 +11,6 @@ loop-i-preserved c =
     let low : c.loop-i.i < length c.args.steps.now = omega arith in record {
       read = c.file_step.ensures.read ∙ c.loop-i.invariant.read;
       filed = λ posts h.
-          subst (λ (more : List PlacedPost). IsFiled 3 c.file_step.new.self more) (steps_more c.args.index c.args.steps.now c.loop-i.i c.index-steps-i.result posts low c.index-steps-i.is)
+          subst (λ (more : List PlacedPost). IsFiled depth c.file_step.new.self more) (steps_more c.args.index c.args.steps.now c.loop-i.i c.index-steps-i.result posts low c.index-steps-i.is)
           (c.in_ok-file_step.ensures.filed _ (c.loop-i.invariant.filed posts h));
     }

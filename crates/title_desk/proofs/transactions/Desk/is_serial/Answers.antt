@@ -1,5 +1,6 @@
 -- The trace is due, so the committed transactions are serial.
-use Rattle.std.proofs.Common.{◌∷◌, subst, lit≤}
+use Rattle.std.proofs.Common.{◌∷◌, subst}
+use Rattle.title_land.specs.Depth.{depth}
 use Rattle.title_chain.specs.Alone.{IsSerial}
 use Rattle.title_chain.specs.Overlaps.{record_of}
 use Rattle.title_trace.specs.Trace.{committed, open_steps}
@@ -10,6 +11,6 @@ use Rattle.title_desk.proofs.transactions.Desk.is_serial.Goals as goal
 pub returns : goal.returns
 returns g c =
     let k = c.self.invariant.0 in record {
-      committed_records = subst (λ (b : Books). IsSerial 3 b.setting.townships (committed b.trace)) c.self.view_is (committed_serial 3 (lit≤ tt) _ k.few _ k.due);
-      open_last = λ e. subst (λ (b : Books). IsSerial 3 b.setting.townships (record_of e (open_steps b.trace e) ∷ committed b.trace)) c.self.view_is (open_last 3 (lit≤ tt) _ k.few _ e k.due);
+      committed_records = subst (λ (b : Books). IsSerial depth b.setting.townships (committed b.trace)) c.self.view_is (committed_serial depth _ k.few _ k.due);
+      open_last = λ e. subst (λ (b : Books). IsSerial depth b.setting.townships (record_of e (open_steps b.trace e) ∷ committed b.trace)) c.self.view_is (open_last depth _ k.few _ e k.due);
     }

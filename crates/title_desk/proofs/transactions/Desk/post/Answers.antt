@@ -1,5 +1,6 @@
 -- A post is added with its lock and its image, or answered as refused, or all stays as it was.
 use Rattle.std.proofs.Common.{◌≡◌, ◌∷◌, refl, ap, ◌∙◌, sym, subst, arith, None}
+use Rattle.title_land.specs.Depth.{depth}
 use Rattle.std.proofs.lemmas.Grind.{common_steps}
 use Rattle.std.proofs.lemmas.List.{reverse-append}
 use Rattle.title_store.specs.Plants.{SameContent}
@@ -23,7 +24,7 @@ pub invariant_of-self-in-Refused : goal.invariant_of-self-in-Refused
 invariant_of-self-in-Refused g c =
     let h = rw c.in-Refused.is at c.in-Ok-put.ensures.put in (
       rw c.reserve.ensures.items
-          (keeps_same c.self.invariant.0 (λ d. c.in-Ok-put.ensures.content d ∙ store.effect_refused 3 (g.S.Store.declared c.self.inside.store) c.args.posting.instrument c.args.posting.tract (g.S.Store.content c.self.inside.store) d _ h.0)
+          (keeps_same c.self.invariant.0 (λ d. c.in-Ok-put.ensures.content d ∙ store.effect_refused depth (g.S.Store.declared c.self.inside.store) c.args.posting.instrument c.args.posting.tract (g.S.Store.content c.self.inside.store) d _ h.0)
           c.in-Ok-put.ensures.declared h.1),
       grind (arith, common_steps, c.self.invariant.1),
     )
@@ -68,8 +69,8 @@ invariant_of-self-2 g c =
     let kept = on_good c.keep_post.result _ done c.keep_post.ensures.content in
     let out = on_good c.keep_post.result _ done c.keep_post.ensures.out in
     let free = subst (λ (b : Books). InTheWay b.trace c.args.examiner (Post c.args.posting) None) (sym c.self.view_is) c.requires.passes.4 in
-    let is = subst (λ (b : Books). Posted ≡ alone 3 b.setting.townships (committed b.trace) (open_steps b.trace c.args.examiner) (Post c.args.posting)) c.self.view_is (post_due c.args.examiner c.args.posting None c.self.invariant.0 free h.0) in
-    let due = subst (λ (b : Books). DueReply 3 b.setting b.trace (Step c.args.examiner (Post c.args.posting)) (Answered Posted)) (sym c.self.view_is) (due_alone c.args.self.now c.args.examiner (Post c.args.posting) Posted c.requires.passes is) in (
+    let is = subst (λ (b : Books). Posted ≡ alone depth b.setting.townships (committed b.trace) (open_steps b.trace c.args.examiner) (Post c.args.posting)) c.self.view_is (post_due c.args.examiner c.args.posting None c.self.invariant.0 free h.0) in
+    let due = subst (λ (b : Books). DueReply depth b.setting b.trace (Step c.args.examiner (Post c.args.posting)) (Answered Posted)) (sym c.self.view_is) (due_alone c.args.self.now c.args.examiner (Post c.args.posting) Posted c.requires.passes is) in (
       rw (c.push_reserved.ensures.items, c.reserve.ensures.items, reverse-append)
           (keeps_posted _ c.args.examiner c.args.posting c.in-Done.image c.self.invariant.0
           (rw c.in-Ok.ensures.copy at added) images (locked ∙ rw c.in-Ok.ensures.copy refl) (c.keep_post.ensures.declared ∙ c.in-Ok-put.ensures.declared)
@@ -82,7 +83,7 @@ pub returns : goal.returns
 returns g c =
     let h = rw c.in-Done.is at c.in-Ok-put.ensures.put in
     let free = subst (λ (b : Books). InTheWay b.trace c.args.examiner (Post c.args.posting) None) (sym c.self.view_is) c.requires.passes.4 in
-    let is = subst (λ (b : Books). Posted ≡ alone 3 b.setting.townships (committed b.trace) (open_steps b.trace c.args.examiner) (Post c.args.posting)) c.self.view_is (post_due c.args.examiner c.args.posting None c.self.invariant.0 free h.0) in
+    let is = subst (λ (b : Books). Posted ≡ alone depth b.setting.townships (committed b.trace) (open_steps b.trace c.args.examiner) (Post c.args.posting)) c.self.view_is (post_due c.args.examiner c.args.posting None c.self.invariant.0 free h.0) in
     record {
       told = (
         ap (λ (b : Books). b.setting) c.self.view_is,

@@ -1,17 +1,26 @@
--- A set is made of all its rows.
-use Rattle.std.proofs.Common.{◌||◌, map, List, Bool, [], ap, rules}
-use Rattle.std.proofs.lemmas.List.FromFn.{fill_by_all}
+-- The rows of a rectangle have its columns added.
+use Rattle.std.proofs.Common.{◌≡◌, ◌+◌, ap, subst, ◌∙◌, ℕ, arith}
 use Rattle.title_land.specs.declared.grid.Grid.{Grid}
-use Rattle.title_land.specs.Grids.{grid_has, places, with_rectangle, grid_of}
-use Rattle.title_land.specs.Rectangles.{holds}
+use Rattle.title_land.specs.Depth.{depth}
+use Rattle.title_land.specs.Grids.{with_rectangle}
 use Rattle.title_land.proofs.GridLaws.{adds_rectangle}
+use Rattle.title_land.proofs.GridRows.{AddsMask, mask_rows, rows_with}
 use Rattle.title_land.proofs.grid.Grid.with.Goals as goal
 
+pub invariant_of-result : goal.invariant_of-result
+invariant_of-result c =
+    mask_rows depth c.args.r.top c.loop-row.row c.columns_of-columns.result c.self.inside.rows c.loop-row.rows c.self.invariant
+    c.columns_of-columns.ensures.fits c.loop-row.invariant
+
 pub returns-clause-with : goal.returns-clause-with
-unfolding with_rectangle grid_of
 returns-clause-with c =
-    let rows = fill_by_all (λ k. map (λ column. grid_has c.args.self k column || holds c.args.r k column) (places 3)) c.loop-row.rows 8 [] c.loop-row.invariant.0 (search rules) in
-    ap (λ (x : List (List Bool)). let g : Grid = record { rows = x } in g) rows
+    let r = c.args.r in
+    let end : c.loop-row.row ≡ r.top + r.height = omega arith in
+    let adds = subst (λ (row : ℕ). AddsMask r.top row c.columns_of-columns.result c.self.inside.rows c.loop-row.rows) end
+    c.loop-row.invariant in
+    rows_with depth c.self.inside.rows c.loop-row.rows r c.columns_of-columns.result c.self.invariant c.columns_of-columns.ensures.columns
+    adds
+    ∙ ap (λ (g : Grid). with_rectangle depth g r) c.self.view_is
 
 pub returns-clause-adds : goal.returns-clause-adds
-returns-clause-adds c = adds_rectangle 3 c.args.self _ c.args.r (returns-clause-with c)
+returns-clause-adds c = adds_rectangle depth c.args.self _ c.args.r (returns-clause-with c)

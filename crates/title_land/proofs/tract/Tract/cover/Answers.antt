@@ -1,12 +1,37 @@
 -- The cover that a tract keeps is the set of its cover nodes, in order.
-use Rattle.std.proofs.Common.{◌≡◌, List, sym, subst}
+use Rattle.std.proofs.Common.{◌≡◌, List, sym, ap, subst, ◌∙◌}
+use Rattle.title_land.specs.Depth.{depth}
 use Rattle.title_land.specs.declared.node.Node.{Node}
+use Rattle.title_land.specs.declared.tract.Land.{Land}
+use Rattle.title_land.specs.declared.tract.Extent.{Extent}
+use Rattle.title_land.specs.declared.tract.Shape.{Shape}
 use Rattle.title_land.specs.CoverSets.{IsCover}
-use Rattle.title_land.specs.Lands.{cover_of}
+use Rattle.title_land.specs.Extents.{kept_land, IsExtent}
+use Rattle.title_land.specs.Lands.{cover_of, land_of, IsLand}
 use Rattle.title_land.proofs.CoverSet.{cover_is_cover}
+use Rattle.title_land.proofs.NodeLands.{cover_of-land_of, is_land-land_of}
 use Rattle.title_land.proofs.tract.Tract.cover.Goals as goal
 
-pub returns-clause-set : goal.returns-clause-set
-returns-clause-set c =
-    let e : c.as_slice.result.now ≡ cover_of 3 c.args.self.now = cc in
-    subst (λ (ns : List Node). IsCover 3 c.args.self.now ns) (sym e) (cover_is_cover c.args.self.now)
+pub returns-in-Node-clause-cover : goal.returns-in-Node-clause-cover
+returns-in-Node-clause-cover c =
+    let land : land_of depth c.in-Node.node ≡ c.args.self.now = ap kept_land (sym c.in-Node.is) ∙ c.self.view_is in
+    let tree = subst (λ (x : Extent). IsExtent x) c.in-Node.is c.self.invariant in
+    c.from_ref.ensures.value ∙ sym (cover_of-land_of depth c.in-Node.node tree) ∙ ap (cover_of depth) land
+
+pub returns-in-Node-clause-set : goal.returns-in-Node-clause-set
+returns-in-Node-clause-set c =
+    subst (λ (ns : List Node). IsCover depth c.args.self.now ns) (sym (returns-in-Node-clause-cover c))
+    (cover_is_cover depth c.args.self.now)
+
+pub returns-in-Node-clause-sized : goal.returns-in-Node-clause-sized
+returns-in-Node-clause-sized c =
+    let land : land_of depth c.in-Node.node ≡ c.args.self.now = ap kept_land (sym c.in-Node.is) ∙ c.self.view_is in
+    subst (λ (x : Land). IsLand depth x) land (is_land-land_of depth c.in-Node.node)
+
+pub returns-in-Shape-clause-set : goal.returns-in-Shape-clause-set
+returns-in-Shape-clause-set c =
+    let land = ap kept_land (sym c.in-Shape.is) ∙ c.self.view_is in
+    let kept = subst (λ (x : Extent). IsExtent x) c.in-Shape.is c.self.invariant in
+    let e : c.as_slice.result.now ≡ cover_of depth c.args.self.now =
+    c.as_slice.ensures.value ∙ ap (λ (s : Shape). s.cover.items) c.deref.ensures ∙ kept.0 ∙ ap (cover_of depth) land in
+    subst (λ (ns : List Node). IsCover depth c.args.self.now ns) (sym e) (cover_is_cover depth c.args.self.now)

@@ -1,5 +1,6 @@
 -- The table with what is asked is that of the entries with the new one.
 use Rattle.std.proofs.Common.{◌∙◌, sym, ap, subst, List, Option, None, cond, eqb}
+use Rattle.title_land.specs.Depth.{depth}
 use Rattle.title_land.specs.declared.node.Node.{Node}
 use Rattle.title_land.specs.declared.tract.Land.{Land}
 use Rattle.title_land.specs.Lands.{cover_of, IsLand}
@@ -23,9 +24,9 @@ invariant_of-self-2 c =
     let free : Stands old e x.tract p None =
     subst (λ (es : List Entry). Stands es e x.tract p None) (sym c.self.view_is)
     (subst (λ (t : Land). Stands c.args.self.now e t p None) (sym c.in-Ok.ensures.copy) c.in_default.ensures.would) in
-    let wide : IsLand 3 x.tract = subst (λ (l : Land). IsLand 3 l) (c.land.ensures.land ∙ sym c.in-Ok.ensures.copy) c.is_sized.ensures.sized in
-    subst (λ (es : List Entry). TableIs 3 es c.raise_all.new.self) (sym c.in-Ok-push.ensures.ok)
-    (table_more 3 meet_by_covers old table c.raise_all.new.self x wide c.self.invariant free
+    let wide : IsLand depth x.tract = subst (λ (l : Land). IsLand depth l) (sym c.in-Ok.ensures.copy) c.cover-cover.ensures.sized in
+    subst (λ (es : List Entry). TableIs depth es c.raise_all.new.self) (sym c.in-Ok-push.ensures.ok)
+    (table_more depth meet_by_covers old table c.raise_all.new.self x wide c.self.invariant free
     (λ f n. c.raise_all.ensures.modes f n
     ∙ ap (λ (m : Option Mode). bound m (cond (eqb f e) (asked p c.cover-cover.result.now n) None)) (c.make_room_all.ensures.modes f n)
-    ∙ ap (λ (t : List Node). bound (table_mode table f n) (cond (eqb f e) (asked p t n) None)) (c.cover-cover.ensures.cover ∙ ap (cover_of 3) (sym c.in-Ok.ensures.copy))))
+    ∙ ap (λ (t : List Node). bound (table_mode table f n) (cond (eqb f e) (asked p t n) None)) (c.cover-cover.ensures.cover ∙ ap (cover_of depth) (sym c.in-Ok.ensures.copy))))

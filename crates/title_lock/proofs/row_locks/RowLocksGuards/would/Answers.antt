@@ -1,5 +1,6 @@
 -- The least examiner in the way by the table is the least whose entry overlaps.
 use Rattle.std.proofs.Common.{subst, List}
+use Rattle.title_land.specs.Depth.{depth}
 use Rattle.title_land.specs.declared.node.Node.{Node}
 use Rattle.title_land.specs.declared.tract.Land.{Land}
 use Rattle.title_land.specs.Lands.{IsLand}
@@ -16,8 +17,8 @@ returns c =
     let t = c.args.tract.now in
     let p = is_post c.args.access in
     let table = c.self.inside.table in
-    let wide = subst (λ (l : Land). IsLand 3 l) c.land.ensures.land c.is_sized.ensures.sized in
+    let wide = c.cover.ensures.sized in
     let least = subst (λ (u : List Node). IsLeast (λ f. clashes_with p (λ n. table_mode table f n) u) e c.ways.result) c.cover.ensures.cover c.ways.ensures.way in
     record {
-      would = subst (λ (z : List Entry). Stands z e t p c.ways.result) c.self.view_is (stands 3 meet_by_covers c.self.inside.book table e p t c.ways.result wide c.self.invariant least);
+      would = subst (λ (z : List Entry). Stands z e t p c.ways.result) c.self.view_is (stands depth meet_by_covers c.self.inside.book table e p t c.ways.result wide c.self.invariant least);
     }

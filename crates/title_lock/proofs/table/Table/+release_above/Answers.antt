@@ -11,5 +11,5 @@ returns-in-Some t c = record {
   modes = λ f n.
       c.release_above.ensures.modes f n
       ∙ ap (λ (r : Option Mode). cond (eqb f c.args.examiner && is_above n c.in-Some.parent) None r) (c.release.ensures.modes f n)
-      ∙ above_gone (eqb f c.args.examiner) (table_mode c.args.self.now f n) c.args.node c.in-Some.parent n c.in-Some.ensures.parent;
+      ∙ above_gone (eqb f c.args.examiner) (table_mode c.args.self.now f n) c.args.node.now c.in-Some.parent n c.in-Some.ensures.parent;
 }

@@ -10,7 +10,7 @@ use Rattle.title_lock.proofs.table.Table.make_room_for.Goals as goal
 pub returns-clause-room : goal.returns-clause-room
 returns-clause-room c =
     let e = c.args.examiner in
-    let k = c.args.node in
+    let k = c.args.node.now in
     let table = c.make_room.new.self in (
       subst (λ (m : Mode). table_room table e m k ≡ true) c.own_mode.ensures.own c.in_ok-make_room.ensures.room,
       room_above_stays c.make_room_above.new.self table e (above_mode (is_post c.args.access)) k c.make_room.ensures.stays

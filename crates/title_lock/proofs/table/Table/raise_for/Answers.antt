@@ -13,7 +13,7 @@ pub returns-clause-modes : goal.returns-clause-modes
 returns-clause-modes c f n =
     let r = table_mode c.args.self.now f n in
     let b = eqb f c.args.examiner in
-    let k = c.args.node in
+    let k = c.args.node.now in
     let p = is_post c.args.access in
     c.raise.ensures.modes f n
     ∙ ap (λ (z : Option Mode). bound z (cond (b && same_node n k) (Some c.own_mode.result) None)) (c.raise_above.ensures.modes f n)

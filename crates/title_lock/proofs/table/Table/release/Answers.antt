@@ -11,15 +11,15 @@ use Rattle.title_lock.proofs.table.Table.release.Goals as goal
 
 pub returns-in_default : goal.returns-in_default
 returns-in_default c = record {
-  modes = λ f n. subst (λ (m : Places). mode_of m f n ≡ cond (eqb f c.args.examiner && same_node n c.args.node) None (mode_of c.args.self.now.places f n)) (sym c.get_mut.follows.holds-at-none)
-      (none_released c.args.self.now.places c.args.node (sym c.in_default.ensures.value) c.args.examiner f n);
-  dropped = λ h. ap (λ (m : Places). is_some (get node_cmp m c.args.node)) c.get_mut.follows.holds-at-none ∙ ap is_some (sym c.in_default.ensures.value);
+  modes = λ f n. subst (λ (m : Places). mode_of m f n ≡ cond (eqb f c.args.examiner && same_node n c.args.node.now) None (mode_of c.args.self.now.places f n)) (sym c.get_mut.follows.holds-at-none)
+      (none_released c.args.self.now.places c.args.node.now (sym c.in_default.ensures.value) c.args.examiner f n);
+  dropped = λ h. ap (λ (m : Places). is_some (get node_cmp m c.args.node.now)) c.get_mut.follows.holds-at-none ∙ ap is_some (sym c.in_default.ensures.value);
 }
 
 pub returns-then-release : goal.returns-then-release
 returns-then-release c =
     let e = c.args.examiner in
-    let k = c.args.node in
+    let k = c.args.node.now in
     let w = c.release.new.self in
     let had = c.in-Some.ensures.value in
     let writes = (c.get_mut.follows.holds w).3 (is_found _ _ had) in
@@ -39,7 +39,7 @@ returns-else-release c =
     let had = c.in-Some.ensures.value in
     let writes = (c.get_mut.follows.holds w).3 (is_found _ _ had) in
     record {
-      modes = λ f. released c.args.self.now.places (c.get_mut.follows.lender w) c.args.node (Some w) writes.0 e f
+      modes = λ f. released c.args.self.now.places (c.get_mut.follows.lender w) c.args.node.now (Some w) writes.0 e f
           (c.release.ensures.modes f ∙ ap (λ (o : Option Place). cond (eqb f e) None (mode_in f o)) had);
       dropped = λ h. absurd (true≢false (sym h ∙ ap free_in writes.1 ∙ sym c.release.ensures.free ∙ c.if-release.false));
     }

@@ -10,6 +10,6 @@ pub returns : goal.returns
 returns c = record {
   modes = λ f n.
       c.release_above.ensures.modes f n
-      ∙ ap (λ (r : Option Mode). cond (eqb f c.args.examiner && is_above n c.args.node) None r) (c.release.ensures.modes f n)
-      ∙ gone_join (eqb f c.args.examiner) (same_node n c.args.node) (is_above n c.args.node) (table_mode c.args.self.now f n);
+      ∙ ap (λ (r : Option Mode). cond (eqb f c.args.examiner && is_above n c.args.node.now) None r) (c.release.ensures.modes f n)
+      ∙ gone_join (eqb f c.args.examiner) (same_node n c.args.node.now) (is_above n c.args.node.now) (table_mode c.args.self.now f n);
 }

@@ -1,4 +1,5 @@
 use Rattle.std.proofs.Common.{◌≡◌, sym, inl, inr, Result, Ok, Err, ℕ, List, OnOk, IfErr, ◌⊎◌}
+use Rattle.title_land.specs.Depth.{depth}
 use Rattle.title_aliquot.specs.Describes.{Describes}
 use Rattle.title_device.specs.declared.fault.RunFault.{RunFault}
 use Rattle.title_device.specs.declared.fault.RunFault.TheVariants as fault
@@ -8,12 +9,12 @@ use Rattle.title_plan.specs.Asked.{Asked, asked_in}
 use Rattle.title_plan.specs.Declarations.{AfterTownship, with_township}
 use Rattle.title_plan.proofs.plan.Plan.take_township.Goals as goal
 
-taken : (n : ℕ) (asked after : Asked) (text : List ℕ) (t : Township) → Describes 3 text (land.Township t) → (r : Result (Unit {0}) RunFault)
+taken : (n : ℕ) (asked after : Asked) (text : List ℕ) (t : Township) → Describes depth text (land.Township t) → (r : Result (Unit {0}) RunFault)
     → OnOk r (with_township n asked t ≡ Ok after) → OnOk r (AfterTownship n asked text (Ok after))
 taken n asked after text t d (Ok u) h = inl (t, d, sym h)
 taken n asked after text t d (Err e) h = tt
 
-refused : (n : ℕ) (asked : Asked) (text : List ℕ) (t : Township) → Describes 3 text (land.Township t) → (r : Result (Unit {0}) RunFault)
+refused : (n : ℕ) (asked : Asked) (text : List ℕ) (t : Township) → Describes depth text (land.Township t) → (r : Result (Unit {0}) RunFault)
     → IfErr r (λ e. (e ≡ fault.Memory) ⊎ (with_township n asked t ≡ Err e)) → IfErr r (λ e. (e ≡ fault.Memory) ⊎ AfterTownship n asked text (Err e))
 refused n asked text t d (Ok u) h = tt
 refused n asked text t d (Err e) (inl m) = inl m

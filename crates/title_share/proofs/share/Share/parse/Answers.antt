@@ -46,19 +46,22 @@ returns-then-top-bottom c = record {
       omega arith;
 }
 
-pub invariant_of-result : goal.invariant_of-result
-invariant_of-result c =
-    let weight = c.in-Some-weight.ensures.weight in (
-      units_some _ _ (number_some c.in-Some.top.now _ c.in-Some-number.ensures.number) weight.2,
-      units_most c.in-Some-number.top c.in-Some-weight.weight c.in-Some-number-2.bottom weight.1 c.if-top-bottom.false,
-    )
+pub of-requires-clause-some : goal.of-requires-clause-some
+of-requires-clause-some c =
+    let weight = c.in-Some-weight.ensures.weight in
+    units_some _ _ (number_some c.in-Some.top.now _ c.in-Some-number.ensures.number) weight.2
+
+pub of-requires-clause-most : goal.of-requires-clause-most
+of-requires-clause-most c =
+    let weight = c.in-Some-weight.ensures.weight in
+    units_most c.in-Some-number.top c.in-Some-weight.weight c.in-Some-number-2.bottom weight.1 c.if-top-bottom.false
 
 pub returns : goal.returns
 returns c =
     let weight = c.in-Some-weight.ensures.weight in
     let parts = rw c.in-Some.is at (split_parts 47 c.args.text.now c.split_once.result c.split_once.ensures.cases (omega arith)) in
     record {
-      share = record {
+      share = rw c.of.ensures.of (record {
         top = c.in-Some.top.now;
         bottom = c.in-Some.bottom.now;
         a = c.in-Some-number.top;
@@ -72,5 +75,5 @@ returns c =
           most = c.if-top-bottom.false;
           product = units_product c.in-Some-number.top c.in-Some-weight.weight c.in-Some-number-2.bottom weight.1;
         };
-      };
+      });
     }

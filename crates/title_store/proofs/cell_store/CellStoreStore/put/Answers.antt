@@ -1,5 +1,6 @@
 -- A put that is refused leaves all as it was; one that is done lends what the tract's cells held.
 use Rattle.std.proofs.Common.{◌∙◌, ◌<◌, ℕ, None, refl, sym, ap, subst, List, arith}
+use Rattle.title_land.specs.Depth.{depth}
 use Rattle.std.specs.List.{AllByRecursion}
 use Rattle.title_land.specs.declared.place.Cell.{Cell}
 use Rattle.title_land.specs.declared.place.Township.{Township}
@@ -16,13 +17,13 @@ use Rattle.title_store.proofs.cell_store.CellStoreStore.put.Goals as goal
 
 pub returns-in-Refused-clause-put : goal.returns-in-Refused-clause-put
 returns-in-Refused-clause-put c =
-    let listed = c.deref-2.ensures.value ∙ c.in_ok-cells.ensures.cells ∙ ap (λ (ts : List Township). cells_of 3 ts c.args.tract.now) c.deref.ensures.value in
+    let listed = c.deref-2.ensures.value ∙ c.in_ok-cells.ensures.cells ∙ ap (λ (ts : List Township). cells_of depth ts c.args.tract.now) c.deref.ensures.value in
     let failing = rw c.in-Refused.is at c.in_ok-rule.ensures.computed in
     (refused_put c.args.instrument.now (content_of c.args.self.now.map) c.args.self.now.townships.items c.args.tract.now c.deref-2.result.now _ c.node_of.result listed failing c.node_of.ensures.node, refl)
 
 pub returns-in-Refused-clause-content : goal.returns-in-Refused-clause-content
 returns-in-Refused-clause-content c x =
-    let listed = c.deref-2.ensures.value ∙ c.in_ok-cells.ensures.cells ∙ ap (λ (ts : List Township). cells_of 3 ts c.args.tract.now) c.deref.ensures.value in
+    let listed = c.deref-2.ensures.value ∙ c.in_ok-cells.ensures.cells ∙ ap (λ (ts : List Township). cells_of depth ts c.args.tract.now) c.deref.ensures.value in
     let failing = rw c.in-Refused.is at c.in_ok-rule.ensures.computed in
     refused_content c.args.instrument.now (content_of c.args.self.now.map) c.args.self.now.townships.items c.args.tract.now x _
     (ap (first_failing c.args.instrument.now (content_of c.args.self.now.map)) (sym listed) ∙ failing)
@@ -55,7 +56,7 @@ write_all-requires c =
 
 pub invariant_of-self-in-Done : goal.invariant_of-self-in-Done
 invariant_of-self-in-Done c =
-    let listed = c.deref-2.ensures.value ∙ c.in_ok-cells.ensures.cells ∙ ap (λ (ts : List Township). cells_of 3 ts c.args.tract.now) c.deref.ensures.value in
+    let listed = c.deref-2.ensures.value ∙ c.in_ok-cells.ensures.cells ∙ ap (λ (ts : List Township). cells_of depth ts c.args.tract.now) c.deref.ensures.value in
     let computed = rw c.in-Done.is at c.in_ok-rule.ensures.computed in
     let more : c.args.self.now.next < c.in-Some.next = omega (arith, c.in-Some.ensures) in
     record {
@@ -69,7 +70,7 @@ invariant_of-self-in-Done c =
 
 pub returns-clause-put : goal.returns-clause-put
 returns-clause-put c =
-    let listed = c.deref-2.ensures.value ∙ c.in_ok-cells.ensures.cells ∙ ap (λ (ts : List Township). cells_of 3 ts c.args.tract.now) c.deref.ensures.value in
+    let listed = c.deref-2.ensures.value ∙ c.in_ok-cells.ensures.cells ∙ ap (λ (ts : List Township). cells_of depth ts c.args.tract.now) c.deref.ensures.value in
     let computed = rw c.in-Done.is at c.in_ok-rule.ensures.computed in (
       refused_by c.args.instrument.now (content_of c.args.self.now.map) c.args.self.now.townships.items c.args.tract.now None
           (ap (first_failing c.args.instrument.now (content_of c.args.self.now.map)) (sym listed) ∙ computed.0),
@@ -79,7 +80,7 @@ returns-clause-put c =
 
 pub returns-clause-content : goal.returns-clause-content
 returns-clause-content c x =
-    let listed = c.deref-2.ensures.value ∙ c.in_ok-cells.ensures.cells ∙ ap (λ (ts : List Township). cells_of 3 ts c.args.tract.now) c.deref.ensures.value in
+    let listed = c.deref-2.ensures.value ∙ c.in_ok-cells.ensures.cells ∙ ap (λ (ts : List Township). cells_of depth ts c.args.tract.now) c.deref.ensures.value in
     let computed = rw c.in-Done.is at c.in_ok-rule.ensures.computed in
     c.write_all.ensures.content x
     ∙ post_content c.args.instrument.now (content_of c.args.self.now.map) c.args.self.now.townships.items c.args.tract.now c.in-Done.new.items x (content_of c.make_places.new.self x)

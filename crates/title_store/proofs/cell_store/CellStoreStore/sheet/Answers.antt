@@ -1,5 +1,6 @@
 -- After the last estate the sheet is whole.
-use Rattle.std.proofs.Common.{◌≤◌, ap, ◌∙◌, arith}
+use Rattle.std.proofs.Common.{◌+◌, ◌≤◌, ap, ◌∙◌, arith}
+use Rattle.title_land.specs.Depth.{depth}
 use Rattle.std.proofs.lemmas.List.{take_all}
 use Rattle.std.specs.List.{flat_map}
 use Rattle.title_land.specs.Lands.{cover_of}
@@ -11,4 +12,4 @@ pub returns : goal.returns
 unfolding sheet_of
 returns c =
     let high : 3 ≤ c.loop-estate.estate-index = omega arith in
-    record { sheet = c.loop-estate.invariant ∙ ap (flat_map (λ e. flat_map (sheet_below 5 3 c.args.self.now.townships.items (content_of c.args.self.now.map) e) (cover_of 3 c.args.tract.now))) (take_all c.loop-estate.estate-index estates high) }
+    record { sheet = c.loop-estate.invariant ∙ ap (flat_map (λ e. flat_map (sheet_below (depth + 2) depth c.args.self.now.townships.items (content_of c.args.self.now.map) e) (cover_of depth c.args.tract.now))) (take_all c.loop-estate.estate-index estates high) }

@@ -1,5 +1,6 @@
 -- The rows of the estates so far are added.
-use Rattle.std.proofs.Common.{◌≡◌, take}
+use Rattle.std.proofs.Common.{◌+◌, ◌≡◌, take}
+use Rattle.title_land.specs.Depth.{depth}
 use Rattle.std.specs.List.{flat_map}
 use Rattle.title_land.specs.Lands.{cover_of}
 use Rattle.title_store.specs.CellMaps.{content_of}
@@ -7,4 +8,4 @@ use Rattle.title_store.specs.Sheets.{sheet_below}
 use Rattle.title_store.proofs.cell_store.CellStoreStore.sheet.Given as goal
 
 abbrev pub invariant-loop-estate : goal.invariant-loop-estate
-invariant-loop-estate l = l.rows.items ≡ flat_map (λ e. flat_map (sheet_below 5 3 l.self.townships.items (content_of l.self.map) e) (cover_of 3 l.tract)) (take l.estate-index l.estate-items)
+invariant-loop-estate l = l.rows.items ≡ flat_map (λ e. flat_map (sheet_below (depth + 2) depth l.self.townships.items (content_of l.self.map) e) (cover_of depth l.tract)) (take l.estate-index l.estate-items)

@@ -1,0 +1,10 @@
+-- What was left to show of `new`.
+use Rattle.std.proofs.Common.{◌∙◌}
+use Rattle.std.specs.Str.{chars}
+use Rattle.std.proofs.lemmas.List.{append-nil}
+use Rattle.title_aliquot.specs.Letters.{letters}
+use Rattle.title_aliquot.proofs.TextWalks.{no_letters}
+use Rattle.title_aliquot.proofs.reader.Reader.new.Goals as goal
+
+pub returns : goal.returns
+returns c = record { new = c.of_both.ensures.both ∙ rw no_letters (append-nil (letters (chars c.args.text.now))) }

@@ -1,0 +1,6 @@
+-- The law is a lemma.
+use Rattle.title_land.proofs.CoversDoubled.{node_land_doubles as lemma}
+use Rattle.title_land.proofs.doubled.node_land_doubles.Goals as goal
+
+pub returns : goal.returns
+returns c = record { law = lemma }

@@ -1,0 +1,22 @@
+-- What a tract keeps: one node, or a set of a section's cells beside its cover.
+use Rattle.std.specs.Prelude.{◌≡◌}
+use Rattle.std.specs.Arc.{arc_value}
+use Rattle.title_land.specs.Depth.{depth}
+use Rattle.title_land.specs.declared.tract.Extent.{Extent}
+use Rattle.title_land.specs.declared.tract.Extent.TheVariants as extent
+use Rattle.title_land.specs.declared.tract.Land.{Land}
+use Rattle.title_land.specs.declared.tract.Land.TheVariants as land
+use Rattle.title_land.specs.Nodes.{IsNode}
+use Rattle.title_land.specs.Lands.{land_of, cover_of, IsLand}
+
+-- the land that is kept
+abbrev pub kept_land : Extent → Land
+kept_land (extent.Node n) = land_of depth n
+kept_land (extent.Shape s shape) = land.Part s (arc_value shape).cells
+
+-- a node is one of the tree; a cover beside a set is the set's
+abbrev pub IsExtent : Extent → Type 0
+IsExtent (extent.Node n) = IsNode depth n
+IsExtent (extent.Shape s shape) =
+    ((arc_value shape).cover.items ≡ cover_of depth (land.Part s (arc_value shape).cells))
+    × IsLand depth (land.Part s (arc_value shape).cells)

@@ -1,0 +1,6 @@
+-- The law is a lemma.
+use Rattle.title_store.proofs.PostsDoubled.{refused_doubles as lemma}
+use Rattle.title_store.proofs.depth_laws.refused_doubles.Goals as goal
+
+pub returns : goal.returns
+returns c = record { law = lemma }
