@@ -11,7 +11,8 @@ use Rattle.title_land.specs.declared.tract.Land.TheVariants as land
 use Rattle.title_land.specs.Places.{IsTownshipNumber, IsSectionNumber, IsTownship, IsSection}
 use Rattle.title_land.specs.Grids.{grid_of}
 use Rattle.title_aliquot.specs.Grammar.{Syntax, Everything, InPlace, PlaceSyntax, SectionSyntax}
-use Rattle.title_aliquot.specs.Meaning.{SectionIsNumbered, section_parts, parts_exist, rectangles, Overlap, union, IsLandIn, IsLandOf, StandsFor}
+use Rattle.title_aliquot.specs.Meaning.{SectionIsNumbered, section_parts, parts_exist, rectangles, Overlap, union, IsLandIn, IsLandOf}
+use Rattle.title_aliquot.specs.Meaning.{StandsFor}
 
 -- ---- lands of places
 
@@ -21,9 +22,14 @@ number_as n m e h = let P : ℕ → Type 0 = λ k. IsTownshipNumber k in subst P
 section_as : (n m : ℕ) → n ≡ m → IsSectionNumber n → IsSectionNumber m
 section_as n m e h = let P : ℕ → Type 0 = λ k. IsSectionNumber k in subst P e h
 
-pub township_stands : (p : PlaceSyntax) (t : Township) → IsTownship p.township p.north p.range p.east t → p.section ≡ None → StandsFor depth (InPlace p) (land.Township t)
+pub township_stands : (p : PlaceSyntax) (t : Township) → IsTownship p.township p.north p.range p.east t → p.section ≡ None
+    → StandsFor depth (InPlace p) (land.Township t)
 township_stands p t h e = record {
-  numbered = (number_as t.number p.township h.number_is t.numbered, number_as t.range p.range h.range_is t.ranged, subst SectionIsNumbered (sym e) tt);
+  numbered = (
+    number_as t.number p.township h.number_is t.numbered,
+    number_as t.range p.range h.range_is t.ranged,
+    subst SectionIsNumbered (sym e) tt,
+  );
   exist = ap (λ (s : Option SectionSyntax). parts_exist depth (section_parts s)) e;
   apart = λ o. subst (λ (s : Option SectionSyntax). Overlap (rectangles depth (section_parts s))) e o;
   land_is = (t, h, subst (λ (s : Option SectionSyntax). IsLandIn depth t s (land.Township t)) (sym e) refl);
@@ -35,7 +41,8 @@ pub record PartsStand (parts : List (List Step)) (g : Grid) : Type 0 where
   pub apart : Overlap (rectangles depth parts) → ⊥
   pub union_is : g ≡ grid_of depth (union (rectangles depth parts))
 
-pub section_stands : (p : PlaceSyntax) (t : Township) (s : SectionSyntax) (z : Section) (g : Grid) → IsTownship p.township p.north p.range p.east t → p.section ≡ Some s →
+pub section_stands : (p : PlaceSyntax) (t : Township) (s : SectionSyntax) (z : Section) (g : Grid)
+    → IsTownship p.township p.north p.range p.east t → p.section ≡ Some s →
     IsSection t s.number z → PartsStand s.parts g → StandsFor depth (InPlace p) (land.Part z g)
 section_stands p t s z g h e k w = record {
   numbered = (
@@ -45,7 +52,12 @@ section_stands p t s z g h e k w = record {
   );
   exist = ap (λ (x : Option SectionSyntax). parts_exist depth (section_parts x)) e ∙ w.exist;
   apart = λ o. w.apart (subst (λ (x : Option SectionSyntax). Overlap (rectangles depth (section_parts x))) e o);
-  land_is = (t, h, subst (λ (x : Option SectionSyntax). IsLandIn depth t x (land.Part z g)) (sym e) (z, k, ap (λ (x : Grid). land.Part z x) w.union_is));
+  land_is = (
+    t,
+    h,
+    subst (λ (x : Option SectionSyntax). IsLandIn depth t x (land.Part z g)) (sym e)
+        (z, k, ap (λ (x : Grid). land.Part z x) w.union_is),
+  );
 }
 
 pub parts_stand_as : (ps qs : List (List Step)) (g : Grid) → ps ≡ qs → PartsStand ps g → PartsStand qs g
@@ -62,19 +74,22 @@ section_prop n = hlevel le_prop
 abbrev made : (n : ℕ) (north : Bool) (r : ℕ) (east : Bool) → IsTownshipNumber n → IsTownshipNumber r → Township
 made n north r east a b = record { number = n; north = north; range = r; east = east; numbered = a; ranged = b }
 
-numbered_same : (n m : ℕ) → n ≡ m → (north : Bool) (r : ℕ) (east : Bool) (a : IsTownshipNumber n) (x : IsTownshipNumber m) (b : IsTownshipNumber r) →
+numbered_same : (n m : ℕ) → n ≡ m → (north : Bool) (r : ℕ) (east : Bool) (a : IsTownshipNumber n) (x : IsTownshipNumber m)
+    (b : IsTownshipNumber r) →
     made n north r east a b ≡ made m north r east x b
 numbered_same n m e north r east a x b =
     let P : ℕ → Type 0 = λ k. (y : IsTownshipNumber k) → made n north r east a b ≡ made k north r east y b in
     subst P e (λ y. ap (λ (z : IsTownshipNumber n). made n north r east z b) (number_prop n a y)) x
 
-ranged_same : (r q : ℕ) → r ≡ q → (n : ℕ) (north : Bool) (east : Bool) (a : IsTownshipNumber n) (b : IsTownshipNumber r) (x : IsTownshipNumber q) →
+ranged_same : (r q : ℕ) → r ≡ q → (n : ℕ) (north : Bool) (east : Bool) (a : IsTownshipNumber n) (b : IsTownshipNumber r)
+    (x : IsTownshipNumber q) →
     made n north r east a b ≡ made n north q east a x
 ranged_same r q e n north east a b x =
     let P : ℕ → Type 0 = λ k. (y : IsTownshipNumber k) → made n north r east a b ≡ made n north k east a y in
     subst P e (λ y. ap (λ (z : IsTownshipNumber r). made n north r east a z) (number_prop r b y)) x
 
-pub one_township : (n : ℕ) (north : Bool) (r : ℕ) (east : Bool) (t u : Township) → IsTownship n north r east t → IsTownship n north r east u → t ≡ u
+pub one_township : (n : ℕ) (north : Bool) (r : ℕ) (east : Bool) (t u : Township) → IsTownship n north r east t → IsTownship n north r east u
+    → t ≡ u
 one_township n north r east t u h k =
     numbered_same t.number u.number (h.number_is ∙ sym k.number_is) t.north t.range t.east t.numbered u.numbered t.ranged
     ∙ ranged_same t.range u.range (h.range_is ∙ sym k.range_is) u.number t.north t.east u.numbered t.ranged u.ranged

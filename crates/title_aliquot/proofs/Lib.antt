@@ -13,3 +13,4 @@ pub mod NodeTexts
 pub mod NodeCovers
 pub mod Total
 pub mod TextsDoubled
+pub mod Readings

@@ -1,5 +1,6 @@
 -- The land of a node's text has that node alone as its cover.
-use Rattle.std.proofs.Common.{◌≡◌, ◌∙◌, ℕ, suc, ◌+◌, ◌-◌, ◌*◌, ◌^◌, ◌≤◌, ◌%◌, true, false, List, [], ◌∷◌, length, Some, None, refl, sym, ap, subst, inl, inr, arith}
+use Rattle.std.proofs.Common.{◌≡◌, ◌∙◌, ℕ, suc, ◌+◌, ◌-◌, ◌*◌, ◌^◌, ◌≤◌, ◌%◌, true, false, List, [], ◌∷◌, length, Some, None, refl, sym, ap}
+use Rattle.std.proofs.Common.{subst, inl, inr, arith}
 use Rattle.std.proofs.lemmas.Bool.{eq-eqb}
 use Rattle.std.proofs.Math.Bool.{or-false}
 use Rattle.title_land.specs.Depth.{depth}
@@ -59,7 +60,8 @@ alone r (inr o) = o
 part_stands : (steps : List Step) (r : Rectangle) → part_of depth steps ≡ Some r → PartsStand (steps ∷ []) (grid_of depth (union (r ∷ [])))
 part_stands steps r e = record {
   exist = rw e refl;
-  apart = λ o. let P : List Rectangle → Type 0 = λ z. Overlap z in let k : rectangles depth (steps ∷ []) ≡ r ∷ [] = rw e refl in alone r (subst P k o);
+  apart = λ o. let P : List Rectangle → Type 0 = λ z. Overlap z in let k : rectangles depth (steps ∷ []) ≡ r ∷ [] = rw e refl in
+      alone r (subst P k o);
   union_is = ap (λ (z : List Rectangle). grid_of depth (union z)) (let k : r ∷ [] ≡ rectangles depth (steps ∷ []) = rw e refl in k);
 }
 

@@ -1,5 +1,6 @@
 -- The letters of a node's text are in the grammar, and say the node.
-use Rattle.std.proofs.Common.{◌≡◌, ◌∙◌, ℕ, zero, suc, ◌+◌, ◌*◌, ◌<◌, ◌≤◌, Bool, true, false, List, [], ◌∷◌, ◌++◌, length, Option, None, refl, sym, ap, subst, inl, inr, arith, append_assoc, cond, length-append}
+use Rattle.std.proofs.Common.{◌≡◌, ◌∙◌, ℕ, zero, suc, ◌+◌, ◌*◌, ◌<◌, ◌≤◌, Bool, true, false, List, [], ◌∷◌, ◌++◌, length, Option, None}
+use Rattle.std.proofs.Common.{refl, sym, ap, subst, inl, inr, arith, append_assoc, cond, length-append}
 use Rattle.std.specs.Prelude.{codes, nat_lt}
 use Rattle.std.specs.List.{list_all}
 use Rattle.std.specs.Fmt.{decimal as decimal_text}
@@ -22,10 +23,12 @@ use Rattle.title_land.specs.Nodes.{IsNode}
 use Rattle.title_land.proofs.PathNumbers.{depth_fits}
 use Rattle.title_land.specs.Texts.{township_text, section_text, quarter_text, quarters_text, path_text, node_text}
 use Rattle.title_grammar.specs.Language.{Gives, ◌<|>◌}
-use Rattle.title_aliquot.specs.Grammar.{Syntax, Everything, SectionSyntax, Description, PlaceText, TownshipText, RangeText, SectionText, SectionParts, section_of, place_of}
+use Rattle.title_aliquot.specs.Grammar.{Syntax, Everything, SectionSyntax, Description, PlaceText, TownshipText, RangeText, SectionText}
+use Rattle.title_aliquot.specs.Grammar.{SectionParts, section_of, place_of}
 use Rattle.title_aliquot.specs.Letters.{letters}
 use Rattle.title_aliquot.specs.Describes.{Says}
-use Rattle.title_aliquot.proofs.Spellings.{letters-append, number_spelled, number_letters, path_spelling, path_letters, parts_spelled, steps_of}
+use Rattle.title_aliquot.proofs.Spellings.{letters-append, number_spelled, number_letters, path_spelling, path_letters, parts_spelled}
+use Rattle.title_aliquot.proofs.Spellings.{steps_of}
 
 -- ---- letters
 
@@ -42,7 +45,8 @@ range_spelling n east = codes "r" ++ (decimal_text n ++ cond east (codes "e") (c
 letters_two : (a b u v : List ℕ) → letters a ≡ u → letters b ≡ v → letters (a ++ b) ≡ u ++ v
 letters_two a b u v h k = letters-append a b ∙ ap (λ (z : List ℕ). z ++ letters b) h ∙ ap (λ (z : List ℕ). u ++ z) k
 
-letters_six : (a b c d e f u v w x y z : List ℕ) → letters a ≡ u → letters b ≡ v → letters c ≡ w → letters d ≡ x → letters e ≡ y → letters f ≡ z →
+letters_six : (a b c d e f u v w x y z : List ℕ) → letters a ≡ u → letters b ≡ v → letters c ≡ w → letters d ≡ x → letters e ≡ y
+    → letters f ≡ z →
     letters (((((a ++ b) ++ c) ++ d) ++ e) ++ f) ≡ ((((u ++ v) ++ w) ++ x) ++ y) ++ z
 letters_six a b c d e f u v w x y z ha hb hc hd he hf =
     letters_two ((((a ++ b) ++ c) ++ d) ++ e) f ((((u ++ v) ++ w) ++ x) ++ y) z
@@ -57,11 +61,14 @@ township_letters : (t : Township) → letters (township_text t) ≡ township_spe
 township_letters t =
     let n : t.number < 100 = omega arith in
     let r : t.range < 100 = omega arith in
-    letters_six (codes "T") (decimal_text t.number) (cond t.north (codes "N") (codes "S")) (codes " R") (decimal_text t.range) (cond t.east (codes "E") (codes "W"))
-    (codes "t") (decimal_text t.number) (cond t.north (codes "n") (codes "s")) (codes "r") (decimal_text t.range) (cond t.east (codes "e") (codes "w"))
+    letters_six (codes "T") (decimal_text t.number) (cond t.north (codes "N") (codes "S")) (codes " R") (decimal_text t.range)
+    (cond t.east (codes "E") (codes "W"))
+    (codes "t") (decimal_text t.number) (cond t.north (codes "n") (codes "s")) (codes "r") (decimal_text t.range)
+    (cond t.east (codes "e") (codes "w"))
     refl (number_letters t.number n) (flag_letters t.north (codes "N") (codes "S") (codes "n") (codes "s") refl refl)
     refl (number_letters t.range r) (flag_letters t.east (codes "E") (codes "W") (codes "e") (codes "w") refl refl)
-    ∙ regrouped (codes "t") (decimal_text t.number) (cond t.north (codes "n") (codes "s")) (codes "r") (decimal_text t.range) (cond t.east (codes "e") (codes "w"))
+    ∙ regrouped (codes "t") (decimal_text t.number) (cond t.north (codes "n") (codes "s")) (codes "r") (decimal_text t.range)
+    (cond t.east (codes "e") (codes "w"))
 
 abbrev section_spelling : ℕ → List Quarter → List ℕ
 section_spelling n p = (codes "sec" ++ decimal_text n) ++ path_spelling p
@@ -70,7 +77,8 @@ regrouped_section : (a b c d e : List ℕ) → (((a ++ b) ++ c) ++ d) ++ e ≡ a
 regrouped_section a b c d e = simp append_assoc refl
 
 part_letters : (s : Section) (p : List Quarter) → letters (section_text s ++ path_text p)
-    ≡ township_spelling s.township.number s.township.north ++ (range_spelling s.township.range s.township.east ++ section_spelling s.number p)
+    ≡ township_spelling s.township.number s.township.north
+    ++ (range_spelling s.township.range s.township.east ++ section_spelling s.number p)
 part_letters s p =
     let n : s.number < 100 = omega arith in
     let a = township_spelling s.township.number s.township.north in
@@ -97,7 +105,16 @@ township_spelled n north l = (
   refl,
   refl,
   (refl, refl),
-  (n, north, decimal_text n, cond north (codes "n") (codes "s"), refl, refl, number_spelled n l, side_spelled north (codes "n") (codes "s")),
+  (
+    n,
+    north,
+    decimal_text n,
+    cond north (codes "n") (codes "s"),
+    refl,
+    refl,
+    number_spelled n l,
+    side_spelled north (codes "n") (codes "s"),
+  ),
 )
 
 range_spelled : (n : ℕ) (east : Bool) → n < 100 → RangeText (n, east) (range_spelling n east)
@@ -118,7 +135,16 @@ parts_named p = steps_of p ∷ []
 
 section_parts_spelled : (p : List Quarter) → SectionParts (parts_named p) (path_spelling p)
 section_parts_spelled [] = inr (refl, refl)
-section_parts_spelled (q ∷ p) = inl (tt, parts_named (q ∷ p), [], path_spelling (q ∷ p), refl, refl, inr (inr (refl, refl)), parts_spelled q p)
+section_parts_spelled (q ∷ p) = inl (
+  tt,
+  parts_named (q ∷ p),
+  [],
+  path_spelling (q ∷ p),
+  refl,
+  refl,
+  inr (inr (refl, refl)),
+  parts_spelled q p,
+)
 
 section_spelled : (n : ℕ) (p : List Quarter) → n < 100 → SectionText (section_of n (parts_named p)) (section_spelling n p)
 section_spelled n p l =
@@ -178,15 +204,18 @@ node_spelled node.Everything = inl (refl, refl)
 node_spelled (node.Township t) =
     let n : t.number < 100 = omega arith in
     let r : t.range < 100 = omega arith in
-    let e = township_letters t ∙ ap (λ (z : List ℕ). township_spelling t.number t.north ++ z) (sym (append-nil (range_spelling t.range t.east))) in
-    inr (subst (λ (z : List ℕ). PlaceText (node_syntax (node.Township t)) z) (sym e) (place_spelled t.number t.north t.range t.east None [] n r (inr (refl, refl))))
+    let e = township_letters t ∙ ap (λ (z : List ℕ). township_spelling t.number t.north ++ z)
+    (sym (append-nil (range_spelling t.range t.east))) in
+    inr (subst (λ (z : List ℕ). PlaceText (node_syntax (node.Township t)) z) (sym e)
+    (place_spelled t.number t.north t.range t.east None [] n r (inr (refl, refl))))
 node_spelled (node.Part s w) =
     let n : s.township.number < 100 = omega arith in
     let r : s.township.range < 100 = omega arith in
     let m : s.number < 100 = omega arith in
     let t = s.township in
     inr (subst (λ (z : List ℕ). PlaceText (node_syntax (node.Part s w)) z) (sym (part_letters s w))
-    (place_spelled t.number t.north t.range t.east (section_of s.number (parts_named w)) (section_spelling s.number w) n r (section_spelled s.number w m)))
+    (place_spelled t.number t.north t.range t.east (section_of s.number (parts_named w)) (section_spelling s.number w) n r
+    (section_spelled s.number w m)))
 
 -- ---- its bytes are ASCII, and few
 
@@ -196,7 +225,11 @@ record Plain (s : List ℕ) (n : ℕ) : Type 0 where
   few : length s ≤ n
 
 plain_two : (s t : List ℕ) (m n : ℕ) → Plain s m → Plain t n → Plain (s ++ t) (m + n)
-plain_two s t m n h k = record { ascii = IsAscii-append s t h.ascii k.ascii; few = let a = h.few in let b = k.few in omega (arith, length-append s t) }
+plain_two s t m n h k = record {
+  ascii = IsAscii-append s t h.ascii k.ascii;
+  few = let a = h.few in let b = k.few in
+      omega (arith, length-append s t);
+}
 
 plain_flag : (b : Bool) (x y : List ℕ) (n : ℕ) → Plain x n → Plain y n → Plain (cond b x y) n
 plain_flag true x y n h k = h

@@ -1,5 +1,6 @@
 -- The letters of numbers and quarters as a node's text has them, and that the grammar has these.
-use Rattle.std.proofs.Common.{◌≡◌, ◌∙◌, ℕ, ◌<◌, ◌==◌, ◌&&◌, Bool, true, false, List, [], ◌∷◌, ◌++◌, map, filter, refl, sym, ap, inl, inr, arith}
+use Rattle.std.proofs.Common.{◌≡◌, ◌∙◌, ℕ, ◌<◌, ◌==◌, ◌&&◌, Bool, true, false, List, [], ◌∷◌, ◌++◌, map, filter, refl, sym, ap, inl, inr}
+use Rattle.std.proofs.Common.{arith}
 use Rattle.std.specs.Prelude.{codes, not}
 use Rattle.std.specs.Char.{to_ascii_lowercase}
 use Rattle.std.specs.Fmt.{decimal as decimal_text, digits as base_digits}
@@ -129,4 +130,13 @@ part_spelled : (q : Quarter) (p : List Quarter) → Part (steps_of (q ∷ p)) (p
 part_spelled q p = (step.Quarter q, steps_of p, quarter_spelling q, path_spelling p, refl, refl, step_spelled q, many_spelled p)
 
 pub parts_spelled : (q : Quarter) (p : List Quarter) → Parts (steps_of (q ∷ p) ∷ []) (path_spelling (q ∷ p))
-parts_spelled q p = inr (steps_of (q ∷ p), [], path_spelling (q ∷ p), [], refl, sym (append-nil (path_spelling (q ∷ p))), part_spelled q p, refl)
+parts_spelled q p = inr (
+  steps_of (q ∷ p),
+  [],
+  path_spelling (q ∷ p),
+  [],
+  refl,
+  sym (append-nil (path_spelling (q ∷ p))),
+  part_spelled q p,
+  refl,
+)

@@ -120,7 +120,8 @@ memory_or fault.Overlap = inr (λ q. cc)
 memory_or fault.Memory = inl refl
 
 -- an answer that is a tract of the text, or a fault of it, or want of memory, is that of its land
-pub only_tract : (text : List ℕ) (r : Result Land DescFault) → IfOk r (λ t. Describes depth text t) → IfErr r (λ e. e ≢ fault.Memory → FaultOf depth text e) →
+pub only_tract : (text : List ℕ) (r : Result Land DescFault) → IfOk r (λ t. Describes depth text t)
+    → IfErr r (λ e. e ≢ fault.Memory → FaultOf depth text e) →
     (l : Land) → Describes depth text l → IsTractOf l r
 only_tract text (Ok m) h k l d = one_land depth text m l h d
 only_tract text (Err e) h k l d = elim (memory_or e) [
@@ -129,7 +130,8 @@ only_tract text (Err e) h k l d = elim (memory_or e) [
 ]
 
 -- or of its fault
-pub only_fault : (text : List ℕ) (r : Result Land DescFault) → IfOk r (λ t. Describes depth text t) → IfErr r (λ e. e ≢ fault.Memory → FaultOf depth text e) →
+pub only_fault : (text : List ℕ) (r : Result Land DescFault) → IfOk r (λ t. Describes depth text t)
+    → IfErr r (λ e. e ≢ fault.Memory → FaultOf depth text e) →
     (f : DescFault) → FaultOf depth text f → IsFault f r
 only_fault text (Ok m) h k f d = no_fault depth text m f h d
 only_fault text (Err e) h k f d = elim (memory_or e) [

@@ -67,7 +67,8 @@ HalfName = Gives North (codes "n") <|> Gives South (codes "s") <|> Gives East (c
 
 -- quarter = "ne" | "nw" | "sw" | "se"
 abbrev pub QuarterName : Language Quarter
-QuarterName = Gives Northeast (codes "ne") <|> Gives Northwest (codes "nw") <|> Gives Southwest (codes "sw") <|> Gives Southeast (codes "se")
+QuarterName = Gives Northeast (codes "ne") <|> Gives Northwest (codes "nw") <|> Gives Southwest (codes "sw") <|> Gives Southeast
+    (codes "se")
 
 -- step = quarter qmark | half hmark
 abbrev pub StepText : Language Step

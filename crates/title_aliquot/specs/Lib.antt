@@ -11,3 +11,4 @@ pub mod Describes
 pub mod Answers
 pub mod TextLaws
 pub mod DepthLaws
+pub mod Reading

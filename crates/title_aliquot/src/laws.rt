@@ -1,6 +1,7 @@
 //! Laws of descriptions, for the crates above. Each function does nothing: its clause is the law, proved.
 
 ghost use Rattle.title_aliquot.specs.TextLaws.{OneLand, NoFaultBesideLand, OneFault, EachTextIsAnswered, PartsHaveTheirCells, ReadsBack};
+ghost use Rattle.title_aliquot.specs.Reading.{ThereIsAReading, ReadingsAgree, ReadingsGiveTheLand, ReadingsGiveTheFault};
 ghost use Rattle.title_land.specs.Depth.{depth};
 
 /// A text describes one land at most.
@@ -21,6 +22,22 @@ pub fn one_fault_at_most()
 /// Each text describes a land or has a fault.
 pub fn each_text_is_answered()
     ensures law { EachTextIsAnswered depth }
+{}
+
+/// There is a function that reads each text aright, as the land that it describes or as its fault.
+pub fn there_is_a_reading()
+    ensures law { ThereIsAReading depth }
+{}
+
+/// Two readings give the same for each text.
+pub fn readings_agree()
+    ensures law { ReadingsAgree depth }
+{}
+
+/// A reading gives a land exactly where the text describes it, and a fault exactly where the text has it.
+pub fn readings_give_what_texts_say()
+    ensures land { ReadingsGiveTheLand depth }
+    ensures fault { ReadingsGiveTheFault depth }
 {}
 
 /// The set of a section's parts has the cells of their rectangles and no others.

@@ -1,5 +1,6 @@
 -- One place more under a node, and one post more under the nodes of its cover and those above them.
-use Rattle.std.proofs.Common.{◌≡◌, ◌<◌, ◌+◌, ℕ, Bool, true, false, cond, ◌&&◌, ◌||◌, List, [], ◌∷◌, ◌++◌, Option, Some, length, get_or, take, reverse, append_assoc, arith, refl, sym, ap, subst, ◌∙◌}
+use Rattle.std.proofs.Common.{◌≡◌, ◌<◌, ◌+◌, ℕ, Bool, true, false, cond, ◌&&◌, ◌||◌, List, [], ◌∷◌, ◌++◌, Option, Some, length, get_or}
+use Rattle.std.proofs.Common.{take, reverse, append_assoc, arith, refl, sym, ap, subst, ◌∙◌}
 use Rattle.std.specs.Prelude.{IsSome}
 use Rattle.std.specs.Global.{Vec}
 use Rattle.std.specs.BTreeMap.{BTreeMap, get, is_at}
@@ -39,9 +40,11 @@ pub one_more_under :
     ((p : Place) → is_listed p (places_in w) ≡ (is_listed p (places_under m k) || same_place p place)) →
     (q : Node) (p : Place) → is_listed p (places_under n q) ≡ (is_listed p (places_under m q) || (same_node q k && same_place p place))
 one_more_under m n k w place h here q p =
-    ap (λ (o : Option (Vec Place)). is_listed p (places_in o)) (h q ∙ ap (λ (b : Bool). cond b w (get node_cmp m q)) (node_at k q)) ∙ go (same_node q k) refl
+    ap (λ (o : Option (Vec Place)). is_listed p (places_in o)) (h q ∙ ap (λ (b : Bool). cond b w (get node_cmp m q)) (node_at k q))
+    ∙ go (same_node q k) refl
   where
-    go : (b : Bool) → same_node q k ≡ b → is_listed p (places_in (cond b w (get node_cmp m q))) ≡ (is_listed p (places_under m q) || (b && same_place p place))
+    go : (b : Bool) → same_node q k ≡ b → is_listed p (places_in (cond b w (get node_cmp m q)))
+        ≡ (is_listed p (places_under m q) || (b && same_place p place))
     go true s = here p ∙ ap (λ (x : Node). is_listed p (places_under m x) || same_place p place) (sym ((same_node-is q k).0 s))
     go false s = sym (or-false (is_listed p (places_under m q)))
 
@@ -63,7 +66,8 @@ either false false b placed = refl
 -- a place under the parent and all above it is under all above the node
 pub all_above :
     (n parent q : Node) (was between now placed : Bool) → Some parent ≡ parent_of n →
-    between ≡ (was || (same_node q parent && placed)) → now ≡ (between || (is_above q parent && placed)) → now ≡ (was || (is_above q n && placed))
+    between ≡ (was || (same_node q parent && placed)) → now ≡ (between || (is_above q parent && placed))
+    → now ≡ (was || (is_above q n && placed))
 all_above n parent q was between now placed h first rest =
     rest
     ∙ ap (λ (b : Bool). b || (is_above q parent && placed)) first
@@ -81,18 +85,23 @@ one_node_more test nodes i k was before now placed low at so step =
     step
     ∙ ap (λ (b : Bool). b || (test k && placed)) so
     ∙ either was (list_any test (take i nodes)) (test k) placed
-    ∙ ap (λ (b : Bool). was || (b && placed)) (ap (λ (x : Node). list_any test (take i nodes) || test x) at ∙ sym (list_any_more test nodes i k low))
+    ∙ ap (λ (b : Bool). was || (b && placed)) (ap (λ (x : Node). list_any test (take i nodes) || test x) at
+    ∙ sym (list_any_more test nodes i k low))
 
 -- ---- one step of a record more
 
 -- the posts of the first steps, and of the next one
 pub steps_more :
     (index : ℕ) (steps : List Step) (i : ℕ) (s : Step) (posts : List PlacedPost) → i < length steps → s ≡ get_or steps i s →
-    (posts ++ step_posts index (reverse (take i steps))) ++ post_of (place_at index i) s.ask s.answer ≡ posts ++ step_posts index (reverse (take (i + 1) steps))
+    (posts ++ step_posts index (reverse (take i steps))) ++ post_of (place_at index i) s.ask s.answer ≡ posts
+    ++ step_posts index (reverse (take (i + 1) steps))
 steps_more index steps i s posts low at =
     append_assoc posts (step_posts index (reverse (take i steps))) (post_of (place_at index i) s.ask s.answer)
-    ∙ ap (λ (k : ℕ). posts ++ (step_posts index (reverse (take i steps)) ++ post_of (place_at index k) s.ask s.answer)) (sym (length-reverse (take i steps) ∙ length-take-le i steps (omega arith)))
-    ∙ ap (λ (done : List Step). posts ++ step_posts index done) (sym (ap reverse (take_more steps i s low ∙ ap (λ (x : Step). take i steps ++ x ∷ []) (sym at)) ∙ reverse-append (take i steps) (s ∷ [])))
+    ∙ ap (λ (k : ℕ). posts ++ (step_posts index (reverse (take i steps)) ++ post_of (place_at index k) s.ask s.answer))
+    (sym (length-reverse (take i steps) ∙ length-take-le i steps (omega arith)))
+    ∙ ap (λ (done : List Step). posts ++ step_posts index done)
+    (sym (ap reverse (take_more steps i s low ∙ ap (λ (x : Step). take i steps ++ x ∷ []) (sym at))
+    ∙ reverse-append (take i steps) (s ∷ [])))
 
 -- ---- one post more
 
@@ -112,7 +121,8 @@ where_more test posts x p =
 -- lists by nodes that had the places of posts, and have one more under the nodes that pass
 kept_more :
     (test : Land → Bool) (posts : List PlacedPost) (x : PlacedPost) (p place : Place) (l : Land) (was now passes : Bool) →
-    x.place ≡ place → x.posting.tract ≡ l → passes ≡ test l → was ≡ is_place_where test posts p → now ≡ (was || (passes && same_place p place)) →
+    x.place ≡ place → x.posting.tract ≡ l → passes ≡ test l → was ≡ is_place_where test posts p
+    → now ≡ (was || (passes && same_place p place)) →
     now ≡ is_place_where test (posts ++ x ∷ []) p
 kept_more test posts x p place l was now passes is lies tested kept more =
     more
@@ -124,11 +134,16 @@ kept_more test posts x p place l was now passes is lies tested kept more =
 -- a filing with a post of a land more
 pub post_filed :
     (depth : ℕ) (f g : Filing) (place : Place) (l : Land) (cover : List Node) → cover ≡ cover_of depth l → IsLand depth l →
-    ((n : Node) (p : Place) → is_listed p (places_under g.at n) ≡ (is_listed p (places_under f.at n) || (list_any (same_node n) cover && same_place p place))) →
-    ((n : Node) (p : Place) → is_listed p (places_under g.below n) ≡ (is_listed p (places_under f.below n) || (list_any (is_above n) cover && same_place p place))) →
-    (posts : List PlacedPost) (x : PlacedPost) → x.place ≡ place → x.posting.tract ≡ l → IsFiled depth f posts → IsFiled depth g (posts ++ x ∷ [])
+    ((n : Node) (p : Place) → is_listed p (places_under g.at n)
+    ≡ (is_listed p (places_under f.at n) || (list_any (same_node n) cover && same_place p place))) →
+    ((n : Node) (p : Place) → is_listed p (places_under g.below n)
+    ≡ (is_listed p (places_under f.below n) || (list_any (is_above n) cover && same_place p place))) →
+    (posts : List PlacedPost) (x : PlacedPost) → x.place ≡ place → x.posting.tract ≡ l → IsFiled depth f posts
+    → IsFiled depth g (posts ++ x ∷ [])
 post_filed depth f g place l cover covered sized at below posts x is lies filed = record {
   at = λ n p. kept_more (covers depth n) posts x p place l _ _ _ is lies (ap (list_any (same_node n)) covered) (filed.at n p) (at n p);
-  below = λ n p. kept_more (covers_below depth n) posts x p place l _ _ _ is lies (ap (list_any (is_above n)) covered) (filed.below n p) (below n p);
-  sized = each_append (λ (y : PlacedPost). IsLand depth y.posting.tract) posts (x ∷ []) filed.sized (subst (λ (m : Land). IsLand depth m) (sym lies) sized, tt);
+  below = λ n p. kept_more (covers_below depth n) posts x p place l _ _ _ is lies (ap (list_any (is_above n)) covered) (filed.below n p)
+      (below n p);
+  sized = each_append (λ (y : PlacedPost). IsLand depth y.posting.tract) posts (x ∷ []) filed.sized
+      (subst (λ (m : Land). IsLand depth m) (sym lies) sized, tt);
 }

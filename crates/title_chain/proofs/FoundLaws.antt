@@ -34,14 +34,16 @@ same_place-self p = and_from _ _ (eq-eqb p.record p.record refl) (eq-eqb p.step 
 pub place_tied : (p q : Place) → place_cmp p q ≡ Equal → p ≡ q
 place_tied p q h =
     let parts = then_parts (nat_cmp p.record q.record) (nat_cmp p.step q.step) h in
-    same_place-is p q (and_from _ _ (eq-eqb p.record q.record (exact_unsigned p.record q.record parts.0)) (eq-eqb p.step q.step (exact_unsigned p.step q.step parts.1)))
+    same_place-is p q (and_from _ _ (eq-eqb p.record q.record (exact_unsigned p.record q.record parts.0))
+    (eq-eqb p.step q.step (exact_unsigned p.step q.step parts.1)))
 
 pub place_self : (p : Place) → place_cmp p p ≡ Equal
 place_self p = rw (tied_itself nat_cmp_total p.record, tied_itself nat_cmp_total p.step) refl
 
 -- a set of places finds one exactly there
 pub place_at_is : (p q : Place) → is_at (place_cmp p) q ≡ same_place p q
-place_at_is p q = found_at place_cmp (λ a b. same_place b a) p q (λ h. sym (same_place-is p q h)) (place_tied p q) (place_self p) (same_place-self p)
+place_at_is p q = found_at place_cmp (λ a b. same_place b a) p q (λ h. sym (same_place-is p q h)) (place_tied p q) (place_self p)
+    (same_place-self p)
 
 -- the test is the same either way
 pub same_place-turned : (p q : Place) → same_place p q ≡ same_place q p
@@ -52,8 +54,10 @@ same_place-turned p q = equal_tests (same_place p q) (same_place q p) (turned p 
 
 -- a set with a place more has what it had and that place
 place_more :
-    (m n : BTreeSet Place) (k p : Place) → is_found n p ≡ cond (is_at (place_cmp k) p) true (is_found m p) → is_found n p ≡ (is_found m p || same_place p k)
-place_more m n k p h = h ∙ ap (λ (b : Bool). cond b true (is_found m p)) (place_at_is k p ∙ same_place-turned k p) ∙ last (same_place p k) (is_found m p)
+    (m n : BTreeSet Place) (k p : Place) → is_found n p ≡ cond (is_at (place_cmp k) p) true (is_found m p)
+    → is_found n p ≡ (is_found m p || same_place p k)
+place_more m n k p h = h ∙ ap (λ (b : Bool). cond b true (is_found m p)) (place_at_is k p ∙ same_place-turned k p)
+    ∙ last (same_place p k) (is_found m p)
   where
     last : (b x : Bool) → cond b true x ≡ (x || b)
     last true true = refl
@@ -81,7 +85,8 @@ found_more first m n k d places i h is added so_far p =
 
 -- what was found before, at the parent, and at the nodes above that was found before or above the node
 pub above_more :
-    (test : Node → Bool) (n c : Node) (first some all : Bool) → Some c ≡ parent_of n → some ≡ (first || test c) → all ≡ (some || list_any test (above c)) →
+    (test : Node → Bool) (n c : Node) (first some all : Bool) → Some c ≡ parent_of n → some ≡ (first || test c)
+    → all ≡ (some || list_any test (above c)) →
     all ≡ (first || list_any test (above n))
 above_more test n c first some all is here rest =
     rest

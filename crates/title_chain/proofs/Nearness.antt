@@ -33,7 +33,8 @@ none_any [] = refl
 none_any (x ∷ xs) = none_any xs
 
 -- whether two elements of two lists are related, from either list
-any_swap : {X Y : Type 0} (r : X → Y → Bool) (xs : List X) (ys : List Y) → list_any (λ x. list_any (r x) ys) xs ≡ list_any (λ y. list_any (λ x. r x y) xs) ys
+any_swap : {X Y : Type 0} (r : X → Y → Bool) (xs : List X) (ys : List Y)
+    → list_any (λ x. list_any (r x) ys) xs ≡ list_any (λ y. list_any (λ x. r x y) xs) ys
 any_swap r [] ys = none_any ys
 any_swap r (x ∷ xs) ys =
     ap (λ (b : Bool). list_any (r x) ys || b) (any_swap r xs ys)
@@ -46,14 +47,16 @@ both_tests true a b = refl
 both_tests false a b = refl
 
 -- the places of the posts of such lands or of such
-where_or : (left right : Land → Bool) (posts : List PlacedPost) (p : Place) → (is_place_where left posts p || is_place_where right posts p) ≡ is_place_where (λ l. left l || right l) posts p
+where_or : (left right : Land → Bool) (posts : List PlacedPost) (p : Place)
+    → (is_place_where left posts p || is_place_where right posts p) ≡ is_place_where (λ l. left l || right l) posts p
 where_or left right posts p =
     any_or (λ x. same_place p x.place && left x.posting.tract) (λ x. same_place p x.place && right x.posting.tract) posts
     ∙ (λ i. list_any (λ x. both_tests (same_place p x.place) (left x.posting.tract) (right x.posting.tract) i) posts)
 
 where_none : (posts : List PlacedPost) (p : Place) → false ≡ is_place_where (λ l. false) posts p
 where_none [] p = refl
-where_none (x ∷ posts) p = where_none posts p ∙ ap (λ (b : Bool). b || is_place_where (λ l. false) posts p) (sym (none (same_place p x.place)))
+where_none (x ∷ posts) p = where_none posts p ∙ ap (λ (b : Bool). b || is_place_where (λ l. false) posts p)
+    (sym (none (same_place p x.place)))
   where
     none : (b : Bool) → (b && false) ≡ false
     none true = refl
@@ -77,7 +80,8 @@ node_turned a b = equal_tests (same_node a b) (same_node b a) (turned a b) (turn
 
 -- a node of the list is this one, or lies below it or above it
 related_any : (n : Node) (nodes : List Node) →
-    (list_any (same_node n) nodes || (list_any (is_above n) nodes || list_any (λ a. list_any (same_node a) nodes) (above n))) ≡ list_any (are_related n) nodes
+    (list_any (same_node n) nodes || (list_any (is_above n) nodes || list_any (λ a. list_any (same_node a) nodes) (above n)))
+    ≡ list_any (are_related n) nodes
 related_any n nodes =
     ap (λ (b : Bool). list_any (same_node n) nodes || (list_any (is_above n) nodes || b))
     (any_swap same_node (above n) nodes ∙ (λ i. list_any (λ b. list_any (λ a. node_turned a b i) (above n)) nodes))
@@ -91,23 +95,28 @@ abbrev covers_near : ℕ → Node → Land → Bool
 covers_near depth n l = list_any (are_related n) (cover_of depth l)
 
 -- the places filed near a node are those of the posts whose covers have it or a node related to it
-near_is : (depth : ℕ) (f : Filing) (posts : List PlacedPost) → IsFiled depth f posts → (p : Place) (n : Node) → is_near f p n ≡ is_place_where (covers_near depth n) posts p
+near_is : (depth : ℕ) (f : Filing) (posts : List PlacedPost) → IsFiled depth f posts → (p : Place) (n : Node)
+    → is_near f p n ≡ is_place_where (covers_near depth n) posts p
 near_is depth f posts filed p n =
     (λ i. filed.at n p i || (filed.below n p i || list_any (λ a. filed.at a p i) (above n)))
-    ∙ ap (λ (b : Bool). is_place_where (covers depth n) posts p || (is_place_where (covers_below depth n) posts p || b)) (where_any (covers depth) (above n) posts p)
-    ∙ ap (λ (b : Bool). is_place_where (covers depth n) posts p || b) (where_or (covers_below depth n) (λ l. list_any (λ a. covers depth a l) (above n)) posts p)
+    ∙ ap (λ (b : Bool). is_place_where (covers depth n) posts p || (is_place_where (covers_below depth n) posts p || b))
+    (where_any (covers depth) (above n) posts p)
+    ∙ ap (λ (b : Bool). is_place_where (covers depth n) posts p || b)
+    (where_or (covers_below depth n) (λ l. list_any (λ a. covers depth a l) (above n)) posts p)
     ∙ where_or (covers depth n) (λ l. covers_below depth n l || list_any (λ a. covers depth a l) (above n)) posts p
     ∙ (λ i. is_place_where (λ l. related_any n (cover_of depth l) i) posts p)
 
 -- the places of the posts whose covers meet a tract's are those of the posts that share a cell with it
 where_meets : (depth : ℕ) → MeetsByCovers depth → (land : Land) → IsLand depth land → (posts : List PlacedPost) →
-    AllByRecursion (λ x. IsLand depth x.posting.tract) posts → (p : Place) → is_place_where (covers_meet depth land) posts p ≡ is_place_where (meets land) posts p
+    AllByRecursion (λ x. IsLand depth x.posting.tract) posts → (p : Place)
+    → is_place_where (covers_meet depth land) posts p ≡ is_place_where (meets land) posts p
 where_meets d law land sized [] all p = refl
 where_meets d law land sized (x ∷ posts) all p =
     λ i. (same_place p x.place && sym (law land x.posting.tract sized all.0) i) || where_meets d law land sized posts all.1 p i
 
 -- the places filed near the nodes of a tract's cover are those of the posts that share a cell with it
-near_meets_at : (depth : ℕ) → MeetsByCovers depth → (f : Filing) (posts : List PlacedPost) → IsFiled depth f posts → (land : Land) → IsLand depth land →
+near_meets_at : (depth : ℕ) → MeetsByCovers depth → (f : Filing) (posts : List PlacedPost) → IsFiled depth f posts → (land : Land)
+    → IsLand depth land →
     (p : Place) → list_any (is_near f p) (cover_of depth land) ≡ is_place_where (meets land) posts p
 near_meets_at depth law f posts filed land sized p =
     (λ i. list_any (λ n. near_is depth f posts filed p n i) (cover_of depth land))

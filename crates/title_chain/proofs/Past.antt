@@ -81,10 +81,12 @@ plays_past depth townships records e own [] clear plays = tt
 plays_past depth townships records e own (s ∷ earlier) clear plays =
     let p : Plant = plant_after depth townships records in
     let t : Land = tract_of s.ask in
-    let same : SameIn depth townships t (after_steps depth townships p earlier) (after_steps depth townships (after_steps depth townships p own) earlier) =
+    let same : SameIn depth townships t (after_steps depth townships p earlier)
+    (after_steps depth townships (after_steps depth townships p own) earlier) =
     λ d inside. sym (steps_same depth townships (after_steps depth townships p own) p earlier
     (clear_same depth townships p own earlier clear.0) d (steps_past depth townships p own s.ask clear.1 d inside)) in
-    let listed : chain_of records earlier t ≡ (record_entries t records ++ step_entries (suc (length records)) t own) ++ step_entries 0 t earlier =
+    let listed : chain_of records earlier t ≡ (record_entries t records ++ step_entries (suc (length records)) t own)
+    ++ step_entries 0 t earlier =
     rw (entries_past (suc (length records)) own s.ask clear.1, append-nil) refl in (
       plays_past depth townships records e own earlier clear.0 plays.0,
       plays.1,

@@ -1,5 +1,6 @@
 -- The entries of the steps at the places of posts are those of the records, or of a transaction's own steps.
-use Rattle.std.proofs.Common.{◌≡◌, ℕ, ◌+◌, ◌≤◌, suc, Bool, true, false, cond, List, [], ◌∷◌, ◌++◌, length, reverse, Option, Some, refl, sym, ap, subst, ◌∙◌, append_assoc, add-one}
+use Rattle.std.proofs.Common.{◌≡◌, ℕ, ◌+◌, ◌≤◌, suc, Bool, true, false, cond, List, [], ◌∷◌, ◌++◌, length, reverse, Option, Some, refl, sym}
+use Rattle.std.proofs.Common.{ap, subst, ◌∙◌, append_assoc, add-one}
 use Rattle.std.specs.Prelude.{slice_get}
 use Rattle.std.specs.BTreeSet.{BTreeSet, IsOrdered}
 use Rattle.std.specs.List.{AllByRecursion}
@@ -19,13 +20,16 @@ use Rattle.title_chain.specs.declared.record.Record.{Record}
 use Rattle.title_chain.specs.StepEntries.{entry_of, step_entries}
 use Rattle.title_chain.specs.Chains.{record_entries}
 use Rattle.title_chain.specs.PlaceMaps.{place_cmp, is_found}
-use Rattle.title_chain.specs.PostPlaces.{PlacedPost, post_of, place_at, step_posts, record_posts, places_where, is_place_where, step_entry, entry_in, entry_at, own_entry_at, entries_at}
+use Rattle.title_chain.specs.PostPlaces.{PlacedPost, post_of, place_at, step_posts, record_posts, places_where, is_place_where, step_entry}
+use Rattle.title_chain.specs.PostPlaces.{entry_in, entry_at, own_entry_at, entries_at}
 use Rattle.title_chain.proofs.PlaceOrder.{IsAmong, steps_among, steps_ascend, records_ascend, keys_are}
 
 -- a place past the records, or past the steps of its record, gives no entry
-pub past_records : (records : List Record) (land : Land) (p : Place) (entries : List Entry) → length records ≤ p.record → entries ≡ entries ++ entry_at records land p
+pub past_records : (records : List Record) (land : Land) (p : Place) (entries : List Entry) → length records ≤ p.record
+    → entries ≡ entries ++ entry_at records land p
 past_records records land p entries h =
-    sym (ap (λ (o : Option Record). entries ++ entry_in (suc p.record) land p.step o) (slice_get_past records p.record h) ∙ append-nil entries)
+    sym (ap (λ (o : Option Record). entries ++ entry_in (suc p.record) land p.step o) (slice_get_past records p.record h)
+    ∙ append-nil entries)
 
 pub past_steps :
     (records : List Record) (land : Land) (p : Place) (r : Record) (entries : List Entry) →
@@ -37,16 +41,20 @@ past_steps records land p r entries is h =
 -- else it gives that of its step
 pub entry_is :
     (records : List Record) (land : Land) (p : Place) (r : Record) (s : Step) →
-    slice_get records p.record ≡ Some r → slice_get r.steps p.step ≡ Some s → entry_of (p.record + 1) land s.ask s.answer ≡ entry_at records land p
+    slice_get records p.record ≡ Some r → slice_get r.steps p.step ≡ Some s
+    → entry_of (p.record + 1) land s.ask s.answer ≡ entry_at records land p
 entry_is records land p r s is there =
     ap (λ (n : ℕ). entry_of n land s.ask s.answer) (add-one p.record)
     ∙ sym (ap (entry_in (suc p.record) land p.step) is ∙ ap (step_entry (suc p.record) land) there)
 
 -- a transaction's own step gives the entry at its place, and past the steps there is none
-pub past_own : (steps : List Step) (land : Land) (i : ℕ) (entries : List Entry) → length steps ≤ i → entries ≡ entries ++ step_entry 0 land (slice_get steps i)
-past_own steps land i entries h = sym (ap (λ (o : Option Step). entries ++ step_entry 0 land o) (slice_get_past steps i h) ∙ append-nil entries)
+pub past_own : (steps : List Step) (land : Land) (i : ℕ) (entries : List Entry) → length steps ≤ i
+    → entries ≡ entries ++ step_entry 0 land (slice_get steps i)
+past_own steps land i entries h = sym (ap (λ (o : Option Step). entries ++ step_entry 0 land o) (slice_get_past steps i h)
+    ∙ append-nil entries)
 
-pub own_entry_is : (steps : List Step) (land : Land) (i : ℕ) (s : Step) → slice_get steps i ≡ Some s → entry_of 0 land s.ask s.answer ≡ step_entry 0 land (slice_get steps i)
+pub own_entry_is : (steps : List Step) (land : Land) (i : ℕ) (s : Step) → slice_get steps i ≡ Some s
+    → entry_of 0 land s.ask s.answer ≡ step_entry 0 land (slice_get steps i)
 own_entry_is steps land i s there = sym (ap (step_entry 0 land) there)
 
 -- the entry that a post gives to the chain of a tract, with a record's number
@@ -58,13 +66,15 @@ abbrev pub post_entries : (ℕ → ℕ) → Land → List PlacedPost → List En
 post_entries number land [] = []
 post_entries number land (x ∷ posts) = post_entry (number x.place.record) land x ++ post_entries number land posts
 
-entries_append : (number : ℕ → ℕ) (land : Land) (xs ys : List PlacedPost) → post_entries number land (xs ++ ys) ≡ post_entries number land xs ++ post_entries number land ys
+entries_append : (number : ℕ → ℕ) (land : Land) (xs ys : List PlacedPost)
+    → post_entries number land (xs ++ ys) ≡ post_entries number land xs ++ post_entries number land ys
 entries_append number land [] ys = refl
 entries_append number land (x ∷ xs) ys =
     ap (λ (es : List Entry). post_entry (number x.place.record) land x ++ es) (entries_append number land xs ys)
     ∙ sym (append_assoc (post_entry (number x.place.record) land x) (post_entries number land xs) (post_entries number land ys))
 
-one_entry : (number : ℕ → ℕ) (land : Land) (i j : ℕ) (a : Ask) (given : Answer) → post_entries number land (post_of (place_at i j) a given) ≡ entry_of (number i) land a given
+one_entry : (number : ℕ → ℕ) (land : Land) (i j : ℕ) (a : Ask) (given : Answer)
+    → post_entries number land (post_of (place_at i j) a given) ≡ entry_of (number i) land a given
 one_entry number land i j (ask.Sheet t) given = refl
 one_entry number land i j (ask.Chain t) given = refl
 one_entry number land i j (ask.Post p) (answer.Rows rows) = refl
@@ -72,7 +82,8 @@ one_entry number land i j (ask.Post p) (answer.Entries entries) = refl
 one_entry number land i j (ask.Post p) answer.Posted = append-nil _
 one_entry number land i j (ask.Post p) (answer.Refused rule estate node) = refl
 
-steps_entries : (number : ℕ → ℕ) (land : Land) (i : ℕ) (steps : List Step) → post_entries number land (step_posts i steps) ≡ step_entries (number i) land steps
+steps_entries : (number : ℕ → ℕ) (land : Land) (i : ℕ) (steps : List Step)
+    → post_entries number land (step_posts i steps) ≡ step_entries (number i) land steps
 steps_entries number land i [] = refl
 steps_entries number land i (s ∷ earlier) =
     entries_append number land (step_posts i earlier) (post_of (place_at i (length earlier)) s.ask s.answer)
@@ -105,7 +116,8 @@ back_more {A} xs y ys = ap (λ (zs : List A). zs ++ ys) (reverse-append (y ∷ [
 abbrev pub IsStepOf : List Step → PlacedPost → Type 0
 IsStepOf steps x = (n : ℕ) (l : Land) → step_entry n l (slice_get steps x.place.step) ≡ post_entry n l x
 
-one_step : (steps : List Step) (i j : ℕ) (s : Step) (a : Ask) (given : Answer) → s.ask ≡ a → s.answer ≡ given → slice_get steps j ≡ Some s → AllByRecursion (IsStepOf steps) (post_of (place_at i j) a given)
+one_step : (steps : List Step) (i j : ℕ) (s : Step) (a : Ask) (given : Answer) → s.ask ≡ a → s.answer ≡ given → slice_get steps j ≡ Some s
+    → AllByRecursion (IsStepOf steps) (post_of (place_at i j) a given)
 one_step steps i j s (ask.Sheet t) given asked answered is = tt
 one_step steps i j s (ask.Chain t) given asked answered is = tt
 one_step steps i j s (ask.Post p) (answer.Rows rows) asked answered is = tt
@@ -118,7 +130,8 @@ steps_found : (i : ℕ) (steps later : List Step) → AllByRecursion (IsStepOf (
 steps_found i [] later = tt
 steps_found i (s ∷ earlier) later =
     subst (λ (all : List Step). AllByRecursion (IsStepOf all) (step_posts i (s ∷ earlier))) (sym (back_more earlier s later))
-    (each_append (IsStepOf (reverse earlier ++ s ∷ later)) (step_posts i earlier) (post_of (place_at i (length earlier)) s.ask s.answer) (steps_found i earlier (s ∷ later))
+    (each_append (IsStepOf (reverse earlier ++ s ∷ later)) (step_posts i earlier) (post_of (place_at i (length earlier)) s.ask s.answer)
+    (steps_found i earlier (s ∷ later))
     (one_step (reverse earlier ++ s ∷ later) i (length earlier) s s.ask s.answer refl refl (back_seam earlier s later)))
 
 both_of : {A : Type 0} (P Q : A → Type 0) (xs : List A) → AllByRecursion P xs → AllByRecursion Q xs → AllByRecursion (λ x. P x × Q x) xs
@@ -129,22 +142,26 @@ both_of P Q (x ∷ xs) h k = ((h.0, k.0), both_of P Q xs h.1 k.1)
 abbrev pub IsPlaced : List Record → PlacedPost → Type 0
 IsPlaced records x = (l : Land) → entry_at records l x.place ≡ post_entry (suc x.place.record) l x
 
-record_placed : (records : List Record) (r : Record) (x : PlacedPost) → slice_get records x.place.record ≡ Some r → IsStepOf r.steps x → IsPlaced records x
+record_placed : (records : List Record) (r : Record) (x : PlacedPost) → slice_get records x.place.record ≡ Some r → IsStepOf r.steps x
+    → IsPlaced records x
 record_placed records r x is step l = ap (entry_in (suc x.place.record) l x.place.step) is ∙ step (suc x.place.record) l
 
-record_found : (i : ℕ) (records : List Record) (r : Record) → slice_get records i ≡ Some r → AllByRecursion (IsPlaced records) (step_posts i (reverse r.steps))
+record_found : (i : ℕ) (records : List Record) (r : Record) → slice_get records i ≡ Some r
+    → AllByRecursion (IsPlaced records) (step_posts i (reverse r.steps))
 record_found i records r is =
     let steps : List Step = reverse r.steps in
     let all : reverse steps ++ [] ≡ r.steps = append-nil (reverse steps) ∙ reverse-reverse r.steps in
     each_from (λ x. IsAmong i (length steps) x × IsStepOf (reverse steps ++ []) x) (IsPlaced records) (step_posts i steps)
     (λ x h. record_placed records r x (ap (slice_get records) h.0.0 ∙ is) (subst (λ (items : List Step). IsStepOf items x) all h.1))
-    (both_of (IsAmong i (length steps)) (IsStepOf (reverse steps ++ [])) (step_posts i steps) (steps_among i steps) (steps_found i steps []))
+    (both_of (IsAmong i (length steps)) (IsStepOf (reverse steps ++ [])) (step_posts i steps) (steps_among i steps)
+    (steps_found i steps []))
 
 records_found : (records later : List Record) → AllByRecursion (IsPlaced (reverse records ++ later)) (record_posts records)
 records_found [] later = tt
 records_found (r ∷ older) later =
     subst (λ (all : List Record). AllByRecursion (IsPlaced all) (record_posts (r ∷ older))) (sym (back_more older r later))
-    (each_append (IsPlaced (reverse older ++ r ∷ later)) (record_posts older) (step_posts (length older) (reverse r.steps)) (records_found older (r ∷ later))
+    (each_append (IsPlaced (reverse older ++ r ∷ later)) (record_posts older) (step_posts (length older) (reverse r.steps))
+    (records_found older (r ∷ later))
     (record_found (length older) (reverse older ++ r ∷ later) r (back_seam older r later)))
 
 -- at the post's place stands its entry
@@ -178,9 +195,11 @@ place_entries records land found ordered same =
     let newest : List Record = reverse records in
     let posts : List PlacedPost = record_posts newest in
     let all : reverse newest ++ [] ≡ records = append-nil (reverse newest) ∙ reverse-reverse records in
-    let placed : AllByRecursion (IsPlaced records) posts = subst (λ (items : List Record). AllByRecursion (IsPlaced items) posts) all (records_found newest []) in
+    let placed : AllByRecursion (IsPlaced records) posts =
+    subst (λ (items : List Record). AllByRecursion (IsPlaced items) posts) all (records_found newest []) in
     ap (entries_at (entry_at records land)) (keys_are found posts (meets land) ordered (records_ascend newest) same)
-    ∙ where_entries from_one land (entry_at records land) posts (each_from (IsPlaced records) (IsAt from_one land (entry_at records land)) posts (λ x h. h land) placed)
+    ∙ where_entries from_one land (entry_at records land) posts
+    (each_from (IsPlaced records) (IsAt from_one land (entry_at records land)) posts (λ x h. h land) placed)
     ∙ records_entries land newest
 
 -- and those of a transaction's own steps
@@ -192,7 +211,9 @@ own_entries steps land found ordered same =
     let newest : List Step = reverse steps in
     let posts : List PlacedPost = step_posts 0 newest in
     let all : reverse newest ++ [] ≡ steps = append-nil (reverse newest) ∙ reverse-reverse steps in
-    let placed : AllByRecursion (IsStepOf steps) posts = subst (λ (items : List Step). AllByRecursion (IsStepOf items) posts) all (steps_found 0 newest []) in
+    let placed : AllByRecursion (IsStepOf steps) posts =
+    subst (λ (items : List Step). AllByRecursion (IsStepOf items) posts) all (steps_found 0 newest []) in
     ap (entries_at (own_entry_at steps land)) (keys_are found posts (meets land) ordered (steps_ascend 0 newest) same)
-    ∙ where_entries own_place land (own_entry_at steps land) posts (each_from (IsStepOf steps) (IsAt own_place land (own_entry_at steps land)) posts (λ x h. h 0 land) placed)
+    ∙ where_entries own_place land (own_entry_at steps land) posts
+    (each_from (IsStepOf steps) (IsAt own_place land (own_entry_at steps land)) posts (λ x h. h 0 land) placed)
     ∙ steps_entries own_place land 0 newest

@@ -1,5 +1,6 @@
 -- The places of posts ascend, and a set of the places of posts of a kind lists them in their order.
-use Rattle.std.proofs.Common.{◌≡◌, ℕ, ◌<◌, suc, Bool, true, false, cond, ◌&&◌, ◌||◌, List, [], ◌∷◌, ◌++◌, length, reverse, refl, sym, ◌∙◌, arith}
+use Rattle.std.proofs.Common.{◌≡◌, ℕ, ◌<◌, suc, Bool, true, false, cond, ◌&&◌, ◌||◌, List, [], ◌∷◌, ◌++◌, length, reverse, refl, sym, ◌∙◌}
+use Rattle.std.proofs.Common.{arith}
 use Rattle.std.proofs.lemmas.Bool.{lt-ltb}
 use Rattle.std.proofs.lemmas.Map.Lookups.{btree_set_from_contains}
 use Rattle.std.specs.declared.cmp.Ordering.TheVariants.{Less}
@@ -59,7 +60,8 @@ pub steps_among : (i : ℕ) (steps : List Step) → AllByRecursion (IsAmong i (l
 steps_among i [] = tt
 steps_among i (s ∷ earlier) =
     each_append _ (step_posts i earlier) _
-    (each_from (IsAmong i (length earlier)) (IsAmong i (suc (length earlier))) (step_posts i earlier) (λ x h. (h.0, omega (arith, h.1))) (steps_among i earlier))
+    (each_from (IsAmong i (length earlier)) (IsAmong i (suc (length earlier))) (step_posts i earlier) (λ x h. (h.0, omega (arith, h.1)))
+    (steps_among i earlier))
     (one_among i (length earlier) s.ask s.answer)
 
 one_ascends : (p : Place) (a : Ask) (given : Answer) → Ascend (post_of p a given)
@@ -82,7 +84,8 @@ pub steps_ascend : (i : ℕ) (steps : List Step) → Ascend (step_posts i steps)
 steps_ascend i [] = tt
 steps_ascend i (s ∷ earlier) =
     ascend_append (step_posts i earlier) _ (steps_ascend i earlier) (one_ascends (place_at i (length earlier)) s.ask s.answer)
-    (each_from (IsAmong i (length earlier)) _ (step_posts i earlier) (λ x h. one_after i (length earlier) x s.ask s.answer h) (steps_among i earlier))
+    (each_from (IsAmong i (length earlier)) _ (step_posts i earlier) (λ x h. one_after i (length earlier) x s.ask s.answer h)
+    (steps_among i earlier))
 
 -- the post is that of one of the first records
 abbrev pub IsWithin : ℕ → PlacedPost → Type 0
@@ -92,8 +95,10 @@ records_within : (records : List Record) → AllByRecursion (IsWithin (length re
 records_within [] = tt
 records_within (r ∷ older) =
     each_append _ (record_posts older) _
-    (each_from (IsWithin (length older)) (IsWithin (suc (length older))) (record_posts older) (λ x h. omega (arith, h)) (records_within older))
-    (each_from (IsAmong (length older) (length (reverse r.steps))) (IsWithin (suc (length older))) (step_posts (length older) (reverse r.steps)) (λ x h. omega (arith, h.0)) (steps_among (length older) (reverse r.steps)))
+    (each_from (IsWithin (length older)) (IsWithin (suc (length older))) (record_posts older) (λ x h. omega (arith, h))
+    (records_within older))
+    (each_from (IsAmong (length older) (length (reverse r.steps))) (IsWithin (suc (length older)))
+    (step_posts (length older) (reverse r.steps)) (λ x h. omega (arith, h.0)) (steps_among (length older) (reverse r.steps)))
 
 pub records_ascend : (records : List Record) → Ascend (record_posts records)
 records_ascend [] = tt
@@ -102,18 +107,21 @@ records_ascend (r ∷ older) =
     let i : ℕ = length older in
     ascend_append (record_posts older) (step_posts i steps) (records_ascend older) (steps_ascend i steps)
     (each_from (IsWithin i) (λ x. IsBefore x (step_posts i steps)) (record_posts older)
-    (λ x h. each_from (IsAmong i (length steps)) (λ y. place_cmp x.place y.place ≡ Less) (step_posts i steps) (λ y k. before_record x.place y.place (omega (arith, h, k.0))) (steps_among i steps))
+    (λ x h. each_from (IsAmong i (length steps)) (λ y. place_cmp x.place y.place ≡ Less) (step_posts i steps)
+    (λ y k. before_record x.place y.place (omega (arith, h, k.0))) (steps_among i steps))
     (records_within older))
 
 -- the place stands before each of these
 abbrev pub Precedes : Place → List Place → Type 0
 Precedes p places = AllByRecursion (λ q. place_cmp p q ≡ Less) places
 
-where_after : (x : PlacedPost) (test : Land → Bool) (posts : List PlacedPost) → IsBefore x posts → Precedes x.place (places_where test posts)
+where_after : (x : PlacedPost) (test : Land → Bool) (posts : List PlacedPost) → IsBefore x posts
+    → Precedes x.place (places_where test posts)
 where_after x test [] h = tt
 where_after x test (y ∷ posts) h = go (test y.posting.tract) (where_after x test posts h.1)
   where
-    go : (b : Bool) → Precedes x.place (places_where test posts) → Precedes x.place (cond b (y.place ∷ places_where test posts) (places_where test posts))
+    go : (b : Bool) → Precedes x.place (places_where test posts)
+        → Precedes x.place (cond b (y.place ∷ places_where test posts) (places_where test posts))
     go true rest = (h.0, rest)
     go false rest = rest
 
@@ -123,7 +131,8 @@ unfolding IsStrictlySortedBy
 where_sorted test [] h = tt
 where_sorted test (x ∷ posts) h = go (test x.posting.tract) (where_sorted test posts h.1)
   where
-    go : (b : Bool) → IsStrictlySortedBy place_cmp (places_where test posts) → IsStrictlySortedBy place_cmp (cond b (x.place ∷ places_where test posts) (places_where test posts))
+    go : (b : Bool) → IsStrictlySortedBy place_cmp (places_where test posts)
+        → IsStrictlySortedBy place_cmp (cond b (x.place ∷ places_where test posts) (places_where test posts))
     go true rest = (where_after x test posts h.0, rest)
     go false rest = rest
 
@@ -136,7 +145,8 @@ with_false true = refl
 with_false false = refl
 
 -- a place is among those of posts of a kind exactly if it is that of such a post
-where_found : (test : Land → Bool) (posts : List PlacedPost) (p : Place) → list_any (is_at (place_cmp p)) (places_where test posts) ≡ is_place_where test posts p
+where_found : (test : Land → Bool) (posts : List PlacedPost) (p : Place)
+    → list_any (is_at (place_cmp p)) (places_where test posts) ≡ is_place_where test posts p
 where_found test [] p = refl
 where_found test (x ∷ posts) p = go (test x.posting.tract) (where_found test posts p)
   where
@@ -144,7 +154,8 @@ where_found test (x ∷ posts) p = go (test x.posting.tract) (where_found test p
     found places = list_any (is_at (place_cmp p)) places
 
     go : (b : Bool) → found (places_where test posts) ≡ is_place_where test posts p →
-        found (cond b (x.place ∷ places_where test posts) (places_where test posts)) ≡ ((same_place p x.place && b) || is_place_where test posts p)
+        found (cond b (x.place ∷ places_where test posts) (places_where test posts))
+        ≡ ((same_place p x.place && b) || is_place_where test posts p)
     go true rest = λ i. (place_at_is p x.place ∙ with_true (same_place p x.place)) i || rest i
     go false rest = λ i. with_false (same_place p x.place) i || rest i
 

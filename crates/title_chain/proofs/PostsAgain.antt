@@ -1,5 +1,6 @@
 -- Posts made again, one after another, have the effects of the asks.
-use Rattle.std.proofs.Common.{◌≡◌, ℕ, ◌+◌, ◌<◌, false, List, [], ◌∷◌, ◌++◌, Option, Some, None, length, reverse, take, drop, get_or, refl, ap, ◌∙◌, sym, subst, inl}
+use Rattle.std.proofs.Common.{◌≡◌, ℕ, ◌+◌, ◌<◌, false, List, [], ◌∷◌, ◌++◌, Option, Some, None, length, reverse, take, drop, get_or, refl}
+use Rattle.std.proofs.Common.{ap, ◌∙◌, sym, subst, inl}
 use Rattle.std.proofs.Math.Path.{fun_ext}
 use Rattle.std.proofs.lemmas.Bool.{both_ways}
 use Rattle.std.proofs.lemmas.List.{reverse-append, take_more, take-append-drop}
@@ -70,7 +71,8 @@ can_replay depth declared townships start p steps k x h e d same replays =
     let all : Replays depth townships start (reverse (drop (k + 1) steps) ++ reverse (take (k + 1) steps)) =
     subst (Replays depth townships start) (up_to steps (k + 1)) replays in
     let some : Replays depth townships start (x ∷ reverse (take k steps)) =
-    subst (Replays depth townships start) (one_more steps k x h e) (replays_later depth townships start (reverse (drop (k + 1) steps)) (reverse (take (k + 1) steps)) all) in
+    subst (Replays depth townships start) (one_more steps k x h e)
+    (replays_later depth townships start (reverse (drop (k + 1) steps)) (reverse (take (k + 1) steps)) all) in
     let here : CanReplay depth townships p x =
     subst (λ (q : Plant). CanReplay depth townships q x) (sym (same_plant _ p same)) some.1 in
     subst (λ (ts : List Township). CanReplay depth ts p x) (sym d) here
@@ -96,7 +98,8 @@ idle depth townships p listed (ask.Sheet t) given e n = λ c. effect_read depth 
 idle depth townships p listed (ask.Chain t) given e n = λ c. effect_read depth townships p (ask.Chain t) c refl
 idle depth townships p listed (ask.Post x) given e n = go (refused_in depth townships x.instrument p x.tract) refl
   where
-    go : (r : Option Refusal) → refused_in depth townships x.instrument p x.tract ≡ r → SameContent p (effect depth townships p (ask.Post x))
+    go : (r : Option Refusal) → refused_in depth townships x.instrument p x.tract ≡ r
+        → SameContent p (effect depth townships p (ask.Post x))
     go None k =
         let posted : given ≡ answer.Posted = e ∙ answer_post depth townships p listed x ∙ ap post_answer k in
         absurd (both_ways _ n (ap (was_posted (ask.Post x)) posted))
@@ -122,7 +125,8 @@ can_replay_record depth declared townships p records k x h e d same serial =
     let all : IsSerial depth townships (reverse (drop (k + 1) records) ++ reverse (take (k + 1) records)) =
     subst (IsSerial depth townships) (up_to records (k + 1)) serial in
     let some : IsSerial depth townships (x ∷ reverse (take k records)) =
-    subst (IsSerial depth townships) (one_more records k x h e) (serial_later depth townships (reverse (drop (k + 1) records)) (reverse (take (k + 1) records)) all) in
+    subst (IsSerial depth townships) (one_more records k x h e)
+    (serial_later depth townships (reverse (drop (k + 1) records)) (reverse (take (k + 1) records)) all) in
     let here : Replays depth townships p (reverse x.steps) =
     subst (λ (q : Plant). Replays depth townships q (reverse x.steps)) (sym (same_plant _ p same))
     (plays_replays depth townships (reverse (take k records)) (reverse x.steps) some.1) in

@@ -49,4 +49,5 @@ pub record AreReadFrom (depth : ℕ) (f : Filing) (steps : List Step) : Type 0 w
 
 -- the place is filed at the node, below it, or at a node above it
 abbrev pub is_near : Filing → Place → Node → Bool
-is_near f p n = is_listed p (places_under f.at n) || (is_listed p (places_under f.below n) || list_any (λ a. is_listed p (places_under f.at a)) (above n))
+is_near f p n = is_listed p (places_under f.at n) ||
+    (is_listed p (places_under f.below n) || list_any (λ a. is_listed p (places_under f.at a)) (above n))

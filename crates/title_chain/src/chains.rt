@@ -96,7 +96,8 @@ pub(crate) fn add_entries_at(
     places: &BTreeSet<Place>,
     tract: &Tract,
 ) -> Result<(), AllocError>
-    ensures added { IfOk result (λ _. entries.new.items ≡ entries.old.items ++ entries_at (entry_at records.now tract.now) places.now.keys) }
+    ensures added { IfOk result (λ _. entries.new.items
+        ≡ entries.old.items ++ entries_at (entry_at records.now tract.now) places.now.keys) }
     ensures ordered { IsOrdered place_cmp places.now }
 {
     for place in places {
@@ -129,7 +130,8 @@ pub(crate) fn add_own_entries_at(
     places: &BTreeSet<Place>,
     tract: &Tract,
 ) -> Result<(), AllocError>
-    ensures added { IfOk result (λ _. entries.new.items ≡ entries.old.items ++ entries_at (own_entry_at steps.now tract.now) places.now.keys) }
+    ensures added { IfOk result (λ _. entries.new.items ≡ entries.old.items
+        ++ entries_at (own_entry_at steps.now tract.now) places.now.keys) }
     ensures ordered { IsOrdered place_cmp places.now }
 {
     for place in places {

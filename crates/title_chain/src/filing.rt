@@ -131,7 +131,8 @@ impl Filing {
     // Files a post of this tract.
     fn file_post(&mut self, alloc: Global, place: Place, tract: &Tract) -> Result<(), AllocError>
         ensures read { self.new.read ≡ self.old.read }
-        ensures filed { OnOk result ((posts : List PlacedPost) (x : PlacedPost) → x.place ≡ place → x.posting.tract ≡ tract.now → IsFiled depth self.old posts → IsFiled depth self.new (posts ++ x ∷ [])) }
+        ensures filed { OnOk result ((posts : List PlacedPost) (x : PlacedPost) → x.place ≡ place → x.posting.tract ≡ tract.now
+            → IsFiled depth self.old posts → IsFiled depth self.new (posts ++ x ∷ [])) }
     {
         self.file_cover(alloc, place, tract.cover())
     }
@@ -139,7 +140,8 @@ impl Filing {
     // Files a step, if it was posted.
     fn file_step(&mut self, alloc: Global, place: Place, step: &Step) -> Result<(), AllocError>
         ensures read { self.new.read ≡ self.old.read }
-        ensures filed { OnOk result ((posts : List PlacedPost) → IsFiled depth self.old posts → IsFiled depth self.new (posts ++ post_of place step.now.ask step.now.answer)) }
+        ensures filed { OnOk result ((posts : List PlacedPost) → IsFiled depth self.old posts
+            → IsFiled depth self.new (posts ++ post_of place step.now.ask step.now.answer)) }
     {
         let (Ask::Post(posting), Answer::Posted) = (&step.ask, &step.answer) else {
             return Ok(());
@@ -150,7 +152,8 @@ impl Filing {
     // Files the steps of the record at an index.
     fn file_steps(&mut self, alloc: Global, index: usize, steps: &[Step]) -> Result<(), AllocError>
         ensures read { self.new.read ≡ self.old.read }
-        ensures filed { OnOk result ((posts : List PlacedPost) → IsFiled depth self.old posts → IsFiled depth self.new (posts ++ step_posts index (reverse steps.now))) }
+        ensures filed { OnOk result ((posts : List PlacedPost) → IsFiled depth self.old posts
+            → IsFiled depth self.new (posts ++ step_posts index (reverse steps.now))) }
     {
         for (i, step) in steps.iter().enumerate() {
             let place = Place {

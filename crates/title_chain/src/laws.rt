@@ -1,6 +1,7 @@
 //! Laws of asks, for the crates above. Each function does nothing: its clause is the law, proved.
 
-ghost use Rattle.title_chain.specs.ChainLaws.{AnswerSame, EffectSame, EffectPast, EffectOutside, EffectRead, EffectRefused, OverlapSymmetric, EntryPast};
+ghost use Rattle.title_chain.specs.ChainLaws.{AnswerSame, EffectSame, EffectPast, EffectOutside, EffectRead, EffectRefused};
+ghost use Rattle.title_chain.specs.ChainLaws.{OverlapSymmetric, EntryPast};
 
 /// The law of answers: what an ask is answered depends on the owners of its tract's cells and on its chain alone.
 pub fn answer_same()

@@ -20,7 +20,8 @@ use title_store::{CellStore, Put, Store};
 fn post_again<S: Store>(store: &mut S, step: &Step) -> Result<(), AllocError>
     requires none { S.out store.old ≡ [] }
     requires replays { CanReplay depth (S.declared store.old) (S.content store.old) step.now }
-    ensures content { OnOk result (SameContent (effect depth (S.declared store.old) (S.content store.old) step.now.ask) (S.content store.new)) }
+    ensures content { OnOk result (SameContent (effect depth (S.declared store.old) (S.content store.old) step.now.ask)
+        (S.content store.new)) }
     ensures declared { S.declared store.new ≡ S.declared store.old }
     ensures out { OnOk result (S.out store.new ≡ []) }
 {
@@ -37,7 +38,8 @@ fn post_again<S: Store>(store: &mut S, step: &Step) -> Result<(), AllocError>
 fn post_all_again<S: Store>(store: &mut S, steps: &[Step]) -> Result<(), AllocError>
     requires none { S.out store.old ≡ [] }
     requires replays { Replays depth (S.declared store.old) (S.content store.old) (reverse steps.now) }
-    ensures content { OnOk result (SameContent (after_steps depth (S.declared store.old) (S.content store.old) (reverse steps.now)) (S.content store.new)) }
+    ensures content { OnOk result (SameContent (after_steps depth (S.declared store.old) (S.content store.old) (reverse steps.now))
+        (S.content store.new)) }
     ensures declared { S.declared store.new ≡ S.declared store.old }
     ensures out { OnOk result (S.out store.new ≡ []) }
 {
@@ -71,7 +73,8 @@ fn sheet_by_replay<S: Store + Drop>(
     requires once { IsEachOnce townships.now }
     requires within { is_in_plant townships.now tract.now ≡ true }
     requires serial { IsSerial depth townships.now (reverse records.now) }
-    ensures sheet { IfOk result (λ rows. rows ≡ sheet_of depth townships.now (plant_after depth townships.now (reverse records.now)) tract.now) }
+    ensures sheet { IfOk result (λ rows. rows ≡ sheet_of depth townships.now (plant_after depth townships.now (reverse records.now))
+        tract.now) }
 {
     let mut store = S::open(alloc, townships)?;
     post_records_again(&mut store, records.as_slice())?;
@@ -90,7 +93,8 @@ pub fn sheet_by_chain(
     requires once { IsEachOnce townships.now }
     requires within { is_in_plant townships.now tract.now ≡ true }
     requires serial { IsSerial depth townships.now (reverse records.now) }
-    ensures sheet { IfOk result (λ rows. rows ≡ sheet_of depth townships.now (plant_after depth townships.now (reverse records.now)) tract.now) }
+    ensures sheet { IfOk result (λ rows. rows ≡ sheet_of depth townships.now (plant_after depth townships.now (reverse records.now))
+        tract.now) }
 {
     sheet_by_replay::<CellStore>(alloc, records, townships, tract)
 }

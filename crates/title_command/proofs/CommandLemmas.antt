@@ -1,5 +1,6 @@
 -- What a parse of the program's command without a fault has, and which fault stands for an error.
-use Rattle.std.proofs.Common.{◌≡◌, ◌∙◌, inl, inr, ℕ, Bool, true, false, true≢false, List, [], ◌∷◌, Option, Some, None, refl, sym, ap, ap₂, subst, le_refl, option_map, is_some, codes}
+use Rattle.std.proofs.Common.{◌≡◌, ◌∙◌, inl, inr, ℕ, Bool, true, false, true≢false, List, [], ◌∷◌, Option, Some, None, refl, sym, ap, ap₂}
+use Rattle.std.proofs.Common.{subst, le_refl, option_map, is_some, codes}
 use Rattle.std.specs.Prelude.{Box, find, unwrap_or}
 use Rattle.std.specs.Box.{box_value}
 use Rattle.std.specs.Option.{option_map_or}
@@ -7,7 +8,8 @@ use Rattle.std.specs.List.{slice_index_or}
 use Rattle.std.specs.Str.{bytes_eq}
 use Rattle.std.proofs.lemmas.Slice.Eq.{bytes_eq-Decides}
 use Rattle.clap.specs.Walk.{Row, Text, answers_to, first_of, has_row, nothing_held, rows_after, stop_after, walk_from}
-use Rattle.clap.specs.Simple.{Shape, argument_words, built, entered, label_of, names_of, rows_at, subcommand_of, subcommand_rows, subcommand_rows_of}
+use Rattle.clap.specs.Simple.{Shape, argument_words, built, entered, label_of, names_of, rows_at, subcommand_of, subcommand_rows}
+use Rattle.clap.specs.Simple.{subcommand_rows_of}
 use Rattle.clap.specs.Kinds.{HasKind, IsAmong, Kinds}
 use Rattle.clap.specs.Takes.{is_given}
 use Rattle.clap.specs.Faults.{check_fault, entered_fault, fault_of, level_fault, walk_fault}
@@ -50,9 +52,14 @@ tract_level : Level (at 2)
 tract_level words e =
     let rows = rows_after (at 2).rules [] words in
     let kept = level_keeps (at 2) words (inl (refl, le_refl 1), (inr refl, tt)) e in
-    inr (inr (refl, first_read (codes "TEXT") rows (given_row (codes "TEXT") rows (given rows (is_given (codes "TEXT") rows) refl kept.1)) kept.0))
+    inr (inr (
+      refl,
+      first_read (codes "TEXT") rows (given_row (codes "TEXT") rows (given rows (is_given (codes "TEXT") rows) refl kept.1))
+          kept.0,
+    ))
   where
-    given : (rows : List Row) (b : Bool) → is_given (codes "TEXT") rows ≡ b → check_fault (at 2) rows false ≡ [] → is_given (codes "TEXT") rows ≡ true
+    given : (rows : List Row) (b : Bool) → is_given (codes "TEXT") rows ≡ b → check_fault (at 2) rows false ≡ []
+        → is_given (codes "TEXT") rows ≡ true
     given rows true is ok = is
     given rows false is ok =
         let bad = rw is at ok in
@@ -74,7 +81,8 @@ entered_reads p (Some s) level ok name rows e =
     subst (λ (t : Text). IsReadable t rows) same_name (subst (λ (rs : List Row). IsReadable s.name rs) same_rows (level s refl p.1 ok))
 
 -- the subcommand that words without a fault name
-pub readable : (words : List Text) → fault_of command words ≡ [] → (name : Text) (rows : List Row) → subcommand_of command words ≡ Some (name, rows) → IsReadable name rows
+pub readable : (words : List Text) → fault_of command words ≡ [] → (name : Text) (rows : List Row)
+    → subcommand_of command words ≡ Some (name, rows) → IsReadable name rows
 readable words e name rows met =
     let a = built command in
     let ws = argument_words command words in
@@ -82,7 +90,8 @@ readable words e name rows met =
     let below = no_fault (entered_fault a (stop_after a.top.rules (names_of a) ws)) _ walks.1 in
     go (stop_after a.top.rules (names_of a) ws) below.0 met
   where
-    go : (o : Option (Text × List Text)) → entered_fault (built command) o ≡ [] → entered (built command) o ≡ Some (name, rows) → IsReadable name rows
+    go : (o : Option (Text × List Text)) → entered_fault (built command) o ≡ [] → entered (built command) o ≡ Some (name, rows)
+        → IsReadable name rows
     go None ok is = absurd (cc)
     go (Some p) ok is = entered_reads p (find (λ (s : Shape). answers_to p.0 (label_of s)) (built command).subs)
         (found_has Level (λ (s : Shape). answers_to p.0 (label_of s)) (built command).subs levels) ok name rows is
@@ -90,16 +99,20 @@ readable words e name rows met =
 -- ---- the matches that hold it
 
 -- the name beside the rows of a subcommand
-name_is : {Z : Type 0} (o : Option (Box SubCommand Z)) → option_map (λ (b : Box SubCommand Z). (out-SubCommand (box_value b)).name.now) o ≡ option_map (λ (p : Text × List Row). p.0) (subcommand_rows o)
+name_is : {Z : Type 0} (o : Option (Box SubCommand Z))
+    → option_map (λ (b : Box SubCommand Z). (out-SubCommand (box_value b)).name.now) o
+    ≡ option_map (λ (p : Text × List Row). p.0) (subcommand_rows o)
 name_is None = refl
 name_is (Some b) = refl
 
 -- the name and the rows of the subcommand together
-pub met_is : (m : ArgMatches) (name : Text) (rows : List Row) → Some name ≡ subcommand_name_of m → Some rows ≡ option_map (λ (p : Text × List Row). p.1) (subcommand_rows_of m)
+pub met_is : (m : ArgMatches) (name : Text) (rows : List Row) → Some name ≡ subcommand_name_of m
+    → Some rows ≡ option_map (λ (p : Text × List Row). p.1) (subcommand_rows_of m)
     → subcommand_rows_of m ≡ Some (name, rows)
 met_is m name rows e f = go (subcommand_rows_of m) (e ∙ name_is (out-ArgMatches m).subcommand) f
   where
-    go : (o : Option (Text × List Row)) → Some name ≡ option_map (λ (p : Text × List Row). p.0) o → Some rows ≡ option_map (λ (p : Text × List Row). p.1) o → o ≡ Some (name, rows)
+    go : (o : Option (Text × List Row)) → Some name ≡ option_map (λ (p : Text × List Row). p.0) o
+        → Some rows ≡ option_map (λ (p : Text × List Row). p.1) o → o ≡ Some (name, rows)
     go None x y = absurd (cc)
     go (Some p) x y =
         let n : p.0 ≡ name = sym (ap (λ (o : Option Text). unwrap_or o []) x) in
@@ -128,7 +141,8 @@ memory_is kind (Bad error) is memory = absurd (is.1 memory)
 memory_is kind Memory is memory = refl
 
 -- an error of a kind that clap may give for the words explains its fault
-pub explains : (kinds : Kinds) (error : Error) (fault : LineFault) → HasKind kinds error → IsFaultFor (kind_of error) fault → Explains kinds fault
+pub explains : (kinds : Kinds) (error : Error) (fault : LineFault) → HasKind kinds error → IsFaultFor (kind_of error) fault
+    → Explains kinds fault
 explains kinds error Memory among is = tt
 explains kinds error (Help shown) (inl memory) is = absurd (cc)
 explains kinds error (Help shown) (inr among) is = subst (λ (kind : ErrorKind). IsAmong kind kinds) is among

@@ -1,5 +1,6 @@
 -- The rows of a level of clap's parse without a fault: each has a value, so a getter reads one.
-use Rattle.std.proofs.Common.{◌≡◌, ◌<◌, ◌≤◌, ◌&&◌, ◌⊎◌, inl, inr, is_some, subst, ℕ, true, false, true≢false, zero, suc, refl, sym, arith, List, [], ◌∷◌, ◌++◌, Bool, length, drop, Option, Some, None, length-append}
+use Rattle.std.proofs.Common.{◌≡◌, ◌<◌, ◌≤◌, ◌&&◌, ◌⊎◌, inl, inr, is_some, subst, ℕ, true, false, true≢false, zero, suc, refl, sym, arith}
+use Rattle.std.proofs.Common.{List, [], ◌∷◌, ◌++◌, Bool, length, drop, Option, Some, None, length-append}
 use Rattle.std.specs.Prelude.{if◌then◌else◌, nat_lt, find, fold, slice_get, encode_utf8}
 use Rattle.std.specs.Option.{option_map_or}
 use Rattle.std.specs.Str.{bytes_eq, chars}
@@ -8,12 +9,17 @@ use Rattle.clap.specs.Lexer.{long_of, short_of}
 use Rattle.clap.specs.Facts.{unwrap_or_range}
 use Rattle.clap.specs.Walk.{done, waits, plain, refused, idle, option, positional, next, trailing, subcommand, value}
 use Rattle.clap.specs.Walk.{Held, Names, Outcome, Row, Rule, Step, Text, Waiting, Walk, action_of}
-use Rattle.clap.specs.Walk.{after_flag, after_step, arg_by_id, arg_by_index, arg_by_long, arg_by_short, at_row, attached_value, bundle, bundle_met, bundle_step}
-use Rattle.clap.specs.Walk.{default_rows, first_of, flag_met, has_row, is_pending, long_met, long_or_other, more_values, most_values, nothing_held}
-use Rattle.clap.specs.Walk.{option_met, option_word, plain_word, positional_held, reacted, reading_by, rows_after, settled, settled_rows, short_met, short_or_plain}
-use Rattle.clap.specs.Walk.{subcommand_met, subcommand_or_other, takes_several, takes_values, to_positional, used, used_as, values_or_missing, walk, walk_from, walked, walked_from, with_default, with_values, without, word_met}
+use Rattle.clap.specs.Walk.{after_flag, after_step, arg_by_id, arg_by_index, arg_by_long, arg_by_short, at_row, attached_value, bundle}
+use Rattle.clap.specs.Walk.{bundle_met, bundle_step}
+use Rattle.clap.specs.Walk.{default_rows, first_of, flag_met, has_row, is_pending, long_met, long_or_other, more_values, most_values}
+use Rattle.clap.specs.Walk.{nothing_held}
+use Rattle.clap.specs.Walk.{option_met, option_word, plain_word, positional_held, reacted, reading_by, rows_after, settled, settled_rows}
+use Rattle.clap.specs.Walk.{short_met, short_or_plain}
+use Rattle.clap.specs.Walk.{subcommand_met, subcommand_or_other, takes_several, takes_values, to_positional, used, used_as}
+use Rattle.clap.specs.Walk.{values_or_missing, walk, walk_from, walked, walked_from, with_default, with_values, without, word_met}
 use Rattle.clap.specs.Kinds.{Kinds, or_else, range_kinds}
-use Rattle.clap.specs.Faults.{bundle_fault, bundle_step_fault, check_fault, defaults_fault, flag_word_fault, flags_fault, level_fault, long_fault, option_fault, other_fault, positional_fault, react_fault}
+use Rattle.clap.specs.Faults.{bundle_fault, bundle_step_fault, check_fault, defaults_fault, flag_word_fault, flags_fault, level_fault}
+use Rattle.clap.specs.Faults.{long_fault, option_fault, other_fault, positional_fault, react_fault}
 use Rattle.clap.specs.Faults.{settle_fault, short_fault, step_fault, stray_fault, turn_fault, use_fault, walk_fault, word_fault}
 use Rattle.clap.specs.Simple.{Shape}
 use Rattle.clap.specs.declared.builder.action.ArgAction.{ArgAction}
@@ -124,12 +130,14 @@ settled_keeps : (c : List Rule) (again : Bool) (h : Held) → Each KeepsValues c
     → settle_fault c again h ≡ [] → HasValues h.rows → HasValues (settled c h).rows
 settled_keeps c again h rules e fit = go h.pending e
   where
-    step : (p : Text × List Text) (o : Option Rule) → arg_by_id c p.0 ≡ o → option_map_or (λ (a : Rule). use_fault again a p.1 h.rows) o [] ≡ []
+    step : (p : Text × List Text) (o : Option Rule) → arg_by_id c p.0 ≡ o
+        → option_map_or (λ (a : Rule). use_fault again a p.1 h.rows) o [] ≡ []
         → HasValues (settled_rows c (Some p) h.rows)
     step p None is ok = rw is fit
     step p (Some a) is ok = rw is (used_keeps a again p.1 h.rows (found_has KeepsValues _ c rules a is) ok fit)
 
-    go : (o : Option (Text × List Text)) → option_map_or (λ (p : Text × List Text). option_map_or (λ (a : Rule). use_fault again a p.1 h.rows) (arg_by_id c p.0) []) o [] ≡ []
+    go : (o : Option (Text × List Text)) → option_map_or
+        (λ (p : Text × List Text). option_map_or (λ (a : Rule). use_fault again a p.1 h.rows) (arg_by_id c p.0) []) o [] ≡ []
         → HasValues (settled_rows c o h.rows)
     go None ok = fit
     go (Some p) ok = step p (arg_by_id c p.0) refl ok
@@ -159,11 +167,13 @@ long_keeps : (c : List Rule) (again : Bool) (o : Option Rule) (v : Option Text) 
 long_keeps c again None v h rules rule e fit = fit
 long_keeps c again (Some a) v h rules rule e fit = go (takes_values a) e
   where
-    no_value : (w : Option Text) → (if is_some w then TooManyValues ∷ [] else react_fault c again a [] h) ≡ [] → w ≡ None → react_fault c again a [] h ≡ []
+    no_value : (w : Option Text) → (if is_some w then TooManyValues ∷ [] else react_fault c again a [] h) ≡ [] → w ≡ None
+        → react_fault c again a [] h ≡ []
     no_value (Some w) ok is = absurd (cc)
     no_value None ok is = ok
 
-    go : (b : Bool) → (if b then option_fault c again a v h else (if is_some v then TooManyValues ∷ [] else react_fault c again a [] h)) ≡ []
+    go : (b : Bool) → (if b then option_fault c again a v h else (if is_some v then TooManyValues ∷ [] else react_fault c again a [] h))
+        ≡ []
         → HasValues (if b then option_met c a v h else flag_met c a v h).0.rows
     go true ok = option_keeps c again a v h rules (rule a refl) ok fit
     go false ok = flag_keeps c again a v h rules (rule a refl) (no_value v ok) fit
@@ -176,7 +186,8 @@ short_keeps : (c : List Rule) (again : Bool) (o : Option Rule) (rest : Text) (h 
 short_keeps c again None rest h on more_fault rules rule more e fit = fit
 short_keeps c again (Some a) rest h on more_fault rules rule more e fit = go (takes_values a) e
   where
-    go : (b : Bool) → (if b then option_fault c again a (attached_value rest) h else or_else (react_fault c again a [] h) (more_fault (reacted c a [] h))) ≡ []
+    go : (b : Bool) → (if b then option_fault c again a (attached_value rest) h else or_else (react_fault c again a [] h)
+        (more_fault (reacted c a [] h))) ≡ []
         → HoldsValues (if b then option_met c a (attached_value rest) h else on (reacted c a [] h)).0
     go true ok = option_keeps c again a (attached_value rest) h rules (rule a refl) ok fit
     go false ok =
@@ -226,14 +237,16 @@ after_flag_keeps c waiting word h refused fit = plain_keeps c waiting word h fit
 
 -- a word that is no `--name`,
 short_or_plain_keeps : (c : List Rule) (again : Bool) (waiting : Waiting) (word : Text) (o : Option Text) (h : Held) → Each KeepsValues c
-    → option_map_or (λ (flags : Text). bundle_fault c again flags h) o [] ≡ [] → HoldsValues h → HoldsValues (short_or_plain c waiting word o h).0
+    → option_map_or (λ (flags : Text). bundle_fault c again flags h) o [] ≡ [] → HoldsValues h
+    → HoldsValues (short_or_plain c waiting word o h).0
 short_or_plain_keeps c again waiting word None h rules e fit = plain_keeps c waiting word h fit
 short_or_plain_keeps c again waiting word (Some flags) h rules e fit =
     after_flag_keeps c waiting word (bundle c flags h).0 (bundle c flags h).1
     (bundle_keeps c again rules (length flags) flags h.skip plain (record h { skip = 0 }) e fit)
 
 -- a word that is neither a subcommand nor `--`,
-long_or_other_keeps : (c : List Rule) (again : Bool) (waiting : Waiting) (word : Text) (o : Option (Text × Option Text)) (h : Held) → Each KeepsValues c
+long_or_other_keeps : (c : List Rule) (again : Bool) (waiting : Waiting) (word : Text) (o : Option (Text × Option Text)) (h : Held)
+    → Each KeepsValues c
     → flag_word_fault c again o word h ≡ [] → HoldsValues h → HoldsValues (long_or_other c waiting word o h).0
 long_or_other_keeps c again waiting word None h rules e fit = short_or_plain_keeps c again waiting word (short_of word) h rules e fit
 long_or_other_keeps c again waiting word (Some p) h rules e fit =
@@ -241,8 +254,10 @@ long_or_other_keeps c again waiting word (Some p) h rules e fit =
     after_flag_keeps c waiting word met.0 met.1 (long_keeps c again (arg_by_long c p.0) p.1 h rules (found_has KeepsValues _ c rules) e fit)
 
 -- any word, before it goes to a positional argument,
-word_keeps : (s : Shape) (names : Names) (is_trailing : Bool) (waiting : Waiting) (position : ℕ) (word : Text) (h : Held) → Each KeepsValues s.rules
-    → word_fault s names is_trailing waiting word h ≡ [] → HoldsValues h → HoldsValues (word_met s.rules names is_trailing waiting position word h).0
+word_keeps : (s : Shape) (names : Names) (is_trailing : Bool) (waiting : Waiting) (position : ℕ) (word : Text) (h : Held)
+    → Each KeepsValues s.rules
+    → word_fault s names is_trailing waiting word h ≡ [] → HoldsValues h
+    → HoldsValues (word_met s.rules names is_trailing waiting position word h).0
 word_keeps s names true waiting position word h rules e fit = fit
 word_keeps s names false waiting position word h rules e fit = go (subcommand_met names waiting word) e
   where
@@ -284,7 +299,8 @@ unfolding walked
 walked_keeps s names w word rules e fit = go w.stopped e
   where
     go : (o : Option (Text × List Text)) → (if is_some o then [] else or_else (word_fault s names w.is_trailing w.waiting word w.held)
-        (step_fault s w.position (word_met s.rules names w.is_trailing w.waiting w.position word w.held).0 (word_met s.rules names w.is_trailing w.waiting w.position word w.held).1)) ≡ []
+        (step_fault s w.position (word_met s.rules names w.is_trailing w.waiting w.position word w.held).0
+        (word_met s.rules names w.is_trailing w.waiting w.position word w.held).1)) ≡ []
         → HoldsValues (walked_from s.rules names o w word).held
     go (Some p) ok = fit
     go None ok =

@@ -1,7 +1,8 @@
 -- What the store holds answers as the definitions do.
 use Rattle.std.proofs.Common.{◌≡◌, ◌≢◌, ℕ, Bool, true, false, ◌&&◌, List, [], ◌∷◌, refl, ap, ◌∙◌, sym, eqb, inl, inr}
 use Rattle.title_land.specs.Depth.{depth}
-use Rattle.std.proofs.lemmas.Bool.{eqb-true, eqb-false, and_parts, and_from, or_parts, or_from, or_right, false_from_ne_true, both_ways, cases_eq, cases_Bool}
+use Rattle.std.proofs.lemmas.Bool.{eqb-true, eqb-false, and_parts, and_from, or_parts, or_from, or_right, false_from_ne_true, both_ways}
+use Rattle.std.proofs.lemmas.Bool.{cases_eq, cases_Bool}
 use Rattle.title_land.specs.declared.place.Township.{Township}
 use Rattle.title_land.specs.declared.place.Cell.{Cell}
 use Rattle.title_store.specs.Plants.{Plant, is_cell_of}
@@ -34,33 +35,41 @@ post_of (ask.Sheet t) given h = h
 post_of (ask.Chain t) given h = h
 post_of (ask.Post p) given h = refl
 
-unposted_step : (ts : List Township) (a b : Ask) (given : Answer) (c : Cell) → overlap a b ≡ false → is_cell_of depth ts (tract_of a) c ≡ true → (is_posted b given && is_cell_of depth ts (tract_of b) c) ≡ false
+unposted_step : (ts : List Township) (a b : Ask) (given : Answer) (c : Cell) → overlap a b ≡ false
+    → is_cell_of depth ts (tract_of a) c ≡ true → (is_posted b given && is_cell_of depth ts (tract_of b) c) ≡ false
 unposted_step ts a b given c n h = false_from_ne_true _ (λ k.
     let parts = and_parts (is_posted b given) (is_cell_of depth ts (tract_of b) c) k in
-    both_ways _ n (and_from _ _ (or_right (is_post a) (is_post b) (post_of b given parts.0)) (cell_meets depth ts (tract_of a) (tract_of b) c h parts.1)))
+    both_ways _ n (and_from _ _ (or_right (is_post a) (is_post b) (post_of b given parts.0))
+    (cell_meets depth ts (tract_of a) (tract_of b) c h parts.1)))
 
 -- of steps that don't overlap an ask none was posted at a cell of its tract
-pub unposted : (ts : List Township) (a : Ask) (own : List Step) (c : Cell) → overlaps a own ≡ false → is_cell_of depth ts (tract_of a) c ≡ true → posted_at ts c own ≡ false
+pub unposted : (ts : List Township) (a : Ask) (own : List Step) (c : Cell) → overlaps a own ≡ false
+    → is_cell_of depth ts (tract_of a) c ≡ true → posted_at ts c own ≡ false
 unposted ts a [] c n h = refl
 unposted ts a (o ∷ earlier) c n h =
     let parts = or_parts (overlap a o.ask) (overlaps a earlier) n in
     or_from _ _ (unposted_step ts a o.ask o.answer c parts.0 h) (unposted ts a earlier c parts.1 h)
 
 -- at a cell where one examiner's step was posted no other's was
-pub posted_apart : (ts : List Township) (own theirs : List Step) (c : Cell) → Clear own theirs → posted_at ts c theirs ≡ true → posted_at ts c own ≡ false
+pub posted_apart : (ts : List Township) (own theirs : List Step) (c : Cell) → Clear own theirs → posted_at ts c theirs ≡ true
+    → posted_at ts c own ≡ false
 posted_apart ts [] theirs c clear h = refl
 posted_apart ts (s ∷ earlier) theirs c clear h =
-    or_from _ _ (false_from_ne_true _ (λ k. both_ways _ (unposted ts s.ask theirs c clear.1 (and_parts (is_posted s.ask s.answer) (is_cell_of depth ts (tract_of s.ask) c) k).1) h))
+    or_from _ _ (false_from_ne_true _ (λ k. both_ways _
+    (unposted ts s.ask theirs c clear.1 (and_parts (is_posted s.ask s.answer) (is_cell_of depth ts (tract_of s.ask) c) k).1) h))
     (posted_apart ts earlier theirs c clear.0 h)
 
 -- a step that wasn't posted at a cell leaves it
-step_keeps : {I : Type 0} (number : I → ℕ) (out : List Loan) (ts : List Township) (before : Plant) (s : Step) (images older : List I) (b : Bool) (c : Cell) →
-    Peels number out ts before s images older b → (b && is_cell_of depth ts (tract_of s.ask) c) ≡ false → effect depth ts before s.ask c ≡ before c
+step_keeps : {I : Type 0} (number : I → ℕ) (out : List Loan) (ts : List Township) (before : Plant) (s : Step) (images older : List I)
+    (b : Bool) (c : Cell) →
+    Peels number out ts before s images older b → (b && is_cell_of depth ts (tract_of s.ask) c) ≡ false
+    → effect depth ts before s.ask c ≡ before c
 step_keeps number out ts before s images older true c p n = effect_outside depth ts before s.ask c n
 step_keeps number out ts before s images older false c p n = p.1 c
 
 -- steps of which none was posted at a cell leave it
-pub steps_keep : {I : Type 0} (number : I → ℕ) (out : List Loan) (ts : List Township) (p : Plant) (own : List Step) (images : List I) (c : Cell) →
+pub steps_keep : {I : Type 0} (number : I → ℕ) (out : List Loan) (ts : List Township) (p : Plant) (own : List Step) (images : List I)
+    (c : Cell) →
     Backed number out ts p own images → posted_at ts c own ≡ false → after_steps depth ts p own c ≡ p c
 steps_keep number out ts p [] images c b n = refl
 steps_keep number out ts p (s ∷ earlier) images c b n =
@@ -69,7 +78,8 @@ steps_keep number out ts p (s ∷ earlier) images c b n =
     ∙ steps_keep number out ts p earlier b.0 c b.2 parts.1
 
 -- in the tract of an ask that nobody else's steps overlap, the store holds what the examiner sees
-pub content_is : {I : Type 0} {number : I → ℕ} {ts : List Township} {own : ℕ → List Step} {images : ℕ → List I} {done : List Record} {content : Plant} {out : List Loan} {locks : List Entry} →
+pub content_is : {I : Type 0} {number : I → ℕ} {ts : List Township} {own : ℕ → List Step} {images : ℕ → List I} {done : List Record}
+    {content : Plant} {out : List Loan} {locks : List Entry} →
     Facts number ts own images done content out locks → (e : ℕ) (a : Ask) → ((f : ℕ) → f ≢ e → overlaps a (own f) ≡ false) →
     SameIn depth ts (tract_of a) content (after_steps depth ts (plant_after depth ts done) (own e))
 content_is {number = number} {ts = ts} {own = own} {images = images} {done = done} {out = out} facts e a free c inside =

@@ -1,5 +1,6 @@
 -- Slots by examiner.
-use Rattle.std.proofs.Common.{◌≡◌, ℕ, Bool, true, false, cond, [], ◌∷◌, ◌++◌, reverse, refl, ap, ◌∙◌, sym, subst, eqb, Option, Some, is_some, Result, Ok, Err, OnOk, OnErr}
+use Rattle.std.proofs.Common.{◌≡◌, ℕ, Bool, true, false, cond, [], ◌∷◌, ◌++◌, reverse, refl, ap, ◌∙◌, sym, subst, eqb, Option, Some}
+use Rattle.std.proofs.Common.{is_some, Result, Ok, Err, OnOk, OnErr}
 use Rattle.std.proofs.lemmas.Bool.{eqb-true, eqb-false, false_from_ne_true}
 use Rattle.std.proofs.lemmas.List.{reverse-append}
 use Rattle.std.proofs.lemmas.Map.Lookups.{exact_unsigned}
@@ -20,11 +21,13 @@ at_examiner e f = go (eqb f e) refl
     go false t = false_from_ne_true _ (λ h. eqb-false f e t (sym (exact_unsigned e f ((Equal-is (nat_cmp e f)).0 h))))
 
 -- slots after a map was written at an examiner
-pub set_at : {I : Type 0} (e : ℕ) (o : Option (Slot I)) (old new : BTreeMap ℕ (Slot I)) → ((f : ℕ) → found new f ≡ cond (is_at (nat_cmp e) f) o (found old f)) → IsSet e o (found old) (found new)
+pub set_at : {I : Type 0} (e : ℕ) (o : Option (Slot I)) (old new : BTreeMap ℕ (Slot I))
+    → ((f : ℕ) → found new f ≡ cond (is_at (nat_cmp e) f) o (found old f)) → IsSet e o (found old) (found new)
 set_at e o old new h f = h f ∙ ap (λ b. cond b o (found old f)) (at_examiner e f)
 
 -- slots after what a map lent for an examiner was written through
-pub set_through : {I : Type 0} (e : ℕ) (s s' : Slot I) (old new : BTreeMap ℕ (Slot I)) → found old e ≡ Some s → WritesThrough nat_cmp (nat_cmp e) old s' new → IsSet e (Some s') (found old) (found new)
+pub set_through : {I : Type 0} (e : ℕ) (s s' : Slot I) (old new : BTreeMap ℕ (Slot I)) → found old e ≡ Some s
+    → WritesThrough nat_cmp (nat_cmp e) old s' new → IsSet e (Some s') (found old) (found new)
 set_through e s s' old new at h = set_at e (Some s') old new (h.3 (subst IsSome (sym at) refl)).0
 
 view_cond : {A X : Type 0} (view : A → X) (b : Bool) (x y : A) → view (cond b x y) ≡ cond b (view x) (view y)
@@ -32,31 +35,37 @@ view_cond view true x y = refl
 view_cond view false x y = refl
 
 -- what is seen of slots after one was set
-pub view_set : {I X : Type 0} (view : Option (Slot I) → X) (e : ℕ) (o : Option (Slot I)) (old new : ℕ → Option (Slot I)) → IsSet e o old new → (f : ℕ) → view (new f) ≡ cond (eqb f e) (view o) (view (old f))
+pub view_set : {I X : Type 0} (view : Option (Slot I) → X) (e : ℕ) (o : Option (Slot I)) (old new : ℕ → Option (Slot I)) → IsSet e o old new
+    → (f : ℕ) → view (new f) ≡ cond (eqb f e) (view o) (view (old f))
 view_set view e o old new set f = ap view (set f) ∙ view_cond view (eqb f e) o (old f)
 
 pub cond_same : {X : Type 0} (f e : ℕ) (g : ℕ → X) (x : X) → g e ≡ x → cond (eqb f e) x (g f) ≡ g f
 cond_same f e g x h = case_eqb (λ b. cond b x (g f) ≡ g f) f e (λ same. sym h ∙ ap g (sym same)) (λ _. refl)
 
 -- what is seen of slots after one was set that looks like the one before
-pub view_kept : {I X : Type 0} (view : Option (Slot I) → X) (e : ℕ) (o : Option (Slot I)) (old new : ℕ → Option (Slot I)) → IsSet e o old new → view (old e) ≡ view o → (f : ℕ) → view (new f) ≡ view (old f)
+pub view_kept : {I X : Type 0} (view : Option (Slot I) → X) (e : ℕ) (o : Option (Slot I)) (old new : ℕ → Option (Slot I))
+    → IsSet e o old new → view (old e) ≡ view o → (f : ℕ) → view (new f) ≡ view (old f)
 view_kept view e o old new set same f = view_set view e o old new set f ∙ cond_same f e (λ g. view (old g)) (view o) same
 
 -- a slot that looks as it did
-pub same_slots : {I : Type 0} (e : ℕ) (s s' : Slot I) (old new : ℕ → Option (Slot I)) → old e ≡ Some s → IsSet e (Some s') old new → s'.steps.steps ≡ s.steps.steps → s'.images.items ≡ s.images.items → SameSlots old new
+pub same_slots : {I : Type 0} (e : ℕ) (s s' : Slot I) (old new : ℕ → Option (Slot I)) → old e ≡ Some s → IsSet e (Some s') old new
+    → s'.steps.steps ≡ s.steps.steps → s'.images.items ≡ s.images.items → SameSlots old new
 same_slots e s s' old new at set steps images f = (
   view_kept is_some e (Some s') old new set (ap is_some at) f,
   view_kept steps_in e (Some s') old new set (ap steps_in at ∙ ap reverse (sym steps)) f,
   view_kept images_in e (Some s') old new set (ap images_in at ∙ ap reverse (sym images)) f,
 )
 
-pub same_images : {I : Type 0} (e : ℕ) (s s' : Slot I) (old new : ℕ → Option (Slot I)) → old e ≡ Some s → IsSet e (Some s') old new → s'.images.items ≡ s.images.items → SameImages old new
+pub same_images : {I : Type 0} (e : ℕ) (s s' : Slot I) (old new : ℕ → Option (Slot I)) → old e ≡ Some s → IsSet e (Some s') old new
+    → s'.images.items ≡ s.images.items → SameImages old new
 same_images e s s' old new at set images f = view_kept images_in e (Some s') old new set (ap images_in at ∙ ap reverse (sym images)) f
 
 -- a slot with one step more
-pub step_added : {I : Type 0} (e : ℕ) (step : Step) (s s' : Slot I) (old new : ℕ → Option (Slot I)) → old e ≡ Some s → IsSet e (Some s') old new → s'.steps.steps ≡ s.steps.steps ++ step ∷ [] → StepAdded e step old new
+pub step_added : {I : Type 0} (e : ℕ) (step : Step) (s s' : Slot I) (old new : ℕ → Option (Slot I)) → old e ≡ Some s
+    → IsSet e (Some s') old new → s'.steps.steps ≡ s.steps.steps ++ step ∷ [] → StepAdded e step old new
 step_added e step s s' old new at set more f =
-    let longer : steps_in (Some s') ≡ step ∷ steps_in (old e) = ap reverse more ∙ reverse-append s.steps.steps (step ∷ []) ∙ ap (λ x. step ∷ x) (sym (ap steps_in at)) in (
+    let longer : steps_in (Some s') ≡ step ∷ steps_in (old e) =
+    ap reverse more ∙ reverse-append s.steps.steps (step ∷ []) ∙ ap (λ x. step ∷ x) (sym (ap steps_in at)) in (
       view_kept is_some e (Some s') old new set (ap is_some at) f,
       view_set steps_in e (Some s') old new set f
           ∙ case_eqb (λ b. cond b (steps_in (Some s')) (steps_in (old f)) ≡ cond b (step ∷ steps_in (old f)) (steps_in (old f))) f e
@@ -64,9 +73,11 @@ step_added e step s s' old new at set more f =
     )
 
 -- a slot with one image more
-pub image_added : {I : Type 0} (e : ℕ) (image : I) (s s' : Slot I) (old new : ℕ → Option (Slot I)) → old e ≡ Some s → IsSet e (Some s') old new → s'.images.items ≡ s.images.items ++ image ∷ [] → ImageAdded e image old new
+pub image_added : {I : Type 0} (e : ℕ) (image : I) (s s' : Slot I) (old new : ℕ → Option (Slot I)) → old e ≡ Some s
+    → IsSet e (Some s') old new → s'.images.items ≡ s.images.items ++ image ∷ [] → ImageAdded e image old new
 image_added e image s s' old new at set more f =
-    let longer : images_in (Some s') ≡ image ∷ images_in (old e) = ap reverse more ∙ reverse-append s.images.items (image ∷ []) ∙ ap (λ x. image ∷ x) (sym (ap images_in at)) in
+    let longer : images_in (Some s') ≡ image ∷ images_in (old e) =
+    ap reverse more ∙ reverse-append s.images.items (image ∷ []) ∙ ap (λ x. image ∷ x) (sym (ap images_in at)) in
     view_set images_in e (Some s') old new set f
     ∙ case_eqb (λ b. cond b (images_in (Some s')) (images_in (old f)) ≡ cond b (image ∷ images_in (old f)) (images_in (old f))) f e
     (λ same. longer ∙ ap (λ g. image ∷ images_in (old g)) (sym same)) (λ _. refl)

@@ -1,5 +1,6 @@
 -- Images that are out, and those of a transaction that go back or are let go in their turn.
-use Rattle.std.proofs.Common.{◌≡◌, ◌≢◌, ◌<◌, ℕ, Bool, true, false, cond, ◌&&◌, ◌||◌, List, [], ◌∷◌, ◌++◌, reverse, map, refl, ap, ◌∙◌, sym, subst, ◌⊎◌, inl, inr, arith}
+use Rattle.std.proofs.Common.{◌≡◌, ◌≢◌, ◌<◌, ℕ, Bool, true, false, cond, ◌&&◌, ◌||◌, List, [], ◌∷◌, ◌++◌, reverse, map, refl, ap, ◌∙◌, sym}
+use Rattle.std.proofs.Common.{subst, ◌⊎◌, inl, inr, arith}
 use Rattle.title_land.specs.Depth.{depth}
 use Rattle.std.proofs.lemmas.Bool.{or_parts}
 use Rattle.std.proofs.lemmas.List.{reverse-append, reverse-reverse}
@@ -21,7 +22,11 @@ out_without n x [] h = absurd h
 out_without n x (y ∷ ys) h =
     case_eqb (λ b. IsAmong x (cond b (without n ys) (y ∷ without n ys)) → IsAmong x (y ∷ ys) × (x.number ≢ n)) n y.number
     (λ _ k. let rest = out_without n x ys k in (inr rest.0, rest.1))
-    (λ ne k. elim k [ inl same ↦ (inl same, λ w. ne (sym w ∙ ap (λ z. z.number) same)) | inr r ↦ (let rest = out_without n x ys r in (inr rest.0, rest.1)) ]) h
+    (λ ne k. elim k [
+      | inl same ↦ (inl same, λ w. ne (sym w ∙ ap (λ z. z.number) same))
+      | inr r ↦
+          (let rest = out_without n x ys r in (inr rest.0, rest.1))
+    ]) h
 
 pub into_without : (n : ℕ) (x : Loan) (out : List Loan) → IsAmong x out → x.number ≢ n → IsAmong x (without n out)
 into_without n x [] h ne = absurd h
@@ -30,14 +35,16 @@ into_without n x (y ∷ ys) h ne =
     (λ e. elim h [ inl same ↦ absurd (ne (ap (λ z. z.number) same ∙ sym e)) | inr r ↦ into_without n x ys r ne ])
     (λ _. elim h [ inl same ↦ inl same | inr r ↦ inr (into_without n x ys r ne) ])
 
-pub out_all : (ns : List ℕ) (x : Loan) (out : List Loan) → IsAmong x (without_all ns out) → IsAmong x out × ((m : ℕ) → IsOf m ns → x.number ≢ m)
+pub out_all : (ns : List ℕ) (x : Loan) (out : List Loan) → IsAmong x (without_all ns out)
+    → IsAmong x out × ((m : ℕ) → IsOf m ns → x.number ≢ m)
 out_all [] x out h = (h, λ m k. absurd k)
 out_all (n ∷ ns) x out h =
     let later = out_all ns x (without n out) h in
     let here = out_without n x out later.0 in
     (here.0, λ m k. elim k [ inl same ↦ (λ e. here.1 (e ∙ same)) | inr r ↦ later.1 m r ])
 
-pub into_all : (ns : List ℕ) (x : Loan) (out : List Loan) → IsAmong x out → ((m : ℕ) → IsOf m ns → x.number ≢ m) → IsAmong x (without_all ns out)
+pub into_all : (ns : List ℕ) (x : Loan) (out : List Loan) → IsAmong x out → ((m : ℕ) → IsOf m ns → x.number ≢ m)
+    → IsAmong x (without_all ns out)
 into_all [] x out h ne = h
 into_all (n ∷ ns) x out h ne = into_all ns x (without n out) (into_without n x out h (ne n (inl refl))) (λ m k. ne m (inr k))
 
@@ -47,13 +54,16 @@ pub record Remain (ns : List ℕ) (out out' : List Loan) : Type 0 where
   pub back : (b : Loan) → IsOf b.number ns → IsAmong b out' → IsAmong b out
 
 -- all but the first of these images remain when the first goes
-pub remain_later : (n : ℕ) (ns : List ℕ) (out now : List Loan) → ((m : ℕ) → IsOf m ns → m < n) → Remain (n ∷ ns) out now → Remain ns out (without n now)
+pub remain_later : (n : ℕ) (ns : List ℕ) (out now : List Loan) → ((m : ℕ) → IsOf m ns → m < n) → Remain (n ∷ ns) out now
+    → Remain ns out (without n now)
 remain_later n ns out now above r = record {
-  there = λ b at k. into_without n b now (r.there b (inr at) k) (let below : b.number < n = above b.number at in λ (e : b.number ≡ n). omega arith);
+  there = λ b at k. into_without n b now (r.there b (inr at) k)
+      (let below : b.number < n = above b.number at in λ (e : b.number ≡ n). omega arith);
   back = λ b at k. r.back b (inr at) (out_without n b now k).0;
 }
 
-backs_in : {I : Type 0} (number : I → ℕ) (out out' : List Loan) (ts : List Township) (before : Plant) (s : Step) (image : I) (older : List I) →
+backs_in : {I : Type 0} (number : I → ℕ) (out out' : List Loan) (ts : List Township) (before : Plant) (s : Step) (image : I)
+    (older : List I) →
     Remain (number image ∷ map number older) out out' → Backs number out ts before s image older → Backs number out' ts before s image older
 backs_in number out out' ts before s image older r p =
     let b = p.is_out.0 in
@@ -64,13 +74,16 @@ backs_in number out out' ts before s image older r p =
       above = p.above;
     }
 
-peels_in : {I : Type 0} (number : I → ℕ) (out out' : List Loan) (ts : List Township) (before : Plant) (s : Step) (images older : List I) (posted : Bool) →
+peels_in : {I : Type 0} (number : I → ℕ) (out out' : List Loan) (ts : List Township) (before : Plant) (s : Step) (images older : List I)
+    (posted : Bool) →
     Peels number out ts before s images older posted → Remain (map number images) out out' →
     Peels number out' ts before s images older posted × Remain (map number older) out out'
 peels_in number out out' ts before s images older false p r = (p, subst (λ is. Remain (map number is) out out') p.0 r)
 peels_in number out out' ts before s images older true p r =
-    let r' : Remain (number p.0 ∷ map number older) out out' = subst (λ is. Remain (map number is) out out') p.1 r in
-    ((p.0, p.1, backs_in number out out' ts before s p.0 older r' p.2), record { there = λ b k. r'.there b (inr k); back = λ b k. r'.back b (inr k) })
+    let r' : Remain (number p.0 ∷ map number older) out out' = subst (λ is. Remain (map number is) out out') p.1 r in (
+      (p.0, p.1, backs_in number out out' ts before s p.0 older r' p.2),
+      record { there = λ b k. r'.there b (inr k); back = λ b k. r'.back b (inr k) },
+    )
 
 -- images that stay out
 pub backed_in : {I : Type 0} (number : I → ℕ) (out out' : List Loan) (ts : List Township) (p : Plant) (own : List Step) (images : List I) →
@@ -80,18 +93,21 @@ backed_in number out out' ts p (s ∷ earlier) images b r =
     let peeled = peels_in number out out' ts (after_steps depth ts p earlier) s images b.0 (is_posted s.ask s.answer) b.1 r in
     (b.0, peeled.0, backed_in number out out' ts p earlier b.0 b.2 peeled.1)
 
-peels_out : {I : Type 0} (number : I → ℕ) (out : List Loan) (ts : List Township) (before : Plant) (s : Step) (images older : List I) (posted : Bool) (n : ℕ) →
+peels_out : {I : Type 0} (number : I → ℕ) (out : List Loan) (ts : List Township) (before : Plant) (s : Step) (images older : List I)
+    (posted : Bool) (n : ℕ) →
     Peels number out ts before s images older posted → IsOf n (map number images) → (IsOf n (map number older) → IsOut n out) → IsOut n out
 peels_out number out ts before s images older false n p h more = more (subst (λ is. IsOf n (map number is)) p.0 h)
 peels_out number out ts before s images older true n p h more =
     elim (subst (λ is. IsOf n (map number is)) p.1 h) [ inl same ↦ subst (λ z. IsOut z out) (sym same) p.2.is_out | inr r ↦ more r ]
 
 -- each image is out
-pub backed_out : {I : Type 0} (number : I → ℕ) (out : List Loan) (ts : List Township) (p : Plant) (own : List Step) (images : List I) (n : ℕ) →
+pub backed_out : {I : Type 0} (number : I → ℕ) (out : List Loan) (ts : List Township) (p : Plant) (own : List Step) (images : List I)
+    (n : ℕ) →
     Backed number out ts p own images → IsOf n (map number images) → IsOut n out
 backed_out number out ts p [] images n b h = absurd (subst (λ is. IsOf n (map number is)) b h)
 backed_out number out ts p (s ∷ earlier) images n b h =
-    peels_out number out ts (after_steps depth ts p earlier) s images b.0 (is_posted s.ask s.answer) n b.1 h (λ k. backed_out number out ts p earlier b.0 n b.2 k)
+    peels_out number out ts (after_steps depth ts p earlier) s images b.0 (is_posted s.ask s.answer) n b.1 h
+    (λ k. backed_out number out ts p earlier b.0 n b.2 k)
 
 -- each number is above all later ones
 abbrev pub IsFalling : List ℕ → Type 0
@@ -103,19 +119,26 @@ abbrev pub IsRising : List ℕ → Type 0
 IsRising [] = Unit {0}
 IsRising (n ∷ ns) = ((m : ℕ) → IsOf m ns → n < m) × IsRising ns
 
-peels_fall : {I : Type 0} (number : I → ℕ) (out : List Loan) (ts : List Township) (before : Plant) (s : Step) (images older : List I) (posted : Bool) →
+peels_fall : {I : Type 0} (number : I → ℕ) (out : List Loan) (ts : List Township) (before : Plant) (s : Step) (images older : List I)
+    (posted : Bool) →
     Peels number out ts before s images older posted → IsFalling (map number older) → IsFalling (map number images)
 peels_fall number out ts before s images older false p h = subst (λ is. IsFalling (map number is)) (sym p.0) h
 peels_fall number out ts before s images older true p h = subst (λ is. IsFalling (map number is)) (sym p.1) (p.2.above, h)
 
 -- the numbers of the images fall
-pub falling : {I : Type 0} (number : I → ℕ) (out : List Loan) (ts : List Township) (p : Plant) (own : List Step) (images : List I) → Backed number out ts p own images → IsFalling (map number images)
+pub falling : {I : Type 0} (number : I → ℕ) (out : List Loan) (ts : List Township) (p : Plant) (own : List Step) (images : List I)
+    → Backed number out ts p own images → IsFalling (map number images)
 falling number out ts p [] images b = subst (λ is. IsFalling (map number is)) (sym b) tt
-falling number out ts p (s ∷ earlier) images b = peels_fall number out ts (after_steps depth ts p earlier) s images b.0 (is_posted s.ask s.answer) b.1 (falling number out ts p earlier b.0 b.2)
+falling number out ts p (s ∷ earlier) images b = peels_fall number out ts (after_steps depth ts p earlier) s images b.0
+    (is_posted s.ask s.answer) b.1 (falling number out ts p earlier b.0 b.2)
 
 of_append : (ms ns : List ℕ) (m : ℕ) → IsOf m (ms ++ ns) → IsOf m ms ⊎ IsOf m ns
 of_append [] ns m h = inr h
-of_append (x ∷ ms) ns m h = elim h [ inl same ↦ inl (inl same) | inr r ↦ elim (of_append ms ns m r) [ inl l ↦ inl (inr l) | inr k ↦ inr k ] ]
+of_append (x ∷ ms) ns m h = elim h [
+  | inl same ↦ inl (inl same)
+  | inr r ↦
+      elim (of_append ms ns m r) [ inl l ↦ inl (inr l) | inr k ↦ inr k ]
+]
 
 pub of_reverse : (ns : List ℕ) (m : ℕ) → IsOf m (reverse ns) → IsOf m ns
 of_reverse [] m h = h
@@ -140,7 +163,8 @@ rising_push (x ∷ ms) n r b = (
 
 pub rising_reverse : (ns : List ℕ) → IsFalling ns → IsRising (reverse ns)
 rising_reverse [] f = tt
-rising_reverse (n ∷ ns) f = subst IsRising (sym (reverse-append (n ∷ []) ns)) (rising_push (reverse ns) n (rising_reverse ns f.1) (λ m k. f.0 m (of_reverse ns m k)))
+rising_reverse (n ∷ ns) f = subst IsRising (sym (reverse-append (n ∷ []) ns))
+    (rising_push (reverse ns) n (rising_reverse ns f.1) (λ m k. f.0 m (of_reverse ns m k)))
 
 -- the image of one of these numbers shares no cell with any that is out under another
 abbrev pub Apart : List ℕ → List Loan → Type 0
@@ -189,8 +213,10 @@ forgettable (n ∷ ns) now f mine apart = (
 apart_of : (a b : Ask) → overlap a b ≡ false → is_post a ≡ true → meets (tract_of a) (tract_of b) ≡ false
 apart_of a b n p = sym (ap (λ x. (x || is_post b) && meets (tract_of a) (tract_of b)) p) ∙ n
 
-peeled_away : {I : Type 0} (number : I → ℕ) (out : List Loan) (ts : List Township) (before : Plant) (s : Step) (images older : List I) (posted : Bool) (a : Ask) (x : Loan) →
-    Peels number out ts before s images older posted → overlap a s.ask ≡ false → is_post a ≡ true → IsOf x.number (map number images) → IsAmong x out →
+peeled_away : {I : Type 0} (number : I → ℕ) (out : List Loan) (ts : List Township) (before : Plant) (s : Step) (images older : List I)
+    (posted : Bool) (a : Ask) (x : Loan) →
+    Peels number out ts before s images older posted → overlap a s.ask ≡ false → is_post a ≡ true → IsOf x.number (map number images)
+    → IsAmong x out →
     (IsOf x.number (map number older) → meets (tract_of a) x.land ≡ false) → meets (tract_of a) x.land ≡ false
 peeled_away number out ts before s images older false a x p n post h at more = more (subst (λ is. IsOf x.number (map number is)) p.0 h)
 peeled_away number out ts before s images older true a x p n post h at more =
@@ -200,17 +226,22 @@ peeled_away number out ts before s images older true a x p n post h at more =
     ]
 
 -- the tract of an image is that of a posted step
-backed_away : {I : Type 0} (number : I → ℕ) (out : List Loan) (ts : List Township) (p : Plant) (own : List Step) (images : List I) (a : Ask) (x : Loan) →
-    Backed number out ts p own images → overlaps a own ≡ false → is_post a ≡ true → IsOf x.number (map number images) → IsAmong x out → meets (tract_of a) x.land ≡ false
+backed_away : {I : Type 0} (number : I → ℕ) (out : List Loan) (ts : List Township) (p : Plant) (own : List Step) (images : List I) (a : Ask)
+    (x : Loan) →
+    Backed number out ts p own images → overlaps a own ≡ false → is_post a ≡ true → IsOf x.number (map number images) → IsAmong x out
+    → meets (tract_of a) x.land ≡ false
 backed_away number out ts p [] images a x b n post h at = absurd (subst (λ is. IsOf x.number (map number is)) b h)
 backed_away number out ts p (s ∷ earlier) images a x b n post h at =
     let parts = or_parts (overlap a s.ask) (overlaps a earlier) n in
     peeled_away number out ts (after_steps depth ts p earlier) s images b.0 (is_posted s.ask s.answer) a x b.1 parts.0 post h at
     (λ k. backed_away number out ts p earlier b.0 a x b.2 parts.1 post k at)
 
-peeled_apart : {I : Type 0} (number : I → ℕ) (out : List Loan) (ts : List Township) (before : Plant) (s : Step) (images older : List I) (posted : Bool) (b x : Loan) →
-    is_posted s.ask s.answer ≡ posted → Peels number out ts before s images older posted → IsOf b.number (map number images) → IsAmong b out →
-    (is_post s.ask ≡ true → meets (tract_of s.ask) x.land ≡ false) → (IsOf b.number (map number older) → meets b.land x.land ≡ false) → meets b.land x.land ≡ false
+peeled_apart : {I : Type 0} (number : I → ℕ) (out : List Loan) (ts : List Township) (before : Plant) (s : Step) (images older : List I)
+    (posted : Bool) (b x : Loan) →
+    is_posted s.ask s.answer ≡ posted → Peels number out ts before s images older posted → IsOf b.number (map number images)
+    → IsAmong b out →
+    (is_post s.ask ≡ true → meets (tract_of s.ask) x.land ≡ false) → (IsOf b.number (map number older) → meets b.land x.land ≡ false)
+    → meets b.land x.land ≡ false
 peeled_apart number out ts before s images older false b x is p h at here more = more (subst (λ is. IsOf b.number (map number is)) p.0 h)
 peeled_apart number out ts before s images older true b x is p h at here more =
     elim (subst (λ is. IsOf b.number (map number is)) p.1 h) [
@@ -219,10 +250,12 @@ peeled_apart number out ts before s images older true b x is p h at here more =
     ]
 
 -- images of steps that don't overlap share no cell
-pub images_apart : {I : Type 0} (number : I → ℕ) (out : List Loan) (ts : List Township) (p : Plant) (own theirs : List Step) (images others : List I) (b x : Loan) →
+pub images_apart : {I : Type 0} (number : I → ℕ) (out : List Loan) (ts : List Township) (p : Plant) (own theirs : List Step)
+    (images others : List I) (b x : Loan) →
     Backed number out ts p own images → Backed number out ts p theirs others → Clear own theirs →
     IsOf b.number (map number images) → IsAmong b out → IsOf x.number (map number others) → IsAmong x out → meets b.land x.land ≡ false
-images_apart number out ts p [] theirs images others b x mine yours clear h at k xt = absurd (subst (λ is. IsOf b.number (map number is)) mine h)
+images_apart number out ts p [] theirs images others b x mine yours clear h at k xt =
+    absurd (subst (λ is. IsOf b.number (map number is)) mine h)
 images_apart number out ts p (s ∷ earlier) theirs images others b x mine yours clear h at k xt =
     peeled_apart number out ts (after_steps depth ts p earlier) s images mine.0 (is_posted s.ask s.answer) b x refl mine.1 h at
     (λ post. backed_away number out ts p theirs others s.ask x yours clear.1 post k xt)

@@ -35,10 +35,12 @@ IsOf n (m ∷ numbers) = (n ≡ m) ⊎ IsOf n numbers
 
 -- the image of a posted step is out, for the step's tract, and holds what the tract held before the step; those before it
 -- have lower numbers
-pub record Backs {I : Type 0} (number : I → ℕ) (out : List Loan) (townships : List Township) (before : Plant) (s : Step) (image : I) (older : List I) : Type 0 where
+pub record Backs {I : Type 0} (number : I → ℕ) (out : List Loan) (townships : List Township) (before : Plant) (s : Step) (image : I)
+    (older : List I) : Type 0 where
   pub is_out : IsOut (number image) out
   pub land_is : (b : Loan) → IsLentAs b (number image) out → b.land ≡ tract_of s.ask
-  pub holds : (b : Loan) → IsLentAs b (number image) out → (c : Cell) → is_cell_of depth townships (tract_of s.ask) c ≡ true → b.held c ≡ before c
+  pub holds : (b : Loan) → IsLentAs b (number image) out → (c : Cell) → is_cell_of depth townships (tract_of s.ask) c ≡ true
+      → b.held c ≡ before c
   pub above : (n : ℕ) → IsOf n (map number older) → n < number image
 
 -- a posted step has the first of these images; another has none and leaves the plant

@@ -28,7 +28,8 @@ pub record SlotsAre {I : Type 0} (begun : ℕ → Bool) (own : ℕ → List Step
 -- the store and the guards are where the open steps and the committed records leave them: the locks are those of the open
 -- steps; each examiner's images undo its posts; in a cell where an examiner's open step was posted stands what the
 -- committed plant followed by that examiner's open steps has there, in every other cell the committed plant
-pub record Facts {I : Type 0} (number : I → ℕ) (townships : List Township) (own : ℕ → List Step) (images : ℕ → List I) (done : List Record) (content : Plant) (out : List Loan) (locks : List Entry) : Type 0 where
+pub record Facts {I : Type 0} (number : I → ℕ) (townships : List Township) (own : ℕ → List Step) (images : ℕ → List I) (done : List Record)
+    (content : Plant) (out : List Loan) (locks : List Entry) : Type 0 where
   pub locks_are : (a : Ask) (f : ℕ) → against (tract_of a) (is_post a) f locks ≡ overlaps a (own f)
   pub backed : (e : ℕ) → Backed number out townships (plant_after depth townships done) (own e) (images e)
   pub numbers : (e f : ℕ) (n : ℕ) → IsOf n (map number (images e)) → IsOf n (map number (images f)) → e ≡ f
@@ -41,7 +42,8 @@ pub record Facts {I : Type 0} (number : I → ℕ) (townships : List Township) (
 abbrev pub images_of : {I : Type 0} → (ℕ → Option (Slot I)) → ℕ → List I
 images_of slots e = images_in (slots e)
 
-pub record Keeps {I : Type 0} (number : I → ℕ) (setting : Setting) (content : Plant) (declared : List Township) (out : List Loan) (locks : List Entry) (trace : List Call) (records : List Record) (slots : ℕ → Option (Slot I)) : Type 0 where
+pub record Keeps {I : Type 0} (number : I → ℕ) (setting : Setting) (content : Plant) (declared : List Township) (out : List Loan)
+    (locks : List Entry) (trace : List Call) (records : List Record) (slots : ℕ → Option (Slot I)) : Type 0 where
   pub few : setting.parties ≤ 65536
   pub due : IsDue depth setting trace
   pub declared_are : declared ≡ setting.townships

@@ -62,7 +62,8 @@ fn lengthen<G: Guards, I>(
 ) -> Result<(), AllocError>
     ensures images { slot.new.images ≡ slot.old.images }
     ensures steps { OnOk result (slot.new.steps.steps ≡ slot.old.steps.steps ++ step ∷ []) }
-    ensures locked { OnOk result (G.entries guards.new ≡ record { examiner = examiner; tract = tract_of step.ask; access = access } ∷ G.entries guards.old) }
+    ensures locked { OnOk result (G.entries guards.new ≡ record { examiner = examiner; tract = tract_of step.ask; access = access }
+        ∷ G.entries guards.old) }
     ensures err_steps { OnErr result (slot.new.steps.steps ≡ slot.old.steps.steps) }
     ensures err_locked { OnErr result (G.entries guards.new ≡ G.entries guards.old) }
 {
@@ -85,7 +86,8 @@ pub(crate) fn add_step<G: Guards, I>(
     ensures len { btree_map_len slots.new ≡ btree_map_len slots.old }
     ensures images { SameImages (found slots.old) (found slots.new) }
     ensures added { OnOk result (StepAdded examiner step (found slots.old) (found slots.new)) }
-    ensures locked { OnOk result (G.entries guards.new ≡ record { examiner = examiner; tract = tract_of step.ask; access = access } ∷ G.entries guards.old) }
+    ensures locked { OnOk result (G.entries guards.new ≡ record { examiner = examiner; tract = tract_of step.ask; access = access }
+        ∷ G.entries guards.old) }
     ensures err { OnErr result (SameSlots (found slots.old) (found slots.new)) }
     ensures err_locked { OnErr result (G.entries guards.new ≡ G.entries guards.old) }
 {
@@ -109,13 +111,15 @@ fn extend<S: Store, G: Guards>(
     ensures declared { S.declared store.new ≡ S.declared store.old }
     ensures images { OnOk result (slot.new.images.items ≡ slot.old.images.items ++ image ∷ []) }
     ensures steps { OnOk result (slot.new.steps.steps ≡ slot.old.steps.steps ++ step ∷ []) }
-    ensures locked { OnOk result (G.entries guards.new ≡ record { examiner = examiner; tract = tract_of step.ask; access = Post } ∷ G.entries guards.old) }
+    ensures locked { OnOk result (G.entries guards.new ≡ record { examiner = examiner; tract = tract_of step.ask; access = Post }
+        ∷ G.entries guards.old) }
     ensures content { OnOk result (SameContent (S.content store.old) (S.content store.new)) }
     ensures out { OnOk result (S.out store.new ≡ S.out store.old) }
     ensures err_images { OnErr result (slot.new.images.items ≡ slot.old.images.items) }
     ensures err_steps { OnErr result (slot.new.steps.steps ≡ slot.old.steps.steps) }
     ensures err_locked { OnErr result (G.entries guards.new ≡ G.entries guards.old) }
-    ensures err_content { OnErr result ((b : Loan) → IsLentAs b (S.number image) (S.out store.old) → SameContent (put_back (S.declared store.old) b (S.content store.old)) (S.content store.new)) }
+    ensures err_content { OnErr result ((b : Loan) → IsLentAs b (S.number image) (S.out store.old)
+        → SameContent (put_back (S.declared store.old) b (S.content store.old)) (S.content store.new)) }
     ensures err_out { OnErr result (S.out store.new ≡ without (S.number image) (S.out store.old)) }
 {
     if slot.images.reserve(1).is_err() {
@@ -145,12 +149,14 @@ pub(crate) fn keep_post<S: Store, G: Guards>(
     ensures len { btree_map_len slots.new ≡ btree_map_len slots.old }
     ensures images { OnOk result (ImageAdded examiner image (found slots.old) (found slots.new)) }
     ensures steps { OnOk result (StepAdded examiner step (found slots.old) (found slots.new)) }
-    ensures locked { OnOk result (G.entries guards.new ≡ record { examiner = examiner; tract = tract_of step.ask; access = Post } ∷ G.entries guards.old) }
+    ensures locked { OnOk result (G.entries guards.new ≡ record { examiner = examiner; tract = tract_of step.ask; access = Post }
+        ∷ G.entries guards.old) }
     ensures content { OnOk result (SameContent (S.content store.old) (S.content store.new)) }
     ensures out { OnOk result (S.out store.new ≡ S.out store.old) }
     ensures err { OnErr result (SameSlots (found slots.old) (found slots.new)) }
     ensures err_locked { OnErr result (G.entries guards.new ≡ G.entries guards.old) }
-    ensures err_content { OnErr result ((b : Loan) → IsLentAs b (S.number image) (S.out store.old) → SameContent (put_back (S.declared store.old) b (S.content store.old)) (S.content store.new)) }
+    ensures err_content { OnErr result ((b : Loan) → IsLentAs b (S.number image) (S.out store.old)
+        → SameContent (put_back (S.declared store.old) b (S.content store.old)) (S.content store.new)) }
     ensures err_out { OnErr result (S.out store.new ≡ without (S.number image) (S.out store.old)) }
 {
     let Some(slot) = slots.get_mut(&examiner) else {

@@ -12,7 +12,8 @@ use title_store::Store;
 /// Puts images back, the newest first.
 pub(crate) fn restore_all<S: Store>(store: &mut S, mut images: Vec<S::Image>)
     requires able { Restorable (map S.number (reverse images.items)) (S.out store.old) }
-    ensures content { IsRestored (S.declared store.old) (map S.number (reverse images.items)) (S.out store.old) (S.content store.old) (S.content store.new) }
+    ensures content { IsRestored (S.declared store.old) (map S.number (reverse images.items)) (S.out store.old) (S.content store.old)
+        (S.content store.new) }
     ensures declared { S.declared store.new ≡ S.declared store.old }
     ensures out { S.out store.new ≡ without_all (map S.number (reverse images.items)) (S.out store.old) }
 {

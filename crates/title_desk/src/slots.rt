@@ -73,7 +73,8 @@ pub(crate) fn chain_for<I>(
     ensures room { records.new.has_room ≡ records.old.has_room }
     ensures len { btree_map_len slots.new ≡ btree_map_len slots.old }
     ensures slots { SameSlots (found slots.old) (found slots.new) }
-    ensures chain { IfOk result (λ entries. entries ≡ chain_of (reverse records.old.records) (steps_in (found slots.old examiner)) tract.now) }
+    ensures chain { IfOk result (λ entries. entries ≡ chain_of (reverse records.old.records) (steps_in (found slots.old examiner))
+        tract.now) }
 {
     let Some(slot) = slots.get_mut(&examiner) else {
         return Err(AllocError);

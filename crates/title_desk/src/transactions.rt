@@ -90,7 +90,9 @@ impl<S: Store + Drop, G: Guards + Drop> Model for Desk<S, G> {
       is_ready = d.records.has_room && nat_lt (vec_len d.trace + btree_map_len d.slots) (vec_capacity d.trace);
     } };
 
-    ghost invariant = { λ d. Keeps S.number (record { parties = d.parties; townships = d.townships.items }) (S.content d.store) (S.declared d.store) (S.out d.store) (G.entries d.guards) (reverse d.trace.items) d.records.records (found d.slots) × (vec_len d.trace + btree_map_len d.slots ≤ vec_capacity d.trace) };
+    ghost invariant = { λ d. Keeps S.number (record { parties = d.parties; townships = d.townships.items }) (S.content d.store)
+        (S.declared d.store) (S.out d.store) (G.entries d.guards) (reverse d.trace.items) d.records.records (found d.slots)
+        × (vec_len d.trace + btree_map_len d.slots ≤ vec_capacity d.trace) };
 }
 
 impl<S: Store + Drop, G: Guards + Drop> Desk<S, G> {
@@ -206,7 +208,8 @@ impl<S: Store + Drop, G: Guards + Drop> Desk<S, G> {
 
     // Why a step is refused, in the order of refusals; nothing where it passes.
     fn refusal(&self, examiner: u32, ask: &Ask) -> Option<Refusal>
-        ensures refusal { MatchOption result (Passes self.now examiner ask.now) (λ why. DueReply depth self.now.setting self.now.trace (Step examiner ask.now) (reply_of why)) }
+        ensures refusal { MatchOption result (Passes self.now examiner ask.now)
+            (λ why. DueReply depth self.now.setting self.now.trace (Step examiner ask.now) (reply_of why)) }
     {
         if !is_in(&self.slots, examiner) {
             return Some(Refusal::NotOpen);
@@ -229,7 +232,8 @@ impl<S: Store + Drop, G: Guards + Drop> Desk<S, G> {
     // Adds a step that was answered and posted nothing.
     fn add_answer(&mut self, examiner: u32, ask: Ask, answer: Answer) -> Reply
         requires passes { Passes self.old examiner ask }
-        requires alone { answer ≡ alone depth self.old.setting.townships (committed self.old.trace) (open_steps self.old.trace examiner) ask }
+        requires alone { answer
+            ≡ alone depth self.old.setting.townships (committed self.old.trace) (open_steps self.old.trace examiner) ask }
         requires unposted { is_posted ask answer ≡ false }
         ensures told { Told self.old (Step examiner ask) result self.new }
     {
@@ -400,7 +404,9 @@ impl<S: Store + Drop, G: Guards + Drop> Desk<S, G> {
     pub fn store(&self) -> &S
         ensures declared { S.declared result.now ≡ self.now.setting.townships }
         ensures posted { (e : ℕ) (c : Cell) → posted_at self.now.setting.townships c (open_steps self.now.trace e) ≡ true →
-            S.content result.now c ≡ after_steps depth self.now.setting.townships (plant_after depth self.now.setting.townships (committed self.now.trace)) (open_steps self.now.trace e) c }
+            S.content result.now c
+            ≡ after_steps depth self.now.setting.townships
+            (plant_after depth self.now.setting.townships (committed self.now.trace)) (open_steps self.now.trace e) c }
         ensures rest { (c : Cell) → ((e : ℕ) → posted_at self.now.setting.townships c (open_steps self.now.trace e) ≡ false) →
             S.content result.now c ≡ plant_after depth self.now.setting.townships (committed self.now.trace) c }
     {
@@ -411,7 +417,8 @@ impl<S: Store + Drop, G: Guards + Drop> Desk<S, G> {
     /// they are with the open steps of any one examiner as a last record. It does nothing: the desk's type says so.
     pub fn is_serial(&self)
         ensures committed_records { IsSerial depth self.now.setting.townships (committed self.now.trace) }
-        ensures open_last { (e : ℕ) → IsSerial depth self.now.setting.townships (record_of e (open_steps self.now.trace e) ∷ committed self.now.trace) }
+        ensures open_last { (e : ℕ) → IsSerial depth self.now.setting.townships
+            (record_of e (open_steps self.now.trace e) ∷ committed self.now.trace) }
     {
         let _ = &self.trace;
     }

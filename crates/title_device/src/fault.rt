@@ -1,8 +1,9 @@
-//! Why a device or a run fails.
+//! Why a device fails.
 
 ghost use Rattle.std.specs.Prelude.{◌≡◌};
-ghost use Rattle.title_device.specs.Faults.{fault_number};
+ghost use Rattle.title_device.specs.declared.fault.ReadFault.TheVariants as fault;
 
+use std::alloc::AllocError;
 use thiserror::Error;
 
 /// A call of a source or a sink has failed.
@@ -10,42 +11,29 @@ use thiserror::Error;
 #[error("the device has failed")]
 pub struct Failed;
 
-/// Why a script wasn't run to its end. Its text is the line that the program prints for it; a row is
-/// numbered from 1.
+/// Why a source isn't read to its end.
 #[derive(Clone, Copy, Debug, PartialEq, Eq, Error)]
-pub enum RunFault {
-    /// This row isn't a row of a script.
-    #[error("fault,31,{0}")]
-    Row(u64),
-    /// The source has failed, or the script is above `SCRIPT_LIMIT`.
-    #[error("fault,32")]
+pub enum ReadFault {
+    /// The source has failed, or has more than `SCRIPT_LIMIT` bytes.
+    #[error("the source can't be read")]
     Read,
-    /// The sink has failed.
-    #[error("fault,33")]
-    Write,
-    /// This row names a party that hasn't been declared, or declares one again.
-    #[error("fault,34,{0}")]
-    Party(u64),
-    /// This row stands where no such row may stand.
-    #[error("fault,35,{0}")]
-    Order(u64),
     /// Memory ran out.
-    #[error("fault,6")]
+    #[error("out of memory")]
     Memory,
 }
 
-impl RunFault {
-    /// The fault's number, which is the first in its line.
-    pub fn number(self) -> u32
-        ensures number { result ≡ fault_number self }
-    {
-        match self {
-            RunFault::Row(_) => 31,
-            RunFault::Read => 32,
-            RunFault::Write => 33,
-            RunFault::Party(_) => 34,
-            RunFault::Order(_) => 35,
-            RunFault::Memory => 6,
-        }
+impl From<Failed> for ReadFault {
+    ghost from_gives = { λ _ e. e ≡ fault.Read };
+
+    fn from(_failed: Failed) -> ReadFault {
+        ReadFault::Read
+    }
+}
+
+impl From<AllocError> for ReadFault {
+    ghost from_gives = { λ _ e. e ≡ fault.Memory };
+
+    fn from(_failed: AllocError) -> ReadFault {
+        ReadFault::Memory
     }
 }

@@ -12,7 +12,7 @@ mod source;
 mod tests;
 
 pub use device::Device;
-pub use fault::{Failed, RunFault};
+pub use fault::{Failed, ReadFault};
 pub use loops::{SCRIPT_LIMIT, read_all, write_all};
 pub use sink::Sink;
 pub use source::Source;

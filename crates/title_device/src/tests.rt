@@ -1,26 +1,8 @@
 use crate::fake::{FakeSink, FakeSource};
-use crate::{Device, RunFault, SCRIPT_LIMIT, Sink, Source, read_all, write_all};
+use crate::{Device, Failed, ReadFault, SCRIPT_LIMIT, Sink, Source, read_all, write_all};
 use std::test::Fail;
 
 const TEXT: &[u8] = b"party,ADAMS\nparty,BELL\n";
-
-#[test]
-fn prints_each_fault(rt: HostRuntime) -> Result<(), Fail> {
-    let alloc = rt.alloc();
-    let lines = [
-        (RunFault::Row(4), 31, "fault,31,4"),
-        (RunFault::Read, 32, "fault,32"),
-        (RunFault::Write, 33, "fault,33"),
-        (RunFault::Party(100_000), 34, "fault,34,100000"),
-        (RunFault::Order(5), 35, "fault,35,5"),
-        (RunFault::Memory, 6, "fault,6"),
-    ];
-    for (fault, number, line) in lines {
-        assert_eq!(rt; fault.number(), number);
-        assert_eq!(rt; format!(in alloc; "{fault}")?.as_str(), line);
-    }
-    Ok(())
-}
 
 // One pull for each byte and one that shows the end: a source that fails at any of these is no script.
 #[test]
@@ -36,7 +18,7 @@ fn a_failed_pull_is_read(rt: HostRuntime) -> Result<(), Fail> {
         };
         assert_eq!(rt;
             read_all(alloc, &mut source).err(),
-            Some(RunFault::Read),
+            Some(ReadFault::Read),
             "after {good_pulls}"
         );
         assert!(rt; source.failed());
@@ -60,7 +42,7 @@ fn a_script_has_a_limit(rt: HostRuntime) -> Result<(), Fail> {
     let mut longest = Device::new(&bytes[1..]);
     assert_eq!(rt; read_all(alloc, &mut longest)?.len(), SCRIPT_LIMIT);
     let mut longer = Device::new(&bytes[..]);
-    assert_eq!(rt; read_all(alloc, &mut longer).err(), Some(RunFault::Read));
+    assert_eq!(rt; read_all(alloc, &mut longer).err(), Some(ReadFault::Read));
     Ok(())
 }
 
@@ -77,7 +59,7 @@ fn a_failed_push_is_write(rt: HostRuntime) -> Result<(), Fail> {
             };
             let wrote = write_all(&mut sink, TEXT);
             assert_eq!(rt; wrote.is_ok(), room == TEXT.len(), "room {room}");
-            assert_eq!(rt; wrote.err(), sink.failed().then_some(RunFault::Write));
+            assert_eq!(rt; wrote.err(), sink.failed().then_some(Failed));
             assert_eq!(rt; sink.taken.as_slice(), &TEXT[..room]);
         }
     }
@@ -89,7 +71,7 @@ fn a_writer_that_takes_nothing_has_failed(rt: HostRuntime) -> Result<(), Fail> {
     let alloc = rt.alloc();
     let mut space = [0; 5];
     let mut full = Device::new(&mut space[..]);
-    assert_eq!(rt; write_all(&mut full, TEXT).err(), Some(RunFault::Write));
+    assert_eq!(rt; write_all(&mut full, TEXT).err(), Some(Failed));
     assert!(rt; full.failed());
     assert_eq!(rt; full.into_inner().len(), 0);
     assert_eq!(rt; &space[..], &TEXT[..5]);

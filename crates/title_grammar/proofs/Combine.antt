@@ -18,7 +18,8 @@ pub choose : {V : Type 0} {a : List ℕ → Read V} {A : Language V} {fa ma : Li
     Exact (or_at fa a b) (Or A B) (fa ++ fb) ((ma ++ mb) ++ when eb fa) eb
 choose {V} {a} {A} {fa} {ma} {b} {B} {fb} {mb} {eb} x y d = or_exact a A fa ma b B fb mb eb x y d
 
-pub repeat : {V : Type 0} {a : List ℕ → Read V} {A : Language V} {first more : List ℕ} → Exact a A first more false → disjoint first more ≡ true →
+pub repeat : {V : Type 0} {a : List ℕ → Read V} {A : Language V} {first more : List ℕ} → Exact a A first more false
+    → disjoint first more ≡ true →
     Exact (many_at first a) (Many A) first (first ++ more) true
 repeat {V} {a} {A} {first} {more} x d = many_exact a A first more x d
 
@@ -26,17 +27,25 @@ pub word : (w : List ℕ) → Exact (word_at w) (Word w) (front w) [] (is_empty 
 word w = gives_exact tt w
 
 -- a language of the same texts
-pub same_language : {V : Type 0} {a : List ℕ → Read V} {A : Language V} {first more : List ℕ} {empty : Bool} (B : Language V) → Exact a A first more empty →
+pub same_language : {V : Type 0} {a : List ℕ → Read V} {A : Language V} {first more : List ℕ} {empty : Bool} (B : Language V)
+    → Exact a A first more empty →
     ((v : V) (s : List ℕ) → A v s → B v s) → ((v : V) (s : List ℕ) → B v s → A v s) → Exact a B first more empty
 same_language B x to from = record {
   heads = λ v p h. x.heads v p (from v p h);
   got = λ s v r h. let g = x.got s v r h in record { text = g.text; whole = g.whole; spells = to v g.text g.spells; again = g.again };
-  stuck = λ s r h. let g = x.stuck s r h in record { text = g.text; whole = g.whole; begins = (g.begins.0, g.begins.1, to g.begins.1 (g.text ++ g.begins.0) g.begins.2); again = g.again };
+  stuck = λ s r h. let g = x.stuck s r h in record {
+    text = g.text;
+    whole = g.whole;
+    begins =
+        (g.begins.0, g.begins.1, to g.begins.1 (g.text ++ g.begins.0) g.begins.2);
+    again = g.again;
+  };
   complete = λ v p r h k. x.complete v p r (from v p h) k;
   example = (x.example.0, x.example.1, to x.example.1 ([] ++ x.example.0) x.example.2);
 }
 
-pub maybe_exact : {a : List ℕ → Read (Unit {0})} {A : Language (Unit {0})} {fa ma : List ℕ} → Exact a A fa ma false → disjoint [] fa ≡ true →
+pub maybe_exact : {a : List ℕ → Read (Unit {0})} {A : Language (Unit {0})} {fa ma : List ℕ} → Exact a A fa ma false
+    → disjoint [] fa ≡ true →
     Exact (maybe_at fa a) (Maybe A) (fa ++ []) ((ma ++ []) ++ fa) true
 maybe_exact x d = choose x (word []) d
 

@@ -64,7 +64,8 @@ stuck_at s = Stuck s
 stuck_is : {U V : Type 0} (s r : List ℕ) → stuck_at {V = V} s ≡ Stuck r → stuck_at {V = U} s ≡ Stuck r
 stuck_is s r e = let k : s ≡ r = cc in ap (λ (t : List ℕ). stuck_at t) k
 
-pub either_stuck : {U V : Type 0} (m : Read U) (k : U → List ℕ → Read V) (r : List ℕ) → and_then m k ≡ Stuck r → (m ≡ Stuck r) ⊎ ThenStuck m k r
+pub either_stuck : {U V : Type 0} (m : Read U) (k : U → List ℕ → Read V) (r : List ℕ) → and_then m k ≡ Stuck r
+    → (m ≡ Stuck r) ⊎ ThenStuck m k r
 either_stuck (Got u s) k r e = inr (record { value = u; rest = s; one = refl; two = e })
 either_stuck (Stuck s) k r e = inl (stuck_is s r e)
 
@@ -82,7 +83,8 @@ heads_then ea eb fa fb [] (c ∷ q) h k = rw h (member-append-right c fa fb k)
 heads_then ea eb fa fb (c ∷ p) q h k = member-append-left c fa (when ea fb) h
 
 -- what may follow b's text doesn't go on with a's
-pub follow_then : (eb : Bool) (ma fb mb q r : List ℕ) → disjoint fb ma ≡ true → HeadsIn eb fb q → starts (mb ++ when eb ma) r ≡ false → starts ma (q ++ r) ≡ false
+pub follow_then : (eb : Bool) (ma fb mb q r : List ℕ) → disjoint fb ma ≡ true → HeadsIn eb fb q → starts (mb ++ when eb ma) r ≡ false
+    → starts ma (q ++ r) ≡ false
 follow_then eb ma fb mb [] r d h k =
     let e : when eb ma ≡ ma = ap (λ b. when b ma) h in
     rw e at (starts-split mb (when eb ma) r k).1
@@ -100,7 +102,11 @@ then_got_at f a A b B u v s t r g k = record {
   spells = (u, v, g.text, k.text, refl, refl, g.spells, k.spells);
   again = λ w same.
       let same_t : SameHead t (k.text ++ w) = rw k.whole (SameHead-front k.text r w same) in
-      rw (append_assoc g.text k.text w, then_steps f a b u (g.text ++ (k.text ++ w)) (k.text ++ w) (g.again (k.text ++ w) same_t), k.again w same) refl;
+      rw (
+        append_assoc g.text k.text w,
+        then_steps f a b u (g.text ++ (k.text ++ w)) (k.text ++ w) (g.again (k.text ++ w) same_t),
+        k.again w same,
+      ) refl;
 }
 
 then_got : {U V W : Type 0} (f : U → V → W) (a : List ℕ → Read U) (A : Language U) (fa ma : List ℕ) (ea : Bool)
@@ -123,7 +129,20 @@ stuck_in_first : {U V W : Type 0} (f : U → V → W) (a : List ℕ → Read U) 
 stuck_in_first f a A b B s r e g = record {
   text = g.text;
   whole = g.whole;
-  begins = (g.begins.0 ++ e.0, f g.begins.1 e.1, (g.begins.1, e.1, g.text ++ g.begins.0, e.0, refl, sym (append_assoc g.text g.begins.0 e.0), g.begins.2, e.2));
+  begins = (
+    g.begins.0 ++ e.0,
+    f g.begins.1 e.1,
+    (
+      g.begins.1,
+      e.1,
+      g.text ++ g.begins.0,
+      e.0,
+      refl,
+      sym (append_assoc g.text g.begins.0 e.0),
+      g.begins.2,
+      e.2,
+    ),
+  );
   again = λ w same. rw (g.again w same) refl;
 }
 
@@ -132,10 +151,27 @@ stuck_in_second : {U V W : Type 0} (f : U → V → W) (a : List ℕ → Read U)
 stuck_in_second f a A b B u s t r g k = record {
   text = g.text ++ k.text;
   whole = g.whole ∙ ap (λ (z : List ℕ). g.text ++ z) k.whole ∙ sym (append_assoc g.text k.text r);
-  begins = (k.begins.0, f u k.begins.1, (u, k.begins.1, g.text, k.text ++ k.begins.0, refl, append_assoc g.text k.text k.begins.0, g.spells, k.begins.2));
+  begins = (
+    k.begins.0,
+    f u k.begins.1,
+    (
+      u,
+      k.begins.1,
+      g.text,
+      k.text ++ k.begins.0,
+      refl,
+      append_assoc g.text k.text k.begins.0,
+      g.spells,
+      k.begins.2,
+    ),
+  );
   again = λ w same.
       let same_t : SameHead t (k.text ++ w) = rw k.whole (SameHead-front k.text r w same) in
-      rw (append_assoc g.text k.text w, then_steps f a b u (g.text ++ (k.text ++ w)) (k.text ++ w) (g.again (k.text ++ w) same_t), k.again w same) refl;
+      rw (
+        append_assoc g.text k.text w,
+        then_steps f a b u (g.text ++ (k.text ++ w)) (k.text ++ w) (g.again (k.text ++ w) same_t),
+        k.again w same,
+      ) refl;
 }
 
 then_stuck : {U V W : Type 0} (f : U → V → W) (a : List ℕ → Read U) (A : Language U) (fa ma : List ℕ) (ea : Bool)
@@ -170,7 +206,11 @@ then_exact f a A fa ma ea b B fb mb eb x y d = record {
   got = then_got f a A fa ma ea b B fb mb eb x y;
   stuck = then_stuck f a A fa ma ea b B fb mb eb x y;
   complete = then_complete f a A fa ma ea b B fb mb eb x y d;
-  example = (x.example.0 ++ y.example.0, f x.example.1 y.example.1, (x.example.1, y.example.1, x.example.0, y.example.0, refl, refl, x.example.2, y.example.2));
+  example = (
+    x.example.0 ++ y.example.0,
+    f x.example.1 y.example.1,
+    (x.example.1, y.example.1, x.example.0, y.example.0, refl, refl, x.example.2, y.example.2),
+  );
 }
 
 -- ---- one or the other
@@ -180,7 +220,8 @@ starts_of first [] r h = absurd cc
 starts_of first (c ∷ p) r h = h
 
 -- a text of b doesn't look like one of a, nor does the text after it where it is empty
-not_starts_of : (eb : Bool) (fa fb mo p r : List ℕ) → disjoint fb fa ≡ true → HeadsIn eb fb p → starts (mo ++ when eb fa) r ≡ false → starts fa (p ++ r) ≡ false
+not_starts_of : (eb : Bool) (fa fb mo p r : List ℕ) → disjoint fb fa ≡ true → HeadsIn eb fb p → starts (mo ++ when eb fa) r ≡ false
+    → starts fa (p ++ r) ≡ false
 not_starts_of eb fa fb mo p r d h k = follow_then eb fa fb mo p r d h k
 
 or_left_at : {V : Type 0} (first : List ℕ) (a b : List ℕ → Read V) (s : List ℕ) → starts first s ≡ true → or_at first a b s ≡ a s
@@ -203,13 +244,15 @@ or_got first a b A B s v r (inl g) = record {
   text = g.1.text;
   whole = g.1.whole;
   spells = inl g.1.spells;
-  again = λ w same. or_left_at first a b (g.1.text ++ w) (same_choice first g.1.text r w true same (rw g.1.whole at g.0)) ∙ g.1.again w same;
+  again = λ w same. or_left_at first a b (g.1.text ++ w) (same_choice first g.1.text r w true same (rw g.1.whole at g.0))
+      ∙ g.1.again w same;
 }
 or_got first a b A B s v r (inr g) = record {
   text = g.1.text;
   whole = g.1.whole;
   spells = inr g.1.spells;
-  again = λ w same. or_right_at first a b (g.1.text ++ w) (same_choice first g.1.text r w false same (rw g.1.whole at g.0)) ∙ g.1.again w same;
+  again = λ w same. or_right_at first a b (g.1.text ++ w) (same_choice first g.1.text r w false same (rw g.1.whole at g.0))
+      ∙ g.1.again w same;
 }
 
 or_stuck : {V : Type 0} (first : List ℕ) (a b : List ℕ → Read V) (A B : Language V) (s r : List ℕ) →
@@ -218,13 +261,15 @@ or_stuck first a b A B s r (inl g) = record {
   text = g.1.text;
   whole = g.1.whole;
   begins = (g.1.begins.0, g.1.begins.1, inl g.1.begins.2);
-  again = λ w same. or_left_at first a b (g.1.text ++ w) (same_choice first g.1.text r w true same (rw g.1.whole at g.0)) ∙ g.1.again w same;
+  again = λ w same. or_left_at first a b (g.1.text ++ w) (same_choice first g.1.text r w true same (rw g.1.whole at g.0))
+      ∙ g.1.again w same;
 }
 or_stuck first a b A B s r (inr g) = record {
   text = g.1.text;
   whole = g.1.whole;
   begins = (g.1.begins.0, g.1.begins.1, inr g.1.begins.2);
-  again = λ w same. or_right_at first a b (g.1.text ++ w) (same_choice first g.1.text r w false same (rw g.1.whole at g.0)) ∙ g.1.again w same;
+  again = λ w same. or_right_at first a b (g.1.text ++ w) (same_choice first g.1.text r w false same (rw g.1.whole at g.0))
+      ∙ g.1.again w same;
 }
 
 heads_left : (eb : Bool) (fa fb p : List ℕ) → HeadsIn false fa p → HeadsIn eb (fa ++ fb) p
@@ -298,7 +343,8 @@ one_of_got set (c ∷ s) v r h = elim (tells (member c set)) [
   | inr e ↦ let k = sym (one_of_out set c s e) ∙ h in absurd cc
 ]
 
-one_of_stuck : (set : List ℕ) (d : ℕ) → member d set ≡ true → (s r : List ℕ) → one_of_at set s ≡ Stuck r → StuckBy (one_of_at set) (OneOf set) s r
+one_of_stuck : (set : List ℕ) (d : ℕ) → member d set ≡ true → (s r : List ℕ) → one_of_at set s ≡ Stuck r
+    → StuckBy (one_of_at set) (OneOf set) s r
 one_of_stuck set d m [] r h =
     let e : [] ≡ r = cc in
     record { text = []; whole = e; begins = (d ∷ [], d, (m, refl)); again = λ w same. rw (same_end w (rw e same)) refl }

@@ -1,5 +1,6 @@
 -- The place of a fault: how many letters stand before it.
-use Rattle.std.proofs.Common.{◌≡◌, ℕ, suc, ◌-◌, ◌≤◌, ◌<◌, ◌==◌, ◌⊎◌, inl, inr, Bool, List, [], ◌∷◌, ◌++◌, length, take, drop, refl, sym, ap, subst, ◌∙◌, arith, append_assoc, length-append, drop-cons}
+use Rattle.std.proofs.Common.{◌≡◌, ℕ, suc, ◌-◌, ◌≤◌, ◌<◌, ◌==◌, ◌⊎◌, inl, inr, Bool, List, [], ◌∷◌, ◌++◌, length, take, drop, refl, sym, ap}
+use Rattle.std.proofs.Common.{subst, ◌∙◌, arith, append_assoc, length-append, drop-cons}
 use Rattle.std.specs.Bool.{Decides}
 use Rattle.std.proofs.lemmas.Bool.{eqb-true, eq-eqb}
 use Rattle.std.proofs.lemmas.Bool.Decides.{nat_tests}
@@ -25,9 +26,14 @@ FaultAfter A s i = (i ≤ length s) × FaultAt A (take i s) (drop i s)
 pub fault_after : {V : Type 0} (A : Language V) (s r : List ℕ) (n : ℕ) → Fault A s r → n ≡ length r → FaultAfter A s (length s - n)
 fault_after A s r n f e =
     let l : length s - n ≡ length f.text = omega (arith, ap (λ (z : List ℕ). length z) f.whole, length-append f.text r) in
-    let p : take (length s - n) s ≡ f.text = ap (λ (k : ℕ). take k s) l ∙ ap (λ (z : List ℕ). take (length f.text) z) f.whole ∙ take-append_seam f.text r in
-    let q : drop (length s - n) s ≡ r = ap (λ (k : ℕ). drop k s) l ∙ ap (λ (z : List ℕ). drop (length f.text) z) f.whole ∙ drop-append_seam f.text r in
-    (omega arith, subst (λ (z : List ℕ). FaultAt A z (drop (length s - n) s)) (sym p) (subst (λ (z : List ℕ). FaultAt A f.text z) (sym q) f.fault))
+    let p : take (length s - n) s ≡ f.text = ap (λ (k : ℕ). take k s) l ∙ ap (λ (z : List ℕ). take (length f.text) z) f.whole
+    ∙ take-append_seam f.text r in
+    let q : drop (length s - n) s ≡ r = ap (λ (k : ℕ). drop k s) l ∙ ap (λ (z : List ℕ). drop (length f.text) z) f.whole
+    ∙ drop-append_seam f.text r in (
+      omega arith,
+      subst (λ (z : List ℕ). FaultAt A z (drop (length s - n) s)) (sym p)
+          (subst (λ (z : List ℕ). FaultAt A f.text z) (sym q) f.fault),
+    )
 
 pub fault_there : {V : Type 0} (A : Language V) (s : List ℕ) (i : ℕ) → FaultAfter A s i → Fault A s (drop i s)
 fault_there A s i f = record { text = take i s; whole = sym (take-append-drop i s); fault = f.1 }

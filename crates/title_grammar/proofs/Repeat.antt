@@ -1,12 +1,14 @@
 -- Fixed texts, repetition, and whole texts.
-use Rattle.std.proofs.Common.{◌≡◌, ℕ, zero, suc, ◌-◌, ◌≤◌, ◌<◌, Bool, true, false, ◌==◌, List, [], ◌∷◌, ◌++◌, length, refl, sym, ap, subst, ◌∙◌, inl, inr, arith, append_assoc, length-append}
+use Rattle.std.proofs.Common.{◌≡◌, ℕ, zero, suc, ◌-◌, ◌≤◌, ◌<◌, Bool, true, false, ◌==◌, List, [], ◌∷◌, ◌++◌, length, refl, sym, ap, subst}
+use Rattle.std.proofs.Common.{◌∙◌, inl, inr, arith, append_assoc, length-append}
 use Rattle.std.proofs.lemmas.List.{append-nil}
 use Rattle.std.proofs.lemmas.Bool.{eqb-true}
 use Rattle.title_grammar.specs.Language.{Language, Gives, Many, Begins, NoText, FaultAt}
 use Rattle.title_grammar.specs.Reading.{Read, Got, Stuck, and_then, starts, gives_at, many_from, many_at}
 use Rattle.title_grammar.proofs.Heads.{SameHead, SameHead-refl, SameHead-front, SameHead-starts, disjoint}
 use Rattle.title_grammar.proofs.Sets.{starts-split}
-use Rattle.title_grammar.proofs.Exact.{HeadsIn, GotBy, StuckBy, Exact, both_got, either_stuck, got_not_stuck, follow_then, tells, same_next, same_end, same_choice, starts_of}
+use Rattle.title_grammar.proofs.Exact.{HeadsIn, GotBy, StuckBy, Exact, both_got, either_stuck, got_not_stuck, follow_then, tells, same_next}
+use Rattle.title_grammar.proofs.Exact.{same_end, same_choice, starts_of}
 
 -- ---- any number of times
 
@@ -22,7 +24,8 @@ record StuckMany {V : Type 0} (first : List ℕ) (a : List ℕ → Read V) (A : 
   begins : Begins (Many A) text
   again : (w : List ℕ) → SameHead r w → (n : ℕ) → length (text ++ w) ≤ n → many_from first a n (text ++ w) ≡ Stuck w
 
-many_stop : {V : Type 0} (first : List ℕ) (a : List ℕ → Read V) (n : ℕ) (s : List ℕ) → starts first s ≡ false → many_from first a n s ≡ Got [] s
+many_stop : {V : Type 0} (first : List ℕ) (a : List ℕ → Read V) (n : ℕ) (s : List ℕ) → starts first s ≡ false
+    → many_from first a n s ≡ Got [] s
 many_stop first a zero s h = refl
 many_stop first a (suc n) s h = rw h refl
 
@@ -42,7 +45,8 @@ many_step_stuck : {V : Type 0} (first : List ℕ) (a : List ℕ → Read V) (n :
     starts first s ≡ true → a s ≡ Got v r → many_from first a n r ≡ Stuck t → many_from first a (suc n) s ≡ Stuck t
 many_step_stuck first a n s v r t h k l = many_more first a n s h ∙ rw (k, l) refl
 
-stopped : {V : Type 0} (first : List ℕ) (a : List ℕ → Read V) (A : Language V) (s : List ℕ) → starts first s ≡ false → GotMany first a A s [] s
+stopped : {V : Type 0} (first : List ℕ) (a : List ℕ → Read V) (A : Language V) (s : List ℕ) → starts first s ≡ false
+    → GotMany first a A s [] s
 stopped first a A s h = record {
   text = [];
   whole = refl;
@@ -101,11 +105,13 @@ more_stuck first a A v s t r heads g k = record {
       again_stuck first a v g.text k.text w (heads g.text g.spells) (g.again (k.text ++ w) same_t) (k.again w same) n l;
 }
 
-now_again : {V : Type 0} (first : List ℕ) (a : List ℕ → Read V) (s w : List ℕ) → starts first s ≡ true → a s ≡ Stuck w → (n : ℕ) → length s ≤ n → many_from first a n s ≡ Stuck w
+now_again : {V : Type 0} (first : List ℕ) (a : List ℕ → Read V) (s w : List ℕ) → starts first s ≡ true → a s ≡ Stuck w → (n : ℕ)
+    → length s ≤ n → many_from first a n s ≡ Stuck w
 now_again first a s w h k zero l = absurd (omega (arith, l, started first s h))
 now_again first a s w h k (suc n) l = many_more first a n s h ∙ rw k refl
 
-now_stuck : {V : Type 0} (first : List ℕ) (a : List ℕ → Read V) (A : Language V) (s r : List ℕ) → starts first s ≡ true → StuckBy a A s r → StuckMany first a A s r
+now_stuck : {V : Type 0} (first : List ℕ) (a : List ℕ → Read V) (A : Language V) (s r : List ℕ) → starts first s ≡ true → StuckBy a A s r
+    → StuckMany first a A s r
 now_stuck first a A s r h g = record {
   text = g.text;
   whole = g.whole;
@@ -122,10 +128,17 @@ many_got a A first more x zero [] vs r l h =
 many_got a A first more x zero (c ∷ s) vs r l h = absurd (omega arith)
 many_got {V} a A first more x (suc n) s vs r l h = elim (tells (starts first s)) [
   | inl e ↦
-      let i = both_got (a s) (λ v t. and_then (many_from first a n t) (λ us t2. Got (v ∷ us) t2)) vs r (sym (many_more first a n s e) ∙ h) in
+      let i = both_got (a s) (λ v t. and_then (many_from first a n t) (λ us t2. Got (v ∷ us) t2)) vs r (sym (many_more first a n s e) ∙ h)
+      in
       let j = both_got (many_from first a n i.rest) (λ us t2. Got (i.value ∷ us) t2) vs r i.two in
       let g = x.got s i.value i.rest i.one in
-      let shorter : length i.rest ≤ n = omega (arith, l, nonempty first g.text (x.heads i.value g.text g.spells), length-append g.text i.rest, ap (λ (z : List ℕ). length z) g.whole) in
+      let shorter : length i.rest ≤ n = omega (
+        arith,
+        l,
+        nonempty first g.text (x.heads i.value g.text g.spells),
+        length-append g.text i.rest,
+        ap (λ (z : List ℕ). length z) g.whole,
+      ) in
       let k = many_got a A first more x n i.rest j.value j.rest shorter j.one in
       let rest : j.rest ≡ r = cc in
       let values : i.value ∷ j.value ≡ vs = cc in
@@ -143,16 +156,23 @@ many_stuck : {V : Type 0} (a : List ℕ → Read V) (A : Language V) (first more
     (n : ℕ) (s r : List ℕ) → length s ≤ n → many_from first a n s ≡ Stuck r → StuckMany first a A s r
 many_stuck a A first more x zero s r l h = absurd (got_not_stuck h)
 many_stuck a A first more x (suc n) s r l h = elim (tells (starts first s)) [
-  | inl e ↦ elim (either_stuck (a s) (λ v t. and_then (many_from first a n t) (λ us t2. Got (v ∷ us) t2)) r (sym (many_more first a n s e) ∙ h)) [
-    | inl k ↦ now_stuck first a A s r e (x.stuck s r k)
-    | inr i ↦ elim (either_stuck (many_from first a n i.rest) (λ us t2. Got (i.value ∷ us) t2) r i.two) [
-      | inl k ↦
-          let g = x.got s i.value i.rest i.one in
-          let shorter : length i.rest ≤ n = omega (arith, l, nonempty first g.text (x.heads i.value g.text g.spells), length-append g.text i.rest, ap (λ (z : List ℕ). length z) g.whole) in
-          more_stuck first a A i.value s i.rest r (λ p. x.heads i.value p) g (many_stuck a A first more x n i.rest r shorter k)
-      | inr j ↦ absurd (got_not_stuck j.two)
-    ]
-  ]
+  | inl e ↦ elim (either_stuck (a s) (λ v t. and_then (many_from first a n t) (λ us t2. Got (v ∷ us) t2)) r
+      (sym (many_more first a n s e) ∙ h)) [
+        | inl k ↦ now_stuck first a A s r e (x.stuck s r k)
+        | inr i ↦ elim (either_stuck (many_from first a n i.rest) (λ us t2. Got (i.value ∷ us) t2) r i.two) [
+          | inl k ↦
+              let g = x.got s i.value i.rest i.one in
+              let shorter : length i.rest ≤ n = omega (
+                arith,
+                l,
+                nonempty first g.text (x.heads i.value g.text g.spells),
+                length-append g.text i.rest,
+                ap (λ (z : List ℕ). length z) g.whole,
+              ) in
+              more_stuck first a A i.value s i.rest r (λ p. x.heads i.value p) g (many_stuck a A first more x n i.rest r shorter k)
+          | inr j ↦ absurd (got_not_stuck j.two)
+        ]
+      ]
   | inr e ↦ absurd (got_not_stuck (sym (many_stop first a (suc n) s e) ∙ h))
 ]
 
@@ -160,12 +180,15 @@ heads_front : (empty : Bool) (first p q : List ℕ) → HeadsIn false first p �
 heads_front empty first [] q h = absurd cc
 heads_front empty first (c ∷ p) q h = h
 
-many_heads : {V : Type 0} (A : Language V) (first : List ℕ) → ((v : V) (p : List ℕ) → A v p → HeadsIn false first p) → (vs : List V) (p : List ℕ) → Many A vs p → HeadsIn true first p
+many_heads : {V : Type 0} (A : Language V) (first : List ℕ) → ((v : V) (p : List ℕ) → A v p → HeadsIn false first p)
+    → (vs : List V) (p : List ℕ) → Many A vs p → HeadsIn true first p
 many_heads A first heads [] p h = rw h refl
 many_heads A first heads (v ∷ vs) p h = rw h.2 (heads_front true first h.0 h.1 (heads v h.0 h.3))
 
-many_complete : {V : Type 0} (a : List ℕ → Read V) (A : Language V) (first more : List ℕ) → Exact a A first more false → disjoint first more ≡ true →
-    (vs : List V) (p r : List ℕ) → Many A vs p → starts (first ++ more) r ≡ false → (n : ℕ) → length (p ++ r) ≤ n → many_from first a n (p ++ r) ≡ Got vs r
+many_complete : {V : Type 0} (a : List ℕ → Read V) (A : Language V) (first more : List ℕ) → Exact a A first more false
+    → disjoint first more ≡ true →
+    (vs : List V) (p r : List ℕ) → Many A vs p → starts (first ++ more) r ≡ false → (n : ℕ) → length (p ++ r) ≤ n
+    → many_from first a n (p ++ r) ≡ Got vs r
 many_complete a A first more x d [] p r h k n l = rw h (many_stop first a n r (starts-split first more r k).0)
 many_complete a A first more x d (v ∷ vs) p r h k n l =
     let q = h.1 in
@@ -176,16 +199,29 @@ many_complete a A first more x d (v ∷ vs) p r h k n l =
 len_le : (s : List ℕ) → length s ≤ length s
 len_le s = omega arith
 
-pub many_exact : {V : Type 0} (a : List ℕ → Read V) (A : Language V) (first more : List ℕ) → Exact a A first more false → disjoint first more ≡ true →
+pub many_exact : {V : Type 0} (a : List ℕ → Read V) (A : Language V) (first more : List ℕ) → Exact a A first more false
+    → disjoint first more ≡ true →
     Exact (many_at first a) (Many A) first (first ++ more) true
 many_exact a A first more x d = record {
   heads = many_heads A first x.heads;
   got = λ s vs r h.
       let g = many_got a A first more x (length s) s vs r (len_le s) h in
-      record { text = g.text; whole = g.whole; spells = g.spells; again = λ w same. g.again w same (length (g.text ++ w)) (len_le (g.text ++ w)) };
+      record {
+        text = g.text;
+        whole = g.whole;
+        spells = g.spells;
+        again = λ w same.
+            g.again w same (length (g.text ++ w)) (len_le (g.text ++ w));
+      };
   stuck = λ s r h.
       let g = many_stuck a A first more x (length s) s r (len_le s) h in
-      record { text = g.text; whole = g.whole; begins = g.begins; again = λ w same. g.again w same (length (g.text ++ w)) (len_le (g.text ++ w)) };
+      record {
+        text = g.text;
+        whole = g.whole;
+        begins = g.begins;
+        again = λ w same.
+            g.again w same (length (g.text ++ w)) (len_le (g.text ++ w));
+      };
   complete = λ vs p r h k. many_complete a A first more x d vs p r h k (length (p ++ r)) (len_le (p ++ r));
   example = ([], [], refl);
 }
@@ -332,7 +368,12 @@ whole_stuck {V} a A first more empty x s (c ∷ r) h =
 -- A text with a fault is no text of the grammar.
 pub fault_none : {V : Type 0} (A : Language V) (s r : List ℕ) → Fault A s r → NoText A s
 fault_none A s [] f v h = f.fault.1 v (rw (f.whole, append-nil) at h)
-fault_none A s (c ∷ r) f v h = f.fault.1 (r, v, (let e : s ≡ (f.text ++ c ∷ []) ++ r = f.whole ∙ sym (append_assoc f.text (c ∷ []) r) in rw e at h))
+fault_none A s (c ∷ r) f v h = f.fault.1 (
+  r,
+  v,
+  (let e : s ≡ (f.text ++ c ∷ []) ++ r = f.whole ∙ sym (append_assoc f.text (c ∷ []) r) in
+      rw e at h),
+)
 
 -- ---- a loop, one text at a time
 
@@ -362,7 +403,8 @@ then_again : {U W : Type 0} (m : Read (List U)) (v : U) (k : List U → List ℕ
 then_again (Got vs t) v k = refl
 then_again (Stuck t) v k = refl
 
-many_unrolled : {V : Type 0} (first : List ℕ) (a : List ℕ → Read V) (n : ℕ) (s : List ℕ) (v : V) (r : List ℕ) → length s ≡ suc n → starts first s ≡ true → a s ≡ Got v r →
+many_unrolled : {V : Type 0} (first : List ℕ) (a : List ℕ → Read V) (n : ℕ) (s : List ℕ) (v : V) (r : List ℕ) → length s ≡ suc n
+    → starts first s ≡ true → a s ≡ Got v r →
     many_at first a s ≡ and_then (many_from first a n r) (λ vs t. Got (v ∷ vs) t)
 many_unrolled first a n s v r e h k = rw e (many_more first a n s h ∙ rw k refl)
 
@@ -374,16 +416,19 @@ many_next {V} {W} {a} {A} {first} {more} x s v r k h e =
     let n = length s - 1 in
     let len : length s ≡ suc (length s - 1) = omega arith in
     let same = many_enough a A first more x (length s - 1) r (omega arith) (many_from first a (length s - 1) r) refl in
-    ap (λ m. and_then m k) (many_unrolled first a (length s - 1) s v r len h e) ∙ then_again (many_from first a (length s - 1) r) v k ∙ ap (λ m. and_then m (λ vs t. k (v ∷ vs) t)) (sym same)
+    ap (λ m. and_then m k) (many_unrolled first a (length s - 1) s v r len h e) ∙ then_again (many_from first a (length s - 1) r) v k
+    ∙ ap (λ m. and_then m (λ vs t. k (v ∷ vs) t)) (sym same)
 
 pub many_ends : {V W : Type 0} (first : List ℕ) (a : List ℕ → Read V) (s : List ℕ) (k : List V → List ℕ → Read W) → starts first s ≡ false →
     and_then (many_at first a s) k ≡ k [] s
 many_ends first a s k h = rw (many_stop first a (length s) s h) refl
 
-many_now : {V : Type 0} (first : List ℕ) (a : List ℕ → Read V) (n : ℕ) (s r : List ℕ) → length s ≡ suc n → starts first s ≡ true → a s ≡ Stuck r → many_at first a s ≡ Stuck r
+many_now : {V : Type 0} (first : List ℕ) (a : List ℕ → Read V) (n : ℕ) (s r : List ℕ) → length s ≡ suc n → starts first s ≡ true
+    → a s ≡ Stuck r → many_at first a s ≡ Stuck r
 many_now first a n s r e h k = rw e (many_more first a n s h ∙ rw k refl)
 
-pub many_stops : {V W : Type 0} (first : List ℕ) (a : List ℕ → Read V) (s r : List ℕ) (k : List V → List ℕ → Read W) → starts first s ≡ true → a s ≡ Stuck r →
+pub many_stops : {V W : Type 0} (first : List ℕ) (a : List ℕ → Read V) (s r : List ℕ) (k : List V → List ℕ → Read W) → starts first s ≡ true
+    → a s ≡ Stuck r →
     and_then (many_at first a s) k ≡ Stuck r
 many_stops first a s r k h e =
     let l = started first s h in

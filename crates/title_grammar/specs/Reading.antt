@@ -32,7 +32,8 @@ or_at first a b s = if starts first s then a s else b s
 -- n is at least the length of s
 abbrev pub many_from : {V : Type 0} → List ℕ → (List ℕ → Read V) → ℕ → List ℕ → Read (List V)
 many_from first a zero s = Got [] s
-many_from first a (suc n) s = if starts first s then and_then (a s) (λ v r. and_then (many_from first a n r) (λ vs t. Got (v ∷ vs) t)) else Got [] s
+many_from first a (suc n) s = if starts first s then and_then (a s) (λ v r. and_then (many_from first a n r) (λ vs t. Got (v ∷ vs) t)) else
+    Got [] s
 
 abbrev pub many_at : {V : Type 0} → List ℕ → (List ℕ → Read V) → List ℕ → Read (List V)
 many_at first a s = many_from first a (length s) s

@@ -1,5 +1,6 @@
 -- The definitions that the contracts cite.
 pub mod Estates
+pub mod Kinds
 pub mod Numbers
 pub mod Parties
 pub mod Check

@@ -51,10 +51,10 @@ units_or_none None = 0
 units_or_none (Some r) = r
 
 -- the units that a deed reserves in an estate
-abbrev pub reserved : Deed → Estate → ℕ
+abbrev pub reserved : Deed ℕ → Estate → ℕ
 reserved d e = units_or_none (reservation_of d e)
 
 -- the units that an instrument passes in an estate: none where it doesn't name it, all by a release
-abbrev pub passes : Instrument → Estate → ℕ → Result ℕ Rule
+abbrev pub passes : Instrument ℕ → Estate → ℕ → Result ℕ Rule
 passes (i.Deed d) e g = cond (names d.estates e) (passed d.warranty d.quantum (reserved d e) g) (Ok 0)
 passes (i.Release r) e g = Ok (cond (names r.estates e) g 0)

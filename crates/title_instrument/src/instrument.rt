@@ -1,40 +1,42 @@
 //! Deeds and releases.
 
 ghost use Rattle.std.specs.Prelude.{◌≡◌, ◌≤◌, Some, None, MatchResult, IfOk};
-ghost use Rattle.title_instrument.specs.Parties.{grantor_of, grantee_of, estates_of, reservation_of};
+ghost use Rattle.title_instrument.specs.Kinds.{kind_of};
+ghost use Rattle.title_instrument.specs.Parties.{between, deed_between, grantor_of, grantee_of, estates_of, reservation_of};
 ghost use Rattle.title_instrument.specs.Passing.{reserved, passed, passed_of, passed_yielding, passes};
 ghost use Rattle.title_instrument.specs.Check.{reserves_unnamed, has_stray, first_cause};
 
+use crate::kind::Kind;
 use crate::parts::{Cause, Estate, Estates, Quantum, Rule};
 use title_share::Share;
 
 /// A deed: the grantor passes the quantum of each named estate, less what it reserves there, to
-/// the grantee. Parties go by number; a reservation is a share of the whole. With warranty, the
-/// reservation of a deed of a share of the whole yields first.
+/// the grantee. Parties go by number in a plant, by name in a script; a reservation is a share of
+/// the whole. With warranty, the reservation of a deed of a share of the whole yields first.
 #[derive(Clone, Copy, Debug, PartialEq, Eq)]
-pub struct Deed {
-    pub grantor: u32,
-    pub grantee: u32,
+pub struct Deed<P = u32> {
+    pub grantor: P,
+    pub grantee: P,
     pub estates: Estates,
+    pub warranty: bool,
     pub quantum: Quantum,
     /// What is reserved in S, O and M.
     pub reserve: [Option<Share>; 3],
-    pub warranty: bool,
 }
 
 /// A release: a party passes all that it holds in each named estate.
 #[derive(Clone, Copy, Debug, PartialEq, Eq)]
-pub struct Release {
-    pub from: u32,
-    pub to: u32,
+pub struct Release<P = u32> {
+    pub from: P,
+    pub to: P,
     pub estates: Estates,
 }
 
-/// What is posted.
+/// What is posted, between parties that `P` names.
 #[derive(Clone, Copy, Debug, PartialEq, Eq)]
-pub enum Instrument {
-    Deed(Deed),
-    Release(Release),
+pub enum Instrument<P = u32> {
+    Deed(Deed<P>),
+    Release(Release<P>),
 }
 
 // The units that pass of those named, from a grantor that holds `held` and keeps back what is
@@ -68,6 +70,24 @@ fn passed_yielding(named: u64, reserved: u64, held: u64) -> Result<u64, Rule>
         return Err(Rule::ShortTitle);
     }
     Ok(left)
+}
+
+impl<P> Deed<P> {
+    // The same deed between other parties.
+    fn between<Q>(&self, grantor: Q, grantee: Q) -> Deed<Q>
+        ensures between { result ≡ deed_between self.now grantor grantee }
+    {
+        let [s, o, m] = self.reserve;
+        let reserve = [s, o, m];
+        Deed {
+            grantor,
+            grantee,
+            estates: self.estates,
+            warranty: self.warranty,
+            quantum: self.quantum,
+            reserve,
+        }
+    }
 }
 
 impl Deed {
@@ -118,24 +138,15 @@ impl Deed {
     }
 }
 
-impl Instrument {
-    /// The party that passes units: a deed's grantor, or the releasor.
-    pub fn grantor(&self) -> u32
-        ensures grantor { result ≡ grantor_of self.now }
+impl<P> Instrument<P> {
+    /// Which of the three kinds it is.
+    pub fn kind(&self) -> Kind
+        ensures kind { result ≡ kind_of self.now }
     {
         match self {
-            Instrument::Deed(deed) => deed.grantor,
-            Instrument::Release(release) => release.from,
-        }
-    }
-
-    /// The party to which they pass.
-    pub fn grantee(&self) -> u32
-        ensures grantee { result ≡ grantee_of self.now }
-    {
-        match self {
-            Instrument::Deed(deed) => deed.grantee,
-            Instrument::Release(release) => release.to,
+            Instrument::Deed(deed) if deed.warranty => Kind::Warranty,
+            Instrument::Deed(_) => Kind::Deed,
+            Instrument::Release(_) => Kind::Release,
         }
     }
 
@@ -148,7 +159,45 @@ impl Instrument {
             Instrument::Release(release) => release.estates,
         }
     }
+}
 
+impl<P: Copy> Instrument<P> {
+    /// The party that passes units: a deed's grantor, or the releasor.
+    pub fn grantor(&self) -> P
+        ensures grantor { result ≡ grantor_of self.now }
+    {
+        match self {
+            Instrument::Deed(deed) => deed.grantor,
+            Instrument::Release(release) => release.from,
+        }
+    }
+
+    /// The party to which they pass.
+    pub fn grantee(&self) -> P
+        ensures grantee { result ≡ grantee_of self.now }
+    {
+        match self {
+            Instrument::Deed(deed) => deed.grantee,
+            Instrument::Release(release) => release.to,
+        }
+    }
+
+    /// The same instrument between other parties.
+    pub fn between<Q>(&self, grantor: Q, grantee: Q) -> Instrument<Q>
+        ensures between { result ≡ between self.now grantor grantee }
+    {
+        match self {
+            Instrument::Deed(deed) => Instrument::Deed(deed.between(grantor, grantee)),
+            Instrument::Release(release) => Instrument::Release(Release {
+                from: grantor,
+                to: grantee,
+                estates: release.estates,
+            }),
+        }
+    }
+}
+
+impl Instrument {
     /// The units that pass in an estate, from a grantor that holds `held`, or the first rule that
     /// refuses. No rule refuses a release.
     pub fn passes(&self, estate: Estate, held: u64) -> Result<u64, Rule>

@@ -2,10 +2,12 @@
 #![tactic(auto)]
 
 pub mod instrument;
+pub mod kind;
 pub mod owners;
 pub mod parts;
 
 pub use instrument::{Deed, Instrument, Release};
+pub use kind::Kind;
 pub use owners::{Effect, Owners};
 pub use parts::{Cause, Estate, Estates, Quantum, Rule};
 

@@ -1,6 +1,8 @@
 //! Worked instruments on one cell.
 
-use crate::{Cause, Deed, Effect, Estate, Estates, Instrument, Owners, Quantum, Release, Rule};
+use crate::{
+    Cause, Deed, Effect, Estate, Estates, Instrument, Kind, Owners, Quantum, Release, Rule,
+};
 use std::alloc::Global;
 use std::mem::size_of;
 use std::test::Fail;
@@ -320,8 +322,40 @@ fn numbers_and_letters(rt: HostRuntime) -> Result<(), Fail> {
 }
 
 #[test]
-fn an_instrument_takes_52_bytes(rt: HostRuntime) {
-    assert_eq!(rt; size_of::<Deed>(), 48);
+fn kinds_and_their_words(rt: HostRuntime) -> Result<(), Fail> {
+    let plain = deed(ADAMS, BELL, OIL, whole("1/2"), ["", "", ""]);
+    for (instrument, word) in [
+        (plain, "deed"),
+        (with_warranty(plain), "warranty"),
+        (release(ADAMS, BELL, OIL), "release"),
+    ] {
+        let kind = instrument.ok_or("no instrument")?.kind();
+        let text = format!(in rt.alloc(); "{kind}")?;
+        assert_eq!(rt; text.as_str(), word);
+        assert_eq!(rt; Kind::of_word(word), Some(kind));
+    }
+    assert_eq!(rt; Kind::of_word("Deed"), None);
+    Ok(())
+}
+
+#[test]
+fn between_other_parties(rt: HostRuntime) -> Result<(), Fail> {
+    for instrument in [
+        deed(ADAMS, BELL, OIL, whole("1/2"), ["", "1/4", ""]),
+        release(ADAMS, BELL, OIL),
+    ] {
+        let numbered = instrument.ok_or("no instrument")?;
+        let named = numbered.between("ADAMS", "BELL");
+        assert_eq!(rt; named.grantor(), "ADAMS");
+        assert_eq!(rt; named.grantee(), "BELL");
+        assert_eq!(rt; named.between(ADAMS, BELL), numbered);
+    }
+    Ok(())
+}
+
+#[test]
+fn an_instrument_takes_48_bytes(rt: HostRuntime) {
+    assert_eq!(rt; size_of::<Deed>(), 44);
     assert_eq!(rt; size_of::<Release>(), 12);
-    assert_eq!(rt; size_of::<Instrument>(), 52);
+    assert_eq!(rt; size_of::<Instrument>(), 48);
 }

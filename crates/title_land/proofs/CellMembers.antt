@@ -82,18 +82,18 @@ pub sections_of-in : (t : Township) (s : Section) → In s (sections_of t) → s
 unfolding sections_of
 sections_of-in t s i = (sections_from-in t 1 36 s i).0
 
-in_sections_of : (s : Section) → In s (sections_of s.township)
+pub in_sections_of : (s : Section) → In s (sections_of s.township)
 unfolding sections_of
 in_sections_of s = let l = s.numbered.0 in let m = s.numbered.1 in in_sections_from s.township 1 36 s refl l (omega arith)
 
-in_quarters : (x : Quarter) → In x quarters
+pub in_quarters : (x : Quarter) → In x quarters
 in_quarters Northeast = inl refl
 in_quarters Northwest = inr (inl refl)
 in_quarters Southwest = inr (inr (inl refl))
 in_quarters Southeast = inr (inr (inr (inl refl)))
 
 -- the cells of a square are in the list of the square's
-cells_below-has : (d : ℕ) (s : Section) (levels : ℕ) (q : List Quarter) (row column : ℕ) → levels + length q ≡ d
+pub cells_below-has : (d : ℕ) (s : Section) (levels : ℕ) (q : List Quarter) (row column : ℕ) → levels + length q ≡ d
     → Inside (square d q) row column → In (cell_at s row column) (cells_below d s levels q)
 cells_below-has d s zero q row column l i =
     let z = sized d zero q l in
@@ -109,7 +109,7 @@ cells_below-has d s (suc levels) q row column l i =
     (cells_below-has d s levels (x.0 ∷ q) row column m x.1)
 
 -- the list of a square's cells has its section's cells within it alone
-cells_below-in : (d : ℕ) (s : Section) (levels : ℕ) (q : List Quarter) (c : Cell) → levels + length q ≡ d
+pub cells_below-in : (d : ℕ) (s : Section) (levels : ℕ) (q : List Quarter) (c : Cell) → levels + length q ≡ d
     → In c (cells_below d s levels q) → (c.section ≡ s) × Inside (square d q) c.row c.column
 cells_below-in d s zero q c l i = elim i [
   | inl e ↦
@@ -141,7 +141,7 @@ township_cells-in d t c i =
     let m = section_cells-in d k.0 c k.2 in
     (ap (λ (s : Section). s.township) m.0 ∙ sections_of-in t k.0 k.1, m.1)
 
-township_cells-has : (d : ℕ) (c : Cell) → is_on_grid d c ≡ true → In c (township_cells d c.section.township)
+pub township_cells-has : (d : ℕ) (c : Cell) → is_on_grid d c ≡ true → In c (township_cells d c.section.township)
 township_cells-has d c o = in_flat_map (section_cells d) (sections_of c.section.township) c.section c (in_sections_of c.section)
     (section_cells-has d c o)
 

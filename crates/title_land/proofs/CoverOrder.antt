@@ -58,7 +58,7 @@ abbrev pub inner_before : List Quarter → List Quarter → Bool
 inner_before p q = path_before (reverse p) (reverse q)
 
 -- squares in two quarters of a square are ordered as the quarters are
-branch_before : (r p q : List Quarter) (x y : Quarter) → quarter_before x y ≡ true → path_before (r ++ x ∷ p) (r ++ y ∷ q) ≡ true
+pub branch_before : (r p q : List Quarter) (x y : Quarter) → quarter_before x y ≡ true → path_before (r ++ x ∷ p) (r ++ y ∷ q) ≡ true
 branch_before [] p q x y e = rw e refl
 branch_before (a ∷ r) p q x y e =
     or_right (quarter_before a a) (same_quarter a a && path_before (r ++ x ∷ p) (r ++ y ∷ q))

@@ -21,6 +21,8 @@ pub mod TractSharing
 pub mod CoverSet
 pub mod CoversMeet
 pub mod CellMembers
+pub mod MetBefore
+pub mod CellsInOrder
 pub mod Sections
 pub mod CellFilters
 pub mod CellSquares

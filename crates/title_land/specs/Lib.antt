@@ -19,3 +19,4 @@ pub mod SharedCells
 pub mod Acres
 pub mod Doubled
 pub mod CellLaws
+pub mod CellOrder

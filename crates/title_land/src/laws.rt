@@ -1,5 +1,6 @@
 //! Laws of land, for the crates above. Each function does nothing: its clause is the law, proved.
 
+ghost use Rattle.title_land.specs.CellOrder.{CellsFollowTheCover};
 ghost use Rattle.title_land.specs.CellLaws.{SameCellsAreEqual, PlantHasItsCells, ListHasTheCells, NodeListHasTheCells};
 ghost use Rattle.title_land.specs.Constants.{DepthIsSaidOnce};
 ghost use Rattle.title_land.specs.Depth.{depth};
@@ -79,4 +80,9 @@ pub fn cover_nodes_lie_apart()
 /// The cover has a node with the cell exactly where the cell lies in the land, and the node found has it.
 pub fn cover_finds_the_node()
     ensures law { CoverFindsTheNode depth }
+{}
+
+/// A land's cells are listed in the order of its cover: those of an earlier node before those of a later one.
+pub fn cells_follow_the_cover()
+    ensures law { CellsFollowTheCover depth }
 {}

@@ -25,17 +25,22 @@ above_none (node.Township t) k h = absurd cc
 above_none (node.Part s w) k h = absurd cc
 
 -- no mode is asked above a node that has no parent
-pub none_above : (b : Bool) (m : Mode) (r : Option Mode) (p k : Node) → None ≡ parent_of p → r ≡ bound r (cond (b && is_above k p) (Some m) None)
-none_above b m r p k h = sym (bound_none r) ∙ ap (λ (z : Bool). bound r (cond z (Some m) None)) (sym (ap (λ (z : Bool). b && z) (above_none p k h) ∙ and_none b))
+pub none_above : (b : Bool) (m : Mode) (r : Option Mode) (p k : Node) → None ≡ parent_of p
+    → r ≡ bound r (cond (b && is_above k p) (Some m) None)
+none_above b m r p k h = sym (bound_none r) ∙ ap (λ (z : Bool). bound r (cond z (Some m) None))
+    (sym (ap (λ (z : Bool). b && z) (above_none p k h) ∙ and_none b))
 
 -- a mode at a node and at all above it is a mode at all above its child
 pub above_join : (b : Bool) (m : Mode) (r : Option Mode) (p c k : Node) → Some c ≡ parent_of p →
-    bound (bound r (cond (b && is_above k c) (Some m) None)) (cond (b && same_node k c) (Some m) None) ≡ bound r (cond (b && is_above k p) (Some m) None)
+    bound (bound r (cond (b && is_above k c) (Some m) None)) (cond (b && same_node k c) (Some m) None)
+    ≡ bound r (cond (b && is_above k p) (Some m) None)
 above_join b m r p c k h =
-    above_cases r b (same_node k c) (is_above k c) m ∙ ap (λ (z : List Node). bound r (cond (b && list_any (same_node k) z) (Some m) None)) (sym (above_of p c h))
+    above_cases r b (same_node k c) (is_above k c) m ∙ ap (λ (z : List Node). bound r (cond (b && list_any (same_node k) z) (Some m) None))
+    (sym (above_of p c h))
 
 for_cases : (r : Option Mode) (b s a : Bool) (own above : Mode) → (s ≡ true → a ≡ false) →
-    bound (bound r (cond (b && a) (Some above) None)) (cond (b && s) (Some own) None) ≡ bound r (cond b (cond s (Some own) (cond a (Some above) None)) None)
+    bound (bound r (cond (b && a) (Some above) None)) (cond (b && s) (Some own) None)
+    ≡ bound r (cond b (cond s (Some own) (cond a (Some above) None)) None)
 for_cases r false s a own above h = bound_none (bound r None)
 for_cases r true true true own above h = absurd (let e = h refl in cc)
 for_cases r true true false own above h = ap (λ (y : Option Mode). bound y (Some own)) (bound_none r)
@@ -44,7 +49,8 @@ for_cases r true false false own above h = bound_none (bound r None)
 
 -- one node of the cover
 pub for_join : (b p : Bool) (r : Option Mode) (c n : Node) →
-    bound (bound r (cond (b && is_above n c) (Some (above_mode p)) None)) (cond (b && same_node n c) (Some (own_mode p)) None) ≡ bound r (cond b (asked_for p c n) None)
+    bound (bound r (cond (b && is_above n c) (Some (above_mode p)) None)) (cond (b && same_node n c) (Some (own_mode p)) None)
+    ≡ bound r (cond b (asked_for p c n) None)
 for_join b p r c n = for_cases r b (same_node n c) (is_above n c) (own_mode p) (above_mode p) (above_apart n c)
 
 -- one node of the cover, and the rest
@@ -67,6 +73,8 @@ gone_join true false y r = refl
 gone_join false x y r = refl
 
 -- nothing at a node and at all above it is nothing at all above its child
-pub above_gone : (b : Bool) (r : Option Mode) (p c k : Node) → Some c ≡ parent_of p → cond (b && is_above k c) None (cond (b && same_node k c) None r) ≡ cond (b && is_above k p) None r
+pub above_gone : (b : Bool) (r : Option Mode) (p c k : Node) → Some c ≡ parent_of p
+    → cond (b && is_above k c) None (cond (b && same_node k c) None r) ≡ cond (b && is_above k p) None r
 above_gone b r p c k h =
-    gone_join b (same_node k c) (is_above k c) r ∙ ap (λ (z : List Node). cond (b && list_any (same_node k) z) None r) (sym (above_of p c h))
+    gone_join b (same_node k c) (is_above k c) r ∙ ap (λ (z : List Node). cond (b && list_any (same_node k) z) None r)
+    (sym (above_of p c h))

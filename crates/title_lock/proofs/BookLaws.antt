@@ -1,5 +1,6 @@
 -- A book's entries by number: one put at the end, and an examiner's last one taken out.
-use Rattle.std.proofs.Common.{◌≡◌, ◌≢◌, ℕ, ◌<◌, Bool, true, false, cond, not, List, [], ◌∷◌, ◌++◌, All, filter, reverse, Option, None, Some, IfSome, IfNone, eqb, refl, sym, ap, ◌∙◌, subst, append_assoc, arith}
+use Rattle.std.proofs.Common.{◌≡◌, ◌≢◌, ℕ, ◌<◌, Bool, true, false, cond, not, List, [], ◌∷◌, ◌++◌, All, filter, reverse, Option, None, Some}
+use Rattle.std.proofs.Common.{IfSome, IfNone, eqb, refl, sym, ap, ◌∙◌, subst, append_assoc, arith}
 use Rattle.std.proofs.lemmas.Bool.{eqb-true, eqb-false, ne_eqb}
 use Rattle.std.proofs.lemmas.Bool.Decides.{nat_tests}
 use Rattle.std.proofs.lemmas.List.{append-nil, reverse-append, map-append}
@@ -24,10 +25,12 @@ greater : (n k : ℕ) → k < n → nat_cmp n k ≡ Greater
 greater n k h = grind (arith, nat_tests)
 
 -- an entry under a number above all keys goes to the end
-pub insert_last : (n : ℕ) (x : Entry) (es : List (ℕ × Entry)) → All (λ k. k < n) (keys_of es) → insert_entry nat_cmp es n x ≡ es ++ (n, x) ∷ []
+pub insert_last : (n : ℕ) (x : Entry) (es : List (ℕ × Entry)) → All (λ k. k < n) (keys_of es)
+    → insert_entry nat_cmp es n x ≡ es ++ (n, x) ∷ []
 insert_last n x [] h = refl
 insert_last n x (p ∷ es) h =
-    ap (λ (o : Ordering). match_ordering o ((n, x) ∷ p ∷ es) ((p.0, x) ∷ es) (p ∷ insert_entry nat_cmp es n x)) (greater n p.0 (All-head (λ k. k < n) p.0 (keys_of es) h))
+    ap (λ (o : Ordering). match_ordering o ((n, x) ∷ p ∷ es) ((p.0, x) ∷ es) (p ∷ insert_entry nat_cmp es n x))
+    (greater n p.0 (All-head (λ k. k < n) p.0 (keys_of es) h))
     ∙ ap (λ (t : List (ℕ × Entry)). p ∷ t) (insert_last n x es (All-tail (λ k. k < n) p.0 (keys_of es) h))
 
 cond_append : (b : Bool) (k : ℕ) (xs ys : List ℕ) → cond b (k ∷ (xs ++ ys)) (xs ++ ys) ≡ cond b (k ∷ xs) xs ++ ys
@@ -43,21 +46,25 @@ own_keys_append e (p ∷ xs) ys =
 
 -- the entries by number with one more at the end, the newest first
 pub view_more : (n : ℕ) (x : Entry) (es : List (ℕ × Entry)) → reverse (values_of (es ++ (n, x) ∷ [])) ≡ x ∷ reverse (values_of es)
-view_more n x es = ap (λ (t : List Entry). reverse t) (map-append (λ (p : ℕ × Entry). p.1) es ((n, x) ∷ [])) ∙ reverse-append (values_of es) (x ∷ [])
+view_more n x es = ap (λ (t : List Entry). reverse t) (map-append (λ (p : ℕ × Entry). p.1) es ((n, x) ∷ []))
+    ∙ reverse-append (values_of es) (x ∷ [])
 
 -- the keys with one more at the end
 pub keys_more : (n : ℕ) (x : Entry) (es : List (ℕ × Entry)) → keys_of (es ++ (n, x) ∷ []) ≡ keys_of es ++ n ∷ []
 keys_more n x es = map-append (λ (p : ℕ × Entry). p.0) es ((n, x) ∷ [])
 
-own_cases : (e n : ℕ) (x : Entry) (es : List (ℕ × Entry)) (old new : List ℕ) (b : Bool) → eqb x.examiner e ≡ b → old ≡ own_keys e es → (x.examiner ≡ e → new ≡ old ++ n ∷ []) → (e ≢ x.examiner → new ≡ old) →
+own_cases : (e n : ℕ) (x : Entry) (es : List (ℕ × Entry)) (old new : List ℕ) (b : Bool) → eqb x.examiner e ≡ b → old ≡ own_keys e es
+    → (x.examiner ≡ e → new ≡ old ++ n ∷ []) → (e ≢ x.examiner → new ≡ old) →
     new ≡ own_keys e es ++ cond b (n ∷ []) []
 own_cases e n x es old new true at was mine other = mine (eqb-true x.examiner e at) ∙ ap (λ (t : List ℕ). t ++ n ∷ []) was
 own_cases e n x es old new false at was mine other = other (λ s. eqb-false x.examiner e at (sym s)) ∙ was ∙ sym (append-nil (own_keys e es))
 
 -- an examiner's keys with one entry more: the new number stands at their end where the entry is its own
-pub own_more : (e n : ℕ) (x : Entry) (es : List (ℕ × Entry)) (old new : List ℕ) → old ≡ own_keys e es → (x.examiner ≡ e → new ≡ old ++ n ∷ []) → (e ≢ x.examiner → new ≡ old) →
+pub own_more : (e n : ℕ) (x : Entry) (es : List (ℕ × Entry)) (old new : List ℕ) → old ≡ own_keys e es
+    → (x.examiner ≡ e → new ≡ old ++ n ∷ []) → (e ≢ x.examiner → new ≡ old) →
     new ≡ own_keys e (es ++ (n, x) ∷ [])
-own_more e n x es old new was mine other = own_cases e n x es old new (eqb x.examiner e) refl was mine other ∙ sym (own_keys_append e es ((n, x) ∷ []))
+own_more e n x es old new was mine other = own_cases e n x es old new (eqb x.examiner e) refl was mine other
+    ∙ sym (own_keys_append e es ((n, x) ∷ []))
 
 -- ---- an examiner's last entry
 
@@ -72,7 +79,8 @@ record IsLast (e k : ℕ) (keys : List ℕ) (es : List (ℕ × Entry)) : Type 0 
   pub none_later : own_keys e after ≡ []
 
 -- behind an entry of another examiner
-last_later : (e k : ℕ) (keys : List ℕ) (p : ℕ × Entry) (es : List (ℕ × Entry)) → eqb (p.1).examiner e ≡ false → IsLast e k keys es → IsLast e k keys (p ∷ es)
+last_later : (e k : ℕ) (keys : List ℕ) (p : ℕ × Entry) (es : List (ℕ × Entry)) → eqb (p.1).examiner e ≡ false → IsLast e k keys es
+    → IsLast e k keys (p ∷ es)
 last_later e k keys p es other h = record {
   before = p ∷ h.before;
   entry = h.entry;
@@ -84,19 +92,22 @@ last_later e k keys p es other h = record {
 }
 
 -- behind another entry of its examiner
-last_mine : (e k i : ℕ) (keys : List ℕ) (p : ℕ × Entry) (es : List (ℕ × Entry)) → eqb (p.1).examiner e ≡ true → p.0 ≡ i → IsLast e k keys es → IsLast e k (i ∷ keys) (p ∷ es)
+last_mine : (e k i : ℕ) (keys : List ℕ) (p : ℕ × Entry) (es : List (ℕ × Entry)) → eqb (p.1).examiner e ≡ true → p.0 ≡ i → IsLast e k keys es
+    → IsLast e k (i ∷ keys) (p ∷ es)
 last_mine e k i keys p es own at h = record {
   before = p ∷ h.before;
   entry = h.entry;
   after = h.after;
   whole = ap (λ (t : List (ℕ × Entry)). p ∷ t) h.whole;
   mine = h.mine;
-  earlier = ap (λ (b : Bool). cond b (p.0 ∷ own_keys e h.before) (own_keys e h.before)) own ∙ ap (λ (j : ℕ). j ∷ own_keys e h.before) at ∙ ap (λ (t : List ℕ). i ∷ t) h.earlier;
+  earlier = ap (λ (b : Bool). cond b (p.0 ∷ own_keys e h.before) (own_keys e h.before)) own ∙ ap (λ (j : ℕ). j ∷ own_keys e h.before) at
+      ∙ ap (λ (t : List ℕ). i ∷ t) h.earlier;
   none_later = h.none_later;
 }
 
 -- in front, where its examiner has none behind it
-last_here : (e k : ℕ) (p : ℕ × Entry) (es : List (ℕ × Entry)) → eqb (p.1).examiner e ≡ true → p.0 ≡ k → own_keys e es ≡ [] → IsLast e k [] (p ∷ es)
+last_here : (e k : ℕ) (p : ℕ × Entry) (es : List (ℕ × Entry)) → eqb (p.1).examiner e ≡ true → p.0 ≡ k → own_keys e es ≡ []
+    → IsLast e k [] (p ∷ es)
 last_here e k p es own at none = record {
   before = [];
   entry = p.1;
@@ -117,12 +128,14 @@ no_last : (k : ℕ) (keys : List ℕ) → [] ≡ keys ++ k ∷ [] → ⊥
 no_last k [] h = cc
 no_last k (i ∷ keys) h = cc
 
-last_step : (e k : ℕ) (keys : List ℕ) (p : ℕ × Entry) (es : List (ℕ × Entry)) (b : Bool) → eqb (p.1).examiner e ≡ b → cond b (p.0 ∷ own_keys e es) (own_keys e es) ≡ keys ++ k ∷ [] →
+last_step : (e k : ℕ) (keys : List ℕ) (p : ℕ × Entry) (es : List (ℕ × Entry)) (b : Bool) → eqb (p.1).examiner e ≡ b
+    → cond b (p.0 ∷ own_keys e es) (own_keys e es) ≡ keys ++ k ∷ [] →
     ((older : List ℕ) → own_keys e es ≡ older ++ k ∷ [] → IsLast e k older es) → IsLast e k keys (p ∷ es)
 last_step e k keys p es false at h rest = last_later e k keys p es at (rest keys h)
 last_step e k [] p es true at h rest = last_here e k p es at (head_same p.0 k (own_keys e es) [] h) (tail_same p.0 k (own_keys e es) [] h)
 last_step e k (i ∷ keys) p es true at h rest =
-    last_mine e k i keys p es at (head_same p.0 i (own_keys e es) (keys ++ k ∷ []) h) (rest keys (tail_same p.0 i (own_keys e es) (keys ++ k ∷ []) h))
+    last_mine e k i keys p es at (head_same p.0 i (own_keys e es) (keys ++ k ∷ []) h)
+    (rest keys (tail_same p.0 i (own_keys e es) (keys ++ k ∷ []) h))
 
 -- where k is the last of an examiner's keys
 last_of : (e k : ℕ) (keys : List ℕ) (es : List (ℕ × Entry)) → own_keys e es ≡ keys ++ k ∷ [] → IsLast e k keys es
@@ -138,29 +151,34 @@ hit : (k : ℕ) → is_at (nat_cmp k) k ≡ true
 hit k = grind (arith, nat_tests)
 
 -- a key below all that follow is below k
-below_last : (k i : ℕ) (x : Entry) (xs ys : List (ℕ × Entry)) → AllByRecursion (λ (j : ℕ). nat_cmp i j ≡ Less) (keys_of (xs ++ (k, x) ∷ ys)) → nat_cmp i k ≡ Less
+below_last : (k i : ℕ) (x : Entry) (xs ys : List (ℕ × Entry)) → AllByRecursion (λ (j : ℕ). nat_cmp i j ≡ Less) (keys_of (xs ++ (k, x) ∷ ys))
+    → nat_cmp i k ≡ Less
 below_last k i x [] ys h = h.0
 below_last k i x (p ∷ xs) ys h = below_last k i x xs ys h.1
 
 -- no key before k is k
-none_before : (k : ℕ) (x : Entry) (xs ys : List (ℕ × Entry)) → IsStrictlySortedBy nat_cmp (keys_of (xs ++ (k, x) ∷ ys)) → NonePasses (is_at (nat_cmp k)) xs
+none_before : (k : ℕ) (x : Entry) (xs ys : List (ℕ × Entry)) → IsStrictlySortedBy nat_cmp (keys_of (xs ++ (k, x) ∷ ys))
+    → NonePasses (is_at (nat_cmp k)) xs
 unfolding IsStrictlySortedBy
 none_before k x [] ys h = tt
 none_before k x (p ∷ xs) ys h = (missed p.0 k (below_last k p.0 x xs ys h.0), none_before k x xs ys h.1)
 
-removed_at : (k : ℕ) (x : Entry) (xs ys : List (ℕ × Entry)) → NonePasses (is_at (nat_cmp k)) xs → remove_entry (is_at (nat_cmp k)) (xs ++ (k, x) ∷ ys) ≡ xs ++ ys
+removed_at : (k : ℕ) (x : Entry) (xs ys : List (ℕ × Entry)) → NonePasses (is_at (nat_cmp k)) xs
+    → remove_entry (is_at (nat_cmp k)) (xs ++ (k, x) ∷ ys) ≡ xs ++ ys
 removed_at k x [] ys h = ap (λ (b : Bool). cond b ys ((k, x) ∷ remove_entry (is_at (nat_cmp k)) ys)) (hit k)
 removed_at k x (p ∷ xs) ys h =
     ap (λ (b : Bool). cond b (xs ++ (k, x) ∷ ys) (p ∷ remove_entry (is_at (nat_cmp k)) (xs ++ (k, x) ∷ ys))) h.0
     ∙ ap (λ (t : List (ℕ × Entry)). p ∷ t) (removed_at k x xs ys h.1)
 
-found_at : (k : ℕ) (x : Entry) (xs ys : List (ℕ × Entry)) → NonePasses (is_at (nat_cmp k)) xs → lookup (is_at (nat_cmp k)) (xs ++ (k, x) ∷ ys) ≡ Some x
+found_at : (k : ℕ) (x : Entry) (xs ys : List (ℕ × Entry)) → NonePasses (is_at (nat_cmp k)) xs
+    → lookup (is_at (nat_cmp k)) (xs ++ (k, x) ∷ ys) ≡ Some x
 found_at k x [] ys h = ap (λ (b : Bool). cond b (Some x) (lookup (is_at (nat_cmp k)) ys)) (hit k)
 found_at k x (p ∷ xs) ys h =
     ap (λ (b : Bool). cond b (Some (p.1)) (lookup (is_at (nat_cmp k)) (xs ++ (k, x) ∷ ys))) h.0 ∙ found_at k x xs ys h.1
 
 -- the last entry is what its key finds
-last_found : (e k : ℕ) (keys : List ℕ) (es : List (ℕ × Entry)) → IsStrictlySortedBy nat_cmp (keys_of es) → (l : IsLast e k keys es) → lookup (is_at (nat_cmp k)) es ≡ Some l.entry
+last_found : (e k : ℕ) (keys : List ℕ) (es : List (ℕ × Entry)) → IsStrictlySortedBy nat_cmp (keys_of es) → (l : IsLast e k keys es)
+    → lookup (is_at (nat_cmp k)) es ≡ Some l.entry
 last_found e k keys es sorted l =
     let s = subst (λ (t : List (ℕ × Entry)). IsStrictlySortedBy nat_cmp (keys_of t)) l.whole sorted in
     ap (lookup (is_at (nat_cmp k))) l.whole ∙ found_at k l.entry l.before l.after (none_before k l.entry l.before l.after s)
@@ -175,24 +193,29 @@ last_removed e k keys es sorted l =
 -- the keys of the examiner that are left
 mine_left : (e k : ℕ) (keys : List ℕ) (es : List (ℕ × Entry)) → (l : IsLast e k keys es) → own_keys e (l.before ++ l.after) ≡ keys
 mine_left e k keys es l =
-    own_keys_append e l.before l.after ∙ ap (λ (t : List ℕ). own_keys e l.before ++ t) l.none_later ∙ append-nil (own_keys e l.before) ∙ l.earlier
+    own_keys_append e l.before l.after ∙ ap (λ (t : List ℕ). own_keys e l.before ++ t) l.none_later ∙ append-nil (own_keys e l.before)
+    ∙ l.earlier
 
 -- another examiner's keys stay
-others_left : (e k f : ℕ) (keys : List ℕ) (es : List (ℕ × Entry)) → f ≢ e → (l : IsLast e k keys es) → own_keys f (l.before ++ l.after) ≡ own_keys f es
+others_left : (e k f : ℕ) (keys : List ℕ) (es : List (ℕ × Entry)) → f ≢ e → (l : IsLast e k keys es)
+    → own_keys f (l.before ++ l.after) ≡ own_keys f es
 others_left e k f keys es other l =
     own_keys_append f l.before l.after
-    ∙ ap (λ (b : Bool). own_keys f l.before ++ cond b (k ∷ own_keys f l.after) (own_keys f l.after)) (sym (ne_eqb l.entry.examiner f (λ s. other (sym s ∙ l.mine))))
+    ∙ ap (λ (b : Bool). own_keys f l.before ++ cond b (k ∷ own_keys f l.after) (own_keys f l.after))
+    (sym (ne_eqb l.entry.examiner f (λ s. other (sym s ∙ l.mine))))
     ∙ sym (own_keys_append f l.before ((k, l.entry) ∷ l.after))
     ∙ ap (own_keys f) (sym l.whole)
 
-keys_cases : (e k f : ℕ) (keys : List ℕ) (es : List (ℕ × Entry)) (l : IsLast e k keys es) (now : List ℕ) (b : Bool) → eqb f e ≡ b → (f ≡ e → now ≡ keys) → (f ≢ e → now ≡ own_keys f es) →
+keys_cases : (e k f : ℕ) (keys : List ℕ) (es : List (ℕ × Entry)) (l : IsLast e k keys es) (now : List ℕ) (b : Bool) → eqb f e ≡ b
+    → (f ≡ e → now ≡ keys) → (f ≢ e → now ≡ own_keys f es) →
     now ≡ own_keys f (l.before ++ l.after)
 keys_cases e k f keys es l now true at mine other =
     let s = eqb-true f e at in mine s ∙ sym (mine_left e k keys es l) ∙ ap (λ (g : ℕ). own_keys g (l.before ++ l.after)) (sym s)
 keys_cases e k f keys es l now false at mine other =
     let o = eqb-false f e at in other o ∙ sym (others_left e k f keys es o l)
 
-view_around : (k : ℕ) (x : Entry) (xs ys : List (ℕ × Entry)) → reverse (values_of (xs ++ (k, x) ∷ ys)) ≡ reverse (values_of ys) ++ x ∷ reverse (values_of xs)
+view_around : (k : ℕ) (x : Entry) (xs ys : List (ℕ × Entry))
+    → reverse (values_of (xs ++ (k, x) ∷ ys)) ≡ reverse (values_of ys) ++ x ∷ reverse (values_of xs)
 view_around k x xs ys =
     ap (λ (t : List Entry). reverse t) (map-append (λ (p : ℕ × Entry). p.1) xs ((k, x) ∷ ys))
     ∙ reverse-append (values_of xs) (x ∷ values_of ys)
@@ -200,10 +223,12 @@ view_around k x xs ys =
     ∙ append_assoc (reverse (values_of ys)) (x ∷ []) (reverse (values_of xs))
 
 view_without : (xs ys : List (ℕ × Entry)) → reverse (values_of (xs ++ ys)) ≡ reverse (values_of ys) ++ reverse (values_of xs)
-view_without xs ys = ap (λ (t : List Entry). reverse t) (map-append (λ (p : ℕ × Entry). p.1) xs ys) ∙ reverse-append (values_of xs) (values_of ys)
+view_without xs ys = ap (λ (t : List Entry). reverse t) (map-append (λ (p : ℕ × Entry). p.1) xs ys)
+    ∙ reverse-append (values_of xs) (values_of ys)
 
 -- the entries are those that are left with the last one more
-last_more : (e k : ℕ) (keys : List ℕ) (es : List (ℕ × Entry)) → (l : IsLast e k keys es) → IsOneMore l.entry (reverse (values_of (l.before ++ l.after))) (reverse (values_of es))
+last_more : (e k : ℕ) (keys : List ℕ) (es : List (ℕ × Entry)) → (l : IsLast e k keys es)
+    → IsOneMore l.entry (reverse (values_of (l.before ++ l.after))) (reverse (values_of es))
 last_more e k keys es l = (
   reverse (values_of l.after),
   reverse (values_of l.before),
@@ -218,7 +243,8 @@ pub record IsTaken (e : ℕ) (keys : List ℕ) (es left : List (ℕ × Entry)) (
   pub some : IfNone r ⊥
   pub keys_are : (f : ℕ) (now : List ℕ) → (f ≡ e → now ≡ keys) → (f ≢ e → now ≡ own_keys f es) → now ≡ own_keys f left
 
-last_taken : (e k : ℕ) (keys : List ℕ) (es : List (ℕ × Entry)) (l : IsLast e k keys es) → IsTaken e keys es (l.before ++ l.after) (Some l.entry)
+last_taken : (e k : ℕ) (keys : List ℕ) (es : List (ℕ × Entry)) (l : IsLast e k keys es)
+    → IsTaken e keys es (l.before ++ l.after) (Some l.entry)
 last_taken e k keys es l = record {
   own = l.mine;
   taken = λ view h. subst (λ (t : List Entry). IsOneMore l.entry (reverse (values_of (l.before ++ l.after))) t) h (last_more e k keys es l);
@@ -232,12 +258,14 @@ not_none P None h = absurd h
 not_none P (Some x) h = tt
 
 -- what a map gives and leaves at an examiner's last key
-pub taken_by : (e k : ℕ) (keys : List ℕ) (es left : List (ℕ × Entry)) (r : Option Entry) → IsStrictlySortedBy nat_cmp (keys_of es) → own_keys e es ≡ keys ++ k ∷ [] →
+pub taken_by : (e k : ℕ) (keys : List ℕ) (es left : List (ℕ × Entry)) (r : Option Entry) → IsStrictlySortedBy nat_cmp (keys_of es)
+    → own_keys e es ≡ keys ++ k ∷ [] →
     r ≡ lookup (is_at (nat_cmp k)) es → left ≡ remove_entry (is_at (nat_cmp k)) es → IsTaken e keys es left r
 taken_by e k keys es left r sorted last found rest =
     let l = last_of e k keys es last in
     subst (λ (o : Option Entry). IsTaken e keys es left o) (sym (found ∙ last_found e k keys es sorted l))
-    (subst (λ (t : List (ℕ × Entry)). IsTaken e keys es t (Some l.entry)) (sym (rest ∙ last_removed e k keys es sorted l)) (last_taken e k keys es l))
+    (subst (λ (t : List (ℕ × Entry)). IsTaken e keys es t (Some l.entry)) (sym (rest ∙ last_removed e k keys es sorted l))
+    (last_taken e k keys es l))
 
 -- ---- an examiner with no entry
 
@@ -250,7 +278,8 @@ none_of : (e : ℕ) (es : List (ℕ × Entry)) → own_keys e es ≡ [] → with
 none_of e [] h = refl
 none_of e (p ∷ es) h =
     let k = none_head (eqb (p.1).examiner e) p.0 (own_keys e es) h in
-    ap (λ (b : Bool). cond (not b) (p.1 ∷ without e (values_of es)) (without e (values_of es))) k.0 ∙ ap (λ (t : List Entry). p.1 ∷ t) (none_of e es k.1)
+    ap (λ (b : Bool). cond (not b) (p.1 ∷ without e (values_of es)) (without e (values_of es))) k.0
+    ∙ ap (λ (t : List Entry). p.1 ∷ t) (none_of e es k.1)
 
 turned_cond : {V : Type 0} (b : Bool) (x : V) (xs ys : List V) → reverse_aux xs (cond b (x ∷ ys) ys) ≡ reverse_aux (cond b (x ∷ xs) xs) ys
 turned_cond true x xs ys = refl
@@ -262,4 +291,5 @@ filter_turned p (x ∷ xs) ys = filter_turned p xs (x ∷ ys) ∙ turned_cond (p
 
 -- without the entries of one who has none they are what they were
 pub none_gone : (e : ℕ) (es : List (ℕ × Entry)) → own_keys e es ≡ [] → without e (reverse (values_of es)) ≡ reverse (values_of es)
-none_gone e es h = filter_turned (λ (x : Entry). not (eqb x.examiner e)) (values_of es) [] ∙ ap (λ (t : List Entry). reverse t) (none_of e es h)
+none_gone e es h = filter_turned (λ (x : Entry). not (eqb x.examiner e)) (values_of es) []
+    ∙ ap (λ (t : List Entry). reverse t) (none_of e es h)

@@ -14,24 +14,33 @@ use Rattle.title_lock.proofs.GiveBack.{modes_without, allows_fewer}
 own_part : ℕ → Entry → ℕ → Node → Option Mode
 own_part depth x e n = cond (eqb e x.examiner) (asked (is_post x.access) (cover_of depth x.tract) n) None
 
-parts_of : (depth : ℕ) (x : Entry) (es : List Entry) (e : ℕ) (held : Node → Option Mode) → Allow (mode_at depth (x ∷ es) e) held → Allow (own_part depth x e) held × Allow (mode_at depth es e) held
+parts_of : (depth : ℕ) (x : Entry) (es : List Entry) (e : ℕ) (held : Node → Option Mode) → Allow (mode_at depth (x ∷ es) e) held
+    → Allow (own_part depth x e) held × Allow (mode_at depth es e) held
 unfolding own_part
-parts_of depth x es e held h = allow_parts (λ n. cond (eqb e x.examiner) (asked (is_post x.access) (cover_of depth x.tract) n) None) (mode_at depth es e) held h
+parts_of depth x es e held h = allow_parts (λ n. cond (eqb e x.examiner) (asked (is_post x.access) (cover_of depth x.tract) n) None)
+    (mode_at depth es e) held h
 
-own_asked : (depth : ℕ) (x : Entry) (held : Node → Option Mode) → Allow (own_part depth x x.examiner) held → Allow (asked (is_post x.access) (cover_of depth x.tract)) held
+own_asked : (depth : ℕ) (x : Entry) (held : Node → Option Mode) → Allow (own_part depth x x.examiner) held
+    → Allow (asked (is_post x.access) (cover_of depth x.tract)) held
 unfolding own_part
-own_asked depth x held h n = ap (λ (b : Bool). allows (cond b (asked (is_post x.access) (cover_of depth x.tract) n) None) (held n)) (sym (eq-eqb x.examiner x.examiner refl)) ∙ h n
+own_asked depth x held h n = ap (λ (b : Bool). allows (cond b (asked (is_post x.access) (cover_of depth x.tract) n) None) (held n))
+    (sym (eq-eqb x.examiner x.examiner refl)) ∙ h n
 
-older_half : (depth : ℕ) (x : Entry) (es : List Entry) (f : ℕ) (held : Node → Option Mode) → Allow held (mode_at depth (x ∷ es) f) → Allow held (mode_at depth es f)
-older_half depth x es f held h = allow_turn (mode_at depth es f) held ((parts_of depth x es f held (allow_turn held (mode_at depth (x ∷ es) f) h)).1)
+older_half : (depth : ℕ) (x : Entry) (es : List Entry) (f : ℕ) (held : Node → Option Mode) → Allow held (mode_at depth (x ∷ es) f)
+    → Allow held (mode_at depth es f)
+older_half depth x es f held h = allow_turn (mode_at depth es f) held
+    ((parts_of depth x es f held (allow_turn held (mode_at depth (x ∷ es) f) h)).1)
 
 pub apart_granted : (depth : ℕ) (es : List Entry) → Apart depth es → AllGranted depth es
 apart_granted depth [] apart = tt
 apart_granted depth (x ∷ es) apart =
-    let older : Apart depth es = λ e f o. older_half depth x es f (mode_at depth es e) ((parts_of depth x es e (mode_at depth (x ∷ es) f) (apart e f o)).1) in (
+    let older : Apart depth es = λ e f o. older_half depth x es f (mode_at depth es e)
+    ((parts_of depth x es e (mode_at depth (x ∷ es) f) (apart e f o)).1) in (
       apart_granted depth es older,
       fit_granted depth es older x.examiner x.tract (is_post x.access)
-          (λ f o. older_half depth x es f (asked (is_post x.access) (cover_of depth x.tract)) (own_asked depth x (mode_at depth (x ∷ es) f) ((parts_of depth x es x.examiner (mode_at depth (x ∷ es) f) (apart x.examiner f o)).0))),
+          (λ f o. older_half depth x es f (asked (is_post x.access) (cover_of depth x.tract))
+          (own_asked depth x (mode_at depth (x ∷ es) f) ((parts_of depth x es x.examiner (mode_at depth (x ∷ es) f)
+          (apart x.examiner f o)).0))),
     )
 
 apart_without : (depth : ℕ) (e : ℕ) (es : List Entry) → Apart depth es → Apart depth (without e es)

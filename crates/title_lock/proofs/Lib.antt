@@ -8,5 +8,6 @@ pub mod BookLaws
 pub mod GiveBack
 pub mod Granted
 pub mod MeetLaws
+pub mod Standing
 pub mod SharerLaws
 pub mod PlaceLaws

@@ -116,7 +116,8 @@ bound_turn (Some a) None = refl
 bound_turn (Some a) (Some b) = ap Some (sup_turn a b)
 
 -- a mode that is given where it may be given already
-pub bound_given : (m : Mode) (more before : Bool) → cond (more || before) (Some m) None ≡ bound (cond before (Some m) None) (cond more (Some m) None)
+pub bound_given : (m : Mode) (more before : Bool) → cond (more || before) (Some m) None
+    ≡ bound (cond before (Some m) None) (cond more (Some m) None)
 bound_given m true true = ap Some (sym (sup_self m))
 bound_given m true false = refl
 bound_given m false before = sym (bound_none (cond before (Some m) None))

@@ -1,5 +1,6 @@
 -- Nodes: the test of sameness is equality, and what lies above a node is its parent and what lies above that.
-use Rattle.std.proofs.Common.{◌≡◌, ◌+◌, ◌<◌, ◌≤◌, ℕ, suc, true, false, List, [], ◌∷◌, ◌++◌, length, Some, refl, sym, ap, subst, arith, inl, inr}
+use Rattle.std.proofs.Common.{◌≡◌, ◌+◌, ◌<◌, ◌≤◌, ℕ, suc, true, false, List, [], ◌∷◌, ◌++◌, length, Some, refl, sym, ap, subst, arith, inl}
+use Rattle.std.proofs.Common.{inr}
 use Rattle.std.specs.List.{list_any}
 use Rattle.std.proofs.lemmas.Bool.{or_cases, false_from_ne_true, both_ways}
 use Rattle.title_land.specs.declared.place.Section.{Section}
@@ -18,7 +19,8 @@ same_true n c h = (same_node-is n c).0 h
 
 pub same_turned : (n c : Node) → same_node n c ≡ false → same_node c n ≡ false
 same_turned n c h =
-    false_from_ne_true (same_node c n) (λ t. both_ways (same_node n c) h (subst (λ (z : Node). same_node n z ≡ true) (sym (same_true c n t)) (same_self n)))
+    false_from_ne_true (same_node c n) (λ t. both_ways (same_node n c) h
+    (subst (λ (z : Node). same_node n z ≡ true) (sym (same_true c n t)) (same_self n)))
 
 -- above a node lie its parent and the nodes above that
 pub above_of : (p c : Node) → Some c ≡ parent_of p → above p ≡ c ∷ above c

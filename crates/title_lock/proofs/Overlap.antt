@@ -1,7 +1,9 @@
 -- An entry is granted by modes exactly where no other examiner's entry overlaps it.
-use Rattle.std.proofs.Common.{◌≡◌, ◌≢◌, ℕ, Bool, true, false, cond, ◌&&◌, ◌||◌, List, [], ◌∷◌, Option, Some, None, is_some, eqb, refl, sym, ap, subst, ◌∙◌, inl, inr}
+use Rattle.std.proofs.Common.{◌≡◌, ◌≢◌, ℕ, Bool, true, false, cond, ◌&&◌, ◌||◌, List, [], ◌∷◌, Option, Some, None, is_some, eqb, refl, sym}
+use Rattle.std.proofs.Common.{ap, subst, ◌∙◌, inl, inr}
 use Rattle.std.specs.List.{list_any}
-use Rattle.std.proofs.lemmas.Bool.{and_parts, and_from, or_parts, or_from, or_left, or_right, or_cases, false_from_ne_true, both_ways, eqb-true}
+use Rattle.std.proofs.lemmas.Bool.{and_parts, and_from, or_parts, or_from, or_left, or_right, or_cases, false_from_ne_true, both_ways}
+use Rattle.std.proofs.lemmas.Bool.{eqb-true}
 use Rattle.std.proofs.lemmas.List.Elements.{All-head, All-tail}
 use Rattle.title_land.specs.declared.node.Node.{Node}
 use Rattle.title_land.specs.declared.tract.Land.{Land}
@@ -12,7 +14,8 @@ use Rattle.title_lock.specs.declared.modes.Mode.TheVariants.{Is, S}
 use Rattle.title_lock.specs.declared.guards.Entry.{Entry}
 use Rattle.title_lock.specs.Modes.{bound, allows}
 use Rattle.title_lock.specs.Overlaps.{is_post, against}
-use Rattle.title_lock.specs.Asking.{own_mode, above_mode, asked_for, asked, mode_at, GrantedByModes, AllGranted, AreSized, ModesDecideOverlap}
+use Rattle.title_lock.specs.Asking.{own_mode, above_mode, asked_for, asked, mode_at, GrantedByModes, AllGranted, AreSized}
+use Rattle.title_lock.specs.Asking.{ModesDecideOverlap}
 use Rattle.title_lock.proofs.ModeLaws.{bound_allows, allows_turn}
 use Rattle.title_lock.proofs.NodeLaws.{same_self, same_true, same_turned}
 
@@ -40,7 +43,8 @@ reads_fit false true false false = refl
 reads_fit false false s' a' = refl
 
 apart_fit : (p q s a s' a' : Bool) → (s ≡ true → (s' || a') ≡ false) → (s' ≡ true → (s || a) ≡ false) →
-    allows (cond s (Some (own_mode p)) (cond a (Some (above_mode p)) None)) (cond s' (Some (own_mode q)) (cond a' (Some (above_mode q)) None)) ≡ true
+    allows (cond s (Some (own_mode p)) (cond a (Some (above_mode p)) None))
+    (cond s' (Some (own_mode q)) (cond a' (Some (above_mode q)) None)) ≡ true
 apart_fit p q true a true a' h k = absurd (let e = h refl in cc)
 apart_fit p q true a false true h k = absurd (let e = h refl in cc)
 apart_fit p q true a false false h k = refl
@@ -57,8 +61,10 @@ nodes_apart p q c d h n =
     let parts = or_parts (same_node c d) (is_above c d || is_above d c) h in
     let ups = or_parts (is_above c d) (is_above d c) parts.1 in
     apart_fit p q (same_node n c) (is_above n c) (same_node n d) (is_above n d)
-    (λ t. subst (λ (z : Node). (same_node z d || is_above z d) ≡ false) (sym (same_true n c t)) (or_from (same_node c d) (is_above c d) parts.0 ups.0))
-    (λ t. subst (λ (z : Node). (same_node z c || is_above z c) ≡ false) (sym (same_true n d t)) (or_from (same_node d c) (is_above d c) (same_turned c d parts.0) ups.1))
+    (λ t. subst (λ (z : Node). (same_node z d || is_above z d) ≡ false) (sym (same_true n c t))
+    (or_from (same_node c d) (is_above c d) parts.0 ups.0))
+    (λ t. subst (λ (z : Node). (same_node z c || is_above z c) ≡ false) (sym (same_true n d t))
+    (or_from (same_node d c) (is_above d c) (same_turned c d parts.0) ups.1))
 
 nodes_fit : (p q : Bool) (c d : Node) → ((p || q) && are_related c d) ≡ false → Allow (asked_for p c) (asked_for q d)
 nodes_fit true q c d h = nodes_apart true q c d h
@@ -102,7 +108,8 @@ nodes_clear p q c d fit =
       | inl same ↦ at_odds p q c d k.0 (or_left (same_node c d) (is_above c d) same) fit
       | inr apart ↦ elim (or_cases (is_above c d) (is_above d c) apart) [
         | inl up ↦ at_odds p q c d k.0 (or_right (same_node c d) (is_above c d) up) fit
-        | inr down ↦ at_odds q p d c (or_turned p q k.0) (or_right (same_node d c) (is_above d c) down) (allow_turn (asked_for p c) (asked_for q d) fit)
+        | inr down ↦ at_odds q p d c (or_turned p q k.0) (or_right (same_node d c) (is_above d c) down)
+            (allow_turn (asked_for p c) (asked_for q d) fit)
       ]
     ])
 
@@ -167,15 +174,18 @@ tracts_clear p q (c ∷ t) u h =
 
 -- ---- an access and entries
 
-entry_fit : (b p q : Bool) (t u : List Node) → (b && ((p || q) && related_any t u)) ≡ false → Allow (asked p t) (λ n. cond b (asked q u n) None)
+entry_fit : (b p q : Bool) (t u : List Node) → (b && ((p || q) && related_any t u)) ≡ false
+    → Allow (asked p t) (λ n. cond b (asked q u n) None)
 entry_fit true p q t u h = tracts_fit p q t u h
 entry_fit false p q t u h = none_fit (asked p t)
 
-entry_clear : (b p q : Bool) (t u : List Node) → Allow (asked p t) (λ n. cond b (asked q u n) None) → (b && ((p || q) && related_any t u)) ≡ false
+entry_clear : (b p q : Bool) (t u : List Node) → Allow (asked p t) (λ n. cond b (asked q u n) None)
+    → (b && ((p || q) && related_any t u)) ≡ false
 entry_clear true p q t u h = tracts_clear p q t u h
 entry_clear false p q t u h = refl
 
-pub entries_fit : (depth : ℕ) → MeetByCovers depth → (p : Bool) (land : Land) → IsLand depth land → (f : ℕ) (es : List Entry) → AreSized depth es → against land p f es ≡ false → Allow (asked p (cover_of depth land)) (mode_at depth es f)
+pub entries_fit : (depth : ℕ) → MeetByCovers depth → (p : Bool) (land : Land) → IsLand depth land → (f : ℕ) (es : List Entry)
+    → AreSized depth es → against land p f es ≡ false → Allow (asked p (cover_of depth land)) (mode_at depth es f)
 entries_fit depth by p land wide f [] sized h = none_fit (asked p (cover_of depth land))
 entries_fit depth by p land wide f (x ∷ es) sized h =
     let same = by land x.tract wide (All-head (λ (z : Entry). IsLand depth z.tract) x es sized) in
@@ -186,20 +196,24 @@ entries_fit depth by p land wide f (x ∷ es) sized h =
     let first = ap (λ (b : Bool). eqb f x.examiner && ((p || q) && b)) (sym same) ∙ k.0 in
     allow_turn (mode_at depth (x ∷ es) f) (asked p t)
     (allow_bound (λ n. cond (eqb f x.examiner) (asked q (cover_of depth x.tract) n) None) (mode_at depth es f) (asked p t)
-    (allow_turn (asked p t) (λ n. cond (eqb f x.examiner) (asked q (cover_of depth x.tract) n) None) (entry_fit (eqb f x.examiner) p q t (cover_of depth x.tract) first))
+    (allow_turn (asked p t) (λ n. cond (eqb f x.examiner) (asked q (cover_of depth x.tract) n) None)
+    (entry_fit (eqb f x.examiner) p q t (cover_of depth x.tract) first))
     (allow_turn (asked p t) (mode_at depth es f) (entries_fit depth by p land wide f es older k.1)))
 
-pub entries_clear : (depth : ℕ) → MeetByCovers depth → (p : Bool) (land : Land) → IsLand depth land → (f : ℕ) (es : List Entry) → AreSized depth es → Allow (asked p (cover_of depth land)) (mode_at depth es f) → against land p f es ≡ false
+pub entries_clear : (depth : ℕ) → MeetByCovers depth → (p : Bool) (land : Land) → IsLand depth land → (f : ℕ) (es : List Entry)
+    → AreSized depth es → Allow (asked p (cover_of depth land)) (mode_at depth es f) → against land p f es ≡ false
 entries_clear depth by p land wide f [] sized h = refl
 entries_clear depth by p land wide f (x ∷ es) sized h =
     let same = by land x.tract wide (All-head (λ (z : Entry). IsLand depth z.tract) x es sized) in
     let older = All-tail (λ (z : Entry). IsLand depth z.tract) x es sized in
     let t = cover_of depth land in
     let q = is_post x.access in
-    let k = allow_parts (λ n. cond (eqb f x.examiner) (asked q (cover_of depth x.tract) n) None) (mode_at depth es f) (asked p t) (allow_turn (asked p t) (mode_at depth (x ∷ es) f) h) in
+    let k = allow_parts (λ n. cond (eqb f x.examiner) (asked q (cover_of depth x.tract) n) None) (mode_at depth es f) (asked p t)
+    (allow_turn (asked p t) (mode_at depth (x ∷ es) f) h) in
     or_from (eqb f x.examiner && ((p || q) && meets land x.tract)) (against land p f es)
     (ap (λ (b : Bool). eqb f x.examiner && ((p || q) && b)) same
-    ∙ entry_clear (eqb f x.examiner) p q t (cover_of depth x.tract) (allow_turn (λ n. cond (eqb f x.examiner) (asked q (cover_of depth x.tract) n) None) (asked p t) k.0))
+    ∙ entry_clear (eqb f x.examiner) p q t (cover_of depth x.tract)
+    (allow_turn (λ n. cond (eqb f x.examiner) (asked q (cover_of depth x.tract) n) None) (asked p t) k.0))
     (entries_clear depth by p land wide f es older (allow_turn (mode_at depth es f) (asked p t) k.1))
 
 -- ---- the law
@@ -213,25 +227,31 @@ asked_or_none None o m h = refl
 asked_or_none (Some a) o m h = (and_parts (allows o m) (allows (Some a) m) (sym (bound_allows o (Some a) m) ∙ h refl)).1
 
 -- what is granted stands beside the other examiners' modes
-pub granted_fit : (depth : ℕ) (es : List Entry) (e : ℕ) (land : Land) (p : Bool) → GrantedByModes depth es e land p → (f : ℕ) → f ≢ e → Allow (asked p (cover_of depth land)) (mode_at depth es f)
+pub granted_fit : (depth : ℕ) (es : List Entry) (e : ℕ) (land : Land) (p : Bool) → GrantedByModes depth es e land p → (f : ℕ) → f ≢ e
+    → Allow (asked p (cover_of depth land)) (mode_at depth es f)
 granted_fit depth es e land p granted f other n =
     asked_or_none (asked p (cover_of depth land) n) (mode_at depth es e n) (mode_at depth es f n) (λ some. granted n some f other)
 
-pub fit_granted : (depth : ℕ) (es : List Entry) → Apart depth es → (e : ℕ) (land : Land) (p : Bool) → ((f : ℕ) → f ≢ e → Allow (asked p (cover_of depth land)) (mode_at depth es f)) → GrantedByModes depth es e land p
+pub fit_granted : (depth : ℕ) (es : List Entry) → Apart depth es → (e : ℕ) (land : Land) (p : Bool)
+    → ((f : ℕ) → f ≢ e → Allow (asked p (cover_of depth land)) (mode_at depth es f)) → GrantedByModes depth es e land p
 fit_granted depth es apart e land p fit n some f other =
     allow_bound (mode_at depth es e) (asked p (cover_of depth land)) (mode_at depth es f) (apart e f other) (fit f other) n
 
-one_more : (b d : Bool) (x m k : Node → Option Mode) → (b ≡ true → d ≡ true → ⊥) → (b ≡ true → Allow x k) → (d ≡ true → Allow x m) → Allow m k →
+one_more : (b d : Bool) (x m k : Node → Option Mode) → (b ≡ true → d ≡ true → ⊥) → (b ≡ true → Allow x k) → (d ≡ true → Allow x m)
+    → Allow m k →
     Allow (λ n. bound (cond b (x n) None) (m n)) (λ n. bound (cond d (x n) None) (k n))
 one_more true true x m k never mine theirs old = absurd (never refl refl)
 one_more true false x m k never mine theirs old = allow_bound x m k (mine refl) old
-one_more false true x m k never mine theirs old = allow_turn (λ n. bound (x n) (k n)) m (allow_bound x k m (theirs refl) (allow_turn m k old))
+one_more false true x m k never mine theirs old = allow_turn (λ n. bound (x n) (k n)) m
+    (allow_bound x k m (theirs refl) (allow_turn m k old))
 one_more false false x m k never mine theirs old = old
 
 -- one more entry that stands beside the others' modes
-pub apart_more : (depth : ℕ) (es : List Entry) (x : Entry) → Apart depth es → ((f : ℕ) → f ≢ x.examiner → Allow (asked (is_post x.access) (cover_of depth x.tract)) (mode_at depth es f)) → Apart depth (x ∷ es)
+pub apart_more : (depth : ℕ) (es : List Entry) (x : Entry) → Apart depth es
+    → ((f : ℕ) → f ≢ x.examiner → Allow (asked (is_post x.access) (cover_of depth x.tract)) (mode_at depth es f)) → Apart depth (x ∷ es)
 apart_more depth es x apart fit e f other =
-    one_more (eqb e x.examiner) (eqb f x.examiner) (asked (is_post x.access) (cover_of depth x.tract)) (mode_at depth es e) (mode_at depth es f)
+    one_more (eqb e x.examiner) (eqb f x.examiner) (asked (is_post x.access) (cover_of depth x.tract)) (mode_at depth es e)
+    (mode_at depth es f)
     (λ a b. other (eqb-true f x.examiner b ∙ sym (eqb-true e x.examiner a)))
     (λ a. fit f (λ h. other (h ∙ sym (eqb-true e x.examiner a))))
     (λ b. fit e (λ h. other (eqb-true f x.examiner b ∙ sym h)))
@@ -246,5 +266,6 @@ granted_apart depth (x ∷ es) granted =
 pub modes_decide : (depth : ℕ) → MeetByCovers depth → ModesDecideOverlap depth
 modes_decide depth by es sized granted e land p wide = (
   (λ by_modes f other. entries_clear depth by p land wide f es sized (granted_fit depth es e land p by_modes f other)),
-  (λ clear. fit_granted depth es (granted_apart depth es granted) e land p (λ f other. entries_fit depth by p land wide f es sized (clear f other))),
+  (λ clear. fit_granted depth es (granted_apart depth es granted) e land p
+      (λ f other. entries_fit depth by p land wide f es sized (clear f other))),
 )

@@ -17,8 +17,18 @@ least_join a b e None (Some y) h k = (k.0, or_right (a y) (b y) k.1, λ g lt o. 
 least_join a b e (Some x) None h k = (h.0, or_left (a x) (b x) h.1, λ g lt o. or_from (a g) (b g) (h.2 g lt o) (k g o))
 least_join a b e (Some x) (Some y) h k =
     cond_both (ltb x y) (Some x) (Some y) (λ (w : Option ℕ). IsLeast (λ f. a f || b f) e w)
-    (λ t. let below = ltb-true x y t in (h.0, or_left (a x) (b x) h.1, λ g lt o. or_from (a g) (b g) (h.2 g lt o) (k.2 g (omega (arith, lt, below)) o)))
-    (λ t. let below = ltb-false x y t in (k.0, or_right (a y) (b y) k.1, λ g lt o. or_from (a g) (b g) (h.2 g (omega (arith, lt, below)) o) (k.2 g lt o)))
+    (λ t. let below = ltb-true x y t in (
+      h.0,
+      or_left (a x) (b x) h.1,
+      λ g lt o.
+          or_from (a g) (b g) (h.2 g lt o) (k.2 g (omega (arith, lt, below)) o),
+    ))
+    (λ t. let below = ltb-false x y t in (
+      k.0,
+      or_right (a y) (b y) k.1,
+      λ g lt o.
+          or_from (a g) (b g) (h.2 g (omega (arith, lt, below)) o) (k.2 g lt o),
+    ))
 
 -- two tests that agree on all others have the same least
 pub least_same : (a b : ℕ → Bool) (e : ℕ) (w : Option ℕ) → ((f : ℕ) → f ≢ e → a f ≡ b f) → IsLeast a e w → IsLeast b e w
@@ -28,7 +38,8 @@ least_same a b e (Some x) same h = (h.0, sym (same x h.0) ∙ h.1, λ g lt o. sy
 -- what stands beside a bound stands beside both
 pub bound_allows_right : (a b c : Option Mode) → allows c (bound a b) ≡ (allows c a && allows c b)
 bound_allows_right a b c =
-    allows_turn c (bound a b) ∙ bound_allows a b c ∙ ap (λ (z : Bool). z && allows b c) (allows_turn a c) ∙ ap (λ (z : Bool). allows c a && z) (allows_turn b c)
+    allows_turn c (bound a b) ∙ bound_allows a b c ∙ ap (λ (z : Bool). z && allows b c) (allows_turn a c)
+    ∙ ap (λ (z : Bool). allows c a && z) (allows_turn b c)
 
 -- ---- who is in the way at one node
 
@@ -49,14 +60,16 @@ not_both true b = refl
 not_both false b = refl
 
 -- a bound is in the way where one of the two is
-way_of_bound : (wanted : Mode) (a b : Option Mode) (p q : Bool) → p ≡ held_in_way wanted a → q ≡ held_in_way wanted b → (p || q) ≡ held_in_way wanted (bound a b)
+way_of_bound : (wanted : Mode) (a b : Option Mode) (p q : Bool) → p ≡ held_in_way wanted a → q ≡ held_in_way wanted b
+    → (p || q) ≡ held_in_way wanted (bound a b)
 way_of_bound wanted a b p q h k =
     ap (λ (z : Bool). z || q) h ∙ ap (λ (z : Bool). held_in_way wanted a || z) k
     ∙ not_both (allows (Some wanted) a) (allows (Some wanted) b) ∙ ap not (sym (bound_allows_right a b (Some wanted)))
 
 -- the least over the five modes is the least whose own mode is in the way
 pub way_by_all : (p : Place) (wanted : Mode) (e : ℕ) (a b c d x : Option ℕ) →
-    IsLeast (in_way p wanted Is) e a → IsLeast (in_way p wanted Ix) e b → IsLeast (in_way p wanted S) e c → IsLeast (in_way p wanted Six) e d → IsLeast (in_way p wanted X) e x →
+    IsLeast (in_way p wanted Is) e a → IsLeast (in_way p wanted Ix) e b → IsLeast (in_way p wanted S) e c
+    → IsLeast (in_way p wanted Six) e d → IsLeast (in_way p wanted X) e x →
     IsLeast (λ f. held_in_way wanted (place_mode p f)) e (least (least a b) (least (least c d) x))
 way_by_all p wanted e a b c d x ha hb hc hd hx =
     let is = in_way p wanted Is in
@@ -65,9 +78,11 @@ way_by_all p wanted e a b c d x ha hb hc hd hx =
     let six = in_way p wanted Six in
     let ex = in_way p wanted X in
     let one = λ (m : Mode) (f : ℕ). way_of_one wanted m (is_sharer (sharers_of p m) f) in
-    least_same (λ f. (is f || ix f) || ((s f || six f) || ex f)) (λ f. held_in_way wanted (place_mode p f)) e (least (least a b) (least (least c d) x))
+    least_same (λ f. (is f || ix f) || ((s f || six f) || ex f)) (λ f. held_in_way wanted (place_mode p f)) e
+    (least (least a b) (least (least c d) x))
     (λ f o.
-    way_of_bound wanted (bound (held p f Is) (held p f Ix)) (bound (bound (held p f S) (held p f Six)) (held p f X)) (is f || ix f) ((s f || six f) || ex f)
+    way_of_bound wanted (bound (held p f Is) (held p f Ix)) (bound (bound (held p f S) (held p f Six)) (held p f X)) (is f || ix f)
+    ((s f || six f) || ex f)
     (way_of_bound wanted (held p f Is) (held p f Ix) (is f) (ix f) (one Is f) (one Ix f))
     (way_of_bound wanted (bound (held p f S) (held p f Six)) (held p f X) (s f || six f) (ex f)
     (way_of_bound wanted (held p f S) (held p f Six) (s f) (six f) (one S f) (one Six f)) (one X f)))
@@ -85,13 +100,15 @@ bound_of a b c d x = bound (bound a b) (bound (bound c d) x)
 abbrev pub given : Mode → Bool → Option Mode
 given m b = cond b (Some m) None
 
-pub more_is : (h a : Bool) (b c d x : Option Mode) → bound_of (given Is (h || a)) b c d x ≡ bound (bound_of (given Is a) b c d x) (given Is h)
+pub more_is : (h a : Bool) (b c d x : Option Mode) → bound_of (given Is (h || a)) b c d x
+    ≡ bound (bound_of (given Is a) b c d x) (given Is h)
 more_is h a b c d x =
     let rest = bound (bound c d) x in
     ap (λ (z : Option Mode). bound_of z b c d x) (bound_given Is h a)
     ∙ ap (λ (z : Option Mode). bound z rest) (bound_left (given Is a) b (given Is h)) ∙ bound_left (bound (given Is a) b) rest (given Is h)
 
-pub more_ix : (h b : Bool) (a c d x : Option Mode) → bound_of a (given Ix (h || b)) c d x ≡ bound (bound_of a (given Ix b) c d x) (given Ix h)
+pub more_ix : (h b : Bool) (a c d x : Option Mode) → bound_of a (given Ix (h || b)) c d x
+    ≡ bound (bound_of a (given Ix b) c d x) (given Ix h)
 more_ix h b a c d x =
     let rest = bound (bound c d) x in
     ap (λ (z : Option Mode). bound_of a z c d x) (bound_given Ix h b)
@@ -101,15 +118,19 @@ pub more_s : (h c : Bool) (a b d x : Option Mode) → bound_of a b (given S (h |
 more_s h c a b d x =
     ap (λ (z : Option Mode). bound_of a b z d x) (bound_given S h c)
     ∙ ap (λ (z : Option Mode). bound (bound a b) (bound z x)) (bound_left (given S c) d (given S h))
-    ∙ ap (bound (bound a b)) (bound_left (bound (given S c) d) x (given S h)) ∙ bound_right (bound a b) (bound (bound (given S c) d) x) (given S h)
+    ∙ ap (bound (bound a b)) (bound_left (bound (given S c) d) x (given S h))
+    ∙ bound_right (bound a b) (bound (bound (given S c) d) x) (given S h)
 
-pub more_six : (h d : Bool) (a b c x : Option Mode) → bound_of a b c (given Six (h || d)) x ≡ bound (bound_of a b c (given Six d) x) (given Six h)
+pub more_six : (h d : Bool) (a b c x : Option Mode)
+    → bound_of a b c (given Six (h || d)) x ≡ bound (bound_of a b c (given Six d) x) (given Six h)
 more_six h d a b c x =
     ap (λ (z : Option Mode). bound_of a b c z x) (bound_given Six h d)
     ∙ ap (λ (z : Option Mode). bound (bound a b) (bound z x)) (bound_right c (given Six d) (given Six h))
-    ∙ ap (bound (bound a b)) (bound_left (bound c (given Six d)) x (given Six h)) ∙ bound_right (bound a b) (bound (bound c (given Six d)) x) (given Six h)
+    ∙ ap (bound (bound a b)) (bound_left (bound c (given Six d)) x (given Six h))
+    ∙ bound_right (bound a b) (bound (bound c (given Six d)) x) (given Six h)
 
 pub more_x : (h x : Bool) (a b c d : Option Mode) → bound_of a b c d (given X (h || x)) ≡ bound (bound_of a b c d (given X x)) (given X h)
 more_x h x a b c d =
     ap (λ (z : Option Mode). bound_of a b c d z) (bound_given X h x)
-    ∙ ap (bound (bound a b)) (bound_right (bound c d) (given X x) (given X h)) ∙ bound_right (bound a b) (bound (bound c d) (given X x)) (given X h)
+    ∙ ap (bound (bound a b)) (bound_right (bound c d) (given X x) (given X h))
+    ∙ bound_right (bound a b) (bound (bound c d) (given X x)) (given X h)

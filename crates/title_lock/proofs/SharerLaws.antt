@@ -1,5 +1,6 @@
 -- The least other examiner among entries in the order of their numbers.
-use Rattle.std.proofs.Common.{◌≡◌, ◌≢◌, ◌<◌, ◌≤◌, ℕ, Bool, true, false, cond, List, [], ◌∷◌, Option, Some, None, eqb, refl, sym, ap, subst, ◌∙◌, arith}
+use Rattle.std.proofs.Common.{◌≡◌, ◌≢◌, ◌<◌, ◌≤◌, ℕ, Bool, true, false, cond, List, [], ◌∷◌, Option, Some, None, eqb, refl, sym, ap, subst}
+use Rattle.std.proofs.Common.{◌∙◌, arith}
 use Rattle.std.specs.Ordering.{nat_cmp, MatchOrdering}
 use Rattle.std.specs.declared.cmp.Ordering.TheVariants.{Less}
 use Rattle.std.specs.Cmp.{ranks, unsigned_tied}
@@ -45,7 +46,8 @@ abbrev pub Carries : List (ℕ × Bool) → List (ℕ × Bool) → ℕ → Type 
 Carries entries rest e = IsStrictlySortedBy nat_cmp (keys_of rest) × ((f : ℕ) → f ≢ e → holds rest f ≡ holds entries f)
 
 -- an entry of the examiner, or of one that doesn't hold it, is stepped over
-pub carries_on : (entries : List (ℕ × Bool)) (k : ℕ) (b : Bool) (rest : List (ℕ × Bool)) (e : ℕ) → (k ≢ e → b ≡ false) → Carries entries ((k, b) ∷ rest) e → Carries entries rest e
+pub carries_on : (entries : List (ℕ × Bool)) (k : ℕ) (b : Bool) (rest : List (ℕ × Bool)) (e : ℕ) → (k ≢ e → b ≡ false)
+    → Carries entries ((k, b) ∷ rest) e → Carries entries rest e
 unfolding IsStrictlySortedBy
 carries_on entries k b rest e over carries =
     (carries.0.1, λ f o. by f (eqb f k) refl o ∙ carries.1 f o)
@@ -53,11 +55,13 @@ carries_on entries k b rest e over carries =
     by : (f : ℕ) (t : Bool) → eqb f k ≡ t → f ≢ e → holds rest f ≡ holds ((k, b) ∷ rest) f
     by f true h o =
         let same = eqb-true f k h in
-        none_after k f rest carries.0 (omega (arith, same)) ∙ sym (over (λ s. o (same ∙ s))) ∙ sym (holds_own k b rest) ∙ ap (holds ((k, b) ∷ rest)) (sym same)
+        none_after k f rest carries.0 (omega (arith, same)) ∙ sym (over (λ s. o (same ∙ s))) ∙ sym (holds_own k b rest)
+        ∙ ap (holds ((k, b) ∷ rest)) (sym same)
     by f false h o = sym (holds_first k b rest f ∙ ap (λ t. cond t b (holds rest f)) h)
 
 -- the first entry that isn't stepped over is the least other
-pub carries_least : (entries : List (ℕ × Bool)) (k : ℕ) (rest : List (ℕ × Bool)) (e : ℕ) → k ≢ e → Carries entries ((k, true) ∷ rest) e → IsLeast (holds entries) e (Some k)
+pub carries_least : (entries : List (ℕ × Bool)) (k : ℕ) (rest : List (ℕ × Bool)) (e : ℕ) → k ≢ e → Carries entries ((k, true) ∷ rest) e
+    → IsLeast (holds entries) e (Some k)
 carries_least entries k rest e other carries = (
   other,
   sym (carries.1 k other) ∙ holds_own k true rest,

@@ -1,5 +1,6 @@
 -- Tables of locks, one place changed at a time.
-use Rattle.std.proofs.Common.{◌≡◌, ◌<◌, ◌+◌, ℕ, Bool, true, false, cond, ◌&&◌, List, [], ◌∷◌, ◌++◌, Option, Some, None, length, get_or, take, drop, suc, add-one, drop-cons, eqb, refl, sym, ap, subst, ◌∙◌}
+use Rattle.std.proofs.Common.{◌≡◌, ◌<◌, ◌+◌, ℕ, Bool, true, false, cond, ◌&&◌, List, [], ◌∷◌, ◌++◌, Option, Some, None, length, get_or}
+use Rattle.std.proofs.Common.{take, drop, suc, add-one, drop-cons, eqb, refl, sym, ap, subst, ◌∙◌}
 use Rattle.std.proofs.lemmas.Bool.{and_parts, eqb-true}
 use Rattle.std.specs.Prelude.{IsSome}
 use Rattle.std.specs.List.{AllByRecursion}
@@ -36,7 +37,8 @@ mode_of m f q = mode_in f (get node_cmp m q)
 
 module _ (m n : Places) (k : Node) (w : Option Place) (h : Writes m n k w) where
   -- what is read of a map after a write
-  written : {V : Type 0} (read : Option Place → V) (q : Node) → read (get node_cmp n q) ≡ cond (same_node q k) (read w) (read (get node_cmp m q))
+  written : {V : Type 0} (read : Option Place → V) (q : Node)
+      → read (get node_cmp n q) ≡ cond (same_node q k) (read w) (read (get node_cmp m q))
   written read q = ap read (h q) ∙ ap (λ (b : Bool). read (cond b w (get node_cmp m q))) (node_at k q) ∙ go (same_node q k)
     where
       go : (b : Bool) → read (cond b w (get node_cmp m q)) ≡ cond b (read w) (read (get node_cmp m q))
@@ -44,7 +46,8 @@ module _ (m n : Places) (k : Node) (w : Option Place) (h : Writes m n k w) where
       go false = refl
 
   -- what a write leaves at its node it leaves everywhere
-  pub same_everywhere : {V : Type 0} (read : Option Place → V) → read w ≡ read (get node_cmp m k) → (q : Node) → read (get node_cmp n q) ≡ read (get node_cmp m q)
+  pub same_everywhere : {V : Type 0} (read : Option Place → V) → read w ≡ read (get node_cmp m k) → (q : Node)
+      → read (get node_cmp n q) ≡ read (get node_cmp m q)
   same_everywhere read same q = written read q ∙ go (same_node q k) refl
     where
       go : (b : Bool) → same_node q k ≡ b → cond b (read w) (read (get node_cmp m q)) ≡ read (get node_cmp m q)
@@ -52,7 +55,8 @@ module _ (m n : Places) (k : Node) (w : Option Place) (h : Writes m n k w) where
       go false e = refl
 
   -- a write that keeps room at its node keeps room everywhere
-  pub room_stays : (e : ℕ) (a : Mode) → (room_in e a (get node_cmp m k) ≡ true → room_in e a w ≡ true) → (q : Node) → room_in e a (get node_cmp m q) ≡ true → room_in e a (get node_cmp n q) ≡ true
+  pub room_stays : (e : ℕ) (a : Mode) → (room_in e a (get node_cmp m k) ≡ true → room_in e a w ≡ true) → (q : Node)
+      → room_in e a (get node_cmp m q) ≡ true → room_in e a (get node_cmp n q) ≡ true
   room_stays e a keeps q room = written (room_in e a) q ∙ go (same_node q k) refl
     where
       go : (b : Bool) → same_node q k ≡ b → cond b (room_in e a w) (room_in e a (get node_cmp m q)) ≡ true
@@ -69,19 +73,23 @@ module _ (m n : Places) (k : Node) (w : Option Place) (h : Writes m n k w) where
           here
           ∙ ap (λ (x : Node). bound (mode_of m f x) (cond (eqb f e) (Some a) None)) (sym (same_true q k s))
           ∙ ap (λ (b : Bool). bound (mode_of m f q) (cond b (Some a) None)) (sym (and_true (eqb f e)))
-      go false s = sym (bound_none (mode_of m f q)) ∙ ap (λ (b : Bool). bound (mode_of m f q) (cond b (Some a) None)) (sym (and_none (eqb f e)))
+      go false s = sym (bound_none (mode_of m f q)) ∙ ap (λ (b : Bool). bound (mode_of m f q) (cond b (Some a) None))
+          (sym (and_none (eqb f e)))
 
   -- an examiner taken out at a node
-  pub released : (e f : ℕ) → mode_in f w ≡ cond (eqb f e) None (mode_of m f k) → (q : Node) → mode_of n f q ≡ cond (eqb f e && same_node q k) None (mode_of m f q)
+  pub released : (e f : ℕ) → mode_in f w ≡ cond (eqb f e) None (mode_of m f k) → (q : Node)
+      → mode_of n f q ≡ cond (eqb f e && same_node q k) None (mode_of m f q)
   released e f here q = written (mode_in f) q ∙ go (same_node q k) refl
     where
       go : (b : Bool) → same_node q k ≡ b → cond b (mode_in f w) (mode_of m f q) ≡ cond (eqb f e && b) None (mode_of m f q)
       go true s =
-          here ∙ ap (λ (x : Node). cond (eqb f e) None (mode_of m f x)) (sym (same_true q k s)) ∙ ap (λ (b : Bool). cond b None (mode_of m f q)) (sym (and_true (eqb f e)))
+          here ∙ ap (λ (x : Node). cond (eqb f e) None (mode_of m f x)) (sym (same_true q k s))
+          ∙ ap (λ (b : Bool). cond b None (mode_of m f q)) (sym (and_true (eqb f e)))
       go false s = ap (λ (b : Bool). cond b None (mode_of m f q)) (sym (and_none (eqb f e)))
 
 -- nobody is taken out where there is no place
-pub none_released : (m : Places) (k : Node) → get node_cmp m k ≡ None → (e f : ℕ) (q : Node) → mode_of m f q ≡ cond (eqb f e && same_node q k) None (mode_of m f q)
+pub none_released : (m : Places) (k : Node) → get node_cmp m k ≡ None → (e f : ℕ) (q : Node)
+    → mode_of m f q ≡ cond (eqb f e && same_node q k) None (mode_of m f q)
 none_released m k none e f q = go (same_node q k) refl
   where
     nothing : (b : Bool) (r : Option Mode) → r ≡ None → r ≡ cond b None r
@@ -133,22 +141,28 @@ each_append P [] ys h k = k
 each_append P (x ∷ xs) ys h k = (h.0, each_append P xs ys h.1 k)
 
 -- room at a node and above it is room above its child
-pub room_above_child : (t : Table) (e : ℕ) (m : Mode) (p c : Node) → Some c ≡ parent_of p → table_room t e m c ≡ true → RoomAbove t e m c → RoomAbove t e m p
+pub room_above_child : (t : Table) (e : ℕ) (m : Mode) (p c : Node) → Some c ≡ parent_of p → table_room t e m c ≡ true → RoomAbove t e m c
+    → RoomAbove t e m p
 room_above_child t e m p c h here room = subst (AllByRecursion (λ x. table_room t e m x ≡ true)) (sym (above_of p c h)) (here, room)
 
 -- where room is kept, it is kept above a node
 pub room_above_stays : (t u : Table) (e : ℕ) (m : Mode) (c : Node) → KeepsRoom t u → RoomAbove t e m c → RoomAbove u e m c
-room_above_stays t u e m c keeps room = each_from (λ x. table_room t e m x ≡ true) (λ x. table_room u e m x ≡ true) (above c) (keeps e m) room
+room_above_stays t u e m c keeps room = each_from (λ x. table_room t e m x ≡ true) (λ x. table_room u e m x ≡ true) (above c) (keeps e m)
+    room
 
 -- and for all that an access asks for
 pub room_for_stays : (t u : Table) (e : ℕ) (p : Bool) → KeepsRoom t u → (c : Node) → RoomFor t e p c → RoomFor u e p c
 room_for_stays t u e p keeps c room = (keeps e (own_mode p) c room.0, room_above_stays t u e (above_mode p) c keeps room.1)
 
 -- a fact at each of a list's first nodes, and at the next
-pub each_more : (P : Node → Type 0) (nodes : List Node) (i : ℕ) (d : Node) → i < length nodes → P (get_or nodes i d) → AllByRecursion P (take i nodes) → AllByRecursion P (take (i + 1) nodes)
-each_more P nodes i d low here before = rw (take_more nodes i d low) (each_append P (take i nodes) (get_or nodes i d ∷ []) before (here, tt))
+pub each_more : (P : Node → Type 0) (nodes : List Node) (i : ℕ) (d : Node) → i < length nodes → P (get_or nodes i d)
+    → AllByRecursion P (take i nodes) → AllByRecursion P (take (i + 1) nodes)
+each_more P nodes i d low here before = rw (take_more nodes i d low)
+    (each_append P (take i nodes) (get_or nodes i d ∷ []) before (here, tt))
 
 -- a fact at each of a list's last nodes, without the first of them
-pub each_rest : (P : Node → Type 0) (nodes : List Node) (i : ℕ) (d : Node) → i < length nodes → AllByRecursion P (drop i nodes) → AllByRecursion P (drop (i + 1) nodes)
+pub each_rest : (P : Node → Type 0) (nodes : List Node) (i : ℕ) (d : Node) → i < length nodes → AllByRecursion P (drop i nodes)
+    → AllByRecursion P (drop (i + 1) nodes)
 each_rest P nodes i d low h =
-    let parts : AllByRecursion P (get_or nodes i d ∷ drop (suc i) nodes) = subst (AllByRecursion P) (drop-cons nodes i d low) h in rw add-one parts.1
+    let parts : AllByRecursion P (get_or nodes i d ∷ drop (suc i) nodes) = subst (AllByRecursion P) (drop-cons nodes i d low) h in
+    rw add-one parts.1

@@ -1,6 +1,7 @@
 -- What a table of locks says of who is in the way is what the entries say.
 use Rattle.std.proofs.Common.{◌≡◌, ℕ, Bool, true, false, cond, ◌||◌, List, [], ◌∷◌, Option, Some, None, refl, sym, ap, subst, ◌∙◌, inl, inr}
-use Rattle.std.proofs.lemmas.Bool.{or_parts, or_cases, or_from, or_left, or_right, false_from_ne_true, both_ways, cond_both, not-false, not_from_true}
+use Rattle.std.proofs.lemmas.Bool.{or_parts, or_cases, or_from, or_left, or_right, false_from_ne_true, both_ways, cond_both, not-false}
+use Rattle.std.proofs.lemmas.Bool.{not_from_true}
 use Rattle.std.specs.List.{list_any}
 use Rattle.title_land.specs.declared.node.Node.{Node}
 use Rattle.title_land.specs.declared.tract.Land.{Land}
@@ -21,14 +22,16 @@ use Rattle.title_lock.proofs.Overlap.{MeetByCovers, Allow, allow_bound, allow_pa
 
 -- in the way at a node or above it is in the way above its child
 pub least_above_child : (table : Table) (e : ℕ) (m : Mode) (p c : Node) (w : Option ℕ) → Some c ≡ parent_of p →
-    IsLeast (λ f. clashes m (table_mode table f c) || clashes_above m (λ n. table_mode table f n) (above c)) e w → IsLeast (λ f. clashes_above m (λ n. table_mode table f n) (above p)) e w
+    IsLeast (λ f. clashes m (table_mode table f c) || clashes_above m (λ n. table_mode table f n) (above c)) e w
+    → IsLeast (λ f. clashes_above m (λ n. table_mode table f n) (above p)) e w
 least_above_child table e m p c w h joined =
     subst (λ (nodes : List Node). IsLeast (λ f. clashes_above m (λ n. table_mode table f n) nodes) e w) (sym (above_of p c h)) joined
 
 -- ---- in the way exactly where the modes don't stand beside each other
 
 -- what no node of a list passes, none that is in it passes
-any_false : (test : Node → Bool) (nodes : List Node) (n : Node) → list_any test nodes ≡ false → list_any (same_node n) nodes ≡ true → test n ≡ false
+any_false : (test : Node → Bool) (nodes : List Node) (n : Node) → list_any test nodes ≡ false → list_any (same_node n) nodes ≡ true
+    → test n ≡ false
 any_false test [] n h up = absurd cc
 any_false test (c ∷ nodes) n h up =
     let k = or_parts (test c) (list_any test nodes) h in
@@ -38,7 +41,8 @@ any_false test (c ∷ nodes) n h up =
     ]
 
 -- and the other way round
-false_any : (test : Node → Bool) (nodes : List Node) → ((n : Node) → list_any (same_node n) nodes ≡ true → test n ≡ false) → list_any test nodes ≡ false
+false_any : (test : Node → Bool) (nodes : List Node) → ((n : Node) → list_any (same_node n) nodes ≡ true → test n ≡ false)
+    → list_any test nodes ≡ false
 false_any test [] h = refl
 false_any test (c ∷ nodes) h =
     or_from (test c) (list_any test nodes)
@@ -49,8 +53,10 @@ false_any test (c ∷ nodes) h =
 fits_for : (p : Bool) (held : Node → Option Mode) (c : Node) → clashes_for p held c ≡ false → Allow (asked_for p c) held
 fits_for p held c h n =
     let k = or_parts (clashes_above (above_mode p) held (above c)) (clashes (own_mode p) (held c)) h in
-    cond_both (same_node n c) (Some (own_mode p)) (cond (is_above n c) (Some (above_mode p)) None) (λ (z : Option Mode). allows z (held n) ≡ true)
-    (λ s. subst (λ (z : Node). allows (Some (own_mode p)) (held z) ≡ true) (sym (same_true n c s)) (not-false (allows (Some (own_mode p)) (held c)) k.1))
+    cond_both (same_node n c) (Some (own_mode p)) (cond (is_above n c) (Some (above_mode p)) None)
+    (λ (z : Option Mode). allows z (held n) ≡ true)
+    (λ s. subst (λ (z : Node). allows (Some (own_mode p)) (held z) ≡ true) (sym (same_true n c s))
+    (not-false (allows (Some (own_mode p)) (held c)) k.1))
     (λ s. cond_both (is_above n c) (Some (above_mode p)) None (λ (z : Option Mode). allows z (held n) ≡ true)
     (λ up. not-false (allows (Some (above_mode p)) (held n)) (any_false (λ z. clashes (above_mode p) (held z)) (above c) n k.0 up))
     (λ up. refl))
@@ -64,9 +70,11 @@ clear_for p held c fit =
     let other : same_node n c ≡ false = false_from_ne_true (same_node n c) (λ s. both_ways (is_above n c) (above_apart n c s) up) in
     not_from_true (allows (Some (above_mode p)) (held n))
     (ap (λ (b : Bool). allows (cond b (Some (above_mode p)) None) (held n)) (sym up)
-    ∙ ap (λ (b : Bool). allows (cond b (Some (own_mode p)) (cond (is_above n c) (Some (above_mode p)) None)) (held n)) (sym other) ∙ fit n)))
+    ∙ ap (λ (b : Bool). allows (cond b (Some (own_mode p)) (cond (is_above n c) (Some (above_mode p)) None)) (held n)) (sym other)
+    ∙ fit n)))
     (not_from_true (allows (Some (own_mode p)) (held c))
-    (ap (λ (b : Bool). allows (cond b (Some (own_mode p)) (cond (is_above c c) (Some (above_mode p)) None)) (held c)) (sym (same_self c)) ∙ fit c))
+    (ap (λ (b : Bool). allows (cond b (Some (own_mode p)) (cond (is_above c c) (Some (above_mode p)) None)) (held c)) (sym (same_self c))
+    ∙ fit c))
 
 -- the same for a whole cover
 fits_all : (p : Bool) (held : Node → Option Mode) (t : List Node) → clashes_with p held t ≡ false → Allow (asked p t) held
@@ -91,11 +99,14 @@ same_when_false false true h k = sym (h refl)
 same_when_false false false h k = refl
 
 -- the least examiner in the way by the table is the least whose entry overlaps
-pub stands : (depth : ℕ) → MeetByCovers depth → (es : List Entry) (table : Table) (e : ℕ) (p : Bool) (land : Land) (w : Option ℕ) → IsLand depth land → TableIs depth es table →
+pub stands : (depth : ℕ) → MeetByCovers depth → (es : List Entry) (table : Table) (e : ℕ) (p : Bool) (land : Land) (w : Option ℕ)
+    → IsLand depth land → TableIs depth es table →
     IsLeast (λ f. clashes_with p (λ n. table_mode table f n) (cover_of depth land)) e w → IsLeast (λ f. against land p f es) e w
 stands depth by es table e p land w wide are =
     let t = cover_of depth land in
     least_same (λ f. clashes_with p (λ n. table_mode table f n) t) (λ f. against land p f es) e w
     (λ f o. same_when_false (clashes_with p (λ n. table_mode table f n) t) (against land p f es)
-    (λ h. entries_clear depth by p land wide f es are.sized (λ n. ap (allows (asked p t n)) (sym (are.modes f n)) ∙ fits_all p (λ z. table_mode table f z) t h n))
-    (λ h. clear_all p (λ z. table_mode table f z) t (λ n. ap (allows (asked p t n)) (are.modes f n) ∙ entries_fit depth by p land wide f es are.sized h n)))
+    (λ h. entries_clear depth by p land wide f es are.sized
+    (λ n. ap (allows (asked p t n)) (sym (are.modes f n)) ∙ fits_all p (λ z. table_mode table f z) t h n))
+    (λ h. clear_all p (λ z. table_mode table f z) t (λ n.
+    ap (allows (asked p t n)) (are.modes f n) ∙ entries_fit depth by p land wide f es are.sized h n)))

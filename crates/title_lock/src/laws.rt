@@ -3,6 +3,7 @@
 ghost use Rattle.title_lock.specs.Modes.{BoundStandsBeside};
 ghost use Rattle.title_land.specs.Depth.{depth};
 ghost use Rattle.title_lock.specs.Asking.{ModesDecideOverlap, LeftAreGranted};
+ghost use Rattle.title_lock.specs.Standing.{FreeAreGranted, GrantedAreFree, LeftStandFree};
 
 /// The law of the two tables: a mode stands beside the bound of two modes exactly where it stands beside both.
 pub fn bound_stands_beside()
@@ -18,4 +19,19 @@ pub fn modes_decide_overlap()
 /// What is left when an examiner gives its locks back was granted entry by entry, too.
 pub fn left_are_granted()
     ensures law { LeftAreGranted depth }
+{}
+
+/// Entries that stand without overlap were all granted by modes: what the law on modes asks of them.
+pub fn free_are_granted()
+    ensures law { FreeAreGranted depth }
+{}
+
+/// Entries that were granted by modes stand without overlap.
+pub fn granted_are_free()
+    ensures law { GrantedAreFree depth }
+{}
+
+/// What is left when an examiner gives its locks back stands without overlap, too.
+pub fn left_stand_free()
+    ensures law { LeftStandFree }
 {}

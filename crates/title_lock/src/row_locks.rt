@@ -6,6 +6,8 @@ ghost use Rattle.std.specs.List.{list_any};
 ghost use Rattle.title_land.specs.declared.node.Node.{Node};
 ghost use Rattle.title_lock.specs.declared.guards.Entry.{Entry};
 ghost use Rattle.title_lock.specs.Overlaps.{without};
+ghost use Rattle.title_lock.specs.Asking.{AllGranted, AreSized};
+ghost use Rattle.title_lock.specs.Standing.{StandFree};
 ghost use Rattle.title_lock.specs.Tables.{table_mode, is_asked_by, TableIs};
 
 use crate::book::Book;
@@ -31,6 +33,18 @@ impl Model for RowLocks {
     ghost view = { λ l. l.book };
 
     ghost invariant = { λ l. TableIs depth l.book l.table };
+}
+
+impl RowLocks {
+    /// The law on modes holds of this table: its entries stand without overlap, each was granted by modes when it came, and
+    /// their sets are as large as the grid. It does nothing: its type says so, and a proof may cite it.
+    pub fn stand_granted(&self)
+        ensures free { StandFree self.now }
+        ensures granted { AllGranted depth self.now }
+        ensures sized { AreSized depth self.now }
+    {
+        let _ = &self.table;
+    }
 }
 
 /// Takes out an examiner's entries, and the examiner out of the holders of all nodes that they ask for.

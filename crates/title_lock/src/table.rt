@@ -7,7 +7,8 @@ ghost use Rattle.title_land.specs.Nodes.{same_node, above, is_above};
 ghost use Rattle.title_lock.specs.Modes.{bound};
 ghost use Rattle.title_lock.specs.Overlaps.{is_post, IsLeast};
 ghost use Rattle.title_lock.specs.Asking.{own_mode, above_mode, asked_for, asked};
-ghost use Rattle.title_lock.specs.Tables.{table_mode, table_room, is_placed, holds_none, clashes, clashes_above, clashes_for, clashes_with, KeepsRoom, RoomAbove, RoomFor, is_asked};
+ghost use Rattle.title_lock.specs.Tables.{table_mode, table_room, is_placed, holds_none, clashes, clashes_above, clashes_for, clashes_with};
+ghost use Rattle.title_lock.specs.Tables.{KeepsRoom, RoomAbove, RoomFor, is_asked};
 
 use crate::guards::Access;
 use crate::modes::Mode;

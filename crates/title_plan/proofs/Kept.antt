@@ -1,13 +1,39 @@
--- What stays so from row to row: a plant can be opened with what is declared. And which faults rows have.
-use Rattle.std.proofs.Common.{◌≡◌, ◌≤◌, ◌+◌, ◌∙◌, ℕ, List, [], ◌∷◌, ◌++◌, Bool, true, false, ◌||◌, Option, Some, None, Result, Ok, Err, length, nat_le, refl, arith, inl, inr}
+-- What stays so from row to row: a plant can be opened with what is declared.
+use Rattle.std.proofs.Common.{
+  ◌≡◌,
+  ◌≤◌,
+  ◌+◌,
+  ◌∙◌,
+  ℕ,
+  List,
+  [],
+  ◌∷◌,
+  ◌++◌,
+  Bool,
+  true,
+  false,
+  ◌||◌,
+  Option,
+  Some,
+  None,
+  Result,
+  Ok,
+  Err,
+  length,
+  nat_le,
+  refl,
+  arith,
+  inl,
+  inr,
+}
 use Rattle.std.specs.List.{list_any}
 use Rattle.std.specs.Str.{bytes_eq}
 use Rattle.std.proofs.lemmas.Bool.{or_parts, or_from}
 use Rattle.std.proofs.lemmas.Bool.Decides.{nat_tests}
 use Rattle.std.proofs.lemmas.List.{length-append}
 use Rattle.std.proofs.lemmas.List.Folds.{list_any-append}
-use Rattle.title_device.specs.declared.fault.RunFault.{RunFault}
-use Rattle.title_device.specs.declared.fault.RunFault.TheVariants as fault
+use Rattle.title_plan.specs.declared.fault.ScriptFault.{ScriptFault}
+use Rattle.title_plan.specs.declared.fault.ScriptFault.TheVariants as fault
 use Rattle.title_land.specs.declared.place.Township.{Township}
 use Rattle.title_land.specs.Places.{same_township}
 use Rattle.title_instrument.specs.declared.instrument.Instrument.{Instrument}
@@ -18,19 +44,20 @@ use Rattle.title_plan.specs.declared.line.Schedule.{Schedule}
 use Rattle.title_plan.specs.declared.plan.TheConstants.{PARTIES, TOWNSHIPS}
 use Rattle.title_plan.specs.Asked.{Asked, CanOpen, is_none, nothing_asked}
 use Rattle.title_plan.specs.Declarations.{with_party, with_township}
-use Rattle.title_plan.specs.Faults.{IsScriptFault}
 use Rattle.title_plan.specs.Plans.{AfterRow, AfterRows, AfterSaid, AfterStepRow, AfterTurn, GoesOn}
-use Rattle.title_plan.specs.Steps.{AfterPost, with_line}
+use Rattle.title_plan.specs.Steps.{AfterNumbered, with_line}
 
 -- a plant can be opened with what is declared
 abbrev pub Opens : Asked → Type 0
 Opens asked = CanOpen (length asked.names) asked.townships
 
-any_push : (p : Township → Bool) (townships : List Township) (t : Township) → list_any p townships ≡ false → p t ≡ false → list_any p (townships ++ t ∷ []) ≡ false
+any_push : (p : Township → Bool) (townships : List Township) (t : Township) → list_any p townships ≡ false → p t ≡ false
+    → list_any p (townships ++ t ∷ []) ≡ false
 any_push p townships t h k = list_any-append p townships (t ∷ []) ∙ or_from _ _ h (rw k refl)
 
 -- a township that isn't in the list comes to its end
-once_push : (townships : List Township) (t : Township) → IsEachOnce townships → list_any (λ other. same_township other t) townships ≡ false → IsEachOnce (townships ++ t ∷ [])
+once_push : (townships : List Township) (t : Township) → IsEachOnce townships → list_any (λ other. same_township other t) townships ≡ false
+    → IsEachOnce (townships ++ t ∷ [])
 once_push [] t h k = (refl, tt)
 once_push (o ∷ townships) t h k =
     let apart = or_parts (same_township o t) (list_any (λ other. same_township other t) townships) k in
@@ -42,32 +69,20 @@ below m n h = grind (arith, nat_tests)
 -- ---- declarations
 
 township_opens_by : (n : ℕ) (asked next : Asked) (t : Township) (full late : Bool)
-    → (nat_le TOWNSHIPS (length asked.townships) || list_any (λ other. same_township other t) asked.townships) ≡ full → is_none asked.lines ≡ late
+    → (nat_le TOWNSHIPS (length asked.townships) || list_any (λ other. same_township other t) asked.townships) ≡ full
+    → is_none asked.lines ≡ late
     → Ok next ≡ with_township n asked t → Opens asked → Opens next
 township_opens_by n asked next t true late a b h o = let e : Ok next ≡ Err (fault.Row n) = rw a at h in absurd (cc e)
 township_opens_by n asked next t false false a b h o = let e : Ok next ≡ Err (fault.Order n) = rw (a, b) at h in absurd (cc e)
 township_opens_by n asked next t false true a b h o =
-    let e : Ok next ≡ Ok (record { townships = asked.townships ++ t ∷ []; names = asked.names; lines = asked.lines; inside = asked.inside }) = rw (a, b) at h in
-    let same : next ≡ record { townships = asked.townships ++ t ∷ []; names = asked.names; lines = asked.lines; inside = asked.inside } = cc e in
+    let e : Ok next ≡ Ok (record { townships = asked.townships ++ t ∷ []; names = asked.names; lines = asked.lines; inside = asked.inside })
+    = rw (a, b) at h in
+    let same : next ≡ record { townships = asked.townships ++ t ∷ []; names = asked.names; lines = asked.lines; inside = asked.inside } =
+    cc e in
     let parts = or_parts (nat_le TOWNSHIPS (length asked.townships)) (list_any (λ other. same_township other t) asked.townships) a in
     let few = below TOWNSHIPS (length asked.townships) parts.0 in
     let many : length (asked.townships ++ t ∷ []) ≤ TOWNSHIPS = rw length-append few in
     rw same (o.0, o.1, many, once_push asked.townships t o.3 parts.1)
-
-township_fault_by : (n : ℕ) (asked : Asked) (f : RunFault) (t : Township) (full late : Bool)
-    → (nat_le TOWNSHIPS (length asked.townships) || list_any (λ other. same_township other t) asked.townships) ≡ full → is_none asked.lines ≡ late
-    → Err f ≡ with_township n asked t → IsScriptFault f
-township_fault_by n asked f t true late a b h =
-    let e : Err f ≡ Err (fault.Row n) = rw a at h in
-    let same : f ≡ fault.Row n = cc e in
-    rw same tt
-township_fault_by n asked f t false false a b h =
-    let e : Err f ≡ Err (fault.Order n) = rw (a, b) at h in
-    let same : f ≡ fault.Order n = cc e in
-    rw same tt
-township_fault_by n asked f t false true a b h =
-    let e : Err f ≡ Ok (record { townships = asked.townships ++ t ∷ []; names = asked.names; lines = asked.lines; inside = asked.inside }) = rw (a, b) at h in
-    absurd (cc e)
 
 party_opens_by : (n : ℕ) (asked next : Asked) (name : List ℕ) (full late there : Bool)
     → nat_le PARTIES (length asked.names) ≡ full → is_none asked.lines ≡ late → list_any (bytes_eq name) asked.names ≡ there
@@ -76,50 +91,33 @@ party_opens_by n asked next name true late there a b d h o = let e : Ok next ≡
 party_opens_by n asked next name false false there a b d h o = let e : Ok next ≡ Err (fault.Order n) = rw (a, b) at h in absurd (cc e)
 party_opens_by n asked next name false true true a b d h o = let e : Ok next ≡ Err (fault.Party n) = rw (a, b, d) at h in absurd (cc e)
 party_opens_by n asked next name false true false a b d h o =
-    let e : Ok next ≡ Ok (record { townships = asked.townships; names = asked.names ++ name ∷ []; lines = asked.lines; inside = asked.inside }) = rw (a, b, d) at h in
-    let same : next ≡ record { townships = asked.townships; names = asked.names ++ name ∷ []; lines = asked.lines; inside = asked.inside } = cc e in
+    let e : Ok next ≡ Ok (record {
+      townships = asked.townships;
+      names = asked.names ++ name ∷ [];
+      lines = asked.lines;
+      inside =
+          asked.inside;
+    }) = rw (a, b, d) at h in
+    let same : next ≡ record { townships = asked.townships; names = asked.names ++ name ∷ []; lines = asked.lines; inside = asked.inside } =
+    cc e in
     let few = below PARTIES (length asked.names) a in
     let some : 1 ≤ length (asked.names ++ name ∷ []) = rw length-append (omega arith) in
     let many : length (asked.names ++ name ∷ []) ≤ PARTIES = rw length-append few in
     rw same (some, many, o.2, o.3)
 
-party_fault_by : (n : ℕ) (asked : Asked) (f : RunFault) (name : List ℕ) (full late there : Bool)
-    → nat_le PARTIES (length asked.names) ≡ full → is_none asked.lines ≡ late → list_any (bytes_eq name) asked.names ≡ there
-    → Err f ≡ with_party n asked name → IsScriptFault f
-party_fault_by n asked f name true late there a b d h =
-    let e : Err f ≡ Err (fault.Row n) = rw a at h in
-    let same : f ≡ fault.Row n = cc e in
-    rw same tt
-party_fault_by n asked f name false false there a b d h =
-    let e : Err f ≡ Err (fault.Order n) = rw (a, b) at h in
-    let same : f ≡ fault.Order n = cc e in
-    rw same tt
-party_fault_by n asked f name false true true a b d h =
-    let e : Err f ≡ Err (fault.Party n) = rw (a, b, d) at h in
-    let same : f ≡ fault.Party n = cc e in
-    rw same tt
-party_fault_by n asked f name false true false a b d h =
-    let e : Err f ≡ Ok (record { townships = asked.townships; names = asked.names ++ name ∷ []; lines = asked.lines; inside = asked.inside }) = rw (a, b, d) at h in
-    absurd (cc e)
-
 -- ---- steps
 
-line_opens : (asked next : Asked) (added : Line) (inside : Option ℕ) → ◌≡◌ {A = Result Asked RunFault} (Ok next) (Ok (with_line asked added inside)) → Opens asked → Opens next
+line_opens : (asked next : Asked) (added : Line) (inside : Option ℕ)
+    → ◌≡◌ {A = Result Asked ScriptFault} (Ok next) (Ok (with_line asked added inside)) → Opens asked → Opens next
 line_opens asked next added inside h o =
     let same : next ≡ with_line asked added inside = cc h in
     rw same o
 
-post_opens : (n : ℕ) (asked next : Asked) (e doc : ℕ) (between : ℕ → ℕ → Instrument) (giver taker : Option ℕ) (text : List ℕ)
-    → AfterPost n asked e doc between giver taker text (Ok next) → Opens asked → Opens next
-post_opens n asked next e doc between (Some giver) (Some taker) text h o = line_opens asked next h.0 asked.inside h.2 o
-post_opens n asked next e doc between (Some giver) None text h o = absurd (cc h)
-post_opens n asked next e doc between None taker text h o = absurd (cc h)
-
-post_fault : (n : ℕ) (asked : Asked) (f : RunFault) (e doc : ℕ) (between : ℕ → ℕ → Instrument) (giver taker : Option ℕ) (text : List ℕ)
-    → AfterPost n asked e doc between giver taker text (Err f) → IsScriptFault f
-post_fault n asked f e doc between (Some giver) (Some taker) text h = absurd (cc h.2)
-post_fault n asked f e doc between (Some giver) None text h = let same : f ≡ fault.Party n = cc h in rw same tt
-post_fault n asked f e doc between None taker text h = let same : f ≡ fault.Party n = cc h in rw same tt
+post_opens : (n : ℕ) (asked next : Asked) (e doc : ℕ) (posted : ℕ → ℕ → Instrument ℕ) (giver taker : Option ℕ) (text : List ℕ)
+    → AfterNumbered n asked e doc posted giver taker text (Ok next) → Opens asked → Opens next
+post_opens n asked next e doc posted (Some giver) (Some taker) text h o = line_opens asked next h.0 asked.inside h.2 o
+post_opens n asked next e doc posted (Some giver) None text h o = absurd (cc h)
+post_opens n asked next e doc posted None taker text h o = absurd (cc h)
 
 turn_opens : (n : ℕ) (asked next : Asked) (s : Said) → AfterTurn n asked s (Ok next) → Opens asked → Opens next
 turn_opens n asked next (Said.Township text) h o = absurd h
@@ -129,31 +127,16 @@ turn_opens n asked next (Said.Commit e) h o = line_opens asked next _ _ h o
 turn_opens n asked next (Said.Abort e) h o = line_opens asked next _ _ h o
 turn_opens n asked next (Said.Sheet e text) h o = line_opens asked next h.0 asked.inside h.2 o
 turn_opens n asked next (Said.Chain e text) h o = line_opens asked next h.0 asked.inside h.2 o
-turn_opens n asked next (Said.Deed e terms grantor grantee text) h o = post_opens n asked next e terms.doc _ _ _ text h o
-turn_opens n asked next (Said.Release e terms releasor releasee text) h o = post_opens n asked next e terms.doc _ _ _ text h o
-
-turn_fault : (n : ℕ) (asked : Asked) (f : RunFault) (s : Said) → AfterTurn n asked s (Err f) → IsScriptFault f
-turn_fault n asked f (Said.Township text) h = absurd h
-turn_fault n asked f (Said.Party name) h = absurd h
-turn_fault n asked f (Said.Begin e) h = absurd (cc h)
-turn_fault n asked f (Said.Commit e) h = absurd (cc h)
-turn_fault n asked f (Said.Abort e) h = absurd (cc h)
-turn_fault n asked f (Said.Sheet e text) h = absurd (cc h.2)
-turn_fault n asked f (Said.Chain e text) h = absurd (cc h.2)
-turn_fault n asked f (Said.Deed e terms grantor grantee text) h = post_fault n asked f e terms.doc _ _ _ text h
-turn_fault n asked f (Said.Release e terms releasor releasee text) h = post_fault n asked f e terms.doc _ _ _ text h
+turn_opens n asked next (Said.Post e doc instrument text) h o = post_opens n asked next e doc _ _ _ text h o
 
 step_opens : (n : ℕ) (asked next : Asked) (s : Said) (out : Bool) → AfterStepRow n asked s out (Ok next) → Opens asked → Opens next
 step_opens n asked next s true h o = absurd (cc h)
 step_opens n asked next s false h o = turn_opens n asked next s h o
 
-step_fault : (n : ℕ) (asked : Asked) (f : RunFault) (s : Said) (out : Bool) → AfterStepRow n asked s out (Err f) → IsScriptFault f
-step_fault n asked f s true h = let same : f ≡ fault.Order n = cc h in rw same tt
-step_fault n asked f s false h = turn_fault n asked f s h
-
 -- ---- rows
 
-said_opens : (schedule : Schedule) (n : ℕ) (asked next : Asked) (s : Said) → AfterSaid schedule n asked s (Ok next) → Opens asked → Opens next
+said_opens : (schedule : Schedule) (n : ℕ) (asked next : Asked) (s : Said) → AfterSaid schedule n asked s (Ok next) → Opens asked
+    → Opens next
 said_opens schedule n asked next (Said.Township text) (inl h) o = township_opens_by n asked next h.0 _ _ refl refl h.2 o
 said_opens schedule n asked next (Said.Township text) (inr h) o = absurd (cc h.1)
 said_opens schedule n asked next (Said.Party name) h o = party_opens_by n asked next name _ _ _ refl refl refl h o
@@ -162,38 +145,24 @@ said_opens schedule n asked next (Said.Commit e) h o = step_opens n asked next (
 said_opens schedule n asked next (Said.Abort e) h o = step_opens n asked next (Said.Abort e) _ h o
 said_opens schedule n asked next (Said.Sheet e text) h o = step_opens n asked next (Said.Sheet e text) _ h o
 said_opens schedule n asked next (Said.Chain e text) h o = step_opens n asked next (Said.Chain e text) _ h o
-said_opens schedule n asked next (Said.Deed e terms grantor grantee text) h o = step_opens n asked next (Said.Deed e terms grantor grantee text) _ h o
-said_opens schedule n asked next (Said.Release e terms releasor releasee text) h o = step_opens n asked next (Said.Release e terms releasor releasee text) _ h o
+said_opens schedule n asked next (Said.Post e doc instrument text) h o =
+    step_opens n asked next (Said.Post e doc instrument text) _ h o
 
-said_fault : (schedule : Schedule) (n : ℕ) (asked : Asked) (f : RunFault) (s : Said) → AfterSaid schedule n asked s (Err f) → IsScriptFault f
-said_fault schedule n asked f (Said.Township text) (inl h) = township_fault_by n asked f h.0 _ _ refl refl h.2
-said_fault schedule n asked f (Said.Township text) (inr h) = let same : f ≡ fault.Row n = cc h.1 in rw same tt
-said_fault schedule n asked f (Said.Party name) h = party_fault_by n asked f name _ _ _ refl refl refl h
-said_fault schedule n asked f (Said.Begin e) h = step_fault n asked f (Said.Begin e) _ h
-said_fault schedule n asked f (Said.Commit e) h = step_fault n asked f (Said.Commit e) _ h
-said_fault schedule n asked f (Said.Abort e) h = step_fault n asked f (Said.Abort e) _ h
-said_fault schedule n asked f (Said.Sheet e text) h = step_fault n asked f (Said.Sheet e text) _ h
-said_fault schedule n asked f (Said.Chain e text) h = step_fault n asked f (Said.Chain e text) _ h
-said_fault schedule n asked f (Said.Deed e terms grantor grantee text) h = step_fault n asked f (Said.Deed e terms grantor grantee text) _ h
-said_fault schedule n asked f (Said.Release e terms releasor releasee text) h = step_fault n asked f (Said.Release e terms releasor releasee text) _ h
-
-row_opens : (schedule : Schedule) (n : ℕ) (asked next : Asked) (row : List (List ℕ)) → AfterRow schedule n asked row (Ok next) → Opens asked → Opens next
+row_opens : (schedule : Schedule) (n : ℕ) (asked next : Asked) (row : List (List ℕ)) → AfterRow schedule n asked row (Ok next) → Opens asked
+    → Opens next
 row_opens schedule n asked next row (inl h) o = said_opens schedule n asked next h.0 h.2 o
 row_opens schedule n asked next row (inr h) o = absurd (cc h.1)
 
--- a row's fault is a script's
-pub row_fault : (schedule : Schedule) (n : ℕ) (asked : Asked) (f : RunFault) (row : List (List ℕ)) → AfterRow schedule n asked row (Err f) → IsScriptFault f
-row_fault schedule n asked f row (inl h) = said_fault schedule n asked f h.0 h.2
-row_fault schedule n asked f row (inr h) = let same : f ≡ fault.Row n = cc h.1 in rw same tt
-
 opens_on : (schedule : Schedule) (n : ℕ) (asked last : Asked) (row : List (List ℕ)) (rows : List (List (List ℕ)))
     → ((after : Asked) → AfterRows schedule (n + 1) after rows (Ok last) → Opens after → Opens last)
-    → (next : Result Asked RunFault) → AfterRow schedule n asked row next → GoesOn (λ after. AfterRows schedule (n + 1) after rows (Ok last)) next (Ok last)
+    → (next : Result Asked ScriptFault) → AfterRow schedule n asked row next
+    → GoesOn (λ after. AfterRows schedule (n + 1) after rows (Ok last)) next (Ok last)
     → Opens asked → Opens last
 opens_on schedule n asked last row rows more (Ok after) h g o = more after g (row_opens schedule n asked after row h o)
 opens_on schedule n asked last row rows more (Err f) h g o = absurd (cc g)
 
-pub rows_open : (schedule : Schedule) (n : ℕ) (asked last : Asked) (rows : List (List (List ℕ))) → AfterRows schedule n asked rows (Ok last) → Opens asked → Opens last
+pub rows_open : (schedule : Schedule) (n : ℕ) (asked last : Asked) (rows : List (List (List ℕ))) → AfterRows schedule n asked rows (Ok last)
+    → Opens asked → Opens last
 rows_open schedule n asked last [] h o = let same : last ≡ asked = cc h in rw same o
 rows_open schedule n asked last (row ∷ rows) h o =
     opens_on schedule n asked last row rows (λ after g k. rows_open schedule (n + 1) after last rows g k) h.0 h.1 h.2 o

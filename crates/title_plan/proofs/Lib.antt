@@ -3,3 +3,4 @@ mod Declared
 mod ReadOn
 mod Rows
 mod Kept
+mod Posts

@@ -19,14 +19,17 @@ prefix_map f p [] = refl
 prefix_map f p (x ∷ xs) = rw (prefix_map f p xs) refl
 
 -- a name among names, and among the texts that have them
-pub contains_name : {Y : Type 0} (name : List ℕ) (keys : List (String Y)) → list_any (bytes_eq name) (map string_bytes keys) ≡ list_any (λ k. bytes_eq name (string_bytes k)) keys
+pub contains_name : {Y : Type 0} (name : List ℕ) (keys : List (String Y))
+    → list_any (bytes_eq name) (map string_bytes keys) ≡ list_any (λ k. bytes_eq name (string_bytes k)) keys
 contains_name name keys = any_map string_bytes (bytes_eq name) keys
 
-pub position_name : {Y : Type 0} (name : List ℕ) (keys : List (String Y)) → position (bytes_eq name) (map string_bytes keys) ≡ position (λ k. bytes_eq name (string_bytes k)) keys
+pub position_name : {Y : Type 0} (name : List ℕ) (keys : List (String Y))
+    → position (bytes_eq name) (map string_bytes keys) ≡ position (λ k. bytes_eq name (string_bytes k)) keys
 position_name name keys = rw (prefix_map string_bytes (λ x. not (bytes_eq name x)) keys, length-map) refl
 
 -- a new name goes last
-pub insert_name : {Y : Type 0} (name : List ℕ) (v : String Y) (keys : List (String Y)) → string_bytes v ≡ name → list_any (λ k. bytes_eq name (string_bytes k)) keys ≡ false
+pub insert_name : {Y : Type 0} (name : List ℕ) (v : String Y) (keys : List (String Y)) → string_bytes v ≡ name
+    → list_any (λ k. bytes_eq name (string_bytes k)) keys ≡ false
     → map string_bytes (insert_key string_eq keys v) ≡ map string_bytes keys ++ name ∷ []
 insert_name name v keys e absent =
     let h : list_any (string_eq v) keys ≡ false = rw (sym e) at absent in

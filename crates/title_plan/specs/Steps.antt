@@ -3,17 +3,15 @@ use Rattle.std.specs.Prelude.{◌≡◌, ℕ, ◌==◌, not, Bool, false, List, 
 use Rattle.title_land.specs.Depth.{depth}
 use Rattle.std.specs.List.{position}
 use Rattle.std.specs.Str.{bytes_eq}
-use Rattle.title_device.specs.declared.fault.RunFault.{RunFault}
-use Rattle.title_device.specs.declared.fault.RunFault.TheVariants as fault
+use Rattle.title_plan.specs.declared.fault.ScriptFault.{ScriptFault}
+use Rattle.title_plan.specs.declared.fault.ScriptFault.TheVariants as fault
 use Rattle.title_land.specs.declared.tract.Land.{Land}
 use Rattle.title_instrument.specs.declared.instrument.Instrument.{Instrument}
-use Rattle.title_instrument.specs.declared.instrument.Instrument.TheVariants as instrument
+use Rattle.title_instrument.specs.Parties.{between, grantor_of, grantee_of}
 use Rattle.title_chain.specs.declared.ask.Ask.{Ask}
 use Rattle.title_chain.specs.declared.ask.Ask.TheVariants as ask
 use Rattle.title_trace.specs.declared.call.Request.TheVariants as request
 use Rattle.title_aliquot.specs.Describes.{Describes, FaultOf}
-use Rattle.title_row.specs.declared.terms.DeedTerms.{DeedTerms}
-use Rattle.title_row.specs.declared.terms.ReleaseTerms.{ReleaseTerms}
 use Rattle.title_plan.specs.declared.line.Line.{Line}
 use Rattle.title_plan.specs.declared.line.Line.TheVariants as line
 use Rattle.title_plan.specs.declared.line.Schedule.{Schedule}
@@ -37,7 +35,7 @@ IsLineOf e asks text (line.Asks q) = (l : Land) × Describes depth text l × (q 
 IsLineOf e asks text (line.Described f why) = (f ≡ e) × FaultOf depth text why
 
 -- after a step row with a text
-abbrev pub AfterStep : Asked → ℕ → (Land → Ask) → List ℕ → Result Asked RunFault → Type 0
+abbrev pub AfterStep : Asked → ℕ → (Land → Ask) → List ℕ → Result Asked ScriptFault → Type 0
 AfterStep asked e asks text result =
     (added : Line) × IsLineOf e asks text added × (result ≡ Ok (with_line asked added asked.inside))
 
@@ -45,21 +43,17 @@ AfterStep asked e asks text result =
 abbrev pub number_of : Asked → List ℕ → Option ℕ
 number_of asked name = position (bytes_eq name) asked.names
 
--- what a deed's terms do between two parties
-abbrev pub deed_of : DeedTerms → ℕ → ℕ → Instrument
-deed_of terms grantor grantee =
-    instrument.Deed (record { grantor = grantor; grantee = grantee; estates = terms.estates; quantum = terms.quantum; reserve = terms.reserve; warranty = terms.warranty })
-
--- what a release's terms do between two parties
-abbrev pub release_of : ReleaseTerms → ℕ → ℕ → Instrument
-release_of terms releasor releasee = instrument.Release (record { «from» = releasor; to = releasee; estates = terms.estates })
-
 -- a post under a document's number
-abbrev pub post : ℕ → Instrument → Land → Ask
+abbrev pub post : ℕ → Instrument ℕ → Land → Ask
 post doc posted l = ask.Post (record { doc = doc; tract = l; instrument = posted })
 
--- after the n-th row, a step that posts what two parties do: at fault where one of them has no number
-abbrev pub AfterPost : ℕ → Asked → ℕ → ℕ → (ℕ → ℕ → Instrument) → Option ℕ → Option ℕ → List ℕ → Result Asked RunFault → Type 0
-AfterPost n asked e doc between (Some giver) (Some taker) text result = AfterStep asked e (post doc (between giver taker)) text result
-AfterPost n asked e doc between (Some giver) None text result = result ≡ Err (fault.Party n)
-AfterPost n asked e doc between None taker text result = result ≡ Err (fault.Party n)
+-- after the n-th row, a step that posts what two parties of these numbers do: at fault where one of them has none
+abbrev pub AfterNumbered : ℕ → Asked → ℕ → ℕ → (ℕ → ℕ → Instrument ℕ) → Option ℕ → Option ℕ → List ℕ → Result Asked ScriptFault → Type 0
+AfterNumbered n asked e doc posted (Some giver) (Some taker) text result = AfterStep asked e (post doc (posted giver taker)) text result
+AfterNumbered n asked e doc posted (Some giver) None text result = result ≡ Err (fault.Party n)
+AfterNumbered n asked e doc posted None taker text result = result ≡ Err (fault.Party n)
+
+-- after the n-th row, a step that posts an instrument between parties of these names
+abbrev pub AfterPost : ℕ → Asked → ℕ → ℕ → Instrument (List ℕ) → List ℕ → Result Asked ScriptFault → Type 0
+AfterPost n asked e doc posted text result =
+    AfterNumbered n asked e doc (between posted) (number_of asked (grantor_of posted)) (number_of asked (grantee_of posted)) text result

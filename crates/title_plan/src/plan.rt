@@ -3,17 +3,17 @@
 ghost use Rattle.std.specs.Prelude.{◌≡◌, ◌≤◌, ◌⊎◌, Result, Ok, Err, IfErr, IfOk, OnOk};
 ghost use Rattle.csv.specs.Records.{fields_of};
 ghost use Rattle.indexmap.specs.IndexSet.{index_set_len};
-ghost use Rattle.title_device.specs.declared.fault.RunFault.{RunFault as Fault};
-ghost use Rattle.title_device.specs.declared.fault.RunFault.TheVariants as fault;
+ghost use Rattle.title_plan.specs.declared.fault.ScriptFault.{ScriptFault as Fault};
+ghost use Rattle.title_plan.specs.declared.fault.ScriptFault.TheVariants as fault;
 ghost use Rattle.title_plan.specs.declared.plan.TheConstants.{PARTIES};
 ghost use Rattle.title_row.specs.Rows.{said};
 
+use crate::fault::ScriptFault;
 use crate::line::{Line, Schedule};
 use csv::{ByteRecord, StringRecord};
 use indexmap::IndexSet;
-use std::alloc::Global;
+use std::alloc::{AllocError, Global};
 use std::collections::VecDeque;
-use title_device::RunFault;
 use title_land::Township;
 use title_row::{Row, read_row};
 use title_trace::Request;
@@ -50,18 +50,13 @@ impl Plan {
     ghost use Rattle.title_plan.specs.Plans.{AfterRow, AfterSaid};
     ghost use Rattle.title_plan.specs.declared.line.Schedule.TheVariants as turns;
 
-    /// Nothing but UNITED STATES as party 0. `Err` is Memory.
-    pub fn new(alloc: Global) -> Result<Plan, RunFault>
+    /// Nothing but UNITED STATES as party 0.
+    pub fn new(alloc: Global) -> Result<Plan, AllocError>
         ensures nothing { IfOk result (λ plan. asked_in plan ≡ nothing_asked) }
-        ensures fault { IfErr result (λ e. e ≡ fault.Memory) }
     {
         let mut parties = IndexSet::new(alloc);
-        let Ok(name) = String::from_str(alloc, FIRST_PARTY) else {
-            return Err(RunFault::Memory);
-        };
-        if parties.insert(name).is_err() {
-            return Err(RunFault::Memory);
-        }
+        let name = String::from_str(alloc, FIRST_PARTY)?;
+        parties.insert(name)?;
         Ok(Plan {
             alloc,
             parties,
@@ -72,7 +67,7 @@ impl Plan {
     }
 
     // Whether a row may stand here: not where another examiner's transaction is open and no two may be.
-    fn check_turn(&self, schedule: Schedule, n: u64, row: &Row<'_>) -> Result<(), RunFault>
+    fn check_turn(&self, schedule: Schedule, n: u64, row: &Row<'_>) -> Result<(), ScriptFault>
         ensures turn { OnOk result ((after : Result Asked Fault)
             → AfterSaid turns.Interleaved n (asked_in self.now) (said row.now) after
             → AfterSaid schedule n (asked_in self.now) (said row.now) after) }
@@ -85,17 +80,16 @@ impl Plan {
             | Row::Abort(examiner)
             | Row::Sheet(examiner, _)
             | Row::Chain(examiner, _)
-            | Row::Deed(examiner, ..)
-            | Row::Release(examiner, ..) => examiner,
+            | Row::Post(examiner, ..) => examiner,
         };
         if self.is_out_of_turn(schedule, examiner) {
-            return Err(RunFault::Order(n));
+            return Err(ScriptFault::Order(n));
         }
         Ok(())
     }
 
     // Takes what the n-th row says, a step in its turn.
-    fn take_turn(&mut self, n: u64, row: &Row<'_>) -> Result<(), RunFault>
+    fn take_turn(&mut self, n: u64, row: &Row<'_>) -> Result<(), ScriptFault>
         ensures ok { OnOk result (AfterSaid turns.Interleaved n (asked_in self.old) (said row.now) (Ok (asked_in self.new))) }
         ensures err { IfErr result (λ e. (e ≡ fault.Memory)
             ⊎ AfterSaid turns.Interleaved n (asked_in self.old) (said row.now) (Err e)) }
@@ -108,17 +102,14 @@ impl Plan {
             Row::Abort(examiner) => self.take_request(Request::Abort(examiner), None),
             Row::Sheet(examiner, text) => self.take_sheet(examiner, text),
             Row::Chain(examiner, text) => self.take_chain(examiner, text),
-            Row::Deed(examiner, terms, grantor, grantee, text) => {
-                self.take_deed(n, examiner, terms, grantor, grantee, text)
-            }
-            Row::Release(examiner, terms, releasor, releasee, text) => {
-                self.take_release(n, examiner, terms, releasor, releasee, text)
+            Row::Post(examiner, doc, ref instrument, text) => {
+                self.take_post(n, examiner, doc, instrument, text)
             }
         }
     }
 
     // Takes what the n-th row says.
-    fn take_said(&mut self, schedule: Schedule, n: u64, row: &Row<'_>) -> Result<(), RunFault>
+    fn take_said(&mut self, schedule: Schedule, n: u64, row: &Row<'_>) -> Result<(), ScriptFault>
         ensures ok { OnOk result (AfterSaid schedule n (asked_in self.old) (said row.now) (Ok (asked_in self.new))) }
         ensures err { IfErr result (λ e. (e ≡ fault.Memory)
             ⊎ AfterSaid schedule n (asked_in self.old) (said row.now) (Err e)) }
@@ -131,20 +122,25 @@ impl Plan {
 
     /// Takes the n-th row. Faults in their order: Row(n) where it isn't understood, Order(n) where it declares something
     /// after the first step or is out of its turn, Party(n) for a name that is there already or isn't declared; Memory.
-    pub fn take_row(&mut self, schedule: Schedule, n: u64, raw: ByteRecord) -> Result<(), RunFault>
+    pub fn take_row(
+        &mut self,
+        schedule: Schedule,
+        n: u64,
+        raw: ByteRecord,
+    ) -> Result<(), ScriptFault>
         ensures ok { OnOk result (AfterRow schedule n (asked_in self.old) (fields_of raw) (Ok (asked_in self.new))) }
         ensures within { OnOk result (n ≤ ROWS) }
         ensures err { IfErr result (λ e. (e ≡ fault.Memory) ⊎ AfterRow schedule n (asked_in self.old) (fields_of raw) (Err e)) }
     {
         if n > ROWS {
-            return Err(RunFault::Row(n));
+            return Err(ScriptFault::Row(n));
         }
         let Ok(row) = StringRecord::from_byte_record(raw) else {
-            return Err(RunFault::Row(n));
+            return Err(ScriptFault::Row(n));
         };
         match read_row(&row) {
             Some(row) => self.take_said(schedule, n, &row),
-            None => Err(RunFault::Row(n)),
+            None => Err(ScriptFault::Row(n)),
         }
     }
 }

@@ -3,24 +3,24 @@
 ghost use Rattle.std.specs.Prelude.{◌≡◌, ◌⊎◌, Ok, Err, IfErr, IfOk, length};
 ghost use Rattle.title_plan.specs.Asked.{CanOpen, asked_in};
 ghost use Rattle.csv.specs.Reading.{error_kind};
-ghost use Rattle.title_plan.specs.Faults.{IsScriptFault, IsWant};
+ghost use Rattle.title_plan.specs.Faults.{IsWant};
 ghost use Rattle.title_plan.specs.Plans.{IsScript};
-ghost use Rattle.title_device.specs.declared.fault.RunFault.TheVariants as fault;
+ghost use Rattle.title_plan.specs.declared.fault.ScriptFault.TheVariants as fault;
 
+use crate::fault::ScriptFault;
 use crate::line::Schedule;
 use crate::plan::Plan;
 use csv::{Error, ErrorKind, ReaderBuilder};
 use std::alloc::Global;
-use title_device::RunFault;
 
 // Splitting a text in memory into rows ends early for want of memory only: rows may have any lengths, and their bytes are
 // not looked at.
-fn fault_of(error: Error) -> RunFault
+fn fault_of(error: Error) -> ScriptFault
     requires want { IsWant (error_kind error) }
     ensures memory { result ≡ fault.Memory }
 {
     match error.into_kind() {
-        ErrorKind::OutOfMemory | ErrorKind::Io(_) => RunFault::Memory,
+        ErrorKind::OutOfMemory | ErrorKind::Io(_) => ScriptFault::Memory,
         ErrorKind::Utf8 { .. } => unreachable!(),
         ErrorKind::UnequalLengths { .. } => unreachable!(),
         ErrorKind::Serialize(_) => unreachable!(),
@@ -30,11 +30,10 @@ fn fault_of(error: Error) -> RunFault
 
 /// What a script declares and asks for, or the fault of its first row at fault: Row, Order or Party with the row's number
 /// from 1; or Memory. With what it declares a plant can be opened.
-pub fn read_script(alloc: Global, schedule: Schedule, text: &[u8]) -> Result<Plan, RunFault>
+pub fn read_script(alloc: Global, schedule: Schedule, text: &[u8]) -> Result<Plan, ScriptFault>
     ensures script { IfOk result (λ plan. IsScript schedule text.now (Ok (asked_in plan))) }
     ensures opens { IfOk result (λ plan. CanOpen (length plan.parties.keys) plan.townships.items) }
     ensures why { IfErr result (λ e. (e ≡ fault.Memory) ⊎ IsScript schedule text.now (Err e)) }
-    ensures fault { IfErr result IsScriptFault }
 {
     let rdr = ReaderBuilder::new()
         .has_headers(false)

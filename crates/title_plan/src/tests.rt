@@ -34,15 +34,21 @@ fn habits_of_csv(rt: HostRuntime) -> Result<(), Fail> {
             "0 UNITED STATES;ADAMS;BELL, J;CLARK;DAY \"D\"; [] None",
         ),
         ("party,\"ADAMS", "0 UNITED STATES;ADAMS; [] None"),
-        ("party,\"ADAMS\n", "fault,31,1"),
-        ("party,\"AD\nAMS\"\n", "fault,31,1"),
+        ("party,\"ADAMS\n", "row 1 isn\'t a row of a script"),
+        ("party,\"AD\nAMS\"\n", "row 1 isn\'t a row of a script"),
         (
             "1,sheet,\"T3N\nR2W\"\n",
             "0 UNITED STATES; [Described(1, BadText(3))] None",
         ),
-        ("1,sheet,\"T3N\nR2W\"\n\nparty,ADAMS\n", "fault,35,2"),
-        (" \nparty,ADAMS\n", "fault,31,1"),
-        ("party,ADAMS\n\n\r\nparty,ADAMS\n", "fault,34,2"),
+        (
+            "1,sheet,\"T3N\nR2W\"\n\nparty,ADAMS\n",
+            "row 2 is out of its place",
+        ),
+        (" \nparty,ADAMS\n", "row 1 isn\'t a row of a script"),
+        (
+            "party,ADAMS\n\n\r\nparty,ADAMS\n",
+            "row 2 has a party at fault",
+        ),
     ] {
         let plan = shown(rt.alloc(), Schedule::Serial, script)?;
         assert_eq!(rt; plan.as_str(), wanted, "at {script}");
@@ -73,27 +79,35 @@ fn rows_of_scripts(rt: HostRuntime) -> Result<(), Fail> {
             "party,ADAMS\n3,deed,7,UNITED STATES,ADAMS,S,W1/1,,lot 1\n",
             "0 UNITED STATES;ADAMS; [Described(3, BadText(0))] None",
         ),
-        (Schedule::Serial, "township,everything\n", "fault,31,1"),
+        (
+            Schedule::Serial,
+            "township,everything\n",
+            "row 1 isn\'t a row of a script",
+        ),
         (
             Schedule::Serial,
             "township,T3N R2W\ntownship,T3N R2W\n",
-            "fault,31,2",
+            "row 2 isn\'t a row of a script",
         ),
         (
             Schedule::Serial,
             "1,abort\ntownship,T3N R2W\n",
-            "fault,35,2",
+            "row 2 is out of its place",
         ),
-        (Schedule::Serial, "party,UNITED STATES\n", "fault,34,1"),
+        (
+            Schedule::Serial,
+            "party,UNITED STATES\n",
+            "row 1 has a party at fault",
+        ),
         (
             Schedule::Serial,
             "1,release,7,ADAMS,ADAMS,S,everything\n1,\n",
-            "fault,34,1",
+            "row 1 has a party at fault",
         ),
         (
             Schedule::Serial,
             "1,begin\n2,release,7,ADAMS,ADAMS,S,everything\n",
-            "fault,35,2",
+            "row 2 is out of its place",
         ),
     ] {
         let plan = shown(rt.alloc(), schedule, script)?;
@@ -110,6 +124,6 @@ fn sixty_fifth_township(rt: HostRuntime) -> Result<(), Fail> {
         script.push_str(row.as_str())?;
     }
     let plan = shown(rt.alloc(), Schedule::Serial, script.as_str())?;
-    assert_eq!(rt; plan.as_str(), "fault,31,65");
+    assert_eq!(rt; plan.as_str(), "row 65 isn\'t a row of a script");
     Ok(())
 }

@@ -1,14 +1,13 @@
 -- The rows of a report: those of each reply, of a description that is none, and the last.
-use Rattle.std.specs.Prelude.{ℕ, Bool, true, false, List, [], ◌∷◌, length, map, codes, slice_index_or}
+use Rattle.std.specs.Prelude.{ℕ, List, [], ◌∷◌, length, map, codes, slice_index_or}
 use Rattle.std.specs.Fmt.{decimal}
 use Rattle.title_share.specs.Share.{share_text}
 use Rattle.title_land.specs.declared.node.Node.{Node}
 use Rattle.title_land.specs.Texts.{node_text}
-use Rattle.title_instrument.specs.declared.instrument.Instrument.{Instrument}
-use Rattle.title_instrument.specs.declared.instrument.Instrument.TheVariants as instrument
 use Rattle.title_instrument.specs.declared.parts.Estate.{Estate}
 use Rattle.title_instrument.specs.declared.parts.Rule.{Rule}
 use Rattle.title_instrument.specs.Estates.{estate_text, estates_text}
+use Rattle.title_instrument.specs.Kinds.{kind_of, kind_word}
 use Rattle.title_instrument.specs.Numbers.{rule_number, cause_number}
 use Rattle.title_instrument.specs.Parties.{grantor_of, grantee_of, estates_of}
 use Rattle.title_store.specs.declared.sheet_row.SheetRow.{SheetRow}
@@ -38,20 +37,10 @@ abbrev pub sheet_row : List (List ℕ) → ℕ → SheetRow → List (List ℕ)
 sheet_row names e r =
     decimal e ∷ codes "row" ∷ node_text r.node ∷ estate_text r.estate ∷ name_of names r.party ∷ share_text r.units ∷ []
 
--- the kind of a deed, plain or with warranty
-abbrev pub deed_kind : (warranty : Bool) → List ℕ
-deed_kind false = codes "deed"
-deed_kind true = codes "warranty"
-
--- the kind of an instrument
-abbrev pub kind_of : Instrument → List ℕ
-kind_of (instrument.Deed d) = deed_kind d.warranty
-kind_of (instrument.Release r) = codes "release"
-
 -- a row of a chain: `E,entry,PLACE,DOC,KIND,FROM,TO,ESTATES`
 abbrev pub entry_row : List (List ℕ) → ℕ → Entry → List (List ℕ)
 entry_row names e x =
-    decimal e ∷ codes "entry" ∷ decimal x.place ∷ decimal x.posting.doc ∷ kind_of x.posting.instrument
+    decimal e ∷ codes "entry" ∷ decimal x.place ∷ decimal x.posting.doc ∷ kind_word (kind_of x.posting.instrument)
     ∷ name_of names (grantor_of x.posting.instrument) ∷ name_of names (grantee_of x.posting.instrument)
     ∷ estates_text (estates_of x.posting.instrument) ∷ []
 

@@ -1,34 +1,16 @@
 //! The rows of a chain.
 
-ghost use Rattle.std.specs.Prelude.{◌≡◌, ◌∷◌, [], Some, IfErr, IfOk, OnOk, codes, length, map};
+ghost use Rattle.std.specs.Prelude.{◌≡◌, ◌∷◌, [], Some, IfOk, OnOk, codes, length, map};
 ghost use Rattle.std.specs.String.{string_bytes};
-ghost use Rattle.title_report.specs.Replies.{entry_row, kind_of, number_row};
+ghost use Rattle.title_report.specs.Replies.{entry_row, number_row};
 ghost use Rattle.title_report.specs.Writing.{rows_text};
 ghost use Rattle.title_report.specs.Written.{Writes};
 
 use crate::writing::{name_bytes, text_of, write_number, write_row};
 use csv::Writer;
 use indexmap::IndexSet;
-use std::alloc::Global;
+use std::alloc::{AllocError, Global};
 use title_chain::Entry;
-use title_device::RunFault;
-use title_instrument::Instrument;
-
-// The kind of an instrument.
-fn kind_text(alloc: Global, instrument: &Instrument) -> Result<String, RunFault>
-    ensures kind { IfOk result (λ t. string_bytes t ≡ kind_of instrument.now) }
-    ensures fault { IfErr result (λ e. e ≡ RunFault.Memory) }
-{
-    let kind = match instrument {
-        Instrument::Deed(deed) if deed.warranty => "warranty",
-        Instrument::Deed(_) => "deed",
-        Instrument::Release(_) => "release",
-    };
-    match String::from_str(alloc, kind) {
-        Ok(text) => Ok(text),
-        Err(_) => Err(RunFault::Memory),
-    }
-}
 
 // Writes a row of a chain.
 fn write_entry(
@@ -37,15 +19,16 @@ fn write_entry(
     names: &IndexSet<String>,
     examiner: u32,
     entry: &Entry,
-) -> Result<(), RunFault>
-    ensures row { OnOk result (Writes (λ v. Some v.items) writer.old writer.new (rows_text (entry_row (map string_bytes names.now.keys) examiner entry.now ∷ []))) }
-    ensures fault { IfErr result (λ e. e ≡ RunFault.Memory) }
+) -> Result<(), AllocError>
+    ensures row { OnOk result (Writes (λ v. Some v.items) writer.old writer.new
+        (rows_text (entry_row (map string_bytes names.now.keys) examiner entry.now ∷ []))) }
 {
     let examiner = text_of(alloc, &examiner)?;
     let place = text_of(alloc, &entry.place)?;
     let doc = text_of(alloc, &entry.posting.doc)?;
     let instrument = entry.posting.instrument;
-    let kind = kind_text(alloc, &instrument)?;
+    let kind = instrument.kind();
+    let kind = text_of(alloc, &kind)?;
     let estates = instrument.estates();
     let estates = text_of(alloc, &estates)?;
     let from = name_bytes(names, instrument.grantor());
@@ -72,9 +55,9 @@ fn write_entries(
     names: &IndexSet<String>,
     examiner: u32,
     entries: &[Entry],
-) -> Result<(), RunFault>
-    ensures rows { OnOk result (Writes (λ v. Some v.items) writer.old writer.new (rows_text (map (entry_row (map string_bytes names.now.keys) examiner) entries.now))) }
-    ensures fault { IfErr result (λ e. e ≡ RunFault.Memory) }
+) -> Result<(), AllocError>
+    ensures rows { OnOk result (Writes (λ v. Some v.items) writer.old writer.new
+        (rows_text (map (entry_row (map string_bytes names.now.keys) examiner) entries.now))) }
 {
     for entry in entries {
         write_entry(alloc, writer, names, examiner, entry)?;
@@ -89,9 +72,10 @@ pub(crate) fn write_chain(
     names: &IndexSet<String>,
     examiner: u32,
     entries: &[Entry],
-) -> Result<(), RunFault>
-    ensures rows { OnOk result (Writes (λ v. Some v.items) writer.old writer.new (rows_text (number_row examiner (codes "chain") (length entries.now) ∷ map (entry_row (map string_bytes names.now.keys) examiner) entries.now))) }
-    ensures fault { IfErr result (λ e. e ≡ RunFault.Memory) }
+) -> Result<(), AllocError>
+    ensures rows { OnOk result (Writes (λ v. Some v.items) writer.old writer.new
+        (rows_text (number_row examiner (codes "chain") (length entries.now)
+        ∷ map (entry_row (map string_bytes names.now.keys) examiner) entries.now))) }
 {
     write_number(alloc, writer, examiner, b"chain", entries.len() as u64)?;
     write_entries(alloc, writer, names, examiner, entries)

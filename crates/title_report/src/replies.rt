@@ -1,6 +1,6 @@
 //! The rows of a reply.
 
-ghost use Rattle.std.specs.Prelude.{◌≡◌, ◌∷◌, [], Some, IfErr, OnOk, map};
+ghost use Rattle.std.specs.Prelude.{◌≡◌, ◌∷◌, [], Some, OnOk, map};
 ghost use Rattle.std.specs.String.{string_bytes};
 ghost use Rattle.title_report.specs.Replies.{answer_rows, described_row, end_row, refused_row, reply_rows};
 ghost use Rattle.title_report.specs.Writing.{rows_text};
@@ -11,10 +11,9 @@ use crate::sheets::write_sheet;
 use crate::writing::{text_of, write_number, write_row, write_word};
 use csv::Writer;
 use indexmap::IndexSet;
-use std::alloc::Global;
+use std::alloc::{AllocError, Global};
 use title_aliquot::DescFault;
 use title_chain::Answer;
-use title_device::RunFault;
 use title_instrument::{Estate, Rule};
 use title_land::Node;
 use title_trace::Reply;
@@ -27,9 +26,8 @@ fn write_refused(
     rule: Rule,
     estate: Estate,
     node: Node,
-) -> Result<(), RunFault>
+) -> Result<(), AllocError>
     ensures row { OnOk result (Writes (λ v. Some v.items) writer.old writer.new (rows_text (refused_row examiner rule estate node ∷ []))) }
-    ensures fault { IfErr result (λ e. e ≡ RunFault.Memory) }
 {
     let examiner = text_of(alloc, &examiner)?;
     let number = rule.number();
@@ -55,9 +53,9 @@ fn write_answer(
     names: &IndexSet<String>,
     examiner: u32,
     answer: &Answer,
-) -> Result<(), RunFault>
-    ensures rows { OnOk result (Writes (λ v. Some v.items) writer.old writer.new (rows_text (answer_rows (map string_bytes names.now.keys) examiner answer.now))) }
-    ensures fault { IfErr result (λ e. e ≡ RunFault.Memory) }
+) -> Result<(), AllocError>
+    ensures rows { OnOk result (Writes (λ v. Some v.items) writer.old writer.new
+        (rows_text (answer_rows (map string_bytes names.now.keys) examiner answer.now))) }
 {
     match answer {
         Answer::Rows(rows) => write_sheet(alloc, writer, names, examiner, rows.as_slice()),
@@ -76,9 +74,9 @@ pub(crate) fn write_reply(
     names: &IndexSet<String>,
     examiner: u32,
     reply: &Reply,
-) -> Result<(), RunFault>
-    ensures rows { OnOk result (Writes (λ v. Some v.items) writer.old writer.new (rows_text (reply_rows (map string_bytes names.now.keys) examiner reply.now))) }
-    ensures fault { IfErr result (λ e. e ≡ RunFault.Memory) }
+) -> Result<(), AllocError>
+    ensures rows { OnOk result (Writes (λ v. Some v.items) writer.old writer.new
+        (rows_text (reply_rows (map string_bytes names.now.keys) examiner reply.now))) }
 {
     match reply {
         Reply::Began => write_word(alloc, writer, examiner, b"began"),
@@ -96,7 +94,7 @@ pub(crate) fn write_reply(
         Reply::Conflict(other) => {
             write_number(alloc, writer, examiner, b"conflict", u64::from(*other))
         }
-        Reply::Memory => Err(RunFault::Memory),
+        Reply::Memory => Err(AllocError),
     }
 }
 
@@ -106,9 +104,9 @@ fn write_bad_text(
     writer: &mut Writer<Vec<u8>>,
     examiner: u32,
     byte: usize,
-) -> Result<(), RunFault>
-    ensures row { OnOk result (Writes (λ v. Some v.items) writer.old writer.new (rows_text (described_row examiner (DescFault.BadText byte) ∷ []))) }
-    ensures fault { IfErr result (λ e. e ≡ RunFault.Memory) }
+) -> Result<(), AllocError>
+    ensures row { OnOk result (Writes (λ v. Some v.items) writer.old writer.new
+        (rows_text (described_row examiner (DescFault.BadText byte) ∷ []))) }
 {
     let examiner = text_of(alloc, &examiner)?;
     let byte = text_of(alloc, &byte)?;
@@ -124,9 +122,8 @@ pub(crate) fn write_described(
     writer: &mut Writer<Vec<u8>>,
     examiner: u32,
     why: DescFault,
-) -> Result<(), RunFault>
+) -> Result<(), AllocError>
     ensures row { OnOk result (Writes (λ v. Some v.items) writer.old writer.new (rows_text (described_row examiner why ∷ []))) }
-    ensures fault { IfErr result (λ e. e ≡ RunFault.Memory) }
 {
     match why {
         DescFault::BadText(byte) => write_bad_text(alloc, writer, examiner, byte),
@@ -142,9 +139,8 @@ pub(crate) fn write_end(
     alloc: Global,
     writer: &mut Writer<Vec<u8>>,
     steps: usize,
-) -> Result<(), RunFault>
+) -> Result<(), AllocError>
     ensures row { OnOk result (Writes (λ v. Some v.items) writer.old writer.new (rows_text (end_row steps ∷ []))) }
-    ensures fault { IfErr result (λ e. e ≡ RunFault.Memory) }
 {
     let steps = text_of(alloc, &steps)?;
     write_row(writer, &[b"end", steps.as_bytes()])

@@ -1,18 +1,16 @@
 //! Reports as they are written.
 
-ghost use Rattle.std.specs.Prelude.{◌≡◌, ◌++◌, [], IfErr, IfOk, map};
+ghost use Rattle.std.specs.Prelude.{◌≡◌, ◌++◌, [], IfOk, map};
 ghost use Rattle.std.specs.String.{string_bytes};
-ghost use Rattle.title_device.specs.declared.fault.RunFault.TheVariants as fault;
 ghost use Rattle.title_report.specs.Replies.{described_row, end_row, reply_rows};
 ghost use Rattle.title_report.specs.Writing.{row, rows_text};
 
 use crate::replies::{write_described, write_end, write_reply};
 use csv::{Writer, WriterBuilder};
 use indexmap::IndexSet;
-use std::alloc::Global;
+use std::alloc::{AllocError, Global};
 use std::marker::Model;
 use title_aliquot::DescFault;
-use title_device::RunFault;
 use title_trace::Reply;
 
 /// A report as far as it is written: whole rows. A contract sees its bytes. It is handed on by value; its writer, with a
@@ -32,22 +30,21 @@ impl Model for Report {
 
     ghost view = { λ r. bytes_or_none (text_written (λ v. Some v.items) r.writer.value) };
 
-    ghost invariant = { λ r. (writer_setup r.writer.value ≡ report_writer) × (fields_written r.writer.value ≡ 0) × (has_written r.writer.value ≡ false) × (text_written (λ v. Some v.items) r.writer.value ≡ Some (bytes_or_none (text_written (λ v. Some v.items) r.writer.value))) };
+    ghost invariant = { λ r. (writer_setup r.writer.value ≡ report_writer) × (fields_written r.writer.value ≡ 0)
+        × (has_written r.writer.value ≡ false) × (text_written (λ v. Some v.items) r.writer.value
+        ≡ Some (bytes_or_none (text_written (λ v. Some v.items) r.writer.value))) };
 }
 
 impl Report {
     /// Nothing written yet. `Err` is Memory.
-    pub fn new(alloc: Global) -> Result<Report, RunFault>
+    pub fn new(alloc: Global) -> Result<Report, AllocError>
         ensures nothing { IfOk result (λ r. r ≡ []) }
-        ensures fault { IfErr result (λ e. e ≡ fault.Memory) }
     {
         let writer = WriterBuilder::new()
             .flexible(true)
             .from_writer(Vec::new(alloc));
-        match Box::new(alloc, writer) {
-            Ok(writer) => Ok(Report { alloc, writer }),
-            Err(_) => Err(RunFault::Memory),
-        }
+        let writer = Box::new(alloc, writer)?;
+        Ok(Report { alloc, writer })
     }
 
     /// The rows of a reply to an examiner, the names having the parties' numbers as places. A Memory reply has none: it
@@ -57,32 +54,27 @@ impl Report {
         names: &IndexSet<String>,
         examiner: u32,
         reply: &Reply,
-    ) -> Result<Report, RunFault>
+    ) -> Result<Report, AllocError>
         ensures rows { IfOk result (λ r. r ≡ self ++ rows_text (reply_rows (map string_bytes names.now.keys) examiner reply.now)) }
-        ensures fault { IfErr result (λ e. e ≡ fault.Memory) }
     {
         write_reply(self.alloc, &mut self.writer, names, examiner, reply)?;
         Ok(self)
     }
 
     /// The row of a description that is none. `Err` is Memory.
-    pub fn described(mut self, examiner: u32, why: DescFault) -> Result<Report, RunFault>
+    pub fn described(mut self, examiner: u32, why: DescFault) -> Result<Report, AllocError>
         ensures row { IfOk result (λ r. r ≡ self ++ row (described_row examiner why)) }
-        ensures fault { IfErr result (λ e. e ≡ fault.Memory) }
     {
         write_described(self.alloc, &mut self.writer, examiner, why)?;
         Ok(self)
     }
 
     /// The last row, with the number of step rows; the report's bytes. `Err` is Memory.
-    pub fn end(mut self, steps: usize) -> Result<Vec<u8>, RunFault>
+    pub fn end(mut self, steps: usize) -> Result<Vec<u8>, AllocError>
         ensures text { IfOk result (λ v. v.items ≡ self ++ row (end_row steps)) }
-        ensures fault { IfErr result (λ e. e ≡ fault.Memory) }
     {
         write_end(self.alloc, &mut self.writer, steps)?;
-        match Box::into_inner(self.writer).into_inner() {
-            Ok(text) => Ok(text),
-            Err(_) => Err(RunFault::Memory),
-        }
+        let written = Box::into_inner(self.writer).into_inner();
+        written.map_err(|_| AllocError)
     }
 }

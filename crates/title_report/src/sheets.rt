@@ -1,6 +1,6 @@
 //! The rows of a sheet.
 
-ghost use Rattle.std.specs.Prelude.{◌≡◌, ◌∷◌, [], Some, IfErr, OnOk, codes, length, map};
+ghost use Rattle.std.specs.Prelude.{◌≡◌, ◌∷◌, [], Some, OnOk, codes, length, map};
 ghost use Rattle.std.specs.String.{string_bytes};
 ghost use Rattle.title_report.specs.Replies.{number_row, sheet_row};
 ghost use Rattle.title_report.specs.Writing.{rows_text};
@@ -9,8 +9,7 @@ ghost use Rattle.title_report.specs.Written.{Writes};
 use crate::writing::{name_bytes, text_of, write_number, write_row};
 use csv::Writer;
 use indexmap::IndexSet;
-use std::alloc::Global;
-use title_device::RunFault;
+use std::alloc::{AllocError, Global};
 use title_share::Fraction;
 use title_store::SheetRow;
 
@@ -21,9 +20,9 @@ fn write_sheet_row(
     names: &IndexSet<String>,
     examiner: u32,
     line: SheetRow,
-) -> Result<(), RunFault>
-    ensures row { OnOk result (Writes (λ v. Some v.items) writer.old writer.new (rows_text (sheet_row (map string_bytes names.now.keys) examiner line ∷ []))) }
-    ensures fault { IfErr result (λ e. e ≡ RunFault.Memory) }
+) -> Result<(), AllocError>
+    ensures row { OnOk result (Writes (λ v. Some v.items) writer.old writer.new
+        (rows_text (sheet_row (map string_bytes names.now.keys) examiner line ∷ []))) }
 {
     let examiner = text_of(alloc, &examiner)?;
     let node = text_of(alloc, &line.node)?;
@@ -51,9 +50,9 @@ fn write_sheet_rows(
     names: &IndexSet<String>,
     examiner: u32,
     lines: &[SheetRow],
-) -> Result<(), RunFault>
-    ensures rows { OnOk result (Writes (λ v. Some v.items) writer.old writer.new (rows_text (map (sheet_row (map string_bytes names.now.keys) examiner) lines.now))) }
-    ensures fault { IfErr result (λ e. e ≡ RunFault.Memory) }
+) -> Result<(), AllocError>
+    ensures rows { OnOk result (Writes (λ v. Some v.items) writer.old writer.new
+        (rows_text (map (sheet_row (map string_bytes names.now.keys) examiner) lines.now))) }
 {
     for line in lines {
         write_sheet_row(alloc, writer, names, examiner, *line)?;
@@ -68,9 +67,10 @@ pub(crate) fn write_sheet(
     names: &IndexSet<String>,
     examiner: u32,
     lines: &[SheetRow],
-) -> Result<(), RunFault>
-    ensures rows { OnOk result (Writes (λ v. Some v.items) writer.old writer.new (rows_text (number_row examiner (codes "sheet") (length lines.now) ∷ map (sheet_row (map string_bytes names.now.keys) examiner) lines.now))) }
-    ensures fault { IfErr result (λ e. e ≡ RunFault.Memory) }
+) -> Result<(), AllocError>
+    ensures rows { OnOk result (Writes (λ v. Some v.items) writer.old writer.new
+        (rows_text (number_row examiner (codes "sheet") (length lines.now)
+        ∷ map (sheet_row (map string_bytes names.now.keys) examiner) lines.now))) }
 {
     write_number(alloc, writer, examiner, b"sheet", lines.len() as u64)?;
     write_sheet_rows(alloc, writer, names, examiner, lines)

@@ -1,6 +1,6 @@
 //! One row of a report, and the texts of its fields.
 
-ghost use Rattle.std.specs.Prelude.{◌≡◌, ◌∷◌, [], Some, IfErr, IfOk, IfSome, OnOk, map};
+ghost use Rattle.std.specs.Prelude.{◌≡◌, ◌∷◌, [], Some, IfOk, IfSome, OnOk, map};
 ghost use Rattle.std.specs.String.{string_bytes};
 ghost use Rattle.title_report.specs.Replies.{name_of, number_row, word_row};
 ghost use Rattle.title_report.specs.Writing.{rows_text};
@@ -8,30 +8,21 @@ ghost use Rattle.title_report.specs.Written.{Writes};
 
 use csv::Writer;
 use indexmap::IndexSet;
-use std::alloc::Global;
+use std::alloc::{AllocError, Global};
 use std::fmt;
-use title_device::RunFault;
 
 // Writes a row of these fields.
-pub(crate) fn write_row(writer: &mut Writer<Vec<u8>>, fields: &[&[u8]]) -> Result<(), RunFault>
+pub(crate) fn write_row(writer: &mut Writer<Vec<u8>>, fields: &[&[u8]]) -> Result<(), AllocError>
     ensures row { OnOk result (Writes (λ v. Some v.items) writer.old writer.new (rows_text (map (λ f. f.now) fields.now ∷ []))) }
-    ensures fault { IfErr result (λ e. e ≡ RunFault.Memory) }
 {
-    match writer.write_fields(fields) {
-        Ok(()) => Ok(()),
-        Err(_) => Err(RunFault::Memory),
-    }
+    writer.write_fields(fields).map_err(|_| AllocError)
 }
 
 // What a value prints as.
-pub(crate) fn text_of<T: fmt::Display>(alloc: Global, value: &T) -> Result<String, RunFault>
+pub(crate) fn text_of<T: fmt::Display>(alloc: Global, value: &T) -> Result<String, AllocError>
     ensures text { IfOk result (λ t. IfSome (T.output value.now) (λ text. string_bytes t ≡ text)) }
-    ensures fault { IfErr result (λ e. e ≡ RunFault.Memory) }
 {
-    match value.to_string(alloc) {
-        Ok(text) => Ok(text),
-        Err(_) => Err(RunFault::Memory),
-    }
+    value.to_string(alloc)
 }
 
 // The name of the party of this number.
@@ -50,9 +41,8 @@ pub(crate) fn write_word(
     writer: &mut Writer<Vec<u8>>,
     examiner: u32,
     word: &[u8],
-) -> Result<(), RunFault>
+) -> Result<(), AllocError>
     ensures row { OnOk result (Writes (λ v. Some v.items) writer.old writer.new (rows_text (word_row examiner word.now ∷ []))) }
-    ensures fault { IfErr result (λ e. e ≡ RunFault.Memory) }
 {
     let examiner = text_of(alloc, &examiner)?;
     write_row(writer, &[examiner.as_bytes(), word])
@@ -65,9 +55,8 @@ pub(crate) fn write_number(
     examiner: u32,
     word: &[u8],
     number: u64,
-) -> Result<(), RunFault>
+) -> Result<(), AllocError>
     ensures row { OnOk result (Writes (λ v. Some v.items) writer.old writer.new (rows_text (number_row examiner word.now number ∷ []))) }
-    ensures fault { IfErr result (λ e. e ≡ RunFault.Memory) }
 {
     let examiner = text_of(alloc, &examiner)?;
     let number = text_of(alloc, &number)?;

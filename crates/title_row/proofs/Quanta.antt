@@ -28,6 +28,7 @@ not-interest text rest is none (quantum.Whole n) (other, there, named) =
     absurd (other-head 87 73 other rest (sym there ∙ is) (omega arith))
 
 -- neither letter stands first
-pub no-quantum : (text : List ℕ) → ((rest : List ℕ) → text ≢ 87 ∷ rest) → ((rest : List ℕ) → text ≢ 73 ∷ rest) → (q : Quantum) → IsQuantum text q → ⊥
+pub no-quantum : (text : List ℕ) → ((rest : List ℕ) → text ≢ 87 ∷ rest) → ((rest : List ℕ) → text ≢ 73 ∷ rest) → (q : Quantum)
+    → IsQuantum text q → ⊥
 no-quantum text whole interest (quantum.Whole n) (rest, is, named) = whole rest is
 no-quantum text whole interest (quantum.Interest n) (rest, is, named) = interest rest is

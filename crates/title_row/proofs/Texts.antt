@@ -1,5 +1,6 @@
 -- Texts around a mark, and the shares that they name.
-use Rattle.std.proofs.Common.{◌≡◌, ◌≢◌, ◌<◌, ◌≤◌, ◌*◌, ◌/◌, ◌∙◌, ◌++◌, ◌∷◌, [], refl, sym, ap, subst, ℕ, zero, suc, List, length, get_or, arith}
+use Rattle.std.proofs.Common.{◌≡◌, ◌≢◌, ◌<◌, ◌≤◌, ◌*◌, ◌/◌, ◌∙◌, ◌++◌, ◌∷◌, [], refl, sym, ap, subst, ℕ, zero, suc, List, length, get_or}
+use Rattle.std.proofs.Common.{arith}
 use Rattle.std.proofs.Math.Nat.{mul-div_cancel}
 use Rattle.std.proofs.lemmas.Str.Parse.{digit_at}
 use Rattle.title_share.specs.Rows.{whole_units}
@@ -19,7 +20,8 @@ lacks-more mark c text differs h (suc i) l = h i (omega arith)
 
 pub lacks-append : (mark : ℕ) (text other : List ℕ) → Lacks mark text → Lacks mark other → Lacks mark (text ++ other)
 lacks-append mark [] other a b = b
-lacks-append mark (c ∷ text) other a b = lacks-more mark c (text ++ other) (a 0 (omega arith)) (lacks-append mark text other (lacks-rest mark c text a) b)
+lacks-append mark (c ∷ text) other a b = lacks-more mark c (text ++ other) (a 0 (omega arith))
+    (lacks-append mark text other (lacks-rest mark c text a) b)
 
 -- it stands between two texts
 pub stands-between : (mark : ℕ) (text other : List ℕ) → Lacks mark (text ++ mark ∷ other) → ⊥
@@ -59,10 +61,13 @@ one-factor m n b some e = sym (mul-div_cancel m some) ∙ ap (λ (x : ℕ). x / 
 -- a text names one share
 pub one-share : (text : List ℕ) (m n : ℕ) → IsShareText text m → IsShareText text n → m ≡ n
 one-share text m n s t =
-    let apart : (k : ℕ) (digits : List ℕ) → IsNumber digits k → Lacks 47 digits = λ k digits is. digits-lack 47 digits k is (λ low high. omega arith) in
-    let parts = one-split 47 s.top s.bottom t.top t.bottom (apart s.a s.top s.top_is) (apart t.a t.top t.top_is) (sym s.joined ∙ t.joined) in
+    let apart : (k : ℕ) (digits : List ℕ) → IsNumber digits k
+    → Lacks 47 digits = λ k digits is. digits-lack 47 digits k is (λ low high. omega arith) in
+    let parts = one-split 47 s.top s.bottom t.top t.bottom (apart s.a s.top s.top_is) (apart t.a t.top t.top_is) (sym s.joined ∙ t.joined)
+    in
     let above : s.a ≡ t.a = same_number s.top t.top s.a t.a parts.0 s.top_is t.top_is in
     let below : s.b ≡ t.b = same_number s.bottom t.bottom s.b t.b parts.1 s.bottom_is t.bottom_is in
     let some = s.fraction.some in
     let most = s.fraction.most in
-    one-factor m n s.b (omega arith) (s.fraction.product ∙ ap (λ (a : ℕ). a * whole_units) above ∙ sym t.fraction.product ∙ ap (λ (b : ℕ). n * b) (sym below))
+    one-factor m n s.b (omega arith) (s.fraction.product ∙ ap (λ (a : ℕ). a * whole_units) above ∙ sym t.fraction.product
+    ∙ ap (λ (b : ℕ). n * b) (sym below))

@@ -1,16 +1,11 @@
--- The terms of a deed: its word, its quantum, and what it reserves.
-use Rattle.std.specs.Prelude.{◌≡◌, ℕ, Bool, true, false, List, [], ◌∷◌, ◌++◌, codes, Option, Some, None, ◌⊎◌}
+-- The terms of a deed: its quantum, and what it reserves.
+use Rattle.std.specs.Prelude.{◌≡◌, ℕ, List, [], ◌∷◌, ◌++◌, codes, Option, Some, None, ◌⊎◌}
 use Rattle.title_share.specs.Share.{IsShareText}
 use Rattle.title_instrument.specs.declared.parts.Estate.{Estate}
 use Rattle.title_instrument.specs.declared.parts.Estate.TheVariants.{S, O, M}
 use Rattle.title_instrument.specs.declared.parts.Quantum.{Quantum}
 use Rattle.title_instrument.specs.declared.parts.Quantum.TheVariants as quantum
 use Rattle.title_instrument.specs.Estates.{letter_of}
-
--- the word of a deed, plain or with warranty
-abbrev pub deed_word : (warranty : Bool) → List ℕ
-deed_word false = codes "deed"
-deed_word true = codes "warranty"
 
 -- a quantum: `W` and a share of the whole, or `I` and a share of the grantor's interest
 abbrev pub IsQuantum : List ℕ → Quantum → Type 0

@@ -7,7 +7,6 @@ pub mod terms;
 
 pub use fields::{DOCUMENTS, EXAMINERS, NAME_LIMIT};
 pub use row::{Row, read_row};
-pub use terms::{DeedTerms, ReleaseTerms};
 
 #[cfg(test)]
 mod tests;

@@ -2,19 +2,16 @@
 
 ghost use Rattle.std.specs.Prelude.{◌≡◌, ◌∷◌, [], ℕ, List, MatchOption, length};
 ghost use Rattle.csv.specs.Records.{fields_of};
-ghost use Rattle.title_row.specs.Fields.{IsDocument, IsEstates};
 ghost use Rattle.title_row.specs.Rows.{Said, Says, said};
-ghost use Rattle.title_row.specs.Terms.{IsQuantum, IsReserve, Reserve, deed_word, shares_of};
-ghost use Rattle.title_row.specs.declared.terms.DeedTerms.{DeedTerms};
-ghost use Rattle.title_row.specs.declared.terms.ReleaseTerms.{ReleaseTerms};
 
 use crate::fields::{field, has_name_form, read_document, read_estates, read_examiner};
-use crate::terms::{DeedTerms, ReleaseTerms, read_quantum, read_reserve, read_warranty};
+use crate::terms::{is_release, read_quantum, read_reserve, read_warranty};
 use csv::StringRecord;
+use title_instrument::{Deed, Instrument, Release};
 
 /// What a row of a script says: a township's text, a party's name of 1 to 60 bytes, or a step of an examiner, a number from
-/// 1 to 9,999. Steps that read or post have the text of their tract last, which may be any; a deed names its grantor and
-/// its grantee, a release its releasor and its releasee.
+/// 1 to 9,999. Steps that read or post have the text of their tract last, which may be any. A post has a document's number,
+/// from 1 to 999,999,999,999, and an instrument between parties by their names, in one estate at least.
 #[derive(Clone, Copy, Debug)]
 pub enum Row<'a> {
     Township(&'a str),
@@ -24,13 +21,13 @@ pub enum Row<'a> {
     Abort(u32),
     Sheet(u32, &'a str),
     Chain(u32, &'a str),
-    Deed(u32, DeedTerms, &'a str, &'a str, &'a str),
-    Release(u32, ReleaseTerms, &'a str, &'a str, &'a str),
+    Post(u32, u64, Instrument<&'a str>, &'a str),
 }
 
 // A row of two fields: `township,TEXT`, `party,NAME` or `E,WORD`.
 fn read_pair<'a>(first: &str, second: &'a str) -> Option<Row<'a>>
-    ensures said { MatchOption result ((s : Said) → Says (first.now ∷ second.now ∷ []) s → ⊥) (λ r. Says (first.now ∷ second.now ∷ []) (said r)) }
+    ensures said { MatchOption result ((s : Said) → Says (first.now ∷ second.now ∷ []) s → ⊥)
+        (λ r. Says (first.now ∷ second.now ∷ []) (said r)) }
 {
     if first == "township" {
         return Some(Row::Township(second));
@@ -49,7 +46,8 @@ fn read_pair<'a>(first: &str, second: &'a str) -> Option<Row<'a>>
 
 // A row of three fields: `E,sheet,TEXT` or `E,chain,TEXT`.
 fn read_triple<'a>(first: &str, word: &str, text: &'a str) -> Option<Row<'a>>
-    ensures said { MatchOption result ((s : Said) → Says (first.now ∷ word.now ∷ text.now ∷ []) s → ⊥) (λ r. Says (first.now ∷ word.now ∷ text.now ∷ []) (said r)) }
+    ensures said { MatchOption result ((s : Said) → Says (first.now ∷ word.now ∷ text.now ∷ []) s → ⊥)
+        (λ r. Says (first.now ∷ word.now ∷ text.now ∷ []) (said r)) }
 {
     let examiner = read_examiner(first)?;
     match word {
@@ -59,55 +57,20 @@ fn read_triple<'a>(first: &str, word: &str, text: &'a str) -> Option<Row<'a>>
     }
 }
 
-// The terms of a release, by the fields DOC and ESTATES.
-fn release_terms(doc: &str, estates: &str) -> Option<ReleaseTerms>
-    ensures terms { MatchOption result ((terms : ReleaseTerms) → IsDocument doc.now terms.doc → IsEstates estates.now terms.estates → ⊥)
-        (λ terms. IsDocument doc.now terms.doc × IsEstates estates.now terms.estates) }
-{
-    let doc = read_document(doc)?;
-    let estates = read_estates(estates)?;
-    Some(ReleaseTerms { doc, estates })
-}
-
 // A row `E,release,DOC,FROM,TO,ESTATES,TEXT`.
 fn read_release(row: &StringRecord) -> Option<Row<'_>>
     requires seven { length (fields_of row.now) ≡ 7 }
     ensures said { MatchOption result ((s : Said) → Says (fields_of row.now) s → ⊥) (λ r. Says (fields_of row.now) (said r)) }
 {
-    let (releasor, releasee) = (field(row, 3), field(row, 4));
-    if field(row, 1) != "release" || !has_name_form(releasor) || !has_name_form(releasee) {
+    let (from, to) = (field(row, 3), field(row, 4));
+    if !is_release(field(row, 1)) || !has_name_form(from) || !has_name_form(to) {
         return None;
     }
     let examiner = read_examiner(field(row, 0))?;
-    let terms = release_terms(field(row, 2), field(row, 5))?;
-    Some(Row::Release(examiner, terms, releasor, releasee, field(row, 6)))
-}
-
-// The terms of a deed, by the word and the fields DOC, ESTATES, QUANTUM and RESERVE.
-fn deed_terms(
-    word: &str,
-    doc: &str,
-    estates: &str,
-    quantum: &str,
-    reserve: &str,
-) -> Option<DeedTerms>
-    ensures terms { let are : DeedTerms → Type 0 = λ terms.
-        (word.now ≡ deed_word terms.warranty) × IsDocument doc.now terms.doc × IsEstates estates.now terms.estates × IsQuantum quantum.now terms.quantum
-        × (reserved : Reserve) × IsReserve reserve.now reserved × (terms.reserve ≡ shares_of reserved)
-        in MatchOption result ((terms : DeedTerms) → are terms → ⊥) are }
-{
-    let warranty = read_warranty(word)?;
-    let doc = read_document(doc)?;
-    let estates = read_estates(estates)?;
-    let quantum = read_quantum(quantum)?;
-    let reserve = read_reserve(reserve)?;
-    Some(DeedTerms {
-        doc,
-        estates,
-        quantum,
-        reserve,
-        warranty,
-    })
+    let doc = read_document(field(row, 2))?;
+    let estates = read_estates(field(row, 5))?;
+    let release = Instrument::Release(Release { from, to, estates });
+    Some(Row::Post(examiner, doc, release, field(row, 6)))
 }
 
 // A row `E,deed,DOC,GRANTOR,GRANTEE,ESTATES,QUANTUM,RESERVE,TEXT`, or the same with `warranty`.
@@ -116,21 +79,24 @@ fn read_deed(row: &StringRecord) -> Option<Row<'_>>
     ensures said { MatchOption result ((s : Said) → Says (fields_of row.now) s → ⊥) (λ r. Says (fields_of row.now) (said r)) }
 {
     let (grantor, grantee) = (field(row, 3), field(row, 4));
-    if !has_name_form(grantor) {
-        return None;
-    }
-    if !has_name_form(grantee) {
+    if !has_name_form(grantor) || !has_name_form(grantee) {
         return None;
     }
     let examiner = read_examiner(field(row, 0))?;
-    let terms = deed_terms(
-        field(row, 1),
-        field(row, 2),
-        field(row, 5),
-        field(row, 6),
-        field(row, 7),
-    )?;
-    Some(Row::Deed(examiner, terms, grantor, grantee, field(row, 8)))
+    let warranty = read_warranty(field(row, 1))?;
+    let doc = read_document(field(row, 2))?;
+    let estates = read_estates(field(row, 5))?;
+    let quantum = read_quantum(field(row, 6))?;
+    let reserve = read_reserve(field(row, 7))?;
+    let deed = Instrument::Deed(Deed {
+        grantor,
+        grantee,
+        estates,
+        warranty,
+        quantum,
+        reserve,
+    });
+    Some(Row::Post(examiner, doc, deed, field(row, 8)))
 }
 
 /// What a row says, by its fields; `None` where it has another number of fields or other words, or a field that is not of

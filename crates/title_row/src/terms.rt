@@ -1,41 +1,35 @@
 //! The terms of instruments, by their fields.
 
-ghost use Rattle.std.specs.Prelude.{◌≡◌, ◌∷◌, [], ℕ, Bool, List, MatchOption};
+ghost use Rattle.std.specs.Prelude.{◌≡◌, ◌↔◌, ◌∷◌, [], ℕ, Bool, IsTrue, List, MatchOption};
+ghost use Rattle.title_instrument.specs.declared.kind.Kind.TheVariants as kind;
 ghost use Rattle.title_instrument.specs.declared.parts.Estate.{Estate};
 ghost use Rattle.title_instrument.specs.declared.parts.Quantum.{Quantum};
 ghost use Rattle.title_instrument.specs.Estates.{letter_of};
-ghost use Rattle.title_row.specs.Terms.{AddAll, Adds, IsQuantum, IsReserve, Reserve, deed_word, shares_of};
+ghost use Rattle.title_instrument.specs.Kinds.{deed_kind, kind_word};
+ghost use Rattle.title_row.specs.Terms.{AddAll, Adds, IsQuantum, IsReserve, Reserve, shares_of};
 
-use title_instrument::{Estate, Estates, Quantum};
+use title_instrument::{Estate, Kind, Quantum};
 use title_share::Share;
 
-/// What a deed's row says beside its examiner, its parties and its tract. The document's number is from 1 to
-/// 999,999,999,999, one estate at least is named, and the reserve has the shares of S, O and M.
-#[derive(Clone, Copy, Debug)]
-pub struct DeedTerms {
-    pub doc: u64,
-    pub estates: Estates,
-    pub quantum: Quantum,
-    pub reserve: [Option<Share>; 3],
-    pub warranty: bool,
-}
-
-/// What a release's row says beside its examiner, its parties and its tract. The document's number is from 1 to
-/// 999,999,999,999, and one estate at least is named.
-#[derive(Clone, Copy, Debug)]
-pub struct ReleaseTerms {
-    pub doc: u64,
-    pub estates: Estates,
-}
-
-/// Whether a deed's word says that it is with warranty.
+/// Whether a deed's word says that it is with warranty; `None` for any other word.
 pub(crate) fn read_warranty(word: &str) -> Option<bool>
-    ensures warranty { MatchOption result ((warranty : Bool) → word.now ≡ deed_word warranty → ⊥) (λ warranty. word.now ≡ deed_word warranty) }
+    ensures warranty { MatchOption result ((warranty : Bool) → word.now ≡ kind_word (deed_kind warranty) → ⊥)
+        (λ warranty. word.now ≡ kind_word (deed_kind warranty)) }
 {
-    match word {
-        "deed" => Some(false),
-        "warranty" => Some(true),
-        _ => None,
+    match Kind::of_word(word)? {
+        Kind::Deed => Some(false),
+        Kind::Warranty => Some(true),
+        Kind::Release => None,
+    }
+}
+
+/// Whether a word is that of a release.
+pub(crate) fn is_release(word: &str) -> bool
+    ensures release { IsTrue result ↔ (word.now ≡ kind_word kind.Release) }
+{
+    match Kind::of_word(word) {
+        Some(Kind::Release) => true,
+        _ => false,
     }
 }
 
@@ -56,7 +50,8 @@ pub(crate) fn read_quantum(text: &str) -> Option<Quantum>
 
 // The estate whose letter a text begins with, and what stands behind it.
 fn split_letter(text: &str) -> Option<(Estate, &str)>
-    ensures letter { MatchOption result ((e : Estate) (rest : List ℕ) → text.now ≡ letter_of e ∷ rest → ⊥) (λ p. text.now ≡ letter_of p.0 ∷ p.1.now) }
+    ensures letter { MatchOption result ((e : Estate) (rest : List ℕ) → text.now ≡ letter_of e ∷ rest → ⊥)
+        (λ p. text.now ≡ letter_of p.0 ∷ p.1.now) }
 {
     if let Some(rest) = text.strip_prefix('S') {
         return Some((Estate::S, rest));
@@ -77,7 +72,8 @@ fn with_item(
     share: Share,
 ) -> Option<[Option<Share>; 3]>
     ensures added { (before : Reserve) → reserve ≡ shares_of before
-        → MatchOption result ((after : Reserve) → Adds before estate share after → ⊥) (λ shares. (after : Reserve) × Adds before estate share after × (shares ≡ shares_of after)) }
+        → MatchOption result ((after : Reserve) → Adds before estate share after → ⊥)
+        (λ shares. (after : Reserve) × Adds before estate share after × (shares ≡ shares_of after)) }
 {
     let [s, o, m] = reserve;
     match estate {
@@ -91,7 +87,8 @@ fn with_item(
 // A reserve with the item that a text names, where it has none of the item's estate.
 fn add_item(reserve: [Option<Share>; 3], item: &str) -> Option<[Option<Share>; 3]>
     ensures added { (before : Reserve) → reserve ≡ shares_of before
-        → MatchOption result ((after : Reserve) → AddAll before (item.now ∷ []) after → ⊥) (λ shares. (after : Reserve) × AddAll before (item.now ∷ []) after × (shares ≡ shares_of after)) }
+        → MatchOption result ((after : Reserve) → AddAll before (item.now ∷ []) after → ⊥)
+        (λ shares. (after : Reserve) × AddAll before (item.now ∷ []) after × (shares ≡ shares_of after)) }
 {
     let (estate, rest) = split_letter(item)?;
     let share = Share::parse(rest)?;
@@ -100,7 +97,8 @@ fn add_item(reserve: [Option<Share>; 3], item: &str) -> Option<[Option<Share>; 3
 
 /// The shares of S, O and M that a text reserves: nothing, or items separated by `;`, no estate twice.
 pub(crate) fn read_reserve(text: &str) -> Option<[Option<Share>; 3]>
-    ensures reserve { MatchOption result ((reserved : Reserve) → IsReserve text.now reserved → ⊥) (λ shares. (reserved : Reserve) × IsReserve text.now reserved × (shares ≡ shares_of reserved)) }
+    ensures reserve { MatchOption result ((reserved : Reserve) → IsReserve text.now reserved → ⊥)
+        (λ shares. (reserved : Reserve) × IsReserve text.now reserved × (shares ≡ shares_of reserved)) }
 {
     let mut reserve = [None; 3];
     if text.is_empty() {

@@ -29,15 +29,19 @@ fn reads_each_form(rt: HostRuntime) -> Result<(), Fail> {
         ("7|chain|", "Some(Chain(7, \"\"))"),
         (
             "7|deed|12|ADAMS|BELL|SO|W1/2|O1/4;S1/8|T2N R1W sec 5",
-            "Some(Deed(7, DeedTerms { doc: 12, estates: Estates { s: true, o: true, m: false }, quantum: Whole(Share { units: 2147483648 }), reserve: [Some(Share { units: 536870912 }), Some(Share { units: 1073741824 }), None], warranty: false }, \"ADAMS\", \"BELL\", \"T2N R1W sec 5\"))",
+            "Some(Post(7, 12, Deed(Deed { grantor: \"ADAMS\", grantee: \"BELL\", estates: Estates { s: true, o: true, m: false }, \
+             warranty: false, quantum: Whole(Share { units: 2147483648 }), reserve: [Some(Share { units: 536870912 }), \
+             Some(Share { units: 1073741824 }), None] }), \"T2N R1W sec 5\"))",
         ),
         (
             "7|warranty|999999999999|ADAMS|BELL|M|I1/1||T2N R1W",
-            "Some(Deed(7, DeedTerms { doc: 999999999999, estates: Estates { s: false, o: false, m: true }, quantum: Interest(Share { units: 4294967296 }), reserve: [None, None, None], warranty: true }, \"ADAMS\", \"BELL\", \"T2N R1W\"))",
+            "Some(Post(7, 999999999999, Deed(Deed { grantor: \"ADAMS\", grantee: \"BELL\", \
+             estates: Estates { s: false, o: false, m: true }, warranty: true, quantum: Interest(Share { units: 4294967296 }), reserve: [None, None, None] }), \"T2N R1W\"))",
         ),
         (
             "7|release|3|BELL|CLARK|SOM|T2N R1W",
-            "Some(Release(7, ReleaseTerms { doc: 3, estates: Estates { s: true, o: true, m: true } }, \"BELL\", \"CLARK\", \"T2N R1W\"))",
+            "Some(Post(7, 3, Release(Release { from: \"BELL\", to: \"CLARK\", estates: Estates { s: true, o: true, m: true } }), \
+             \"T2N R1W\"))",
         ),
     ] {
         let row = row_of(rt.alloc(), line)?;

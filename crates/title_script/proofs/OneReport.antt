@@ -1,9 +1,36 @@
 -- What a script asks for has one report.
-use Rattle.std.proofs.Common.{◌≡◌, ◌∙◌, ◌++◌, ◌∷◌, [], ℕ, Bool, true, false, List, Option, Some, None, Result, Ok, Err, length, refl, sym, ap, ap₂, subst, inl, inr, true≢false, arith}
+use Rattle.std.proofs.Common.{
+  ◌≡◌,
+  ◌∙◌,
+  ◌++◌,
+  ◌∷◌,
+  [],
+  ℕ,
+  Bool,
+  true,
+  false,
+  List,
+  Option,
+  Some,
+  None,
+  Result,
+  Ok,
+  Err,
+  length,
+  refl,
+  sym,
+  ap,
+  ap₂,
+  subst,
+  inl,
+  inr,
+  true≢false,
+  arith,
+}
 use Rattle.title_land.specs.Depth.{depth}
 use Rattle.std.proofs.lemmas.Bool.{cases_lt}
 use Rattle.std.specs.Prelude.{nat_le}
-use Rattle.title_device.specs.declared.fault.RunFault.{RunFault}
+use Rattle.title_plan.specs.declared.fault.ScriptFault.{ScriptFault}
 use Rattle.title_land.specs.Lands.{is_in_plant}
 use Rattle.title_instrument.specs.declared.parts.Cause.{Cause}
 use Rattle.title_chain.specs.declared.ask.Ask.{Ask}
@@ -40,7 +67,8 @@ one_way before e a (Some f) (Some g) h k = elim (cases_lt f g) [
 ]
 
 -- a step has one due reply
-one_step : (setting : Setting) (before : List Call) (e : ℕ) (a : Ask) (r s : Reply) (begun inside : Bool) (cause : Option Cause) (full : Bool) →
+one_step : (setting : Setting) (before : List Call) (e : ℕ) (a : Ask) (r s : Reply) (begun inside : Bool) (cause : Option Cause)
+    (full : Bool) →
     DueStep depth setting before e a r begun inside cause full → DueStep depth setting before e a s begun inside cause full → r ≡ s
 one_step setting before e a r s false inside cause full h k = h ∙ sym k
 one_step setting before e a r s true false cause full h k = h ∙ sym k
@@ -50,7 +78,8 @@ one_step setting before e a r s true true None false h k =
     h.2 ∙ ap (reply_past depth setting before e a) (one_way before e a h.0 k.0 h.1 k.1) ∙ sym k.2
 
 -- a request has one due reply
-one_reply : (setting : Setting) (before : List Call) (q : Request) (r s : Reply) → DueReply depth setting before q r → DueReply depth setting before q s → r ≡ s
+one_reply : (setting : Setting) (before : List Call) (q : Request) (r s : Reply) → DueReply depth setting before q r
+    → DueReply depth setting before q s → r ≡ s
 one_reply setting before (request.Begin e) r s h k = h ∙ sym k
 one_reply setting before (request.Step e a) r s h k =
     one_step setting before e a r s (is_open e before) (is_in_plant setting.townships (tract_of a))
@@ -59,7 +88,8 @@ one_reply setting before (request.Commit e) r s h k = h ∙ sym k
 one_reply setting before (request.Abort e) r s h k = h ∙ sym k
 
 -- and comes to one trace
-one_replied : (setting : Setting) (before : List Call) (p q : Request) (r s : Reply) (x y : List Call) → p ≡ q → IsReplied setting before p r x → IsReplied setting before q s y → (r ≡ s) × (x ≡ y)
+one_replied : (setting : Setting) (before : List Call) (p q : Request) (r s : Reply) (x y : List Call) → p ≡ q
+    → IsReplied setting before p r x → IsReplied setting before q s y → (r ≡ s) × (x ≡ y)
 one_replied setting before p q r s x y same h k =
     let told = one_reply setting before q r s (subst (λ (z : Request). DueReply depth setting before z r) same h.0) k.0 in
     (told, h.1 ∙ ap₂ (λ (z : Request) (t : Reply). record { request = z; reply = t } ∷ before) same told ∙ sym k.1)
@@ -86,22 +116,26 @@ one_alone setting names before q a b x y h k =
     let ended = one_replied setting k.stepped _ _ h.ended k.ended x y (ap (ending (examiner_of q)) told.0) ends k.ends in
     (h.rows_are ∙ ap (reply_rows names (examiner_of q)) told.0 ∙ sym k.rows_are, ended.1)
 
-one_served_by : (alone : Bool) (setting : Setting) (names : List (List ℕ)) (before : List Call) (q : Request) (a b : List (List (List ℕ))) (x y : List Call) →
+one_served_by : (alone : Bool) (setting : Setting) (names : List (List ℕ)) (before : List Call) (q : Request) (a b : List (List (List ℕ)))
+    (x y : List Call) →
     IsServedBy alone setting names before q a x → IsServedBy alone setting names before q b y → Same a b x y
 one_served_by true setting names before q a b x y h k = one_alone setting names before q a b x y h k
 one_served_by false setting names before q a b x y h k = one_asked setting names before q a b x y h k
 
-one_served : (sched : Schedule) (setting : Setting) (names : List (List ℕ)) (before : List Call) (l : Line) (a b : List (List (List ℕ))) (x y : List Call) →
+one_served : (sched : Schedule) (setting : Setting) (names : List (List ℕ)) (before : List Call) (l : Line) (a b : List (List (List ℕ)))
+    (x y : List Call) →
     IsServed sched setting names before l a x → IsServed sched setting names before l b y → Same a b x y
 one_served sched setting names before (line.Asks q) a b x y h k = one_served_by (is_alone sched before q) setting names before q a b x y h k
 one_served sched setting names before (line.Described e why) a b x y h k = (h.0 ∙ sym k.0, h.1 ∙ sym k.1)
 
-one_rows : (sched : Schedule) (setting : Setting) (names : List (List ℕ)) (lines : List Line) (before : List Call) (a b : List (List (List ℕ))) →
+one_rows : (sched : Schedule) (setting : Setting) (names : List (List ℕ)) (lines : List Line) (before : List Call)
+    (a b : List (List (List ℕ))) →
     DueRows sched setting names before lines a → DueRows sched setting names before lines b → a ≡ b
 one_rows sched setting names [] before a b h k = h ∙ sym k
 one_rows sched setting names (l ∷ lines) before a b h k =
     let same = one_served sched setting names before l h.0 k.0 h.2 k.2 h.3 k.3 in
-    let later = one_rows sched setting names lines k.2 h.1 k.1 (subst (λ (t : List Call). DueRows sched setting names t lines h.1) same.1 h.4) k.4 in
+    let later = one_rows sched setting names lines k.2 h.1 k.1
+    (subst (λ (t : List Call). DueRows sched setting names t lines h.1) same.1 h.4) k.4 in
     h.5 ∙ ap₂ (λ (own more : List (List (List ℕ))). own ++ more) same.0 later ∙ sym k.5
 
 -- ---- reports
@@ -112,10 +146,11 @@ one_report_on sched asked a b h k =
     h.2 ∙ ap (λ (rows : List (List (List ℕ))). rows_text rows ++ row (end_row (length asked.lines))) same ∙ sym k.2
 
 -- what is asked for is no fault
-asked_no_fault : (asked : Asked) (e : RunFault) → ◌≡◌ {A = Result Asked RunFault} (Ok asked) (Err e) → ⊥
+asked_no_fault : (asked : Asked) (e : ScriptFault) → ◌≡◌ {A = Result Asked ScriptFault} (Ok asked) (Err e) → ⊥
 asked_no_fault asked e h = absurd (cc h)
 
-pub one_report : (sched : Schedule) (script : List ℕ) (a b : Result (List ℕ) RunFault) → IsReportOf sched script a → IsReportOf sched script b → a ≡ b
+pub one_report : (sched : Schedule) (script : List ℕ) (a b : Result (List ℕ) ScriptFault) → IsReportOf sched script a
+    → IsReportOf sched script b → a ≡ b
 one_report sched script (Ok a) (Ok b) h k =
     let same = one_script sched script (Ok h.0) (Ok k.0) h.1 k.1 in
     let asked : h.0 ≡ k.0 = cc same in

@@ -1,12 +1,17 @@
 -- A row says one thing.
-use Rattle.std.proofs.Common.{◌≡◌, ◌∙◌, ◌≤◌, ◌∷◌, [], ℕ, List, Bool, true, false, eqb, length, get_or, codes, refl, sym, ap, subst, cond, leb, le-leb, eq-eqb, true≢false}
+use Rattle.std.proofs.Common.{◌≡◌, ◌∙◌, ◌≤◌, ◌∷◌, [], ℕ, List, Bool, true, false, eqb, length, get_or, codes, refl, sym, ap, subst, cond}
+use Rattle.std.proofs.Common.{leb, le-leb, eq-eqb, true≢false, arith}
 use Rattle.std.proofs.lemmas.Str.Parse.{digit_at}
 use Rattle.title_share.proofs.ShareLaws.{same_number}
-use Rattle.title_row.specs.declared.terms.DeedTerms.{DeedTerms}
-use Rattle.title_row.specs.declared.terms.ReleaseTerms.{ReleaseTerms}
+use Rattle.title_instrument.specs.declared.instrument.Deed.{Deed}
+use Rattle.title_instrument.specs.declared.instrument.Release.{Release}
+use Rattle.title_instrument.specs.declared.instrument.Instrument.{Instrument}
+use Rattle.title_instrument.specs.declared.instrument.Instrument.TheVariants as i
+use Rattle.title_instrument.specs.declared.kind.Kind.TheVariants as sort
+use Rattle.title_instrument.specs.Kinds.{deed_kind, kind_word}
 use Rattle.title_row.specs.Fields.{IsExaminer, IsDocument, IsEstates}
-use Rattle.title_row.specs.Terms.{IsQuantum, Reserve, IsReserve, deed_word, shares_of}
-use Rattle.title_row.specs.Rows.{Said, Says, IsWord, IsRead, IsDeed, IsRelease}
+use Rattle.title_row.specs.Terms.{IsQuantum, Reserve, IsReserve, shares_of}
+use Rattle.title_row.specs.Rows.{Said, Says, IsWord, IsRead, IsDeed, IsPost, IsRelease}
 use Rattle.title_script.proofs.OneTerm.{one_estates, one_warranty, one_quantum, one_reserve}
 
 -- ---- fields
@@ -40,7 +45,7 @@ triple_kind second = cond (eqb second 115) 5 6
 abbrev by_number : ℕ → List (List ℕ) → ℕ
 by_number n fields =
     cond (eqb n 2) (pair_kind (get_or (at 0 fields) 0 0) (get_or (at 1 fields) 0 0))
-    (cond (eqb n 3) (triple_kind (get_or (at 1 fields) 0 0)) n)
+    (cond (eqb n 3) (triple_kind (get_or (at 1 fields) 0 0)) 7)
 
 abbrev kind_in : List (List ℕ) → ℕ
 kind_in fields = by_number (length fields) fields
@@ -54,8 +59,7 @@ kind (Said.Commit e) = 3
 kind (Said.Abort e) = 4
 kind (Said.Sheet e text) = 5
 kind (Said.Chain e text) = 6
-kind (Said.Deed e terms grantor grantee text) = 9
-kind (Said.Release e terms releasor releasee text) = 7
+kind (Said.Post e doc instrument text) = 7
 
 -- an examiner begins with a digit
 digit_first : (text : List ℕ) (e : ℕ) → IsExaminer text e → leb (get_or text 0 0) 57 ≡ true
@@ -67,7 +71,8 @@ digit_first text e h =
 word_kind : (first word : List ℕ) (e : ℕ) → IsExaminer first e →
     kind_in (first ∷ word ∷ []) ≡ cond (eqb (get_or word 0 0) 98) 2 (cond (eqb (get_or word 0 0) 99) 3 4)
 word_kind first word e h =
-    ap (λ (b : Bool). cond b (cond (eqb (get_or word 0 0) 98) 2 (cond (eqb (get_or word 0 0) 99) 3 4)) (cond (eqb (get_or first 0 0) 116) 0 1)) (digit_first first e h)
+    ap (λ (b : Bool). cond b (cond (eqb (get_or word 0 0) 98) 2 (cond (eqb (get_or word 0 0) 99) 3 4))
+    (cond (eqb (get_or first 0 0) 116) 0 1)) (digit_first first e h)
 
 kind_known : (fields : List (List ℕ)) (s : Said) → Says fields s → kind_in fields ≡ kind s
 kind_known fields (Said.Township text) h = ap kind_in h
@@ -77,8 +82,8 @@ kind_known fields (Said.Commit e) h = ap kind_in h.2 ∙ word_kind h.0 (codes "c
 kind_known fields (Said.Abort e) h = ap kind_in h.2 ∙ word_kind h.0 (codes "abort") e h.1
 kind_known fields (Said.Sheet e text) h = ap kind_in h.2
 kind_known fields (Said.Chain e text) h = ap kind_in h.2
-kind_known fields (Said.Deed e terms grantor grantee text) h = ap kind_in h.fields_are
-kind_known fields (Said.Release e terms releasor releasee text) h = ap kind_in h.fields_are
+kind_known fields (Said.Post e doc (i.Deed deed) text) h = ap kind_in h.fields_are
+kind_known fields (Said.Post e doc (i.Release release) text) h = ap kind_in h.fields_are
 
 -- one row is of one kind
 kinds_apart : (fields : List (List ℕ)) (s t : Said) → Says fields s → Says fields t → eqb (kind s) (kind t) ≡ false → ⊥
@@ -91,35 +96,64 @@ kinds_apart fields s t h k differ =
 one_word : (word : List ℕ) (fields : List (List ℕ)) (e f : ℕ) → IsWord word fields e → IsWord word fields f → e ≡ f
 one_word word fields e f h k = one_examiner h.0 k.0 e f (same_at 0 fields _ _ h.2 k.2) h.1 k.1
 
-one_reader : (word : List ℕ) (fields : List (List ℕ)) (e f : ℕ) (x y : List ℕ) → IsRead word fields e x → IsRead word fields f y → (e ≡ f) × (x ≡ y)
+one_reader : (word : List ℕ) (fields : List (List ℕ)) (e f : ℕ) (x y : List ℕ) → IsRead word fields e x → IsRead word fields f y
+    → (e ≡ f) × (x ≡ y)
 one_reader word fields e f x y h k = (one_examiner h.0 k.0 e f (same_at 0 fields _ _ h.2 k.2) h.1 k.1, same_at 2 fields _ _ h.2 k.2)
 
-one_deed : (fields : List (List ℕ)) (e f : ℕ) (s t : DeedTerms) (a b c x y z : List ℕ) → IsDeed fields e s a b c → IsDeed fields f t x y z →
-    Said.Deed e s a b c ≡ Said.Deed f t x y z
-one_deed fields e f s t a b c x y z h k =
-    let mine : List (List ℕ) = h.first ∷ deed_word s.warranty ∷ h.doc ∷ a ∷ b ∷ h.estates ∷ h.quantum ∷ h.reserve ∷ c ∷ [] in
-    let other : List (List ℕ) = k.first ∷ deed_word t.warranty ∷ k.doc ∷ x ∷ y ∷ k.estates ∷ k.quantum ∷ k.reserve ∷ z ∷ [] in
-    let same : (i : ℕ) → at i mine ≡ at i other = λ i. same_at i fields mine other h.fields_are k.fields_are in
+one_deed : (fields : List (List ℕ)) (e f m n : ℕ) (s t : Deed (List ℕ)) (c z : List ℕ) →
+    IsDeed fields e m s c → IsDeed fields f n t z →
+    Said.Post e m (i.Deed s) c ≡ Said.Post f n (i.Deed t) z
+one_deed fields e f m n s t c z h k =
+    let mine : List (List ℕ) = h.first ∷ kind_word (deed_kind s.warranty) ∷ h.document ∷ s.grantor ∷ s.grantee
+    ∷ h.estates ∷ h.quantum ∷ h.reserve ∷ c ∷ [] in
+    let other : List (List ℕ) = k.first ∷ kind_word (deed_kind t.warranty) ∷ k.document ∷ t.grantor ∷ t.grantee
+    ∷ k.estates ∷ k.quantum ∷ k.reserve ∷ z ∷ [] in
+    let same : (x : ℕ) → at x mine ≡ at x other = λ x. same_at x fields mine other h.fields_are k.fields_are in
     let moved = subst (λ (w : List ℕ). IsReserve w h.reserved) (same 7) h.reserve_is in
     let reserved = one_reserve k.reserve h.reserved k.reserved moved k.reserve_is in
     let examiner = one_examiner h.first k.first e f (same 0) h.examiner_is k.examiner_is in
-    let doc = one_document h.doc k.doc s.doc t.doc (same 2) h.doc_is k.doc_is in
-    let estates = one_estates k.estates s.estates t.estates (subst (λ (w : List ℕ). IsEstates w s.estates) (same 5) h.estates_are) k.estates_are in
+    let doc = one_document h.document k.document m n (same 2) h.document_is k.document_is in
+    let named = subst (λ (w : List ℕ). IsEstates w s.estates) (same 5) h.estates_are in
+    let estates = one_estates k.estates s.estates t.estates named k.estates_are in
     let warranty = one_warranty s.warranty t.warranty (same 1) in
-    let quantum = one_quantum k.quantum s.quantum t.quantum (subst (λ (w : List ℕ). IsQuantum w s.quantum) (same 6) h.quantum_is) k.quantum_is in
+    let measured = subst (λ (w : List ℕ). IsQuantum w s.quantum) (same 6) h.quantum_is in
+    let quantum = one_quantum k.quantum s.quantum t.quantum measured k.quantum_is in
     let shares = h.reserved_is ∙ ap (λ (r : Reserve). shares_of r) reserved ∙ sym k.reserved_is in
-    λ i. Said.Deed (examiner i) (record { doc = doc i; estates = estates i; quantum = quantum i; reserve = shares i; warranty = warranty i }) (same 3 i) (same 4 i) (same 8 i)
+    λ x. Said.Post (examiner x) (doc x)
+    (i.Deed (record {
+      grantor = same 3 x;
+      grantee = same 4 x;
+      estates = estates x;
+      warranty = warranty x;
+      quantum = quantum x;
+      reserve = shares x;
+    }))
+    (same 8 x)
 
-one_release : (fields : List (List ℕ)) (e f : ℕ) (s t : ReleaseTerms) (a b c x y z : List ℕ) → IsRelease fields e s a b c → IsRelease fields f t x y z →
-    Said.Release e s a b c ≡ Said.Release f t x y z
-one_release fields e f s t a b c x y z h k =
-    let mine : List (List ℕ) = h.first ∷ codes "release" ∷ h.doc ∷ a ∷ b ∷ h.estates ∷ c ∷ [] in
-    let other : List (List ℕ) = k.first ∷ codes "release" ∷ k.doc ∷ x ∷ y ∷ k.estates ∷ z ∷ [] in
-    let same : (i : ℕ) → at i mine ≡ at i other = λ i. same_at i fields mine other h.fields_are k.fields_are in
+one_release : (fields : List (List ℕ)) (e f m n : ℕ) (s t : Release (List ℕ)) (c z : List ℕ) →
+    IsRelease fields e m s c → IsRelease fields f n t z →
+    Said.Post e m (i.Release s) c ≡ Said.Post f n (i.Release t) z
+one_release fields e f m n s t c z h k =
+    let mine : List (List ℕ) = h.first ∷ kind_word sort.Release ∷ h.document ∷ s.«from» ∷ s.to ∷ h.estates ∷ c ∷ [] in
+    let other : List (List ℕ) = k.first ∷ kind_word sort.Release ∷ k.document ∷ t.«from» ∷ t.to ∷ k.estates ∷ z ∷ [] in
+    let same : (x : ℕ) → at x mine ≡ at x other = λ x. same_at x fields mine other h.fields_are k.fields_are in
     let examiner = one_examiner h.first k.first e f (same 0) h.examiner_is k.examiner_is in
-    let doc = one_document h.doc k.doc s.doc t.doc (same 2) h.doc_is k.doc_is in
-    let estates = one_estates k.estates s.estates t.estates (subst (λ (w : List ℕ). IsEstates w s.estates) (same 5) h.estates_are) k.estates_are in
-    λ i. Said.Release (examiner i) (record { doc = doc i; estates = estates i }) (same 3 i) (same 4 i) (same 6 i)
+    let doc = one_document h.document k.document m n (same 2) h.document_is k.document_is in
+    let named = subst (λ (w : List ℕ). IsEstates w s.estates) (same 5) h.estates_are in
+    let estates = one_estates k.estates s.estates t.estates named k.estates_are in
+    λ x. Said.Post (examiner x) (doc x) (i.Release (record { «from» = same 3 x; to = same 4 x; estates = estates x })) (same 6 x)
+
+-- a deed's row has nine fields, a release's seven
+one_post : (fields : List (List ℕ)) (e f m n : ℕ) (p q : Instrument (List ℕ)) (c z : List ℕ) →
+    IsPost fields e m p c → IsPost fields f n q z → Said.Post e m p c ≡ Said.Post f n q z
+one_post fields e f m n (i.Deed s) (i.Deed t) c z h k = one_deed fields e f m n s t c z h k
+one_post fields e f m n (i.Release s) (i.Release t) c z h k = one_release fields e f m n s t c z h k
+one_post fields e f m n (i.Deed s) (i.Release t) c z h k =
+    let nine : length fields ≡ 9 = ap length h.fields_are in
+    let seven : length fields ≡ 7 = ap length k.fields_are in absurd (omega arith)
+one_post fields e f m n (i.Release s) (i.Deed t) c z h k =
+    let seven : length fields ≡ 7 = ap length h.fields_are in
+    let nine : length fields ≡ 9 = ap length k.fields_are in absurd (omega arith)
 
 -- ---- a row says one thing
 
@@ -133,6 +167,5 @@ one_said fields (Said.Sheet e a) (Said.Sheet f b) h k =
     let same = one_reader (codes "sheet") fields e f a b h k in λ i. Said.Sheet (same.0 i) (same.1 i)
 one_said fields (Said.Chain e a) (Said.Chain f b) h k =
     let same = one_reader (codes "chain") fields e f a b h k in λ i. Said.Chain (same.0 i) (same.1 i)
-one_said fields (Said.Deed e s a b c) (Said.Deed f t x y z) h k = one_deed fields e f s t a b c x y z h k
-one_said fields (Said.Release e s a b c) (Said.Release f t x y z) h k = one_release fields e f s t a b c x y z h k
+one_said fields (Said.Post e m p c) (Said.Post f n q z) h k = one_post fields e f m n p q c z h k
 one_said fields s t h k = absurd (kinds_apart fields s t h k refl)

@@ -1,7 +1,7 @@
 -- After a row of a script there is one state, or one fault.
 use Rattle.std.proofs.Common.{◌≡◌, ◌∙◌, ℕ, List, Bool, true, false, Option, Some, None, Result, Ok, sym, ap, subst, inl, inr}
 use Rattle.title_land.specs.Depth.{depth}
-use Rattle.title_device.specs.declared.fault.RunFault.{RunFault}
+use Rattle.title_plan.specs.declared.fault.ScriptFault.{ScriptFault}
 use Rattle.title_land.specs.declared.place.Township.{Township}
 use Rattle.title_land.specs.declared.tract.Land.{Land}
 use Rattle.title_land.specs.declared.tract.Land.TheVariants as land
@@ -17,7 +17,7 @@ use Rattle.title_plan.specs.declared.line.Line.TheVariants as line
 use Rattle.title_plan.specs.declared.line.Schedule.{Schedule}
 use Rattle.title_plan.specs.Asked.{Asked}
 use Rattle.title_plan.specs.Declarations.{with_township, AfterTownship}
-use Rattle.title_plan.specs.Steps.{is_out_of_turn, with_line, IsLineOf, AfterStep, number_of, deed_of, release_of, post, AfterPost}
+use Rattle.title_plan.specs.Steps.{is_out_of_turn, with_line, IsLineOf, AfterStep, post, AfterNumbered}
 use Rattle.title_plan.specs.Plans.{AfterTurn, AfterStepRow, AfterSaid, AfterRow}
 use Rattle.title_script.proofs.OneRow.{one_said}
 
@@ -26,7 +26,8 @@ use Rattle.title_script.proofs.OneRow.{one_said}
 one_township : (text : List ℕ) (t u : Township) → Describes depth text (land.Township t) → Describes depth text (land.Township u) → t ≡ u
 one_township text t u h k = let same = one_land depth text (land.Township t) (land.Township u) h k in cc same
 
-after_township : (n : ℕ) (asked : Asked) (text : List ℕ) (a b : Result Asked RunFault) → AfterTownship n asked text a → AfterTownship n asked text b → a ≡ b
+after_township : (n : ℕ) (asked : Asked) (text : List ℕ) (a b : Result Asked ScriptFault) → AfterTownship n asked text a
+    → AfterTownship n asked text b → a ≡ b
 after_township n asked text a b (inl h) (inl k) = h.2 ∙ ap (with_township n asked) (one_township text h.0 k.0 h.1 k.1) ∙ sym k.2
 after_township n asked text a b (inl h) (inr k) = absurd (k.0 h.0 h.1)
 after_township n asked text a b (inr h) (inl k) = absurd (h.0 k.0 k.1)
@@ -44,17 +45,19 @@ one_line e asks text (line.Described f why) (line.Described g other) h k =
     let cause = one_fault depth text why other h.1 k.1 in
     λ i. line.Described (examiner i) (cause i)
 
-after_step : (asked : Asked) (e : ℕ) (asks : Land → Ask) (text : List ℕ) (a b : Result Asked RunFault) → AfterStep asked e asks text a → AfterStep asked e asks text b → a ≡ b
+after_step : (asked : Asked) (e : ℕ) (asks : Land → Ask) (text : List ℕ) (a b : Result Asked ScriptFault) → AfterStep asked e asks text a
+    → AfterStep asked e asks text b → a ≡ b
 after_step asked e asks text a b h k =
     h.2 ∙ ap (λ (l : Line). Ok (with_line asked l asked.inside)) (one_line e asks text h.0 k.0 h.1 k.1) ∙ sym k.2
 
-after_post : (n : ℕ) (asked : Asked) (e doc : ℕ) (between : ℕ → ℕ → Instrument) (giver taker : Option ℕ) (text : List ℕ) (a b : Result Asked RunFault) →
-    AfterPost n asked e doc between giver taker text a → AfterPost n asked e doc between giver taker text b → a ≡ b
-after_post n asked e doc between (Some giver) (Some taker) text a b h k = after_step asked e (post doc (between giver taker)) text a b h k
-after_post n asked e doc between (Some giver) None text a b h k = h ∙ sym k
-after_post n asked e doc between None taker text a b h k = h ∙ sym k
+after_post : (n : ℕ) (asked : Asked) (e doc : ℕ) (posted : ℕ → ℕ → Instrument ℕ) (giver taker : Option ℕ) (text : List ℕ)
+    (a b : Result Asked ScriptFault) →
+    AfterNumbered n asked e doc posted giver taker text a → AfterNumbered n asked e doc posted giver taker text b → a ≡ b
+after_post n asked e doc posted (Some giver) (Some taker) text a b h k = after_step asked e (post doc (posted giver taker)) text a b h k
+after_post n asked e doc posted (Some giver) None text a b h k = h ∙ sym k
+after_post n asked e doc posted None taker text a b h k = h ∙ sym k
 
-after_turn : (n : ℕ) (asked : Asked) (s : Said) (a b : Result Asked RunFault) → AfterTurn n asked s a → AfterTurn n asked s b → a ≡ b
+after_turn : (n : ℕ) (asked : Asked) (s : Said) (a b : Result Asked ScriptFault) → AfterTurn n asked s a → AfterTurn n asked s b → a ≡ b
 after_turn n asked (Said.Township text) a b h k = absurd h
 after_turn n asked (Said.Party name) a b h k = absurd h
 after_turn n asked (Said.Begin e) a b h k = h ∙ sym k
@@ -62,31 +65,31 @@ after_turn n asked (Said.Commit e) a b h k = h ∙ sym k
 after_turn n asked (Said.Abort e) a b h k = h ∙ sym k
 after_turn n asked (Said.Sheet e text) a b h k = after_step asked e ask.Sheet text a b h k
 after_turn n asked (Said.Chain e text) a b h k = after_step asked e ask.Chain text a b h k
-after_turn n asked (Said.Deed e terms grantor grantee text) a b h k =
-    after_post n asked e terms.doc (deed_of terms) (number_of asked grantor) (number_of asked grantee) text a b h k
-after_turn n asked (Said.Release e terms releasor releasee text) a b h k =
-    after_post n asked e terms.doc (release_of terms) (number_of asked releasor) (number_of asked releasee) text a b h k
+after_turn n asked (Said.Post e doc instrument text) a b h k = after_post n asked e doc _ _ _ text a b h k
 
-after_step_row : (n : ℕ) (asked : Asked) (s : Said) (out : Bool) (a b : Result Asked RunFault) → AfterStepRow n asked s out a → AfterStepRow n asked s out b → a ≡ b
+after_step_row : (n : ℕ) (asked : Asked) (s : Said) (out : Bool) (a b : Result Asked ScriptFault) → AfterStepRow n asked s out a
+    → AfterStepRow n asked s out b → a ≡ b
 after_step_row n asked s true a b h k = h ∙ sym k
 after_step_row n asked s false a b h k = after_turn n asked s a b h k
 
 -- ---- rows
 
-after_said : (sched : Schedule) (n : ℕ) (asked : Asked) (s : Said) (a b : Result Asked RunFault) → AfterSaid sched n asked s a → AfterSaid sched n asked s b → a ≡ b
+after_said : (sched : Schedule) (n : ℕ) (asked : Asked) (s : Said) (a b : Result Asked ScriptFault) → AfterSaid sched n asked s a
+    → AfterSaid sched n asked s b → a ≡ b
 after_said sched n asked (Said.Township text) a b h k = after_township n asked text a b h k
 after_said sched n asked (Said.Party name) a b h k = h ∙ sym k
 after_said sched n asked (Said.Begin e) a b h k = after_step_row n asked (Said.Begin e) (is_out_of_turn sched asked.inside e) a b h k
 after_said sched n asked (Said.Commit e) a b h k = after_step_row n asked (Said.Commit e) (is_out_of_turn sched asked.inside e) a b h k
 after_said sched n asked (Said.Abort e) a b h k = after_step_row n asked (Said.Abort e) (is_out_of_turn sched asked.inside e) a b h k
-after_said sched n asked (Said.Sheet e text) a b h k = after_step_row n asked (Said.Sheet e text) (is_out_of_turn sched asked.inside e) a b h k
-after_said sched n asked (Said.Chain e text) a b h k = after_step_row n asked (Said.Chain e text) (is_out_of_turn sched asked.inside e) a b h k
-after_said sched n asked (Said.Deed e terms grantor grantee text) a b h k =
-    after_step_row n asked (Said.Deed e terms grantor grantee text) (is_out_of_turn sched asked.inside e) a b h k
-after_said sched n asked (Said.Release e terms releasor releasee text) a b h k =
-    after_step_row n asked (Said.Release e terms releasor releasee text) (is_out_of_turn sched asked.inside e) a b h k
+after_said sched n asked (Said.Sheet e text) a b h k =
+    after_step_row n asked (Said.Sheet e text) (is_out_of_turn sched asked.inside e) a b h k
+after_said sched n asked (Said.Chain e text) a b h k =
+    after_step_row n asked (Said.Chain e text) (is_out_of_turn sched asked.inside e) a b h k
+after_said sched n asked (Said.Post e doc instrument text) a b h k =
+    after_step_row n asked (Said.Post e doc instrument text) (is_out_of_turn sched asked.inside e) a b h k
 
-pub after_row : (sched : Schedule) (n : ℕ) (asked : Asked) (fields : List (List ℕ)) (a b : Result Asked RunFault) → AfterRow sched n asked fields a → AfterRow sched n asked fields b → a ≡ b
+pub after_row : (sched : Schedule) (n : ℕ) (asked : Asked) (fields : List (List ℕ)) (a b : Result Asked ScriptFault)
+    → AfterRow sched n asked fields a → AfterRow sched n asked fields b → a ≡ b
 after_row sched n asked fields a b (inl h) (inl k) =
     let same = one_said fields h.0 k.0 h.1.2 k.1.2 in
     after_said sched n asked k.0 a b (subst (λ (s : Said). AfterSaid sched n asked s a) same h.2) k.2

@@ -1,5 +1,6 @@
 -- A term of a deed is one: its estates, its quantum and its reserve.
-use Rattle.std.proofs.Common.{◌≡◌, ◌∙◌, ◌<◌, ◌++◌, ◌∷◌, [], ℕ, List, Bool, true, false, eqb, length, get_or, refl, sym, ap, subst, inl, inr, arith}
+use Rattle.std.proofs.Common.{◌≡◌, ◌∙◌, ◌<◌, ◌++◌, ◌∷◌, [], ℕ, List, Bool, true, false, eqb, length, get_or, refl, sym, ap, subst, inl, inr}
+use Rattle.std.proofs.Common.{arith}
 use Rattle.std.specs.List.{list_any}
 use Rattle.title_share.specs.Share.{IsShareText}
 use Rattle.title_instrument.specs.declared.parts.Estate.{Estate}
@@ -8,8 +9,9 @@ use Rattle.title_instrument.specs.declared.parts.Estates.{Estates}
 use Rattle.title_instrument.specs.declared.parts.Quantum.{Quantum}
 use Rattle.title_instrument.specs.declared.parts.Quantum.TheVariants as quantum
 use Rattle.title_instrument.specs.Estates.{letter_if, estates_text}
+use Rattle.title_instrument.specs.Kinds.{deed_kind, kind_word}
 use Rattle.title_row.specs.Fields.{IsEstates}
-use Rattle.title_row.specs.Terms.{deed_word, IsQuantum, IsItem, Reserve, Adds, AddAll, joined, IsItems, IsReserve}
+use Rattle.title_row.specs.Terms.{IsQuantum, IsItem, Reserve, Adds, AddAll, joined, IsItems, IsReserve}
 use Rattle.title_row.proofs.Texts.{stands-between, one-split, one-share}
 use Rattle.title_row.proofs.Items.{one-item, item-lacks, one-sum}
 
@@ -45,7 +47,7 @@ one_estates text e f h k =
 
 -- ---- words
 
-pub one_warranty : (v w : Bool) → deed_word v ≡ deed_word w → v ≡ w
+pub one_warranty : (v w : Bool) → kind_word (deed_kind v) ≡ kind_word (deed_kind w) → v ≡ w
 one_warranty false false h = refl
 one_warranty false true h = let first = ap (λ (text : List ℕ). get_or text 0 0) h in absurd (omega (arith, first))
 one_warranty true false h = let first = ap (λ (text : List ℕ). get_or text 0 0) h in absurd (omega (arith, first))
@@ -74,7 +76,8 @@ one_quantum text (quantum.Interest a) (quantum.Interest b) h k = ap quantum.Inte
 -- ---- reserves
 
 -- an item leaves one reserve
-after_item : (r : Reserve) (text other : List ℕ) (e f : Estate) (m n : ℕ) (a b : Reserve) → text ≡ other → IsItem text e m → Adds r e m a → IsItem other f n → Adds r f n b → a ≡ b
+after_item : (r : Reserve) (text other : List ℕ) (e f : Estate) (m n : ℕ) (a b : Reserve) → text ≡ other → IsItem text e m → Adds r e m a
+    → IsItem other f n → Adds r f n b → a ≡ b
 after_item r text other e f m n a b same i h j k =
     let one = one-item other e f m n (subst (λ (t : List ℕ). IsItem t e m) same i) j in
     one-sum r f n a b (subst (λ (x : ℕ). Adds r f x a) one.1 (subst (λ (x : Estate). Adds r x m a) one.0 h)) k
@@ -84,7 +87,8 @@ item_alone : (item first rest : List ℕ) (e : Estate) (n : ℕ) → IsItem item
 item_alone item first rest e n i same = stands-between 59 first rest (λ k l. rw same at (item-lacks item e n i) k l)
 
 -- items of one text leave one reserve
-items_same : (r : Reserve) (x y : List ℕ) (xs ys : List (List ℕ)) (a b : Reserve) → joined x xs ≡ joined y ys → AddAll r (x ∷ xs) a → AddAll r (y ∷ ys) b → a ≡ b
+items_same : (r : Reserve) (x y : List ℕ) (xs ys : List (List ℕ)) (a b : Reserve) → joined x xs ≡ joined y ys → AddAll r (x ∷ xs) a
+    → AddAll r (y ∷ ys) b → a ≡ b
 items_same r x y [] [] a b e h k = h.5 ∙ after_item r x y h.0 k.0 h.1 k.1 h.2 k.2 e h.3 h.4 k.3 k.4 ∙ sym k.5
 items_same r x y [] (z ∷ ys) a b e h k = absurd (item_alone x y (joined z ys) h.0 h.1 h.3 e)
 items_same r x y (z ∷ xs) [] a b e h k = absurd (item_alone y x (joined z xs) k.0 k.1 k.3 (sym e))

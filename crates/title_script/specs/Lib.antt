@@ -1,3 +1,4 @@
+pub mod Faults
 pub mod Served
 pub mod Reports
 pub mod Runs

@@ -1,6 +1,6 @@
 -- The report of a script.
 use Rattle.std.specs.Prelude.{◌≡◌, ℕ, List, [], ◌++◌, length, Result, Ok, Err}
-use Rattle.title_device.specs.declared.fault.RunFault.{RunFault}
+use Rattle.title_plan.specs.declared.fault.ScriptFault.{ScriptFault}
 use Rattle.title_trace.specs.Due.{Setting}
 use Rattle.title_plan.specs.declared.line.Schedule.{Schedule}
 use Rattle.title_plan.specs.Asked.{Asked}
@@ -20,6 +20,6 @@ IsReportOn sched asked report =
     × (report ≡ rows_text rows ++ row (end_row (length asked.lines)))
 
 -- the report of a script's bytes, or its first fault
-abbrev pub IsReportOf : Schedule → List ℕ → Result (List ℕ) RunFault → Type 0
+abbrev pub IsReportOf : Schedule → List ℕ → Result (List ℕ) ScriptFault → Type 0
 IsReportOf sched script (Ok report) = (asked : Asked) × IsScript sched script (Ok asked) × IsReportOn sched asked report
 IsReportOf sched script (Err e) = IsScript sched script (Err e)

@@ -41,7 +41,8 @@ abbrev pub ending : ℕ → Reply → Request
 ending e r = cond (is_answered r) (request.Commit e) (request.Abort e)
 
 -- a step is asked as a transaction of its own: begun, and ended at once; the report has the step's rows alone
-pub record IsAskedAlone (setting : Setting) (names : List (List ℕ)) (before : List Call) (q : Request) (rows : List (List (List ℕ))) (after : List Call) : Type 0 where
+pub record IsAskedAlone (setting : Setting) (names : List (List ℕ)) (before : List Call) (q : Request) (rows : List (List (List ℕ)))
+    (after : List Call) : Type 0 where
   pub begun : List Call
   pub told : Reply
   pub stepped : List Call

@@ -1,12 +1,16 @@
 //! Scripts and their reports: from the bytes of a script to the bytes of its report.
 #![tactic(auto)]
 
+mod fault;
 pub mod laws;
 mod runs;
 mod serving;
 #[cfg(test)]
 mod tests;
 
+pub use fault::RunFault;
 pub use runs::{run, run_alone};
-pub use title_device::{Device, Failed, RunFault, SCRIPT_LIMIT, Sink, Source, read_all, write_all};
-pub use title_plan::Schedule;
+pub use title_device::{
+    Device, Failed, ReadFault, SCRIPT_LIMIT, Sink, Source, read_all, write_all,
+};
+pub use title_plan::{Schedule, ScriptFault};

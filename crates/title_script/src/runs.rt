@@ -1,14 +1,14 @@
 //! Runs of scripts, from their bytes to the bytes of their reports.
 
-ghost use Rattle.std.specs.Prelude.{◌≡◌, ◌≤◌, ◌+◌, false, IfErr, IfSome, OnOk};
+ghost use Rattle.std.specs.Prelude.{◌≡◌, false, IfErr, OnOk};
 ghost use Rattle.std.specs.Io.KnownBytes.{IsAtEnd};
-ghost use Rattle.title_device.specs.declared.loops.TheConstants.{SCRIPT_LIMIT};
 ghost use Rattle.title_plan.specs.declared.line.Schedule.TheVariants as schedule;
-ghost use Rattle.title_script.specs.Runs.{Explains, LeavesWritten, Reports};
+ghost use Rattle.title_script.specs.Runs.{Explains, IsReadWithin, LeavesWritten, Reports};
 
+use crate::fault::RunFault;
 use crate::serving::write_report;
 use std::alloc::Global;
-use title_device::{RunFault, Sink, Source, read_all, write_all};
+use title_device::{Sink, Source, read_all, write_all};
 use title_lock::RowLocks;
 use title_plan::{Schedule, read_script};
 use title_store::CellStore;
@@ -22,16 +22,17 @@ fn run_by<R: Source, W: Sink>(
 ) -> Result<(), RunFault>
     requires source_works { R.has_failed source.old ≡ false }
     requires sink_works { W.has_failed sink.old ≡ false }
-    ensures report { OnOk result (IfSome (R.left source.old) (λ script. Reports schedule script (W.taken sink.old) (W.taken sink.new))) }
+    ensures report { OnOk result (Reports schedule (R.left source.old) (W.taken sink.old) (W.taken sink.new)) }
     ensures all { OnOk result (IsAtEnd (R.left source.new)) }
-    ensures why { IfErr result (λ e. IfSome (R.left source.old) (λ script. Explains schedule script (R.has_failed source.new) (W.has_failed sink.new) e)) }
-    ensures written { IfErr result (λ e. IfSome (R.left source.old) (λ script. LeavesWritten schedule script (W.taken sink.old) (W.taken sink.new) e)) }
-    ensures turns { R.turns source.new ≤ R.turns source.old + SCRIPT_LIMIT + 1 }
+    ensures why { IfErr result (Explains schedule (R.left source.old) (R.has_failed source.new) (W.has_failed sink.new)) }
+    ensures written { IfErr result (LeavesWritten schedule (R.left source.old) (W.taken sink.old) (W.taken sink.new)) }
+    ensures turns { IsReadWithin (R.turns source.old) (R.turns source.new) }
 {
     let script = read_all(alloc, source)?;
     let plan = read_script(alloc, schedule, script.as_slice())?;
     let report = write_report::<CellStore, RowLocks>(alloc, schedule, plan)?;
-    write_all(sink, report.as_slice())
+    write_all(sink, report.as_slice())?;
+    Ok(())
 }
 
 /// Reads a script whole, serves its steps in their order, interleaved as they stand, and writes its report. Faults: Row,
@@ -41,11 +42,11 @@ fn run_by<R: Source, W: Sink>(
 pub fn run<R: Source, W: Sink>(alloc: Global, source: &mut R, sink: &mut W) -> Result<(), RunFault>
     requires source_works { R.has_failed source.old ≡ false }
     requires sink_works { W.has_failed sink.old ≡ false }
-    ensures report { OnOk result (IfSome (R.left source.old) (λ script. Reports schedule.Interleaved script (W.taken sink.old) (W.taken sink.new))) }
+    ensures report { OnOk result (Reports schedule.Interleaved (R.left source.old) (W.taken sink.old) (W.taken sink.new)) }
     ensures all { OnOk result (IsAtEnd (R.left source.new)) }
-    ensures why { IfErr result (λ e. IfSome (R.left source.old) (λ script. Explains schedule.Interleaved script (R.has_failed source.new) (W.has_failed sink.new) e)) }
-    ensures written { IfErr result (λ e. IfSome (R.left source.old) (λ script. LeavesWritten schedule.Interleaved script (W.taken sink.old) (W.taken sink.new) e)) }
-    ensures turns { R.turns source.new ≤ R.turns source.old + SCRIPT_LIMIT + 1 }
+    ensures why { IfErr result (Explains schedule.Interleaved (R.left source.old) (R.has_failed source.new) (W.has_failed sink.new)) }
+    ensures written { IfErr result (LeavesWritten schedule.Interleaved (R.left source.old) (W.taken sink.old) (W.taken sink.new)) }
+    ensures turns { IsReadWithin (R.turns source.old) (R.turns source.new) }
 {
     run_by(alloc, Schedule::Interleaved, source, sink)
 }
@@ -59,11 +60,11 @@ pub fn run_alone<R: Source, W: Sink>(
 ) -> Result<(), RunFault>
     requires source_works { R.has_failed source.old ≡ false }
     requires sink_works { W.has_failed sink.old ≡ false }
-    ensures report { OnOk result (IfSome (R.left source.old) (λ script. Reports schedule.Serial script (W.taken sink.old) (W.taken sink.new))) }
+    ensures report { OnOk result (Reports schedule.Serial (R.left source.old) (W.taken sink.old) (W.taken sink.new)) }
     ensures all { OnOk result (IsAtEnd (R.left source.new)) }
-    ensures why { IfErr result (λ e. IfSome (R.left source.old) (λ script. Explains schedule.Serial script (R.has_failed source.new) (W.has_failed sink.new) e)) }
-    ensures written { IfErr result (λ e. IfSome (R.left source.old) (λ script. LeavesWritten schedule.Serial script (W.taken sink.old) (W.taken sink.new) e)) }
-    ensures turns { R.turns source.new ≤ R.turns source.old + SCRIPT_LIMIT + 1 }
+    ensures why { IfErr result (Explains schedule.Serial (R.left source.old) (R.has_failed source.new) (W.has_failed sink.new)) }
+    ensures written { IfErr result (LeavesWritten schedule.Serial (R.left source.old) (W.taken sink.old) (W.taken sink.new)) }
+    ensures turns { IsReadWithin (R.turns source.old) (R.turns source.new) }
 {
     run_by(alloc, Schedule::Serial, source, sink)
 }

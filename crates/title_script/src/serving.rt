@@ -1,8 +1,7 @@
 //! The steps of a script, served one after another.
 
-ghost use Rattle.std.specs.Prelude.{◌≡◌, ◌++◌, ℕ, [], List, IfErr, IfOk, length, map, true, false};
+ghost use Rattle.std.specs.Prelude.{◌≡◌, ◌++◌, ℕ, [], List, IfOk, length, map, true, false};
 ghost use Rattle.std.specs.String.{string_bytes};
-ghost use Rattle.title_device.specs.declared.fault.RunFault.TheVariants as fault;
 ghost use Rattle.title_trace.specs.Trace.{examiner_of, is_open};
 ghost use Rattle.title_plan.specs.Asked.{CanOpen, asked_in};
 ghost use Rattle.title_report.specs.Replies.{reply_rows};
@@ -11,9 +10,8 @@ ghost use Rattle.title_script.specs.Served.{IsAsked, IsAskedAlone, IsReplied, Is
 ghost use Rattle.title_script.specs.Reports.{IsReportOn, setting_of};
 
 use indexmap::IndexSet;
-use std::alloc::Global;
+use std::alloc::{AllocError, Global};
 use title_desk::Desk;
-use title_device::RunFault;
 use title_lock::Guards;
 use title_plan::{Line, Plan, Schedule};
 use title_report::Report;
@@ -24,13 +22,12 @@ use title_trace::{Reply, Request};
 fn ask<S: Store + Drop, G: Guards + Drop>(
     desk: &mut Desk<S, G>,
     request: Request,
-) -> Result<Reply, RunFault>
+) -> Result<Reply, AllocError>
     ensures setting { desk.new.setting ≡ desk.old.setting }
     ensures replied { IfOk result (λ r. IsReplied desk.old.setting desk.old.trace request r desk.new.trace) }
-    ensures fault { IfErr result (λ e. e ≡ fault.Memory) }
 {
     match desk.serve(request) {
-        Reply::Memory => Err(RunFault::Memory),
+        Reply::Memory => Err(AllocError),
         reply => Ok(reply),
     }
 }
@@ -65,10 +62,11 @@ fn serve_asked<S: Store + Drop, G: Guards + Drop>(
     request: Request,
     names: &IndexSet<String>,
     report: Report,
-) -> Result<Report, RunFault>
+) -> Result<Report, AllocError>
     ensures setting { desk.new.setting ≡ desk.old.setting }
-    ensures served { IfOk result (λ r. (rows : List (List (List ℕ))) × IsAsked desk.old.setting (map string_bytes names.now.keys) desk.old.trace request rows desk.new.trace × (r ≡ report ++ rows_text rows)) }
-    ensures fault { IfErr result (λ e. e ≡ fault.Memory) }
+    ensures served { IfOk result (λ r. (rows : List (List (List ℕ)))
+        × IsAsked desk.old.setting (map string_bytes names.now.keys) desk.old.trace request rows desk.new.trace
+        × (r ≡ report ++ rows_text rows)) }
 {
     let examiner = request.examiner();
     let reply = ask(desk, request)?;
@@ -81,11 +79,12 @@ fn serve_alone<S: Store + Drop, G: Guards + Drop>(
     request: Request,
     names: &IndexSet<String>,
     report: Report,
-) -> Result<Report, RunFault>
+) -> Result<Report, AllocError>
     requires closed { is_open (examiner_of request) desk.old.trace ≡ false }
     ensures setting { desk.new.setting ≡ desk.old.setting }
-    ensures served { IfOk result (λ r. (rows : List (List (List ℕ))) × IsAskedAlone desk.old.setting (map string_bytes names.now.keys) desk.old.trace request rows desk.new.trace × (r ≡ report ++ rows_text rows)) }
-    ensures fault { IfErr result (λ e. e ≡ fault.Memory) }
+    ensures served { IfOk result (λ r. (rows : List (List (List ℕ)))
+        × IsAskedAlone desk.old.setting (map string_bytes names.now.keys) desk.old.trace request rows desk.new.trace
+        × (r ≡ report ++ rows_text rows)) }
 {
     let examiner = request.examiner();
     ask(desk, Request::Begin(examiner))?;
@@ -101,10 +100,11 @@ fn serve_line<S: Store + Drop, G: Guards + Drop>(
     line: Line,
     names: &IndexSet<String>,
     report: Report,
-) -> Result<Report, RunFault>
+) -> Result<Report, AllocError>
     ensures setting { desk.new.setting ≡ desk.old.setting }
-    ensures served { IfOk result (λ r. (rows : List (List (List ℕ))) × IsServed schedule desk.old.setting (map string_bytes names.now.keys) desk.old.trace line rows desk.new.trace × (r ≡ report ++ rows_text rows)) }
-    ensures fault { IfErr result (λ e. e ≡ fault.Memory) }
+    ensures served { IfOk result (λ r. (rows : List (List (List ℕ)))
+        × IsServed schedule desk.old.setting (map string_bytes names.now.keys) desk.old.trace line rows desk.new.trace
+        × (r ≡ report ++ rows_text rows)) }
 {
     match line {
         Line::Asks(request) => {
@@ -122,28 +122,26 @@ fn serve_line<S: Store + Drop, G: Guards + Drop>(
 fn open_desk<S: Store + Drop, G: Guards + Drop>(
     alloc: Global,
     plan: &Plan,
-) -> Result<Desk<S, G>, RunFault>
+) -> Result<Desk<S, G>, AllocError>
     requires opens { CanOpen (length plan.now.parties.keys) plan.now.townships.items }
     ensures setting { IfOk result (λ d. d.setting ≡ setting_of (asked_in plan.now)) }
     ensures trace { IfOk result (λ d. d.trace ≡ []) }
-    ensures fault { IfErr result (λ e. e ≡ fault.Memory) }
 {
     let parties = plan.parties.len() as u32;
     match Desk::open(alloc, parties, plan.townships.as_slice()) {
         Ok(desk) => Ok(desk),
-        Err(_) => Err(RunFault::Memory),
+        Err(_) => Err(AllocError),
     }
 }
 
-/// The report of what a plan asks for, over a store and guards of any kinds. `Err` is Memory.
+/// The report of what a plan asks for, over a store and guards of any kinds.
 pub(crate) fn write_report<S: Store + Drop, G: Guards + Drop>(
     alloc: Global,
     schedule: Schedule,
     plan: Plan,
-) -> Result<Vec<u8>, RunFault>
+) -> Result<Vec<u8>, AllocError>
     requires opens { CanOpen (length plan.parties.keys) plan.townships.items }
     ensures report { IfOk result (λ v. IsReportOn schedule (asked_in plan) v.items) }
-    ensures fault { IfErr result (λ e. e ≡ fault.Memory) }
 {
     let mut desk = open_desk::<S, G>(alloc, &plan)?;
     let mut report = Report::new(alloc)?;

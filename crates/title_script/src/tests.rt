@@ -88,6 +88,24 @@ fn are_given(rt: &impl Abort, alloc: Global, rows: &[Row]) -> Result<(), Fail> {
 }
 
 #[test]
+fn prints_each_fault(rt: HostRuntime) -> Result<(), Fail> {
+    let alloc = rt.alloc();
+    let lines = [
+        (RunFault::Row(4), 31, "fault,31,4"),
+        (RunFault::Read, 32, "fault,32"),
+        (RunFault::Write, 33, "fault,33"),
+        (RunFault::Party(100_000), 34, "fault,34,100000"),
+        (RunFault::Order(5), 35, "fault,35,5"),
+        (RunFault::Memory, 6, "fault,6"),
+    ];
+    for (fault, number, line) in lines {
+        assert_eq!(rt; fault.number(), number);
+        assert_eq!(rt; format!(in alloc; "{fault}")?.as_str(), line);
+    }
+    Ok(())
+}
+
+#[test]
 fn first_runs(rt: HostRuntime) -> Result<(), Fail> {
     are_given(&rt, rt.alloc(), &first_run::ROWS)
 }

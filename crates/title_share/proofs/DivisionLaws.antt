@@ -1,9 +1,11 @@
 -- Laws of divisions.
-use Rattle.std.proofs.Common.{◌≡◌, ◌↔◌, ◌≤◌, ◌+◌, ◌-◌, ◌∙◌, ◌||◌, ℕ, Bool, true, false, cond, refl, sym, ap, subst, eqb, List, [], ◌∷◌, arith}
+use Rattle.std.proofs.Common.{◌≡◌, ◌↔◌, ◌≤◌, ◌+◌, ◌-◌, ◌∙◌, ◌||◌, ℕ, Bool, true, false, cond, refl, sym, ap, subst, eqb, List, [], ◌∷◌}
+use Rattle.std.proofs.Common.{arith}
 use Rattle.std.proofs.lemmas.Bool.{and_parts, and_from, eqb-true, eq-eqb, ne_eqb, or_parts, eqb-false, cond-false, cond-true}
 use Rattle.std.proofs.lemmas.Bool.Decides.{nat_tests}
 use Rattle.title_share.specs.Rows.{units_in, total, in_order, is_division, with_units, moved_rows, whole_units}
-use Rattle.title_share.specs.Division.{Division, rows_of, rows_divide, same_rows, all_to, checked, division_or, division_of, units_of, units_after, moved}
+use Rattle.title_share.specs.Division.{Division, rows_of, rows_divide, same_rows, all_to, checked, division_or, division_of, units_of}
+use Rattle.title_share.specs.Division.{units_after, moved}
 use Rattle.title_share.proofs.RowLaws.{order_with, total_with, units_with, units_within, rows_same}
 
 -- the rows of the division in which a party has the whole
@@ -16,7 +18,8 @@ pub units-all_to : (q party : ℕ) → units_of q (all_to party) ≡ cond (eqb p
 units-all_to q party = ap (units_in q) (rows-all_to party)
 
 -- rows that pass the test are those of the division
-rows-checked : (rows : List (ℕ × ℕ)) (b : Bool) (e : is_division rows ≡ b) (other : Division) → b ≡ true → rows_of (checked rows b e other) ≡ rows
+rows-checked : (rows : List (ℕ × ℕ)) (b : Bool) (e : is_division rows ≡ b) (other : Division) → b ≡ true
+    → rows_of (checked rows b e other) ≡ rows
 unfolding rows_of checked
 rows-checked rows true e other h = refl
 rows-checked rows false e other h = absurd (cc)
@@ -57,7 +60,8 @@ units_bound party d = subst (λ (n : ℕ). units_of party d ≤ n) (divides (row
 both_moves : (from to n : ℕ) (rows : List (ℕ × ℕ)) → Divides rows → n ≤ units_in from rows → (from ≡ to → ⊥) →
     Divides (with_units to (units_in to rows + n) (with_units from (units_in from rows - n) rows))
 both_moves from to n rows d enough apart =
-    let lower : in_order 0 (with_units from (units_in from rows - n) rows) ≡ true = order_with from (units_in from rows - n) 0 rows (omega arith) d.ordered in
+    let lower : in_order 0 (with_units from (units_in from rows - n) rows) ≡ true =
+    order_with from (units_in from rows - n) 0 rows (omega arith) d.ordered in
     let taken = total_with from (units_in from rows - n) 0 rows d.ordered in
     let added = total_with to (units_in to rows + n) 0 (with_units from (units_in from rows - n) rows) lower in
     let stays : units_in to (with_units from (units_in from rows - n) rows) ≡ units_in to rows =
@@ -69,10 +73,12 @@ both_moves from to n rows d enough apart =
     }
 
 -- rows after a move divide the whole
-pub moved_divides : (from to n : ℕ) (rows : List (ℕ × ℕ)) → is_division rows ≡ true → n ≤ units_in from rows → is_division (moved_rows from to n rows) ≡ true
+pub moved_divides : (from to n : ℕ) (rows : List (ℕ × ℕ)) → is_division rows ≡ true → n ≤ units_in from rows
+    → is_division (moved_rows from to n rows) ≡ true
 moved_divides from to n rows h enough = go (eqb n 0 || eqb from to) refl
   where
-    go : (b : Bool) → (eqb n 0 || eqb from to) ≡ b → is_division (cond b rows (with_units to (units_in to rows + n) (with_units from (units_in from rows - n) rows))) ≡ true
+    go : (b : Bool) → (eqb n 0 || eqb from to) ≡ b → is_division
+        (cond b rows (with_units to (units_in to rows + n) (with_units from (units_in from rows - n) rows))) ≡ true
     go true e = h
     go false e = divides_from _ (both_moves from to n rows (divides rows h) enough (eqb-false from to (or_parts _ _ e).1))
 
@@ -91,7 +97,8 @@ moved_none from to n d e =
     same_rows _ _ (rows-division_or d _ (subst (λ (x : List (ℕ × ℕ)). is_division x ≡ true) (sym same) (rows_divide d)) ∙ same)
 
 -- rows after a move are those of the division after it
-pub moved_is : (from to n : ℕ) (d : Division) (start rows : List (ℕ × ℕ)) → n ≤ units_of from d → rows_of d ≡ start → rows ≡ moved_rows from to n start →
+pub moved_is : (from to n : ℕ) (d : Division) (start rows : List (ℕ × ℕ)) → n ≤ units_of from d → rows_of d ≡ start
+    → rows ≡ moved_rows from to n start →
     (division_of rows ≡ moved from to n d) × (is_division rows ≡ true)
 moved_is from to n d start rows enough s e =
     let all : rows ≡ rows_of (moved from to n d) = e ∙ ap (moved_rows from to n) (sym s) ∙ sym (rows-moved from to n d enough) in
@@ -99,7 +106,8 @@ moved_is from to n d start rows enough s e =
 
 -- the two rows that a move sets, in the words of `units_after`
 in_units : (from to n q : ℕ) (had : ℕ → ℕ) →
-    cond (eqb n 0 || eqb from to) (had q) (cond (eqb to q) (had to + n) (cond (eqb from q) (had from - n) (had q))) ≡ units_after from to n had q
+    cond (eqb n 0 || eqb from to) (had q) (cond (eqb to q) (had to + n) (cond (eqb from q) (had from - n) (had q)))
+    ≡ units_after from to n had q
 in_units from to n q had = grind (arith, nat_tests)
 
 -- a party's units in one of two lists of rows
@@ -108,11 +116,13 @@ units_either true q xs ys = refl
 units_either false q xs ys = refl
 
 -- what each party has after a move
-pub units-moved : (q from to n : ℕ) (d : Division) → n ≤ units_of from d → units_of q (moved from to n d) ≡ units_after from to n (λ p. units_of p d) q
+pub units-moved : (q from to n : ℕ) (d : Division) → n ≤ units_of from d
+    → units_of q (moved from to n d) ≡ units_after from to n (λ p. units_of p d) q
 units-moved q from to n d enough =
     let rows = rows_of d in
     let ordered = ordered_rows d in
-    let lower : in_order 0 (with_units from (units_in from rows - n) rows) ≡ true = order_with from (units_in from rows - n) 0 rows (omega arith) ordered in
+    let lower : in_order 0 (with_units from (units_in from rows - n) rows) ≡ true =
+    order_with from (units_in from rows - n) 0 rows (omega arith) ordered in
     ap (units_in q) (rows-moved from to n d enough)
     ∙ units_either (eqb n 0 || eqb from to) q rows (with_units to (units_in to rows + n) (with_units from (units_in from rows - n) rows))
     ∙ ap (cond (eqb n 0 || eqb from to) (units_of q d))

@@ -4,3 +4,4 @@ pub mod RowLaws
 pub mod DivisionLaws
 pub mod ShareLaws
 pub mod MoveLaws
+pub mod Texts

@@ -35,7 +35,8 @@ units_absent p least [] low h = refl
 units_absent p least (r ∷ rs) low h =
     let f = row_fits least r rs h in
     let party : least ≤ r.0 = f.party in
-    case_eqb (λ b. cond b r.1 (units_in p rs) ≡ 0) r.0 p (λ same. absurd (omega arith)) (λ other. units_absent p (suc r.0) rs (omega arith) f.rest)
+    case_eqb (λ b. cond b r.1 (units_in p rs) ≡ 0) r.0 p (λ same. absurd (omega arith))
+    (λ other. units_absent p (suc r.0) rs (omega arith) f.rest)
 
 -- a party has no more than all
 pub units_within : (p : ℕ) (rows : List (ℕ × ℕ)) → units_in p rows ≤ total rows
@@ -52,12 +53,15 @@ order_front p n least rs low h =
     (λ some. fits_row least (p, n) rs (record { party = low; units = omega arith; rest = h }))
 
 -- a party's row set keeps the order
-pub order_with : (p n least : ℕ) (rows : List (ℕ × ℕ)) → least ≤ p → in_order least rows ≡ true → in_order least (with_units p n rows) ≡ true
+pub order_with : (p n least : ℕ) (rows : List (ℕ × ℕ)) → least ≤ p → in_order least rows ≡ true
+    → in_order least (with_units p n rows) ≡ true
 order_with p n least [] low h = order_front p n least [] low refl
 order_with p n least (r ∷ rs) low h =
     let f = row_fits least r rs h in
-    case_ltb (λ b. in_order least (cond b (r ∷ with_units p n rs) (cond (eqb r.0 p) (with_front p n rs) (with_front p n (r ∷ rs)))) ≡ true) r.0 p
-    (λ below. fits_row least r (with_units p n rs) (record { party = f.party; units = f.units; rest = order_with p n (suc r.0) rs (omega arith) f.rest }))
+    case_ltb (λ b. in_order least (cond b (r ∷ with_units p n rs) (cond (eqb r.0 p) (with_front p n rs) (with_front p n (r ∷ rs)))) ≡ true)
+    r.0 p
+    (λ below. fits_row least r (with_units p n rs) (record
+    { party = f.party; units = f.units; rest = order_with p n (suc r.0) rs (omega arith) f.rest }))
     (λ above. case_eqb (λ b. in_order least (cond b (with_front p n rs) (with_front p n (r ∷ rs))) ≡ true) r.0 p
     (λ same. order_front p n least rs low (subst (λ (x : ℕ). in_order (suc x) rs ≡ true) same f.rest))
     (λ other. order_front p n least (r ∷ rs) low (fits_row (suc p) r rs (record { party = omega arith; units = f.units; rest = f.rest }))))
@@ -67,14 +71,17 @@ total_front : (p n : ℕ) (rs : List (ℕ × ℕ)) → total (with_front p n rs)
 total_front p n rs = case_eqb (λ b. total (cond b rs ((p, n) ∷ rs)) ≡ n + total rs) n 0 (λ none. omega arith) (λ _. refl)
 
 -- all units with a party's row set
-pub total_with : (p n least : ℕ) (rows : List (ℕ × ℕ)) → in_order least rows ≡ true → total (with_units p n rows) + units_in p rows ≡ total rows + n
+pub total_with : (p n least : ℕ) (rows : List (ℕ × ℕ)) → in_order least rows ≡ true
+    → total (with_units p n rows) + units_in p rows ≡ total rows + n
 total_with p n least [] h = let e = total_front p n [] in omega arith
 total_with p n least (r ∷ rs) h =
     let f = row_fits least r rs h in
-    case_ltb (λ b. total (cond b (r ∷ with_units p n rs) (cond (eqb r.0 p) (with_front p n rs) (with_front p n (r ∷ rs)))) + cond (eqb r.0 p) r.1 (units_in p rs) ≡ r.1 + total rs + n) r.0 p
+    case_ltb (λ b. total (cond b (r ∷ with_units p n rs) (cond (eqb r.0 p) (with_front p n rs) (with_front p n (r ∷ rs)))) + cond
+    (eqb r.0 p) r.1 (units_in p rs) ≡ r.1 + total rs + n) r.0 p
     (λ below. let rest = total_with p n (suc r.0) rs f.rest in
     rw (ne_eqb r.0 p (λ same. omega arith)) (omega arith))
-    (λ above. case_eqb (λ b. total (cond b (with_front p n rs) (with_front p n (r ∷ rs))) + cond b r.1 (units_in p rs) ≡ r.1 + total rs + n) r.0 p
+    (λ above. case_eqb (λ b. total (cond b (with_front p n rs) (with_front p n (r ∷ rs))) + cond b r.1 (units_in p rs) ≡ r.1 + total rs + n)
+    r.0 p
     (λ same. let e = total_front p n rs in omega arith)
     (λ other. let e = total_front p n (r ∷ rs) in
     let none : units_in p rs ≡ 0 = units_absent p (suc r.0) rs (omega arith) f.rest in
@@ -89,19 +96,23 @@ units_front q p n rs none =
     (λ _. refl)
 
 -- a party's units with a row set
-pub units_with : (q p n least : ℕ) (rows : List (ℕ × ℕ)) → in_order least rows ≡ true → units_in q (with_units p n rows) ≡ cond (eqb p q) n (units_in q rows)
+pub units_with : (q p n least : ℕ) (rows : List (ℕ × ℕ)) → in_order least rows ≡ true
+    → units_in q (with_units p n rows) ≡ cond (eqb p q) n (units_in q rows)
 units_with q p n least [] h = units_front q p n [] refl
 units_with q p n least (r ∷ rs) h =
     let f = row_fits least r rs h in
-    case_ltb (λ b. units_in q (cond b (r ∷ with_units p n rs) (cond (eqb r.0 p) (with_front p n rs) (with_front p n (r ∷ rs)))) ≡ cond (eqb p q) n (cond (eqb r.0 q) r.1 (units_in q rs))) r.0 p
+    case_ltb (λ b. units_in q (cond b (r ∷ with_units p n rs) (cond (eqb r.0 p) (with_front p n rs) (with_front p n (r ∷ rs))))
+    ≡ cond (eqb p q) n (cond (eqb r.0 q) r.1 (units_in q rs))) r.0 p
     (λ below. case_eqb (λ b. cond b r.1 (units_in q (with_units p n rs)) ≡ cond (eqb p q) n (cond b r.1 (units_in q rs))) r.0 q
     (λ here. rw (ne_eqb p q (λ same. omega arith)) refl)
     (λ there. units_with q p n (suc r.0) rs f.rest))
-    (λ above. case_eqb (λ b. units_in q (cond b (with_front p n rs) (with_front p n (r ∷ rs))) ≡ cond (eqb p q) n (cond (eqb r.0 q) r.1 (units_in q rs))) r.0 p
+    (λ above. case_eqb (λ b. units_in q (cond b (with_front p n rs) (with_front p n (r ∷ rs)))
+    ≡ cond (eqb p q) n (cond (eqb r.0 q) r.1 (units_in q rs))) r.0 p
     (λ same. units_front q p n rs (units_absent p (suc r.0) rs (omega arith) f.rest)
     ∙ case_eqb (λ b. cond b n (units_in q rs) ≡ cond b n (cond (eqb r.0 q) r.1 (units_in q rs))) p q (λ _. refl)
     (λ differs. rw (ne_eqb r.0 q (λ e. differs (sym same ∙ e))) refl))
-    (λ other. units_front q p n (r ∷ rs) (units_absent p (suc p) (r ∷ rs) (omega arith) (fits_row (suc p) r rs (record { party = omega arith; units = f.units; rest = f.rest })))))
+    (λ other. units_front q p n (r ∷ rs) (units_absent p (suc p) (r ∷ rs) (omega arith)
+    (fits_row (suc p) r rs (record { party = omega arith; units = f.units; rest = f.rest })))))
 
 -- rows in order are told apart by what each party has
 first_units : (r : ℕ × ℕ) (rs : List (ℕ × ℕ)) → units_in r.0 (r ∷ rs) ≡ r.1
@@ -112,7 +123,8 @@ later_first : (x : ℕ × ℕ) (y : ℕ × ℕ) (ys : List (ℕ × ℕ)) → x.0
 later_first x y ys low k = rw (ne_eqb y.0 x.0 (λ same. omega arith)) (units_absent x.0 (suc y.0) ys (omega arith) k)
 
 -- where each party has the same, the first rows are of one party
-first_party : (x : ℕ × ℕ) (xs : List (ℕ × ℕ)) (y : ℕ × ℕ) (ys : List (ℕ × ℕ)) → 0 < x.1 → 0 < y.1 → in_order (suc x.0) xs ≡ true → in_order (suc y.0) ys ≡ true
+first_party : (x : ℕ × ℕ) (xs : List (ℕ × ℕ)) (y : ℕ × ℕ) (ys : List (ℕ × ℕ)) → 0 < x.1 → 0 < y.1 → in_order (suc x.0) xs ≡ true
+    → in_order (suc y.0) ys ≡ true
     → ((q : ℕ) → units_in q (x ∷ xs) ≡ units_in q (y ∷ ys)) → x.0 ≡ y.0
 first_party x xs y ys some more h k same =
     elim (cases_order x.0 y.0) [
@@ -124,7 +136,8 @@ first_party x xs y ys some more h k same =
     ]
 
 -- and the other rows tell each party the same
-rest_same : (x : ℕ × ℕ) (xs : List (ℕ × ℕ)) (y : ℕ × ℕ) (ys : List (ℕ × ℕ)) → x.0 ≡ y.0 → in_order (suc x.0) xs ≡ true → in_order (suc y.0) ys ≡ true
+rest_same : (x : ℕ × ℕ) (xs : List (ℕ × ℕ)) (y : ℕ × ℕ) (ys : List (ℕ × ℕ)) → x.0 ≡ y.0 → in_order (suc x.0) xs ≡ true
+    → in_order (suc y.0) ys ≡ true
     → ((q : ℕ) → units_in q (x ∷ xs) ≡ units_in q (y ∷ ys)) → (q : ℕ) → units_in q xs ≡ units_in q ys
 rest_same x xs y ys party h k same q =
     elim (cases_eq x.0 q) [
@@ -135,7 +148,8 @@ rest_same x xs y ys party h k same q =
     ]
 
 -- rows in order in which each party has the same are equal
-pub rows_same : (a b : ℕ) (xs ys : List (ℕ × ℕ)) → in_order a xs ≡ true → in_order b ys ≡ true → ((q : ℕ) → units_in q xs ≡ units_in q ys) → xs ≡ ys
+pub rows_same : (a b : ℕ) (xs ys : List (ℕ × ℕ)) → in_order a xs ≡ true → in_order b ys ≡ true → ((q : ℕ) → units_in q xs ≡ units_in q ys)
+    → xs ≡ ys
 rows_same a b [] [] h k same = refl
 rows_same a b [] (y ∷ ys) h k same =
     let f = (row_fits b y ys k).units in

@@ -1,5 +1,6 @@
 -- Laws of shares and their texts.
-use Rattle.std.proofs.Common.{◌≡◌, ◌≢◌, ◌<◌, ◌≤◌, ◌+◌, ◌-◌, ◌*◌, ◌^◌, ◌%◌, ◌/◌, ◌∙◌, ◌&&◌, ℕ, zero, suc, Bool, true, refl, sym, ap, subst, eqb, ltb, leb, List, [], ◌∷◌, length, get_or, arith, rules, Option, inl, inr}
+use Rattle.std.proofs.Common.{◌≡◌, ◌≢◌, ◌<◌, ◌≤◌, ◌+◌, ◌-◌, ◌*◌, ◌^◌, ◌%◌, ◌/◌, ◌∙◌, ◌&&◌, ℕ, zero, suc, Bool, true, refl, sym, ap, subst}
+use Rattle.std.proofs.Common.{eqb, ltb, leb, List, [], ◌∷◌, length, get_or, arith, rules, Option, inl, inr}
 use Rattle.std.specs.Prelude.{MatchOption}
 use Rattle.std.specs.Str.Parse.{AllDigits, digits_value}
 use Rattle.std.proofs.lemmas.Bool.{cond-true, cond-false, eq-eqb, ne_eqb, agree_below_at, and_parts, eqb-true, ltb-true, leb-true, cases_eq}
@@ -17,7 +18,8 @@ abbrev weighs : ℕ → Bool
 weighs k = eqb (1 * 2 ^ (32 - k) % 18446744073709551616 * 2 ^ k) 4294967296 && ltb 0 (1 * 2 ^ (32 - k) % 18446744073709551616)
 
 -- how often 2^k goes into the whole
-pub weight_is : (k : ℕ) → k < 33 → (1 * 2 ^ (32 - k) % 18446744073709551616 * 2 ^ k ≡ 4294967296) × (0 < 1 * 2 ^ (32 - k) % 18446744073709551616)
+pub weight_is : (k : ℕ) → k < 33 → (1 * 2 ^ (32 - k) % 18446744073709551616 * 2 ^ k ≡ 4294967296)
+    × (0 < 1 * 2 ^ (32 - k) % 18446744073709551616)
 weight_is k low =
     let both = and_parts _ _ (agree_below_at weighs (λ _. true) 33 k refl low) in
     (eqb-true _ _ both.0, ltb-true _ _ both.1)
@@ -73,10 +75,12 @@ power_is k low = eqb-true _ _ (agree_below_at power_stays (λ _. true) 33 k refl
 
 -- the numbers of a share fit
 pub part_fits : (b : ℕ) → IsPart b → b ≤ 4294967296
-part_fits b p = subst (λ (x : ℕ). x ≤ 4294967296) (sym p.2) (let low : p.0 < 33 = let h = p.1 in omega arith in leb-true _ _ (agree_below_at power_fits (λ _. true) 33 p.0 refl low))
+part_fits b p = subst (λ (x : ℕ). x ≤ 4294967296) (sym p.2)
+    (let low : p.0 < 33 = let h = p.1 in omega arith in leb-true _ _ (agree_below_at power_fits (λ _. true) 33 p.0 refl low))
 
 -- where a share's text is split
-pub parts_are : (bs : List ℕ) (n : ℕ) (r : Option (Bor (List ℕ) × Bor (List ℕ))) → IsSplitOnceResult 47 bs r → (s : IsShareText bs n) → MatchOption r ⊥ (λ x. (x.0.now ≡ s.top) × (x.1.now ≡ s.bottom))
+pub parts_are : (bs : List ℕ) (n : ℕ) (r : Option (Bor (List ℕ) × Bor (List ℕ))) → IsSplitOnceResult 47 bs r → (s : IsShareText bs n)
+    → MatchOption r ⊥ (λ x. (x.0.now ≡ s.top) × (x.1.now ≡ s.bottom))
 parts_are bs n r is s =
     split_after 47 bs s.top s.bottom r is (omega arith) s.joined
     (not_in_digits own s.top 47 s.top_is.digits.1 (λ range. let low : 48 ≤ 47 = range.0 in omega arith))
@@ -111,7 +115,8 @@ pub reduced_more : (start : ℕ × ℕ) (k n : ℕ) → 0 < k → n % 2 ≡ 0 �
 reduced_more start k n some even e = e ∙ lowest_halved k n some even
 
 -- the loop ends in lowest terms
-pub reduced_done : (start : ℕ × ℕ) (k n : ℕ) → k ≤ 32 → (0 < k → n % 2 ≡ 0 → ⊥) → start ≡ lowest k n → ◌≡◌ {A = ℕ × ℕ} (n, 1 * 2 ^ k % 18446744073709551616) start
+pub reduced_done : (start : ℕ × ℕ) (k n : ℕ) → k ≤ 32 → (0 < k → n % 2 ≡ 0 → ⊥) → start ≡ lowest k n
+    → ◌≡◌ {A = ℕ × ℕ} (n, 1 * 2 ^ k % 18446744073709551616) start
 reduced_done start k n low odd e =
     let pow = power_is k (let h : k < 33 = omega arith in h) in
     ap (λ (x : ℕ). (n, x)) pow ∙ sym (lowest_stays k n odd) ∙ sym e
@@ -138,13 +143,23 @@ halved_more k u even h =
       below = h.below;
       some = h.some;
       most = h.most;
-      product = ap (λ (x : ℕ). x * (lowest k (u / 2)).1) twice ∙ mul_assoc 2 (u / 2) (lowest k (u / 2)).1 ∙ ap (λ (x : ℕ). 2 * x) product ∙ sym (ap (λ (x : ℕ). (lowest k (u / 2)).0 * x) (pow-succ' 2 k) ∙ mul_left_comm (lowest k (u / 2)).0 2 (2 ^ k));
+      product = ap (λ (x : ℕ). x * (lowest k (u / 2)).1) twice ∙ mul_assoc 2 (u / 2) (lowest k (u / 2)).1 ∙ ap (λ (x : ℕ). 2 * x) product
+          ∙ sym (ap (λ (x : ℕ). (lowest k (u / 2)).0 * x) (pow-succ' 2 k) ∙ mul_left_comm (lowest k (u / 2)).0 2 (2 ^ k));
       odd = h.odd;
     }
 
 -- what is odd is in lowest terms
 halved_stays : (k u : ℕ) → 0 < u → u ≤ 2 ^ k → (u % 2 ≡ 0 → 2 ^ k ≡ 1) → IsHalved k u (u, 2 ^ k)
-halved_stays k u some most odd = record { exponent = k; within = omega arith; below = refl; some = some; most = most; product = refl; odd = odd }
+halved_stays k u some most odd = record {
+  exponent = k;
+  within = omega arith;
+  below = refl;
+  some = some;
+  most = most;
+  product = refl;
+  odd =
+      odd;
+}
 
 -- halving gives lowest terms
 pub lowest_is : (k u : ℕ) → 0 < u → u ≤ 2 ^ k → IsHalved k u (lowest k u)
@@ -160,7 +175,8 @@ lowest_is (suc k) u some most =
     ]
 
 -- the same of units of the whole
-pub lowest_fraction : (u : ℕ) → 0 < u → u ≤ whole_units → IsFraction (lowest 32 u).0 (lowest 32 u).1 u × IsLowest (lowest 32 u).0 (lowest 32 u).1
+pub lowest_fraction : (u : ℕ) → 0 < u → u ≤ whole_units
+    → IsFraction (lowest 32 u).0 (lowest 32 u).1 u × IsLowest (lowest 32 u).0 (lowest 32 u).1
 lowest_fraction u some most =
     let h = lowest_is 32 u some most in
     (record { part = (h.exponent, h.within, h.below); some = h.some; most = h.most; product = h.product }, h.odd)

@@ -29,7 +29,8 @@ rows_divide d = d.divides
 pub same_rows : (d e : Division) → rows_of d ≡ rows_of e → d ≡ e
 unfolding rows_of
 same_rows d e h =
-    let pairs : ◌≡◌ {A = (rows : List (ℕ × ℕ)) × (is_division rows ≡ true)} (d.rows, d.divides) (e.rows, e.divides) = Σ_prop_path (λ rows. Bool-set (is_division rows) true) h in
+    let pairs : ◌≡◌ {A = (rows : List (ℕ × ℕ)) × (is_division rows ≡ true)} (d.rows, d.divides) (e.rows, e.divides) =
+    Σ_prop_path (λ rows. Bool-set (is_division rows) true) h in
     λ i. record { rows = (pairs i).0; divides = (pairs i).1 }
 
 -- a division is stored as its rows

@@ -2,3 +2,5 @@
 pub mod Rows
 pub mod Division
 pub mod Share
+pub mod Texts
+pub mod TextLaws

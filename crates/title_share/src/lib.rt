@@ -5,6 +5,7 @@
 #![tactic(auto)]
 
 pub mod holding;
+pub mod laws;
 pub mod share;
 
 pub use holding::{Holding, WHOLE};

@@ -4,6 +4,7 @@ ghost use Rattle.std.specs.Prelude.{◌≡◌, ◌≤◌, ◌<◌, ◌*◌, ◌^
 ghost use Rattle.std.specs.Fmt.{decimal};
 ghost use Rattle.title_share.specs.Rows.{whole_units};
 ghost use Rattle.title_share.specs.Share.{IsFraction, IsLowest, IsNumber, IsPart, IsShareText, lowest, share_text};
+ghost use Rattle.title_share.specs.Texts.{share_in};
 
 use crate::holding::WHOLE;
 use std::fmt;
@@ -77,6 +78,7 @@ impl Share {
     /// decimal numbers without leading zeros, b is a power of two up to the whole, 1 <= a <= b.
     pub fn parse(text: &str) -> Option<Share>
         ensures share { MatchOption result ((n : ℕ) → IsShareText text.now n → ⊥) (λ s. IsShareText text.now s) }
+        ensures named { result ≡ share_in text.now }
     {
         let Some((top, bottom)) = text.split_once('/') else {
             return None;

@@ -1,6 +1,7 @@
 pub mod Each
 pub mod PlantCells
 pub mod EffectLaws
+pub mod Refusals
 pub mod TractNodes
 pub mod SheetLaws
 pub mod PostsDoubled
@@ -9,5 +10,11 @@ pub mod MapLaws
 pub mod LoanLaws
 pub mod Backing
 pub mod SheetSteps
+pub mod SheetHoldings
+pub mod SheetNodes
+pub mod SheetShows
+pub mod Turns
+pub mod NodesInTurn
+pub mod SheetTurns
 pub mod Puts
 pub mod Taking

@@ -1,5 +1,6 @@
 -- Laws of maps from cells to owners, and of what is kept of cells.
-use Rattle.std.proofs.Common.{◌≡◌, ℕ, ◌+◌, ◌<◌, Bool, true, false, cond, List, [], ◌∷◌, ◌++◌, Option, Some, None, is_some, take, get_or, length, refl, sym, ap, ◌∙◌, true≢false, subst, inl, inr, ◌||◌}
+use Rattle.std.proofs.Common.{◌≡◌, ℕ, ◌+◌, ◌<◌, Bool, true, false, cond, List, [], ◌∷◌, ◌++◌, Option, Some, None, is_some, take, get_or}
+use Rattle.std.proofs.Common.{length, refl, sym, ap, ◌∙◌, true≢false, subst, inl, inr, ◌||◌}
 use Rattle.title_land.specs.Depth.{depth}
 use Rattle.std.specs.Prelude.{unwrap_or}
 use Rattle.std.proofs.lemmas.List.{take_more}
@@ -33,7 +34,8 @@ abbrev pub holds : BTreeMap Cell Owners → Cell → Bool
 holds m c = is_some (get cell_cmp m c)
 
 -- opening owners at a cell that the map doesn't hold change nothing
-pub placed_content : (m n : BTreeMap Cell Owners) (k : Cell) → Writes m n k opening_owners → holds m k ≡ false → (q : Cell) → in_map n q ≡ in_map m q
+pub placed_content : (m n : BTreeMap Cell Owners) (k : Cell) → Writes m n k opening_owners → holds m k ≡ false → (q : Cell)
+    → in_map n q ≡ in_map m q
 placed_content m n k h none q = ap (λ (o : Option Owners). unwrap_or o opening_owners) (h q) ∙ go (is_at (cell_cmp k) q) refl
   where
     absent : (o : Option Owners) → is_some o ≡ false → unwrap_or o opening_owners ≡ opening_owners
@@ -52,11 +54,14 @@ written_stays m n k w h q there = ap is_some (h q) ∙ go (is_at (cell_cmp k) q)
     go false = there
 
 -- a fact at each of a list's first elements, and at the next
-pub each_more : (P : Cell → Type 0) (cells : List Cell) (i : ℕ) (d : Cell) → i < length cells → P (get_or cells i d) → AllByRecursion P (take i cells) → AllByRecursion P (take (i + 1) cells)
-each_more P cells i d low here before = rw (take_more cells i d low) (each_append P (take i cells) (get_or cells i d ∷ []) before (here, tt))
+pub each_more : (P : Cell → Type 0) (cells : List Cell) (i : ℕ) (d : Cell) → i < length cells → P (get_or cells i d)
+    → AllByRecursion P (take i cells) → AllByRecursion P (take (i + 1) cells)
+each_more P cells i d low here before = rw (take_more cells i d low)
+    (each_append P (take i cells) (get_or cells i d ∷ []) before (here, tt))
 
 -- what the last of a list keeps counts only where no earlier one does
-pub kept_last : (ks : List Kept) (k : Kept) (c : Cell) (z : Owners) → unwrap_or (kept_at (ks ++ k ∷ []) c) z ≡ unwrap_or (kept_at ks c) (cond (same_cell c k.cell) k.owners z)
+pub kept_last : (ks : List Kept) (k : Kept) (c : Cell) (z : Owners)
+    → unwrap_or (kept_at (ks ++ k ∷ []) c) z ≡ unwrap_or (kept_at ks c) (cond (same_cell c k.cell) k.owners z)
 kept_last [] k c z = go (same_cell c k.cell)
   where
     go : (b : Bool) → unwrap_or (cond b (Some k.owners) None) z ≡ cond b k.owners z
@@ -65,7 +70,8 @@ kept_last [] k c z = go (same_cell c k.cell)
 kept_last (x ∷ ks) k c z = go (same_cell c x.cell) (kept_last ks k c z)
   where
     go : (b : Bool) → unwrap_or (kept_at (ks ++ k ∷ []) c) z ≡ unwrap_or (kept_at ks c) (cond (same_cell c k.cell) k.owners z)
-        → unwrap_or (cond b (Some x.owners) (kept_at (ks ++ k ∷ []) c)) z ≡ unwrap_or (cond b (Some x.owners) (kept_at ks c)) (cond (same_cell c k.cell) k.owners z)
+        → unwrap_or (cond b (Some x.owners) (kept_at (ks ++ k ∷ []) c)) z
+        ≡ unwrap_or (cond b (Some x.owners) (kept_at ks c)) (cond (same_cell c k.cell) k.owners z)
     go true rest = refl
     go false rest = rest
 
@@ -82,7 +88,8 @@ write_last m n ks k h c =
     go false = refl
 
 -- the cells of a list with one more at its end, each with a fact
-pub kept_front : (P : Cell → Type 0) (ks : List Kept) (k : Kept) → AllByRecursion P (kept_cells (ks ++ k ∷ [])) → AllByRecursion P (kept_cells ks) × P k.cell
+pub kept_front : (P : Cell → Type 0) (ks : List Kept) (k : Kept) → AllByRecursion P (kept_cells (ks ++ k ∷ []))
+    → AllByRecursion P (kept_cells ks) × P k.cell
 kept_front P [] k h = (tt, h.0)
 kept_front P (x ∷ ks) k h = let rest = kept_front P ks k h.1 in ((h.0, rest.0), rest.1)
 
@@ -98,12 +105,14 @@ pub kept_from : (p : Plant) (cells : List Cell) (c : Cell) → kept_at (keep_fro
 kept_from p [] c = refl
 kept_from p (x ∷ xs) c = go (same_cell c x) refl (kept_from p xs c)
   where
-    go : (b : Bool) → same_cell c x ≡ b → kept_at (keep_from p xs) c ≡ cond (lists xs c) (Some (p c)) None → cond b (Some (p x)) (kept_at (keep_from p xs) c) ≡ cond (b || lists xs c) (Some (p c)) None
+    go : (b : Bool) → same_cell c x ≡ b → kept_at (keep_from p xs) c ≡ cond (lists xs c) (Some (p c)) None
+        → cond b (Some (p x)) (kept_at (keep_from p xs) c) ≡ cond (b || lists xs c) (Some (p c)) None
     go true e rest = ap (λ (y : Cell). Some (p y)) (sym (cell_is c x e))
     go false e rest = rest
 
 -- owners kept from a plant are those that the plant has there
-pub held_from : (p : Plant) (cells : List Cell) (ks : List Kept) (c : Cell) → ks ≡ keep_from p cells → lists cells c ≡ true → unwrap_or (kept_at ks c) opening_owners ≡ p c
+pub held_from : (p : Plant) (cells : List Cell) (ks : List Kept) (c : Cell) → ks ≡ keep_from p cells → lists cells c ≡ true
+    → unwrap_or (kept_at ks c) opening_owners ≡ p c
 held_from p cells ks c e h =
     ap (λ (xs : List Kept). unwrap_or (kept_at xs c) opening_owners) e
     ∙ ap (λ (o : Option Owners). unwrap_or o opening_owners) (kept_from p cells c)
@@ -122,8 +131,9 @@ pub listed_is : (ts : List Township) (land : Land) (c : Cell) → lists (cells_o
 listed_is ts land c = list_has_the_cells depth ts land c
 
 -- the plant after new owners were written into a tract's cells
-pub post_content : (i : Instrument) (p : Plant) (ts : List Township) (land : Land) (ks : List Kept) (c : Cell) (z : Owners)
-    → first_failing i p (cells_of depth ts land) ≡ None → ks ≡ keep_from (λ x. done_or (p x) (cell_effect i (p x))) (cells_of depth ts land) → z ≡ p c
+pub post_content : (i : Instrument ℕ) (p : Plant) (ts : List Township) (land : Land) (ks : List Kept) (c : Cell) (z : Owners)
+    → first_failing i p (cells_of depth ts land) ≡ None → ks ≡ keep_from (λ x. done_or (p x) (cell_effect i (p x))) (cells_of depth ts land)
+    → z ≡ p c
     → unwrap_or (kept_at ks c) z ≡ plant_effect depth ts i p land c
 unfolding plant_effect refused_in
 post_content i p ts land ks c z none kept same =
@@ -131,19 +141,24 @@ post_content i p ts land ks c z none kept same =
     ∙ ap (λ (o : Option Owners). unwrap_or o z) (kept_from (λ x. done_or (p x) (cell_effect i (p x))) (cells_of depth ts land) c)
     ∙ ap (λ (b : Bool). unwrap_or (cond b (Some (done_or (p c) (cell_effect i (p c)))) None) z) (listed_is ts land c)
     ∙ go (is_cell_of depth ts land c)
-    ∙ sym (ap (λ (f : Option Failing). cond (is_some (refusal_of depth land f)) (p c) (cond (is_cell_of depth ts land c) (done_or (p c) (cell_effect i (p c))) (p c))) none)
+    ∙ sym (ap (λ (f : Option Failing). cond (is_some (refusal_of depth land f)) (p c)
+    (cond (is_cell_of depth ts land c) (done_or (p c) (cell_effect i (p c))) (p c))) none)
   where
-    go : (b : Bool) → unwrap_or (cond b (Some (done_or (p c) (cell_effect i (p c)))) None) z ≡ cond b (done_or (p c) (cell_effect i (p c))) (p c)
+    go : (b : Bool) → unwrap_or (cond b (Some (done_or (p c) (cell_effect i (p c)))) None) z
+        ≡ cond b (done_or (p c) (cell_effect i (p c))) (p c)
     go true = refl
     go false = same
 
 -- a refused post leaves the plant
-pub refused_content : (i : Instrument) (p : Plant) (ts : List Township) (land : Land) (c : Cell) (f : Failing) → first_failing i p (cells_of depth ts land) ≡ Some f → p c ≡ plant_effect depth ts i p land c
+pub refused_content : (i : Instrument ℕ) (p : Plant) (ts : List Township) (land : Land) (c : Cell) (f : Failing)
+    → first_failing i p (cells_of depth ts land) ≡ Some f → p c ≡ plant_effect depth ts i p land c
 unfolding plant_effect refused_in
 refused_content i p ts land c f some =
-    sym (ap (λ (g : Option Failing). cond (is_some (refusal_of depth land g)) (p c) (cond (is_cell_of depth ts land c) (done_or (p c) (cell_effect i (p c))) (p c))) some)
+    sym (ap (λ (g : Option Failing). cond (is_some (refusal_of depth land g)) (p c)
+    (cond (is_cell_of depth ts land c) (done_or (p c) (cell_effect i (p c))) (p c))) some)
 
 -- what refuses a post, from its first failing cell
-pub refused_by : (i : Instrument) (p : Plant) (ts : List Township) (land : Land) (o : Option Failing) → first_failing i p (cells_of depth ts land) ≡ o → refused_in depth ts i p land ≡ refusal_of depth land o
+pub refused_by : (i : Instrument ℕ) (p : Plant) (ts : List Township) (land : Land) (o : Option Failing)
+    → first_failing i p (cells_of depth ts land) ≡ o → refused_in depth ts i p land ≡ refusal_of depth land o
 unfolding refused_in
 refused_by i p ts land o e = ap (refusal_of depth land) e

@@ -46,7 +46,7 @@ four_failing : (e : Effect) (c x y z : Cell) (rest : Option Failing)
 four_failing (Done owners) c x y z rest = refl
 four_failing (Refused rule estate) c x y z rest = refl
 
-failing_double : (i : Instrument) (p : Plant) (cs : List Cell)
+failing_double : (i : Instrument ℕ) (p : Plant) (cs : List Cell)
     → first_failing i (finer p) (flat_map four_cells cs) ≡ option_map failing_first (first_failing i p cs)
 failing_double i p [] = refl
 failing_double i p (c ∷ cs) =

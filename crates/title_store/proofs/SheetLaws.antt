@@ -25,7 +25,8 @@ all_same : (e : Estate) (p q : Plant) (x y : Division) (cells : List Cell) → x
 all_same e p q x y [] same h = refl
 all_same e p q x y (c ∷ cells) same h = λ i. same_division (holding_of e (h.0 i)) (same i) && all_same e p q x y cells same h.1 i
 
-one_same : (e : Estate) (p q : Plant) (cells : List Cell) → AllByRecursion (λ c. p c ≡ q c) cells → one_holding e p cells ≡ one_holding e q cells
+one_same : (e : Estate) (p q : Plant) (cells : List Cell) → AllByRecursion (λ c. p c ≡ q c) cells
+    → one_holding e p cells ≡ one_holding e q cells
 one_same e p q [] h = refl
 one_same e p q (c ∷ cells) h = λ i.
     cond (all_same e p q (holding_of e (p c)) (holding_of e (q c)) cells (ap (holding_of e) h.0) h.1 i) (Some (holding_of e (h.0 i))) None
@@ -34,7 +35,8 @@ one_same e p q (c ∷ cells) h = λ i.
 abbrev SameIn : ℕ → List Township → Plant → Plant → Node → Type 0
 SameIn d ts p q n = (c : Cell) → node_has d n c ≡ true → is_plant_cell d ts c ≡ true → p c ≡ q c
 
-node_same : (d : ℕ) (ts : List Township) (e : Estate) (p q : Plant) (n : Node) → SameIn d ts p q n → one_holding e p (node_cells d ts n) ≡ one_holding e q (node_cells d ts n)
+node_same : (d : ℕ) (ts : List Township) (e : Estate) (p q : Plant) (n : Node) → SameIn d ts p q n
+    → one_holding e p (node_cells d ts n) ≡ one_holding e q (node_cells d ts n)
 node_same d ts e p q n same =
     one_same e p q (node_cells d ts n)
     (each_from (λ c. (node_has d n c ≡ true) × (is_plant_cell d ts c ≡ true)) (λ c. p c ≡ q c) _ (λ c h. same c h.0 h.1) (node_each d ts n))
@@ -44,7 +46,8 @@ below_same : (levels d : ℕ) (ts : List Township) (e : Estate) (p q : Plant) (n
 below_same zero d ts e p q n same = ap (λ (o : Option Division). rows_or n e o []) (node_same d ts e p q n same)
 below_same (suc levels) d ts e p q n same =
     let parts = flat_map_same (sheet_below levels d ts p e) (sheet_below levels d ts q e) (children_of d ts n)
-    (each_from (λ m. (c : Cell) → node_has d m c ≡ true → node_has d n c ≡ true) (λ m. sheet_below levels d ts p e m ≡ sheet_below levels d ts q e m) _
+    (each_from (λ m. (c : Cell) → node_has d m c ≡ true → node_has d n c ≡ true)
+    (λ m. sheet_below levels d ts p e m ≡ sheet_below levels d ts q e m) _
     (λ m h. below_same levels d ts e p q m (λ c k. same c (h c k))) (children_within d ts n)) in
     λ i. rows_or n e (node_same d ts e p q n same i) (parts i)
 
@@ -53,7 +56,8 @@ estate_same : (d : ℕ) (ts : List Township) (land : Land) (p q : Plant)
     → flat_map (sheet_below (d + 2) d ts p e) (cover_of d land) ≡ flat_map (sheet_below (d + 2) d ts q e) (cover_of d land)
 estate_same d ts land p q same e =
     flat_map_same (sheet_below (d + 2) d ts p e) (sheet_below (d + 2) d ts q e) (cover_of d land)
-    (each_from (λ n. (c : Cell) → node_has d n c ≡ true → has land c ≡ true) (λ n. sheet_below (d + 2) d ts p e n ≡ sheet_below (d + 2) d ts q e n) _
+    (each_from (λ n. (c : Cell) → node_has d n c ≡ true → has land c ≡ true)
+    (λ n. sheet_below (d + 2) d ts p e n ≡ sheet_below (d + 2) d ts q e n) _
     (λ n h. below_same (d + 2) d ts e p q n (λ c k l. same c (and_from (has land c) _ (h c k) l))) (cover_within d land))
 
 each_estate : (f g : Estate → List SheetRow) → ((e : Estate) → f e ≡ g e) → (es : List Estate) → flat_map f es ≡ flat_map g es

@@ -1,13 +1,14 @@
 -- Images right after their puts: which of them may go back or be let go.
-use Rattle.std.proofs.Common.{◌≡◌, ◌≢◌, ℕ, ◌<◌, Bool, true, false, cond, List, [], ◌∷◌, ◌++◌, map, refl, sym, ap, subst, ◌∙◌, inl, inr, ◌⊎◌, eqb, arith, true≢false}
+use Rattle.std.proofs.Common.{◌≡◌, ℕ, ◌<◌, Bool, true, false, cond, List, [], ◌∷◌, ◌++◌, map, refl, sym, ap, subst, ◌∙◌, inl, inr, ◌⊎◌, eqb}
+use Rattle.std.proofs.Common.{arith}
 use Rattle.std.proofs.lemmas.Bool.{eq-eqb, ne_eqb}
 use Rattle.std.proofs.lemmas.List.{map_push}
 use Rattle.title_land.specs.declared.place.Township.{Township}
 use Rattle.title_land.specs.declared.tract.Land.{Land}
 use Rattle.title_land.specs.Lands.{meets}
 use Rattle.title_store.specs.Plants.{Plant}
-use Rattle.title_store.specs.Loans.{Loan, IsAmong, IsLentAs, IsOut, IsLast, IsFirst, AllBelow, IsTaken, without}
-use Rattle.title_store.proofs.LoanLaws.{among_push, among_without}
+use Rattle.title_store.specs.Loans.{Loan, IsAmong, IsOut, IsLast, IsFirst, AllBelow, IsTaken, without}
+use Rattle.title_store.proofs.LoanLaws.{among_push}
 
 abbrev loan : {n : ℕ} {ts : List Township} {land : Land} {p : Plant} {old new : List Loan} → IsTaken n ts land p old new → Loan
 loan {n = n} {land = land} t = record { number = n; land = land; held = t.held }
@@ -25,10 +26,12 @@ pub taken_out : (n : ℕ) (ts : List Township) (land : Land) (p : Plant) (old ne
 taken_out n ts land p old new t = (loan t, (subst (λ (out : List Loan). IsAmong (loan t) out) (sym t.last) (among_end (loan t) old), refl))
 
 -- what is out after a put was out before it, or is its image
-new_or_old : (n : ℕ) (ts : List Township) (land : Land) (p : Plant) (old new : List Loan) (t : IsTaken n ts land p old new) (x : Loan) → IsAmong x new → IsAmong x old ⊎ (x ≡ loan t)
+new_or_old : (n : ℕ) (ts : List Township) (land : Land) (p : Plant) (old new : List Loan) (t : IsTaken n ts land p old new) (x : Loan)
+    → IsAmong x new → IsAmong x old ⊎ (x ≡ loan t)
 new_or_old n ts land p old new t x i = among_push x old (loan t) (subst (λ (out : List Loan). IsAmong x out) t.last i)
 
-below_new : (n : ℕ) (ts : List Township) (land : Land) (p : Plant) (old new : List Loan) → IsTaken n ts land p old new → (x : Loan) → IsAmong x new → n < x.number → ⊥
+below_new : (n : ℕ) (ts : List Township) (land : Land) (p : Plant) (old new : List Loan) → IsTaken n ts land p old new → (x : Loan)
+    → IsAmong x new → n < x.number → ⊥
 below_new n ts land p old new t x i l = elim (new_or_old n ts land p old new t x i) [
   | inl before ↦ (let low = t.above x before in absurd (omega (arith, low, l)))
   | inr same ↦ (let e = ap (λ (y : Loan). y.number) same in absurd (omega (arith, e, l)))
@@ -39,14 +42,17 @@ pub taken_last : (n : ℕ) (ts : List Township) (land : Land) (p : Plant) (old n
 taken_last n ts land p old new t b x lent i l = absurd (below_new n ts land p old new t x i l)
 
 -- the same of a list that is what is out after a put
-pub out_at : (n : ℕ) (ts : List Township) (land : Land) (p : Plant) (old new out : List Loan) → out ≡ new → IsTaken n ts land p old new → IsOut n out
+pub out_at : (n : ℕ) (ts : List Township) (land : Land) (p : Plant) (old new out : List Loan) → out ≡ new → IsTaken n ts land p old new
+    → IsOut n out
 out_at n ts land p old new out same t = subst (λ (xs : List Loan). IsOut n xs) (sym same) (taken_out n ts land p old new t)
 
-pub last_at : (n : ℕ) (ts : List Township) (land : Land) (p : Plant) (old new out : List Loan) → out ≡ new → IsTaken n ts land p old new → IsLast n out
+pub last_at : (n : ℕ) (ts : List Township) (land : Land) (p : Plant) (old new out : List Loan) → out ≡ new → IsTaken n ts land p old new
+    → IsLast n out
 last_at n ts land p old new out same t = subst (λ (xs : List Loan). IsLast n xs) (sym same) (taken_last n ts land p old new t)
 
 -- the only image that is out is the first
-pub taken_first : (n : ℕ) (ts : List Township) (land : Land) (p : Plant) (old new : List Loan) → old ≡ [] → IsTaken n ts land p old new → IsFirst n new
+pub taken_first : (n : ℕ) (ts : List Township) (land : Land) (p : Plant) (old new : List Loan) → old ≡ [] → IsTaken n ts land p old new
+    → IsFirst n new
 taken_first n ts land p old new none t b x lent i l = elim (new_or_old n ts land p old new t x i) [
   | inl before ↦ absurd (subst (λ (out : List Loan). IsAmong x out) none before)
   | inr same ↦ (let e = ap (λ (y : Loan). y.number) same in absurd (omega (arith, e, l)))
@@ -70,7 +76,8 @@ without_push n [] b = refl
 without_push n (x ∷ out) b = go (eqb n x.number) (without_push n out b)
   where
     go : (t : Bool) → without n (out ++ b ∷ []) ≡ without n out ++ without n (b ∷ [])
-        → cond t (without n (out ++ b ∷ [])) (x ∷ without n (out ++ b ∷ [])) ≡ cond t (without n out) (x ∷ without n out) ++ without n (b ∷ [])
+        → cond t (without n (out ++ b ∷ [])) (x ∷ without n (out ++ b ∷ [])) ≡ cond t (without n out) (x ∷ without n out)
+        ++ without n (b ∷ [])
     go true h = h
     go false h = ap (λ (xs : List Loan). x ∷ xs) h
 
@@ -79,23 +86,27 @@ end_nil [] = refl
 end_nil (x ∷ xs) = ap (λ (ys : List Loan). x ∷ ys) (end_nil xs)
 
 -- without the image of a put, what was out before it is out
-pub taken_back : (n : ℕ) (ts : List Township) (land : Land) (p : Plant) (old new : List Loan) → IsTaken n ts land p old new → without n new ≡ old
+pub taken_back : (n : ℕ) (ts : List Township) (land : Land) (p : Plant) (old new : List Loan) → IsTaken n ts land p old new
+    → without n new ≡ old
 taken_back n ts land p old new t =
     ap (without n) t.last ∙ without_push n old (loan t) ∙ ap (λ (xs : List Loan). without n old ++ xs) (without_same n (loan t) [] refl)
     ∙ end_nil (without n old) ∙ without_above n old t.above
 
 -- what is out after the image of a put has gone back
-pub back_at : (n : ℕ) (ts : List Township) (land : Land) (p : Plant) (old new out left : List Loan) → out ≡ new → left ≡ without n out → IsTaken n ts land p old new → left ≡ old
+pub back_at : (n : ℕ) (ts : List Township) (land : Land) (p : Plant) (old new out left : List Loan) → out ≡ new → left ≡ without n out
+    → IsTaken n ts land p old new → left ≡ old
 back_at n ts land p old new out left same gone t = gone ∙ ap (without n) same ∙ taken_back n ts land p old new t
 
 -- an image stays out over the next put
-pub out_stays : (n m : ℕ) (ts us : List Township) (land other : Land) (p q : Plant) (older old new : List Loan) → IsTaken n ts land p older old → IsTaken m us other q old new → IsOut n new
+pub out_stays : (n m : ℕ) (ts us : List Township) (land other : Land) (p q : Plant) (older old new : List Loan)
+    → IsTaken n ts land p older old → IsTaken m us other q old new → IsOut n new
 out_stays n m ts us land other p q older old new t u =
     let b = taken_out n ts land p older old t in
     (b.0, (subst (λ (out : List Loan). IsAmong b.0 out) (sym u.last) (among_front b.0 (loan u) old b.1.0), b.1.1))
 
 -- an image may go back before the next one where they share no cell
-pub apart_last : (n m : ℕ) (ts us : List Township) (land other : Land) (p q : Plant) (older old new : List Loan) → IsTaken n ts land p older old → IsTaken m us other q old new
+pub apart_last : (n m : ℕ) (ts us : List Township) (land other : Land) (p q : Plant) (older old new : List Loan)
+    → IsTaken n ts land p older old → IsTaken m us other q old new
     → meets land other ≡ false → IsLast n new
 apart_last n m ts us land other p q older old new t u apart b x lent i l =
     elim (new_or_old m us other q old new u x i) [
@@ -105,12 +116,14 @@ apart_last n m ts us land other p q older old new t u apart b x lent i l =
           | inl long ↦ (let low = t.above b long in absurd (omega (arith, low, lent.1)))
           | inr here ↦ ap (λ (y : Loan). meets y.land x.land) here ∙ ap (λ (y : Loan). meets land y.land) same ∙ apart
         ]
-        | inr newest ↦ (let e = ap (λ (y : Loan). y.number) newest in let f = ap (λ (y : Loan). y.number) same in absurd (omega (arith, e, f, l, lent.1)))
+        | inr newest ↦ (let e = ap (λ (y : Loan). y.number) newest in let f = ap (λ (y : Loan). y.number) same in
+            absurd (omega (arith, e, f, l, lent.1)))
       ]
     ]
 
 -- after an image has gone back before the next one, that one is as if taken without it
-pub taken_without : (n m : ℕ) (ts us : List Township) (land other : Land) (p q : Plant) (older old new : List Loan) → IsTaken n ts land p older old → IsTaken m us other q old new
+pub taken_without : (n m : ℕ) (ts us : List Township) (land other : Land) (p q : Plant) (older old new : List Loan)
+    → IsTaken n ts land p older old → IsTaken m us other q old new
     → IsTaken m us other q older (without n new)
 taken_without n m ts us land other p q older old new t u =
     let low : n < m = u.above (loan t) (subst (λ (out : List Loan). IsAmong (loan t) out) (sym t.last) (among_end (loan t) older)) in
@@ -118,7 +131,8 @@ taken_without n m ts us land other p q older old new t u =
       held = u.held;
       holds = u.holds;
       above = λ x i. u.above x (subst (λ (out : List Loan). IsAmong x out) (sym t.last) (among_front x (loan t) older i));
-      last = ap (without n) u.last ∙ without_push n old (loan u) ∙ ap (λ (xs : List Loan). xs ++ without n (loan u ∷ [])) (taken_back n ts land p older old t)
+      last = ap (without n) u.last ∙ without_push n old (loan u)
+          ∙ ap (λ (xs : List Loan). xs ++ without n (loan u ∷ [])) (taken_back n ts land p older old t)
           ∙ ap (λ (xs : List Loan). older ++ xs) (without_other n (loan u) [] (λ e. omega (arith, low, e)));
     }
 
@@ -152,7 +166,8 @@ pub record IsQueue (ns : List ℕ) (out : List Loan) : Type 0 where
 pub queue_start : (out : List Loan) → out ≡ [] → IsQueue [] out
 queue_start out h = subst (λ (xs : List Loan). IsQueue [] xs) (sym h) record { are = refl; rise = tt }
 
-pub queue_push : (n : ℕ) (ts : List Township) (land : Land) (p : Plant) (old new : List Loan) (ns : List ℕ) → IsTaken n ts land p old new → IsQueue ns old → IsQueue (ns ++ n ∷ []) new
+pub queue_push : (n : ℕ) (ts : List Township) (land : Land) (p : Plant) (old new : List Loan) (ns : List ℕ) → IsTaken n ts land p old new
+    → IsQueue ns old → IsQueue (ns ++ n ∷ []) new
 queue_push n ts land p old new ns t q = record {
   are = ap numbers t.last ∙ numbers_push old (loan t) ∙ ap (λ (xs : List ℕ). xs ++ n ∷ []) q.are;
   rise = subst Rises (sym t.last) (rises_push old (loan t) t.above q.rise);
@@ -206,13 +221,17 @@ queue_done (b ∷ out) q = absurd (nothing q.are)
     nothing h = cc
 
 -- the same of a queue of images, by their numbers
-pub images_push : {I : Type 0} (f : I → ℕ) (images more : List I) (image : I) (ts : List Township) (land : Land) (p : Plant) (old new : List Loan)
+pub images_push : {I : Type 0} (f : I → ℕ) (images more : List I) (image : I) (ts : List Township) (land : Land) (p : Plant)
+    (old new : List Loan)
     → more ≡ images ++ image ∷ [] → IsTaken (f image) ts land p old new → IsQueue (map f images) old → IsQueue (map f more) new
 images_push f images more image ts land p old new e t q =
-    subst (λ (ns : List ℕ). IsQueue ns new) (sym (ap (map f) e ∙ map_push f images image)) (queue_push (f image) ts land p old new (map f images) t q)
+    subst (λ (ns : List ℕ). IsQueue ns new) (sym (ap (map f) e ∙ map_push f images image))
+    (queue_push (f image) ts land p old new (map f images) t q)
 
-pub images_head : {I : Type 0} (f : I → ℕ) (images rest : List I) (image : I) (out : List Loan) → images ≡ image ∷ rest → IsQueue (map f images) out → IsHead (f image) (map f rest) out
-images_head {I = I} f images rest image out e q = queue_head (f image) (map f rest) out (subst (λ (xs : List I). IsQueue (map f xs) out) e q)
+pub images_head : {I : Type 0} (f : I → ℕ) (images rest : List I) (image : I) (out : List Loan) → images ≡ image ∷ rest
+    → IsQueue (map f images) out → IsHead (f image) (map f rest) out
+images_head {I = I} f images rest image out e q = queue_head (f image) (map f rest) out
+    (subst (λ (xs : List I). IsQueue (map f xs) out) e q)
 
 pub images_none : {I : Type 0} (f : I → ℕ) (images : List I) (out : List Loan) → images ≡ [] → IsQueue (map f images) out → out ≡ []
 images_none {I = I} f images out e q = queue_done out (subst (λ (xs : List I). IsQueue (map f xs) out) e q)

@@ -1,6 +1,7 @@
 -- The nodes of a tract's cover have cells of the tract alone, and a node's children cells of the node.
-use Rattle.std.proofs.Common.{◌≡◌, ℕ, zero, suc, ◌+◌, ◌<◌, ◌≤◌, Bool, true, false, ◌&&◌, List, [], ◌∷◌, ◌++◌, length, map, refl, sym, ap, ◌∙◌, arith, if◌then◌else◌}
-use Rattle.std.proofs.lemmas.Bool.{ltb-true, and_from, and_parts, cases_eq}
+use Rattle.std.proofs.Common.{◌≡◌, ℕ, zero, suc, ◌+◌, ◌<◌, ◌≤◌, Bool, true, false, ◌&&◌, List, [], ◌∷◌, ◌++◌, length, map, refl, sym, ap}
+use Rattle.std.proofs.Common.{◌∙◌, arith, if◌then◌else◌}
+use Rattle.std.proofs.lemmas.Bool.{and_from, and_parts, cases_eq}
 use Rattle.std.specs.Prelude.{nat_lt}
 use Rattle.std.proofs.Common.{inl, inr}
 use Rattle.std.specs.List.{AllByRecursion}
@@ -39,13 +40,15 @@ range_at test start (suc n) k h a b =
 filled_at : (set : ℕ → ℕ → Bool) (r : Rectangle) (row column : ℕ) → fills set r ≡ true → holds r row column ≡ true → set row column ≡ true
 filled_at set r row column h k =
     let i = inside r row column k in
-    range_at (λ x. set row x) r.left r.width column (range_at (λ x. row_fills set r x) r.top r.height row h (omega (arith, i)) (omega (arith, i))) (omega (arith, i)) (omega (arith, i))
+    range_at (λ x. set row x) r.left r.width column (range_at (λ x. row_fills set r x) r.top r.height row h (omega (arith, i))
+    (omega (arith, i))) (omega (arith, i)) (omega (arith, i))
 
 -- a square of the set, with quarters down to a cell at most
 abbrev Listed : ℕ → (ℕ → ℕ → Bool) → List Quarter → Type 0
 Listed d set q = (fills set (square d q) ≡ true) × (length q ≤ d)
 
-cover_each_below : (d : ℕ) (set : ℕ → ℕ → Bool) (levels : ℕ) (q : List Quarter) → levels + length q ≡ d → AllByRecursion (Listed d set) (cover_below d set levels q)
+cover_each_below : (d : ℕ) (set : ℕ → ℕ → Bool) (levels : ℕ) (q : List Quarter) → levels + length q ≡ d
+    → AllByRecursion (Listed d set) (cover_below d set levels q)
 cover_each_below d set zero q l = go (fills set (square d q)) refl
   where
     go : (b : Bool) → fills set (square d q) ≡ b → AllByRecursion (Listed d set) (if b then q ∷ [] else [])
@@ -59,9 +62,12 @@ cover_each_below d set (suc levels) q l =
     (cover_each_below d set levels (Southeast ∷ q) (omega arith))
   where
     go : (b : Bool) → fills set (square d q) ≡ b
-        → AllByRecursion (Listed d set) (cover_below d set levels (Northeast ∷ q)) → AllByRecursion (Listed d set) (cover_below d set levels (Northwest ∷ q))
-        → AllByRecursion (Listed d set) (cover_below d set levels (Southwest ∷ q)) → AllByRecursion (Listed d set) (cover_below d set levels (Southeast ∷ q))
-        → AllByRecursion (Listed d set) (if b then q ∷ [] else (cover_below d set levels (Northeast ∷ q) ++ cover_below d set levels (Northwest ∷ q)
+        → AllByRecursion (Listed d set) (cover_below d set levels (Northeast ∷ q))
+        → AllByRecursion (Listed d set) (cover_below d set levels (Northwest ∷ q))
+        → AllByRecursion (Listed d set) (cover_below d set levels (Southwest ∷ q))
+        → AllByRecursion (Listed d set) (cover_below d set levels (Southeast ∷ q))
+        → AllByRecursion (Listed d set) (if b then q ∷ [] else
+        (cover_below d set levels (Northeast ∷ q) ++ cover_below d set levels (Northwest ∷ q)
         ++ cover_below d set levels (Southwest ∷ q) ++ cover_below d set levels (Southeast ∷ q)))
     go true e ne nw sw se = ((e, omega arith), tt)
     go false e ne nw sw se = each_append (Listed d set) _ _ (each_append (Listed d set) _ _ (each_append (Listed d set) _ _ ne nw) sw) se
@@ -98,7 +104,8 @@ everywhere d (n ∷ nodes) = ((λ c h. refl), everywhere d nodes)
 section_in : (d : ℕ) (t : Township) (s : Section) → s.township ≡ t → LiesIn d (node.Township t) (node.Part s [])
 section_in d t s e c h =
     let parts = and_parts (same_section s c.section) _ h in
-    sym (ap (λ (x : Township). same_township x c.section.township) e) ∙ (and_parts (same_township s.township c.section.township) _ parts.0).0
+    sym (ap (λ (x : Township). same_township x c.section.township) e)
+    ∙ (and_parts (same_township s.township c.section.township) _ parts.0).0
 
 pub quarter_in : (d : ℕ) (s : Section) (w : Within) (q : Quarter) → LiesIn d (node.Part s w) (node.Part s (q ∷ w))
 quarter_in d s w q c h =

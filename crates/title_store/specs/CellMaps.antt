@@ -45,10 +45,12 @@ abbrev pub keep_from : Plant → List Cell → List Kept
 keep_from p cells = map (λ c. record { cell = c; owners = p c }) cells
 
 -- what was computed before a post: what these cells held, and what they are to hold; or the first of them that refuses
-abbrev pub IsComputed : Instrument → Plant → List Cell → Computed → Type 0
+abbrev pub IsComputed : Instrument ℕ → Plant → List Cell → Computed → Type 0
 IsComputed i p cells (computed.Done old new) =
-    (first_failing i p cells ≡ None) × (old.items ≡ keep_from p cells) × (new.items ≡ keep_from (λ c. done_or (p c) (cell_effect i (p c))) cells)
-IsComputed i p cells (computed.Refused rule estate cell) = first_failing i p cells ≡ Some (record { rule = rule; estate = estate; cell = cell })
+    (first_failing i p cells ≡ None) × (old.items ≡ keep_from p cells)
+    × (new.items ≡ keep_from (λ c. done_or (p c) (cell_effect i (p c))) cells)
+IsComputed i p cells (computed.Refused rule estate cell) =
+    first_failing i p cells ≡ Some (record { rule = rule; estate = estate; cell = cell })
 
 -- the loan under a number
 abbrev pub loan_of : ℕ × Lent → Loan

@@ -13,12 +13,12 @@ finer plant c = plant (halved c)
 
 -- a post in the doubled land is refused as in the land: by the same rule, for the same estate, at the same node
 abbrev pub RefusedDoubles : Type 0
-RefusedDoubles = (depth : ℕ) (townships : List Township) (i : Instrument) (plant : Plant) (land : Land) →
+RefusedDoubles = (depth : ℕ) (townships : List Township) (i : Instrument ℕ) (plant : Plant) (land : Land) →
     refused_in (suc depth) townships i (finer plant) (doubled depth land) ≡ refused_in depth townships i plant land
 
 -- a post makes of the finer plant what it makes of the plant
 abbrev pub EffectDoubles : Type 0
-EffectDoubles = (depth : ℕ) (townships : List Township) (i : Instrument) (plant : Plant) (land : Land) →
+EffectDoubles = (depth : ℕ) (townships : List Township) (i : Instrument ℕ) (plant : Plant) (land : Land) →
     plant_effect (suc depth) townships i (finer plant) (doubled depth land) ≡ finer (plant_effect depth townships i plant land)
 
 -- the sheet of the doubled land has the same rows

@@ -2,5 +2,8 @@ pub mod Plants
 pub mod Loans
 pub mod Sheets
 pub mod StoreLaws
+pub mod RefusalLaws
+pub mod SheetShows
+pub mod SheetOrder
 pub mod DepthLaws
 pub mod CellMaps

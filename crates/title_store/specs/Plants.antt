@@ -46,7 +46,7 @@ abbrev pub failing_or : Cell → Effect → Option Failing → Option Failing
 failing_or c (Done owners) later = later
 failing_or c (Refused rule estate) later = Some (record { rule = rule; estate = estate; cell = c })
 
-abbrev pub first_failing : Instrument → Plant → List Cell → Option Failing
+abbrev pub first_failing : Instrument ℕ → Plant → List Cell → Option Failing
 first_failing i plant [] = None
 first_failing i plant (c ∷ cells) = failing_or c (cell_effect i (plant c)) (first_failing i plant cells)
 
@@ -64,7 +64,7 @@ refusal_of depth land None = None
 refusal_of depth land (Some f) = Some (record { rule = f.rule; estate = f.estate; node = node_of depth land f.cell })
 
 -- the refusal of a post in a tract, in the order of its cells; none where every cell has new owners
-unfoldable pub refused_in : ℕ → List Township → Instrument → Plant → Land → Option Refusal
+unfoldable pub refused_in : ℕ → List Township → Instrument ℕ → Plant → Land → Option Refusal
 refused_in depth townships i plant land = refusal_of depth land (first_failing i plant (cells_of depth townships land))
 
 abbrev pub done_or : Owners → Effect → Owners
@@ -72,7 +72,7 @@ done_or owners (Done new) = new
 done_or owners (Refused rule estate) = owners
 
 -- the plant after a post: all cells of the tract have their new owners, or, where one refuses, nothing changes
-unfoldable pub plant_effect : ℕ → List Township → Instrument → Plant → Land → Plant
+unfoldable pub plant_effect : ℕ → List Township → Instrument ℕ → Plant → Land → Plant
 plant_effect depth townships i plant land c =
     cond (is_some (refused_in depth townships i plant land)) (plant c)
     (cond (is_cell_of depth townships land c) (done_or (plant c) (cell_effect i (plant c))) (plant c))

@@ -19,22 +19,22 @@ SheetSame = (depth : ℕ) (townships : List Township) (land : Land) (p q : Plant
 
 -- what refuses a post depends on the tract's cells alone
 abbrev pub RefusedSame : Type 0
-RefusedSame = (depth : ℕ) (townships : List Township) (i : Instrument) (land : Land) (p q : Plant) →
+RefusedSame = (depth : ℕ) (townships : List Township) (i : Instrument ℕ) (land : Land) (p q : Plant) →
     SameOn depth townships land p q → refused_in depth townships i p land ≡ refused_in depth townships i q land
 
 -- what a cell holds after a post depends on the tract's cells and on that cell
 abbrev pub EffectSame : Type 0
-EffectSame = (depth : ℕ) (townships : List Township) (i : Instrument) (land : Land) (p q : Plant) (c : Cell) →
+EffectSame = (depth : ℕ) (townships : List Township) (i : Instrument ℕ) (land : Land) (p q : Plant) (c : Cell) →
     SameOn depth townships land p q → p c ≡ q c → plant_effect depth townships i p land c ≡ plant_effect depth townships i q land c
 
 -- a post changes no cell outside its tract
 abbrev pub EffectOutside : Type 0
-EffectOutside = (depth : ℕ) (townships : List Township) (i : Instrument) (land : Land) (p : Plant) (c : Cell) →
+EffectOutside = (depth : ℕ) (townships : List Township) (i : Instrument ℕ) (land : Land) (p : Plant) (c : Cell) →
     is_cell_of depth townships land c ≡ false → plant_effect depth townships i p land c ≡ p c
 
 -- a refused post changes no cell
 abbrev pub EffectRefused : Type 0
-EffectRefused = (depth : ℕ) (townships : List Township) (i : Instrument) (land : Land) (p : Plant) (c : Cell) (r : Refusal) →
+EffectRefused = (depth : ℕ) (townships : List Township) (i : Instrument ℕ) (land : Land) (p : Plant) (c : Cell) (r : Refusal) →
     refused_in depth townships i p land ≡ Some r → plant_effect depth townships i p land c ≡ p c
 
 -- the test of divisions is their equality

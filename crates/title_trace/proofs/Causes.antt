@@ -1,5 +1,6 @@
 -- An instrument that can stand among some parties can stand among more.
-use Rattle.std.proofs.Common.{◌≡◌, ℕ, ◌≤◌, Bool, true, false, ◌||◌, cond, List, [], ◌∷◌, refl, sym, ap, ◌∙◌, arith, Option, Some, None, leb, ◌<◌}
+use Rattle.std.proofs.Common.{◌≡◌, ℕ, ◌≤◌, Bool, true, false, ◌||◌, cond, List, [], ◌∷◌, refl, sym, ap, ◌∙◌, arith, Option, Some, None, leb}
+use Rattle.std.proofs.Common.{◌<◌}
 use Rattle.std.proofs.lemmas.Bool.{leb-false, lt-leb}
 use Rattle.title_instrument.specs.declared.instrument.Instrument.{Instrument}
 use Rattle.title_instrument.specs.declared.parts.Cause.{Cause}
@@ -23,18 +24,21 @@ both_false a b h k = rw (h, k) refl
 
 -- the first cause, with what holds of parties as a variable
 abbrev first_with : Bool → Bool → Bool → Bool → Option Cause
-first_with party same none stray = cond party (Some Party) (cond same (Some SameParty) (cond none (Some NoEstate) (cond stray (Some Reservation) None)))
+first_with party same none stray = cond party (Some Party)
+    (cond same (Some SameParty) (cond none (Some NoEstate) (cond stray (Some Reservation) None)))
 
-none_first : (party party2 same none stray : Bool) → (party ≡ false → party2 ≡ false) → first_with party same none stray ≡ None → first_with party2 same none stray ≡ None
+none_first : (party party2 same none stray : Bool) → (party ≡ false → party2 ≡ false) → first_with party same none stray ≡ None
+    → first_with party2 same none stray ≡ None
 none_first true party2 same none stray less h = absurd cc
 none_first false party2 same none stray less h = rw (less refl) h
 
-instrument_among_more : (p q : ℕ) (i : Instrument) → p ≤ q → first_cause p i ≡ None → first_cause q i ≡ None
+instrument_among_more : (p q : ℕ) (i : Instrument ℕ) → p ≤ q → first_cause p i ≡ None → first_cause q i ≡ None
 unfolding first_cause
 instrument_among_more p q i most h =
     none_first (holds p i Party) (holds q i Party) (holds p i SameParty) (holds p i NoEstate) (holds p i Reservation)
     (λ n. let parts = neither (leb p (grantor_of i)) (leb p (grantee_of i)) n in
-    both_false (leb q (grantor_of i)) (leb q (grantee_of i)) (above_more p q (grantor_of i) most parts.0) (above_more p q (grantee_of i) most parts.1))
+    both_false (leb q (grantor_of i)) (leb q (grantee_of i)) (above_more p q (grantor_of i) most parts.0)
+    (above_more p q (grantee_of i) most parts.1))
     h
 
 -- an ask that can stand among some parties can stand among more

@@ -1,5 +1,6 @@
 -- The law of due traces, by induction on the trace.
-use Rattle.std.proofs.Common.{◌≡◌, ◌≢◌, ℕ, suc, ◌≤◌, Bool, true, false, cond, List, [], ◌∷◌, refl, ap, ◌∙◌, sym, subst, length, eqb, Option, Some, None}
+use Rattle.std.proofs.Common.{◌≡◌, ◌≢◌, ℕ, suc, ◌≤◌, Bool, true, false, cond, List, [], ◌∷◌, refl, ap, ◌∙◌, sym, subst, length, eqb, Option}
+use Rattle.std.proofs.Common.{Some, None}
 use Rattle.std.proofs.lemmas.Bool.{cond_both, eqb-true, eqb-false}
 use Rattle.std.proofs.lemmas.List.{reverse-reverse}
 use Rattle.std.specs.Prelude.{nat_le}
@@ -34,7 +35,8 @@ clear_emptied own e f g h =
     (λ _. cond_both (eqb g e) [] (own g) (λ ys. Clear (own f) ys) (λ _. clear_nothing (own f)) (λ _. h))
 
 -- an examiner's steps go, by Began or Aborted
-kept_emptied : (depth : ℕ) (townships : List Township) (records : List Record) (own : ℕ → List Step) (e : ℕ) → Kept depth townships records own → Kept depth townships records (λ f. cond (eqb f e) [] (own f))
+kept_emptied : (depth : ℕ) (townships : List Township) (records : List Record) (own : ℕ → List Step) (e : ℕ)
+    → Kept depth townships records own → Kept depth townships records (λ f. cond (eqb f e) [] (own f))
 kept_emptied depth townships records own e k = record {
   serial = k.serial;
   plays = λ f. cond_both (eqb f e) [] (own f) (Plays depth townships records) (λ _. tt) (λ _. k.plays f);
@@ -42,7 +44,8 @@ kept_emptied depth townships records own e k = record {
 }
 
 -- a transaction is committed
-kept_committed : (depth : ℕ) (townships : List Township) (records : List Record) (own : ℕ → List Step) (e : ℕ) → Kept depth townships records own → Kept depth townships (record_of e (own e) ∷ records) (λ f. cond (eqb f e) [] (own f))
+kept_committed : (depth : ℕ) (townships : List Township) (records : List Record) (own : ℕ → List Step) (e : ℕ)
+    → Kept depth townships records own → Kept depth townships (record_of e (own e) ∷ records) (λ f. cond (eqb f e) [] (own f))
 kept_committed depth townships records own e k = record {
   serial = (k.serial, rw reverse-reverse (k.plays e));
   plays = λ f. cond_both (eqb f e) [] (own f) (Plays depth townships (record_of e (own e) ∷ records)) (λ _. tt)
@@ -51,12 +54,15 @@ kept_committed depth townships records own e k = record {
 }
 
 -- an ask is answered
-kept_answered : (depth : ℕ) (townships : List Township) (records : List Record) (own : ℕ → List Step) (e : ℕ) (a : Ask) → CanStand townships a → ((f : ℕ) → f ≢ e → overlaps a (own f) ≡ false) → Kept depth townships records own →
-    Kept depth townships records (λ f. cond (eqb f e) (record { ask = a; answer = alone depth townships records (own e) a } ∷ own f) (own f))
+kept_answered : (depth : ℕ) (townships : List Township) (records : List Record) (own : ℕ → List Step) (e : ℕ) (a : Ask)
+    → CanStand townships a → ((f : ℕ) → f ≢ e → overlaps a (own f) ≡ false) → Kept depth townships records own →
+    Kept depth townships records (λ f. cond (eqb f e) (record { ask = a; answer = alone depth townships records (own e) a } ∷ own f)
+    (own f))
 kept_answered depth townships records own e a stands free k =
     let s : Step = record { ask = a; answer = alone depth townships records (own e) a } in record {
       serial = k.serial;
-      plays = λ f. cond_both (eqb f e) (s ∷ own f) (own f) (Plays depth townships records) (λ t. (k.plays f, stands, ap (λ g. alone depth townships records (own g) a) (sym (eqb-true f e t)))) (λ _. k.plays f);
+      plays = λ f. cond_both (eqb f e) (s ∷ own f) (own f) (Plays depth townships records)
+          (λ t. (k.plays f, stands, ap (λ g. alone depth townships records (own g) a) (sym (eqb-true f e t)))) (λ _. k.plays f);
       clear = λ f g ne. cond_both (eqb f e) (s ∷ own f) (own f) (λ xs. Clear xs (cond (eqb g e) (s ∷ own g) (own g)))
           (λ t. cond_both (eqb g e) (s ∷ own g) (own g) (λ ys. Clear (s ∷ own f) ys)
           (λ u. absurd (ne (eqb-true f e t ∙ sym (eqb-true g e u)))) (λ n. (k.clear f g ne, free g (eqb-false g e n))))
@@ -66,43 +72,60 @@ kept_answered depth townships records own e a stands free k =
 
 -- what holds after a call with this reply
 abbrev pub KeptBy : ℕ → Setting → List Call → Request → Reply → Type 0
-KeptBy depth setting before q r = Kept depth setting.townships (committed_by r (record_of (examiner_of q) (open_steps before (examiner_of q))) (committed before)) (λ f. steps_by (eqb f (examiner_of q)) q r (open_steps before f))
+KeptBy depth setting before q r = Kept depth setting.townships
+    (committed_by r (record_of (examiner_of q) (open_steps before (examiner_of q))) (committed before))
+    (λ f. steps_by (eqb f (examiner_of q)) q r (open_steps before f))
 
 abbrev pub KeptAt : ℕ → Setting → List Call → Type 0
 KeptAt depth setting before = Kept depth setting.townships (committed before) (open_steps before)
 
-kept_way : (depth : ℕ) (setting : Setting) (before : List Call) (e : ℕ) (a : Ask) (way : Option ℕ) → CanStand setting.townships a → InTheWay before e a way → KeptAt depth setting before → KeptBy depth setting before (request.Step e a) (reply_past depth setting before e a way)
-kept_way depth setting before e a None stands free k = kept_answered depth setting.townships (committed before) (open_steps before) e a stands free k
+kept_way : (depth : ℕ) (setting : Setting) (before : List Call) (e : ℕ) (a : Ask) (way : Option ℕ) → CanStand setting.townships a
+    → InTheWay before e a way → KeptAt depth setting before
+    → KeptBy depth setting before (request.Step e a) (reply_past depth setting before e a way)
+kept_way depth setting before e a None stands free k =
+    kept_answered depth setting.townships (committed before) (open_steps before) e a stands free k
 kept_way depth setting before e a (Some f) stands least k = k
 
-kept_step : (depth : ℕ) (setting : Setting) (before : List Call) (e : ℕ) (a : Ask) (r : Reply) (begun inside : Bool) (cause : Option Cause) (full : Bool) → setting.parties ≤ 65536 →
+kept_step : (depth : ℕ) (setting : Setting) (before : List Call) (e : ℕ) (a : Ask) (r : Reply) (begun inside : Bool) (cause : Option Cause)
+    (full : Bool) → setting.parties ≤ 65536 →
     is_in_plant setting.townships (tract_of a) ≡ inside → cause_of setting.parties a ≡ cause →
-    DueStep depth setting before e a r begun inside cause full → KeptAt depth setting before → KeptBy depth setting before (request.Step e a) r
-kept_step depth setting before e a r false inside cause full most i c due k = subst (KeptBy depth setting before (request.Step e a)) (sym due) k
-kept_step depth setting before e a r true false cause full most i c due k = subst (KeptBy depth setting before (request.Step e a)) (sym due) k
-kept_step depth setting before e a r true true (Some cause) full most i c due k = subst (KeptBy depth setting before (request.Step e a)) (sym due) k
+    DueStep depth setting before e a r begun inside cause full → KeptAt depth setting before
+    → KeptBy depth setting before (request.Step e a) r
+kept_step depth setting before e a r false inside cause full most i c due k =
+    subst (KeptBy depth setting before (request.Step e a)) (sym due) k
+kept_step depth setting before e a r true false cause full most i c due k =
+    subst (KeptBy depth setting before (request.Step e a)) (sym due) k
+kept_step depth setting before e a r true true (Some cause) full most i c due k =
+    subst (KeptBy depth setting before (request.Step e a)) (sym due) k
 kept_step depth setting before e a r true true None true most i c due k = subst (KeptBy depth setting before (request.Step e a)) (sym due) k
 kept_step depth setting before e a r true true None false most i c due k =
-    subst (KeptBy depth setting before (request.Step e a)) (sym due.2) (kept_way depth setting before e a due.0 (i, cause_among_more setting.parties 65536 a most c) due.1 k)
+    subst (KeptBy depth setting before (request.Step e a)) (sym due.2)
+    (kept_way depth setting before e a due.0 (i, cause_among_more setting.parties 65536 a most c) due.1 k)
 
-kept_call : (depth : ℕ) (setting : Setting) (before : List Call) (q : Request) (r : Reply) → setting.parties ≤ 65536 → DueReply depth setting before q r → KeptAt depth setting before → KeptBy depth setting before q r
+kept_call : (depth : ℕ) (setting : Setting) (before : List Call) (q : Request) (r : Reply) → setting.parties ≤ 65536
+    → DueReply depth setting before q r → KeptAt depth setting before → KeptBy depth setting before q r
 kept_call depth setting before (request.Begin e) r most due k =
     let P = KeptBy depth setting before (request.Begin e) in
     subst P (sym due) (cond_both (is_open e before) reply.AlreadyOpen reply.Began P (λ _. k) (λ _. kept_emptied _ _ _ _ e k))
 kept_call depth setting before (request.Step e a) r most due k = kept_step depth setting before e a r _ _ _ _ most refl refl due k
 kept_call depth setting before (request.Commit e) r most due k =
     let P = KeptBy depth setting before (request.Commit e) in
-    subst P (sym due) (cond_both (is_open e before) (reply.Committed (suc (length (committed before)))) reply.NotOpen P (λ _. kept_committed _ _ _ _ e k) (λ _. k))
+    subst P (sym due) (cond_both (is_open e before) (reply.Committed (suc (length (committed before)))) reply.NotOpen P
+    (λ _. kept_committed _ _ _ _ e k) (λ _. k))
 kept_call depth setting before (request.Abort e) r most due k =
     let P = KeptBy depth setting before (request.Abort e) in
     subst P (sym due) (cond_both (is_open e before) reply.Aborted reply.NotOpen P (λ _. kept_emptied _ _ _ _ e k) (λ _. k))
 
-pub kept : (depth : ℕ) (setting : Setting) → setting.parties ≤ 65536 → (trace : List Call) → IsDue depth setting trace → KeptAt depth setting trace
+pub kept : (depth : ℕ) (setting : Setting) → setting.parties ≤ 65536 → (trace : List Call) → IsDue depth setting trace
+    → KeptAt depth setting trace
 kept depth setting most [] due = record { serial = tt; plays = λ e. tt; clear = λ e f ne. tt }
-kept depth setting most (call ∷ before) due = kept_call depth setting before call.request call.reply most due.1 (kept depth setting most before due.0)
+kept depth setting most (call ∷ before) due = kept_call depth setting before call.request call.reply most due.1
+    (kept depth setting most before due.0)
 
-pub committed_serial : (depth : ℕ) (setting : Setting) → setting.parties ≤ 65536 → (trace : List Call) → IsDue depth setting trace → IsSerial depth setting.townships (committed trace)
+pub committed_serial : (depth : ℕ) (setting : Setting) → setting.parties ≤ 65536 → (trace : List Call) → IsDue depth setting trace
+    → IsSerial depth setting.townships (committed trace)
 committed_serial depth setting most trace due = (kept depth setting most trace due).serial
 
-pub open_last : (depth : ℕ) (setting : Setting) → setting.parties ≤ 65536 → (trace : List Call) (e : ℕ) → IsDue depth setting trace → IsSerial depth setting.townships (record_of e (open_steps trace e) ∷ committed trace)
+pub open_last : (depth : ℕ) (setting : Setting) → setting.parties ≤ 65536 → (trace : List Call) (e : ℕ) → IsDue depth setting trace
+    → IsSerial depth setting.townships (record_of e (open_steps trace e) ∷ committed trace)
 open_last depth setting most trace e due = let k = kept depth setting most trace due in (k.serial, rw reverse-reverse (k.plays e))

@@ -1,10 +1,10 @@
 -- The due reply to a request after a trace, with no lock and no undo in it. Lists of calls and steps have the newest first.
-use Rattle.std.specs.Prelude.{◌≡◌, ◌≢◌, ℕ, suc, ◌<◌, Bool, true, false, cond, nat_le, List, [], ◌∷◌, length, Option, Some, None}
+use Rattle.std.specs.Prelude.{◌≡◌, ◌≢◌, ◌↔◌, ℕ, suc, ◌<◌, Bool, true, false, cond, not, ◌&&◌, eqb, nat_le, min}
+use Rattle.std.specs.Prelude.{List, [], ◌∷◌, length, map, filter, Option, Some, None}
 use Rattle.title_land.specs.declared.place.Township.{Township}
 use Rattle.title_land.specs.Lands.{is_in_plant}
 use Rattle.title_instrument.specs.declared.parts.Cause.{Cause}
 use Rattle.title_chain.specs.declared.ask.Ask.{Ask}
-use Rattle.title_chain.specs.declared.ask.Step.{Step}
 use Rattle.title_chain.specs.Asks.{tract_of, cause_of}
 use Rattle.title_chain.specs.Alone.{alone}
 use Rattle.title_chain.specs.Overlaps.{overlaps}
@@ -13,7 +13,7 @@ use Rattle.title_trace.specs.declared.call.Request.{Request}
 use Rattle.title_trace.specs.declared.call.Request.TheVariants as request
 use Rattle.title_trace.specs.declared.call.Reply.{Reply}
 use Rattle.title_trace.specs.declared.call.Reply.TheVariants as reply
-use Rattle.title_trace.specs.Trace.{is_open, open_steps, committed}
+use Rattle.title_trace.specs.Trace.{examiner_of, is_open, open_steps, committed}
 
 -- the most steps that a transaction has
 abbrev pub most_steps : ℕ
@@ -62,3 +62,55 @@ abbrev pub IsDue : ℕ → Setting → List Call → Type 0
 IsDue depth setting [] = Unit {0}
 IsDue depth setting (call ∷ before) =
     IsDue depth setting before × DueReply depth setting before call.request call.reply
+
+-- ---- the due reply as a function
+
+-- the lesser of a number and another, where there is another
+abbrev pub lesser : ℕ → Option ℕ → ℕ
+lesser n None = n
+lesser n (Some m) = min n m
+
+-- the least of numbers, where there are any
+abbrev pub least : List ℕ → Option ℕ
+least [] = None
+least (n ∷ ns) = Some (lesser n (least ns))
+
+-- the examiners of a trace's calls
+abbrev pub examiners : List Call → List ℕ
+examiners before = map (λ call. examiner_of call.request) before
+
+-- an examiner is another than the asker, and one of its open steps overlaps the ask
+abbrev pub stops : List Call → ℕ → Ask → ℕ → Bool
+stops before e a f = not (eqb f e) && overlaps a (open_steps before f)
+
+-- who stands in the way of an examiner's ask: the least of the trace's examiners that do
+abbrev pub in_the_way : List Call → ℕ → Ask → Option ℕ
+in_the_way before e a = least (filter (stops before e a) (examiners before))
+
+-- the due reply to a step, by the same lines as the relation
+abbrev pub due_step : ℕ → Setting → List Call → ℕ → Ask → (begun inside : Bool) → Option Cause → (full : Bool) → Reply
+due_step depth setting before e a false inside cause full = reply.NotOpen
+due_step depth setting before e a true false cause full = reply.NoSuchTownship
+due_step depth setting before e a true true (Some cause) full = reply.Invalid cause
+due_step depth setting before e a true true None true = reply.TooLong
+due_step depth setting before e a true true None false = reply_past depth setting before e a (in_the_way before e a)
+
+-- the due reply to a request after a trace
+abbrev pub due_reply : ℕ → Setting → List Call → Request → Reply
+due_reply depth setting before (request.Begin e) = cond (is_open e before) reply.AlreadyOpen reply.Began
+due_reply depth setting before (request.Step e a) =
+    due_step depth setting before e a (is_open e before) (is_in_plant setting.townships (tract_of a))
+    (cause_of setting.parties a) (nat_le most_steps (length (open_steps before e)))
+due_reply depth setting before (request.Commit e) =
+    cond (is_open e before) (reply.Committed (suc (length (committed before)))) reply.NotOpen
+due_reply depth setting before (request.Abort e) = cond (is_open e before) reply.Aborted reply.NotOpen
+
+-- an examiner, or nobody, stands in the way by the relation exactly where it does by the function
+abbrev pub OneInTheWay : Type 0
+OneInTheWay = (before : List Call) (e : ℕ) (a : Ask) (way : Option ℕ) → InTheWay before e a way ↔ (way ≡ in_the_way before e a)
+
+-- a reply is due by the relation exactly where it is the one that the function gives
+abbrev pub OneDueReply : ℕ → Type 0
+OneDueReply depth =
+    (setting : Setting) (before : List Call) (q : Request) (r : Reply) →
+    DueReply depth setting before q r ↔ (r ≡ due_reply depth setting before q)

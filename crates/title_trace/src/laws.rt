@@ -1,5 +1,6 @@
-//! The law of due traces.
+//! Laws of due traces and due replies. Each function does nothing: its clause is the law, proved.
 
+ghost use Rattle.title_trace.specs.Due.{OneInTheWay, OneDueReply};
 ghost use Rattle.title_trace.specs.Serial.{CommittedAreSerial, OpenMayBeLast};
 ghost use Rattle.title_land.specs.Depth.{depth};
 
@@ -8,4 +9,11 @@ ghost use Rattle.title_land.specs.Depth.{depth};
 pub fn committed_transactions_are_serial()
     ensures committed { CommittedAreSerial depth }
     ensures open_last { OpenMayBeLast depth }
+{}
+
+/// A reply is due exactly where it is the one that `due_reply` gives; a step in the way is that of the least examiner of
+/// the trace, other than the asker, whose open steps overlap the ask.
+pub fn one_reply_is_due()
+    ensures way { OneInTheWay }
+    ensures reply { OneDueReply depth }
 {}

@@ -4,21 +4,21 @@ ghost use Rattle.std.specs.Prelude.{◌≡◌, ◌⊎◌, ◌||◌, ◌∷◌, �
 ghost use Rattle.title_land.specs.Depth.{depth};
 ghost use Rattle.std.specs.List.{list_any};
 ghost use Rattle.title_aliquot.specs.Describes.{Describes};
-ghost use Rattle.title_device.specs.declared.fault.RunFault.TheVariants as fault;
+ghost use Rattle.title_plan.specs.declared.fault.ScriptFault.TheVariants as fault;
 ghost use Rattle.title_land.specs.Places.{same_township};
 ghost use Rattle.title_land.specs.declared.place.Township.{Township as Place};
 ghost use Rattle.title_land.specs.declared.tract.Land.TheVariants as land;
 ghost use Rattle.title_plan.specs.Asked.{asked_in, is_none};
 ghost use Rattle.title_plan.specs.Declarations.{AfterTownship, with_party, with_township};
 
+use crate::fault::ScriptFault;
 use crate::plan::{PARTIES, Plan, TOWNSHIPS};
 use std::alloc::{AllocError, Global};
 use title_aliquot::{DescFault, read};
-use title_device::RunFault;
 use title_land::{Land, Township};
 
 // The township that a text describes as a whole.
-fn read_township(alloc: Global, n: u64, text: &str) -> Result<Township, RunFault>
+fn read_township(alloc: Global, n: u64, text: &str) -> Result<Township, ScriptFault>
     ensures described { IfOk result (λ t. Describes depth text.now (land.Township t)) }
     ensures none { IfErr result (λ e. (e ≡ fault.Memory)
         ⊎ (((t : Place) → Describes depth text.now (land.Township t) → ⊥) × (e ≡ fault.Row n))) }
@@ -26,11 +26,11 @@ fn read_township(alloc: Global, n: u64, text: &str) -> Result<Township, RunFault
     match read(alloc, text) {
         Ok(tract) => match tract.land() {
             Land::Township(township) => Ok(township),
-            _ => Err(RunFault::Row(n)),
+            _ => Err(ScriptFault::Row(n)),
         },
         Err(fault) => match fault {
-            DescFault::Memory => Err(RunFault::Memory),
-            _ => Err(RunFault::Row(n)),
+            DescFault::Memory => Err(ScriptFault::Memory),
+            _ => Err(ScriptFault::Row(n)),
         },
     }
 }
@@ -66,23 +66,21 @@ impl Plan {
     }
 
     // Declares a township.
-    fn declare(&mut self, n: u64, township: Township) -> Result<(), RunFault>
+    fn declare(&mut self, n: u64, township: Township) -> Result<(), ScriptFault>
         ensures ok { OnOk result (with_township n (asked_in self.old) township ≡ Ok (asked_in self.new)) }
         ensures err { IfErr result (λ e. (e ≡ fault.Memory) ⊎ (with_township n (asked_in self.old) township ≡ Err e)) }
     {
         if is_refused(self.townships.as_slice(), township) {
-            return Err(RunFault::Row(n));
+            return Err(ScriptFault::Row(n));
         }
         if self.has_steps() {
-            return Err(RunFault::Order(n));
+            return Err(ScriptFault::Order(n));
         }
-        match push(&mut self.townships, township) {
-            Ok(()) => Ok(()),
-            Err(_) => Err(RunFault::Memory),
-        }
+        push(&mut self.townships, township)?;
+        Ok(())
     }
 
-    pub(super) fn take_township(&mut self, n: u64, text: &str) -> Result<(), RunFault>
+    pub(super) fn take_township(&mut self, n: u64, text: &str) -> Result<(), ScriptFault>
         ensures ok { OnOk result (AfterTownship n (asked_in self.old) text.now (Ok (asked_in self.new))) }
         ensures err { IfErr result (λ e. (e ≡ fault.Memory) ⊎ AfterTownship n (asked_in self.old) text.now (Err e)) }
     {
@@ -92,25 +90,21 @@ impl Plan {
         }
     }
 
-    pub(super) fn take_party(&mut self, n: u64, name: &str) -> Result<(), RunFault>
+    pub(super) fn take_party(&mut self, n: u64, name: &str) -> Result<(), ScriptFault>
         ensures ok { OnOk result (with_party n (asked_in self.old) name.now ≡ Ok (asked_in self.new)) }
         ensures err { IfErr result (λ e. (e ≡ fault.Memory) ⊎ (with_party n (asked_in self.old) name.now ≡ Err e)) }
     {
         if self.parties.len() >= PARTIES {
-            return Err(RunFault::Row(n));
+            return Err(ScriptFault::Row(n));
         }
         if self.has_steps() {
-            return Err(RunFault::Order(n));
+            return Err(ScriptFault::Order(n));
         }
         if self.parties.contains(name) {
-            return Err(RunFault::Party(n));
+            return Err(ScriptFault::Party(n));
         }
-        let Ok(name) = String::from_str(self.alloc, name) else {
-            return Err(RunFault::Memory);
-        };
-        match self.parties.insert(name) {
-            Ok(_) => Ok(()),
-            Err(_) => Err(RunFault::Memory),
-        }
+        let name = String::from_str(self.alloc, name)?;
+        self.parties.insert(name)?;
+        Ok(())
     }
 }

@@ -3,35 +3,35 @@
 ghost use Rattle.std.specs.Prelude.{◌≡◌, ◌≢◌, ◌⊎◌, ◌∷◌, ◌++◌, [], Ok, Err, IfErr, IfOk, OnOk};
 ghost use Rattle.title_aliquot.specs.declared.fault.DescFault.TheVariants as desc_fault;
 ghost use Rattle.title_chain.specs.declared.ask.Ask.TheVariants as ask;
-ghost use Rattle.title_device.specs.declared.fault.RunFault.TheVariants as fault;
+ghost use Rattle.title_plan.specs.declared.fault.ScriptFault.TheVariants as fault;
+ghost use Rattle.title_instrument.specs.Parties.{between, grantor_of, grantee_of};
 ghost use Rattle.title_plan.specs.Asked.{asked_in};
 ghost use Rattle.title_plan.specs.declared.line.Line.TheVariants as line;
-ghost use Rattle.title_plan.specs.Steps.{AfterPost, AfterStep, IsLineOf, deed_of, is_out_of_turn, number_of, post, release_of, with_line};
+ghost use Rattle.title_plan.specs.Steps.{AfterNumbered, AfterStep, IsLineOf, is_out_of_turn, number_of, post, with_line};
 
+use crate::fault::ScriptFault;
 use crate::line::{Line, Schedule};
 use crate::plan::Plan;
 use std::alloc::{AllocError, Global};
 use std::collections::VecDeque;
 use title_aliquot::{DescFault, read};
 use title_chain::{Ask, Posting};
-use title_device::RunFault;
-use title_instrument::{Deed, Instrument, Release};
-use title_row::{DeedTerms, ReleaseTerms};
+use title_instrument::Instrument;
 use title_trace::Request;
 
 // The step of an examiner whose text has this fault.
-fn described(examiner: u32, why: DescFault) -> Result<Line, RunFault>
+fn described(examiner: u32, why: DescFault) -> Result<Line, ScriptFault>
     ensures line { IfOk result (λ added. (added ≡ line.Described examiner why) × (why ≢ desc_fault.Memory)) }
     ensures fault { IfErr result (λ e. e ≡ fault.Memory) }
 {
     match why {
-        DescFault::Memory => Err(RunFault::Memory),
+        DescFault::Memory => Err(ScriptFault::Memory),
         _ => Ok(Line::Described(examiner, why)),
     }
 }
 
 // A sheet of what a text describes.
-fn sheet(alloc: Global, examiner: u32, text: &str) -> Result<Line, RunFault>
+fn sheet(alloc: Global, examiner: u32, text: &str) -> Result<Line, ScriptFault>
     ensures line { IfOk result (λ added. IsLineOf examiner ask.Sheet text.now added) }
     ensures fault { IfErr result (λ e. e ≡ fault.Memory) }
 {
@@ -42,7 +42,7 @@ fn sheet(alloc: Global, examiner: u32, text: &str) -> Result<Line, RunFault>
 }
 
 // The chain of what a text describes.
-fn chain(alloc: Global, examiner: u32, text: &str) -> Result<Line, RunFault>
+fn chain(alloc: Global, examiner: u32, text: &str) -> Result<Line, ScriptFault>
     ensures line { IfOk result (λ added. IsLineOf examiner ask.Chain text.now added) }
     ensures fault { IfErr result (λ e. e ≡ fault.Memory) }
 {
@@ -59,7 +59,7 @@ fn posting(
     doc: u64,
     instrument: Instrument,
     text: &str,
-) -> Result<Line, RunFault>
+) -> Result<Line, ScriptFault>
     ensures line { IfOk result (λ added. IsLineOf examiner (post doc instrument) text.now added) }
     ensures fault { IfErr result (λ e. e ≡ fault.Memory) }
 {
@@ -74,38 +74,6 @@ fn posting(
         ))),
         Err(fault) => described(examiner, fault),
     }
-}
-
-// What a deed's terms do between two parties.
-fn deed(terms: DeedTerms, grantor: u32, grantee: u32) -> Instrument
-    ensures deed { result ≡ deed_of terms grantor grantee }
-{
-    let DeedTerms {
-        doc: _,
-        estates,
-        quantum,
-        reserve,
-        warranty,
-    } = terms;
-    Instrument::Deed(Deed {
-        grantor,
-        grantee,
-        estates,
-        quantum,
-        reserve,
-        warranty,
-    })
-}
-
-// What a release's terms do between two parties.
-fn release(terms: ReleaseTerms, from: u32, to: u32) -> Instrument
-    ensures release { result ≡ release_of terms «from» to }
-{
-    Instrument::Release(Release {
-        from,
-        to,
-        estates: terms.estates,
-    })
 }
 
 fn push(lines: &mut VecDeque<Line>, line: Line) -> Result<(), AllocError>
@@ -136,7 +104,7 @@ impl Plan {
         }
     }
 
-    fn add(&mut self, line: Line, inside: Option<u32>) -> Result<(), RunFault>
+    fn add(&mut self, line: Line, inside: Option<u32>) -> Result<(), ScriptFault>
         ensures ok { OnOk result (asked_in self.new ≡ with_line (asked_in self.old) line inside) }
         ensures fault { IfErr result (λ e. e ≡ fault.Memory) }
     {
@@ -145,7 +113,7 @@ impl Plan {
                 self.inside = inside;
                 Ok(())
             }
-            Err(_) => Err(RunFault::Memory),
+            Err(_) => Err(ScriptFault::Memory),
         }
     }
 
@@ -154,14 +122,14 @@ impl Plan {
         &mut self,
         request: Request,
         inside: Option<u32>,
-    ) -> Result<(), RunFault>
+    ) -> Result<(), ScriptFault>
         ensures ok { OnOk result (asked_in self.new ≡ with_line (asked_in self.old) (line.Asks request) inside) }
         ensures fault { IfErr result (λ e. e ≡ fault.Memory) }
     {
         self.add(Line::Asks(request), inside)
     }
 
-    pub(super) fn take_sheet(&mut self, examiner: u32, text: &str) -> Result<(), RunFault>
+    pub(super) fn take_sheet(&mut self, examiner: u32, text: &str) -> Result<(), ScriptFault>
         ensures ok { OnOk result (AfterStep (asked_in self.old) examiner ask.Sheet text.now (Ok (asked_in self.new))) }
         ensures fault { IfErr result (λ e. e ≡ fault.Memory) }
     {
@@ -171,7 +139,7 @@ impl Plan {
         }
     }
 
-    pub(super) fn take_chain(&mut self, examiner: u32, text: &str) -> Result<(), RunFault>
+    pub(super) fn take_chain(&mut self, examiner: u32, text: &str) -> Result<(), ScriptFault>
         ensures ok { OnOk result (AfterStep (asked_in self.old) examiner ask.Chain text.now (Ok (asked_in self.new))) }
         ensures fault { IfErr result (λ e. e ≡ fault.Memory) }
     {
@@ -181,13 +149,13 @@ impl Plan {
         }
     }
 
-    fn take_post(
+    fn add_post(
         &mut self,
         examiner: u32,
         doc: u64,
         instrument: Instrument,
         text: &str,
-    ) -> Result<(), RunFault>
+    ) -> Result<(), ScriptFault>
         ensures ok { OnOk result (AfterStep (asked_in self.old) examiner (post doc instrument) text.now (Ok (asked_in self.new))) }
         ensures fault { IfErr result (λ e. e ≡ fault.Memory) }
     {
@@ -197,53 +165,28 @@ impl Plan {
         }
     }
 
-    pub(super) fn take_deed(
+    pub(super) fn take_post(
         &mut self,
         n: u64,
         examiner: u32,
-        terms: DeedTerms,
-        grantor: &str,
-        grantee: &str,
+        doc: u64,
+        instrument: &Instrument<&str>,
         text: &str,
-    ) -> Result<(), RunFault>
-        ensures ok { OnOk result (AfterPost n (asked_in self.old) examiner terms.doc (deed_of terms)
-            (number_of (asked_in self.old) grantor.now) (number_of (asked_in self.old) grantee.now) text.now (Ok (asked_in self.new))) }
-        ensures err { IfErr result (λ e. (e ≡ fault.Memory) ⊎ AfterPost n (asked_in self.old) examiner terms.doc (deed_of terms)
-            (number_of (asked_in self.old) grantor.now) (number_of (asked_in self.old) grantee.now) text.now (Err e)) }
+    ) -> Result<(), ScriptFault>
+        ensures ok { OnOk result (AfterNumbered n (asked_in self.old) examiner doc (between instrument.now)
+            (number_of (asked_in self.old) (grantor_of instrument.now).now) (number_of (asked_in self.old) (grantee_of instrument.now).now)
+            text.now (Ok (asked_in self.new))) }
+        ensures err { IfErr result (λ e. (e ≡ fault.Memory) ⊎ AfterNumbered n (asked_in self.old) examiner doc (between instrument.now)
+            (number_of (asked_in self.old) (grantor_of instrument.now).now) (number_of (asked_in self.old) (grantee_of instrument.now).now)
+            text.now (Err e)) }
     {
-        let Some(grantor) = self.number(grantor) else {
-            return Err(RunFault::Party(n));
+        let Some(grantor) = self.number(instrument.grantor()) else {
+            return Err(ScriptFault::Party(n));
         };
-        let Some(grantee) = self.number(grantee) else {
-            return Err(RunFault::Party(n));
+        let Some(grantee) = self.number(instrument.grantee()) else {
+            return Err(ScriptFault::Party(n));
         };
-        let doc = terms.doc;
-        let deed = deed(terms, grantor, grantee);
-        self.take_post(examiner, doc, deed, text)
-    }
-
-    pub(super) fn take_release(
-        &mut self,
-        n: u64,
-        examiner: u32,
-        terms: ReleaseTerms,
-        releasor: &str,
-        releasee: &str,
-        text: &str,
-    ) -> Result<(), RunFault>
-        ensures ok { OnOk result (AfterPost n (asked_in self.old) examiner terms.doc (release_of terms)
-            (number_of (asked_in self.old) releasor.now) (number_of (asked_in self.old) releasee.now) text.now (Ok (asked_in self.new))) }
-        ensures err { IfErr result (λ e. (e ≡ fault.Memory) ⊎ AfterPost n (asked_in self.old) examiner terms.doc (release_of terms)
-            (number_of (asked_in self.old) releasor.now) (number_of (asked_in self.old) releasee.now) text.now (Err e)) }
-    {
-        let Some(releasor) = self.number(releasor) else {
-            return Err(RunFault::Party(n));
-        };
-        let Some(releasee) = self.number(releasee) else {
-            return Err(RunFault::Party(n));
-        };
-        let doc = terms.doc;
-        let release = release(terms, releasor, releasee);
-        self.take_post(examiner, doc, release, text)
+        let instrument = instrument.between(grantor, grantee);
+        self.add_post(examiner, doc, instrument, text)
     }
 }

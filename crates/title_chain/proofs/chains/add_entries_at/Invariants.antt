@@ -4,4 +4,5 @@ use Rattle.title_chain.specs.PostPlaces.{entry_at, entries_at}
 use Rattle.title_chain.proofs.chains.add_entries_at.Given as goal
 
 abbrev pub invariant-loop-place : goal.invariant-loop-place
-invariant-loop-place l = l.entries.items ++ entries_at (entry_at l.records l.tract) l.place-iterator ≡ l.initial.entries.items ++ entries_at (entry_at l.records l.tract) l.places.keys
+invariant-loop-place l = l.entries.items ++ entries_at (entry_at l.records l.tract) l.place-iterator ≡ l.initial.entries.items
+    ++ entries_at (entry_at l.records l.tract) l.places.keys

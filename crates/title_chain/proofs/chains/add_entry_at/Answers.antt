@@ -24,7 +24,8 @@ pub returns : goal.returns
 returns c =
     let found = c.in-Some.ensures.lookup in
     let there = c.in-Some-get.ensures.lookup in
-    let step : slice_get c.as_slice.result.now c.args.place.step ≡ Some c.in-Some-get.step.now = slice_get_read c.as_slice.result.now _ c.args.place.step c.in-Some-get.step.now refl there.3.0 there.1 in record {
+    let step : slice_get c.as_slice.result.now c.args.place.step ≡ Some c.in-Some-get.step.now =
+    slice_get_read c.as_slice.result.now _ c.args.place.step c.in-Some-get.step.now refl there.3.0 there.1 in record {
       added = subst (λ (es : List Entry). IfOk c.add_entry.result (λ x. c.add_entry.new.entries.items ≡ c.args.entries.now.items ++ es))
           (entry_is c.args.records.now c.args.tract.now c.args.place c.in-Some.record.now c.in-Some-get.step.now
           (slice_get_read c.args.records.now _ c.args.place.record c.in-Some.record.now refl found.3.0 found.1)

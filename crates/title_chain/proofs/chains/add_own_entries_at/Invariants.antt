@@ -4,4 +4,5 @@ use Rattle.title_chain.specs.PostPlaces.{own_entry_at, entries_at}
 use Rattle.title_chain.proofs.chains.add_own_entries_at.Given as goal
 
 abbrev pub invariant-loop-place : goal.invariant-loop-place
-invariant-loop-place l = l.entries.items ++ entries_at (own_entry_at l.steps l.tract) l.place-iterator ≡ l.initial.entries.items ++ entries_at (own_entry_at l.steps l.tract) l.places.keys
+invariant-loop-place l = l.entries.items ++ entries_at (own_entry_at l.steps l.tract) l.place-iterator ≡ l.initial.entries.items
+    ++ entries_at (own_entry_at l.steps l.tract) l.places.keys

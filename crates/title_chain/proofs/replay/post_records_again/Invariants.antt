@@ -9,5 +9,6 @@ abbrev pub invariant-loop-record : goal.invariant-loop-record
 invariant-loop-record g l = record {
   none : g.S.Store.out l.store ≡ [];
   declared : g.S.Store.declared l.store ≡ g.S.Store.declared l.initial.store;
-  content : SameContent (plant_after depth (g.S.Store.declared l.initial.store) (reverse (take l.record-index l.records))) (g.S.Store.content l.store);
+  content : SameContent (plant_after depth (g.S.Store.declared l.initial.store) (reverse (take l.record-index l.records)))
+      (g.S.Store.content l.store);
 }

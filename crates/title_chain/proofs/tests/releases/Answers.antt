@@ -31,16 +31,16 @@ use Rattle.title_chain.proofs.AskLaws.{answer_post}
 use Rattle.title_chain.proofs.tests.releases.Goals as goal
 
 -- no cell refuses the instrument
-abbrev IsDone : Instrument → Plant → Type 0
+abbrev IsDone : Instrument ℕ → Plant → Type 0
 IsDone i plant = (c : Cell) → (w : Owners) × (cell_effect i (plant c) ≡ Done w)
 
-none_fails : (i : Instrument) (plant : Plant) (cells : List Cell) → IsDone i plant → first_failing i plant cells ≡ None
+none_fails : (i : Instrument ℕ) (plant : Plant) (cells : List Cell) → IsDone i plant → first_failing i plant cells ≡ None
 none_fails i plant [] f = refl
 none_fails i plant (c ∷ cells) f =
     ap (λ e. failing_or c e (first_failing i plant cells)) (f c).1 ∙ none_fails i plant cells f
 
 none_refused :
-    (depth : ℕ) (townships : List Township) (i : Instrument) (plant : Plant) (land : Land) →
+    (depth : ℕ) (townships : List Township) (i : Instrument ℕ) (plant : Plant) (land : Land) →
     IsDone i plant → refused_in depth townships i plant land ≡ None
 unfolding refused_in
 none_refused depth townships i plant land f =
@@ -62,7 +62,7 @@ done_serial depth townships records e p serial within stands done =
     (serial, (tt, (within, stands), sym given))
 
 -- no cell refuses a release
-release_done : (r : Release) (plant : Plant) → IsDone (instrument.Release r) plant
+release_done : (r : Release ℕ) (plant : Plant) → IsDone (instrument.Release r) plant
 unfolding cell_effect
 release_done r plant c = (_, refl)
 
@@ -70,15 +70,23 @@ release_done r plant c = (_, refl)
 abbrev surface : Estates
 surface = record { s = true; o = false; m = false }
 
-abbrev surface_deed : ℕ → ℕ → Deed
+abbrev surface_deed : ℕ → ℕ → Deed ℕ
 surface_deed grantor grantee =
-    record { grantor = grantor; grantee = grantee; estates = surface; quantum = quantum.Whole whole_units; reserve = None ∷ None ∷ None ∷ []; warranty = false }
+    record {
+      grantor = grantor;
+      grantee = grantee;
+      estates = surface;
+      quantum = quantum.Whole whole_units;
+      reserve =
+          None ∷ None ∷ None ∷ [];
+      warranty = false;
+    }
 
 opening_deed_done : IsDone (instrument.Deed (surface_deed 0 1)) (λ c. opening_owners)
 unfolding cell_effect opening_owners all_to rows_of
 opening_deed_done c = (_, refl)
 
-abbrev surface_release : ℕ → ℕ → Release
+abbrev surface_release : ℕ → ℕ → Release ℕ
 surface_release from to = record { «from» = from; to = to; estates = surface }
 
 abbrev deed_of : Land → Posting

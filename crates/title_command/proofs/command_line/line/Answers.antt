@@ -35,4 +35,5 @@ returns-in-Err-clause-why c =
     let app_is : app_of c.in-Ok.command ≡ command = c.in-Ok.ensures.app in
     let among = c.in-Err.ensures.kinds (ap is_simple_and_free app_is) in
     let faults_are : fault_of (app_of c.in-Ok.command) words ≡ fault_of command words = ap (λ a. fault_of a words) app_is in
-    explains (fault_of command words) c.in-Err.error c.fault_for.result (subst (λ (kinds : Kinds). HasKind kinds c.in-Err.error) faults_are among) c.fault_for.ensures.kind
+    explains (fault_of command words) c.in-Err.error c.fault_for.result
+    (subst (λ (kinds : Kinds). HasKind kinds c.in-Err.error) faults_are among) c.fault_for.ensures.kind

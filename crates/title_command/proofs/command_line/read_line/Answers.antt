@@ -15,4 +15,10 @@ unwrap-text-requires c =
 pub returns : goal.returns
 returns c =
     let read = tract_reads c.args.name.now (rows_of (found_of c.args.values.now)) c.if-eq.ensures c.if-eq-2.ensures c.requires.readable in
-    record { line = (read.0, sym (c.get_str.ensures ∙ first_value-rows (found_of c.args.values.now) (codes "TEXT")) ∙ ap (option_map (λ s. s.now)) c.unwrap-text.ensures) }
+    record {
+      line = (
+        read.0,
+        sym (c.get_str.ensures ∙ first_value-rows (found_of c.args.values.now) (codes "TEXT"))
+            ∙ ap (option_map (λ s. s.now)) c.unwrap-text.ensures,
+      );
+    }

@@ -6,7 +6,8 @@ use Rattle.title_desk.proofs.images.forget_all.Goals as goal
 pub loop-image-preserved : goal.loop-image-preserved
 loop-image-preserved g c =
     let s = g.S.Store in
-    let step = forget_step s.number (s.out c.loop-image.store) (s.out c.forget.new.self) _ _ c.in-Some.image c.in-Some.ensures.items c.forget.ensures.out c.loop-image.invariant.able in
+    let step = forget_step s.number (s.out c.loop-image.store) (s.out c.forget.new.self) _ _ c.in-Some.image c.in-Some.ensures.items
+    c.forget.ensures.out c.loop-image.invariant.able in
     record {
       able = step.0;
       declared = c.forget.ensures.declared ∙ c.loop-image.invariant.declared;

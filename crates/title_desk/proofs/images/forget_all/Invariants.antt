@@ -11,7 +11,8 @@ invariant-loop-image g l =
       able : Forgettable (map s.number (reverse l.images.items)) (s.out l.store);
       declared : s.declared l.store ≡ s.declared l.initial.store;
       content : SameContent (s.content l.initial.store) (s.content l.store);
-      gone : without_all (map s.number (reverse l.images.items)) (s.out l.store) ≡ without_all (map s.number (reverse l.initial.images.items)) (s.out l.initial.store);
+      gone : without_all (map s.number (reverse l.images.items)) (s.out l.store)
+          ≡ without_all (map s.number (reverse l.initial.images.items)) (s.out l.initial.store);
     }
 
 abbrev pub decreases-loop-image : goal.decreases-loop-image

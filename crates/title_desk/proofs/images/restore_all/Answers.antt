@@ -8,8 +8,10 @@ use Rattle.title_desk.proofs.images.restore_all.Goals as goal
 pub loop-image-preserved : goal.loop-image-preserved
 loop-image-preserved g c =
     let s = g.S.Store in
-    let step = restore_step s.number (s.declared c.args.store.now) (s.content c.loop-image.store) (s.content c.restore.new.self) (s.out c.loop-image.store) (s.out c.restore.new.self) _ _ c.in-Some.image c.in-Some.ensures.items
-    (λ b lent. subst (λ ts. SameContent (put_back ts b (s.content c.loop-image.store)) (s.content c.restore.new.self)) c.loop-image.invariant.declared (c.restore.ensures.content b lent))
+    let step = restore_step s.number (s.declared c.args.store.now) (s.content c.loop-image.store) (s.content c.restore.new.self)
+    (s.out c.loop-image.store) (s.out c.restore.new.self) _ _ c.in-Some.image c.in-Some.ensures.items
+    (λ b lent. subst (λ ts. SameContent (put_back ts b (s.content c.loop-image.store)) (s.content c.restore.new.self))
+    c.loop-image.invariant.declared (c.restore.ensures.content b lent))
     c.restore.ensures.out c.loop-image.invariant.able in
     record {
       able = step.able;

@@ -10,9 +10,12 @@ invariant-loop-image g l =
     record {
       able : Restorable (map s.number (reverse l.images.items)) (s.out l.store);
       declared : s.declared l.store ≡ s.declared l.initial.store;
-      content : (q : Plant) → IsRestored (s.declared l.initial.store) (map s.number (reverse l.images.items)) (s.out l.store) (s.content l.store) q →
-          IsRestored (s.declared l.initial.store) (map s.number (reverse l.initial.images.items)) (s.out l.initial.store) (s.content l.initial.store) q;
-      gone : without_all (map s.number (reverse l.images.items)) (s.out l.store) ≡ without_all (map s.number (reverse l.initial.images.items)) (s.out l.initial.store);
+      content : (q : Plant) → IsRestored (s.declared l.initial.store) (map s.number (reverse l.images.items)) (s.out l.store)
+          (s.content l.store) q →
+          IsRestored (s.declared l.initial.store) (map s.number (reverse l.initial.images.items)) (s.out l.initial.store)
+          (s.content l.initial.store) q;
+      gone : without_all (map s.number (reverse l.images.items)) (s.out l.store)
+          ≡ without_all (map s.number (reverse l.initial.images.items)) (s.out l.initial.store);
     }
 
 abbrev pub decreases-loop-image : goal.decreases-loop-image

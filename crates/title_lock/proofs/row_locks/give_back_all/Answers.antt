@@ -23,7 +23,8 @@ loop-entry-preserved c =
       modes = λ f n.
           let held = table_mode c.loop-entry.table f n in
           ap (λ (m : Option Mode). cond (eqb f e && list_any (is_asked_by depth e n) left) None m)
-          (c.release_all.ensures.modes f n ∙ ap (λ (t : List Node). cond (eqb f e && list_any (is_asked n) t) None held) c.cover.ensures.cover)
+          (c.release_all.ensures.modes f n ∙ ap (λ (t : List Node). cond (eqb f e && list_any (is_asked n) t) None held)
+          c.cover.ensures.cover)
           ∙ gone_join (eqb f e) (list_any (is_asked n) (cover_of depth x.tract)) (list_any (is_asked_by depth e n) left) held
           ∙ ap (λ (a : Bool). cond (eqb f e && a) None held) (asked_more depth e n x left book own more)
           ∙ c.loop-entry.invariant.modes f n;
@@ -31,4 +32,5 @@ loop-entry-preserved c =
 
 pub returns-clause-modes : goal.returns-clause-modes
 returns-clause-modes c = λ f n.
-    none_left depth c.args.examiner n c.loop-entry.book (eqb f c.args.examiner) (table_mode c.loop-entry.table f n) c.in_default.ensures.none.1 ∙ c.loop-entry.invariant.modes f n
+    none_left depth c.args.examiner n c.loop-entry.book (eqb f c.args.examiner) (table_mode c.loop-entry.table f n)
+    c.in_default.ensures.none.1 ∙ c.loop-entry.invariant.modes f n

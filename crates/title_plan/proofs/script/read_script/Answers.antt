@@ -1,4 +1,26 @@
-use Rattle.std.proofs.Common.{Bor, List, ℕ, ◌≡◌, ◌+◌, ◌∙◌, sym, refl, ap, arith, inl, inr, true, Some, Result, Ok, Err, ◌∷◌, ◌++◌, [], length}
+use Rattle.std.proofs.Common.{
+  Bor,
+  List,
+  ℕ,
+  ◌≡◌,
+  ◌+◌,
+  ◌∙◌,
+  sym,
+  refl,
+  ap,
+  arith,
+  inl,
+  inr,
+  true,
+  Some,
+  Result,
+  Ok,
+  Err,
+  ◌∷◌,
+  ◌++◌,
+  [],
+  length,
+}
 use Rattle.std.proofs.lemmas.List.{length-append, length-map}
 use Rattle.std.proofs.lemmas.Result.{err_from_is_err_and}
 use Rattle.csv.specs.Reading.{Reached, default_config, strip_bom, with_flexible}
@@ -6,10 +28,10 @@ use Rattle.csv.specs.declared.reader.ReaderBuilder.{ReaderBuilder}
 use Rattle.csv.specs.Records.{fields_of}
 use Rattle.csv.specs.declared.parser.State.TheVariants as st
 use Rattle.csv.proofs.ReadFacts.{rows-end, rows-more}
-use Rattle.title_device.specs.declared.fault.RunFault.{RunFault}
+use Rattle.title_plan.specs.declared.fault.ScriptFault.{ScriptFault}
 use Rattle.title_plan.specs.Asked.{Asked, asked_in, nothing_asked}
 use Rattle.title_plan.proofs.Rows.{after_push, fault_stands}
-use Rattle.title_plan.proofs.Kept.{rows_open, row_fault, nothing_opens}
+use Rattle.title_plan.proofs.Kept.{rows_open, nothing_opens}
 use Rattle.title_plan.proofs.ReadOn.{reached_all, reached_rest}
 use Rattle.title_plan.proofs.script.read_script.Goals as goal
 
@@ -32,7 +54,7 @@ loop-row-init c =
       rows = [];
       reached = (sym reader.state, refl);
       count = refl;
-      after = ap (λ (a : Asked). let r : Result Asked RunFault = Ok a in r) c.in_ok-plan.ensures.nothing;
+      after = ap (λ (a : Asked). let r : Result Asked ScriptFault = Ok a in r) c.in_ok-plan.ensures.nothing;
     })
 
 pub loop-row-preserved : goal.loop-row-preserved
@@ -41,7 +63,8 @@ loop-row-preserved c =
     let steps = rw (c.in-Some.is, c.in-Ok.is) at (c.next.ensures.steps inv.left inv.trims) in
     let s = steps.0 inv.ready in
     let f = fields_of c.in-Ok.raw in
-    let m = rows-more (λ (s : Bor (List ℕ)). Some s.now) c.loop-row.row-iterator.rdr c.next.new.self.rdr f default_config st.StartRecord (strip_bom c.args.text.now) inv.rest inv.rows
+    let m = rows-more (λ (s : Bor (List ℕ)). Some s.now) c.loop-row.row-iterator.rdr c.next.new.self.rdr f default_config st.StartRecord
+    (strip_bom c.args.text.now) inv.rest inv.rows
     inv.config inv.source inv.reached s.0 in
     let place : c.loop-row.n + 1 ≡ 1 + length inv.rows = omega (arith, inv.count) in
     record {
@@ -56,14 +79,16 @@ loop-row-preserved c =
       rows = inv.rows ++ (f ∷ []);
       reached = m.2;
       count = rw length-append (omega (arith, inv.count));
-      after = after_push c.args.schedule 1 (c.loop-row.n + 1) nothing_asked (asked_in c.loop-row.plan) inv.rows f (Ok (asked_in c.take_row.new.self)) place inv.after c.in_ok-take_row.ensures.ok;
+      after = after_push c.args.schedule 1 (c.loop-row.n + 1) nothing_asked (asked_in c.loop-row.plan) inv.rows f
+          (Ok (asked_in c.take_row.new.self)) place inv.after c.in_ok-take_row.ensures.ok;
     }
 
 pub returns-clause-script : goal.returns-clause-script
 returns-clause-script c =
     let inv = c.loop-row.invariant in
     let s = rw c.in-None.is at ((c.next.ensures.steps inv.left inv.trims).0 inv.ready) in
-    let none = rows-end (λ (s : Bor (List ℕ)). Some s.now) c.loop-row.row-iterator.rdr c.next.new.self.rdr [] default_config inv.rest inv.config inv.source s in
+    let none = rows-end (λ (s : Bor (List ℕ)). Some s.now) c.loop-row.row-iterator.rdr c.next.new.self.rdr [] default_config inv.rest
+    inv.config inv.source s in
     let all = reached_all default_config (strip_bom c.args.text.now) inv.rows c.loop-row.row-iterator.rdr.state inv.rest inv.reached none in
     rw all inv.after
 
@@ -78,7 +103,8 @@ returns-in_err-take_row-clause-why c =
     let inv = c.loop-row.invariant in
     let s = rw (c.in-Some.is, c.in-Ok.is) at ((c.next.ensures.steps inv.left inv.trims).0 inv.ready) in
     let f = fields_of c.in-Ok.raw in
-    let m = rows-more (λ (s : Bor (List ℕ)). Some s.now) c.loop-row.row-iterator.rdr c.next.new.self.rdr f default_config st.StartRecord (strip_bom c.args.text.now) inv.rest inv.rows
+    let m = rows-more (λ (s : Bor (List ℕ)). Some s.now) c.loop-row.row-iterator.rdr c.next.new.self.rdr f default_config st.StartRecord
+    (strip_bom c.args.text.now) inv.rest inv.rows
     inv.config inv.source inv.reached s.0 in
     let place : c.loop-row.n + 1 ≡ 1 + length inv.rows = omega (arith, inv.count) in
     let rest = reached_rest default_config (strip_bom c.args.text.now) (inv.rows ++ (f ∷ [])) c.next.new.self.rdr.state m.0 m.2 in
@@ -86,13 +112,6 @@ returns-in_err-take_row-clause-why c =
     rw (out.1, out.2) (elim c.in_err-take_row.ensures.err [
       | inl memory ↦ inl memory
       | inr due ↦ inr (rw rest.1 (fault_stands c.args.schedule 1 nothing_asked (inv.rows ++ (f ∷ [])) rest.0 c.in_err-take_row.field-0.0
-          (after_push c.args.schedule 1 (c.loop-row.n + 1) nothing_asked (asked_in c.loop-row.plan) inv.rows f (Err c.in_err-take_row.field-0.0) place inv.after due)))
-    ])
-
-pub returns-in_err-take_row-clause-fault : goal.returns-in_err-take_row-clause-fault
-returns-in_err-take_row-clause-fault c =
-    let out = err_from_is_err_and c.from_residual-in_err-take_row.result c.from_residual-in_err-take_row.ensures.1 in
-    rw (out.1, out.2) (elim c.in_err-take_row.ensures.err [
-      | inl memory ↦ rw memory tt
-      | inr due ↦ row_fault c.args.schedule (c.loop-row.n + 1) (asked_in c.loop-row.plan) c.in_err-take_row.field-0.0 (fields_of c.in-Ok.raw) due
+          (after_push c.args.schedule 1 (c.loop-row.n + 1) nothing_asked (asked_in c.loop-row.plan) inv.rows f
+          (Err c.in_err-take_row.field-0.0) place inv.after due)))
     ])

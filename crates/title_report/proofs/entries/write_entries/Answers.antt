@@ -13,7 +13,9 @@ loop-entry-preserved c =
     writes-next (λ v. Some v.items) _ _ _ each c.args.entries.now c.loop-entry.entry-index _ _ c.loop-entry-test.true c.entry-item.is
     c.loop-entry.invariant (c.in_ok-write_entry.ensures.row)
 
-pub returns-clause-rows : goal.returns-clause-rows
-returns-clause-rows c =
-    let each = entry_row (map string_bytes c.args.names.now.keys) c.args.examiner in
-    writes-all (λ v. Some v.items) _ _ each c.args.entries.now c.loop-entry.entry-index c.loop-entry-test.false c.loop-entry.invariant
+pub returns : goal.returns
+returns c = record {
+  rows =
+      let each = entry_row (map string_bytes c.args.names.now.keys) c.args.examiner in
+      writes-all (λ v. Some v.items) _ _ each c.args.entries.now c.loop-entry.entry-index c.loop-entry-test.false c.loop-entry.invariant;
+}

@@ -13,7 +13,9 @@ loop-line-preserved c =
     writes-next (λ v. Some v.items) _ _ _ each c.args.lines.now c.loop-line.line-index _ _ c.loop-line-test.true c.line-item.is
     c.loop-line.invariant (c.in_ok-write_sheet_row.ensures.row)
 
-pub returns-clause-rows : goal.returns-clause-rows
-returns-clause-rows c =
-    let each = sheet_row (map string_bytes c.args.names.now.keys) c.args.examiner in
-    writes-all (λ v. Some v.items) _ _ each c.args.lines.now c.loop-line.line-index c.loop-line-test.false c.loop-line.invariant
+pub returns : goal.returns
+returns c = record {
+  rows =
+      let each = sheet_row (map string_bytes c.args.names.now.keys) c.args.examiner in
+      writes-all (λ v. Some v.items) _ _ each c.args.lines.now c.loop-line.line-index c.loop-line-test.false c.loop-line.invariant;
+}

@@ -6,4 +6,5 @@ use Rattle.title_report.specs.Written.{Writes}
 use Rattle.title_report.proofs.sheets.write_sheet_rows.Given as goal
 
 abbrev pub invariant-loop-line : goal.invariant-loop-line
-invariant-loop-line l = Writes (λ v. Some v.items) l.fn.writer l.writer (rows_text (map (sheet_row (map string_bytes l.names.keys) l.examiner) (take l.line-index l.lines)))
+invariant-loop-line l = Writes (λ v. Some v.items) l.fn.writer l.writer
+    (rows_text (map (sheet_row (map string_bytes l.names.keys) l.examiner) (take l.line-index l.lines)))

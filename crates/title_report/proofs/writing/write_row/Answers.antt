@@ -3,6 +3,6 @@ use Rattle.std.proofs.lemmas.List.{append-nil}
 use Rattle.title_report.specs.Writing.{row}
 use Rattle.title_report.proofs.writing.write_row.Goals as goal
 
-pub returns-clause-row : goal.returns-clause-row
+pub returns : goal.returns
 unfolding row
-returns-clause-row c = rw append-nil (search rules)
+returns c = record { row = rw append-nil (search rules) }

@@ -17,7 +17,8 @@ returns-in_err-reserve c =
     record {
       reserve =
           rw c.from_residual.ensures
-          (stands-none c.args.text.now c.loop-item.rest.now c.in-Some.item.now c.in-Some.more.now c.loop-item.reserve c.loop-item.invariant.1 c.if-is_empty.ensures parts.0 parts.1
+          (stands-none c.args.text.now c.loop-item.rest.now c.in-Some.item.now c.in-Some.more.now c.loop-item.reserve
+          c.loop-item.invariant.1 c.if-is_empty.ensures parts.0 parts.1
           c.in_err-reserve.ensures.added);
     }
 
@@ -25,7 +26,8 @@ pub loop-item-preserved : goal.loop-item-preserved
 loop-item-preserved c =
     let parts = rw c.in-Some.is at (split_parts 59 c.loop-item.rest.now c.split_once.result c.split_once.ensures.cases (omega arith)) in (
       search rules,
-      stands-more c.args.text.now c.loop-item.rest.now c.in-Some.item.now c.in-Some.more.now c.loop-item.reserve c.in_ok-reserve.reserve c.loop-item.invariant.1 parts.0 parts.1
+      stands-more c.args.text.now c.loop-item.rest.now c.in-Some.item.now c.in-Some.more.now c.loop-item.reserve c.in_ok-reserve.reserve
+          c.loop-item.invariant.1 parts.0 parts.1
           c.in_ok-reserve.ensures.added,
     )
 
@@ -34,5 +36,6 @@ returns c =
     let lacks = rw c.in_default.is at (split_parts 59 c.loop-item.rest.now c.split_once.result c.split_once.ensures.cases (omega arith)) in
     record {
       reserve =
-          stands-end c.args.text.now c.loop-item.rest.now c.loop-item.reserve c.add_item-2.result c.loop-item.invariant.1 c.if-is_empty.ensures lacks c.add_item-2.ensures.added;
+          stands-end c.args.text.now c.loop-item.rest.now c.loop-item.reserve c.add_item-2.result c.loop-item.invariant.1
+          c.if-is_empty.ensures lacks c.add_item-2.ensures.added;
     }

@@ -7,7 +7,8 @@ use Rattle.title_share.proofs.share.reduced.Goals.{then-loop-exponent-test+else-
 
 pub loop-exponent-preserved : goal.loop-exponent-preserved
 loop-exponent-preserved c = (
-  reduced_more (lowest 32 c.args.units) c.loop-exponent.exponent c.loop-exponent.above c.loop-exponent-test.true c.if-above-eq0.true c.loop-exponent.invariant.0,
+  reduced_more (lowest 32 c.args.units) c.loop-exponent.exponent c.loop-exponent.above c.loop-exponent-test.true c.if-above-eq0.true
+      c.loop-exponent.invariant.0,
   (let low = c.loop-exponent.invariant.1 in omega arith),
 )
 

@@ -10,4 +10,5 @@ abbrev pub decreases-add_sheet : goal.decreases-add_sheet
 decreases-add_sheet l = l.levels
 
 abbrev pub invariant-loop-child : goal.invariant-loop-child
-invariant-loop-child l = l.rows.items ≡ l.fn.rows.items ++ flat_map (sheet_below (l.levels - 1) depth l.townships (content_of l.map) l.estate) (take l.child-index l.child-items)
+invariant-loop-child l = l.rows.items ≡ l.fn.rows.items
+    ++ flat_map (sheet_below (l.levels - 1) depth l.townships (content_of l.map) l.estate) (take l.child-index l.child-items)

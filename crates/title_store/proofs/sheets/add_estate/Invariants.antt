@@ -7,4 +7,5 @@ use Rattle.title_store.specs.Sheets.{sheet_below}
 use Rattle.title_store.proofs.sheets.add_estate.Given as goal
 
 abbrev pub invariant-loop-node : goal.invariant-loop-node
-invariant-loop-node l = l.rows.items ≡ l.fn.rows.items ++ flat_map (sheet_below (depth + 2) depth l.townships (content_of l.map) l.estate) (take l.node-index l.node-items)
+invariant-loop-node l = l.rows.items ≡ l.fn.rows.items
+    ++ flat_map (sheet_below (depth + 2) depth l.townships (content_of l.map) l.estate) (take l.node-index l.node-items)

@@ -20,11 +20,13 @@ restore-requires-2-clause-last g c =
 pub restore-requires-3-clause-out : goal.restore-requires-3-clause-out
 restore-requires-3-clause-out g c =
     out_at _ _ _ _ _ _ _
-    (back_at _ _ _ _ _ _ _ _ (back_at _ _ _ _ _ _ _ _ refl c.restore.ensures.out c.in_ok-third.ensures.taken) c.restore-2.ensures.out c.in_ok-second.ensures.taken)
+    (back_at _ _ _ _ _ _ _ _ (back_at _ _ _ _ _ _ _ _ refl c.restore.ensures.out c.in_ok-third.ensures.taken) c.restore-2.ensures.out
+    c.in_ok-second.ensures.taken)
     c.in_ok-first.ensures.taken
 
 pub restore-requires-3-clause-last : goal.restore-requires-3-clause-last
 restore-requires-3-clause-last g c =
     last_at _ _ _ _ _ _ _
-    (back_at _ _ _ _ _ _ _ _ (back_at _ _ _ _ _ _ _ _ refl c.restore.ensures.out c.in_ok-third.ensures.taken) c.restore-2.ensures.out c.in_ok-second.ensures.taken)
+    (back_at _ _ _ _ _ _ _ _ (back_at _ _ _ _ _ _ _ _ refl c.restore.ensures.out c.in_ok-third.ensures.taken) c.restore-2.ensures.out
+    c.in_ok-second.ensures.taken)
     c.in_ok-first.ensures.taken

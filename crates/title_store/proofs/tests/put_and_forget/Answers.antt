@@ -8,23 +8,27 @@ pub loop-preserved : goal.loop-preserved
 loop-preserved g c =
     record {
       declared = c.put.ensures.declared;
-      queue = images_push g.S.Store.number c.loop.images.items c.push_back.new.self.items c.in_ok-image.image _ _ _ _ _ c.in_ok-push_back.ensures.items c.in_ok-image.ensures.taken c.loop.invariant.queue;
+      queue = images_push g.S.Store.number c.loop.images.items c.push_back.new.self.items c.in_ok-image.image _ _ _ _ _
+          c.in_ok-push_back.ensures.items c.in_ok-image.ensures.taken c.loop.invariant.queue;
     }
 
 pub forget-requires-clause-out : goal.forget-requires-clause-out
 forget-requires-clause-out g c =
-    (images_head g.S.Store.number c.loop-image.images.items c.pop_front.new.self.items c.in-Some.image _ c.in-Some.ensures.items c.loop-image.invariant.queue).is_out
+    (images_head g.S.Store.number c.loop-image.images.items c.pop_front.new.self.items c.in-Some.image _ c.in-Some.ensures.items
+    c.loop-image.invariant.queue).is_out
 
 pub forget-requires-clause-first : goal.forget-requires-clause-first
 forget-requires-clause-first g c =
-    (images_head g.S.Store.number c.loop-image.images.items c.pop_front.new.self.items c.in-Some.image _ c.in-Some.ensures.items c.loop-image.invariant.queue).first
+    (images_head g.S.Store.number c.loop-image.images.items c.pop_front.new.self.items c.in-Some.image _ c.in-Some.ensures.items
+    c.loop-image.invariant.queue).first
 
 pub loop-image-preserved : goal.loop-image-preserved
 loop-image-preserved g c =
     record {
       declared = c.forget.ensures.declared ∙ c.loop-image.invariant.declared;
       queue = queue_at _ _ _ c.forget.ensures.out
-          (images_head g.S.Store.number c.loop-image.images.items c.pop_front.new.self.items c.in-Some.image _ c.in-Some.ensures.items c.loop-image.invariant.queue).rest;
+          (images_head g.S.Store.number c.loop-image.images.items c.pop_front.new.self.items c.in-Some.image _ c.in-Some.ensures.items
+          c.loop-image.invariant.queue).rest;
     }
 
 pub tidy-requires : goal.tidy-requires

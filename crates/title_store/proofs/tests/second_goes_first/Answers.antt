@@ -7,24 +7,29 @@ pub restore-requires-clause-out : goal.restore-requires-clause-out
 restore-requires-clause-out g c = out_stays _ _ _ _ _ _ _ _ _ _ _ c.in_ok-second.ensures.taken c.in_ok-third.ensures.taken
 
 pub restore-requires-clause-last : goal.restore-requires-clause-last
-restore-requires-clause-last g c = apart_last _ _ _ _ _ _ _ _ _ _ _ c.in_ok-second.ensures.taken c.in_ok-third.ensures.taken (sym c.meets.ensures.meets ∙ c.if-meets.false)
+restore-requires-clause-last g c = apart_last _ _ _ _ _ _ _ _ _ _ _ c.in_ok-second.ensures.taken c.in_ok-third.ensures.taken
+    (sym c.meets.ensures.meets ∙ c.if-meets.false)
 
 pub restore-requires-2-clause-out : goal.restore-requires-2-clause-out
 restore-requires-2-clause-out g c =
-    out_at _ _ _ _ _ _ _ c.restore.ensures.out (taken_without _ _ _ _ _ _ _ _ _ _ _ c.in_ok-second.ensures.taken c.in_ok-third.ensures.taken)
+    out_at _ _ _ _ _ _ _ c.restore.ensures.out (taken_without _ _ _ _ _ _ _ _ _ _ _ c.in_ok-second.ensures.taken
+    c.in_ok-third.ensures.taken)
 
 pub restore-requires-2-clause-last : goal.restore-requires-2-clause-last
 restore-requires-2-clause-last g c =
-    last_at _ _ _ _ _ _ _ c.restore.ensures.out (taken_without _ _ _ _ _ _ _ _ _ _ _ c.in_ok-second.ensures.taken c.in_ok-third.ensures.taken)
+    last_at _ _ _ _ _ _ _ c.restore.ensures.out (taken_without _ _ _ _ _ _ _ _ _ _ _ c.in_ok-second.ensures.taken
+    c.in_ok-third.ensures.taken)
 
 pub restore-requires-3-clause-out : goal.restore-requires-3-clause-out
 restore-requires-3-clause-out g c =
     out_at _ _ _ _ _ _ _
-    (back_at _ _ _ _ _ _ _ _ c.restore.ensures.out c.restore-2.ensures.out (taken_without _ _ _ _ _ _ _ _ _ _ _ c.in_ok-second.ensures.taken c.in_ok-third.ensures.taken))
+    (back_at _ _ _ _ _ _ _ _ c.restore.ensures.out c.restore-2.ensures.out
+    (taken_without _ _ _ _ _ _ _ _ _ _ _ c.in_ok-second.ensures.taken c.in_ok-third.ensures.taken))
     c.in_ok-first.ensures.taken
 
 pub restore-requires-3-clause-last : goal.restore-requires-3-clause-last
 restore-requires-3-clause-last g c =
     last_at _ _ _ _ _ _ _
-    (back_at _ _ _ _ _ _ _ _ c.restore.ensures.out c.restore-2.ensures.out (taken_without _ _ _ _ _ _ _ _ _ _ _ c.in_ok-second.ensures.taken c.in_ok-third.ensures.taken))
+    (back_at _ _ _ _ _ _ _ _ c.restore.ensures.out c.restore-2.ensures.out
+    (taken_without _ _ _ _ _ _ _ _ _ _ _ c.in_ok-second.ensures.taken c.in_ok-third.ensures.taken))
     c.in_ok-first.ensures.taken

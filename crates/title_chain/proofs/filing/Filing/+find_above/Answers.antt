@@ -10,7 +10,9 @@ use Rattle.title_chain.proofs.filing.Filing.+find_above.Goals as goal
 pub returns-in_ok-find_above : goal.returns-in_ok-find_above
 returns-in_ok-find_above t c = record {
   found = λ p.
-      above_more (λ (a : Node). is_listed p (places_under c.args.self.now.at a)) c.args.node.now c.in-Some.parent _ _ _ c.in-Some.ensures.parent
-      (c.in_ok-find_all.ensures.found p ∙ ap (λ (places : List Place). is_found c.args.found.now p || is_listed p places) c.places_at.ensures.places)
+      above_more (λ (a : Node). is_listed p (places_under c.args.self.now.at a)) c.args.node.now c.in-Some.parent _ _ _
+      c.in-Some.ensures.parent
+      (c.in_ok-find_all.ensures.found p ∙ ap (λ (places : List Place). is_found c.args.found.now p || is_listed p places)
+      c.places_at.ensures.places)
       (c.in_ok-find_above.ensures.found p);
 }

@@ -18,7 +18,8 @@ returns c =
     let steps = c.args.steps.now in
     let land = c.args.tract.now in
     let sized : IsLand depth land = c.cover.ensures.sized in record {
-      added = subst (λ (es : List Entry). OnOk c.add_own_entries_at.result (c.add_own_entries_at.new.entries.items ≡ c.args.entries.now.items ++ es))
+      added = subst (λ (es : List Entry). OnOk c.add_own_entries_at.result
+          (c.add_own_entries_at.new.entries.items ≡ c.args.entries.now.items ++ es))
           (own_entries steps land c.in_ok-found.found c.add_own_entries_at.ensures.ordered
           (λ p. c.in_ok-found.ensures.found p
           ∙ ap (λ (cover : List Node). list_any (is_near f p) cover) c.cover.ensures.cover

@@ -12,6 +12,8 @@ loop-node-preserved c =
     let k = c.node-item.result in
     record {
       read = c.loop-node.invariant.read;
-      at = λ n p. one_node_more (same_node n) nodes i k _ _ _ _ low c.node-item.is (c.loop-node.invariant.at n p) (c.in_ok-file_under.ensures.filed n p);
-      below = λ n p. one_node_more (is_above n) nodes i k _ _ _ _ low c.node-item.is (c.loop-node.invariant.below n p) (c.in_ok-file_above.ensures.filed n p);
+      at = λ n p. one_node_more (same_node n) nodes i k _ _ _ _ low c.node-item.is (c.loop-node.invariant.at n p)
+          (c.in_ok-file_under.ensures.filed n p);
+      below = λ n p. one_node_more (is_above n) nodes i k _ _ _ _ low c.node-item.is (c.loop-node.invariant.below n p)
+          (c.in_ok-file_above.ensures.filed n p);
     }

@@ -8,5 +8,6 @@ use Rattle.title_chain.proofs.filing.Filing.file_steps.Given as goal
 abbrev pub invariant-loop-i : goal.invariant-loop-i
 invariant-loop-i l = record {
   read : l.self.read ≡ l.initial.self.read;
-  filed : (posts : List PlacedPost) → IsFiled depth l.initial.self posts → IsFiled depth l.self (posts ++ step_posts l.index (reverse (take l.i l.steps)));
+  filed : (posts : List PlacedPost) → IsFiled depth l.initial.self posts
+      → IsFiled depth l.self (posts ++ step_posts l.index (reverse (take l.i l.steps)));
 }

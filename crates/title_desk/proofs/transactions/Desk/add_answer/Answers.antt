@@ -27,11 +27,14 @@ invariant_of-self-2 g c =
     let done = sym c.is_err-2.ensures.value ∙ c.if-is_err-2.false in
     let added = on_good c.add_step.result _ done c.add_step.ensures.added in
     let locked = on_good c.add_step.result _ done c.add_step.ensures.locked in
-    let due = subst (λ (b : Books). DueReply depth b.setting b.trace (Step c.args.examiner c.args.ask) (Answered c.args.answer)) (sym c.self.view_is) (due_alone c.args.self.now c.args.examiner c.args.ask c.args.answer c.requires.passes c.requires.alone) in
-    let is = subst (λ (b : Books). c.args.answer ≡ alone depth b.setting.townships (committed b.trace) (open_steps b.trace c.args.examiner) c.args.ask) (sym c.self.view_is) c.requires.alone in (
+    let due = subst (λ (b : Books). DueReply depth b.setting b.trace (Step c.args.examiner c.args.ask) (Answered c.args.answer))
+    (sym c.self.view_is) (due_alone c.args.self.now c.args.examiner c.args.ask c.args.answer c.requires.passes c.requires.alone) in
+    let is = subst (λ (b : Books). c.args.answer ≡ alone depth b.setting.townships (committed b.trace) (open_steps b.trace c.args.examiner)
+    c.args.ask) (sym c.self.view_is) c.requires.alone in (
       rw (c.push_reserved.ensures.items, c.reserve.ensures.items, reverse-append, c.in-Ok.ensures.copy)
           (keeps_answered _ c.args.examiner c.args.ask c.args.answer c.access_in-access.result c.self.invariant.0
-          (rw (c.in-Ok-copy-2.ensures.copy, c.in-Ok-copy.ensures.copy) at added) c.add_step.ensures.images (locked ∙ rw c.in-Ok-copy-2.ensures.copy refl)
+          (rw (c.in-Ok-copy-2.ensures.copy, c.in-Ok-copy.ensures.copy) at added) c.add_step.ensures.images
+          (locked ∙ rw c.in-Ok-copy-2.ensures.copy refl)
           (c.access_in-access.ensures.access ∙ ap is_post c.in-Ok-copy-2.ensures.copy) c.requires.unposted is due),
       grind (arith, common_steps, c.self.invariant.1, c.add_step.ensures.len),
     )

@@ -17,6 +17,7 @@ pub invariant_of-self-2 : goal.invariant_of-self-2
 invariant_of-self-2 g c =
     let done = sym c.is_err-2.ensures.value ∙ c.if-is_err-2.false in (
       rw (c.push_reserved.ensures.items, c.reserve.ensures.items, reverse-append)
-          (keeps_began c.args.examiner (on_good c.add_slot.result _ done c.add_slot.ensures.begun) (sym c.is_in.ensures.found ∙ c.if-is_in.false) c.self.invariant.0),
+          (keeps_began c.args.examiner (on_good c.add_slot.result _ done c.add_slot.ensures.begun)
+          (sym c.is_in.ensures.found ∙ c.if-is_in.false) c.self.invariant.0),
       grind (arith, common_steps, c.self.invariant.1, on_good c.add_slot.result _ done c.add_slot.ensures.len),
     )

@@ -8,5 +8,6 @@ use Rattle.title_desk.proofs.transactions.Desk.is_open.Goals as goal
 pub returns : goal.returns
 returns g c = record {
   opened = c.is_in.ensures.found
-      ∙ subst (λ (b : Books). is_some (found c.self.inside.slots c.args.examiner) ≡ is_open c.args.examiner b.trace) c.self.view_is (c.self.invariant.0.slots_are.begun_are c.args.examiner);
+      ∙ subst (λ (b : Books). is_some (found c.self.inside.slots c.args.examiner) ≡ is_open c.args.examiner b.trace) c.self.view_is
+      (c.self.invariant.0.slots_are.begun_are c.args.examiner);
 }

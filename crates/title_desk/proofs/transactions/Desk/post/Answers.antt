@@ -24,7 +24,9 @@ pub invariant_of-self-in-Refused : goal.invariant_of-self-in-Refused
 invariant_of-self-in-Refused g c =
     let h = rw c.in-Refused.is at c.in-Ok-put.ensures.put in (
       rw c.reserve.ensures.items
-          (keeps_same c.self.invariant.0 (λ d. c.in-Ok-put.ensures.content d ∙ store.effect_refused depth (g.S.Store.declared c.self.inside.store) c.args.posting.instrument c.args.posting.tract (g.S.Store.content c.self.inside.store) d _ h.0)
+          (keeps_same c.self.invariant.0 (λ d. c.in-Ok-put.ensures.content d
+          ∙ store.effect_refused depth (g.S.Store.declared c.self.inside.store) c.args.posting.instrument c.args.posting.tract
+          (g.S.Store.content c.self.inside.store) d _ h.0)
           c.in-Ok-put.ensures.declared h.1),
       grind (arith, common_steps, c.self.invariant.1),
     )
@@ -32,7 +34,8 @@ invariant_of-self-in-Refused g c =
 pub add_answer-requires-clause-alone : goal.add_answer-requires-clause-alone
 add_answer-requires-clause-alone g c =
     let h = rw c.in-Refused.is at c.in-Ok-put.ensures.put in
-    let free = subst (λ (b : Books). InTheWay b.trace c.args.examiner (Post c.args.posting) None) (sym c.self.view_is) c.requires.passes.4 in
+    let free = subst (λ (b : Books). InTheWay b.trace c.args.examiner (Post c.args.posting) None) (sym c.self.view_is) c.requires.passes.4
+    in
     rw c.reserve.ensures.items (post_due c.args.examiner c.args.posting _ c.self.invariant.0 free h.0)
 
 pub keep_post-requires-clause-out : goal.keep_post-requires-clause-out
@@ -51,7 +54,8 @@ invariant_of-self-then-is_err-2 g c =
     let mid = g.S.Store.content c.put.new.self in
     let after = g.S.Store.content c.keep_post.new.store in
     let same : SameContent (g.S.Store.content c.self.inside.store) after =
-    taken_back _ (g.S.Store.declared c.self.inside.store) c.args.posting.instrument c.args.posting.tract _ mid after _ _ h.1 c.in-Ok-put.ensures.content
+    taken_back _ (g.S.Store.declared c.self.inside.store) c.args.posting.instrument c.args.posting.tract _ mid after _ _ h.1
+    c.in-Ok-put.ensures.content
     (λ b lent. subst (λ ts. SameContent (put_back ts b mid) after) c.in-Ok-put.ensures.declared (back b lent)) in (
       rw (c.reserve.ensures.items, locks)
           (keeps_same (keeps_back _ (on_bad c.keep_post.result _ failed c.keep_post.ensures.err) c.self.invariant.0)
@@ -68,13 +72,18 @@ invariant_of-self-2 g c =
     let locked = on_good c.keep_post.result _ done c.keep_post.ensures.locked in
     let kept = on_good c.keep_post.result _ done c.keep_post.ensures.content in
     let out = on_good c.keep_post.result _ done c.keep_post.ensures.out in
-    let free = subst (λ (b : Books). InTheWay b.trace c.args.examiner (Post c.args.posting) None) (sym c.self.view_is) c.requires.passes.4 in
-    let is = subst (λ (b : Books). Posted ≡ alone depth b.setting.townships (committed b.trace) (open_steps b.trace c.args.examiner) (Post c.args.posting)) c.self.view_is (post_due c.args.examiner c.args.posting None c.self.invariant.0 free h.0) in
-    let due = subst (λ (b : Books). DueReply depth b.setting b.trace (Step c.args.examiner (Post c.args.posting)) (Answered Posted)) (sym c.self.view_is) (due_alone c.args.self.now c.args.examiner (Post c.args.posting) Posted c.requires.passes is) in (
+    let free = subst (λ (b : Books). InTheWay b.trace c.args.examiner (Post c.args.posting) None) (sym c.self.view_is) c.requires.passes.4
+    in
+    let is = subst (λ (b : Books). Posted ≡ alone depth b.setting.townships (committed b.trace) (open_steps b.trace c.args.examiner)
+    (Post c.args.posting)) c.self.view_is (post_due c.args.examiner c.args.posting None c.self.invariant.0 free h.0) in
+    let due = subst (λ (b : Books). DueReply depth b.setting b.trace (Step c.args.examiner (Post c.args.posting)) (Answered Posted))
+    (sym c.self.view_is) (due_alone c.args.self.now c.args.examiner (Post c.args.posting) Posted c.requires.passes is) in (
       rw (c.push_reserved.ensures.items, c.reserve.ensures.items, reverse-append)
           (keeps_posted _ c.args.examiner c.args.posting c.in-Done.image c.self.invariant.0
-          (rw c.in-Ok.ensures.copy at added) images (locked ∙ rw c.in-Ok.ensures.copy refl) (c.keep_post.ensures.declared ∙ c.in-Ok-put.ensures.declared)
-          (subst (λ o. IsTaken (g.S.Store.number c.in-Done.image) (g.S.Store.declared c.self.inside.store) c.args.posting.tract (g.S.Store.content c.self.inside.store) (g.S.Store.out c.self.inside.store) o) (sym out) h.1)
+          (rw c.in-Ok.ensures.copy at added) images (locked ∙ rw c.in-Ok.ensures.copy refl)
+          (c.keep_post.ensures.declared ∙ c.in-Ok-put.ensures.declared)
+          (subst (λ o. IsTaken (g.S.Store.number c.in-Done.image) (g.S.Store.declared c.self.inside.store) c.args.posting.tract
+          (g.S.Store.content c.self.inside.store) (g.S.Store.out c.self.inside.store) o) (sym out) h.1)
           (λ d. kept d ∙ c.in-Ok-put.ensures.content d) free due),
       grind (arith, common_steps, c.self.invariant.1, c.keep_post.ensures.len),
     )
@@ -82,12 +91,16 @@ invariant_of-self-2 g c =
 pub returns : goal.returns
 returns g c =
     let h = rw c.in-Done.is at c.in-Ok-put.ensures.put in
-    let free = subst (λ (b : Books). InTheWay b.trace c.args.examiner (Post c.args.posting) None) (sym c.self.view_is) c.requires.passes.4 in
-    let is = subst (λ (b : Books). Posted ≡ alone depth b.setting.townships (committed b.trace) (open_steps b.trace c.args.examiner) (Post c.args.posting)) c.self.view_is (post_due c.args.examiner c.args.posting None c.self.invariant.0 free h.0) in
+    let free = subst (λ (b : Books). InTheWay b.trace c.args.examiner (Post c.args.posting) None) (sym c.self.view_is) c.requires.passes.4
+    in
+    let is = subst (λ (b : Books). Posted ≡ alone depth b.setting.townships (committed b.trace) (open_steps b.trace c.args.examiner)
+    (Post c.args.posting)) c.self.view_is (post_due c.args.examiner c.args.posting None c.self.invariant.0 free h.0) in
     record {
       told = (
         ap (λ (b : Books). b.setting) c.self.view_is,
-        rw (c.push_reserved.ensures.items, c.reserve.ensures.items, reverse-append) (ap (λ (b : Books). record { request = Step c.args.examiner (Post c.args.posting); reply = Answered Posted } ∷ b.trace) c.self.view_is),
+        rw (c.push_reserved.ensures.items, c.reserve.ensures.items, reverse-append)
+            (ap (λ (b : Books). record { request = Step c.args.examiner (Post c.args.posting); reply = Answered Posted } ∷ b.trace)
+            c.self.view_is),
         due_alone c.args.self.now c.args.examiner (Post c.args.posting) Posted c.requires.passes is,
       );
     }

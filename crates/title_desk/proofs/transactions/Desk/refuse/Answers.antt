@@ -11,7 +11,9 @@ use Rattle.title_desk.proofs.transactions.Desk.refuse.Goals as goal
 
 pub invariant_of-self-2 : goal.invariant_of-self-2
 invariant_of-self-2 g c =
-    let due = subst (λ (b : Books). DueReply depth b.setting b.trace c.args.request (reply_of c.args.refusal)) (sym c.self.view_is) c.requires.due in (
-      rw (c.push_reserved.ensures.items, c.reserve.ensures.items, reverse-append, c.reply.ensures.reply) (keeps_refused c.args.request c.args.refusal due c.self.invariant.0),
+    let due = subst (λ (b : Books). DueReply depth b.setting b.trace c.args.request (reply_of c.args.refusal)) (sym c.self.view_is)
+    c.requires.due in (
+      rw (c.push_reserved.ensures.items, c.reserve.ensures.items, reverse-append, c.reply.ensures.reply)
+          (keeps_refused c.args.request c.args.refusal due c.self.invariant.0),
       grind (arith, common_steps, c.self.invariant.1),
     )

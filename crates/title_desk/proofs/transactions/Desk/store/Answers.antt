@@ -12,6 +12,10 @@ pub returns : goal.returns
 returns g c =
     let k = c.self.invariant.0 in record {
       declared = subst (λ (b : Books). g.S.Store.declared c.self.inside.store ≡ b.setting.townships) c.self.view_is k.declared_are;
-      posted = subst (λ (b : Books). (e : ℕ) (d : Cell) → posted_at b.setting.townships d (open_steps b.trace e) ≡ true → g.S.Store.content c.self.inside.store d ≡ after_steps depth b.setting.townships (plant_after depth b.setting.townships (committed b.trace)) (open_steps b.trace e) d) c.self.view_is k.facts.posted;
-      rest = subst (λ (b : Books). (d : Cell) → ((e : ℕ) → posted_at b.setting.townships d (open_steps b.trace e) ≡ false) → g.S.Store.content c.self.inside.store d ≡ plant_after depth b.setting.townships (committed b.trace) d) c.self.view_is k.facts.rest;
+      posted = subst (λ (b : Books). (e : ℕ) (d : Cell) → posted_at b.setting.townships d (open_steps b.trace e) ≡ true
+          → g.S.Store.content c.self.inside.store d ≡ after_steps depth b.setting.townships
+          (plant_after depth b.setting.townships (committed b.trace)) (open_steps b.trace e) d) c.self.view_is k.facts.posted;
+      rest = subst (λ (b : Books). (d : Cell) → ((e : ℕ) → posted_at b.setting.townships d (open_steps b.trace e) ≡ false)
+          → g.S.Store.content c.self.inside.store d ≡ plant_after depth b.setting.townships (committed b.trace) d) c.self.view_is
+          k.facts.rest;
     }

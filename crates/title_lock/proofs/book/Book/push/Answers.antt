@@ -15,10 +15,14 @@ invariant_of-self-2 c =
     let last = c.in_ok-insert.ensures.entries ∙ insert_last n x es c.self.invariant.below in
     record {
       ascending = c.insert.ensures.ordered;
-      below = All-same (λ k. k < c.in-Some.next) (keys_of c.insert.new.self.entries) (keys_of es ++ n ∷ []) (ap (λ (t : List (ℕ × Entry)). keys_of t) last ∙ keys_more n x es)
-          (All-push (λ k. k < c.in-Some.next) (keys_of es) n (All-weaker (λ k. k < n) (λ k. k < c.in-Some.next) (λ k h. omega (arith, c.in-Some.ensures)) (keys_of es) c.self.invariant.below) (omega (arith, c.in-Some.ensures)));
-      own = λ e. own_more e n x es (numbers_of c.make_room.new.numbers e) (numbers_of c.push_number.new.numbers e) (c.make_room.ensures.numbers e ∙ c.self.invariant.own e)
-          (λ h. subst (λ (f : ℕ). numbers_of c.push_number.new.numbers f ≡ numbers_of c.make_room.new.numbers f ++ n ∷ []) h c.push_number.ensures.own) (λ h. c.push_number.ensures.others e h) ∙ ap (own_keys e) (sym last);
+      below = All-same (λ k. k < c.in-Some.next) (keys_of c.insert.new.self.entries) (keys_of es ++ n ∷ [])
+          (ap (λ (t : List (ℕ × Entry)). keys_of t) last ∙ keys_more n x es)
+          (All-push (λ k. k < c.in-Some.next) (keys_of es) n (All-weaker (λ k. k < n) (λ k. k < c.in-Some.next)
+          (λ k h. omega (arith, c.in-Some.ensures)) (keys_of es) c.self.invariant.below) (omega (arith, c.in-Some.ensures)));
+      own = λ e. own_more e n x es (numbers_of c.make_room.new.numbers e) (numbers_of c.push_number.new.numbers e)
+          (c.make_room.ensures.numbers e ∙ c.self.invariant.own e)
+          (λ h. subst (λ (f : ℕ). numbers_of c.push_number.new.numbers f ≡ numbers_of c.make_room.new.numbers f ++ n ∷ []) h
+          c.push_number.ensures.own) (λ h. c.push_number.ensures.others e h) ∙ ap (own_keys e) (sym last);
     }
 
 pub returns-clause-ok : goal.returns-clause-ok
@@ -26,5 +30,6 @@ returns-clause-ok c =
     let n = c.self.inside.next in
     let x = c.args.entry in
     let es = c.self.inside.entries.entries in
-    ap (λ (t : List (ℕ × Entry)). reverse (values_of t)) (c.in_ok-insert.ensures.entries ∙ insert_last n x es c.self.invariant.below) ∙ view_more n x es
+    ap (λ (t : List (ℕ × Entry)). reverse (values_of t)) (c.in_ok-insert.ensures.entries ∙ insert_last n x es c.self.invariant.below)
+    ∙ view_more n x es
     ∙ ap (λ (t : List Entry). x ∷ t) c.self.view_is

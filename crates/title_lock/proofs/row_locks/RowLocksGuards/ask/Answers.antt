@@ -29,4 +29,5 @@ invariant_of-self-2 c =
     (table_more depth meet_by_covers old table c.raise_all.new.self x wide c.self.invariant free
     (λ f n. c.raise_all.ensures.modes f n
     ∙ ap (λ (m : Option Mode). bound m (cond (eqb f e) (asked p c.cover-cover.result.now n) None)) (c.make_room_all.ensures.modes f n)
-    ∙ ap (λ (t : List Node). bound (table_mode table f n) (cond (eqb f e) (asked p t n) None)) (c.cover-cover.ensures.cover ∙ ap (cover_of depth) (sym c.in-Ok.ensures.copy))))
+    ∙ ap (λ (t : List Node). bound (table_mode table f n) (cond (eqb f e) (asked p t n) None))
+    (c.cover-cover.ensures.cover ∙ ap (cover_of depth) (sym c.in-Ok.ensures.copy))))

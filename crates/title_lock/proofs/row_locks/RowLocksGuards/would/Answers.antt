@@ -18,7 +18,9 @@ returns c =
     let p = is_post c.args.access in
     let table = c.self.inside.table in
     let wide = c.cover.ensures.sized in
-    let least = subst (λ (u : List Node). IsLeast (λ f. clashes_with p (λ n. table_mode table f n) u) e c.ways.result) c.cover.ensures.cover c.ways.ensures.way in
+    let least = subst (λ (u : List Node). IsLeast (λ f. clashes_with p (λ n. table_mode table f n) u) e c.ways.result) c.cover.ensures.cover
+    c.ways.ensures.way in
     record {
-      would = subst (λ (z : List Entry). Stands z e t p c.ways.result) c.self.view_is (stands depth meet_by_covers c.self.inside.book table e p t c.ways.result wide c.self.invariant least);
+      would = subst (λ (z : List Entry). Stands z e t p c.ways.result) c.self.view_is
+          (stands depth meet_by_covers c.self.inside.book table e p t c.ways.result wide c.self.invariant least);
     }

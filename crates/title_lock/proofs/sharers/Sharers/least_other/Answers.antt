@@ -29,4 +29,7 @@ loop-other-preserved c =
 pub returns : goal.returns
 returns c =
     let entries = c.args.self.now.members.entries in
-    record { least = carries_none entries c.args.examiner (subst (λ rest. Carries entries rest c.args.examiner) c.in-None.ensures.steps.0 c.loop-other.invariant) }
+    record {
+      least = carries_none entries c.args.examiner
+          (subst (λ rest. Carries entries rest c.args.examiner) c.in-None.ensures.steps.0 c.loop-other.invariant);
+    }

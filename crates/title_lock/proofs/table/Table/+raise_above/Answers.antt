@@ -8,10 +8,13 @@ use Rattle.title_lock.proofs.AccessLaws.{none_above, above_join}
 use Rattle.title_lock.proofs.table.Table.+raise_above.Goals as goal
 
 pub returns-in_default-clause-modes : goal.returns-in_default-clause-modes
-returns-in_default-clause-modes t c f n = none_above (eqb f c.args.examiner) c.args.mode (table_mode c.args.self.now f n) c.args.node.now n c.in_default.ensures.parent
+returns-in_default-clause-modes t c f n = none_above (eqb f c.args.examiner) c.args.mode (table_mode c.args.self.now f n) c.args.node.now n
+    c.in_default.ensures.parent
 
 pub returns-in-Some-clause-modes : goal.returns-in-Some-clause-modes
 returns-in-Some-clause-modes t c f n =
     c.raise.ensures.modes f n
-    ∙ ap (λ (r : Option Mode). bound r (cond (eqb f c.args.examiner && same_node n c.in-Some.parent) (Some c.args.mode) None)) (c.raise_above.ensures.modes f n)
-    ∙ above_join (eqb f c.args.examiner) c.args.mode (table_mode c.args.self.now f n) c.args.node.now c.in-Some.parent n c.in-Some.ensures.parent
+    ∙ ap (λ (r : Option Mode). bound r (cond (eqb f c.args.examiner && same_node n c.in-Some.parent) (Some c.args.mode) None))
+    (c.raise_above.ensures.modes f n)
+    ∙ above_join (eqb f c.args.examiner) c.args.mode (table_mode c.args.self.now f n) c.args.node.now c.in-Some.parent n
+    c.in-Some.ensures.parent

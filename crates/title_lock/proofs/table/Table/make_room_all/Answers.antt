@@ -23,4 +23,5 @@ loop-node-preserved c =
 
 pub returns-clause-room : goal.returns-clause-room
 returns-clause-room c =
-    subst (λ (nodes : List Node). AllByRecursion (RoomFor c.loop-node.self c.args.examiner (is_post c.args.access)) nodes) (take_all c.loop-node.node-index c.args.cover.now (omega arith)) c.loop-node.invariant.room
+    subst (λ (nodes : List Node). AllByRecursion (RoomFor c.loop-node.self c.args.examiner (is_post c.args.access)) nodes)
+    (take_all c.loop-node.node-index c.args.cover.now (omega arith)) c.loop-node.invariant.room

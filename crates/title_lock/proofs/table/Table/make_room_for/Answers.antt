@@ -14,5 +14,6 @@ returns-clause-room c =
     let table = c.make_room.new.self in (
       subst (λ (m : Mode). table_room table e m k ≡ true) c.own_mode.ensures.own c.in_ok-make_room.ensures.room,
       room_above_stays c.make_room_above.new.self table e (above_mode (is_post c.args.access)) k c.make_room.ensures.stays
-          (subst (λ (m : Mode). RoomAbove c.make_room_above.new.self e m k) c.above_mode.ensures.above c.in_ok-make_room_above.ensures.room),
+          (subst (λ (m : Mode). RoomAbove c.make_room_above.new.self e m k) c.above_mode.ensures.above
+          c.in_ok-make_room_above.ensures.room),
     )

@@ -11,12 +11,14 @@ returns-in-Some-clause-modes c f =
     let e = c.args.examiner in
     let w = c.raise.new.self in
     let had = c.in-Some.ensures.value in
-    raised c.args.self.now.places (c.get_mut.follows.lender w) c.args.node.now (Some w) ((c.get_mut.follows.holds w).3 (is_found _ _ had)).0 e f c.args.mode
+    raised c.args.self.now.places (c.get_mut.follows.lender w) c.args.node.now (Some w) ((c.get_mut.follows.holds w).3 (is_found _ _ had)).0
+    e f c.args.mode
     (c.raise.ensures.modes f ∙ ap (λ (o : Option Place). bound (mode_in f o) (cond (eqb f e) (Some c.args.mode) None)) had)
 
 pub returns-in-Some-clause-stays : goal.returns-in-Some-clause-stays
 returns-in-Some-clause-stays c f m =
     let w = c.raise.new.self in
     let had = c.in-Some.ensures.value in
-    room_stays c.args.self.now.places (c.get_mut.follows.lender w) c.args.node.now (Some w) ((c.get_mut.follows.holds w).3 (is_found _ _ had)).0 f m
+    room_stays c.args.self.now.places (c.get_mut.follows.lender w) c.args.node.now (Some w)
+    ((c.get_mut.follows.holds w).3 (is_found _ _ had)).0 f m
     (λ h. c.raise.ensures.stays f m (ap (room_in f m) had ∙ h))

@@ -27,6 +27,8 @@ loop-node-preserved c =
 pub returns : goal.returns
 returns c = record {
   modes = λ f n. rest_none (eqb f c.args.examiner) (table_mode c.loop-node.self f n)
-      ∙ ap (λ (nodes : List Node). bound (table_mode c.loop-node.self f n) (cond (eqb f c.args.examiner) (asked (is_post c.args.access) nodes n) None)) (sym (drop_all c.loop-node.node-index c.args.cover.now (omega arith)))
+      ∙ ap (λ (nodes : List Node). bound (table_mode c.loop-node.self f n)
+      (cond (eqb f c.args.examiner) (asked (is_post c.args.access) nodes n) None))
+      (sym (drop_all c.loop-node.node-index c.args.cover.now (omega arith)))
       ∙ c.loop-node.invariant.modes f n;
 }

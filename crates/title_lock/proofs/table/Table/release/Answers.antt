@@ -11,9 +11,12 @@ use Rattle.title_lock.proofs.table.Table.release.Goals as goal
 
 pub returns-in_default : goal.returns-in_default
 returns-in_default c = record {
-  modes = λ f n. subst (λ (m : Places). mode_of m f n ≡ cond (eqb f c.args.examiner && same_node n c.args.node.now) None (mode_of c.args.self.now.places f n)) (sym c.get_mut.follows.holds-at-none)
+  modes = λ f n. subst (λ (m : Places). mode_of m f n
+      ≡ cond (eqb f c.args.examiner && same_node n c.args.node.now) None (mode_of c.args.self.now.places f n))
+      (sym c.get_mut.follows.holds-at-none)
       (none_released c.args.self.now.places c.args.node.now (sym c.in_default.ensures.value) c.args.examiner f n);
-  dropped = λ h. ap (λ (m : Places). is_some (get node_cmp m c.args.node.now)) c.get_mut.follows.holds-at-none ∙ ap is_some (sym c.in_default.ensures.value);
+  dropped = λ h. ap (λ (m : Places). is_some (get node_cmp m c.args.node.now)) c.get_mut.follows.holds-at-none
+      ∙ ap is_some (sym c.in_default.ensures.value);
 }
 
 pub returns-then-release : goal.returns-then-release

@@ -19,4 +19,5 @@ loop-node-preserved c f n =
     c.release_for.ensures.modes f n
     ∙ ap (λ (r : Option Mode). cond (mine && is_asked n c.node-item.result) None r) (c.loop-node.invariant f n)
     ∙ gone_join mine first (is_asked n c.node-item.result) old
-    ∙ ap (λ (b : Bool). cond (mine && b) None old) (ap (λ (x : Node). first || is_asked n x) c.node-item.is ∙ sym (list_any_more (is_asked n) nodes i c.node-item.result low))
+    ∙ ap (λ (b : Bool). cond (mine && b) None old) (ap (λ (x : Node). first || is_asked n x) c.node-item.is
+    ∙ sym (list_any_more (is_asked n) nodes i c.node-item.result low))

@@ -8,4 +8,5 @@ use Rattle.title_lock.proofs.table.Table.release_all.Given as goal
 -- the examiner holds nothing that the nodes so far ask for
 abbrev pub invariant-loop-node : goal.invariant-loop-node
 invariant-loop-node l =
-    (f : ℕ) (n : Node) → table_mode l.self f n ≡ cond (eqb f l.examiner && list_any (is_asked n) (take l.node-index l.cover)) None (table_mode l.fn.self f n)
+    (f : ℕ) (n : Node) → table_mode l.self f n ≡ cond (eqb f l.examiner && list_any (is_asked n) (take l.node-index l.cover)) None
+    (table_mode l.fn.self f n)

@@ -16,7 +16,10 @@ returns c =
     let table = c.args.self.now in
     record {
       way = subst (λ (w : Option ℕ). IsLeast (λ f. clashes_for p (λ n. table_mode table f n) k) e w) (sym c.least.ensures.least)
-          (least_join (λ f. clashes_above (above_mode p) (λ n. table_mode table f n) (above k)) (λ f. clashes (own_mode p) (table_mode table f k)) e c.way_above.result c.way_of.result
-          (subst (λ (m : Mode). IsLeast (λ f. clashes_above m (λ n. table_mode table f n) (above k)) e c.way_above.result) c.above_mode-above.ensures.above c.way_above.ensures.way)
-          (subst (λ (m : Mode). IsLeast (λ f. clashes m (table_mode table f k)) e c.way_of.result) c.own_mode-own.ensures.own c.way_of.ensures.way));
+          (least_join (λ f. clashes_above (above_mode p) (λ n. table_mode table f n) (above k))
+          (λ f. clashes (own_mode p) (table_mode table f k)) e c.way_above.result c.way_of.result
+          (subst (λ (m : Mode). IsLeast (λ f. clashes_above m (λ n. table_mode table f n) (above k)) e c.way_above.result)
+          c.above_mode-above.ensures.above c.way_above.ensures.way)
+          (subst (λ (m : Mode). IsLeast (λ f. clashes m (table_mode table f k)) e c.way_of.result) c.own_mode-own.ensures.own
+          c.way_of.ensures.way));
     }

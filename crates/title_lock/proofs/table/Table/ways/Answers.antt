@@ -19,13 +19,16 @@ loop-node-preserved c =
     let k = c.node-item.result in
     let before = λ (f : ℕ). clashes_with p (λ n. table_mode table f n) (take i nodes) in
     let here = λ (f : ℕ). clashes_for p (λ n. table_mode table f n) k in
-    subst (λ (w : Option ℕ). IsLeast (λ f. clashes_with p (λ n. table_mode table f n) (take (i + 1) nodes)) e w) (sym c.least-way.ensures.least)
+    subst (λ (w : Option ℕ). IsLeast (λ f. clashes_with p (λ n. table_mode table f n) (take (i + 1) nodes)) e w)
+    (sym c.least-way.ensures.least)
     (least_same (λ f. before f || here f) (λ f. clashes_with p (λ n. table_mode table f n) (take (i + 1) nodes)) e _
-    (λ f o. ap (λ (x : Node). before f || clashes_for p (λ n. table_mode table f n) x) c.node-item.is ∙ sym (list_any_more (clashes_for p (λ n. table_mode table f n)) nodes i k low))
+    (λ f o. ap (λ (x : Node). before f || clashes_for p (λ n. table_mode table f n) x) c.node-item.is
+    ∙ sym (list_any_more (clashes_for p (λ n. table_mode table f n)) nodes i k low))
     (least_join before here e c.loop-node.way c.way_for.result c.loop-node.invariant c.way_for.ensures.way))
 
 pub returns : goal.returns
 returns c = record {
-  way = subst (λ (nodes : List Node). IsLeast (λ f. clashes_with (is_post c.args.access) (λ n. table_mode c.args.self.now f n) nodes) c.args.examiner c.loop-node.way)
+  way = subst (λ (nodes : List Node). IsLeast (λ f. clashes_with (is_post c.args.access) (λ n. table_mode c.args.self.now f n) nodes)
+      c.args.examiner c.loop-node.way)
       (take_all c.loop-node.node-index c.args.cover.now (omega arith)) c.loop-node.invariant;
 }

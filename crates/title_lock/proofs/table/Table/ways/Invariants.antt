@@ -6,4 +6,5 @@ use Rattle.title_lock.proofs.table.Table.ways.Given as goal
 
 -- the least in the way at the nodes so far
 abbrev pub invariant-loop-node : goal.invariant-loop-node
-invariant-loop-node l = IsLeast (λ f. clashes_with (is_post l.access) (λ n. table_mode l.self f n) (take l.node-index l.cover)) l.examiner l.way
+invariant-loop-node l = IsLeast (λ f. clashes_with (is_post l.access) (λ n. table_mode l.self f n) (take l.node-index l.cover)) l.examiner
+    l.way

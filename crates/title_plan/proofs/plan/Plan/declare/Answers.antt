@@ -11,5 +11,6 @@ returns-then-is_refused-clause-err c =
 pub returns-then-has_steps-clause-err : goal.returns-then-has_steps-clause-err
 returns-then-has_steps-clause-err c =
     let test = rw c.as_slice.ensures.value at (sym c.is_refused.ensures.refused ∙ c.if-is_refused.false) in
-    let some : is_none c.args.self.now.lines.items ≡ false = not_true (is_none c.args.self.now.lines.items) (sym c.has_steps.ensures.steps ∙ c.if-has_steps.true) in
+    let some : is_none c.args.self.now.lines.items ≡ false =
+    not_true (is_none c.args.self.now.lines.items) (sym c.has_steps.ensures.steps ∙ c.if-has_steps.true) in
     inr (township_late c.args.n (asked_in c.args.self.now) c.args.township test some)

@@ -5,7 +5,6 @@ use Rattle.title_plan.specs.declared.plan.TheConstants.{PARTIES}
 use Rattle.title_plan.proofs.Names.{contains_name, insert_name}
 use Rattle.title_plan.proofs.Declared.{party_again, party_new, is_none_from}
 use Rattle.title_plan.proofs.plan.Plan.take_party.Goals as goal
-use Rattle.title_plan.proofs.plan.Plan.take_party.Goals.{in-Ok-insert, in-Err}
 
 pub returns-then-contains-clause-err : goal.returns-then-contains-clause-err
 returns-then-contains-clause-err c =
@@ -15,14 +14,11 @@ returns-then-contains-clause-err c =
     inr (party_again c.args.n (asked_in c.args.self.now) c.args.name.now few (is_none_from c.args.self.now.lines.items none) found)
 
 pub returns-clause-ok : goal.returns-clause-ok
-returns-clause-ok c = elim c.match-insert.branch [
-  | in-Ok-insert w ↦
-      let few : length (asked_in c.args.self.now).names < PARTIES = rw length-map (omega arith) in
-      let none : length c.args.self.now.lines.items ≡ 0 = search rules in
-      let absent = sym c.if-contains.ensures in
-      let keys = w.in-Ok-insert.ensures.keys in
-      let names = insert_name c.args.name.now c.in-Ok.name c.args.self.now.parties.keys c.in-Ok.ensures.ok absent in
-      rw (w.result-is, keys, names) (party_new c.args.n (asked_in c.args.self.now) c.args.name.now few (is_none_from c.args.self.now.lines.items none)
-      (contains_name c.args.name.now c.args.self.now.parties.keys ∙ absent))
-  | in-Err w ↦ rw w.result-is tt
-]
+returns-clause-ok c =
+    let few : length (asked_in c.args.self.now).names < PARTIES = rw length-map (omega arith) in
+    let none : length c.args.self.now.lines.items ≡ 0 = search rules in
+    let absent = sym c.if-contains.ensures in
+    let keys = c.in_ok-insert.ensures.keys in
+    let names = insert_name c.args.name.now c.in_ok-name.name c.args.self.now.parties.keys c.in_ok-name.ensures.ok absent in
+    rw (keys, names) (party_new c.args.n (asked_in c.args.self.now) c.args.name.now few (is_none_from c.args.self.now.lines.items none)
+    (contains_name c.args.name.now c.args.self.now.parties.keys ∙ absent))

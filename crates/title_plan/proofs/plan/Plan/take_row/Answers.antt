@@ -1,8 +1,8 @@
 use Rattle.std.proofs.Common.{◌≡◌, inl, inr, refl, Result, Ok, Err, ℕ, List, OnOk, IfErr, ◌⊎◌, arith}
 use Rattle.std.proofs.lemmas.Bool.{false≢true}
 use Rattle.csv.specs.Records.{fields_of}
-use Rattle.title_device.specs.declared.fault.RunFault.{RunFault}
-use Rattle.title_device.specs.declared.fault.RunFault.TheVariants as fault
+use Rattle.title_plan.specs.declared.fault.ScriptFault.{ScriptFault}
+use Rattle.title_plan.specs.declared.fault.ScriptFault.TheVariants as fault
 use Rattle.title_row.specs.Rows.{Said, said}
 use Rattle.title_plan.specs.declared.line.Schedule.{Schedule}
 use Rattle.title_plan.specs.Asked.{Asked, asked_in}
@@ -10,13 +10,16 @@ use Rattle.title_plan.specs.Plans.{AfterRow, AfterSaid, IsUnderstood}
 use Rattle.title_plan.proofs.Names.{texts_from, texts_true}
 use Rattle.title_plan.proofs.plan.Plan.take_row.Goals as goal
 
-taken : (schedule : Schedule) (n : ℕ) (asked after : Asked) (fields : List (List ℕ)) (s : Said) → IsUnderstood n fields s → (r : Result (Unit {0}) RunFault)
+taken : (schedule : Schedule) (n : ℕ) (asked after : Asked) (fields : List (List ℕ)) (s : Said) → IsUnderstood n fields s
+    → (r : Result (Unit {0}) ScriptFault)
     → OnOk r (AfterSaid schedule n asked s (Ok after)) → OnOk r (AfterRow schedule n asked fields (Ok after))
 taken schedule n asked after fields s u (Ok x) h = inl (s, u, h)
 taken schedule n asked after fields s u (Err e) h = tt
 
-refused : (schedule : Schedule) (n : ℕ) (asked : Asked) (fields : List (List ℕ)) (s : Said) → IsUnderstood n fields s → (r : Result (Unit {0}) RunFault)
-    → IfErr r (λ e. (e ≡ fault.Memory) ⊎ AfterSaid schedule n asked s (Err e)) → IfErr r (λ e. (e ≡ fault.Memory) ⊎ AfterRow schedule n asked fields (Err e))
+refused : (schedule : Schedule) (n : ℕ) (asked : Asked) (fields : List (List ℕ)) (s : Said) → IsUnderstood n fields s
+    → (r : Result (Unit {0}) ScriptFault)
+    → IfErr r (λ e. (e ≡ fault.Memory) ⊎ AfterSaid schedule n asked s (Err e))
+    → IfErr r (λ e. (e ≡ fault.Memory) ⊎ AfterRow schedule n asked fields (Err e))
 refused schedule n asked fields s u (Ok x) h = tt
 refused schedule n asked fields s u (Err e) (inl m) = inl m
 refused schedule n asked fields s u (Err e) (inr h) = inr (inl (s, u, h))

@@ -9,4 +9,5 @@ pub returns-clause-rows : goal.returns-clause-rows
 returns-clause-rows c = c.as_slice.ensures.value ∙ sym (viewed_rows _ _ c.self.invariant c.self.view_is)
 
 pub returns-clause-divide : goal.returns-clause-divide
-returns-clause-divide c = subst (λ (rows : List (ℕ × ℕ)). is_division rows ≡ true) (sym (returns-clause-rows c)) (rows_divide c.args.self.now)
+returns-clause-divide c = subst (λ (rows : List (ℕ × ℕ)). is_division rows ≡ true) (sym (returns-clause-rows c))
+    (rows_divide c.args.self.now)

@@ -8,7 +8,8 @@ use Rattle.title_share.proofs.holding.Holding.same.Goals as goal
 
 pair_decides : (a b : ℕ × ℕ) → Decides (eqb a.0 b.0 && eqb a.1 b.1) (a ≡ b)
 pair_decides a b = (
-  (λ h. let parts = and_parts (eqb a.0 b.0) (eqb a.1 b.1) h in let x = eqb-true a.0 b.0 parts.0 in let y = eqb-true a.1 b.1 parts.1 in λ i. (x i, y i)),
+  (λ h. let parts = and_parts (eqb a.0 b.0) (eqb a.1 b.1) h in let x = eqb-true a.0 b.0 parts.0 in let y = eqb-true a.1 b.1 parts.1 in λ i.
+      (x i, y i)),
   (λ e. and_from (eqb a.0 b.0) (eqb a.1 b.1) (eq-eqb a.0 b.0 (ap (λ (p : ℕ × ℕ). p.0) e)) (eq-eqb a.1 b.1 (ap (λ (p : ℕ × ℕ). p.1) e))),
 )
 

@@ -12,5 +12,6 @@ returns-clause-units c =
 pub returns-clause-bound : goal.returns-clause-bound
 returns-clause-bound c =
     let is : c.units_among.result ≡ units_of c.args.party c.args.self.now =
-    c.units_among.ensures.units ∙ ap (units_in c.args.party) (c.deref.ensures.value ∙ sym (viewed_rows _ _ c.self.invariant c.self.view_is)) in
+    c.units_among.ensures.units ∙ ap (units_in c.args.party) (c.deref.ensures.value ∙ sym (viewed_rows _ _ c.self.invariant c.self.view_is))
+    in
     rw is (units_bound c.args.party c.args.self.now)

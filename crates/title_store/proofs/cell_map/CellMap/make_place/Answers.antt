@@ -7,8 +7,10 @@ use Rattle.title_store.proofs.cell_map.CellMap.make_place.Goals as goal
 pub returns-clause-content : goal.returns-clause-content
 returns-clause-content c =
     placed_content c.args.self.now.owners c.insert.new.self c.args.cell
-    (subst (λ (w : Owners). Writes c.args.self.now.owners c.insert.new.self c.args.cell w) (c.in_ok-owners.ensures.copy ∙ c.args.self.now.opens) c.in_ok-insert.ensures.updates.0)
+    (subst (λ (w : Owners). Writes c.args.self.now.owners c.insert.new.self c.args.cell w)
+    (c.in_ok-owners.ensures.copy ∙ c.args.self.now.opens) c.in_ok-insert.ensures.updates.0)
     (sym c.contains_key.ensures ∙ c.if-contains_key.false)
 
 pub returns-clause-stays : goal.returns-clause-stays
-returns-clause-stays c = written_stays c.args.self.now.owners c.insert.new.self c.args.cell c.in_ok-owners.owners c.in_ok-insert.ensures.updates.0
+returns-clause-stays c = written_stays c.args.self.now.owners c.insert.new.self c.args.cell c.in_ok-owners.owners
+    c.in_ok-insert.ensures.updates.0

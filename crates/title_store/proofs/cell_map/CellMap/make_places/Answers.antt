@@ -14,5 +14,6 @@ loop-cell-preserved c =
       stays = λ x h. c.make_place.ensures.stays x (c.loop-cell.invariant.stays x h);
       there = each_more (λ x. is_there c.make_place.new.self x ≡ true) c.args.cells.now c.loop-cell.cell-index c.cell-item.result low
           (subst (λ (x : Cell). is_there c.make_place.new.self x ≡ true) c.cell-item.is c.in_ok-make_place.ensures.there)
-          (each_from (λ x. is_there c.loop-cell.self x ≡ true) (λ x. is_there c.make_place.new.self x ≡ true) _ c.make_place.ensures.stays c.loop-cell.invariant.there);
+          (each_from (λ x. is_there c.loop-cell.self x ≡ true) (λ x. is_there c.make_place.new.self x ≡ true) _ c.make_place.ensures.stays
+          c.loop-cell.invariant.there);
     }

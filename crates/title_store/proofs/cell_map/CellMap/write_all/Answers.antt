@@ -10,14 +10,17 @@ use Rattle.title_store.proofs.cell_map.CellMap.write_all.Goals as goal
 
 pub write-requires : goal.write-requires
 write-requires c =
-    let there = subst (λ (ks : List Kept). AllByRecursion (λ x. is_there c.loop-cell.self x ≡ true) (kept_cells ks)) c.in-Some.ensures.items c.loop-cell.invariant.there in
+    let there = subst (λ (ks : List Kept). AllByRecursion (λ x. is_there c.loop-cell.self x ≡ true) (kept_cells ks)) c.in-Some.ensures.items
+    c.loop-cell.invariant.there in
     record { there = (kept_front (λ x. is_there c.loop-cell.self x ≡ true) c.pop.new.self.items c.in-Some.field-0 there).1 }
 
 pub loop-cell-preserved : goal.loop-cell-preserved
 loop-cell-preserved c =
-    let there = subst (λ (ks : List Kept). AllByRecursion (λ x. is_there c.loop-cell.self x ≡ true) (kept_cells ks)) c.in-Some.ensures.items c.loop-cell.invariant.there in
+    let there = subst (λ (ks : List Kept). AllByRecursion (λ x. is_there c.loop-cell.self x ≡ true) (kept_cells ks)) c.in-Some.ensures.items
+    c.loop-cell.invariant.there in
     let rest = kept_front (λ x. is_there c.loop-cell.self x ≡ true) c.pop.new.self.items c.in-Some.field-0 there in
-    let stays = written_stays c.loop-cell.self.owners c.write.new.self.owners c.in-Some.field-0.cell c.in-Some.field-0.owners c.write.ensures.written in
+    let stays = written_stays c.loop-cell.self.owners c.write.new.self.owners c.in-Some.field-0.cell c.in-Some.field-0.owners
+    c.write.ensures.written in
     record {
       content = λ x.
           c.loop-cell.invariant.content x

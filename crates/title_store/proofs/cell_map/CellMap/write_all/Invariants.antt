@@ -8,7 +8,8 @@ use Rattle.title_store.proofs.cell_map.CellMap.write_all.Given as goal
 
 abbrev pub invariant-loop-cell : goal.invariant-loop-cell
 invariant-loop-cell l = record {
-  content : (c : Cell) → unwrap_or (kept_at l.fn.kept.items c) (content_of l.fn.self c) ≡ unwrap_or (kept_at l.kept.items c) (content_of l.self c);
+  content : (c : Cell) → unwrap_or (kept_at l.fn.kept.items c) (content_of l.fn.self c)
+      ≡ unwrap_or (kept_at l.kept.items c) (content_of l.self c);
   stays : (c : Cell) → is_there l.fn.self c ≡ true → is_there l.self c ≡ true;
   there : AllByRecursion (λ c. is_there l.self c ≡ true) (kept_cells l.kept.items);
 }

@@ -12,4 +12,8 @@ pub returns : goal.returns
 unfolding sheet_of
 returns c =
     let high : 3 ≤ c.loop-estate.estate-index = omega arith in
-    record { sheet = c.loop-estate.invariant ∙ ap (flat_map (λ e. flat_map (sheet_below (depth + 2) depth c.args.self.now.townships.items (content_of c.args.self.now.map) e) (cover_of depth c.args.tract.now))) (take_all c.loop-estate.estate-index estates high) }
+    record {
+      sheet = c.loop-estate.invariant ∙ ap (flat_map
+          (λ e. flat_map (sheet_below (depth + 2) depth c.args.self.now.townships.items (content_of c.args.self.now.map) e)
+          (cover_of depth c.args.tract.now))) (take_all c.loop-estate.estate-index estates high);
+    }

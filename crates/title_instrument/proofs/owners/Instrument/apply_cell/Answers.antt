@@ -2,7 +2,7 @@
 use Rattle.std.proofs.Common.{rules}
 use Rattle.title_instrument.specs.Effect.{cell_effect}
 use Rattle.title_instrument.proofs.EffectLaws.{unnamed_in}
-use Rattle.title_instrument.proofs.instrument.Instrument.apply_cell.Goals as goal
+use Rattle.title_instrument.proofs.owners.Instrument.apply_cell.Goals as goal
 
 pub returns-clause-effect : goal.returns-clause-effect
 unfolding cell_effect

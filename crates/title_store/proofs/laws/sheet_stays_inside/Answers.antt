@@ -1,0 +1,7 @@
+-- The law is a lemma.
+use Rattle.title_land.specs.Depth.{depth}
+use Rattle.title_store.proofs.SheetShows.{sheet_stays_inside as lemma}
+use Rattle.title_store.proofs.laws.sheet_stays_inside.Goals as goal
+
+pub returns : goal.returns
+returns c = record { law = lemma depth }
