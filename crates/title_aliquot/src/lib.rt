@@ -9,8 +9,6 @@ mod letters;
 mod meaning;
 mod reader;
 mod syntax;
-#[cfg(test)]
-mod tests;
 
 pub use describe::read;
 pub use fault::DescFault;

@@ -19,6 +19,3 @@ pub use own_steps::OwnSteps;
 pub use record::Record;
 pub use replay::sheet_by_chain;
 pub use tract_index::TractIndex;
-
-#[cfg(test)]
-mod tests;

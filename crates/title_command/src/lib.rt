@@ -4,8 +4,6 @@
 mod choice;
 mod command_line;
 mod program;
-#[cfg(test)]
-mod tests;
 
 pub use choice::{Line, LineFault};
 pub use command_line::line;

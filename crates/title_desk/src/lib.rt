@@ -5,8 +5,6 @@ mod asks;
 mod images;
 mod refusal;
 mod slots;
-#[cfg(test)]
-mod tests;
 pub mod transactions;
 
 pub use transactions::{Desk, may_open};

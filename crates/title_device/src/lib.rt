@@ -8,8 +8,6 @@ mod fault;
 mod loops;
 mod sink;
 mod source;
-#[cfg(test)]
-mod tests;
 
 pub use device::Device;
 pub use fault::{Failed, ReadFault};

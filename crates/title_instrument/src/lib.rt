@@ -10,6 +10,3 @@ pub use instrument::{Deed, Instrument, Release};
 pub use kind::Kind;
 pub use owners::{Effect, Owners};
 pub use parts::{Cause, Estate, Estates, Quantum, Rule};
-
-#[cfg(test)]
-mod tests;

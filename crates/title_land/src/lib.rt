@@ -12,8 +12,6 @@ pub mod node;
 pub mod place;
 pub mod rectangle;
 pub mod sharing;
-#[cfg(test)]
-mod tests;
 pub mod tract;
 pub mod walks;
 

@@ -10,8 +10,6 @@ mod place;
 pub mod row_locks;
 mod sharers;
 mod table;
-#[cfg(test)]
-mod tests;
 
 pub use guards::{Access, Entry, Guards, LockFault};
 pub use modes::{Mode, compat, sup};

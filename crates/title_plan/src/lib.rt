@@ -5,8 +5,6 @@ pub mod fault;
 pub mod line;
 pub mod plan;
 pub mod script;
-#[cfg(test)]
-mod tests;
 
 pub use fault::ScriptFault;
 pub use line::{Line, Schedule};

@@ -8,6 +8,3 @@ mod sheets;
 mod writing;
 
 pub use report::Report;
-
-#[cfg(test)]
-mod tests;

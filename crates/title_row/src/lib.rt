@@ -7,6 +7,3 @@ pub mod terms;
 
 pub use fields::{DOCUMENTS, EXAMINERS, NAME_LIMIT};
 pub use row::{Row, read_row};
-
-#[cfg(test)]
-mod tests;

@@ -5,8 +5,6 @@ mod fault;
 pub mod laws;
 mod runs;
 mod serving;
-#[cfg(test)]
-mod tests;
 
 pub use fault::RunFault;
 pub use runs::{run, run_alone};

@@ -162,28 +162,3 @@ impl Holding {
         Ok(())
     }
 }
-
-#[cfg(test)]
-mod tests {
-    use super::*;
-    use std::test::Fail;
-
-    // Party 0 has 5/8, party 2 and party 7 have 3/16 each.
-    #[test]
-    fn units_pass_from_party_to_party(rt: HostRuntime) -> Result<(), Fail> {
-        let mut holding = Holding::whole(rt.alloc(), 0)?;
-        assert_eq!(rt; holding.units(0), WHOLE);
-        let before = holding.copy(rt.alloc())?;
-        holding.move_units(0, 7, 1_610_612_736)?;
-        holding.move_units(7, 2, 805_306_368)?;
-        let rows = [(0, 2_684_354_560), (2, 805_306_368), (7, 805_306_368)];
-        assert_eq!(rt; holding.rows(), rows.as_slice());
-        assert_eq!(rt; holding.units(2), 805_306_368);
-        assert_eq!(rt; holding.units(1), 0);
-        assert!(rt; !holding.same(&before));
-        holding.move_units(7, 0, 805_306_368)?;
-        holding.move_units(2, 0, 805_306_368)?;
-        assert!(rt; holding.same(&before));
-        Ok(())
-    }
-}

@@ -17,4 +17,3 @@ pub mod Turns
 pub mod NodesInTurn
 pub mod SheetTurns
 pub mod Puts
-pub mod Taking

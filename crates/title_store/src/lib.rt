@@ -10,8 +10,6 @@ mod posts;
 pub mod sheet_row;
 mod sheets;
 pub mod store;
-#[cfg(test)]
-mod tests;
 
 pub use cell_store::{CellStore, Image};
 pub use sheet_row::SheetRow;

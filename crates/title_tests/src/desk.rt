@@ -1,0 +1,178 @@
+//! The desk over a store of cells and a table of locks: each of its calls.
+
+use std::alloc::{AllocError, Global};
+use std::process::Abort;
+use std::test::Fail;
+use title_chain::{Answer, Ask, Posting};
+use title_desk::{Desk, may_open};
+use title_instrument::{Estates, Instrument, Release};
+use title_land::{Land, Node, Quarter, Section, Township, Tract, Within};
+use title_lock::RowLocks;
+use title_store::{CellStore, Store};
+use title_trace::{Reply, Request};
+
+type TestDesk = Desk<CellStore, RowLocks>;
+
+const PARTIES: u32 = 3;
+
+/// What an examiner asks of the northeast quarter of section 5. A post releases the surface from party 0 to party 1.
+#[derive(Clone, Copy)]
+enum Act {
+    Begin,
+    Sheet,
+    Chain,
+    Post(u64),
+    Commit,
+    Abort,
+}
+
+fn township(rt: &impl Abort) -> Township {
+    Township::new(3, true, 2, false).expect(rt, "the numbers are in range")
+}
+
+fn northeast(rt: &impl Abort) -> Land {
+    let section = Section::new(township(rt), 5).expect(rt, "the number is in range");
+    let quarter = Within::named(&[Quarter::Northeast]).expect(rt, "one quarter");
+    Land::of(Node::Part(section, quarter))
+}
+
+/// A desk of three parties and one township.
+fn open(alloc: Global, rt: &impl Abort) -> Result<TestDesk, AllocError> {
+    let townships = [township(rt)];
+    assert!(rt; may_open(PARTIES, &townships));
+    Desk::open(alloc, PARTIES, &townships)
+}
+
+fn posting(doc: u64, tract: Tract) -> Posting {
+    let estates = Estates {
+        s: true,
+        o: false,
+        m: false,
+    };
+    let instrument = Instrument::Release(Release {
+        from: 0,
+        to: 1,
+        estates,
+    });
+    Posting {
+        doc,
+        tract,
+        instrument,
+    }
+}
+
+fn request(alloc: Global, land: Land, examiner: u32, act: Act) -> Result<Request, AllocError> {
+    Ok(match act {
+        Act::Begin => Request::Begin(examiner),
+        Act::Sheet => Request::Step(examiner, Ask::Sheet(Tract::new(alloc, land)?)),
+        Act::Chain => Request::Step(examiner, Ask::Chain(Tract::new(alloc, land)?)),
+        Act::Post(doc) => {
+            let posting = posting(doc, Tract::new(alloc, land)?);
+            Request::Step(examiner, Ask::Post(posting))
+        }
+        Act::Commit => Request::Commit(examiner),
+        Act::Abort => Request::Abort(examiner),
+    })
+}
+
+/// A reply in a word.
+fn word(reply: &Reply) -> &'static str {
+    match reply {
+        Reply::Began => "began",
+        Reply::Answered(Answer::Rows(_)) => "rows",
+        Reply::Answered(Answer::Entries(_)) => "entries",
+        Reply::Answered(Answer::Posted) => "posted",
+        Reply::Committed(_) => "committed",
+        Reply::Aborted => "aborted",
+        Reply::NotOpen => "not open",
+        Reply::AlreadyOpen => "already open",
+        Reply::Conflict(_) => "conflict",
+        Reply::Memory => "memory",
+        _ => "another",
+    }
+}
+
+/// Each examiner's act is replied to by this word.
+fn assert_replies(
+    alloc: Global,
+    rt: &impl Abort,
+    desk: &mut TestDesk,
+    lines: &[(u32, Act, &str)],
+) -> Result<(), AllocError> {
+    let land = northeast(rt);
+    for (examiner, act, wanted) in lines {
+        let reply = desk.serve(request(alloc, land, *examiner, *act)?);
+        assert_eq!(rt; word(&reply), *wanted, "to {examiner}");
+    }
+    Ok(())
+}
+
+#[test]
+fn each_act_has_its_reply(rt: HostRuntime) -> Result<(), Fail> {
+    let mut desk = open(rt.alloc(), &rt)?;
+    let lines = [
+        (1, Act::Begin, "began"),
+        (1, Act::Begin, "already open"),
+        (1, Act::Sheet, "rows"),
+        (1, Act::Post(7), "posted"),
+        (1, Act::Chain, "entries"),
+        (2, Act::Begin, "began"),
+        (2, Act::Sheet, "conflict"),
+        (1, Act::Commit, "committed"),
+        (2, Act::Sheet, "rows"),
+        (2, Act::Abort, "aborted"),
+        (2, Act::Chain, "not open"),
+    ];
+    Ok(assert_replies(rt.alloc(), &rt, &mut desk, &lines)?)
+}
+
+/// The books after a commit and a sweep: one record of one step, and a trace of all calls.
+fn assert_books(rt: &impl Abort, desk: &TestDesk) {
+    assert!(rt; !desk.is_open(1) && !desk.is_open(2));
+    let [record] = desk.records() else {
+        panic!(rt; "one record");
+    };
+    assert_eq!(rt; record.examiner, 1);
+    assert_eq!(rt; record.steps.as_slice().len(), 1);
+    let [first, .., last] = desk.trace() else {
+        panic!(rt; "two calls");
+    };
+    assert_eq!(rt; word(&first.reply), "began");
+    assert_eq!(rt; word(&last.reply), "aborted");
+    assert_eq!(rt; desk.trace().len(), 5);
+}
+
+/// A commit finds the room that was made for it, and becomes a record; who is gone is swept away.
+#[test]
+fn a_desk_shows_its_books(rt: HostRuntime) -> Result<(), Fail> {
+    let mut desk = open(rt.alloc(), &rt)?;
+    let lines = [
+        (1, Act::Begin, "began"),
+        (2, Act::Begin, "began"),
+        (1, Act::Post(1), "posted"),
+    ];
+    assert_replies(rt.alloc(), &rt, &mut desk, &lines)?;
+    assert!(rt; desk.is_open(1) && desk.is_open(2));
+    desk.make_room(1)?;
+    assert!(rt; matches!(desk.serve(Request::Commit(1)), Reply::Committed(1)));
+    assert!(rt; matches!(desk.sweep(2), Reply::Aborted));
+    assert_books(&rt, &desk);
+    desk.is_serial();
+    Ok(())
+}
+
+/// Everything is the United States': a sheet of a row for each estate.
+#[test]
+fn a_new_desk_has_an_opening_plant(rt: HostRuntime) -> Result<(), Fail> {
+    let townships = [township(&rt)];
+    assert!(rt; may_open(PARTIES, &townships));
+    let desk: TestDesk = Desk::open(rt.alloc(), PARTIES, &townships)?;
+    let plant = Tract::of(Node::Everything);
+    assert!(rt; plant.is_in(&townships));
+    let rows = desk.store().sheet(rt.alloc(), &plant)?;
+    assert_eq!(rt; rows.len(), 3);
+    for row in &rows {
+        assert_eq!(rt; (row.party, row.units), (0, 4_294_967_296));
+    }
+    Ok(())
+}

@@ -1,0 +1,238 @@
+//! Tracts, their nodes and their cells.
+
+use std::alloc::{AllocError, Global};
+use std::fmt::Write;
+use std::process::Abort;
+use std::test::Fail;
+use title_land::{
+    Cell, Grid, Half, Land, Node, Quarter, Rectangle, Section, Township, Tract, Within, cells_of,
+    children_of, node_cells,
+};
+
+const NORTHEAST: Quarter = Quarter::Northeast;
+
+const SOUTHWEST: Quarter = Quarter::Southwest;
+
+const SOUTHEAST: Quarter = Quarter::Southeast;
+
+fn township(rt: &impl Abort, number: u8) -> Township {
+    Township::new(number, true, 2, false).expect(rt, "the numbers are in range")
+}
+
+/// A section of the third township.
+fn section(rt: &impl Abort, number: u8) -> Section {
+    Section::new(township(rt, 3), number).expect(rt, "the number is in range")
+}
+
+/// The square of section 5 with these quarters, the innermost first.
+fn square(rt: &impl Abort, quarters: &[Quarter]) -> Result<Node, Fail> {
+    let within = Within::named(quarters).ok_or("four quarters at most")?;
+    Ok(Node::Part(section(rt, 5), within))
+}
+
+/// The south half of section 5, which is no square.
+fn south_half(rt: &impl Abort, alloc: Global) -> Result<Tract, AllocError> {
+    let cells = Grid::of(Rectangle::section().half(Half::South));
+    Tract::new(alloc, Land::Part(section(rt, 5), cells))
+}
+
+fn add_node(lines: &mut String, node: &Node) -> Result<(), AllocError> {
+    writeln!(lines, "{node}")
+}
+
+fn add_nodes(lines: &mut String, nodes: &[Node]) -> Result<(), AllocError> {
+    for node in nodes {
+        add_node(lines, node)?;
+    }
+    Ok(())
+}
+
+fn add_cell(lines: &mut String, cell: &Cell) -> Result<(), AllocError> {
+    let (section, row, column) = (cell.section, cell.row, cell.column);
+    writeln!(lines, "{section} row {row} column {column}")
+}
+
+/// Adds the cells at these places of a list; none where it ends before.
+fn add_cells(lines: &mut String, cells: &[Cell], places: &[usize]) -> Result<(), AllocError> {
+    for place in places {
+        if let Some(cell) = cells.get(*place) {
+            add_cell(lines, cell)?;
+        }
+    }
+    Ok(())
+}
+
+/// The nodes above a cell, the nearest first.
+#[test]
+fn a_cell_lies_below_six_nodes(rt: HostRuntime) -> Result<(), Fail> {
+    let cell = square(&rt, &[NORTHEAST, SOUTHWEST, SOUTHEAST, NORTHEAST])?;
+    let mut lines = String::new(rt.alloc());
+    for node in cell.ancestors() {
+        add_node(&mut lines, &node)?;
+    }
+    assert_eq!(rt;
+        lines.as_str(),
+        "T3N R2W sec 5 SW1/4SE1/4NE1/4\n\
+            T3N R2W sec 5 SE1/4NE1/4\n\
+            T3N R2W sec 5 NE1/4\n\
+            T3N R2W sec 5\n\
+            T3N R2W\n\
+            everything\n"
+    );
+    assert!(rt; Within::named(&[NORTHEAST; 5]).is_none());
+    Ok(())
+}
+
+/// Places in lists of cells: the last is past the end of the plant's.
+const PLACES: [usize; 9] = [0, 1, 2, 3, 256, 9215, 9216, 18431, 18432];
+
+/// What lies right below the plant, a township, a square and a cell, each before its cells at these places.
+const LISTED: &str = "T4N R2W\n\
+    T3N R2W\n\
+    T4N R2W sec 1 row 0 column 15\n\
+    T4N R2W sec 1 row 0 column 14\n\
+    T4N R2W sec 1 row 1 column 14\n\
+    T4N R2W sec 1 row 1 column 15\n\
+    T4N R2W sec 2 row 0 column 15\n\
+    T4N R2W sec 36 row 15 column 15\n\
+    T3N R2W sec 1 row 0 column 15\n\
+    T3N R2W sec 36 row 15 column 15\n\
+    T3N R2W sec 1\nT3N R2W sec 2\nT3N R2W sec 3\nT3N R2W sec 4\nT3N R2W sec 5\nT3N R2W sec 6\n\
+    T3N R2W sec 7\nT3N R2W sec 8\nT3N R2W sec 9\nT3N R2W sec 10\nT3N R2W sec 11\nT3N R2W sec 12\n\
+    T3N R2W sec 13\nT3N R2W sec 14\nT3N R2W sec 15\nT3N R2W sec 16\nT3N R2W sec 17\nT3N R2W sec 18\n\
+    T3N R2W sec 19\nT3N R2W sec 20\nT3N R2W sec 21\nT3N R2W sec 22\nT3N R2W sec 23\nT3N R2W sec 24\n\
+    T3N R2W sec 25\nT3N R2W sec 26\nT3N R2W sec 27\nT3N R2W sec 28\nT3N R2W sec 29\nT3N R2W sec 30\n\
+    T3N R2W sec 31\nT3N R2W sec 32\nT3N R2W sec 33\nT3N R2W sec 34\nT3N R2W sec 35\nT3N R2W sec 36\n\
+    T3N R2W sec 1 row 0 column 15\n\
+    T3N R2W sec 1 row 0 column 14\n\
+    T3N R2W sec 1 row 1 column 14\n\
+    T3N R2W sec 1 row 1 column 15\n\
+    T3N R2W sec 2 row 0 column 15\n\
+    T3N R2W sec 36 row 15 column 15\n\
+    T3N R2W sec 5 NE1/4NE1/4NE1/4NE1/4\n\
+    T3N R2W sec 5 NW1/4NE1/4NE1/4NE1/4\n\
+    T3N R2W sec 5 SW1/4NE1/4NE1/4NE1/4\n\
+    T3N R2W sec 5 SE1/4NE1/4NE1/4NE1/4\n\
+    T3N R2W sec 5 row 0 column 15\n\
+    T3N R2W sec 5 row 0 column 14\n\
+    T3N R2W sec 5 row 1 column 14\n\
+    T3N R2W sec 5 row 1 column 15\n\
+    T3N R2W sec 5 row 0 column 15\n";
+
+/// What lies right below each node, and its cells at these places, a line each.
+fn listed(
+    alloc: Global,
+    townships: &[Township],
+    nodes: &[Node],
+    places: &[usize],
+) -> Result<String, AllocError> {
+    let mut lines = String::new(alloc);
+    for node in nodes {
+        add_nodes(&mut lines, &children_of(alloc, townships, *node)?)?;
+        add_cells(&mut lines, &node_cells(alloc, townships, *node)?, places)?;
+    }
+    Ok(lines)
+}
+
+/// Townships come as declared, sections by their numbers and quarters as they are listed.
+#[test]
+fn nodes_and_cells_are_listed(rt: HostRuntime) -> Result<(), Fail> {
+    let nodes = [
+        Node::Everything,
+        Node::Township(township(&rt, 3)),
+        square(&rt, &[NORTHEAST; 3])?,
+        square(&rt, &[NORTHEAST; 4])?,
+    ];
+    let townships = [township(&rt, 4), township(&rt, 3)];
+    let lines = listed(rt.alloc(), &townships, &nodes, &PLACES)?;
+    assert_eq!(rt; lines.as_str(), LISTED);
+    Ok(())
+}
+
+/// Adds the node of a tract that has a cell, where one has.
+fn add_node_of(lines: &mut String, tract: &Tract, cell: Cell) -> Result<(), AllocError> {
+    match tract.node_of(cell) {
+        Some(node) => add_node(lines, &node),
+        None => writeln!(lines, "none"),
+    }
+}
+
+/// Adds whether a tract has each of a section's cells, and the node that has it.
+fn add_nodes_of(
+    lines: &mut String,
+    tract: &Tract,
+    section: Section,
+    cells: &[(u8, u8)],
+) -> Result<(), AllocError> {
+    for (row, column) in cells {
+        let (row, column) = (*row, *column);
+        let cell = Cell {
+            section,
+            row,
+            column,
+        };
+        write!(lines, "{} ", tract.has_cell(cell))?;
+        add_node_of(lines, tract, cell)?;
+    }
+    Ok(())
+}
+
+/// The cover of a half of section 5, its cells at some places, and the nodes of cells in sections 5 and 6.
+fn lines_of(rt: &impl Abort, alloc: Global, half: &Tract) -> Result<String, AllocError> {
+    let mut lines = String::new(alloc);
+    add_nodes(&mut lines, half.cover())?;
+    let cells = cells_of(alloc, &[township(rt, 3)], half)?;
+    add_cells(&mut lines, &cells, &[0, 63, 64, 127, 128])?;
+    let places = [(7, 7), (8, 7), (15, 0), (15, 8), (8, 16)];
+    add_nodes_of(&mut lines, half, section(rt, 5), &places)?;
+    add_nodes_of(&mut lines, half, section(rt, 6), &[(8, 7)])?;
+    Ok(lines)
+}
+
+/// A copy of a half has its cover and its cells, none of them in another township.
+#[test]
+fn a_half_is_two_nodes(rt: HostRuntime) -> Result<(), Fail> {
+    let half = south_half(&rt, rt.alloc())?.copy(rt.alloc())?;
+    let lines = lines_of(&rt, rt.alloc(), &half)?;
+    assert_eq!(rt;
+        lines.as_str(),
+        "T3N R2W sec 5 SW1/4\n\
+            T3N R2W sec 5 SE1/4\n\
+            T3N R2W sec 5 row 8 column 7\n\
+            T3N R2W sec 5 row 15 column 7\n\
+            T3N R2W sec 5 row 8 column 15\n\
+            T3N R2W sec 5 row 15 column 15\n\
+            false none\n\
+            true T3N R2W sec 5 SW1/4\n\
+            true T3N R2W sec 5 SW1/4\n\
+            true T3N R2W sec 5 SE1/4\n\
+            false none\n\
+            false none\n"
+    );
+    let elsewhere = [township(&rt, 4)];
+    assert!(rt; half.meets(&Tract::of(Node::Everything)));
+    assert!(rt; !half.is_in(&elsewhere));
+    assert!(rt; cells_of(rt.alloc(), &elsewhere, &half)?.is_empty());
+    Ok(())
+}
+
+/// Whether a tract shares a cell with each node.
+fn assert_meets(rt: &impl Abort, tract: &Tract, others: &[(Node, bool)]) {
+    for (other, wanted) in others {
+        assert_eq!(rt; tract.meets(&Tract::of(*other)), *wanted);
+    }
+}
+
+#[test]
+fn tracts_share_cells(rt: HostRuntime) -> Result<(), Fail> {
+    let others = [
+        (Node::Everything, true),
+        (Node::Township(township(&rt, 3)), true),
+        (Node::Township(township(&rt, 4)), false),
+        (Node::Part(section(&rt, 6), Within::section()), false),
+        (square(&rt, &[SOUTHEAST])?, false),
+        (square(&rt, &[SOUTHWEST, NORTHEAST])?, true),
+    ];
+    assert_meets(&rt, &Tract::of(square(&rt, &[NORTHEAST])?), &others);
+    Ok(())
+}

@@ -1,0 +1,25 @@
+//! Tests of the crates through their public calls: the worked rows, each call once, and what no contract says.
+#![tactic(auto)]
+
+#[cfg(test)]
+mod aliquot;
+#[cfg(test)]
+mod chain;
+#[cfg(test)]
+mod command;
+#[cfg(test)]
+mod desk;
+#[cfg(test)]
+mod device;
+#[cfg(test)]
+mod instrument;
+#[cfg(test)]
+mod land;
+#[cfg(test)]
+mod lock;
+#[cfg(test)]
+mod row;
+#[cfg(test)]
+mod scripts;
+#[cfg(test)]
+mod share;

@@ -1,0 +1,97 @@
+//! Rows that are read, and rows that say nothing.
+
+use csv::StringRecord;
+use std::alloc::{AllocError, Global};
+use std::process::Abort;
+use std::test::Fail;
+use title_row::read_row;
+
+// A row whose fields a line has with | between them.
+fn row_of(alloc: Global, line: &str) -> Result<StringRecord, AllocError> {
+    let mut row = StringRecord::new(alloc);
+    for field in line.split('|') {
+        row.push_field(field)?;
+    }
+    Ok(row)
+}
+
+// What a row says, as text; None where it says nothing.
+fn said(alloc: Global, line: &str) -> Result<String, AllocError> {
+    let row = row_of(alloc, line)?;
+    let read = read_row(&row);
+    format!(in alloc; "{read:?}")
+}
+
+fn assert_said(alloc: Global, rt: &impl Abort, rows: &[(&str, &str)]) -> Result<(), AllocError> {
+    for (line, wanted) in rows {
+        assert!(rt; said(alloc, line)?.as_str() == *wanted, "at {line}");
+    }
+    Ok(())
+}
+
+const ROWS: [(&str, &str); 38] = [
+    ("township|T2N R1W", "Some(Township(\"T2N R1W\"))"),
+    ("party|ADAMS, J.", "Some(Party(\"ADAMS, J.\"))"),
+    ("1|begin", "Some(Begin(1))"),
+    ("40|commit", "Some(Commit(40))"),
+    ("9999|abort", "Some(Abort(9999))"),
+    (
+        "7|sheet|T2N R1W sec 5 N/2",
+        "Some(Sheet(7, \"T2N R1W sec 5 N/2\"))",
+    ),
+    ("7|chain|", "Some(Chain(7, \"\"))"),
+    (
+        "7|deed|12|ADAMS|BELL|SO|W1/2|O1/4;S1/8|T2N R1W sec 5",
+        "Some(Post(7, 12, Deed(Deed { grantor: \"ADAMS\", grantee: \"BELL\", estates: Estates { s: true, o: true, m: false }, \
+         warranty: false, quantum: Whole(Share { units: 2147483648 }), reserve: [Some(Share { units: 536870912 }), \
+         Some(Share { units: 1073741824 }), None] }), \"T2N R1W sec 5\"))",
+    ),
+    (
+        "7|warranty|999999999999|ADAMS|BELL|M|I1/1||T2N R1W",
+        "Some(Post(7, 999999999999, Deed(Deed { grantor: \"ADAMS\", grantee: \"BELL\", \
+         estates: Estates { s: false, o: false, m: true }, \
+         warranty: true, quantum: Interest(Share { units: 4294967296 }), reserve: [None, None, None] }), \"T2N R1W\"))",
+    ),
+    (
+        "7|release|3|BELL|CLARK|SOM|T2N R1W",
+        "Some(Post(7, 3, Release(Release { from: \"BELL\", to: \"CLARK\", estates: Estates { s: true, o: true, m: true } }), \
+         \"T2N R1W\"))",
+    ),
+    ("", "None"),
+    ("1", "None"),
+    ("Township|T2N R1W", "None"),
+    ("party|", "None"),
+    ("party|A\tB", "None"),
+    ("0|begin", "None"),
+    ("01|begin", "None"),
+    ("10000|begin", "None"),
+    (" 1|begin", "None"),
+    ("1|Begin", "None"),
+    ("1|deed", "None"),
+    ("1|begin|", "None"),
+    ("1|sheets|T2N R1W", "None"),
+    ("1|release|0|BELL|CLARK|S|T2N R1W", "None"),
+    ("1|release|1000000000000|BELL|CLARK|S|T2N R1W", "None"),
+    ("1|release|3|BELL||S|T2N R1W", "None"),
+    ("1|release|3|BELL|CLARK|OS|T2N R1W", "None"),
+    ("1|release|3|BELL|CLARK||T2N R1W", "None"),
+    ("1|deed|3|BELL|CLARK|S|1/2||T2N R1W", "None"),
+    ("1|deed|3|BELL|CLARK|S|w1/2||T2N R1W", "None"),
+    ("1|deed|3|BELL|CLARK|S|W1/3||T2N R1W", "None"),
+    ("1|deed|3|BELL|CLARK|S|W1/2|S1/4;S1/8|T2N R1W", "None"),
+    ("1|deed|3|BELL|CLARK|S|W1/2|S1/4;|T2N R1W", "None"),
+    ("1|deed|3|BELL|CLARK|S|W1/2|;S1/4|T2N R1W", "None"),
+    (
+        "1|deed|3|BELL|CLARK|S|W1/2|S1/4;O1/8;M1/8;S1/8|T2N R1W",
+        "None",
+    ),
+    ("1|deed|3|BELL|CLARK|S|W1/2||T2N R1W|", "None"),
+    ("1|Warranty|3|BELL|CLARK|S|W1/2||T2N R1W", "None"),
+    ("1|warranty|3|BELL|CLARK|S|T2N R1W", "None"),
+];
+
+#[test]
+fn rows_say_something_or_nothing(rt: HostRuntime) -> Result<(), Fail> {
+    assert_said(rt.alloc(), &rt, &ROWS)?;
+    Ok(())
+}

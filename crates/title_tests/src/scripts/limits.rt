@@ -1,0 +1,221 @@
+// Scripts at each side of each limit: a line that stands many times, and how the report ends.
+
+use super::report_of;
+use std::alloc::Global;
+use std::process::Abort;
+use std::test::Fail;
+use title_script::Schedule;
+
+/// The lines that a script has many times: the same each time, or with their number, from 1, between two texts.
+#[derive(Clone, Copy)]
+pub enum Lines {
+    Same(&'static str),
+    Numbered(&'static str, &'static str),
+}
+
+/// A script of a head, of so many lines and of a tail, and the end of its report or the line of its fault.
+#[derive(Clone, Copy)]
+pub struct Limit {
+    pub name: &'static str,
+    pub head: &'static str,
+    pub lines: Lines,
+    pub times: u32,
+    pub tail: &'static str,
+    pub wanted: Result<&'static str, &'static str>,
+}
+
+pub const LIMITS: [Limit; 20] = [
+    Limit {
+        name: "ten thousand steps",
+        head: "township,T3N R2W\n1,begin\n",
+        lines: Lines::Same("1,chain,T3N R2W\n"),
+        times: 10_000,
+        tail: "1,commit\n",
+        wanted: Ok("1,chain,0\n1,chain,0\n1,committed,1\nend,10002\n"),
+    },
+    Limit {
+        name: "a step more",
+        head: "township,T3N R2W\n1,begin\n",
+        lines: Lines::Same("1,chain,T3N R2W\n"),
+        times: 10_001,
+        tail: "1,commit\n",
+        wanted: Ok("1,chain,0\n1,toolong\n1,committed,1\nend,10003\n"),
+    },
+    Limit {
+        name: "an instrument that can't stand comes before a step too many",
+        head: "township,T3N R2W\nparty,ADAMS\n1,begin\n",
+        lines: Lines::Same("1,chain,T3N R2W\n"),
+        times: 10_000,
+        tail: "1,deed,1,ADAMS,ADAMS,S,W1/1,,T3N R2W\n",
+        wanted: Ok("1,chain,0\n1,invalid,2\nend,10002\n"),
+    },
+    Limit {
+        name: "a step too many comes before a conflict",
+        head: "township,T3N R2W\nparty,ADAMS\n2,begin\n2,deed,1,UNITED STATES,ADAMS,S,W1/1,,T3N R2W sec 5\n1,begin\n",
+        lines: Lines::Same("1,chain,T3N R2W sec 6\n"),
+        times: 10_000,
+        tail: "1,chain,T3N R2W sec 5\n",
+        wanted: Ok("1,chain,0\n1,toolong\nend,10004\n"),
+    },
+    Limit {
+        name: "a hundred thousand rows",
+        head: "",
+        lines: Lines::Same("1,begin\n1,abort\n"),
+        times: 50_000,
+        tail: "",
+        wanted: Ok("1,began\n1,aborted\nend,100000\n"),
+    },
+    Limit {
+        name: "a row more",
+        head: "",
+        lines: Lines::Same("1,begin\n1,abort\n"),
+        times: 50_000,
+        tail: "1,begin\n",
+        wanted: Err("fault,31,100001"),
+    },
+    Limit {
+        name: "sixty-four townships",
+        head: "",
+        lines: Lines::Numbered("township,T", "N R2W\n"),
+        times: 64,
+        tail: "1,begin\n1,chain,T64N R2W\n1,chain,T65N R2W\n",
+        wanted: Ok("1,began\n1,chain,0\n1,notownship\nend,3\n"),
+    },
+    Limit {
+        name: "a township more",
+        head: "",
+        lines: Lines::Numbered("township,T", "N R2W\n"),
+        times: 65,
+        tail: "",
+        wanted: Err("fault,31,65"),
+    },
+    Limit {
+        name: "65,535 names",
+        head: "township,T3N R2W\n",
+        lines: Lines::Numbered("party,P", "\n"),
+        times: 65_535,
+        tail: "1,begin\n1,release,1,P65535,UNITED STATES,S,T3N R2W\n1,chain,T3N R2W\n",
+        wanted: Ok("1,posted\n1,chain,1\n1,entry,0,1,release,P65535,UNITED STATES,S\nend,3\n"),
+    },
+    Limit {
+        name: "a name more",
+        head: "township,T3N R2W\n",
+        lines: Lines::Numbered("party,P", "\n"),
+        times: 65_536,
+        tail: "",
+        wanted: Err("fault,31,65537"),
+    },
+    Limit {
+        name: "a name of 60 bytes",
+        head: "township,T3N R2W\nparty,",
+        lines: Lines::Same("ABCDEFGHIJ"),
+        times: 6,
+        tail: "\n",
+        wanted: Ok("end,0\n"),
+    },
+    Limit {
+        name: "a name of 61 bytes",
+        head: "township,T3N R2W\nparty,",
+        lines: Lines::Same("ABCDEFGHIJ"),
+        times: 6,
+        tail: "K\n",
+        wanted: Err("fault,31,2"),
+    },
+    Limit {
+        name: "examiner 9,999",
+        head: "",
+        lines: Lines::Same(""),
+        times: 1,
+        tail: "9999,begin\n",
+        wanted: Ok("9999,began\nend,1\n"),
+    },
+    Limit {
+        name: "examiner 10,000",
+        head: "",
+        lines: Lines::Same(""),
+        times: 1,
+        tail: "10000,begin\n",
+        wanted: Err("fault,31,1"),
+    },
+    Limit {
+        name: "document 999,999,999,999",
+        head: "township,T3N R2W\nparty,ADAMS\n1,begin\n",
+        lines: Lines::Same(""),
+        times: 1,
+        tail: "1,release,999999999999,ADAMS,UNITED STATES,S,T3N R2W\n",
+        wanted: Ok("1,posted\nend,2\n"),
+    },
+    Limit {
+        name: "document 1,000,000,000,000",
+        head: "township,T3N R2W\nparty,ADAMS\n1,begin\n",
+        lines: Lines::Same(""),
+        times: 1,
+        tail: "1,release,1000000000000,ADAMS,UNITED STATES,S,T3N R2W\n",
+        wanted: Err("fault,31,4"),
+    },
+    Limit {
+        name: "16,777,216 bytes",
+        head: "1,begin\n1,abort\n",
+        lines: Lines::Same("\n\n\n\n\n\n\n\n\n\n\n\n\n\n\n\n"),
+        times: 1_048_575,
+        tail: "",
+        wanted: Ok("1,began\n1,aborted\nend,2\n"),
+    },
+    Limit {
+        name: "a byte more",
+        head: "1,begin\n1,abort\n",
+        lines: Lines::Same("\n\n\n\n\n\n\n\n\n\n\n\n\n\n\n\n"),
+        times: 1_048_575,
+        tail: "\n",
+        wanted: Err("fault,32"),
+    },
+    Limit {
+        name: "a description of 1,000 bytes",
+        head: "township,T3N R2W\n1,begin\n1,chain,T3N R2W",
+        lines: Lines::Same("  "),
+        times: 496,
+        tail: ".\n",
+        wanted: Ok("1,began\n1,chain,0\nend,2\n"),
+    },
+    Limit {
+        name: "a description of 1,001 bytes",
+        head: "township,T3N R2W\n1,begin\n1,chain,T3N R2W",
+        lines: Lines::Same("  "),
+        times: 497,
+        tail: "\n",
+        wanted: Ok("1,description,21,1000\nend,2\n"),
+    },
+];
+
+/// The script of a limit.
+fn script_of(alloc: Global, limit: &Limit) -> Result<String, Fail> {
+    let mut script = format!(in alloc; "{}", limit.head)?;
+    for number in 1..=limit.times {
+        match limit.lines {
+            Lines::Same(text) => write!(script, "{text}")?,
+            Lines::Numbered(before, after) => write!(script, "{before}{number}{after}")?,
+        }
+    }
+    write!(script, "{}", limit.tail)?;
+    Ok(script)
+}
+
+/// Whether a limit's script gives what is wanted.
+fn ends_so(alloc: Global, limit: &Limit) -> Result<bool, Fail> {
+    let script = script_of(alloc, limit)?;
+    match (
+        report_of(alloc, Schedule::Interleaved, script.as_bytes()),
+        limit.wanted,
+    ) {
+        (Ok(report), Ok(end)) => Ok(report.ends_with(end.as_bytes())),
+        (Err(fault), Err(line)) => Ok(format!(in alloc; "{fault}")?.as_str() == line),
+        _ => Ok(false),
+    }
+}
+
+pub fn are_kept(rt: &impl Abort, alloc: Global, limits: &[Limit]) -> Result<(), Fail> {
+    for limit in limits {
+        assert!(rt; ends_so(alloc, limit)?, "{}", limit.name);
+    }
+    Ok(())
+}

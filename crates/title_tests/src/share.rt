@@ -1,0 +1,111 @@
+//! Shares and their texts, and units that pass from party to party.
+
+use std::alloc::{AllocError, Global};
+use std::mem::size_of;
+use std::process::Abort;
+use std::test::Fail;
+use title_share::{Holding, Share, WHOLE};
+
+/// Texts, and what is read from them.
+const READ: [(&str, &str); 22] = [
+    ("1/1", "4294967296 units, 1/1"),
+    ("2/4", "2147483648 units, 1/2"),
+    ("3/8", "1610612736 units, 3/8"),
+    ("6/16", "1610612736 units, 3/8"),
+    ("6/32", "805306368 units, 3/16"),
+    ("4294967296/4294967296", "4294967296 units, 1/1"),
+    ("1/4294967296", "1 units, 1/4294967296"),
+    (
+        "4294967295/4294967296",
+        "4294967295 units, 4294967295/4294967296",
+    ),
+    ("W1/3", "no share"),
+    ("1/3", "no share"),
+    ("01/2", "no share"),
+    ("1/02", "no share"),
+    ("0/1", "no share"),
+    ("3/2", "no share"),
+    ("1/8589934592", "no share"),
+    ("1", "no share"),
+    ("1/", "no share"),
+    ("/2", "no share"),
+    ("1/2/4", "no share"),
+    ("+1/2", "no share"),
+    ("1 /2", "no share"),
+    ("", "no share"),
+];
+
+/// The units of the share that a text names, and how it is printed.
+fn read(alloc: Global, text: &str) -> Result<String, Fail> {
+    match Share::parse(text) {
+        Some(share) => Ok(format!(in alloc; "{} units, {share}", share.units())?),
+        None => Ok(format!(in alloc; "no share")?),
+    }
+}
+
+fn assert_read(rt: &impl Abort, alloc: Global, rows: &[(&str, &str)]) -> Result<(), Fail> {
+    for (text, wanted) in rows {
+        assert!(rt; read(alloc, text)?.as_str() == *wanted, "for {text}");
+    }
+    Ok(())
+}
+
+#[test]
+fn reads_and_prints(rt: HostRuntime) -> Result<(), Fail> {
+    assert_read(&rt, rt.alloc(), &READ)
+}
+
+#[test]
+fn of_units(rt: HostRuntime) -> Result<(), Fail> {
+    let share = Share::new(1_610_612_736).expect(&rt, "no more than the whole");
+    assert!(rt; share.fraction() == (3, 8));
+    assert!(rt; Share::parse("6/16") == Some(share));
+    assert!(rt; Share::parse("1/1") == Share::new(WHOLE));
+    let shown = format!(in rt.alloc(); "{share:?}")?;
+    assert!(rt; shown.as_str() == "Share { units: 1610612736 }");
+    Ok(())
+}
+
+#[test]
+fn takes_32_bits(rt: HostRuntime) {
+    assert_eq!(rt; size_of::<Share>(), 4);
+    assert_eq!(rt; size_of::<Option<Share>>(), 8);
+}
+
+/// Makes these moves of units, each from a party that has them.
+fn move_all(
+    rt: &impl Abort,
+    holding: &mut Holding,
+    moves: &[(u32, u32, u64)],
+) -> Result<(), AllocError> {
+    for (from, to, units) in moves {
+        assert!(rt; *units <= holding.units(*from));
+        holding.move_units(*from, *to, *units)?;
+    }
+    Ok(())
+}
+
+/// The holding has these rows, and the parties have these units.
+fn assert_held(rt: &impl Abort, holding: &Holding, rows: &[(u32, u64)], units: &[(u32, u64)]) {
+    assert_eq!(rt; holding.rows(), rows);
+    for (party, held) in units {
+        assert_eq!(rt; holding.units(*party), *held);
+    }
+}
+
+// Party 0 has 5/8, party 2 and party 7 have 3/16 each; then all goes back.
+#[test]
+fn units_pass_from_party_to_party(rt: HostRuntime) -> Result<(), Fail> {
+    let mut holding = Holding::whole(rt.alloc(), 0)?;
+    let before = holding.copy(rt.alloc())?;
+    assert_held(&rt, &holding, &[(0, WHOLE)], &[(0, WHOLE)]);
+    let away = [(0, 7, 1_610_612_736), (7, 2, 805_306_368)];
+    move_all(&rt, &mut holding, &away)?;
+    let rows = [(0, 2_684_354_560), (2, 805_306_368), (7, 805_306_368)];
+    assert_held(&rt, &holding, &rows, &[(2, 805_306_368), (1, 0)]);
+    assert!(rt; !holding.same(&before));
+    let back = [(7, 0, 805_306_368), (2, 0, 805_306_368)];
+    move_all(&rt, &mut holding, &back)?;
+    assert!(rt; holding.same(&before));
+    Ok(())
+}
