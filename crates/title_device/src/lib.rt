@@ -3,7 +3,6 @@
 #![tactic(auto)]
 
 mod device;
-pub mod fake;
 mod fault;
 mod loops;
 mod sink;

@@ -1,6 +1,7 @@
+mod Texts
+mod TextsRead
 mod Names
-mod Declared
 mod ReadOn
+mod Understood
 mod Rows
-mod Kept
-mod Posts
+mod Declared

@@ -6,7 +6,4 @@ use Rattle.csv.specs.declared.error.ErrorKind.TheVariants as kind
 abbrev pub IsWant : ErrorKind → Type 0
 IsWant (kind.Io e) = Unit {0}
 IsWant kind.OutOfMemory = Unit {0}
-IsWant (kind.Utf8 pos err) = ⊥
-IsWant (kind.UnequalLengths pos expected len) = ⊥
-IsWant (kind.Serialize why) = ⊥
-IsWant (kind.Deserialize pos err) = ⊥
+IsWant _ = ⊥

@@ -1,5 +1,8 @@
+pub mod Limits
+pub mod Townships
+pub mod Lands
+pub mod Fields
+pub mod Rows
 pub mod Asked
-pub mod Declarations
-pub mod Steps
 pub mod Plans
 pub mod Faults

@@ -1,74 +1,156 @@
--- What a script asks for, and the first fault among its rows.
-use Rattle.std.specs.Prelude.{◌≡◌, ◌≤◌, ◌+◌, ℕ, Bool, true, false, List, [], ◌∷◌, Some, None, Result, Ok, Err, ◌⊎◌}
-use Rattle.std.specs.List.{list_all}
-use Rattle.std.specs.Str.{is_utf8}
+-- What a script asks for, or the first fault among its rows.
+use Rattle.std.specs.Prelude.{ℕ, ◌+◌, ◌==◌, ◌&&◌, ◌||◌, not, cond, Bool, true, false, List, [], ◌∷◌, ◌++◌, length, nat_le}
+use Rattle.std.specs.Prelude.{Option, Some, None, Result, Ok, Err, option_map, ok_or}
+use Rattle.std.specs.List.{list_all, list_any, position}
+use Rattle.std.specs.Str.{bytes_eq, is_utf8}
 use Rattle.csv.specs.Reading.{default_config, records, strip_bom}
-use Rattle.title_plan.specs.declared.fault.ScriptFault.{ScriptFault}
-use Rattle.title_plan.specs.declared.fault.ScriptFault.TheVariants as fault
+use Rattle.title_land.specs.declared.place.Township.{Township}
+use Rattle.title_land.specs.declared.tract.Land.{Land}
+use Rattle.title_land.specs.declared.tract.Land.TheVariants as land
+use Rattle.title_land.specs.Places.{same_township}
+use Rattle.title_aliquot.specs.declared.fault.DescFault.{DescFault}
+use Rattle.title_plan.specs.Lands.{land_in}
+use Rattle.title_instrument.specs.declared.instrument.Instrument.{Instrument}
+use Rattle.title_instrument.specs.Parties.{between, grantor_of, grantee_of}
+use Rattle.title_chain.specs.declared.ask.Ask.{Ask}
 use Rattle.title_chain.specs.declared.ask.Ask.TheVariants as ask
 use Rattle.title_trace.specs.declared.call.Request.TheVariants as request
-use Rattle.title_row.specs.Rows.{Said, Says}
+use Rattle.title_plan.specs.declared.fault.ScriptFault.{ScriptFault}
+use Rattle.title_plan.specs.declared.fault.ScriptFault.TheVariants as fault
+use Rattle.title_plan.specs.declared.line.Line.{Line}
 use Rattle.title_plan.specs.declared.line.Line.TheVariants as line
 use Rattle.title_plan.specs.declared.line.Schedule.{Schedule}
-use Rattle.title_plan.specs.declared.plan.TheConstants.{ROWS}
+use Rattle.title_plan.specs.declared.line.Schedule.TheVariants as schedule
+use Rattle.title_plan.specs.declared.row.Act.{Act}
+use Rattle.title_plan.specs.declared.row.Act.TheVariants as act
+use Rattle.title_plan.specs.declared.row.Row.{Row}
+use Rattle.title_plan.specs.declared.row.Row.TheVariants as row
 use Rattle.title_plan.specs.Asked.{Asked, nothing_asked}
-use Rattle.title_plan.specs.Declarations.{AfterTownship, with_party}
-use Rattle.title_plan.specs.Steps.{is_out_of_turn, with_line, AfterStep, AfterPost}
+use Rattle.title_plan.specs.Fields.{given}
+use Rattle.title_plan.specs.Limits.{most_rows, most_parties, most_townships}
+use Rattle.title_plan.specs.Rows.{row_in}
+
+-- ---- declarations
+
+-- the n-th row declares a township: at fault where it is declared already, where as many are as may be, or after the first step
+abbrev pub with_township : ℕ → Asked → Township → Result Asked ScriptFault
+with_township n asked t =
+    cond (nat_le most_townships (length asked.townships) || list_any (λ other. same_township other t) asked.townships) (Err (fault.Row n))
+    (cond (length asked.lines == 0)
+    (Ok (record { townships = asked.townships ++ t ∷ []; names = asked.names; lines = asked.lines; inside = asked.inside }))
+    (Err (fault.Order n)))
+
+-- the n-th row declares what a text describes: at fault where that is no whole township
+abbrev pub after_township : ℕ → Asked → Result Land DescFault → Result Asked ScriptFault
+after_township n asked (Ok (land.Township t)) = with_township n asked t
+after_township n asked _ = Err (fault.Row n)
+
+-- the n-th row declares a party: at fault where as many have a number as may have one, after the first step, or where the
+-- name is there already
+abbrev pub with_party : ℕ → Asked → List ℕ → Result Asked ScriptFault
+with_party n asked name =
+    cond (nat_le most_parties (length asked.names)) (Err (fault.Row n))
+    (cond (length asked.lines == 0)
+    (cond (list_any (bytes_eq name) asked.names) (Err (fault.Party n))
+    (Ok (record { townships = asked.townships; names = asked.names ++ name ∷ []; lines = asked.lines; inside = asked.inside })))
+    (Err (fault.Order n)))
+
+-- ---- steps
+
+-- in a script of transactions one after another, a step of another examiner than the one whose transaction is open
+abbrev pub is_out_of_turn : Schedule → Option ℕ → ℕ → Bool
+is_out_of_turn schedule.Serial (Some f) e = not (f == e)
+is_out_of_turn _ _ e = false
+
+-- in a script of transactions one after another, a step outside them is a transaction of its own
+abbrev pub stands_alone : Schedule → Option ℕ → Bool
+stands_alone schedule.Serial None = true
+stands_alone _ _ = false
+
+-- one step more, after which this examiner's transaction is open
+abbrev pub with_line : Asked → Line → Option ℕ → Asked
+with_line asked added inside =
+    record { townships = asked.townships; names = asked.names; lines = asked.lines ++ added ∷ []; inside = inside }
+
+-- the step of an examiner: it asks, alone or not, or its description has a fault
+abbrev pub line_of : (alone : Bool) → ℕ → Result Ask DescFault → Line
+line_of false e (Ok a) = line.Asks (request.Step e a)
+line_of true e (Ok a) = line.Alone e a
+line_of alone e (Err why) = line.Described e why
+
+-- what is asked of the land that a text describes
+abbrev pub asked_of : (Land → Ask) → Result Land DescFault → Result Ask DescFault
+asked_of asks (Ok l) = Ok (asks l)
+asked_of asks (Err why) = Err why
+
+-- after a step of an examiner with this text
+abbrev pub after_step : Schedule → Asked → ℕ → (Land → Ask) → List ℕ → Asked
+after_step sched asked e asks text =
+    with_line asked (line_of (stands_alone sched asked.inside) e (asked_of asks (land_in text))) asked.inside
+
+-- the number of a party
+abbrev pub number_of : List (List ℕ) → List ℕ → Option ℕ
+number_of names name = position (bytes_eq name) names
+
+-- an instrument between parties by their numbers, where both are declared
+abbrev pub numbered : List (List ℕ) → Instrument (List ℕ) → Option (Instrument ℕ)
+numbered names instrument =
+    given (number_of names (grantor_of instrument)) (λ giver.
+    given (number_of names (grantee_of instrument)) (λ taker.
+    Some (between instrument giver taker)))
+
+-- a post under a document's number
+abbrev pub post : ℕ → Instrument ℕ → Land → Ask
+post doc instrument l = ask.Post (record { doc = doc; tract = l; instrument = instrument })
+
+-- what an examiner does in its turn; a post at fault where one of its parties isn't declared
+abbrev pub after_act : Schedule → ℕ → Asked → ℕ → Act (List ℕ) → Result Asked ScriptFault
+after_act sched n asked e act.Begin = Ok (with_line asked (line.Asks (request.Begin e)) (Some e))
+after_act sched n asked e act.Commit = Ok (with_line asked (line.Asks (request.Commit e)) None)
+after_act sched n asked e act.Abort = Ok (with_line asked (line.Asks (request.Abort e)) None)
+after_act sched n asked e (act.Sheet text) = Ok (after_step sched asked e ask.Sheet text)
+after_act sched n asked e (act.Chain text) = Ok (after_step sched asked e ask.Chain text)
+after_act sched n asked e (act.Post doc instrument text) =
+    ok_or (option_map (λ posted. after_step sched asked e (post doc posted) text) (numbered asked.names instrument)) (fault.Party n)
+
+-- ---- rows
+
+-- the n-th row is a step; one out of its turn is at fault
+abbrev pub after_step_row : Schedule → ℕ → Asked → ℕ → Act (List ℕ) → Result Asked ScriptFault
+after_step_row sched n asked e a = cond (is_out_of_turn sched asked.inside e) (Err (fault.Order n)) (after_act sched n asked e a)
+
+-- the n-th row says this
+abbrev pub after_said : Schedule → ℕ → Asked → Row (List ℕ) → Result Asked ScriptFault
+after_said sched n asked (row.Township text) = after_township n asked (land_in text)
+after_said sched n asked (row.Party name) = with_party n asked name
+after_said sched n asked (row.Step e a) = after_step_row sched n asked e a
+
+-- what the n-th row says: it is one of so many, its fields are UTF-8, and they say something
+abbrev pub understood : ℕ → List (List ℕ) → Option (Row (List ℕ))
+understood n fields = cond (nat_le n most_rows && list_all is_utf8 fields) (row_in fields) None
+
+abbrev pub after_understood : Schedule → ℕ → Asked → Option (Row (List ℕ)) → Result Asked ScriptFault
+after_understood sched n asked None = Err (fault.Row n)
+after_understood sched n asked (Some said) = after_said sched n asked said
+
+-- after the n-th row, which has these fields: one that is not understood is at fault
+abbrev pub after_row : Schedule → ℕ → Asked → List (List ℕ) → Result Asked ScriptFault
+after_row sched n asked fields = after_understood sched n asked (understood n fields)
+
+-- the first fault stands, whatever rows follow
+abbrev pub going_on : (Asked → Result Asked ScriptFault) → Result Asked ScriptFault → Result Asked ScriptFault
+going_on more (Ok asked) = more asked
+going_on more (Err e) = Err e
+
+-- after these rows, the first of which is the n-th
+abbrev pub after_rows : Schedule → ℕ → Asked → List (List (List ℕ)) → Result Asked ScriptFault
+after_rows sched n asked [] = Ok asked
+after_rows sched n asked (row ∷ rows) = going_on (λ after. after_rows sched (n + 1) after rows) (after_row sched n asked row)
 
 -- the rows of a script, each a list of fields: a byte order mark at the front is passed over, and a blank line is no row
 abbrev pub rows_in : List ℕ → List (List (List ℕ))
 rows_in bytes = records default_config (strip_bom bytes)
 
--- after the n-th row, a step in its turn
-abbrev pub AfterTurn : ℕ → Asked → Said → Result Asked ScriptFault → Type 0
-AfterTurn n asked (Said.Township text) result = ⊥
-AfterTurn n asked (Said.Party name) result = ⊥
-AfterTurn n asked (Said.Begin e) result = result ≡ Ok (with_line asked (line.Asks (request.Begin e)) (Some e))
-AfterTurn n asked (Said.Commit e) result = result ≡ Ok (with_line asked (line.Asks (request.Commit e)) None)
-AfterTurn n asked (Said.Abort e) result = result ≡ Ok (with_line asked (line.Asks (request.Abort e)) None)
-AfterTurn n asked (Said.Sheet e text) result = AfterStep asked e ask.Sheet text result
-AfterTurn n asked (Said.Chain e text) result = AfterStep asked e ask.Chain text result
-AfterTurn n asked (Said.Post e doc instrument text) result = AfterPost n asked e doc instrument text result
-
--- after the n-th row, a step: one out of its turn is at fault
-abbrev pub AfterStepRow : ℕ → Asked → Said → (out_of_turn : Bool) → Result Asked ScriptFault → Type 0
-AfterStepRow n asked s true result = result ≡ Err (fault.Order n)
-AfterStepRow n asked s false result = AfterTurn n asked s result
-
--- after the n-th row, which says this
-abbrev pub AfterSaid : Schedule → ℕ → Asked → Said → Result Asked ScriptFault → Type 0
-AfterSaid sched n asked (Said.Township text) result = AfterTownship n asked text result
-AfterSaid sched n asked (Said.Party name) result = result ≡ with_party n asked name
-AfterSaid sched n asked (Said.Begin e) result = AfterStepRow n asked (Said.Begin e) (is_out_of_turn sched asked.inside e) result
-AfterSaid sched n asked (Said.Commit e) result = AfterStepRow n asked (Said.Commit e) (is_out_of_turn sched asked.inside e) result
-AfterSaid sched n asked (Said.Abort e) result = AfterStepRow n asked (Said.Abort e) (is_out_of_turn sched asked.inside e) result
-AfterSaid sched n asked (Said.Sheet e text) result = AfterStepRow n asked (Said.Sheet e text) (is_out_of_turn sched asked.inside e) result
-AfterSaid sched n asked (Said.Chain e text) result = AfterStepRow n asked (Said.Chain e text) (is_out_of_turn sched asked.inside e) result
-AfterSaid sched n asked (Said.Post e doc instrument text) result =
-    AfterStepRow n asked (Said.Post e doc instrument text) (is_out_of_turn sched asked.inside e) result
-
--- the n-th row is understood: it is one of the first 100,000, its fields are UTF-8, and they say something
-abbrev pub IsUnderstood : ℕ → List (List ℕ) → Said → Type 0
-IsUnderstood n fields s = (n ≤ ROWS) × (list_all is_utf8 fields ≡ true) × Says fields s
-
--- after the n-th row, which has these fields: one that is not understood is at fault
-abbrev pub AfterRow : Schedule → ℕ → Asked → List (List ℕ) → Result Asked ScriptFault → Type 0
-AfterRow sched n asked fields result =
-    ((s : Said) × IsUnderstood n fields s × AfterSaid sched n asked s result)
-    ⊎ (((s : Said) → IsUnderstood n fields s → ⊥) × (result ≡ Err (fault.Row n)))
-
--- the first fault stands, whatever rows follow
-abbrev pub GoesOn : (Asked → Type 0) → Result Asked ScriptFault → Result Asked ScriptFault → Type 0
-GoesOn more (Ok asked) result = more asked
-GoesOn more (Err e) result = result ≡ Err e
-
--- after these rows, the first of which is the n-th
-abbrev pub AfterRows : Schedule → ℕ → Asked → List (List (List ℕ)) → Result Asked ScriptFault → Type 0
-AfterRows sched n asked [] result = result ≡ Ok asked
-AfterRows sched n asked (row ∷ rows) result =
-    (next : Result Asked ScriptFault) × AfterRow sched n asked row next
-    × GoesOn (λ after. AfterRows sched (n + 1) after rows result) next result
-
 -- what a script asks for, or its first fault
-abbrev pub IsScript : Schedule → List ℕ → Result Asked ScriptFault → Type 0
-IsScript sched bytes result = AfterRows sched 1 nothing_asked (rows_in bytes) result
+abbrev pub script_of : Schedule → List ℕ → Result Asked ScriptFault
+script_of sched bytes = after_rows sched 1 nothing_asked (rows_in bytes)

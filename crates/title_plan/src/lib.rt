@@ -2,11 +2,19 @@
 #![tactic(auto)]
 
 pub mod fault;
+pub mod fields;
+pub mod lands;
+pub mod laws;
 pub mod line;
 pub mod plan;
+pub mod row;
 pub mod script;
+pub mod terms;
 
 pub use fault::ScriptFault;
+pub use fields::{DOCUMENTS, EXAMINERS, NAME_LIMIT};
+pub use lands::read_tract;
 pub use line::{Line, Schedule};
 pub use plan::{PARTIES, Plan, ROWS, TOWNSHIPS};
+pub use row::{Act, Row, read_row};
 pub use script::read_script;

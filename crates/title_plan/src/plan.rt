@@ -1,22 +1,21 @@
 //! What the rows of a script declare and ask for.
 
-ghost use Rattle.std.specs.Prelude.{◌≡◌, ◌≤◌, ◌⊎◌, Result, Ok, Err, IfErr, IfOk, OnOk};
+ghost use Rattle.std.specs.Prelude.{◌≡◌, ◌≤◌, ◌⊎◌, Ok, Err, IfErr, IfOk, OnOk, length, true};
 ghost use Rattle.csv.specs.Records.{fields_of};
 ghost use Rattle.indexmap.specs.IndexSet.{index_set_len};
-ghost use Rattle.title_plan.specs.declared.fault.ScriptFault.{ScriptFault as Fault};
 ghost use Rattle.title_plan.specs.declared.fault.ScriptFault.TheVariants as fault;
-ghost use Rattle.title_plan.specs.declared.plan.TheConstants.{PARTIES};
-ghost use Rattle.title_row.specs.Rows.{said};
+ghost use Rattle.title_plan.specs.Limits.{most_parties, most_rows, most_townships};
+ghost use Rattle.title_plan.specs.Rows.{done, said};
+ghost use Rattle.title_plan.specs.Townships.{each_once};
 
 use crate::fault::ScriptFault;
 use crate::line::{Line, Schedule};
+use crate::row::{Act, Row, read_row};
 use csv::{ByteRecord, StringRecord};
 use indexmap::IndexSet;
 use std::alloc::{AllocError, Global};
 use std::collections::VecDeque;
 use title_land::Township;
-use title_row::{Row, read_row};
-use title_trace::Request;
 
 mod declarations;
 mod steps;
@@ -42,13 +41,15 @@ pub struct Plan {
     pub townships: Vec<Township>,
     pub lines: VecDeque<Line>,
     pub inside: Option<u32>,
-    ghost few: { index_set_len parties ≤ PARTIES },
+    ghost some: { 1 ≤ index_set_len parties },
+    ghost few: { index_set_len parties ≤ most_parties },
+    ghost few_townships: { length townships.items ≤ most_townships },
+    ghost once: { each_once townships.items ≡ true },
 }
 
 impl Plan {
-    ghost use Rattle.title_plan.specs.Asked.{Asked, asked_in, nothing_asked};
-    ghost use Rattle.title_plan.specs.Plans.{AfterRow, AfterSaid};
-    ghost use Rattle.title_plan.specs.declared.line.Schedule.TheVariants as turns;
+    ghost use Rattle.title_plan.specs.Asked.{asked_in, nothing_asked};
+    ghost use Rattle.title_plan.specs.Plans.{after_row, after_said, after_step_row};
 
     /// Nothing but UNITED STATES as party 0.
     pub fn new(alloc: Global) -> Result<Plan, AllocError>
@@ -66,57 +67,33 @@ impl Plan {
         })
     }
 
-    // Whether a row may stand here: not where another examiner's transaction is open and no two may be.
-    fn check_turn(&self, schedule: Schedule, n: u64, row: &Row<'_>) -> Result<(), ScriptFault>
-        ensures turn { OnOk result ((after : Result Asked Fault)
-            → AfterSaid turns.Interleaved n (asked_in self.now) (said row.now) after
-            → AfterSaid schedule n (asked_in self.now) (said row.now) after) }
-        ensures out { IfErr result (λ e. AfterSaid schedule n (asked_in self.now) (said row.now) (Err e)) }
+    // Takes a step of an examiner in the n-th row: out of its turn where another's transaction is open and no two may be.
+    fn take_step(
+        &mut self,
+        schedule: Schedule,
+        n: u64,
+        examiner: u32,
+        act: &Act<&str>,
+    ) -> Result<(), ScriptFault>
+        ensures ok { OnOk result (after_step_row schedule n (asked_in self.old) examiner (done act.now) ≡ Ok (asked_in self.new)) }
+        ensures err { IfErr result (λ e. (e ≡ fault.Memory)
+            ⊎ (after_step_row schedule n (asked_in self.old) examiner (done act.now) ≡ Err e)) }
     {
-        let examiner = match *row {
-            Row::Township(_) | Row::Party(_) => return Ok(()),
-            Row::Begin(examiner)
-            | Row::Commit(examiner)
-            | Row::Abort(examiner)
-            | Row::Sheet(examiner, _)
-            | Row::Chain(examiner, _)
-            | Row::Post(examiner, ..) => examiner,
-        };
         if self.is_out_of_turn(schedule, examiner) {
             return Err(ScriptFault::Order(n));
         }
-        Ok(())
+        self.take_act(schedule, n, examiner, act)
     }
 
-    // Takes what the n-th row says, a step in its turn.
-    fn take_turn(&mut self, n: u64, row: &Row<'_>) -> Result<(), ScriptFault>
-        ensures ok { OnOk result (AfterSaid turns.Interleaved n (asked_in self.old) (said row.now) (Ok (asked_in self.new))) }
-        ensures err { IfErr result (λ e. (e ≡ fault.Memory)
-            ⊎ AfterSaid turns.Interleaved n (asked_in self.old) (said row.now) (Err e)) }
+    // Takes what the n-th row says.
+    fn take_said(&mut self, schedule: Schedule, n: u64, row: &Row<&str>) -> Result<(), ScriptFault>
+        ensures ok { OnOk result (after_said schedule n (asked_in self.old) (said row.now) ≡ Ok (asked_in self.new)) }
+        ensures err { IfErr result (λ e. (e ≡ fault.Memory) ⊎ (after_said schedule n (asked_in self.old) (said row.now) ≡ Err e)) }
     {
         match *row {
             Row::Township(text) => self.take_township(n, text),
             Row::Party(name) => self.take_party(n, name),
-            Row::Begin(examiner) => self.take_request(Request::Begin(examiner), Some(examiner)),
-            Row::Commit(examiner) => self.take_request(Request::Commit(examiner), None),
-            Row::Abort(examiner) => self.take_request(Request::Abort(examiner), None),
-            Row::Sheet(examiner, text) => self.take_sheet(examiner, text),
-            Row::Chain(examiner, text) => self.take_chain(examiner, text),
-            Row::Post(examiner, doc, ref instrument, text) => {
-                self.take_post(n, examiner, doc, instrument, text)
-            }
-        }
-    }
-
-    // Takes what the n-th row says.
-    fn take_said(&mut self, schedule: Schedule, n: u64, row: &Row<'_>) -> Result<(), ScriptFault>
-        ensures ok { OnOk result (AfterSaid schedule n (asked_in self.old) (said row.now) (Ok (asked_in self.new))) }
-        ensures err { IfErr result (λ e. (e ≡ fault.Memory)
-            ⊎ AfterSaid schedule n (asked_in self.old) (said row.now) (Err e)) }
-    {
-        match self.check_turn(schedule, n, row) {
-            Ok(()) => self.take_turn(n, row),
-            Err(fault) => Err(fault),
+            Row::Step(examiner, ref act) => self.take_step(schedule, n, examiner, act),
         }
     }
 
@@ -128,9 +105,9 @@ impl Plan {
         n: u64,
         raw: ByteRecord,
     ) -> Result<(), ScriptFault>
-        ensures ok { OnOk result (AfterRow schedule n (asked_in self.old) (fields_of raw) (Ok (asked_in self.new))) }
-        ensures within { OnOk result (n ≤ ROWS) }
-        ensures err { IfErr result (λ e. (e ≡ fault.Memory) ⊎ AfterRow schedule n (asked_in self.old) (fields_of raw) (Err e)) }
+        ensures ok { OnOk result (after_row schedule n (asked_in self.old) (fields_of raw) ≡ Ok (asked_in self.new)) }
+        ensures within { OnOk result (n ≤ most_rows) }
+        ensures err { IfErr result (λ e. (e ≡ fault.Memory) ⊎ (after_row schedule n (asked_in self.old) (fields_of raw) ≡ Err e)) }
     {
         if n > ROWS {
             return Err(ScriptFault::Row(n));

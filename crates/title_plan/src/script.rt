@@ -4,7 +4,7 @@ ghost use Rattle.std.specs.Prelude.{◌≡◌, ◌⊎◌, Ok, Err, IfErr, IfOk, 
 ghost use Rattle.title_plan.specs.Asked.{CanOpen, asked_in};
 ghost use Rattle.csv.specs.Reading.{error_kind};
 ghost use Rattle.title_plan.specs.Faults.{IsWant};
-ghost use Rattle.title_plan.specs.Plans.{IsScript};
+ghost use Rattle.title_plan.specs.Plans.{script_of};
 ghost use Rattle.title_plan.specs.declared.fault.ScriptFault.TheVariants as fault;
 
 use crate::fault::ScriptFault;
@@ -31,9 +31,9 @@ fn fault_of(error: Error) -> ScriptFault
 /// What a script declares and asks for, or the fault of its first row at fault: Row, Order or Party with the row's number
 /// from 1; or Memory. With what it declares a plant can be opened.
 pub fn read_script(alloc: Global, schedule: Schedule, text: &[u8]) -> Result<Plan, ScriptFault>
-    ensures script { IfOk result (λ plan. IsScript schedule text.now (Ok (asked_in plan))) }
+    ensures script { IfOk result (λ plan. script_of schedule text.now ≡ Ok (asked_in plan)) }
     ensures opens { IfOk result (λ plan. CanOpen (length plan.parties.keys) plan.townships.items) }
-    ensures why { IfErr result (λ e. (e ≡ fault.Memory) ⊎ IsScript schedule text.now (Err e)) }
+    ensures why { IfErr result (λ e. (e ≡ fault.Memory) ⊎ (script_of schedule text.now ≡ Err e)) }
 {
     let rdr = ReaderBuilder::new()
         .has_headers(false)

@@ -1,5 +1,5 @@
 -- The text of a report's rows, in the csv crate's own words.
-use Rattle.std.specs.Prelude.{ℕ, true, List, [], Option, Some, None}
+use Rattle.std.specs.Prelude.{ℕ, true, List}
 use Rattle.std.specs.List.{flat_map}
 use Rattle.csv.specs.Writing.{default_writer, row_text, with_flexible}
 use Rattle.csv.specs.declared.writer.WriterBuilder.{WriterBuilder}
@@ -15,8 +15,3 @@ row fields = row_text report_writer fields
 -- the text of some rows
 abbrev pub rows_text : List (List (List ℕ)) → List ℕ
 rows_text rows = flat_map row rows
-
--- the bytes that are known to be written
-abbrev pub bytes_or_none : Option (List ℕ) → List ℕ
-bytes_or_none None = []
-bytes_or_none (Some bytes) = bytes

@@ -1,10 +1,7 @@
 //! Reports: the rows of replies, written as CSV.
 #![tactic(auto)]
 
-mod entries;
-mod replies;
 mod report;
-mod sheets;
-mod writing;
+mod rows;
 
 pub use report::Report;

@@ -1,7 +1,2 @@
+mod Asked
 mod ServedLaws
-mod FaultLaws
-mod OneTerm
-mod OneRow
-mod OneStep
-mod OnePlan
-mod OneReport

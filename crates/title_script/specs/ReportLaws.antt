@@ -1,11 +1,18 @@
--- The law of scripts and their reports.
-use Rattle.std.specs.Prelude.{◌≡◌, ℕ, List, Result}
-use Rattle.title_plan.specs.declared.fault.ScriptFault.{ScriptFault}
-use Rattle.title_plan.specs.declared.line.Schedule.{Schedule}
-use Rattle.title_script.specs.Reports.{IsReportOf}
+-- The law of reports.
+use Rattle.std.specs.Prelude.{◌≡◌, ℕ, List, [], ◌∷◌, ◌++◌}
+use Rattle.title_trace.specs.declared.call.Call.{Call}
+use Rattle.title_trace.specs.Due.{Setting}
+use Rattle.title_plan.specs.declared.line.Line.{Line}
+use Rattle.title_script.specs.Served.{after_line, due_rows}
 
--- a script has one report, or one first fault
-abbrev pub OneReport : Type 0
-OneReport =
-    (sched : Schedule) (script : List ℕ) (a b : Result (List ℕ) ScriptFault) →
-    IsReportOf sched script a → IsReportOf sched script b → a ≡ b
+-- the trace after step rows
+abbrev pub after_lines : Setting → List Call → List Line → List Call
+after_lines setting before [] = before
+after_lines setting before (l ∷ lines) = after_lines setting (after_line setting before l) lines
+
+-- a script's rows stand in order: those of its first steps, whatever follows them, and then those of the rest
+abbrev pub RowsInOrder : Type 0
+RowsInOrder =
+    (setting : Setting) (names : List (List ℕ)) (before : List Call) (lines more : List Line) →
+    due_rows setting names before (lines ++ more)
+    ≡ due_rows setting names before lines ++ due_rows setting names (after_lines setting before lines) more

@@ -1,25 +1,27 @@
 -- The report of a script.
-use Rattle.std.specs.Prelude.{◌≡◌, ℕ, List, [], ◌++◌, length, Result, Ok, Err}
-use Rattle.title_plan.specs.declared.fault.ScriptFault.{ScriptFault}
+use Rattle.std.specs.Prelude.{ℕ, List, [], ◌++◌, length, Result, Ok, Err}
 use Rattle.title_trace.specs.Due.{Setting}
+use Rattle.title_plan.specs.declared.fault.ScriptFault.{ScriptFault}
 use Rattle.title_plan.specs.declared.line.Schedule.{Schedule}
 use Rattle.title_plan.specs.Asked.{Asked}
-use Rattle.title_plan.specs.Plans.{IsScript}
+use Rattle.title_plan.specs.Plans.{script_of}
 use Rattle.title_report.specs.Replies.{end_row}
 use Rattle.title_report.specs.Writing.{row, rows_text}
-use Rattle.title_script.specs.Served.{DueRows}
+use Rattle.title_script.specs.Served.{due_rows}
 
 -- the desk that a script asks: its parties and its townships
 abbrev pub setting_of : Asked → Setting
 setting_of asked = record { parties = length asked.names; townships = asked.townships }
 
--- the report of what a script asks for: the rows of its steps, and the last row, which counts them
-abbrev pub IsReportOn : Schedule → Asked → List ℕ → Type 0
-IsReportOn sched asked report =
-    (rows : List (List (List ℕ))) × DueRows sched (setting_of asked) asked.names [] asked.lines rows
-    × (report ≡ rows_text rows ++ row (end_row (length asked.lines)))
+-- the report of what a script asks for: the rows of its steps from an empty trace, and the last row, which counts them
+abbrev pub report_on : Asked → List ℕ
+report_on asked = rows_text (due_rows (setting_of asked) asked.names [] asked.lines) ++ row (end_row (length asked.lines))
+
+-- the report of what is asked for, or the fault in place of it
+abbrev pub report_or_fault : Result Asked ScriptFault → Result (List ℕ) ScriptFault
+report_or_fault (Ok asked) = Ok (report_on asked)
+report_or_fault (Err e) = Err e
 
 -- the report of a script's bytes, or its first fault
-abbrev pub IsReportOf : Schedule → List ℕ → Result (List ℕ) ScriptFault → Type 0
-IsReportOf sched script (Ok report) = (asked : Asked) × IsScript sched script (Ok asked) × IsReportOn sched asked report
-IsReportOf sched script (Err e) = IsScript sched script (Err e)
+unfoldable pub report_of : Schedule → List ℕ → Result (List ℕ) ScriptFault
+report_of sched script = report_or_fault (script_of sched script)

@@ -1,24 +1,27 @@
 -- What a run of a script does, as a whole. Each says nothing where the script's bytes are not known.
 use Rattle.std.specs.Prelude.{◌≡◌, ◌≤◌, ◌+◌, ◌<◌, ◌⊎◌, ℕ, List, Bool, true, Option, IfSome, Ok, Err, take, length}
 use Rattle.std.specs.Io.KnownBytes.{Appends, Keeps}
-use Rattle.title_device.specs.declared.loops.TheConstants.{SCRIPT_LIMIT}
 use Rattle.title_plan.specs.declared.fault.ScriptFault.TheVariants as script_fault
 use Rattle.title_plan.specs.declared.line.Schedule.{Schedule}
 use Rattle.title_script.specs.declared.fault.RunFault.{RunFault}
 use Rattle.title_script.specs.declared.fault.RunFault.TheVariants as fault
-use Rattle.title_script.specs.Reports.{IsReportOf}
+use Rattle.title_script.specs.Reports.{report_of}
+
+-- the most bytes that a script may have
+abbrev pub most_bytes : ℕ
+most_bytes = 16777216
 
 -- the report of the script was written, and nothing else
 abbrev pub Reports : Schedule → Option (List ℕ) → Option (List ℕ) → Option (List ℕ) → Type 0
 Reports sched known before after =
-    IfSome known (λ script. (report : List ℕ) × IsReportOf sched script (Ok report) × Appends before after report)
+    IfSome known (λ script. (report : List ℕ) × (report_of sched script ≡ Ok report) × Appends before after report)
 
--- why a run of a script fails: the script's first fault, or its source, or its limit, or its sink
+-- why a run of a script fails: the script's first fault, or its source, or its length, or its sink
 abbrev pub IsCause : Schedule → List ℕ → (source_failed sink_failed : Bool) → RunFault → Type 0
-IsCause sched script source_failed sink_failed (fault.Row n) = IsReportOf sched script (Err (script_fault.Row n))
-IsCause sched script source_failed sink_failed (fault.Order n) = IsReportOf sched script (Err (script_fault.Order n))
-IsCause sched script source_failed sink_failed (fault.Party n) = IsReportOf sched script (Err (script_fault.Party n))
-IsCause sched script source_failed sink_failed fault.Read = (source_failed ≡ true) ⊎ (SCRIPT_LIMIT < length script)
+IsCause sched script source_failed sink_failed (fault.Row n) = report_of sched script ≡ Err (script_fault.Row n)
+IsCause sched script source_failed sink_failed (fault.Order n) = report_of sched script ≡ Err (script_fault.Order n)
+IsCause sched script source_failed sink_failed (fault.Party n) = report_of sched script ≡ Err (script_fault.Party n)
+IsCause sched script source_failed sink_failed fault.Read = (source_failed ≡ true) ⊎ (most_bytes < length script)
 IsCause sched script source_failed sink_failed fault.Write = sink_failed ≡ true
 IsCause sched script source_failed sink_failed fault.Memory = Unit {0}
 
@@ -29,12 +32,8 @@ Explains sched known source_failed sink_failed e = IfSome known (λ script. IsCa
 -- what a failed run of a script leaves: nothing written, and after a fault of the sink a beginning of the report
 abbrev pub IsLeft : Schedule → List ℕ → Option (List ℕ) → Option (List ℕ) → RunFault → Type 0
 IsLeft sched script before after fault.Write =
-    (report : List ℕ) × (n : ℕ) × IsReportOf sched script (Ok report) × Appends before after (take n report)
-IsLeft sched script before after (fault.Row n) = Keeps before after
-IsLeft sched script before after (fault.Order n) = Keeps before after
-IsLeft sched script before after (fault.Party n) = Keeps before after
-IsLeft sched script before after fault.Read = Keeps before after
-IsLeft sched script before after fault.Memory = Keeps before after
+    (report : List ℕ) × (n : ℕ) × (report_of sched script ≡ Ok report) × Appends before after (take n report)
+IsLeft sched script before after _ = Keeps before after
 
 -- what stands written after the fault of a run
 abbrev pub LeavesWritten : Schedule → Option (List ℕ) → Option (List ℕ) → Option (List ℕ) → RunFault → Type 0
@@ -42,4 +41,4 @@ LeavesWritten sched known before after e = IfSome known (λ script. IsLeft sched
 
 -- a script is read in at most so many turns as it may have bytes, and one more
 abbrev pub IsReadWithin : (before after : ℕ) → Type 0
-IsReadWithin before after = after ≤ before + SCRIPT_LIMIT + 1
+IsReadWithin before after = after ≤ before + most_bytes + 1

@@ -1,80 +1,53 @@
--- The rows of a report: those of the due replies to a script's steps, from an empty trace. Traces have the newest call first.
-use Rattle.std.specs.Prelude.{◌≡◌, ℕ, Bool, true, false, ◌&&◌, not, cond, List, [], ◌∷◌, ◌++◌}
+-- The rows of a report: those of the due replies to a script's steps. Traces have the newest call first.
+use Rattle.std.specs.Prelude.{ℕ, List, [], ◌∷◌, ◌++◌}
 use Rattle.title_land.specs.Depth.{depth}
+use Rattle.title_chain.specs.declared.ask.Ask.{Ask}
 use Rattle.title_trace.specs.declared.call.Call.{Call}
 use Rattle.title_trace.specs.declared.call.Request.{Request}
 use Rattle.title_trace.specs.declared.call.Request.TheVariants as request
 use Rattle.title_trace.specs.declared.call.Reply.{Reply}
 use Rattle.title_trace.specs.declared.call.Reply.TheVariants as reply
-use Rattle.title_trace.specs.Trace.{examiner_of, is_open}
-use Rattle.title_trace.specs.Due.{Setting, DueReply}
+use Rattle.title_trace.specs.Trace.{examiner_of}
+use Rattle.title_trace.specs.Due.{Setting, due_reply}
 use Rattle.title_plan.specs.declared.line.Line.{Line}
 use Rattle.title_plan.specs.declared.line.Line.TheVariants as line
-use Rattle.title_plan.specs.declared.line.Schedule.{Schedule}
-use Rattle.title_plan.specs.declared.line.Schedule.TheVariants as schedule
 use Rattle.title_report.specs.Replies.{reply_rows, described_row}
 
--- the reply is due after the trace, and the call comes to it
-abbrev pub IsReplied : Setting → List Call → Request → Reply → List Call → Type 0
-IsReplied setting before q r after = DueReply depth setting before q r × (after ≡ record { request = q; reply = r } ∷ before)
+-- the due reply to a request after a trace
+unfoldable pub reply_to : Setting → List Call → Request → Reply
+reply_to setting before q = due_reply depth setting before q
 
--- a request is asked as it stands
-abbrev pub IsAsked : Setting → List (List ℕ) → List Call → Request → List (List (List ℕ)) → List Call → Type 0
-IsAsked setting names before q rows after =
-    (r : Reply) × IsReplied setting before q r after × (rows ≡ reply_rows names (examiner_of q) r)
+-- the trace after a request: the call with its due reply comes to it
+unfoldable pub after_call : Setting → List Call → Request → List Call
+after_call setting before q = record { request = q; reply = reply_to setting before q } ∷ before
 
-abbrev pub is_answered : Reply → Bool
-is_answered (reply.Answered given) = true
-is_answered reply.Began = false
-is_answered (reply.Committed place) = false
-is_answered reply.Aborted = false
-is_answered reply.NotOpen = false
-is_answered reply.AlreadyOpen = false
-is_answered reply.NoSuchTownship = false
-is_answered (reply.Invalid cause) = false
-is_answered reply.TooLong = false
-is_answered (reply.Conflict f) = false
-is_answered reply.Memory = false
-
--- how a transaction of one step ends: it is committed where the step is answered; else there is none
+-- how a transaction of one step ends: committed where the step is answered; else nothing stands to be committed
 abbrev pub ending : ℕ → Reply → Request
-ending e r = cond (is_answered r) (request.Commit e) (request.Abort e)
+ending e (reply.Answered given) = request.Commit e
+ending e _ = request.Abort e
 
--- a step is asked as a transaction of its own: begun, and ended at once; the report has the step's rows alone
-pub record IsAskedAlone (setting : Setting) (names : List (List ℕ)) (before : List Call) (q : Request) (rows : List (List (List ℕ)))
-    (after : List Call) : Type 0 where
-  pub begun : List Call
-  pub told : Reply
-  pub stepped : List Call
-  pub ended : Reply
-  pub begins : IsReplied setting before (request.Begin (examiner_of q)) reply.Began begun
-  pub steps : IsReplied setting begun q told stepped
-  pub ends : IsReplied setting stepped (ending (examiner_of q) told) ended after
-  pub rows_are : rows ≡ reply_rows names (examiner_of q) told
+-- the trace after an examiner's ask as a transaction of its own: begun, asked, and ended at once
+abbrev pub after_alone : Setting → List Call → ℕ → Ask → List Call
+after_alone setting before e a =
+    let begun = after_call setting before (request.Begin e) in
+    let told = reply_to setting begun (request.Step e a) in
+    after_call setting (after_call setting begun (request.Step e a)) (ending e told)
 
-abbrev pub is_step : Request → Bool
-is_step (request.Step e a) = true
-is_step (request.Begin e) = false
-is_step (request.Commit e) = false
-is_step (request.Abort e) = false
+-- the trace after a step row; the desk is not asked where a description is none
+abbrev pub after_line : Setting → List Call → Line → List Call
+after_line setting before (line.Asks q) = after_call setting before q
+after_line setting before (line.Alone e a) = after_alone setting before e a
+after_line setting before (line.Described e why) = before
 
-abbrev pub IsServedBy : (alone : Bool) → Setting → List (List ℕ) → List Call → Request → List (List (List ℕ)) → List Call → Type 0
-IsServedBy true setting names before q rows after = IsAskedAlone setting names before q rows after
-IsServedBy false setting names before q rows after = IsAsked setting names before q rows after
-
--- where transactions come one after another, a step outside a transaction is one of its own
-abbrev pub is_alone : Schedule → List Call → Request → Bool
-is_alone schedule.Interleaved before q = false
-is_alone schedule.Serial before q = is_step q && not (is_open (examiner_of q) before)
-
--- the rows of a step row, and the trace after it; the desk is not asked where the description is none
-abbrev pub IsServed : Schedule → Setting → List (List ℕ) → List Call → Line → List (List (List ℕ)) → List Call → Type 0
-IsServed sched setting names before (line.Asks q) rows after = IsServedBy (is_alone sched before q) setting names before q rows after
-IsServed sched setting names before (line.Described e why) rows after = (rows ≡ described_row e why ∷ []) × (after ≡ before)
+-- the rows of a step row: of a transaction of its own those of the step alone
+abbrev pub line_rows : Setting → List (List ℕ) → List Call → Line → List (List (List ℕ))
+line_rows setting names before (line.Asks q) = reply_rows names (examiner_of q) (reply_to setting before q)
+line_rows setting names before (line.Alone e a) =
+    reply_rows names e (reply_to setting (after_call setting before (request.Begin e)) (request.Step e a))
+line_rows setting names before (line.Described e why) = described_row e why ∷ []
 
 -- the rows of step rows one after another
-abbrev pub DueRows : Schedule → Setting → List (List ℕ) → List Call → List Line → List (List (List ℕ)) → Type 0
-DueRows sched setting names before [] rows = rows ≡ []
-DueRows sched setting names before (l ∷ lines) rows =
-    (own : List (List (List ℕ))) × (later : List (List (List ℕ))) × (after : List Call)
-    × IsServed sched setting names before l own after × DueRows sched setting names after lines later × (rows ≡ own ++ later)
+abbrev pub due_rows : Setting → List (List ℕ) → List Call → List Line → List (List (List ℕ))
+due_rows setting names before [] = []
+due_rows setting names before (l ∷ lines) =
+    line_rows setting names before l ++ due_rows setting names (after_line setting before l) lines

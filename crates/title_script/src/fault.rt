@@ -4,7 +4,6 @@ ghost use Rattle.std.specs.Prelude.{◌≡◌};
 ghost use Rattle.title_script.specs.Faults.{fault_number, of_reading, of_script};
 ghost use Rattle.title_script.specs.declared.fault.RunFault.TheVariants as fault;
 
-use std::alloc::AllocError;
 use thiserror::Error;
 use title_device::{Failed, ReadFault};
 use title_plan::ScriptFault;
@@ -70,14 +69,6 @@ impl From<ScriptFault> for RunFault {
             ScriptFault::Party(n) => RunFault::Party(n),
             ScriptFault::Memory => RunFault::Memory,
         }
-    }
-}
-
-impl From<AllocError> for RunFault {
-    ghost from_gives = { λ _ e. e ≡ fault.Memory };
-
-    fn from(_failed: AllocError) -> RunFault {
-        RunFault::Memory
     }
 }
 

@@ -1,8 +1,16 @@
-//! The law of scripts and their reports. The function does nothing: its clause is the law, proved.
+//! Laws of reports. Each function does nothing: its clause is the law, proved.
 
-ghost use Rattle.title_script.specs.ReportLaws.{OneReport};
+ghost use Rattle.std.specs.Prelude.{◌≡◌};
+ghost use Rattle.title_device.specs.declared.loops.TheConstants.{SCRIPT_LIMIT};
+ghost use Rattle.title_script.specs.ReportLaws.{RowsInOrder};
+ghost use Rattle.title_script.specs.Runs.{most_bytes};
 
-/// A script has one report, or one first fault.
-pub fn one_report()
-    ensures law { OneReport }
+/// A report has the rows of the first steps, whatever follows them, and then those of the rest.
+pub fn rows_stand_in_order()
+    ensures law { RowsInOrder }
+{}
+
+/// The limit of a script that the code has is that of the definitions.
+pub fn limit_is_said()
+    ensures bytes { SCRIPT_LIMIT ≡ most_bytes }
 {}

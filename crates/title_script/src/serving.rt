@@ -1,19 +1,20 @@
 //! The steps of a script, served one after another.
 
-ghost use Rattle.std.specs.Prelude.{◌≡◌, ◌++◌, ℕ, [], List, IfOk, length, map, true, false};
+ghost use Rattle.std.specs.Prelude.{◌≡◌, ◌++◌, [], IfOk, OnOk, length, map};
 ghost use Rattle.std.specs.String.{string_bytes};
-ghost use Rattle.title_trace.specs.Trace.{examiner_of, is_open};
+ghost use Rattle.title_trace.specs.declared.call.Request.TheVariants as request;
 ghost use Rattle.title_plan.specs.Asked.{CanOpen, asked_in};
-ghost use Rattle.title_report.specs.Replies.{reply_rows};
 ghost use Rattle.title_report.specs.Writing.{rows_text};
-ghost use Rattle.title_script.specs.Served.{IsAsked, IsAskedAlone, IsReplied, IsServed, IsServedBy, ending, is_alone};
-ghost use Rattle.title_script.specs.Reports.{IsReportOn, setting_of};
+ghost use Rattle.title_script.specs.Served.{after_alone, after_call, after_line, due_rows, ending, line_rows, reply_to};
+ghost use Rattle.title_script.specs.Reports.{report_on, setting_of};
 
 use indexmap::IndexSet;
 use std::alloc::{AllocError, Global};
+use std::collections::VecDeque;
+use title_chain::Ask;
 use title_desk::Desk;
 use title_lock::Guards;
-use title_plan::{Line, Plan, Schedule};
+use title_plan::{Line, Plan};
 use title_report::Report;
 use title_store::Store;
 use title_trace::{Reply, Request};
@@ -24,7 +25,8 @@ fn ask<S: Store + Drop, G: Guards + Drop>(
     request: Request,
 ) -> Result<Reply, AllocError>
     ensures setting { desk.new.setting ≡ desk.old.setting }
-    ensures replied { IfOk result (λ r. IsReplied desk.old.setting desk.old.trace request r desk.new.trace) }
+    ensures trace { OnOk result (desk.new.trace ≡ after_call desk.old.setting desk.old.trace request) }
+    ensures reply { IfOk result (λ r. r ≡ reply_to desk.old.setting desk.old.trace request) }
 {
     match desk.serve(request) {
         Reply::Memory => Err(AllocError),
@@ -42,80 +44,64 @@ fn ending(examiner: u32, reply: &Reply) -> Request
     }
 }
 
-// Whether a request is a transaction of its own.
-fn is_alone<S: Store + Drop, G: Guards + Drop>(
-    desk: &Desk<S, G>,
-    schedule: Schedule,
-    request: &Request,
-) -> bool
-    ensures alone { result ≡ is_alone schedule desk.now.trace request.now }
-{
-    match request {
-        Request::Step(examiner, _) => { schedule == Schedule::Serial && !desk.is_open(*examiner) }
-        _ => false,
-    }
-}
-
-// Asks as the row stands, and writes the rows of the reply.
-fn serve_asked<S: Store + Drop, G: Guards + Drop>(
+// Asks for a transaction of this one step; the step's reply.
+fn ask_alone<S: Store + Drop, G: Guards + Drop>(
     desk: &mut Desk<S, G>,
-    request: Request,
-    names: &IndexSet<String>,
-    report: Report,
-) -> Result<Report, AllocError>
+    examiner: u32,
+    step: Ask,
+) -> Result<Reply, AllocError>
     ensures setting { desk.new.setting ≡ desk.old.setting }
-    ensures served { IfOk result (λ r. (rows : List (List (List ℕ)))
-        × IsAsked desk.old.setting (map string_bytes names.now.keys) desk.old.trace request rows desk.new.trace
-        × (r ≡ report ++ rows_text rows)) }
+    ensures trace { OnOk result (desk.new.trace ≡ after_alone desk.old.setting desk.old.trace examiner step) }
+    ensures reply { IfOk result (λ r. r ≡ reply_to desk.old.setting
+        (after_call desk.old.setting desk.old.trace (request.Begin examiner)) (request.Step examiner step)) }
 {
-    let examiner = request.examiner();
-    let reply = ask(desk, request)?;
-    report.reply(names, examiner, &reply)
-}
-
-// Asks for a transaction of this one step, and writes the rows of the step's reply.
-fn serve_alone<S: Store + Drop, G: Guards + Drop>(
-    desk: &mut Desk<S, G>,
-    request: Request,
-    names: &IndexSet<String>,
-    report: Report,
-) -> Result<Report, AllocError>
-    requires closed { is_open (examiner_of request) desk.old.trace ≡ false }
-    ensures setting { desk.new.setting ≡ desk.old.setting }
-    ensures served { IfOk result (λ r. (rows : List (List (List ℕ)))
-        × IsAskedAlone desk.old.setting (map string_bytes names.now.keys) desk.old.trace request rows desk.new.trace
-        × (r ≡ report ++ rows_text rows)) }
-{
-    let examiner = request.examiner();
     ask(desk, Request::Begin(examiner))?;
-    let reply = ask(desk, request)?;
+    let reply = ask(desk, Request::Step(examiner, step))?;
     ask(desk, ending(examiner, &reply))?;
-    report.reply(names, examiner, &reply)
+    Ok(reply)
 }
 
 // Serves a step row and writes its rows.
 fn serve_line<S: Store + Drop, G: Guards + Drop>(
     desk: &mut Desk<S, G>,
-    schedule: Schedule,
     line: Line,
     names: &IndexSet<String>,
     report: Report,
 ) -> Result<Report, AllocError>
     ensures setting { desk.new.setting ≡ desk.old.setting }
-    ensures served { IfOk result (λ r. (rows : List (List (List ℕ)))
-        × IsServed schedule desk.old.setting (map string_bytes names.now.keys) desk.old.trace line rows desk.new.trace
-        × (r ≡ report ++ rows_text rows)) }
+    ensures trace { OnOk result (desk.new.trace ≡ after_line desk.old.setting desk.old.trace line) }
+    ensures rows { IfOk result (λ r. r ≡ report
+        ++ rows_text (line_rows desk.old.setting (map string_bytes names.now.keys) desk.old.trace line)) }
 {
     match line {
         Line::Asks(request) => {
-            if is_alone(desk, schedule, &request) {
-                serve_alone(desk, request, names, report)
-            } else {
-                serve_asked(desk, request, names, report)
-            }
+            let examiner = request.examiner();
+            let reply = ask(desk, request)?;
+            report.reply(names, examiner, &reply)
+        }
+        Line::Alone(examiner, step) => {
+            let reply = ask_alone(desk, examiner, step)?;
+            report.reply(names, examiner, &reply)
         }
         Line::Described(examiner, why) => report.described(examiner, why),
     }
+}
+
+// Takes step rows from the front, serves them at a desk and writes their rows.
+#[tactic(auto, using(crate::proofs::ServedLaws::rest_served))]
+fn serve_lines<S: Store + Drop, G: Guards + Drop>(
+    mut desk: Desk<S, G>,
+    lines: &mut VecDeque<Line>,
+    names: &IndexSet<String>,
+    mut report: Report,
+) -> Result<Report, AllocError>
+    ensures rows { IfOk result (λ r. r ≡ report
+        ++ rows_text (due_rows desk.setting (map string_bytes names.now.keys) desk.trace lines.old.items)) }
+{
+    while let Some(line) = lines.pop_front() {
+        report = serve_line(&mut desk, line, names, report)?;
+    }
+    Ok(report)
 }
 
 // A desk for what a plan declares.
@@ -128,28 +114,20 @@ fn open_desk<S: Store + Drop, G: Guards + Drop>(
     ensures trace { IfOk result (λ d. d.trace ≡ []) }
 {
     let parties = plan.parties.len() as u32;
-    match Desk::open(alloc, parties, plan.townships.as_slice()) {
-        Ok(desk) => Ok(desk),
-        Err(_) => Err(AllocError),
-    }
+    Desk::open(alloc, parties, plan.townships.as_slice())
 }
 
-/// The report of what a plan asks for, over a store and guards of any kinds.
+/// The report of what a plan asks for, over a store and guards of any kinds. It takes the steps out of the plan.
 pub(crate) fn write_report<S: Store + Drop, G: Guards + Drop>(
     alloc: Global,
-    schedule: Schedule,
-    plan: Plan,
+    plan: &mut Plan,
 ) -> Result<Vec<u8>, AllocError>
-    requires opens { CanOpen (length plan.parties.keys) plan.townships.items }
-    ensures report { IfOk result (λ v. IsReportOn schedule (asked_in plan) v.items) }
+    requires opens { CanOpen (length plan.old.parties.keys) plan.old.townships.items }
+    ensures report { IfOk result (λ v. v.items ≡ report_on (asked_in plan.old)) }
 {
-    let mut desk = open_desk::<S, G>(alloc, &plan)?;
-    let mut report = Report::new(alloc)?;
+    let report = Report::new(alloc)?;
     let steps = plan.lines.len();
-    let names = plan.parties;
-    let mut lines = plan.lines;
-    while let Some(line) = lines.pop_front() {
-        report = serve_line(&mut desk, schedule, line, &names, report)?;
-    }
+    let desk = open_desk::<S, G>(alloc, plan)?;
+    let report = serve_lines(desk, &mut plan.lines, &plan.parties, report)?;
     report.end(steps)
 }

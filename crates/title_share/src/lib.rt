@@ -9,4 +9,4 @@ pub mod laws;
 pub mod share;
 
 pub use holding::{Holding, WHOLE};
-pub use share::{Fraction, Share};
+pub use share::{Fraction, Share, number};

@@ -30,8 +30,8 @@ impl Model for Share {
     ghost inverse_ok = { λ s h i. record { units_less_one = add-sub_cancel s.units_less_one 1 i } };
 }
 
-// A number in decimal, without leading zeros, where it fits.
-fn number(text: &str) -> Option<u64>
+/// The number from 1 to 2^64 - 1 that a text writes in decimal, without leading zeros; `None` where it writes none.
+pub fn number(text: &str) -> Option<u64>
     ensures number { MatchOption result ((n : ℕ) → n < 2 ^ 64 → IsNumber text.now n → ⊥) (λ n. IsNumber text.now n) }
 {
     match text.as_bytes() {

@@ -1,11 +1,10 @@
 //! Descriptions: the nodes and the acres of each, or its fault.
 
-use std::alloc::{AllocError, Global};
-use std::fmt::Write;
+use std::alloc::Global;
 use std::process::Abort;
 use std::test::Fail;
-use title_aliquot::{DescFault, read};
-use title_land::{Acres, Node, Tract};
+use title_aliquot::DescFault;
+use title_program::tract_printout;
 
 /// Texts of one tract each, with a line for each node of the cover and one for the acres.
 const TRACTS: [(&str, &str); 21] = [
@@ -124,40 +123,11 @@ const FAULTS: [(&str, &str); 28] = [
     ("T3N R2W sec 5 SE1/4, NE1/4, NW1/4NE1/4", "fault,25\n"),
 ];
 
-fn add_nodes(lines: &mut String, nodes: &[Node]) -> Result<(), AllocError> {
-    for node in nodes {
-        writeln!(lines, "node,{node}")?;
-    }
-    Ok(())
-}
-
-fn add_acres(lines: &mut String, half_acres: Option<u32>) -> Result<(), AllocError> {
-    match half_acres {
-        Some(half_acres) => writeln!(lines, "acres,{}", Acres { half_acres }),
-        None => writeln!(lines, "acres,unknown"),
-    }
-}
-
-/// A line for each node of the cover and one for the acres.
-fn add_tract(lines: &mut String, tract: &Tract) -> Result<(), AllocError> {
-    add_nodes(lines, tract.cover())?;
-    add_acres(lines, tract.half_acres())
-}
-
-/// What a text gives: the lines of its tract, or the fault's line.
-fn print(alloc: Global, text: &str, lines: &mut String) -> Result<(), AllocError> {
-    match read(alloc, text) {
-        Ok(tract) => add_tract(lines, &tract),
-        Err(fault) => writeln!(lines, "{fault}"),
-    }
-}
-
 /// Each text gives its lines.
 fn assert_printed(rt: &impl Abort, alloc: Global, rows: &[(&str, &str)]) -> Result<(), Fail> {
     for (text, want) in rows {
-        let mut lines = String::new(alloc);
-        print(alloc, text, &mut lines)?;
-        assert_eq!(rt; lines.as_str(), *want, "for {text}");
+        let printout = tract_printout(alloc, text)?;
+        assert_eq!(rt; printout.text.as_str(), *want, "for {text}");
     }
     Ok(())
 }

@@ -1,4 +1,4 @@
-//! Tests of the crates through their public calls: the worked rows, each call once, and what no contract says.
+//! Tests of the crates through their public calls: the worked rows, many calls with ample memory, and what no contract says.
 #![tactic(auto)]
 
 #[cfg(test)]
@@ -11,6 +11,8 @@ mod command;
 mod desk;
 #[cfg(test)]
 mod device;
+#[cfg(test)]
+mod fake;
 #[cfg(test)]
 mod instrument;
 #[cfg(test)]

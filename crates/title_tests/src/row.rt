@@ -4,7 +4,7 @@ use csv::StringRecord;
 use std::alloc::{AllocError, Global};
 use std::process::Abort;
 use std::test::Fail;
-use title_row::read_row;
+use title_plan::read_row;
 
 // A row whose fields a line has with | between them.
 fn row_of(alloc: Global, line: &str) -> Result<StringRecord, AllocError> {
@@ -32,30 +32,30 @@ fn assert_said(alloc: Global, rt: &impl Abort, rows: &[(&str, &str)]) -> Result<
 const ROWS: [(&str, &str); 38] = [
     ("township|T2N R1W", "Some(Township(\"T2N R1W\"))"),
     ("party|ADAMS, J.", "Some(Party(\"ADAMS, J.\"))"),
-    ("1|begin", "Some(Begin(1))"),
-    ("40|commit", "Some(Commit(40))"),
-    ("9999|abort", "Some(Abort(9999))"),
+    ("1|begin", "Some(Step(1, Begin))"),
+    ("40|commit", "Some(Step(40, Commit))"),
+    ("9999|abort", "Some(Step(9999, Abort))"),
     (
         "7|sheet|T2N R1W sec 5 N/2",
-        "Some(Sheet(7, \"T2N R1W sec 5 N/2\"))",
+        "Some(Step(7, Sheet(\"T2N R1W sec 5 N/2\")))",
     ),
-    ("7|chain|", "Some(Chain(7, \"\"))"),
+    ("7|chain|", "Some(Step(7, Chain(\"\")))"),
     (
         "7|deed|12|ADAMS|BELL|SO|W1/2|O1/4;S1/8|T2N R1W sec 5",
-        "Some(Post(7, 12, Deed(Deed { grantor: \"ADAMS\", grantee: \"BELL\", estates: Estates { s: true, o: true, m: false }, \
+        "Some(Step(7, Post(12, Deed(Deed { grantor: \"ADAMS\", grantee: \"BELL\", estates: Estates { s: true, o: true, m: false }, \
          warranty: false, quantum: Whole(Share { units: 2147483648 }), reserve: [Some(Share { units: 536870912 }), \
-         Some(Share { units: 1073741824 }), None] }), \"T2N R1W sec 5\"))",
+         Some(Share { units: 1073741824 }), None] }), \"T2N R1W sec 5\")))",
     ),
     (
         "7|warranty|999999999999|ADAMS|BELL|M|I1/1||T2N R1W",
-        "Some(Post(7, 999999999999, Deed(Deed { grantor: \"ADAMS\", grantee: \"BELL\", \
+        "Some(Step(7, Post(999999999999, Deed(Deed { grantor: \"ADAMS\", grantee: \"BELL\", \
          estates: Estates { s: false, o: false, m: true }, \
-         warranty: true, quantum: Interest(Share { units: 4294967296 }), reserve: [None, None, None] }), \"T2N R1W\"))",
+         warranty: true, quantum: Interest(Share { units: 4294967296 }), reserve: [None, None, None] }), \"T2N R1W\")))",
     ),
     (
         "7|release|3|BELL|CLARK|SOM|T2N R1W",
-        "Some(Post(7, 3, Release(Release { from: \"BELL\", to: \"CLARK\", estates: Estates { s: true, o: true, m: true } }), \
-         \"T2N R1W\"))",
+        "Some(Step(7, Post(3, Release(Release { from: \"BELL\", to: \"CLARK\", estates: Estates { s: true, o: true, m: true } }), \
+         \"T2N R1W\")))",
     ),
     ("", "None"),
     ("1", "None"),

@@ -1,9 +1,9 @@
 ghost use Rattle.std.specs.Prelude.{◌≡◌, false};
 
+use crate::fake::{FakeSink, FakeSource};
 use std::alloc::Global;
 use std::process::Abort;
 use std::test::Fail;
-use title_device::fake::{FakeSink, FakeSource};
 use title_script::{Device, RunFault, Schedule, run, run_alone};
 
 mod chains;

@@ -1,51 +1,30 @@
-//! The program `titleplant`: reads the command line, calls one library for each command, and sets the exit status:
-//! 0 for success and help, 1 for a fault or an output that can't be written, 2 for a command line that isn't understood.
+//! The program `titleplant`: takes the words of the command line, opens standard input, output and error, and ends with the
+//! status of what the words ask for.
 #![tactic(auto)]
 
-mod commands;
-
-use commands::{fail, refuse, script, tract};
-use std::alloc::{AllocError, Global};
 use std::process::ExitCode;
 use std::{env, io};
-use title_command::{Line, LineFault, line};
-use title_script::Schedule;
+use title_device::Device;
+use title_program::{WordsFault, obey_words, refuse_untaken};
 
-fn borrowed<'a>(alloc: Global, words: &'a Vec<String>) -> Result<Vec<&'a str>, AllocError> {
-    words.iter().map(|word| word.as_str()).collect(alloc)
+fn words(rt: &HostRuntime) -> Result<Vec<String>, WordsFault> {
+    let words = env::args(rt)?.skip(1).collect(rt.alloc())?;
+    Ok(words)
 }
 
-fn obey(rt: &HostRuntime, words: &[&str]) -> io::Result<ExitCode> {
-    match line(rt.alloc(), words) {
-        Ok(Line::Run) => script(rt, Schedule::Interleaved),
-        Ok(Line::Alone) => script(rt, Schedule::Serial),
-        Ok(Line::Tract(text)) => tract(rt, text),
-        Err(LineFault::Help(error)) => {
-            rt.print(&error)?;
-            Ok(ExitCode::SUCCESS)
-        }
-        Err(LineFault::Bad(error)) => Ok(refuse(rt, &error)),
-        Err(LineFault::Memory) => fail(rt, LineFault::Memory),
-    }
-}
-
-fn main(rt: HostRuntime) -> io::Result<ExitCode> {
-    let alloc = rt.alloc();
-    let arguments = match env::args(&rt) {
-        Ok(arguments) => arguments,
-        Err(error) if error.kind() == io::ErrorKind::OutOfMemory => {
-            return fail(&rt, LineFault::Memory);
-        }
-        Err(_) => {
-            let text = "error: a word of the command line isn't UTF-8\n";
-            return Ok(refuse(&rt, text));
-        }
+fn main(rt: HostRuntime) -> ExitCode {
+    let mut source = Device::new(rt.stdin());
+    let mut sink = Device::new(io::writer(&rt));
+    let mut errors = Device::new(rt.stderr());
+    let status = match words(&rt) {
+        Ok(words) => obey_words(
+            rt.alloc(),
+            words.as_slice(),
+            &mut source,
+            &mut sink,
+            &mut errors,
+        ),
+        Err(why) => refuse_untaken(why, &mut sink, &mut errors),
     };
-    let Ok(words) = arguments.skip(1).collect::<Vec<String>>(alloc) else {
-        return fail(&rt, LineFault::Memory);
-    };
-    let Ok(texts) = borrowed(alloc, &words) else {
-        return fail(&rt, LineFault::Memory);
-    };
-    obey(&rt, texts.as_slice())
+    ExitCode::from(status)
 }

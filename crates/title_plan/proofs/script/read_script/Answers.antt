@@ -1,27 +1,6 @@
-use Rattle.std.proofs.Common.{
-  Bor,
-  List,
-  ℕ,
-  ◌≡◌,
-  ◌+◌,
-  ◌∙◌,
-  sym,
-  refl,
-  ap,
-  arith,
-  inl,
-  inr,
-  true,
-  Some,
-  Result,
-  Ok,
-  Err,
-  ◌∷◌,
-  ◌++◌,
-  [],
-  length,
-}
-use Rattle.std.proofs.lemmas.List.{length-append, length-map}
+use Rattle.std.proofs.Common.{Bor, List, ℕ, ◌≡◌, ◌+◌, ◌∙◌, sym, refl, ap, arith, inl, inr, true, Some, Result, Ok, Err, ◌∷◌, ◌++◌, []}
+use Rattle.std.proofs.Common.{length}
+use Rattle.std.proofs.lemmas.List.{length-append}
 use Rattle.std.proofs.lemmas.Result.{err_from_is_err_and}
 use Rattle.csv.specs.Reading.{Reached, default_config, strip_bom, with_flexible}
 use Rattle.csv.specs.declared.reader.ReaderBuilder.{ReaderBuilder}
@@ -31,7 +10,7 @@ use Rattle.csv.proofs.ReadFacts.{rows-end, rows-more}
 use Rattle.title_plan.specs.declared.fault.ScriptFault.{ScriptFault}
 use Rattle.title_plan.specs.Asked.{Asked, asked_in, nothing_asked}
 use Rattle.title_plan.proofs.Rows.{after_push, fault_stands}
-use Rattle.title_plan.proofs.Kept.{rows_open, nothing_opens}
+use Rattle.title_plan.proofs.Declared.{once_said}
 use Rattle.title_plan.proofs.ReadOn.{reached_all, reached_rest}
 use Rattle.title_plan.proofs.script.read_script.Goals as goal
 
@@ -54,7 +33,7 @@ loop-row-init c =
       rows = [];
       reached = (sym reader.state, refl);
       count = refl;
-      after = ap (λ (a : Asked). let r : Result Asked ScriptFault = Ok a in r) c.in_ok-plan.ensures.nothing;
+      after = ap (λ (a : Asked). let r : Result Asked ScriptFault = Ok a in r) (sym c.in_ok-plan.ensures.nothing);
     })
 
 pub loop-row-preserved : goal.loop-row-preserved
@@ -94,9 +73,8 @@ returns-clause-script c =
 
 pub returns-clause-opens : goal.returns-clause-opens
 returns-clause-opens c =
-    let inv = c.loop-row.invariant in
-    let opens = rows_open c.args.schedule 1 nothing_asked (asked_in c.loop-row.plan) inv.rows inv.after nothing_opens in
-    rw length-map at opens
+    let plan = c.loop-row.plan in
+    (plan.some, plan.few, plan.few_townships, once_said plan.townships.items plan.once)
 
 pub returns-in_err-take_row-clause-why : goal.returns-in_err-take_row-clause-why
 returns-in_err-take_row-clause-why c =

@@ -1,16 +1,32 @@
-use Rattle.std.proofs.Common.{◌≡◌, ◌∙◌, sym, inr, false}
-use Rattle.title_plan.specs.Asked.{asked_in, is_none}
-use Rattle.title_plan.proofs.Declared.{township_refused, township_late, not_true}
+use Rattle.std.proofs.Common.{refl, rules, ◌==◌, inr, false, ◌≡◌, ◌≤◌, ◌∙◌, sym, true, List, length}
+use Rattle.title_land.specs.declared.place.Township.{Township}
+use Rattle.title_plan.specs.Limits.{most_townships}
+use Rattle.title_plan.specs.Townships.{each_once}
+use Rattle.std.proofs.lemmas.Bool.{or_parts}
+use Rattle.std.proofs.lemmas.List.{length-append}
+use Rattle.title_plan.proofs.Declared.{township_few, once_push, pushed}
 use Rattle.title_plan.proofs.plan.Plan.declare.Goals as goal
 
 pub returns-then-is_refused-clause-err : goal.returns-then-is_refused-clause-err
 returns-then-is_refused-clause-err c =
     let test = rw c.as_slice.ensures.value at (sym c.is_refused.ensures.refused ∙ c.if-is_refused.true) in
-    inr (township_refused c.args.n (asked_in c.args.self.now) c.args.township test)
+    inr (rw test refl)
 
-pub returns-then-has_steps-clause-err : goal.returns-then-has_steps-clause-err
-returns-then-has_steps-clause-err c =
+pub returns-then-not-is_empty-clause-err : goal.returns-then-not-is_empty-clause-err
+returns-then-not-is_empty-clause-err c =
     let test = rw c.as_slice.ensures.value at (sym c.is_refused.ensures.refused ∙ c.if-is_refused.false) in
-    let some : is_none c.args.self.now.lines.items ≡ false =
-    not_true (is_none c.args.self.now.lines.items) (sym c.has_steps.ensures.steps ∙ c.if-has_steps.true) in
-    inr (township_late c.args.n (asked_in c.args.self.now) c.args.township test some)
+    let some : (length c.args.self.now.lines.items == 0) ≡ false = search rules in
+    inr (rw (test, some) refl)
+
+pub invariant_of-self-clause-few_townships : goal.invariant_of-self-clause-few_townships
+invariant_of-self-clause-few_townships c =
+    let test = rw c.as_slice.ensures.value at (sym c.is_refused.ensures.refused ∙ c.if-is_refused.false) in
+    let few = township_few c.args.self.now.townships.items c.args.township test in
+    pushed (λ (ts : List Township). length ts ≤ most_townships) c.push.result c.push.ensures.pushed (rw length-append few)
+    c.args.self.now.few_townships
+
+pub invariant_of-self-clause-once : goal.invariant_of-self-clause-once
+invariant_of-self-clause-once c =
+    let test = rw c.as_slice.ensures.value at (sym c.is_refused.ensures.refused ∙ c.if-is_refused.false) in
+    let once = once_push c.args.self.now.townships.items c.args.township c.args.self.now.once (or_parts _ _ test).1 in
+    pushed (λ (ts : List Township). each_once ts ≡ true) c.push.result c.push.ensures.pushed once c.args.self.now.once

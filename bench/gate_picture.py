@@ -1,0 +1,69 @@
+#!/usr/bin/env python3
+"""Runs the gate and shows where its time goes: bench/gate_picture.py [COMMAND ..], by default .ci/run, from the repository's root.
+
+While the command runs, the checks that it has started are looked at twice a second (Linux, /proc). Then standard error gets,
+crate by crate, the seconds of its own checks, of its tests, and of its must-fail edits, each with the minutes of the clock from
+which and to which they ran, and how many checks ran side by side in each minute. What the command prints passes through; the exit
+status is its own.
+"""
+import os, subprocess, sys, threading, time
+
+TICKS = os.sysconf("SC_CLK_TCK")
+
+
+def checks():
+    """The checks that run now: process, crate, kind, processor seconds."""
+    for pid in filter(str.isdigit, os.listdir("/proc")):
+        try:
+            with open(f"/proc/{pid}/cmdline", "rb") as it:
+                words = it.read().decode(errors="replace").split("\0")
+            if len(words) < 2 or os.path.basename(words[0]) != "rattle" or words[1] not in ("check", "build"):
+                continue
+            name = words[words.index("--crate-name") + 1]
+            folder = os.readlink(f"/proc/{pid}/cwd")
+            with open(f"/proc/{pid}/stat") as it:
+                fields = it.read().rsplit(")", 1)[1].split()
+        except (OSError, ValueError):
+            continue
+        kind = "edits" if "rt-edit-" in folder else "tests" if "--test" in words else "check"
+        yield int(pid), name, kind, (int(fields[11]) + int(fields[12])) / TICKS
+
+
+def watch(seen, lanes, done, start):
+    while not done.wait(0.5):
+        now, running = time.monotonic() - start, 0
+        for pid, name, kind, spent in checks():
+            first = seen.get((pid, name, kind), (now,))[0]
+            seen[pid, name, kind] = (first, now, spent)
+            running += 1
+        lanes.setdefault(int(now // 60), []).append(running)
+
+
+def table(seen, lanes, whole):
+    rows = {}
+    for (_, name, kind), (first, last, spent) in seen.items():
+        count, seconds, begin, end = rows.get((name, kind), (0, 0.0, first, last))
+        rows[name, kind] = (count + 1, seconds + spent, min(begin, first), max(end, last))
+    print("| Crate | What | Checks | Processor seconds | Minutes of the clock |\n|---|---|---|---|---|", file=sys.stderr)
+    for (name, kind), (count, seconds, begin, end) in sorted(rows.items(), key=lambda it: it[1][2]):
+        print(f"| {name} | {kind} | {count} | {seconds:.0f} | {begin / 60:.1f} to {end / 60:.1f} |", file=sys.stderr)
+    spent = sum(it[1] for it in rows.values())
+    print(f"\nWhole run: {whole / 60:.1f} minutes of the clock, {spent / 60:.1f} of processor in checks.", file=sys.stderr)
+    side_by_side = " ".join(f"{sum(it) / len(it):.1f}" for _, it in sorted(lanes.items()))
+    print(f"Checks side by side, minute by minute: {side_by_side}", file=sys.stderr)
+
+
+def main():
+    start, seen, lanes, done = time.monotonic(), {}, {}, threading.Event()
+    watcher = threading.Thread(target=watch, args=(seen, lanes, done, start))
+    watcher.start()
+    try:
+        status = subprocess.run(sys.argv[1:] or [".ci/run"]).returncode
+    finally:
+        done.set()
+        watcher.join()
+    table(seen, lanes, time.monotonic() - start)
+    return status
+
+
+sys.exit(main())

@@ -1,0 +1,34 @@
+-- Rows that are understood, and rows that are not.
+use Rattle.std.proofs.Common.{◌≡◌, ◌≤◌, ◌&&◌, refl, ℕ, List, Bool, true, false, Option, Err, nat_le, arith, inl, inr}
+use Rattle.std.specs.List.{list_all}
+use Rattle.std.specs.Str.{is_utf8}
+use Rattle.std.proofs.lemmas.Bool.{cases_Bool}
+use Rattle.std.proofs.lemmas.Bool.Decides.{nat_tests}
+use Rattle.csv.specs.Records.{AllText}
+use Rattle.title_plan.specs.declared.fault.ScriptFault.TheVariants as fault
+use Rattle.title_plan.specs.declared.line.Schedule.{Schedule}
+use Rattle.title_plan.specs.declared.row.Row.{Row}
+use Rattle.title_plan.specs.Asked.{Asked}
+use Rattle.title_plan.specs.Limits.{most_rows}
+use Rattle.title_plan.specs.Plans.{after_row, after_understood}
+use Rattle.title_plan.specs.Rows.{row_in}
+use Rattle.title_plan.proofs.Names.{texts_true}
+
+and_false : (b : Bool) → (b && false) ≡ false
+and_false true = refl
+and_false false = refl
+
+-- a row that isn't text
+pub not_text : (schedule : Schedule) (n : ℕ) (asked : Asked) (fields : List (List ℕ)) → (list_all is_utf8 fields ≡ true → ⊥)
+    → after_row schedule n asked fields ≡ Err (fault.Row n)
+not_text schedule n asked fields h = elim (cases_Bool (list_all is_utf8 fields)) [
+  | inl text ↦ absurd (h text)
+  | inr other ↦ rw (other, and_false (nat_le n most_rows)) refl
+]
+
+-- a row that is
+pub is_text : (schedule : Schedule) (n : ℕ) (asked : Asked) (fields : List (List ℕ)) (found : Option (Row (List ℕ))) → n ≤ most_rows
+    → AllText fields → row_in fields ≡ found → after_row schedule n asked fields ≡ after_understood schedule n asked found
+is_text schedule n asked fields found within text is =
+    let first : nat_le n most_rows ≡ true = grind (arith, nat_tests) in
+    rw (first, texts_true fields text, is) refl

@@ -1,0 +1,10 @@
+-- Lists of townships.
+use Rattle.std.specs.Prelude.{◌&&◌, not, Bool, true, List, [], ◌∷◌}
+use Rattle.std.specs.List.{list_any}
+use Rattle.title_land.specs.declared.place.Township.{Township}
+use Rattle.title_land.specs.Places.{same_township}
+
+-- no township stands twice, as a test
+abbrev pub each_once : List Township → Bool
+each_once [] = true
+each_once (t ∷ townships) = not (list_any (same_township t) townships) && each_once townships

@@ -1,0 +1,2 @@
+mod Printed
+mod Told

@@ -1,0 +1,6 @@
+pub mod Statuses
+pub mod Faults
+pub mod Tracts
+pub mod Printing
+pub mod Serving
+pub mod Obeying

@@ -1,0 +1,109 @@
+-- What each command line makes the program do.
+use Rattle.std.specs.Prelude.{◌≡◌, ◌⊎◌, ℕ, List, [], Bool, true, false, Option, Result, Ok, Err, codes, take}
+use Rattle.std.specs.Io.KnownBytes.{Appends, IsAtEnd, Keeps}
+use Rattle.clap.specs.Faults.{fault_of}
+use Rattle.clap.specs.Words.{subcommand_of, takes}
+use Rattle.title_land.specs.Depth.{depth}
+use Rattle.title_plan.specs.Lands.{land_in}
+use Rattle.title_plan.specs.declared.line.Schedule.TheVariants as schedule
+use Rattle.title_command.specs.declared.choice.Line.{Line}
+use Rattle.title_command.specs.declared.choice.Line.TheVariants.{Run, Alone, Tract}
+use Rattle.title_command.specs.declared.choice.LineFault.{LineFault}
+use Rattle.title_command.specs.declared.choice.LineFault.TheVariants.{Help, Bad, Memory}
+use Rattle.title_command.specs.CommandLine.{Explains, IsLineOf, command}
+use Rattle.title_program.specs.declared.words.WordsFault.{WordsFault}
+use Rattle.title_program.specs.declared.words.WordsFault.TheVariants as untaken
+use Rattle.title_program.specs.declared.status.Status.{Status}
+use Rattle.title_program.specs.declared.status.Status.TheVariants.{Success, Failure, Misunderstood}
+use Rattle.title_program.specs.Faults.{fault_line, memory}
+use Rattle.title_program.specs.Printing.{Prints}
+use Rattle.title_program.specs.Serving.{IsServed}
+use Rattle.title_program.specs.Tracts.{tract_status, tract_text}
+
+-- ---- a command
+
+-- what the text says is printed, or that memory ran out
+abbrev pub PrintsTract : (text : List ℕ) → (before after : Option (List ℕ)) → (sink_failed : Bool) → Status → Type 0
+PrintsTract text before after sink_failed status =
+    Prints (tract_text depth (land_in text)) (tract_status (land_in text)) before after sink_failed status
+    ⊎ Prints (fault_line memory) Failure before after sink_failed status
+
+-- the command was carried out
+abbrev pub IsObeyed : Line → Option (List ℕ) → (source_failed sink_failed : Bool) → (before after : Option (List ℕ)) → Status → Type 0
+IsObeyed Run known source_failed sink_failed before after status =
+    IsServed schedule.Interleaved known source_failed sink_failed before after status
+IsObeyed Alone known source_failed sink_failed before after status =
+    IsServed schedule.Serial known source_failed sink_failed before after status
+IsObeyed (Tract text) known source_failed sink_failed before after status = PrintsTract text.now before after sink_failed status
+
+-- a script whose report was written has been read to its end; `tract` reads nothing
+abbrev pub ReadsFor : Line → (left left_after : Option (List ℕ)) → Status → Type 0
+ReadsFor Run left left_after status = status ≡ Success → IsAtEnd left_after
+ReadsFor Alone left left_after status = status ≡ Success → IsAtEnd left_after
+ReadsFor (Tract text) left left_after status = left_after ≡ left
+
+-- what is told on the errors where the output has failed
+abbrev pub unwritten : List ℕ
+unwritten = codes "error: the report can't be written\n"
+
+-- a failed output is told on the errors, as far as these take it, and nothing else is
+abbrev pub Complains : (sink_failed : Bool) → (before after : Option (List ℕ)) → Type 0
+Complains false before after = Keeps before after
+Complains true before after = (n : ℕ) × Appends before after (take n unwritten)
+
+-- ---- words that are no command
+
+-- help is shown, or memory ran out
+abbrev pub PrintsHelp : (before after : Option (List ℕ)) → (sink_failed : Bool) → Status → Type 0
+PrintsHelp before after sink_failed status =
+    ((text : List ℕ) × Prints text Success before after sink_failed status)
+    ⊎ Prints (fault_line memory) Failure before after sink_failed status
+
+-- words that aren't understood leave the output as it was
+abbrev pub IsRefused : LineFault → (before after : Option (List ℕ)) → (sink_failed : Bool) → Status → Type 0
+IsRefused (Help error) before after sink_failed status = PrintsHelp before after sink_failed status
+IsRefused (Bad error) before after sink_failed status = (after ≡ before) × (status ≡ Misunderstood)
+IsRefused Memory before after sink_failed status = Prints (fault_line memory) Failure before after sink_failed status
+
+-- why words aren't understood is told on the errors; else only a failed output is
+abbrev pub Warns : LineFault → (sink_failed : Bool) → (before after : Option (List ℕ)) → Type 0
+Warns (Help error) sink_failed before after = Complains sink_failed before after
+Warns (Bad error) sink_failed before after = (text : List ℕ) × Appends before after text
+Warns Memory sink_failed before after = Complains sink_failed before after
+
+-- ---- words that can't be taken
+
+-- a word that isn't text is one that isn't understood
+abbrev pub IsUntaken : WordsFault → (before after : Option (List ℕ)) → (sink_failed : Bool) → Status → Type 0
+IsUntaken untaken.NotText before after sink_failed status = (after ≡ before) × (status ≡ Misunderstood)
+IsUntaken untaken.Memory before after sink_failed status = Prints (fault_line memory) Failure before after sink_failed status
+
+-- what is told on the errors, as far as these take it
+abbrev pub WarnsUntaken : WordsFault → (sink_failed : Bool) → (before after : Option (List ℕ)) → Type 0
+WarnsUntaken untaken.NotText sink_failed before after =
+    (n : ℕ) × Appends before after (take n (codes "error: a word of the command line isn't UTF-8\n"))
+WarnsUntaken untaken.Memory sink_failed before after = Complains sink_failed before after
+
+-- ---- the words
+
+-- what the words ask for, or why they are none, as the command line's reader tells it
+abbrev pub IsAsked : List (List ℕ) → Result Line LineFault → Type 0
+IsAsked words (Ok line) = IsLineOf (subcommand_of command words) line × (fault_of command words ≡ [])
+IsAsked words (Err why) = Explains (fault_of command words) why × (takes command words ≡ true → why ≡ Memory)
+
+-- what was asked for was done, or refused
+abbrev pub IsAnswered : Result Line LineFault → Option (List ℕ) → (source_failed sink_failed : Bool)
+    → (before after : Option (List ℕ)) → Status → Type 0
+IsAnswered (Ok line) known source_failed sink_failed before after status =
+    IsObeyed line known source_failed sink_failed before after status
+IsAnswered (Err why) known source_failed sink_failed before after status = IsRefused why before after sink_failed status
+
+-- what was asked for reads the source; words that are no command don't
+abbrev pub Reads : Result Line LineFault → (left left_after : Option (List ℕ)) → Status → Type 0
+Reads (Ok line) left left_after status = ReadsFor line left left_after status
+Reads (Err why) left left_after status = left_after ≡ left
+
+-- what is told on the errors
+abbrev pub Tells : Result Line LineFault → (sink_failed : Bool) → (before after : Option (List ℕ)) → Type 0
+Tells (Ok line) sink_failed before after = Complains sink_failed before after
+Tells (Err why) sink_failed before after = Warns why sink_failed before after

@@ -1,0 +1,102 @@
+//! From the words of the command line to the status of the program.
+
+ghost use Rattle.std.specs.Prelude.{◌≡◌, false, map, IfOk, Result};
+ghost use Rattle.std.specs.String.{string_bytes};
+ghost use Rattle.title_command.specs.declared.choice.Line.{Line};
+ghost use Rattle.title_command.specs.declared.choice.LineFault.{LineFault};
+ghost use Rattle.title_script.specs.Runs.{IsReadWithin};
+ghost use Rattle.title_program.specs.Obeying.{Complains, IsAnswered, IsAsked, IsObeyed, PrintsTract, Reads, ReadsFor, Tells};
+
+use crate::printing::{complain, print, tell_memory};
+use crate::refusal::refuse;
+use crate::serving::serve;
+use crate::status::Status;
+use crate::tract::tract_printout;
+use std::alloc::{AllocError, Global};
+use title_command::{Line, LineFault, line};
+use title_device::{Sink, Source};
+use title_script::Schedule;
+
+/// Prints the nodes of the tract that a text describes and its acres, or the line of its fault.
+pub fn print_tract<W: Sink>(alloc: Global, text: &str, sink: &mut W) -> Status
+    ensures printed { PrintsTract text.now (W.taken sink.old) (W.taken sink.new) (W.has_failed sink.new) result }
+{
+    match tract_printout(alloc, text) {
+        Ok(printout) => print(sink, printout.text.as_bytes(), printout.status),
+        Err(_) => tell_memory(sink),
+    }
+}
+
+// Does what a command asks for.
+fn carry_out<R: Source, W: Sink>(alloc: Global, line: Line, source: &mut R, sink: &mut W) -> Status
+    requires source_works { R.has_failed source.old ≡ false }
+    requires sink_works { W.has_failed sink.old ≡ false }
+    ensures obeyed { IsObeyed line.entry (R.left source.old) (R.has_failed source.new) (W.has_failed sink.new)
+        (W.taken sink.old) (W.taken sink.new) result }
+    ensures read { ReadsFor line.entry (R.left source.old) (R.left source.new) result }
+    ensures turns { IsReadWithin (R.turns source.old) (R.turns source.new) }
+{
+    match line {
+        Line::Run => serve(alloc, Schedule::Interleaved, source, sink),
+        Line::Alone => serve(alloc, Schedule::Serial, source, sink),
+        Line::Tract(text) => print_tract(alloc, text, sink),
+    }
+}
+
+/// Does what a command asks for: from the source to the sink, and to the errors where the sink has failed.
+pub fn obey<R: Source, W: Sink, E: Sink>(
+    alloc: Global,
+    line: Line,
+    source: &mut R,
+    sink: &mut W,
+    errors: &mut E,
+) -> Status
+    requires source_works { R.has_failed source.old ≡ false }
+    requires sink_works { W.has_failed sink.old ≡ false }
+    ensures obeyed { IsObeyed line.entry (R.left source.old) (R.has_failed source.new) (W.has_failed sink.new)
+        (W.taken sink.old) (W.taken sink.new) result }
+    ensures read { ReadsFor line.entry (R.left source.old) (R.left source.new) result }
+    ensures turns { IsReadWithin (R.turns source.old) (R.turns source.new) }
+    ensures told { Complains (W.has_failed sink.new) (E.taken errors.old) (E.taken errors.new) }
+{
+    let status = carry_out(alloc, line, source, sink);
+    complain(sink, errors);
+    status
+}
+
+// The words as texts.
+fn borrowed<'a>(alloc: Global, words: &'a [String]) -> Result<Vec<&'a str>, AllocError>
+    ensures texts { IfOk result (λ texts. map (λ text. text.now) texts.items ≡ map string_bytes words.entry.now) }
+{
+    let mut texts = Vec::new(alloc);
+    for word in words {
+        texts.push(word.as_str())?;
+    }
+    Ok(texts)
+}
+
+/// Does what the words after the program's name ask for, and answers the status with which the program ends.
+pub fn obey_words<R: Source, W: Sink, E: Sink>(
+    alloc: Global,
+    words: &[String],
+    source: &mut R,
+    sink: &mut W,
+    errors: &mut E,
+) -> Status
+    requires source_works { R.has_failed source.old ≡ false }
+    requires sink_works { W.has_failed sink.old ≡ false }
+    ensures answered { (asked : Result Line LineFault) × IsAsked (map string_bytes words.now) asked
+        × IsAnswered asked (R.left source.old) (R.has_failed source.new) (W.has_failed sink.new)
+        (W.taken sink.old) (W.taken sink.new) result
+        × Reads asked (R.left source.old) (R.left source.new) result
+        × Tells asked (W.has_failed sink.new) (E.taken errors.old) (E.taken errors.new) }
+    ensures turns { IsReadWithin (R.turns source.old) (R.turns source.new) }
+{
+    let Ok(texts) = borrowed(alloc, words) else {
+        return refuse(alloc, LineFault::Memory, sink, errors);
+    };
+    match line(alloc, texts.as_slice()) {
+        Ok(line) => obey(alloc, line, source, sink, errors),
+        Err(why) => refuse(alloc, why, sink, errors),
+    }
+}

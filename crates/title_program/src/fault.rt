@@ -1,0 +1,85 @@
+//! The line of a fault.
+
+ghost use Rattle.std.specs.Prelude.{◌≡◌, IfOk, Some};
+ghost use Rattle.std.specs.String.{string_bytes};
+
+use std::alloc::{AllocError, Global};
+use std::fmt;
+use title_aliquot::DescFault;
+use title_script::RunFault;
+
+/// A fault as its line tells it: its number, and the row of a script or the byte of a text where it stands.
+#[derive(Clone, Copy, Debug, PartialEq, Eq)]
+pub struct Fault {
+    pub number: u32,
+    pub place: Option<u64>,
+}
+
+impl Fault {
+    ghost use Rattle.title_program.specs.Faults.{fault_line, memory};
+
+    /// Memory ran out.
+    pub fn memory() -> Fault
+        ensures memory { result ≡ memory }
+    {
+        Fault {
+            number: 6,
+            place: None,
+        }
+    }
+
+    /// The line that tells it, with its end.
+    pub fn line(self, alloc: Global) -> Result<String, AllocError>
+        ensures line { IfOk result (λ line. string_bytes line ≡ fault_line self) }
+    {
+        format!(in alloc; "{self}\n")
+    }
+}
+
+impl fmt::Display for Fault {
+    ghost use Rattle.title_program.specs.Faults.{fault_text};
+
+    ghost output = { λ f. Some (fault_text f) };
+
+    fn fmt<W: fmt::Write>(&self, f: &mut fmt::Formatter<W>) -> fmt::Result {
+        let number = self.number;
+        match self.place {
+            None => write!(f, "fault,{number}"),
+            Some(place) => write!(f, "fault,{number},{place}"),
+        }
+    }
+}
+
+impl From<DescFault> for Fault {
+    ghost use Rattle.title_program.specs.Faults.{of_description};
+
+    ghost from_gives = { λ fault told. told ≡ of_description fault };
+
+    fn from(fault: DescFault) -> Fault {
+        let place = match fault {
+            DescFault::BadText(byte) => Some(byte as u64),
+            _ => None,
+        };
+        Fault {
+            number: u32::from(fault.number()),
+            place,
+        }
+    }
+}
+
+impl From<RunFault> for Fault {
+    ghost use Rattle.title_program.specs.Faults.{of_run};
+
+    ghost from_gives = { λ fault told. told ≡ of_run fault };
+
+    fn from(fault: RunFault) -> Fault {
+        let place = match fault {
+            RunFault::Row(row) | RunFault::Party(row) | RunFault::Order(row) => Some(row),
+            RunFault::Read | RunFault::Write | RunFault::Memory => None,
+        };
+        Fault {
+            number: fault.number(),
+            place,
+        }
+    }
+}

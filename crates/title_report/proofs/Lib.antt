@@ -1,2 +1,0 @@
-mod Described
-mod Rows

@@ -1,0 +1,70 @@
+//! A stored command line, run through the function that the program calls.
+
+use crate::tally::Tally;
+use anyhow::Result;
+use std::alloc::{AllocError, Global};
+use title_device::Device;
+use title_program::obey_words;
+
+/// What is printed, and the status after it.
+#[derive(Debug, PartialEq, Eq, Drop)]
+pub struct Ending {
+    pub stdout: Vec<u8>,
+    pub status: u8,
+}
+
+/// The words of a command line and its input, and how it has to end.
+#[derive(Debug, Drop)]
+pub struct Case {
+    pub name: String,
+    pub words: Vec<String>,
+    pub stdin: Vec<u8>,
+    pub wanted: Ending,
+}
+
+// How a command line ends.
+fn ending_of(alloc: Global, words: &[String], stdin: &[u8]) -> Ending {
+    let mut source = Device::new(stdin);
+    let mut sink = Device::new(Vec::new(alloc));
+    let mut errors = Device::new(Vec::new(alloc));
+    let status = obey_words(alloc, words, &mut source, &mut sink, &mut errors);
+    Ending {
+        stdout: sink.into_inner(),
+        status: status.code(),
+    }
+}
+
+// The number of lines before the first that differs.
+fn lines_alike(came: &[u8], wanted: &[u8]) -> usize {
+    let same = came.iter().zip(wanted).take_while(|(a, b)| a == b).count();
+    let ends = came.iter().take(same).filter(|byte| **byte == b'\n');
+    ends.count()
+}
+
+// The line after so many others.
+fn line_after(alloc: Global, text: &[u8], others: usize) -> Result<String, AllocError> {
+    match text.split(|byte| *byte == b'\n').nth(others) {
+        Some(line) => String::from_utf8_lossy(alloc, line),
+        None => Ok(String::new(alloc)),
+    }
+}
+
+// Names a command line that doesn't end as stored, with the first line that differs.
+fn tell(rt: &HostRuntime, case: &Case, came: &Ending) -> Result<()> {
+    let alike = lines_alike(came.stdout.as_slice(), case.wanted.stdout.as_slice());
+    let line = line_after(rt.alloc(), came.stdout.as_slice(), alike)?;
+    let (name, status) = (case.name.as_str(), came.status);
+    println!(rt; "differs: {name}: status {status}, and after {alike} lines: {line}")?;
+    Ok(())
+}
+
+/// Runs a command line and counts it. One that doesn't end as stored is named.
+pub fn judge(rt: &HostRuntime, case: &Case, tally: &mut Tally) -> Result<()> {
+    let came = ending_of(rt.alloc(), case.words.as_slice(), case.stdin.as_slice());
+    let is_same = came == case.wanted;
+    tally.count(is_same);
+    if !is_same {
+        tell(rt, case, &came)?;
+    }
+    Ok(())
+}

@@ -1,0 +1,104 @@
+//! The tables of stored command lines.
+
+use crate::case::{Case, Ending, judge};
+use crate::tally::Tally;
+use anyhow::{Context, Result};
+use csv::{ReaderBuilder, StringRecord, StringRecordsIntoIter};
+use std::alloc::{AllocError, Global};
+use std::fs;
+
+// A field that each row has.
+fn field(row: &StringRecord, place: usize) -> Result<&str> {
+    row.get(place).context("a row of a table is too short")
+}
+
+// The fields after the first two.
+fn other_fields(alloc: Global, row: &StringRecord) -> Result<Vec<String>, AllocError> {
+    let mut fields = Vec::new(alloc);
+    for field in row.iter().skip(2) {
+        fields.push(String::from_str(alloc, field)?)?;
+    }
+    Ok(fields)
+}
+
+// Lines, each with its end.
+fn text_of(alloc: Global, lines: &[String]) -> Result<Vec<u8>, AllocError> {
+    let mut text = Vec::new(alloc);
+    for line in lines {
+        text.extend_from_slice(line.as_bytes())?;
+        text.push(b'\n')?;
+    }
+    Ok(text)
+}
+
+// The words that ask for the tract of a text.
+fn tract_words(alloc: Global, text: &str) -> Result<Vec<String>, AllocError> {
+    let mut words = Vec::new(alloc);
+    for word in ["tract", "--", text] {
+        words.push(String::from_str(alloc, word)?)?;
+    }
+    Ok(words)
+}
+
+// A text, the status, and the lines that `tract` prints for it.
+fn tract_case(alloc: Global, row: &StringRecord) -> Result<Case> {
+    let text = field(row, 0)?;
+    let lines = other_fields(alloc, row)?;
+    Ok(Case {
+        name: String::from_str(alloc, text)?,
+        words: tract_words(alloc, text)?,
+        stdin: Vec::new(alloc),
+        wanted: Ending {
+            stdout: text_of(alloc, lines.as_slice())?,
+            status: field(row, 1)?.parse::<u8>()?,
+        },
+    })
+}
+
+// The bytes of a file.
+fn file(rt: &HostRuntime, name: &str, ending: &str) -> Result<Vec<u8>> {
+    let path = format!(in rt.alloc(); "{name}.{ending}")?;
+    Ok(fs::read(rt, path.as_str())?)
+}
+
+// The name of two files, the input NAME.csv and the output NAME.report, then the status and the words.
+fn run_case(rt: &HostRuntime, row: &StringRecord) -> Result<Case> {
+    let name = field(row, 0)?;
+    let status = field(row, 1)?.parse::<u8>()?;
+    let stdout = file(rt, name, "report")?;
+    Ok(Case {
+        name: String::from_str(rt.alloc(), name)?,
+        words: other_fields(rt.alloc(), row)?,
+        stdin: file(rt, name, "csv")?,
+        wanted: Ending { stdout, status },
+    })
+}
+
+// The rows of a table, of any lengths.
+fn rows_of(alloc: Global, table: &[u8]) -> StringRecordsIntoIter<&[u8]> {
+    let reader = ReaderBuilder::new()
+        .has_headers(false)
+        .flexible(true)
+        .from_reader(alloc, table);
+    reader.into_records()
+}
+
+/// Judges each row of the table of descriptions.
+pub fn check_tracts(rt: &HostRuntime, tally: &mut Tally) -> Result<()> {
+    let table = fs::read(rt, "tracts.csv")?;
+    for row in rows_of(rt.alloc(), table.as_slice()) {
+        let case = tract_case(rt.alloc(), &row?)?;
+        judge(rt, &case, tally)?;
+    }
+    Ok(())
+}
+
+/// Judges each row of the table of runs.
+pub fn check_runs(rt: &HostRuntime, tally: &mut Tally) -> Result<()> {
+    let table = fs::read(rt, "runs.csv")?;
+    for row in rows_of(rt.alloc(), table.as_slice()) {
+        let case = run_case(rt, &row?)?;
+        judge(rt, &case, tally)?;
+    }
+    Ok(())
+}
