@@ -9,9 +9,13 @@ use Rattle.title_aliquot.specs.Grammar.{Syntax, Description}
 use Rattle.title_aliquot.specs.Letters.{letters, offset}
 use Rattle.title_aliquot.specs.Meaning.{StandsFor, IsOutOfRange, IsTooSmall, IsOverlapping}
 
--- the text has at most 1,000 bytes, and its letters say s
+-- the most bytes that a description has
+abbrev pub longest_text : ℕ
+longest_text = 1000
+
+-- the text isn't too long, and its letters say s
 pub record Says (text : List ℕ) (s : Syntax) : Type 0 where
-  pub short : length text ≤ 1000
+  pub short : length text ≤ longest_text
   pub spells : Description s (letters (chars text))
 
 -- the text describes the land
@@ -33,10 +37,10 @@ BeginsWithLot r = (t : List ℕ) × (r ≡ codes "lot" ++ t)
 abbrev pub IsLot : List ℕ → List ℕ → Type 0
 IsLot p r = StepMayBegin p × BeginsWithLot r
 
--- The letters of a text of at most 1,000 bytes are not in the grammar, and letter i is the first that no text of the
+-- The letters of a text that isn't too long are not in the grammar, and letter i is the first that no text of the
 -- grammar has there; where i is their number, they end too early.
 pub record BadLetter (text : List ℕ) (i : ℕ) : Type 0 where
-  pub short : length text ≤ 1000
+  pub short : length text ≤ longest_text
   pub within : i ≤ length (letters (chars text))
   pub fault_at : FaultAt Description (take i (letters (chars text))) (drop i (letters (chars text)))
 
@@ -44,10 +48,10 @@ pub record BadLetter (text : List ℕ) (i : ℕ) : Type 0 where
 abbrev pub LotAt : List ℕ → ℕ → Type 0
 LotAt text i = IsLot (take i (letters (chars text))) (drop i (letters (chars text)))
 
--- a text of more than 1,000 bytes has its fault at byte 1,000; else it is that of the first bad letter, where this is no lot's
+-- a text that is too long has its fault at the first byte beyond the most; else it is that of the first bad letter, where this is no lot's
 abbrev pub IsBadText : List ℕ → ℕ → Type 0
 IsBadText text byte =
-    ((1000 < length text) × (byte ≡ 1000))
+    ((longest_text < length text) × (byte ≡ longest_text))
     ⊎ ((i : ℕ) × BadLetter text i × (LotAt text i → ⊥) × (byte ≡ offset (chars text) i))
 
 -- the text has a lot for its first bad letter

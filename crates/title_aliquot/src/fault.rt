@@ -8,27 +8,26 @@ use std::alloc::{AllocError, AllocFailed};
 use thiserror::Error;
 
 /// Why a text describes no land, in the order in which faults are looked for; `Lots` stands beside `BadText`.
-/// Printed as the line of a report: `fault,21,BYTE` for `BadText`, else `fault,N`.
 #[derive(Clone, Copy, Debug, PartialEq, Eq, Drop, Error)]
 pub enum DescFault {
     /// The byte offset of the first character that no text of the grammar has at its place after what stands before
     /// it; the text's length where it ends too early; 1,000 for a longer text.
-    #[error("fault,21,{0}")]
+    #[error("no description goes on as this one does at byte {0}")]
     BadText(usize),
     /// A township or range number is not 1 to 99, or a section is not 1 to 36.
-    #[error("fault,22")]
+    #[error("a township, range or section number is out of its range")]
     Range,
     /// A step halves a side of one cell.
-    #[error("fault,23")]
+    #[error("a step halves a side of one cell")]
     TooSmall,
     /// Where a step may begin the text goes on with `lot`: a government lot, of which only a plat knows the land.
-    #[error("fault,24")]
+    #[error("a government lot, of which only a plat knows the land")]
     Lots,
     /// Two parts of the text share a cell.
-    #[error("fault,25")]
+    #[error("two parts share a cell")]
     Overlap,
     /// Memory was refused.
-    #[error("fault,6")]
+    #[error("out of memory")]
     Memory,
 }
 

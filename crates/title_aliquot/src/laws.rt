@@ -3,6 +3,9 @@
 ghost use Rattle.title_aliquot.specs.TextLaws.{OneLand, NoFaultBesideLand, OneFault, EachTextIsAnswered, PartsHaveTheirCells, ReadsBack};
 ghost use Rattle.title_aliquot.specs.Reading.{ThereIsAReading, ReadingsAgree, ReadingsGiveTheLand, ReadingsGiveTheFault};
 ghost use Rattle.title_land.specs.Depth.{depth};
+ghost use Rattle.title_aliquot.specs.Describes.{longest_text};
+ghost use Rattle.title_aliquot.specs.declared.describe.TheConstants.{LONGEST};
+ghost use Rattle.std.specs.Prelude.{◌≡◌};
 
 /// A text describes one land at most.
 pub fn one_land_at_most()
@@ -48,4 +51,9 @@ pub fn parts_have_their_cells()
 /// A node's canonical text describes a land whose cover is that node alone.
 pub fn reads_back()
     ensures law { ReadsBack depth }
+{}
+
+/// The most bytes of a description that the code has are those of the definitions.
+pub fn limit_is_said()
+    ensures bytes { LONGEST ≡ longest_text }
 {}

@@ -31,9 +31,13 @@ alone depth townships records own a =
     answer_to depth townships (after_steps depth townships (plant_after depth townships records) own)
     (chain_of records own (tract_of a)) a
 
--- the ask's tract is in the plant, and an instrument that it posts passes its check among 65,536 parties
+-- the most parties that a plant has, party 0 among them
+abbrev pub most_parties : ℕ
+most_parties = 65536
+
+-- the ask's tract is in the plant, and an instrument that it posts passes its check among the most parties
 abbrev pub CanStand : List Township → Ask → Type 0
-CanStand townships a = (is_in_plant townships (tract_of a) ≡ true) × (cause_of 65536 a ≡ None)
+CanStand townships a = (is_in_plant townships (tract_of a) ≡ true) × (cause_of most_parties a ≡ None)
 
 -- each of these steps can stand and has the answer that it gets alone
 abbrev pub Plays : ℕ → List Township → List Record → List Step → Type 0

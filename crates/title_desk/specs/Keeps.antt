@@ -11,7 +11,7 @@ use Rattle.title_chain.specs.declared.ask.Ask.{Ask}
 use Rattle.title_chain.specs.declared.ask.Step.{Step}
 use Rattle.title_chain.specs.declared.record.Record.{Record}
 use Rattle.title_chain.specs.Asks.{tract_of, is_post}
-use Rattle.title_chain.specs.Alone.{after_steps, plant_after}
+use Rattle.title_chain.specs.Alone.{after_steps, plant_after, most_parties}
 use Rattle.title_chain.specs.Overlaps.{overlaps}
 use Rattle.title_trace.specs.declared.call.Call.{Call}
 use Rattle.title_trace.specs.Trace.{is_open, open_steps, committed}
@@ -44,7 +44,7 @@ images_of slots e = images_in (slots e)
 
 pub record Keeps {I : Type 0} (number : I → ℕ) (setting : Setting) (content : Plant) (declared : List Township) (out : List Loan)
     (locks : List Entry) (trace : List Call) (records : List Record) (slots : ℕ → Option (Slot I)) : Type 0 where
-  pub few : setting.parties ≤ 65536
+  pub few : setting.parties ≤ most_parties
   pub due : IsDue depth setting trace
   pub declared_are : declared ≡ setting.townships
   pub records_are : reverse records ≡ committed trace

@@ -13,10 +13,6 @@ use Rattle.title_trace.specs.declared.call.Reply.TheVariants as reply
 use Rattle.title_trace.specs.Trace.{is_open, open_steps}
 use Rattle.title_trace.specs.Due.{Setting, most_steps, InTheWay, DueReply}
 
--- what a desk can be opened with: 1 to 65,536 parties, at most 64 townships, none of them twice
-abbrev pub MayOpen : ℕ → List Township → Type 0
-MayOpen parties townships = (1 ≤ parties) × (parties ≤ 65536) × (length townships ≤ 64) × IsEachOnce townships
-
 -- a desk as its callers see it: what it was opened with, its trace, the newest call first, and whether it has room for
 -- one call more and one record more
 pub record Books : Type 0 where

@@ -10,10 +10,10 @@ ghost use Rattle.title_chain.specs.declared.ask.Ask.TheVariants.{Sheet, Chain, P
 ghost use Rattle.title_chain.specs.Alone.{alone, after_steps, plant_after, IsSerial};
 ghost use Rattle.title_chain.specs.Overlaps.{record_of};
 ghost use Rattle.title_trace.specs.Trace.{is_open, open_steps, committed};
-ghost use Rattle.title_trace.specs.Due.{DueReply};
+ghost use Rattle.title_trace.specs.Due.{DueReply, MayOpen};
 ghost use Rattle.title_desk.specs.Refusals.{reply_of};
 ghost use Rattle.title_desk.specs.Images.{is_posted, posted_at};
-ghost use Rattle.title_desk.specs.Told.{Books, MayOpen, Passes, Told};
+ghost use Rattle.title_desk.specs.Told.{Books, Passes, Told};
 
 use crate::asks::{access_in, add_step, cause_in, keep_post, tract_in};
 use crate::images::{forget_all, restore_all, tidy_up};
@@ -26,16 +26,7 @@ use title_chain::{Answer, Ask, Posting, Record, SheetRows, TractIndex};
 use title_land::{Township, Tract};
 use title_lock::Guards;
 use title_store::{Put, Store};
-use title_trace::{Call, Reply, Request};
-
-/// The most parties that a desk can be opened with.
-pub const MOST_PARTIES: u32 = 65_536;
-
-/// The most steps that a transaction has.
-pub const MOST_STEPS: usize = 10_000;
-
-/// The most townships that a desk can be opened with.
-pub const MOST_TOWNSHIPS: usize = 64;
+use title_trace::{Call, MOST_PARTIES, MOST_STEPS, MOST_TOWNSHIPS, Reply, Request};
 
 // Whether no township stands twice.
 fn each_once(townships: &[Township]) -> bool

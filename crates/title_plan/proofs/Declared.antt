@@ -12,7 +12,8 @@ use Rattle.title_store.specs.Plants.{IsEachOnce}
 use Rattle.title_plan.specs.declared.fault.ScriptFault.TheVariants as fault
 use Rattle.title_plan.specs.Asked.{Asked}
 use Rattle.title_plan.specs.Townships.{each_once}
-use Rattle.title_plan.specs.Limits.{most_parties, most_townships}
+use Rattle.title_chain.specs.Alone.{most_parties}
+use Rattle.title_trace.specs.Due.{most_townships}
 use Rattle.title_plan.specs.Plans.{with_party}
 
 pub not_true : (b : Bool) → not b ≡ true → b ≡ false

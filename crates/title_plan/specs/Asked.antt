@@ -1,11 +1,9 @@
 -- What the rows of a script have declared and asked for.
-use Rattle.std.specs.Prelude.{ℕ, ◌≤◌, List, [], ◌∷◌, map, codes, length, Option, None}
+use Rattle.std.specs.Prelude.{ℕ, List, [], ◌∷◌, map, codes, Option, None}
 use Rattle.std.specs.String.{string_bytes}
 use Rattle.title_land.specs.declared.place.Township.{Township}
-use Rattle.title_store.specs.Plants.{IsEachOnce}
 use Rattle.title_plan.specs.declared.line.Line.{Line}
 use Rattle.title_plan.specs.declared.plan.Plan.{Plan}
-use Rattle.title_plan.specs.Limits.{most_parties, most_townships}
 
 -- the townships; the names of the parties, whose numbers are their places from 0; the steps; and the examiner whose
 -- transaction is open where the steps come one after another
@@ -27,7 +25,3 @@ asked_in p = record {
   lines = p.lines.items;
   inside = p.inside;
 }
-
--- a plant can be opened with them: one party at least and so many at most, so many townships, none of them twice
-abbrev pub CanOpen : ℕ → List Township → Type 0
-CanOpen parties townships = (1 ≤ parties) × (parties ≤ most_parties) × (length townships ≤ most_townships) × IsEachOnce townships

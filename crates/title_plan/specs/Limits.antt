@@ -1,17 +1,9 @@
--- The limits of a script.
+-- The limits of a script; those of its parties and townships are a desk's.
 use Rattle.std.specs.Prelude.{ℕ}
 
 -- the most rows
 abbrev pub most_rows : ℕ
 most_rows = 100000
-
--- the most parties, UNITED STATES among them
-abbrev pub most_parties : ℕ
-most_parties = 65536
-
--- the most townships
-abbrev pub most_townships : ℕ
-most_townships = 64
 
 -- the most bytes of a party's name
 abbrev pub longest_name : ℕ

@@ -27,7 +27,9 @@ use Rattle.title_plan.specs.declared.row.Row.{Row}
 use Rattle.title_plan.specs.declared.row.Row.TheVariants as row
 use Rattle.title_plan.specs.Asked.{Asked, nothing_asked}
 use Rattle.title_plan.specs.Fields.{given}
-use Rattle.title_plan.specs.Limits.{most_rows, most_parties, most_townships}
+use Rattle.title_chain.specs.Alone.{most_parties}
+use Rattle.title_trace.specs.Due.{most_townships}
+use Rattle.title_plan.specs.Limits.{most_rows}
 use Rattle.title_plan.specs.Rows.{row_in}
 
 -- ---- declarations

@@ -2,9 +2,9 @@
 
 ghost use Rattle.std.specs.Prelude.{◌≡◌};
 ghost use Rattle.title_plan.specs.Lands.{FaultsAreRead, LandsAreRead};
-ghost use Rattle.title_plan.specs.Limits.{last_document, last_examiner, longest_name, most_parties, most_rows, most_townships};
+ghost use Rattle.title_plan.specs.Limits.{last_document, last_examiner, longest_name, most_rows};
 ghost use Rattle.title_plan.specs.declared.fields.TheConstants.{DOCUMENTS, EXAMINERS, NAME_LIMIT};
-ghost use Rattle.title_plan.specs.declared.plan.TheConstants.{PARTIES, ROWS, TOWNSHIPS};
+ghost use Rattle.title_plan.specs.declared.plan.TheConstants.{ROWS};
 
 /// A text is read as the land that it describes, or as its fault.
 pub fn texts_are_read()
@@ -15,8 +15,6 @@ pub fn texts_are_read()
 /// The limits that the code has are those of the definitions.
 pub fn limits_are_said()
     ensures rows { ROWS ≡ most_rows }
-    ensures parties { PARTIES ≡ most_parties }
-    ensures townships { TOWNSHIPS ≡ most_townships }
     ensures names { NAME_LIMIT ≡ longest_name }
     ensures examiners { EXAMINERS ≡ last_examiner }
     ensures documents { DOCUMENTS ≡ last_document }

@@ -15,6 +15,6 @@ pub use fault::ScriptFault;
 pub use fields::{DOCUMENTS, EXAMINERS, NAME_LIMIT};
 pub use lands::read_tract;
 pub use line::{Line, Schedule};
-pub use plan::{PARTIES, Plan, ROWS, TOWNSHIPS};
+pub use plan::{Plan, ROWS};
 pub use row::{Act, Row, read_row};
 pub use script::read_script;

@@ -4,7 +4,9 @@ ghost use Rattle.std.specs.Prelude.{◌≡◌, ◌≤◌, ◌⊎◌, Ok, Err, If
 ghost use Rattle.csv.specs.Records.{fields_of};
 ghost use Rattle.indexmap.specs.IndexSet.{index_set_len};
 ghost use Rattle.title_plan.specs.declared.fault.ScriptFault.TheVariants as fault;
-ghost use Rattle.title_plan.specs.Limits.{most_parties, most_rows, most_townships};
+ghost use Rattle.title_chain.specs.Alone.{most_parties};
+ghost use Rattle.title_trace.specs.Due.{most_townships};
+ghost use Rattle.title_plan.specs.Limits.{most_rows};
 ghost use Rattle.title_plan.specs.Rows.{done, said};
 ghost use Rattle.title_plan.specs.Townships.{each_once};
 
@@ -22,12 +24,6 @@ mod steps;
 
 /// The most rows of a script.
 pub const ROWS: u64 = 100_000;
-
-/// The most parties of a plant, UNITED STATES among them.
-pub const PARTIES: usize = 65_536;
-
-/// The most townships of a plant.
-pub const TOWNSHIPS: usize = 64;
 
 /// The name of party 0.
 const FIRST_PARTY: &str = "UNITED STATES";

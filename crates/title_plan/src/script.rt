@@ -1,7 +1,8 @@
 //! A script, from its bytes.
 
 ghost use Rattle.std.specs.Prelude.{◌≡◌, ◌⊎◌, Ok, Err, IfErr, IfOk, length};
-ghost use Rattle.title_plan.specs.Asked.{CanOpen, asked_in};
+ghost use Rattle.title_trace.specs.Due.{MayOpen};
+ghost use Rattle.title_plan.specs.Asked.{asked_in};
 ghost use Rattle.csv.specs.Reading.{error_kind};
 ghost use Rattle.title_plan.specs.Faults.{IsWant};
 ghost use Rattle.title_plan.specs.Plans.{script_of};
@@ -32,7 +33,7 @@ fn fault_of(error: Error) -> ScriptFault
 /// from 1; or Memory. With what it declares a plant can be opened.
 pub fn read_script(alloc: Global, schedule: Schedule, text: &[u8]) -> Result<Plan, ScriptFault>
     ensures script { IfOk result (λ plan. script_of schedule text.now ≡ Ok (asked_in plan)) }
-    ensures opens { IfOk result (λ plan. CanOpen (length plan.parties.keys) plan.townships.items) }
+    ensures opens { IfOk result (λ plan. MayOpen (length plan.parties.keys) plan.townships.items) }
     ensures why { IfErr result (λ e. (e ≡ fault.Memory) ⊎ (script_of schedule text.now ≡ Err e)) }
 {
     let rdr = ReaderBuilder::new()

@@ -6,7 +6,6 @@ use Rattle.title_aliquot.specs.declared.fault.DescFault.TheVariants as descripti
 use Rattle.title_aliquot.specs.Faults.{number_of}
 use Rattle.title_script.specs.declared.fault.RunFault.{RunFault}
 use Rattle.title_script.specs.declared.fault.RunFault.TheVariants as run
-use Rattle.title_script.specs.Faults.{fault_number}
 use Rattle.title_program.specs.declared.fault.Fault.{Fault}
 
 -- a fault of this number that stands here
@@ -39,15 +38,11 @@ byte_of description.Memory = None
 abbrev pub of_description : DescFault → Fault
 of_description f = record { number = number_of f; place = byte_of f }
 
--- a script's fault stands at its row
-abbrev pub row_of : RunFault → Option ℕ
-row_of (run.Row row) = Some row
-row_of (run.Party row) = Some row
-row_of (run.Order row) = Some row
-row_of run.Read = None
-row_of run.Write = None
-row_of run.Memory = None
-
--- the fault of a run
+-- the fault of a run: 31 to 35 are those of a script, which stand at its row, and of its devices
 abbrev pub of_run : RunFault → Fault
-of_run f = record { number = fault_number f; place = row_of f }
+of_run (run.Row row) = record { number = 31; place = Some row }
+of_run run.Read = record { number = 32; place = None }
+of_run run.Write = record { number = 33; place = None }
+of_run (run.Party row) = record { number = 34; place = Some row }
+of_run (run.Order row) = record { number = 35; place = Some row }
+of_run run.Memory = memory

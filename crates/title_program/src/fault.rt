@@ -73,13 +73,14 @@ impl From<RunFault> for Fault {
     ghost from_gives = { λ fault told. told ≡ of_run fault };
 
     fn from(fault: RunFault) -> Fault {
-        let place = match fault {
-            RunFault::Row(row) | RunFault::Party(row) | RunFault::Order(row) => Some(row),
-            RunFault::Read | RunFault::Write | RunFault::Memory => None,
+        let (number, place) = match fault {
+            RunFault::Row(row) => (31, Some(row)),
+            RunFault::Read => (32, None),
+            RunFault::Write => (33, None),
+            RunFault::Party(row) => (34, Some(row)),
+            RunFault::Order(row) => (35, Some(row)),
+            RunFault::Memory => (6, None),
         };
-        Fault {
-            number: fault.number(),
-            place,
-        }
+        Fault { number, place }
     }
 }

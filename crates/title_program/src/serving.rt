@@ -1,8 +1,8 @@
 //! Scripts, served from the source to the output.
 
-ghost use Rattle.std.specs.Prelude.{◌≡◌, ◌≢◌, false, IfErr, OnOk};
+ghost use Rattle.std.specs.Prelude.{◌≡◌, ◌≢◌, false};
 ghost use Rattle.std.specs.Io.KnownBytes.{IsAtEnd};
-ghost use Rattle.title_script.specs.Runs.{Explains, IsReadWithin, LeavesWritten, Reports};
+ghost use Rattle.title_script.specs.Runs.{IsReadWithin};
 ghost use Rattle.title_script.specs.declared.fault.RunFault.TheVariants as fault;
 ghost use Rattle.title_program.specs.Faults.{of_run};
 ghost use Rattle.title_program.specs.Printing.{TellsFault};
@@ -14,28 +14,7 @@ use crate::printing::tell;
 use crate::status::Status;
 use std::alloc::Global;
 use title_device::{Sink, Source};
-use title_script::{RunFault, Schedule, run, run_alone};
-
-// Runs a script by its schedule.
-fn run_by<R: Source, W: Sink>(
-    alloc: Global,
-    schedule: Schedule,
-    source: &mut R,
-    sink: &mut W,
-) -> Result<(), RunFault>
-    requires source_works { R.has_failed source.old ≡ false }
-    requires sink_works { W.has_failed sink.old ≡ false }
-    ensures report { OnOk result (Reports schedule (R.left source.old) (W.taken sink.old) (W.taken sink.new)) }
-    ensures all { OnOk result (IsAtEnd (R.left source.new)) }
-    ensures why { IfErr result (Explains schedule (R.left source.old) (R.has_failed source.new) (W.has_failed sink.new)) }
-    ensures written { IfErr result (LeavesWritten schedule (R.left source.old) (W.taken sink.old) (W.taken sink.new)) }
-    ensures turns { IsReadWithin (R.turns source.old) (R.turns source.new) }
-{
-    match schedule {
-        Schedule::Interleaved => run(alloc, source, sink),
-        Schedule::Serial => run_alone(alloc, source, sink),
-    }
-}
+use title_script::{RunFault, Schedule, run_by};
 
 // Prints the line of a run's fault; after a fault of the sink, nothing.
 fn tell_run<W: Sink>(alloc: Global, why: RunFault, sink: &mut W) -> Status

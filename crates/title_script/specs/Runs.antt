@@ -1,6 +1,6 @@
 -- What a run of a script does, as a whole. Each says nothing where the script's bytes are not known.
-use Rattle.std.specs.Prelude.{◌≡◌, ◌≤◌, ◌+◌, ◌<◌, ◌⊎◌, ℕ, List, Bool, true, Option, IfSome, Ok, Err, take, length}
-use Rattle.std.specs.Io.KnownBytes.{Appends, Keeps}
+use Rattle.std.specs.Prelude.{◌≡◌, ◌≤◌, ◌+◌, ◌<◌, ◌⊎◌, ℕ, List, Bool, true, Option, IfSome, Result, Ok, Err, IfErr, OnOk, take, length}
+use Rattle.std.specs.Io.KnownBytes.{Appends, IsAtEnd, Keeps}
 use Rattle.title_plan.specs.declared.fault.ScriptFault.TheVariants as script_fault
 use Rattle.title_plan.specs.declared.line.Schedule.{Schedule}
 use Rattle.title_script.specs.declared.fault.RunFault.{RunFault}
@@ -42,3 +42,13 @@ LeavesWritten sched known before after e = IfSome known (λ script. IsLeft sched
 -- a script is read in at most so many turns as it may have bytes, and one more
 abbrev pub IsReadWithin : (before after : ℕ) → Type 0
 IsReadWithin before after = after ≤ before + most_bytes + 1
+
+-- a run: what was left in the source and its turns, before and after, and whether it has failed; what the sink has taken, before and
+-- after, and whether it has failed; what the run answers
+pub record IsRun {T : Type 0} (sched : Schedule) (left left_after : Option (List ℕ)) (turns turns_after : ℕ) (source_failed : Bool)
+    (taken taken_after : Option (List ℕ)) (sink_failed : Bool) (result : Result T RunFault) : Type 0 where
+  pub report : OnOk result (Reports sched left taken taken_after)
+  pub all : OnOk result (IsAtEnd left_after)
+  pub why : IfErr result (Explains sched left source_failed sink_failed)
+  pub written : IfErr result (LeavesWritten sched left taken taken_after)
+  pub within : IsReadWithin turns turns_after

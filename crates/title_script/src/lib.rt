@@ -7,7 +7,7 @@ mod runs;
 mod serving;
 
 pub use fault::RunFault;
-pub use runs::{run, run_alone};
+pub use runs::{run, run_alone, run_by};
 pub use title_device::{
     Device, Failed, ReadFault, SCRIPT_LIMIT, Sink, Source, read_all, write_all,
 };

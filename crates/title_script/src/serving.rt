@@ -3,7 +3,8 @@
 ghost use Rattle.std.specs.Prelude.{◌≡◌, ◌++◌, [], IfOk, OnOk, length, map};
 ghost use Rattle.std.specs.String.{string_bytes};
 ghost use Rattle.title_trace.specs.declared.call.Request.TheVariants as request;
-ghost use Rattle.title_plan.specs.Asked.{CanOpen, asked_in};
+ghost use Rattle.title_trace.specs.Due.{MayOpen};
+ghost use Rattle.title_plan.specs.Asked.{asked_in};
 ghost use Rattle.title_report.specs.Writing.{rows_text};
 ghost use Rattle.title_script.specs.Served.{after_alone, after_call, after_line, due_rows, ending, line_rows, reply_to};
 ghost use Rattle.title_script.specs.Reports.{report_on, setting_of};
@@ -109,7 +110,7 @@ fn open_desk<S: Store + Drop, G: Guards + Drop>(
     alloc: Global,
     plan: &Plan,
 ) -> Result<Desk<S, G>, AllocError>
-    requires opens { CanOpen (length plan.now.parties.keys) plan.now.townships.items }
+    requires opens { MayOpen (length plan.now.parties.keys) plan.now.townships.items }
     ensures setting { IfOk result (λ d. d.setting ≡ setting_of (asked_in plan.now)) }
     ensures trace { IfOk result (λ d. d.trace ≡ []) }
 {
@@ -122,7 +123,7 @@ pub(crate) fn write_report<S: Store + Drop, G: Guards + Drop>(
     alloc: Global,
     plan: &mut Plan,
 ) -> Result<Vec<u8>, AllocError>
-    requires opens { CanOpen (length plan.old.parties.keys) plan.old.townships.items }
+    requires opens { MayOpen (length plan.old.parties.keys) plan.old.townships.items }
     ensures report { IfOk result (λ v. v.items ≡ report_on (asked_in plan.old)) }
 {
     let report = Report::new(alloc)?;

@@ -11,7 +11,7 @@ use Rattle.title_chain.specs.declared.ask.Ask.{Ask}
 use Rattle.title_chain.specs.declared.ask.Step.{Step}
 use Rattle.title_chain.specs.declared.record.Record.{Record}
 use Rattle.title_chain.specs.Asks.{tract_of, cause_of}
-use Rattle.title_chain.specs.Alone.{alone, CanStand, Plays, IsSerial}
+use Rattle.title_chain.specs.Alone.{alone, CanStand, Plays, IsSerial, most_parties}
 use Rattle.title_chain.specs.Overlaps.{overlaps, Clear, record_of}
 use Rattle.title_chain.proofs.Past.{clear_nothing, clear_later, plays_past}
 use Rattle.title_trace.specs.declared.call.Call.{Call}
@@ -87,7 +87,7 @@ kept_way depth setting before e a None stands free k =
 kept_way depth setting before e a (Some f) stands least k = k
 
 kept_step : (depth : ℕ) (setting : Setting) (before : List Call) (e : ℕ) (a : Ask) (r : Reply) (begun inside : Bool) (cause : Option Cause)
-    (full : Bool) → setting.parties ≤ 65536 →
+    (full : Bool) → setting.parties ≤ most_parties →
     is_in_plant setting.townships (tract_of a) ≡ inside → cause_of setting.parties a ≡ cause →
     DueStep depth setting before e a r begun inside cause full → KeptAt depth setting before
     → KeptBy depth setting before (request.Step e a) r
@@ -100,9 +100,9 @@ kept_step depth setting before e a r true true (Some cause) full most i c due k 
 kept_step depth setting before e a r true true None true most i c due k = subst (KeptBy depth setting before (request.Step e a)) (sym due) k
 kept_step depth setting before e a r true true None false most i c due k =
     subst (KeptBy depth setting before (request.Step e a)) (sym due.2)
-    (kept_way depth setting before e a due.0 (i, cause_among_more setting.parties 65536 a most c) due.1 k)
+    (kept_way depth setting before e a due.0 (i, cause_among_more setting.parties most_parties a most c) due.1 k)
 
-kept_call : (depth : ℕ) (setting : Setting) (before : List Call) (q : Request) (r : Reply) → setting.parties ≤ 65536
+kept_call : (depth : ℕ) (setting : Setting) (before : List Call) (q : Request) (r : Reply) → setting.parties ≤ most_parties
     → DueReply depth setting before q r → KeptAt depth setting before → KeptBy depth setting before q r
 kept_call depth setting before (request.Begin e) r most due k =
     let P = KeptBy depth setting before (request.Begin e) in
@@ -116,16 +116,16 @@ kept_call depth setting before (request.Abort e) r most due k =
     let P = KeptBy depth setting before (request.Abort e) in
     subst P (sym due) (cond_both (is_open e before) reply.Aborted reply.NotOpen P (λ _. kept_emptied _ _ _ _ e k) (λ _. k))
 
-pub kept : (depth : ℕ) (setting : Setting) → setting.parties ≤ 65536 → (trace : List Call) → IsDue depth setting trace
+pub kept : (depth : ℕ) (setting : Setting) → setting.parties ≤ most_parties → (trace : List Call) → IsDue depth setting trace
     → KeptAt depth setting trace
 kept depth setting most [] due = record { serial = tt; plays = λ e. tt; clear = λ e f ne. tt }
 kept depth setting most (call ∷ before) due = kept_call depth setting before call.request call.reply most due.1
     (kept depth setting most before due.0)
 
-pub committed_serial : (depth : ℕ) (setting : Setting) → setting.parties ≤ 65536 → (trace : List Call) → IsDue depth setting trace
+pub committed_serial : (depth : ℕ) (setting : Setting) → setting.parties ≤ most_parties → (trace : List Call) → IsDue depth setting trace
     → IsSerial depth setting.townships (committed trace)
 committed_serial depth setting most trace due = (kept depth setting most trace due).serial
 
-pub open_last : (depth : ℕ) (setting : Setting) → setting.parties ≤ 65536 → (trace : List Call) (e : ℕ) → IsDue depth setting trace
+pub open_last : (depth : ℕ) (setting : Setting) → setting.parties ≤ most_parties → (trace : List Call) (e : ℕ) → IsDue depth setting trace
     → IsSerial depth setting.townships (record_of e (open_steps trace e) ∷ committed trace)
 open_last depth setting most trace e due = let k = kept depth setting most trace due in (k.serial, rw reverse-reverse (k.plays e))

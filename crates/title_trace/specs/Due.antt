@@ -1,12 +1,13 @@
 -- The due reply to a request after a trace, with no lock and no undo in it. Lists of calls and steps have the newest first.
-use Rattle.std.specs.Prelude.{◌≡◌, ◌≢◌, ◌↔◌, ℕ, suc, ◌<◌, Bool, true, false, cond, not, ◌&&◌, eqb, nat_le, min}
+use Rattle.std.specs.Prelude.{◌≡◌, ◌≢◌, ◌↔◌, ℕ, suc, ◌<◌, ◌≤◌, Bool, true, false, cond, not, ◌&&◌, eqb, nat_le, min}
 use Rattle.std.specs.Prelude.{List, [], ◌∷◌, length, map, filter, Option, Some, None}
 use Rattle.title_land.specs.declared.place.Township.{Township}
 use Rattle.title_land.specs.Lands.{is_in_plant}
 use Rattle.title_instrument.specs.declared.parts.Cause.{Cause}
+use Rattle.title_store.specs.Plants.{IsEachOnce}
 use Rattle.title_chain.specs.declared.ask.Ask.{Ask}
 use Rattle.title_chain.specs.Asks.{tract_of, cause_of}
-use Rattle.title_chain.specs.Alone.{alone}
+use Rattle.title_chain.specs.Alone.{alone, most_parties}
 use Rattle.title_chain.specs.Overlaps.{overlaps}
 use Rattle.title_trace.specs.declared.call.Call.{Call}
 use Rattle.title_trace.specs.declared.call.Request.{Request}
@@ -23,6 +24,14 @@ most_steps = 10000
 pub record Setting : Type 0 where
   pub parties : ℕ
   pub townships : List Township
+
+-- the most townships that a plant has
+abbrev pub most_townships : ℕ
+most_townships = 64
+
+-- what a desk can be opened with: a party at least and so many at most, so many townships, none of them twice
+abbrev pub MayOpen : ℕ → List Township → Type 0
+MayOpen parties townships = (1 ≤ parties) × (parties ≤ most_parties) × (length townships ≤ most_townships) × IsEachOnce townships
 
 -- who stands in the way of an examiner's ask: nobody, or the least other examiner with an open step that overlaps it
 abbrev pub InTheWay : List Call → ℕ → Ask → Option ℕ → Type 0

@@ -1,6 +1,6 @@
 -- The headline as a law over all due traces.
 use Rattle.std.specs.Prelude.{ℕ, ◌≤◌, List, ◌∷◌}
-use Rattle.title_chain.specs.Alone.{IsSerial}
+use Rattle.title_chain.specs.Alone.{IsSerial, most_parties}
 use Rattle.title_chain.specs.Overlaps.{record_of}
 use Rattle.title_trace.specs.declared.call.Call.{Call}
 use Rattle.title_trace.specs.Trace.{committed, open_steps}
@@ -8,10 +8,10 @@ use Rattle.title_trace.specs.Due.{Setting, IsDue}
 
 -- in every due trace the committed transactions are serial: run alone, in the order of their commits, they get their answers
 abbrev pub CommittedAreSerial : ℕ → Type 0
-CommittedAreSerial depth = (setting : Setting) → setting.parties ≤ 65536 → (trace : List Call) → IsDue depth setting trace →
+CommittedAreSerial depth = (setting : Setting) → setting.parties ≤ most_parties → (trace : List Call) → IsDue depth setting trace →
     IsSerial depth setting.townships (committed trace)
 
 -- and they stay so with the open steps of any one examiner as a last record
 abbrev pub OpenMayBeLast : ℕ → Type 0
-OpenMayBeLast depth = (setting : Setting) → setting.parties ≤ 65536 → (trace : List Call) (e : ℕ) → IsDue depth setting trace →
+OpenMayBeLast depth = (setting : Setting) → setting.parties ≤ most_parties → (trace : List Call) (e : ℕ) → IsDue depth setting trace →
     IsSerial depth setting.townships (record_of e (open_steps trace e) ∷ committed trace)

@@ -1,6 +1,9 @@
 //! Laws of due traces and due replies. Each function does nothing: its clause is the law, proved.
 
-ghost use Rattle.title_trace.specs.Due.{OneInTheWay, OneDueReply};
+ghost use Rattle.std.specs.Prelude.{◌≡◌};
+ghost use Rattle.title_chain.specs.Alone.{most_parties};
+ghost use Rattle.title_trace.specs.declared.limits.TheConstants.{MOST_PARTIES, MOST_STEPS, MOST_TOWNSHIPS};
+ghost use Rattle.title_trace.specs.Due.{OneInTheWay, OneDueReply, most_steps, most_townships};
 ghost use Rattle.title_trace.specs.Serial.{CommittedAreSerial, OpenMayBeLast};
 ghost use Rattle.title_land.specs.Depth.{depth};
 
@@ -16,4 +19,11 @@ pub fn committed_transactions_are_serial()
 pub fn one_reply_is_due()
     ensures way { OneInTheWay }
     ensures reply { OneDueReply depth }
+{}
+
+/// The limits that the code has are those of the definitions.
+pub fn limits_are_said()
+    ensures parties { MOST_PARTIES ≡ most_parties }
+    ensures townships { MOST_TOWNSHIPS ≡ most_townships }
+    ensures steps { MOST_STEPS ≡ most_steps }
 {}

@@ -3,5 +3,7 @@
 
 pub mod call;
 pub mod laws;
+pub mod limits;
 
 pub use call::{Call, Reply, Request};
+pub use limits::{MOST_PARTIES, MOST_STEPS, MOST_TOWNSHIPS};

@@ -6,14 +6,15 @@ ghost use Rattle.title_land.specs.Places.{same_township};
 ghost use Rattle.title_plan.specs.declared.fault.ScriptFault.TheVariants as fault;
 ghost use Rattle.title_plan.specs.Asked.{asked_in};
 ghost use Rattle.title_plan.specs.Lands.{land_in};
-ghost use Rattle.title_plan.specs.Limits.{most_townships};
+ghost use Rattle.title_trace.specs.Due.{most_townships};
 ghost use Rattle.title_plan.specs.Plans.{after_township, with_party, with_township};
 
 use crate::fault::ScriptFault;
 use crate::lands::read_tract;
-use crate::plan::{PARTIES, Plan, TOWNSHIPS};
+use crate::plan::Plan;
 use std::alloc::AllocError;
 use title_land::{Land, Township};
+use title_trace::{MOST_PARTIES, MOST_TOWNSHIPS};
 
 // Whether a township is declared.
 fn is_declared(townships: &[Township], township: Township) -> bool
@@ -27,7 +28,7 @@ fn is_refused(townships: &[Township], township: Township) -> bool
     ensures refused { result ≡ (nat_le most_townships (length townships.now)
         || list_any (λ other. same_township other township) townships.now) }
 {
-    townships.len() >= TOWNSHIPS || is_declared(townships, township)
+    townships.len() >= MOST_TOWNSHIPS || is_declared(townships, township)
 }
 
 fn push(townships: &mut Vec<Township>, township: Township) -> Result<(), AllocError>
@@ -71,7 +72,7 @@ impl Plan {
         ensures ok { OnOk result (with_party n (asked_in self.old) name.now ≡ Ok (asked_in self.new)) }
         ensures err { IfErr result (λ e. (e ≡ fault.Memory) ⊎ (with_party n (asked_in self.old) name.now ≡ Err e)) }
     {
-        if self.parties.len() >= PARTIES {
+        if self.parties.len() >= MOST_PARTIES as usize {
             return Err(ScriptFault::Row(n));
         }
         if !self.lines.is_empty() {

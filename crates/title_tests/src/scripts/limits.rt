@@ -1,10 +1,9 @@
 // Scripts at each side of each limit: a line that stands many times, and how the report ends.
 
-use super::report_of;
+use super::{is_told, report_of};
 use std::alloc::Global;
 use std::process::Abort;
 use std::test::Fail;
-use title_script::Schedule;
 
 /// The lines that a script has many times: the same each time, or with their number, from 1, between two texts.
 #[derive(Clone, Copy)]
@@ -203,12 +202,9 @@ fn script_of(alloc: Global, limit: &Limit) -> Result<String, Fail> {
 /// Whether a limit's script gives what is wanted.
 fn ends_so(alloc: Global, limit: &Limit) -> Result<bool, Fail> {
     let script = script_of(alloc, limit)?;
-    match (
-        report_of(alloc, Schedule::Interleaved, script.as_bytes()),
-        limit.wanted,
-    ) {
+    match (report_of(alloc, script.as_bytes()), limit.wanted) {
         (Ok(report), Ok(end)) => Ok(report.ends_with(end.as_bytes())),
-        (Err(fault), Err(line)) => Ok(format!(in alloc; "{fault}")?.as_str() == line),
+        (Err(fault), Err(line)) => Ok(is_told(alloc, fault, line)?),
         _ => Ok(false),
     }
 }

@@ -7,6 +7,6 @@ pub returns-in-Err-clause-served : goal.returns-in-Err-clause-served
 returns-in-Err-clause-served g c =
     failed_is_served c.args.schedule (g.R.Source.left c.args.source.now) (g.W.Sink.taken c.args.sink.now) (g.W.Sink.taken c.run_by.new.sink)
     (g.W.Sink.taken c.tell_run.new.sink) (g.R.Source.has_failed c.run_by.new.source) (g.W.Sink.has_failed c.run_by.new.sink)
-    (g.W.Sink.has_failed c.tell_run.new.sink) c.in-Err.why c.tell_run.result c.in-Err.ensures.why c.in-Err.ensures.written
+    (g.W.Sink.has_failed c.tell_run.new.sink) c.in-Err.why c.tell_run.result c.in-Err.ensures.run.why c.in-Err.ensures.run.written
     (λ is. (ap g.W.Sink.taken (c.tell_run.ensures.cut is), ap g.W.Sink.has_failed (c.tell_run.ensures.cut is)))
     c.tell_run.ensures.told c.tell_run.ensures.status

@@ -1,7 +1,7 @@
 use Rattle.std.proofs.Common.{◌≡◌, ◌<◌, ◌==◌, true, ◌∙◌, sym, inr, length, arith, rules}
 use Rattle.std.proofs.lemmas.List.{length-map}
 use Rattle.title_plan.specs.Asked.{asked_in}
-use Rattle.title_plan.specs.Limits.{most_parties}
+use Rattle.title_chain.specs.Alone.{most_parties}
 use Rattle.title_plan.proofs.Names.{contains_name, insert_name}
 use Rattle.title_plan.proofs.Declared.{party_again, party_new}
 use Rattle.title_plan.proofs.plan.Plan.take_party.Goals as goal
