@@ -1,5 +1,6 @@
 //! Chains of records and of open steps, and their copies.
 
+use crate::places::{square, township};
 use std::alloc::{AllocError, Global};
 use std::process::Abort;
 use std::test::Fail;
@@ -8,7 +9,7 @@ use title_chain::{
     TractIndex, chain, sheet_by_chain,
 };
 use title_instrument::{Estate, Estates, Instrument, Release, Rule};
-use title_land::{Node, Quarter, Section, Township, Tract, Within};
+use title_land::{Node, Quarter, Tract};
 use title_share::WHOLE;
 use title_store::SheetRow;
 
@@ -23,20 +24,6 @@ const SURFACE: Estates = Estates {
     o: false,
     m: false,
 };
-
-fn third_north(rt: &impl Abort) -> Township {
-    Township::new(3, true, 2, false).expect(rt, "the numbers are in range")
-}
-
-fn section(rt: &impl Abort, number: u8) -> Section {
-    Section::new(third_north(rt), number).expect(rt, "the number is in range")
-}
-
-// The square of a section with these quarters, the innermost first.
-fn square(rt: &impl Abort, number: u8, quarters: &[Quarter]) -> Node {
-    let within = Within::named(quarters).expect(rt, "no more than four quarters");
-    Node::Part(section(rt, number), within)
-}
 
 // A release of the surface.
 fn release(from: u32, to: u32) -> Instrument {
@@ -147,7 +134,7 @@ fn a_copy_has_the_same_steps(rt: HostRuntime) -> Result<(), Fail> {
 /// The sheet that no record has changed.
 #[test]
 fn a_sheet_by_the_chain_of_no_records(rt: HostRuntime) -> Result<(), Fail> {
-    let townships = [third_north(&rt)];
+    let townships = [township(&rt, 3)];
     let tract = Tract::of(Node::Everything);
     assert!(rt; tract.is_in(&townships));
     let records = Records::new(Vec::new(rt.alloc()));
@@ -224,7 +211,7 @@ fn an_index_lists_what_was_posted_since(rt: HostRuntime) -> Result<(), Fail> {
             ),
             (
                 23,
-                Node::Township(third_north(&rt)),
+                Node::Township(township(&rt, 3)),
                 &[(1, 21), (3, 23), (0, 28)],
             ),
             (24, Node::Everything, &[(1, 21), (3, 23), (4, 24), (0, 28)]),

@@ -1,13 +1,15 @@
 //! The desk over a store of cells and a table of locks: each of its calls.
 
+use crate::places::{square, township};
 use std::alloc::{AllocError, Global};
 use std::process::Abort;
 use std::test::Fail;
 use title_chain::{Answer, Ask, Posting};
 use title_desk::{Desk, may_open};
-use title_instrument::{Estates, Instrument, Release};
-use title_land::{Land, Node, Quarter, Section, Township, Tract, Within};
+use title_instrument::{Deed, Estates, Instrument, Quantum, Release};
+use title_land::{Land, Node, Quarter, Township, Tract};
 use title_lock::RowLocks;
+use title_share::Share;
 use title_store::{CellStore, Store};
 use title_trace::{Reply, Request};
 
@@ -26,19 +28,9 @@ enum Act {
     Abort,
 }
 
-fn township(rt: &impl Abort) -> Township {
-    Township::new(3, true, 2, false).expect(rt, "the numbers are in range")
-}
-
-fn northeast(rt: &impl Abort) -> Land {
-    let section = Section::new(township(rt), 5).expect(rt, "the number is in range");
-    let quarter = Within::named(&[Quarter::Northeast]).expect(rt, "one quarter");
-    Land::of(Node::Part(section, quarter))
-}
-
 /// A desk of three parties and one township.
 fn open(alloc: Global, rt: &impl Abort) -> Result<TestDesk, AllocError> {
-    let townships = [township(rt)];
+    let townships = [township(rt, 3)];
     assert!(rt; may_open(PARTIES, &townships));
     Desk::open(alloc, PARTIES, &townships)
 }
@@ -99,7 +91,7 @@ fn assert_replies(
     desk: &mut TestDesk,
     lines: &[(u32, Act, &str)],
 ) -> Result<(), AllocError> {
-    let land = northeast(rt);
+    let land = Land::of(square(rt, 5, &[Quarter::Northeast]));
     for (examiner, act, wanted) in lines {
         let reply = desk.serve(request(alloc, land, *examiner, *act)?);
         assert_eq!(rt; word(&reply), *wanted, "to {examiner}");
@@ -164,7 +156,7 @@ fn a_desk_shows_its_books(rt: HostRuntime) -> Result<(), Fail> {
 /// Everything is the United States': a sheet of a row for each estate.
 #[test]
 fn a_new_desk_has_an_opening_plant(rt: HostRuntime) -> Result<(), Fail> {
-    let townships = [township(&rt)];
+    let townships = [township(&rt, 3)];
     assert!(rt; may_open(PARTIES, &townships));
     let desk: TestDesk = Desk::open(rt.alloc(), PARTIES, &townships)?;
     let plant = Tract::of(Node::Everything);
@@ -174,5 +166,92 @@ fn a_new_desk_has_an_opening_plant(rt: HostRuntime) -> Result<(), Fail> {
     for row in &rows {
         assert_eq!(rt; (row.party, row.units), (0, 4_294_967_296));
     }
+    Ok(())
+}
+
+/// The townships of ranges 2 west from 1 north to so many north.
+fn townships_to(alloc: Global, rt: &impl Abort, last: u8) -> Result<Vec<Township>, AllocError> {
+    let mut townships = Vec::new(alloc);
+    for number in 1..=last {
+        townships.push(township(rt, number))?;
+    }
+    Ok(townships)
+}
+
+/// A desk has 1 to 65,536 parties and at most 64 townships, none of them twice.
+#[test]
+fn a_desk_opens_within_its_limits(rt: HostRuntime) -> Result<(), Fail> {
+    let most = townships_to(rt.alloc(), &rt, 64)?;
+    let too_many = townships_to(rt.alloc(), &rt, 65)?;
+    let twice = [township(&rt, 3), township(&rt, 4), township(&rt, 3)];
+    assert!(rt; may_open(1, &[]) && may_open(65_536, most.as_slice()));
+    assert!(rt; !may_open(0, &[]) && !may_open(65_537, &[]));
+    assert!(rt; !may_open(1, too_many.as_slice()) && !may_open(1, &twice));
+    Ok(())
+}
+
+/// A deed of a part of each estate of a tract from party 0.
+fn part_to(grantee: u32, part: Share, tract: Tract) -> Posting {
+    let estates = Estates {
+        s: true,
+        o: true,
+        m: true,
+    };
+    let deed = Deed {
+        grantor: 0,
+        grantee,
+        estates,
+        quantum: Quantum::Interest(part),
+        reserve: [None; 3],
+        warranty: false,
+    };
+    Posting {
+        doc: 1,
+        tract,
+        instrument: Instrument::Deed(deed),
+    }
+}
+
+/// With ample memory each of a thousand deeds is posted, and a sheet has a row for each owner of each estate.
+#[test]
+fn a_sheet_of_three_thousand_rows(rt: HostRuntime) -> Result<(), Fail> {
+    let townships = [township(&rt, 3)];
+    assert!(rt; may_open(1_001, &townships));
+    let mut desk: TestDesk = Desk::open(rt.alloc(), 1_001, &townships)?;
+    let part = Share::parse("1/4096").expect(&rt, "it is a share");
+    let cell = square(&rt, 5, &[Quarter::Northeast; 4]);
+    assert!(rt; matches!(desk.serve(Request::Begin(1)), Reply::Began));
+    for grantee in 1..1_001 {
+        let ask = Ask::Post(part_to(grantee, part, Tract::of(cell)));
+        let reply = desk.serve(Request::Step(1, ask));
+        assert!(rt;
+            matches!(reply, Reply::Answered(Answer::Posted)),
+            "{grantee}"
+        );
+    }
+    let sheet = Ask::Sheet(Tract::of(cell));
+    let Reply::Answered(Answer::Rows(rows)) = desk.serve(Request::Step(1, sheet)) else {
+        panic!(rt; "a sheet");
+    };
+    assert_eq!(rt; rows.as_slice().len(), 3_003);
+    Ok(())
+}
+
+/// With ample memory each of a hundred thousand transactions is committed.
+#[test]
+fn a_hundred_thousand_records(rt: HostRuntime) -> Result<(), Fail> {
+    let mut desk = open(rt.alloc(), &rt)?;
+    for place in 1..100_001 {
+        assert!(rt;
+            matches!(desk.serve(Request::Begin(1)), Reply::Began),
+            "{place}"
+        );
+        let reply = desk.serve(Request::Commit(1));
+        assert!(rt;
+            matches!(reply, Reply::Committed(number) if number == place),
+            "{place}"
+        );
+    }
+    assert_eq!(rt; desk.records().len(), 100_000);
     Ok(())
 }

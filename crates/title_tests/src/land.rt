@@ -15,21 +15,6 @@ const SOUTHWEST: Quarter = Quarter::Southwest;
 
 const SOUTHEAST: Quarter = Quarter::Southeast;
 
-fn township(rt: &impl Abort, number: u8) -> Township {
-    Township::new(number, true, 2, false).expect(rt, "the numbers are in range")
-}
-
-/// A section of the third township.
-fn section(rt: &impl Abort, number: u8) -> Section {
-    Section::new(township(rt, 3), number).expect(rt, "the number is in range")
-}
-
-/// The square of section 5 with these quarters, the innermost first.
-fn square(rt: &impl Abort, quarters: &[Quarter]) -> Result<Node, Fail> {
-    let within = Within::named(quarters).ok_or("four quarters at most")?;
-    Ok(Node::Part(section(rt, 5), within))
-}
-
 /// The south half of section 5, which is no square.
 fn south_half(rt: &impl Abort, alloc: Global) -> Result<Tract, AllocError> {
     let cells = Grid::of(Rectangle::section().half(Half::South));
@@ -65,7 +50,7 @@ fn add_cells(lines: &mut String, cells: &[Cell], places: &[usize]) -> Result<(),
 /// The nodes above a cell, the nearest first.
 #[test]
 fn a_cell_lies_below_six_nodes(rt: HostRuntime) -> Result<(), Fail> {
-    let cell = square(&rt, &[NORTHEAST, SOUTHWEST, SOUTHEAST, NORTHEAST])?;
+    let cell = square(&rt, 5, &[NORTHEAST, SOUTHWEST, SOUTHEAST, NORTHEAST]);
     let mut lines = String::new(rt.alloc());
     for node in cell.ancestors() {
         add_node(&mut lines, &node)?;
@@ -140,8 +125,8 @@ fn nodes_and_cells_are_listed(rt: HostRuntime) -> Result<(), Fail> {
     let nodes = [
         Node::Everything,
         Node::Township(township(&rt, 3)),
-        square(&rt, &[NORTHEAST; 3])?,
-        square(&rt, &[NORTHEAST; 4])?,
+        square(&rt, 5, &[NORTHEAST; 3]),
+        square(&rt, 5, &[NORTHEAST; 4]),
     ];
     let townships = [township(&rt, 4), township(&rt, 3)];
     let lines = listed(rt.alloc(), &townships, &nodes, &PLACES)?;
@@ -230,9 +215,9 @@ fn tracts_share_cells(rt: HostRuntime) -> Result<(), Fail> {
         (Node::Township(township(&rt, 3)), true),
         (Node::Township(township(&rt, 4)), false),
         (Node::Part(section(&rt, 6), Within::section()), false),
-        (square(&rt, &[SOUTHEAST])?, false),
-        (square(&rt, &[SOUTHWEST, NORTHEAST])?, true),
+        (square(&rt, 5, &[SOUTHEAST]), false),
+        (square(&rt, 5, &[SOUTHWEST, NORTHEAST]), true),
     ];
-    assert_meets(&rt, &Tract::of(square(&rt, &[NORTHEAST])?), &others);
+    assert_meets(&rt, &Tract::of(square(&rt, 5, &[NORTHEAST])), &others);
     Ok(())
 }

@@ -1,8 +1,9 @@
 //! Locks in section 5 of T3N R2W, call by call.
 
+use crate::places::square;
 use std::process::Abort;
 use std::test::Fail;
-use title_land::{Node, Quarter, Section, Township, Tract, Within};
+use title_land::{Node, Quarter, Tract};
 use title_lock::{Access, Guards, LockFault, Mode, RowLocks, compat, sup};
 
 const NORTHEAST: Quarter = Quarter::Northeast;
@@ -56,13 +57,6 @@ const ACTS: [(u32, Act); 17] = [
     (4, Act::Asks(&[NORTHEAST], POST, None)),
 ];
 
-fn square(rt: &impl Abort, quarters: &[Quarter]) -> Node {
-    let township = Township::new(3, true, 2, false).expect(rt, "the numbers are in range");
-    let section = Section::new(township, 5).expect(rt, "the number is in range");
-    let within = Within::named(quarters).expect(rt, "no more than four quarters");
-    Node::Part(section, within)
-}
-
 /// Asks for a square, for which this examiner is in the way. An error, also for memory, changes no mode.
 fn ask(
     rt: &impl Abort,
@@ -112,11 +106,11 @@ fn act_all(rt: &impl Abort, locks: &mut RowLocks, acts: &[(u32, Act)]) -> Result
     for (examiner, act) in acts {
         match act {
             Act::Asks(quarters, access, way) => {
-                ask(rt, locks, *examiner, square(rt, quarters), *access, *way)?;
+                ask(rt, locks, *examiner, square(rt, 5, quarters), *access, *way)?;
             }
             Act::GivesBack => locks.give_back(*examiner),
             Act::Has(quarters, modes) => {
-                assert_modes(rt, locks, *examiner, square(rt, quarters), modes);
+                assert_modes(rt, locks, *examiner, square(rt, 5, quarters), modes);
             }
         }
     }

@@ -1,0 +1,20 @@
+//! Townships, sections and squares for the tests.
+
+use std::process::Abort;
+use title_land::{Node, Quarter, Section, Township, Within};
+
+/// The township of this number north, range 2 west.
+pub fn township(rt: &impl Abort, number: u8) -> Township {
+    Township::new(number, true, 2, false).expect(rt, "the numbers are in range")
+}
+
+/// The section of T3N R2W with this number.
+pub fn section(rt: &impl Abort, number: u8) -> Section {
+    Section::new(township(rt, 3), number).expect(rt, "the number is in range")
+}
+
+/// The square of that section with these quarters, the innermost first.
+pub fn square(rt: &impl Abort, number: u8, quarters: &[Quarter]) -> Node {
+    let within = Within::named(quarters).expect(rt, "no more quarters than there are");
+    Node::Part(section(rt, number), within)
+}
