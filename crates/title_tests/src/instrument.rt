@@ -107,11 +107,21 @@ fn assert_checked(rt: &impl Abort, rows: &[(Instrument, u32, u32)]) {
 fn causes_in_their_order(rt: HostRuntime) {
     let half = share(&rt, "1/2");
     let stray = deed(ADAMS, Quantum::Whole(half), [None, None, Some(half)], false);
+    let of_nothing = Instrument::Deed(Deed {
+        grantor: ADAMS,
+        grantee: BELL,
+        estates: NO_ESTATE,
+        quantum: Quantum::Whole(half),
+        reserve: [None, None, Some(half)],
+        warranty: false,
+    });
     let rows = [
         (release(ADAMS, BELL, OIL), 3, 0),
+        (release(ADAMS, BELL, OIL), 2, 1),
         (release(ADAMS, ADAMS, NO_ESTATE), 1, 1),
         (release(ADAMS, ADAMS, NO_ESTATE), 2, 2),
         (release(ADAMS, BELL, NO_ESTATE), 3, 3),
+        (of_nothing, 3, 3),
         (stray, 3, 4),
     ];
     assert_checked(&rt, &rows);

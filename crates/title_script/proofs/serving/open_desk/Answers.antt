@@ -1,26 +1,18 @@
-use Rattle.std.proofs.Common.{◌≡◌, ◌∙◌, ◌≤◌, ℕ, List, IfOk, ap₂, arith, length, subst, sym}
+use Rattle.std.proofs.Common.{◌≡◌, ◌∙◌, ◌≤◌, ℕ, List, IfOk, ap₂, arith, subst, sym}
 use Rattle.std.proofs.lemmas.List.{length-map}
 use Rattle.std.specs.String.{string_bytes}
 use Rattle.title_land.specs.declared.place.Township.{Township}
-use Rattle.title_store.specs.Plants.{IsEachOnce}
-use Rattle.title_trace.specs.Due.{Setting}
+use Rattle.title_trace.specs.Due.{MayOpen, Setting}
 use Rattle.title_script.proofs.serving.open_desk.Goals as goal
 
 pub overflow_cast-parties : goal.overflow_cast-parties
 overflow_cast-parties g c = omega (arith, c.len-parties.ensures.len, c.requires.opens.1)
 
 pub open-requires : goal.open-requires
-open-requires g c =
-    let opens = c.requires.opens in
-    let townships = sym c.as_slice.ensures.value in
-    record {
-      may_open = (
-        subst (λ (n : ℕ). 1 ≤ n) (sym c.len-parties.ensures.len) opens.0,
-        subst (λ (n : ℕ). n ≤ 65536) (sym c.len-parties.ensures.len) opens.1,
-        subst (λ (ts : List Township). length ts ≤ 64) townships opens.2,
-        subst IsEachOnce townships opens.3,
-      );
-    }
+open-requires g c = record {
+  may_open = subst (λ (ts : List Township). MayOpen c.len-parties.result ts) (sym c.as_slice.ensures.value)
+      (subst (λ (n : ℕ). MayOpen n c.args.plan.now.townships.items) (sym c.len-parties.ensures.len) c.requires.opens);
+}
 
 pub returns : goal.returns
 returns g c =
