@@ -1,5 +1,6 @@
 //! Tracts, their nodes and their cells.
 
+use crate::places::{section, square, township};
 use std::alloc::{AllocError, Global};
 use std::fmt::Write;
 use std::process::Abort;
