@@ -201,7 +201,7 @@ fn part_to(grantee: u32, part: Share, tract: Tract) -> Posting {
         grantor: 0,
         grantee,
         estates,
-        quantum: Quantum::Interest(part),
+        quantum: Quantum::Whole(part),
         reserve: [None; 3],
         warranty: false,
     };
