@@ -99,23 +99,24 @@ fn assert_replies(
     Ok(())
 }
 
+const LINES: [(u32, Act, &str); 11] = [
+    (1, Act::Begin, "began"),
+    (1, Act::Begin, "already open"),
+    (1, Act::Sheet, "rows"),
+    (1, Act::Post(7), "posted"),
+    (1, Act::Chain, "entries"),
+    (2, Act::Begin, "began"),
+    (2, Act::Sheet, "conflict"),
+    (1, Act::Commit, "committed"),
+    (2, Act::Sheet, "rows"),
+    (2, Act::Abort, "aborted"),
+    (2, Act::Chain, "not open"),
+];
+
 #[test]
 fn each_act_has_its_reply(rt: HostRuntime) -> Result<(), Fail> {
     let mut desk = open(rt.alloc(), &rt)?;
-    let lines = [
-        (1, Act::Begin, "began"),
-        (1, Act::Begin, "already open"),
-        (1, Act::Sheet, "rows"),
-        (1, Act::Post(7), "posted"),
-        (1, Act::Chain, "entries"),
-        (2, Act::Begin, "began"),
-        (2, Act::Sheet, "conflict"),
-        (1, Act::Commit, "committed"),
-        (2, Act::Sheet, "rows"),
-        (2, Act::Abort, "aborted"),
-        (2, Act::Chain, "not open"),
-    ];
-    Ok(assert_replies(rt.alloc(), &rt, &mut desk, &lines)?)
+    Ok(assert_replies(rt.alloc(), &rt, &mut desk, &LINES)?)
 }
 
 /// The books after a commit and a sweep: one record of one step, and a trace of all calls.
