@@ -1,9 +1,7 @@
 -- What a call of the desk tells.
-use Rattle.std.specs.Prelude.{◌≡◌, ℕ, ◌≤◌, Bool, true, false, nat_le, List, ◌∷◌, length, None}
+use Rattle.std.specs.Prelude.{◌≡◌, ℕ, Bool, true, false, nat_le, List, ◌∷◌, length, None}
 use Rattle.title_land.specs.Depth.{depth}
-use Rattle.title_land.specs.declared.place.Township.{Township}
 use Rattle.title_land.specs.Lands.{is_in_plant}
-use Rattle.title_store.specs.Plants.{IsEachOnce}
 use Rattle.title_chain.specs.declared.ask.Ask.{Ask}
 use Rattle.title_chain.specs.Asks.{tract_of, cause_of}
 use Rattle.title_trace.specs.declared.call.Call.{Call}

@@ -15,8 +15,6 @@ use title_trace::{Reply, Request};
 
 type TestDesk = Desk<CellStore, RowLocks>;
 
-const PARTIES: u32 = 3;
-
 /// What an examiner asks of the northeast quarter of section 5. A post releases the surface from party 0 to party 1.
 #[derive(Clone, Copy)]
 enum Act {
@@ -28,11 +26,16 @@ enum Act {
     Abort,
 }
 
+/// A desk of so many parties and one township.
+fn open_for(alloc: Global, rt: &impl Abort, parties: u32) -> Result<TestDesk, AllocError> {
+    let townships = [township(rt, 3)];
+    assert!(rt; may_open(parties, &townships));
+    Desk::open(alloc, parties, &townships)
+}
+
 /// A desk of three parties and one township.
 fn open(alloc: Global, rt: &impl Abort) -> Result<TestDesk, AllocError> {
-    let townships = [township(rt, 3)];
-    assert!(rt; may_open(PARTIES, &townships));
-    Desk::open(alloc, PARTIES, &townships)
+    open_for(alloc, rt, 3)
 }
 
 fn posting(doc: u64, tract: Tract) -> Posting {
@@ -135,39 +138,46 @@ fn assert_books(rt: &impl Abort, desk: &TestDesk) {
     assert_eq!(rt; desk.trace().len(), 5);
 }
 
-/// A commit finds the room that was made for it, and becomes a record; who is gone is swept away.
-#[test]
-fn a_desk_shows_its_books(rt: HostRuntime) -> Result<(), Fail> {
-    let mut desk = open(rt.alloc(), &rt)?;
+/// Examiner 1 commits a post in the room that was made for it, and examiner 2 is swept away.
+fn fill_books(alloc: Global, rt: &impl Abort, desk: &mut TestDesk) -> Result<(), AllocError> {
     let lines = [
         (1, Act::Begin, "began"),
         (2, Act::Begin, "began"),
         (1, Act::Post(1), "posted"),
     ];
-    assert_replies(rt.alloc(), &rt, &mut desk, &lines)?;
+    assert_replies(alloc, rt, desk, &lines)?;
     assert!(rt; desk.is_open(1) && desk.is_open(2));
     desk.make_room(1)?;
     assert!(rt; matches!(desk.serve(Request::Commit(1)), Reply::Committed(1)));
     assert!(rt; matches!(desk.sweep(2), Reply::Aborted));
+    Ok(())
+}
+
+#[test]
+fn a_desk_shows_its_books(rt: HostRuntime) -> Result<(), Fail> {
+    let mut desk = open(rt.alloc(), &rt)?;
+    fill_books(rt.alloc(), &rt, &mut desk)?;
     assert_books(&rt, &desk);
     desk.is_serial();
     Ok(())
 }
 
 /// Everything is the United States': a sheet of a row for each estate.
-#[test]
-fn a_new_desk_has_an_opening_plant(rt: HostRuntime) -> Result<(), Fail> {
-    let townships = [township(&rt, 3)];
-    assert!(rt; may_open(PARTIES, &townships));
-    let desk: TestDesk = Desk::open(rt.alloc(), PARTIES, &townships)?;
+fn assert_opening_plant(alloc: Global, rt: &impl Abort, desk: &TestDesk) -> Result<(), AllocError> {
     let plant = Tract::of(Node::Everything);
-    assert!(rt; plant.is_in(&townships));
-    let rows = desk.store().sheet(rt.alloc(), &plant)?;
+    assert!(rt; plant.is_in(&[township(rt, 3)]));
+    let rows = desk.store().sheet(alloc, &plant)?;
     assert_eq!(rt; rows.len(), 3);
     for row in &rows {
         assert_eq!(rt; (row.party, row.units), (0, 4_294_967_296));
     }
     Ok(())
+}
+
+#[test]
+fn a_new_desk_has_an_opening_plant(rt: HostRuntime) -> Result<(), Fail> {
+    let desk = open(rt.alloc(), &rt)?;
+    Ok(assert_opening_plant(rt.alloc(), &rt, &desk)?)
 }
 
 /// The townships of ranges 2 west from 1 north to so many north.
@@ -213,14 +223,9 @@ fn part_to(grantee: u32, part: Share, tract: Tract) -> Posting {
     }
 }
 
-/// With ample memory each of a thousand deeds is posted, and a sheet has a row for each owner of each estate.
-#[test]
-fn a_sheet_of_three_thousand_rows(rt: HostRuntime) -> Result<(), Fail> {
-    let townships = [township(&rt, 3)];
-    assert!(rt; may_open(1_001, &townships));
-    let mut desk: TestDesk = Desk::open(rt.alloc(), 1_001, &townships)?;
-    let part = Share::parse("1/4096").expect(&rt, "it is a share");
-    let cell = square(&rt, 5, &[Quarter::Northeast; 4]);
+/// Each of a thousand deeds of a cell is posted.
+fn post_a_thousand(rt: &impl Abort, desk: &mut TestDesk, cell: Node) {
+    let part = Share::parse("1/4096").expect(rt, "it is a share");
     assert!(rt; matches!(desk.serve(Request::Begin(1)), Reply::Began));
     for grantee in 1..1_001 {
         let ask = Ask::Post(part_to(grantee, part, Tract::of(cell)));
@@ -230,18 +235,29 @@ fn a_sheet_of_three_thousand_rows(rt: HostRuntime) -> Result<(), Fail> {
             "{grantee}"
         );
     }
+}
+
+/// How many rows the sheet of a cell has.
+fn rows_of(rt: &impl Abort, desk: &mut TestDesk, cell: Node) -> usize {
     let sheet = Ask::Sheet(Tract::of(cell));
     let Reply::Answered(Answer::Rows(rows)) = desk.serve(Request::Step(1, sheet)) else {
         panic!(rt; "a sheet");
     };
-    assert_eq!(rt; rows.as_slice().len(), 3_003);
+    rows.as_slice().len()
+}
+
+/// With ample memory a sheet has a row for each of 1,001 owners of each estate.
+#[test]
+fn a_sheet_of_three_thousand_rows(rt: HostRuntime) -> Result<(), Fail> {
+    let cell = square(&rt, 5, &[Quarter::Northeast; 4]);
+    let mut desk = open_for(rt.alloc(), &rt, 1_001)?;
+    post_a_thousand(&rt, &mut desk, cell);
+    assert_eq!(rt; rows_of(&rt, &mut desk, cell), 3_003);
     Ok(())
 }
 
-/// With ample memory each of a hundred thousand transactions is committed.
-#[test]
-fn a_hundred_thousand_records(rt: HostRuntime) -> Result<(), Fail> {
-    let mut desk = open(rt.alloc(), &rt)?;
+/// Each of a hundred thousand transactions is committed.
+fn commit_a_hundred_thousand(rt: &impl Abort, desk: &mut TestDesk) {
     for place in 1..100_001 {
         assert!(rt;
             matches!(desk.serve(Request::Begin(1)), Reply::Began),
@@ -253,6 +269,12 @@ fn a_hundred_thousand_records(rt: HostRuntime) -> Result<(), Fail> {
             "{place}"
         );
     }
+}
+
+#[test]
+fn a_hundred_thousand_records(rt: HostRuntime) -> Result<(), Fail> {
+    let mut desk = open(rt.alloc(), &rt)?;
+    commit_a_hundred_thousand(&rt, &mut desk);
     assert_eq!(rt; desk.records().len(), 100_000);
     Ok(())
 }
