@@ -163,21 +163,19 @@ fn a_desk_shows_its_books(rt: HostRuntime) -> Result<(), Fail> {
 }
 
 /// Everything is the United States': a sheet of a row for each estate.
-fn assert_opening_plant(alloc: Global, rt: &impl Abort, desk: &TestDesk) -> Result<(), AllocError> {
+#[test]
+fn a_new_desk_has_an_opening_plant(rt: HostRuntime) -> Result<(), Fail> {
+    let townships = [township(&rt, 3)];
+    assert!(rt; may_open(3, &townships));
+    let desk: TestDesk = Desk::open(rt.alloc(), 3, &townships)?;
     let plant = Tract::of(Node::Everything);
-    assert!(rt; plant.is_in(&[township(rt, 3)]));
-    let rows = desk.store().sheet(alloc, &plant)?;
+    assert!(rt; plant.is_in(&townships));
+    let rows = desk.store().sheet(rt.alloc(), &plant)?;
     assert_eq!(rt; rows.len(), 3);
     for row in &rows {
         assert_eq!(rt; (row.party, row.units), (0, 4_294_967_296));
     }
     Ok(())
-}
-
-#[test]
-fn a_new_desk_has_an_opening_plant(rt: HostRuntime) -> Result<(), Fail> {
-    let desk = open(rt.alloc(), &rt)?;
-    Ok(assert_opening_plant(rt.alloc(), &rt, &desk)?)
 }
 
 /// The townships of ranges 2 west from 1 north to so many north.
