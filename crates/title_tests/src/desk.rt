@@ -222,11 +222,11 @@ fn part_to(grantee: u32, part: Share, tract: Tract) -> Posting {
 }
 
 /// Each of a thousand deeds of a cell is posted.
-fn post_a_thousand(rt: &impl Abort, desk: &mut TestDesk, cell: Node) {
+fn post_a_thousand(rt: &impl Abort, desk: &mut TestDesk, cell: &Node) {
     let part = Share::parse("1/4096").expect(rt, "it is a share");
     assert!(rt; matches!(desk.serve(Request::Begin(1)), Reply::Began));
     for grantee in 1..1_001 {
-        let ask = Ask::Post(part_to(grantee, part, Tract::of(cell)));
+        let ask = Ask::Post(part_to(grantee, part, Tract::of(*cell)));
         let reply = desk.serve(Request::Step(1, ask));
         assert!(rt;
             matches!(reply, Reply::Answered(Answer::Posted)),
@@ -236,8 +236,8 @@ fn post_a_thousand(rt: &impl Abort, desk: &mut TestDesk, cell: Node) {
 }
 
 /// How many rows the sheet of a cell has.
-fn rows_of(rt: &impl Abort, desk: &mut TestDesk, cell: Node) -> usize {
-    let sheet = Ask::Sheet(Tract::of(cell));
+fn rows_of(rt: &impl Abort, desk: &mut TestDesk, cell: &Node) -> usize {
+    let sheet = Ask::Sheet(Tract::of(*cell));
     let Reply::Answered(Answer::Rows(rows)) = desk.serve(Request::Step(1, sheet)) else {
         panic!(rt; "a sheet");
     };
@@ -249,8 +249,8 @@ fn rows_of(rt: &impl Abort, desk: &mut TestDesk, cell: Node) -> usize {
 fn a_sheet_of_three_thousand_rows(rt: HostRuntime) -> Result<(), Fail> {
     let cell = square(&rt, 5, &[Quarter::Northeast; 4]);
     let mut desk = open_for(rt.alloc(), &rt, 1_001)?;
-    post_a_thousand(&rt, &mut desk, cell);
-    assert_eq!(rt; rows_of(&rt, &mut desk, cell), 3_003);
+    post_a_thousand(&rt, &mut desk, &cell);
+    assert_eq!(rt; rows_of(&rt, &mut desk, &cell), 3_003);
     Ok(())
 }
 
