@@ -10,6 +10,8 @@ pub mod own_steps;
 mod place;
 pub mod record;
 pub mod replay;
+pub mod same;
+mod same_parts;
 pub mod tract_index;
 
 pub use ask::{Answer, Ask, Entry, Posting, Step};
@@ -18,4 +20,5 @@ pub use lists::{Entries, Records, SheetRows, Steps};
 pub use own_steps::OwnSteps;
 pub use record::Record;
 pub use replay::sheet_by_chain;
+pub use same::same_steps;
 pub use tract_index::TractIndex;

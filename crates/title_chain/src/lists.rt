@@ -1,6 +1,6 @@
 //! Lists of rows, entries, steps and records, which contracts compare as lists.
 
-ghost use Rattle.std.specs.Prelude.{◌≡◌, IfOk};
+ghost use Rattle.std.specs.Prelude.{◌≡◌, [], IfOk};
 
 use crate::ask::{Entry, Step};
 use crate::record::Record;
@@ -109,6 +109,15 @@ impl Model for Steps {
 }
 
 impl Steps {
+    /// No step; takes no memory.
+    pub fn empty(alloc: Global) -> Steps
+        ensures empty { result ≡ [] }
+    {
+        Steps {
+            items: Vec::new(alloc),
+        }
+    }
+
     /// The list of these steps.
     pub fn new(items: Vec<Step>) -> Steps
         ensures new { result ≡ items.items }
@@ -127,7 +136,8 @@ impl Steps {
     pub fn into_vec(self) -> Vec<Step>
         ensures vec { result.items ≡ self }
     {
-        self.items
+        let Steps { items } = self;
+        items
     }
 
     /// An equal list.
@@ -179,14 +189,21 @@ impl Records {
         self.items
     }
 
+    /// The list of copies of these records.
+    pub fn copy_of(alloc: Global, records: &[Record]) -> Result<Records, AllocError>
+        ensures copy { IfOk result (λ items. items ≡ records.now) }
+    {
+        let mut items = Vec::new(alloc);
+        for record in records {
+            items.push(record.copy(alloc)?)?;
+        }
+        Ok(Records { items })
+    }
+
     /// An equal list.
     pub fn copy(&self, alloc: Global) -> Result<Records, AllocError>
         ensures copy { IfOk result (λ items. items ≡ self.now) }
     {
-        let mut items = Vec::new(alloc);
-        for record in &self.items {
-            items.push(record.copy(alloc)?)?;
-        }
-        Ok(Records { items })
+        Records::copy_of(alloc, &self.items)
     }
 }

@@ -1,30 +1,39 @@
 -- What a parse of the program's command without a fault has, and which fault stands for an error.
 use Rattle.std.proofs.Common.{◌≡◌, ◌∙◌, inl, inr, ℕ, Bool, true, false, true≢false, List, [], ◌∷◌, Option, Some, None, refl, sym, ap, ap₂}
-use Rattle.std.proofs.Common.{subst, le_refl, option_map, is_some, codes}
-use Rattle.std.specs.Prelude.{Box, find, unwrap_or}
+use Rattle.std.proofs.Common.{◌<◌, ◌≤◌, ◌^◌, arith, subst, le_refl, option_map, is_some, codes}
+use Rattle.std.specs.Prelude.{Box, Result, if◌then◌else◌, find, unwrap_or}
 use Rattle.std.specs.Box.{box_value}
 use Rattle.std.specs.Option.{option_map_or}
 use Rattle.std.specs.List.{slice_index_or}
 use Rattle.std.specs.Str.{bytes_eq}
+use Rattle.std.specs.Str.Parse.{ExplainsUnsignedError, HasUnsignedDigitsIfOk, ParsesUnsigned}
+use Rattle.std.specs.declared.num.ParseIntError.{ParseIntError}
 use Rattle.std.proofs.lemmas.Slice.Eq.{bytes_eq-Decides}
-use Rattle.clap.specs.Walk.{Row, Text, answers_to, first_of, has_row, nothing_held, rows_after, stop_after, walk_from}
+use Rattle.clap.specs.Walk.{Row, Text, answers_to, first_of, has_row, nothing_held, rows_after, rows_of, stop_after, walk_from}
 use Rattle.clap.specs.Simple.{Shape, argument_words, built, entered, label_of, names_of, rows_at, subcommand_of, subcommand_rows}
 use Rattle.clap.specs.Simple.{subcommand_rows_of}
-use Rattle.clap.specs.Kinds.{HasKind, IsAmong, Kinds}
+use Rattle.clap.specs.Kinds.{HasKind, IsAmong, Kinds, value_kinds}
 use Rattle.clap.specs.Takes.{is_given}
 use Rattle.clap.specs.Faults.{check_fault, entered_fault, fault_of, level_fault, walk_fault}
-use Rattle.clap.specs.Values.{kind_of}
-use Rattle.clap.specs.Matches.{subcommand_name_of}
+use Rattle.clap.specs.Values.{IsUnsignedIn, kind_of, refused_kind}
+use Rattle.clap.specs.ValueTests.{accepts}
+use Rattle.clap.proofs.WalkLemmas.{one_text-rows}
+use Rattle.clap.proofs.ValueTestLemmas.{accepts-Accepts}
+use Rattle.clap.specs.declared.builder.value_parser.ValueParser.TheVariants.{Unsigned}
+use Rattle.clap.specs.Matches.{ReadsOne, one_text, subcommand_name_of}
 use Rattle.clap.specs.declared.error.Error.{Error}
 use Rattle.clap.specs.declared.error.kind.ErrorKind.{ErrorKind}
 use Rattle.clap.specs.declared.error.kind.ErrorKind.TheVariants.{OutOfMemory}
+use Rattle.clap.specs.declared.parser.matches.Found.{Found}
 use Rattle.clap.specs.declared.parser.matches.ArgMatches.{ArgMatches}
 use Rattle.clap.specs.declared.parser.matches.SubCommand.{SubCommand}
 use Rattle.clap.specs.declared.parser.matches.ArgMatches.TheViews.{out-ArgMatches, out-SubCommand}
 use Rattle.title_command.specs.declared.choice.LineFault.{LineFault}
 use Rattle.title_command.specs.declared.choice.LineFault.TheVariants.{Help, Bad, Memory}
-use Rattle.title_command.specs.CommandLine.{Explains, IsFaultFor, IsReadable, command, tract}
-use Rattle.title_command.proofs.ValueRows.{Each, first_read, found_has, level_keeps, no_fault}
+use Rattle.title_command.specs.CommandLine.{Explains, HasNumber, IsFaultFor, IsNumberOf, IsReadable, command, default_examiners}
+use Rattle.title_command.specs.CommandLine.{default_tries, most_examiners, most_tries, tract}
+use Rattle.title_command.proofs.ReadRows.{first_read, level_gives}
+use Rattle.title_command.proofs.ValueRows.{Each, Fit, KeepsValues, found_has, level_keeps, no_fault}
 
 -- ---- each subcommand has the values that its line takes from it
 
@@ -33,7 +42,7 @@ abbrev Level : Shape → Type 0
 Level s = (words : List Text) → level_fault s [] nothing_held words false [] ≡ [] → IsReadable s.name (rows_after s.rules [] words)
 
 -- the subcommand at this place
-abbrev at : ℕ → Shape
+abbrev pub at : ℕ → Shape
 at k = slice_index_or (built command).subs k tract
 
 -- an argument that is given has a row
@@ -47,27 +56,67 @@ given_row id (r ∷ rs) e = go (bytes_eq r.id id) refl (given_row id rs)
         let given : is_given id rs ≡ true = rw is at e in
         rw is (rest given)
 
+-- any text fits `TEXT`
+abbrev any : Fit
+any id text = Unit {0}
+
 -- `tract` without a fault has its text
-tract_level : Level (at 2)
+tract_level : Level (at 3)
 tract_level words e =
-    let rows = rows_after (at 2).rules [] words in
-    let kept = level_keeps (at 2) words (inl (refl, le_refl 1), (inr refl, tt)) e in
-    inr (inr (
-      refl,
-      first_read (codes "TEXT") rows (given_row (codes "TEXT") rows (given rows (is_given (codes "TEXT") rows) refl kept.1))
-          kept.0,
-    ))
+    let rows = rows_after (at 3).rules [] words in
+    let kept = level_keeps any (at 3) words (inl (refl, le_refl 1, refl, (λ v ok. tt), tt), (inr (refl, refl), tt)) e in
+    let has = given_row (codes "TEXT") rows (given rows (is_given (codes "TEXT") rows) refl kept.1) in
+    let read = first_read any (codes "TEXT") rows has kept.0 in
+    inr (inr (inr (refl, rw read.1 refl)))
   where
-    given : (rows : List Row) (b : Bool) → is_given (codes "TEXT") rows ≡ b → check_fault (at 2) rows false ≡ []
+    given : (rows : List Row) (b : Bool) → is_given (codes "TEXT") rows ≡ b → check_fault (at 3) rows false ≡ []
         → is_given (codes "TEXT") rows ≡ true
     given rows true is ok = is
     given rows false is ok =
         let bad = rw is at ok in
         absurd (cc)
 
+-- a number from 1 to its most fits each option of `office`
+abbrev numbers : Fit
+numbers id text = (id ≡ codes "examiners" → IsUnsignedIn 1 most_examiners text) × (id ≡ codes "tries" → IsUnsignedIn 1 most_tries text)
+
+-- a text that a parser of numbers lets through is such a number
+passes : (low high : ℕ) (text : Text) → value_kinds false (Unsigned low high) text ≡ [] → IsUnsignedIn low high text
+passes low high text e = go (accepts false (Unsigned low high) text) refl e
+  where
+    go : (b : Bool) → accepts false (Unsigned low high) text ≡ b → (if b then [] else refused_kind (Unsigned low high) ∷ []) ≡ []
+        → IsUnsignedIn low high text
+    go true is ok = accepts-Accepts false (Unsigned low high) text is
+    go false is ok = absurd (cc)
+
+-- so the parser of each option lets through what fits it
+examiners_pass : (text : Text) → value_kinds false (Unsigned 1 most_examiners) text ≡ [] → numbers (codes "examiners") text
+examiners_pass text ok = ((λ same. passes 1 most_examiners text ok), (λ same. absurd (cc)))
+
+tries_pass : (text : Text) → value_kinds false (Unsigned 1 most_tries) text ≡ [] → numbers (codes "tries") text
+tries_pass text ok = ((λ same. absurd (cc)), (λ same. passes 1 most_tries text ok))
+
+-- `office` without a fault has its numbers
+office_level : Level (at 2)
+office_level words e =
+    let rows = rows_after (at 2).rules [] words in
+    let rules : Each (KeepsValues numbers) (at 2).rules = (
+      inl (refl, le_refl 1, refl, examiners_pass, (examiners_pass default_examiners refl, tt)),
+      (inl (refl, le_refl 1, refl, tries_pass, (tries_pass default_tries refl, tt)), (inr (refl, refl), tt)),
+    ) in
+    let kept = level_keeps numbers (at 2) words rules e in
+    let gives = level_gives (at 2).rules words in
+    let examiners = first_read numbers (codes "examiners") rows (gives.0 (le_refl 1)) kept.0 in
+    let tries = first_read numbers (codes "tries") rows (gives.1.0 (le_refl 1)) kept.0 in
+    inr (inr (inl (
+      refl,
+      (examiners.0, examiners.1, examiners.2, examiners.3.0 refl),
+      (tries.0, tries.1, tries.2, tries.3.1 refl),
+    )))
+
 -- each subcommand without a fault is readable
 levels : Each Level (built command).subs
-levels = ((λ words e. inl refl), ((λ words e. inr (inl refl)), (tract_level, tt)))
+levels = ((λ words e. inl refl), ((λ words e. inr (inl refl)), (office_level, (tract_level, tt))))
 
 -- the subcommand that was entered is one of these
 entered_reads : (p : Text × List Text) (o : Option Shape) → ((s : Shape) → o ≡ Some s → Level s)
@@ -121,16 +170,75 @@ met_is m name rows e f = go (subcommand_rows_of m) (e ∙ name_is (out-ArgMatche
 
 -- ---- the dispatch on a name
 
+-- the other names are not `office`
+pub run_is_not : codes "run" ≡ codes "office" → ⊥
+run_is_not e = cc
+
+pub alone_is_not : codes "alone" ≡ codes "office" → ⊥
+alone_is_not e = cc
+
+pub tract_is_not : codes "tract" ≡ codes "office" → ⊥
+tract_is_not e = cc
+
 -- two names that a test tells apart differ
 differ : (a b : Text) → false ≡ bytes_eq a b → a ≡ b → ⊥
 differ a b e same = true≢false (sym ((bytes_eq-Decides a b).1 same) ∙ sym e)
 
--- a name that is neither of the first two is that of `tract`
+-- the values of a name that is `office`
+pub office_reads : (name : Text) (rows : List Row) → true ≡ bytes_eq name (codes "office") → IsReadable name rows
+    → (name ≡ codes "office") × HasNumber (codes "examiners") most_examiners rows × HasNumber (codes "tries") most_tries rows
+office_reads name rows is readable = go readable
+  where
+    same : name ≡ codes "office"
+    same = (bytes_eq-Decides name (codes "office")).0 (sym is)
+
+    go : IsReadable name rows
+        → (name ≡ codes "office") × HasNumber (codes "examiners") most_examiners rows × HasNumber (codes "tries") most_tries rows
+    go (inl other) = absurd (run_is_not (sym other ∙ same))
+    go (inr (inl other)) = absurd (alone_is_not (sym other ∙ same))
+    go (inr (inr (inl office))) = office
+    go (inr (inr (inr other))) = absurd (tract_is_not (sym other.0 ∙ same))
+
+-- a name that is none of the first three is that of `tract`
 pub tract_reads : (name : Text) (rows : List Row) → false ≡ bytes_eq name (codes "run") → false ≡ bytes_eq name (codes "alone")
-    → IsReadable name rows → (name ≡ codes "tract") × (is_some (first_of (codes "TEXT") rows) ≡ true)
-tract_reads name rows not_run not_alone (inl is) = absurd (differ name (codes "run") not_run is)
-tract_reads name rows not_run not_alone (inr (inl is)) = absurd (differ name (codes "alone") not_alone is)
-tract_reads name rows not_run not_alone (inr (inr is)) = is
+    → false ≡ bytes_eq name (codes "office") → IsReadable name rows
+    → (name ≡ codes "tract") × (is_some (first_of (codes "TEXT") rows) ≡ true)
+tract_reads name rows not_run not_alone not_office (inl is) = absurd (differ name (codes "run") not_run is)
+tract_reads name rows not_run not_alone not_office (inr (inl is)) = absurd (differ name (codes "alone") not_alone is)
+tract_reads name rows not_run not_alone not_office (inr (inr (inl is))) = absurd (differ name (codes "office") not_office is.0)
+tract_reads name rows not_run not_alone not_office (inr (inr (inr is))) = is
+
+-- ---- a number that is read
+
+-- n is the number of the argument, in its range
+abbrev pub IsRead : Text → ℕ → List Row → ℕ → Type 0
+IsRead id most rows n = IsNumberOf id rows n × ((1 ≤ n) × (n ≤ most))
+
+-- how a number of 32 bits is read from a text
+abbrev Gives : Text → Result ℕ ParseIntError → Type 0
+Gives t r = ParsesUnsigned 32 10 t r × ExplainsUnsignedError 10 t r × HasUnsignedDigitsIfOk t r
+
+-- a text that is a number in its range is read as that number, where the range fits 32 bits
+number_read : (id : Text) (most : ℕ) (rows : List Row) (got : Option ℕ) → most < 2 ^ 32
+    → (given : HasNumber id most rows) → ReadsOne Gives given.0 got
+    → (n : ℕ) × (got ≡ Some n) × IsRead id most rows n
+number_read id most rows (Some n) fits (text, first, one, (numeral, wide, low, high)) (is, why, digits) =
+    (n, refl, ((text, first, numeral, is.1), (rw is.1 low, rw is.1 high)))
+number_read id most rows None fits (text, first, one, (numeral, wide, low, high)) (error, (is, why, digits)) =
+    absurd (is (numeral, omega arith))
+
+-- so is the number of an option
+pub option_read : (id : Text) (most : ℕ) (found : Found) (got : Option ℕ) → most < 2 ^ 32 → HasNumber id most (rows_of found)
+    → ((t : Text) → one_text found id ≡ Some t → ReadsOne Gives t got)
+    → (n : ℕ) × (got ≡ Some n) × IsRead id most (rows_of found) n
+option_read id most found got fits given reads =
+    number_read id most (rows_of found) got fits given (reads given.0 (one_text-rows found id ∙ given.2))
+
+-- and so is what was got
+pub number_got : (id : Text) (most : ℕ) (rows : List Row) (got : Option ℕ) (m : ℕ) → (n : ℕ) × (got ≡ Some n) × IsRead id most rows n
+    → got ≡ Some m → IsRead id most rows m
+number_got id most rows got m (n, some, read) same =
+    subst (λ (k : ℕ). IsRead id most rows k) (ap (λ (o : Option ℕ). unwrap_or o 0) (sym some ∙ same)) read
 
 -- ---- the fault that stands for an error
 

@@ -1,2 +1,4 @@
 mod ValueRows
+mod ReadRows
 mod CommandLemmas
+mod OfficeWords

@@ -7,6 +7,13 @@ pub enum Line<'a> {
     Run,
     /// Serve a script of transactions that follow one another.
     Alone,
+    /// Run scripts of several examiners at once in one office.
+    Office {
+        /// How many examiners are at work at once, 1 to 64. Each takes the rows of one script.
+        examiners: u32,
+        /// How many times at most a transaction is begun before its examiner gives it up, 1 to 10,000.
+        tries: u32,
+    },
     /// List the parts of the land that this description names.
     Tract(&'a str),
 }

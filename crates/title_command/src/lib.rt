@@ -3,6 +3,7 @@
 
 mod choice;
 mod command_line;
+pub mod laws;
 mod program;
 
 pub use choice::{Line, LineFault};

@@ -1,6 +1,6 @@
 -- Slots by examiner.
 use Rattle.std.proofs.Common.{◌≡◌, ℕ, Bool, true, false, cond, [], ◌∷◌, ◌++◌, reverse, refl, ap, ◌∙◌, sym, subst, eqb, Option, Some}
-use Rattle.std.proofs.Common.{is_some, Result, Ok, Err, OnOk, OnErr}
+use Rattle.std.proofs.Common.{None, is_some, Result, Ok, Err, OnOk, OnErr}
 use Rattle.std.proofs.lemmas.Bool.{eqb-true, eqb-false, false_from_ne_true}
 use Rattle.std.proofs.lemmas.List.{reverse-append}
 use Rattle.std.proofs.lemmas.Map.Lookups.{exact_unsigned}
@@ -10,7 +10,7 @@ use Rattle.std.specs.Cmp.{Equal-is, tied_itself, nat_cmp_total}
 use Rattle.std.specs.BTreeMap.{BTreeMap, WritesThrough, is_at}
 use Rattle.title_chain.specs.declared.ask.Step.{Step}
 use Rattle.title_desk.specs.declared.slots.Slot.{Slot}
-use Rattle.title_desk.specs.Slots.{IsSet, SameSlots, StepAdded, SameImages, ImageAdded, found, steps_in, images_in}
+use Rattle.title_desk.specs.Slots.{IsFirst, IsSet, SameSlots, StepAdded, SameImages, ImageAdded, found, steps_in, images_in}
 use Rattle.title_desk.proofs.Content.{case_eqb}
 
 at_examiner : (e f : ℕ) → is_at (nat_cmp e) f ≡ eqb f e
@@ -89,3 +89,8 @@ ok_then (Err x) p f = p
 pub err_then : {T E : Type 0} {P R Q : Type 0} (r : Result T E) → OnErr r P → OnErr r R → (P → R → Q) → OnErr r Q
 err_then (Ok x) p q f = p
 err_then (Err x) p q f = f p q
+
+-- two tests that are one have the same first
+pub first_alike : (test other : ℕ → Bool) → ((e : ℕ) → test e ≡ other e) → (r : Option ℕ) → IsFirst test r → IsFirst other r
+first_alike test other same None h = λ e. sym (same e) ∙ h e
+first_alike test other same (Some e) h = (sym (same e) ∙ h.0, λ f below. sym (same f) ∙ h.1 f below)

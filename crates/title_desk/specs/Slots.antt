@@ -1,5 +1,5 @@
 -- The open transactions, by examiner.
-use Rattle.std.specs.Prelude.{◌≡◌, ℕ, cond, List, [], ◌∷◌, reverse, Option, Some, None, is_some, eqb}
+use Rattle.std.specs.Prelude.{◌≡◌, ℕ, ◌<◌, Bool, true, false, cond, List, [], ◌∷◌, reverse, Option, Some, None, is_some, eqb}
 use Rattle.std.specs.Ordering.{nat_cmp}
 use Rattle.std.specs.BTreeMap.{BTreeMap, get}
 use Rattle.title_chain.specs.declared.ask.Step.{Step}
@@ -43,3 +43,8 @@ SameImages old new = (f : ℕ) → images_in (new f) ≡ images_in (old f)
 -- this examiner has one image more
 abbrev pub ImageAdded : {I : Type 0} → ℕ → I → (ℕ → Option (Slot I)) → (ℕ → Option (Slot I)) → Type 0
 ImageAdded e image old new = (f : ℕ) → images_in (new f) ≡ cond (eqb f e) (image ∷ images_in (old f)) (images_in (old f))
+
+-- a test holds at no number, or this is the least at which it does
+abbrev pub IsFirst : (ℕ → Bool) → Option ℕ → Type 0
+IsFirst test None = (e : ℕ) → test e ≡ false
+IsFirst test (Some e) = (test e ≡ true) × ((f : ℕ) → f < e → test f ≡ false)

@@ -1,5 +1,5 @@
 -- What a call of the desk tells.
-use Rattle.std.specs.Prelude.{◌≡◌, ℕ, Bool, true, false, nat_le, List, ◌∷◌, length, None}
+use Rattle.std.specs.Prelude.{◌≡◌, ℕ, Bool, true, false, nat_le, List, ◌∷◌, length, Option, None}
 use Rattle.title_land.specs.Depth.{depth}
 use Rattle.title_land.specs.Lands.{is_in_plant}
 use Rattle.title_chain.specs.declared.ask.Ask.{Ask}
@@ -10,6 +10,7 @@ use Rattle.title_trace.specs.declared.call.Reply.{Reply}
 use Rattle.title_trace.specs.declared.call.Reply.TheVariants as reply
 use Rattle.title_trace.specs.Trace.{is_open, open_steps}
 use Rattle.title_trace.specs.Due.{Setting, most_steps, InTheWay, DueReply}
+use Rattle.title_desk.specs.Slots.{IsFirst}
 
 -- a desk as its callers see it: what it was opened with, its trace, the newest call first, and whether it has room for
 -- one call more and one record more
@@ -49,3 +50,7 @@ Passes books e a =
     (is_open e books.trace ≡ true) × (is_in_plant books.setting.townships (tract_of a) ≡ true)
     × (cause_of books.setting.parties a ≡ None) × (nat_le most_steps (length (open_steps books.trace e)) ≡ false)
     × InTheWay books.trace e a None
+
+-- no examiner is open, or this is the least that is
+abbrev pub IsFirstOpen : List Call → Option ℕ → Type 0
+IsFirstOpen trace examiner = IsFirst (λ e. is_open e trace) examiner

@@ -3,11 +3,11 @@
 ghost use Rattle.std.specs.Prelude.{◌≡◌, ◌+◌, ◌≤◌, IfOk, OnErr, OnOk, OnSome, None, is_some, length, reverse};
 ghost use Rattle.std.specs.BTreeMap.{btree_map_len};
 ghost use Rattle.title_chain.specs.Chains.{chain_of};
-ghost use Rattle.title_desk.specs.Slots.{IsBegun, IsSet, SameSlots, found, steps_in};
+ghost use Rattle.title_desk.specs.Slots.{IsBegun, IsFirst, IsSet, SameSlots, found, steps_in};
 
 use std::alloc::{AllocError, Global};
 use std::collections::BTreeMap;
-use title_chain::{Entries, OwnSteps, TractIndex};
+use title_chain::{Entries, OwnSteps, Step, TractIndex};
 use title_land::Tract;
 
 /// What an open transaction has: its steps and the before-images of its posts, each the oldest first.
@@ -60,6 +60,24 @@ pub(crate) fn count_steps<I>(slots: &BTreeMap<u32, Slot<I>>, examiner: u32) -> u
         Some(slot) => slot.steps.len(),
         None => 0,
     }
+}
+
+/// The steps that an examiner has, the oldest first; none where it has no slot.
+pub(crate) fn steps_of<I>(slots: &BTreeMap<u32, Slot<I>>, examiner: u32) -> &[Step]
+    ensures steps { reverse result.now ≡ steps_in (found slots.now examiner) }
+{
+    match slots.get(&examiner) {
+        Some(slot) => slot.steps.as_slice(),
+        None => &[],
+    }
+}
+
+/// The least examiner that has a slot.
+pub(crate) fn first_in<I>(slots: &BTreeMap<u32, Slot<I>>) -> Option<u32>
+    ensures first { IsFirst (λ e. is_some (found slots.now e)) result }
+{
+    let (examiner, _) = slots.first_key_value()?;
+    Some(*examiner)
 }
 
 /// The chain of a tract for an open examiner: the entries of these records, then those of its own steps.

@@ -1,24 +1,24 @@
 //! The desk.
 
-ghost use Rattle.std.specs.Prelude.{MatchOption, ◌≡◌, ◌≢◌, ℕ, List, [], ◌∷◌, IfOk, OnOk, ◌↔◌, reverse, true, false};
+ghost use Rattle.std.specs.Prelude.{MatchOption, ◌≡◌, ◌≢◌, ◌≤◌, ℕ, List, [], ◌∷◌, IfOk, OnOk, ◌↔◌, reverse, true, false};
 ghost use Rattle.title_land.specs.Depth.{depth};
 ghost use Rattle.title_store.specs.Plants.{IsEachOnce};
 ghost use Rattle.title_land.specs.declared.place.Cell.{Cell};
 ghost use Rattle.title_trace.specs.declared.call.Request.TheVariants.{Begin, Step, Commit, Abort};
 ghost use Rattle.title_trace.specs.declared.call.Reply.TheVariants.{Aborted, Memory};
 ghost use Rattle.title_chain.specs.declared.ask.Ask.TheVariants.{Sheet, Chain, Post};
-ghost use Rattle.title_chain.specs.Alone.{alone, after_steps, plant_after, IsSerial};
+ghost use Rattle.title_chain.specs.Alone.{alone, after_steps, plant_after, most_parties, IsSerial};
 ghost use Rattle.title_chain.specs.Overlaps.{record_of};
 ghost use Rattle.title_trace.specs.Trace.{is_open, open_steps, committed};
-ghost use Rattle.title_trace.specs.Due.{DueReply, MayOpen};
+ghost use Rattle.title_trace.specs.Due.{DueReply, IsDue, MayOpen};
 ghost use Rattle.title_desk.specs.Refusals.{reply_of};
 ghost use Rattle.title_desk.specs.Images.{is_posted, posted_at};
-ghost use Rattle.title_desk.specs.Told.{Books, Passes, Told};
+ghost use Rattle.title_desk.specs.Told.{Books, IsFirstOpen, Passes, Told};
 
 use crate::asks::{access_in, add_step, cause_in, keep_post, tract_in};
 use crate::images::{forget_all, restore_all, tidy_up};
 use crate::refusal::Refusal;
-use crate::slots::{Slot, add_slot, chain_for, count_steps, is_in, take_slot};
+use crate::slots::{Slot, add_slot, chain_for, count_steps, first_in, is_in, steps_of, take_slot};
 use std::alloc::{AllocError, Global};
 use std::collections::BTreeMap;
 use std::marker::Model;
@@ -390,6 +390,20 @@ impl<S: Store + Drop, G: Guards + Drop> Desk<S, G> {
         is_in(&self.slots, examiner)
     }
 
+    /// The steps of an examiner's open transaction, the oldest first; none where it has none open.
+    pub fn open_steps(&self, examiner: u32) -> &[title_chain::Step]
+        ensures steps { reverse result.now ≡ open_steps self.now.trace examiner }
+    {
+        steps_of(&self.slots, examiner)
+    }
+
+    /// The least examiner with a transaction open; `None` exactly where there is none.
+    pub fn first_open(&self) -> Option<u32>
+        ensures first { IsFirstOpen self.now.trace result }
+    {
+        first_in(&self.slots)
+    }
+
     /// The plant: in a cell where a step of an open examiner was posted, what the committed records followed by that
     /// examiner's open steps leave there; in every other cell what the committed records leave.
     pub fn store(&self) -> &S
@@ -402,6 +416,15 @@ impl<S: Store + Drop, G: Guards + Drop> Desk<S, G> {
             S.content result.now c ≡ plant_after depth self.now.setting.townships (committed self.now.trace) c }
     {
         &self.store
+    }
+
+    /// Each reply of the trace is the due one, and there are no more parties than a plant may have. It does nothing: the
+    /// desk's type says so.
+    pub fn is_due(&self)
+        ensures due { IsDue depth self.now.setting self.now.trace }
+        ensures few { self.now.setting.parties ≤ most_parties }
+    {
+        let _ = &self.trace;
     }
 
     /// The committed transactions are serial: run alone, in the order of their commits, they get their answers; and so

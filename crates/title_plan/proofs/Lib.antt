@@ -5,3 +5,6 @@ mod ReadOn
 mod Understood
 mod Rows
 mod Declared
+mod FromOne
+mod Turns
+mod Office

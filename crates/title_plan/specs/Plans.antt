@@ -1,6 +1,6 @@
 -- What a script asks for, or the first fault among its rows.
-use Rattle.std.specs.Prelude.{ℕ, ◌+◌, ◌==◌, ◌&&◌, ◌||◌, not, cond, Bool, true, false, List, [], ◌∷◌, ◌++◌, length, nat_le}
-use Rattle.std.specs.Prelude.{Option, Some, None, Result, Ok, Err, option_map, ok_or}
+use Rattle.std.specs.Prelude.{ℕ, ◌+◌, ◌==◌, ◌&&◌, ◌||◌, not, cond, Bool, true, false, List, [], ◌∷◌, ◌++◌, filter, length, nat_le, nat_lt}
+use Rattle.std.specs.Prelude.{Option, Some, None, Result, Ok, Err}
 use Rattle.std.specs.List.{list_all, list_any, position}
 use Rattle.std.specs.Str.{bytes_eq, is_utf8}
 use Rattle.csv.specs.Reading.{default_config, records, strip_bom}
@@ -59,18 +59,47 @@ with_party n asked name =
 
 -- ---- steps
 
--- in a script of transactions one after another, a step of another examiner than the one whose transaction is open
-abbrev pub is_out_of_turn : Schedule → Option ℕ → ℕ → Bool
-is_out_of_turn schedule.Serial (Some f) e = not (f == e)
-is_out_of_turn _ _ e = false
+-- whether an examiner's transaction is open
+abbrev pub is_inside : List ℕ → ℕ → Bool
+is_inside inside e = list_any (λ f. f == e) inside
+
+-- whether another examiner's transaction is open
+abbrev pub is_other_inside : List ℕ → ℕ → Bool
+is_other_inside inside e = list_any (λ f. not (f == e)) inside
+
+-- the office has no such examiner: its examiners are numbered from 1 to their number
+abbrev pub is_beyond : Schedule → ℕ → Bool
+is_beyond (schedule.Office k) e = nat_lt k e
+is_beyond _ e = false
+
+-- the act is a begin
+abbrev pub is_begin : Act (List ℕ) → Bool
+is_begin act.Begin = true
+is_begin _ = false
+
+-- a step is out of its turn: where transactions come one after another, inside another examiner's; in an office, a begin inside
+-- the examiner's own, and any other step outside it
+abbrev pub is_out_of_turn : Schedule → List ℕ → ℕ → Act (List ℕ) → Bool
+is_out_of_turn schedule.Interleaved inside e a = false
+is_out_of_turn schedule.Serial inside e a = is_other_inside inside e
+is_out_of_turn (schedule.Office k) inside e a = cond (is_begin a) (is_inside inside e) (not (is_inside inside e))
 
 -- in a script of transactions one after another, a step outside them is a transaction of its own
-abbrev pub stands_alone : Schedule → Option ℕ → Bool
-stands_alone schedule.Serial None = true
+abbrev pub stands_alone : Schedule → List ℕ → Bool
+stands_alone schedule.Serial [] = true
 stands_alone _ _ = false
 
--- one step more, after which this examiner's transaction is open
-abbrev pub with_line : Asked → Line → Option ℕ → Asked
+-- the examiners whose transactions are open after one's has ended
+abbrev pub with_ended : List ℕ → ℕ → List ℕ
+with_ended inside e = filter (λ f. not (f == e)) inside
+
+-- the examiners whose transactions are open after one's has begun; where transactions are interleaved none is kept
+abbrev pub with_begun : Schedule → List ℕ → ℕ → List ℕ
+with_begun schedule.Interleaved inside e = inside
+with_begun _ inside e = with_ended inside e ++ e ∷ []
+
+-- one step more, after which the transactions of these examiners are open
+abbrev pub with_line : Asked → Line → List ℕ → Asked
 with_line asked added inside =
     record { townships = asked.townships; names = asked.names; lines = asked.lines ++ added ∷ []; inside = inside }
 
@@ -85,10 +114,14 @@ abbrev pub asked_of : (Land → Ask) → Result Land DescFault → Result Ask De
 asked_of asks (Ok l) = Ok (asks l)
 asked_of asks (Err why) = Err why
 
+-- after an examiner's ask in the n-th row; in an office a description that is none is a fault of the row
+abbrev pub after_asked : Schedule → ℕ → Asked → ℕ → Result Ask DescFault → Result Asked ScriptFault
+after_asked (schedule.Office k) n asked e (Err why) = Err (fault.Row n)
+after_asked sched n asked e asks = Ok (with_line asked (line_of (stands_alone sched asked.inside) e asks) asked.inside)
+
 -- after a step of an examiner with this text
-abbrev pub after_step : Schedule → Asked → ℕ → (Land → Ask) → List ℕ → Asked
-after_step sched asked e asks text =
-    with_line asked (line_of (stands_alone sched asked.inside) e (asked_of asks (land_in text))) asked.inside
+abbrev pub after_step : Schedule → ℕ → Asked → ℕ → (Land → Ask) → List ℕ → Result Asked ScriptFault
+after_step sched n asked e asks text = after_asked sched n asked e (asked_of asks (land_in text))
 
 -- the number of a party
 abbrev pub number_of : List (List ℕ) → List ℕ → Option ℕ
@@ -105,21 +138,27 @@ numbered names instrument =
 abbrev pub post : ℕ → Instrument ℕ → Land → Ask
 post doc instrument l = ask.Post (record { doc = doc; tract = l; instrument = instrument })
 
--- what an examiner does in its turn; a post at fault where one of its parties isn't declared
+-- after a post; at fault where one of its parties isn't declared
+abbrev pub after_post : Schedule → ℕ → Asked → ℕ → ℕ → Option (Instrument ℕ) → List ℕ → Result Asked ScriptFault
+after_post sched n asked e doc None text = Err (fault.Party n)
+after_post sched n asked e doc (Some instrument) text = after_step sched n asked e (post doc instrument) text
+
+-- after what an examiner does in its turn
 abbrev pub after_act : Schedule → ℕ → Asked → ℕ → Act (List ℕ) → Result Asked ScriptFault
-after_act sched n asked e act.Begin = Ok (with_line asked (line.Asks (request.Begin e)) (Some e))
-after_act sched n asked e act.Commit = Ok (with_line asked (line.Asks (request.Commit e)) None)
-after_act sched n asked e act.Abort = Ok (with_line asked (line.Asks (request.Abort e)) None)
-after_act sched n asked e (act.Sheet text) = Ok (after_step sched asked e ask.Sheet text)
-after_act sched n asked e (act.Chain text) = Ok (after_step sched asked e ask.Chain text)
-after_act sched n asked e (act.Post doc instrument text) =
-    ok_or (option_map (λ posted. after_step sched asked e (post doc posted) text) (numbered asked.names instrument)) (fault.Party n)
+after_act sched n asked e act.Begin = Ok (with_line asked (line.Asks (request.Begin e)) (with_begun sched asked.inside e))
+after_act sched n asked e act.Commit = Ok (with_line asked (line.Asks (request.Commit e)) (with_ended asked.inside e))
+after_act sched n asked e act.Abort = Ok (with_line asked (line.Asks (request.Abort e)) (with_ended asked.inside e))
+after_act sched n asked e (act.Sheet text) = after_step sched n asked e ask.Sheet text
+after_act sched n asked e (act.Chain text) = after_step sched n asked e ask.Chain text
+after_act sched n asked e (act.Post doc instrument text) = after_post sched n asked e doc (numbered asked.names instrument) text
 
 -- ---- rows
 
--- the n-th row is a step; one out of its turn is at fault
+-- the n-th row is a step; one of no examiner of the office is at fault, and then one out of its turn
 abbrev pub after_step_row : Schedule → ℕ → Asked → ℕ → Act (List ℕ) → Result Asked ScriptFault
-after_step_row sched n asked e a = cond (is_out_of_turn sched asked.inside e) (Err (fault.Order n)) (after_act sched n asked e a)
+after_step_row sched n asked e a =
+    cond (is_beyond sched e) (Err (fault.Row n))
+    (cond (is_out_of_turn sched asked.inside e a) (Err (fault.Order n)) (after_act sched n asked e a))
 
 -- the n-th row says this
 abbrev pub after_said : Schedule → ℕ → Asked → Row (List ℕ) → Result Asked ScriptFault

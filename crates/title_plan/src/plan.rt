@@ -21,6 +21,9 @@ use title_land::Township;
 
 mod declarations;
 mod steps;
+mod turns;
+
+use turns::is_beyond;
 
 /// The most rows of a script.
 pub const ROWS: u64 = 100_000;
@@ -29,14 +32,14 @@ pub const ROWS: u64 = 100_000;
 const FIRST_PARTY: &str = "UNITED STATES";
 
 /// What the rows of a script declare and ask for. The parties have their numbers as places, UNITED STATES being 0; the
-/// steps stand in order; `inside` is the examiner whose transaction is open where they come one after another.
+/// steps stand in order; `inside` are the examiners whose transactions are open, none where these are interleaved.
 #[derive(Drop)]
 pub struct Plan {
     alloc: Global,
     pub parties: IndexSet<String>,
     pub townships: Vec<Township>,
     pub lines: VecDeque<Line>,
-    pub inside: Option<u32>,
+    pub inside: Vec<u32>,
     ghost some: { 1 ≤ index_set_len parties },
     ghost few: { index_set_len parties ≤ most_parties },
     ghost few_townships: { length townships.items ≤ most_townships },
@@ -59,11 +62,11 @@ impl Plan {
             parties,
             townships: Vec::new(alloc),
             lines: VecDeque::new(alloc),
-            inside: None,
+            inside: Vec::new(alloc),
         })
     }
 
-    // Takes a step of an examiner in the n-th row: out of its turn where another's transaction is open and no two may be.
+    // Takes a step of an examiner in the n-th row, where the office has that examiner and the step is in its turn.
     fn take_step(
         &mut self,
         schedule: Schedule,
@@ -75,7 +78,10 @@ impl Plan {
         ensures err { IfErr result (λ e. (e ≡ fault.Memory)
             ⊎ (after_step_row schedule n (asked_in self.old) examiner (done act.now) ≡ Err e)) }
     {
-        if self.is_out_of_turn(schedule, examiner) {
+        if is_beyond(schedule, examiner) {
+            return Err(ScriptFault::Row(n));
+        }
+        if self.is_out_of_turn(schedule, examiner, act) {
             return Err(ScriptFault::Order(n));
         }
         self.take_act(schedule, n, examiner, act)
@@ -93,8 +99,9 @@ impl Plan {
         }
     }
 
-    /// Takes the n-th row. Faults in their order: Row(n) where it isn't understood, Order(n) where it declares something
-    /// after the first step or is out of its turn, Party(n) for a name that is there already or isn't declared; Memory.
+    /// Takes the n-th row. Faults in their order: Row(n) where it isn't understood or the office has no such examiner, Order(n)
+    /// where it declares something after the first step or is out of its turn, Party(n) for a name that is there already or
+    /// isn't declared, Row(n) for an office's description that is none; Memory.
     pub fn take_row(
         &mut self,
         schedule: Schedule,

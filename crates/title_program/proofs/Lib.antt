@@ -1,2 +1,3 @@
+mod OfficeTold
 mod Printed
 mod Told

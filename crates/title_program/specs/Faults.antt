@@ -1,11 +1,18 @@
--- The lines of faults: `fault,N`, or `fault,N,PLACE` where the fault stands at a row of a script or at a byte of a text.
+-- The lines of faults: `fault,N`, or `fault,N,PLACE` where the fault stands at a row of a script, at a byte of a text, at an examiner
+-- or at the place of a record.
 use Rattle.std.specs.Prelude.{ℕ, List, ◌++◌, Option, None, Some, codes}
 use Rattle.std.specs.Fmt.{decimal}
 use Rattle.title_aliquot.specs.declared.fault.DescFault.{DescFault}
 use Rattle.title_aliquot.specs.declared.fault.DescFault.TheVariants as description
 use Rattle.title_aliquot.specs.Faults.{number_of}
+use Rattle.title_settle.specs.declared.outcome.Unsettled.{Unsettled}
+use Rattle.title_settle.specs.declared.outcome.Unsettled.TheVariants as unsettled
+use Rattle.title_office.specs.declared.fault.Fault.{Fault as WorkerFault}
+use Rattle.title_office.specs.declared.fault.Fault.TheVariants as worker
 use Rattle.title_script.specs.declared.fault.RunFault.{RunFault}
 use Rattle.title_script.specs.declared.fault.RunFault.TheVariants as run
+use Rattle.title_script.specs.declared.office_fault.OfficeFault.{OfficeFault}
+use Rattle.title_script.specs.declared.office_fault.OfficeFault.TheVariants as office
 use Rattle.title_program.specs.declared.fault.Fault.{Fault}
 
 -- a fault of this number that stands here
@@ -46,3 +53,34 @@ of_run run.Write = record { number = 33; place = None }
 of_run (run.Party row) = record { number = 34; place = Some row }
 of_run (run.Order row) = record { number = 35; place = Some row }
 of_run run.Memory = memory
+
+-- the numbers of the faults with which an examiner's worker may end
+abbrev pub number_of_worker : WorkerFault → ℕ
+number_of_worker worker.NotOpen = 1
+number_of_worker worker.AlreadyOpen = 2
+number_of_worker (worker.Invalid cause) = 3
+number_of_worker (worker.Conflict examiner) = 4
+number_of_worker worker.TooLong = 5
+number_of_worker worker.Memory = 6
+number_of_worker worker.Stranger = 7
+number_of_worker worker.NoThread = 9
+number_of_worker worker.NoSuchTownship = 26
+
+-- the fault of a worker has its number alone
+abbrev pub of_worker : WorkerFault → Fault
+of_worker f = record { number = number_of_worker f; place = None }
+
+-- why an office isn't settled: 41 stands at the least examiner whose transaction is open, 42 to 45 at the place of a record
+abbrev pub of_unsettled : Unsettled → Fault
+of_unsettled (unsettled.Open examiner) = record { number = 41; place = Some examiner }
+of_unsettled (unsettled.Unknown place) = record { number = 42; place = Some place }
+of_unsettled (unsettled.Missing place) = record { number = 43; place = Some place }
+of_unsettled (unsettled.Doubled place) = record { number = 44; place = Some place }
+of_unsettled (unsettled.Different place) = record { number = 45; place = Some place }
+of_unsettled unsettled.Memory = memory
+
+-- the fault of an office's run: that of its script or its devices, of a worker, or of its settling
+abbrev pub of_office : OfficeFault → Fault
+of_office (office.Run why) = of_run why
+of_office (office.Worker why) = of_worker why
+of_office (office.Unsettled why) = of_unsettled why

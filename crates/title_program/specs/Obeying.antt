@@ -7,7 +7,7 @@ use Rattle.title_land.specs.Depth.{depth}
 use Rattle.title_plan.specs.Lands.{land_in}
 use Rattle.title_plan.specs.declared.line.Schedule.TheVariants as schedule
 use Rattle.title_command.specs.declared.choice.Line.{Line}
-use Rattle.title_command.specs.declared.choice.Line.TheVariants.{Run, Alone, Tract}
+use Rattle.title_command.specs.declared.choice.Line.TheVariants.{Run, Alone, Office, Tract}
 use Rattle.title_command.specs.declared.choice.LineFault.{LineFault}
 use Rattle.title_command.specs.declared.choice.LineFault.TheVariants.{Help, Bad, Memory}
 use Rattle.title_command.specs.CommandLine.{Explains, IsLineOf, command}
@@ -16,6 +16,7 @@ use Rattle.title_program.specs.declared.words.WordsFault.TheVariants as untaken
 use Rattle.title_program.specs.declared.status.Status.{Status}
 use Rattle.title_program.specs.declared.status.Status.TheVariants.{Success, Failure, Misunderstood}
 use Rattle.title_program.specs.Faults.{fault_line, memory}
+use Rattle.title_program.specs.OfficeServing.{IsOfficeServed}
 use Rattle.title_program.specs.Printing.{Prints}
 use Rattle.title_program.specs.Serving.{IsServed}
 use Rattle.title_program.specs.Tracts.{tract_status, tract_text}
@@ -34,12 +35,15 @@ IsObeyed Run known source_failed sink_failed before after status =
     IsServed schedule.Interleaved known source_failed sink_failed before after status
 IsObeyed Alone known source_failed sink_failed before after status =
     IsServed schedule.Serial known source_failed sink_failed before after status
+IsObeyed (Office examiners tries) known source_failed sink_failed before after status =
+    IsOfficeServed examiners known source_failed sink_failed before after status
 IsObeyed (Tract text) known source_failed sink_failed before after status = PrintsTract text.now before after sink_failed status
 
 -- a script whose report was written has been read to its end; `tract` reads nothing
 abbrev pub ReadsFor : Line → (left left_after : Option (List ℕ)) → Status → Type 0
 ReadsFor Run left left_after status = status ≡ Success → IsAtEnd left_after
 ReadsFor Alone left left_after status = status ≡ Success → IsAtEnd left_after
+ReadsFor (Office examiners tries) left left_after status = status ≡ Success → IsAtEnd left_after
 ReadsFor (Tract text) left left_after status = left_after ≡ left
 
 -- what is told on the errors where the output has failed

@@ -2,17 +2,21 @@
 
 ghost use Rattle.std.specs.Prelude.{◌≡◌, false, map, IfOk, Result};
 ghost use Rattle.std.specs.String.{string_bytes};
+ghost use Rattle.title_command.specs.CommandLine.{IsInRange};
 ghost use Rattle.title_command.specs.declared.choice.Line.{Line};
 ghost use Rattle.title_command.specs.declared.choice.LineFault.{LineFault};
 ghost use Rattle.title_script.specs.Runs.{IsReadWithin};
 ghost use Rattle.title_program.specs.Obeying.{Complains, IsAnswered, IsAsked, IsObeyed, PrintsTract, Reads, ReadsFor, Tells};
 
+use crate::office_serving::serve_office;
 use crate::printing::{complain, print, tell_memory};
 use crate::refusal::refuse;
 use crate::serving::serve;
 use crate::status::Status;
 use crate::tract::tract_printout;
 use std::alloc::{AllocError, Global};
+use std::sync::Wait;
+use std::thread::Threads;
 use title_command::{Line, LineFault, line};
 use title_device::{Sink, Source};
 use title_script::Schedule;
@@ -28,7 +32,14 @@ pub fn print_tract<W: Sink>(alloc: Global, text: &str, sink: &mut W) -> Status
 }
 
 // Does what a command asks for.
-fn carry_out<R: Source, W: Sink>(alloc: Global, line: Line, source: &mut R, sink: &mut W) -> Status
+fn carry_out<T: Threads + Wait + Sync, R: Source, W: Sink>(
+    rt: &T,
+    alloc: Global,
+    line: Line,
+    source: &mut R,
+    sink: &mut W,
+) -> Status
+    requires ranges { IsInRange line }
     requires source_works { R.has_failed source.old ≡ false }
     requires sink_works { W.has_failed sink.old ≡ false }
     ensures obeyed { IsObeyed line.entry (R.left source.old) (R.has_failed source.new) (W.has_failed sink.new)
@@ -39,18 +50,23 @@ fn carry_out<R: Source, W: Sink>(alloc: Global, line: Line, source: &mut R, sink
     match line {
         Line::Run => serve(alloc, Schedule::Interleaved, source, sink),
         Line::Alone => serve(alloc, Schedule::Serial, source, sink),
+        Line::Office { examiners, tries } => {
+            serve_office(rt, alloc, examiners, tries, source, sink)
+        }
         Line::Tract(text) => print_tract(alloc, text, sink),
     }
 }
 
-/// Does what a command asks for: from the source to the sink, and to the errors where the sink has failed.
-pub fn obey<R: Source, W: Sink, E: Sink>(
+/// Does what a command asks for, an office by threads: from the source to the sink, and to the errors where the sink has failed.
+pub fn obey<T: Threads + Wait + Sync, R: Source, W: Sink, E: Sink>(
+    rt: &T,
     alloc: Global,
     line: Line,
     source: &mut R,
     sink: &mut W,
     errors: &mut E,
 ) -> Status
+    requires ranges { IsInRange line }
     requires source_works { R.has_failed source.old ≡ false }
     requires sink_works { W.has_failed sink.old ≡ false }
     ensures obeyed { IsObeyed line.entry (R.left source.old) (R.has_failed source.new) (W.has_failed sink.new)
@@ -59,7 +75,7 @@ pub fn obey<R: Source, W: Sink, E: Sink>(
     ensures turns { IsReadWithin (R.turns source.old) (R.turns source.new) }
     ensures told { Complains (W.has_failed sink.new) (E.taken errors.old) (E.taken errors.new) }
 {
-    let status = carry_out(alloc, line, source, sink);
+    let status = carry_out(rt, alloc, line, source, sink);
     complain(sink, errors);
     status
 }
@@ -76,7 +92,8 @@ fn borrowed<'a>(alloc: Global, words: &'a [String]) -> Result<Vec<&'a str>, Allo
 }
 
 /// Does what the words after the program's name ask for, and answers the status with which the program ends.
-pub fn obey_words<R: Source, W: Sink, E: Sink>(
+pub fn obey_words<T: Threads + Wait + Sync, R: Source, W: Sink, E: Sink>(
+    rt: &T,
     alloc: Global,
     words: &[String],
     source: &mut R,
@@ -96,7 +113,7 @@ pub fn obey_words<R: Source, W: Sink, E: Sink>(
         return refuse(alloc, LineFault::Memory, sink, errors);
     };
     match line(alloc, texts.as_slice()) {
-        Ok(line) => obey(alloc, line, source, sink, errors),
+        Ok(line) => obey(rt, alloc, line, source, sink, errors),
         Err(why) => refuse(alloc, why, sink, errors),
     }
 }

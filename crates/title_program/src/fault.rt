@@ -2,13 +2,16 @@
 
 ghost use Rattle.std.specs.Prelude.{◌≡◌, IfOk, Some};
 ghost use Rattle.std.specs.String.{string_bytes};
+ghost use Rattle.title_program.specs.Faults.{number_of_worker};
 
 use std::alloc::{AllocError, Global};
 use std::fmt;
 use title_aliquot::DescFault;
-use title_script::RunFault;
+use title_office::{Fault as WorkerFault, Unsettled};
+use title_script::{OfficeFault, RunFault};
 
-/// A fault as its line tells it: its number, and the row of a script or the byte of a text where it stands.
+/// A fault as its line tells it: its number, and the row of a script, the byte of a text, the examiner or the place of a record
+/// where it stands.
 #[derive(Clone, Copy, Debug, PartialEq, Eq)]
 pub struct Fault {
     pub number: u32,
@@ -82,5 +85,67 @@ impl From<RunFault> for Fault {
             RunFault::Memory => (6, None),
         };
         Fault { number, place }
+    }
+}
+
+// The number of a worker's fault.
+fn number_of_worker(fault: WorkerFault) -> u32
+    ensures number { result ≡ number_of_worker fault }
+{
+    match fault {
+        WorkerFault::NotOpen => 1,
+        WorkerFault::AlreadyOpen => 2,
+        WorkerFault::Invalid(_) => 3,
+        WorkerFault::Conflict(_) => 4,
+        WorkerFault::TooLong => 5,
+        WorkerFault::Memory => 6,
+        WorkerFault::Stranger => 7,
+        WorkerFault::NoThread => 9,
+        WorkerFault::NoSuchTownship => 26,
+    }
+}
+
+impl From<WorkerFault> for Fault {
+    ghost use Rattle.title_program.specs.Faults.{of_worker};
+
+    ghost from_gives = { λ fault told. told ≡ of_worker fault };
+
+    fn from(fault: WorkerFault) -> Fault {
+        Fault {
+            number: number_of_worker(fault),
+            place: None,
+        }
+    }
+}
+
+impl From<Unsettled> for Fault {
+    ghost use Rattle.title_program.specs.Faults.{of_unsettled};
+
+    ghost from_gives = { λ fault told. told ≡ of_unsettled fault };
+
+    fn from(fault: Unsettled) -> Fault {
+        let (number, place) = match fault {
+            Unsettled::Open(examiner) => (41, Some(u64::from(examiner))),
+            Unsettled::Unknown(place) => (42, Some(place)),
+            Unsettled::Missing(place) => (43, Some(place)),
+            Unsettled::Doubled(place) => (44, Some(place)),
+            Unsettled::Different(place) => (45, Some(place)),
+            Unsettled::Memory => (6, None),
+        };
+        Fault { number, place }
+    }
+}
+
+impl From<OfficeFault> for Fault {
+    ghost use Rattle.title_program.specs.Faults.{of_office};
+
+    ghost from_gives = { λ fault told. told ≡ of_office fault };
+
+    fn from(fault: OfficeFault) -> Fault {
+        match fault {
+            OfficeFault::Run(why) => Fault::from(why),
+            OfficeFault::Worker(why) => Fault::from(why),
+            OfficeFault::Unsettled(why) => Fault::from(why),
+        }
     }
 }

@@ -3,6 +3,7 @@
 
 mod commands;
 mod fault;
+mod office_serving;
 mod printing;
 mod refusal;
 mod serving;
@@ -12,6 +13,7 @@ mod words;
 
 pub use commands::{obey, obey_words, print_tract};
 pub use fault::Fault;
+pub use office_serving::serve_office;
 pub use refusal::refuse;
 pub use serving::serve;
 pub use status::Status;

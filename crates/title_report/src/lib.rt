@@ -3,5 +3,7 @@
 
 mod report;
 mod rows;
+mod tally;
 
 pub use report::Report;
+pub use tally::Tally;

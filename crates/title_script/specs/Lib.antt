@@ -3,3 +3,8 @@ pub mod Served
 pub mod Reports
 pub mod Runs
 pub mod ReportLaws
+pub mod OfficeReports
+pub mod OfficeRuns
+pub mod Dealing
+pub mod OfficeDays
+pub mod OfficeScripts

@@ -3,6 +3,8 @@
 use crate::tally::Tally;
 use anyhow::Result;
 use std::alloc::{AllocError, Global};
+use std::sync::Wait;
+use std::thread::Threads;
 use title_device::Device;
 use title_program::obey_words;
 
@@ -23,11 +25,16 @@ pub struct Case {
 }
 
 // How a command line ends.
-fn ending_of(alloc: Global, words: &[String], stdin: &[u8]) -> Ending {
+fn ending_of<R: AllocGlobal + Threads + Wait + Sync>(
+    rt: &R,
+    words: &[String],
+    stdin: &[u8],
+) -> Ending {
+    let alloc = rt.alloc();
     let mut source = Device::new(stdin);
     let mut sink = Device::new(Vec::new(alloc));
     let mut errors = Device::new(Vec::new(alloc));
-    let status = obey_words(alloc, words, &mut source, &mut sink, &mut errors);
+    let status = obey_words(rt, alloc, words, &mut source, &mut sink, &mut errors);
     Ending {
         stdout: sink.into_inner(),
         status: status.code(),
@@ -50,7 +57,7 @@ fn line_after(alloc: Global, text: &[u8], others: usize) -> Result<String, Alloc
 }
 
 // Names a command line that doesn't end as stored, with the first line that differs.
-fn tell(rt: &HostRuntime, case: &Case, came: &Ending) -> Result<()> {
+fn tell<R: Print + AllocGlobal>(rt: &R, case: &Case, came: &Ending) -> Result<()> {
     let alike = lines_alike(came.stdout.as_slice(), case.wanted.stdout.as_slice());
     let line = line_after(rt.alloc(), came.stdout.as_slice(), alike)?;
     let (name, status) = (case.name.as_str(), came.status);
@@ -59,8 +66,12 @@ fn tell(rt: &HostRuntime, case: &Case, came: &Ending) -> Result<()> {
 }
 
 /// Runs a command line and counts it. One that doesn't end as stored is named.
-pub fn judge(rt: &HostRuntime, case: &Case, tally: &mut Tally) -> Result<()> {
-    let came = ending_of(rt.alloc(), case.words.as_slice(), case.stdin.as_slice());
+pub fn judge<R: Print + AllocGlobal + Threads + Wait + Sync>(
+    rt: &R,
+    case: &Case,
+    tally: &mut Tally,
+) -> Result<()> {
+    let came = ending_of(rt, case.words.as_slice(), case.stdin.as_slice());
     let is_same = came == case.wanted;
     tally.count(is_same);
     if !is_same {

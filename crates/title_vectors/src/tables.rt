@@ -6,6 +6,9 @@ use anyhow::{Context, Result};
 use csv::{ReaderBuilder, StringRecord, StringRecordsIntoIter};
 use std::alloc::{AllocError, Global};
 use std::fs;
+use std::rt::Files;
+use std::sync::Wait;
+use std::thread::Threads;
 
 // A field that each row has.
 fn field(row: &StringRecord, place: usize) -> Result<&str> {
@@ -56,13 +59,13 @@ fn tract_case(alloc: Global, row: &StringRecord) -> Result<Case> {
 }
 
 // The bytes of a file.
-fn file(rt: &HostRuntime, name: &str, ending: &str) -> Result<Vec<u8>> {
+fn file<R: Files + AllocGlobal>(rt: &R, name: &str, ending: &str) -> Result<Vec<u8>> {
     let path = format!(in rt.alloc(); "{name}.{ending}")?;
     Ok(fs::read(rt, path.as_str())?)
 }
 
 // The name of two files, the input NAME.csv and the output NAME.report, then the status and the words.
-fn run_case(rt: &HostRuntime, row: &StringRecord) -> Result<Case> {
+fn run_case<R: Files + AllocGlobal>(rt: &R, row: &StringRecord) -> Result<Case> {
     let name = field(row, 0)?;
     let status = field(row, 1)?.parse::<u8>()?;
     let stdout = file(rt, name, "report")?;
@@ -84,7 +87,10 @@ fn rows_of(alloc: Global, table: &[u8]) -> StringRecordsIntoIter<&[u8]> {
 }
 
 /// Judges each row of the table of descriptions.
-pub fn check_tracts(rt: &HostRuntime, tally: &mut Tally) -> Result<()> {
+pub fn check_tracts<R: Files + Print + AllocGlobal + Threads + Wait + Sync>(
+    rt: &R,
+    tally: &mut Tally,
+) -> Result<()> {
     let table = fs::read(rt, "tracts.csv")?;
     for row in rows_of(rt.alloc(), table.as_slice()) {
         let case = tract_case(rt.alloc(), &row?)?;
@@ -94,7 +100,10 @@ pub fn check_tracts(rt: &HostRuntime, tally: &mut Tally) -> Result<()> {
 }
 
 /// Judges each row of the table of runs.
-pub fn check_runs(rt: &HostRuntime, tally: &mut Tally) -> Result<()> {
+pub fn check_runs<R: Files + Print + AllocGlobal + Threads + Wait + Sync>(
+    rt: &R,
+    tally: &mut Tally,
+) -> Result<()> {
     let table = fs::read(rt, "runs.csv")?;
     for row in rows_of(rt.alloc(), table.as_slice()) {
         let case = run_case(rt, &row?)?;

@@ -18,6 +18,7 @@ fn main(rt: HostRuntime) -> ExitCode {
     let mut errors = Device::new(rt.stderr());
     let status = match words(&rt) {
         Ok(words) => obey_words(
+            &rt,
             rt.alloc(),
             words.as_slice(),
             &mut source,

@@ -2,16 +2,19 @@
 
 ghost use Rattle.std.specs.Prelude.{◌≡◌, ◌⊎◌, Ok, Err, IfErr, OnOk};
 ghost use Rattle.title_plan.specs.declared.fault.ScriptFault.TheVariants as fault;
+ghost use Rattle.title_trace.specs.declared.call.Request.TheVariants as request;
+ghost use Rattle.title_plan.specs.declared.line.Line.TheVariants as line;
 ghost use Rattle.title_plan.specs.Asked.{asked_in};
-ghost use Rattle.title_plan.specs.Plans.{after_act, is_out_of_turn, line_of, number_of, numbered, stands_alone, with_line};
+ghost use Rattle.title_plan.specs.Plans.{after_act, after_asked, line_of, number_of, numbered, with_begun, with_ended, with_line};
 ghost use Rattle.title_plan.specs.Rows.{done, named};
 
 use crate::fault::ScriptFault;
 use crate::lands::read_tract;
 use crate::line::{Line, Schedule};
 use crate::plan::Plan;
+use crate::plan::turns::{begin, end};
 use crate::row::Act;
-use std::alloc::{AllocError, Global};
+use std::alloc::AllocError;
 use title_aliquot::DescFault;
 use title_chain::{Ask, Posting};
 use title_instrument::Instrument;
@@ -29,23 +32,6 @@ fn line(alone: bool, examiner: u32, asked: Result<Ask, DescFault>) -> Line
 }
 
 impl Plan {
-    // Whether this examiner's row is out of its turn.
-    pub(super) fn is_out_of_turn(&self, schedule: Schedule, examiner: u32) -> bool
-        ensures out { result ≡ is_out_of_turn schedule (asked_in self.now).inside examiner }
-    {
-        match (schedule, self.inside) {
-            (Schedule::Serial, Some(inside)) => inside != examiner,
-            _ => false,
-        }
-    }
-
-    // Whether a step is a transaction of its own.
-    fn stands_alone(&self, schedule: Schedule) -> bool
-        ensures alone { result ≡ stands_alone schedule (asked_in self.now).inside }
-    {
-        schedule == Schedule::Serial && self.inside.is_none()
-    }
-
     // The number of a party.
     fn number(&self, name: &str) -> Option<u32>
         ensures number { result ≡ number_of (asked_in self.now).names name.now }
@@ -65,11 +51,51 @@ impl Plan {
         Some(instrument.between(grantor, grantee))
     }
 
-    fn add(&mut self, line: Line, inside: Option<u32>) -> Result<(), AllocError>
-        ensures added { OnOk result (asked_in self.new ≡ with_line (asked_in self.old) line inside) }
+    // An examiner's transaction begins.
+    fn begin(&mut self, schedule: Schedule, examiner: u32) -> Result<(), AllocError>
+        ensures begun { OnOk result (asked_in self.new ≡ with_line (asked_in self.old) (line.Asks (request.Begin examiner))
+            (with_begun schedule (asked_in self.old).inside examiner)) }
+    {
+        begin(&mut self.inside, schedule, examiner)?;
+        self.lines.push_back(Line::Asks(Request::Begin(examiner)))?;
+        Ok(())
+    }
+
+    // An examiner's transaction ends by a request.
+    fn end(&mut self, request: Request, examiner: u32) -> Result<(), AllocError>
+        ensures ended { OnOk result (asked_in self.new ≡ with_line (asked_in self.old) (line.Asks request)
+            (with_ended (asked_in self.old).inside examiner)) }
+    {
+        self.lines.push_back(Line::Asks(request))?;
+        end(&mut self.inside, examiner);
+        Ok(())
+    }
+
+    fn add(&mut self, line: Line) -> Result<(), AllocError>
+        ensures added { OnOk result (asked_in self.new ≡ with_line (asked_in self.old) line (asked_in self.old).inside) }
     {
         self.lines.push_back(line)?;
-        self.inside = inside;
+        Ok(())
+    }
+
+    // Takes what an examiner asks, or the fault of its description.
+    fn take_asked(
+        &mut self,
+        schedule: Schedule,
+        n: u64,
+        examiner: u32,
+        asked: Result<Ask, DescFault>,
+    ) -> Result<(), ScriptFault>
+        ensures ok { OnOk result (after_asked schedule n (asked_in self.old) examiner asked ≡ Ok (asked_in self.new)) }
+        ensures err { IfErr result (λ e. (e ≡ fault.Memory) ⊎ (after_asked schedule n (asked_in self.old) examiner asked ≡ Err e)) }
+    {
+        if let Schedule::Office(_) = schedule {
+            if asked.is_err() {
+                return Err(ScriptFault::Row(n));
+            }
+        }
+        let alone = self.stands_alone(schedule);
+        self.add(line(alone, examiner, asked))?;
         Ok(())
     }
 
@@ -85,19 +111,26 @@ impl Plan {
         ensures err { IfErr result (λ e. (e ≡ fault.Memory)
             ⊎ (after_act schedule n (asked_in self.old) examiner (done act.now) ≡ Err e)) }
     {
-        let alone = self.stands_alone(schedule);
-        let inside = self.inside;
-        let (line, inside) = match *act {
-            Act::Begin => (Line::Asks(Request::Begin(examiner)), Some(examiner)),
-            Act::Commit => (Line::Asks(Request::Commit(examiner)), None),
-            Act::Abort => (Line::Asks(Request::Abort(examiner)), None),
+        match *act {
+            Act::Begin => {
+                self.begin(schedule, examiner)?;
+                Ok(())
+            }
+            Act::Commit => {
+                self.end(Request::Commit(examiner), examiner)?;
+                Ok(())
+            }
+            Act::Abort => {
+                self.end(Request::Abort(examiner), examiner)?;
+                Ok(())
+            }
             Act::Sheet(text) => {
                 let asked = read_tract(self.alloc, text)?.map(Ask::Sheet);
-                (line(alone, examiner, asked), inside)
+                self.take_asked(schedule, n, examiner, asked)
             }
             Act::Chain(text) => {
                 let asked = read_tract(self.alloc, text)?.map(Ask::Chain);
-                (line(alone, examiner, asked), inside)
+                self.take_asked(schedule, n, examiner, asked)
             }
             Act::Post(doc, ref instrument, text) => {
                 let Some(instrument) = self.numbered(instrument) else {
@@ -109,10 +142,8 @@ impl Plan {
                     tract,
                     instrument,
                 }));
-                (line(alone, examiner, asked), inside)
+                self.take_asked(schedule, n, examiner, asked)
             }
-        };
-        self.add(line, inside)?;
-        Ok(())
+        }
     }
 }

@@ -1,24 +1,53 @@
--- What is left when the name is neither of the first two: `tract` with its text.
-use Rattle.std.proofs.Common.{◌∙◌, sym, ap, codes}
-use Rattle.std.specs.Prelude.{option_map}
+-- The values that a subcommand has: the numbers of `office`, and the text of `tract`, whose name is none of the others.
+use Rattle.std.proofs.Common.{◌∙◌, arith, sym, ap, codes}
+use Rattle.std.specs.Prelude.{is_some, option_map}
 use Rattle.clap.specs.Words.{found_of, rows_of}
 use Rattle.clap.proofs.CallerLemmas.{some_of_text}
 use Rattle.clap.proofs.WalkLemmas.{first_value-rows}
-use Rattle.title_command.proofs.CommandLemmas.{tract_reads}
+use Rattle.title_command.specs.CommandLine.{most_examiners, most_tries}
+use Rattle.title_command.proofs.CommandLemmas.{number_got, office_reads, option_read, tract_reads}
 use Rattle.title_command.proofs.command_line.read_line.Goals as goal
+
+pub unwrap-examiners-requires : goal.unwrap-examiners-requires
+unwrap-examiners-requires c =
+    let found = found_of c.args.values.now in
+    let given = office_reads c.args.name.now (rows_of found) c.if-eq-3.ensures c.requires.readable in
+    ap is_some (option_read (codes "examiners") most_examiners found c.get_one.result (omega arith) given.1 c.get_one.ensures.value).1
+
+pub unwrap-tries-requires : goal.unwrap-tries-requires
+unwrap-tries-requires c =
+    let found = found_of c.args.values.now in
+    let given = office_reads c.args.name.now (rows_of found) c.if-eq-3.ensures c.requires.readable in
+    let got = c.get_one-then-eq-3 in
+    ap is_some (option_read (codes "tries") most_tries found got.result (omega arith) given.2 got.ensures.value).1
+
+pub returns-then-eq-3 : goal.returns-then-eq-3
+returns-then-eq-3 c =
+    let found = found_of c.args.values.now in
+    let given = office_reads c.args.name.now (rows_of found) c.if-eq-3.ensures c.requires.readable in
+    let got = c.get_one-then-eq-3 in
+    let examiners = number_got (codes "examiners") most_examiners (rows_of found) c.get_one.result c.unwrap-examiners.result
+    (option_read (codes "examiners") most_examiners found c.get_one.result (omega arith) given.1 c.get_one.ensures.value)
+    c.unwrap-examiners.ensures in
+    let tries = number_got (codes "tries") most_tries (rows_of found) got.result c.unwrap-tries.result
+    (option_read (codes "tries") most_tries found got.result (omega arith) given.2 got.ensures.value) c.unwrap-tries.ensures in
+    record { line = (given.0, examiners.0, tries.0); ranges = (examiners.1, tries.1) }
 
 pub unwrap-text-requires : goal.unwrap-text-requires
 unwrap-text-requires c =
-    let read = tract_reads c.args.name.now (rows_of (found_of c.args.values.now)) c.if-eq.ensures c.if-eq-2.ensures c.requires.readable in
+    let read = tract_reads c.args.name.now (rows_of (found_of c.args.values.now)) c.if-eq.ensures c.if-eq-2.ensures c.if-eq-3.ensures
+    c.requires.readable in
     some_of_text _ c.get_str.result _ (c.get_str.ensures ∙ first_value-rows (found_of c.args.values.now) (codes "TEXT")) read.1
 
 pub returns : goal.returns
 returns c =
-    let read = tract_reads c.args.name.now (rows_of (found_of c.args.values.now)) c.if-eq.ensures c.if-eq-2.ensures c.requires.readable in
+    let read = tract_reads c.args.name.now (rows_of (found_of c.args.values.now)) c.if-eq.ensures c.if-eq-2.ensures c.if-eq-3.ensures
+    c.requires.readable in
     record {
       line = (
         read.0,
         sym (c.get_str.ensures ∙ first_value-rows (found_of c.args.values.now) (codes "TEXT"))
             ∙ ap (option_map (λ s. s.now)) c.unwrap-text.ensures,
       );
+      ranges = tt;
     }

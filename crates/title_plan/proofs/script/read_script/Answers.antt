@@ -9,6 +9,7 @@ use Rattle.csv.specs.declared.parser.State.TheVariants as st
 use Rattle.csv.proofs.ReadFacts.{rows-end, rows-more}
 use Rattle.title_plan.specs.declared.fault.ScriptFault.{ScriptFault}
 use Rattle.title_plan.specs.Asked.{Asked, asked_in, nothing_asked}
+use Rattle.title_plan.proofs.Office.{schedule_kept}
 use Rattle.title_plan.proofs.Rows.{after_push, fault_stands}
 use Rattle.title_plan.proofs.Declared.{once_said}
 use Rattle.title_plan.proofs.ReadOn.{reached_all, reached_rest}
@@ -70,6 +71,9 @@ returns-clause-script c =
     inv.config inv.source s in
     let all = reached_all default_config (strip_bom c.args.text.now) inv.rows c.loop-row.row-iterator.rdr.state inv.rest inv.reached none in
     rw all inv.after
+
+pub returns-clause-keeps : goal.returns-clause-keeps
+returns-clause-keeps c = schedule_kept c.args.schedule c.args.text.now (asked_in c.loop-row.plan) (returns-clause-script c)
 
 pub returns-clause-opens : goal.returns-clause-opens
 returns-clause-opens c =

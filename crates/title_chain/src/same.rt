@@ -1,0 +1,103 @@
+//! Whether two steps, or two records, are one.
+
+ghost use Rattle.std.specs.Prelude.{◌≡◌, ◌↔◌, true};
+
+use crate::ask::{Answer, Ask, Entry, Posting, Step};
+use crate::record::Record;
+use crate::same_parts::{
+    same_estate, same_instrument, same_node, same_rows, same_rule, same_tract,
+};
+
+impl Posting {
+    fn same(&self, other: &Posting) -> bool
+        ensures same { (result ≡ true) ↔ (self.now ≡ other.now) }
+    {
+        self.doc == other.doc
+            && same_tract(&self.tract, &other.tract)
+            && same_instrument(&self.instrument, &other.instrument)
+    }
+}
+
+impl Ask {
+    fn same(&self, other: &Ask) -> bool
+        ensures same { (result ≡ true) ↔ (self.now ≡ other.now) }
+    {
+        match (self, other) {
+            (Ask::Sheet(a), Ask::Sheet(b)) => same_tract(a, b),
+            (Ask::Chain(a), Ask::Chain(b)) => same_tract(a, b),
+            (Ask::Post(a), Ask::Post(b)) => a.same(b),
+            _ => false,
+        }
+    }
+}
+
+impl Entry {
+    fn same(&self, other: &Entry) -> bool
+        ensures same { (result ≡ true) ↔ (self.now ≡ other.now) }
+    {
+        self.place == other.place && self.posting.same(&other.posting)
+    }
+}
+
+fn same_entries(a: &[Entry], b: &[Entry]) -> bool
+    ensures same { (result ≡ true) ↔ (a.now ≡ b.now) }
+{
+    if a.len() != b.len() {
+        return false;
+    }
+    for (entry, other) in a.iter().zip(b) {
+        if !entry.same(other) {
+            return false;
+        }
+    }
+    true
+}
+
+impl Answer {
+    fn same(&self, other: &Answer) -> bool
+        ensures same { (result ≡ true) ↔ (self.now ≡ other.now) }
+    {
+        match (self, other) {
+            (Answer::Rows(a), Answer::Rows(b)) => same_rows(a.as_slice(), b.as_slice()),
+            (Answer::Entries(a), Answer::Entries(b)) => same_entries(a.as_slice(), b.as_slice()),
+            (Answer::Posted, Answer::Posted) => true,
+            (Answer::Refused(rule, estate, node), Answer::Refused(other, part, place)) => {
+                same_rule(*rule, *other) && same_estate(*estate, *part) && same_node(node, place)
+            }
+            _ => false,
+        }
+    }
+}
+
+impl Step {
+    /// Whether both are the same ask with the same answer.
+    pub fn same(&self, other: &Step) -> bool
+        ensures same { (result ≡ true) ↔ (self.now ≡ other.now) }
+    {
+        self.ask.same(&other.ask) && self.answer.same(&other.answer)
+    }
+}
+
+/// Whether two lists have the same steps, in order.
+pub fn same_steps(a: &[Step], b: &[Step]) -> bool
+    ensures same { (result ≡ true) ↔ (a.now ≡ b.now) }
+{
+    if a.len() != b.len() {
+        return false;
+    }
+    for (step, other) in a.iter().zip(b) {
+        if !step.same(other) {
+            return false;
+        }
+    }
+    true
+}
+
+impl Record {
+    /// Whether both are of the same examiner, with the same steps in order.
+    pub fn same(&self, other: &Record) -> bool
+        ensures same { (result ≡ true) ↔ (self.now ≡ other.now) }
+    {
+        self.examiner == other.examiner && same_steps(self.steps.as_slice(), other.steps.as_slice())
+    }
+}

@@ -1,0 +1,21 @@
+//! Laws of the command line. Each function does nothing: its clause is the law, proved.
+
+ghost use Rattle.std.specs.Prelude.{◌∷◌, [], codes};
+ghost use Rattle.title_command.specs.CommandLine.{OfficeAtMost, OfficeByDefault, Refuses};
+
+use clap::error::ErrorKind;
+
+/// Words of the command `office` that are taken: it alone has two examiners and a hundred tries, and it may have the most.
+pub fn office_words_are_said()
+    ensures default { OfficeByDefault }
+    ensures most { OfficeAtMost }
+{}
+
+/// Words of the command `office` that are refused: numbers out of range, a word that is no number, an option said twice.
+pub fn other_words_are_refused()
+    ensures more { Refuses (codes "--examiners" ∷ codes "65" ∷ []) ErrorKind.ValueValidation }
+    ensures none { Refuses (codes "--tries" ∷ codes "0" ∷ []) ErrorKind.ValueValidation }
+    ensures no_number { Refuses (codes "--tries" ∷ codes "ten" ∷ []) ErrorKind.ValueValidation }
+    ensures twice { Refuses (codes "--tries=1" ∷ codes "--tries=2" ∷ []) ErrorKind.ArgumentConflict }
+    ensures unknown { Refuses (codes "soon" ∷ []) ErrorKind.UnknownArgument }
+{}

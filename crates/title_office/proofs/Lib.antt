@@ -1,0 +1,6 @@
+-- The lemmas.
+pub mod Replies
+pub mod Slips
+pub mod Settling
+pub mod Lists
+pub mod Runs

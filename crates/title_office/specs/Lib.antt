@@ -1,0 +1,3 @@
+pub mod Offices
+pub mod Workers
+pub mod Turns

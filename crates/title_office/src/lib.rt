@@ -1,0 +1,25 @@
+//! The office: one desk behind a lock, the seats and slips of its examiners, and workers that run scripts by threads.
+#![tactic(auto)]
+
+mod books;
+mod fault;
+mod gate;
+mod office;
+mod opening;
+mod room;
+mod seat;
+mod settle;
+mod slip;
+mod workers;
+
+pub use books::Books;
+pub use fault::Fault;
+pub use gate::{Gate, OpenGate};
+pub use office::{Done, Office};
+pub use opening::{MOST_SEATS, Opened};
+pub use room::Room;
+pub use seat::Seat;
+pub use settle::Settled;
+pub use slip::Slip;
+pub use title_settle::{Outcome, Unsettled};
+pub use workers::{Script, Transaction, Worked, work};

@@ -1,0 +1,99 @@
+//! Slips.
+
+ghost use Rattle.std.specs.Prelude.{◌≡◌, [], option_map};
+ghost use Rattle.title_office.specs.Offices.{last_answer, having_seen, with_steps};
+
+use crate::office::Done;
+use crate::room::Room;
+use crate::seat::Seat;
+use std::alloc::Global;
+use std::marker::Model;
+use std::mem::replace;
+use title_chain::{Answer, Record, Step, Steps};
+
+/// An open transaction: the seat that it was begun from, and its steps so far.
+#[derive(Drop)]
+pub struct Slip<B: Room> {
+    pub(crate) seat: Seat<B>,
+    pub(crate) rec: Record,
+}
+
+impl<B: Room> Model for Slip<B> {
+    ghost use Rattle.std.specs.Prelude.{◌≡◌};
+    ghost use Rattle.title_office.specs.Offices.{SlipState};
+
+    ghost Value = { SlipState };
+
+    ghost view = { λ s. record { seat = s.seat; rec = s.rec } };
+
+    ghost invariant = { λ s. s.rec.examiner ≡ s.seat.examiner };
+}
+
+impl<B: Room> Slip<B> {
+    /// The steps that were answered, in order.
+    pub fn record(&self) -> &Record
+        ensures steps { result.now ≡ self.now.rec }
+    {
+        &self.rec
+    }
+
+    /// The answer to the last step; `None` before the first.
+    pub fn last(&self) -> Option<&Answer>
+        ensures last { option_map (λ answer. answer.now) result ≡ last_answer self.now.rec.steps }
+    {
+        let step = self.rec.steps.as_slice().last()?;
+        Some(&step.answer)
+    }
+
+    // The examiner whose transaction it is.
+    pub(crate) fn examiner(&self) -> u32
+        ensures examiner { result ≡ self.now.seat.examiner }
+        ensures own { result ≡ self.now.rec.examiner }
+    {
+        self.rec.examiner
+    }
+
+    // Takes the steps out.
+    pub(crate) fn take_steps(&mut self, alloc: Global) -> Vec<Step>
+        ensures taken { result.items ≡ self.old.rec.steps }
+        ensures left { self.new ≡ with_steps self.old [] }
+    {
+        replace(&mut self.rec.steps, Steps::empty(alloc)).into_vec()
+    }
+
+    // Puts steps in the place of those that it has.
+    pub(crate) fn put_steps(&mut self, steps: Vec<Step>)
+        ensures put { self.new ≡ with_steps self.old steps.items }
+    {
+        self.rec.steps = Steps::new(steps);
+    }
+
+    // Notes how many records the seat has seen.
+    pub(crate) fn see(&mut self, seen: u64)
+        ensures seen { self.new ≡ having_seen self.old seen }
+    {
+        self.seat.seen = seen;
+    }
+
+    // What comes of a commit at this place.
+    pub(crate) fn committed(self, place: u64) -> Done<B>
+        ensures place { result.place ≡ place }
+        ensures rec { result.rec ≡ self.rec }
+        ensures seat { result.seat ≡ record self.seat { seen = place } }
+    {
+        let Slip { seat, rec } = self;
+        Done {
+            place,
+            rec,
+            seat: seat.having_seen(place),
+        }
+    }
+
+    // The seat that it was begun from.
+    pub(crate) fn into_seat(self) -> Seat<B>
+        ensures seat { result ≡ self.seat }
+    {
+        let Slip { seat, rec: _ } = self;
+        seat
+    }
+}

@@ -1,0 +1,118 @@
+//! Workers run beside each other: each waits, between its begin and its next call, until the other has begun too.
+
+ghost use Rattle.std.specs.Prelude.{◌≡◌, IfOk};
+
+use crate::days::{posting, section, township};
+use std::alloc::{AllocError, Global};
+use std::marker::Brand;
+use std::process::Abort;
+use std::sync::Wait;
+use std::sync::atomic::{AtomicBool, Ordering};
+use std::test::Fail;
+use std::thread::{Threads, yield_now};
+use title_chain::Ask;
+use title_desk::may_open;
+use title_land::Township;
+use title_office::{Gate, Office, Opened, Room, Script, Transaction, Worked, work};
+
+/// The most turns that a worker waits for the other.
+const TURNS: u64 = 100_000_000;
+
+/// Whether each of two examiners has begun, and whether one has waited in vain.
+#[derive(Drop)]
+struct TwoFlags {
+    first: AtomicBool,
+    second: AtomicBool,
+    in_vain: AtomicBool,
+}
+
+impl TwoFlags {
+    // Waits until the other has begun, but not for ever.
+    fn wait_for(&self, other: &AtomicBool) {
+        for _ in 0..TURNS {
+            if other.load(Ordering::SeqCst) {
+                return;
+            }
+            yield_now();
+        }
+        self.in_vain.store(true, Ordering::SeqCst);
+    }
+}
+
+impl Gate for TwoFlags {
+    fn before<R: Wait>(&self, _rt: &R, _examiner: u32, _call: u64) {}
+
+    fn after<R: Wait>(&self, _rt: &R, examiner: u32, call: u64) {
+        if call != 0 {
+            return;
+        }
+        if examiner == 1 {
+            self.first.store(true, Ordering::SeqCst);
+            self.wait_for(&self.second);
+        } else {
+            self.second.store(true, Ordering::SeqCst);
+            self.wait_for(&self.first);
+        }
+    }
+}
+
+// A script of one transaction with one post in this section.
+fn script(rt: &impl Abort, alloc: Global, examiner: u32, number: u8) -> Result<Script, AllocError>
+    ensures examiner { IfOk result (λ s. s.examiner ≡ examiner) }
+{
+    let mut asks = Vec::new(alloc);
+    asks.push(Ask::Post(posting(section(rt, alloc, number)?)))?;
+    let mut transactions = Vec::new(alloc);
+    transactions.push(Transaction {
+        asks,
+        commits: true,
+    })?;
+    Ok(Script {
+        examiner,
+        transactions,
+    })
+}
+
+// Each of the workers has committed its transaction.
+fn assert_done<B: Room>(rt: &impl Abort, worked: &[Worked<B>]) {
+    assert_eq!(rt; worked.len(), 2);
+    for each in worked {
+        assert!(rt; each.fault.is_none() && each.seat.is_some());
+        assert_eq!(rt; each.outcomes.len(), 1);
+        assert_eq!(rt; (each.aborted, each.given_up), (0, 0));
+    }
+}
+
+fn turns_day<B: Room + Send + Sync, R: Threads + Wait + Abort + Sync>(
+    rt: &R,
+    alloc: Global,
+    townships: &[Township],
+) -> Result<(), Fail>
+    requires setting { B.setting ≡ record { parties = 2; townships = townships.now } }
+{
+    assert!(rt; may_open(2, townships));
+    let mut scripts = Vec::new(alloc);
+    scripts.push(script(rt, alloc, 1, 5)?)?;
+    scripts.push(script(rt, alloc, 2, 6)?)?;
+    let Ok(opened) = Office::<B>::open(alloc, 7, 2, townships, 2) else {
+        return Err(Fail::new("the office opens"));
+    };
+    let Opened { office, seats } = opened;
+    let gate = TwoFlags {
+        first: AtomicBool::new(false),
+        second: AtomicBool::new(false),
+        in_vain: AtomicBool::new(false),
+    };
+    match work(rt, alloc, &office, seats, scripts, 1, &gate) {
+        Ok(worked) => assert_done(rt, &worked),
+        Err(_) => return Err(Fail::new("there is memory")),
+    }
+    assert!(rt; !gate.in_vain.load(Ordering::SeqCst));
+    Ok(())
+}
+
+#[test]
+fn workers_overlap(rt: HostRuntime) -> Result<(), Fail> {
+    let townships = [township(&rt)];
+    turns_day::<Brand, _>(&rt, rt.alloc(), &townships)
+}

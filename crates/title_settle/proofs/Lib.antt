@@ -1,0 +1,5 @@
+pub mod Seen
+pub mod Unknowns
+pub mod Marking
+pub mod Placing
+pub mod Counting
