@@ -4,6 +4,7 @@
 mod books;
 mod fault;
 mod gate;
+pub mod laws;
 mod office;
 mod opening;
 mod room;
