@@ -3,8 +3,8 @@
 
 While the command runs, the checks that it has started are looked at twice a second (Linux, /proc). Then standard error gets,
 crate by crate, the seconds of its own checks, of its tests, and of its must-fail edits, each with the minutes of the clock from
-which and to which they ran, and how many checks ran side by side in each minute. What the command prints passes through; the exit
-status is its own.
+which and to which they ran, how many checks ran side by side in each minute, and the dearest edits. What the command prints passes
+through; the exit status is its own.
 """
 import os, subprocess, sys, threading, time
 
@@ -53,6 +53,22 @@ def table(seen, lanes, whole):
     print(f"Checks side by side, minute by minute: {side_by_side}", file=sys.stderr)
 
 
+def dearest(seen, count=25):
+    """The edits that took most, with their processor seconds. A crate's edits are tried in the order of their names, the first
+    together with a whole proof of the crate, which is why it is left out."""
+    spent = {}
+    for (_, name, kind), (first, _, seconds) in seen.items():
+        if kind == "edits":
+            spent.setdefault(name, []).append((first, seconds))
+    found = []
+    for name, checks_of in spent.items():
+        edits = sorted(it for it in os.listdir(f"crates/{name}/must-fail") if it.endswith(".edit"))
+        found += [(seconds, f"{name}/{it}") for it, (_, seconds) in zip(edits, sorted(checks_of))][1:]
+    print("\nThe dearest edits:", file=sys.stderr)
+    for seconds, it in sorted(found, reverse=True)[:count]:
+        print(f"{seconds:6.0f} s  {it}", file=sys.stderr)
+
+
 def main():
     start, seen, lanes, done = time.monotonic(), {}, {}, threading.Event()
     watcher = threading.Thread(target=watch, args=(seen, lanes, done, start))
@@ -63,6 +79,7 @@ def main():
         done.set()
         watcher.join()
     table(seen, lanes, time.monotonic() - start)
+    dearest(seen)
     return status
 
 
