@@ -4,3 +4,4 @@ pub mod Slips
 pub mod Settling
 pub mod Lists
 pub mod Runs
+pub mod Ends

@@ -1,0 +1,5 @@
+-- A post is a step.
+use Rattle.title_office.proofs.office.Office.post.Goals as goal
+
+pub returns : goal.returns
+returns g c = record { answered = c.step.ensures.answered; own = c.step.ensures.own }
