@@ -20,9 +20,10 @@ fn reads_each_command(rt: HostRuntime) -> Result<(), Fail> {
 #[test]
 fn refuses_other_words(rt: HostRuntime) -> Result<(), Fail> {
     let alloc = rt.alloc();
-    let cases: [&[&str]; 9] = [
+    let cases: [&[&str]; 10] = [
         &[],
-        &["office"],
+        &["office", "x"],
+        &["office", "--examiners", "65"],
         &["Run"],
         &["help"],
         &["--version"],
