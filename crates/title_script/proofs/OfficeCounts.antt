@@ -30,9 +30,10 @@ pub told_tallies : (lines : List Line) (e : ℕ) (scripts : List Script) (tallie
 told_tallies lines e [] [] dealt told = tt
 told_tallies lines e [] (t ∷ tallies) dealt told = absurd told
 told_tallies lines e (s ∷ scripts) [] dealt told = tt
-told_tallies lines e (s ∷ scripts) (t ∷ tallies) dealt told =
-    ((told.0.0 ∙ dealt.0.0, told.0.1 ∙ as_many_as_begins lines e s dealt.0),
-    told_tallies lines (suc e) scripts tallies dealt.1 told.1)
+told_tallies lines e (s ∷ scripts) (t ∷ tallies) dealt told = (
+  (told.0.0 ∙ dealt.0.0, told.0.1 ∙ as_many_as_begins lines e s dealt.0),
+  told_tallies lines (suc e) scripts tallies dealt.1 told.1,
+)
 
 -- there are as many tallies as scripts
 pub told_many : (scripts : List Script) (tallies : List Tally) → AreTold scripts tallies → length tallies ≡ length scripts
@@ -68,9 +69,10 @@ counts_told : {W : Type 0} (ws : List W) (scripts : List Script) (ex : W → ℕ
 counts_told [] [] ex outs aborted given_up flt same counted none = tt
 counts_told (w ∷ ws) [] ex outs aborted given_up flt same counted none = absurd counted
 counts_told [] (s ∷ scripts) ex outs aborted given_up flt same counted none = absurd counted
-counts_told (w ∷ ws) (s ∷ scripts) ex outs aborted given_up flt same counted none =
-    ((ap first_of same, counted.0 (none_first (flt w) (map flt ws) none)),
-    counts_told ws scripts ex outs aborted given_up flt (ap after_first same) counted.1 (none_later (flt w) (map flt ws) none))
+counts_told (w ∷ ws) (s ∷ scripts) ex outs aborted given_up flt same counted none = (
+  (ap first_of same, counted.0 (none_first (flt w) (map flt ws) none)),
+  counts_told ws scripts ex outs aborted given_up flt (ap after_first same) counted.1 (none_later (flt w) (map flt ws) none),
+)
 
 -- the same where their faults were looked for in a slice
 pub worked_told : {W : Type 0} (seen ws : List W) (scripts : List Script) (ex : W → ℕ) (outs : W → List Outcome)

@@ -24,7 +24,16 @@ reported number bytes script plant seen tallies records text is same read told c
     let of_script = ap (λ (ts : List Township). closing_text ts names script.steps seen records) townships
     ∙ ap (λ (ns : List (List ℕ)). closing_text asked.townships ns script.steps seen records) is.3
     ∙ ap (λ (n : ℕ). closing_text asked.townships asked.names n seen records) is.4
-    ∙ ap (λ (ts : List Tally). closing_text asked.townships asked.names (length asked.lines) ts records) read in
-    (asked, is.1, (tallies, records, subst (λ (ts : List Township). IsSerial depth ts (reverse records)) townships serial,
-    told_many script.scripts.items tallies told ∙ is.5, told_tallies asked.lines 1 script.scripts.items tallies is.6 told, counted,
-    written ∙ of_script))
+    ∙ ap (λ (ts : List Tally). closing_text asked.townships asked.names (length asked.lines) ts records) read in (
+      asked,
+      is.1,
+      (
+        tallies,
+        records,
+        subst (λ (ts : List Township). IsSerial depth ts (reverse records)) townships serial,
+        told_many script.scripts.items tallies told ∙ is.5,
+        told_tallies asked.lines 1 script.scripts.items tallies is.6 told,
+        counted,
+        written ∙ of_script,
+      ),
+    )

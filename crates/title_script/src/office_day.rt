@@ -68,10 +68,7 @@ fn tallies<B: Room>(alloc: Global, worked: &[Worked<B>]) -> Result<Vec<Tally>, A
 }
 
 // Moves the outcomes of a worker behind those of others.
-fn move_behind(
-    gathered: &mut VecDeque<Outcome>,
-    outcomes: Vec<Outcome>,
-) -> Result<(), AllocError>
+fn move_behind(gathered: &mut VecDeque<Outcome>, outcomes: Vec<Outcome>) -> Result<(), AllocError>
     ensures moved { OnOk result (gathered.new.items ≡ gathered.old.items ++ outcomes.items) }
 {
     let mut outcomes = VecDeque::from(outcomes);

@@ -35,7 +35,14 @@ fn report_by_threads<T: Threads + Wait + Sync>(
     let count = parties.len() as u32;
     let plant = townships.as_slice();
     let day = run_day(rt, alloc, count, plant, examiners, scripts, tries)?;
-    let report = office_report(alloc, &parties, plant, steps, day.tallies.as_slice(), &day.records)?;
+    let report = office_report(
+        alloc,
+        &parties,
+        plant,
+        steps,
+        day.tallies.as_slice(),
+        &day.records,
+    )?;
     Ok(report)
 }
 

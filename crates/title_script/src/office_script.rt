@@ -26,11 +26,7 @@ pub struct OfficeScript {
 
 /// What the bytes of the script of an office of so many examiners ask for, or the fault of the first row at fault, or Memory. With
 /// what it declares an office can be opened.
-pub fn read_office(
-    alloc: Global,
-    examiners: u32,
-    bytes: &[u8],
-) -> Result<OfficeScript, ScriptFault>
+pub fn read_office(alloc: Global, examiners: u32, bytes: &[u8]) -> Result<OfficeScript, ScriptFault>
     ensures script { IfOk result (λ script. IsOfficeScript examiners bytes.now script) }
     ensures opens { IfOk result (λ script. MayOpen (length script.parties.keys) script.townships.items) }
     ensures why { IfErr result (λ e. (e ≡ fault.Memory) ⊎ (script_of (schedule.Office examiners) bytes.now ≡ Err e)) }
