@@ -1,0 +1,6 @@
+-- The law is a lemma.
+use Rattle.title_tree.proofs.Grafts.{value_graft as lemma}
+use Rattle.title_tree.proofs.laws.graft_shows.Goals as goal
+
+pub returns : goal.returns
+returns c = record { law = lemma }

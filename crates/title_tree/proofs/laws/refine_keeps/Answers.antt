@@ -1,0 +1,6 @@
+-- The law is a lemma.
+use Rattle.title_tree.proofs.Images.{keeps_refined as lemma}
+use Rattle.title_tree.proofs.laws.refine_keeps.Goals as goal
+
+pub returns : goal.returns
+returns c = record { law = lemma }

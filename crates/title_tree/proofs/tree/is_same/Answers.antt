@@ -1,0 +1,5 @@
+use Rattle.title_tree.proofs.SameDivisions.{same_test}
+use Rattle.title_tree.proofs.tree.is_same.Goals as goal
+
+pub returns : goal.returns
+returns c = record { same = same_test c.args.held.now c.args.other.now c.same.result c.same.ensures.same }

@@ -1,0 +1,15 @@
+-- The definitions that the contracts cite.
+pub mod Changes
+pub mod Faults
+pub mod Paths
+pub mod Plots
+pub mod Trees
+pub mod Pieces
+pub mod Parts
+pub mod Lendings
+pub mod Cells
+pub mod PlotLaws
+pub mod PieceLaws
+pub mod LendingLaws
+pub mod DepthLaws
+pub mod CellWays

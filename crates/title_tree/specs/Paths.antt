@@ -1,0 +1,20 @@
+-- Paths in a tree of quarters, the outermost quarter first.
+use Rattle.std.specs.Prelude.{Bool, true, false, ◌&&◌, List, [], ◌∷◌, reverse}
+use Rattle.title_land.specs.declared.rectangle.Quarter.{Quarter}
+use Rattle.title_land.specs.Nodes.{same_quarter}
+
+-- the path of a square that is named by its quarters, the innermost first
+abbrev pub way : List Quarter → List Quarter
+way quarters = reverse quarters
+
+-- the first path begins the second: the node at the first has that at the second
+abbrev pub begins : List Quarter → List Quarter → Bool
+begins [] c = true
+begins (q ∷ p) [] = false
+begins (q ∷ p) (x ∷ c) = same_quarter q x && begins p c
+
+-- what is left of the second path after one as long as the first
+abbrev pub rest : List Quarter → List Quarter → List Quarter
+rest [] c = c
+rest (q ∷ p) [] = []
+rest (q ∷ p) (x ∷ c) = rest p c

@@ -1,0 +1,10 @@
+-- Trees as plots.
+use Rattle.std.specs.Arc.{arc_value}
+use Rattle.title_tree.specs.declared.tree.Tree.{Tree}
+use Rattle.title_tree.specs.declared.tree.Tree.TheVariants.{Leaf, Quarters'}
+use Rattle.title_tree.specs.Plots.{Plot, Same, Four}
+
+-- what a tree holds, without where its nodes lie in memory
+abbrev pub plot : Tree → Plot
+plot (Leaf held) = Same (arc_value held)
+plot (Quarters' p a q b r c s d) = Four (plot a) (plot b) (plot c) (plot d)

@@ -1,0 +1,218 @@
+//! A square as a tree of quarters.
+
+ghost use Rattle.std.specs.Prelude.{◌≡◌, true, None, IfOk, IfErr, OnOk, OnErr};
+ghost use Rattle.std.specs.Option.{option_map};
+ghost use Rattle.std.specs.Arc.{arc_value};
+ghost use Rattle.title_tree.specs.Changes.{after};
+ghost use Rattle.title_tree.specs.Faults.{Tells};
+ghost use Rattle.title_tree.specs.Plots.{Same, Four, has_path, plot_at, graft, split, changed, first_refusal};
+ghost use Rattle.title_tree.specs.Plots.{same_division, uniform, same_leaf, joined, tidied};
+ghost use Rattle.title_tree.specs.Trees.{plot};
+
+use crate::change::{Change, Fault};
+use core::mem::replace_with;
+use std::alloc::{AllocError, Global};
+use std::mem;
+use std::sync::Arc;
+use title_land::Quarter;
+use title_share::Holding;
+
+/// Who holds an estate in a square: all cells have the holding of a leaf, or each quarter has a tree of its own, in the
+/// order of the quarters. A contract sees it as its plot.
+#[derive(Drop)]
+pub enum Tree {
+    Leaf(Arc<Holding>),
+    Quarters(Box<Tree>, Box<Tree>, Box<Tree>, Box<Tree>),
+}
+
+// Whether the holdings are one.
+pub(crate) fn is_same(held: &Holding, other: &Holding) -> bool
+    ensures same { result ≡ same_division held.now other.now }
+{
+    held.same(other)
+}
+
+impl Tree {
+    /// Changes places with the node at a path, the outermost quarter first. Takes no memory.
+    pub fn exchange(&mut self, path: &[Quarter], other: &mut Tree)
+        requires there { has_path path.now (plot self.old) ≡ true }
+        ensures tree { plot self.new ≡ graft path.now (plot other.old) (plot self.old) }
+        ensures other { plot other.new ≡ plot_at path.now (plot self.old) }
+    {
+        let Some((first, rest)) = path.split_first() else {
+            mem::swap(self, other);
+            return;
+        };
+        let Tree::Quarters(northeast, northwest, southwest, southeast) = self else {
+            unreachable!()
+        };
+        match *first {
+            Quarter::Northeast => northeast.exchange(rest, other),
+            Quarter::Northwest => northwest.exchange(rest, other),
+            Quarter::Southwest => southwest.exchange(rest, other),
+            Quarter::Southeast => southeast.exchange(rest, other),
+        }
+    }
+
+    /// The node at a path, or the leaf above it whose holding it inherits.
+    pub fn at(&self, path: &[Quarter]) -> &Tree
+        ensures at { plot result.now ≡ plot_at path.now (plot self.now) }
+    {
+        let Some((first, rest)) = path.split_first() else {
+            return self;
+        };
+        match self {
+            Tree::Leaf(_) => self,
+            Tree::Quarters(northeast, northwest, southwest, southeast) => match *first {
+                Quarter::Northeast => northeast.at(rest),
+                Quarter::Northwest => northwest.at(rest),
+                Quarter::Southwest => southwest.at(rest),
+                Quarter::Southeast => southeast.at(rest),
+            },
+        }
+    }
+
+    // A tree of one holding, with a node of its own at a path.
+    fn split_leaf(alloc: Global, held: &Arc<Holding>, path: &[Quarter]) -> Result<Tree, AllocError>
+        ensures split { IfOk result (λ t. plot t ≡ split path.now (Same (arc_value held.now))) }
+    {
+        let Some((first, rest)) = path.split_first() else {
+            return Ok(Tree::Leaf(held.clone()?));
+        };
+        let inner = Box::new(alloc, Tree::split_leaf(alloc, held, rest)?)?;
+        let a = Box::new(alloc, Tree::Leaf(held.clone()?))?;
+        let b = Box::new(alloc, Tree::Leaf(held.clone()?))?;
+        let c = Box::new(alloc, Tree::Leaf(held.clone()?))?;
+        match *first {
+            Quarter::Northeast => Ok(Tree::Quarters(inner, a, b, c)),
+            Quarter::Northwest => Ok(Tree::Quarters(a, inner, b, c)),
+            Quarter::Southwest => Ok(Tree::Quarters(a, b, inner, c)),
+            Quarter::Southeast => Ok(Tree::Quarters(a, b, c, inner)),
+        }
+    }
+
+    /// Quarters the tree down to a path; each quarter inherits, so no cell's holding changes. `Err` changes nothing.
+    pub fn split(&mut self, alloc: Global, path: &[Quarter]) -> Result<(), AllocError>
+        ensures ok { OnOk result (plot self.new ≡ split path.now (plot self.old)) }
+        ensures err { OnErr result (plot self.new ≡ plot self.old) }
+    {
+        let Some((first, rest)) = path.split_first() else {
+            return Ok(());
+        };
+        match self {
+            Tree::Leaf(held) => {
+                *self = Tree::split_leaf(alloc, held, path)?;
+                Ok(())
+            }
+            Tree::Quarters(northeast, northwest, southwest, southeast) => match *first {
+                Quarter::Northeast => northeast.split(alloc, rest),
+                Quarter::Northwest => northwest.split(alloc, rest),
+                Quarter::Southwest => southwest.split(alloc, rest),
+                Quarter::Southeast => southeast.split(alloc, rest),
+            },
+        }
+    }
+
+    /// A new tree with each leaf's holding changed. Nothing in this one changes. Refused with the reason of the first
+    /// leaf that refuses.
+    pub fn changed<C: Change>(
+        &self,
+        alloc: Global,
+        change: &mut C,
+    ) -> Result<Tree, Fault<C::Refusal>>
+        ensures none { OnOk result (first_refusal (C.effect change.old) (plot self.now) ≡ None) }
+        ensures new { IfOk result (λ t. plot t ≡ changed (after (C.effect change.old)) (plot self.now)) }
+        ensures why { IfErr result (λ fault. Tells fault (first_refusal (C.effect change.old) (plot self.now))) }
+        ensures same { C.effect change.new ≡ C.effect change.old }
+    {
+        match self {
+            Tree::Leaf(held) => Ok(Tree::Leaf(change.apply(alloc, held)?)),
+            Tree::Quarters(northeast, northwest, southwest, southeast) => {
+                let northeast = northeast.changed(alloc, change)?;
+                let northwest = northwest.changed(alloc, change)?;
+                let southwest = southwest.changed(alloc, change)?;
+                let southeast = southeast.changed(alloc, change)?;
+                Ok(Tree::quarters(alloc, northeast, northwest, southwest, southeast)?)
+            }
+        }
+    }
+
+    // A tree with these quarters.
+    fn quarters(
+        alloc: Global,
+        northeast: Tree,
+        northwest: Tree,
+        southwest: Tree,
+        southeast: Tree,
+    ) -> Result<Tree, AllocError>
+        ensures quarters { IfOk result (λ t. plot t ≡ Four (plot northeast) (plot northwest) (plot southwest) (plot southeast)) }
+    {
+        let northeast = Box::new(alloc, northeast)?;
+        let northwest = Box::new(alloc, northwest)?;
+        let southwest = Box::new(alloc, southwest)?;
+        let southeast = Box::new(alloc, southeast)?;
+        Ok(Tree::Quarters(northeast, northwest, southwest, southeast))
+    }
+
+    /// The one holding of a tree whose leaves all have the same; `None` where two differ.
+    pub fn uniform(&self) -> Option<&Holding>
+        ensures uniform { option_map (λ held. held.now) result ≡ uniform (plot self.now) }
+    {
+        match self {
+            Tree::Leaf(held) => Some(&**held),
+            Tree::Quarters(northeast, northwest, southwest, southeast) => {
+                let held = northeast.uniform()?;
+                let second = northwest.uniform()?;
+                let third = southwest.uniform()?;
+                let fourth = southeast.uniform()?;
+                if is_same(held, second) && is_same(held, third) && is_same(held, fourth) {
+                    Some(held)
+                } else {
+                    None
+                }
+            }
+        }
+    }
+
+    // Whether both are leaves that have the same holding.
+    fn is_same_leaf(&self, other: &Tree) -> bool
+        ensures same { result ≡ same_leaf (plot self.now) (plot other.now) }
+    {
+        match (self, other) {
+            (Tree::Leaf(held), Tree::Leaf(other)) => is_same(&**held, &**other),
+            _ => false,
+        }
+    }
+
+    // The tree, or one leaf where its quarters are leaves that have the same holding.
+    fn joined(self) -> Tree
+        ensures joined { plot result ≡ joined (plot self) }
+    {
+        match self {
+            Tree::Leaf(held) => Tree::Leaf(held),
+            Tree::Quarters(northeast, northwest, southwest, southeast) => {
+                if northeast.is_same_leaf(&northwest)
+                    && northeast.is_same_leaf(&southwest)
+                    && northeast.is_same_leaf(&southeast)
+                {
+                    Box::into_inner(northeast)
+                } else {
+                    Tree::Quarters(northeast, northwest, southwest, southeast)
+                }
+            }
+        }
+    }
+
+    /// Joins quarters that are leaves of the same holding, from below; no cell's holding changes. Takes no memory.
+    pub fn tidy(&mut self)
+        ensures tidied { plot self.new ≡ tidied (plot self.old) }
+    {
+        if let Tree::Quarters(northeast, northwest, southwest, southeast) = self {
+            northeast.tidy();
+            northwest.tidy();
+            southwest.tidy();
+            southeast.tidy();
+        }
+        replace_with(self, (), |tree, ()| (tree.joined(), ()))
+    }
+}
