@@ -1,0 +1,4 @@
+-- The lemmas.
+pub mod Beginnings
+pub mod Adding
+pub mod Entries
