@@ -4,9 +4,7 @@ ghost use Rattle.std.specs.Prelude.{◌≡◌, ◌↔◌, true};
 
 use crate::ask::{Answer, Ask, Entry, Posting, Step};
 use crate::record::Record;
-use crate::same_parts::{
-    same_estate, same_instrument, same_node, same_rows, same_rule, same_tract,
-};
+use crate::same_parts::{same_estate, same_node, same_rows, same_rule, same_tract};
 
 impl Posting {
     fn same(&self, other: &Posting) -> bool
@@ -14,7 +12,7 @@ impl Posting {
     {
         self.doc == other.doc
             && same_tract(&self.tract, &other.tract)
-            && same_instrument(&self.instrument, &other.instrument)
+            && self.instrument.is(&other.instrument)
     }
 }
 

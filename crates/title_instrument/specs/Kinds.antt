@@ -1,5 +1,7 @@
 -- The kinds of instruments, and their words.
-use Rattle.std.specs.Prelude.{ℕ, Bool, true, false, List, codes}
+use Rattle.std.specs.Prelude.{ℕ, Bool, true, false, List, [], ◌∷◌, Option, codes}
+use Rattle.std.specs.List.{find}
+use Rattle.std.specs.Str.{bytes_eq}
 use Rattle.title_instrument.specs.declared.kind.Kind.{Kind}
 use Rattle.title_instrument.specs.declared.kind.Kind.TheVariants as kind
 use Rattle.title_instrument.specs.declared.instrument.Instrument.{Instrument}
@@ -10,6 +12,10 @@ abbrev pub kind_word : Kind → List ℕ
 kind_word kind.Deed = codes "deed"
 kind_word kind.Warranty = codes "warranty"
 kind_word kind.Release = codes "release"
+
+-- the kind whose word a text is, where it is of one
+abbrev pub kind_in : List ℕ → Option Kind
+kind_in word = find (λ k. bytes_eq word (kind_word k)) (kind.Deed ∷ kind.Warranty ∷ kind.Release ∷ [])
 
 -- the kind of a deed, plain or with warranty
 abbrev pub deed_kind : (warranty : Bool) → Kind

@@ -1,8 +1,7 @@
 //! The kinds of instruments, and their words.
 
-ghost use Rattle.std.specs.Prelude.{◌≡◌, MatchOption, Some};
-ghost use Rattle.title_instrument.specs.declared.kind.Kind.{Kind as Sort};
-ghost use Rattle.title_instrument.specs.Kinds.{kind_word};
+ghost use Rattle.std.specs.Prelude.{◌≡◌, Some};
+ghost use Rattle.title_instrument.specs.Kinds.{kind_in, kind_word};
 
 use std::fmt;
 
@@ -28,7 +27,7 @@ impl Kind {
 
     /// The kind whose word a text is; `None` where it is of no kind.
     pub fn of_word(word: &str) -> Option<Kind>
-        ensures kind { MatchOption result ((k : Sort) → word.now ≡ kind_word k → ⊥) (λ k. word.now ≡ kind_word k) }
+        ensures kind { result ≡ kind_in word.now }
     {
         if word == Kind::Deed.word() {
             return Some(Kind::Deed);

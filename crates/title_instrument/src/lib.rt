@@ -5,6 +5,7 @@ pub mod instrument;
 pub mod kind;
 pub mod owners;
 pub mod parts;
+pub mod same;
 
 pub use instrument::{Deed, Instrument, Release};
 pub use kind::Kind;

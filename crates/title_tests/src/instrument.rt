@@ -133,6 +133,7 @@ fn words_and_letters(rt: HostRuntime) -> Result<(), Fail> {
     let text = format!(in rt.alloc(); "{kind} {} {ALL} {MINERALS} {}", Kind::Warranty, Estate::S)?;
     assert!(rt; text.as_str() == "release warranty SOM OM S");
     assert!(rt; Kind::of_word("Deed").is_none());
+    assert!(rt; Kind::of_word("warranty") == Some(Kind::Warranty));
     Ok(())
 }
 
@@ -142,6 +143,9 @@ fn assert_named(rt: &impl Abort, numbered: &Instrument) {
     assert!(rt; named.grantor() == "ADAMS");
     assert!(rt; named.grantee() == "BELL");
     assert!(rt; named.between(ADAMS, BELL) == *numbered);
+    assert!(rt;
+        named.between(ADAMS, BELL).is(numbered) && !named.between(BELL, ADAMS).is(numbered)
+    );
 }
 
 #[test]
