@@ -4,6 +4,7 @@
 
 mod device;
 mod fault;
+pub mod laws;
 mod loops;
 mod sink;
 mod source;

@@ -3,8 +3,4 @@ mod TextsRead
 mod Names
 mod ReadOn
 mod Understood
-mod Rows
 mod Declared
-mod FromOne
-mod Turns
-mod Office

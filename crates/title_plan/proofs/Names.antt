@@ -1,27 +1,23 @@
 -- Names and their bytes, and rows that are text.
-use Rattle.std.proofs.Common.{◌≡◌, ◌∷◌, ◌++◌, [], refl, sym, ℕ, List, Bool, true, false, map, not, inl, inr}
+use Rattle.std.proofs.Common.{◌≡◌, ◌∷◌, ◌++◌, [], refl, sym, ℕ, List, Bool, true, false, map, not}
 use Rattle.std.specs.List.{list_all, list_any, position, prefix_len}
 use Rattle.std.specs.Str.{bytes_eq, is_utf8}
 use Rattle.std.specs.String.{string_bytes, string_eq}
 use Rattle.std.specs.declared.string.String.{String}
 use Rattle.std.proofs.lemmas.List.{length-map, map-append}
 use Rattle.std.proofs.lemmas.Str.{IsUtf8-from_is_utf8, is_utf8-from_IsUtf8}
-use Rattle.std.proofs.lemmas.Bool.{cases_Bool}
+use Rattle.std.proofs.lemmas.Bool.{and_parts}
 use Rattle.csv.specs.Records.{AllText}
 use Rattle.indexmap.specs.IndexSet.{insert_key}
 
-any_map : {X : Type 0} (f : X → List ℕ) (p : List ℕ → Bool) (xs : List X) → list_any p (map f xs) ≡ list_any (λ x. p (f x)) xs
+-- a name among names, and among the texts that have them
+pub any_map : {X : Type 0} (f : X → List ℕ) (p : List ℕ → Bool) (xs : List X) → list_any p (map f xs) ≡ list_any (λ x. p (f x)) xs
 any_map f p [] = refl
 any_map f p (x ∷ xs) = rw (any_map f p xs) refl
 
 prefix_map : {X : Type 0} (f : X → List ℕ) (p : List ℕ → Bool) (xs : List X) → prefix_len p (map f xs) ≡ prefix_len (λ x. p (f x)) xs
 prefix_map f p [] = refl
 prefix_map f p (x ∷ xs) = rw (prefix_map f p xs) refl
-
--- a name among names, and among the texts that have them
-pub contains_name : {Y : Type 0} (name : List ℕ) (keys : List (String Y))
-    → list_any (bytes_eq name) (map string_bytes keys) ≡ list_any (λ k. bytes_eq name (string_bytes k)) keys
-contains_name name keys = any_map string_bytes (bytes_eq name) keys
 
 pub position_name : {Y : Type 0} (name : List ℕ) (keys : List (String Y))
     → position (bytes_eq name) (map string_bytes keys) ≡ position (λ k. bytes_eq name (string_bytes k)) keys
@@ -45,7 +41,4 @@ pub texts_from : (fields : List (List ℕ)) → list_all is_utf8 fields ≡ true
 unfolding AllText
 texts_from [] h = tt
 texts_from (f ∷ fields) h =
-    elim (cases_Bool (is_utf8 f)) [
-      | inl good ↦ (IsUtf8-from_is_utf8 f good, texts_from fields (rw good at h))
-      | inr bad ↦ absurd (let e : false ≡ true = rw bad at h in cc e)
-    ]
+    let parts = and_parts (is_utf8 f) (list_all is_utf8 fields) h in (IsUtf8-from_is_utf8 f parts.0, texts_from fields parts.1)

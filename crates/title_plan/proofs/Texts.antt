@@ -1,54 +1,31 @@
 -- Fields and their texts.
-use Rattle.std.proofs.Common.{◌≡◌, ◌≢◌, ◌<◌, ◌≤◌, ◌+◌, ◌^◌, ◌∷◌, [], refl, sym, ap, ℕ, zero, suc, List, Option, None, Some, true, false}
-use Rattle.std.proofs.Common.{cond, length, MatchOption}
-use Rattle.std.proofs.Common.{arith, nat_le, eqb, ◌==◌, inl, inr}
-use Rattle.std.specs.List.{before_first, after_first, position_or_len, slice_split}
-use Rattle.std.specs.Str.{bytes_eq}
-use Rattle.std.proofs.lemmas.Bool.{cases_Bool, eqb-true}
-use Rattle.std.proofs.lemmas.Slice.Eq.{bytes_eq-Decides}
-use Rattle.std.proofs.lemmas.List.Splits.{slice_split_first}
+use Rattle.std.proofs.Common.{◌≡◌, ◌≢◌, ◌<◌, ◌≤◌, ◌^◌, ◌∷◌, [], refl, ap, ℕ, zero, suc, List, Option, None, Some}
+use Rattle.std.proofs.Common.{cond, option_map, arith, nat_le, inl, inr}
+use Rattle.std.specs.Borrow.{Bor}
+use Rattle.std.specs.Iterator.{AlwaysYields}
+use Rattle.std.specs.Option.{unwrap_or}
+use Rattle.std.specs.Str.Iter.{split_steps}
+use Rattle.std.specs.Str.Pattern.{FindsChar}
+use Rattle.std.specs.declared.str.Split.{Split}
+use Rattle.std.proofs.lemmas.Bool.{cases_Bool, ne_eqb}
 use Rattle.csv.specs.Records.{field_at}
 use Rattle.title_share.specs.Share.{IsNumber}
-use Rattle.title_share.specs.Texts.{number_in, share_in}
+use Rattle.title_share.specs.Texts.{number_in}
 use Rattle.title_share.proofs.Texts.{numbers_read}
-use Rattle.title_instrument.specs.declared.kind.Kind.{Kind}
-use Rattle.title_instrument.specs.declared.kind.Kind.TheVariants as kind
 use Rattle.title_instrument.specs.declared.parts.Estate.{Estate}
 use Rattle.title_instrument.specs.declared.parts.Estate.TheVariants.{S, O, M}
 use Rattle.title_instrument.specs.Estates.{letter_of}
-use Rattle.title_instrument.specs.Kinds.{kind_word}
-use Rattle.title_plan.specs.Fields.{field, given, number_up_to, quantum_in, reserve_in, reserving, kind_in, with_item, with_items}
-use Rattle.title_plan.specs.Fields.{is_semicolon}
-use Rattle.title_plan.specs.Fields.{nothing_reserved}
+use Rattle.title_plan.specs.Fields.{field, given, number_up_to, quantum_in, with_item, with_items}
 
--- a field whose number is below the row's length is there
-pub field_there : (fields : List (List ℕ)) (i : ℕ) → i < length fields → field_at fields i ≡ None → ⊥
+-- the field of this number, or an empty one
+pub field_is : (fields : List (List ℕ)) (i : ℕ) (found : Option (Bor (List ℕ))) (none : Bor (List ℕ)) → none.now ≡ []
+    → option_map (λ text. text.now) found ≡ field_at fields i → (unwrap_or found none).now ≡ field fields i
 unfolding field_at
-field_there [] i l e = absurd (omega arith)
-field_there (f ∷ fields) zero l e = cc e
-field_there (f ∷ fields) (suc i) l e = field_there fields i (omega arith) e
-
-pub field_is : (fields : List (List ℕ)) (i : ℕ) (text : List ℕ) → field_at fields i ≡ Some text → text ≡ field fields i
-unfolding field_at
-field_is [] i text e = absurd (cc e)
-field_is (f ∷ fields) zero text e = cc e
-field_is (f ∷ fields) (suc i) text e = field_is fields i text e
-
--- two texts that differ
-pub other_text : (a b : List ℕ) → a ≢ b → bytes_eq a b ≡ false
-other_text a b differ = elim (cases_Bool (bytes_eq a b)) [
-  | inl same ↦ absurd (differ ((bytes_eq-Decides a b).0 same))
-  | inr other ↦ other
-]
-
--- a word of no kind, and one of a kind
-pub kind_by_word : (word : List ℕ) (found : Option Kind) → MatchOption found ((k : Kind) → word ≡ kind_word k → ⊥) (λ k. word ≡ kind_word k)
-    → found ≡ kind_in word
-kind_by_word word None none =
-    rw (other_text word _ (none kind.Deed), other_text word _ (none kind.Warranty), other_text word _ (none kind.Release)) refl
-kind_by_word word (Some kind.Deed) is = rw is refl
-kind_by_word word (Some kind.Warranty) is = rw is refl
-kind_by_word word (Some kind.Release) is = rw is refl
+field_is [] i None none empty e = empty
+field_is [] i (Some text) none empty e = absurd (cc e)
+field_is (f ∷ fields) zero None none empty e = absurd (cc e)
+field_is (f ∷ fields) zero (Some text) none empty e = cc e
+field_is (f ∷ fields) (suc i) found none empty e = field_is fields i found none empty e
 
 -- a text that begins with the letter of no estate
 pub no_letter : (text : List ℕ) → ((rest : List ℕ) → text ≢ 83 ∷ rest) → ((rest : List ℕ) → text ≢ 79 ∷ rest)
@@ -57,26 +34,13 @@ no_letter text s o m S rest is = s rest is
 no_letter text s o m O rest is = o rest is
 no_letter text s o m M rest is = m rest is
 
-other_byte : (a b : ℕ) → a ≢ b → eqb a b ≡ false
-other_byte a b differ = elim (cases_Bool (eqb a b)) [
-  | inl same ↦ absurd (differ (eqb-true a b same))
-  | inr other ↦ other
-]
-
 -- it is no item
 pub no_item : (reserve : List (Option ℕ)) (text : List ℕ) → ((e : Estate) (rest : List ℕ) → text ≡ letter_of e ∷ rest → ⊥)
     → None ≡ with_item reserve text
 no_item reserve [] none = refl
 no_item reserve (letter ∷ share) none =
     let differ : (e : Estate) → letter ≢ letter_of e = λ e same. none e share (ap (λ (b : ℕ). b ∷ share) same) in
-    rw (other_byte letter _ (differ S), other_byte letter _ (differ O), other_byte letter _ (differ M)) refl
-
--- an item of an estate's letter and a text
-pub item_of : (reserve : List (Option ℕ)) (e : Estate) (rest : List ℕ)
-    → given (share_in rest) (reserving reserve e) ≡ with_item reserve (letter_of e ∷ rest)
-item_of reserve S rest = refl
-item_of reserve O rest = refl
-item_of reserve M rest = refl
+    rw (ne_eqb letter _ (differ S), ne_eqb letter _ (differ O), ne_eqb letter _ (differ M)) refl
 
 -- a text that begins with neither letter of a quantum
 pub no_quantum : (text : List ℕ) → ((rest : List ℕ) → text ≢ 87 ∷ rest) → ((rest : List ℕ) → text ≢ 73 ∷ rest) → None ≡ quantum_in text
@@ -84,7 +48,7 @@ no_quantum [] whole interest = refl
 no_quantum (letter ∷ share) whole interest =
     let w : letter ≢ 87 = λ same. whole share (ap (λ (b : ℕ). b ∷ share) same) in
     let i : letter ≢ 73 = λ same. interest share (ap (λ (b : ℕ). b ∷ share) same) in
-    rw (other_byte letter 87 w, other_byte letter 73 i) refl
+    rw (ne_eqb letter 87 w, ne_eqb letter 73 i) refl
 
 -- ---- numbers
 
@@ -107,38 +71,19 @@ no_number greatest text fits none = no_number_by greatest text fits none (number
 
 -- ---- reserves
 
--- no bytes, no text
-pub no_text : (text : List ℕ) → true ≡ (length text == 0) → text ≡ []
-no_text [] h = refl
-no_text (c ∷ text) h = let none : length (c ∷ text) ≡ 0 = eqb-true (length (c ∷ text)) 0 (sym h) in absurd (omega arith)
+-- the items of a text are given in turn
+abbrev pub Gives : Split ℕ → List (List ℕ) → Type 0
+Gives s items = AlwaysYields (split_steps FindsChar (λ a b. b ≡ a)) (λ item. item.now) s items
 
--- a text that isn't empty has items
-pub has_items : (text : List ℕ) → false ≡ (length text == 0) → reserve_in text ≡ with_items nothing_reserved (slice_split is_semicolon text)
-has_items [] h = absurd (cc h)
-has_items (c ∷ text) h = refl
+-- an item is taken from those that are left
+pub one_item : (reserve : List (Option ℕ)) (left : List (List ℕ)) (all : Option (List (Option ℕ))) (s t : Split ℕ) (item : Bor (List ℕ))
+    → Gives s left → split_steps FindsChar (λ a b. b ≡ a) s (Some item) t → with_items reserve left ≡ all
+    → (more : List (List ℕ)) × Gives t more × (given (with_item reserve item.now) (λ r. with_items r more) ≡ all)
+one_item reserve [] all s t item gives step e = absurd (gives item t step)
+one_item reserve (i ∷ left) all s t item gives step e = let next = gives.1 item t step in (left, next.1, rw next.0 e)
 
--- an item and more of them
-pub items_more : (reserve : List (Option ℕ)) (rest item more : List ℕ) (next : Option (List (Option ℕ)))
-    → (position_or_len is_semicolon rest < length rest) × (item ≡ before_first is_semicolon rest) × (more ≡ after_first is_semicolon rest)
-    → with_item reserve item ≡ next
-    → with_items reserve (slice_split is_semicolon rest) ≡ given next (λ r. with_items r (slice_split is_semicolon more))
-items_more reserve rest item more next (there, is, left) made =
-    rw (slice_split_first is_semicolon rest 0 there, sym is, sym left, made) refl
-
-nowhere : (rest : List ℕ) → position_or_len is_semicolon rest ≡ length rest → slice_split is_semicolon rest ≡ rest ∷ []
-nowhere [] e = refl
-nowhere (c ∷ rest) e = elim (cases_Bool (is_semicolon c)) [
-  | inl mark ↦ absurd (let none : 0 ≡ length (c ∷ rest) = rw mark at e in omega arith)
-  | inr other ↦ let more : 1 + position_or_len is_semicolon rest ≡ length (c ∷ rest) = rw other at e in
-      rw (other, nowhere rest (omega arith)) refl
-]
-
-given_back : {A : Type 0} (found : Option A) → given found (λ x. Some x) ≡ found
-given_back None = refl
-given_back (Some x) = refl
-
--- the last item
-pub items_last : (reserve : List (Option ℕ)) (rest : List ℕ) (next : Option (List (Option ℕ)))
-    → position_or_len is_semicolon rest ≡ length rest → with_item reserve rest ≡ next
-    → with_items reserve (slice_split is_semicolon rest) ≡ next
-items_last reserve rest next none made = rw (nowhere rest none, made, given_back next) refl
+-- no item is left
+pub no_more : (reserve : List (Option ℕ)) (left : List (List ℕ)) (all : Option (List (Option ℕ))) (s t : Split ℕ)
+    → Gives s left → split_steps FindsChar (λ a b. b ≡ a) s None t → with_items reserve left ≡ all → Some reserve ≡ all
+no_more reserve [] all s t gives step e = e
+no_more reserve (i ∷ left) all s t gives step e = absurd (gives.0 t step)

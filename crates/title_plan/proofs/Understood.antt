@@ -1,8 +1,8 @@
 -- Rows that are understood, and rows that are not.
-use Rattle.std.proofs.Common.{◌≡◌, ◌≤◌, ◌&&◌, refl, ℕ, List, Bool, true, false, Option, Err, nat_le, arith, inl, inr}
+use Rattle.std.proofs.Common.{◌≡◌, ◌≤◌, refl, ℕ, List, true, Option, Err, nat_le, arith, inl, inr}
 use Rattle.std.specs.List.{list_all}
 use Rattle.std.specs.Str.{is_utf8}
-use Rattle.std.proofs.lemmas.Bool.{cases_Bool}
+use Rattle.std.proofs.lemmas.Bool.{and_right, cases_Bool}
 use Rattle.std.proofs.lemmas.Bool.Decides.{nat_tests}
 use Rattle.csv.specs.Records.{AllText}
 use Rattle.title_plan.specs.declared.fault.ScriptFault.TheVariants as fault
@@ -14,16 +14,12 @@ use Rattle.title_plan.specs.Plans.{after_row, after_understood}
 use Rattle.title_plan.specs.Rows.{row_in}
 use Rattle.title_plan.proofs.Names.{texts_true}
 
-and_false : (b : Bool) → (b && false) ≡ false
-and_false true = refl
-and_false false = refl
-
 -- a row that isn't text
 pub not_text : (schedule : Schedule) (n : ℕ) (asked : Asked) (fields : List (List ℕ)) → (list_all is_utf8 fields ≡ true → ⊥)
     → after_row schedule n asked fields ≡ Err (fault.Row n)
 not_text schedule n asked fields h = elim (cases_Bool (list_all is_utf8 fields)) [
   | inl text ↦ absurd (h text)
-  | inr other ↦ rw (other, and_false (nat_le n most_rows)) refl
+  | inr other ↦ rw (and_right (nat_le n most_rows) (list_all is_utf8 fields) other) refl
 ]
 
 -- a row that is

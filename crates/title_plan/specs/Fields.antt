@@ -5,15 +5,12 @@ use Rattle.std.specs.Prelude.{option_map, slice_index_or, slice_set}
 use Rattle.std.specs.List.{find, list_all, slice_split}
 use Rattle.std.specs.Str.{bytes_eq}
 use Rattle.title_share.specs.Texts.{number_in, share_in}
-use Rattle.title_instrument.specs.declared.kind.Kind.{Kind}
-use Rattle.title_instrument.specs.declared.kind.Kind.TheVariants as kind
 use Rattle.title_instrument.specs.declared.parts.Estate.{Estate}
 use Rattle.title_instrument.specs.declared.parts.Estate.TheVariants.{S, O, M}
 use Rattle.title_instrument.specs.declared.parts.Estates.{Estates}
 use Rattle.title_instrument.specs.declared.parts.Quantum.{Quantum}
 use Rattle.title_instrument.specs.declared.parts.Quantum.TheVariants as quantum
 use Rattle.title_instrument.specs.Estates.{estates_text, letter_of, place_in}
-use Rattle.title_instrument.specs.Kinds.{kind_word}
 use Rattle.title_plan.specs.Limits.{longest_name, last_examiner, last_document}
 
 -- what comes of a value, where there is one
@@ -64,10 +61,6 @@ named_sets =
 abbrev pub estates_in : List ℕ → Option Estates
 estates_in text = find (λ estates. bytes_eq text (estates_text estates)) named_sets
 
--- the kind of an instrument, by its word
-abbrev pub kind_in : List ℕ → Option Kind
-kind_in word = find (λ k. bytes_eq word (kind_word k)) (kind.Deed ∷ kind.Warranty ∷ kind.Release ∷ [])
-
 -- a quantum: `W` and a share of the whole, or `I` and a share of the grantor's interest
 abbrev pub quantum_in : List ℕ → Option Quantum
 quantum_in [] = None
@@ -104,5 +97,4 @@ is_semicolon b = eqb b 59
 
 -- a reserve: nothing, or items with `;` between them
 abbrev pub reserve_in : List ℕ → Option (List (Option ℕ))
-reserve_in [] = Some nothing_reserved
-reserve_in (b ∷ text) = with_items nothing_reserved (slice_split is_semicolon (b ∷ text))
+reserve_in text = cond (length text == 0) (Some nothing_reserved) (with_items nothing_reserved (slice_split is_semicolon text))

@@ -5,5 +5,4 @@ pub mod Fields
 pub mod Rows
 pub mod Asked
 pub mod Plans
-pub mod Office
 pub mod Faults

@@ -1,17 +1,18 @@
 -- What a row of a script says, by its fields.
-use Rattle.std.specs.Prelude.{ℕ, ◌==◌, cond, Bool, true, false, List, Option, Some, None, codes, length, option_map}
+use Rattle.std.specs.Prelude.{ℕ, ◌==◌, ◌&&◌, cond, Bool, true, false, List, Option, Some, None, codes, length, option_map}
 use Rattle.std.specs.Borrow.{Bor}
 use Rattle.std.specs.Str.{bytes_eq}
 use Rattle.title_instrument.specs.declared.instrument.Instrument.{Instrument}
 use Rattle.title_instrument.specs.declared.instrument.Instrument.TheVariants as i
 use Rattle.title_instrument.specs.declared.kind.Kind.{Kind}
 use Rattle.title_instrument.specs.declared.kind.Kind.TheVariants as kind
+use Rattle.title_instrument.specs.Kinds.{kind_in}
 use Rattle.title_instrument.specs.Parties.{between, grantor_of, grantee_of}
 use Rattle.title_plan.specs.declared.row.Act.{Act}
 use Rattle.title_plan.specs.declared.row.Act.TheVariants as act
 use Rattle.title_plan.specs.declared.row.Row.{Row}
 use Rattle.title_plan.specs.declared.row.Row.TheVariants as row
-use Rattle.title_plan.specs.Fields.{given, field, examiner_in, document_in, name_in, estates_in, kind_in, quantum_in, reserve_in}
+use Rattle.title_plan.specs.Fields.{given, field, examiner_in, document_in, name_in, estates_in, quantum_in, reserve_in}
 
 -- what an examiner does by a word alone
 abbrev pub word_in : List ℕ → Option (Act (List ℕ))
@@ -25,17 +26,6 @@ abbrev pub reading_in : List ℕ → List ℕ → Option (Act (List ℕ))
 reading_in word text =
     cond (bytes_eq word (codes "sheet")) (Some (act.Sheet text)) (cond (bytes_eq word (codes "chain")) (Some (act.Chain text)) None)
 
--- a row `township,TEXT`, `party,NAME` or `E,WORD`
-abbrev pub pair_in : List ℕ → List ℕ → Option (Row (List ℕ))
-pair_in first second =
-    cond (bytes_eq first (codes "township")) (Some (row.Township second))
-    (cond (bytes_eq first (codes "party")) (option_map row.Party (name_in second))
-    (given (examiner_in first) (λ e. option_map (row.Step e) (word_in second))))
-
--- a row `E,sheet,TEXT` or `E,chain,TEXT`
-abbrev pub triple_in : List ℕ → List ℕ → List ℕ → Option (Row (List ℕ))
-triple_in first word text = given (examiner_in first) (λ e. option_map (row.Step e) (reading_in word text))
-
 -- whether a deed of this kind is with warranty; a release is no deed
 abbrev pub warranty_of : Kind → Option Bool
 warranty_of kind.Deed = Some false
@@ -48,9 +38,8 @@ if_release kind.Release = Some tt
 if_release _ = None
 
 -- a row `E,release,DOC,FROM,TO,ESTATES,TEXT`
-abbrev pub release_in : List (List ℕ) → Option (Row (List ℕ))
+abbrev pub release_in : List (List ℕ) → Option (Act (List ℕ))
 release_in fields =
-    given (examiner_in (field fields 0)) (λ e.
     given (kind_in (field fields 1)) (λ k.
     given (if_release k) (λ _.
     given (document_in (field fields 2)) (λ doc.
@@ -58,12 +47,11 @@ release_in fields =
     given (name_in (field fields 4)) (λ taker.
     given (estates_in (field fields 5)) (λ estates.
     let release = i.Release (record { «from» = giver; to = taker; estates = estates }) in
-    Some (row.Step e (act.Post doc release (field fields 6))))))))))
+    Some (act.Post doc release (field fields 6))))))))
 
 -- a row `E,deed,DOC,GRANTOR,GRANTEE,ESTATES,QUANTUM,RESERVE,TEXT`, or the same with `warranty`
-abbrev pub deed_in : List (List ℕ) → Option (Row (List ℕ))
+abbrev pub deed_in : List (List ℕ) → Option (Act (List ℕ))
 deed_in fields =
-    given (examiner_in (field fields 0)) (λ e.
     given (kind_in (field fields 1)) (λ k.
     given (warranty_of k) (λ warranty.
     given (document_in (field fields 2)) (λ doc.
@@ -80,15 +68,22 @@ deed_in fields =
       quantum = quantum;
       reserve = reserve;
     }) in
-    Some (row.Step e (act.Post doc deed (field fields 8))))))))))))
+    Some (act.Post doc deed (field fields 8))))))))))
 
--- what the fields of a row say, by their number
-abbrev pub row_in : List (List ℕ) → Option (Row (List ℕ))
-row_in fields =
-    cond (length fields == 2) (pair_in (field fields 0) (field fields 1))
-    (cond (length fields == 3) (triple_in (field fields 0) (field fields 1) (field fields 2))
+-- what an examiner does, by the number of a row's fields
+abbrev pub act_in : List (List ℕ) → Option (Act (List ℕ))
+act_in fields =
+    cond (length fields == 2) (word_in (field fields 1))
+    (cond (length fields == 3) (reading_in (field fields 1) (field fields 2))
     (cond (length fields == 7) (release_in fields)
     (cond (length fields == 9) (deed_in fields) None)))
+
+-- what a row says: it declares, `township,TEXT` or `party,NAME`, or it is a step of the examiner that stands first
+abbrev pub row_in : List (List ℕ) → Option (Row (List ℕ))
+row_in fields =
+    cond (length fields == 2 && bytes_eq (field fields 0) (codes "township")) (Some (row.Township (field fields 1)))
+    (cond (length fields == 2 && bytes_eq (field fields 0) (codes "party")) (option_map row.Party (name_in (field fields 1)))
+    (given (examiner_in (field fields 0)) (λ e. option_map (row.Step e) (act_in fields))))
 
 -- ---- rows as the code has them, with references to texts in place of the texts
 

@@ -1,6 +1,6 @@
 //! The fields of a row.
 
-ghost use Rattle.std.specs.Prelude.{◌≡◌, ◌<◌, length, option_map};
+ghost use Rattle.std.specs.Prelude.{◌≡◌, option_map};
 ghost use Rattle.std.specs.List.{list_all};
 ghost use Rattle.csv.specs.Records.{fields_of};
 ghost use Rattle.title_plan.specs.Fields.{document_in, estates_in, examiner_in, field, is_name_byte, name_in, number_up_to};
@@ -18,15 +18,11 @@ pub const DOCUMENTS: u64 = 999_999_999_999;
 /// The most bytes of a party's name.
 pub const NAME_LIMIT: usize = 60;
 
-/// A field of a row that has it.
+/// A field of a row, empty where the row has fewer.
 pub(crate) fn field(row: &StringRecord, i: usize) -> &str
-    requires there { i < length (fields_of row.now) }
     ensures field { result.now ≡ field (fields_of row.now) i }
 {
-    match row.get(i) {
-        Some(text) => text,
-        None => unreachable!(),
-    }
+    row.get(i).unwrap_or("")
 }
 
 fn has_name_bytes(text: &str) -> bool
@@ -60,8 +56,7 @@ fn read_number(text: &str, greatest: u64) -> Option<u64>
 pub(crate) fn read_examiner(text: &str) -> Option<u32>
     ensures examiner { result ≡ examiner_in text.now }
 {
-    let number = read_number(text, EXAMINERS)?;
-    Some(number as u32)
+    Some(read_number(text, EXAMINERS)? as u32)
 }
 
 /// The number of a document that a text writes: from 1 to 999,999,999,999.

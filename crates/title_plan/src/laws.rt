@@ -2,7 +2,6 @@
 
 ghost use Rattle.std.specs.Prelude.{◌≡◌};
 ghost use Rattle.title_plan.specs.Lands.{FaultsAreRead, LandsAreRead};
-ghost use Rattle.title_plan.specs.Office.{OfficesKeepTurns};
 ghost use Rattle.title_plan.specs.Limits.{last_document, last_examiner, longest_name, most_rows};
 ghost use Rattle.title_plan.specs.declared.fields.TheConstants.{DOCUMENTS, EXAMINERS, NAME_LIMIT};
 ghost use Rattle.title_plan.specs.declared.plan.TheConstants.{ROWS};
@@ -11,12 +10,6 @@ ghost use Rattle.title_plan.specs.declared.plan.TheConstants.{ROWS};
 pub fn texts_are_read()
     ensures land { LandsAreRead }
     ensures fault { FaultsAreRead }
-{}
-
-/// Each step that the script of an office asks for is one of its examiners', and each examiner's transactions come one after
-/// another.
-pub fn offices_keep_turns()
-    ensures law { OfficesKeepTurns }
 {}
 
 /// The limits that the code has are those of the definitions.

@@ -1,11 +1,11 @@
 //! Rows.
 
-ghost use Rattle.std.specs.Prelude.{◌≡◌, length, option_map};
+ghost use Rattle.std.specs.Prelude.{◌≡◌, option_map};
 ghost use Rattle.csv.specs.Records.{fields_of};
-ghost use Rattle.title_plan.specs.Rows.{deed_in, pair_in, release_in, row_in, said, triple_in};
+ghost use Rattle.title_plan.specs.Rows.{act_in, deed_in, done, reading_in, release_in, row_in, said, word_in};
 
 use crate::fields::{field, read_document, read_estates, read_examiner, read_name};
-use crate::terms::{read_kind, read_quantum, read_reserve};
+use crate::terms::{read_quantum, read_reserve};
 use csv::StringRecord;
 use title_instrument::{Deed, Instrument, Kind, Release};
 
@@ -30,45 +30,34 @@ pub enum Row<T> {
     Step(u32, Act<T>),
 }
 
-// A row `township,TEXT`, `party,NAME` or `E,WORD`.
-fn read_pair<'a>(first: &'a str, second: &'a str) -> Option<Row<&'a str>>
-    ensures said { option_map said result ≡ pair_in first.now second.now }
+// What an examiner does by a word alone.
+fn read_word<'a>(word: &str) -> Option<Act<&'a str>>
+    ensures done { option_map done result ≡ word_in word.now }
 {
-    if first == "township" {
-        return Some(Row::Township(second));
-    }
-    if first == "party" {
-        let name = read_name(second)?;
-        return Some(Row::Party(name));
-    }
-    let examiner = read_examiner(first)?;
-    match second {
-        "begin" => Some(Row::Step(examiner, Act::Begin)),
-        "commit" => Some(Row::Step(examiner, Act::Commit)),
-        "abort" => Some(Row::Step(examiner, Act::Abort)),
+    match word {
+        "begin" => Some(Act::Begin),
+        "commit" => Some(Act::Commit),
+        "abort" => Some(Act::Abort),
         _ => None,
     }
 }
 
-// A row `E,sheet,TEXT` or `E,chain,TEXT`.
-fn read_triple<'a>(first: &str, word: &str, text: &'a str) -> Option<Row<&'a str>>
-    ensures said { option_map said result ≡ triple_in first.now word.now text.now }
+// What an examiner reads, by a word and the text of a tract.
+fn read_reading<'a>(word: &str, text: &'a str) -> Option<Act<&'a str>>
+    ensures done { option_map done result ≡ reading_in word.now text.now }
 {
-    let examiner = read_examiner(first)?;
     match word {
-        "sheet" => Some(Row::Step(examiner, Act::Sheet(text))),
-        "chain" => Some(Row::Step(examiner, Act::Chain(text))),
+        "sheet" => Some(Act::Sheet(text)),
+        "chain" => Some(Act::Chain(text)),
         _ => None,
     }
 }
 
 // A row `E,release,DOC,FROM,TO,ESTATES,TEXT`.
-fn read_release(row: &StringRecord) -> Option<Row<&str>>
-    requires seven { length (fields_of row.now) ≡ 7 }
-    ensures said { option_map said result ≡ release_in (fields_of row.now) }
+fn read_release(row: &StringRecord) -> Option<Act<&str>>
+    ensures done { option_map done result ≡ release_in (fields_of row.now) }
 {
-    let examiner = read_examiner(field(row, 0))?;
-    let Kind::Release = read_kind(field(row, 1))? else {
+    let Kind::Release = Kind::of_word(field(row, 1))? else {
         return None;
     };
     let doc = read_document(field(row, 2))?;
@@ -76,16 +65,14 @@ fn read_release(row: &StringRecord) -> Option<Row<&str>>
     let to = read_name(field(row, 4))?;
     let estates = read_estates(field(row, 5))?;
     let release = Instrument::Release(Release { from, to, estates });
-    Some(Row::Step(examiner, Act::Post(doc, release, field(row, 6))))
+    Some(Act::Post(doc, release, field(row, 6)))
 }
 
 // A row `E,deed,DOC,GRANTOR,GRANTEE,ESTATES,QUANTUM,RESERVE,TEXT`, or the same with `warranty`.
-fn read_deed(row: &StringRecord) -> Option<Row<&str>>
-    requires nine { length (fields_of row.now) ≡ 9 }
-    ensures said { option_map said result ≡ deed_in (fields_of row.now) }
+fn read_deed(row: &StringRecord) -> Option<Act<&str>>
+    ensures done { option_map done result ≡ deed_in (fields_of row.now) }
 {
-    let examiner = read_examiner(field(row, 0))?;
-    let warranty = match read_kind(field(row, 1))? {
+    let warranty = match Kind::of_word(field(row, 1))? {
         Kind::Deed => false,
         Kind::Warranty => true,
         Kind::Release => return None,
@@ -104,7 +91,20 @@ fn read_deed(row: &StringRecord) -> Option<Row<&str>>
         quantum,
         reserve,
     });
-    Some(Row::Step(examiner, Act::Post(doc, deed, field(row, 8))))
+    Some(Act::Post(doc, deed, field(row, 8)))
+}
+
+// What an examiner does, by the number of a row's fields.
+fn read_act(row: &StringRecord) -> Option<Act<&str>>
+    ensures done { option_map done result ≡ act_in (fields_of row.now) }
+{
+    match row.len() {
+        2 => read_word(field(row, 1)),
+        3 => read_reading(field(row, 1), field(row, 2)),
+        7 => read_release(row),
+        9 => read_deed(row),
+        _ => None,
+    }
 }
 
 /// What a row says, by its fields; `None` where it has another number of fields or other words, or a field that is not of
@@ -112,11 +112,15 @@ fn read_deed(row: &StringRecord) -> Option<Row<&str>>
 pub fn read_row(row: &StringRecord) -> Option<Row<&str>>
     ensures said { option_map said result ≡ row_in (fields_of row.now) }
 {
-    match row.len() {
-        2 => read_pair(field(row, 0), field(row, 1)),
-        3 => read_triple(field(row, 0), field(row, 1), field(row, 2)),
-        7 => read_release(row),
-        9 => read_deed(row),
-        _ => None,
+    match (row.len(), field(row, 0)) {
+        (2, "township") => Some(Row::Township(field(row, 1))),
+        (2, "party") => Some(Row::Party(read_name(field(row, 1))?)),
+        (_, examiner) => {
+            let examiner = read_examiner(examiner)?;
+            match read_act(row) {
+                Some(act) => Some(Row::Step(examiner, act)),
+                None => None,
+            }
+        }
     }
 }

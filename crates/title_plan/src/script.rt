@@ -5,7 +5,6 @@ ghost use Rattle.title_trace.specs.Due.{MayOpen};
 ghost use Rattle.title_plan.specs.Asked.{asked_in};
 ghost use Rattle.csv.specs.Reading.{error_kind};
 ghost use Rattle.title_plan.specs.Faults.{IsWant};
-ghost use Rattle.title_plan.specs.Office.{KeepsSchedule};
 ghost use Rattle.title_plan.specs.Plans.{script_of};
 ghost use Rattle.title_plan.specs.declared.fault.ScriptFault.TheVariants as fault;
 
@@ -31,12 +30,10 @@ fn fault_of(error: Error) -> ScriptFault
 }
 
 /// What a script declares and asks for, or the fault of its first row at fault: Row, Order or Party with the row's number
-/// from 1; or Memory. With what it declares a plant can be opened. In an office each step is an examiner's of the office, and
-/// the transactions of each come one after another.
+/// from 1; or Memory. With what it declares a plant can be opened.
 pub fn read_script(alloc: Global, schedule: Schedule, text: &[u8]) -> Result<Plan, ScriptFault>
     ensures script { IfOk result (λ plan. script_of schedule text.now ≡ Ok (asked_in plan)) }
     ensures opens { IfOk result (λ plan. MayOpen (length plan.parties.keys) plan.townships.items) }
-    ensures keeps { IfOk result (λ plan. KeepsSchedule schedule (asked_in plan)) }
     ensures why { IfErr result (λ e. (e ≡ fault.Memory) ⊎ (script_of schedule text.now ≡ Err e)) }
 {
     let rdr = ReaderBuilder::new()

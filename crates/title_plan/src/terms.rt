@@ -3,29 +3,20 @@
 ghost use Rattle.std.specs.Prelude.{◌≡◌, ◌∷◌, ℕ, List, MatchOption};
 ghost use Rattle.title_instrument.specs.declared.parts.Estate.{Estate};
 ghost use Rattle.title_instrument.specs.Estates.{letter_of};
-ghost use Rattle.title_plan.specs.Fields.{kind_in, quantum_in, reserve_in, reserving, with_item};
+ghost use Rattle.title_plan.specs.Fields.{quantum_in, reserve_in, reserving, with_item};
 
-use title_instrument::{Estate, Kind, Quantum};
+use title_instrument::{Estate, Quantum};
 use title_share::Share;
-
-/// The kind of an instrument, by its word.
-pub(crate) fn read_kind(word: &str) -> Option<Kind>
-    ensures kind { result ≡ kind_in word.now }
-{
-    Kind::of_word(word)
-}
 
 /// The quantum that a text names: `W` or `I` and a share.
 pub(crate) fn read_quantum(text: &str) -> Option<Quantum>
     ensures quantum { result ≡ quantum_in text.now }
 {
     if let Some(rest) = text.strip_prefix('W') {
-        let share = Share::parse(rest)?;
-        return Some(Quantum::Whole(share));
+        return Share::parse(rest).map(Quantum::Whole);
     }
     if let Some(rest) = text.strip_prefix('I') {
-        let share = Share::parse(rest)?;
-        return Some(Quantum::Interest(share));
+        return Share::parse(rest).map(Quantum::Interest);
     }
     None
 }
@@ -81,10 +72,8 @@ pub(crate) fn read_reserve(text: &str) -> Option<[Option<Share>; 3]>
     if text.is_empty() {
         return Some(reserve);
     }
-    let mut rest = text;
-    while let Some((item, more)) = rest.split_once(';') {
+    for item in text.split(';') {
         reserve = with_item(reserve, item)?;
-        rest = more;
     }
-    with_item(reserve, rest)
+    Some(reserve)
 }

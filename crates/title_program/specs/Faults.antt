@@ -11,8 +11,8 @@ use Rattle.title_office.specs.declared.fault.Fault.{Fault as WorkerFault}
 use Rattle.title_office.specs.declared.fault.Fault.TheVariants as worker
 use Rattle.title_script.specs.declared.fault.RunFault.{RunFault}
 use Rattle.title_script.specs.declared.fault.RunFault.TheVariants as run
-use Rattle.title_script.specs.declared.office_fault.OfficeFault.{OfficeFault}
-use Rattle.title_script.specs.declared.office_fault.OfficeFault.TheVariants as office
+use Rattle.title_day.specs.declared.office_fault.OfficeFault.{OfficeFault}
+use Rattle.title_day.specs.declared.office_fault.OfficeFault.TheVariants as office
 use Rattle.title_program.specs.declared.fault.Fault.{Fault}
 
 -- a fault of this number that stands here

@@ -7,8 +7,9 @@ ghost use Rattle.title_program.specs.Faults.{number_of_worker};
 use std::alloc::{AllocError, Global};
 use std::fmt;
 use title_aliquot::DescFault;
+use title_day::OfficeFault;
 use title_office::{Fault as WorkerFault, Unsettled};
-use title_script::{OfficeFault, RunFault};
+use title_script::RunFault;
 
 /// A fault as its line tells it: its number, and the row of a script, the byte of a text, the examiner or the place of a record
 /// where it stands.

@@ -15,8 +15,9 @@ use crate::status::Status;
 use std::alloc::Global;
 use std::sync::Wait;
 use std::thread::Threads;
+use title_day::{OfficeFault, run_office};
 use title_device::{Sink, Source};
-use title_script::{OfficeFault, RunFault, run_office};
+use title_script::RunFault;
 
 // Prints the line of an office's fault; after a fault of the sink, nothing.
 fn tell_office<W: Sink>(alloc: Global, why: OfficeFault, sink: &mut W) -> Status

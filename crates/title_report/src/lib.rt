@@ -3,7 +3,5 @@
 
 mod report;
 mod rows;
-mod tally;
 
 pub use report::Report;
-pub use tally::Tally;

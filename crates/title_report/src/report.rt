@@ -49,17 +49,17 @@ impl Report {
         Ok(Report { alloc, writer })
     }
 
-    // What a value prints as.
-    pub(crate) fn text<T: Display>(&self, value: &T) -> Result<Vec<u8>, AllocError>
+    /// What a value prints as. `Err` is Memory.
+    pub fn text<T: Display>(&self, value: &T) -> Result<Vec<u8>, AllocError>
         ensures text { IfOk result (λ v. IfSome (T.output value.now) (λ text. v.items ≡ text)) }
     {
         let text = value.to_string(self.alloc)?;
         Ok(text.into_bytes())
     }
 
-    // A row of these fields.
+    /// A row of these fields. `Err` is Memory.
     #[tactic(auto, unfolding(crate::specs::Writing::row))]
-    pub(crate) fn row(mut self, fields: &[&[u8]]) -> Result<Report, AllocError>
+    pub fn row(mut self, fields: &[&[u8]]) -> Result<Report, AllocError>
         ensures row { IfOk result (λ r. r ≡ self ++ row (map (λ f. f.now) fields.now)) }
     {
         match self.writer.write_fields(fields) {

@@ -3,8 +3,3 @@ pub mod Served
 pub mod Reports
 pub mod Runs
 pub mod ReportLaws
-pub mod OfficeReports
-pub mod OfficeRuns
-pub mod Dealing
-pub mod OfficeDays
-pub mod OfficeScripts

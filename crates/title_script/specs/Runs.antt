@@ -1,15 +1,12 @@
 -- What a run of a script does, as a whole. Each says nothing where the script's bytes are not known.
 use Rattle.std.specs.Prelude.{◌≡◌, ◌≤◌, ◌+◌, ◌<◌, ◌⊎◌, ℕ, List, Bool, true, Option, IfSome, Result, Ok, Err, IfErr, OnOk, take, length}
 use Rattle.std.specs.Io.KnownBytes.{Appends, IsAtEnd, Keeps}
+use Rattle.title_device.specs.Limits.{most_bytes}
 use Rattle.title_plan.specs.declared.fault.ScriptFault.TheVariants as script_fault
 use Rattle.title_plan.specs.declared.line.Schedule.{Schedule}
 use Rattle.title_script.specs.declared.fault.RunFault.{RunFault}
 use Rattle.title_script.specs.declared.fault.RunFault.TheVariants as fault
 use Rattle.title_script.specs.Reports.{report_of}
-
--- the most bytes that a script may have
-abbrev pub most_bytes : ℕ
-most_bytes = 16777216
 
 -- the report of the script was written, and nothing else
 abbrev pub Reports : Schedule → Option (List ℕ) → Option (List ℕ) → Option (List ℕ) → Type 0

@@ -35,8 +35,7 @@ fn push(townships: &mut Vec<Township>, township: Township) -> Result<(), AllocEr
     ensures pushed { MatchResult result (λ _. townships.new.items ≡ townships.old.items ++ township ∷ [])
         (λ _. townships.new.items ≡ townships.old.items) }
 {
-    townships.push(township)?;
-    Ok(())
+    Ok(townships.push(township)?)
 }
 
 impl Plan {
@@ -51,8 +50,7 @@ impl Plan {
         if !self.lines.is_empty() {
             return Err(ScriptFault::Order(n));
         }
-        push(&mut self.townships, township)?;
-        Ok(())
+        Ok(push(&mut self.townships, township)?)
     }
 
     pub(super) fn take_township(&mut self, n: u64, text: &str) -> Result<(), ScriptFault>

@@ -57,8 +57,7 @@ impl Plan {
             (with_begun schedule (asked_in self.old).inside examiner)) }
     {
         begin(&mut self.inside, schedule, examiner)?;
-        self.lines.push_back(Line::Asks(Request::Begin(examiner)))?;
-        Ok(())
+        Ok(self.lines.push_back(Line::Asks(Request::Begin(examiner)))?)
     }
 
     // An examiner's transaction ends by a request.
@@ -74,8 +73,7 @@ impl Plan {
     fn add(&mut self, line: Line) -> Result<(), AllocError>
         ensures added { OnOk result (asked_in self.new ≡ with_line (asked_in self.old) line (asked_in self.old).inside) }
     {
-        self.lines.push_back(line)?;
-        Ok(())
+        Ok(self.lines.push_back(line)?)
     }
 
     // Takes what an examiner asks, or the fault of its description.
@@ -95,8 +93,7 @@ impl Plan {
             }
         }
         let alone = self.stands_alone(schedule);
-        self.add(line(alone, examiner, asked))?;
-        Ok(())
+        Ok(self.add(line(alone, examiner, asked))?)
     }
 
     // Takes what an examiner does in its turn.
@@ -112,18 +109,9 @@ impl Plan {
             ⊎ (after_act schedule n (asked_in self.old) examiner (done act.now) ≡ Err e)) }
     {
         match *act {
-            Act::Begin => {
-                self.begin(schedule, examiner)?;
-                Ok(())
-            }
-            Act::Commit => {
-                self.end(Request::Commit(examiner), examiner)?;
-                Ok(())
-            }
-            Act::Abort => {
-                self.end(Request::Abort(examiner), examiner)?;
-                Ok(())
-            }
+            Act::Begin => Ok(self.begin(schedule, examiner)?),
+            Act::Commit => Ok(self.end(Request::Commit(examiner), examiner)?),
+            Act::Abort => Ok(self.end(Request::Abort(examiner), examiner)?),
             Act::Sheet(text) => {
                 let asked = read_tract(self.alloc, text)?.map(Ask::Sheet);
                 self.take_asked(schedule, n, examiner, asked)

@@ -1,9 +1,8 @@
 //! Examiners and the turns of their steps.
 
-ghost use Rattle.std.specs.Prelude.{◌≡◌, ◌++◌, ◌∷◌, [], OnOk};
+ghost use Rattle.std.specs.Prelude.{◌≡◌, OnOk};
 ghost use Rattle.title_plan.specs.Asked.{asked_in};
-ghost use Rattle.title_plan.specs.Plans.{is_begin, is_beyond, is_inside, is_other_inside, is_out_of_turn, stands_alone};
-ghost use Rattle.title_plan.specs.Plans.{with_begun, with_ended};
+ghost use Rattle.title_plan.specs.Plans.{is_begin, is_beyond, is_other_inside, is_out_of_turn, stands_alone, with_begun, with_ended};
 ghost use Rattle.title_plan.specs.Rows.{done};
 
 use crate::line::Schedule;
@@ -27,23 +26,10 @@ fn is_begin(act: &Act<&str>) -> bool
     matches!(act, Act::Begin)
 }
 
-fn is_inside(inside: &[u32], examiner: u32) -> bool
-    ensures inside { result ≡ is_inside inside.now examiner }
-{
-    inside.contains(&examiner)
-}
-
 fn is_other_inside(inside: &[u32], examiner: u32) -> bool
     ensures other { result ≡ is_other_inside inside.now examiner }
 {
     inside.iter().any(|open| *open != examiner)
-}
-
-fn push(inside: &mut Vec<u32>, examiner: u32) -> Result<(), AllocError>
-    ensures pushed { OnOk result (inside.new.items ≡ inside.old.items ++ examiner ∷ []) }
-{
-    inside.push(examiner)?;
-    Ok(())
 }
 
 // An examiner's transaction ends.
@@ -65,7 +51,7 @@ pub(super) fn begin(
         return Ok(());
     }
     end(inside, examiner);
-    push(inside, examiner)
+    Ok(inside.push(examiner)?)
 }
 
 impl Plan {
@@ -76,7 +62,7 @@ impl Plan {
         match schedule {
             Schedule::Interleaved => false,
             Schedule::Serial => is_other_inside(self.inside.as_slice(), examiner),
-            Schedule::Office(_) => is_begin(act) == is_inside(self.inside.as_slice(), examiner),
+            Schedule::Office(_) => is_begin(act) == self.inside.contains(&examiner),
         }
     }
 

@@ -1,22 +1,16 @@
-use Rattle.std.proofs.Common.{Bor, List, ℕ, ◌≡◌, ◌+◌, ◌∙◌, sym, refl, ap, arith, inl, inr, true, Some, Result, Ok, Err, ◌∷◌, ◌++◌, []}
+use Rattle.std.proofs.Common.{Bor, List, ℕ, ◌+◌, ◌∙◌, sym, refl, ap, arith, inl, inr, true, Some, []}
 use Rattle.std.proofs.Common.{length}
-use Rattle.std.proofs.lemmas.List.{length-append}
 use Rattle.std.proofs.lemmas.Result.{err_from_is_err_and}
 use Rattle.csv.specs.Reading.{Reached, default_config, strip_bom, with_flexible}
 use Rattle.csv.specs.declared.reader.ReaderBuilder.{ReaderBuilder}
 use Rattle.csv.specs.Records.{fields_of}
-use Rattle.csv.specs.declared.parser.State.TheVariants as st
 use Rattle.csv.proofs.ReadFacts.{rows-end, rows-more}
-use Rattle.title_plan.specs.declared.fault.ScriptFault.{ScriptFault}
-use Rattle.title_plan.specs.Asked.{Asked, asked_in, nothing_asked}
-use Rattle.title_plan.proofs.Office.{schedule_kept}
-use Rattle.title_plan.proofs.Rows.{after_push, fault_stands}
+use Rattle.title_plan.specs.Asked.{asked_in}
 use Rattle.title_plan.proofs.Declared.{once_said}
-use Rattle.title_plan.proofs.ReadOn.{reached_all, reached_rest}
+use Rattle.title_plan.proofs.ReadOn.{none_read, one_read}
 use Rattle.title_plan.proofs.script.read_script.Goals as goal
 
 pub loop-row-init : goal.loop-row-init
-unfolding Reached
 loop-row-init c =
     let reader = c.from_reader-rdr.ensures in
     let builder = c.flexible.ensures ∙ ap (λ (b : ReaderBuilder). with_flexible b true) c.has_headers.ensures in
@@ -31,22 +25,21 @@ loop-row-init c =
       few = omega arith;
       rest = strip_bom c.args.text.now;
       source = reader.source;
-      rows = [];
-      reached = (sym reader.state, refl);
-      count = refl;
-      after = ap (λ (a : Asked). let r : Result Asked ScriptFault = Ok a in r) (sym c.in_ok-plan.ensures.nothing);
+      count = length (strip_bom c.args.text.now) + 1;
+      counted = inl (omega arith);
+      after = rw (reader.state, c.in_ok-plan.ensures.nothing) refl;
     })
 
 pub loop-row-preserved : goal.loop-row-preserved
+unfolding Reached
 loop-row-preserved c =
     let inv = c.loop-row.invariant in
     let steps = rw (c.in-Some.is, c.in-Ok.is) at (c.next.ensures.steps inv.left inv.trims) in
     let s = steps.0 inv.ready in
-    let f = fields_of c.in-Ok.raw in
-    let m = rows-more (λ (s : Bor (List ℕ)). Some s.now) c.loop-row.row-iterator.rdr c.next.new.self.rdr f default_config st.StartRecord
-    (strip_bom c.args.text.now) inv.rest inv.rows
-    inv.config inv.source inv.reached s.0 in
-    let place : c.loop-row.n + 1 ≡ 1 + length inv.rows = omega (arith, inv.count) in
+    let m = rows-more (λ (s : Bor (List ℕ)). Some s.now) c.loop-row.row-iterator.rdr c.next.new.self.rdr (fields_of c.in-Ok.raw)
+    default_config c.loop-row.row-iterator.rdr.state inv.rest inv.rest [] inv.config inv.source (refl, refl) s.0 in
+    let on = one_read c.args.schedule (c.loop-row.n + 1) inv.count (asked_in c.loop-row.plan) (fields_of c.in-Ok.raw) _ _ _ _ _ inv.counted
+    m.2 inv.after in
     record {
       trims = s.0.3 ∙ inv.trims;
       ready = inl s.1;
@@ -56,11 +49,9 @@ loop-row-preserved c =
       few = c.in_ok-take_row.ensures.within;
       rest = m.0;
       source = m.1;
-      rows = inv.rows ++ (f ∷ []);
-      reached = m.2;
-      count = rw length-append (omega (arith, inv.count));
-      after = after_push c.args.schedule 1 (c.loop-row.n + 1) nothing_asked (asked_in c.loop-row.plan) inv.rows f
-          (Ok (asked_in c.take_row.new.self)) place inv.after c.in_ok-take_row.ensures.ok;
+      count = on.count;
+      counted = on.counted;
+      after = rw c.in_ok-take_row.ensures.ok at on.comes_to;
     }
 
 pub returns-clause-script : goal.returns-clause-script
@@ -69,31 +60,23 @@ returns-clause-script c =
     let s = rw c.in-None.is at ((c.next.ensures.steps inv.left inv.trims).0 inv.ready) in
     let none = rows-end (λ (s : Bor (List ℕ)). Some s.now) c.loop-row.row-iterator.rdr c.next.new.self.rdr [] default_config inv.rest
     inv.config inv.source s in
-    let all = reached_all default_config (strip_bom c.args.text.now) inv.rows c.loop-row.row-iterator.rdr.state inv.rest inv.reached none in
-    rw all inv.after
-
-pub returns-clause-keeps : goal.returns-clause-keeps
-returns-clause-keeps c = schedule_kept c.args.schedule c.args.text.now (asked_in c.loop-row.plan) (returns-clause-script c)
+    sym (rw (none_read inv.count c.loop-row.row-iterator.rdr.state inv.rest none) at inv.after)
 
 pub returns-clause-opens : goal.returns-clause-opens
 returns-clause-opens c =
-    let plan = c.loop-row.plan in
-    (plan.some, plan.few, plan.few_townships, once_said plan.townships.items plan.once)
+    let plan = c.loop-row.plan in (plan.some, plan.few, plan.few_townships, once_said plan.townships.items plan.once)
 
 pub returns-in_err-take_row-clause-why : goal.returns-in_err-take_row-clause-why
+unfolding Reached
 returns-in_err-take_row-clause-why c =
     let inv = c.loop-row.invariant in
     let s = rw (c.in-Some.is, c.in-Ok.is) at ((c.next.ensures.steps inv.left inv.trims).0 inv.ready) in
-    let f = fields_of c.in-Ok.raw in
-    let m = rows-more (λ (s : Bor (List ℕ)). Some s.now) c.loop-row.row-iterator.rdr c.next.new.self.rdr f default_config st.StartRecord
-    (strip_bom c.args.text.now) inv.rest inv.rows
-    inv.config inv.source inv.reached s.0 in
-    let place : c.loop-row.n + 1 ≡ 1 + length inv.rows = omega (arith, inv.count) in
-    let rest = reached_rest default_config (strip_bom c.args.text.now) (inv.rows ++ (f ∷ [])) c.next.new.self.rdr.state m.0 m.2 in
+    let m = rows-more (λ (s : Bor (List ℕ)). Some s.now) c.loop-row.row-iterator.rdr c.next.new.self.rdr (fields_of c.in-Ok.raw)
+    default_config c.loop-row.row-iterator.rdr.state inv.rest inv.rest [] inv.config inv.source (refl, refl) s.0 in
+    let on = one_read c.args.schedule (c.loop-row.n + 1) inv.count (asked_in c.loop-row.plan) (fields_of c.in-Ok.raw) _ _ _ _ _ inv.counted
+    m.2 inv.after in
     let out = err_from_is_err_and c.from_residual-in_err-take_row.result c.from_residual-in_err-take_row.ensures.1 in
     rw (out.1, out.2) (elim c.in_err-take_row.ensures.err [
       | inl memory ↦ inl memory
-      | inr due ↦ inr (rw rest.1 (fault_stands c.args.schedule 1 nothing_asked (inv.rows ++ (f ∷ [])) rest.0 c.in_err-take_row.field-0.0
-          (after_push c.args.schedule 1 (c.loop-row.n + 1) nothing_asked (asked_in c.loop-row.plan) inv.rows f
-          (Err c.in_err-take_row.field-0.0) place inv.after due)))
+      | inr due ↦ inr (sym (rw due at on.comes_to))
     ])

@@ -1,13 +1,13 @@
-use Rattle.std.proofs.Common.{◌≡◌, ◌<◌, ◌≤◌, ℕ, List, Some, Ok, true, length}
-use Rattle.csv.specs.Reading.{Reached, Ready, default_config, is_flexible, source_of, strip_bom}
-use Rattle.csv.specs.declared.parser.State.TheVariants as st
+use Rattle.std.proofs.Common.{◌≡◌, ◌<◌, ◌≤◌, ◌+◌, ℕ, List, Some, true}
+use Rattle.csv.specs.Reading.{Ready, default_config, is_flexible, records_from, source_of}
 use Rattle.csv.specs.declared.reader.Trim.TheVariants as trim
 use Rattle.title_plan.specs.Limits.{most_rows}
-use Rattle.title_plan.specs.Asked.{asked_in, nothing_asked}
-use Rattle.title_plan.specs.Plans.{after_rows}
+use Rattle.title_plan.specs.Asked.{asked_in}
+use Rattle.title_plan.specs.Plans.{after_rows, script_of}
+use Rattle.title_plan.proofs.ReadOn.{IsCounted}
 use Rattle.title_plan.proofs.script.read_script.Given as goal
 
--- the rows that were reached have done what the plan holds
+-- from what the plan holds, the records that are left come to what the script does
 abbrev pub invariant-loop-row : goal.invariant-loop-row
 invariant-loop-row l = record {
   trims : l.row-iterator.rdr.trim ≡ trim.None;
@@ -18,8 +18,8 @@ invariant-loop-row l = record {
   few : l.n ≤ most_rows;
   rest : List ℕ;
   source : source_of (λ s. Some s.now) l.row-iterator.rdr ≡ Some rest;
-  rows : List (List (List ℕ));
-  reached : Reached default_config st.StartRecord (strip_bom l.fn.text) rows l.row-iterator.rdr.state rest;
-  count : length rows ≡ l.n;
-  after : after_rows l.schedule 1 nothing_asked rows ≡ Ok (asked_in l.plan);
+  count : ℕ;
+  counted : IsCounted count l.row-iterator.rdr.state rest;
+  after : after_rows l.schedule (l.n + 1) (asked_in l.plan) (records_from default_config count l.row-iterator.rdr.state rest)
+      ≡ script_of l.schedule l.fn.text;
 }

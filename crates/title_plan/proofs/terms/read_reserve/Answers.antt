@@ -1,38 +1,38 @@
 -- Items read one by one are the reserve of the whole text.
-use Rattle.std.proofs.Common.{refl, rules, sym, ◌∙◌, arith}
-use Rattle.std.proofs.lemmas.Str.Pattern.{split_once_first}
-use Rattle.title_plan.proofs.Texts.{has_items, no_text, items_more, items_last}
+use Rattle.std.proofs.Common.{◌∙◌, lit<, refl}
+use Rattle.std.specs.List.{slice_split}
+use Rattle.std.proofs.lemmas.Iterator.Splits.{YieldsList-from_str_split}
+use Rattle.title_plan.specs.Fields.{is_semicolon, reserve_in}
+use Rattle.title_plan.proofs.Texts.{no_more, one_item}
 use Rattle.title_plan.proofs.terms.read_reserve.Goals as goal
 
-pub returns-then-is_empty : goal.returns-then-is_empty
-returns-then-is_empty c = record { reserve = rw (no_text c.args.text.now c.if-is_empty.ensures) refl }
-
 pub loop-item-init : goal.loop-item-init
-loop-item-init c = (c.utf8.text, has_items c.args.text.now c.if-is_empty.ensures)
-
-pub returns-in_err-reserve : goal.returns-in_err-reserve
-returns-in_err-reserve c =
-    let parts = rw c.in-Some.is at (split_once_first 59 c.loop-item.rest.now c.split_once.result c.split_once.ensures.cases
-    (omega arith)) in
-    record {
-      reserve = c.from_residual.ensures
-          ∙ sym (c.loop-item.invariant.1 ∙ items_more c.loop-item.reserve c.loop-item.rest.now c.in-Some.item.now c.in-Some.more.now _ parts
-          (sym c.in_err-reserve.ensures.item));
-    }
+loop-item-init c =
+    let split = c.split-item-items.ensures in
+    rw c.into_iter-item-iterator.ensures.into_iter_gives (record {
+      left = slice_split is_semicolon c.args.text.now;
+      gives = (YieldsList-from_str_split 59 c.args.text.now (lit< tt) split.text split.has_more split.pattern).runs;
+      after = rw (← c.if-is_empty.ensures) refl;
+    })
 
 pub loop-item-preserved : goal.loop-item-preserved
 loop-item-preserved c =
-    let parts = rw c.in-Some.is at (split_once_first 59 c.loop-item.rest.now c.split_once.result c.split_once.ensures.cases
-    (omega arith)) in (
-      search rules,
-      c.loop-item.invariant.1 ∙ items_more c.loop-item.reserve c.loop-item.rest.now c.in-Some.item.now c.in-Some.more.now _ parts
-          (sym c.in_ok-reserve.ensures.item),
-    )
+    let inv = c.loop-item.invariant in
+    let on = one_item c.loop-item.reserve inv.left (reserve_in c.args.text.now) c.loop-item.item-iterator c.next.new.self c.in-Some.item
+    inv.gives (rw c.in-Some.is at c.next.ensures.steps) inv.after in
+    record { left = on.0; gives = on.1; after = rw (← c.in_ok-reserve.ensures.item) at on.2 }
+
+pub returns-in_err-reserve : goal.returns-in_err-reserve
+returns-in_err-reserve c =
+    let inv = c.loop-item.invariant in
+    let on = one_item c.loop-item.reserve inv.left (reserve_in c.args.text.now) c.loop-item.item-iterator c.next.new.self c.in-Some.item
+    inv.gives (rw c.in-Some.is at c.next.ensures.steps) inv.after in
+    record { reserve = c.from_residual.ensures ∙ rw (← c.in_err-reserve.ensures.item) at on.2 }
 
 pub returns : goal.returns
 returns c =
-    let last = rw c.in_default.is at (split_once_first 59 c.loop-item.rest.now c.split_once.result c.split_once.ensures.cases
-    (omega arith)) in
+    let inv = c.loop-item.invariant in
     record {
-      reserve = sym (c.loop-item.invariant.1 ∙ items_last c.loop-item.reserve c.loop-item.rest.now _ last (sym c.with_item-2.ensures.item));
+      reserve = no_more c.loop-item.reserve inv.left (reserve_in c.args.text.now) c.loop-item.item-iterator c.next.new.self
+          inv.gives (rw c.in-None.is at c.next.ensures.steps) inv.after;
     }

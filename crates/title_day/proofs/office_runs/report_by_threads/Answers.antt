@@ -1,0 +1,22 @@
+-- What the office's day leaves is a report of the script.
+use Rattle.title_day.proofs.OfficeCauses.{residual_is_own}
+use Rattle.title_day.proofs.OfficeOrder.{seats_fit}
+use Rattle.title_day.proofs.OfficeReported.{reported}
+use Rattle.title_day.proofs.office_runs.report_by_threads.Goals as goal
+
+pub returns-in_err-script-clause-why : goal.returns-in_err-script-clause-why
+returns-in_err-script-clause-why g c =
+    residual_is_own c.args.examiners c.args.bytes.now c.in_err-script.field-0.0 c.from_residual.result c.from_residual.ensures.1
+    c.in_err-script.ensures.why
+
+pub run_day-requires-clause-fits : goal.run_day-requires-clause-fits
+run_day-requires-clause-fits g c κs within =
+    let s = c.in_ok-script.ensures.script in
+    seats_fit s.0.lines c.in_ok-script.script.scripts.items 1 c.args.examiners s.5 s.6
+
+pub returns-clause-report : goal.returns-clause-report
+returns-clause-report g c =
+    reported c.args.examiners c.args.bytes.now c.in_ok-script.script c.as_slice-plant.result.now c.as_slice.result.now
+    c.in_ok-day.day.tallies.items c.in_ok-day.day.records c.in_ok-report.report.items c.in_ok-script.ensures.script
+    c.as_slice-plant.ensures.value c.as_slice.ensures.value c.in_ok-day.ensures.told c.in_ok-day.ensures.counted
+    c.in_ok-day.ensures.serial c.in_ok-report.ensures.text

@@ -1,0 +1,7 @@
+pub mod Turns
+pub mod Tallies
+pub mod OfficeReports
+pub mod OfficeRuns
+pub mod Dealing
+pub mod OfficeDays
+pub mod OfficeScripts

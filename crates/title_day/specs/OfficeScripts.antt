@@ -1,0 +1,16 @@
+-- What an office's script asks for, dealt to its examiners.
+use Rattle.std.specs.Prelude.{◌≡◌, ℕ, List, length, map, Ok}
+use Rattle.std.specs.String.{string_bytes}
+use Rattle.title_plan.specs.declared.line.Schedule.TheVariants as schedule
+use Rattle.title_plan.specs.Asked.{Asked}
+use Rattle.title_plan.specs.Plans.{script_of}
+use Rattle.title_day.specs.declared.office_script.OfficeScript.{OfficeScript}
+use Rattle.title_day.specs.Dealing.{AreDealt}
+
+-- this is what the bytes of the script of an office of so many examiners ask for: its townships, its parties' names, each examiner's
+-- transactions, and how many step rows there are
+abbrev pub IsOfficeScript : ℕ → List ℕ → OfficeScript → Type 0
+IsOfficeScript number bytes script =
+    (asked : Asked) × (script_of (schedule.Office number) bytes ≡ Ok asked) × (script.townships.items ≡ asked.townships)
+    × (map string_bytes script.parties.keys ≡ asked.names) × (script.steps ≡ length asked.lines)
+    × (length script.scripts.items ≡ number) × AreDealt asked.lines 1 script.scripts.items

@@ -1,0 +1,18 @@
+//! Offices' days: from the bytes of an office's script to the bytes of its report, its examiners' rows run by threads.
+#![tactic(auto)]
+
+mod closing;
+mod dealing;
+mod hand;
+pub mod laws;
+mod office_day;
+mod office_fault;
+mod office_runs;
+mod office_script;
+mod tally;
+
+pub use closing::office_report;
+pub use office_fault::OfficeFault;
+pub use office_runs::run_office;
+pub use office_script::{OfficeScript, read_office};
+pub use tally::Tally;

@@ -1,0 +1,49 @@
+//! The script of an office.
+
+ghost use Rattle.std.specs.Prelude.{◌≡◌, ◌⊎◌, Err, IfErr, IfOk, length};
+ghost use Rattle.title_trace.specs.Due.{MayOpen};
+ghost use Rattle.title_plan.specs.declared.fault.ScriptFault.TheVariants as fault;
+ghost use Rattle.title_plan.specs.declared.line.Schedule.TheVariants as schedule;
+ghost use Rattle.title_plan.specs.Plans.{script_of};
+ghost use Rattle.title_day.specs.OfficeScripts.{IsOfficeScript};
+
+use crate::dealing::deal;
+use indexmap::IndexSet;
+use std::alloc::Global;
+use title_land::Township;
+use title_office::Script;
+use title_plan::{Plan, Schedule, ScriptFault, read_script};
+
+/// What the script of an office asks for: the parties' names, which have their numbers as places, the townships, what each examiner
+/// from 1 on is to do, and how many step rows there are.
+#[derive(Drop)]
+pub struct OfficeScript {
+    pub parties: IndexSet<String>,
+    pub townships: Vec<Township>,
+    pub scripts: Vec<Script>,
+    pub steps: usize,
+}
+
+/// What the bytes of the script of an office of so many examiners ask for, or the fault of the first row at fault, or Memory. With
+/// what it declares an office can be opened.
+pub fn read_office(alloc: Global, examiners: u32, bytes: &[u8]) -> Result<OfficeScript, ScriptFault>
+    ensures script { IfOk result (λ script. IsOfficeScript examiners bytes.now script) }
+    ensures opens { IfOk result (λ script. MayOpen (length script.parties.keys) script.townships.items) }
+    ensures why { IfErr result (λ e. (e ≡ fault.Memory) ⊎ (script_of (schedule.Office examiners) bytes.now ≡ Err e)) }
+{
+    let plan = read_script(alloc, Schedule::Office(examiners), bytes)?;
+    let Plan {
+        parties,
+        townships,
+        mut lines,
+        ..
+    } = plan;
+    let steps = lines.len();
+    let scripts = deal(alloc, examiners, &mut lines)?;
+    Ok(OfficeScript {
+        parties,
+        townships,
+        scripts,
+        steps,
+    })
+}

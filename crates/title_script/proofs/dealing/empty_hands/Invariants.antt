@@ -1,6 +1,0 @@
-use Rattle.std.proofs.Common.{◌≡◌, replicate}
-use Rattle.title_script.specs.Dealing.{empty_hand}
-use Rattle.title_script.proofs.dealing.empty_hands.Given as goal
-
-abbrev pub invariant-loop-examiner : goal.invariant-loop-examiner
-invariant-loop-examiner l = l.hands.items ≡ replicate l._examiner empty_hand

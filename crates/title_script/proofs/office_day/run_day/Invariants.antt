@@ -1,5 +1,0 @@
--- The office keeps the plant that it is opened for.
-use Rattle.title_script.proofs.office_day.run_day.Given as goal
-
-abbrev pub ghosts-keep_day : goal.ghosts-keep_day
-ghosts-keep_day g a = record { setting = record { parties = a.parties; townships = a.townships.now } }
