@@ -46,14 +46,67 @@ begins with the number of the examiner who takes it. Several examiners may be at
 once: each begins a transaction, takes its steps (a sheet of owners, a chain of instruments,
 a deed, a release), and commits or aborts. A step is refused where another examiner has an
 open step on some of the same land and one of the two is a deed or a release; the report
-names that examiner.",
+names that examiner.
+
+Rows; a field with a comma stands in double quotes, no space is passed over but in TEXT:
+  township,TEXT         the plant has this township; declarations come before all steps
+  party,NAME            a party; UNITED STATES, who owns all at first, needs no row
+  E,begin               examiner E, 1 to 9999, opens a transaction
+  E,sheet,TEXT          who owns what in the tract
+  E,chain,TEXT          which instruments were posted in it, and where they are recorded
+  E,deed,DOC,GRANTOR,GRANTEE,ESTATES,QUANTUM,RESERVE,TEXT
+  E,warranty,DOC,GRANTOR,GRANTEE,ESTATES,QUANTUM,RESERVE,TEXT
+                        a deed with warranty: with a quantum W its reservation yields first
+  E,release,DOC,FROM,TO,ESTATES,TEXT
+                        all that FROM has there in ESTATES passes to TO
+  E,commit              the transaction is recorded, and takes the next place
+  E,abort               the transaction is undone
+
+Fields:
+  DOC                   the document's number, 1 to 999999999999
+  GRANTOR, GRANTEE, FROM, TO
+                        parties by their names
+  ESTATES               S surface, O oil and gas, M other minerals: S, O, M, SO, SM, OM or SOM
+  QUANTUM               W and a share of the whole, as W1/2, or I and a share of what the
+                        grantor has, as I1/1; a share is A/B, B a power of two
+  RESERVE               nothing, or what the grantor keeps back, as O1/2;M1/1
+  TEXT                  the description of land: see titleplant tract --help
+
+Replies, each after its examiner's number:
+  began, posted, aborted, and committed,PLACE
+  sheet,K and K rows row,NODE,ESTATE,NAME,SHARE
+  chain,K and K rows entry,PLACE,DOC,KIND,FROM,TO,ESTATES; PLACE is 0 before the commit
+  refused,RULE,ESTATE,NODE
+                        11 the grantor has too little, 12 no whole number of units passes,
+                        13 more is reserved than passes; nothing was posted
+  conflict,EXAMINER     this examiner's open transaction is in the way
+  notopen, alreadyopen  the examiner has no transaction open, or has one
+  notownship            the land's township isn't declared
+  invalid,CAUSE         2 grantor and grantee are one, 4 a reserved estate isn't named
+  toolong               the transaction has 10000 steps
+  description,N         TEXT has fault N: see titleplant tract --help
+The last row is end,K with the number of step rows.
+
+Faults, in place of the report:
+  fault,31,ROW          this row isn't understood
+  fault,34,ROW          a party isn't declared, or is declared again
+  fault,35,ROW          this row stands where no such row may stand
+  fault,32              the script can't be read, or has above 16777216 bytes
+  fault,6               out of memory
+
+The exit status is 0 for a report, 1 for a fault, 2 for words that aren't understood. The
+whole format stands in docs/FORMATS.md.",
     usage: "titleplant run",
     example: "\
 Example: titleplant run < script.csv, where script.csv has
   township,T3N R2W
   party,ADAMS
+  party,BELL
   1,begin
-  1,deed,101,UNITED STATES,ADAMS,S,W1/2,,T3N R2W sec 5 NE1/4
+  1,deed,101,UNITED STATES,ADAMS,SOM,W1/1,,T3N R2W sec 5 NE1/4
+  1,warranty,102,ADAMS,BELL,SOM,W1/2,M1/4,\"T3N R2W sec 5, NE1/4\"
+  1,release,103,BELL,ADAMS,M,T3N R2W sec 5 NE1/4
+  1,sheet,T3N R2W sec 5
   2,begin
   2,chain,T3N R2W sec 6
   1,commit
@@ -130,7 +183,25 @@ const TRACT: Help<'static> = Help {
     long_about: "\
 Reads the description TEXT, and nothing from standard input. Writes to standard output, as
 CSV, a row for each township, section, quarter or smaller part that makes up the land, and
-a row with its acres.",
+a row with its acres.
+
+These are one tract:
+  T3N R2W sec 5 NE1/4SW1/4
+  t3n r2w section 5 ne/4sw/4
+  T. 3 N., R. 2 W., sec. 5, NE1/4 of the SW1/4
+  T3N-R2W, Sec 5: NE1/4 of SW1/4
+  T3N R2W sec 5 NE¼SW¼
+  T3NR2WSEC5NE/4SW/4
+Parts with a comma between them are taken together; a part is read from right to left. A
+township alone, as T3N R2W, and everything are tracts too.
+
+Faults, in place of the rows, with status 1:
+  fault,21,BYTE         nothing that is a description goes on as this one does at this byte
+  fault,22              a township or range isn't 1 to 99, or a section isn't 1 to 36
+  fault,23              a part is smaller than 2.5 acres
+  fault,24              a government lot, which has no place in this plant
+  fault,25              two parts share land
+  fault,6               out of memory",
     usage: "titleplant tract <TEXT>",
     example: "Example: titleplant tract \"T3N R2W sec 5 NE1/4\"",
 };
