@@ -1,8 +1,8 @@
 #!/usr/bin/env python3
 """Writes a large valid script of the program `titleplant` to standard output.
 
-    generate.py --kind deeds|sheets|chains|parts|interleaved|short|long|reviewed|crowd|refused [--rows N] [--seed N]
-        [--side 8|16]
+    generate.py --kind deeds|sheets|chains|parts|interleaved|short|long|reviewed|crowd|refused|own|shared [--rows N] [--seed N]
+        [--side 8|16] [--examiners N]
 
 deeds        plain deeds and releases of one examiner, each a transaction of its own       (for `alone`)
 sheets       sheets of whole sections, after a few deeds                                   (for `alone`)
@@ -14,6 +14,8 @@ long         one examiner's transactions of 5,000 deeds of single cells each    
 reviewed     the same, then a chain of each of those cells in the same transaction         (for `run`)
 crowd        9,999 examiners, or a third of the rows, open at once, with deeds of cells    (for `run`)
 refused      as many examiners have read a section, and one more posts there in vain       (for `run`)
+own          so many examiners' transactions of two deeds and a sheet, in own townships    (for `office`)
+shared       the same, all in one section                                                  (for `office`)
 
 The same kind, rows, seed and side give the same script. The rows counted are all of its rows, declarations among them. With a
 side of 8 a single cell is a quarter of a quarter of a quarter, as it was before a section had 16 by 16 cells; deeds, sheets and
@@ -176,6 +178,29 @@ def refused(chance, count):
         yield f"1,{instrument(chance, document, where)}"
 
 
+def transactions(chance, count, where):
+    """The examiners' transactions in turn, each of a sheet and two deeds in the section that a function gives."""
+    turns = [f"{examiner},{word}" for examiner in range(1, chance.examiners + 1) for word in ("begin", "sheet", "deed", "deed", "commit")]
+    for document in range(1, count // len(turns) * len(turns) + 1):
+        turn = turns[(document - 1) % len(turns)]
+        examiner, word = turn.split(",")
+        place = where(int(examiner))
+        if word == "sheet":
+            yield f"{turn},{place}"
+        elif word == "deed":
+            yield f"{examiner},{instrument(chance, document, f'{place} {quarters(chance, chance.quarterings)}')}"
+        else:
+            yield turn
+
+
+def own(chance, count):
+    yield from transactions(chance, count, lambda examiner: f"{TOWNSHIPS[examiner - 1]} sec {chance.randint(1, 36)}")
+
+
+def shared(chance, count):
+    yield from transactions(chance, count, lambda examiner: f"{TOWNSHIPS[0]} sec 1")
+
+
 KINDS = {
     "deeds": deeds,
     "sheets": sheets,
@@ -187,6 +212,8 @@ KINDS = {
     "reviewed": reviewed,
     "crowd": crowd,
     "refused": refused,
+    "own": own,
+    "shared": shared,
 }
 
 
@@ -195,6 +222,7 @@ def main():
     options.add_argument("--kind", choices=sorted(KINDS), required=True)
     options.add_argument("--rows", type=int, default=10_000, help="all rows, 300 to 100000 (default 10000)")
     options.add_argument("--seed", type=int, default=1)
+    options.add_argument("--examiners", type=int, choices=range(1, 65), default=8, metavar="N", help="of an office (default 8)")
     options.add_argument("--side", type=int, choices=sorted(QUARTERINGS), default=16, help="cells of a section's side (default 16)")
     asked = options.parse_args()
     declared = [f"township,{name}" for name in TOWNSHIPS] + [f"party,{name}" for name in PARTIES]
@@ -202,6 +230,7 @@ def main():
         options.error("--rows has to be from 300 to 100000")
     chance = random.Random(asked.seed)
     chance.quarterings = QUARTERINGS[asked.side]
+    chance.examiners = asked.examiners
     steps = KINDS[asked.kind](chance, asked.rows - len(declared))
     sys.stdout.writelines(f"{row}\n" for row in declared)
     sys.stdout.writelines(f"{row}\n" for row in steps)
