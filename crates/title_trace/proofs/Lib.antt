@@ -1,3 +1,4 @@
 pub mod Law
 pub mod Causes
 pub mod OneReply
+pub mod Idle

@@ -1,9 +1,9 @@
 -- The headline as a law over all due traces.
-use Rattle.std.specs.Prelude.{ℕ, ◌≤◌, List, ◌∷◌}
+use Rattle.std.specs.Prelude.{◌≡◌, ℕ, ◌≤◌, false, List, [], ◌∷◌}
 use Rattle.title_chain.specs.Alone.{IsSerial, most_parties}
 use Rattle.title_chain.specs.Overlaps.{record_of}
 use Rattle.title_trace.specs.declared.call.Call.{Call}
-use Rattle.title_trace.specs.Trace.{committed, open_steps}
+use Rattle.title_trace.specs.Trace.{is_open, committed, open_steps}
 use Rattle.title_trace.specs.Due.{Setting, IsDue}
 
 -- in every due trace the committed transactions are serial: run alone, in the order of their commits, they get their answers
@@ -15,3 +15,8 @@ CommittedAreSerial depth = (setting : Setting) → setting.parties ≤ most_part
 abbrev pub OpenMayBeLast : ℕ → Type 0
 OpenMayBeLast depth = (setting : Setting) → setting.parties ≤ most_parties → (trace : List Call) (e : ℕ) → IsDue depth setting trace →
     IsSerial depth setting.townships (record_of e (open_steps trace e) ∷ committed trace)
+
+-- in a due trace an examiner that isn't open has no open steps
+abbrev pub IdleHaveNoSteps : ℕ → Type 0
+IdleHaveNoSteps depth = (setting : Setting) (trace : List Call) (e : ℕ) → IsDue depth setting trace →
+    is_open e trace ≡ false → open_steps trace e ≡ []

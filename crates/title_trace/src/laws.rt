@@ -4,7 +4,7 @@ ghost use Rattle.std.specs.Prelude.{◌≡◌};
 ghost use Rattle.title_chain.specs.Alone.{most_parties};
 ghost use Rattle.title_trace.specs.declared.limits.TheConstants.{MOST_PARTIES, MOST_STEPS, MOST_TOWNSHIPS};
 ghost use Rattle.title_trace.specs.Due.{OneInTheWay, OneDueReply, most_steps, most_townships};
-ghost use Rattle.title_trace.specs.Serial.{CommittedAreSerial, OpenMayBeLast};
+ghost use Rattle.title_trace.specs.Serial.{CommittedAreSerial, IdleHaveNoSteps, OpenMayBeLast};
 ghost use Rattle.title_land.specs.Depth.{depth};
 
 /// In every due trace the committed transactions are serial, also with the open steps of any one examiner as a last
@@ -12,6 +12,11 @@ ghost use Rattle.title_land.specs.Depth.{depth};
 pub fn committed_transactions_are_serial()
     ensures committed { CommittedAreSerial depth }
     ensures open_last { OpenMayBeLast depth }
+{}
+
+/// In a due trace an examiner that isn't open has no open steps.
+pub fn idle_have_no_steps()
+    ensures none { IdleHaveNoSteps depth }
 {}
 
 /// A reply is due exactly where it is the one that `due_reply` gives; a step in the way is that of the least examiner of
