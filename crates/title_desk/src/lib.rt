@@ -2,6 +2,7 @@
 #![tactic(auto)]
 
 mod asks;
+pub mod headline;
 mod images;
 mod refusal;
 mod slots;
