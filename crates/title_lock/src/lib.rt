@@ -3,14 +3,15 @@
 #![tactic(auto)]
 
 mod book;
+mod counts;
 pub mod guards;
+mod holders;
 pub mod laws;
+mod least;
 pub mod modes;
-mod place;
-pub mod row_locks;
-mod sharers;
+pub mod node_locks;
 mod table;
 
 pub use guards::{Access, Entry, Guards, LockFault};
 pub use modes::{Mode, compat, sup};
-pub use row_locks::RowLocks;
+pub use node_locks::NodeLocks;
