@@ -244,7 +244,7 @@ turned_cond : {V : Type 0} (b : Bool) (x : V) (xs ys : List V) → reverse_aux x
 turned_cond true x xs ys = refl
 turned_cond false x xs ys = refl
 
-filter_turned : {V : Type 0} (p : V → Bool) (xs ys : List V) → filter p (reverse_aux xs ys) ≡ reverse_aux (filter p xs) (filter p ys)
+pub filter_turned : {V : Type 0} (p : V → Bool) (xs ys : List V) → filter p (reverse_aux xs ys) ≡ reverse_aux (filter p xs) (filter p ys)
 filter_turned p [] ys = refl
 filter_turned p (x ∷ xs) ys = filter_turned p xs (x ∷ ys) ∙ turned_cond (p x) x (filter p xs) (filter p ys)
 

@@ -1,7 +1,7 @@
 -- How many examiners have a mode: after one examiner's mode has changed, and what a small number tells of the others.
 use Rattle.std.proofs.Common.{◌≡◌, ◌≢◌, ◌+◌, ◌≤◌, ◌<◌, ◌^◌, ℕ, zero, suc, Bool, true, false, cond, not, ◌&&◌, ◌||◌, List, [], ◌∷◌, filter, length}
 use Rattle.std.proofs.Common.{Option, Some, None, is_some, eqb, refl, sym, ap, subst, ◌∙◌, arith, ◌↔◌}
-use Rattle.std.proofs.lemmas.Bool.{eqb-true, eqb-false, eq-eqb, ne_eqb, false_from_ne_true, both_ways, or_from, or_parts, and_parts, or_left}
+use Rattle.std.proofs.lemmas.Bool.{eqb-true, eqb-false, eq-eqb, ne_eqb, false_from_ne_true, both_ways, and_parts, or_left}
 use Rattle.title_lock.specs.declared.modes.Mode.{Mode}
 use Rattle.title_lock.specs.declared.modes.Mode.TheVariants.{Is, Ix, S, Six, X}
 use Rattle.title_lock.specs.Counts.{member, NoRepeat, IsCount}

@@ -13,3 +13,4 @@ pub mod FirstLaws
 pub mod LeastLaws
 pub mod CountLaws
 pub mod KeptLaws
+pub mod RowLaws

@@ -10,13 +10,13 @@ use Rattle.std.specs.BTreeMap.{BTreeMap, get, is_at}
 use Rattle.std.proofs.lemmas.List.{nil_from_length}
 use Rattle.title_land.specs.declared.node.Node.{Node}
 use Rattle.title_land.specs.declared.node.Node.TheVariants as node
-use Rattle.title_land.specs.Nodes.{same_node, parent_of, above, is_above}
+use Rattle.title_land.specs.Nodes.{same_node, parent_of, is_above}
 use Rattle.title_lock.specs.declared.modes.Mode.{Mode}
 use Rattle.title_lock.specs.declared.table.Table.{Table}
 use Rattle.title_lock.specs.Modes.{bound}
 use Rattle.title_lock.specs.Holders.{Modes, holder_mode, is_free}
 use Rattle.title_land.specs.Orders.{node_cmp}
-use Rattle.title_lock.specs.Tables.{mode_in, room_in, table_room, KeepsRoom, HasRoom, is_asked}
+use Rattle.title_lock.specs.Tables.{mode_in, room_in, table_room, HasRoom, is_asked}
 use Rattle.title_lock.proofs.ModeLaws.{and_true, bound_none}
 use Rattle.title_lock.proofs.NodeLaws.{same_self, same_true, above_of}
 use Rattle.title_land.proofs.NodeKeys.{node_at}

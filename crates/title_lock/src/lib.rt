@@ -10,8 +10,10 @@ pub mod laws;
 mod least;
 pub mod modes;
 pub mod node_locks;
+pub mod row_locks;
 mod table;
 
 pub use guards::{Access, Entry, Guards, LockFault};
 pub use modes::{Mode, compat, sup};
 pub use node_locks::NodeLocks;
+pub use row_locks::RowLocks;

@@ -1,5 +1,5 @@
 -- The first other examiner in the way is the least.
-use Rattle.std.proofs.Common.{ap, subst, ◌∙◌, sym, refl}
+use Rattle.std.proofs.Common.{subst, ◌∙◌, sym, refl}
 use Rattle.title_lock.proofs.FirstLaws.{Carries, carries_on, carries_least, carries_none}
 use Rattle.title_lock.proofs.holders.search.Goals as goal
 use Rattle.title_lock.proofs.holders.search.Goals.{else-in_way-via-then-in_way+else-other-examiner, else-in_way-via-else-in_way}

@@ -1,5 +1,5 @@
 -- What the examiner holds is no more counted.
-use Rattle.std.proofs.Common.{◌≡◌, ◌∙◌, ap, sym, Option, None}
+use Rattle.std.proofs.Common.{◌∙◌, ap, sym, None}
 use Rattle.title_lock.specs.Holders.{Modes, holder_mode}
 use Rattle.title_lock.proofs.CountLaws.{counted_own, counted_fits, counted_moved}
 use Rattle.title_lock.proofs.holders.Holders.release.Goals as goal

@@ -1,5 +1,5 @@
 -- What is taken is what was prepared, and it had room alone.
-use Rattle.std.proofs.Common.{◌≡◌, ◌∙◌, ap, sym, subst, List, Option, Some, ℕ}
+use Rattle.std.proofs.Common.{◌∙◌, ap, sym, subst, List, Option, Some, ℕ}
 use Rattle.title_land.specs.Depth.{depth}
 use Rattle.title_lock.specs.declared.guards.Entry.{Entry}
 use Rattle.title_lock.specs.Tables.{TableIs}

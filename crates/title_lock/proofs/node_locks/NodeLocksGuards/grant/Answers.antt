@@ -1,9 +1,8 @@
 -- The table with what was prepared is that of the entries with the new one.
-use Rattle.std.proofs.Common.{◌≡◌, ◌∷◌, ◌∙◌, sym, ap, subst, List, Option, Some, None, cond, eqb}
+use Rattle.std.proofs.Common.{◌∷◌, ◌∙◌, sym, ap, subst, List, None, cond, eqb}
 use Rattle.title_land.specs.Depth.{depth}
 use Rattle.std.specs.List.{list_any}
 use Rattle.title_land.specs.declared.node.Node.{Node}
-use Rattle.title_lock.specs.declared.modes.Mode.{Mode}
 use Rattle.title_lock.specs.declared.guards.Entry.{Entry}
 use Rattle.title_lock.specs.Modes.{bound}
 use Rattle.title_lock.specs.Overlaps.{is_post}
@@ -12,7 +11,7 @@ use Rattle.title_lock.specs.Tables.{table_mode, is_asked, TableIs}
 use Rattle.title_lock.specs.Locks.{Locks, granted}
 use Rattle.title_lock.proofs.MeetLaws.{meet_by_covers}
 use Rattle.title_lock.proofs.GiveBack.{table_more}
-use Rattle.title_lock.proofs.KeptLaws.{kept_table, IsFirst, first_waits}
+use Rattle.title_lock.proofs.KeptLaws.{kept_table, first_waits}
 use Rattle.title_lock.proofs.node_locks.NodeLocksGuards.grant.Goals as goal
 
 pub raise_all-requires : goal.raise_all-requires

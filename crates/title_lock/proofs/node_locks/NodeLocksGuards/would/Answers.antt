@@ -2,8 +2,6 @@
 use Rattle.std.proofs.Common.{subst, ap, List}
 use Rattle.title_land.specs.Depth.{depth}
 use Rattle.title_land.specs.declared.node.Node.{Node}
-use Rattle.title_land.specs.declared.tract.Land.{Land}
-use Rattle.title_land.specs.Lands.{IsLand}
 use Rattle.title_lock.specs.declared.guards.Entry.{Entry}
 use Rattle.title_lock.specs.Overlaps.{IsLeast, Stands, is_post}
 use Rattle.title_lock.specs.Tables.{table_mode, clashes_with}

@@ -1,5 +1,5 @@
 -- One node of the cover more.
-use Rattle.std.proofs.Common.{◌<◌, ◌+◌, ◌∙◌, ap, sym, List, None, cond, eqb, length, drop, arith}
+use Rattle.std.proofs.Common.{◌<◌, ◌∙◌, ap, sym, List, None, cond, eqb, length, arith}
 use Rattle.std.proofs.lemmas.List.{drop_all}
 use Rattle.std.proofs.lemmas.Grind.{common_steps}
 use Rattle.title_land.specs.declared.node.Node.{Node}
