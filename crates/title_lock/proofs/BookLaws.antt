@@ -16,7 +16,7 @@ use Rattle.std.specs.Map.{keys_of, values_of, lookup, remove_entry}
 use Rattle.std.specs.BTreeMap.{insert_entry, is_at}
 use Rattle.title_lock.specs.declared.guards.Entry.{Entry}
 use Rattle.title_lock.specs.Overlaps.{without}
-use Rattle.title_lock.specs.Books.{own_keys, IsOneMore}
+use Rattle.title_lock.specs.Books.{own_keys, IsNewest}
 
 -- ---- one entry more
 
@@ -226,47 +226,6 @@ view_without : (xs ys : List (ℕ × Entry)) → reverse (values_of (xs ++ ys)) 
 view_without xs ys = ap (λ (t : List Entry). reverse t) (map-append (λ (p : ℕ × Entry). p.1) xs ys)
     ∙ reverse-append (values_of xs) (values_of ys)
 
--- the entries are those that are left with the last one more
-last_more : (e k : ℕ) (keys : List ℕ) (es : List (ℕ × Entry)) → (l : IsLast e k keys es)
-    → IsOneMore l.entry (reverse (values_of (l.before ++ l.after))) (reverse (values_of es))
-last_more e k keys es l = (
-  reverse (values_of l.after),
-  reverse (values_of l.before),
-  ap (λ (t : List (ℕ × Entry)). reverse (values_of t)) l.whole ∙ view_around k l.entry l.before l.after,
-  view_without l.before l.after,
-)
-
--- r is examiner e's last entry of es, which without it are left, where these keys are left to e
-pub record IsTaken (e : ℕ) (keys : List ℕ) (es left : List (ℕ × Entry)) (r : Option Entry) : Type 0 where
-  pub own : IfSome r (λ x. x.examiner ≡ e)
-  pub taken : (view : List Entry) → reverse (values_of es) ≡ view → IfSome r (λ x. IsOneMore x (reverse (values_of left)) view)
-  pub some : IfNone r ⊥
-  pub keys_are : (f : ℕ) (now : List ℕ) → (f ≡ e → now ≡ keys) → (f ≢ e → now ≡ own_keys f es) → now ≡ own_keys f left
-
-last_taken : (e k : ℕ) (keys : List ℕ) (es : List (ℕ × Entry)) (l : IsLast e k keys es)
-    → IsTaken e keys es (l.before ++ l.after) (Some l.entry)
-last_taken e k keys es l = record {
-  own = l.mine;
-  taken = λ view h. subst (λ (t : List Entry). IsOneMore l.entry (reverse (values_of (l.before ++ l.after))) t) h (last_more e k keys es l);
-  some = tt;
-  keys_are = λ f now mine other. keys_cases e k f keys es l now (eqb f e) refl mine other;
-}
-
--- what there is, nothing is said of where there is none
-pub not_none : (P : Type 0) (r : Option Entry) → IfNone r ⊥ → IfNone r P
-not_none P None h = absurd h
-not_none P (Some x) h = tt
-
--- what a map gives and leaves at an examiner's last key
-pub taken_by : (e k : ℕ) (keys : List ℕ) (es left : List (ℕ × Entry)) (r : Option Entry) → IsStrictlySortedBy nat_cmp (keys_of es)
-    → own_keys e es ≡ keys ++ k ∷ [] →
-    r ≡ lookup (is_at (nat_cmp k)) es → left ≡ remove_entry (is_at (nat_cmp k)) es → IsTaken e keys es left r
-taken_by e k keys es left r sorted last found rest =
-    let l = last_of e k keys es last in
-    subst (λ (o : Option Entry). IsTaken e keys es left o) (sym (found ∙ last_found e k keys es sorted l))
-    (subst (λ (t : List (ℕ × Entry)). IsTaken e keys es t (Some l.entry)) (sym (rest ∙ last_removed e k keys es sorted l))
-    (last_taken e k keys es l))
-
 -- ---- an examiner with no entry
 
 none_head : (b : Bool) (k : ℕ) (xs : List ℕ) → cond b (k ∷ xs) xs ≡ [] → (b ≡ false) × (xs ≡ [])
@@ -285,7 +244,7 @@ turned_cond : {V : Type 0} (b : Bool) (x : V) (xs ys : List V) → reverse_aux x
 turned_cond true x xs ys = refl
 turned_cond false x xs ys = refl
 
-filter_turned : {V : Type 0} (p : V → Bool) (xs ys : List V) → filter p (reverse_aux xs ys) ≡ reverse_aux (filter p xs) (filter p ys)
+pub filter_turned : {V : Type 0} (p : V → Bool) (xs ys : List V) → filter p (reverse_aux xs ys) ≡ reverse_aux (filter p xs) (filter p ys)
 filter_turned p [] ys = refl
 filter_turned p (x ∷ xs) ys = filter_turned p xs (x ∷ ys) ∙ turned_cond (p x) x (filter p xs) (filter p ys)
 
@@ -293,3 +252,47 @@ filter_turned p (x ∷ xs) ys = filter_turned p xs (x ∷ ys) ∙ turned_cond (p
 pub none_gone : (e : ℕ) (es : List (ℕ × Entry)) → own_keys e es ≡ [] → without e (reverse (values_of es)) ≡ reverse (values_of es)
 none_gone e es h = filter_turned (λ (x : Entry). not (eqb x.examiner e)) (values_of es) []
     ∙ ap (λ (t : List Entry). reverse t) (none_of e es h)
+
+-- ---- what is taken
+
+-- the entries are those that are left with the last one more
+last_more : (e k : ℕ) (keys : List ℕ) (es : List (ℕ × Entry)) → (l : IsLast e k keys es)
+    → IsNewest e l.entry (reverse (values_of (l.before ++ l.after))) (reverse (values_of es))
+last_more e k keys es l = (
+  reverse (values_of l.after),
+  reverse (values_of l.before),
+  ap (λ (t : List (ℕ × Entry)). reverse (values_of t)) l.whole ∙ view_around k l.entry l.before l.after,
+  view_without l.before l.after,
+  none_gone e l.after l.none_later,
+)
+
+-- r is examiner e's last entry of es, which without it are left, where these keys are left to e
+pub record IsTaken (e : ℕ) (keys : List ℕ) (es left : List (ℕ × Entry)) (r : Option Entry) : Type 0 where
+  pub own : IfSome r (λ x. x.examiner ≡ e)
+  pub taken : (view : List Entry) → reverse (values_of es) ≡ view → IfSome r (λ x. IsNewest e x (reverse (values_of left)) view)
+  pub some : IfNone r ⊥
+  pub keys_are : (f : ℕ) (now : List ℕ) → (f ≡ e → now ≡ keys) → (f ≢ e → now ≡ own_keys f es) → now ≡ own_keys f left
+
+last_taken : (e k : ℕ) (keys : List ℕ) (es : List (ℕ × Entry)) (l : IsLast e k keys es)
+    → IsTaken e keys es (l.before ++ l.after) (Some l.entry)
+last_taken e k keys es l = record {
+  own = l.mine;
+  taken = λ view h. subst (λ (t : List Entry). IsNewest e l.entry (reverse (values_of (l.before ++ l.after))) t) h (last_more e k keys es l);
+  some = tt;
+  keys_are = λ f now mine other. keys_cases e k f keys es l now (eqb f e) refl mine other;
+}
+
+-- what there is, nothing is said of where there is none
+pub not_none : (P : Type 0) (r : Option Entry) → IfNone r ⊥ → IfNone r P
+not_none P None h = absurd h
+not_none P (Some x) h = tt
+
+-- what a map gives and leaves at an examiner's last key
+pub taken_by : (e k : ℕ) (keys : List ℕ) (es left : List (ℕ × Entry)) (r : Option Entry) → IsStrictlySortedBy nat_cmp (keys_of es)
+    → own_keys e es ≡ keys ++ k ∷ [] →
+    r ≡ lookup (is_at (nat_cmp k)) es → left ≡ remove_entry (is_at (nat_cmp k)) es → IsTaken e keys es left r
+taken_by e k keys es left r sorted last found rest =
+    let l = last_of e k keys es last in
+    subst (λ (o : Option Entry). IsTaken e keys es left o) (sym (found ∙ last_found e k keys es sorted l))
+    (subst (λ (t : List (ℕ × Entry)). IsTaken e keys es t (Some l.entry)) (sym (rest ∙ last_removed e k keys es sorted l))
+    (last_taken e k keys es l))

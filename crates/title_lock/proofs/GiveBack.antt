@@ -14,7 +14,7 @@ use Rattle.title_lock.specs.Modes.{bound, allows}
 use Rattle.title_lock.specs.Overlaps.{Stands, is_post, without}
 use Rattle.title_lock.specs.Asking.{own_mode, above_mode, asked_for, asked, mode_at}
 use Rattle.title_lock.specs.Tables.{table_mode, is_asked, is_asked_by, TableIs}
-use Rattle.title_lock.specs.Books.{IsOneMore}
+use Rattle.title_lock.specs.Books.{IsNewest}
 use Rattle.title_lock.proofs.ModeLaws.{bound_turn}
 use Rattle.title_lock.proofs.Overlap.{MeetByCovers, apart_more, entries_fit}
 
@@ -137,9 +137,9 @@ any_more p x (z ∷ xs) ys = ap (λ (b : Bool). p z || b) (any_more p x xs ys) �
     or_moved false b c = refl
 
 -- what is asked for by an examiner's entry and by the others is what is asked for by all
-pub asked_more : (depth : ℕ) (e : ℕ) (n : Node) (x : Entry) (fewer more : List Entry) → x.examiner ≡ e → IsOneMore x fewer more →
+pub asked_more : (depth : ℕ) (e : ℕ) (n : Node) (x : Entry) (fewer more : List Entry) → x.examiner ≡ e → IsNewest e x fewer more →
     (list_any (is_asked n) (cover_of depth x.tract) || list_any (is_asked_by depth e n) fewer) ≡ list_any (is_asked_by depth e n) more
-asked_more depth e n x fewer more mine (newer, older, was, now) =
+asked_more depth e n x fewer more mine (newer, older, was, now, first) =
     ap (λ (b : Bool). (b && list_any (is_asked n) (cover_of depth x.tract)) || list_any (is_asked_by depth e n) fewer)
     (sym (eq-eqb e x.examiner (sym mine)))
     ∙ ap (λ (t : List Entry). is_asked_by depth e n x || list_any (is_asked_by depth e n) t) now
@@ -154,9 +154,9 @@ without_around e x (z ∷ newer) older mine = ap (λ (t : List Entry). cond (not
     (without_around e x newer older mine)
 
 -- without an examiner's entries it is the same with one of them more
-pub without_more : (e : ℕ) (x : Entry) (fewer more : List Entry) → x.examiner ≡ e → IsOneMore x fewer more
+pub without_more : (e : ℕ) (x : Entry) (fewer more : List Entry) → x.examiner ≡ e → IsNewest e x fewer more
     → without e fewer ≡ without e more
-without_more e x fewer more mine (newer, older, was, now) =
+without_more e x fewer more mine (newer, older, was, now, first) =
     ap (without e) now ∙ sym (without_around e x newer older mine) ∙ ap (without e) (sym was)
 
 asks_cond : (depth : ℕ) (e : ℕ) (n : Node) (b : Bool) (x : Entry) (es : List Entry) → eqb x.examiner e ≡ b

@@ -9,5 +9,8 @@ pub mod GiveBack
 pub mod Granted
 pub mod MeetLaws
 pub mod Standing
-pub mod SharerLaws
-pub mod PlaceLaws
+pub mod FirstLaws
+pub mod LeastLaws
+pub mod CountLaws
+pub mod KeptLaws
+pub mod RowLaws

@@ -13,9 +13,10 @@ use Rattle.title_lock.specs.declared.guards.Entry.{Entry}
 use Rattle.title_lock.specs.Modes.{allows}
 use Rattle.title_lock.specs.Overlaps.{IsLeast, against}
 use Rattle.title_lock.specs.Asking.{own_mode, above_mode, asked_for, asked}
-use Rattle.title_lock.specs.Tables.{table_mode, clashes, clashes_above, clashes_for, clashes_with, TableIs}
+use Rattle.title_lock.specs.Holders.{clashes}
+use Rattle.title_lock.specs.Tables.{table_mode, clashes_above, clashes_for, clashes_with, TableIs}
 use Rattle.title_lock.proofs.NodeLaws.{same_self, same_true, above_of, above_apart}
-use Rattle.title_lock.proofs.PlaceLaws.{least_same}
+use Rattle.title_lock.proofs.LeastLaws.{least_same}
 use Rattle.title_lock.proofs.Overlap.{MeetByCovers, Allow, allow_bound, allow_parts, entries_fit, entries_clear}
 
 -- ---- all nodes of an access

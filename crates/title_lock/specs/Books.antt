@@ -5,6 +5,7 @@ use Rattle.std.specs.Global.{Vec}
 use Rattle.std.specs.Ordering.{nat_cmp}
 use Rattle.std.specs.BTreeMap.{BTreeMap, get, keys, IsOrdered}
 use Rattle.title_lock.specs.declared.guards.Entry.{Entry}
+use Rattle.title_lock.specs.Overlaps.{without}
 
 abbrev pub numbers_in : Option (Vec ℕ) → List ℕ
 numbers_in None = []
@@ -33,6 +34,7 @@ pub record IsBook (entries : BTreeMap ℕ Entry) (numbers : BTreeMap ℕ (Vec �
   pub below : All (λ k. k < next) (keys entries)
   pub own : (e : ℕ) → numbers_of numbers e ≡ own_keys e entries.entries
 
--- the second list is the first with entry x at some place more
-abbrev pub IsOneMore : Entry → List Entry → List Entry → Type 0
-IsOneMore x fewer more = (newer : List Entry) × (older : List Entry) × (more ≡ newer ++ x ∷ older) × (fewer ≡ newer ++ older)
+-- the second list is the first with entry x of examiner e more, before which there is none of that examiner's
+abbrev pub IsNewest : ℕ → Entry → List Entry → List Entry → Type 0
+IsNewest e x fewer more =
+    (newer : List Entry) × (older : List Entry) × (more ≡ newer ++ x ∷ older) × (fewer ≡ newer ++ older) × (without e newer ≡ newer)

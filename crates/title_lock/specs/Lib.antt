@@ -2,7 +2,8 @@ pub mod Modes
 pub mod Overlaps
 pub mod Asking
 pub mod Standing
-pub mod Sharers
-pub mod Places
+pub mod Counts
+pub mod Holders
 pub mod Tables
 pub mod Books
+pub mod Locks

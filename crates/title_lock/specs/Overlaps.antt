@@ -1,5 +1,5 @@
 -- Entries, who is in whose way by cells, and what is left when an examiner gives its locks back.
-use Rattle.std.specs.Prelude.{ℕ, ◌≡◌, ◌≢◌, ◌<◌, Bool, true, false, ◌&&◌, ◌||◌, ◌==◌, List, [], ◌∷◌, Option, Some, None, filter, not}
+use Rattle.std.specs.Prelude.{ℕ, ◌≡◌, ◌≢◌, ◌<◌, Bool, true, false, ◌&&◌, ◌||◌, ◌==◌, nat_lt, if◌then◌else◌, List, [], ◌∷◌, Option, Some, None, filter, not}
 use Rattle.title_land.specs.declared.tract.Land.{Land}
 use Rattle.title_land.specs.Lands.{meets}
 use Rattle.title_lock.specs.declared.guards.Access.{Access}
@@ -25,6 +25,12 @@ against land post f (x ∷ older) = (f == x.examiner && overlap land post x.trac
 abbrev pub IsLeast : (ℕ → Bool) → ℕ → Option ℕ → Type 0
 IsLeast test e None = (f : ℕ) → f ≢ e → test f ≡ false
 IsLeast test e (Some f) = (f ≢ e) × (test f ≡ true) × ((g : ℕ) → g < f → g ≢ e → test g ≡ false)
+
+-- the lesser of two examiners, where there may be none
+abbrev pub least : Option ℕ → Option ℕ → Option ℕ
+least None b = b
+least (Some x) None = Some x
+least (Some x) (Some y) = if nat_lt x y then Some x else Some y
 
 -- the least other examiner in the way of an access of examiner e, if there is one
 abbrev pub Stands : List Entry → ℕ → Land → Bool → Option ℕ → Type 0

@@ -1,22 +1,21 @@
 -- What a table of locks says: who holds each node, and who is in the way of an access by these modes.
-use Rattle.std.specs.Prelude.{ℕ, ◌≡◌, ◌≢◌, ◌==◌, Bool, true, false, not, ◌&&◌, ◌||◌, List, Option, Some, None, is_some}
-use Rattle.std.specs.List.{AllByRecursion, list_any}
+use Rattle.std.specs.Prelude.{ℕ, ◌≡◌, ◌≢◌, ◌==◌, Bool, true, false, ◌&&◌, ◌||◌, List, Option, Some, None, is_some}
+use Rattle.std.specs.List.{list_any}
 use Rattle.std.specs.BTreeMap.{get}
 use Rattle.title_land.specs.declared.node.Node.{Node}
 use Rattle.title_land.specs.Nodes.{same_node, above, is_above}
 use Rattle.title_land.specs.Lands.{cover_of}
 use Rattle.title_land.specs.Orders.{node_cmp}
 use Rattle.title_lock.specs.declared.modes.Mode.{Mode}
-use Rattle.title_lock.specs.declared.place.Place.{Place}
 use Rattle.title_lock.specs.declared.table.Table.{Table}
 use Rattle.title_lock.specs.declared.guards.Entry.{Entry}
 use Rattle.title_lock.specs.Modes.{allows}
 use Rattle.title_lock.specs.Asking.{own_mode, above_mode, mode_at, AreSized}
-use Rattle.title_lock.specs.Places.{place_mode, place_room, is_free}
+use Rattle.title_lock.specs.Holders.{Modes, holder_mode, has_room, is_free, clashes}
 
-abbrev pub mode_in : ℕ → Option Place → Option Mode
+abbrev pub mode_in : ℕ → Option Modes → Option Mode
 mode_in e None = None
-mode_in e (Some p) = place_mode p e
+mode_in e (Some h) = holder_mode h e
 
 -- the mode of examiner e at n
 abbrev pub table_mode : Table → ℕ → Node → Option Mode
@@ -26,9 +25,9 @@ table_mode t e n = mode_in e (get node_cmp t.places n)
 abbrev pub is_placed : Table → Node → Bool
 is_placed t n = is_some (get node_cmp t.places n)
 
-abbrev pub free_in : Option Place → Bool
+abbrev pub free_in : Option Modes → Bool
 free_in None = true
-free_in (Some p) = is_free p
+free_in (Some h) = is_free h
 
 -- nobody holds n, or has room there
 abbrev pub holds_none : Table → Node → Bool
@@ -36,11 +35,7 @@ holds_none t n = free_in (get node_cmp t.places n)
 
 -- ---- who is in the way
 
--- what another examiner holds doesn't let mode m stand beside it
-abbrev pub clashes : Mode → Option Mode → Bool
-clashes m held = not (allows (Some m) held)
-
--- the same at some node of a list, where the other holds this at each node
+-- what another examiner holds at each node doesn't let mode m stand beside it at some node of a list
 abbrev pub clashes_above : Mode → (Node → Option Mode) → List Node → Bool
 clashes_above m held nodes = list_any (λ n. clashes m (held n)) nodes
 
@@ -54,25 +49,21 @@ clashes_with post held cover = list_any (clashes_for post held) cover
 
 -- ---- room
 
-abbrev pub room_in : ℕ → Mode → Option Place → Bool
-room_in e m None = false
-room_in e m (Some p) = place_room p e m
+abbrev pub room_in : ℕ → Option Modes → Bool
+room_in e None = false
+room_in e (Some h) = has_room h e
 
--- examiner e can be given mode m at n without memory
-abbrev pub table_room : Table → ℕ → Mode → Node → Bool
-table_room t e m n = room_in e m (get node_cmp t.places n)
+-- examiner e can be given a mode at n without memory
+abbrev pub table_room : Table → ℕ → Node → Bool
+table_room t e n = room_in e (get node_cmp t.places n)
 
 -- where the first table has room, so has the second
 abbrev pub KeepsRoom : Table → Table → Type 0
-KeepsRoom t u = (e : ℕ) (m : Mode) (n : Node) → table_room t e m n ≡ true → table_room u e m n ≡ true
+KeepsRoom t u = (e : ℕ) (n : Node) → table_room t e n ≡ true → table_room u e n ≡ true
 
--- there is room for mode m at each node above c
-abbrev pub RoomAbove : Table → ℕ → Mode → Node → Type 0
-RoomAbove t e m c = AllByRecursion (λ n. table_room t e m n ≡ true) (above c)
-
--- there is room for what an access asks for the node c of its cover
-abbrev pub RoomFor : Table → ℕ → Bool → Node → Type 0
-RoomFor t e post c = (table_room t e (own_mode post) c ≡ true) × RoomAbove t e (above_mode post) c
+-- examiner e has room at each node that passes a test
+abbrev pub HasRoom : Table → ℕ → (Node → Bool) → Type 0
+HasRoom t e asks = (n : Node) → asks n ≡ true → table_room t e n ≡ true
 
 -- ---- what is held
 

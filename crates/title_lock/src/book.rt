@@ -4,7 +4,7 @@ ghost use Rattle.std.specs.Prelude.{◌≡◌, ◌≢◌, ℕ, true, List, [], �
 ghost use Rattle.std.specs.BTreeMap.{values};
 ghost use Rattle.title_lock.specs.declared.guards.Entry.{Entry};
 ghost use Rattle.title_lock.specs.Overlaps.{without};
-ghost use Rattle.title_lock.specs.Books.{numbers_of, number_room, IsBook, IsOneMore};
+ghost use Rattle.title_lock.specs.Books.{numbers_of, number_room, IsBook, IsNewest};
 
 use crate::guards::Entry;
 use std::alloc::{AllocError, Global};
@@ -56,8 +56,21 @@ fn push_number(numbers: &mut BTreeMap<u32, Vec<u64>>, examiner: u32, number: u64
     }
 }
 
-// Takes out the last of an examiner's numbers, and its place once there is none.
-fn pop_number(numbers: &mut BTreeMap<u32, Vec<u64>>, examiner: u32) -> Option<u64>
+// Takes an examiner's room back where it has no number.
+fn drop_room(numbers: &mut BTreeMap<u32, Vec<u64>>, examiner: u32)
+    ensures numbers { (e : ℕ) → numbers_of numbers.new e ≡ numbers_of numbers.old e }
+{
+    let is_empty = match numbers.get(&examiner) {
+        Some(own) => own.is_empty(),
+        None => false,
+    };
+    if is_empty {
+        numbers.remove(&examiner);
+    }
+}
+
+// Takes out the last of an examiner's numbers.
+fn pop_last(numbers: &mut BTreeMap<u32, Vec<u64>>, examiner: u32) -> Option<u64>
     ensures some { IfSome result (λ number. numbers_of numbers.old examiner ≡ numbers_of numbers.new examiner ++ number ∷ []) }
     ensures none { IfNone result ((numbers_of numbers.old examiner ≡ []) × (numbers_of numbers.new examiner ≡ [])) }
     ensures others { (e : ℕ) → e ≢ examiner → numbers_of numbers.new e ≡ numbers_of numbers.old e }
@@ -65,11 +78,18 @@ fn pop_number(numbers: &mut BTreeMap<u32, Vec<u64>>, examiner: u32) -> Option<u6
     let Some(own) = numbers.get_mut(&examiner) else {
         return None;
     };
-    if let Some(number) = own.pop() {
-        return Some(number);
-    }
-    numbers.remove(&examiner);
-    None
+    own.pop()
+}
+
+// Takes out the last of an examiner's numbers, and its room with the last of all.
+fn pop_number(numbers: &mut BTreeMap<u32, Vec<u64>>, examiner: u32) -> Option<u64>
+    ensures some { IfSome result (λ number. numbers_of numbers.old examiner ≡ numbers_of numbers.new examiner ++ number ∷ []) }
+    ensures none { IfNone result ((numbers_of numbers.old examiner ≡ []) × (numbers_of numbers.new examiner ≡ [])) }
+    ensures others { (e : ℕ) → e ≢ examiner → numbers_of numbers.new e ≡ numbers_of numbers.old e }
+{
+    let number = pop_last(numbers, examiner);
+    drop_room(numbers, examiner);
+    number
 }
 
 impl Book {
@@ -96,7 +116,10 @@ impl Book {
         };
         let examiner = entry.examiner;
         make_room(self.alloc, &mut self.numbers, examiner)?;
-        self.entries.insert(number, entry)?;
+        let Ok(_) = self.entries.insert(number, entry) else {
+            drop_room(&mut self.numbers, examiner);
+            return Err(AllocError);
+        };
         push_number(&mut self.numbers, examiner, number);
         self.next = next;
         Ok(())
@@ -105,7 +128,7 @@ impl Book {
     /// Takes out an examiner's newest entry; `None` where it has none. Takes no memory.
     pub(crate) fn take(&mut self, examiner: u32) -> Option<Entry>
         ensures own { IfSome result (λ x. x.examiner ≡ examiner) }
-        ensures taken { IfSome result (λ x. IsOneMore x self.new self.old) }
+        ensures taken { IfSome result (λ x. IsNewest examiner x self.new self.old) }
         ensures none { IfNone result ((self.new ≡ self.old) × (without examiner self.old ≡ self.old)) }
     {
         let Some(number) = pop_number(&mut self.numbers, examiner) else {

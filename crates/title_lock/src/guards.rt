@@ -1,6 +1,6 @@
 //! Who has asked for which tract, and who is in whose way.
 
-ghost use Rattle.std.specs.Prelude.{◌≡◌, List, [], ◌∷◌, OnOk, OnErr, IfErr};
+ghost use Rattle.std.specs.Prelude.{◌≡◌, List, [], ◌∷◌, Option, Some, None, OnOk, OnErr, IfErr};
 ghost use Rattle.title_land.specs.Depth.{depth};
 ghost use Rattle.title_lock.specs.declared.guards.Entry.{Entry};
 ghost use Rattle.title_lock.specs.Overlaps.{is_post, Stands, RefusedBy, without};
@@ -43,6 +43,9 @@ pub trait Guards {
     /// The entries, the newest first.
     ghost entries: { Self → List Entry };
 
+    /// The entry that there is room for, if one is prepared.
+    ghost prepared: { Self → Option Entry };
+
     /// No entry; takes no memory. What grows later comes from `alloc`.
     fn new(alloc: Global) -> Self
         ensures new { entries result ≡ [] };
@@ -51,6 +54,20 @@ pub trait Guards {
     fn would(&self, examiner: u32, tract: &Tract, access: Access) -> Option<u32>
         ensures would { Stands (entries self.now) examiner tract.now (is_post access) result };
 
+    /// Makes room for an access and adds nothing. `Conflict(f)` exactly where another examiner is in the way, `f` the least
+    /// such; `Memory` only where nobody is. The room lasts until the next call that changes the locks.
+    fn prepare(&mut self, examiner: u32, tract: &Tract, access: Access) -> Result<(), LockFault>
+        ensures stays { entries self.new ≡ entries self.old }
+        ensures prepared { OnOk result
+            (prepared self.new ≡ Some (record { examiner = examiner; tract = tract.now; access = access })) }
+        ensures free { OnOk result (Stands (entries self.old) examiner tract.now (is_post access) None) }
+        ensures fault { IfErr result (RefusedBy (entries self.old) examiner tract.now (is_post access)) };
+
+    /// Adds the entry that was prepared. Takes no memory.
+    fn grant(&mut self, examiner: u32, tract: &Tract, access: Access)
+        requires prepared { prepared self.old ≡ Some (record { examiner = examiner; tract = tract.now; access = access }) }
+        ensures granted { entries self.new ≡ record { examiner = examiner; tract = tract.now; access = access } ∷ entries self.old };
+
     /// Adds an entry. `Conflict(f)` exactly where another examiner is in the way, `f` the least such; `Memory` only
     /// where nobody is. An error leaves the entries as they were.
     fn ask(&mut self, examiner: u32, tract: &Tract, access: Access) -> Result<(), LockFault>
@@ -58,7 +75,12 @@ pub trait Guards {
             (entries self.new ≡ record { examiner = examiner; tract = tract.now; access = access } ∷ entries self.old) }
         ensures free { OnOk result (Stands (entries self.old) examiner tract.now (is_post access) None) }
         ensures err { OnErr result (entries self.new ≡ entries self.old) }
-        ensures fault { IfErr result (RefusedBy (entries self.old) examiner tract.now (is_post access)) };
+        ensures fault { IfErr result (RefusedBy (entries self.old) examiner tract.now (is_post access)) }
+    {
+        self.prepare(examiner, tract, access)?;
+        self.grant(examiner, tract, access);
+        Ok(())
+    }
 
     /// Takes out all entries of an examiner and no other's. Takes no memory.
     fn give_back(&mut self, examiner: u32)

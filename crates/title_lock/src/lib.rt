@@ -3,14 +3,17 @@
 #![tactic(auto)]
 
 mod book;
+mod counts;
 pub mod guards;
+mod holders;
 pub mod laws;
+mod least;
 pub mod modes;
-mod place;
+pub mod node_locks;
 pub mod row_locks;
-mod sharers;
 mod table;
 
 pub use guards::{Access, Entry, Guards, LockFault};
 pub use modes::{Mode, compat, sup};
+pub use node_locks::NodeLocks;
 pub use row_locks::RowLocks;

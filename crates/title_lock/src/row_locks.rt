@@ -1,106 +1,212 @@
-//! Locks as a table of the holders of each node.
+//! Locks as a plain list of entries, for tests to compare with.
 
-ghost use Rattle.std.specs.Prelude.{◌≡◌, ℕ, List, None, ◌==◌, ◌&&◌, if◌then◌else◌};
+ghost use Rattle.std.specs.Prelude.{◌≡◌, ◌&&◌, ◌==◌, if◌then◌else◌, None, List, reverse, filter, not};
 ghost use Rattle.title_land.specs.Depth.{depth};
-ghost use Rattle.std.specs.List.{list_any};
-ghost use Rattle.title_land.specs.declared.node.Node.{Node};
+ghost use Rattle.title_land.specs.Nodes.{same_node, is_above};
+ghost use Rattle.title_land.specs.Lands.{cover_of};
 ghost use Rattle.title_lock.specs.declared.guards.Entry.{Entry};
-ghost use Rattle.title_lock.specs.Overlaps.{without};
-ghost use Rattle.title_lock.specs.Asking.{AllGranted, AreSized};
+ghost use Rattle.title_lock.specs.Overlaps.{is_post, overlap, Stands, IsLeast};
+ghost use Rattle.title_lock.specs.Asking.{asked_for, asked, mode_at, AllGranted, AreSized};
 ghost use Rattle.title_lock.specs.Standing.{StandFree};
-ghost use Rattle.title_lock.specs.Tables.{table_mode, is_asked_by, TableIs};
 
-use crate::book::Book;
 use crate::guards::{Access, Entry, Guards, LockFault};
-use crate::modes::Mode;
-use crate::table::Table;
+use crate::least::least;
+use crate::modes::{Mode, bound};
 use std::alloc::Global;
 use std::marker::Model;
 use title_land::{Node, Tract};
 
-/// Locks by node, which alone decide; the entries stand beside them. A request is decided before anything grows, and
-/// everything grows before a mode is raised, so that a refused one leaves no lock.
+/// Locks as a list of what was granted, the oldest first. Who is in the way is told by the cells of the tracts, with no
+/// mode; a mode is told by what each entry asks for. Each call goes through the whole list.
 #[derive(Drop)]
 pub struct RowLocks {
     alloc: Global,
-    book: Book,
-    table: Table,
+    rows: Vec<Entry>,
+    prepared: Option<Entry>,
 }
 
 impl Model for RowLocks {
-    ghost Value = { List Entry };
+    ghost use Rattle.std.specs.Prelude.{reverse, vec_len, vec_capacity, nat_lt};
+    ghost use Rattle.title_land.specs.Depth.{depth};
+    ghost use Rattle.title_lock.specs.Locks.{Locks, AreRows};
 
-    ghost view = { λ l. l.book };
+    ghost Value = { Locks };
 
-    ghost invariant = { λ l. TableIs depth l.book l.table };
+    ghost view = { λ l. record { entries = reverse l.rows.items; prepared = l.prepared } };
+
+    ghost invariant = { λ l. AreRows depth (reverse l.rows.items) l.prepared (nat_lt (vec_len l.rows) (vec_capacity l.rows)) };
+}
+
+fn is_post(access: Access) -> bool
+    ensures post { result ≡ is_post access }
+{
+    match access {
+        Access::Read => false,
+        Access::Post => true,
+    }
+}
+
+// Whether an access overlaps an entry.
+fn overlaps(row: &Entry, tract: &Tract, access: Access) -> bool
+    ensures overlaps { result ≡ overlap tract.now (is_post access) row.now.tract (is_post row.now.access) }
+{
+    (is_post(access) || is_post(row.access)) && tract.meets(&row.tract)
+}
+
+// The examiner of an entry that is in the way.
+fn way_of(row: &Entry, examiner: u32, tract: &Tract, access: Access) -> Option<u32>
+    ensures way { IsLeast (λ f. f == row.now.examiner && overlap tract.now (is_post access) row.now.tract (is_post row.now.access))
+        examiner result }
+{
+    if row.examiner != examiner && overlaps(row, tract, access) {
+        Some(row.examiner)
+    } else {
+        None
+    }
+}
+
+// The least other examiner in the way of an access.
+fn way(rows: &[Entry], examiner: u32, tract: &Tract, access: Access) -> Option<u32>
+    ensures way { Stands (reverse rows.now) examiner tract.now (is_post access) result }
+{
+    let mut way = None;
+    for row in rows {
+        way = least(way_of(row, examiner, tract, access), way);
+    }
+    way
+}
+
+// Whether the nodes are one.
+fn is_same(node: &Node, other: &Node) -> bool
+    ensures same { result ≡ same_node node.now other.now }
+{
+    other.cmp(node).is_eq()
+}
+
+// Whether a node lies above another.
+fn is_above(node: &Node, other: &Node) -> bool
+    ensures above { result ≡ is_above node.now other.now }
+{
+    match other.parent() {
+        None => false,
+        Some(parent) => is_same(node, &parent) || is_above(node, &parent),
+    }
+}
+
+// What an access asks for at a node, for one node of its cover.
+fn asked_for(access: Access, member: &Node, node: &Node) -> Option<Mode>
+    ensures asked { result ≡ asked_for (is_post access) member.now node.now }
+{
+    let is_post = is_post(access);
+    if is_same(node, member) {
+        Some(if is_post { Mode::X } else { Mode::S })
+    } else if is_above(node, member) {
+        Some(if is_post { Mode::Ix } else { Mode::Is })
+    } else {
+        None
+    }
+}
+
+// What an access asks for at a node.
+fn asked(access: Access, cover: &[Node], node: &Node) -> Option<Mode>
+    ensures asked { result ≡ asked (is_post access) cover.now node.now }
+{
+    match cover {
+        [] => None,
+        [member, more @ ..] => bound(asked_for(access, member, node), asked(access, more, node)),
+    }
+}
+
+// What an entry gives an examiner at a node.
+fn mode_by(row: &Entry, examiner: u32, node: &Node) -> Option<Mode>
+    ensures mode { result ≡ (if examiner == row.now.examiner
+        then asked (is_post row.now.access) (cover_of depth row.now.tract) node.now else None) }
+{
+    if examiner == row.examiner {
+        asked(row.access, row.tract.cover(), node)
+    } else {
+        None
+    }
+}
+
+// The mode of an examiner at a node.
+fn mode_in(rows: &[Entry], examiner: u32, node: &Node) -> Option<Mode>
+    ensures mode { result ≡ mode_at depth (reverse rows.now) examiner node.now }
+{
+    let mut mode = None;
+    for row in rows {
+        mode = bound(mode_by(row, examiner, node), mode);
+    }
+    mode
+}
+
+// Takes out an examiner's entries.
+fn take_out(rows: &mut Vec<Entry>, examiner: u32)
+    ensures rows { rows.new.items ≡ filter (λ x. not (x.examiner == examiner)) rows.old.items }
+{
+    rows.retain(|row| row.examiner != examiner);
 }
 
 impl RowLocks {
     /// The law on modes holds of this table: its entries stand without overlap, each was granted by modes when it came, and
     /// their sets are as large as the grid. It does nothing: its type says so, and a proof may cite it.
     pub fn stand_granted(&self)
-        ensures free { StandFree self.now }
-        ensures granted { AllGranted depth self.now }
-        ensures sized { AreSized depth self.now }
+        ensures free { StandFree self.now.entries }
+        ensures granted { AllGranted depth self.now.entries }
+        ensures sized { AreSized depth self.now.entries }
     {
-        let _ = &self.table;
-    }
-}
-
-/// Takes out an examiner's entries, and the examiner out of the holders of all nodes that they ask for.
-fn give_back_all(table: &mut Table, book: &mut Book, examiner: u32)
-    ensures left { book.new ≡ without examiner book.old }
-    ensures modes { (f : ℕ) → (n : Node) → table_mode table.new f n
-        ≡ (if f == examiner && list_any (is_asked_by depth examiner n) book.old then None else table_mode table.old f n) }
-{
-    while let Some(entry) = book.take(examiner) {
-        table.release_all(examiner, entry.tract.cover());
+        let _ = &self.rows;
     }
 }
 
 impl Guards for RowLocks {
-    ghost entries = { λ l. l };
+    ghost entries = { λ l. l.entries };
+
+    ghost prepared = { λ l. l.prepared };
 
     fn new(alloc: Global) -> RowLocks {
         RowLocks {
             alloc,
-            book: Book::new(alloc),
-            table: Table::new(alloc),
+            rows: Vec::new(alloc),
+            prepared: None,
         }
     }
 
     fn would(&self, examiner: u32, tract: &Tract, access: Access) -> Option<u32> {
-        self.table.ways(examiner, tract.cover(), access)
+        way(&self.rows, examiner, tract, access)
     }
 
-    fn ask(&mut self, examiner: u32, tract: &Tract, access: Access) -> Result<(), LockFault> {
-        if let Some(other) = self.would(examiner, tract, access) {
+    fn prepare(&mut self, examiner: u32, tract: &Tract, access: Access) -> Result<(), LockFault> {
+        self.prepared = None;
+        if let Some(other) = way(&self.rows, examiner, tract, access) {
             return Err(LockFault::Conflict(other));
         }
-        let Ok(copy) = tract.copy(self.alloc) else {
+        let Ok(copy) = Tract::new(self.alloc, tract.land()) else {
             return Err(LockFault::Memory);
         };
-        let cover = tract.cover();
-        let Ok(()) = self.table.make_room_all(examiner, cover, access) else {
+        let Ok(()) = self.rows.reserve(1) else {
             return Err(LockFault::Memory);
         };
-        let entry = Entry {
+        self.prepared = Some(Entry {
             examiner,
             tract: copy,
             access,
-        };
-        let Ok(()) = self.book.push(entry) else {
-            return Err(LockFault::Memory);
-        };
-        self.table.raise_all(examiner, cover, access);
+        });
         Ok(())
     }
 
+    fn grant(&mut self, _examiner: u32, _tract: &Tract, _access: Access) {
+        if let Some(row) = self.prepared.take() {
+            self.rows.push_reserved(row);
+        }
+    }
+
     fn give_back(&mut self, examiner: u32) {
-        give_back_all(&mut self.table, &mut self.book, examiner);
+        self.prepared = None;
+        take_out(&mut self.rows, examiner);
     }
 
     fn mode(&self, examiner: u32, node: &Node) -> Option<Mode> {
-        self.table.mode(examiner, node)
+        mode_in(&self.rows, examiner, node)
     }
 }

@@ -1,27 +1,31 @@
 //! A table of locks: the holders of each node.
 
-ghost use Rattle.std.specs.Prelude.{◌≡◌, ℕ, true, false, None, Some, not, ◌&&◌, ◌==◌, if◌then◌else◌, OnOk};
-ghost use Rattle.std.specs.List.{AllByRecursion, list_any};
+ghost use Rattle.std.specs.Prelude.{◌≡◌, ℕ, true, false, None, Some, ◌&&◌, ◌==◌, if◌then◌else◌, OnOk, slice_index};
+ghost use Rattle.std.specs.List.{list_any};
 ghost use Rattle.title_land.specs.declared.node.Node.{Node};
 ghost use Rattle.title_land.specs.Nodes.{same_node, above, is_above};
 ghost use Rattle.title_lock.specs.Modes.{bound};
 ghost use Rattle.title_lock.specs.Overlaps.{is_post, IsLeast};
 ghost use Rattle.title_lock.specs.Asking.{own_mode, above_mode, asked_for, asked};
-ghost use Rattle.title_lock.specs.Tables.{table_mode, table_room, is_placed, holds_none, clashes, clashes_above, clashes_for, clashes_with};
-ghost use Rattle.title_lock.specs.Tables.{KeepsRoom, RoomAbove, RoomFor, is_asked};
+ghost use Rattle.title_lock.specs.declared.modes.Mode.TheVariants.{Is, Ix, S, Six, X};
+ghost use Rattle.title_lock.specs.Counts.{IsCount};
+ghost use Rattle.title_lock.specs.Holders.{clashes, is_mode};
+ghost use Rattle.title_lock.specs.Tables.{table_mode, table_room, is_placed, holds_none, clashes_above, clashes_for, clashes_with};
+ghost use Rattle.title_lock.specs.Tables.{KeepsRoom, HasRoom, is_asked};
 
 use crate::guards::Access;
+use crate::holders::{Holders, Taken};
+use crate::least::least;
 use crate::modes::Mode;
-use crate::place::{Place, least};
 use std::alloc::{AllocError, Global};
 use std::collections::BTreeMap;
 use title_land::Node;
 
-/// The holders of each node. A node may have a place that nobody holds.
+/// The holders of each node in use.
 #[derive(Drop)]
 pub(crate) struct Table {
     alloc: Global,
-    places: BTreeMap<Node, Place>,
+    places: BTreeMap<Node, Holders>,
 }
 
 /// What an access asks of a node of the cover.
@@ -62,6 +66,20 @@ impl Table {
         match self.places.get(node) {
             Some(place) => place.mode(examiner),
             None => None,
+        }
+    }
+
+    /// How many examiners have each mode at a node, from IS to X.
+    pub(crate) fn counts(&self, node: &Node) -> [u64; 5]
+        ensures is { IsCount (λ e. table_mode self.now e node.now) Is (slice_index result 0) }
+        ensures ix { IsCount (λ e. table_mode self.now e node.now) Ix (slice_index result 1) }
+        ensures s { IsCount (λ e. table_mode self.now e node.now) S (slice_index result 2) }
+        ensures six { IsCount (λ e. table_mode self.now e node.now) Six (slice_index result 3) }
+        ensures x { IsCount (λ e. table_mode self.now e node.now) X (slice_index result 4) }
+    {
+        match self.places.get(node) {
+            Some(place) => place.numbers(),
+            None => [0; 5],
         }
     }
 
@@ -111,69 +129,59 @@ impl Table {
         way
     }
 
-    // Makes room for an examiner in a mode at a node.
-    fn make_room(&mut self, examiner: u32, node: &Node, mode: Mode) -> Result<(), AllocError>
+    // Makes room for an examiner at a node.
+    fn make_room(&mut self, examiner: u32, node: &Node) -> Result<(), AllocError>
         ensures modes { (f : ℕ) → (n : Node) → table_mode self.new f n ≡ table_mode self.old f n }
-        ensures room { OnOk result (table_room self.new examiner mode node.now ≡ true) }
+        ensures room { OnOk result (table_room self.new examiner node.now ≡ true) }
         ensures stays { KeepsRoom self.old self.new }
     {
         if let Some(place) = self.places.get_mut(node) {
-            return place.make_room(examiner, mode);
+            return place.make_room(examiner);
         }
-        let mut place = Place::new(self.alloc);
-        place.make_room(examiner, mode)?;
+        let mut place = Holders::new(self.alloc);
+        place.make_room(examiner)?;
         self.places.insert(*node, place)?;
         Ok(())
     }
 
     // Makes room at all nodes above.
-    fn make_room_above(&mut self, examiner: u32, node: &Node, mode: Mode) -> Result<(), AllocError>
+    fn make_room_above(&mut self, examiner: u32, node: &Node) -> Result<(), AllocError>
         ensures modes { (f : ℕ) → (n : Node) → table_mode self.new f n ≡ table_mode self.old f n }
-        ensures room { OnOk result (RoomAbove self.new examiner mode node.now) }
+        ensures room { OnOk result (HasRoom self.new examiner (λ n. is_above n node.now)) }
         ensures stays { KeepsRoom self.old self.new }
     {
         if let Some(parent) = node.parent() {
-            self.make_room_above(examiner, &parent, mode)?;
-            self.make_room(examiner, &parent, mode)?;
+            self.make_room_above(examiner, &parent)?;
+            self.make_room(examiner, &parent)?;
         }
         Ok(())
     }
 
     // Makes room at a node of the cover and at all above it.
-    fn make_room_for(
-        &mut self,
-        examiner: u32,
-        node: &Node,
-        access: Access,
-    ) -> Result<(), AllocError>
+    fn make_room_for(&mut self, examiner: u32, node: &Node) -> Result<(), AllocError>
         ensures modes { (f : ℕ) → (n : Node) → table_mode self.new f n ≡ table_mode self.old f n }
-        ensures room { OnOk result (RoomFor self.new examiner (is_post access) node.now) }
+        ensures room { OnOk result (HasRoom self.new examiner (λ n. is_asked n node.now)) }
         ensures stays { KeepsRoom self.old self.new }
     {
-        self.make_room_above(examiner, node, above_mode(access))?;
-        self.make_room(examiner, node, own_mode(access))?;
+        self.make_room_above(examiner, node)?;
+        self.make_room(examiner, node)?;
         Ok(())
     }
 
     /// Makes room for what an access asks for. No mode changes, also where memory is refused.
-    pub(crate) fn make_room_all(
-        &mut self,
-        examiner: u32,
-        cover: &[Node],
-        access: Access,
-    ) -> Result<(), AllocError>
+    pub(crate) fn make_room_all(&mut self, examiner: u32, cover: &[Node]) -> Result<(), AllocError>
         ensures modes { (f : ℕ) → (n : Node) → table_mode self.new f n ≡ table_mode self.old f n }
-        ensures room { OnOk result (AllByRecursion (RoomFor self.new examiner (is_post access)) cover.now) }
+        ensures room { OnOk result (HasRoom self.new examiner (λ n. list_any (is_asked n) cover.now)) }
     {
         for node in cover {
-            self.make_room_for(examiner, node, access)?;
+            self.make_room_for(examiner, node)?;
         }
         Ok(())
     }
 
     // Gives an examiner one mode more at a node.
     fn raise(&mut self, examiner: u32, node: &Node, mode: Mode)
-        requires room { table_room self.old examiner mode node.now ≡ true }
+        requires room { table_room self.old examiner node.now ≡ true }
         ensures modes { (f : ℕ) → (n : Node) → table_mode self.new f n
             ≡ bound (table_mode self.old f n) (if f == examiner && same_node n node.now then Some mode else None) }
         ensures stays { KeepsRoom self.old self.new }
@@ -185,7 +193,7 @@ impl Table {
 
     // Gives an examiner a mode at all nodes above, from the whole plant on.
     fn raise_above(&mut self, examiner: u32, node: &Node, mode: Mode)
-        requires room { RoomAbove self.old examiner mode node.now }
+        requires room { HasRoom self.old examiner (λ n. is_above n node.now) }
         ensures modes { (f : ℕ) → (n : Node) → table_mode self.new f n
             ≡ bound (table_mode self.old f n) (if f == examiner && is_above n node.now then Some mode else None) }
         ensures stays { KeepsRoom self.old self.new }
@@ -198,7 +206,7 @@ impl Table {
 
     // Gives an examiner what an access asks for at one node of the cover.
     fn raise_for(&mut self, examiner: u32, node: &Node, access: Access)
-        requires room { RoomFor self.old examiner (is_post access) node.now }
+        requires room { HasRoom self.old examiner (λ n. is_asked n node.now) }
         ensures modes { (f : ℕ) → (n : Node) → table_mode self.new f n
             ≡ bound (table_mode self.old f n) (if f == examiner then asked_for (is_post access) node.now n else None) }
         ensures stays { KeepsRoom self.old self.new }
@@ -209,7 +217,7 @@ impl Table {
 
     /// Gives an examiner what an access asks for, where there is room for it. Takes no memory.
     pub(crate) fn raise_all(&mut self, examiner: u32, cover: &[Node], access: Access)
-        requires room { AllByRecursion (RoomFor self.old examiner (is_post access)) cover.now }
+        requires room { HasRoom self.old examiner (λ n. list_any (is_asked n) cover.now) }
         ensures modes { (f : ℕ) → (n : Node) → table_mode self.new f n
             ≡ bound (table_mode self.old f n) (if f == examiner then asked (is_post access) cover.now n else None) }
     {
@@ -218,47 +226,47 @@ impl Table {
         }
     }
 
-    // Takes an examiner out of a node's holders, and the place with the last of them.
-    fn release(&mut self, examiner: u32, node: &Node)
+    // Takes an examiner's mode or room out of a node's holders, and the node with the last of them.
+    fn take_out(&mut self, examiner: u32, node: &Node, taken: Taken)
         ensures modes { (f : ℕ) → (n : Node) → table_mode self.new f n
-            ≡ (if f == examiner && same_node n node.now then None else table_mode self.old f n) }
+            ≡ (if is_mode taken && f == examiner && same_node n node.now then None else table_mode self.old f n) }
         ensures dropped { holds_none self.new node.now ≡ true → is_placed self.new node.now ≡ false }
     {
         let Some(place) = self.places.get_mut(node) else {
             return;
         };
-        if place.release(examiner) {
+        if place.take_out(examiner, taken) {
             self.places.remove(node);
         }
     }
 
-    // Takes an examiner out of the holders of all nodes above.
-    fn release_above(&mut self, examiner: u32, node: &Node)
+    // The same at all nodes above.
+    fn take_out_above(&mut self, examiner: u32, node: &Node, taken: Taken)
         ensures modes { (f : ℕ) → (n : Node) → table_mode self.new f n
-            ≡ (if f == examiner && is_above n node.now then None else table_mode self.old f n) }
+            ≡ (if is_mode taken && f == examiner && is_above n node.now then None else table_mode self.old f n) }
     {
         if let Some(parent) = node.parent() {
-            self.release(examiner, &parent);
-            self.release_above(examiner, &parent);
+            self.take_out(examiner, &parent, taken);
+            self.take_out_above(examiner, &parent, taken);
         }
     }
 
-    // Takes an examiner out of the holders of a node of the cover and of all above it.
-    fn release_for(&mut self, examiner: u32, node: &Node)
+    // The same at a node of the cover and at all above it.
+    fn take_out_for(&mut self, examiner: u32, node: &Node, taken: Taken)
         ensures modes { (f : ℕ) → (n : Node) → table_mode self.new f n
-            ≡ (if f == examiner && is_asked n node.now then None else table_mode self.old f n) }
+            ≡ (if is_mode taken && f == examiner && is_asked n node.now then None else table_mode self.old f n) }
     {
-        self.release(examiner, node);
-        self.release_above(examiner, node);
+        self.take_out(examiner, node, taken);
+        self.take_out_above(examiner, node, taken);
     }
 
-    /// Takes an examiner out of the holders of what an access asks for. Takes no memory.
-    pub(crate) fn release_all(&mut self, examiner: u32, cover: &[Node])
+    /// Takes an examiner's modes or rooms out of the holders of what an access asks for. Takes no memory.
+    pub(crate) fn take_out_all(&mut self, examiner: u32, cover: &[Node], taken: Taken)
         ensures modes { (f : ℕ) → (n : Node) → table_mode self.new f n
-            ≡ (if f == examiner && list_any (is_asked n) cover.now then None else table_mode self.old f n) }
+            ≡ (if is_mode taken && f == examiner && list_any (is_asked n) cover.now then None else table_mode self.old f n) }
     {
         for node in cover {
-            self.release_for(examiner, node);
+            self.take_out_for(examiner, node, taken);
         }
     }
 }

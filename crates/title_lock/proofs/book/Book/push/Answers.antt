@@ -12,7 +12,7 @@ invariant_of-self-2 c =
     let n = c.self.inside.next in
     let x = c.args.entry in
     let es = c.self.inside.entries.entries in
-    let last = c.in_ok-insert.ensures.entries ∙ insert_last n x es c.self.invariant.below in
+    let last = c.in-Ok.ensures.entries ∙ insert_last n x es c.self.invariant.below in
     record {
       ascending = c.insert.ensures.ordered;
       below = All-same (λ k. k < c.in-Some.next) (keys_of c.insert.new.self.entries) (keys_of es ++ n ∷ [])
@@ -30,6 +30,6 @@ returns-clause-ok c =
     let n = c.self.inside.next in
     let x = c.args.entry in
     let es = c.self.inside.entries.entries in
-    ap (λ (t : List (ℕ × Entry)). reverse (values_of t)) (c.in_ok-insert.ensures.entries ∙ insert_last n x es c.self.invariant.below)
+    ap (λ (t : List (ℕ × Entry)). reverse (values_of t)) (c.in-Ok.ensures.entries ∙ insert_last n x es c.self.invariant.below)
     ∙ view_more n x es
     ∙ ap (λ (t : List Entry). x ∷ t) c.self.view_is

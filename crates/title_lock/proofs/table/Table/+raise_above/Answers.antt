@@ -1,10 +1,11 @@
 -- A mode at the parent and at all above it.
-use Rattle.std.proofs.Common.{◌∙◌, ap, Option, Some, None, cond, ◌&&◌, eqb}
+use Rattle.std.proofs.Common.{rules, ◌∙◌, ap, Option, Some, None, cond, ◌&&◌, eqb}
 use Rattle.title_land.specs.Nodes.{same_node}
 use Rattle.title_lock.specs.declared.modes.Mode.{Mode}
 use Rattle.title_lock.specs.Modes.{bound}
 use Rattle.title_lock.specs.Tables.{table_mode}
 use Rattle.title_lock.proofs.AccessLaws.{none_above, above_join}
+use Rattle.title_lock.proofs.TableLaws.{parent_above, above_parent}
 use Rattle.title_lock.proofs.table.Table.+raise_above.Goals as goal
 
 pub returns-in_default-clause-modes : goal.returns-in_default-clause-modes
@@ -18,3 +19,15 @@ returns-in-Some-clause-modes t c f n =
     (c.raise_above.ensures.modes f n)
     ∙ above_join (eqb f c.args.examiner) c.args.mode (table_mode c.args.self.now f n) c.args.node.now c.in-Some.parent n
     c.in-Some.ensures.parent
+
+pub raise_above-requires : goal.raise_above-requires
+raise_above-requires t c = (
+  search rules,
+  λ n up. c.requires.room n (above_parent c.args.node.now c.in-Some.parent n c.in-Some.ensures.parent up),
+)
+
+pub raise-requires : goal.raise-requires
+raise-requires t c = record {
+  room = c.raise_above.ensures.stays c.args.examiner c.in-Some.parent
+      (c.requires.room c.in-Some.parent (parent_above c.args.node.now c.in-Some.parent c.in-Some.ensures.parent));
+}

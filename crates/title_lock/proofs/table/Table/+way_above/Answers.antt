@@ -2,8 +2,9 @@
 use Rattle.std.proofs.Common.{subst, sym, ℕ, Option, ◌||◌}
 use Rattle.title_land.specs.Nodes.{above}
 use Rattle.title_lock.specs.Overlaps.{IsLeast}
-use Rattle.title_lock.specs.Tables.{table_mode, clashes, clashes_above}
-use Rattle.title_lock.proofs.PlaceLaws.{least_join}
+use Rattle.title_lock.specs.Holders.{clashes}
+use Rattle.title_lock.specs.Tables.{table_mode, clashes_above}
+use Rattle.title_lock.proofs.LeastLaws.{least_join}
 use Rattle.title_lock.proofs.WayLaws.{least_above_child}
 use Rattle.title_lock.proofs.table.Table.+way_above.Goals as goal
 

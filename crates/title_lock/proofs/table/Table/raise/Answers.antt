@@ -1,6 +1,6 @@
 -- One place changes, and it keeps its room.
 use Rattle.std.proofs.Common.{◌∙◌, ap, Some, None, cond, eqb, Option}
-use Rattle.title_lock.specs.declared.place.Place.{Place}
+use Rattle.title_lock.specs.Holders.{Modes}
 use Rattle.title_lock.specs.Modes.{bound}
 use Rattle.title_lock.specs.Tables.{mode_in, room_in}
 use Rattle.title_lock.proofs.TableLaws.{is_found, raised, room_stays}
@@ -13,12 +13,12 @@ returns-in-Some-clause-modes c f =
     let had = c.in-Some.ensures.value in
     raised c.args.self.now.places (c.get_mut.follows.lender w) c.args.node.now (Some w) ((c.get_mut.follows.holds w).3 (is_found _ _ had)).0
     e f c.args.mode
-    (c.raise.ensures.modes f ∙ ap (λ (o : Option Place). bound (mode_in f o) (cond (eqb f e) (Some c.args.mode) None)) had)
+    (c.raise.ensures.modes f ∙ ap (λ (o : Option Modes). bound (mode_in f o) (cond (eqb f e) (Some c.args.mode) None)) had)
 
 pub returns-in-Some-clause-stays : goal.returns-in-Some-clause-stays
-returns-in-Some-clause-stays c f m =
+returns-in-Some-clause-stays c f =
     let w = c.raise.new.self in
     let had = c.in-Some.ensures.value in
     room_stays c.args.self.now.places (c.get_mut.follows.lender w) c.args.node.now (Some w)
-    ((c.get_mut.follows.holds w).3 (is_found _ _ had)).0 f m
-    (λ h. c.raise.ensures.stays f m (ap (room_in f m) had ∙ h))
+    ((c.get_mut.follows.holds w).3 (is_found _ _ had)).0 f
+    (λ h. c.raise.ensures.rooms f ∙ ap (room_in f) had ∙ h)

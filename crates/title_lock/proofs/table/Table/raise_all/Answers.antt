@@ -1,28 +1,30 @@
 -- One node of the cover more.
-use Rattle.std.proofs.Common.{◌<◌, ◌+◌, ◌∙◌, ap, sym, List, None, cond, eqb, length, drop, arith}
+use Rattle.std.proofs.Common.{◌<◌, ◌∙◌, ap, sym, List, None, cond, eqb, length, arith}
 use Rattle.std.proofs.lemmas.List.{drop_all}
 use Rattle.std.proofs.lemmas.Grind.{common_steps}
 use Rattle.title_land.specs.declared.node.Node.{Node}
 use Rattle.title_lock.specs.Modes.{bound}
 use Rattle.title_lock.specs.Overlaps.{is_post}
 use Rattle.title_lock.specs.Asking.{asked}
-use Rattle.title_lock.specs.Tables.{table_mode, RoomFor}
+use Rattle.title_lock.specs.Tables.{table_mode}
 use Rattle.title_lock.proofs.AccessLaws.{rest_join, rest_none}
-use Rattle.title_lock.proofs.TableLaws.{each_from, each_rest, room_for_stays}
+use Rattle.title_lock.proofs.TableLaws.{asked_of_one}
 use Rattle.title_lock.proofs.table.Table.raise_all.Goals as goal
 
 pub loop-node-preserved : goal.loop-node-preserved
 loop-node-preserved c =
     let low : c.loop-node.node-index < length c.args.cover.now = omega arith in
     let e = c.args.examiner in
-    let p = is_post c.args.access in
-    let i = c.loop-node.node-index in
     record {
       modes = λ f n. grind (arith, common_steps, rest_join, c.raise_for.ensures.modes f n, c.loop-node.invariant.modes f n);
-      room = each_from (RoomFor c.loop-node.self e p) (RoomFor c.raise_for.new.self e p) (drop (i + 1) c.args.cover.now)
-          (room_for_stays c.loop-node.self c.raise_for.new.self e p c.raise_for.ensures.stays)
-          (each_rest (RoomFor c.loop-node.self e p) c.args.cover.now i c.node-item.result low c.loop-node.invariant.room);
+      room = λ n asks. c.raise_for.ensures.stays e n (c.loop-node.invariant.room n asks);
     }
+
+pub raise_for-requires : goal.raise_for-requires
+raise_for-requires c = record {
+  room = λ n asks. c.loop-node.invariant.room n
+      (asked_of_one n c.args.cover.now c.loop-node.node-index c.node-item.result c.node-item.is (omega arith) asks);
+}
 
 pub returns : goal.returns
 returns c = record {

@@ -7,6 +7,8 @@ use Rattle.title_lock.specs.Overlaps.{is_post}
 use Rattle.title_lock.specs.Asking.{above_mode}
 use Rattle.title_lock.specs.Tables.{table_mode}
 use Rattle.title_lock.proofs.AccessLaws.{for_join}
+use Rattle.std.proofs.lemmas.Bool.{or_left}
+use Rattle.title_lock.proofs.NodeLaws.{same_self}
 use Rattle.title_lock.proofs.table.Table.raise_for.Goals as goal
 
 pub returns-clause-modes : goal.returns-clause-modes
@@ -22,3 +24,8 @@ returns-clause-modes c f n =
     ∙ ap (λ (m : Mode). bound (bound r (cond (b && is_above n k) (Some (above_mode p)) None)) (cond (b && same_node n k) (Some m) None))
     c.own_mode.ensures.own
     ∙ for_join b p r k n
+
+pub raise-requires : goal.raise-requires
+raise-requires c =
+    let k = c.args.node.now in
+    record { room = c.raise_above.ensures.stays c.args.examiner k (c.requires.room k (or_left (same_node k k) (is_above k k) (same_self k))) }

@@ -4,8 +4,9 @@ use Rattle.title_land.specs.Nodes.{above}
 use Rattle.title_lock.specs.declared.modes.Mode.{Mode}
 use Rattle.title_lock.specs.Overlaps.{is_post, IsLeast}
 use Rattle.title_lock.specs.Asking.{own_mode, above_mode}
-use Rattle.title_lock.specs.Tables.{table_mode, clashes, clashes_above, clashes_for}
-use Rattle.title_lock.proofs.PlaceLaws.{least_join}
+use Rattle.title_lock.specs.Holders.{clashes}
+use Rattle.title_lock.specs.Tables.{table_mode, clashes_above, clashes_for}
+use Rattle.title_lock.proofs.LeastLaws.{least_join}
 use Rattle.title_lock.proofs.table.Table.way_for.Goals as goal
 
 pub returns : goal.returns

@@ -5,7 +5,7 @@ use Rattle.std.proofs.lemmas.List.Folds.{list_any_more}
 use Rattle.title_land.specs.declared.node.Node.{Node}
 use Rattle.title_lock.specs.Overlaps.{is_post, IsLeast}
 use Rattle.title_lock.specs.Tables.{table_mode, clashes_for, clashes_with}
-use Rattle.title_lock.proofs.PlaceLaws.{least_join, least_same}
+use Rattle.title_lock.proofs.LeastLaws.{least_join, least_same}
 use Rattle.title_lock.proofs.table.Table.ways.Goals as goal
 
 pub loop-node-preserved : goal.loop-node-preserved

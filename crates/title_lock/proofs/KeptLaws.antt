@@ -1,0 +1,103 @@
+-- The locks with an access that is prepared, and without.
+use Rattle.std.proofs.Common.{◌≡◌, ◌≤◌, ◌+◌, ℕ, Bool, true, false, cond, not, List, [], ◌∷◌, ◌++◌, length, Option, Some, None, eqb, refl}
+use Rattle.std.proofs.Common.{sym, ap, subst, ◌∙◌, arith}
+use Rattle.std.specs.List.{list_any}
+use Rattle.std.proofs.lemmas.Bool.{eq-eqb}
+use Rattle.title_land.specs.declared.node.Node.{Node}
+use Rattle.title_land.specs.Lands.{cover_of, IsLand}
+use Rattle.title_lock.specs.declared.guards.Entry.{Entry}
+use Rattle.title_lock.specs.declared.table.Table.{Table}
+use Rattle.title_lock.specs.Overlaps.{is_post, Stands, without}
+use Rattle.title_lock.specs.Books.{IsNewest}
+use Rattle.title_lock.specs.Tables.{table_mode, is_asked, HasRoom, TableIs}
+use Rattle.title_lock.specs.Locks.{granted, waiting, IsReady, AreKept}
+
+-- the table tells the modes of the entries, whether or not an access is prepared
+pub kept_table : (depth : ℕ) (p : Option ℕ) (book : List Entry) (t : Table) → AreKept depth p book t → TableIs depth (granted p book) t
+kept_table depth None book t h = h
+kept_table depth (Some e) [] t h = absurd cc
+kept_table depth (Some e) (x ∷ es) t h = h.0
+
+-- where no entry waits, none is prepared
+pub none_waiting : (depth : ℕ) (p : Option ℕ) (book : List Entry) (t : Table) → AreKept depth p book t → waiting p book ≡ None → p ≡ None
+none_waiting depth None book t h none = refl
+none_waiting depth (Some e) [] t h none = absurd cc
+none_waiting depth (Some e) (x ∷ es) t h none = absurd cc
+
+-- a table with the same modes is that of the same entries
+pub table_same : (depth : ℕ) (es : List Entry) (t u : Table) → ((f : ℕ) (n : Node) → table_mode u f n ≡ table_mode t f n)
+    → TableIs depth es t → TableIs depth es u
+table_same depth es t u same are = record {
+  apart = are.apart;
+  sized = are.sized;
+  modes = λ f n. same f n ∙ are.modes f n;
+}
+
+-- the entry that waits stands first in the book, and can be granted
+pub record IsFirst (depth : ℕ) (p : Option ℕ) (book : List Entry) (t : Table) (x : Entry) : Type 0 where
+  pub first : book ≡ x ∷ granted p book
+  pub wide : IsLand depth x.tract
+  pub free : Stands (granted p book) x.examiner x.tract (is_post x.access) None
+  pub room : HasRoom t x.examiner (λ n. list_any (is_asked n) (cover_of depth x.tract))
+
+first_here : (depth : ℕ) (e : ℕ) (x : Entry) (es : List Entry) (t : Table) → IsReady depth e x es t → IsFirst depth (Some e) (x ∷ es) t x
+first_here depth e x es t h = record { first = refl; wide = h.wide; free = h.free; room = h.room }
+
+some_same : (x y : Entry) → Some x ≡ Some y → x ≡ y
+some_same x y h = cc
+
+pub first_waits : (depth : ℕ) (p : Option ℕ) (book : List Entry) (t : Table) (x : Entry) → AreKept depth p book t → waiting p book ≡ Some x
+    → IsFirst depth p book t x
+first_waits depth None book t x h some = absurd cc
+first_waits depth (Some e) [] t x h some = absurd cc
+first_waits depth (Some e) (y ∷ es) t x h some =
+    subst (λ (z : Entry). IsFirst depth (Some e) (y ∷ es) t z) (some_same y x some) (first_here depth e y es t h.1)
+
+-- ---- an examiner's newest entry, where the first is its own
+
+left_cond : (b : Bool) (x : Entry) (es : List Entry) (k : ℕ) → length es ≤ k → length (cond b (x ∷ es) es) ≤ 1 + k
+left_cond true x es k h = omega (arith, h)
+left_cond false x es k h = omega (arith, h)
+
+left_few : (e : ℕ) (es : List Entry) → length (without e es) ≤ length es
+left_few e [] = omega arith
+left_few e (x ∷ es) =
+    let less = left_cond (not (eqb x.examiner e)) x (without e es) (length es) (left_few e es) in
+    omega (arith, less)
+
+-- an examiner's own entry isn't left without it
+pub own_goes : (e : ℕ) (x : Entry) (es : List Entry) → x.examiner ≡ e → without e (x ∷ es) ≡ x ∷ es → ⊥
+own_goes e x es own same =
+    let gone : without e es ≡ x ∷ es =
+    ap (λ (b : Bool). cond b (without e es) (x ∷ without e es)) (sym (eq-eqb x.examiner e own)) ∙ turned (eqb x.examiner e) x (without e es) ∙ same in
+    let few = left_few e es in
+    let long : length (without e es) ≡ length (x ∷ es) = ap (λ (t : List Entry). length t) gone in
+    omega (arith, few, long)
+  where
+    turned : (b : Bool) (x : Entry) (xs : List Entry) → cond b xs (x ∷ xs) ≡ cond (not b) (x ∷ xs) xs
+    turned true x xs = refl
+    turned false x xs = refl
+
+head_same : (x y : Entry) (xs ys : List Entry) → x ∷ xs ≡ y ∷ ys → x ≡ y
+head_same x y xs ys h = cc
+
+tail_same : (x y : Entry) (xs ys : List Entry) → x ∷ xs ≡ y ∷ ys → xs ≡ ys
+tail_same x y xs ys h = cc
+
+first_taken : (e : ℕ) (x y : Entry) (es left newer older : List Entry) → x.examiner ≡ e → x ∷ es ≡ newer ++ y ∷ older → left ≡ newer ++ older
+    → without e newer ≡ newer → left ≡ es
+first_taken e x y es left [] older own was now first = now ∙ sym (tail_same x y es older was)
+first_taken e x y es left (z ∷ newer) older own was now first =
+    absurd (own_goes e z newer (ap (λ (w : Entry). w.examiner) (sym (head_same x z es (newer ++ y ∷ older) was)) ∙ own) first)
+
+-- what is taken of an examiner whose access is prepared is that access
+pub prepared_taken : (depth e : ℕ) (book left : List Entry) (t : Table) (y : Entry) → AreKept depth (Some e) book t → IsNewest e y left book
+    → left ≡ granted (Some e) book
+prepared_taken depth e [] left t y h newest = absurd cc
+prepared_taken depth e (x ∷ es) left t y h (newer, older, was, now, first) =
+    first_taken e x y es left newer older h.1.own was now first
+
+-- something is taken
+pub prepared_some : (depth e : ℕ) (book : List Entry) (t : Table) → AreKept depth (Some e) book t → without e book ≡ book → ⊥
+prepared_some depth e [] t h same = cc
+prepared_some depth e (x ∷ es) t h same = own_goes e x es h.1.own same

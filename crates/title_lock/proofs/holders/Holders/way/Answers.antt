@@ -1,0 +1,15 @@
+-- Where the counts are clear nobody is in the way.
+use Rattle.std.proofs.Common.{◌≡◌, ◌≢◌, ◌∙◌, ℕ, false, ap, sym, subst}
+use Rattle.title_lock.specs.Holders.{Modes, holder_mode, clashes}
+use Rattle.title_lock.proofs.CountLaws.{clear_way}
+use Rattle.title_lock.proofs.holders.Holders.way.Goals as goal
+
+pub returns-then-is_clear : goal.returns-then-is_clear
+returns-then-is_clear c =
+    let e = c.args.examiner in
+    record {
+      way = subst (λ (h : Modes). (f : ℕ) → f ≢ e → clashes c.args.wanted (holder_mode h f) ≡ false) c.self.view_is
+          (clear_way c.self.inside.counts c.self.inside.modes.entries e c.mode.result c.args.wanted c.self.invariant
+          (c.mode.ensures.mode ∙ ap (λ (h : Modes). holder_mode h e) (sym c.self.view_is))
+          (sym c.is_clear.ensures.clear ∙ c.if-is_clear.true));
+    }

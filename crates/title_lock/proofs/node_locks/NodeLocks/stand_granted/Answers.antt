@@ -1,0 +1,25 @@
+-- The modes of any two examiners stand beside each other, and so each entry was granted.
+use Rattle.std.proofs.Common.{subst, ap, List}
+use Rattle.title_land.specs.Depth.{depth}
+use Rattle.title_lock.specs.declared.guards.Entry.{Entry}
+use Rattle.title_lock.specs.Asking.{AllGranted, AreSized}
+use Rattle.title_lock.specs.Standing.{StandFree}
+use Rattle.title_lock.specs.Locks.{Locks, granted}
+use Rattle.title_lock.proofs.KeptLaws.{kept_table}
+use Rattle.title_lock.proofs.Granted.{apart_granted}
+use Rattle.title_lock.proofs.MeetLaws.{meet_by_covers}
+use Rattle.title_lock.proofs.Standing.{granted_free}
+use Rattle.title_lock.proofs.node_locks.NodeLocks.stand_granted.Goals as goal
+
+pub returns : goal.returns
+returns c =
+    let entries = granted c.self.inside.prepared c.self.inside.book in
+    let are = kept_table depth c.self.inside.prepared c.self.inside.book c.self.inside.table c.self.invariant in
+    let view = ap (λ (l : Locks). l.entries) c.self.view_is in
+    let sized = are.sized in
+    let granted_all = apart_granted depth entries (λ e f o n. are.apart e f o n) in
+    record {
+      free = subst (λ (es : List Entry). StandFree es) view (granted_free depth meet_by_covers entries sized granted_all);
+      granted = subst (λ (es : List Entry). AllGranted depth es) view granted_all;
+      sized = subst (λ (es : List Entry). AreSized depth es) view sized;
+    }

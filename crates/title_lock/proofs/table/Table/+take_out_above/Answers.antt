@@ -1,0 +1,16 @@
+-- Nothing at the parent and at all above it.
+use Rattle.std.proofs.Common.{◌∙◌, ap, Option, None, cond, ◌&&◌, eqb}
+use Rattle.title_land.specs.Nodes.{is_above}
+use Rattle.title_lock.specs.declared.modes.Mode.{Mode}
+use Rattle.title_lock.specs.Holders.{is_mode}
+use Rattle.title_lock.specs.Tables.{table_mode}
+use Rattle.title_lock.proofs.AccessLaws.{above_gone}
+use Rattle.title_lock.proofs.table.Table.+take_out_above.Goals as goal
+
+pub returns-in-Some : goal.returns-in-Some
+returns-in-Some t c = record {
+  modes = λ f n.
+      c.take_out_above.ensures.modes f n
+      ∙ ap (λ (r : Option Mode). cond (is_mode c.args.taken && eqb f c.args.examiner && is_above n c.in-Some.parent) None r) (c.take_out.ensures.modes f n)
+      ∙ above_gone (is_mode c.args.taken && eqb f c.args.examiner) (table_mode c.args.self.now f n) c.args.node.now c.in-Some.parent n c.in-Some.ensures.parent;
+}

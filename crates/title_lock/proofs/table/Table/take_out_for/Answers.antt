@@ -1,0 +1,16 @@
+-- Nothing at the node and at all above it.
+use Rattle.std.proofs.Common.{◌∙◌, ap, Option, None, cond, ◌&&◌, eqb}
+use Rattle.title_land.specs.Nodes.{same_node, is_above}
+use Rattle.title_lock.specs.declared.modes.Mode.{Mode}
+use Rattle.title_lock.specs.Holders.{is_mode}
+use Rattle.title_lock.specs.Tables.{table_mode}
+use Rattle.title_lock.proofs.AccessLaws.{gone_join}
+use Rattle.title_lock.proofs.table.Table.take_out_for.Goals as goal
+
+pub returns : goal.returns
+returns c = record {
+  modes = λ f n.
+      c.take_out_above.ensures.modes f n
+      ∙ ap (λ (r : Option Mode). cond (is_mode c.args.taken && eqb f c.args.examiner && is_above n c.args.node.now) None r) (c.take_out.ensures.modes f n)
+      ∙ gone_join (is_mode c.args.taken && eqb f c.args.examiner) (same_node n c.args.node.now) (is_above n c.args.node.now) (table_mode c.args.self.now f n);
+}

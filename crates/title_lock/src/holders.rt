@@ -1,0 +1,225 @@
+//! The holders of one node.
+
+ghost use Rattle.std.specs.Prelude.{◌≡◌, ℕ, true, not, ◌==◌, ◌&&◌, ◌||◌, if◌then◌else◌, Some, None, OnOk, slice_index};
+ghost use Rattle.title_lock.specs.declared.modes.Mode.{Mode};
+ghost use Rattle.title_lock.specs.declared.modes.Mode.TheVariants.{Is, Ix, S, Six, X};
+ghost use Rattle.title_lock.specs.Modes.{bound};
+ghost use Rattle.title_lock.specs.Overlaps.{IsLeast};
+ghost use Rattle.title_lock.specs.Counts.{IsCount};
+ghost use Rattle.title_lock.specs.Holders.{Modes, holder_mode, has_room, is_free, clashes, is_mode, own_part, leaves, is_clear, AreCounted};
+
+use crate::counts::Counts;
+use crate::modes::{Mode, bound, compat};
+use std::alloc::{AllocError, Global};
+use std::collections::BTreeMap;
+use std::marker::Model;
+
+/// What is taken out of a node's holders: an examiner's mode and room, or its room alone where it holds nothing.
+#[derive(Clone, Copy, Debug, PartialEq, Eq, Drop)]
+pub(crate) enum Taken {
+    Mode,
+    Room,
+}
+
+/// The examiners that hold a node, with the mode of each and how many have each mode. One with `None` doesn't hold the
+/// node and has room alone.
+#[derive(Drop)]
+pub(crate) struct Holders {
+    counts: Counts,
+    modes: BTreeMap<u32, Option<Mode>>,
+}
+
+impl Model for Holders {
+    ghost Value = { Modes };
+
+    ghost view = { λ h. h.modes.entries };
+
+    ghost invariant = { λ h. AreCounted h.counts h.modes.entries };
+}
+
+/// Whether what is held doesn't let a mode stand beside it.
+fn clashes(mode: Mode, held: Option<Mode>) -> bool
+    ensures clashes { result ≡ clashes mode held }
+{
+    match held {
+        None => false,
+        Some(held) => !compat(mode, held),
+    }
+}
+
+// How many of those with a mode one examiner is, by what it holds.
+fn own_part(held: Option<Mode>, mode: Mode) -> u64
+    ensures own { result ≡ own_part held mode }
+{
+    match (held, mode) {
+        (Some(Mode::Is), Mode::Is) => 1,
+        (Some(Mode::Ix), Mode::Ix) => 1,
+        (Some(Mode::S), Mode::S) => 1,
+        (Some(Mode::Six), Mode::Six) => 1,
+        (Some(Mode::X), Mode::X) => 1,
+        _ => 0,
+    }
+}
+
+// Whether a mode stands beside the one wanted, or nobody has it but who holds this.
+fn leaves(counts: Counts, own: Option<Mode>, wanted: Mode, mode: Mode) -> bool
+    ensures leaves { result ≡ leaves counts own wanted mode }
+{
+    compat(wanted, mode) || counts.of(mode) <= own_part(own, mode)
+}
+
+// Whether by the counts less its own mode nobody is in the way of who holds this.
+fn is_clear(counts: Counts, own: Option<Mode>, wanted: Mode) -> bool
+    ensures clear { result ≡ is_clear counts own wanted }
+{
+    leaves(counts, own, wanted, Mode::Is)
+        && leaves(counts, own, wanted, Mode::Ix)
+        && leaves(counts, own, wanted, Mode::S)
+        && leaves(counts, own, wanted, Mode::Six)
+        && leaves(counts, own, wanted, Mode::X)
+}
+
+// Looks for the least other examiner whose mode doesn't stand beside the one wanted.
+fn search(modes: &BTreeMap<u32, Option<Mode>>, examiner: u32, wanted: Mode) -> Option<u32>
+    ensures least { IsLeast (λ f. clashes wanted (holder_mode modes.now.entries f)) examiner result }
+{
+    for (other, held) in modes {
+        let in_way = clashes(wanted, *held);
+        if in_way && *other != examiner {
+            return Some(*other);
+        }
+    }
+    None
+}
+
+// Makes room for an examiner.
+fn add_room(modes: &mut BTreeMap<u32, Option<Mode>>, examiner: u32) -> Result<(), AllocError>
+    ensures modes { (e : ℕ) → holder_mode modes.new.entries e ≡ holder_mode modes.old.entries e }
+    ensures room { OnOk result (has_room modes.new.entries examiner ≡ true) }
+    ensures stays { (e : ℕ) → has_room modes.old.entries e ≡ true → has_room modes.new.entries e ≡ true }
+{
+    if !modes.contains_key(&examiner) {
+        modes.insert(examiner, None)?;
+    }
+    Ok(())
+}
+
+// Writes a mode where there is room for it.
+fn write(modes: &mut BTreeMap<u32, Option<Mode>>, examiner: u32, mode: Option<Mode>)
+    requires room { has_room modes.old.entries examiner ≡ true }
+    ensures modes { (e : ℕ) → holder_mode modes.new.entries e ≡ (if e == examiner then mode else holder_mode modes.old.entries e) }
+    ensures rooms { (e : ℕ) → has_room modes.new.entries e ≡ has_room modes.old.entries e }
+{
+    if let Some(held) = modes.get_mut(&examiner) {
+        *held = mode;
+    }
+}
+
+// Takes out an examiner's place.
+fn erase(modes: &mut BTreeMap<u32, Option<Mode>>, examiner: u32)
+    ensures modes { (e : ℕ) → holder_mode modes.new.entries e ≡ (if e == examiner then None else holder_mode modes.old.entries e) }
+    ensures rooms { (e : ℕ) → has_room modes.new.entries e ≡ (not (e == examiner) && has_room modes.old.entries e) }
+{
+    modes.remove(&examiner);
+}
+
+impl Holders {
+    /// Nobody. Takes no memory.
+    pub(crate) fn new(alloc: Global) -> Holders
+        ensures free { (e : ℕ) → holder_mode result e ≡ None }
+    {
+        Holders {
+            counts: Counts::NONE,
+            modes: BTreeMap::new(alloc),
+        }
+    }
+
+    /// The mode of an examiner.
+    pub(crate) fn mode(&self, examiner: u32) -> Option<Mode>
+        ensures mode { result ≡ holder_mode self.now examiner }
+    {
+        match self.modes.get(&examiner) {
+            Some(held) => *held,
+            None => None,
+        }
+    }
+
+    /// How many examiners have each mode, from IS to X.
+    pub(crate) fn numbers(&self) -> [u64; 5]
+        ensures is { IsCount (holder_mode self.now) Is (slice_index result 0) }
+        ensures ix { IsCount (holder_mode self.now) Ix (slice_index result 1) }
+        ensures s { IsCount (holder_mode self.now) S (slice_index result 2) }
+        ensures six { IsCount (holder_mode self.now) Six (slice_index result 3) }
+        ensures x { IsCount (holder_mode self.now) X (slice_index result 4) }
+    {
+        [
+            self.counts.is,
+            self.counts.ix,
+            self.counts.s,
+            self.counts.six,
+            self.counts.x,
+        ]
+    }
+
+    /// The least other examiner whose mode doesn't stand beside the one wanted. The counts tell whether there is one.
+    pub(crate) fn way(&self, examiner: u32, wanted: Mode) -> Option<u32>
+        ensures way { IsLeast (λ f. clashes wanted (holder_mode self.now f)) examiner result }
+    {
+        if is_clear(self.counts, self.mode(examiner), wanted) {
+            return None;
+        }
+        search(&self.modes, examiner, wanted)
+    }
+
+    /// Makes room for an examiner. Nobody's mode changes.
+    pub(crate) fn make_room(&mut self, examiner: u32) -> Result<(), AllocError>
+        ensures modes { (e : ℕ) → holder_mode self.new e ≡ holder_mode self.old e }
+        ensures room { OnOk result (has_room self.new examiner ≡ true) }
+        ensures stays { (e : ℕ) → has_room self.old e ≡ true → has_room self.new e ≡ true }
+    {
+        add_room(&mut self.modes, examiner)
+    }
+
+    /// Gives an examiner one mode more. Takes no memory.
+    pub(crate) fn raise(&mut self, examiner: u32, mode: Mode)
+        requires room { has_room self.old examiner ≡ true }
+        ensures modes { (e : ℕ) → holder_mode self.new e ≡ bound (holder_mode self.old e) (if e == examiner then Some mode else None) }
+        ensures rooms { (e : ℕ) → has_room self.new e ≡ has_room self.old e }
+    {
+        let had = self.mode(examiner);
+        let raised = bound(had, Some(mode));
+        self.counts = self.counts.moved(had, raised);
+        write(&mut self.modes, examiner, raised);
+    }
+
+    // Takes an examiner out.
+    fn release(&mut self, examiner: u32)
+        ensures modes { (e : ℕ) → holder_mode self.new e ≡ (if e == examiner then None else holder_mode self.old e) }
+    {
+        let had = self.mode(examiner);
+        self.counts = self.counts.moved(had, None);
+        erase(&mut self.modes, examiner);
+    }
+
+    // Takes an examiner's room back where it doesn't hold the node.
+    fn drop_room(&mut self, examiner: u32)
+        ensures modes { (e : ℕ) → holder_mode self.new e ≡ holder_mode self.old e }
+    {
+        match self.mode(examiner) {
+            Some(_) => {}
+            None => erase(&mut self.modes, examiner),
+        }
+    }
+
+    /// Takes an examiner's mode or room out, and tells whether nobody holds the node any more or has room.
+    pub(crate) fn take_out(&mut self, examiner: u32, taken: Taken) -> bool
+        ensures modes { (e : ℕ) → holder_mode self.new e ≡ (if is_mode taken && e == examiner then None else holder_mode self.old e) }
+        ensures free { result ≡ is_free self.new }
+    {
+        match taken {
+            Taken::Mode => self.release(examiner),
+            Taken::Room => self.drop_room(examiner),
+        }
+        self.modes.is_empty()
+    }
+}
