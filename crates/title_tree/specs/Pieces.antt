@@ -5,7 +5,7 @@ use Rattle.std.specs.Option.{option_or}
 use Rattle.title_share.specs.Division.{Division, all_to}
 use Rattle.title_land.specs.declared.rectangle.Quarter.{Quarter}
 use Rattle.title_tree.specs.Paths.{begins, rest}
-use Rattle.title_tree.specs.Plots.{Plot, value_at, has_path, plot_at, graft, split, changed, first_refusal, same_division, uniform}
+use Rattle.title_tree.specs.Plots.{Plot, value_at, has_path, plot_at, graft, split, changed, first_refusal, same_division, uniform, fits}
 
 -- a plot with its path
 pub record Piece : Type 0 where
@@ -76,6 +76,10 @@ Short ps n = (p : List Quarter) → In p ps → length p ≤ n
 -- where a path goes on below a piece, the piece has a node there
 abbrev pub Reaches : List Quarter → List Piece → Type 0
 Reaches q ys = (y : Piece) → In y ys → (r : List Quarter) → q ≡ y.path ++ r → has_path r y.plot ≡ true
+
+-- where the first plot and the paths go no deeper than some levels, the second doesn't
+abbrev pub StaysWithin : List (List Quarter) → Plot → Plot → Type 0
+StaysWithin ps t u = (n : ℕ) → Short ps n → fits n t ≡ true → fits n u ≡ true
 
 -- the same content, and a node at each path where there was one
 pub record Refines (t u : Plot) : Type 0 where
