@@ -45,9 +45,7 @@ blocks_apart = (
     | inl e ↦ rw e (refl, refl)
     | inr j ↦ elim j [ inl e ↦ rw e (refl, refl) | inr z ↦ absurd z ]
   ],
-  λ q i. elim i [ inl e ↦ rw e (refl, refl) | inr z ↦ absurd z ],
-  λ q i. absurd i,
-  tt,
+  (λ q i. elim i [ inl e ↦ rw e (refl, refl) | inr z ↦ absurd z ], (λ q i. absurd i, tt)),
 )
 
 own_apart : (levels : ℕ) (ts : List Township) (t : Township) → Disjoint (township_spots levels ts t)

@@ -24,7 +24,7 @@ use Rattle.title_tree_store.specs.Keeping.{content_of}
 use Rattle.title_tree_store.proofs.Places.{tract_has}
 
 -- the owners of a cell from what each estate's tree has
-owners_same : (a b c d e f : Division) → a ≡ d → b ≡ e → c ≡ f
+pub owners_same : (a b c d e f : Division) → a ≡ d → b ≡ e → c ≡ f
     → ◌≡◌ {A = Owners} record { s = a; o = b; m = c } record { s = d; o = e; m = f }
 owners_same a b c d e f x y z = rw (x, y, z) refl
 

@@ -8,3 +8,4 @@ pub mod Keeps
 pub mod Operations
 pub mod Holdings
 pub mod Apart
+pub mod Puts

@@ -109,8 +109,9 @@ restores levels ts ps qs old new next n l out k swap b lent c =
     owners p long true h = owners_same _ _ _ _ _ _ (value p long true h S) (value p long true h O) (value p long true h M)
     owners p long false h = owners_same _ _ _ _ _ _ (value p long false h S) (value p long false h O) (value p long false h M)
 
-pub some_is : {A : Type 0} {N : Type 0} {P : A → Type 0} (o : Option A) (a : A) → o ≡ Some a → MatchOption o N P → P a
-some_is {A} {N} {P} o a e h = subst (λ (x : Option A). MatchOption x N P) e h
+pub some_is : (n : ℕ) (old new : List Lent) (o : Option Lent) (l : Lent) → o ≡ Some l
+    → MatchOption o (IsAbsent n old) (λ x. IsTakenOut n x old new) → IsTakenOut n l old new
+some_is n old new o l e h = subst (λ (y : Option Lent). MatchOption y (IsAbsent n old) (λ x. IsTakenOut n x old new)) e h
 
 pub forget_kept : (levels : ℕ) (ts : List Township) (ps : Estate → Plot) (old new : List Lent) (next n : ℕ) (o : Option Lent)
     → IsOut n (loans_of levels ts old) → MatchOption o (IsAbsent n old) (λ l. IsTakenOut n l old new)

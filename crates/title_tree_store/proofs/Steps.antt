@@ -5,8 +5,9 @@ use Rattle.std.proofs.lemmas.Bool.{cases_Bool, eqb-true, eqb-false}
 use Rattle.title_land.specs.declared.rectangle.Quarter.{Quarter}
 use Rattle.title_land.specs.Nodes.{square}
 use Rattle.title_tree.specs.CellWays.{quarter_in, cell_quarters}
-use Rattle.title_tree.specs.Plots.{Plot}
-use Rattle.title_tree.specs.Pieces.{In, split_all, Refines}
+use Rattle.title_tree.specs.Plots.{Plot, fits}
+use Rattle.title_tree.specs.Pieces.{In, split_all, Refines, StaysWithin}
+use Rattle.title_tree.proofs.Depths.{split_all_fits}
 use Rattle.title_tree.proofs.Swaps.{split_all_reaches}
 use Rattle.title_tree_store.specs.declared.lent.Lent.{Lent}
 use Rattle.title_tree_store.specs.Keeping.{place_of, IsAbsent, IsTakenOut}
@@ -15,6 +16,11 @@ use Rattle.title_tree_store.specs.Keeping.{place_of, IsAbsent, IsTakenOut}
 pub split_stays : {A E : Type 0} (r : Result A E) (ps : List (List Quarter)) (t u : Plot) → u ≡ split_all ps t → OnErr r (Refines t u)
 split_stays (Ok x) ps t u e = tt
 split_stays (Err f) ps t u e = subst (Refines t) (sym e) (split_all_reaches ps t).1
+
+pub split_within : {A E : Type 0} (r : Result A E) (ps : List (List Quarter)) (t u : Plot) → u ≡ split_all ps t
+    → OnErr r (StaysWithin ps t u)
+split_within (Ok x) ps t u e = tt
+split_within (Err f) ps t u e = λ n s k. ap (fits n) e ∙ split_all_fits ps t n s k
 
 pub cell_step : (d levels less : ℕ) (w : List Quarter) (row column : ℕ) (q : Quarter) (c : List Quarter) → levels ≡ suc less
     → q ≡ quarter_in (square d w) row column → c ≡ cell_quarters d less (q ∷ w) row column → c ≡ cell_quarters d levels w row column

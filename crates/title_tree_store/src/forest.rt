@@ -6,7 +6,7 @@ ghost use Rattle.title_instrument.specs.Effect.{holding_effect};
 ghost use Rattle.title_instrument.specs.declared.parts.Estate.TheVariants.{S, O, M};
 ghost use Rattle.title_tree.specs.Changes.{after};
 ghost use Rattle.title_tree.specs.Parts.{piece, ways};
-ghost use Rattle.title_tree.specs.Pieces.{Disjoint, Ready, Refines, paths, swapped, taken, split_all, fresh, refusal_at};
+ghost use Rattle.title_tree.specs.Pieces.{Disjoint, Ready, Refines, StaysWithin, paths, swapped, taken, split_all, fresh, refusal_at};
 ghost use Rattle.title_tree.specs.Plots.{Same, tidied};
 ghost use Rattle.title_tree.specs.Trees.{plot};
 ghost use Rattle.title_tree_store.specs.Forests.{plots, IsChange, IsRefusedIn};
@@ -134,6 +134,9 @@ impl Forest {
         ensures err_s { OnErr result (Refines (plot self.old.s) (plot self.new.s)) }
         ensures err_o { OnErr result (Refines (plot self.old.o) (plot self.new.o)) }
         ensures err_m { OnErr result (Refines (plot self.old.m) (plot self.new.m)) }
+        ensures within_s { OnErr result (StaysWithin (ways paths.now) (plot self.old.s) (plot self.new.s)) }
+        ensures within_o { OnErr result (StaysWithin (ways paths.now) (plot self.old.o) (plot self.new.o)) }
+        ensures within_m { OnErr result (StaysWithin (ways paths.now) (plot self.old.m) (plot self.new.m)) }
     {
         split_each(&mut self.s, alloc, paths)?;
         split_each(&mut self.o, alloc, paths)?;

@@ -8,4 +8,7 @@ mod passing;
 mod refusals;
 mod sheets;
 mod spots;
+pub mod tree_store;
+
+pub use tree_store::{Image, TreeStore};
 
