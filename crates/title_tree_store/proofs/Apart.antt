@@ -158,6 +158,7 @@ nodes_apart levels ts x (n ∷ ns) room once of f order =
   where
     k : (list_all (comes_before n) ns ≡ true) × (are_in_order ns ≡ true)
     k = and_parts (list_all (comes_before n) ns) (are_in_order ns) order
+
     other : (m : Node) → members.In m ns → n ≡ m → ⊥
     other m i e = both_ways (comes_before n n) (before_self n)
         (subst (λ (z : Node). comes_before n z ≡ true) (sym e) (all_at (comes_before n) ns m k.0 i))

@@ -151,6 +151,7 @@ one_holding_is levels ts ps e n room fit of = option_same _ _ one_to_all all_to_
     here : (c : Cell) → members.In c (node_cells depth ts n) → (is_plant_cell depth ts c ≡ true)
         × (pieces.has (spots levels ts n) (cell_path levels ts c) ≡ true)
     here c i = let k = of_node depth ts n c i in (k.1, spots_have levels ts n c room of k.1 ∙ k.0)
+
     one_to_all : (w : Division) → one_holding e (content_of levels ts ps) (node_cells depth ts n) ≡ Some w
         → uniform_at (spots levels ts n) (ps e) ≡ Some w
     one_to_all w h =
@@ -160,14 +161,17 @@ one_holding_is levels ts ps e n room fit of = option_same _ _ one_to_all all_to_
         (λ x l i. let k = node_cell levels ts n x room of l i in
         ap (λ (z : List Quarter). value_at (ps e) z) (sym k.path_is) ∙ sym (cell_holding levels ts ps e k.cell k.plant)
         ∙ one_found e (content_of levels ts ps) (node_cells depth ts n) w k.cell h k.among)
+
     each_has : (w : Division) → uniform_at (spots levels ts n) (ps e) ≡ Some w → (c : Cell) → members.In c (node_cells depth ts n)
         → holding_of e (content_of levels ts ps c) ≡ w
     each_has w h c i =
         let k = here c i in
         cell_holding levels ts ps e c k.0 ∙ uniform_at_held (spots levels ts n) (ps e) w h (cell_path levels ts c) k.1
+
     some_spot : (qs : List (List Quarter)) (w : Division) → uniform_at qs (ps e) ≡ Some w → (p : List Quarter) × In p qs
     some_spot [] w h = absurd cc
     some_spot (q ∷ qs) w h = (q, inl refl)
+
     some_cell : (w : Division) → uniform_at (spots levels ts n) (ps e) ≡ Some w → (c : Cell) × members.In c (node_cells depth ts n)
     some_cell w h =
         let p = some_spot (spots levels ts n) w h in
@@ -179,6 +183,7 @@ one_holding_is levels ts ps e n room fit of = option_same _ _ one_to_all all_to_
         (has_from (spots levels ts n) p.0 (p.0 ++ corner (height levels - length p.0)) p.1
         (begins_append p.0 (corner (height levels - length p.0)))) in
         (k.cell, k.among)
+
     all_to_one : (w : Division) → uniform_at (spots levels ts n) (ps e) ≡ Some w
         → one_holding e (content_of levels ts ps) (node_cells depth ts n) ≡ Some w
     all_to_one w h = go (one_holding e (content_of levels ts ps) (node_cells depth ts n)) refl

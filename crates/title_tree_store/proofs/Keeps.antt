@@ -208,8 +208,10 @@ tracts_clear levels ts x y room of at apart p q i j =
   where
     short : length q ≤ height levels
     short = tract_short levels ts y at q j
+
     r : List Quarter
     r = corner (height levels - length q)
+
     both : begins p q ≡ true → meets x y ≡ true
     both h =
         let long = length-corner (height levels - length q) in
@@ -224,6 +226,7 @@ tracts_clear levels ts x y room of at apart p q i j =
         ∙ has_from (tract_spots levels ts x) p (q ++ r) i (begins_on p q r h) in
         common_meets x y c.cell (sym (tract_has levels ts x c.cell room of c.plant) ∙ first)
         (sym (tract_has levels ts y c.cell room at c.plant) ∙ second)
+
     go : (b : Bool) → begins p q ≡ b → begins p q ≡ false
     go false e = e
     go true e = absurd (true≢false (sym (both e) ∙ apart))
@@ -257,12 +260,16 @@ kept_restored levels ts ps qs old new n number l out last swap k =
   where
     mine : In l old
     mine = subst (λ (z : List Lent). In l z) (sym out.old_is) (in_middle l out.before out.later)
+
     backed : IsBacked levels ts l
     backed = k.backed l mine
+
     at : (x : Lent) → In x old → (e : Estate) → paths (forests.pieces x.trees e) ≡ tract_spots levels ts x.land
     at x i e = same_ways-is _ _ ((k.backed x i).at e)
+
     short : (e : Estate) → Short (paths (forests.pieces l.trees e)) (height levels)
     short e = subst (λ (z : List (List Quarter)). Short z (height levels)) (sym (at l mine e)) (tract_short levels ts l.land backed.within)
+
     clear : (e : Estate) → LaterClear (lending e l) (map (lending e) old)
     clear e x i later p q a b =
         let m = in_mapped (lending e) x old i in
@@ -274,10 +281,12 @@ kept_restored levels ts ps qs old new n number l out last swap k =
         (subst (λ (z : List (List Quarter)). In p z) (at l mine e) a)
         (subst (λ (z : List (List Quarter)). In q z) (at m.0 m.1 e)
         (subst (λ (z : Lending). In q (paths z.pieces)) m.2 b))
+
     others : (e : Estate) (x : Lending) → In x (map (lending e) new) → In x (map (lending e) old) × (x.number ≢ (lending e l).number)
     others e x i =
         let m = in_mapped (lending e) x new i in
-        let j = subst (λ (z : List Lent). In m.0 z) out.new_is m.1 in
-        (subst (λ (z : Lending). In z (map (lending e) old)) (sym m.2)
-        (in_map (lending e) m.0 old (subst (λ (z : List Lent). In m.0 z) (sym out.old_is) (in_more m.0 l out.before out.later j))),
-        λ f. rises_apart l out.before out.later (subst Rises out.old_is k.rises) m.0 j (ap (λ (z : Lending). z.number) (sym m.2) ∙ f))
+        let j = subst (λ (z : List Lent). In m.0 z) out.new_is m.1 in (
+          subst (λ (z : Lending). In z (map (lending e) old)) (sym m.2)
+              (in_map (lending e) m.0 old (subst (λ (z : List Lent). In m.0 z) (sym out.old_is) (in_more m.0 l out.before out.later j))),
+          λ f. rises_apart l out.before out.later (subst Rises out.old_is k.rises) m.0 j (ap (λ (z : Lending). z.number) (sym m.2) ∙ f),
+        )

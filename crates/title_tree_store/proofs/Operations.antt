@@ -38,6 +38,7 @@ opens levels ts ps h c = go (is_plant_cell depth ts c)
   where
     at : (e : Estate) → value_at (ps e) (cell_path levels ts c) ≡ all_to 0
     at e = ap (λ (t : Plot). value_at t (cell_path levels ts c)) (h e)
+
     go : (b : Bool) → cond b (owners_at ps (cell_path levels ts c)) opening_owners ≡ opening_owners
     go true = owners_same _ _ _ _ _ _ (at S) (at O) (at M)
     go false = refl
@@ -90,10 +91,13 @@ restores levels ts ps qs old new next n l out k swap b lent c =
   where
     mine : In l old
     mine = subst (λ (z : List Lent). In l z) (sym out.old_is) (in_middle l out.before out.later)
+
     backed : IsBacked levels ts l
     backed = k.backed l mine
+
     at : (e : Estate) → paths (forests.pieces l.trees e) ≡ tract_spots levels ts l.land
     at e = same_ways-is _ _ (backed.at e)
+
     value : (p : List Quarter) → length p ≡ height levels → (y : Bool) → pieces.has (tract_spots levels ts l.land) p ≡ y → (e : Estate)
         → value_at (qs e) p ≡ cond y (held (forests.pieces l.trees e) p) (value_at (ps e) p)
     value p long y h e =
@@ -104,6 +108,7 @@ restores levels ts ps qs old new next n l out k swap b lent c =
         (subst (λ (z : List (List Quarter)). Short z (length p)) (sym (at e)) short)
         ∙ ap (λ (z : List (List Quarter)). cond (pieces.has z p) (held (forests.pieces l.trees e) p) (value_at (ps e) p)) (at e)
         ∙ ap (λ (x : Bool). cond x (held (forests.pieces l.trees e) p) (value_at (ps e) p)) h
+
     owners : (p : List Quarter) → length p ≡ height levels → (y : Bool) → pieces.has (tract_spots levels ts l.land) p ≡ y
         → owners_at qs p ≡ cond y (held_at (forests.pieces l.trees) p) (owners_at ps p)
     owners p long true h = owners_same _ _ _ _ _ _ (value p long true h S) (value p long true h O) (value p long true h M)

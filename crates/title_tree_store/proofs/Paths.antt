@@ -185,9 +185,10 @@ disjoint_under a (p ∷ ps) d = (apart ps d.0, disjoint_under a ps d.1)
     apart : (qs : List (List Quarter)) → Apart p qs → Apart (a ++ p) (map (λ x. a ++ x) qs)
     apart [] f q i = absurd i
     apart (x ∷ qs) f q i = elim i [
-      | inl e ↦ let k = f x (inl refl) in
-          (ap (λ (z : List Quarter). begins (a ++ p) z) e ∙ begins_under a p x ∙ k.0,
-          ap (λ (z : List Quarter). begins z (a ++ p)) e ∙ begins_under a x p ∙ k.1)
+      | inl e ↦ let k = f x (inl refl) in (
+        ap (λ (z : List Quarter). begins (a ++ p) z) e ∙ begins_under a p x ∙ k.0,
+        ap (λ (z : List Quarter). begins z (a ++ p)) e ∙ begins_under a x p ∙ k.1,
+      )
       | inr j ↦ apart qs (λ z k. f z (inr k)) q j
     ]
 

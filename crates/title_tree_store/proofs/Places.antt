@@ -178,7 +178,7 @@ township_has : (levels : ℕ) (ts : List Township) (t : Township) (c : Cell) →
 township_has levels ts t c room of plant =
     let k = plant_parts ts c plant in
     let whole : cell_path levels ts c
-        ≡ township_path levels ts c.section.township ++ (number_path 3 (c.section.number - 1) ++ cell_way depth c.row c.column) =
+    ≡ township_path levels ts c.section.township ++ (number_path 3 (c.section.number - 1) ++ cell_way depth c.row c.column) =
     append_assoc (township_path levels ts c.section.township) (number_path 3 (c.section.number - 1)) (cell_way depth c.row c.column) in
     equal_tests _ _
     (λ h. subst (λ (u : Township). same_township t u ≡ true)

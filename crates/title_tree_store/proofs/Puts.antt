@@ -25,10 +25,13 @@ use Rattle.title_instrument.specs.Owners.{opening_owners}
 use Rattle.title_store.specs.Plants.{Plant, Failing, IsEachOnce, is_cell_of, failing_or, first_failing, done_or, plant_effect, refused_in}
 use Rattle.title_store.specs.Plants.{refusal_of}
 use Rattle.title_store.specs.Loans.{Loan, IsAmong, AllBelow, IsTaken}
+use Rattle.title_tree.specs.declared.change.Fault.{Fault}
+use Rattle.title_tree.specs.declared.change.Fault.TheVariants as fault
 use Rattle.title_tree.specs.Changes.{why_of, new_or, after}
+use Rattle.title_tree.specs.Faults.{Tells}
 use Rattle.title_tree.specs.Plots.{Plot, value_at, plot_at, changed, fits}
 use Rattle.title_tree.specs.Pieces as pieces
-use Rattle.title_tree.specs.Pieces.{In, Piece, Disjoint, Ready, Short, paths, held, swapped, taken, split_all, fresh, refusal_at}
+use Rattle.title_tree.specs.Pieces.{In, Piece, Disjoint, Ready, Short, paths, held, swapped, taken, split_all, fresh, refusal_at, Refines, StaysWithin}
 use Rattle.title_tree.specs.Lendings.{Lending, Keeps}
 use Rattle.title_tree.specs.Paths.{rest}
 use Rattle.title_tree.proofs.Beginnings.{begins_is}
@@ -46,7 +49,7 @@ use Rattle.title_tree_store.proofs.Places.{CellAt, in_tract, tract_has, length-c
 use Rattle.title_tree_store.proofs.Paths.{has_in}
 use Rattle.title_tree_store.proofs.Contents.{owners_same, content_changes}
 use Rattle.title_tree_store.proofs.Images.{in_map, in_last, among_in, map_push, rises_more}
-use Rattle.title_tree_store.proofs.Keeps.{same_ways-self, tract_short, fits_swapped, taken_fit, each}
+use Rattle.title_tree_store.proofs.Keeps.{same_ways-self, tract_short, fits_swapped, taken_fit, kept_refined}
 use Rattle.title_tree_store.proofs.Apart.{tract_apart}
 
 -- the steps of a put in each estate's tree: what was made, the tree quartered, the exchange, the image
@@ -100,12 +103,15 @@ kept_put levels ts x i old quartered new xs lent l n next once of number land mo
   where
     short : (e : Estate) → Short (paths (xs e)) (height levels)
     short e = subst (λ (z : List (List Quarter)). Short z (height levels)) (sym (image_paths i _ e _ _ _ _ _ (put e)).0) (tract_short levels ts x of)
+
     made_fit : (e : Estate) → PiecesFit (height levels) (xs e)
     made_fit e = subst (PiecesFit (height levels)) (sym (put e).made.1)
         (fresh_fit (height levels) (after (holding_effect i e)) (tract_spots levels ts x) (old e) (k.fit e))
+
     quartered_fit : (e : Estate) → fits (height levels) (quartered e) ≡ true
     quartered_fit e = ap (fits (height levels)) (put e).split
         ∙ split_all_fits (tract_spots levels ts x) (old e) (height levels) (tract_short levels ts x of) (k.fit e)
+
     mine : IsBacked levels ts l
     mine = record {
       within = ap (is_in_plant ts) land ∙ of;
@@ -213,6 +219,7 @@ put_shows levels ts x i old quartered new xs ys room once of put c =
         of (put e) (length-cell_path levels ts y)
         ∙ ap (λ (z : Bool). cond z (after (holding_effect i e) (value_at (old e) (cell_path levels ts y)))
         (value_at (old e) (cell_path levels ts y))) h
+
     owners : (y : Cell) → is_plant_cell depth ts y ≡ true → (b : Bool) → pieces.has (tract_spots levels ts x) (cell_path levels ts y) ≡ b
         → owners_at new (cell_path levels ts y)
         ≡ cond b (done_or (content_of levels ts old y) (cell_effect i (content_of levels ts old y))) (owners_at old (cell_path levels ts y))
@@ -338,3 +345,36 @@ some_cell_fails levels ts x i ps cells e rule room of fit listed refusal none =
     let bad = ap (λ (z : List Quarter). why_of (holding_effect i e (value_at (ps e) z))) path_is ∙ c.3 in
     let clash : None ≡ Some rule = sym ok ∙ bad in
     absurd cc
+
+-- ---- the steps, as the code takes them
+
+pub put_steps : (i : Instrument ℕ) (e : Estate) (t u v : Plot) (xs ys : List Piece) (qs rs ps : List (List Quarter)) → qs ≡ ps → rs ≡ ps
+    → IsChange i e qs t xs → u ≡ split_all rs t → v ≡ swapped xs u → ys ≡ taken xs u → IsPut i ps e t u v xs ys
+put_steps i e t u v xs ys qs rs ps f g made split exchanged image = record {
+  made = subst (λ (z : List (List Quarter)). IsChange i e z t xs) f made;
+  split = split ∙ ap (λ (z : List (List Quarter)). split_all z t) g;
+  exchanged = exchanged;
+  image = image;
+}
+
+pub put_allowed : (levels : ℕ) (ts : List Township) (x : Land) (i : Instrument ℕ) (e : Estate) (t u : Plot) (xs : List Piece)
+    (lent : List Lent) (n : ℕ) (ps : Estate → Plot) (qs rs : List (List Quarter)) → qs ≡ tract_spots levels ts x → rs ≡ tract_spots levels ts x
+    → IsEachOnce ts → is_in_plant ts x ≡ true → IsChange i e qs t xs → u ≡ split_all rs t → IsKept levels ts ps lent n
+    → Disjoint (paths xs) × Ready (paths xs) u
+put_allowed levels ts x i e t u xs lent n ps qs rs f g once of made split k =
+    put_goes levels ts x i e t u xs lent n ps once of (subst (λ (z : List (List Quarter)). IsChange i e z t xs) f made)
+    (split ∙ ap (λ (z : List (List Quarter)). split_all z t) g) k
+
+-- trees that were quartered in part
+pub kept_stopped : (levels : ℕ) (ts : List Township) (x : Land) (old new : Estate → Plot) (lent less : List Lent) (n : ℕ)
+    (rs : List (List Quarter)) → rs ≡ tract_spots levels ts x → is_in_plant ts x ≡ true → less ≡ lent
+    → ((e : Estate) → Refines (old e) (new e)) → ((e : Estate) → StaysWithin rs (old e) (new e))
+    → IsKept levels ts old lent n → IsKept levels ts new less n
+kept_stopped levels ts x old new lent less n rs g of same refines within k =
+    subst (λ (z : List Lent). IsKept levels ts new z n) (sym same)
+    (kept_refined levels ts old new lent n refines
+    (λ e. within e (height levels) (subst (λ (z : List (List Quarter)). Short z (height levels)) (sym g) (tract_short levels ts x of)) (k.fit e)) k)
+
+-- the rule that a fault tells
+pub told : (f : Fault Rule) (rule : Rule) (o : Option Rule) → f ≡ fault.Refused rule → Tells f o → o ≡ Some rule
+told f rule o e h = subst (λ (z : Fault Rule). Tells z o) e h

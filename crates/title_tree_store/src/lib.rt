@@ -11,4 +11,3 @@ mod spots;
 pub mod tree_store;
 
 pub use tree_store::{Image, TreeStore};
-

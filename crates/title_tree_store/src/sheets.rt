@@ -85,7 +85,16 @@ fn add_sheet(
         return Ok(());
     }
     for child in &children_of(alloc, townships, node)? {
-        add_sheet(alloc, tree, levels, townships, below - 1, estate, *child, rows)?;
+        add_sheet(
+            alloc,
+            tree,
+            levels,
+            townships,
+            below - 1,
+            estate,
+            *child,
+            rows,
+        )?;
     }
     Ok(())
 }

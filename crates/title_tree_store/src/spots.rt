@@ -144,7 +144,12 @@ fn add_township(
     let path = township_path(alloc, levels, townships, township)?;
     add_block(alloc, &path, &[Quarter::Northeast], paths)?;
     add_block(alloc, &path, &[Quarter::Northwest], paths)?;
-    add_block(alloc, &path, &[Quarter::Southwest, Quarter::Northeast], paths)
+    add_block(
+        alloc,
+        &path,
+        &[Quarter::Southwest, Quarter::Northeast],
+        paths,
+    )
 }
 
 // Adds the paths of all townships of the second list.

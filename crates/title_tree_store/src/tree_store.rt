@@ -94,14 +94,25 @@ impl Store for TreeStore {
                 self.forest.split_each(self.alloc, &paths)?;
                 self.forest.exchange(&mut trees);
                 let land = tract.land();
-                self.lent.push_reserved(Lent { number, land, trees });
+                self.lent.push_reserved(Lent {
+                    number,
+                    land,
+                    trees,
+                });
                 self.next = next;
                 Ok(Put::Done(Image { number }))
             }
             Err(Fault::Memory) => Err(AllocError),
             Err(Fault::Refused(_)) => {
                 let cells = cells_of(self.alloc, &self.townships, tract)?;
-                let first = first_failing(self.alloc, self.levels, &self.townships, &self.forest, &cells, instrument)?;
+                let first = first_failing(
+                    self.alloc,
+                    self.levels,
+                    &self.townships,
+                    &self.forest,
+                    &cells,
+                    instrument,
+                )?;
                 let Some((rule, estate, cell)) = first else {
                     unreachable!()
                 };
@@ -123,7 +134,15 @@ impl Store for TreeStore {
         let mut rows = Vec::new(alloc);
         for estate in [Estate::S, Estate::O, Estate::M] {
             let tree = self.forest.of(estate);
-            add_estate(alloc, tree, self.levels, &self.townships, estate, tract, &mut rows)?;
+            add_estate(
+                alloc,
+                tree,
+                self.levels,
+                &self.townships,
+                estate,
+                tract,
+                &mut rows,
+            )?;
         }
         Ok(rows)
     }

@@ -20,5 +20,7 @@ returns c =
     c.place_of-place.ensures.place ∙ ap (λ (xs : List Lent). place_of c.args.number xs) c.deref.ensures.value in
     let below : c.place_of-place.result < length c.args.lent.now.items =
     grind (arith, common_steps, c.place_of-place.ensures.bound, c.if-place-len.false, c.deref.ensures.value, c.len.ensures) in
-    record { taken = taken_out c.args.number c.args.lent.now.items c.remove.new.self.items c.place_of-place.result c.remove.result
-        place below c.remove.ensures.value c.remove.ensures.by_index.2 }
+    record {
+      taken = taken_out c.args.number c.args.lent.now.items c.remove.new.self.items c.place_of-place.result c.remove.result
+          place below c.remove.ensures.value c.remove.ensures.by_index.2;
+    }
