@@ -1,5 +1,7 @@
 -- How deep plots are after grafts, splits and changes.
 use Rattle.std.proofs.Common.{◌≡◌, ℕ, zero, suc, ◌+◌, ◌≤◌, Bool, true, false, ◌&&◌, List, [], ◌∷◌, length, refl, sym, ap, subst, ◌∙◌, arith}
+use Rattle.std.proofs.Common.{inl, inr, Result, Ok, Err, OnErr}
+use Rattle.title_tree.specs.Pieces.{Short, StaysWithin, split_all}
 use Rattle.std.proofs.lemmas.Bool.{and_from}
 use Rattle.title_share.specs.Division.{Division}
 use Rattle.title_land.specs.declared.rectangle.Quarter.{Quarter}
@@ -82,3 +84,19 @@ fits_tidied (suc m) (Four a b c d) f =
     let k = four_all (fits m a) (fits m b) (fits m c) (fits m d) f in
     fits_joined _ (suc m) (tidied a) (tidied b) (tidied c) (tidied d) refl
     (all_four _ _ _ _ (fits_tidied m a k.0) (fits_tidied m b k.1) (fits_tidied m c k.2) (fits_tidied m d k.3))
+
+-- what the rest of some splits keeps within the levels after the first, all of them do
+pub within_split : {A E : Type 0} (r : Result A E) (p : List Quarter) (ps qs : List (List Quarter)) (t u v : Plot) → qs ≡ p ∷ ps
+    → u ≡ split p t → OnErr r (StaysWithin ps u v) → OnErr r (StaysWithin qs t v)
+within_split (Ok x) p ps qs t u v l e h = tt
+within_split (Err f) p ps qs t u v l e h = λ n s k.
+    let short = subst (λ (z : List (List Quarter)). Short z n) l s in
+    h n (λ q i. short q (inr i)) (ap (fits n) e ∙ fits_split n p t (short p (inl refl)) k)
+
+pub within_same : {A E : Type 0} (r : Result A E) (ps : List (List Quarter)) (t u : Plot) → u ≡ t → OnErr r (StaysWithin ps t u)
+within_same (Ok x) ps t u e = tt
+within_same (Err f) ps t u e = λ n s k. ap (fits n) e ∙ k
+
+pub split_all_fits : (ps : List (List Quarter)) (t : Plot) → StaysWithin ps t (split_all ps t)
+split_all_fits [] t n s k = k
+split_all_fits (p ∷ ps) t n s k = split_all_fits ps (split p t) n (λ q i. s q (inr i)) (fits_split n p t (s p (inl refl)) k)

@@ -1,7 +1,8 @@
 -- Paths in a tree of quarters, the outermost quarter first.
-use Rattle.std.specs.Prelude.{Bool, true, false, ◌&&◌, List, [], ◌∷◌, reverse}
+use Rattle.std.specs.Prelude.{ℕ, zero, suc, ◌/◌, ◌%◌, Bool, true, false, ◌&&◌, List, [], ◌∷◌, ◌++◌, reverse}
 use Rattle.title_land.specs.declared.rectangle.Quarter.{Quarter}
 use Rattle.title_land.specs.Nodes.{same_quarter}
+use Rattle.title_land.specs.Paths.{quarter_at}
 
 -- the path of a square that is named by its quarters, the innermost first
 abbrev pub way : List Quarter → List Quarter
@@ -18,3 +19,8 @@ abbrev pub rest : List Quarter → List Quarter → List Quarter
 rest [] c = c
 rest (q ∷ p) [] = []
 rest (q ∷ p) (x ∷ c) = rest p c
+
+-- the path of the square of a number among the 4 ^ levels that lie so many levels below
+abbrev pub number_path : ℕ → ℕ → List Quarter
+number_path zero n = []
+number_path (suc levels) n = number_path levels (n / 4) ++ quarter_at (n % 4) ∷ []

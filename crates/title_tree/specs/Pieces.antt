@@ -1,11 +1,11 @@
 -- Plots that are to stand at paths of another plot, or that stood there.
 use Rattle.std.specs.Prelude.{◌≡◌, ℕ, ◌≤◌, Bool, true, false, cond, ◌||◌, ◌⊎◌, List, [], ◌∷◌, ◌++◌, length}
-use Rattle.std.specs.Prelude.{Option, None, Result}
+use Rattle.std.specs.Prelude.{Option, Some, None, Result}
 use Rattle.std.specs.Option.{option_or}
 use Rattle.title_share.specs.Division.{Division, all_to}
 use Rattle.title_land.specs.declared.rectangle.Quarter.{Quarter}
 use Rattle.title_tree.specs.Paths.{begins, rest}
-use Rattle.title_tree.specs.Plots.{Plot, value_at, has_path, plot_at, graft, split, changed, first_refusal}
+use Rattle.title_tree.specs.Plots.{Plot, value_at, has_path, plot_at, graft, split, changed, first_refusal, same_division, uniform, fits}
 
 -- a plot with its path
 pub record Piece : Type 0 where
@@ -77,7 +77,23 @@ Short ps n = (p : List Quarter) → In p ps → length p ≤ n
 abbrev pub Reaches : List Quarter → List Piece → Type 0
 Reaches q ys = (y : Piece) → In y ys → (r : List Quarter) → q ≡ y.path ++ r → has_path r y.plot ≡ true
 
+-- where the first plot and the paths go no deeper than some levels, the second doesn't
+abbrev pub StaysWithin : List (List Quarter) → Plot → Plot → Type 0
+StaysWithin ps t u = (n : ℕ) → Short ps n → fits n t ≡ true → fits n u ≡ true
+
 -- the same content, and a node at each path where there was one
 pub record Refines (t u : Plot) : Type 0 where
   pub content : (c : List Quarter) → value_at u c ≡ value_at t c
   pub paths : (q : List Quarter) → has_path q t ≡ true → has_path q u ≡ true
+
+-- the division, where another is the same
+abbrev pub both_have : Option Division → Option Division → Option Division
+both_have None other = None
+both_have (Some held) None = None
+both_have (Some held) (Some other) = cond (same_division held other) (Some held) None
+
+-- the one division of all leaves at the paths
+abbrev pub uniform_at : List (List Quarter) → Plot → Option Division
+uniform_at [] t = None
+uniform_at (p ∷ []) t = uniform (plot_at p t)
+uniform_at (p ∷ q ∷ ps) t = both_have (uniform (plot_at p t)) (uniform_at (q ∷ ps) t)

@@ -1,41 +1,40 @@
-//! Trees with the squares where they belong.
+//! Trees with the paths to where they belong.
 
 ghost use Rattle.std.specs.Prelude.{◌≡◌, ◌++◌, ◌∷◌, [], true, None, map, OnOk, OnErr, IfErr};
+ghost use Rattle.std.specs.Option.{option_map};
 ghost use Rattle.title_tree.specs.Changes.{after};
 ghost use Rattle.title_tree.specs.Faults.{Tells};
-ghost use Rattle.title_tree.specs.Paths.{way};
-ghost use Rattle.title_tree.specs.Parts.{piece};
-ghost use Rattle.title_tree.specs.Pieces.{Disjoint, Ready, Refines, paths, swapped, taken, split_all, fresh, refusal_at};
+ghost use Rattle.title_tree.specs.Parts.{piece, ways};
+ghost use Rattle.title_tree.specs.Pieces.{Disjoint, Ready, Refines, StaysWithin, paths, swapped, taken, split_all, fresh, refusal_at, uniform_at};
 ghost use Rattle.title_tree.specs.Plots.{has_path, plot_at, graft, split};
 ghost use Rattle.title_tree.specs.Trees.{plot};
 
 use crate::change::{Change, Fault};
-use crate::path::Path;
-use crate::tree::Tree;
+use crate::tree::{Tree, is_same};
 use std::alloc::{AllocError, Global};
-use title_land::Within;
+use title_land::Quarter;
+use title_share::Holding;
 
-/// A tree that stood at a square of a section, or is to stand there.
+/// A tree that stood at a path of another, the outermost quarter first, or is to stand there.
 #[derive(Drop)]
 pub struct Part {
-    pub square: Within,
+    pub path: Vec<Quarter>,
     pub tree: Tree,
 }
 
 impl Part {
-    /// Changes places with what stands at its square. Takes no memory.
+    /// Changes places with what stands at its path. Takes no memory.
     pub fn exchange(&mut self, root: &mut Tree)
-        requires there { has_path (way self.old.square) (plot root.old) ≡ true }
-        ensures square { self.new.square ≡ self.old.square }
-        ensures tree { plot self.new.tree ≡ plot_at (way self.old.square) (plot root.old) }
-        ensures root { plot root.new ≡ graft (way self.old.square) (plot self.old.tree) (plot root.old) }
+        requires there { has_path self.old.path.items (plot root.old) ≡ true }
+        ensures path { self.new.path ≡ self.old.path }
+        ensures tree { plot self.new.tree ≡ plot_at self.old.path.items (plot root.old) }
+        ensures root { plot root.new ≡ graft self.old.path.items (plot self.old.tree) (plot root.old) }
     {
-        let path = Path::to(self.square);
-        root.exchange(path.as_slice(), &mut self.tree);
+        root.exchange(self.path.as_slice(), &mut self.tree);
     }
 }
 
-/// Each part in turn changes places with what stands at its square: the parts then are what stood there. Takes no memory.
+/// Each part in turn changes places with what stands at its path: the parts then are what stood there. Takes no memory.
 pub fn exchange_all(root: &mut Tree, parts: &mut [Part])
     requires disjoint { Disjoint (paths (map piece parts.old)) }
     requires ready { Ready (paths (map piece parts.old)) (plot root.old) }
@@ -48,49 +47,71 @@ pub fn exchange_all(root: &mut Tree, parts: &mut [Part])
     }
 }
 
-/// Adds what stands at each square, changed, to parts; the tree doesn't change. Refused with the reason of the first leaf
-/// that refuses, and then parts have been added for some squares before it.
+/// Adds what stands at each path, changed, to parts; the tree doesn't change. Refused with the reason of the first leaf
+/// that refuses, and then parts have been added for some paths before it.
 pub fn add_changed<C: Change>(
     alloc: Global,
     root: &Tree,
-    squares: &[Within],
+    paths: &[Vec<Quarter>],
     change: &mut C,
     parts: &mut Vec<Part>,
 ) -> Result<(), Fault<C::Refusal>>
-    ensures none { OnOk result (refusal_at (C.effect change.old) (map way squares.now) (plot root.now) ≡ None) }
+    ensures none { OnOk result (refusal_at (C.effect change.old) (ways paths.now) (plot root.now) ≡ None) }
     ensures new { OnOk result (map piece parts.new.items ≡ map piece parts.old.items
-        ++ fresh (after (C.effect change.old)) (map way squares.now) (plot root.now)) }
-    ensures why { IfErr result (λ fault. Tells fault (refusal_at (C.effect change.old) (map way squares.now) (plot root.now))) }
+        ++ fresh (after (C.effect change.old)) (ways paths.now) (plot root.now)) }
+    ensures why { IfErr result (λ fault. Tells fault (refusal_at (C.effect change.old) (ways paths.now) (plot root.now))) }
     ensures same { C.effect change.new ≡ C.effect change.old }
 {
-    let Some((square, rest)) = squares.split_first() else {
+    let Some((path, rest)) = paths.split_first() else {
         return Ok(());
     };
-    let path = Path::to(*square);
     let tree = root.at(path.as_slice()).changed(alloc, change)?;
-    push_part(parts, *square, tree)?;
+    push_part(alloc, parts, path.as_slice(), tree)?;
     add_changed(alloc, root, rest, change, parts)
 }
 
 // Adds a part at the end.
-fn push_part(parts: &mut Vec<Part>, square: Within, tree: Tree) -> Result<(), AllocError>
+fn push_part(
+    alloc: Global,
+    parts: &mut Vec<Part>,
+    path: &[Quarter],
+    tree: Tree,
+) -> Result<(), AllocError>
     ensures parts { OnOk result (map piece parts.new.items
-        ≡ map piece parts.old.items ++ record { path = way square; plot = plot tree } ∷ []) }
+        ≡ map piece parts.old.items ++ record { path = path.now; plot = plot tree } ∷ []) }
 {
-    parts.push(Part { square, tree })?;
+    let path = path.to_vec(alloc)?;
+    parts.push(Part { path, tree })?;
     Ok(())
 }
 
-/// Quarters a tree down to each square. After `Err` it may be quartered down to some: the same cells hold the same, and
-/// each node is still there.
-pub fn split_each(root: &mut Tree, alloc: Global, squares: &[Within]) -> Result<(), AllocError>
-    ensures ok { OnOk result (plot root.new ≡ split_all (map way squares.now) (plot root.old)) }
+/// Quarters a tree down to each path. After `Err` it may be quartered down to some: the same cells hold the same,
+/// each node is still there, and none lies deeper than the paths.
+pub fn split_each(
+    root: &mut Tree,
+    alloc: Global,
+    paths: &[Vec<Quarter>],
+) -> Result<(), AllocError>
+    ensures ok { OnOk result (plot root.new ≡ split_all (ways paths.now) (plot root.old)) }
     ensures err { OnErr result (Refines (plot root.old) (plot root.new)) }
+    ensures err_fits { OnErr result (StaysWithin (ways paths.now) (plot root.old) (plot root.new)) }
 {
-    let Some((square, rest)) = squares.split_first() else {
+    let Some((path, rest)) = paths.split_first() else {
         return Ok(());
     };
-    let path = Path::to(*square);
     root.split(alloc, path.as_slice())?;
     split_each(root, alloc, rest)
+}
+
+/// The one holding of all leaves at some paths; `None` where two differ or there is no path.
+pub fn uniform_at<'a>(root: &'a Tree, paths: &[Vec<Quarter>]) -> Option<&'a Holding>
+    ensures uniform { option_map (λ held. held.now) result ≡ uniform_at (ways paths.now) (plot root.now) }
+{
+    let (first, rest) = paths.split_first()?;
+    let held = root.at(first.as_slice()).uniform()?;
+    if rest.is_empty() {
+        return Some(held);
+    }
+    let other = uniform_at(root, rest)?;
+    if is_same(held, other) { Some(held) } else { None }
 }

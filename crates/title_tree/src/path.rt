@@ -1,72 +1,43 @@
-//! Paths from a section down to its squares.
+//! Paths from a tree's root down, the outermost quarter first.
 
-ghost use Rattle.std.specs.Prelude.{◌≡◌, ◌<◌, ◌++◌, ◌∷◌, [], length};
-ghost use Rattle.title_land.specs.Depth.{depth};
-ghost use Rattle.title_tree.specs.Paths.{way};
+ghost use Rattle.std.specs.Prelude.{◌≡◌, ◌<◌, ◌++◌, ◌∷◌, [], OnOk};
+ghost use Rattle.title_land.specs.Paths.{quarter_at};
+ghost use Rattle.title_tree.specs.Paths.{way, number_path};
 
-use std::marker::Model;
-use title_land::{DEPTH, Quarter, Within};
+use std::alloc::AllocError;
+use title_land::{Quarter, Within};
 
-// The most quarters that a path has.
-const LEVELS: usize = DEPTH as usize;
-
-/// The way from a section down to one of its squares. A contract sees it as the quarters, the outermost first.
-#[derive(Debug, Drop)]
-pub struct Path {
-    quarters: [Quarter; LEVELS],
-    len: usize,
+// The quarter at a place among the four; from the fourth on it is the last.
+fn quarter_at(place: usize) -> Quarter
+    ensures quarter { result ≡ quarter_at place }
+{
+    match place {
+        0 => Quarter::Northeast,
+        1 => Quarter::Northwest,
+        2 => Quarter::Southwest,
+        _ => Quarter::Southeast,
+    }
 }
 
-impl Model for Path {
-    ghost use Rattle.std.specs.Prelude.{◌≡◌, ◌≤◌, List, length, take};
-    ghost use Rattle.title_land.specs.Depth.{depth};
-    ghost use Rattle.title_land.specs.declared.rectangle.Quarter.{Quarter};
-
-    ghost Value = { List Quarter };
-
-    ghost view = { λ p. take p.len p.quarters };
-
-    ghost invariant = { λ p. (p.len ≤ depth) × (length p.quarters ≡ depth) };
+/// Goes on to the square of this number among the 4 ^ levels that lie so many levels below, in their order.
+pub fn add_number(path: &mut Vec<Quarter>, levels: usize, number: usize) -> Result<(), AllocError>
+    ensures path { OnOk result (path.new.items ≡ path.old.items ++ number_path levels number) }
+{
+    if levels == 0 {
+        return Ok(());
+    }
+    add_number(path, levels - 1, number / 4)?;
+    path.push(quarter_at(number % 4))?;
+    Ok(())
 }
 
-impl Path {
-    // The way to the section itself.
-    #[tactic(auto, using(title_land::proofs::Sides::depth_is))]
-    fn section() -> Path
-        ensures section { result ≡ [] }
-    {
-        Path {
-            quarters: [Quarter::Northeast; LEVELS],
-            len: 0,
-        }
+/// Goes on from a section to one of its squares.
+pub fn add_square(path: &mut Vec<Quarter>, square: Within) -> Result<(), AllocError>
+    ensures path { OnOk result (path.new.items ≡ path.old.items ++ way square) }
+{
+    if let Some((which, outer)) = square.split() {
+        add_square(path, outer)?;
+        path.push(which)?;
     }
-
-    // The way to a quarter of the square.
-    #[tactic(auto, using(title_land::proofs::Sides::depth_is))]
-    fn below(mut self, which: Quarter) -> Path
-        requires wide { length self < depth }
-        ensures below { result ≡ self ++ which ∷ [] }
-    {
-        self.quarters[self.len] = which;
-        self.len += 1;
-        self
-    }
-
-    /// The way to a square.
-    pub fn to(square: Within) -> Path
-        ensures way { result ≡ way square }
-    {
-        match square.split() {
-            None => Path::section(),
-            Some((which, outer)) => Path::to(outer).below(which),
-        }
-    }
-
-    /// The quarters, the outermost first.
-    #[tactic(auto, using(title_land::proofs::Sides::depth_is))]
-    pub fn as_slice(&self) -> &[Quarter]
-        ensures quarters { result.now ≡ self.now }
-    {
-        &self.quarters[..self.len]
-    }
+    Ok(())
 }

@@ -5,7 +5,7 @@ ghost use Rattle.std.specs.Option.{option_map};
 ghost use Rattle.std.specs.Arc.{arc_value};
 ghost use Rattle.title_tree.specs.Changes.{after};
 ghost use Rattle.title_tree.specs.Faults.{Tells};
-ghost use Rattle.title_tree.specs.Plots.{Same, Four, has_path, plot_at, graft, split, changed, first_refusal};
+ghost use Rattle.title_tree.specs.Plots.{Same, Four, value_at, has_path, plot_at, graft, split, changed, first_refusal};
 ghost use Rattle.title_tree.specs.Plots.{same_division, uniform, same_leaf, joined, tidied};
 ghost use Rattle.title_tree.specs.Trees.{plot};
 
@@ -69,6 +69,26 @@ impl Tree {
                 Quarter::Southwest => southwest.at(rest),
                 Quarter::Southeast => southeast.at(rest),
             },
+        }
+    }
+
+    /// The holding of the cell at a path. A path that ends above a cell goes on to the northeast.
+    pub fn holding(&self, path: &[Quarter]) -> &Holding
+        ensures holding { result.now ≡ value_at (plot self.now) path.now }
+    {
+        match self {
+            Tree::Leaf(held) => &**held,
+            Tree::Quarters(northeast, northwest, southwest, southeast) => {
+                let Some((first, rest)) = path.split_first() else {
+                    return northeast.holding(path);
+                };
+                match *first {
+                    Quarter::Northeast => northeast.holding(rest),
+                    Quarter::Northwest => northwest.holding(rest),
+                    Quarter::Southwest => southwest.holding(rest),
+                    Quarter::Southeast => southeast.holding(rest),
+                }
+            }
         }
     }
 

@@ -1,0 +1,11 @@
+-- Lemmas.
+pub mod Paths
+pub mod Places
+pub mod Steps
+pub mod Contents
+pub mod Images
+pub mod Keeps
+pub mod Operations
+pub mod Holdings
+pub mod Apart
+pub mod Puts

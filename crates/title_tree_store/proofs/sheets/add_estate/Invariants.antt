@@ -1,0 +1,11 @@
+-- The sheets of the nodes so far are added.
+use Rattle.std.proofs.Common.{◌+◌, ◌≡◌, ◌++◌, take}
+use Rattle.title_land.specs.Depth.{depth}
+use Rattle.std.specs.List.{flat_map}
+use Rattle.title_tree.specs.Trees.{plot}
+use Rattle.title_tree_store.specs.TreeSheets.{tree_sheet}
+use Rattle.title_tree_store.proofs.sheets.add_estate.Given as goal
+
+abbrev pub invariant-loop-node : goal.invariant-loop-node
+invariant-loop-node l = l.rows.items ≡ l.fn.rows.items
+    ++ flat_map (tree_sheet (depth + 2) l.levels l.townships (plot l.tree) l.estate) (take l.node-index l.node-items)

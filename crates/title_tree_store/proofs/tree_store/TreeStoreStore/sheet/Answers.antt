@@ -1,0 +1,22 @@
+-- After the last estate the sheet is whole.
+use Rattle.std.proofs.Common.{◌+◌, ◌≤◌, ap, ◌∙◌, arith}
+use Rattle.title_land.specs.Depth.{depth}
+use Rattle.std.proofs.lemmas.List.{take_all}
+use Rattle.std.specs.List.{flat_map}
+use Rattle.title_land.specs.Lands.{cover_of}
+use Rattle.title_store.specs.Sheets.{estates}
+use Rattle.title_tree_store.specs.Forests.{plots}
+use Rattle.title_tree_store.specs.TreeSheets.{tree_sheet}
+use Rattle.title_tree_store.proofs.Holdings.{sheet_is}
+use Rattle.title_tree_store.proofs.tree_store.TreeStoreStore.sheet.Goals as goal
+
+pub returns : goal.returns
+returns c =
+    let high : 3 ≤ c.loop-estate.estate-index = omega arith in
+    record {
+      sheet = c.loop-estate.invariant ∙ ap (flat_map
+          (λ e. flat_map (tree_sheet (depth + 2) c.args.self.now.levels c.args.self.now.townships.items (plots c.args.self.now.forest e) e)
+          (cover_of depth c.args.tract.now))) (take_all c.loop-estate.estate-index estates high)
+          ∙ sheet_is c.args.self.now.levels c.args.self.now.townships.items (plots c.args.self.now.forest) c.args.tract.now
+          c.args.self.now.kept.room c.args.self.now.kept.fit c.requires.within;
+    }

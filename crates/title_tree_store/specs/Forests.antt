@@ -1,0 +1,46 @@
+-- The trees of a plant as plots, by estate.
+use Rattle.std.specs.Prelude.{◌≡◌, ℕ, List, None, map}
+use Rattle.title_land.specs.declared.rectangle.Quarter.{Quarter}
+use Rattle.title_instrument.specs.declared.parts.Estate.{Estate}
+use Rattle.title_instrument.specs.declared.parts.Estate.TheVariants.{S, O, M}
+use Rattle.title_instrument.specs.declared.parts.Rule.{Rule}
+use Rattle.title_instrument.specs.declared.instrument.Instrument.{Instrument}
+use Rattle.title_instrument.specs.declared.owners.Owners.{Owners}
+use Rattle.title_instrument.specs.Effect.{holding_effect}
+use Rattle.title_tree.specs.declared.change.Fault.{Fault}
+use Rattle.title_tree.specs.Changes.{after}
+use Rattle.title_tree.specs.Faults.{Tells}
+use Rattle.title_tree.specs.Plots.{Plot, value_at}
+use Rattle.title_tree.specs.Parts.{piece}
+use Rattle.title_tree.specs.Pieces.{Piece, held, fresh, refusal_at}
+use Rattle.title_tree.specs.Trees.{plot}
+use Rattle.title_tree_store.specs.declared.forest.Forest.{Forest}
+use Rattle.title_tree_store.specs.declared.forest.Subtrees.{Subtrees}
+
+-- the plot of each estate
+abbrev pub plots : Forest → Estate → Plot
+plots f S = plot f.s
+plots f O = plot f.o
+plots f M = plot f.m
+
+-- the parts of each estate
+abbrev pub pieces : Subtrees → Estate → List Piece
+pieces x S = map piece x.s.items
+pieces x O = map piece x.o.items
+pieces x M = map piece x.m.items
+
+-- the owners of the cell at a path
+abbrev pub owners_at : (Estate → Plot) → List Quarter → Owners
+owners_at ps c = record { s = value_at (ps S) c; o = value_at (ps O) c; m = value_at (ps M) c }
+
+-- the owners of the cell at a path that parts hold
+abbrev pub held_at : (Estate → List Piece) → List Quarter → Owners
+held_at xs c = record { s = held (xs S) c; o = held (xs O) c; m = held (xs M) c }
+
+-- no leaf at the paths refuses the instrument, and these are the parts after it
+abbrev pub IsChange : Instrument ℕ → Estate → List (List Quarter) → Plot → List Piece → Type 0
+IsChange i e ps t xs = (refusal_at (holding_effect i e) ps t ≡ None) × (xs ≡ fresh (after (holding_effect i e)) ps t)
+
+-- a fault tells the rule by which the first leaf that refuses the instrument refuses it
+abbrev pub IsRefusedIn : Instrument ℕ → Estate → List (List Quarter) → Plot → Fault Rule → Type 0
+IsRefusedIn i e ps t f = Tells f (refusal_at (holding_effect i e) ps t)

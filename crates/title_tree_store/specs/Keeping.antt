@@ -1,0 +1,84 @@
+-- What a store of trees keeps.
+use Rattle.std.specs.Prelude.{◌≡◌, ◌≢◌, ℕ, ◌+◌, ◌<◌, ◌≤◌, ◌^◌, Bool, true, false, ◌&&◌, cond, eqb, List, [], ◌∷◌, ◌++◌, length, map}
+use Rattle.title_land.specs.Depth.{depth}
+use Rattle.title_land.specs.declared.place.Township.{Township}
+use Rattle.title_land.specs.declared.place.Cell.{Cell}
+use Rattle.title_land.specs.declared.rectangle.Quarter.{Quarter}
+use Rattle.title_land.specs.Nodes.{same_path}
+use Rattle.title_land.specs.Lands.{is_in_plant, is_plant_cell}
+use Rattle.title_instrument.specs.declared.parts.Estate.{Estate}
+use Rattle.title_instrument.specs.Owners.{opening_owners}
+use Rattle.title_store.specs.Plants.{Plant}
+use Rattle.title_store.specs.Loans.{Loan}
+use Rattle.title_tree.specs.Plots.{Plot, fits}
+use Rattle.title_tree.specs.Pieces.{In, Piece, paths}
+use Rattle.title_tree.specs.Lendings.{Lending, Keeps}
+use Rattle.title_tree_store.specs.declared.lent.Lent.{Lent}
+use Rattle.title_tree_store.specs.Spots.{cell_path, tract_spots}
+use Rattle.title_tree_store.specs.Forests.{pieces, owners_at, held_at}
+
+-- the levels of a tree from the root down to a cell, where townships lie so many levels below the root
+abbrev pub height : ℕ → ℕ
+height levels = levels + (3 + depth)
+
+-- what a forest has at each cell of the plant
+abbrev pub content_of : ℕ → List Township → (Estate → Plot) → Plant
+content_of levels ts ps c = cond (is_plant_cell depth ts c) (owners_at ps (cell_path levels ts c)) opening_owners
+
+-- an image that is out, as a loan
+abbrev pub loan_of : ℕ → List Township → Lent → Loan
+loan_of levels ts l = record { number = l.number; land = l.land; held = λ c. held_at (pieces l.trees) (cell_path levels ts c) }
+
+abbrev pub loans_of : ℕ → List Township → List Lent → List Loan
+loans_of levels ts lent = map (loan_of levels ts) lent
+
+-- an image that is out, as pieces of an estate's tree
+abbrev pub lending : Estate → Lent → Lending
+lending e l = record { number = l.number; pieces = pieces l.trees e }
+
+-- the place of the image of a number
+abbrev pub place_of : ℕ → List Lent → ℕ
+place_of n [] = 0
+place_of n (l ∷ lent) = cond (eqb l.number n) 0 (place_of n lent + 1)
+
+-- no image of this number is out
+abbrev pub IsAbsent : ℕ → List Lent → Type 0
+IsAbsent n lent = (l : Lent) → In l lent → l.number ≢ n
+
+-- an image that was out under this number was taken out
+pub record IsTakenOut (n : ℕ) (l : Lent) (old new : List Lent) : Type 0 where
+  pub number_is : l.number ≡ n
+  pub before : List Lent
+  pub later : List Lent
+  pub old_is : old ≡ before ++ l ∷ later
+  pub new_is : new ≡ before ++ later
+
+-- the lists of paths are one
+abbrev pub same_ways : List (List Quarter) → List (List Quarter) → Bool
+same_ways [] [] = true
+same_ways [] (q ∷ qs) = false
+same_ways (p ∷ ps) [] = false
+same_ways (p ∷ ps) (q ∷ qs) = same_path p q && same_ways ps qs
+
+-- each piece goes no deeper than the tree's cells
+abbrev pub PiecesFit : ℕ → List Piece → Type 0
+PiecesFit levels xs = (x : Piece) → In x xs → (n : ℕ) → levels ≡ length x.path + n → fits n x.plot ≡ true
+
+-- an image has a piece of each estate for each node of its tract
+pub record IsBacked (levels : ℕ) (ts : List Township) (l : Lent) : Type 0 where
+  pub within : is_in_plant ts l.land ≡ true
+  pub at : (e : Estate) → same_ways (paths (pieces l.trees e)) (tract_spots levels ts l.land) ≡ true
+  pub fit : (e : Estate) → PiecesFit (height levels) (pieces l.trees e)
+
+-- numbers rise
+abbrev pub Rises : List Lent → Type 0
+Rises [] = Unit {0}
+Rises (l ∷ lent) = ((x : Lent) → In x lent → l.number < x.number) × Rises lent
+
+-- there is a place for each township, no tree goes deeper than its cells, and each image that is out can go back
+pub record IsKept (levels : ℕ) (ts : List Township) (ps : Estate → Plot) (lent : List Lent) (next : ℕ) : Type 0 where
+  pub room : length ts ≤ 4 ^ levels
+  pub fit : (e : Estate) → fits (height levels) (ps e) ≡ true
+  pub keeps : (e : Estate) → Keeps (ps e) (map (lending e) lent) next
+  pub backed : (l : Lent) → In l lent → IsBacked levels ts l
+  pub rises : Rises lent

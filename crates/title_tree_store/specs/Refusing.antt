@@ -1,0 +1,34 @@
+-- Which cell refuses an instrument.
+use Rattle.std.specs.Prelude.{ℕ, List, [], ◌∷◌, Option, Some, None}
+use Rattle.title_share.specs.Division.{Division}
+use Rattle.title_land.specs.declared.place.Township.{Township}
+use Rattle.title_land.specs.declared.place.Cell.{Cell}
+use Rattle.title_instrument.specs.declared.parts.Estate.{Estate}
+use Rattle.title_instrument.specs.declared.parts.Rule.{Rule}
+use Rattle.title_instrument.specs.declared.instrument.Instrument.{Instrument}
+use Rattle.title_instrument.specs.declared.owners.Effect.{Effect}
+use Rattle.title_instrument.specs.declared.owners.Effect.TheVariants.{Done, Refused}
+use Rattle.title_instrument.specs.Effect.{holding_effect, cell_effect}
+use Rattle.title_store.specs.Plants.{Failing, first_failing}
+use Rattle.title_tree.specs.Changes.{why_of}
+use Rattle.title_tree.specs.Plots.{Plot}
+use Rattle.title_tree_store.specs.Spots.{cell_path}
+use Rattle.title_tree_store.specs.Forests.{owners_at}
+
+-- why the instrument is refused by a holding of an estate
+abbrev pub why_holding : Instrument ℕ → Estate → Division → Option Rule
+why_holding i e held = why_of (holding_effect i e held)
+
+-- the rule and the estate by which a cell refuses
+abbrev pub why_cell : Effect → Option (Rule × Estate)
+why_cell (Done owners) = None
+why_cell (Refused rule estate) = Some (rule, estate)
+
+-- the first of some cells that refuses the instrument, each with the owners at its path
+abbrev pub first_in : ℕ → List Township → (Estate → Plot) → Instrument ℕ → List Cell → Option Failing
+first_in levels ts ps i cells = first_failing i (λ c. owners_at ps (cell_path levels ts c)) cells
+
+-- a failing cell after its rule and estate
+abbrev pub triple : Option Failing → Option (Rule × Estate × Cell)
+triple None = None
+triple (Some f) = Some (f.rule, f.estate, f.cell)

@@ -1,0 +1,166 @@
+//! The trees of a plant, one for each estate.
+
+ghost use Rattle.std.specs.Prelude.{◌≡◌, ◌++◌, None, map, IfOk, OnOk, OnErr, IfErr};
+ghost use Rattle.title_share.specs.Division.{all_to};
+ghost use Rattle.title_instrument.specs.Effect.{holding_effect};
+ghost use Rattle.title_instrument.specs.declared.parts.Estate.TheVariants.{S, O, M};
+ghost use Rattle.title_tree.specs.Changes.{after};
+ghost use Rattle.title_tree.specs.Parts.{piece, ways};
+ghost use Rattle.title_tree.specs.Pieces.{Disjoint, Ready, Refines, StaysWithin, paths, swapped, taken, split_all, fresh, refusal_at};
+ghost use Rattle.title_tree.specs.Plots.{Same, tidied};
+ghost use Rattle.title_tree.specs.Trees.{plot};
+ghost use Rattle.title_tree_store.specs.Forests.{plots, IsChange, IsRefusedIn};
+
+use crate::passing::Passing;
+use std::alloc::{AllocError, Global};
+use std::sync::Arc;
+use title_instrument::{Estate, Instrument, Rule};
+use title_land::Quarter;
+use title_share::Holding;
+use title_tree::{Fault, Part, Tree, add_changed, exchange_all, split_each};
+
+/// A tree for each estate.
+#[derive(Drop)]
+pub(crate) struct Forest {
+    pub s: Tree,
+    pub o: Tree,
+    pub m: Tree,
+}
+
+/// Parts of each estate's tree.
+#[derive(Drop)]
+pub(crate) struct Subtrees {
+    pub s: Vec<Part>,
+    pub o: Vec<Part>,
+    pub m: Vec<Part>,
+}
+
+// A tree in which party 0 has the whole of each cell.
+fn opening_tree(alloc: Global) -> Result<Tree, AllocError>
+    ensures opening { IfOk result (λ t. plot t ≡ Same (all_to 0)) }
+{
+    let held = Arc::new(alloc, Holding::whole(alloc, 0)?)?;
+    Ok(Tree::Leaf(held))
+}
+
+// What stands at some paths of a tree, after an instrument; nothing changes. Refused as the first leaf that refuses.
+fn changed(
+    alloc: Global,
+    tree: &Tree,
+    paths: &[Vec<Quarter>],
+    instrument: &Instrument,
+    estate: Estate,
+) -> Result<Vec<Part>, Fault<Rule>>
+    ensures change { IfOk result (λ parts. IsChange instrument.now estate (ways paths.now) (plot tree.now) (map piece parts.items)) }
+    ensures why { IfErr result (IsRefusedIn instrument.now estate (ways paths.now) (plot tree.now)) }
+{
+    let mut parts = Vec::new(alloc);
+    let mut passing = Passing {
+        instrument: *instrument,
+        estate,
+    };
+    add_changed(alloc, tree, paths, &mut passing, &mut parts)?;
+    Ok(parts)
+}
+
+impl Forest {
+    /// The trees before any instrument.
+    pub(crate) fn open(alloc: Global) -> Result<Forest, AllocError>
+        ensures s { IfOk result (λ f. plot f.s ≡ Same (all_to 0)) }
+        ensures o { IfOk result (λ f. plot f.o ≡ Same (all_to 0)) }
+        ensures m { IfOk result (λ f. plot f.m ≡ Same (all_to 0)) }
+    {
+        let s = opening_tree(alloc)?;
+        let o = opening_tree(alloc)?;
+        let m = opening_tree(alloc)?;
+        Ok(Forest { s, o, m })
+    }
+
+    /// The tree of an estate.
+    pub(crate) fn of(&self, estate: Estate) -> &Tree
+        ensures of { plot result.now ≡ plots self.now estate }
+    {
+        match estate {
+            Estate::S => &self.s,
+            Estate::O => &self.o,
+            Estate::M => &self.m,
+        }
+    }
+
+    /// Each part changes places with what stands at its path. Takes no memory.
+    pub(crate) fn exchange(&mut self, parts: &mut Subtrees)
+        requires s { Disjoint (paths (map piece parts.old.s.items)) × Ready (paths (map piece parts.old.s.items)) (plot self.old.s) }
+        requires o { Disjoint (paths (map piece parts.old.o.items)) × Ready (paths (map piece parts.old.o.items)) (plot self.old.o) }
+        requires m { Disjoint (paths (map piece parts.old.m.items)) × Ready (paths (map piece parts.old.m.items)) (plot self.old.m) }
+        ensures tree_s { plot self.new.s ≡ swapped (map piece parts.old.s.items) (plot self.old.s) }
+        ensures tree_o { plot self.new.o ≡ swapped (map piece parts.old.o.items) (plot self.old.o) }
+        ensures tree_m { plot self.new.m ≡ swapped (map piece parts.old.m.items) (plot self.old.m) }
+        ensures parts_s { map piece parts.new.s.items ≡ taken (map piece parts.old.s.items) (plot self.old.s) }
+        ensures parts_o { map piece parts.new.o.items ≡ taken (map piece parts.old.o.items) (plot self.old.o) }
+        ensures parts_m { map piece parts.new.m.items ≡ taken (map piece parts.old.m.items) (plot self.old.m) }
+    {
+        exchange_vec(&mut self.s, &mut parts.s);
+        exchange_vec(&mut self.o, &mut parts.o);
+        exchange_vec(&mut self.m, &mut parts.m);
+    }
+
+    /// What stands at some paths of the trees, after an instrument; nothing changes. Refused by a rule of some leaf.
+    pub(crate) fn changed(
+        &self,
+        alloc: Global,
+        paths: &[Vec<Quarter>],
+        instrument: &Instrument,
+    ) -> Result<Subtrees, Fault<Rule>>
+        ensures s { IfOk result (λ x. IsChange instrument.now S (ways paths.now) (plot self.now.s) (map piece x.s.items)) }
+        ensures o { IfOk result (λ x. IsChange instrument.now O (ways paths.now) (plot self.now.o) (map piece x.o.items)) }
+        ensures m { IfOk result (λ x. IsChange instrument.now M (ways paths.now) (plot self.now.m) (map piece x.m.items)) }
+        ensures why { IfErr result (λ f. (e : Estate) × IsRefusedIn instrument.now e (ways paths.now) (plots self.now e) f) }
+    {
+        let s = changed(alloc, &self.s, paths, instrument, Estate::S)?;
+        let o = changed(alloc, &self.o, paths, instrument, Estate::O)?;
+        let m = changed(alloc, &self.m, paths, instrument, Estate::M)?;
+        Ok(Subtrees { s, o, m })
+    }
+
+    /// Quarters the trees down to each path. After `Err` they may be quartered down to some.
+    pub(crate) fn split_each(
+        &mut self,
+        alloc: Global,
+        paths: &[Vec<Quarter>],
+    ) -> Result<(), AllocError>
+        ensures s { OnOk result (plot self.new.s ≡ split_all (ways paths.now) (plot self.old.s)) }
+        ensures o { OnOk result (plot self.new.o ≡ split_all (ways paths.now) (plot self.old.o)) }
+        ensures m { OnOk result (plot self.new.m ≡ split_all (ways paths.now) (plot self.old.m)) }
+        ensures err_s { OnErr result (Refines (plot self.old.s) (plot self.new.s)) }
+        ensures err_o { OnErr result (Refines (plot self.old.o) (plot self.new.o)) }
+        ensures err_m { OnErr result (Refines (plot self.old.m) (plot self.new.m)) }
+        ensures within_s { OnErr result (StaysWithin (ways paths.now) (plot self.old.s) (plot self.new.s)) }
+        ensures within_o { OnErr result (StaysWithin (ways paths.now) (plot self.old.o) (plot self.new.o)) }
+        ensures within_m { OnErr result (StaysWithin (ways paths.now) (plot self.old.m) (plot self.new.m)) }
+    {
+        split_each(&mut self.s, alloc, paths)?;
+        split_each(&mut self.o, alloc, paths)?;
+        split_each(&mut self.m, alloc, paths)
+    }
+
+    /// Joins quarters that are leaves of the same holding. Takes no memory.
+    pub(crate) fn tidy(&mut self)
+        ensures s { plot self.new.s ≡ tidied (plot self.old.s) }
+        ensures o { plot self.new.o ≡ tidied (plot self.old.o) }
+        ensures m { plot self.new.m ≡ tidied (plot self.old.m) }
+    {
+        self.s.tidy();
+        self.o.tidy();
+        self.m.tidy();
+    }
+}
+
+// Each part changes places with what stands at its path.
+fn exchange_vec(tree: &mut Tree, parts: &mut Vec<Part>)
+    requires disjoint { Disjoint (paths (map piece parts.old.items)) }
+    requires ready { Ready (paths (map piece parts.old.items)) (plot tree.old) }
+    ensures tree { plot tree.new ≡ swapped (map piece parts.old.items) (plot tree.old) }
+    ensures parts { map piece parts.new.items ≡ taken (map piece parts.old.items) (plot tree.old) }
+{
+    exchange_all(tree, parts);
+}

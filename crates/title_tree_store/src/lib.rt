@@ -1,0 +1,13 @@
+//! A store of a plant in which holdings are inherited down trees of quarters, so that a deed of a township costs as much
+//! as one of a cell.
+#![tactic(auto)]
+
+mod forest;
+mod lent;
+mod passing;
+mod refusals;
+mod sheets;
+mod spots;
+pub mod tree_store;
+
+pub use tree_store::{Image, TreeStore};

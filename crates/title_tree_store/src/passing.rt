@@ -1,0 +1,48 @@
+//! What an instrument does to one estate's holding, as a change of trees.
+
+ghost use Rattle.std.specs.Prelude.{◌≡◌, Ok, Err, Result, IfOk, IfErr};
+ghost use Rattle.std.specs.Arc.{arc_value};
+ghost use Rattle.title_instrument.specs.Effect.{holding_effect};
+ghost use Rattle.title_tree.specs.Changes.{why_of};
+ghost use Rattle.title_tree.specs.Faults.{Tells};
+
+use std::alloc::{AllocError, Global};
+use std::sync::Arc;
+use title_instrument::{Estate, Instrument, Rule};
+use title_share::Holding;
+use title_tree::{Change, Fault};
+
+// A holding that may be shared.
+fn shared(alloc: Global, held: Holding) -> Result<Arc<Holding>, AllocError>
+    ensures shared { IfOk result (λ a. arc_value a ≡ held) }
+{
+    Ok(Arc::new(alloc, held)?)
+}
+
+/// An instrument for one estate; one that isn't named keeps its holdings, shared.
+#[derive(Drop)]
+pub(crate) struct Passing {
+    pub instrument: Instrument,
+    pub estate: Estate,
+}
+
+impl Change for Passing {
+    type Refusal = Rule;
+
+    ghost effect = { λ p. holding_effect p.instrument p.estate };
+
+    fn apply(&mut self, alloc: Global, held: &Arc<Holding>) -> Result<Arc<Holding>, Fault<Rule>> {
+        if !self.instrument.estates().has(self.estate) {
+            return Ok(held.clone()?);
+        }
+        let units = held.units(self.instrument.grantor());
+        match self.instrument.passes(self.estate, units) {
+            Ok(units) => {
+                let mut after = held.copy(alloc)?;
+                after.move_units(self.instrument.grantor(), self.instrument.grantee(), units)?;
+                Ok(shared(alloc, after)?)
+            }
+            Err(rule) => Err(Fault::Refused(rule)),
+        }
+    }
+}

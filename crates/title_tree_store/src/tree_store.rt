@@ -1,0 +1,153 @@
+//! The plant as trees of quarters, one for each estate.
+
+ghost use Rattle.std.specs.Prelude.{◌≡◌, ◌≤◌, ◌^◌, length};
+ghost use Rattle.title_land.specs.Depth.{depth};
+ghost use Rattle.title_store.specs.Plants.{IsEachOnce, node_of};
+ghost use Rattle.title_tree_store.specs.Forests.{plots};
+ghost use Rattle.title_tree_store.specs.Keeping.{content_of, loans_of, IsKept};
+ghost use Rattle.title_tree_store.specs.Propositions.{once_prop, kept_prop};
+
+use crate::forest::Forest;
+use crate::lent::{Lent, take_lent};
+use crate::refusals::first_failing;
+use crate::sheets::add_estate;
+use crate::spots::tract_spots;
+use std::alloc::{AllocError, Global};
+use title_instrument::{Estate, Instrument};
+use title_land::{Cell, Node, Township, Tract, cells_of};
+use title_store::{Put, SheetRow, Store};
+use title_tree::Fault;
+
+/// A before-image of a `TreeStore`: its number. The store keeps what it holds.
+#[derive(Debug, Drop)]
+pub struct Image {
+    number: u64,
+}
+
+/// A plant as a tree of quarters for each estate; a cell has the holding of the leaf above it. What is out is kept in the
+/// order of its numbers.
+#[derive(Drop)]
+pub struct TreeStore {
+    alloc: Global,
+    townships: Vec<Township>,
+    // The levels from the root down to a township.
+    levels: usize,
+    forest: Forest,
+    lent: Vec<Lent>,
+    next: u64,
+    ghost once: { IsEachOnce townships.items } by { Prim.hlevel once_prop },
+    ghost kept: { IsKept levels townships.items (plots forest) lent.items next } by { kept_prop levels townships.items (plots forest) lent.items next },
+}
+
+// How many levels have a place for so many townships.
+fn levels_for(count: usize) -> usize
+    ensures room { count ≤ 4 ^ result }
+    ensures bound { result ≤ count }
+{
+    if count <= 1 {
+        return 0;
+    }
+    levels_for(count / 4 + 1) + 1
+}
+
+// The node of a tract's cover in which a cell lies; the whole plant where it lies in none.
+fn node_of(tract: &Tract, cell: Cell) -> Node
+    ensures node { result ≡ node_of depth tract.now cell }
+{
+    tract.node_of(cell).unwrap_or(Node::Everything)
+}
+
+impl Store for TreeStore {
+    type Image = Image;
+
+    ghost content = { λ s. content_of s.levels s.townships.items (plots s.forest) };
+
+    ghost declared = { λ s. s.townships.items };
+
+    ghost out = { λ s. loans_of s.levels s.townships.items s.lent.items };
+
+    ghost number = { λ i. i.number };
+
+    fn open(alloc: Global, townships: &[Township]) -> Result<TreeStore, AllocError> {
+        let levels = levels_for(townships.len());
+        let forest = Forest::open(alloc)?;
+        let townships = Vec::from_slice(alloc, townships)?;
+        Ok(TreeStore {
+            alloc,
+            townships,
+            levels,
+            forest,
+            lent: Vec::new(alloc),
+            next: 0,
+        })
+    }
+
+    fn put(&mut self, tract: &Tract, instrument: &Instrument) -> Result<Put<Image>, AllocError> {
+        let number = self.next;
+        let Some(next) = number.checked_add(1) else {
+            return Err(AllocError);
+        };
+        let paths = tract_spots(self.alloc, self.levels, &self.townships, tract)?;
+        match self.forest.changed(self.alloc, &paths, instrument) {
+            Ok(mut trees) => {
+                self.lent.reserve(1)?;
+                self.forest.split_each(self.alloc, &paths)?;
+                self.forest.exchange(&mut trees);
+                let land = tract.land();
+                self.lent.push_reserved(Lent {
+                    number,
+                    land,
+                    trees,
+                });
+                self.next = next;
+                Ok(Put::Done(Image { number }))
+            }
+            Err(Fault::Memory) => Err(AllocError),
+            Err(Fault::Refused(_)) => {
+                let cells = cells_of(self.alloc, &self.townships, tract)?;
+                let first = first_failing(
+                    self.alloc,
+                    self.levels,
+                    &self.townships,
+                    &self.forest,
+                    &cells,
+                    instrument,
+                )?;
+                let Some((rule, estate, cell)) = first else {
+                    unreachable!()
+                };
+                Ok(Put::Refused(rule, estate, node_of(tract, cell)))
+            }
+        }
+    }
+
+    fn restore(&mut self, image: Image) {
+        let mut lent = take_lent(&mut self.lent, image.number).unwrap();
+        self.forest.exchange(&mut lent.trees);
+    }
+
+    fn forget(&mut self, image: Image) {
+        take_lent(&mut self.lent, image.number);
+    }
+
+    fn sheet(&self, alloc: Global, tract: &Tract) -> Result<Vec<SheetRow>, AllocError> {
+        let mut rows = Vec::new(alloc);
+        for estate in [Estate::S, Estate::O, Estate::M] {
+            let tree = self.forest.of(estate);
+            add_estate(
+                alloc,
+                tree,
+                self.levels,
+                &self.townships,
+                estate,
+                tract,
+                &mut rows,
+            )?;
+        }
+        Ok(rows)
+    }
+
+    fn tidy(&mut self) {
+        self.forest.tidy();
+    }
+}
