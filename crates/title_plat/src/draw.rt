@@ -1,0 +1,185 @@
+//! A sheet as a picture.
+
+use crate::acres::half_acres_of;
+use crate::canvas::{Area, Canvas};
+use crate::fault::PlatFault;
+use crate::frame::{Frame, frame_of};
+use crate::legend::add_legend;
+use crate::owners::{Keyed, keyed_parts};
+use crate::paint::add_pattern;
+use crate::parts::{Part, parts_of};
+use crate::report::{Wanted, read_sheet};
+use crate::row::ESTATES;
+use crate::section::{PANEL, add_section};
+use crate::sheet::Sheet;
+use crate::table::add_table;
+use crate::township::add_township;
+use std::alloc::{AllocError, Global};
+use title_aliquot::Acres;
+use title_instrument::Estate;
+
+// The picture's width, the margins, and what lies between two panels.
+const WIDTH: u32 = 1280;
+const MARGIN: u32 = 40;
+const GAP: u32 = 24;
+
+// The classes of lines and texts.
+const STYLE: &str = "<style>\
+text{font-family:Helvetica,Arial,'Liberation Sans','DejaVu Sans',sans-serif;fill:#111}\
+.title{font-size:28px;font-weight:bold}.sub{font-size:14px;fill:#444}.estate{font-size:16px;font-weight:bold}\
+.note{font-size:11px;fill:#444}.head,.rhead{font-size:13px;font-weight:bold}.l13,.r13,.c13{font-size:13px}.c12{font-size:12px}\
+.c10{font-size:10px}.c9,.number{font-size:9px}.c8{font-size:8px}.c7{font-size:7px}.k20{font-size:20px}.k17{font-size:17px}\
+.k14{font-size:14px}.k12{font-size:12px}.k10{font-size:10px}.k9{font-size:9px}.k8{font-size:8px}\
+.k20,.k17,.k14,.k12,.k10,.k9,.k8{font-weight:bold}\
+.k20,.k17,.k14,.k12,.k10,.k9,.k8,.c13,.c12,.c10,.c9,.c8,.c7,.north{text-anchor:middle}.r13,.rhead{text-anchor:end}\
+.north{font-size:15px;font-weight:bold}.paper{fill:#fff}.land{fill:#fff;stroke:none}.halo{fill:#fff;fill-opacity:.82}\
+.part{stroke:#333;stroke-width:.7}.quarter{stroke:#999;stroke-width:.7;stroke-dasharray:5 4}\
+.section{fill:none;stroke:#222;stroke-width:1}.outline{fill:none;stroke:#000;stroke-width:2.6}.rule{stroke:#111;stroke-width:1}\
+</style>\n";
+
+// The name of an estate.
+fn estate_name(estate: Estate) -> &'static str {
+    match estate {
+        Estate::S => "Surface",
+        Estate::O => "Oil and gas",
+        Estate::M => "Other minerals",
+    }
+}
+
+// What the picture shows, as its title tells it.
+fn title_of(alloc: Global, frame: &Frame, parts: &[Part<'_>]) -> Result<String, AllocError> {
+    if let Some(first) = parts.first() {
+        if parts.iter().all(|part| part.node == first.node) {
+            return format!(in alloc; "{}", first.node);
+        }
+    }
+    match frame {
+        Frame::Section(section) => format!(in alloc; "{section}"),
+        Frame::Townships(townships) => match townships.as_slice() {
+            [township] => format!(in alloc; "{township}"),
+            _ => format!(in alloc; "{} townships", townships.len()),
+        },
+        Frame::Everything => String::from_str(alloc, "everything"),
+    }
+}
+
+// The half acres of the land that is drawn.
+fn half_acres_drawn(parts: &[Part<'_>], townships: u32) -> u32 {
+    let mut sum: u32 = 0;
+    for part in parts {
+        if part.estate == Estate::S {
+            sum = sum.saturating_add(half_acres_of(part.node, townships));
+        }
+    }
+    sum
+}
+
+// Draws the arrow to the north.
+fn add_north(canvas: &mut Canvas) -> Result<(), AllocError> {
+    canvas.raw("<path d=\"M1222 28l9 30l-9 -7l-9 7z\" fill=\"#111\"/><path d=\"M1222 51v24\" stroke=\"#111\" stroke-width=\"1.6\"/>\n")?;
+    canvas.text(1222, 24, "north", "N")
+}
+
+// Draws the three panels of a frame's land from this height on, and answers where they end.
+fn add_panels(canvas: &mut Canvas, top: u32, parts: &[Keyed<'_>], township: Option<title_aliquot::Township>) -> Result<u32, AllocError> {
+    let mut x = MARGIN;
+    for estate in ESTATES {
+        canvas.text(x, top, "estate", estate_name(estate))?;
+        let panel = Area::square(x, top.saturating_add(10), PANEL);
+        match township {
+            Some(township) => add_township(canvas, panel, township, parts, estate)?,
+            None => add_section(canvas, panel, parts, estate)?,
+        }
+        x = x.saturating_add(PANEL + GAP);
+    }
+    Ok(top.saturating_add(PANEL + 10))
+}
+
+// Draws the land of a frame from this height on, and answers where it ends.
+fn add_land(canvas: &mut Canvas, top: u32, parts: &[Keyed<'_>], frame: &Frame) -> Result<u32, AllocError> {
+    let Frame::Townships(townships) = frame else {
+        return add_panels(canvas, top, parts, None);
+    };
+    let mut y = top;
+    for (i, township) in townships.iter().enumerate() {
+        if i > 0 {
+            y = y.saturating_add(40);
+        }
+        if townships.len() > 1 {
+            let name = format!(in canvas.alloc; "{township}")?;
+            canvas.text(MARGIN, y, "estate", name.as_str())?;
+            y = y.saturating_add(26);
+        }
+        y = add_panels(canvas, y, parts, Some(*township))?;
+    }
+    Ok(y)
+}
+
+// The number of townships that the whole plant counts for.
+fn townships_in(frame: &Frame) -> u32 {
+    match frame {
+        Frame::Townships(townships) => townships.len() as u32,
+        _ => 0,
+    }
+}
+
+// What stands above the panels.
+fn add_heading(canvas: &mut Canvas, sheet: &Sheet, title: &str, half_acres: u32) -> Result<(), AllocError> {
+    canvas.text(MARGIN, 52, "title", title)?;
+    let acres = Acres { half_acres };
+    let (place, sheets) = (sheet.place, sheet.sheets);
+    let told = if half_acres == 0 {
+        format!(in canvas.alloc; "Sheet {place} of {sheets}")?
+    } else {
+        format!(in canvas.alloc; "Sheet {place} of {sheets}, {acres} acres")?
+    };
+    canvas.text(MARGIN, 78, "sub", told.as_str())?;
+    add_north(canvas)
+}
+
+// The picture's patterns, one for each key.
+fn add_patterns(canvas: &mut Canvas, keys: usize) -> Result<(), AllocError> {
+    canvas.raw("<defs>\n")?;
+    for key in 0..keys {
+        add_pattern(canvas, key)?;
+    }
+    canvas.raw("</defs>\n")
+}
+
+/// The picture of a sheet, as SVG. `NotASheet` where its rows leave out land of an estate, or name it twice, or its shares
+/// aren't a whole.
+pub fn picture(alloc: Global, sheet: &Sheet) -> Result<String, PlatFault> {
+    let rows = sheet.rows.as_slice();
+    let parts = parts_of(alloc, rows)?;
+    let frame = frame_of(alloc, parts.as_slice())?;
+    let (keyed, keys) = keyed_parts(alloc, parts.as_slice())?;
+    let townships = townships_in(&frame);
+    let mut body = Canvas::new(alloc);
+    let title = title_of(alloc, &frame, parts.as_slice())?;
+    add_heading(&mut body, sheet, title.as_str(), half_acres_drawn(parts.as_slice(), townships))?;
+    let bottom = add_land(&mut body, 116, keyed.as_slice(), &frame)?;
+    let top = bottom.saturating_add(46);
+    let left = add_legend(&mut body, MARGIN, top, keyed.as_slice())?;
+    let right = add_table(&mut body, 680, top, rows, townships)?;
+    let foot = left.max(right).saturating_add(24);
+    body.text(MARGIN, foot, "note", NOTE)?;
+    let height = foot.saturating_add(28);
+    let mut page = Canvas::new(alloc);
+    let head = format!(in alloc; "<svg xmlns=\"http://www.w3.org/2000/svg\" width=\"{WIDTH}\" height=\"{height}\" viewBox=\"0 0 {WIDTH} {height}\">\n")?;
+    page.raw(head.as_str())?;
+    page.raw(STYLE)?;
+    add_patterns(&mut page, keys)?;
+    page.rect(Area { x: 0, y: 0, width: WIDTH, height }, "paper")?;
+    page.raw(body.into_text().as_str())?;
+    page.raw("</svg>\n")?;
+    Ok(page.into_text())
+}
+
+// What stands below.
+const NOTE: &str = "Acres are nominal, 640 a section. Net acres are acres times share, rounded to four decimals. No survey.";
+
+/// The picture of the sheet of a report that is wanted.
+pub fn draw(alloc: Global, report: &[u8], wanted: Wanted) -> Result<String, PlatFault> {
+    let sheet = read_sheet(alloc, report, wanted)?;
+    picture(alloc, &sheet)
+}

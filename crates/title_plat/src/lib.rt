@@ -1,0 +1,32 @@
+//! Sheets of a report as pictures: who owns which share of an estate, part by part, drawn as a plat in SVG.
+#![tactic(auto)]
+
+mod acres;
+mod canvas;
+mod draw;
+mod escape;
+mod fault;
+mod frame;
+mod label;
+mod legend;
+mod owners;
+mod paint;
+mod parts;
+mod places;
+mod report;
+mod row;
+mod section;
+mod sheet;
+mod table;
+mod township;
+mod width;
+
+pub use acres::{NetAcres, net_units, ten_thousandths};
+pub use draw::{draw, picture};
+pub use escape::escaped;
+pub use fault::PlatFault;
+pub use parts::{Part, parts_of};
+pub use places::{Place, place_of};
+pub use report::{Wanted, read_sheet};
+pub use row::{ESTATES, Row};
+pub use sheet::Sheet;
