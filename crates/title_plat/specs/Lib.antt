@@ -1,0 +1,5 @@
+pub mod Parts
+pub mod Once
+pub mod Townships
+pub mod NetAcres
+pub mod Escapes

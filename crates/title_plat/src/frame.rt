@@ -6,7 +6,7 @@ use title_aliquot::{Node, Section, Township};
 
 /// The land that is drawn for a sheet.
 #[derive(Drop)]
-pub(crate) enum Frame {
+pub enum Frame {
     /// The one section in which all parts lie.
     Section(Section),
     /// Each township in which a part lies, in the order of their first parts.

@@ -44,7 +44,9 @@ pub(crate) fn acres_text(alloc: Global, keyed: &Keyed<'_>, unit: &str) -> Result
     if half_acres == 0 {
         return Ok(String::new(alloc));
     }
-    let acres = Acres { half_acres };
+    let acres = Acres {
+        half_acres: half_acres.min(4_000_000_000) as u32,
+    };
     format!(in alloc; "{acres}{unit}")
 }
 
@@ -52,6 +54,10 @@ pub(crate) fn acres_text(alloc: Global, keyed: &Keyed<'_>, unit: &str) -> Result
 fn owner_text(alloc: Global, row: &Row, size: u32, width: u32) -> Result<String, AllocError> {
     let share = format!(in alloc; " {}", row.share)?;
     let room = width.saturating_sub(text_width(share.as_str(), size));
+    if room < 30 {
+        let whole = format!(in alloc; "{}{share}", row.party)?;
+        return shortened(alloc, whole.as_str(), size, width);
+    }
     let name = shortened(alloc, row.party.as_str(), size, room)?;
     format!(in alloc; "{name}{share}")
 }
@@ -59,7 +65,10 @@ fn owner_text(alloc: Global, row: &Row, size: u32, width: u32) -> Result<String,
 // The lines of a part's label below its key.
 fn lines_of(alloc: Global, keyed: &Keyed<'_>, style: Style, width: u32) -> Result<Vec<String>, AllocError> {
     let mut lines = Vec::new(alloc);
-    lines.push(acres_text(alloc, keyed, style.unit)?)?;
+    let acres = acres_text(alloc, keyed, style.unit)?;
+    if !acres.is_empty() {
+        lines.push(acres)?;
+    }
     let owners = keyed.part.owners;
     for (i, row) in owners.iter().enumerate() {
         if i >= style.owners {

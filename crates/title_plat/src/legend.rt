@@ -4,7 +4,7 @@ use crate::canvas::{Area, Canvas};
 use crate::owners::Keyed;
 use crate::paint::key_text;
 use crate::row::Row;
-use crate::width::shortened;
+use crate::width::{shortened, text_width};
 use std::alloc::AllocError;
 
 /// The height of a line of the key or of a table.
@@ -26,8 +26,9 @@ pub(crate) fn add_name(canvas: &mut Canvas, x: u32, y: u32, width: u32, name: &s
 fn add_owners(canvas: &mut Canvas, x: u32, top: u32, owners: &[Row]) -> Result<u32, AllocError> {
     let mut y = top;
     for row in owners {
-        add_name(canvas, x.saturating_add(NAMES), y, SHARES - NAMES - 90, row.party.as_str())?;
         let share = format!(in canvas.alloc; "{}", row.share)?;
+        let room = (SHARES - NAMES - 16).saturating_sub(text_width(share.as_str(), 13));
+        add_name(canvas, x.saturating_add(NAMES), y, room, row.party.as_str())?;
         canvas.text(x.saturating_add(SHARES), y, "r13", share.as_str())?;
         y = y.saturating_add(LINE);
     }

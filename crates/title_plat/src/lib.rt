@@ -3,18 +3,21 @@
 
 mod acres;
 mod canvas;
-mod draw;
 mod escape;
 mod fault;
 mod frame;
 mod label;
 mod legend;
+mod once;
 mod owners;
 mod paint;
 mod parts;
+mod picture;
 mod places;
+mod plat;
 mod report;
 mod row;
+mod same;
 mod section;
 mod sheet;
 mod table;
@@ -22,10 +25,12 @@ mod township;
 mod width;
 
 pub use acres::{NetAcres, net_units, ten_thousandths};
-pub use draw::{draw, picture};
 pub use escape::escaped;
 pub use fault::PlatFault;
+pub use frame::Frame;
 pub use parts::{Part, parts_of};
+pub use picture::{draw, draw_sheet};
+pub use plat::{Plat, plat_of};
 pub use places::{Place, place_of};
 pub use report::{Wanted, read_sheet};
 pub use row::{ESTATES, Row};

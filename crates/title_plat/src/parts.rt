@@ -1,6 +1,10 @@
 //! The parts of a sheet.
 
+ghost use Rattle.std.specs.Prelude.{◌≡◌, ◌≤◌, All, IfOk, length, take};
+ghost use Rattle.title_plat.specs.Parts.{ArePartsOf};
+
 use crate::row::Row;
+use crate::same::{same_estate, same_node};
 use std::alloc::{AllocError, Global};
 use title_aliquot::Node;
 use title_instrument::Estate;
@@ -13,27 +17,27 @@ pub struct Part<'a> {
     pub owners: &'a [Row],
 }
 
-// Whether two rows stand in one part.
-fn is_beside(node: Node, estate: Estate, row: &Row) -> bool {
-    node == row.node && estate == row.estate
-}
-
 // How many rows at the front are of this node and estate.
-fn run_length(rows: &[Row], node: Node, estate: Estate) -> usize {
+fn run_length(rows: &[Row], node: &Node, estate: Estate) -> usize
+    ensures within { result ≤ length rows.now }
+    ensures alike { All (λ row. (row.node ≡ node.now) × (row.estate ≡ estate)) (take result rows.now) }
+{
     for (i, row) in rows.iter().enumerate() {
-        if !is_beside(node, estate, row) {
+        if !same_node(&row.node, node) || !same_estate(row.estate, estate) {
             return i;
         }
     }
     rows.len()
 }
 
-/// The parts of a sheet: each run of rows with one node and estate.
-pub fn parts_of(alloc: Global, rows: &[Row]) -> Result<Vec<Part<'_>>, AllocError> {
+/// The parts of a sheet: runs of rows with one node and estate.
+pub fn parts_of(alloc: Global, rows: &[Row]) -> Result<Vec<Part<'_>>, AllocError>
+    ensures parts { IfOk result (λ parts. ArePartsOf rows.now parts.items) }
+{
     let mut parts = Vec::new(alloc);
     let mut rest = rows;
     while let Some((first, others)) = rest.split_first() {
-        let count = 1 + run_length(others, first.node, first.estate);
+        let count = 1 + run_length(others, &first.node, first.estate);
         let (owners, after) = rest.split_at(count);
         parts.push(Part {
             node: first.node,

@@ -1,5 +1,6 @@
 //! A township as its 36 sections.
 
+use crate::acres::half_acres_of;
 use crate::canvas::{Area, Canvas};
 use crate::label::{acres_text, tip};
 use crate::owners::Keyed;
@@ -24,21 +25,38 @@ fn square_in(section: Section, node: Node) -> Option<Rectangle> {
     }
 }
 
+// The classes and the heights, from the top of a square, of the label of a part with this side: its key, and its acres.
+fn label_type(side: u32) -> ((&'static str, u32), (&'static str, u32)) {
+    if side >= 64 {
+        return (("k14", 35), ("c9", 48));
+    }
+    if side >= 32 {
+        return (("k10", 20), ("c8", 29));
+    }
+    (("k8", 11), ("c7", 16))
+}
+
 // Writes a part's key and, where there is room, its acres.
 fn add_label(canvas: &mut Canvas, area: Area, keyed: &Keyed<'_>) -> Result<(), AllocError> {
     if area.width < 16 {
         return Ok(());
     }
+    let ((key_class, key_y), (class, acres_y)) = label_type(area.width);
     let key = key_text(canvas.alloc, keyed.key)?;
-    let (x, half) = (area.middle(), area.height / 2);
-    let y = area.y.saturating_add(half);
-    if area.width < 32 {
-        return canvas.text(x, y.saturating_add(3), "k8", key.as_str());
-    }
-    canvas.text(x, y.saturating_add(2), if area.width < 64 { "k10" } else { "k14" }, key.as_str())?;
-    if let Node::Part(_, _) = keyed.part.node {
-        let acres = acres_text(canvas.alloc, keyed, "")?;
-        canvas.text(x, y.saturating_add(if area.width < 64 { 11 } else { 14 }), if area.width < 64 { "c8" } else { "c9" }, acres.as_str())?;
+    let acres = acres_text(canvas.alloc, keyed, "")?;
+    let has_acres = area.width >= 32 && half_acres_of(keyed.part.node, 0) <= 1_280;
+    let (x, y) = (area.middle(), area.y.saturating_add(key_y));
+    let height = if has_acres { acres_y.saturating_sub(key_y).saturating_add(12) } else { 13 };
+    let halo = Area {
+        x: x.saturating_sub(area.width / 4).saturating_add(1),
+        y: y.saturating_sub(10),
+        width: (area.width / 2).saturating_sub(2),
+        height: height.min(area.height.saturating_sub(4)),
+    };
+    canvas.rect(halo, "halo")?;
+    canvas.text(x, y, key_class, key.as_str())?;
+    if has_acres {
+        canvas.text(x, area.y.saturating_add(acres_y), class, acres.as_str())?;
     }
     Ok(())
 }

@@ -3,11 +3,12 @@
 use crate::acres::half_acres_of;
 use crate::canvas::{Area, Canvas};
 use crate::fault::PlatFault;
-use crate::frame::{Frame, frame_of};
+use crate::frame::Frame;
 use crate::legend::add_legend;
 use crate::owners::{Keyed, keyed_parts};
 use crate::paint::add_pattern;
-use crate::parts::{Part, parts_of};
+use crate::parts::Part;
+use crate::plat::{Plat, plat_of};
 use crate::report::{Wanted, read_sheet};
 use crate::row::ESTATES;
 use crate::section::{PANEL, add_section};
@@ -15,7 +16,7 @@ use crate::sheet::Sheet;
 use crate::table::add_table;
 use crate::township::add_township;
 use std::alloc::{AllocError, Global};
-use title_aliquot::Acres;
+use title_aliquot::{Acres, Township};
 use title_instrument::Estate;
 
 // The picture's width, the margins, and what lies between two panels.
@@ -26,7 +27,7 @@ const GAP: u32 = 24;
 // The classes of lines and texts.
 const STYLE: &str = "<style>\
 text{font-family:Helvetica,Arial,'Liberation Sans','DejaVu Sans',sans-serif;fill:#111}\
-.title{font-size:28px;font-weight:bold}.sub{font-size:14px;fill:#444}.estate{font-size:16px;font-weight:bold}\
+.title{font-size:28px;font-weight:bold}.sub{font-size:14px;fill:#444}.town{font-size:19px;font-weight:bold}.estate{font-size:16px;font-weight:bold}\
 .note{font-size:11px;fill:#444}.head,.rhead{font-size:13px;font-weight:bold}.l13,.r13,.c13{font-size:13px}.c12{font-size:12px}\
 .c10{font-size:10px}.c9,.number{font-size:9px}.c8{font-size:8px}.c7{font-size:7px}.k20{font-size:20px}.k17{font-size:17px}\
 .k14{font-size:14px}.k12{font-size:12px}.k10{font-size:10px}.k9{font-size:9px}.k8{font-size:8px}\
@@ -65,13 +66,13 @@ fn title_of(alloc: Global, frame: &Frame, parts: &[Part<'_>]) -> Result<String, 
 
 // The half acres of the land that is drawn.
 fn half_acres_drawn(parts: &[Part<'_>], townships: u32) -> u32 {
-    let mut sum: u32 = 0;
+    let mut sum: u64 = 0;
     for part in parts {
         if part.estate == Estate::S {
             sum = sum.saturating_add(half_acres_of(part.node, townships));
         }
     }
-    sum
+    sum.min(4_000_000_000) as u32
 }
 
 // Draws the arrow to the north.
@@ -81,7 +82,7 @@ fn add_north(canvas: &mut Canvas) -> Result<(), AllocError> {
 }
 
 // Draws the three panels of a frame's land from this height on, and answers where they end.
-fn add_panels(canvas: &mut Canvas, top: u32, parts: &[Keyed<'_>], township: Option<title_aliquot::Township>) -> Result<u32, AllocError> {
+fn add_panels(canvas: &mut Canvas, top: u32, parts: &[Keyed<'_>], township: Option<Township>) -> Result<u32, AllocError> {
     let mut x = MARGIN;
     for estate in ESTATES {
         canvas.text(x, top, "estate", estate_name(estate))?;
@@ -103,12 +104,12 @@ fn add_land(canvas: &mut Canvas, top: u32, parts: &[Keyed<'_>], frame: &Frame) -
     let mut y = top;
     for (i, township) in townships.iter().enumerate() {
         if i > 0 {
-            y = y.saturating_add(40);
+            y = y.saturating_add(44);
         }
         if townships.len() > 1 {
             let name = format!(in canvas.alloc; "{township}")?;
-            canvas.text(MARGIN, y, "estate", name.as_str())?;
-            y = y.saturating_add(26);
+            canvas.text(MARGIN, y, "town", name.as_str())?;
+            y = y.saturating_add(28);
         }
         y = add_panels(canvas, y, parts, Some(*township))?;
     }
@@ -118,8 +119,9 @@ fn add_land(canvas: &mut Canvas, top: u32, parts: &[Keyed<'_>], frame: &Frame) -
 // The number of townships that the whole plant counts for.
 fn townships_in(frame: &Frame) -> u32 {
     match frame {
-        Frame::Townships(townships) => townships.len() as u32,
-        _ => 0,
+        Frame::Section(_) => 1,
+        Frame::Townships(townships) => townships.len().min(9_801) as u32,
+        Frame::Everything => 0,
     }
 }
 
@@ -148,10 +150,9 @@ fn add_patterns(canvas: &mut Canvas, keys: usize) -> Result<(), AllocError> {
 
 /// The picture of a sheet, as SVG. `NotASheet` where its rows leave out land of an estate, or name it twice, or its shares
 /// aren't a whole.
-pub fn picture(alloc: Global, sheet: &Sheet) -> Result<String, PlatFault> {
+pub fn draw_sheet(alloc: Global, sheet: &Sheet) -> Result<String, PlatFault> {
     let rows = sheet.rows.as_slice();
-    let parts = parts_of(alloc, rows)?;
-    let frame = frame_of(alloc, parts.as_slice())?;
+    let Plat { parts, frame } = plat_of(alloc, rows)?;
     let (keyed, keys) = keyed_parts(alloc, parts.as_slice())?;
     let townships = townships_in(&frame);
     let mut body = Canvas::new(alloc);
@@ -160,7 +161,7 @@ pub fn picture(alloc: Global, sheet: &Sheet) -> Result<String, PlatFault> {
     let bottom = add_land(&mut body, 116, keyed.as_slice(), &frame)?;
     let top = bottom.saturating_add(46);
     let left = add_legend(&mut body, MARGIN, top, keyed.as_slice())?;
-    let right = add_table(&mut body, 680, top, rows, townships)?;
+    let right = if townships == 0 { top } else { add_table(&mut body, 680, top, rows, townships)? };
     let foot = left.max(right).saturating_add(24);
     body.text(MARGIN, foot, "note", NOTE)?;
     let height = foot.saturating_add(28);
@@ -181,5 +182,5 @@ const NOTE: &str = "Acres are nominal, 640 a section. Net acres are acres times 
 /// The picture of the sheet of a report that is wanted.
 pub fn draw(alloc: Global, report: &[u8], wanted: Wanted) -> Result<String, PlatFault> {
     let sheet = read_sheet(alloc, report, wanted)?;
-    picture(alloc, &sheet)
+    draw_sheet(alloc, &sheet)
 }
