@@ -1,3 +1,5 @@
+pub mod Sheets
+pub mod Squares
 pub mod Parts
 pub mod Once
 pub mod Townships

@@ -12,7 +12,8 @@ use Rattle.title_land.specs.CellLists.{sections_of}
 use Rattle.title_plat.specs.declared.frame.Frame.{Frame}
 use Rattle.title_plat.specs.declared.frame.Frame.TheVariants as frame
 use Rattle.title_plat.specs.declared.parts.Part.{Part}
-use Rattle.title_plat.specs.Parts.{same_estate}
+use Rattle.title_plat.specs.declared.row.Row.{Row}
+use Rattle.title_plat.specs.Parts.{same_estate, owners_of}
 
 -- a part is one of this estate and has the cell
 abbrev pub has_cell : Estate → Cell → Part → Bool
@@ -36,8 +37,8 @@ abbrev pub IsOnceIn : List Part → Section → Type 0
 IsOnceIn parts s = (row : ℕ) → row < side depth → IsOnceInRow parts s row
 
 -- the shares of a part's owners are a whole
-abbrev pub IsWhole : Part → Type 0
-IsWhole part = sum_by (λ row. row.share) part.owners.now ≡ whole_units
+abbrev pub IsWhole : List Row → Part → Type 0
+IsWhole rows part = sum_by (λ row. row.share) (owners_of rows part) ≡ whole_units
 
 -- so does each cell of the land that is drawn: of its section, or of each section of its townships
 abbrev pub IsOnceOn : List Part → Frame → Type 0

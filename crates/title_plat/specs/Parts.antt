@@ -1,7 +1,8 @@
 -- The parts of a sheet: a node, an estate, and the rows that say who owns it there.
-use Rattle.std.specs.Prelude.{◌≡◌, ◌≤◌, Bool, true, false, List, flat_map, length, All}
+use Rattle.std.specs.Prelude.{◌≡◌, ◌≤◌, ◌<◌, ◌-◌, Bool, true, false, List, flat_map, length, take, drop, All}
 use Rattle.title_instrument.specs.declared.parts.Estate.{Estate}
 use Rattle.title_instrument.specs.declared.parts.Estate.TheVariants.{S, O, M}
+use Rattle.title_land.specs.declared.node.Node.{Node}
 use Rattle.title_plat.specs.declared.parts.Part.{Part}
 use Rattle.title_plat.specs.declared.row.Row.{Row}
 
@@ -17,14 +18,18 @@ same_estate M S = false
 same_estate M O = false
 same_estate M M = true
 
--- the row is one of the part's node and estate
-abbrev pub IsOwnerIn : Part → Row → Type 0
-IsOwnerIn part row = (row.node ≡ part.node) × (row.estate ≡ part.estate)
+-- the row is one of this node and estate
+abbrev pub IsRowOf : Node → Estate → Row → Type 0
+IsRowOf node estate row = (row.node ≡ node) × (row.estate ≡ estate)
 
--- the part has owners, and each of its rows is of its node and estate
-abbrev pub IsPart : Part → Type 0
-IsPart part = (1 ≤ length part.owners.now) × All (IsOwnerIn part) part.owners.now
+-- the rows of a part
+abbrev pub owners_of : List Row → Part → List Row
+owners_of rows part = take (part.end - part.first) (drop part.first rows)
+
+-- the part has rows of the sheet, one at least, and each is of its node and estate
+abbrev pub IsPart : List Row → Part → Type 0
+IsPart rows part = (part.first < part.end) × (part.end ≤ length rows) × All (IsRowOf part.node part.estate) (owners_of rows part)
 
 -- the parts, one after another, have the sheet's rows, each once and in their order
 abbrev pub ArePartsOf : List Row → List Part → Type 0
-ArePartsOf rows parts = (flat_map (λ part. part.owners.now) parts ≡ rows) × All IsPart parts
+ArePartsOf rows parts = (flat_map (owners_of rows) parts ≡ rows) × All (IsPart rows) parts

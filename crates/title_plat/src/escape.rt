@@ -29,15 +29,22 @@ fn push_escaped(out: &mut String, c: char) -> Result<(), AllocError>
     }
 }
 
+// Characters as they stand in XML.
+fn escape_all(alloc: Global, characters: &[char]) -> Result<String, AllocError>
+    ensures escaped { IfOk result (λ out. string_bytes out ≡ escapes characters.now) }
+{
+    let mut out = String::new(alloc);
+    for c in characters {
+        push_escaped(&mut out, *c)?;
+    }
+    Ok(out)
+}
+
 /// A text as it stands in XML: the five characters that XML gives a meaning as their entities, characters that XML forbids as
 /// U+FFFD, and all others as they are.
 pub fn escaped(alloc: Global, text: &str) -> Result<String, AllocError>
     ensures escaped { IfOk result (λ out. string_bytes out ≡ escapes (chars text.now)) }
 {
     let characters: Vec<char> = text.chars().collect(alloc)?;
-    let mut out = String::new(alloc);
-    for c in characters.as_slice() {
-        push_escaped(&mut out, *c)?;
-    }
-    Ok(out)
+    escape_all(alloc, characters.as_slice())
 }

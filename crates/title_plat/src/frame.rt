@@ -33,7 +33,7 @@ fn township_of(node: Node) -> Option<Township> {
 }
 
 // The section in which all parts lie.
-fn sole_section(parts: &[Part<'_>]) -> Option<Section> {
+fn sole_section(parts: &[Part]) -> Option<Section> {
     let first = section_of(parts.first()?.node)?;
     for part in parts {
         match section_of(part.node) {
@@ -49,7 +49,7 @@ fn has_township(townships: &[Township], township: Township) -> bool {
 }
 
 /// The land that is drawn for these parts.
-pub(crate) fn frame_of(alloc: Global, parts: &[Part<'_>]) -> Result<Frame, AllocError> {
+pub(crate) fn frame_of(alloc: Global, parts: &[Part]) -> Result<Frame, AllocError> {
     if let Some(section) = sole_section(parts) {
         return Ok(Frame::Section(section));
     }

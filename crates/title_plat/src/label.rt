@@ -69,7 +69,7 @@ fn lines_of(alloc: Global, keyed: &Keyed<'_>, style: Style, width: u32) -> Resul
     if !acres.is_empty() {
         lines.push(acres)?;
     }
-    let owners = keyed.part.owners;
+    let owners = keyed.owners;
     for (i, row) in owners.iter().enumerate() {
         if i >= style.owners {
             break;
@@ -101,7 +101,7 @@ pub(crate) fn label(canvas: &mut Canvas, square: Area, keyed: &Keyed<'_>) -> Res
     let key = key_text(alloc, keyed.key)?;
     let lines = lines_of(alloc, keyed, style, width)?;
     let block = (widest(lines.as_slice(), style.size).max(text_width(key.as_str(), style.key_size)).saturating_add(6)).min(square.width.saturating_sub(2));
-    let height = style.key_size.saturating_add(style.step.saturating_mul(lines.len() as u32));
+    let height = style.key_size.saturating_add(style.step.saturating_mul(lines.len().min(64) as u32));
     let top = square.y.saturating_add(square.height.saturating_sub(height) / 2);
     let x = square.middle();
     let halo = Area { x: x.saturating_sub(block / 2), y: top.saturating_sub(1), width: block, height: height.saturating_add(2) };
@@ -120,7 +120,7 @@ pub(crate) fn tip(alloc: Global, keyed: &Keyed<'_>) -> Result<String, AllocError
     let acres = acres_text(alloc, keyed, " acres")?;
     let node = keyed.part.node;
     let mut out = format!(in alloc; "{node} {acres}")?;
-    for row in keyed.part.owners {
+    for row in keyed.owners {
         let owner = format!(in alloc; "\n{} {}", row.party, row.share)?;
         out.push_str(owner.as_str())?;
     }

@@ -42,7 +42,7 @@ fn add_holding(canvas: &mut Canvas, x: u32, top: u32, keyed: &Keyed<'_>) -> Resu
     let key = key_text(canvas.alloc, keyed.key)?;
     canvas.rect(Area { x: x.saturating_add(11), y: top.saturating_sub(12), width: 16, height: 14 }, "halo")?;
     canvas.text(swatch.middle(), top.saturating_sub(1), "k12", key.as_str())?;
-    let y = add_owners(canvas, x, top, keyed.part.owners)?;
+    let y = add_owners(canvas, x, top, keyed.owners)?;
     Ok(y.saturating_add(6))
 }
 

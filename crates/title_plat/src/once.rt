@@ -1,13 +1,15 @@
 //! Whether rows are a sheet's: whether each cell lies in one part of every estate, or in none of any.
 
-ghost use Rattle.std.specs.Prelude.{◌≡◌, true, All, IfOk, count_by};
+ghost use Rattle.std.specs.Prelude.{◌≡◌, true, All, IfOk, count_by, sum_by};
 ghost use Rattle.title_instrument.specs.declared.parts.Estate.{Estate};
 ghost use Rattle.title_land.specs.CellLists.{sections_of};
 ghost use Rattle.title_plat.specs.Parts.{same_estate};
+ghost use Rattle.title_share.specs.Rows.{whole_units};
 ghost use Rattle.title_plat.specs.Once.{is_once, parts_at, IsOnceIn, IsOnceInRow, IsOnceOn, IsWhole};
 
 use crate::frame::Frame;
 use crate::parts::Part;
+use crate::row::Row;
 use crate::same::same_estate;
 use std::alloc::{AllocError, Global};
 use title_aliquot::{Cell, Rectangle, Section, Township};
@@ -15,7 +17,7 @@ use title_instrument::Estate;
 use title_share::WHOLE;
 
 // How many parts of an estate have a cell.
-fn parts_at(parts: &[Part<'_>], estate: Estate, cell: Cell) -> usize
+fn parts_at(parts: &[Part], estate: Estate, cell: Cell) -> usize
     ensures count { result ≡ parts_at parts.now estate cell }
 {
     let mut count = 0;
@@ -28,7 +30,7 @@ fn parts_at(parts: &[Part<'_>], estate: Estate, cell: Cell) -> usize
 }
 
 // Whether a cell lies in one part of each estate, or in none of any.
-fn is_once(parts: &[Part<'_>], cell: Cell) -> bool
+fn is_once(parts: &[Part], cell: Cell) -> bool
     ensures once { result ≡ is_once parts.now cell }
 {
     let count = parts_at(parts, Estate::S, cell);
@@ -38,7 +40,7 @@ fn is_once(parts: &[Part<'_>], cell: Cell) -> bool
 }
 
 // Whether each cell of a section's row does.
-fn row_is_once(parts: &[Part<'_>], section: Section, row: u8) -> bool
+fn row_is_once(parts: &[Part], section: Section, row: u8) -> bool
     ensures once { result ≡ true → IsOnceInRow parts.now section row }
 {
     for column in 0..Rectangle::section().width {
@@ -55,7 +57,7 @@ fn row_is_once(parts: &[Part<'_>], section: Section, row: u8) -> bool
 }
 
 /// Whether each cell of a section lies in one part of every estate, or in none of any.
-pub(crate) fn section_is_once(parts: &[Part<'_>], section: Section) -> bool
+pub(crate) fn section_is_once(parts: &[Part], section: Section) -> bool
     ensures once { result ≡ true → IsOnceIn parts.now section }
 {
     for row in 0..Rectangle::section().height {
@@ -66,21 +68,39 @@ pub(crate) fn section_is_once(parts: &[Part<'_>], section: Section) -> bool
     true
 }
 
-// Whether each cell of a township's sections does.
-fn township_is_once(alloc: Global, parts: &[Part<'_>], township: Township) -> Result<bool, AllocError>
-    ensures once { IfOk result (λ once. once ≡ true → All (IsOnceIn parts.now) (sections_of township)) }
+// Whether each cell of some sections does.
+fn sections_are_once(parts: &[Part], sections: &[Section]) -> bool
+    ensures once { result ≡ true → All (IsOnceIn parts.now) sections.now }
 {
-    let sections: Vec<Section> = township.sections().collect(alloc)?;
-    for section in sections.as_slice() {
+    for section in sections {
         if !section_is_once(parts, *section) {
-            return Ok(false);
+            return false;
         }
     }
-    Ok(true)
+    true
+}
+
+// The sections of a township.
+fn sections_in(alloc: Global, township: Township) -> Result<Vec<Section>, AllocError>
+    ensures sections { IfOk result (λ sections. sections.items ≡ sections_of township) }
+{
+    township.sections().collect(alloc)
+}
+
+// Whether each cell of a township's sections does.
+fn township_is_once(
+    alloc: Global,
+    parts: &[Part],
+    township: Township,
+) -> Result<bool, AllocError>
+    ensures once { IfOk result (λ once. once ≡ true → All (IsOnceIn parts.now) (sections_of township)) }
+{
+    let sections = sections_in(alloc, township)?;
+    Ok(sections_are_once(parts, sections.as_slice()))
 }
 
 // Whether each cell of some townships does.
-fn townships_are_once(alloc: Global, parts: &[Part<'_>], townships: &[Township]) -> Result<bool, AllocError>
+fn townships_are_once(alloc: Global, parts: &[Part], townships: &[Township]) -> Result<bool, AllocError>
     ensures once { IfOk result (λ once. once ≡ true
         → All (λ t. All (IsOnceIn parts.now) (sections_of t)) townships.now) }
 {
@@ -93,7 +113,7 @@ fn townships_are_once(alloc: Global, parts: &[Part<'_>], townships: &[Township])
 }
 
 // How many parts an estate has.
-fn parts_in(parts: &[Part<'_>], estate: Estate) -> usize
+fn parts_in(parts: &[Part], estate: Estate) -> usize
     ensures count { result ≡ count_by (λ part. same_estate part.estate estate) parts.now }
 {
     let mut count = 0;
@@ -106,7 +126,7 @@ fn parts_in(parts: &[Part<'_>], estate: Estate) -> usize
 }
 
 // Whether each estate has one part.
-fn are_three(parts: &[Part<'_>]) -> bool
+fn are_three(parts: &[Part]) -> bool
     ensures three { result ≡ true → (estate : Estate) → count_by (λ part. same_estate part.estate estate) parts.now ≡ 1 }
 {
     parts_in(parts, Estate::S) == 1
@@ -115,7 +135,7 @@ fn are_three(parts: &[Part<'_>]) -> bool
 }
 
 /// Whether each cell of the land that is drawn lies in one part of every estate, or in none of any.
-pub(crate) fn is_once_on(alloc: Global, parts: &[Part<'_>], frame: &Frame) -> Result<bool, AllocError>
+pub(crate) fn is_once_on(alloc: Global, parts: &[Part], frame: &Frame) -> Result<bool, AllocError>
     ensures once { IfOk result (λ once. once ≡ true → IsOnceOn parts.now frame.now) }
 {
     match frame {
@@ -125,12 +145,12 @@ pub(crate) fn is_once_on(alloc: Global, parts: &[Part<'_>], frame: &Frame) -> Re
     }
 }
 
-// Whether the shares of a part's owners are a whole.
-fn is_whole(part: &Part<'_>) -> bool
-    ensures whole { result ≡ true → IsWhole part.now }
+// Whether the shares of some rows are a whole.
+fn sums_to_whole(owners: &[Row]) -> bool
+    ensures whole { result ≡ true → sum_by (λ row. row.share) owners.now ≡ whole_units }
 {
     let mut sum: u64 = 0;
-    for row in part.owners {
+    for row in owners {
         match sum.checked_add(row.share.units()) {
             Some(more) => sum = more,
             None => return false,
@@ -139,12 +159,22 @@ fn is_whole(part: &Part<'_>) -> bool
     sum == WHOLE
 }
 
+// Whether the shares of a part's owners are a whole.
+fn is_whole(rows: &[Row], part: &Part) -> bool
+    ensures whole { result ≡ true → IsWhole rows.now part.now }
+{
+    if part.first > part.end || part.end > rows.len() {
+        return false;
+    }
+    sums_to_whole(&rows[part.first..part.end])
+}
+
 /// Whether the shares of each part's owners are a whole.
-pub(crate) fn are_whole(parts: &[Part<'_>]) -> bool
-    ensures whole { result ≡ true → All IsWhole parts.now }
+pub(crate) fn are_whole(rows: &[Row], parts: &[Part]) -> bool
+    ensures whole { result ≡ true → All (IsWhole rows.now) parts.now }
 {
     for part in parts {
-        if !is_whole(part) {
+        if !is_whole(rows, part) {
             return false;
         }
     }

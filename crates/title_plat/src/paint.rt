@@ -45,7 +45,7 @@ fn ink(key: usize) -> &'static str {
 
 // The hatching of a key, as a path in a square of 10 by 10.
 fn hatching(key: usize) -> &'static str {
-    match (key + key / 8) % 8 {
+    match (key % 8 + key / 8 % 8) % 8 {
         0 => "",
         1 => "M-2 2l4 -4M0 10l10 -10M8 12l4 -4",
         2 => "M0 5h10",

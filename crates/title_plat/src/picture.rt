@@ -9,20 +9,24 @@ use crate::owners::{Keyed, keyed_parts};
 use crate::paint::add_pattern;
 use crate::parts::Part;
 use crate::plat::{Plat, plat_of};
-use crate::report::{Wanted, read_sheet};
-use crate::row::ESTATES;
+use crate::report::read_sheet;
+use crate::row::{ESTATES, Row};
+use crate::same::same_node;
 use crate::section::{PANEL, add_section};
-use crate::sheet::Sheet;
+use crate::sheet::{Sheet, Wanted};
 use crate::table::add_table;
 use crate::township::add_township;
 use std::alloc::{AllocError, Global};
-use title_aliquot::{Acres, Township};
+use title_aliquot::{Acres, Node, Section, Township};
 use title_instrument::Estate;
 
 // The picture's width, the margins, and what lies between two panels.
 const WIDTH: u32 = 1280;
 const MARGIN: u32 = 40;
 const GAP: u32 = 24;
+
+// Where the table of net acres begins, to the right of the key.
+const TABLE: u32 = 680;
 
 // The classes of lines and texts.
 const STYLE: &str = "<style>\
@@ -47,10 +51,20 @@ fn estate_name(estate: Estate) -> &'static str {
     }
 }
 
+// Whether all parts are of one node.
+fn are_all_in(parts: &[Part], node: &Node) -> bool {
+    for part in parts {
+        if !same_node(&part.node, node) {
+            return false;
+        }
+    }
+    true
+}
+
 // What the picture shows, as its title tells it.
-fn title_of(alloc: Global, frame: &Frame, parts: &[Part<'_>]) -> Result<String, AllocError> {
+fn title_of(alloc: Global, frame: &Frame, parts: &[Part]) -> Result<String, AllocError> {
     if let Some(first) = parts.first() {
-        if parts.iter().all(|part| part.node == first.node) {
+        if are_all_in(parts, &first.node) {
             return format!(in alloc; "{}", first.node);
         }
     }
@@ -65,7 +79,7 @@ fn title_of(alloc: Global, frame: &Frame, parts: &[Part<'_>]) -> Result<String, 
 }
 
 // The half acres of the land that is drawn.
-fn half_acres_drawn(parts: &[Part<'_>], townships: u32) -> u32 {
+fn half_acres_drawn(parts: &[Part], townships: u32) -> u32 {
     let mut sum: u64 = 0;
     for part in parts {
         if part.estate == Estate::S {
@@ -81,26 +95,53 @@ fn add_north(canvas: &mut Canvas) -> Result<(), AllocError> {
     canvas.text(1222, 24, "north", "N")
 }
 
-// Draws the three panels of a frame's land from this height on, and answers where they end.
-fn add_panels(canvas: &mut Canvas, top: u32, parts: &[Keyed<'_>], township: Option<Township>) -> Result<u32, AllocError> {
+// What land a row of panels shows.
+#[derive(Clone, Copy)]
+enum Shown {
+    Section(Section),
+    Township(Township),
+    Everything,
+}
+
+// Draws an estate's panel.
+fn add_panel(
+    canvas: &mut Canvas,
+    panel: Area,
+    shown: &Shown,
+    parts: &[Keyed<'_>],
+    estate: Estate,
+) -> Result<(), AllocError> {
+    match shown {
+        Shown::Section(section) => add_section(canvas, panel, Some(*section), parts, estate),
+        Shown::Township(township) => add_township(canvas, panel, *township, parts, estate),
+        Shown::Everything => add_section(canvas, panel, None, parts, estate),
+    }
+}
+
+// Draws the three panels of some land from this height on, and answers where they end.
+fn add_panels(
+    canvas: &mut Canvas,
+    top: u32,
+    parts: &[Keyed<'_>],
+    shown: &Shown,
+) -> Result<u32, AllocError> {
     let mut x = MARGIN;
     for estate in ESTATES {
         canvas.text(x, top, "estate", estate_name(estate))?;
         let panel = Area::square(x, top.saturating_add(10), PANEL);
-        match township {
-            Some(township) => add_township(canvas, panel, township, parts, estate)?,
-            None => add_section(canvas, panel, parts, estate)?,
-        }
+        add_panel(canvas, panel, shown, parts, estate)?;
         x = x.saturating_add(PANEL + GAP);
     }
     Ok(top.saturating_add(PANEL + 10))
 }
 
-// Draws the land of a frame from this height on, and answers where it ends.
-fn add_land(canvas: &mut Canvas, top: u32, parts: &[Keyed<'_>], frame: &Frame) -> Result<u32, AllocError> {
-    let Frame::Townships(townships) = frame else {
-        return add_panels(canvas, top, parts, None);
-    };
+// Draws each of some townships from this height on, and answers where the last ends.
+fn add_townships(
+    canvas: &mut Canvas,
+    top: u32,
+    parts: &[Keyed<'_>],
+    townships: &[Township],
+) -> Result<u32, AllocError> {
     let mut y = top;
     for (i, township) in townships.iter().enumerate() {
         if i > 0 {
@@ -111,9 +152,23 @@ fn add_land(canvas: &mut Canvas, top: u32, parts: &[Keyed<'_>], frame: &Frame) -
             canvas.text(MARGIN, y, "town", name.as_str())?;
             y = y.saturating_add(28);
         }
-        y = add_panels(canvas, y, parts, Some(*township))?;
+        y = add_panels(canvas, y, parts, &Shown::Township(*township))?;
     }
     Ok(y)
+}
+
+// Draws the land of a frame from this height on, and answers where it ends.
+fn add_land(
+    canvas: &mut Canvas,
+    top: u32,
+    parts: &[Keyed<'_>],
+    frame: &Frame,
+) -> Result<u32, AllocError> {
+    match frame {
+        Frame::Section(section) => add_panels(canvas, top, parts, &Shown::Section(*section)),
+        Frame::Townships(townships) => add_townships(canvas, top, parts, townships.as_slice()),
+        Frame::Everything => add_panels(canvas, top, parts, &Shown::Everything),
+    }
 }
 
 // The number of townships that the whole plant counts for.
@@ -148,32 +203,60 @@ fn add_patterns(canvas: &mut Canvas, keys: usize) -> Result<(), AllocError> {
     canvas.raw("</defs>\n")
 }
 
-/// The picture of a sheet, as SVG. `NotASheet` where its rows leave out land of an estate, or name it twice, or its shares
-/// aren't a whole.
-pub fn draw_sheet(alloc: Global, sheet: &Sheet) -> Result<String, PlatFault> {
-    let rows = sheet.rows.as_slice();
-    let Plat { parts, frame } = plat_of(alloc, rows)?;
-    let (keyed, keys) = keyed_parts(alloc, parts.as_slice())?;
-    let townships = townships_in(&frame);
-    let mut body = Canvas::new(alloc);
-    let title = title_of(alloc, &frame, parts.as_slice())?;
-    add_heading(&mut body, sheet, title.as_str(), half_acres_drawn(parts.as_slice(), townships))?;
-    let bottom = add_land(&mut body, 116, keyed.as_slice(), &frame)?;
-    let top = bottom.saturating_add(46);
-    let left = add_legend(&mut body, MARGIN, top, keyed.as_slice())?;
-    let right = if townships == 0 { top } else { add_table(&mut body, 680, top, rows, townships)? };
+// The key and the table below the panels, from this height on, and where they end.
+fn add_lists(
+    canvas: &mut Canvas,
+    top: u32,
+    rows: &[Row],
+    parts: &[Keyed<'_>],
+    townships: u32,
+) -> Result<u32, PlatFault> {
+    let left = add_legend(canvas, MARGIN, top, parts)?;
+    let right = if townships == 0 {
+        top
+    } else {
+        add_table(canvas, TABLE, top, rows, townships)?
+    };
     let foot = left.max(right).saturating_add(24);
-    body.text(MARGIN, foot, "note", NOTE)?;
-    let height = foot.saturating_add(28);
-    let mut page = Canvas::new(alloc);
-    let head = format!(in alloc; "<svg xmlns=\"http://www.w3.org/2000/svg\" width=\"{WIDTH}\" height=\"{height}\" viewBox=\"0 0 {WIDTH} {height}\">\n")?;
+    canvas.text(MARGIN, foot, "note", NOTE)?;
+    Ok(foot.saturating_add(28))
+}
+
+// The page round the elements of a picture.
+fn page_of(body: Canvas, height: u32, keys: usize) -> Result<String, AllocError> {
+    let mut page = Canvas::new(body.alloc);
+    let head = format!(in page.alloc; "<svg xmlns=\"http://www.w3.org/2000/svg\" width=\"{WIDTH}\" height=\"{height}\" viewBox=\"0 0 {WIDTH} {height}\">\n")?;
     page.raw(head.as_str())?;
     page.raw(STYLE)?;
     add_patterns(&mut page, keys)?;
-    page.rect(Area { x: 0, y: 0, width: WIDTH, height }, "paper")?;
-    page.raw(body.into_text().as_str())?;
+    let paper = Area {
+        x: 0,
+        y: 0,
+        width: WIDTH,
+        height,
+    };
+    page.rect(paper, "paper")?;
+    let text = body.into_text();
+    page.raw(text.as_str())?;
     page.raw("</svg>\n")?;
     Ok(page.into_text())
+}
+
+/// The picture of a sheet, as SVG. `NotASheet` where its rows leave out land of an estate, or name it twice, or its shares
+/// aren't a whole.
+pub fn draw_sheet(alloc: Global, sheet: &Sheet) -> Result<String, PlatFault> {
+    let rows = sheet.rows();
+    let Plat { parts, frame } = plat_of(alloc, rows)?;
+    let (keyed, keys) = keyed_parts(alloc, rows, parts.as_slice())?;
+    let townships = townships_in(&frame);
+    let mut body = Canvas::new(alloc);
+    let title = title_of(alloc, &frame, parts.as_slice())?;
+    let half_acres = half_acres_drawn(parts.as_slice(), townships);
+    add_heading(&mut body, sheet, title.as_str(), half_acres)?;
+    let bottom = add_land(&mut body, 116, keyed.as_slice(), &frame)?;
+    let top = bottom.saturating_add(46);
+    let height = add_lists(&mut body, top, rows, keyed.as_slice(), townships)?;
+    Ok(page_of(body, height, keys)?)
 }
 
 // What stands below.

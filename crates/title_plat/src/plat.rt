@@ -13,21 +13,21 @@ use std::alloc::Global;
 
 /// The parts of a sheet, with the land that is drawn for them.
 #[derive(Drop)]
-pub struct Plat<'a> {
-    pub parts: Vec<Part<'a>>,
+pub struct Plat {
+    pub parts: Vec<Part>,
     pub frame: Frame,
 }
 
 /// The plat of a sheet's rows. `NotASheet` where a cell of the land that is drawn lies in a part of one estate and in none of
 /// another, or in two of one, or where the shares of a part aren't a whole.
-pub fn plat_of(alloc: Global, rows: &[Row]) -> Result<Plat<'_>, PlatFault>
+pub fn plat_of(alloc: Global, rows: &[Row]) -> Result<Plat, PlatFault>
     ensures parts { IfOk result (λ plat. ArePartsOf rows.now plat.parts.items) }
     ensures once { IfOk result (λ plat. IsOnceOn plat.parts.items plat.frame) }
-    ensures whole { IfOk result (λ plat. All IsWhole plat.parts.items) }
+    ensures whole { IfOk result (λ plat. All (IsWhole rows.now) plat.parts.items) }
 {
     let parts = parts_of(alloc, rows)?;
     let frame = frame_of(alloc, parts.as_slice())?;
-    if parts.is_empty() || !are_whole(parts.as_slice()) {
+    if parts.is_empty() || !are_whole(rows, parts.as_slice()) {
         return Err(PlatFault::NotASheet);
     }
     if !is_once_on(alloc, parts.as_slice(), &frame)? {

@@ -2,27 +2,19 @@
 
 use crate::fault::PlatFault;
 use crate::row::Row;
-use crate::sheet::Sheet;
+use crate::sheet::{Extent, Sheet, Wanted, sheet_in};
 use csv::{ByteRecord, ReaderBuilder, StringRecord};
 use std::alloc::Global;
 use title_aliquot::{DescFault, Node, read};
 use title_instrument::Estate;
 use title_share::{Share, number};
 
-/// Which sheet of a report is wanted.
-#[derive(Clone, Copy, Debug, PartialEq, Eq)]
-pub enum Wanted {
-    /// The sheet with this place, from 1.
-    Place(u64),
-    Last,
-}
-
-// What has been read of a report so far: how many sheets have begun, the rows of the one that is wanted, and how many rows
-// of the sheet that began last are to come.
+// What has been read of a report so far: the rows of its sheets, which of them are those of each sheet, and how many rows of
+// the sheet that began last are to come.
 #[derive(Drop)]
 struct Reading {
-    sheets: u64,
     rows: Vec<Row>,
+    sheets: Vec<Extent>,
     to_come: u64,
 }
 
@@ -113,35 +105,39 @@ fn keep(rows: &mut Vec<Row>, row: Row) -> Result<(), PlatFault> {
 
 impl Reading {
     // Takes a record that stands in no sheet.
-    fn take_outside(&mut self, alloc: Global, wanted: Wanted, record: &StringRecord) -> Result<(), PlatFault> {
+    fn take_outside(&mut self, record: &StringRecord) -> Result<(), PlatFault> {
         if field(record, 1) != "sheet" {
-            return if is_passed_over(record) { Ok(()) } else { Err(PlatFault::NotAReport) };
+            return if is_passed_over(record) {
+                Ok(())
+            } else {
+                Err(PlatFault::NotAReport)
+            };
         }
-        let Some(rows) = number(field(record, 2)) else {
+        let Some(count) = number(field(record, 2)) else {
             return Err(PlatFault::NotAReport);
         };
-        self.sheets = self.sheets.saturating_add(1);
-        self.to_come = rows;
-        if wanted == Wanted::Last || wanted == Wanted::Place(self.sheets) {
-            self.rows = Vec::new(alloc);
+        let first = self.rows.len();
+        let Some(end) = first.checked_add(count as usize) else {
+            return Err(PlatFault::NotAReport);
+        };
+        self.to_come = count;
+        match self.sheets.push(Extent { first, end }) {
+            Ok(()) => Ok(()),
+            Err(_) => Err(PlatFault::Memory),
         }
-        Ok(())
     }
 
     // Takes a record.
-    fn take(&mut self, alloc: Global, wanted: Wanted, raw: ByteRecord) -> Result<(), PlatFault> {
+    fn take(&mut self, alloc: Global, raw: ByteRecord) -> Result<(), PlatFault> {
         let Ok(record) = StringRecord::from_byte_record(raw) else {
             return Err(PlatFault::NotAReport);
         };
         if self.to_come == 0 {
-            return self.take_outside(alloc, wanted, &record);
+            return self.take_outside(&record);
         }
         let row = row_in(alloc, &record)?;
         self.to_come -= 1;
-        if wanted == Wanted::Last || wanted == Wanted::Place(self.sheets) {
-            return keep(&mut self.rows, row);
-        }
-        Ok(())
+        keep(&mut self.rows, row)
     }
 
     // The sheet that is wanted.
@@ -149,17 +145,19 @@ impl Reading {
         if self.to_come > 0 {
             return Err(PlatFault::NotAReport);
         }
+        let Some(extent) = sheet_in(self.sheets.as_slice(), wanted) else {
+            return Err(PlatFault::NoSheet);
+        };
+        let sheets = self.sheets.len() as u64;
         let place = match wanted {
             Wanted::Place(place) => place,
-            Wanted::Last => self.sheets,
+            Wanted::Last => sheets,
         };
-        if place == 0 || place > self.sheets {
-            return Err(PlatFault::NoSheet);
-        }
         Ok(Sheet {
             place,
-            sheets: self.sheets,
+            sheets,
             rows: self.rows,
+            extent,
         })
     }
 }
@@ -172,13 +170,13 @@ pub fn read_sheet(alloc: Global, report: &[u8], wanted: Wanted) -> Result<Sheet,
         .flexible(true)
         .from_reader(alloc, report);
     let mut reading = Reading {
-        sheets: 0,
         rows: Vec::new(alloc),
+        sheets: Vec::new(alloc),
         to_come: 0,
     };
     for record in rdr.into_byte_records() {
         match record {
-            Ok(raw) => reading.take(alloc, wanted, raw)?,
+            Ok(raw) => reading.take(alloc, raw)?,
             Err(_) => return Err(PlatFault::Memory),
         }
     }

@@ -3,8 +3,9 @@
 use crate::canvas::{Area, Canvas};
 use crate::label::{label, tip};
 use crate::owners::Keyed;
+use crate::squares::square_in;
 use std::alloc::AllocError;
-use title_aliquot::{Node, Rectangle, Within};
+use title_aliquot::{Node, Rectangle, Section};
 use title_instrument::Estate;
 
 /// The side of a panel, a section's or a township's, in pixels.
@@ -23,17 +24,17 @@ pub(crate) fn area_in(panel: Area, rectangle: Rectangle, cell: u32) -> Area {
     }
 }
 
-// The square of a part's node in its section.
-fn square_of(node: Node) -> Rectangle {
-    match node {
-        Node::Part(_, within) => within.square(),
-        _ => Within::section().square(),
+// The square of a part's node in the section of the panel; the whole panel where that isn't a section's.
+fn square_of(section: Option<Section>, node: &Node) -> Rectangle {
+    match section {
+        Some(section) => square_in(section, node).unwrap_or(Rectangle::section()),
+        None => Rectangle::section(),
     }
 }
 
 // Draws a part.
-fn add_part(canvas: &mut Canvas, panel: Area, keyed: &Keyed<'_>) -> Result<(), AllocError> {
-    let square = area_in(panel, square_of(keyed.part.node), CELL);
+fn add_part(canvas: &mut Canvas, panel: Area, section: Option<Section>, keyed: &Keyed<'_>) -> Result<(), AllocError> {
+    let square = area_in(panel, square_of(section, &keyed.part.node), CELL);
     let tip = tip(canvas.alloc, keyed)?;
     canvas.begin(tip.as_str())?;
     canvas.filled(square, keyed.key)?;
@@ -50,12 +51,12 @@ fn add_quarter_lines(canvas: &mut Canvas, panel: Area) -> Result<(), AllocError>
 }
 
 /// Draws the parts of an estate in a section, or of the whole plant.
-pub(crate) fn add_section(canvas: &mut Canvas, panel: Area, parts: &[Keyed<'_>], estate: Estate) -> Result<(), AllocError> {
+pub(crate) fn add_section(canvas: &mut Canvas, panel: Area, section: Option<Section>, parts: &[Keyed<'_>], estate: Estate) -> Result<(), AllocError> {
     canvas.rect(panel, "land")?;
     add_quarter_lines(canvas, panel)?;
     for keyed in parts {
         if keyed.part.estate == estate {
-            add_part(canvas, panel, keyed)?;
+            add_part(canvas, panel, section, keyed)?;
         }
     }
     canvas.rect(panel, "outline")

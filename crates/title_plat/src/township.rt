@@ -7,23 +7,14 @@ use crate::owners::Keyed;
 use crate::paint::key_text;
 use crate::places::place_of;
 use crate::section::area_in;
+use crate::squares::square_in;
 use std::alloc::AllocError;
-use title_aliquot::{Node, Rectangle, Section, Township, Within};
+use title_aliquot::{Section, Township};
 use title_instrument::Estate;
 
 // The pixels of a section's side in a township's panel, and of a cell's.
 const SECTION: u32 = 64;
 const CELL: u32 = 4;
-
-// Where a node is drawn in a section: none where it has no cell of it.
-fn square_in(section: Section, node: Node) -> Option<Rectangle> {
-    match node {
-        Node::Everything => Some(Within::section().square()),
-        Node::Township(township) if township.is(section.township) => Some(Within::section().square()),
-        Node::Part(other, within) if other.is(section) => Some(within.square()),
-        _ => None,
-    }
-}
 
 // The classes and the heights, from the top of a square, of the label of a part with this side: its key, and its acres.
 fn label_type(side: u32) -> ((&'static str, u32), (&'static str, u32)) {
@@ -63,7 +54,7 @@ fn add_label(canvas: &mut Canvas, area: Area, keyed: &Keyed<'_>) -> Result<(), A
 
 // Draws a part in a section.
 fn add_part(canvas: &mut Canvas, square: Area, section: Section, keyed: &Keyed<'_>) -> Result<(), AllocError> {
-    let Some(rectangle) = square_in(section, keyed.part.node) else {
+    let Some(rectangle) = square_in(section, &keyed.part.node) else {
         return Ok(());
     };
     let area = area_in(square, rectangle, CELL);

@@ -1,26 +1,30 @@
 //! The program `titleplat`: reads a report on standard input and draws a sheet of it, as SVG, on standard output.
 #![tactic(auto)]
 
+mod asked;
+mod serving;
+
+use asked::asked;
+use serving::{refuse, serve};
 use std::process::ExitCode;
 use std::{env, io};
-use title_device::{Device, Sink, Source, read_all, write_all};
-use title_plat::{Wanted, draw};
+use title_device::Device;
+
+fn words(rt: &HostRuntime) -> io::Result<Vec<String>> {
+    let words = env::args(rt)?.skip(1).collect(rt.alloc())?;
+    Ok(words)
+}
 
 fn main(rt: HostRuntime) -> ExitCode {
     let mut source = Device::new(rt.stdin());
     let mut sink = Device::new(io::writer(&rt));
     let mut errors = Device::new(rt.stderr());
-    let Ok(report) = read_all(rt.alloc(), &mut source) else {
-        return ExitCode::from(1);
+    let Ok(words) = words(&rt) else {
+        return ExitCode::from(refuse(&mut errors));
     };
-    match draw(rt.alloc(), report.as_slice(), Wanted::Last) {
-        Ok(picture) => {
-            let _ = write_all(&mut sink, picture.as_bytes());
-            ExitCode::from(0)
-        }
-        Err(why) => {
-            let _ = write_all(&mut errors, b"error\n");
-            ExitCode::from(1)
-        }
-    }
+    let status = match asked(words.as_slice()) {
+        Some(asked) => serve(rt.alloc(), asked, &mut source, &mut sink, &mut errors),
+        None => refuse(&mut errors),
+    };
+    ExitCode::from(status)
 }
