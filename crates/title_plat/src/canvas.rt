@@ -72,7 +72,9 @@ impl Canvas {
             width,
             height,
         } = area;
-        let svg = format!(in self.alloc; "<rect class=\"{class}\" x=\"{x}\" y=\"{y}\" width=\"{width}\" height=\"{height}\"/>\n")?;
+        let svg = format!(in self.alloc;
+            "<rect class=\"{class}\" x=\"{x}\" y=\"{y}\" width=\"{width}\" height=\"{height}\"/>\n"
+        )?;
         self.raw(svg.as_str())
     }
 
@@ -85,21 +87,32 @@ impl Canvas {
             height,
         } = area;
         let name = key_text(self.alloc, key)?;
-        let svg = format!(in self.alloc; "<rect class=\"part\" fill=\"url(#{name})\" x=\"{x}\" y=\"{y}\" width=\"{width}\" height=\"{height}\"/>\n")?;
+        let svg = format!(in self.alloc;
+            "<rect class=\"part\" fill=\"url(#{name})\" x=\"{x}\" y=\"{y}\" width=\"{width}\" height=\"{height}\"/>\n"
+        )?;
         self.raw(svg.as_str())
     }
 
     /// Adds a line.
-    pub fn line(&mut self, from: (u32, u32), to: (u32, u32), class: &str) -> Result<(), AllocError> {
+    pub fn line(
+        &mut self,
+        from: (u32, u32),
+        to: (u32, u32),
+        class: &str,
+    ) -> Result<(), AllocError> {
         let ((x1, y1), (x2, y2)) = (from, to);
-        let svg = format!(in self.alloc; "<line class=\"{class}\" x1=\"{x1}\" y1=\"{y1}\" x2=\"{x2}\" y2=\"{y2}\"/>\n")?;
+        let svg = format!(in self.alloc;
+            "<line class=\"{class}\" x1=\"{x1}\" y1=\"{y1}\" x2=\"{x2}\" y2=\"{y2}\"/>\n"
+        )?;
         self.raw(svg.as_str())
     }
 
     /// Adds a text, which is escaped.
     pub fn text(&mut self, x: u32, y: u32, class: &str, text: &str) -> Result<(), AllocError> {
         let text = escaped(self.alloc, text)?;
-        let svg = format!(in self.alloc; "<text class=\"{class}\" x=\"{x}\" y=\"{y}\">{text}</text>\n")?;
+        let svg = format!(in self.alloc;
+            "<text class=\"{class}\" x=\"{x}\" y=\"{y}\">{text}</text>\n"
+        )?;
         self.raw(svg.as_str())
     }
 

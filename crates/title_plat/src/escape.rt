@@ -40,11 +40,18 @@ fn escape_all(alloc: Global, characters: &[char]) -> Result<String, AllocError>
     Ok(out)
 }
 
+// The characters of a text.
+fn characters_of(alloc: Global, text: &str) -> Result<Vec<char>, AllocError>
+    ensures characters { IfOk result (λ characters. characters.items ≡ chars text.now) }
+{
+    text.chars().collect(alloc)
+}
+
 /// A text as it stands in XML: the five characters that XML gives a meaning as their entities, characters that XML forbids as
 /// U+FFFD, and all others as they are.
 pub fn escaped(alloc: Global, text: &str) -> Result<String, AllocError>
     ensures escaped { IfOk result (λ out. string_bytes out ≡ escapes (chars text.now)) }
 {
-    let characters: Vec<char> = text.chars().collect(alloc)?;
+    let characters = characters_of(alloc, text)?;
     escape_all(alloc, characters.as_slice())
 }

@@ -24,22 +24,66 @@ struct Style {
 // The type that fits a part with this side.
 fn style_of(side: u32) -> Style {
     if side >= 384 {
-        return Style { owners: 14, size: 13, step: 18, class: "c13", key_size: 20, key_class: "k20", unit: " acres" };
+        return Style {
+            owners: 14,
+            size: 13,
+            step: 18,
+            class: "c13",
+            key_size: 20,
+            key_class: "k20",
+            unit: " acres",
+        };
     }
     if side >= 192 {
-        return Style { owners: 7, size: 12, step: 16, class: "c12", key_size: 17, key_class: "k17", unit: " acres" };
+        return Style {
+            owners: 7,
+            size: 12,
+            step: 16,
+            class: "c12",
+            key_size: 17,
+            key_class: "k17",
+            unit: " acres",
+        };
     }
     if side >= 96 {
-        return Style { owners: 3, size: 10, step: 13, class: "c10", key_size: 14, key_class: "k14", unit: " acres" };
+        return Style {
+            owners: 3,
+            size: 10,
+            step: 13,
+            class: "c10",
+            key_size: 14,
+            key_class: "k14",
+            unit: " acres",
+        };
     }
     if side >= 48 {
-        return Style { owners: 0, size: 9, step: 11, class: "c9", key_size: 12, key_class: "k12", unit: " ac" };
+        return Style {
+            owners: 0,
+            size: 9,
+            step: 11,
+            class: "c9",
+            key_size: 12,
+            key_class: "k12",
+            unit: " ac",
+        };
     }
-    Style { owners: 0, size: 7, step: 8, class: "c7", key_size: 9, key_class: "k9", unit: "" }
+    Style {
+        owners: 0,
+        size: 7,
+        step: 8,
+        class: "c7",
+        key_size: 9,
+        key_class: "k9",
+        unit: "",
+    }
 }
 
 /// The nominal acres of a part, as text; none for the whole plant.
-pub(crate) fn acres_text(alloc: Global, keyed: &Keyed<'_>, unit: &str) -> Result<String, AllocError> {
+pub(crate) fn acres_text(
+    alloc: Global,
+    keyed: &Keyed<'_>,
+    unit: &str,
+) -> Result<String, AllocError> {
     let half_acres = half_acres_of(keyed.part.node, 0);
     if half_acres == 0 {
         return Ok(String::new(alloc));
@@ -63,7 +107,12 @@ fn owner_text(alloc: Global, row: &Row, size: u32, width: u32) -> Result<String,
 }
 
 // The lines of a part's label below its key.
-fn lines_of(alloc: Global, keyed: &Keyed<'_>, style: Style, width: u32) -> Result<Vec<String>, AllocError> {
+fn lines_of(
+    alloc: Global,
+    keyed: &Keyed<'_>,
+    style: Style,
+    width: u32,
+) -> Result<Vec<String>, AllocError> {
     let mut lines = Vec::new(alloc);
     let acres = acres_text(alloc, keyed, style.unit)?;
     if !acres.is_empty() {
@@ -94,17 +143,33 @@ fn widest(lines: &[String], size: u32) -> u32 {
 }
 
 /// Writes a part's key, its acres and, where there is room, its owners in the middle of its square.
-pub(crate) fn label(canvas: &mut Canvas, square: Area, keyed: &Keyed<'_>) -> Result<(), AllocError> {
+pub(crate) fn label(
+    canvas: &mut Canvas,
+    square: Area,
+    keyed: &Keyed<'_>,
+) -> Result<(), AllocError> {
     let alloc = canvas.alloc;
     let style = style_of(square.width);
     let width = square.width.saturating_sub(8);
     let key = key_text(alloc, keyed.key)?;
     let lines = lines_of(alloc, keyed, style, width)?;
-    let block = (widest(lines.as_slice(), style.size).max(text_width(key.as_str(), style.key_size)).saturating_add(6)).min(square.width.saturating_sub(2));
-    let height = style.key_size.saturating_add(style.step.saturating_mul(lines.len().min(64) as u32));
-    let top = square.y.saturating_add(square.height.saturating_sub(height) / 2);
+    let block = (widest(lines.as_slice(), style.size)
+        .max(text_width(key.as_str(), style.key_size))
+        .saturating_add(6))
+    .min(square.width.saturating_sub(2));
+    let height = style
+        .key_size
+        .saturating_add(style.step.saturating_mul(lines.len().min(64) as u32));
+    let top = square
+        .y
+        .saturating_add(square.height.saturating_sub(height) / 2);
     let x = square.middle();
-    let halo = Area { x: x.saturating_sub(block / 2), y: top.saturating_sub(1), width: block, height: height.saturating_add(2) };
+    let halo = Area {
+        x: x.saturating_sub(block / 2),
+        y: top.saturating_sub(1),
+        width: block,
+        height: height.saturating_add(2),
+    };
     canvas.rect(halo, "halo")?;
     let mut y = top.saturating_add(style.key_size.saturating_mul(85) / 100);
     canvas.text(x, y, style.key_class, key.as_str())?;

@@ -88,11 +88,7 @@ fn sections_in(alloc: Global, township: Township) -> Result<Vec<Section>, AllocE
 }
 
 // Whether each cell of a township's sections does.
-fn township_is_once(
-    alloc: Global,
-    parts: &[Part],
-    township: Township,
-) -> Result<bool, AllocError>
+fn township_is_once(alloc: Global, parts: &[Part], township: Township) -> Result<bool, AllocError>
     ensures once { IfOk result (λ once. once ≡ true → All (IsOnceIn parts.now) (sections_of township)) }
 {
     let sections = sections_in(alloc, township)?;
@@ -100,7 +96,11 @@ fn township_is_once(
 }
 
 // Whether each cell of some townships does.
-fn townships_are_once(alloc: Global, parts: &[Part], townships: &[Township]) -> Result<bool, AllocError>
+fn townships_are_once(
+    alloc: Global,
+    parts: &[Part],
+    townships: &[Township],
+) -> Result<bool, AllocError>
     ensures once { IfOk result (λ once. once ≡ true
         → All (λ t. All (IsOnceIn parts.now) (sections_of t)) townships.now) }
 {

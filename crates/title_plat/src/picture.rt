@@ -22,7 +22,9 @@ use title_instrument::Estate;
 
 // The picture's width, the margins, and what lies between two panels.
 const WIDTH: u32 = 1280;
+
 const MARGIN: u32 = 40;
+
 const GAP: u32 = 24;
 
 // Where the table of net acres begins, to the right of the key.
@@ -91,7 +93,9 @@ fn half_acres_drawn(parts: &[Part], townships: u32) -> u32 {
 
 // Draws the arrow to the north.
 fn add_north(canvas: &mut Canvas) -> Result<(), AllocError> {
-    canvas.raw("<path d=\"M1222 28l9 30l-9 -7l-9 7z\" fill=\"#111\"/><path d=\"M1222 51v24\" stroke=\"#111\" stroke-width=\"1.6\"/>\n")?;
+    canvas.raw(
+        "<path d=\"M1222 28l9 30l-9 -7l-9 7z\" fill=\"#111\"/><path d=\"M1222 51v24\" stroke=\"#111\" stroke-width=\"1.6\"/>\n",
+    )?;
     canvas.text(1222, 24, "north", "N")
 }
 
@@ -181,7 +185,12 @@ fn townships_in(frame: &Frame) -> u32 {
 }
 
 // What stands above the panels.
-fn add_heading(canvas: &mut Canvas, sheet: &Sheet, title: &str, half_acres: u32) -> Result<(), AllocError> {
+fn add_heading(
+    canvas: &mut Canvas,
+    sheet: &Sheet,
+    title: &str,
+    half_acres: u32,
+) -> Result<(), AllocError> {
     canvas.text(MARGIN, 52, "title", title)?;
     let acres = Acres { half_acres };
     let (place, sheets) = (sheet.place, sheet.sheets);
@@ -225,7 +234,9 @@ fn add_lists(
 // The page round the elements of a picture.
 fn page_of(body: Canvas, height: u32, keys: usize) -> Result<String, AllocError> {
     let mut page = Canvas::new(body.alloc);
-    let head = format!(in page.alloc; "<svg xmlns=\"http://www.w3.org/2000/svg\" width=\"{WIDTH}\" height=\"{height}\" viewBox=\"0 0 {WIDTH} {height}\">\n")?;
+    let head = format!(in page.alloc;
+        "<svg xmlns=\"http://www.w3.org/2000/svg\" width=\"{WIDTH}\" height=\"{height}\" viewBox=\"0 0 {WIDTH} {height}\">\n"
+    )?;
     page.raw(head.as_str())?;
     page.raw(STYLE)?;
     add_patterns(&mut page, keys)?;
@@ -260,7 +271,8 @@ pub fn draw_sheet(alloc: Global, sheet: &Sheet) -> Result<String, PlatFault> {
 }
 
 // What stands below.
-const NOTE: &str = "Acres are nominal, 640 a section. Net acres are acres times share, rounded to four decimals. No survey.";
+const NOTE: &str =
+    "Acres are nominal, 640 a section. Net acres are acres times share, rounded to four decimals. No survey.";
 
 /// The picture of the sheet of a report that is wanted.
 pub fn draw(alloc: Global, report: &[u8], wanted: Wanted) -> Result<String, PlatFault> {

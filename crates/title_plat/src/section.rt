@@ -17,8 +17,12 @@ const CELL: u32 = 24;
 /// The square of a panel in which a section's rectangle is drawn, where a cell's side has so many pixels.
 pub(crate) fn area_in(panel: Area, rectangle: Rectangle, cell: u32) -> Area {
     Area {
-        x: panel.x.saturating_add(u32::from(rectangle.left).saturating_mul(cell)),
-        y: panel.y.saturating_add(u32::from(rectangle.top).saturating_mul(cell)),
+        x: panel
+            .x
+            .saturating_add(u32::from(rectangle.left).saturating_mul(cell)),
+        y: panel
+            .y
+            .saturating_add(u32::from(rectangle.top).saturating_mul(cell)),
         width: u32::from(rectangle.width).saturating_mul(cell),
         height: u32::from(rectangle.height).saturating_mul(cell),
     }
@@ -33,7 +37,12 @@ fn square_of(section: Option<Section>, node: &Node) -> Rectangle {
 }
 
 // Draws a part.
-fn add_part(canvas: &mut Canvas, panel: Area, section: Option<Section>, keyed: &Keyed<'_>) -> Result<(), AllocError> {
+fn add_part(
+    canvas: &mut Canvas,
+    panel: Area,
+    section: Option<Section>,
+    keyed: &Keyed<'_>,
+) -> Result<(), AllocError> {
     let square = area_in(panel, square_of(section, &keyed.part.node), CELL);
     let tip = tip(canvas.alloc, keyed)?;
     canvas.begin(tip.as_str())?;
@@ -51,7 +60,13 @@ fn add_quarter_lines(canvas: &mut Canvas, panel: Area) -> Result<(), AllocError>
 }
 
 /// Draws the parts of an estate in a section, or of the whole plant.
-pub(crate) fn add_section(canvas: &mut Canvas, panel: Area, section: Option<Section>, parts: &[Keyed<'_>], estate: Estate) -> Result<(), AllocError> {
+pub(crate) fn add_section(
+    canvas: &mut Canvas,
+    panel: Area,
+    section: Option<Section>,
+    parts: &[Keyed<'_>],
+    estate: Estate,
+) -> Result<(), AllocError> {
     canvas.rect(panel, "land")?;
     add_quarter_lines(canvas, panel)?;
     for keyed in parts {

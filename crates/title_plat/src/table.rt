@@ -9,7 +9,9 @@ use std::alloc::{AllocError, Global};
 
 // Where the columns of the table end, from its left side.
 const FIRST: u32 = 330;
+
 const STEP: u32 = 115;
+
 const WIDTH: u32 = 560;
 
 fn has_name(names: &[&str], name: &str) -> bool {
@@ -33,7 +35,14 @@ pub(crate) fn parties_of(alloc: Global, rows: &[Row]) -> Result<Vec<&str>, Alloc
 }
 
 // Writes a party's net acres, a column for each estate.
-fn add_party(canvas: &mut Canvas, x: u32, y: u32, rows: &[Row], party: &str, townships: u32) -> Result<(), PlatFault> {
+fn add_party(
+    canvas: &mut Canvas,
+    x: u32,
+    y: u32,
+    rows: &[Row],
+    party: &str,
+    townships: u32,
+) -> Result<(), PlatFault> {
     add_name(canvas, x, y, FIRST - 100, party)?;
     let mut column = x.saturating_add(FIRST);
     for estate in ESTATES {
@@ -63,7 +72,13 @@ fn add_heads(canvas: &mut Canvas, x: u32, y: u32) -> Result<(), AllocError> {
 }
 
 /// Writes the table from this height on, and answers where it ends.
-pub(crate) fn add_table(canvas: &mut Canvas, x: u32, top: u32, rows: &[Row], townships: u32) -> Result<u32, PlatFault> {
+pub(crate) fn add_table(
+    canvas: &mut Canvas,
+    x: u32,
+    top: u32,
+    rows: &[Row],
+    townships: u32,
+) -> Result<u32, PlatFault> {
     add_heads(canvas, x, top)?;
     let mut y = top.saturating_add(28);
     let parties = parties_of(canvas.alloc, rows)?;

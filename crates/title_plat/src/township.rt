@@ -14,6 +14,7 @@ use title_instrument::Estate;
 
 // The pixels of a section's side in a township's panel, and of a cell's.
 const SECTION: u32 = 64;
+
 const CELL: u32 = 4;
 
 // The classes and the heights, from the top of a square, of the label of a part with this side: its key, and its acres.
@@ -37,7 +38,11 @@ fn add_label(canvas: &mut Canvas, area: Area, keyed: &Keyed<'_>) -> Result<(), A
     let acres = acres_text(canvas.alloc, keyed, "")?;
     let has_acres = area.width >= 32 && half_acres_of(keyed.part.node, 0) <= 1_280;
     let (x, y) = (area.middle(), area.y.saturating_add(key_y));
-    let height = if has_acres { acres_y.saturating_sub(key_y).saturating_add(12) } else { 13 };
+    let height = if has_acres {
+        acres_y.saturating_sub(key_y).saturating_add(12)
+    } else {
+        13
+    };
     let halo = Area {
         x: x.saturating_sub(area.width / 4).saturating_add(1),
         y: y.saturating_sub(10),
@@ -53,7 +58,12 @@ fn add_label(canvas: &mut Canvas, area: Area, keyed: &Keyed<'_>) -> Result<(), A
 }
 
 // Draws a part in a section.
-fn add_part(canvas: &mut Canvas, square: Area, section: Section, keyed: &Keyed<'_>) -> Result<(), AllocError> {
+fn add_part(
+    canvas: &mut Canvas,
+    square: Area,
+    section: Section,
+    keyed: &Keyed<'_>,
+) -> Result<(), AllocError> {
     let Some(rectangle) = square_in(section, &keyed.part.node) else {
         return Ok(());
     };
@@ -68,17 +78,40 @@ fn add_part(canvas: &mut Canvas, square: Area, section: Section, keyed: &Keyed<'
 // Writes a section's number into its corner, and draws its outline.
 fn add_number(canvas: &mut Canvas, square: Area, number: u8) -> Result<(), AllocError> {
     let width = if number < 10 { 10 } else { 16 };
-    canvas.rect(Area { x: square.x.saturating_add(1), y: square.y.saturating_add(1), width, height: 11 }, "halo")?;
+    canvas.rect(
+        Area {
+            x: square.x.saturating_add(1),
+            y: square.y.saturating_add(1),
+            width,
+            height: 11,
+        },
+        "halo",
+    )?;
     let text = format!(in canvas.alloc; "{number}")?;
-    canvas.text(square.x.saturating_add(3), square.y.saturating_add(10), "number", text.as_str())?;
+    canvas.text(
+        square.x.saturating_add(3),
+        square.y.saturating_add(10),
+        "number",
+        text.as_str(),
+    )?;
     canvas.rect(square, "section")
 }
 
 // Draws a section of a township.
-fn add_section(canvas: &mut Canvas, panel: Area, section: Section, parts: &[Keyed<'_>], estate: Estate) -> Result<(), AllocError> {
+fn add_section(
+    canvas: &mut Canvas,
+    panel: Area,
+    section: Section,
+    parts: &[Keyed<'_>],
+    estate: Estate,
+) -> Result<(), AllocError> {
     let place = place_of(section.number);
-    let x = panel.x.saturating_add(u32::from(place.column).saturating_mul(SECTION));
-    let y = panel.y.saturating_add(u32::from(place.row).saturating_mul(SECTION));
+    let x = panel
+        .x
+        .saturating_add(u32::from(place.column).saturating_mul(SECTION));
+    let y = panel
+        .y
+        .saturating_add(u32::from(place.row).saturating_mul(SECTION));
     let square = Area::square(x, y, SECTION);
     for keyed in parts {
         if keyed.part.estate == estate {

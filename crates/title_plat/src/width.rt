@@ -25,7 +25,12 @@ pub(crate) fn text_width(text: &str, size: u32) -> u32 {
 }
 
 /// A text that is no wider than so much in this size of type: the text itself, or its beginning with an ellipsis.
-pub(crate) fn shortened(alloc: Global, text: &str, size: u32, width: u32) -> Result<String, AllocError> {
+pub(crate) fn shortened(
+    alloc: Global,
+    text: &str,
+    size: u32,
+    width: u32,
+) -> Result<String, AllocError> {
     if text_width(text, size) <= width {
         return String::from_str(alloc, text);
     }

@@ -8,7 +8,7 @@ abbrev pub invariant-loop-at : goal.invariant-loop-at
 invariant-loop-at l = record {
   within : l.at ≤ length l.rows;
   rows : flat_map (owners_of l.rows) l.parts.items ≡ take l.at l.rows;
-  each : All (IsPart l.rows) l.parts.items
+  each : All (IsPart l.rows) l.parts.items;
 }
 
 abbrev pub decreases-loop-at : goal.decreases-loop-at
