@@ -11,7 +11,7 @@ pub enum Asked {
 }
 
 /// What the words ask for: with none the last sheet, with a number that sheet; `None` for words that aren't understood.
-pub fn asked(words: &[String]) -> Option<Asked> {
+pub fn read_words(words: &[String]) -> Option<Asked> {
     match words {
         [] => Some(Asked::Draw(Wanted::Last)),
         [word] => match word.as_str() {

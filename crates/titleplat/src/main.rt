@@ -4,7 +4,7 @@
 mod asked;
 mod serving;
 
-use asked::asked;
+use asked::read_words;
 use serving::{refuse, serve};
 use std::process::ExitCode;
 use std::{env, io};
@@ -22,7 +22,7 @@ fn main(rt: HostRuntime) -> ExitCode {
     let Ok(words) = words(&rt) else {
         return ExitCode::from(refuse(&mut errors));
     };
-    let status = match asked(words.as_slice()) {
+    let status = match read_words(words.as_slice()) {
         Some(asked) => serve(rt.alloc(), asked, &mut source, &mut sink, &mut errors),
         None => refuse(&mut errors),
     };

@@ -32,7 +32,11 @@ fn print<W: Sink>(sink: &mut W, text: &str, status: u8) -> u8 {
 
 /// Tells that the words aren't understood.
 pub fn refuse<E: Sink>(errors: &mut E) -> u8 {
-    print(errors, "error: the words aren't understood; titleplat --help tells which are\n", 2);
+    print(
+        errors,
+        "error: the words aren't understood; titleplat --help tells which are\n",
+        2,
+    );
     2
 }
 
@@ -47,7 +51,11 @@ fn told(why: PlatFault) -> &'static str {
 }
 
 // The picture of a sheet of the report in the source, or what is told where there is none.
-fn picture_of<R: Source>(alloc: Global, wanted: Wanted, source: &mut R) -> Result<String, &'static str>
+fn picture_of<R: Source>(
+    alloc: Global,
+    wanted: Wanted,
+    source: &mut R,
+) -> Result<String, &'static str>
     requires works { R.has_failed source.old ≡ false }
 {
     let report = match read_all(alloc, source) {
