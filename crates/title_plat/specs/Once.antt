@@ -1,5 +1,5 @@
 -- What a sheet promises of its parts: each cell lies in one part of every estate, or in none of any.
-use Rattle.std.specs.Prelude.{◌≡◌, ◌≤◌, ◌<◌, ◌&&◌, ◌==◌, ℕ, Bool, true, List, count_by, nat_le, sum_by, All}
+use Rattle.std.specs.Prelude.{◌≡◌, ◌<◌, ◌&&◌, ◌==◌, ℕ, Bool, true, List, count_by, nat_le, sum_by, All}
 use Rattle.title_instrument.specs.declared.parts.Estate.{Estate}
 use Rattle.title_instrument.specs.declared.parts.Estate.TheVariants.{S, O, M}
 use Rattle.title_land.specs.declared.place.Cell.{Cell}

@@ -1,7 +1,5 @@
 -- How the sections of a township are numbered (BLM, Manual of Surveying Instructions, 2009).
-use Rattle.std.specs.Prelude.{ℕ, ◌+◌, ◌*◌, ◌-◌, ◌%◌, ◌==◌, if◌then◌else◌, Option, Some, None}
-use Rattle.title_land.specs.declared.node.Node.{Node}
-use Rattle.title_land.specs.declared.node.Node.TheVariants as node
+use Rattle.std.specs.Prelude.{ℕ, ◌+◌, ◌*◌, ◌-◌, ◌%◌, ◌==◌, if◌then◌else◌}
 
 -- the number of the section in a row from the north and a column from the west: six to a row, from 1 in the northeast corner
 -- to the west, the next row back to the east, and so on

@@ -1,6 +1,5 @@
 -- What holds of the land of a frame, in each of its cases.
 use Rattle.std.proofs.Common.{◌≡◌, sym, subst, true, Bool, Result, Ok, Err, IfOk}
-use Rattle.title_plat.specs.declared.frame.Frame.{Frame}
 use Rattle.title_plat.specs.Once.{IsOnceOn}
 use Rattle.title_plat.proofs.once.is_once_on.Goals as goal
 

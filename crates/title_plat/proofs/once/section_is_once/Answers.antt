@@ -1,5 +1,5 @@
 -- One row more, and the last of them.
-use Rattle.std.proofs.Common.{◌<◌, ℕ, ap, arith}
+use Rattle.std.proofs.Common.{ap, arith}
 use borrow.Author.Count.{below_more}
 use Rattle.title_land.specs.declared.rectangle.Rectangle.{Rectangle}
 use Rattle.title_plat.specs.Once.{IsOnceInRow}

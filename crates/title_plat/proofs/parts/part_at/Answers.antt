@@ -1,5 +1,5 @@
 -- The row at which the part begins, and those behind it that are like it.
-use Rattle.std.proofs.Common.{◌≡◌, ◌+◌, ◌-◌, ◌≤◌, length, drop, refl, subst, arith}
+use Rattle.std.proofs.Common.{◌+◌, refl, subst, arith}
 use Rattle.std.proofs.lemmas.List.{length-drop}
 use Rattle.title_plat.specs.Parts.{IsRowOf}
 use Rattle.title_plat.proofs.Walks.{run_more, rest_of}
