@@ -1,0 +1,7 @@
+-- What the rows so far give the party.
+use Rattle.std.proofs.Common.{◌≡◌, take}
+use Rattle.title_plat.specs.NetAcres.{net_units}
+use Rattle.title_plat.proofs.acres.net_units.Given as goal
+
+abbrev pub invariant-loop-row : goal.invariant-loop-row
+invariant-loop-row l = l.sum ≡ net_units l.townships l.party l.estate (take l.row-index l.rows)

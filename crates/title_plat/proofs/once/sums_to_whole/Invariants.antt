@@ -1,0 +1,7 @@
+-- The units of the owners so far.
+use Rattle.std.proofs.Common.{◌≡◌, take}
+use Rattle.std.specs.List.{sum_by}
+use Rattle.title_plat.proofs.once.sums_to_whole.Given as goal
+
+abbrev pub invariant-loop-row : goal.invariant-loop-row
+invariant-loop-row l = l.sum ≡ sum_by (λ row. row.share) (take l.row-index l.owners)

@@ -1,0 +1,49 @@
+//! The sheets of a report.
+
+ghost use Rattle.std.specs.Prelude.{◌≡◌, option_map};
+ghost use Rattle.title_plat.specs.Sheets.{sheet_in};
+
+use crate::row::Row;
+
+/// Which sheet of a report is wanted.
+#[derive(Clone, Copy, Debug, PartialEq, Eq)]
+pub enum Wanted {
+    /// The sheet with this place, from 1.
+    Place(u64),
+    Last,
+}
+
+/// Where the rows of a sheet stand among those of all sheets of a report: from `first` to before `end`.
+#[derive(Clone, Copy, Debug, PartialEq, Eq)]
+pub struct Extent {
+    pub first: usize,
+    pub end: usize,
+}
+
+/// The sheet that is wanted, of sheets in their order; `None` where there are too few.
+pub fn sheet_in(sheets: &[Extent], wanted: Wanted) -> Option<Extent>
+    ensures sheet { result ≡ sheet_in sheets.now wanted }
+{
+    match wanted {
+        Wanted::Last => sheets.last().copied(),
+        Wanted::Place(0) => None,
+        Wanted::Place(place) => sheets.get((place - 1) as usize).copied(),
+    }
+}
+
+/// A sheet of a report, with its place among the report's sheets, from 1, and their number. The rows are those of all sheets.
+#[derive(Drop)]
+pub struct Sheet {
+    pub place: u64,
+    pub sheets: u64,
+    pub rows: Vec<Row>,
+    pub extent: Extent,
+}
+
+impl Sheet {
+    /// The rows of the sheet.
+    pub fn rows(&self) -> &[Row] {
+        let Extent { first, end } = self.extent;
+        self.rows.as_slice().get(first..end).unwrap_or(&[])
+    }
+}
