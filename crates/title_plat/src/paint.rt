@@ -62,7 +62,9 @@ pub(crate) fn add_pattern(canvas: &mut Canvas, key: usize) -> Result<(), AllocEr
     let name = key_text(canvas.alloc, key)?;
     let (tint, ink, path) = (tint(key), ink(key), hatching(key));
     let svg = format!(in canvas.alloc;
-        "<pattern id=\"{name}\" width=\"10\" height=\"10\" patternUnits=\"userSpaceOnUse\"><rect width=\"10\" height=\"10\" fill=\"{tint}\"/><path d=\"{path}\" stroke=\"{ink}\" stroke-width=\"0.8\" stroke-opacity=\"0.75\" fill=\"none\"/></pattern>\n"
+        "<pattern id=\"{name}\" width=\"10\" height=\"10\" patternUnits=\"userSpaceOnUse\">\
+<rect width=\"10\" height=\"10\" fill=\"{tint}\"/>\
+<path d=\"{path}\" stroke=\"{ink}\" stroke-width=\"0.8\" stroke-opacity=\"0.75\" fill=\"none\"/></pattern>\n"
     )?;
     canvas.raw(svg.as_str())
 }

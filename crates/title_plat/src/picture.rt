@@ -33,7 +33,8 @@ const TABLE: u32 = 680;
 // The classes of lines and texts.
 const STYLE: &str = "<style>\
 text{font-family:Helvetica,Arial,'Liberation Sans','DejaVu Sans',sans-serif;fill:#111}\
-.title{font-size:28px;font-weight:bold}.sub{font-size:14px;fill:#444}.town{font-size:19px;font-weight:bold}.estate{font-size:16px;font-weight:bold}\
+.title{font-size:28px;font-weight:bold}.sub{font-size:14px;fill:#444}.town{font-size:19px;font-weight:bold}\
+.estate{font-size:16px;font-weight:bold}\
 .note{font-size:11px;fill:#444}.head,.rhead{font-size:13px;font-weight:bold}.l13,.r13,.c13{font-size:13px}.c12{font-size:12px}\
 .c10{font-size:10px}.c9,.number{font-size:9px}.c8{font-size:8px}.c7{font-size:7px}.k20{font-size:20px}.k17{font-size:17px}\
 .k14{font-size:14px}.k12{font-size:12px}.k10{font-size:10px}.k9{font-size:9px}.k8{font-size:8px}\

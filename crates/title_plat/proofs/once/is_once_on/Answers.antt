@@ -14,7 +14,8 @@ returns-in-Section c =
 
 pub returns-in-Townships : goal.returns-in-Townships
 returns-in-Townships c =
-    record { once = said_so _ _ _ (λ each. subst (IsOnceOn c.args.parts.now) (sym c.in-Townships.is) each) (rw c.as_slice.ensures.value at c.townships_are_once.ensures.once) }
+    let said = rw c.as_slice.ensures.value at c.townships_are_once.ensures.once in
+    record { once = said_so _ _ _ (λ each. subst (IsOnceOn c.args.parts.now) (sym c.in-Townships.is) each) said }
 
 pub returns-in-Everything : goal.returns-in-Everything
 returns-in-Everything c =

@@ -17,4 +17,7 @@ loop-township-preserved c =
 pub returns : goal.returns
 returns c =
     let done : length c.args.townships.now ≤ c.loop-township.township-index = omega arith in
-    record { once = λ yes. all_walked (λ (t : Township). All (IsOnceIn c.args.parts.now) (sections_of t)) _ _ done c.loop-township.invariant }
+    record {
+      once = λ yes. all_walked (λ (t : Township). All (IsOnceIn c.args.parts.now) (sections_of t)) _ _ done
+          c.loop-township.invariant;
+    }

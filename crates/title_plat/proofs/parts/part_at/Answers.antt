@@ -12,6 +12,8 @@ returns-clause-part c =
     let alike = rw rest at c.run_length-count.ensures.alike in (
       omega arith,
       omega (arith, within, length-drop (c.args.first + 1) c.args.rows.now, c.requires.here),
-      run_more (IsRowOf c.index-rows-first.result.node c.index-rows-first.result.estate) c.args.rows.now c.args.first c.run_length-count.result _
-          c.requires.here (subst (IsRowOf c.index-rows-first.result.node c.index-rows-first.result.estate) c.index-rows-first.is (refl, refl)) alike,
+      run_more (IsRowOf c.index-rows-first.result.node c.index-rows-first.result.estate) c.args.rows.now c.args.first
+          c.run_length-count.result _ c.requires.here
+          (subst (IsRowOf c.index-rows-first.result.node c.index-rows-first.result.estate) c.index-rows-first.is (refl, refl))
+          alike,
     )

@@ -12,5 +12,6 @@ loop-at-preserved c =
     record {
       within = part.1;
       rows = parts_more _ _ _ _ _ c.in_ok-push.ensures.items c.loop-at.invariant.rows c.part_at-part.ensures.first part.0;
-      each = subst (All (IsPart c.args.rows.now)) (sym c.in_ok-push.ensures.items) (All-push (IsPart c.args.rows.now) _ _ c.loop-at.invariant.each part);
+      each = subst (All (IsPart c.args.rows.now)) (sym c.in_ok-push.ensures.items)
+          (All-push (IsPart c.args.rows.now) _ _ c.loop-at.invariant.each part);
     }
