@@ -1,4 +1,5 @@
 pub mod Statuses
+pub mod Endings
 pub mod Faults
 pub mod Tracts
 pub mod Printing

@@ -1,55 +1,76 @@
 //! From the words of the command line to the status of the program.
 
-ghost use Rattle.std.specs.Prelude.{◌≡◌, false, map, IfOk, Result};
+ghost use Rattle.std.specs.Prelude.{◌≡◌, false, map, IfOk, None, Result};
 ghost use Rattle.std.specs.String.{string_bytes};
 ghost use Rattle.title_command.specs.CommandLine.{IsInRange};
 ghost use Rattle.title_command.specs.declared.choice.Line.{Line};
 ghost use Rattle.title_command.specs.declared.choice.LineFault.{LineFault};
 ghost use Rattle.title_script.specs.Runs.{IsReadWithin};
+ghost use Rattle.title_program.specs.Endings.{IsQuiet};
 ghost use Rattle.title_program.specs.Obeying.{Complains, IsAnswered, IsAsked, IsObeyed, PrintsTract, Reads, ReadsFor, Tells};
 
+use crate::ending::{Ending, Why};
 use crate::office_serving::serve_office;
 use crate::printing::{complain, print, tell_memory};
 use crate::refusal::refuse;
 use crate::serving::serve;
-use crate::status::Status;
 use crate::tract::tract_printout;
 use std::alloc::{AllocError, Global};
 use std::sync::Wait;
 use std::thread::Threads;
+use title_aliquot::DescFault;
 use title_command::{Line, LineFault, line};
 use title_device::{Sink, Source};
-use title_script::Schedule;
+use title_script::{Schedule, Watch};
 
 /// Prints the nodes of the tract that a text describes and its acres, or the line of its fault.
-pub fn print_tract<W: Sink>(alloc: Global, text: &str, sink: &mut W) -> Status
-    ensures printed { PrintsTract text.now (W.taken sink.old) (W.taken sink.new) (W.has_failed sink.new) result }
+pub fn print_tract<W: Sink>(alloc: Global, text: &str, sink: &mut W) -> Ending
+    ensures printed { PrintsTract text.now (W.taken sink.old) (W.taken sink.new) (W.has_failed sink.new) result.status }
+    ensures quiet { IsQuiet result }
 {
     match tract_printout(alloc, text) {
-        Ok(printout) => print(sink, printout.text.as_bytes(), printout.status),
-        Err(_) => tell_memory(sink),
+        Ok(printout) => Ending {
+            status: print(sink, printout.text.as_bytes(), printout.status),
+            why: why_of(printout.why),
+        },
+        Err(_) => Ending {
+            status: tell_memory(sink),
+            why: Some(Why::Memory),
+        },
+    }
+}
+
+// Why `tract` failed, by the fault of its text.
+fn why_of(fault: Option<DescFault>) -> Option<Why>
+    ensures none { fault ≡ None → result ≡ None }
+{
+    match fault {
+        Some(fault) => Some(Why::Description(fault)),
+        None => None,
     }
 }
 
 // Does what a command asks for.
-fn carry_out<T: Threads + Wait + Sync, R: Source, W: Sink>(
+fn carry_out<T: Threads + Wait + Sync, R: Source, W: Sink, V: Watch>(
     rt: &T,
     alloc: Global,
     line: Line,
     source: &mut R,
     sink: &mut W,
-) -> Status
+    watch: &mut V,
+) -> Ending
     requires ranges { IsInRange line }
     requires source_works { R.has_failed source.old ≡ false }
     requires sink_works { W.has_failed sink.old ≡ false }
     ensures obeyed { IsObeyed line.entry (R.left source.old) (R.has_failed source.new) (W.has_failed sink.new)
-        (W.taken sink.old) (W.taken sink.new) result }
-    ensures read { ReadsFor line.entry (R.left source.old) (R.left source.new) result }
+        (W.taken sink.old) (W.taken sink.new) result.status }
+    ensures read { ReadsFor line.entry (R.left source.old) (R.left source.new) result.status }
     ensures turns { IsReadWithin (R.turns source.old) (R.turns source.new) }
+    ensures quiet { IsQuiet result }
 {
     match line {
-        Line::Run => serve(alloc, Schedule::Interleaved, source, sink),
-        Line::Alone => serve(alloc, Schedule::Serial, source, sink),
+        Line::Run => serve(alloc, Schedule::Interleaved, source, sink, watch),
+        Line::Alone => serve(alloc, Schedule::Serial, source, sink, watch),
         Line::Office { examiners, tries } => {
             serve_office(rt, alloc, examiners, tries, source, sink)
         }
@@ -58,26 +79,28 @@ fn carry_out<T: Threads + Wait + Sync, R: Source, W: Sink>(
 }
 
 /// Does what a command asks for, an office by threads: from the source to the sink, and to the errors where the sink has failed.
-pub fn obey<T: Threads + Wait + Sync, R: Source, W: Sink, E: Sink>(
+pub fn obey<T: Threads + Wait + Sync, R: Source, W: Sink, E: Sink, V: Watch>(
     rt: &T,
     alloc: Global,
     line: Line,
     source: &mut R,
     sink: &mut W,
     errors: &mut E,
-) -> Status
+    watch: &mut V,
+) -> Ending
     requires ranges { IsInRange line }
     requires source_works { R.has_failed source.old ≡ false }
     requires sink_works { W.has_failed sink.old ≡ false }
     ensures obeyed { IsObeyed line.entry (R.left source.old) (R.has_failed source.new) (W.has_failed sink.new)
-        (W.taken sink.old) (W.taken sink.new) result }
-    ensures read { ReadsFor line.entry (R.left source.old) (R.left source.new) result }
+        (W.taken sink.old) (W.taken sink.new) result.status }
+    ensures read { ReadsFor line.entry (R.left source.old) (R.left source.new) result.status }
     ensures turns { IsReadWithin (R.turns source.old) (R.turns source.new) }
+    ensures quiet { IsQuiet result }
     ensures told { Complains (W.has_failed sink.new) (E.taken errors.old) (E.taken errors.new) }
 {
-    let status = carry_out(rt, alloc, line, source, sink);
+    let ending = carry_out(rt, alloc, line, source, sink, watch);
     complain(sink, errors);
-    status
+    ending
 }
 
 // The words as texts.
@@ -91,29 +114,32 @@ fn borrowed<'a>(alloc: Global, words: &'a [String]) -> Result<Vec<&'a str>, Allo
     Ok(texts)
 }
 
-/// Does what the words after the program's name ask for, and answers the status with which the program ends.
-pub fn obey_words<T: Threads + Wait + Sync, R: Source, W: Sink, E: Sink>(
+/// Does what the words after the program's name ask for, and answers the status with which the program ends, and why where that's
+/// a failure.
+pub fn obey_words<T: Threads + Wait + Sync, R: Source, W: Sink, E: Sink, V: Watch>(
     rt: &T,
     alloc: Global,
     words: &[String],
     source: &mut R,
     sink: &mut W,
     errors: &mut E,
-) -> Status
+    watch: &mut V,
+) -> Ending
     requires source_works { R.has_failed source.old ≡ false }
     requires sink_works { W.has_failed sink.old ≡ false }
     ensures answered { (asked : Result Line LineFault) × IsAsked (map string_bytes words.now) asked
         × IsAnswered asked (R.left source.old) (R.has_failed source.new) (W.has_failed sink.new)
-        (W.taken sink.old) (W.taken sink.new) result
-        × Reads asked (R.left source.old) (R.left source.new) result
+        (W.taken sink.old) (W.taken sink.new) result.status
+        × Reads asked (R.left source.old) (R.left source.new) result.status
         × Tells asked (W.has_failed sink.new) (E.taken errors.old) (E.taken errors.new) }
     ensures turns { IsReadWithin (R.turns source.old) (R.turns source.new) }
+    ensures quiet { IsQuiet result }
 {
     let Ok(texts) = borrowed(alloc, words) else {
         return refuse(alloc, LineFault::Memory, sink, errors);
     };
     match line(alloc, texts.as_slice()) {
-        Ok(line) => obey(rt, alloc, line, source, sink, errors),
+        Ok(line) => obey(rt, alloc, line, source, sink, errors, watch),
         Err(why) => refuse(alloc, why, sink, errors),
     }
 }

@@ -6,9 +6,11 @@ ghost use Rattle.title_office.specs.Offices.{most_seats};
 ghost use Rattle.title_script.specs.Runs.{IsReadWithin};
 ghost use Rattle.title_program.specs.Faults.{of_office};
 ghost use Rattle.title_program.specs.OfficeServing.{IsOfficeServed, write_fault};
+ghost use Rattle.title_program.specs.Endings.{IsQuiet};
 ghost use Rattle.title_program.specs.Printing.{TellsFault};
 ghost use Rattle.title_program.specs.declared.status.Status.TheVariants as status;
 
+use crate::ending::{Ending, Why};
 use crate::fault::Fault;
 use crate::printing::tell;
 use crate::status::Status;
@@ -40,17 +42,21 @@ pub fn serve_office<T: Threads + Wait + Sync, R: Source, W: Sink>(
     tries: u32,
     source: &mut R,
     sink: &mut W,
-) -> Status
+) -> Ending
     requires seats { examiners ≤ most_seats }
     requires source_works { R.has_failed source.old ≡ false }
     requires sink_works { W.has_failed sink.old ≡ false }
     ensures served { IsOfficeServed examiners (R.left source.old) (R.has_failed source.new) (W.has_failed sink.new)
-        (W.taken sink.old) (W.taken sink.new) result }
-    ensures all { result ≡ status.Success → IsAtEnd (R.left source.new) }
+        (W.taken sink.old) (W.taken sink.new) result.status }
+    ensures all { result.status ≡ status.Success → IsAtEnd (R.left source.new) }
+    ensures quiet { IsQuiet result }
     ensures turns { IsReadWithin (R.turns source.old) (R.turns source.new) }
 {
     match run_office(rt, alloc, examiners, tries, source, sink) {
-        Ok(()) => Status::Success,
-        Err(why) => tell_office(alloc, why, sink),
+        Ok(()) => Ending::success(),
+        Err(why) => Ending {
+            status: tell_office(alloc, why, sink),
+            why: Some(Why::Office(examiners, why)),
+        },
     }
 }

@@ -2,8 +2,10 @@
 
 ghost use Rattle.std.specs.Prelude.{◌≡◌, ℕ, List};
 ghost use Rattle.std.specs.Io.KnownBytes.{Appends};
+ghost use Rattle.title_program.specs.Endings.{IsQuiet};
 ghost use Rattle.title_program.specs.Obeying.{IsRefused, PrintsHelp, Warns};
 
+use crate::ending::{Ending, Why};
 use crate::printing::{complain, print, tell_memory};
 use crate::status::Status;
 use clap::Error;
@@ -44,24 +46,31 @@ pub fn refuse<W: Sink, E: Sink>(
     why: LineFault,
     sink: &mut W,
     errors: &mut E,
-) -> Status
-    ensures refused { IsRefused why (W.taken sink.old) (W.taken sink.new) (W.has_failed sink.new) result }
+) -> Ending
+    ensures refused { IsRefused why (W.taken sink.old) (W.taken sink.new) (W.has_failed sink.new) result.status }
+    ensures quiet { IsQuiet result }
     ensures told { Warns why (W.has_failed sink.new) (E.taken errors.old) (E.taken errors.new) }
 {
     match why {
         LineFault::Help(error) => {
             let status = print_help(alloc, &error, sink);
             complain(sink, errors);
-            status
+            Ending { status, why: None }
         }
         LineFault::Bad(error) => {
             explain(alloc, &error, errors);
-            Status::Misunderstood
+            Ending {
+                status: Status::Misunderstood,
+                why: None,
+            }
         }
         LineFault::Memory => {
             let status = tell_memory(sink);
             complain(sink, errors);
-            status
+            Ending {
+                status,
+                why: Some(Why::Memory),
+            }
         }
     }
 }

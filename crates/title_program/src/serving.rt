@@ -5,16 +5,18 @@ ghost use Rattle.std.specs.Io.KnownBytes.{IsAtEnd};
 ghost use Rattle.title_script.specs.Runs.{IsReadWithin};
 ghost use Rattle.title_script.specs.declared.fault.RunFault.TheVariants as fault;
 ghost use Rattle.title_program.specs.Faults.{of_run};
+ghost use Rattle.title_program.specs.Endings.{IsQuiet};
 ghost use Rattle.title_program.specs.Printing.{TellsFault};
 ghost use Rattle.title_program.specs.Serving.{IsServed};
 ghost use Rattle.title_program.specs.declared.status.Status.TheVariants as status;
 
+use crate::ending::{Ending, Why};
 use crate::fault::Fault;
 use crate::printing::tell;
 use crate::status::Status;
 use std::alloc::Global;
 use title_device::{Sink, Source};
-use title_script::{RunFault, Schedule, run_by};
+use title_script::{RunFault, Schedule, Watch, run_by};
 
 // Prints the line of a run's fault; after a fault of the sink, nothing.
 fn tell_run<W: Sink>(alloc: Global, why: RunFault, sink: &mut W) -> Status
@@ -30,21 +32,26 @@ fn tell_run<W: Sink>(alloc: Global, why: RunFault, sink: &mut W) -> Status
 
 /// Serves the script in the source by its schedule, and writes its report to the sink. A fault is told there by its line, but
 /// that of a sink that has failed.
-pub fn serve<R: Source, W: Sink>(
+pub fn serve<R: Source, W: Sink, V: Watch>(
     alloc: Global,
     schedule: Schedule,
     source: &mut R,
     sink: &mut W,
-) -> Status
+    watch: &mut V,
+) -> Ending
     requires source_works { R.has_failed source.old ≡ false }
     requires sink_works { W.has_failed sink.old ≡ false }
     ensures served { IsServed schedule (R.left source.old) (R.has_failed source.new) (W.has_failed sink.new)
-        (W.taken sink.old) (W.taken sink.new) result }
-    ensures all { result ≡ status.Success → IsAtEnd (R.left source.new) }
+        (W.taken sink.old) (W.taken sink.new) result.status }
+    ensures all { result.status ≡ status.Success → IsAtEnd (R.left source.new) }
+    ensures quiet { IsQuiet result }
     ensures turns { IsReadWithin (R.turns source.old) (R.turns source.new) }
 {
-    match run_by(alloc, schedule, source, sink) {
-        Ok(()) => Status::Success,
-        Err(why) => tell_run(alloc, why, sink),
+    match run_by(alloc, schedule, source, sink, watch) {
+        Ok(()) => Ending::success(),
+        Err(why) => Ending {
+            status: tell_run(alloc, why, sink),
+            why: Some(Why::Run(schedule, why)),
+        },
     }
 }

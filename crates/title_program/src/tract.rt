@@ -1,26 +1,29 @@
 //! What `tract` prints.
 
-ghost use Rattle.std.specs.Prelude.{◌≡◌, ◌++◌, IfOk, OnOk};
+ghost use Rattle.std.specs.Prelude.{◌≡◌, ◌++◌, IfOk, None, OnOk};
 ghost use Rattle.std.specs.List.{flat_map};
 ghost use Rattle.std.specs.String.{string_bytes};
 ghost use Rattle.title_land.specs.Acres.{half_acres_of};
 ghost use Rattle.title_land.specs.Depth.{depth};
 ghost use Rattle.title_land.specs.Lands.{cover_of};
 ghost use Rattle.title_plan.specs.Lands.{land_in};
+ghost use Rattle.title_program.specs.declared.status.Status.TheVariants as status;
 ghost use Rattle.title_program.specs.Tracts.{acres_line, node_line, tract_status, tract_text};
 
 use crate::fault::Fault;
 use crate::status::Status;
 use std::alloc::{AllocError, Global};
 use std::fmt::Write;
+use title_aliquot::DescFault;
 use title_land::{Acres, Node, Tract};
 use title_plan::read_tract;
 
-/// A text to print, and the status of the program that prints it.
+/// A text to print, the status of the program that prints it, and why the text tells a fault, if it does.
 #[derive(Debug, Drop)]
 pub struct Printout {
     pub text: String,
     pub status: Status,
+    pub why: Option<DescFault>,
 }
 
 // Adds the line of a node.
@@ -66,15 +69,18 @@ fn tract_lines(alloc: Global, tract: &Tract) -> Result<String, AllocError>
 pub fn tract_printout(alloc: Global, text: &str) -> Result<Printout, AllocError>
     ensures text { IfOk result (λ p. string_bytes p.text ≡ tract_text depth (land_in text.now)) }
     ensures status { IfOk result (λ p. p.status ≡ tract_status (land_in text.now)) }
+    ensures quiet { IfOk result (λ p. p.status ≡ status.Success → p.why ≡ None) }
 {
     match read_tract(alloc, text)? {
         Ok(tract) => Ok(Printout {
             text: tract_lines(alloc, &tract)?,
             status: Status::Success,
+            why: None,
         }),
         Err(why) => Ok(Printout {
             text: Fault::from(why).line(alloc)?,
             status: Status::Failure,
+            why: Some(why),
         }),
     }
 }

@@ -4,6 +4,7 @@ ghost use Rattle.std.specs.Prelude.{◌≡◌};
 ghost use Rattle.title_program.specs.Obeying.{IsUntaken, WarnsUntaken};
 ghost use Rattle.title_program.specs.declared.words.WordsFault.TheVariants as fault;
 
+use crate::ending::{Ending, Why};
 use crate::printing::{complain, print, tell_memory};
 use crate::status::Status;
 use std::alloc::AllocError;
@@ -38,20 +39,26 @@ impl From<AllocError> for WordsFault {
 }
 
 /// Tells on the errors that a word isn't text, or on the output that memory ran out.
-pub fn refuse_untaken<W: Sink, E: Sink>(why: WordsFault, sink: &mut W, errors: &mut E) -> Status
-    ensures refused { IsUntaken why (W.taken sink.old) (W.taken sink.new) (W.has_failed sink.new) result }
+pub fn refuse_untaken<W: Sink, E: Sink>(why: WordsFault, sink: &mut W, errors: &mut E) -> Ending
+    ensures refused { IsUntaken why (W.taken sink.old) (W.taken sink.new) (W.has_failed sink.new) result.status }
     ensures told { WarnsUntaken why (W.has_failed sink.new) (E.taken errors.old) (E.taken errors.new) }
 {
     match why {
         WordsFault::NotText => {
             let text = b"error: a word of the command line isn't UTF-8\n";
             print(errors, text, Status::Misunderstood);
-            Status::Misunderstood
+            Ending {
+                status: Status::Misunderstood,
+                why: None,
+            }
         }
         WordsFault::Memory => {
             let status = tell_memory(sink);
             complain(sink, errors);
-            status
+            Ending {
+                status,
+                why: Some(Why::Memory),
+            }
         }
     }
 }

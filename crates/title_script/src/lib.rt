@@ -5,6 +5,7 @@ mod fault;
 pub mod laws;
 mod runs;
 mod serving;
+mod watch;
 
 pub use fault::RunFault;
 pub use runs::{run, run_alone, run_by};
@@ -12,3 +13,4 @@ pub use title_device::{
     Device, Failed, ReadFault, SCRIPT_LIMIT, Sink, Source, read_all, write_all,
 };
 pub use title_plan::{Schedule, ScriptFault};
+pub use watch::{Unwatched, Watch};

@@ -8,6 +8,7 @@ ghost use Rattle.title_script.specs.Runs.{IsRun};
 
 use crate::fault::RunFault;
 use crate::serving::write_report;
+use crate::watch::{Unwatched, Watch};
 use std::alloc::Global;
 use title_device::{Sink, Source, read_all, write_all};
 use title_lock::RowLocks;
@@ -16,12 +17,17 @@ use title_store::CellStore;
 
 // The report of a script's bytes, or its first fault, or Memory.
 #[tactic(auto, unfolding(crate::specs::Reports::report_of))]
-fn report_of(alloc: Global, schedule: Schedule, script: &[u8]) -> Result<Vec<u8>, ScriptFault>
+fn report_of<V: Watch>(
+    alloc: Global,
+    schedule: Schedule,
+    script: &[u8],
+    watch: &mut V,
+) -> Result<Vec<u8>, ScriptFault>
     ensures report { IfOk result (λ v. report_of schedule script.now ≡ Ok v.items) }
     ensures why { IfErr result (λ e. (e ≡ script_fault.Memory) ⊎ (report_of schedule script.now ≡ Err e)) }
 {
     let mut plan = read_script(alloc, schedule, script)?;
-    let report = write_report::<CellStore, RowLocks>(alloc, &mut plan)?;
+    let report = write_report::<CellStore, RowLocks, V>(alloc, &mut plan, watch)?;
     Ok(report)
 }
 
@@ -29,12 +35,13 @@ fn report_of(alloc: Global, schedule: Schedule, script: &[u8]) -> Result<Vec<u8>
 /// `Serial`: a step outside a transaction is a transaction of its own, and a row of another examiner inside a transaction is
 /// the fault Order. Faults: Row, Order and Party of the first row at fault; Read, where the source fails or the script has
 /// more than 16,777,216 bytes; Write, where the sink fails; Memory. After every fault but Write nothing has been written;
-/// after Write a beginning of the report has.
-pub fn run_by<R: Source, W: Sink>(
+/// after Write a beginning of the report has. Who watches is told how many steps have been served.
+pub fn run_by<R: Source, W: Sink, V: Watch>(
     alloc: Global,
     schedule: Schedule,
     source: &mut R,
     sink: &mut W,
+    watch: &mut V,
 ) -> Result<(), RunFault>
     requires source_works { R.has_failed source.old ≡ false }
     requires sink_works { W.has_failed sink.old ≡ false }
@@ -42,7 +49,7 @@ pub fn run_by<R: Source, W: Sink>(
         (R.has_failed source.new) (W.taken sink.old) (W.taken sink.new) (W.has_failed sink.new) result }
 {
     let script = read_all(alloc, source)?;
-    let report = report_of(alloc, schedule, script.as_slice())?;
+    let report = report_of(alloc, schedule, script.as_slice(), watch)?;
     write_all(sink, report.as_slice())?;
     Ok(())
 }
@@ -54,7 +61,7 @@ pub fn run<R: Source, W: Sink>(alloc: Global, source: &mut R, sink: &mut W) -> R
     ensures run { IsRun schedule.Interleaved (R.left source.old) (R.left source.new) (R.turns source.old) (R.turns source.new)
         (R.has_failed source.new) (W.taken sink.old) (W.taken sink.new) (W.has_failed sink.new) result }
 {
-    run_by(alloc, Schedule::Interleaved, source, sink)
+    run_by(alloc, Schedule::Interleaved, source, sink, &mut Unwatched)
 }
 
 /// `run_by` with transactions one after another.
@@ -68,5 +75,5 @@ pub fn run_alone<R: Source, W: Sink>(
     ensures run { IsRun schedule.Serial (R.left source.old) (R.left source.new) (R.turns source.old) (R.turns source.new)
         (R.has_failed source.new) (W.taken sink.old) (W.taken sink.new) (W.has_failed sink.new) result }
 {
-    run_by(alloc, Schedule::Serial, source, sink)
+    run_by(alloc, Schedule::Serial, source, sink, &mut Unwatched)
 }

@@ -9,6 +9,7 @@ ghost use Rattle.title_report.specs.Writing.{rows_text};
 ghost use Rattle.title_script.specs.Served.{after_alone, after_call, after_line, due_rows, ending, line_rows, reply_to};
 ghost use Rattle.title_script.specs.Reports.{report_on, setting_of};
 
+use crate::watch::Watch;
 use indexmap::IndexSet;
 use std::alloc::{AllocError, Global};
 use std::collections::VecDeque;
@@ -88,19 +89,22 @@ fn serve_line<S: Store + Drop, G: Guards + Drop>(
     }
 }
 
-// Takes step rows from the front, serves them at a desk and writes their rows.
+// Takes step rows from the front, serves them at a desk and writes their rows. Who watches is told after each.
 #[tactic(auto, using(crate::proofs::ServedLaws::rest_served))]
-fn serve_lines<S: Store + Drop, G: Guards + Drop>(
+fn serve_lines<S: Store + Drop, G: Guards + Drop, V: Watch>(
     mut desk: Desk<S, G>,
     lines: &mut VecDeque<Line>,
     names: &IndexSet<String>,
     mut report: Report,
+    watch: &mut V,
 ) -> Result<Report, AllocError>
     ensures rows { IfOk result (λ r. r ≡ report
         ++ rows_text (due_rows desk.setting (map string_bytes names.now.keys) desk.trace lines.old.items)) }
 {
+    let steps = lines.len();
     while let Some(line) = lines.pop_front() {
         report = serve_line(&mut desk, line, names, report)?;
+        watch.served(steps.saturating_sub(lines.len()), steps);
     }
     Ok(report)
 }
@@ -119,9 +123,10 @@ fn open_desk<S: Store + Drop, G: Guards + Drop>(
 }
 
 /// The report of what a plan asks for, over a store and guards of any kinds. It takes the steps out of the plan.
-pub(crate) fn write_report<S: Store + Drop, G: Guards + Drop>(
+pub(crate) fn write_report<S: Store + Drop, G: Guards + Drop, V: Watch>(
     alloc: Global,
     plan: &mut Plan,
+    watch: &mut V,
 ) -> Result<Vec<u8>, AllocError>
     requires opens { MayOpen (length plan.old.parties.keys) plan.old.townships.items }
     ensures report { IfOk result (λ v. v.items ≡ report_on (asked_in plan.old)) }
@@ -129,6 +134,6 @@ pub(crate) fn write_report<S: Store + Drop, G: Guards + Drop>(
     let report = Report::new(alloc)?;
     let steps = plan.lines.len();
     let desk = open_desk::<S, G>(alloc, plan)?;
-    let report = serve_lines(desk, &mut plan.lines, &plan.parties, report)?;
+    let report = serve_lines(desk, &mut plan.lines, &plan.parties, report, watch)?;
     report.end(steps)
 }

@@ -1,12 +1,13 @@
-//! A stored command line, run through the function that the program calls.
+//! A stored command line, run through the functions that the program calls.
 
 use crate::tally::Tally;
 use anyhow::Result;
 use std::alloc::{AllocError, Global};
 use std::sync::Wait;
 use std::thread::Threads;
+use title_advice::{Heard, explain};
 use title_device::Device;
-use title_program::obey_words;
+use title_program::{Unwatched, obey_words};
 
 /// What is printed, and the status after it.
 #[derive(Debug, PartialEq, Eq, Drop)]
@@ -24,21 +25,35 @@ pub struct Case {
     pub wanted: Ending,
 }
 
-// How a command line ends.
-fn ending_of<R: AllocGlobal + Threads + Wait + Sync>(
-    rt: &R,
-    words: &[String],
-    stdin: &[u8],
-) -> Ending {
+/// How a command line ends, and what is told on the errors.
+#[derive(Debug, Drop)]
+pub struct Came {
+    pub ending: Ending,
+    pub errors: Vec<u8>,
+}
+
+/// Does what a command line asks for, as the program does.
+pub fn run<R: AllocGlobal + Threads + Wait + Sync>(rt: &R, words: &[String], stdin: &[u8]) -> Came {
     let alloc = rt.alloc();
-    let mut source = Device::new(stdin);
+    let mut source = Heard::new(alloc, Device::new(stdin));
     let mut sink = Device::new(Vec::new(alloc));
     let mut errors = Device::new(Vec::new(alloc));
-    let status = obey_words(rt, alloc, words, &mut source, &mut sink, &mut errors);
-    Ending {
+    let ending = obey_words(
+        rt,
+        alloc,
+        words,
+        &mut source,
+        &mut sink,
+        &mut errors,
+        &mut Unwatched,
+    );
+    explain(alloc, words, ending, &source, &mut errors);
+    let ending = Ending {
         stdout: sink.into_inner(),
-        status: status.code(),
-    }
+        status: ending.status.code(),
+    };
+    let errors = errors.into_inner();
+    Came { ending, errors }
 }
 
 // The number of lines before the first that differs.
@@ -71,11 +86,11 @@ pub fn judge<R: Print + AllocGlobal + Threads + Wait + Sync>(
     case: &Case,
     tally: &mut Tally,
 ) -> Result<()> {
-    let came = ending_of(rt, case.words.as_slice(), case.stdin.as_slice());
-    let is_same = came == case.wanted;
+    let came = run(rt, case.words.as_slice(), case.stdin.as_slice());
+    let is_same = came.ending == case.wanted;
     tally.count(is_same);
     if !is_same {
-        tell(rt, case, &came)?;
+        tell(rt, case, &came.ending)?;
     }
     Ok(())
 }

@@ -10,13 +10,13 @@ use std::rt::Files;
 use std::sync::Wait;
 use std::thread::Threads;
 
-// A field that each row has.
-fn field(row: &StringRecord, place: usize) -> Result<&str> {
+/// A field that each row has.
+pub fn field(row: &StringRecord, place: usize) -> Result<&str> {
     row.get(place).context("a row of a table is too short")
 }
 
-// The fields after the first two.
-fn other_fields(alloc: Global, row: &StringRecord) -> Result<Vec<String>, AllocError> {
+/// The fields after the first two.
+pub fn other_fields(alloc: Global, row: &StringRecord) -> Result<Vec<String>, AllocError> {
     let mut fields = Vec::new(alloc);
     for field in row.iter().skip(2) {
         fields.push(String::from_str(alloc, field)?)?;
@@ -58,8 +58,8 @@ fn tract_case(alloc: Global, row: &StringRecord) -> Result<Case> {
     })
 }
 
-// The bytes of a file.
-fn file<R: Files + AllocGlobal>(rt: &R, name: &str, ending: &str) -> Result<Vec<u8>> {
+/// The bytes of a file.
+pub fn file<R: Files + AllocGlobal>(rt: &R, name: &str, ending: &str) -> Result<Vec<u8>> {
     let path = format!(in rt.alloc(); "{name}.{ending}")?;
     Ok(fs::read(rt, path.as_str())?)
 }
@@ -77,8 +77,8 @@ fn run_case<R: Files + AllocGlobal>(rt: &R, row: &StringRecord) -> Result<Case> 
     })
 }
 
-// The rows of a table, of any lengths.
-fn rows_of(alloc: Global, table: &[u8]) -> StringRecordsIntoIter<&[u8]> {
+/// The rows of a table, of any lengths.
+pub fn rows_of(alloc: Global, table: &[u8]) -> StringRecordsIntoIter<&[u8]> {
     let reader = ReaderBuilder::new()
         .has_headers(false)
         .flexible(true)

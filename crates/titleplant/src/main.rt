@@ -2,8 +2,10 @@
 //! status of what the words ask for.
 #![tactic(auto)]
 
+use std::io::IsTerminal;
 use std::process::ExitCode;
 use std::{env, io};
+use title_advice::{Heard, Progress, explain};
 use title_device::Device;
 use title_program::{WordsFault, obey_words, refuse_untaken};
 
@@ -13,19 +15,28 @@ fn words(rt: &HostRuntime) -> Result<Vec<String>, WordsFault> {
 }
 
 fn main(rt: HostRuntime) -> ExitCode {
-    let mut source = Device::new(rt.stdin());
+    let mut source = Heard::new(rt.alloc(), Device::new(rt.stdin()));
     let mut sink = Device::new(io::writer(&rt));
     let mut errors = Device::new(rt.stderr());
+    let is_shown = rt.stderr().is_terminal();
+    let mut progress = Progress::new(rt.stderr(), is_shown);
     let status = match words(&rt) {
-        Ok(words) => obey_words(
-            &rt,
-            rt.alloc(),
-            words.as_slice(),
-            &mut source,
-            &mut sink,
-            &mut errors,
-        ),
-        Err(why) => refuse_untaken(why, &mut sink, &mut errors),
+        Ok(words) => {
+            let words = words.as_slice();
+            let ending = obey_words(
+                &rt,
+                rt.alloc(),
+                words,
+                &mut source,
+                &mut sink,
+                &mut errors,
+                &mut progress,
+            );
+            progress.wipe();
+            explain(rt.alloc(), words, ending, &source, &mut errors);
+            ending.status
+        }
+        Err(why) => refuse_untaken(why, &mut sink, &mut errors).status,
     };
     ExitCode::from(status)
 }
