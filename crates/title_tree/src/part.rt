@@ -5,7 +5,8 @@ ghost use Rattle.std.specs.Option.{option_map};
 ghost use Rattle.title_tree.specs.Changes.{after};
 ghost use Rattle.title_tree.specs.Faults.{Tells};
 ghost use Rattle.title_tree.specs.Parts.{piece, ways};
-ghost use Rattle.title_tree.specs.Pieces.{Disjoint, Ready, Refines, StaysWithin, paths, swapped, taken, split_all, fresh, refusal_at, uniform_at};
+ghost use Rattle.title_tree.specs.Pieces.{Disjoint, Ready, Refines, StaysWithin, paths, swapped, taken};
+ghost use Rattle.title_tree.specs.Pieces.{split_all, fresh, refusal_at, uniform_at};
 ghost use Rattle.title_tree.specs.Plots.{has_path, plot_at, graft, split};
 ghost use Rattle.title_tree.specs.Trees.{plot};
 
@@ -87,11 +88,7 @@ fn push_part(
 
 /// Quarters a tree down to each path. After `Err` it may be quartered down to some: the same cells hold the same,
 /// each node is still there, and none lies deeper than the paths.
-pub fn split_each(
-    root: &mut Tree,
-    alloc: Global,
-    paths: &[Vec<Quarter>],
-) -> Result<(), AllocError>
+pub fn split_each(root: &mut Tree, alloc: Global, paths: &[Vec<Quarter>]) -> Result<(), AllocError>
     ensures ok { OnOk result (plot root.new ≡ split_all (ways paths.now) (plot root.old)) }
     ensures err { OnErr result (Refines (plot root.old) (plot root.new)) }
     ensures err_fits { OnErr result (StaysWithin (ways paths.now) (plot root.old) (plot root.new)) }
@@ -113,5 +110,9 @@ pub fn uniform_at<'a>(root: &'a Tree, paths: &[Vec<Quarter>]) -> Option<&'a Hold
         return Some(held);
     }
     let other = uniform_at(root, rest)?;
-    if is_same(held, other) { Some(held) } else { None }
+    if is_same(held, other) {
+        Some(held)
+    } else {
+        None
+    }
 }

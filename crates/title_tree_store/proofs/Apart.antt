@@ -78,7 +78,8 @@ townships_apart levels ts (u ∷ us) room of once =
     (townships_apart levels ts us room (λ v i. of v (inr i)) once.1)
     (λ p q i j. let v = in_townships levels ts us q j in (
       false_from (begins p q) (λ h. other v.0 v.1 (same_path_of levels ts u v.0 p q room (of u (inl refl)) (of v.0 (inr v.1)) i v.2 h)),
-      false_from (begins q p) (λ h. other v.0 v.1 (sym (same_path_of levels ts v.0 u q p room (of v.0 (inr v.1)) (of u (inl refl)) v.2 i h))),
+      false_from (begins q p) (λ h. other v.0 v.1
+          (sym (same_path_of levels ts v.0 u q p room (of v.0 (inr v.1)) (of u (inl refl)) v.2 i h))),
     ))
   where
     other : (v : Township) → members.In v us → u ≡ v → ⊥
@@ -153,7 +154,8 @@ nodes_apart levels ts x (n ∷ ns) room once of f order =
     (nodes_apart levels ts x ns room once of (λ m i. f m (inr i)) k.1)
     (λ p q i j. let m = in_nodes levels ts ns q j in (
       false_from (begins p q) (λ h. other m.0 m.1 (one_node levels ts x n m.0 p q room of (f n (inl refl)) (f m.0 (inr m.1)) i m.2 h)),
-      false_from (begins q p) (λ h. other m.0 m.1 (sym (one_node levels ts x m.0 n q p room of (f m.0 (inr m.1)) (f n (inl refl)) m.2 i h))),
+      false_from (begins q p) (λ h. other m.0 m.1
+          (sym (one_node levels ts x m.0 n q p room of (f m.0 (inr m.1)) (f n (inl refl)) m.2 i h))),
     ))
   where
     k : (list_all (comes_before n) ns ≡ true) × (are_in_order ns ≡ true)

@@ -1,5 +1,6 @@
 -- What the trees of a plant hold, cell by cell.
-use Rattle.std.proofs.Common.{◌≡◌, ◌∙◌, ap, sym, refl, subst, ℕ, zero, suc, ◌+◌, ◌^◌, ◌<◌, ◌≤◌, arith, Bool, true, false, ◌&&◌, cond, true≢false}
+use Rattle.std.proofs.Common.{◌≡◌, ◌∙◌, ap, sym, refl, subst, ℕ, zero, suc, ◌+◌}
+use Rattle.std.proofs.Common.{◌^◌, ◌<◌, ◌≤◌, arith, Bool, true, false, ◌&&◌, cond, true≢false}
 use Rattle.std.proofs.Common.{inl, inr, List, [], ◌∷◌, ◌++◌, length, map, Option, Some, None, Result, Ok, Err}
 use Rattle.std.proofs.lemmas.Bool.{and_from, and_parts, cases_Bool}
 use Rattle.title_share.specs.Division.{Division}
@@ -52,7 +53,8 @@ content_changes levels ts x ps qs w room of h c = go (is_plant_cell depth ts c) 
         ≡ cond (has x c && b) (w c) (cond b (owners_at ps (cell_path levels ts c)) opening_owners)
     go true e = h c e (has x c) (tract_has levels ts x c room of e) ∙ both (has x c)
       where
-        both : (b : Bool) → cond b (w c) (owners_at ps (cell_path levels ts c)) ≡ cond (b && true) (w c) (owners_at ps (cell_path levels ts c))
+        both : (b : Bool) → cond b (w c) (owners_at ps (cell_path levels ts c))
+            ≡ cond (b && true) (w c) (owners_at ps (cell_path levels ts c))
         both true = refl
         both false = refl
     go false e = none (has x c)

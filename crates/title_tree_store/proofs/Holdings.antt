@@ -1,5 +1,6 @@
 -- What a tree has at a node's paths is what the node's cells have.
-use Rattle.std.proofs.Common.{◌≡◌, ◌∙◌, ap, sym, refl, subst, ℕ, zero, suc, ◌+◌, ◌-◌, ◌^◌, ◌<◌, ◌≤◌, arith, Bool, true, false, ◌||◌, cond, true≢false}
+use Rattle.std.proofs.Common.{◌≡◌, ◌∙◌, ap, sym, refl, subst, ℕ, zero, suc, ◌+◌}
+use Rattle.std.proofs.Common.{◌-◌, ◌^◌, ◌<◌, ◌≤◌, arith, Bool, true, false, ◌||◌, cond, true≢false}
 use Rattle.std.proofs.Common.{inl, inr, List, [], ◌∷◌, ◌++◌, length, length-append, map, Option, Some, None, if◌then◌else◌}
 use Rattle.std.specs.Prelude.{nat_lt}
 use Rattle.std.specs.List.{flat_map, list_any}
@@ -189,7 +190,8 @@ one_holding_is levels ts ps e n room fit of = option_same _ _ one_to_all all_to_
     all_to_one w h = go (one_holding e (content_of levels ts ps) (node_cells depth ts n)) refl
       where
         go : (o : Option Division) → one_holding e (content_of levels ts ps) (node_cells depth ts n) ≡ o → o ≡ Some w
-        go None z = absurd (one_from e (content_of levels ts ps) (node_cells depth ts n) w (some_cell w h).0 (some_cell w h).1 (each_has w h) z)
+        go None z = absurd (one_from e (content_of levels ts ps) (node_cells depth ts n) w (some_cell w h).0 (some_cell w h).1
+            (each_has w h) z)
         go (Some v) z =
             let c = some_cell w h in
             let same : v ≡ w = sym (one_found e (content_of levels ts ps) (node_cells depth ts n) v c.0 z c.1) ∙ each_has w h c.0 c.1 in

@@ -1,5 +1,6 @@
 -- What a store keeps, through each of its operations.
-use Rattle.std.proofs.Common.{◌≡◌, ◌≢◌, ◌∙◌, ap, sym, refl, subst, ℕ, ◌+◌, ◌-◌, ◌^◌, ◌<◌, ◌≤◌, arith, Bool, true, false, ◌&&◌, cond, true≢false}
+use Rattle.std.proofs.Common.{◌≡◌, ◌≢◌, ◌∙◌, ap, sym, refl, subst, ℕ, ◌+◌, ◌-◌}
+use Rattle.std.proofs.Common.{◌^◌, ◌<◌, ◌≤◌, arith, Bool, true, false, ◌&&◌, cond, true≢false}
 use Rattle.std.proofs.Common.{inl, inr, List, [], ◌∷◌, ◌++◌, length, map, length-append}
 use Rattle.std.specs.Prelude.{nat_lt}
 use Rattle.std.proofs.lemmas.Bool.{and_from, and_parts, cases_Bool, both_ways}
@@ -115,7 +116,8 @@ fits_swapped levels [] t s f h = h
 fits_swapped levels (x ∷ xs) t s f h =
     let l = s x.path (inl refl) in
     fits_swapped levels xs (graft x.path x.plot t) (λ p i. s p (inr i)) (λ y i. f y (inr i))
-    (fits_graft levels (levels - length x.path) x.path x.plot t (omega (arith, l)) h (f x (inl refl) (levels - length x.path) (omega (arith, l))))
+    (fits_graft levels (levels - length x.path) x.path x.plot t (omega (arith, l)) h
+    (f x (inl refl) (levels - length x.path) (omega (arith, l))))
 
 pub taken_fit : (levels : ℕ) (xs : List Piece) (t : Plot) → Short (paths xs) levels → PiecesFit levels xs → fits levels t ≡ true
     → PiecesFit levels (taken xs t)

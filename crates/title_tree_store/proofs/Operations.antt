@@ -50,7 +50,8 @@ tidies levels ts ps qs h c =
 
 -- ---- taking an image out
 
-pub is_there : (levels : ℕ) (ts : List Township) (lent : List Lent) (n : ℕ) → IsOut n (loans_of levels ts lent) → IsAbsent n lent → {X : Type 0} → X
+pub is_there : (levels : ℕ) (ts : List Township) (lent : List Lent) (n : ℕ) → IsOut n (loans_of levels ts lent) → IsAbsent n lent
+    → {X : Type 0} → X
 is_there levels ts lent n out none =
     let m = among_in levels ts lent out.0 out.1.0 in
     absurd (none m.0 m.1 (ap (λ (b : Loan). b.number) (sym m.2) ∙ out.1.1))

@@ -1,5 +1,6 @@
 -- Paths that are joined of parts.
-use Rattle.std.proofs.Common.{◌≡◌, ◌∙◌, ap, sym, refl, subst, ℕ, zero, suc, ◌+◌, ◌*◌, ◌/◌, ◌%◌, ◌^◌, ◌<◌, ◌≤◌, arith, Bool, true, false, ◌&&◌, ◌||◌}
+use Rattle.std.proofs.Common.{◌≡◌, ◌∙◌, ap, sym, refl, subst, ℕ, zero, suc, ◌+◌, ◌*◌}
+use Rattle.std.proofs.Common.{◌/◌, ◌%◌, ◌^◌, ◌<◌, ◌≤◌, arith, Bool, true, false, ◌&&◌, ◌||◌}
 use Rattle.std.proofs.Common.{inl, inr, ◌⊎◌, List, [], ◌∷◌, ◌++◌, length, map, length-append, append_assoc, reverse, true≢false}
 use Rattle.std.specs.List.{flat_map, list_any}
 use Rattle.std.proofs.lemmas.List.{length-reverse, reverse-append, reverse-reverse, append-nil}
@@ -155,7 +156,8 @@ number_is (suc levels) n m l k h =
     let same = number_is levels (n / 4) (m / 4) less more parts.0 in
     let low : n % 4 < 4 = omega arith in
     let high : m % 4 < 4 = omega arith in
-    let last : n % 4 ≡ m % 4 = sym (quarter_number-at (n % 4) low) ∙ ap quarter_number (last_is _ _ parts.1) ∙ quarter_number-at (m % 4) high in
+    let last : n % 4 ≡ m % 4 = sym (quarter_number-at (n % 4) low) ∙ ap quarter_number (last_is _ _ parts.1) ∙ quarter_number-at (m % 4)
+    high in
     omega (arith, same, last)
 
 -- the number of the square with these quarters, the innermost first

@@ -1,5 +1,6 @@
 -- Which cells lie below which paths.
-use Rattle.std.proofs.Common.{◌≡◌, ◌∙◌, ap, sym, refl, subst, ℕ, zero, suc, ◌+◌, ◌-◌, ◌*◌, ◌^◌, ◌<◌, ◌≤◌, arith, Bool, true, false, ◌&&◌, ◌||◌}
+use Rattle.std.proofs.Common.{◌≡◌, ◌∙◌, ap, sym, refl, subst, ℕ, zero, suc, ◌+◌}
+use Rattle.std.proofs.Common.{◌-◌, ◌*◌, ◌^◌, ◌<◌, ◌≤◌, arith, Bool, true, false, ◌&&◌, ◌||◌}
 use Rattle.std.proofs.Common.{cond, inl, inr, List, [], ◌∷◌, ◌++◌, length, map, length-append, append_assoc, reverse, true≢false}
 use Rattle.std.specs.Prelude.{nat_lt, not}
 use Rattle.std.specs.List.{flat_map, list_any}
@@ -32,9 +33,11 @@ use Rattle.title_tree.specs.CellWays.{cell_quarters, cell_way}
 use Rattle.title_tree.specs.Pieces as pieces
 use Rattle.title_tree.specs.Pieces.{In}
 use Rattle.title_tree.proofs.CellSquares.{squares_by_paths, cell_ways_are_whole}
-use Rattle.title_tree_store.specs.Spots.{index_of, township_path, section_path, square_path, cell_path, blocks, township_spots, spots, tract_spots}
+use Rattle.title_tree_store.specs.Spots.{index_of, township_path, section_path, square_path}
+use Rattle.title_tree_store.specs.Spots.{cell_path, blocks, township_spots, spots, tract_spots}
 use Rattle.title_tree_store.specs.Keeping.{height}
-use Rattle.title_tree_store.proofs.Paths.{begins_under, begins_parts, begins_whole, has_on, has_under, has_parts, has_flat, append_parts, in_join}
+use Rattle.title_tree_store.proofs.Paths.{begins_under, begins_parts, begins_whole, has_on}
+use Rattle.title_tree_store.proofs.Paths.{has_under, has_parts, has_flat, append_parts, in_join}
 use Rattle.title_tree_store.proofs.Paths.{length-number_path, number_is, number_of, path_of_number, Parted, parted}
 
 -- ---- townships
@@ -134,7 +137,8 @@ pub blocks_have : (s : Section) (c : List Quarter) → pieces.has blocks (number
 blocks_have s c =
     let n = s.numbered in
     let low : s.number - 1 < 36 = omega (arith, n.0, n.1) in
-    has_on blocks (number_path 3 (s.number - 1)) c (at_below (λ k. pieces.has blocks (number_path 3 k)) 36 (s.number - 1) blocks_checked low)
+    has_on blocks (number_path 3 (s.number - 1)) c
+    (at_below (λ k. pieces.has blocks (number_path 3 k)) 36 (s.number - 1) blocks_checked low)
 
 -- ---- cells below paths
 
@@ -397,7 +401,8 @@ pub in_spots : (levels : ℕ) (ts : List Township) (n : Node) (p r : List Quarte
     → length p + length r ≡ height levels → CellAt levels ts (p ++ r)
 in_spots levels ts node.Everything p r of i l = all ts (λ t h. h) i
   where
-    all : (us : List Township) → ((t : Township) → IsOf us t → IsOf ts t) → In p (flat_map (township_spots levels ts) us) → CellAt levels ts (p ++ r)
+    all : (us : List Township) → ((t : Township) → IsOf us t → IsOf ts t) → In p (flat_map (township_spots levels ts) us)
+        → CellAt levels ts (p ++ r)
     all [] f j = absurd j
     all (u ∷ us) f j = elim (in_join p (township_spots levels ts u) (flat_map (township_spots levels ts) us) j) [
       | inl k ↦ in_township levels ts u p r (f u (or_left (same_township u u) (list_any (same_township u) us) (same_township-self u))) k l
@@ -420,7 +425,8 @@ pub in_tract : (levels : ℕ) (ts : List Township) (x : Land) (p r : List Quarte
     → length p + length r ≡ height levels → CellAt levels ts (p ++ r)
 in_tract levels ts x p r of i l = all (cover_of depth x) (λ n j. cover_declared ts x n of j) i
   where
-    all : (ns : List Node) → ((n : Node) → members.In n ns → IsDeclared ts n) → In p (flat_map (spots levels ts) ns) → CellAt levels ts (p ++ r)
+    all : (ns : List Node) → ((n : Node) → members.In n ns → IsDeclared ts n) → In p (flat_map (spots levels ts) ns)
+        → CellAt levels ts (p ++ r)
     all [] f j = absurd j
     all (n ∷ ns) f j = elim (in_join p (spots levels ts n) (flat_map (spots levels ts) ns) j) [
       | inl k ↦ in_spots levels ts n p r (f n (inl refl)) k l

@@ -31,7 +31,8 @@ use Rattle.title_tree.specs.Changes.{why_of, new_or, after}
 use Rattle.title_tree.specs.Faults.{Tells}
 use Rattle.title_tree.specs.Plots.{Plot, value_at, plot_at, changed, fits}
 use Rattle.title_tree.specs.Pieces as pieces
-use Rattle.title_tree.specs.Pieces.{In, Piece, Disjoint, Ready, Short, paths, held, swapped, taken, split_all, fresh, refusal_at, Refines, StaysWithin}
+use Rattle.title_tree.specs.Pieces.{In, Piece, Disjoint, Ready, Short, paths, held}
+use Rattle.title_tree.specs.Pieces.{swapped, taken, split_all, fresh, refusal_at, Refines, StaysWithin}
 use Rattle.title_tree.specs.Lendings.{Lending, Keeps}
 use Rattle.title_tree.specs.Paths.{rest}
 use Rattle.title_tree.proofs.Beginnings.{begins_is}
@@ -78,7 +79,8 @@ image_paths i ps e t u v xs ys put =
     let made = ap paths put.made.1 ∙ paths_fresh (after (holding_effect i e)) ps t in
     (made, ap paths put.image ∙ paths_taken xs u ∙ made)
 
-pub kept_put : (levels : ℕ) (ts : List Township) (x : Land) (i : Instrument ℕ) (old quartered new : Estate → Plot) (xs : Estate → List Piece)
+pub kept_put : (levels : ℕ) (ts : List Township) (x : Land) (i : Instrument ℕ) (old quartered new : Estate → Plot) (xs : Estate
+    → List Piece)
     (lent : List Lent) (l : Lent) (n next : ℕ) → IsEachOnce ts → is_in_plant ts x ≡ true → l.number ≡ n → l.land ≡ x → next ≡ suc n
     → ((e : Estate) → IsPut i (tract_spots levels ts x) e (old e) (quartered e) (new e) (xs e) (forests.pieces l.trees e))
     → IsKept levels ts old lent n → IsKept levels ts new (lent ++ l ∷ []) next
@@ -87,7 +89,8 @@ kept_put levels ts x i old quartered new xs lent l n next once of number land mo
   fit = λ e. ap (fits (height levels)) (put e).exchanged
       ∙ fits_swapped (height levels) (xs e) (quartered e) (short e) (made_fit e) (quartered_fit e);
   keeps = λ e. subst (λ (out : List Lending). Keeps (new e) out next) (sym (map_push (lending e) lent l))
-      (subst (λ (z : ℕ). Keeps (new e) (map (lending e) lent ++ record { number = l.number; pieces = forests.pieces l.trees e } ∷ []) z) (sym more)
+      (subst (λ (z : ℕ). Keeps (new e) (map (lending e) lent ++ record { number = l.number; pieces = forests.pieces l.trees e } ∷ []) z)
+      (sym more)
       (subst (λ (z : ℕ). Keeps (new e) (map (lending e) lent ++ record { number = z; pieces = forests.pieces l.trees e } ∷ []) (suc n))
       (sym number)
       (put_keeps (after (holding_effect i e)) (tract_spots levels ts x) (old e) (quartered e) (new e) (xs e) (forests.pieces l.trees e)
@@ -102,7 +105,8 @@ kept_put levels ts x i old quartered new xs lent l n next once of number land mo
 }
   where
     short : (e : Estate) → Short (paths (xs e)) (height levels)
-    short e = subst (λ (z : List (List Quarter)). Short z (height levels)) (sym (image_paths i _ e _ _ _ _ _ (put e)).0) (tract_short levels ts x of)
+    short e = subst (λ (z : List (List Quarter)). Short z (height levels)) (sym (image_paths i _ e _ _ _ _ _ (put e)).0)
+        (tract_short levels ts x of)
 
     made_fit : (e : Estate) → PiecesFit (height levels) (xs e)
     made_fit e = subst (PiecesFit (height levels)) (sym (put e).made.1)
@@ -115,7 +119,8 @@ kept_put levels ts x i old quartered new xs lent l n next once of number land mo
     mine : IsBacked levels ts l
     mine = record {
       within = ap (is_in_plant ts) land ∙ of;
-      at = λ e. ap (λ (z : Land). Rattle.title_tree_store.specs.Keeping.same_ways (paths (forests.pieces l.trees e)) (tract_spots levels ts z)) land
+      at = λ e. ap (λ (z : Land). Rattle.title_tree_store.specs.Keeping.same_ways (paths (forests.pieces l.trees e))
+          (tract_spots levels ts z)) land
           ∙ ap (λ (z : List (List Quarter)). Rattle.title_tree_store.specs.Keeping.same_ways z (tract_spots levels ts x))
           (image_paths i _ e _ _ _ _ _ (put e)).1 ∙ same_ways-self (tract_spots levels ts x);
       fit = λ e. subst (PiecesFit (height levels)) (sym (put e).image)
@@ -123,8 +128,8 @@ kept_put levels ts x i old quartered new xs lent l n next once of number land mo
     }
 
 -- the parts that were made may change places with what stands in the quartered trees
-pub put_goes : (levels : ℕ) (ts : List Township) (x : Land) (i : Instrument ℕ) (e : Estate) (t u : Plot) (xs : List Piece) (lent : List Lent)
-    (n : ℕ) (ps : Estate → Plot) → IsEachOnce ts → is_in_plant ts x ≡ true → IsChange i e (tract_spots levels ts x) t xs
+pub put_goes : (levels : ℕ) (ts : List Township) (x : Land) (i : Instrument ℕ) (e : Estate) (t u : Plot) (xs : List Piece)
+    (lent : List Lent) (n : ℕ) (ps : Estate → Plot) → IsEachOnce ts → is_in_plant ts x ≡ true → IsChange i e (tract_spots levels ts x) t xs
     → u ≡ split_all (tract_spots levels ts x) t → IsKept levels ts ps lent n → Disjoint (paths xs) × Ready (paths xs) u
 put_goes levels ts x i e t u xs lent n ps once of made split k =
     put_ready (after (holding_effect i e)) (tract_spots levels ts x) t u xs (tract_apart levels ts x k.room once of) made.1 split
@@ -199,7 +204,8 @@ put_value levels ts x i e t u v xs ys c apart of put long =
     (subst (λ (m : ℕ). Short (tract_spots levels ts x) m) (sym long) (tract_short levels ts x of))
 
 -- the plant after a put
-pub put_shows : (levels : ℕ) (ts : List Township) (x : Land) (i : Instrument ℕ) (old quartered new : Estate → Plot) (xs ys : Estate → List Piece)
+pub put_shows : (levels : ℕ) (ts : List Township) (x : Land) (i : Instrument ℕ) (old quartered new : Estate → Plot) (xs ys : Estate
+    → List Piece)
     → length ts ≤ 4 ^ levels → IsEachOnce ts → is_in_plant ts x ≡ true
     → ((e : Estate) → IsPut i (tract_spots levels ts x) e (old e) (quartered e) (new e) (xs e) (ys e)) → (c : Cell)
     → content_of levels ts new c ≡ plant_effect depth ts i (content_of levels ts old) x c
@@ -232,10 +238,12 @@ put_shows levels ts x i old quartered new xs ys room once of put c =
     owners y plant false h = owners_same _ _ _ _ _ _ (value y S false h) (value y O false h) (value y M false h)
 
 -- the image of a put
-pub put_takes : (levels : ℕ) (ts : List Township) (x : Land) (i : Instrument ℕ) (old quartered new : Estate → Plot) (xs : Estate → List Piece)
+pub put_takes : (levels : ℕ) (ts : List Township) (x : Land) (i : Instrument ℕ) (old quartered new : Estate → Plot) (xs : Estate
+    → List Piece)
     (lent : List Lent) (l : Lent) (n : ℕ) → IsEachOnce ts → is_in_plant ts x ≡ true → l.number ≡ n → l.land ≡ x
     → ((e : Estate) → IsPut i (tract_spots levels ts x) e (old e) (quartered e) (new e) (xs e) (forests.pieces l.trees e))
-    → IsKept levels ts old lent n → IsTaken n ts x (content_of levels ts old) (loans_of levels ts lent) (loans_of levels ts (lent ++ l ∷ []))
+    → IsKept levels ts old lent n → IsTaken n ts x (content_of levels ts old) (loans_of levels ts lent)
+    (loans_of levels ts (lent ++ l ∷ []))
 put_takes levels ts x i old quartered new xs lent l n once of number land put k = record {
   held = λ c. held_at (forests.pieces l.trees) (cell_path levels ts c);
   holds = λ c h. let m = and_parts (has x c) (is_plant_cell depth ts c) h in
@@ -258,8 +266,10 @@ put_takes levels ts x i old quartered new xs lent l n once of number land put k 
     value : (c : Cell) → has x c ≡ true → is_plant_cell depth ts c ≡ true → (e : Estate)
         → held (forests.pieces l.trees e) (cell_path levels ts c) ≡ value_at (old e) (cell_path levels ts c)
     value c h plant e =
-        let short = subst (λ (m : ℕ). Short (tract_spots levels ts x) m) (sym (length-cell_path levels ts c)) (tract_short levels ts x of) in
-        ap (λ (z : List Piece). held z (cell_path levels ts c)) ((put e).image ∙ ap (λ (z : List Piece). taken z (quartered e)) (put e).made.1
+        let short = subst (λ (m : ℕ). Short (tract_spots levels ts x) m) (sym (length-cell_path levels ts c)) (tract_short levels ts x of)
+        in
+        ap (λ (z : List Piece). held z (cell_path levels ts c)) ((put e).image
+        ∙ ap (λ (z : List Piece). taken z (quartered e)) (put e).made.1
         ∙ ap (λ (z : Plot). taken (fresh (after (holding_effect i e)) (tract_spots levels ts x) (old e)) z) (put e).split)
         ∙ put_held (after (holding_effect i e)) (tract_spots levels ts x) (old e) (cell_path levels ts c)
         (tract_apart levels ts x k.room once of) short (tract_has levels ts x c k.room of plant ∙ h)
@@ -327,7 +337,8 @@ pub some_cell_fails : (levels : ℕ) (ts : List Township) (x : Land) (i : Instru
     (rule : Rule) → length ts ≤ 4 ^ levels → is_in_plant ts x ≡ true → fits (height levels) (ps e) ≡ true → cells ≡ cells_of depth ts x
     → refusal_at (holding_effect i e) (tract_spots levels ts x) (ps e) ≡ Some rule → None ≡ triple (first_in levels ts ps i cells) → ⊥
 some_cell_fails levels ts x i ps cells e rule room of fit listed refusal none =
-    let c = some_refuses_at (holding_effect i e) (height levels) (tract_spots levels ts x) (ps e) rule fit (tract_short levels ts x of) refusal in
+    let c = some_refuses_at (holding_effect i e) (height levels) (tract_spots levels ts x) (ps e) rule fit (tract_short levels ts x of)
+    refusal in
     let k = has_in (tract_spots levels ts x) c.0 c.1 in
     let whole = begins_is k.0 c.0 k.2 in
     let long : length k.0 + length (rest k.0 c.0) ≡ height levels =
@@ -335,7 +346,8 @@ some_cell_fails levels ts x i ps cells e rule room of fit listed refusal none =
     let l = c.2 in omega (arith, f, g, l)) in
     let y = in_tract levels ts x k.0 (rest k.0 c.0) of k.1 long in
     let path_is = y.path_is ∙ sym whole in
-    let inside = sym (tract_has levels ts x y.cell room of y.plant) ∙ ap (λ (z : List Quarter). pieces.has (tract_spots levels ts x) z) path_is
+    let inside = sym (tract_has levels ts x y.cell room of y.plant) ∙ ap (λ (z : List Quarter). pieces.has (tract_spots levels ts x) z)
+    path_is
     ∙ c.1 in
     let there = subst (λ (z : List Cell). members.In y.cell z) (sym listed)
     (in_cells ts x y.cell (and_from (has x y.cell) (is_plant_cell depth ts y.cell) inside y.plant)) in
@@ -358,7 +370,8 @@ put_steps i e t u v xs ys qs rs ps f g made split exchanged image = record {
 }
 
 pub put_allowed : (levels : ℕ) (ts : List Township) (x : Land) (i : Instrument ℕ) (e : Estate) (t u : Plot) (xs : List Piece)
-    (lent : List Lent) (n : ℕ) (ps : Estate → Plot) (qs rs : List (List Quarter)) → qs ≡ tract_spots levels ts x → rs ≡ tract_spots levels ts x
+    (lent : List Lent) (n : ℕ) (ps : Estate → Plot) (qs rs : List (List Quarter)) → qs ≡ tract_spots levels ts x
+    → rs ≡ tract_spots levels ts x
     → IsEachOnce ts → is_in_plant ts x ≡ true → IsChange i e qs t xs → u ≡ split_all rs t → IsKept levels ts ps lent n
     → Disjoint (paths xs) × Ready (paths xs) u
 put_allowed levels ts x i e t u xs lent n ps qs rs f g once of made split k =
@@ -373,7 +386,8 @@ pub kept_stopped : (levels : ℕ) (ts : List Township) (x : Land) (old new : Est
 kept_stopped levels ts x old new lent less n rs g of same refines within k =
     subst (λ (z : List Lent). IsKept levels ts new z n) (sym same)
     (kept_refined levels ts old new lent n refines
-    (λ e. within e (height levels) (subst (λ (z : List (List Quarter)). Short z (height levels)) (sym g) (tract_short levels ts x of)) (k.fit e)) k)
+    (λ e. within e (height levels)
+    (subst (λ (z : List (List Quarter)). Short z (height levels)) (sym g) (tract_short levels ts x of)) (k.fit e)) k)
 
 -- the rule that a fault tells
 pub told : (f : Fault Rule) (rule : Rule) (o : Option Rule) → f ≡ fault.Refused rule → Tells f o → o ≡ Some rule

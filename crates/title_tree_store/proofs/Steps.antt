@@ -28,7 +28,8 @@ cell_step d levels less w row column q c e f g =
     g ∙ ap (λ (x : Quarter). cell_quarters d less (x ∷ w) row column) f
     ∙ ap (λ (n : ℕ). cell_quarters d n w row column) (sym e)
 
-pub path_for : {E : Type 0} {A : Type 0} (items : A → List Quarter) (r : Result A E) (f : List Quarter → List Quarter) (w v : List Quarter) → w ≡ v
+pub path_for : {E : Type 0} {A : Type 0} (items : A → List Quarter) (r : Result A E) (f : List Quarter
+    → List Quarter) (w v : List Quarter) → w ≡ v
     → IfOk r (λ p. items p ≡ f w) → IfOk r (λ p. items p ≡ f v)
 path_for items r f w v e h = subst (λ (x : List Quarter). IfOk r (λ p. items p ≡ f x)) e h
 

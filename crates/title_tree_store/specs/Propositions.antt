@@ -23,5 +23,6 @@ pub rises_prop : (lent : List Lent) → IsProp (Rises lent)
 rises_prop [] = hlevel le_prop
 rises_prop (l ∷ lent) = hlevel (le_prop, rises_prop lent)
 
-pub kept_prop : (levels : ℕ) (ts : List Township) (ps : Estate → Plot) (lent : List Lent) (next : ℕ) → IsProp (IsKept levels ts ps lent next)
+pub kept_prop : (levels : ℕ) (ts : List Township) (ps : Estate → Plot) (lent : List Lent) (next : ℕ)
+    → IsProp (IsKept levels ts ps lent next)
 kept_prop levels ts ps lent next = hlevel (Bool-set, le_prop, disjoint_prop, rises_prop)

@@ -36,7 +36,7 @@ pub struct TreeStore {
     lent: Vec<Lent>,
     next: u64,
     ghost once: { IsEachOnce townships.items } by { Prim.hlevel once_prop },
-    ghost kept: { IsKept levels townships.items (plots forest) lent.items next } by { kept_prop levels townships.items (plots forest) lent.items next },
+    ghost kept: { IsKept levels townships.items (plots forest) lent.items next } by { kept_prop _ _ _ _ _ },
 }
 
 // How many levels have a place for so many townships.

@@ -167,7 +167,8 @@ unreachable-requires c =
     (plots c.args.self.now.forest) c.deref-in-Err-Refused-3.result.now why.0 c.in-Err-Refused.field-0-0 c.args.self.now.kept.room
     c.requires.within (c.args.self.now.kept.fit why.0) listed
     (ap (λ (ps : List (List Quarter)). refusal_at (holding_effect c.args.instrument.now why.0) ps (plots c.args.self.now.forest why.0))
-    (sym made_at) ∙ told c.in-Err-Refused.field-0 c.in-Err-Refused.field-0-0 _ c.in-Err-Refused.field-0-is why.1) (sym c.in_default-first.is ∙ first)
+    (sym made_at) ∙ told c.in-Err-Refused.field-0 c.in-Err-Refused.field-0-0 _ c.in-Err-Refused.field-0-is why.1)
+    (sym c.in_default-first.is ∙ first)
 
 pub returns-clause-put : goal.returns-clause-put
 returns-clause-put c =

@@ -14,28 +14,32 @@ unwrap-lent-requires c =
 
 pub exchange-requires-clause-s : goal.exchange-requires-clause-s
 exchange-requires-clause-s c =
-    let taken = some_is c.args.image.number c.args.self.now.lent.items c.take_lent.new.lent.items c.take_lent.result c.unwrap-lent.result c.unwrap-lent.ensures c.take_lent.ensures.taken in
+    let taken = some_is c.args.image.number c.args.self.now.lent.items c.take_lent.new.lent.items c.take_lent.result c.unwrap-lent.result
+    c.unwrap-lent.ensures c.take_lent.ensures.taken in
     let g = goes_back c.args.self.now.levels c.args.self.now.townships.items (plots c.args.self.now.forest) c.args.self.now.lent.items
     c.take_lent.new.lent.items c.args.self.now.next c.args.image.number c.unwrap-lent.result taken c.args.self.now.kept S in
     (g.apart, g.ready)
 
 pub exchange-requires-clause-o : goal.exchange-requires-clause-o
 exchange-requires-clause-o c =
-    let taken = some_is c.args.image.number c.args.self.now.lent.items c.take_lent.new.lent.items c.take_lent.result c.unwrap-lent.result c.unwrap-lent.ensures c.take_lent.ensures.taken in
+    let taken = some_is c.args.image.number c.args.self.now.lent.items c.take_lent.new.lent.items c.take_lent.result c.unwrap-lent.result
+    c.unwrap-lent.ensures c.take_lent.ensures.taken in
     let g = goes_back c.args.self.now.levels c.args.self.now.townships.items (plots c.args.self.now.forest) c.args.self.now.lent.items
     c.take_lent.new.lent.items c.args.self.now.next c.args.image.number c.unwrap-lent.result taken c.args.self.now.kept O in
     (g.apart, g.ready)
 
 pub exchange-requires-clause-m : goal.exchange-requires-clause-m
 exchange-requires-clause-m c =
-    let taken = some_is c.args.image.number c.args.self.now.lent.items c.take_lent.new.lent.items c.take_lent.result c.unwrap-lent.result c.unwrap-lent.ensures c.take_lent.ensures.taken in
+    let taken = some_is c.args.image.number c.args.self.now.lent.items c.take_lent.new.lent.items c.take_lent.result c.unwrap-lent.result
+    c.unwrap-lent.ensures c.take_lent.ensures.taken in
     let g = goes_back c.args.self.now.levels c.args.self.now.townships.items (plots c.args.self.now.forest) c.args.self.now.lent.items
     c.take_lent.new.lent.items c.args.self.now.next c.args.image.number c.unwrap-lent.result taken c.args.self.now.kept M in
     (g.apart, g.ready)
 
 pub invariant_of-self : goal.invariant_of-self
 invariant_of-self c =
-    let taken = some_is c.args.image.number c.args.self.now.lent.items c.take_lent.new.lent.items c.take_lent.result c.unwrap-lent.result c.unwrap-lent.ensures c.take_lent.ensures.taken in
+    let taken = some_is c.args.image.number c.args.self.now.lent.items c.take_lent.new.lent.items c.take_lent.result c.unwrap-lent.result
+    c.unwrap-lent.ensures c.take_lent.ensures.taken in
     record {
       once = c.args.self.now.once;
       kept = kept_restored c.args.self.now.levels c.args.self.now.townships.items (plots c.args.self.now.forest) (plots c.exchange.new.self)
@@ -48,7 +52,8 @@ invariant_of-self c =
 
 pub returns-clause-content : goal.returns-clause-content
 returns-clause-content c =
-    let taken = some_is c.args.image.number c.args.self.now.lent.items c.take_lent.new.lent.items c.take_lent.result c.unwrap-lent.result c.unwrap-lent.ensures c.take_lent.ensures.taken in
+    let taken = some_is c.args.image.number c.args.self.now.lent.items c.take_lent.new.lent.items c.take_lent.result c.unwrap-lent.result
+    c.unwrap-lent.ensures c.take_lent.ensures.taken in
     restores c.args.self.now.levels c.args.self.now.townships.items (plots c.args.self.now.forest) (plots c.exchange.new.self)
     c.args.self.now.lent.items c.take_lent.new.lent.items c.args.self.now.next c.args.image.number c.unwrap-lent.result taken
     c.args.self.now.kept
@@ -59,4 +64,5 @@ pub returns-clause-out : goal.returns-clause-out
 returns-clause-out c =
     left_without c.args.self.now.levels c.args.self.now.townships.items c.args.self.now.lent.items c.take_lent.new.lent.items
     c.args.image.number c.unwrap-lent.result
-    (some_is c.args.image.number c.args.self.now.lent.items c.take_lent.new.lent.items c.take_lent.result c.unwrap-lent.result c.unwrap-lent.ensures c.take_lent.ensures.taken) c.args.self.now.kept.rises
+    (some_is c.args.image.number c.args.self.now.lent.items c.take_lent.new.lent.items c.take_lent.result c.unwrap-lent.result
+    c.unwrap-lent.ensures c.take_lent.ensures.taken) c.args.self.now.kept.rises
