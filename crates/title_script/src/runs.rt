@@ -10,7 +10,7 @@ use crate::fault::RunFault;
 use crate::serving::write_report;
 use std::alloc::Global;
 use title_device::{Sink, Source, read_all, write_all};
-use title_lock::RowLocks;
+use title_lock::NodeLocks;
 use title_plan::{Schedule, ScriptFault, read_script};
 use title_store::CellStore;
 
@@ -21,7 +21,7 @@ fn report_of(alloc: Global, schedule: Schedule, script: &[u8]) -> Result<Vec<u8>
     ensures why { IfErr result (λ e. (e ≡ script_fault.Memory) ⊎ (report_of schedule script.now ≡ Err e)) }
 {
     let mut plan = read_script(alloc, schedule, script)?;
-    let report = write_report::<CellStore, RowLocks>(alloc, &mut plan)?;
+    let report = write_report::<CellStore, NodeLocks>(alloc, &mut plan)?;
     Ok(report)
 }
 
