@@ -3,3 +3,4 @@ pub mod Slots
 pub mod Images
 pub mod Keeps
 pub mod Refusals
+pub mod Admissions
