@@ -6,3 +6,4 @@ pub mod Facts
 pub mod Moves
 pub mod Steps
 pub mod Posts
+pub mod Admitted

@@ -4,3 +4,4 @@ pub mod Images
 pub mod Keeps
 pub mod Refusals
 pub mod Headline
+pub mod Admissions

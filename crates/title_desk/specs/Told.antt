@@ -2,6 +2,7 @@
 use Rattle.std.specs.Prelude.{◌≡◌, ℕ, Bool, true, false, nat_le, List, ◌∷◌, length, Option, None}
 use Rattle.title_land.specs.Depth.{depth}
 use Rattle.title_land.specs.Lands.{is_in_plant}
+use Rattle.title_lock.specs.declared.guards.Entry.{Entry}
 use Rattle.title_chain.specs.declared.ask.Ask.{Ask}
 use Rattle.title_chain.specs.Asks.{tract_of, cause_of}
 use Rattle.title_trace.specs.declared.call.Call.{Call}
@@ -13,11 +14,12 @@ use Rattle.title_trace.specs.Due.{Setting, most_steps, InTheWay, DueReply}
 use Rattle.title_desk.specs.Slots.{IsFirst}
 
 -- a desk as its callers see it: what it was opened with, its trace, the newest call first, and whether it has room for
--- one call more and one record more
+-- one call more and one record more; and the lock that is prepared, if one is
 pub record Books : Type 0 where
   pub setting : Setting
   pub trace : List Call
   pub is_ready : Bool
+  pub prepared : Option Entry
 
 -- neither the setting nor the trace has changed
 abbrev pub Stays : Books → Books → Type 0

@@ -1,6 +1,6 @@
 //! The parts of an ask, and what a step adds to a transaction.
 
-ghost use Rattle.std.specs.Prelude.{◌≡◌, ◌++◌, ◌∷◌, [], OnOk, OnErr};
+ghost use Rattle.std.specs.Prelude.{◌≡◌, ◌++◌, ◌∷◌, [], OnOk, OnErr, Some};
 ghost use Rattle.std.specs.BTreeMap.{btree_map_len};
 ghost use Rattle.title_lock.specs.declared.guards.Access.TheVariants.{Post};
 ghost use Rattle.title_lock.specs.Overlaps.{is_post as is_post_access};
@@ -8,6 +8,7 @@ ghost use Rattle.title_store.specs.Loans.{Loan, IsOut, IsLast, IsLentAs, without
 ghost use Rattle.title_store.specs.Plants.{SameContent};
 ghost use Rattle.title_desk.specs.Images.{put_back};
 ghost use Rattle.title_desk.specs.Slots.{ImageAdded, SameImages, SameSlots, StepAdded, found};
+ghost use Rattle.title_desk.specs.Admissions.{access_of};
 ghost use Rattle.title_chain.specs.Asks.{tract_of, is_post, cause_of};
 
 use crate::slots::Slot;
@@ -33,6 +34,7 @@ pub(crate) fn tract_in(ask: &Ask) -> &Tract
 /// What an ask wants of its tract.
 pub(crate) fn access_in(ask: &Ask) -> Access
     ensures access { is_post_access result ≡ is_post ask.now }
+    ensures is { result ≡ access_of ask.now }
 {
     match ask {
         Ask::Sheet(_) => Access::Read,
@@ -52,7 +54,7 @@ pub(crate) fn cause_in(ask: &Ask, parties: u32) -> Option<Cause>
     }
 }
 
-// Adds a step to an examiner's slot and its lock to the guards, or leaves both as they were.
+// Adds a step to an examiner's slot and its lock, which is prepared, to the guards, or leaves both as they were.
 fn lengthen<G: Guards, I>(
     guards: &mut G,
     examiner: u32,
@@ -60,6 +62,7 @@ fn lengthen<G: Guards, I>(
     access: Access,
     step: Step,
 ) -> Result<(), AllocError>
+    requires prepared { G.prepared guards.old ≡ Some (record { examiner = examiner; tract = tract_of step.ask; access = access }) }
     ensures images { slot.new.images ≡ slot.old.images }
     ensures steps { OnOk result (slot.new.steps.steps ≡ slot.old.steps.steps ++ step ∷ []) }
     ensures locked { OnOk result (G.entries guards.new ≡ record { examiner = examiner; tract = tract_of step.ask; access = access }
@@ -68,9 +71,7 @@ fn lengthen<G: Guards, I>(
     ensures err_locked { OnErr result (G.entries guards.new ≡ G.entries guards.old) }
 {
     slot.steps.reserve()?;
-    if guards.ask(examiner, tract_in(&step.ask), access).is_err() {
-        return Err(AllocError);
-    }
+    guards.grant(examiner, tract_in(&step.ask), access);
     slot.steps.push_reserved(step);
     Ok(())
 }
@@ -83,6 +84,7 @@ pub(crate) fn add_step<G: Guards, I>(
     access: Access,
     step: Step,
 ) -> Result<(), AllocError>
+    requires prepared { G.prepared guards.old ≡ Some (record { examiner = examiner; tract = tract_of step.ask; access = access }) }
     ensures len { btree_map_len slots.new ≡ btree_map_len slots.old }
     ensures images { SameImages (found slots.old) (found slots.new) }
     ensures added { OnOk result (StepAdded examiner step (found slots.old) (found slots.new)) }
@@ -108,6 +110,7 @@ fn extend<S: Store, G: Guards>(
 ) -> Result<(), AllocError>
     requires out { IsOut (S.number image) (S.out store.old) }
     requires last { IsLast (S.number image) (S.out store.old) }
+    requires prepared { G.prepared guards.old ≡ Some (record { examiner = examiner; tract = tract_of step.ask; access = Post }) }
     ensures declared { S.declared store.new ≡ S.declared store.old }
     ensures images { OnOk result (slot.new.images.items ≡ slot.old.images.items ++ image ∷ []) }
     ensures steps { OnOk result (slot.new.steps.steps ≡ slot.old.steps.steps ++ step ∷ []) }
@@ -145,6 +148,7 @@ pub(crate) fn keep_post<S: Store, G: Guards>(
 ) -> Result<(), AllocError>
     requires out { IsOut (S.number image) (S.out store.old) }
     requires last { IsLast (S.number image) (S.out store.old) }
+    requires prepared { G.prepared guards.old ≡ Some (record { examiner = examiner; tract = tract_of step.ask; access = Post }) }
     ensures declared { S.declared store.new ≡ S.declared store.old }
     ensures len { btree_map_len slots.new ≡ btree_map_len slots.old }
     ensures images { OnOk result (ImageAdded examiner image (found slots.old) (found slots.new)) }

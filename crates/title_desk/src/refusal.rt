@@ -17,6 +17,14 @@ pub enum Refusal {
     Conflict(u32),
 }
 
+/// What becomes of a step before it is answered: it passes, is refused, or its lock wants memory.
+#[derive(Clone, Copy, Debug)]
+pub enum Admission {
+    Passed,
+    Refused(Refusal),
+    Memory,
+}
+
 impl Refusal {
     /// The reply that says it.
     pub fn reply(self) -> Reply

@@ -1,6 +1,6 @@
 //! The desk.
 
-ghost use Rattle.std.specs.Prelude.{MatchOption, ◌≡◌, ◌≢◌, ◌≤◌, ℕ, List, [], ◌∷◌, IfOk, OnOk, ◌↔◌, reverse, true, false};
+ghost use Rattle.std.specs.Prelude.{MatchOption, Some, ◌≡◌, ◌≢◌, ◌≤◌, ℕ, List, [], ◌∷◌, IfOk, OnOk, ◌↔◌, reverse, true, false};
 ghost use Rattle.title_land.specs.Depth.{depth};
 ghost use Rattle.title_store.specs.Plants.{IsEachOnce};
 ghost use Rattle.title_land.specs.declared.place.Cell.{Cell};
@@ -13,18 +13,19 @@ ghost use Rattle.title_trace.specs.Trace.{is_open, open_steps, committed};
 ghost use Rattle.title_trace.specs.Due.{DueReply, IsDue, MayOpen};
 ghost use Rattle.title_desk.specs.Refusals.{reply_of};
 ghost use Rattle.title_desk.specs.Images.{is_posted, posted_at};
-ghost use Rattle.title_desk.specs.Told.{Books, IsFirstOpen, Passes, Told};
+ghost use Rattle.title_desk.specs.Told.{Books, IsFirstOpen, Passes, Stays, Told};
+ghost use Rattle.title_desk.specs.Admissions.{Admits, IsFit, entry_of};
 
 use crate::asks::{access_in, add_step, cause_in, keep_post, tract_in};
 use crate::images::{forget_all, restore_all, tidy_up};
-use crate::refusal::Refusal;
+use crate::refusal::{Admission, Refusal};
 use crate::slots::{Slot, add_slot, chain_for, count_steps, first_in, is_in, steps_of, take_slot};
 use std::alloc::{AllocError, Global};
 use std::collections::BTreeMap;
 use std::marker::Model;
 use title_chain::{Answer, Ask, Posting, Record, SheetRows, TractIndex};
 use title_land::{Township, Tract};
-use title_lock::Guards;
+use title_lock::{Guards, LockFault};
 use title_store::{Put, Store};
 use title_trace::{Call, MOST_PARTIES, MOST_STEPS, MOST_TOWNSHIPS, Reply, Request};
 
@@ -78,6 +79,7 @@ impl<S: Store + Drop, G: Guards + Drop> Model for Desk<S, G> {
     ghost view = { λ d. record {
       setting = record { parties = d.parties; townships = d.townships.items };
       trace = reverse d.trace.items;
+      prepared = G.prepared d.guards;
       is_ready = d.records.has_room && nat_lt (vec_len d.trace + btree_map_len d.slots) (vec_capacity d.trace);
     } };
 
@@ -197,9 +199,9 @@ impl<S: Store + Drop, G: Guards + Drop> Desk<S, G> {
         Reply::Committed(place)
     }
 
-    // Why a step is refused, in the order of refusals; nothing where it passes.
+    // Why a step is refused before its lock is asked for, in the order of refusals.
     fn refusal(&self, examiner: u32, ask: &Ask) -> Option<Refusal>
-        ensures refusal { MatchOption result (Passes self.now examiner ask.now)
+        ensures refusal { MatchOption result (IsFit self.now examiner ask.now)
             (λ why. DueReply depth self.now.setting self.now.trace (Step examiner ask.now) (reply_of why)) }
     {
         if !is_in(&self.slots, examiner) {
@@ -214,15 +216,29 @@ impl<S: Store + Drop, G: Guards + Drop> Desk<S, G> {
         if count_steps(&self.slots, examiner) >= MOST_STEPS {
             return Some(Refusal::TooLong);
         }
-        if let Some(other) = self.guards.would(examiner, tract_in(ask), access_in(ask)) {
-            return Some(Refusal::Conflict(other));
-        }
         None
+    }
+
+    // Refuses a step, or lets it pass and prepares its lock. Nothing else changes.
+    fn admit(&mut self, examiner: u32, ask: &Ask) -> Admission
+        ensures stays { Stays self.old self.new }
+        ensures admits { Admits self.new examiner ask.now result }
+    {
+        if let Some(refusal) = self.refusal(examiner, ask) {
+            return Admission::Refused(refusal);
+        }
+        let access = access_in(ask);
+        match self.guards.prepare(examiner, tract_in(ask), access) {
+            Ok(()) => Admission::Passed,
+            Err(LockFault::Conflict(other)) => Admission::Refused(Refusal::Conflict(other)),
+            Err(LockFault::Memory) => Admission::Memory,
+        }
     }
 
     // Adds a step that was answered and posted nothing.
     fn add_answer(&mut self, examiner: u32, ask: Ask, answer: Answer) -> Reply
         requires passes { Passes self.old examiner ask }
+        requires prepared { self.old.prepared ≡ Some (entry_of examiner ask) }
         requires alone { answer
             ≡ alone depth self.old.setting.townships (committed self.old.trace) (open_steps self.old.trace examiner) ask }
         requires unposted { is_posted ask answer ≡ false }
@@ -258,6 +274,7 @@ impl<S: Store + Drop, G: Guards + Drop> Desk<S, G> {
 
     fn sheet(&mut self, examiner: u32, tract: Tract) -> Reply
         requires passes { Passes self.old examiner (Sheet tract) }
+        requires prepared { self.old.prepared ≡ Some (entry_of examiner (Sheet tract)) }
         ensures told { Told self.old (Step examiner (Sheet tract)) result self.new }
     {
         let Ok(rows) = self.store.sheet(self.alloc, &tract) else {
@@ -271,6 +288,7 @@ impl<S: Store + Drop, G: Guards + Drop> Desk<S, G> {
 
     fn chain(&mut self, examiner: u32, tract: Tract) -> Reply
         requires passes { Passes self.old examiner (Chain tract) }
+        requires prepared { self.old.prepared ≡ Some (entry_of examiner (Chain tract)) }
         ensures told { Told self.old (Step examiner (Chain tract)) result self.new }
     {
         let (records, slots) = (&mut self.records, &mut self.slots);
@@ -283,6 +301,7 @@ impl<S: Store + Drop, G: Guards + Drop> Desk<S, G> {
     // Posts an instrument that nothing refuses but the plant.
     fn post(&mut self, examiner: u32, posting: Posting) -> Reply
         requires passes { Passes self.old examiner (Post posting) }
+        requires prepared { self.old.prepared ≡ Some (entry_of examiner (Post posting)) }
         ensures told { Told self.old (Step examiner (Post posting)) result self.new }
     {
         let Ok(copied) = posting.copy(self.alloc) else {
@@ -318,6 +337,7 @@ impl<S: Store + Drop, G: Guards + Drop> Desk<S, G> {
 
     fn pass(&mut self, examiner: u32, ask: Ask) -> Reply
         requires passes { Passes self.old examiner ask }
+        requires prepared { self.old.prepared ≡ Some (entry_of examiner ask) }
         ensures told { Told self.old (Step examiner ask) result self.new }
     {
         match ask {
@@ -330,9 +350,10 @@ impl<S: Store + Drop, G: Guards + Drop> Desk<S, G> {
     fn step(&mut self, examiner: u32, ask: Ask) -> Reply
         ensures told { Told self.old (Step examiner ask) result self.new }
     {
-        match self.refusal(examiner, &ask) {
-            Some(refusal) => self.refuse(Request::Step(examiner, ask), refusal),
-            None => self.pass(examiner, ask),
+        match self.admit(examiner, &ask) {
+            Admission::Passed => self.pass(examiner, ask),
+            Admission::Refused(refusal) => self.refuse(Request::Step(examiner, ask), refusal),
+            Admission::Memory => Reply::Memory,
         }
     }
 

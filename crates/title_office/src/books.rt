@@ -12,14 +12,14 @@ mod standing;
 use crate::room::Room;
 use std::marker::{Model, PhantomData};
 use title_desk::Desk;
-use title_lock::RowLocks;
+use title_lock::NodeLocks;
 use title_store::CellStore;
 use title_trace::{Reply, Request};
 
 /// What lies behind an office's lock: the desk. A contract sees its trace, which is due.
 #[derive(Drop)]
 pub struct Books<B: Room> {
-    pub(crate) desk: Desk<CellStore, RowLocks>,
+    pub(crate) desk: Desk<CellStore, NodeLocks>,
     pub(crate) of: PhantomData<B>,
 }
 

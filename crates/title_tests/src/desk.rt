@@ -8,12 +8,12 @@ use title_chain::{Answer, Ask, Posting};
 use title_desk::{Desk, may_open};
 use title_instrument::{Deed, Estates, Instrument, Quantum, Release};
 use title_land::{Land, Node, Quarter, Township, Tract};
-use title_lock::RowLocks;
+use title_lock::NodeLocks;
 use title_share::Share;
 use title_store::{CellStore, Store};
 use title_trace::{Reply, Request};
 
-type TestDesk = Desk<CellStore, RowLocks>;
+type TestDesk = Desk<CellStore, NodeLocks>;
 
 /// What an examiner asks of the northeast quarter of section 5. A post releases the surface from party 0 to party 1.
 #[derive(Clone, Copy)]
