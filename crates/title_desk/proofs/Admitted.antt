@@ -36,7 +36,8 @@ added_after : (old mid : Books) (q : Request) (r : Reply) (new : Books) → Stay
 added_after old mid q r new stays added = (
   added.0 ∙ stays.0,
   added.1 ∙ ap (λ (t : List Call). record { request = q; reply = r } ∷ t) stays.1,
-  subst (λ (t : List Call). DueReply depth old.setting t q r) stays.1 (subst (λ (s : Setting). DueReply depth s mid.trace q r) stays.0 added.2),
+  subst (λ (t : List Call). DueReply depth old.setting t q r) stays.1
+      (subst (λ (s : Setting). DueReply depth s mid.trace q r) stays.0 added.2),
 )
 
 -- what is told after a step in which nothing changed is told of all

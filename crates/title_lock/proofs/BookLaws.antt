@@ -277,7 +277,8 @@ last_taken : (e k : ℕ) (keys : List ℕ) (es : List (ℕ × Entry)) (l : IsLas
     → IsTaken e keys es (l.before ++ l.after) (Some l.entry)
 last_taken e k keys es l = record {
   own = l.mine;
-  taken = λ view h. subst (λ (t : List Entry). IsNewest e l.entry (reverse (values_of (l.before ++ l.after))) t) h (last_more e k keys es l);
+  taken = λ view h. subst (λ (t : List Entry). IsNewest e l.entry (reverse (values_of (l.before ++ l.after))) t) h
+      (last_more e k keys es l);
   some = tt;
   keys_are = λ f now mine other. keys_cases e k f keys es l now (eqb f e) refl mine other;
 }

@@ -1,5 +1,6 @@
 -- How many examiners have a mode: after one examiner's mode has changed, and what a small number tells of the others.
-use Rattle.std.proofs.Common.{◌≡◌, ◌≢◌, ◌+◌, ◌≤◌, ◌<◌, ◌^◌, ℕ, zero, suc, Bool, true, false, cond, not, ◌&&◌, ◌||◌, List, [], ◌∷◌, filter, length}
+use Rattle.std.proofs.Common.{◌≡◌, ◌≢◌, ◌+◌, ◌≤◌, ◌<◌, ◌^◌, ℕ, zero, suc, Bool, true, false, cond, not, ◌&&◌, ◌||◌, List, [], ◌∷◌}
+use Rattle.std.proofs.Common.{filter, length}
 use Rattle.std.proofs.Common.{Option, Some, None, is_some, eqb, refl, sym, ap, subst, ◌∙◌, arith, ◌↔◌}
 use Rattle.std.proofs.lemmas.Bool.{eqb-true, eqb-false, eq-eqb, ne_eqb, false_from_ne_true, both_ways, and_parts, or_left}
 use Rattle.title_lock.specs.declared.modes.Mode.{Mode}
@@ -156,7 +157,16 @@ count_none held m none = ([], tt, (λ f. from_test false (held f) m (sym (ap (λ
 
 -- where each holds the same, the count is the same
 pub count_same : (held now : ℕ → Option Mode) (m : Mode) (k : ℕ) → ((f : ℕ) → now f ≡ held f) → IsCount held m k → IsCount now m k
-count_same held now m k same (es, once, are, long) = (es, once, (λ f. ((λ h. same f ∙ (are f).0 h), (λ h. (are f).1 (sym (same f) ∙ h)))), long)
+count_same held now m k same (es, once, are, long) = (
+  es,
+  once,
+  (λ f. (
+    (λ h. same f ∙ (are f).0 h),
+    (λ h. (are f).1 (sym
+        (same f) ∙ h)),
+  )),
+  long,
+)
 
 -- an examiner with the mode is counted
 pub own_counted : (held : ℕ → Option Mode) (m : Mode) (k e : ℕ) → IsCount held m k → own_part (held e) m ≤ k
@@ -234,7 +244,8 @@ count_moved held now e others m k j (es, once, are, long) sum = go (has_mode (he
       (λ f. from_test (member f (but e es)) (now f) m (member_but e f es ∙ gone (eqb f e) f n refl)),
       (let x : j + one_if true ≡ k + one_if false = subst (λ (b : Bool). j + one_if b ≡ k + one_if false) h
           (subst (λ (b : Bool). j + own_part (held e) m ≡ k + one_if b) n sum) in
-          let all : length (but e es) + one_if true ≡ length es = subst (λ (b : Bool). length (but e es) + one_if b ≡ length es) (tested e ∙ h)
+          let all : length (but e es) + one_if true ≡ length es = subst (λ (b : Bool). length (but e es) + one_if b
+          ≡ length es) (tested e ∙ h)
           (length_but e es once) in omega (arith, x, all, long)),
     )
     go false true h n = (
@@ -247,7 +258,8 @@ count_moved held now e others m k j (es, once, are, long) sum = go (has_mode (he
 
 -- ---- the counts of a node's holders
 
-pub counted_same : (counts : Counts) (h g : Modes) → ((f : ℕ) → holder_mode g f ≡ holder_mode h f) → AreCounted counts h → AreCounted counts g
+pub counted_same : (counts : Counts) (h g : Modes) → ((f : ℕ) → holder_mode g f ≡ holder_mode h f) → AreCounted counts h
+    → AreCounted counts g
 counted_same counts h g same are = record {
   few = λ f some. are.few f (ap (λ (o : Option Mode). is_some o) (sym (same f)) ∙ some);
   each = λ m. count_same (holder_mode h) (holder_mode g) m (count_in counts m) same (are.each m);
@@ -257,7 +269,8 @@ counted_same counts h g same are = record {
 pub counted_own : (counts : Counts) (h : Modes) (e : ℕ) (held : Option Mode) → AreCounted counts h → held ≡ holder_mode h e → (m : Mode)
     → own_part held m ≤ count_in counts m
 counted_own counts h e held are is m =
-    subst (λ (o : Option Mode). own_part o m ≤ count_in counts m) (sym is) (own_counted (holder_mode h) m (count_in counts m) e (are.each m))
+    subst (λ (o : Option Mode). own_part o m ≤ count_in counts m) (sym is) (own_counted (holder_mode h) m
+    (count_in counts m) e (are.each m))
 
 -- one more can be counted
 pub counted_fits : (counts : Counts) (h : Modes) → AreCounted counts h → (m : Mode) → count_in counts m + 1 < 2 ^ 64
@@ -270,7 +283,8 @@ cond_is true x y z h = ((λ t. h), (λ t. absurd cc))
 cond_is false x y z h = ((λ t. absurd cc), (λ t. h))
 
 -- one examiner holds something else
-pub counted_moved : (was now : Counts) (h g : Modes) (e : ℕ) (held next : Option Mode) → e < 2 ^ 32 → AreCounted was h → held ≡ holder_mode h e →
+pub counted_moved : (was now : Counts) (h g : Modes) (e : ℕ) (held next : Option Mode) → e < 2 ^ 32 → AreCounted was h → held
+    ≡ holder_mode h e →
     ((m : Mode) → count_in now m + own_part held m ≡ count_in was m + own_part next m) →
     ((f : ℕ) → holder_mode g f ≡ cond (eqb f e) next (holder_mode h f)) → AreCounted now g
 counted_moved was now h g e held next small are had sum writes = record {
@@ -319,7 +333,8 @@ clear_way counts h e own wanted are had clear f other = go (holder_mode h f) ref
           | X ↦ d.1
         ]
 
-    fits : (a : Mode) (b : Bool) → holder_mode h f ≡ Some a → compat wanted a ≡ b → (b || nat_le (count_in counts a) (own_part own a)) ≡ true
+    fits : (a : Mode) (b : Bool) → holder_mode h f ≡ Some a → compat wanted a ≡ b → (b || nat_le (count_in counts a)
+        (own_part own a)) ≡ true
         → not b ≡ false
     fits a true is stands l = refl
     fits a false is stands l =

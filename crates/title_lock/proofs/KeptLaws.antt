@@ -69,7 +69,8 @@ left_few e (x ∷ es) =
 pub own_goes : (e : ℕ) (x : Entry) (es : List Entry) → x.examiner ≡ e → without e (x ∷ es) ≡ x ∷ es → ⊥
 own_goes e x es own same =
     let gone : without e es ≡ x ∷ es =
-    ap (λ (b : Bool). cond b (without e es) (x ∷ without e es)) (sym (eq-eqb x.examiner e own)) ∙ turned (eqb x.examiner e) x (without e es) ∙ same in
+    ap (λ (b : Bool). cond b (without e es) (x ∷ without e es)) (sym (eq-eqb x.examiner e own)) ∙ turned (eqb x.examiner e) x
+    (without e es) ∙ same in
     let few = left_few e es in
     let long : length (without e es) ≡ length (x ∷ es) = ap (λ (t : List Entry). length t) gone in
     omega (arith, few, long)
@@ -84,7 +85,8 @@ head_same x y xs ys h = cc
 tail_same : (x y : Entry) (xs ys : List Entry) → x ∷ xs ≡ y ∷ ys → xs ≡ ys
 tail_same x y xs ys h = cc
 
-first_taken : (e : ℕ) (x y : Entry) (es left newer older : List Entry) → x.examiner ≡ e → x ∷ es ≡ newer ++ y ∷ older → left ≡ newer ++ older
+first_taken : (e : ℕ) (x y : Entry) (es left newer older : List Entry) → x.examiner ≡ e → x ∷ es ≡ newer ++ y ∷ older → left
+    ≡ newer ++ older
     → without e newer ≡ newer → left ≡ es
 first_taken e x y es left [] older own was now first = now ∙ sym (tail_same x y es older was)
 first_taken e x y es left (z ∷ newer) older own was now first =

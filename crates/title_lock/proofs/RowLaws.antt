@@ -5,7 +5,8 @@ use Rattle.title_lock.specs.declared.guards.Entry.{Entry}
 use Rattle.title_lock.proofs.BookLaws.{filter_turned}
 
 -- one entry more stands before those so far
-pub turned_more : (rows : List Entry) (i : ℕ) (d : Entry) → i < length rows → reverse (take (i + 1) rows) ≡ get_or rows i d ∷ reverse (take i rows)
+pub turned_more : (rows : List Entry) (i : ℕ) (d : Entry) → i < length rows → reverse (take (i + 1) rows)
+    ≡ get_or rows i d ∷ reverse (take i rows)
 turned_more rows i d low =
     ap (λ (t : List Entry). reverse t) (take_more rows i d low) ∙ reverse-append (take i rows) (get_or rows i d ∷ [])
 

@@ -146,7 +146,8 @@ pub room_more : (t : Table) (e : ℕ) (nodes : List Node) (i : ℕ) (c : Node) �
     → HasRoom t e (λ n. list_any (is_asked n) (take (i + 1) nodes))
 room_more t e nodes i c at_it low here before n asks =
     elim (or_cases (list_any (is_asked n) (take i nodes)) (is_asked n c)
-    (ap (λ (x : Node). list_any (is_asked n) (take i nodes) || is_asked n x) at_it ∙ sym (list_any_more (is_asked n) nodes i c low) ∙ asks)) [
+    (ap (λ (x : Node). list_any (is_asked n) (take i nodes) || is_asked n x) at_it ∙ sym (list_any_more
+    (is_asked n) nodes i c low) ∙ asks)) [
       | inl less ↦ before n less
       | inr one ↦ here n one
     ]

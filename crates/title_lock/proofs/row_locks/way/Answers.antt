@@ -18,7 +18,8 @@ loop-row-preserved c =
     let turned = ap (λ (z : Entry). z ∷ before) c.row-item.is ∙ sym (turned_more c.args.rows.now c.loop-row.row-index x low) in
     subst (λ (es : List Entry). Stands es e land p c.least-way.result) turned
     (subst (λ (w : Option ℕ). Stands (x ∷ before) e land p w) (sym c.least-way.ensures.least)
-    (least_join (λ f. eqb f x.examiner && overlap land p x.tract (is_post x.access)) (λ f. against land p f before) e c.way_of.result c.loop-row.way
+    (least_join (λ f. eqb f x.examiner && overlap land p x.tract (is_post x.access))
+    (λ f. against land p f before) e c.way_of.result c.loop-row.way
     c.way_of.ensures.way c.loop-row.invariant))
 
 pub returns : goal.returns

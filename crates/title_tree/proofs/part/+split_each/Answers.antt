@@ -16,4 +16,5 @@ pub returns-clause-err_fits : goal.returns-clause-err_fits
 returns-clause-err_fits t c =
     within_split c.split_each.result c.in-Some.path.now.items (ways c.in-Some.rest.now) (ways c.args.paths.now) _ _ _
     (ap (λ (ps : List (Vec Quarter)). ways ps) c.in-Some.ensures.cases.0)
-    (c.in_ok-split.ensures.ok ∙ ap (λ (p : List Quarter). split p (plot c.args.root.now)) c.as_slice.ensures.value) c.split_each.ensures.err_fits
+    (c.in_ok-split.ensures.ok ∙ ap (λ (p : List Quarter). split p
+    (plot c.args.root.now)) c.as_slice.ensures.value) c.split_each.ensures.err_fits

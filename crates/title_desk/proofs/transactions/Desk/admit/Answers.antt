@@ -43,6 +43,7 @@ returns-clause-admits g c =
       | in-Err-Conflict w ↦ rw w.result-is (conflict_due books e a w.in-Err-Conflict.other fit
           (way_is locks trace e a p (Some w.in-Err-Conflict.other) c.access_in-access.ensures.access (c.self.invariant.0.facts.locks_are a)
           (subst (λ (t : Land). Stands locks e t p (Some w.in-Err-Conflict.other)) c.tract_in.ensures.tract
-          (subst (λ (y : LockFault). RefusedBy locks e c.tract_in.result.now p y) w.in-Err-Conflict.field-0-is w.in-Err-Conflict.ensures.fault))))
+          (subst (λ (y : LockFault). RefusedBy locks e c.tract_in.result.now p y) w.in-Err-Conflict.field-0-is
+          w.in-Err-Conflict.ensures.fault))))
       | in-Err-Memory w ↦ rw w.result-is tt
     ]

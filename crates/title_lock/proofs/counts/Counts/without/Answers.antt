@@ -9,5 +9,6 @@ pub fewer-requires : goal.fewer-requires
 fewer-requires c =
     let one = own_one c.in-Some.mode in
     let few : own_part (Some c.in-Some.mode) c.in-Some.mode ≤ count_in c.args.self c.in-Some.mode =
-    subst (λ (o : Option Mode). own_part o c.in-Some.mode ≤ count_in c.args.self c.in-Some.mode) c.in-Some.is (c.requires.counted c.in-Some.mode) in
+    subst (λ (o : Option Mode). own_part o c.in-Some.mode ≤ count_in c.args.self c.in-Some.mode) c.in-Some.is
+    (c.requires.counted c.in-Some.mode) in
     omega (arith, one, few)

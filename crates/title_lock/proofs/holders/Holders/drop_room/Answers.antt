@@ -10,4 +10,5 @@ invariant_of-self c =
     let g = c.erase.new.modes.entries in
     let e = c.args.examiner in
     counted_same c.self.inside.counts h g
-    (dropped_same h g e (ap (λ (k : Modes). holder_mode k e) c.self.view_is ∙ sym c.in-None.ensures.mode) c.erase.ensures.modes) c.self.invariant
+    (dropped_same h g e (ap (λ (k : Modes). holder_mode k e) c.self.view_is
+    ∙ sym c.in-None.ensures.mode) c.erase.ensures.modes) c.self.invariant

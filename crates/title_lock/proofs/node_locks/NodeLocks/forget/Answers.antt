@@ -15,7 +15,8 @@ invariant_of-self c =
     let kept = subst (λ (p : Option ℕ). AreKept depth p book table) c.in-Some.is c.self.invariant in
     let left = prepared_taken depth e book c.take.new.self table c.in-Some-take.entry kept c.in-Some-take.ensures.taken in
     subst (λ (es : List Entry). TableIs depth es c.take_out_all.new.self) (sym left)
-    (table_same depth (granted (Some e) book) table c.take_out_all.new.self c.take_out_all.ensures.modes (kept_table depth (Some e) book table kept))
+    (table_same depth (granted (Some e) book) table c.take_out_all.new.self c.take_out_all.ensures.modes (kept_table depth
+    (Some e) book table kept))
 
 pub returns-in-Some-take-clause-stays : goal.returns-in-Some-take-clause-stays
 returns-in-Some-take-clause-stays c =

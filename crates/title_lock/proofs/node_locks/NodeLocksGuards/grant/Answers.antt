@@ -32,7 +32,8 @@ invariant_of-self c =
     (table_more depth meet_by_covers es table c.raise_all.new.self x first.wide
     (kept_table depth c.self.inside.prepared c.self.inside.book table c.self.invariant) first.free
     (λ f n. c.raise_all.ensures.modes f n
-    ∙ ap (λ (t : List Node). bound (table_mode table f n) (cond (eqb f x.examiner) (asked (is_post x.access) t n) None)) c.cover.ensures.cover))
+    ∙ ap (λ (t : List Node). bound (table_mode table f n) (cond (eqb f x.examiner) (asked
+    (is_post x.access) t n) None)) c.cover.ensures.cover))
 
 pub returns : goal.returns
 returns c =

@@ -18,7 +18,8 @@ invariant_of-self-2 c =
     let same = c.in-Ok.ensures.new ∙ c.land.ensures.land in
     let wide : IsLand depth x.tract = subst (λ (l : Land). IsLand depth l) (sym same) c.land.ensures.sized in
     let free : Stands es c.args.examiner x.tract p None = subst (λ (l : Land). Stands es c.args.examiner l p None) (sym same)
-    (subst (λ (t : List Entry). Stands (reverse t) c.args.examiner c.args.tract.now p None) c.deref.ensures.value c.in_default.ensures.way) in
+    (subst (λ (t : List Entry). Stands (reverse t) c.args.examiner c.args.tract.now p None) c.deref.ensures.value
+    c.in_default.ensures.way) in
     let room : vec_len c.reserve.new.self < vec_capacity c.reserve.new.self = omega (arith, c.in-Ok-reserve.ensures) in
     subst (λ (t : List Entry). AreRows depth (reverse t) (Some x) (nat_lt (vec_len c.reserve.new.self) (vec_capacity c.reserve.new.self)))
     (sym c.reserve.ensures.items)

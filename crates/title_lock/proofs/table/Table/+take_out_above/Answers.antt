@@ -11,6 +11,8 @@ pub returns-in-Some : goal.returns-in-Some
 returns-in-Some t c = record {
   modes = λ f n.
       c.take_out_above.ensures.modes f n
-      ∙ ap (λ (r : Option Mode). cond (is_mode c.args.taken && eqb f c.args.examiner && is_above n c.in-Some.parent) None r) (c.take_out.ensures.modes f n)
-      ∙ above_gone (is_mode c.args.taken && eqb f c.args.examiner) (table_mode c.args.self.now f n) c.args.node.now c.in-Some.parent n c.in-Some.ensures.parent;
+      ∙ ap (λ (r : Option Mode). cond (is_mode c.args.taken && eqb f c.args.examiner && is_above n c.in-Some.parent) None r)
+      (c.take_out.ensures.modes f n)
+      ∙ above_gone (is_mode c.args.taken && eqb f c.args.examiner)
+      (table_mode c.args.self.now f n) c.args.node.now c.in-Some.parent n c.in-Some.ensures.parent;
 }

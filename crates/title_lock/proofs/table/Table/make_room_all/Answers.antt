@@ -15,7 +15,8 @@ loop-node-preserved c =
     let low : c.loop-node.node-index < length c.args.cover.now = omega arith in
     record {
       modes = λ f n. c.make_room_for.ensures.modes f n ∙ c.loop-node.invariant.modes f n;
-      room = room_more c.make_room_for.new.self c.args.examiner c.args.cover.now c.loop-node.node-index c.node-item.result c.node-item.is low
+      room = room_more c.make_room_for.new.self c.args.examiner c.args.cover.now c.loop-node.node-index
+          c.node-item.result c.node-item.is low
           c.in_ok-make_room_for.ensures.room
           (λ n asks. c.make_room_for.ensures.stays c.args.examiner n (c.loop-node.invariant.room n asks));
     }

@@ -28,4 +28,7 @@ returns-clause-modes c f n =
 pub raise-requires : goal.raise-requires
 raise-requires c =
     let k = c.args.node.now in
-    record { room = c.raise_above.ensures.stays c.args.examiner k (c.requires.room k (or_left (same_node k k) (is_above k k) (same_self k))) }
+    record {
+      room = c.raise_above.ensures.stays c.args.examiner k (c.requires.room k (or_left (same_node k k) (is_above k k)
+          (same_self k)));
+    }

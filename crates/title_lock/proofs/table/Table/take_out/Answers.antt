@@ -14,7 +14,8 @@ returns-in_default c = record {
   modes = λ f n. subst (λ (m : Places). mode_of m f n
       ≡ cond (is_mode c.args.taken && eqb f c.args.examiner && same_node n c.args.node.now) None (mode_of c.args.self.now.places f n))
       (sym c.get_mut.follows.holds-at-none)
-      (none_released c.args.self.now.places c.args.node.now (sym c.in_default.ensures.value) (is_mode c.args.taken && eqb f c.args.examiner) f n);
+      (none_released c.args.self.now.places c.args.node.now (sym c.in_default.ensures.value)
+      (is_mode c.args.taken && eqb f c.args.examiner) f n);
   dropped = λ h. ap (λ (m : Places). is_some (get node_cmp m c.args.node.now)) c.get_mut.follows.holds-at-none
       ∙ ap is_some (sym c.in_default.ensures.value);
 }
@@ -42,7 +43,8 @@ returns-else-take_out c =
     let had = c.in-Some.ensures.value in
     let writes = (c.get_mut.follows.holds w).3 (is_found _ _ had) in
     record {
-      modes = λ f. released c.args.self.now.places (c.get_mut.follows.lender w) c.args.node.now (Some w) writes.0 (is_mode c.args.taken && eqb f e) f
+      modes = λ f. released c.args.self.now.places (c.get_mut.follows.lender w) c.args.node.now (Some w) writes.0
+          (is_mode c.args.taken && eqb f e) f
           (c.take_out.ensures.modes f ∙ ap (λ (o : Option Modes). cond (is_mode c.args.taken && eqb f e) None (mode_in f o)) had);
       dropped = λ h. absurd (true≢false (sym h ∙ ap free_in writes.1 ∙ sym c.take_out.ensures.free ∙ c.if-take_out.false));
     }

@@ -9,5 +9,6 @@ use Rattle.title_lock.proofs.table.Table.take_out_all.Given as goal
 -- the examiner holds nothing that the nodes so far ask for
 abbrev pub invariant-loop-node : goal.invariant-loop-node
 invariant-loop-node l =
-    (f : ℕ) (n : Node) → table_mode l.self f n ≡ cond (is_mode l.taken && eqb f l.examiner && list_any (is_asked n) (take l.node-index l.cover)) None
+    (f : ℕ) (n : Node) → table_mode l.self f n ≡ cond (is_mode l.taken && eqb f l.examiner && list_any (is_asked n)
+    (take l.node-index l.cover)) None
     (table_mode l.fn.self f n)

@@ -11,6 +11,8 @@ pub returns : goal.returns
 returns c = record {
   modes = λ f n.
       c.take_out_above.ensures.modes f n
-      ∙ ap (λ (r : Option Mode). cond (is_mode c.args.taken && eqb f c.args.examiner && is_above n c.args.node.now) None r) (c.take_out.ensures.modes f n)
-      ∙ gone_join (is_mode c.args.taken && eqb f c.args.examiner) (same_node n c.args.node.now) (is_above n c.args.node.now) (table_mode c.args.self.now f n);
+      ∙ ap (λ (r : Option Mode). cond (is_mode c.args.taken && eqb f c.args.examiner && is_above n c.args.node.now) None r)
+      (c.take_out.ensures.modes f n)
+      ∙ gone_join (is_mode c.args.taken && eqb f c.args.examiner) (same_node n c.args.node.now) (is_above n c.args.node.now)
+      (table_mode c.args.self.now f n);
 }
