@@ -1,5 +1,5 @@
 -- Who is in the way by the locks is in the way by the open steps; and what is told after an admission.
-use Rattle.std.proofs.Common.{◌≡◌, ◌≢◌, ◌<◌, ℕ, Bool, true, List, ◌∷◌, Option, Some, None, refl, sym, subst, ◌∙◌, ap}
+use Rattle.std.proofs.Common.{◌≡◌, ℕ, Bool, List, ◌∷◌, Option, Some, None, refl, sym, subst, ◌∙◌, ap}
 use Rattle.title_land.specs.Depth.{depth}
 use Rattle.title_lock.specs.declared.guards.Entry.{Entry}
 use Rattle.title_lock.specs.Overlaps.{against, Stands}

@@ -1,8 +1,7 @@
 -- Who is in the way by the locks is in the way by the open steps.
-use Rattle.std.proofs.Common.{◌≡◌, ◌∙◌, ap, sym, subst, reverse, true, Some, None}
+use Rattle.std.proofs.Common.{◌∙◌, ap, sym, subst, reverse, true, Some, None}
 use Rattle.title_land.specs.declared.tract.Land.{Land}
 use Rattle.title_lock.specs.declared.guards.Access.{Access}
-use Rattle.title_lock.specs.declared.guards.Entry.{Entry}
 use Rattle.title_lock.specs.declared.guards.LockFault.{LockFault}
 use Rattle.title_lock.specs.Overlaps.{is_post, Stands, RefusedBy}
 use Rattle.title_chain.specs.Asks.{tract_of}
