@@ -1,8 +1,7 @@
 -- What the trees of a plant hold, cell by cell.
-use Rattle.std.proofs.Common.{◌≡◌, ◌∙◌, ap, sym, refl, subst, ℕ, zero, suc, ◌+◌}
-use Rattle.std.proofs.Common.{◌^◌, ◌<◌, ◌≤◌, arith, Bool, true, false, ◌&&◌, cond, true≢false}
-use Rattle.std.proofs.Common.{inl, inr, List, [], ◌∷◌, ◌++◌, length, map, Option, Some, None, Result, Ok, Err}
-use Rattle.std.proofs.lemmas.Bool.{and_from, and_parts, cases_Bool}
+use Rattle.std.proofs.Common.{◌≡◌, ◌∙◌, ap, refl, ℕ}
+use Rattle.std.proofs.Common.{◌^◌, ◌≤◌, Bool, true, false, ◌&&◌, cond}
+use Rattle.std.proofs.Common.{List, length}
 use Rattle.title_share.specs.Division.{Division}
 use Rattle.title_land.specs.Depth.{depth}
 use Rattle.title_land.specs.declared.place.Township.{Township}
@@ -14,13 +13,12 @@ use Rattle.title_instrument.specs.declared.parts.Estate.{Estate}
 use Rattle.title_instrument.specs.declared.parts.Estate.TheVariants.{S, O, M}
 use Rattle.title_instrument.specs.declared.owners.Owners.{Owners}
 use Rattle.title_instrument.specs.Owners.{opening_owners}
-use Rattle.title_store.specs.Plants.{Plant, is_cell_of}
+use Rattle.title_store.specs.Plants.{is_cell_of}
 use Rattle.title_tree.specs.Plots.{Plot, value_at}
-use Rattle.title_tree.specs.Paths.{begins}
 use Rattle.title_tree.specs.Pieces as pieces
 use Rattle.title_tree.specs.Pieces.{Piece, Short, held, paths}
 use Rattle.title_tree_store.specs.Spots.{cell_path, tract_spots}
-use Rattle.title_tree_store.specs.Forests.{owners_at, held_at}
+use Rattle.title_tree_store.specs.Forests.{owners_at}
 use Rattle.title_tree_store.specs.Keeping.{content_of}
 use Rattle.title_tree_store.proofs.Places.{tract_has}
 

@@ -1,21 +1,20 @@
 -- What a tree has at a node's paths is what the node's cells have.
 use Rattle.std.proofs.Common.{◌≡◌, ◌∙◌, ap, sym, refl, subst, ℕ, zero, suc, ◌+◌}
-use Rattle.std.proofs.Common.{◌-◌, ◌^◌, ◌<◌, ◌≤◌, arith, Bool, true, false, ◌||◌, cond, true≢false}
-use Rattle.std.proofs.Common.{inl, inr, List, [], ◌∷◌, ◌++◌, length, length-append, map, Option, Some, None, if◌then◌else◌}
+use Rattle.std.proofs.Common.{◌-◌, ◌^◌, ◌≤◌, arith, Bool, true, false, ◌||◌, cond}
+use Rattle.std.proofs.Common.{inl, inr, List, [], ◌∷◌, ◌++◌, length, length-append, map, Option, Some, None}
 use Rattle.std.specs.Prelude.{nat_lt}
-use Rattle.std.specs.List.{flat_map, list_any}
+use Rattle.std.specs.List.{flat_map}
 use Rattle.std.proofs.lemmas.Bool.{or_left, or_right, or_cases, cases_Bool, ltb-true}
 use Rattle.title_share.specs.Division.{Division}
 use Rattle.title_land.specs.Depth.{depth}
 use Rattle.title_land.specs.declared.place.Township.{Township}
-use Rattle.title_land.specs.declared.place.Section.{Section}
 use Rattle.title_land.specs.declared.place.Cell.{Cell}
 use Rattle.title_land.specs.declared.rectangle.Quarter.{Quarter}
 use Rattle.title_land.specs.declared.node.Node.{Node}
 use Rattle.title_land.specs.declared.node.Node.TheVariants as node
 use Rattle.title_land.specs.declared.tract.Land.{Land}
 use Rattle.title_land.specs.Places.{same_township}
-use Rattle.title_land.specs.Nodes.{quarters, node_has}
+use Rattle.title_land.specs.Nodes.{quarters}
 use Rattle.title_land.specs.Lands.{is_in_plant, is_plant_cell, cover_of}
 use Rattle.title_land.specs.CellLists.{sections_of, node_cells, children_of}
 use Rattle.title_land.proofs.SameLand.{same_township-self}
@@ -24,10 +23,8 @@ use Rattle.title_land.proofs.Members.{any_from}
 use Rattle.title_land.proofs.CellMembers.{sections_of-in}
 use Rattle.title_instrument.specs.declared.parts.Estate.{Estate}
 use Rattle.title_instrument.specs.declared.parts.Estate.TheVariants.{S, O, M}
-use Rattle.title_instrument.specs.declared.owners.Owners.{Owners}
 use Rattle.title_instrument.specs.Owners.{holding_of, opening_owners}
 use Rattle.title_store.specs.declared.sheet_row.SheetRow.{SheetRow}
-use Rattle.title_store.specs.Plants.{Plant}
 use Rattle.title_store.specs.Sheets.{one_holding, rows_or, sheet_below, estates, sheet_of}
 use Rattle.title_store.proofs.SheetHoldings.{one_found, one_from, one_some, in_node, of_node}
 use Rattle.title_tree.specs.Paths.{begins, rest}
@@ -44,7 +41,7 @@ use Rattle.title_tree_store.specs.Forests.{owners_at}
 use Rattle.title_tree_store.specs.Keeping.{height, content_of}
 use Rattle.title_tree_store.specs.TreeSheets.{tree_sheet}
 use Rattle.title_tree_store.proofs.Paths.{has_in, has_from}
-use Rattle.title_tree_store.proofs.Places.{IsOf, IsDeclared, CellAt, in_spots, spots_have, cover_declared, length-cell_path}
+use Rattle.title_tree_store.proofs.Places.{IsOf, IsDeclared, in_spots, spots_have, cover_declared}
 use Rattle.title_tree_store.proofs.Keeps.{spots_short}
 
 -- ---- the one holding at some paths

@@ -1,7 +1,7 @@
 -- Images that are out, in the order of their numbers.
-use Rattle.std.proofs.Common.{◌≡◌, ◌≢◌, ◌∙◌, ap, sym, refl, subst, ℕ, ◌<◌, arith, Bool, true, false, cond, eqb, inl, inr, ◌⊎◌}
+use Rattle.std.proofs.Common.{◌≡◌, ◌≢◌, ◌∙◌, ap, sym, refl, subst, ℕ, ◌<◌, arith, eqb, inl, inr, ◌⊎◌}
 use Rattle.std.proofs.Common.{List, [], ◌∷◌, ◌++◌, map}
-use Rattle.std.proofs.lemmas.Bool.{cases_Bool, eqb-true, eqb-false, eq-eqb}
+use Rattle.std.proofs.lemmas.Bool.{cases_Bool, eqb-true, eq-eqb}
 use Rattle.title_land.specs.declared.place.Township.{Township}
 use Rattle.title_store.specs.Loans.{Loan, IsAmong, without}
 use Rattle.title_tree.specs.Pieces.{In}

@@ -1,19 +1,15 @@
 -- What a store keeps, through each of its operations.
 use Rattle.std.proofs.Common.{◌≡◌, ◌≢◌, ◌∙◌, ap, sym, refl, subst, ℕ, ◌+◌, ◌-◌}
-use Rattle.std.proofs.Common.{◌^◌, ◌<◌, ◌≤◌, arith, Bool, true, false, ◌&&◌, cond, true≢false}
+use Rattle.std.proofs.Common.{◌^◌, ◌<◌, ◌≤◌, arith, Bool, true, false, true≢false}
 use Rattle.std.proofs.Common.{inl, inr, List, [], ◌∷◌, ◌++◌, length, map, length-append}
-use Rattle.std.specs.Prelude.{nat_lt}
-use Rattle.std.proofs.lemmas.Bool.{and_from, and_parts, cases_Bool, both_ways}
-use Rattle.title_share.specs.Division.{Division, all_to}
+use Rattle.std.proofs.lemmas.Bool.{and_from, and_parts}
 use Rattle.title_land.specs.Depth.{depth}
 use Rattle.title_land.specs.declared.place.Township.{Township}
-use Rattle.title_land.specs.declared.place.Cell.{Cell}
 use Rattle.title_land.specs.declared.rectangle.Quarter.{Quarter}
 use Rattle.title_land.specs.declared.tract.Land.{Land}
-use Rattle.title_land.specs.Places.{is_on_grid, same_township}
 use Rattle.title_land.specs.Nodes.{same_path}
-use Rattle.title_land.specs.Lands.{has, is_in_plant, is_plant_cell, cover_of, meets}
-use Rattle.std.specs.List.{list_any, flat_map}
+use Rattle.title_land.specs.Lands.{is_in_plant, cover_of, meets}
+use Rattle.std.specs.List.{flat_map}
 use Rattle.std.proofs.lemmas.List.{length-reverse}
 use Rattle.title_land.proofs.SameNode.{same_path-is, same_path-self}
 use Rattle.title_land.proofs.TractSharing.{common_meets}
@@ -23,9 +19,9 @@ use Rattle.title_land.specs.declared.node.Node.TheVariants as node
 use Rattle.title_land.specs.declared.rectangle.Quarter.TheVariants.{Northeast, Northwest, Southwest}
 use Rattle.title_instrument.specs.declared.parts.Estate.{Estate}
 use Rattle.title_instrument.specs.declared.parts.Estate.TheVariants.{S, O, M}
-use Rattle.title_store.specs.Loans.{Loan, IsAmong, IsLentAs, IsLast}
+use Rattle.title_store.specs.Loans.{IsLast}
 use Rattle.title_tree.specs.Paths.{way, begins}
-use Rattle.title_tree.specs.Plots.{Plot, Same, value_at, graft, plot_at, fits, tidied}
+use Rattle.title_tree.specs.Plots.{Plot, graft, fits, tidied}
 use Rattle.title_tree.specs.Pieces as pieces
 use Rattle.title_tree.specs.Pieces.{In, Piece, paths, Disjoint, Ready, Short, Refines, swapped, taken, held}
 use Rattle.title_tree.specs.Lendings.{Lending, Keeps, LaterClear, Clear}
@@ -33,10 +29,7 @@ use Rattle.title_tree.proofs.Beginnings.{begins_append}
 use Rattle.title_tree.proofs.Uniform.{corner, length-corner}
 use Rattle.title_tree.proofs.Depths.{fits_graft, fits_plot_at, fits_tidied}
 use Rattle.title_tree.proofs.Images.{keeps_less, keeps_restored, keeps_refined}
-use Rattle.title_tree.proofs.Swaps.{value_swapped, paths_taken}
 use Rattle.title_tree_store.specs.declared.lent.Lent.{Lent}
-use Rattle.title_tree_store.specs.declared.forest.Forest.{Forest}
-use Rattle.title_tree_store.specs.declared.forest.Subtrees.{Subtrees}
 use Rattle.title_tree_store.specs.Spots.{index_of, township_path, section_path, cell_path, township_spots, spots, tract_spots}
 use Rattle.title_tree_store.specs.Forests as forests
 use Rattle.title_tree_store.specs.Forests.{plots}

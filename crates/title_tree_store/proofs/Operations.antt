@@ -1,9 +1,9 @@
 -- The operations of a store, cell by cell.
-use Rattle.std.proofs.Common.{◌≡◌, ◌∙◌, ap, sym, refl, subst, ℕ, ◌+◌, ◌^◌, ◌<◌, ◌≤◌, arith, Bool, true, false, cond, inl, inr}
-use Rattle.std.proofs.Common.{List, [], ◌∷◌, ◌++◌, length, map, Option, Some, None}
+use Rattle.std.proofs.Common.{◌≡◌, ◌∙◌, ap, sym, refl, subst, ℕ, Bool, true, false, cond}
+use Rattle.std.proofs.Common.{List, ◌∷◌, ◌++◌, length, Option, Some, None}
 use Rattle.std.specs.Prelude.{MatchOption}
 use Rattle.std.specs.Option.{IsSome}
-use Rattle.title_share.specs.Division.{Division, all_to}
+use Rattle.title_share.specs.Division.{all_to}
 use Rattle.title_land.specs.Depth.{depth}
 use Rattle.title_land.specs.declared.place.Township.{Township}
 use Rattle.title_land.specs.declared.place.Cell.{Cell}
@@ -11,10 +11,9 @@ use Rattle.title_land.specs.declared.rectangle.Quarter.{Quarter}
 use Rattle.title_land.specs.Lands.{is_plant_cell}
 use Rattle.title_instrument.specs.declared.parts.Estate.{Estate}
 use Rattle.title_instrument.specs.declared.parts.Estate.TheVariants.{S, O, M}
-use Rattle.title_instrument.specs.declared.owners.Owners.{Owners}
 use Rattle.title_instrument.specs.Owners.{opening_owners}
-use Rattle.title_store.specs.Plants.{Plant, is_cell_of}
-use Rattle.title_store.specs.Loans.{Loan, IsAmong, IsLentAs, IsOut, without}
+use Rattle.title_store.specs.Plants.{is_cell_of}
+use Rattle.title_store.specs.Loans.{Loan, IsLentAs, IsOut, without}
 use Rattle.title_tree.specs.Plots.{Plot, Same, value_at, tidied}
 use Rattle.title_tree.specs.Pieces as pieces
 use Rattle.title_tree.specs.Pieces.{In, Piece, Short, paths, held, swapped}
@@ -28,7 +27,7 @@ use Rattle.title_tree_store.specs.Keeping.{height, content_of, loan_of, loans_of
 use Rattle.title_tree_store.proofs.Places.{length-cell_path}
 use Rattle.title_tree_store.proofs.Contents.{owners_same, content_agrees, content_changes}
 use Rattle.title_tree_store.proofs.Images.{among_in, in_middle, rises_one, loans_without}
-use Rattle.title_tree_store.proofs.Keeps.{GoesBack, goes_back, kept_less, same_ways-is, tract_short}
+use Rattle.title_tree_store.proofs.Keeps.{goes_back, kept_less, same_ways-is, tract_short}
 
 -- the plant of trees in which party 0 has the whole of each cell
 pub opens : (levels : ℕ) (ts : List Township) (ps : Estate → Plot) → ((e : Estate) → ps e ≡ Same (all_to 0)) → (c : Cell)

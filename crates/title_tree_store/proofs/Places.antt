@@ -1,17 +1,17 @@
 -- Which cells lie below which paths.
 use Rattle.std.proofs.Common.{◌≡◌, ◌∙◌, ap, sym, refl, subst, ℕ, zero, suc, ◌+◌}
 use Rattle.std.proofs.Common.{◌-◌, ◌*◌, ◌^◌, ◌<◌, ◌≤◌, arith, Bool, true, false, ◌&&◌, ◌||◌}
-use Rattle.std.proofs.Common.{cond, inl, inr, List, [], ◌∷◌, ◌++◌, length, map, length-append, append_assoc, reverse, true≢false}
-use Rattle.std.specs.Prelude.{nat_lt, not}
+use Rattle.std.proofs.Common.{inl, inr, List, [], ◌∷◌, ◌++◌, length, length-append, append_assoc, reverse}
+use Rattle.std.specs.Prelude.{nat_lt}
 use Rattle.std.specs.List.{flat_map, list_any}
 use Rattle.std.proofs.lemmas.List.{length-reverse, reverse-append, reverse-reverse, append-nil}
-use Rattle.std.proofs.lemmas.Bool.{and_from, and_parts, or_left, or_right, or_cases, cases_Bool, both_ways, eq-eqb, cases_eq, ltb-true}
+use Rattle.std.proofs.lemmas.Bool.{and_from, and_parts, or_left, or_right, cases_Bool, eq-eqb, cases_eq, ltb-true}
 use Rattle.title_land.specs.Depth.{depth}
 use Rattle.title_land.specs.declared.place.Township.{Township}
 use Rattle.title_land.specs.declared.place.Section.{Section}
 use Rattle.title_land.specs.declared.place.Cell.{Cell}
 use Rattle.title_land.specs.declared.rectangle.Quarter.{Quarter}
-use Rattle.title_land.specs.declared.rectangle.Quarter.TheVariants.{Northeast, Northwest, Southwest, Southeast}
+use Rattle.title_land.specs.declared.rectangle.Quarter.TheVariants.{Northeast, Northwest, Southwest}
 use Rattle.title_land.specs.declared.node.Node.{Node}
 use Rattle.title_land.specs.declared.node.Node.TheVariants as node
 use Rattle.title_land.specs.declared.tract.Land.{Land}
@@ -22,14 +22,14 @@ use Rattle.title_land.specs.Nodes.{square, node_has}
 use Rattle.title_land.specs.Lands.{has, cover_of, is_in_plant, is_plant_cell}
 use Rattle.title_land.specs.Paths.{quarter_number}
 use Rattle.title_land.proofs.PathNumbers.{quarter_below}
-use Rattle.title_land.proofs.SameLand.{same_township-is, same_township-self, same_section-is, same_section-self}
-use Rattle.title_land.proofs.Squares.{Inside, holds_from, inside, has_corner}
+use Rattle.title_land.proofs.SameLand.{same_township-is, same_township-self, same_section-is}
+use Rattle.title_land.proofs.Squares.{holds_from, has_corner}
 use Rattle.title_land.proofs.CoverSet.{cell_in_grid}
-use Rattle.title_land.proofs.LandSharing.{cover_has_its_cells, cover_in_tree, part_found, equal_tests}
+use Rattle.title_land.proofs.LandSharing.{cover_has_its_cells, part_found, equal_tests}
 use Rattle.title_land.proofs.Members.{any_found, any_from}
 use Rattle.title_land.proofs.Members as members
 use Rattle.title_tree.specs.Paths.{way, begins, number_path}
-use Rattle.title_tree.specs.CellWays.{cell_quarters, cell_way}
+use Rattle.title_tree.specs.CellWays.{cell_way}
 use Rattle.title_tree.specs.Pieces as pieces
 use Rattle.title_tree.specs.Pieces.{In}
 use Rattle.title_tree.proofs.CellSquares.{squares_by_paths, cell_ways_are_whole}
@@ -38,7 +38,7 @@ use Rattle.title_tree_store.specs.Spots.{cell_path, blocks, township_spots, spot
 use Rattle.title_tree_store.specs.Keeping.{height}
 use Rattle.title_tree_store.proofs.Paths.{begins_under, begins_parts, begins_whole, has_on}
 use Rattle.title_tree_store.proofs.Paths.{has_under, has_parts, has_flat, append_parts, in_join}
-use Rattle.title_tree_store.proofs.Paths.{length-number_path, number_is, number_of, path_of_number, Parted, parted}
+use Rattle.title_tree_store.proofs.Paths.{length-number_path, number_is, number_of, path_of_number, parted}
 
 -- ---- townships
 

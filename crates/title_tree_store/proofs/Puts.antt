@@ -1,7 +1,6 @@
 -- What a put leaves.
-use Rattle.std.proofs.Common.{◌≡◌, ◌∙◌, ap, sym, refl, subst, ℕ, suc, ◌+◌, ◌-◌, ◌^◌, ◌<◌, ◌≤◌, arith, Bool, true, false, cond, inl, inr}
+use Rattle.std.proofs.Common.{◌≡◌, ◌∙◌, ap, sym, refl, subst, ℕ, suc, ◌+◌, ◌^◌, ◌<◌, ◌≤◌, arith, Bool, true, false, cond, inl, inr}
 use Rattle.std.proofs.Common.{List, [], ◌∷◌, ◌++◌, length, length-append, map, Option, Some, None, Result, Ok, Err, is_some}
-use Rattle.std.specs.List.{AllByRecursion}
 use Rattle.std.proofs.lemmas.Bool.{and_parts, and_from}
 use Rattle.title_share.specs.Division.{Division}
 use Rattle.title_land.specs.Depth.{depth}
@@ -24,12 +23,12 @@ use Rattle.title_instrument.specs.Effect.{holding_effect, cell_effect, joined}
 use Rattle.title_instrument.specs.Owners.{opening_owners}
 use Rattle.title_store.specs.Plants.{Plant, Failing, IsEachOnce, is_cell_of, failing_or, first_failing, done_or, plant_effect, refused_in}
 use Rattle.title_store.specs.Plants.{refusal_of}
-use Rattle.title_store.specs.Loans.{Loan, IsAmong, AllBelow, IsTaken}
+use Rattle.title_store.specs.Loans.{Loan, IsTaken}
 use Rattle.title_tree.specs.declared.change.Fault.{Fault}
 use Rattle.title_tree.specs.declared.change.Fault.TheVariants as fault
 use Rattle.title_tree.specs.Changes.{why_of, new_or, after}
 use Rattle.title_tree.specs.Faults.{Tells}
-use Rattle.title_tree.specs.Plots.{Plot, value_at, plot_at, changed, fits}
+use Rattle.title_tree.specs.Plots.{Plot, value_at, plot_at, fits}
 use Rattle.title_tree.specs.Pieces as pieces
 use Rattle.title_tree.specs.Pieces.{In, Piece, Disjoint, Ready, Short, paths, held}
 use Rattle.title_tree.specs.Pieces.{swapped, taken, split_all, fresh, refusal_at, Refines, StaysWithin}
@@ -46,7 +45,7 @@ use Rattle.title_tree_store.specs.Forests as forests
 use Rattle.title_tree_store.specs.Forests.{owners_at, held_at, IsChange}
 use Rattle.title_tree_store.specs.Keeping.{height, content_of, lending, loan_of, loans_of, PiecesFit, IsBacked, IsKept, Rises}
 use Rattle.title_tree_store.specs.Refusing.{why_cell, first_in, triple}
-use Rattle.title_tree_store.proofs.Places.{CellAt, in_tract, tract_has, length-cell_path}
+use Rattle.title_tree_store.proofs.Places.{in_tract, tract_has, length-cell_path}
 use Rattle.title_tree_store.proofs.Paths.{has_in}
 use Rattle.title_tree_store.proofs.Contents.{owners_same, content_changes}
 use Rattle.title_tree_store.proofs.Images.{in_map, in_last, among_in, map_push, rises_more}

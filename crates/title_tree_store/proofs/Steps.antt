@@ -1,12 +1,12 @@
 -- Steps of the code.
-use Rattle.std.proofs.Common.{◌≡◌, ◌∙◌, ap, sym, refl, subst, ℕ, zero, suc, ◌+◌, ◌-◌, ◌<◌, ◌≤◌, arith, Bool, true, false, cond, eqb}
-use Rattle.std.proofs.Common.{inl, inr, ◌⊎◌, List, [], ◌∷◌, ◌++◌, length, take, drop, get_or, Result, Ok, Err, OnErr, IfOk}
+use Rattle.std.proofs.Common.{◌≡◌, ◌∙◌, ap, sym, refl, subst, ℕ, suc, ◌+◌, ◌<◌, arith, eqb}
+use Rattle.std.proofs.Common.{inl, inr, List, [], ◌∷◌, ◌++◌, length, take, drop, get_or, Result, Ok, Err, OnErr, IfOk}
 use Rattle.std.proofs.lemmas.Bool.{cases_Bool, eqb-true, eqb-false}
 use Rattle.title_land.specs.declared.rectangle.Quarter.{Quarter}
 use Rattle.title_land.specs.Nodes.{square}
 use Rattle.title_tree.specs.CellWays.{quarter_in, cell_quarters}
 use Rattle.title_tree.specs.Plots.{Plot, fits}
-use Rattle.title_tree.specs.Pieces.{In, split_all, Refines, StaysWithin}
+use Rattle.title_tree.specs.Pieces.{split_all, Refines, StaysWithin}
 use Rattle.title_tree.proofs.Depths.{split_all_fits}
 use Rattle.title_tree.proofs.Swaps.{split_all_reaches}
 use Rattle.title_tree_store.specs.declared.lent.Lent.{Lent}

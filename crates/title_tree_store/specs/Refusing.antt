@@ -1,5 +1,5 @@
 -- Which cell refuses an instrument.
-use Rattle.std.specs.Prelude.{ℕ, List, [], ◌∷◌, Option, Some, None}
+use Rattle.std.specs.Prelude.{ℕ, List, Option, Some, None}
 use Rattle.title_share.specs.Division.{Division}
 use Rattle.title_land.specs.declared.place.Township.{Township}
 use Rattle.title_land.specs.declared.place.Cell.{Cell}
@@ -8,7 +8,7 @@ use Rattle.title_instrument.specs.declared.parts.Rule.{Rule}
 use Rattle.title_instrument.specs.declared.instrument.Instrument.{Instrument}
 use Rattle.title_instrument.specs.declared.owners.Effect.{Effect}
 use Rattle.title_instrument.specs.declared.owners.Effect.TheVariants.{Done, Refused}
-use Rattle.title_instrument.specs.Effect.{holding_effect, cell_effect}
+use Rattle.title_instrument.specs.Effect.{holding_effect}
 use Rattle.title_store.specs.Plants.{Failing, first_failing}
 use Rattle.title_tree.specs.Changes.{why_of}
 use Rattle.title_tree.specs.Plots.{Plot}

@@ -1,6 +1,6 @@
 -- Where nodes and cells lie in a tree of the plant. Below the root lie the places of townships, so many levels down; three
 -- levels below a township its sections, of whose 64 places 36 are taken; below a section its squares.
-use Rattle.std.specs.Prelude.{ℕ, zero, suc, ◌+◌, ◌-◌, cond, List, [], ◌∷◌, ◌++◌, map}
+use Rattle.std.specs.Prelude.{ℕ, ◌+◌, ◌-◌, cond, List, [], ◌∷◌, ◌++◌, map}
 use Rattle.std.specs.List.{flat_map}
 use Rattle.title_land.specs.Depth.{depth}
 use Rattle.title_land.specs.declared.place.Township.{Township}

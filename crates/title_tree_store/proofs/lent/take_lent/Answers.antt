@@ -1,4 +1,4 @@
-use Rattle.std.proofs.Common.{◌≡◌, ◌<◌, sym, arith, ◌∙◌, ap, length, List}
+use Rattle.std.proofs.Common.{◌≡◌, ◌<◌, arith, ◌∙◌, ap, length, List}
 use Rattle.std.proofs.lemmas.Grind.{common_steps}
 use Rattle.title_tree_store.specs.declared.lent.Lent.{Lent}
 use Rattle.title_tree_store.specs.Keeping.{place_of}

@@ -1,5 +1,5 @@
 -- The holding of an estate that isn't named stays.
-use Rattle.std.proofs.Common.{◌≡◌, false, arith, Ok}
+use Rattle.std.proofs.Common.{◌≡◌, false, arith}
 use Rattle.std.proofs.lemmas.Grind.{common_steps}
 use Rattle.std.specs.Arc.{arc_value}
 use Rattle.title_instrument.specs.Estates.{names}

@@ -1,5 +1,5 @@
 -- The image that is taken out has its pieces' places in the trees, and they hold what its cells held.
-use Rattle.std.proofs.Common.{◌≡◌, ◌∙◌, sym}
+use Rattle.std.proofs.Common.{◌≡◌}
 use Rattle.title_tree.specs.Pieces.{swapped}
 use Rattle.title_instrument.specs.declared.parts.Estate.TheVariants.{S, O, M}
 use Rattle.title_tree_store.specs.Forests.{plots, pieces}
