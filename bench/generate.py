@@ -1,13 +1,18 @@
 #!/usr/bin/env python3
 """Writes a large valid script of the program `titleplant` to standard output.
 
-    generate.py --kind deeds|sheets|chains|parts|interleaved|short|long|reviewed|crowd|refused|own|shared [--rows N] [--seed N]
-        [--side 8|16] [--examiners N]
+    generate.py --kind KIND [--rows N] [--seed N] [--side 8|16] [--examiners N]
 
 deeds        plain deeds and releases of one examiner, each a transaction of its own       (for `alone`)
 sheets       sheets of whole sections, after a few deeds                                   (for `alone`)
 chains       deeds and releases of sections with a chain of a section among each four      (for `alone`)
 parts        deeds and releases of parts of eight sections, with a chain of a cell for each (for `alone`)
+townships    deeds and releases of whole townships                                         (for `alone`)
+sections     the same of whole sections                                                    (for `alone`)
+quarters     the same of quarter sections                                                  (for `alone`)
+cells        the same of single cells                                                      (for `alone`)
+plats        sheets of whole townships, after a few deeds                                  (for `alone`)
+plants       sheets of everything, after a few deeds                                       (for `alone`)
 interleaved  eight examiners at work at once, in transactions of up to 20 steps            (for `run`)
 short        the same in transactions of two deeds of single cells                         (for `run`)
 long         one examiner's transactions of 5,000 deeds of single cells each               (for `run`)
@@ -75,11 +80,26 @@ def deeds(chance, count):
         yield f"1,{instrument(chance, document, tract(chance))}"
 
 
-def sheets(chance, count):
-    posted = min(count // 100, 200)
-    yield from deeds(chance, posted)
-    for _ in range(count - posted):
-        yield f"1,sheet,{section(chance)}"
+def deeds_of(where):
+    """Deeds and releases of tracts that a function gives."""
+
+    def steps(chance, count):
+        for document in range(1, count + 1):
+            yield f"1,{instrument(chance, document, where(chance))}"
+
+    return steps
+
+
+def sheets_of(where):
+    """Sheets of tracts that a function gives, after a few deeds."""
+
+    def steps(chance, count):
+        posted = min(count // 100, 200)
+        yield from deeds(chance, posted)
+        for _ in range(count - posted):
+            yield f"1,sheet,{where(chance)}"
+
+    return steps
 
 
 def chains(chance, count):
@@ -203,9 +223,15 @@ def shared(chance, count):
 
 KINDS = {
     "deeds": deeds,
-    "sheets": sheets,
+    "sheets": sheets_of(section),
     "chains": chains,
     "parts": parts,
+    "townships": deeds_of(lambda chance: chance.choice(TOWNSHIPS)),
+    "sections": deeds_of(section),
+    "quarters": deeds_of(lambda chance: f"{section(chance)} {chance.choice(QUARTERS)}"),
+    "cells": deeds_of(cell),
+    "plats": sheets_of(lambda chance: chance.choice(TOWNSHIPS)),
+    "plants": sheets_of(lambda chance: "everything"),
     "interleaved": interleaved,
     "short": short,
     "long": long,

@@ -1,5 +1,6 @@
 #!/bin/sh
 # Measures the built program on large scripts of each kind: measure.sh [PROGRAM] [ROWS..]
+# KINDS, where it is set, names the kinds.
 # Prints for each kind and each number of rows the wall time (the best of three runs, or of those that were begun within
 # ten seconds), the processor time of that run, the steps served a second, the peak memory, and how the wall time has grown
 # since the size before, beside how the steps have.
@@ -16,7 +17,7 @@ fi
 work=$(mktemp -d)
 trap 'rm -rf "$work"' EXIT
 printf '%-12s %8s %8s %8s %8s %9s %8s %8s %8s\n' kind rows steps wall cpu steps/s MB time steps
-for kind in deeds sheets chains parts interleaved short long reviewed crowd refused; do
+for kind in ${KINDS:-deeds sheets chains parts interleaved short long reviewed crowd refused}; do
     case $kind in
         interleaved | short | long | reviewed | crowd | refused) command=run ;;
         *) command=alone ;;

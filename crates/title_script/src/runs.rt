@@ -13,7 +13,7 @@ use std::alloc::Global;
 use title_device::{Sink, Source, read_all, write_all};
 use title_lock::NodeLocks;
 use title_plan::{Schedule, ScriptFault, read_script};
-use title_store::CellStore;
+use title_tree_store::TreeStore;
 
 // The report of a script's bytes, or its first fault, or Memory.
 #[tactic(auto, unfolding(crate::specs::Reports::report_of))]
@@ -27,7 +27,7 @@ fn report_of<V: Watch>(
     ensures why { IfErr result (λ e. (e ≡ script_fault.Memory) ⊎ (report_of schedule script.now ≡ Err e)) }
 {
     let mut plan = read_script(alloc, schedule, script)?;
-    let report = write_report::<CellStore, NodeLocks, V>(alloc, &mut plan, watch)?;
+    let report = write_report::<TreeStore, NodeLocks, V>(alloc, &mut plan, watch)?;
     Ok(report)
 }
 

@@ -1,4 +1,4 @@
-//! The desk over a store of cells and a table of locks: each of its calls.
+//! The desk over a store of trees and a table of locks: each of its calls.
 
 use crate::places::{square, township};
 use std::alloc::{AllocError, Global};
@@ -10,10 +10,11 @@ use title_instrument::{Deed, Estates, Instrument, Quantum, Release};
 use title_land::{Land, Node, Quarter, Township, Tract};
 use title_lock::NodeLocks;
 use title_share::Share;
-use title_store::{CellStore, Store};
+use title_store::Store;
 use title_trace::{Reply, Request};
+use title_tree_store::TreeStore;
 
-type TestDesk = Desk<CellStore, NodeLocks>;
+type TestDesk = Desk<TreeStore, NodeLocks>;
 
 /// What an examiner asks of the northeast quarter of section 5. A post releases the surface from party 0 to party 1.
 #[derive(Clone, Copy)]

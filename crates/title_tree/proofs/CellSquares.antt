@@ -1,5 +1,5 @@
 -- A cell lies in a square exactly where the square's path begins the cell's.
-use Rattle.std.proofs.Common.{◌≡◌, ℕ, zero, suc, ◌+◌, ◌^◌, ◌<◌, ◌≤◌, Bool, true, false, List, [], ◌∷◌, ◌++◌, length, reverse}
+use Rattle.std.proofs.Common.{◌≡◌, ℕ, zero, suc, ◌+◌, ◌<◌, ◌≤◌, Bool, true, false, List, [], ◌∷◌, ◌++◌, length, reverse}
 use Rattle.std.proofs.Common.{refl, sym, ap, subst, ◌∙◌, arith, true≢false}
 use Rattle.std.proofs.lemmas.List.{reverse-append, reverse-reverse, length-reverse}
 use Rattle.title_land.specs.declared.rectangle.Quarter.{Quarter}
@@ -8,7 +8,7 @@ use Rattle.title_land.specs.declared.rectangle.Rectangle.{Rectangle}
 use Rattle.title_land.specs.Places.{side}
 use Rattle.title_land.specs.Rectangles.{quarter_of, holds}
 use Rattle.title_land.specs.Nodes.{square}
-use Rattle.title_land.proofs.Squares.{Inside, inside, holds_from, Sized, sized, LiesAt, nested, square_inside}
+use Rattle.title_land.proofs.Squares.{Inside, inside, holds_from, Sized, sized, nested, square_inside}
 use Rattle.title_land.proofs.CoverCells.{in_a_quarter}
 use Rattle.title_tree.specs.Paths.{way, begins, rest}
 use Rattle.title_tree.specs.CellWays.{quarter_by, quarter_in, cell_quarters, cell_way}

@@ -1,12 +1,11 @@
 -- How deep plots are after grafts, splits and changes.
-use Rattle.std.proofs.Common.{◌≡◌, ℕ, zero, suc, ◌+◌, ◌≤◌, Bool, true, false, ◌&&◌, List, [], ◌∷◌, length, refl, sym, ap, subst, ◌∙◌, arith}
+use Rattle.std.proofs.Common.{◌≡◌, ℕ, zero, suc, ◌+◌, ◌≤◌, Bool, true, false, ◌&&◌, List, [], ◌∷◌, length, refl, ap, subst, ◌∙◌, arith}
 use Rattle.std.proofs.Common.{inl, inr, Result, Ok, Err, OnErr}
 use Rattle.title_tree.specs.Pieces.{Short, StaysWithin, split_all}
-use Rattle.std.proofs.lemmas.Bool.{and_from}
 use Rattle.title_share.specs.Division.{Division}
 use Rattle.title_land.specs.declared.rectangle.Quarter.{Quarter}
 use Rattle.title_land.specs.declared.rectangle.Quarter.TheVariants.{Northeast, Northwest, Southwest, Southeast}
-use Rattle.title_tree.specs.Plots.{Plot, Same, Four, plot_at, graft, split, changed, same_leaf, joined, tidied, fits}
+use Rattle.title_tree.specs.Plots.{Plot, Same, Four, plot_at, graft, split, changed, same_leaf, joined, tidied, tidied_at, tidied_all, fits}
 use Rattle.title_tree.proofs.Uniform.{four_all}
 
 all_four : (a b c d : Bool) → a ≡ true → b ≡ true → c ≡ true → d ≡ true → (a && b && c && d) ≡ true
@@ -84,6 +83,27 @@ fits_tidied (suc m) (Four a b c d) f =
     let k = four_all (fits m a) (fits m b) (fits m c) (fits m d) f in
     fits_joined _ (suc m) (tidied a) (tidied b) (tidied c) (tidied d) refl
     (all_four _ _ _ _ (fits_tidied m a k.0) (fits_tidied m b k.1) (fits_tidied m c k.2) (fits_tidied m d k.3))
+
+pub fits_tidied_at : (levels : ℕ) (p : List Quarter) (t : Plot) → fits levels t ≡ true → fits levels (tidied_at p t) ≡ true
+fits_tidied_at levels [] t f = fits_tidied levels t f
+fits_tidied_at levels (q ∷ p) (Same held) f = refl
+fits_tidied_at zero (q ∷ p) (Four a b c d) f = absurd cc
+fits_tidied_at (suc m) (Northeast ∷ p) (Four a b c d) f =
+    let k = four_all (fits m a) (fits m b) (fits m c) (fits m d) f in
+    fits_joined _ (suc m) (tidied_at p a) b c d refl (all_four _ _ _ _ (fits_tidied_at m p a k.0) k.1 k.2 k.3)
+fits_tidied_at (suc m) (Northwest ∷ p) (Four a b c d) f =
+    let k = four_all (fits m a) (fits m b) (fits m c) (fits m d) f in
+    fits_joined _ (suc m) a (tidied_at p b) c d refl (all_four _ _ _ _ k.0 (fits_tidied_at m p b k.1) k.2 k.3)
+fits_tidied_at (suc m) (Southwest ∷ p) (Four a b c d) f =
+    let k = four_all (fits m a) (fits m b) (fits m c) (fits m d) f in
+    fits_joined _ (suc m) a b (tidied_at p c) d refl (all_four _ _ _ _ k.0 k.1 (fits_tidied_at m p c k.2) k.3)
+fits_tidied_at (suc m) (Southeast ∷ p) (Four a b c d) f =
+    let k = four_all (fits m a) (fits m b) (fits m c) (fits m d) f in
+    fits_joined _ (suc m) a b c (tidied_at p d) refl (all_four _ _ _ _ k.0 k.1 k.2 (fits_tidied_at m p d k.3))
+
+pub fits_tidied_all : (levels : ℕ) (ps : List (List Quarter)) (t : Plot) → fits levels t ≡ true → fits levels (tidied_all ps t) ≡ true
+fits_tidied_all levels [] t f = f
+fits_tidied_all levels (p ∷ ps) t f = fits_tidied_all levels ps (tidied_at p t) (fits_tidied_at levels p t f)
 
 -- what the rest of some splits keeps within the levels after the first, all of them do
 pub within_split : {A E : Type 0} (r : Result A E) (p : List Quarter) (ps qs : List (List Quarter)) (t u v : Plot) → qs ≡ p ∷ ps

@@ -1,5 +1,5 @@
 -- The first leaf that refuses a change refuses it as the first cell that does.
-use Rattle.std.proofs.Common.{◌≡◌, ℕ, zero, suc, true, ◌&&◌, List, [], ◌∷◌, ◌++◌, map, Option, Some, None, Result}
+use Rattle.std.proofs.Common.{◌≡◌, ℕ, zero, suc, true, List, [], ◌∷◌, ◌++◌, map, Option, Some, None, Result}
 use Rattle.std.proofs.Common.{refl, sym, ap, ◌∙◌, ◌+◌, ◌-◌, Bool, false, ◌||◌, ◌⊎◌, inl, inr, length, length-append, arith, true≢false}
 use Rattle.std.specs.Option.{option_or}
 use Rattle.title_share.specs.Division.{Division}

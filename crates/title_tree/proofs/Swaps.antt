@@ -1,5 +1,5 @@
 -- Pieces changing places with what stands at their paths.
-use Rattle.std.proofs.Common.{◌≡◌, ℕ, ◌≤◌, Bool, true, false, ◌||◌, cond, List, [], ◌∷◌, ◌++◌, length}
+use Rattle.std.proofs.Common.{◌≡◌, Bool, true, false, ◌||◌, cond, List, [], ◌∷◌, ◌++◌, length}
 use Rattle.std.proofs.Common.{Result, Ok, Err, OnErr, refl, sym, ap, subst, ◌∙◌, inl, inr}
 use Rattle.title_share.specs.Division.{Division}
 use Rattle.title_land.specs.declared.rectangle.Quarter.{Quarter}

@@ -1,10 +1,11 @@
 -- Plots whose cells all hold the same, and plots that are tidied.
 use Rattle.std.proofs.Common.{◌≡◌, ℕ, zero, suc, Bool, true, false, ◌&&◌, cond, List, [], ◌∷◌, length, Option, Some, None}
-use Rattle.std.proofs.Common.{refl, sym, ap, ◌∙◌, arith}
+use Rattle.std.proofs.Common.{refl, sym, ap, ◌∙◌}
 use Rattle.title_share.specs.Division.{Division}
 use Rattle.title_land.specs.declared.rectangle.Quarter.{Quarter}
 use Rattle.title_land.specs.declared.rectangle.Quarter.TheVariants.{Northeast, Northwest, Southwest, Southeast}
-use Rattle.title_tree.specs.Plots.{Plot, Same, Four, value_at, same_division, agreed, uniform, same_leaf, joined, tidied, fits}
+use Rattle.title_tree.specs.Plots.{Plot, Same, Four, value_at, same_division, agreed, uniform, same_leaf, joined}
+use Rattle.title_tree.specs.Plots.{tidied, tidied_at, tidied_all, fits}
 use Rattle.title_tree.proofs.SameDivisions.{same_is, same_self}
 
 pub four_all : (a b c d : Bool) → (a && b && c && d) ≡ true → (a ≡ true) × (b ≡ true) × (c ≡ true) × (d ≡ true)
@@ -113,3 +114,26 @@ tidied_shows (Four a b c d) x =
     (tidied a) (tidied b) (tidied c) (tidied d) refl x
     ∙ four_show a b c d (tidied a) (tidied b) (tidied c) (tidied d)
     (λ p. tidied_shows a p) (λ p. tidied_shows b p) (λ p. tidied_shows c p) (λ p. tidied_shows d p) x
+
+joined_show : (a b c d : Plot) (x : List Quarter) → value_at (joined (Four a b c d)) x ≡ value_at (Four a b c d) x
+joined_show a b c d x = joined_case (same_leaf a b && same_leaf a c && same_leaf a d) a b c d refl x
+
+pub tidied_at_shows : (p : List Quarter) (t : Plot) (x : List Quarter) → value_at (tidied_at p t) x ≡ value_at t x
+tidied_at_shows [] t x = tidied_shows t x
+tidied_at_shows (q ∷ p) (Same held) x = refl
+tidied_at_shows (Northeast ∷ p) (Four a b c d) x =
+    joined_show (tidied_at p a) b c d x
+    ∙ four_show a b c d (tidied_at p a) b c d (λ y. tidied_at_shows p a y) (λ y. refl) (λ y. refl) (λ y. refl) x
+tidied_at_shows (Northwest ∷ p) (Four a b c d) x =
+    joined_show a (tidied_at p b) c d x
+    ∙ four_show a b c d a (tidied_at p b) c d (λ y. refl) (λ y. tidied_at_shows p b y) (λ y. refl) (λ y. refl) x
+tidied_at_shows (Southwest ∷ p) (Four a b c d) x =
+    joined_show a b (tidied_at p c) d x
+    ∙ four_show a b c d a b (tidied_at p c) d (λ y. refl) (λ y. refl) (λ y. tidied_at_shows p c y) (λ y. refl) x
+tidied_at_shows (Southeast ∷ p) (Four a b c d) x =
+    joined_show a b c (tidied_at p d) x
+    ∙ four_show a b c d a b c (tidied_at p d) (λ y. refl) (λ y. refl) (λ y. refl) (λ y. tidied_at_shows p d y) x
+
+pub tidied_all_shows : (ps : List (List Quarter)) (t : Plot) (x : List Quarter) → value_at (tidied_all ps t) x ≡ value_at t x
+tidied_all_shows [] t x = refl
+tidied_all_shows (p ∷ ps) t x = tidied_all_shows ps (tidied_at p t) x ∙ tidied_at_shows p t x

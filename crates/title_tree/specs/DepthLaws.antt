@@ -2,7 +2,7 @@
 use Rattle.std.specs.Prelude.{◌≡◌, ℕ, ◌+◌, ◌≤◌, true, List, length}
 use Rattle.title_share.specs.Division.{Division}
 use Rattle.title_land.specs.declared.rectangle.Quarter.{Quarter}
-use Rattle.title_tree.specs.Plots.{Plot, plot_at, graft, split, changed, tidied, fits}
+use Rattle.title_tree.specs.Plots.{Plot, plot_at, graft, split, changed, tidied, tidied_all, fits}
 
 -- a plot that fits the levels below a path may stand there
 abbrev pub GraftFits : Type 0
@@ -24,3 +24,7 @@ ChangedFits = (levels : ℕ) (change : Division → Division) (t : Plot) → fit
 -- joining leaves goes no deeper
 abbrev pub TidiedFits : Type 0
 TidiedFits = (levels : ℕ) (t : Plot) → fits levels t ≡ true → fits levels (tidied t) ≡ true
+
+-- joining leaves at some paths and above them goes no deeper
+abbrev pub TidiedAllFits : Type 0
+TidiedAllFits = (levels : ℕ) (ps : List (List Quarter)) (t : Plot) → fits levels t ≡ true → fits levels (tidied_all ps t) ≡ true

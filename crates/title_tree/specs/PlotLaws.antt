@@ -4,7 +4,8 @@ use Rattle.title_share.specs.Division.{Division}
 use Rattle.title_land.specs.declared.rectangle.Quarter.{Quarter}
 use Rattle.title_tree.specs.Changes.{why_of}
 use Rattle.title_tree.specs.Paths.{begins, rest}
-use Rattle.title_tree.specs.Plots.{Plot, value_at, has_path, plot_at, graft, split, changed, first_refusal, uniform, tidied, fits}
+use Rattle.title_tree.specs.Plots.{Plot, value_at, has_path, plot_at, graft, split, changed, first_refusal, uniform}
+use Rattle.title_tree.specs.Plots.{tidied, tidied_all, fits}
 use Rattle.title_tree.specs.Cells.{cell_paths, first_some}
 
 -- after a graft the cells below the path hold what the new plot holds, and all others what they held
@@ -23,6 +24,10 @@ SplitShows = (p : List Quarter) (t : Plot) (c : List Quarter) → value_at (spli
 -- joining leaves that hold the same changes no cell
 abbrev pub TidiedShows : Type 0
 TidiedShows = (t : Plot) (c : List Quarter) → value_at (tidied t) c ≡ value_at t c
+
+-- joining leaves at some paths and above them changes no cell
+abbrev pub TidiedAllShows : Type 0
+TidiedAllShows = (ps : List (List Quarter)) (t : Plot) (c : List Quarter) → value_at (tidied_all ps t) c ≡ value_at t c
 
 -- a change of the leaves is that of the cells
 abbrev pub ChangedShows : Type 0

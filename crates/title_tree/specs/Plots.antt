@@ -1,5 +1,5 @@
 -- Plots: who holds an estate in a square, inherited by quarters. Paths have the outermost quarter first.
-use Rattle.std.specs.Prelude.{ℕ, zero, suc, Bool, true, false, cond, ◌&&◌, ◌==◌, List, [], ◌∷◌, Option, Some, None, Result}
+use Rattle.std.specs.Prelude.{ℕ, zero, suc, Bool, true, false, cond, ◌&&◌, not, ◌==◌, List, [], ◌∷◌, Option, Some, None, Result}
 use Rattle.std.specs.Option.{option_or}
 use Rattle.title_share.specs.Division.{Division, rows_of}
 use Rattle.title_land.specs.declared.rectangle.Quarter.{Quarter}
@@ -105,10 +105,29 @@ abbrev pub joined : Plot → Plot
 joined (Same held) = Same held
 joined (Four a b c d) = cond (same_leaf a b && same_leaf a c && same_leaf a d) a (Four a b c d)
 
+-- no four quarters are leaves that have the same division: no plot with fewer nodes has these divisions
+abbrev pub is_tidy : Plot → Bool
+is_tidy (Same held) = true
+is_tidy (Four a b c d) = (is_tidy a && is_tidy b && is_tidy c && is_tidy d) && not (same_leaf a b && same_leaf a c && same_leaf a d)
+
 -- leaves that have the same division made one, from below
 abbrev pub tidied : Plot → Plot
 tidied (Same held) = Same held
 tidied (Four a b c d) = joined (Four (tidied a) (tidied b) (tidied c) (tidied d))
+
+-- what stands at the path tidied, and then each node above it joined, from below
+abbrev pub tidied_at : List Quarter → Plot → Plot
+tidied_at [] t = tidied t
+tidied_at (q ∷ path) (Same held) = Same held
+tidied_at (Northeast ∷ path) (Four a b c d) = joined (Four (tidied_at path a) b c d)
+tidied_at (Northwest ∷ path) (Four a b c d) = joined (Four a (tidied_at path b) c d)
+tidied_at (Southwest ∷ path) (Four a b c d) = joined (Four a b (tidied_at path c) d)
+tidied_at (Southeast ∷ path) (Four a b c d) = joined (Four a b c (tidied_at path d))
+
+-- tidied at each path in turn
+abbrev pub tidied_all : List (List Quarter) → Plot → Plot
+tidied_all [] t = t
+tidied_all (p ∷ ps) t = tidied_all ps (tidied_at p t)
 
 -- no node lies deeper than so many levels
 abbrev pub fits : ℕ → Plot → Bool

@@ -2,13 +2,13 @@
 
 ghost use Rattle.title_land.specs.Depth.{depth};
 ghost use Rattle.title_tree.specs.CellWays.{SquaresByPaths, CellWaysAreWhole};
-ghost use Rattle.title_tree.specs.DepthLaws.{GraftFits, PlotAtFits, SplitFits, ChangedFits, TidiedFits};
+ghost use Rattle.title_tree.specs.DepthLaws.{GraftFits, PlotAtFits, SplitFits, ChangedFits, TidiedFits, TidiedAllFits};
 ghost use Rattle.title_tree.specs.LendingLaws.{PutKeeps, RestoreKeeps, ForgetKeeps, RefineKeeps, NoneIsKept};
 ghost use Rattle.title_tree.specs.PieceLaws.{SwappedShows, TakenHolds, PutShows, PutTakes, MadeBeforeTheSplit, SplitAllReaches};
 ghost use Rattle.title_tree.specs.PieceLaws.{NoneRefusesThere, ACellRefuses};
-ghost use Rattle.title_tree.specs.PlotLaws.{GraftShows, PlotAtShows, SplitShows, TidiedShows, ChangedShows, UniformIsHeld, UniformIsFound};
+ghost use Rattle.title_tree.specs.PlotLaws.{GraftShows, PlotAtShows, SplitShows, TidiedShows, TidiedAllShows, ChangedShows};
 ghost use Rattle.title_tree.specs.PlotLaws.{FirstLeafRefuses, NoneRefuses, SplitReaches, SplitKeeps, GraftKeeps, ChangedKeeps, NodesBelow};
-ghost use Rattle.title_tree.specs.PlotLaws.{SplitElsewhere};
+ghost use Rattle.title_tree.specs.PlotLaws.{SplitElsewhere, UniformIsHeld, UniformIsFound};
 
 use crate::change::Change;
 
@@ -30,6 +30,11 @@ pub fn split_shows()
 /// Joining leaves that hold the same changes no cell.
 pub fn tidied_shows()
     ensures law { TidiedShows }
+{}
+
+/// Joining leaves at some paths and above them changes no cell.
+pub fn tidied_all_shows()
+    ensures law { TidiedAllShows }
 {}
 
 /// A change of the leaves is that of the cells.
@@ -165,6 +170,11 @@ pub fn changed_fits()
 /// Joining leaves goes no deeper.
 pub fn tidied_fits()
     ensures law { TidiedFits }
+{}
+
+/// Joining leaves at some paths and above them goes no deeper.
+pub fn tidied_all_fits()
+    ensures law { TidiedAllFits }
 {}
 
 /// Where no leaf at some paths refuses a change, no cell there does.

@@ -7,7 +7,7 @@ ghost use Rattle.title_tree.specs.Faults.{Tells};
 ghost use Rattle.title_tree.specs.Parts.{piece, ways};
 ghost use Rattle.title_tree.specs.Pieces.{Disjoint, Ready, Refines, StaysWithin, paths, swapped, taken};
 ghost use Rattle.title_tree.specs.Pieces.{split_all, fresh, refusal_at, uniform_at};
-ghost use Rattle.title_tree.specs.Plots.{has_path, plot_at, graft, split};
+ghost use Rattle.title_tree.specs.Plots.{has_path, plot_at, graft, split, tidied_all};
 ghost use Rattle.title_tree.specs.Trees.{plot};
 
 use crate::change::{Change, Fault};
@@ -98,6 +98,16 @@ pub fn split_each(root: &mut Tree, alloc: Global, paths: &[Vec<Quarter>]) -> Res
     };
     root.split(alloc, path.as_slice())?;
     split_each(root, alloc, rest)
+}
+
+/// Joins quarters below and above each path in turn; no cell's holding changes. Takes no memory.
+pub fn tidy_all(root: &mut Tree, paths: &[Vec<Quarter>])
+    ensures tidied { plot root.new ≡ tidied_all (ways paths.now) (plot root.old) }
+{
+    if let Some((path, rest)) = paths.split_first() {
+        root.tidy_at(path.as_slice());
+        tidy_all(root, rest);
+    }
 }
 
 /// The one holding of all leaves at some paths; `None` where two differ or there is no path.

@@ -6,7 +6,7 @@ ghost use Rattle.std.specs.Arc.{arc_value};
 ghost use Rattle.title_tree.specs.Changes.{after};
 ghost use Rattle.title_tree.specs.Faults.{Tells};
 ghost use Rattle.title_tree.specs.Plots.{Same, Four, value_at, has_path, plot_at, graft, split, changed, first_refusal};
-ghost use Rattle.title_tree.specs.Plots.{same_division, uniform, same_leaf, joined, tidied};
+ghost use Rattle.title_tree.specs.Plots.{same_division, uniform, same_leaf, joined, is_tidy, tidied, tidied_at};
 ghost use Rattle.title_tree.specs.Trees.{plot};
 
 use crate::change::{Change, Fault};
@@ -194,6 +194,25 @@ impl Tree {
         }
     }
 
+    /// Whether no four quarters are leaves that have the same holding: no tree with fewer nodes has these holdings.
+    pub fn is_tidy(&self) -> bool
+        ensures tidy { result ≡ is_tidy (plot self.now) }
+    {
+        let Tree::Quarters(northeast, northwest, southwest, southeast) = self else {
+            return true;
+        };
+        if !(northeast.is_tidy()
+            && northwest.is_tidy()
+            && southwest.is_tidy()
+            && southeast.is_tidy())
+        {
+            return false;
+        }
+        !(northeast.is_same_leaf(northwest)
+            && northeast.is_same_leaf(southwest)
+            && northeast.is_same_leaf(southeast))
+    }
+
     // Whether both are leaves that have the same holding.
     fn is_same_leaf(&self, other: &Tree) -> bool
         ensures same { result ≡ same_leaf (plot self.now) (plot other.now) }
@@ -223,6 +242,13 @@ impl Tree {
         }
     }
 
+    // Joins the quarters where they are leaves that have the same holding. Takes no memory.
+    fn join(&mut self)
+        ensures joined { plot self.new ≡ joined (plot self.old) }
+    {
+        replace_with(self, (), |tree, ()| (tree.joined(), ()))
+    }
+
     /// Joins quarters that are leaves of the same holding, from below; no cell's holding changes. Takes no memory.
     pub fn tidy(&mut self)
         ensures tidied { plot self.new ≡ tidied (plot self.old) }
@@ -233,6 +259,26 @@ impl Tree {
             southwest.tidy();
             southeast.tidy();
         }
-        replace_with(self, (), |tree, ()| (tree.joined(), ()))
+        self.join();
+    }
+    /// Joins quarters below a path and then those above it; elsewhere nothing is looked at, so it costs what a walk of the
+    /// path and of what stands there does. No cell's holding changes. Takes no memory.
+    pub fn tidy_at(&mut self, path: &[Quarter])
+        ensures tidied { plot self.new ≡ tidied_at path.now (plot self.old) }
+    {
+        let Some((first, rest)) = path.split_first() else {
+            self.tidy();
+            return;
+        };
+        let Tree::Quarters(northeast, northwest, southwest, southeast) = self else {
+            return;
+        };
+        match *first {
+            Quarter::Northeast => northeast.tidy_at(rest),
+            Quarter::Northwest => northwest.tidy_at(rest),
+            Quarter::Southwest => southwest.tidy_at(rest),
+            Quarter::Southeast => southeast.tidy_at(rest),
+        }
+        self.join();
     }
 }

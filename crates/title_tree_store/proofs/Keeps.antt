@@ -21,18 +21,18 @@ use Rattle.title_instrument.specs.declared.parts.Estate.{Estate}
 use Rattle.title_instrument.specs.declared.parts.Estate.TheVariants.{S, O, M}
 use Rattle.title_store.specs.Loans.{IsLast}
 use Rattle.title_tree.specs.Paths.{way, begins}
-use Rattle.title_tree.specs.Plots.{Plot, graft, fits, tidied}
+use Rattle.title_tree.specs.Plots.{Plot, graft, fits, tidied_all}
 use Rattle.title_tree.specs.Pieces as pieces
 use Rattle.title_tree.specs.Pieces.{In, Piece, paths, Disjoint, Ready, Short, Refines, swapped, taken, held}
 use Rattle.title_tree.specs.Lendings.{Lending, Keeps, LaterClear, Clear}
 use Rattle.title_tree.proofs.Beginnings.{begins_append}
 use Rattle.title_tree.proofs.Uniform.{corner, length-corner}
-use Rattle.title_tree.proofs.Depths.{fits_graft, fits_plot_at, fits_tidied}
+use Rattle.title_tree.proofs.Depths.{fits_graft, fits_plot_at, fits_tidied_all}
 use Rattle.title_tree.proofs.Images.{keeps_less, keeps_restored, keeps_refined}
 use Rattle.title_tree_store.specs.declared.lent.Lent.{Lent}
 use Rattle.title_tree_store.specs.Spots.{index_of, township_path, section_path, cell_path, township_spots, spots, tract_spots}
 use Rattle.title_tree_store.specs.Forests as forests
-use Rattle.title_tree_store.specs.Forests.{plots}
+use Rattle.title_tree_store.specs.Forests.{plots, tidied_written}
 use Rattle.title_tree_store.specs.Keeping.{height, lending, loan_of, loans_of, same_ways, PiecesFit, IsBacked, IsKept, Rises, IsTakenOut}
 use Rattle.title_tree_store.proofs.Paths.{has_from, begins_on, length-number_path}
 use Rattle.title_tree_store.proofs.Places.{IsDeclared, in_tract, tract_has, cover_declared, length-section_path}
@@ -155,11 +155,19 @@ no_loans : (levels : ℕ) (ts : List Township) (lent : List Lent) → loans_of l
 no_loans levels ts [] h = refl
 no_loans levels ts (l ∷ lent) h = absurd cc
 
-pub kept_tidied : (levels : ℕ) (ts : List Township) (ps qs : Estate → Plot) (lent : List Lent) (n : ℕ) → loans_of levels ts lent ≡ []
-    → ((e : Estate) → qs e ≡ tidied (ps e)) → IsKept levels ts ps lent n → IsKept levels ts qs lent n
-kept_tidied levels ts ps qs lent n none e k =
+fits_tidied_written : (levels : ℕ) (puts : List (List (List Quarter))) (t : Plot) → fits levels t ≡ true
+    → fits levels (tidied_written puts t) ≡ true
+fits_tidied_written levels [] t f = f
+fits_tidied_written levels (ps ∷ puts) t f =
+    fits_tidied_written levels puts (tidied_all ps t) (fits_tidied_all levels ps t f)
+
+pub kept_tidied : (levels : ℕ) (ts : List Township) (ps qs : Estate → Plot) (puts : List (List (List Quarter))) (lent : List Lent)
+    (n : ℕ) → loans_of levels ts lent ≡ [] → ((e : Estate) → qs e ≡ tidied_written puts (ps e)) → IsKept levels ts ps lent n
+    → IsKept levels ts qs lent n
+kept_tidied levels ts ps qs puts lent n none e k =
     subst (λ (z : List Lent). IsKept levels ts qs z n) (sym (no_loans levels ts lent none))
-    (kept_empty levels ts qs n k.room (λ x. ap (fits (height levels)) (e x) ∙ fits_tidied (height levels) (ps x) (k.fit x)))
+    (kept_empty levels ts qs n k.room
+    (λ x. ap (fits (height levels)) (e x) ∙ fits_tidied_written (height levels) puts (ps x) (k.fit x)))
 
 -- ---- quartering, where it stops for want of memory
 

@@ -1,6 +1,6 @@
 -- The operations of a store, cell by cell.
 use Rattle.std.proofs.Common.{◌≡◌, ◌∙◌, ap, sym, refl, subst, ℕ, Bool, true, false, cond}
-use Rattle.std.proofs.Common.{List, ◌∷◌, ◌++◌, length, Option, Some, None}
+use Rattle.std.proofs.Common.{List, [], ◌∷◌, ◌++◌, length, Option, Some, None}
 use Rattle.std.specs.Prelude.{MatchOption}
 use Rattle.std.specs.Option.{IsSome}
 use Rattle.title_share.specs.Division.{all_to}
@@ -14,15 +14,15 @@ use Rattle.title_instrument.specs.declared.parts.Estate.TheVariants.{S, O, M}
 use Rattle.title_instrument.specs.Owners.{opening_owners}
 use Rattle.title_store.specs.Plants.{is_cell_of}
 use Rattle.title_store.specs.Loans.{Loan, IsLentAs, IsOut, without}
-use Rattle.title_tree.specs.Plots.{Plot, Same, value_at, tidied}
+use Rattle.title_tree.specs.Plots.{Plot, Same, value_at, tidied_all}
 use Rattle.title_tree.specs.Pieces as pieces
 use Rattle.title_tree.specs.Pieces.{In, Piece, Short, paths, held, swapped}
 use Rattle.title_tree.proofs.Swaps.{value_swapped}
-use Rattle.title_tree.proofs.Uniform.{tidied_shows}
+use Rattle.title_tree.proofs.Uniform.{tidied_all_shows}
 use Rattle.title_tree_store.specs.declared.lent.Lent.{Lent}
 use Rattle.title_tree_store.specs.Spots.{cell_path, tract_spots}
 use Rattle.title_tree_store.specs.Forests as forests
-use Rattle.title_tree_store.specs.Forests.{owners_at, held_at}
+use Rattle.title_tree_store.specs.Forests.{owners_at, held_at, tidied_written}
 use Rattle.title_tree_store.specs.Keeping.{height, content_of, loan_of, loans_of, IsAbsent, IsTakenOut, IsKept, IsBacked, Rises}
 use Rattle.title_tree_store.proofs.Places.{length-cell_path}
 use Rattle.title_tree_store.proofs.Contents.{owners_same, content_agrees, content_changes}
@@ -42,10 +42,15 @@ opens levels ts ps h c = go (is_plant_cell depth ts c)
     go true = owners_same _ _ _ _ _ _ (at S) (at O) (at M)
     go false = refl
 
-pub tidies : (levels : ℕ) (ts : List Township) (ps qs : Estate → Plot) → ((e : Estate) → qs e ≡ tidied (ps e)) → (c : Cell)
-    → content_of levels ts qs c ≡ content_of levels ts ps c
-tidies levels ts ps qs h c =
-    content_agrees levels ts ps qs (λ e p. ap (λ (t : Plot). value_at t p) (h e) ∙ tidied_shows (ps e) p) c
+tidied_written_shows : (puts : List (List (List Quarter))) (t : Plot) (p : List Quarter)
+    → value_at (tidied_written puts t) p ≡ value_at t p
+tidied_written_shows [] t p = refl
+tidied_written_shows (ps ∷ puts) t p = tidied_written_shows puts (tidied_all ps t) p ∙ tidied_all_shows ps t p
+
+pub tidies : (levels : ℕ) (ts : List Township) (ps qs : Estate → Plot) (puts : List (List (List Quarter)))
+    → ((e : Estate) → qs e ≡ tidied_written puts (ps e)) → (c : Cell) → content_of levels ts qs c ≡ content_of levels ts ps c
+tidies levels ts ps qs puts h c =
+    content_agrees levels ts ps qs (λ e p. ap (λ (t : Plot). value_at t p) (h e) ∙ tidied_written_shows puts (ps e) p) c
 
 -- ---- taking an image out
 

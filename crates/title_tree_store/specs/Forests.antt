@@ -1,5 +1,6 @@
 -- The trees of a plant as plots, by estate.
-use Rattle.std.specs.Prelude.{◌≡◌, ℕ, List, None, map}
+use Rattle.std.specs.Prelude.{◌≡◌, ℕ, List, [], ◌∷◌, ◌++◌, ◌⊎◌, None, map}
+use Rattle.std.specs.Global.{Vec}
 use Rattle.title_land.specs.declared.rectangle.Quarter.{Quarter}
 use Rattle.title_instrument.specs.declared.parts.Estate.{Estate}
 use Rattle.title_instrument.specs.declared.parts.Estate.TheVariants.{S, O, M}
@@ -10,8 +11,8 @@ use Rattle.title_instrument.specs.Effect.{holding_effect}
 use Rattle.title_tree.specs.declared.change.Fault.{Fault}
 use Rattle.title_tree.specs.Changes.{after}
 use Rattle.title_tree.specs.Faults.{Tells}
-use Rattle.title_tree.specs.Plots.{Plot, value_at}
-use Rattle.title_tree.specs.Parts.{piece}
+use Rattle.title_tree.specs.Plots.{Plot, value_at, tidied_all}
+use Rattle.title_tree.specs.Parts.{piece, ways}
 use Rattle.title_tree.specs.Pieces.{Piece, held, fresh, refusal_at}
 use Rattle.title_tree.specs.Trees.{plot}
 use Rattle.title_tree_store.specs.declared.forest.Forest.{Forest}
@@ -22,6 +23,23 @@ abbrev pub plots : Forest → Estate → Plot
 plots f S = plot f.s
 plots f O = plot f.o
 plots f M = plot f.m
+
+-- the paths in vectors of each put
+abbrev pub all_ways : List (Vec (Vec Quarter)) → List (List (List Quarter))
+all_ways puts = map (λ paths. ways paths.items) puts
+
+-- the paths that were written since a forest was last tidied, put by put
+abbrev pub written : Forest → List (List (List Quarter))
+written f = all_ways f.written.items
+
+-- tidied at the paths of each put in turn
+abbrev pub tidied_written : List (List (List Quarter)) → Plot → Plot
+tidied_written [] t = t
+tidied_written (ps ∷ puts) t = tidied_written puts (tidied_all ps t)
+
+-- the paths are kept as those of the last put, or no tree changed
+abbrev pub IsNoted : List (List Quarter) → Forest → Forest → Type 0
+IsNoted ps old new = (written new ≡ written old ++ ps ∷ []) ⊎ ((e : Estate) → plots new e ≡ plots old e)
 
 -- the parts of each estate
 abbrev pub pieces : Subtrees → Estate → List Piece

@@ -1,15 +1,15 @@
 //! The trees of a plant, one for each estate.
 
-ghost use Rattle.std.specs.Prelude.{◌≡◌, ◌++◌, None, map, IfOk, OnOk, OnErr, IfErr};
+ghost use Rattle.std.specs.Prelude.{◌≡◌, ◌++◌, ◌∷◌, [], ◌&&◌, None, map, IfOk, OnOk, OnErr, IfErr};
 ghost use Rattle.title_share.specs.Division.{all_to};
 ghost use Rattle.title_instrument.specs.Effect.{holding_effect};
 ghost use Rattle.title_instrument.specs.declared.parts.Estate.TheVariants.{S, O, M};
 ghost use Rattle.title_tree.specs.Changes.{after};
 ghost use Rattle.title_tree.specs.Parts.{piece, ways};
 ghost use Rattle.title_tree.specs.Pieces.{Disjoint, Ready, Refines, StaysWithin, paths, swapped, taken, split_all, fresh, refusal_at};
-ghost use Rattle.title_tree.specs.Plots.{Same, tidied};
+ghost use Rattle.title_tree.specs.Plots.{Same, is_tidy};
 ghost use Rattle.title_tree.specs.Trees.{plot};
-ghost use Rattle.title_tree_store.specs.Forests.{plots, IsChange, IsRefusedIn};
+ghost use Rattle.title_tree_store.specs.Forests.{plots, all_ways, written, tidied_written, IsNoted, IsChange, IsRefusedIn};
 
 use crate::passing::Passing;
 use std::alloc::{AllocError, Global};
@@ -17,7 +17,7 @@ use std::sync::Arc;
 use title_instrument::{Estate, Instrument, Rule};
 use title_land::Quarter;
 use title_share::Holding;
-use title_tree::{Fault, Part, Tree, add_changed, exchange_all, split_each};
+use title_tree::{Fault, Part, Tree, add_changed, exchange_all, split_each, tidy_all};
 
 /// A tree for each estate.
 #[derive(Drop)]
@@ -25,6 +25,8 @@ pub(crate) struct Forest {
     pub s: Tree,
     pub o: Tree,
     pub m: Tree,
+    // The paths down to which the trees were quartered since they were last joined, those of each put together.
+    pub written: Vec<Vec<Vec<Quarter>>>,
 }
 
 /// Parts of each estate's tree.
@@ -73,7 +75,8 @@ impl Forest {
         let s = opening_tree(alloc)?;
         let o = opening_tree(alloc)?;
         let m = opening_tree(alloc)?;
-        Ok(Forest { s, o, m })
+        let written = Vec::new(alloc);
+        Ok(Forest { s, o, m, written })
     }
 
     /// The tree of an estate.
@@ -98,6 +101,7 @@ impl Forest {
         ensures parts_s { map piece parts.new.s.items ≡ taken (map piece parts.old.s.items) (plot self.old.s) }
         ensures parts_o { map piece parts.new.o.items ≡ taken (map piece parts.old.o.items) (plot self.old.o) }
         ensures parts_m { map piece parts.new.m.items ≡ taken (map piece parts.old.m.items) (plot self.old.m) }
+        ensures written { written self.new ≡ written self.old }
     {
         exchange_vec(&mut self.s, &mut parts.s);
         exchange_vec(&mut self.o, &mut parts.o);
@@ -122,12 +126,8 @@ impl Forest {
         Ok(Subtrees { s, o, m })
     }
 
-    /// Quarters the trees down to each path. After `Err` they may be quartered down to some.
-    pub(crate) fn split_each(
-        &mut self,
-        alloc: Global,
-        paths: &[Vec<Quarter>],
-    ) -> Result<(), AllocError>
+    // Quarters the trees down to each path. After `Err` they may be quartered down to some.
+    fn split_each(&mut self, alloc: Global, paths: &[Vec<Quarter>]) -> Result<(), AllocError>
         ensures s { OnOk result (plot self.new.s ≡ split_all (ways paths.now) (plot self.old.s)) }
         ensures o { OnOk result (plot self.new.o ≡ split_all (ways paths.now) (plot self.old.o)) }
         ensures m { OnOk result (plot self.new.m ≡ split_all (ways paths.now) (plot self.old.m)) }
@@ -137,21 +137,66 @@ impl Forest {
         ensures within_s { OnErr result (StaysWithin (ways paths.now) (plot self.old.s) (plot self.new.s)) }
         ensures within_o { OnErr result (StaysWithin (ways paths.now) (plot self.old.o) (plot self.new.o)) }
         ensures within_m { OnErr result (StaysWithin (ways paths.now) (plot self.old.m) (plot self.new.m)) }
+        ensures written { self.new.written ≡ self.old.written }
     {
         split_each(&mut self.s, alloc, paths)?;
         split_each(&mut self.o, alloc, paths)?;
         split_each(&mut self.m, alloc, paths)
     }
 
-    /// Joins quarters that are leaves of the same holding. Takes no memory.
-    pub(crate) fn tidy(&mut self)
-        ensures s { plot self.new.s ≡ tidied (plot self.old.s) }
-        ensures o { plot self.new.o ≡ tidied (plot self.old.o) }
-        ensures m { plot self.new.m ≡ tidied (plot self.old.m) }
+    /// Quarters the trees down to each path, and keeps the paths for `tidy`. After `Err` they may be quartered down to some.
+    pub(crate) fn quarter(
+        &mut self,
+        alloc: Global,
+        paths: Vec<Vec<Quarter>>,
+    ) -> Result<(), AllocError>
+        ensures s { OnOk result (plot self.new.s ≡ split_all (ways paths.items) (plot self.old.s)) }
+        ensures o { OnOk result (plot self.new.o ≡ split_all (ways paths.items) (plot self.old.o)) }
+        ensures m { OnOk result (plot self.new.m ≡ split_all (ways paths.items) (plot self.old.m)) }
+        ensures err_s { OnErr result (Refines (plot self.old.s) (plot self.new.s)) }
+        ensures err_o { OnErr result (Refines (plot self.old.o) (plot self.new.o)) }
+        ensures err_m { OnErr result (Refines (plot self.old.m) (plot self.new.m)) }
+        ensures within_s { OnErr result (StaysWithin (ways paths.items) (plot self.old.s) (plot self.new.s)) }
+        ensures within_o { OnErr result (StaysWithin (ways paths.items) (plot self.old.o) (plot self.new.o)) }
+        ensures within_m { OnErr result (StaysWithin (ways paths.items) (plot self.old.m) (plot self.new.m)) }
+        ensures noted { OnOk result (written self.new ≡ written self.old ++ ways paths.items ∷ []) }
+        ensures err_noted { OnErr result (IsNoted (ways paths.items) self.old self.new) }
     {
-        self.s.tidy();
-        self.o.tidy();
-        self.m.tidy();
+        self.written.reserve(1)?;
+        let quartered = self.split_each(alloc, &paths);
+        self.written.push_reserved(paths);
+        quartered
+    }
+
+    /// Whether no tree could be joined to fewer nodes.
+    pub(crate) fn is_tidy(&self) -> bool
+        ensures tidy { result ≡ (is_tidy (plot self.now.s) && is_tidy (plot self.now.o) && is_tidy (plot self.now.m)) }
+    {
+        self.s.is_tidy() && self.o.is_tidy() && self.m.is_tidy()
+    }
+
+    /// Joins quarters that are leaves of the same holding, below and above each path written since this was last done.
+    /// Takes no memory.
+    pub(crate) fn tidy(&mut self)
+        ensures s { plot self.new.s ≡ tidied_written (written self.old) (plot self.old.s) }
+        ensures o { plot self.new.o ≡ tidied_written (written self.old) (plot self.old.o) }
+        ensures m { plot self.new.m ≡ tidied_written (written self.old) (plot self.old.m) }
+        ensures written { written self.new ≡ [] }
+    {
+        tidy_written(&mut self.s, &self.written);
+        tidy_written(&mut self.o, &self.written);
+        tidy_written(&mut self.m, &self.written);
+        self.written.clear();
+    }
+}
+
+// Joins quarters below and above the paths of each put.
+fn tidy_written(tree: &mut Tree, written: &[Vec<Vec<Quarter>>])
+    ensures tidied { plot tree.new ≡ tidied_written (all_ways written.now) (plot tree.old) }
+{
+    if let Some((paths, rest)) = written.split_first() {
+        tidy_all(tree, paths);
+        tidy_written(tree, rest);
     }
 }
 

@@ -30,7 +30,7 @@ fn index_of(townships: &[Township], township: Township) -> usize
     index_of(rest, township) + 1
 }
 
-// The path of a township.
+// The path of a township, with room for that of a cell.
 fn township_path(
     alloc: Global,
     levels: usize,
@@ -39,7 +39,10 @@ fn township_path(
 ) -> Result<Vec<Quarter>, AllocError>
     ensures path { IfOk result (λ p. p.items ≡ township_path levels townships.now township) }
 {
-    let mut path = Vec::new(alloc);
+    let room = levels
+        .saturating_add(SECTION_LEVELS)
+        .saturating_add(usize::from(DEPTH));
+    let mut path = Vec::with_capacity(alloc, room)?;
     add_number(&mut path, levels, index_of(townships, township))?;
     Ok(path)
 }
@@ -225,7 +228,7 @@ pub(crate) fn tract_spots(
 ) -> Result<Vec<Vec<Quarter>>, AllocError>
     ensures paths { IfOk result (λ paths. ways paths.items ≡ tract_spots levels townships.now tract.now) }
 {
-    let mut paths = Vec::new(alloc);
+    let mut paths = Vec::with_capacity(alloc, tract.cover().len())?;
     add_all(alloc, levels, townships, tract.cover(), &mut paths)?;
     Ok(paths)
 }

@@ -57,6 +57,13 @@ fn node_of(tract: &Tract, cell: Cell) -> Node
     tract.node_of(cell).unwrap_or(Node::Everything)
 }
 
+impl TreeStore {
+    /// Whether its trees have the fewest nodes that can hold the plant: for tests, since no contract sees a node.
+    pub fn is_tidy(&self) -> bool {
+        self.forest.is_tidy()
+    }
+}
+
 impl Store for TreeStore {
     type Image = Image;
 
@@ -91,7 +98,7 @@ impl Store for TreeStore {
         match self.forest.changed(self.alloc, &paths, instrument) {
             Ok(mut trees) => {
                 self.lent.reserve(1)?;
-                self.forest.split_each(self.alloc, &paths)?;
+                self.forest.quarter(self.alloc, paths)?;
                 self.forest.exchange(&mut trees);
                 let land = tract.land();
                 self.lent.push_reserved(Lent {

@@ -1,5 +1,5 @@
 -- What is left of the parts after the first is ready too.
-use Rattle.std.proofs.Common.{◌≡◌, List, ap, map, rules}
+use Rattle.std.proofs.Common.{List, ap, map, rules}
 use Rattle.title_tree.specs.declared.part.Part.{Part}
 use Rattle.title_tree.specs.Parts.{piece}
 use Rattle.title_tree.proofs.Swaps.{ready_next}

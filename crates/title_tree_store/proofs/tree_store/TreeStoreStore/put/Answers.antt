@@ -32,16 +32,16 @@ invariant_of-self-in-Break-branch-2 c = record {
 pub invariant_of-self-in-Break-branch-3 : goal.invariant_of-self-in-Break-branch-3
 invariant_of-self-in-Break-branch-3 c =
     let first = ap (λ (ts : List Township). tract_spots c.args.self.now.levels ts c.args.tract.now) c.deref.ensures.value in
-    let split_at = ap (λ (ps : List (Vec Quarter)). ways ps) c.deref-in-Ok.ensures.value ∙ c.in_ok-paths.ensures.paths ∙ first in
+    let split_at = c.in_ok-paths.ensures.paths ∙ first in
     record {
       once = c.args.self.now.once;
       kept = kept_stopped c.args.self.now.levels c.args.self.now.townships.items c.args.tract.now (plots c.args.self.now.forest)
-          (plots c.split_each.new.self) c.args.self.now.lent.items c.reserve.new.self.items c.args.self.now.next
-          (ways c.deref-in-Ok.result.now) split_at c.requires.within c.reserve.ensures.items
-          (each (λ e. Refines (plots c.args.self.now.forest e) (plots c.split_each.new.self e)) c.in_err-split_each-in-Ok.ensures.err_s
-          c.in_err-split_each-in-Ok.ensures.err_o c.in_err-split_each-in-Ok.ensures.err_m)
-          (each (λ e. StaysWithin (ways c.deref-in-Ok.result.now) (plots c.args.self.now.forest e) (plots c.split_each.new.self e))
-          c.in_err-split_each-in-Ok.ensures.within_s c.in_err-split_each-in-Ok.ensures.within_o c.in_err-split_each-in-Ok.ensures.within_m)
+          (plots c.quarter.new.self) c.args.self.now.lent.items c.reserve.new.self.items c.args.self.now.next
+          (ways c.in_ok-paths.paths.items) split_at c.requires.within c.reserve.ensures.items
+          (each (λ e. Refines (plots c.args.self.now.forest e) (plots c.quarter.new.self e)) c.in_err-quarter-in-Ok.ensures.err_s
+          c.in_err-quarter-in-Ok.ensures.err_o c.in_err-quarter-in-Ok.ensures.err_m)
+          (each (λ e. StaysWithin (ways c.in_ok-paths.paths.items) (plots c.args.self.now.forest e) (plots c.quarter.new.self e))
+          c.in_err-quarter-in-Ok.ensures.within_s c.in_err-quarter-in-Ok.ensures.within_o c.in_err-quarter-in-Ok.ensures.within_m)
           c.args.self.now.kept;
     }
 
@@ -49,48 +49,48 @@ pub exchange-requires-clause-s : goal.exchange-requires-clause-s
 exchange-requires-clause-s c =
     let first = ap (λ (ts : List Township). tract_spots c.args.self.now.levels ts c.args.tract.now) c.deref.ensures.value in
     let made_at = ap (λ (ps : List (Vec Quarter)). ways ps) c.deref-2.ensures.value ∙ c.in_ok-paths.ensures.paths ∙ first in
-    let split_at = ap (λ (ps : List (Vec Quarter)). ways ps) c.deref-in-Ok.ensures.value ∙ c.in_ok-paths.ensures.paths ∙ first in
+    let split_at = c.in_ok-paths.ensures.paths ∙ first in
     put_allowed c.args.self.now.levels c.args.self.now.townships.items c.args.tract.now c.args.instrument.now S _ _ _
     c.args.self.now.lent.items c.args.self.now.next (plots c.args.self.now.forest) (ways c.deref-2.result.now)
-    (ways c.deref-in-Ok.result.now) made_at split_at c.args.self.now.once c.requires.within c.in-Ok.ensures.s
-    c.in_ok-split_each-in-Ok.ensures.s c.args.self.now.kept
+    (ways c.in_ok-paths.paths.items) made_at split_at c.args.self.now.once c.requires.within c.in-Ok.ensures.s
+    c.in_ok-quarter-in-Ok.ensures.s c.args.self.now.kept
 
 pub exchange-requires-clause-o : goal.exchange-requires-clause-o
 exchange-requires-clause-o c =
     let first = ap (λ (ts : List Township). tract_spots c.args.self.now.levels ts c.args.tract.now) c.deref.ensures.value in
     let made_at = ap (λ (ps : List (Vec Quarter)). ways ps) c.deref-2.ensures.value ∙ c.in_ok-paths.ensures.paths ∙ first in
-    let split_at = ap (λ (ps : List (Vec Quarter)). ways ps) c.deref-in-Ok.ensures.value ∙ c.in_ok-paths.ensures.paths ∙ first in
+    let split_at = c.in_ok-paths.ensures.paths ∙ first in
     put_allowed c.args.self.now.levels c.args.self.now.townships.items c.args.tract.now c.args.instrument.now O _ _ _
     c.args.self.now.lent.items c.args.self.now.next (plots c.args.self.now.forest) (ways c.deref-2.result.now)
-    (ways c.deref-in-Ok.result.now) made_at split_at c.args.self.now.once c.requires.within c.in-Ok.ensures.o
-    c.in_ok-split_each-in-Ok.ensures.o c.args.self.now.kept
+    (ways c.in_ok-paths.paths.items) made_at split_at c.args.self.now.once c.requires.within c.in-Ok.ensures.o
+    c.in_ok-quarter-in-Ok.ensures.o c.args.self.now.kept
 
 pub exchange-requires-clause-m : goal.exchange-requires-clause-m
 exchange-requires-clause-m c =
     let first = ap (λ (ts : List Township). tract_spots c.args.self.now.levels ts c.args.tract.now) c.deref.ensures.value in
     let made_at = ap (λ (ps : List (Vec Quarter)). ways ps) c.deref-2.ensures.value ∙ c.in_ok-paths.ensures.paths ∙ first in
-    let split_at = ap (λ (ps : List (Vec Quarter)). ways ps) c.deref-in-Ok.ensures.value ∙ c.in_ok-paths.ensures.paths ∙ first in
+    let split_at = c.in_ok-paths.ensures.paths ∙ first in
     put_allowed c.args.self.now.levels c.args.self.now.townships.items c.args.tract.now c.args.instrument.now M _ _ _
     c.args.self.now.lent.items c.args.self.now.next (plots c.args.self.now.forest) (ways c.deref-2.result.now)
-    (ways c.deref-in-Ok.result.now) made_at split_at c.args.self.now.once c.requires.within c.in-Ok.ensures.m
-    c.in_ok-split_each-in-Ok.ensures.m c.args.self.now.kept
+    (ways c.in_ok-paths.paths.items) made_at split_at c.args.self.now.once c.requires.within c.in-Ok.ensures.m
+    c.in_ok-quarter-in-Ok.ensures.m c.args.self.now.kept
 
 pub invariant_of-self-in-Ok : goal.invariant_of-self-in-Ok
 invariant_of-self-in-Ok c =
     let first = ap (λ (ts : List Township). tract_spots c.args.self.now.levels ts c.args.tract.now) c.deref.ensures.value in
     let made_at = ap (λ (ps : List (Vec Quarter)). ways ps) c.deref-2.ensures.value ∙ c.in_ok-paths.ensures.paths ∙ first in
-    let split_at = ap (λ (ps : List (Vec Quarter)). ways ps) c.deref-in-Ok.ensures.value ∙ c.in_ok-paths.ensures.paths ∙ first in
+    let split_at = c.in_ok-paths.ensures.paths ∙ first in
     let l : Lent = record { number = c.args.self.now.next; land = c.land-land.result; trees = c.exchange.new.parts } in
     let put = each (λ e. IsPut c.args.instrument.now
     (tract_spots c.args.self.now.levels c.args.self.now.townships.items c.args.tract.now) e
-    (plots c.args.self.now.forest e) (plots c.split_each.new.self e) (plots c.exchange.new.self e)
+    (plots c.args.self.now.forest e) (plots c.quarter.new.self e) (plots c.exchange.new.self e)
     (pieces c.in-Ok.trees e) (pieces c.exchange.new.parts e))
-    (put_steps c.args.instrument.now S _ _ _ _ _ (ways c.deref-2.result.now) (ways c.deref-in-Ok.result.now) _ made_at split_at
-    c.in-Ok.ensures.s c.in_ok-split_each-in-Ok.ensures.s c.exchange.ensures.tree_s c.exchange.ensures.parts_s)
-    (put_steps c.args.instrument.now O _ _ _ _ _ (ways c.deref-2.result.now) (ways c.deref-in-Ok.result.now) _ made_at split_at
-    c.in-Ok.ensures.o c.in_ok-split_each-in-Ok.ensures.o c.exchange.ensures.tree_o c.exchange.ensures.parts_o)
-    (put_steps c.args.instrument.now M _ _ _ _ _ (ways c.deref-2.result.now) (ways c.deref-in-Ok.result.now) _ made_at split_at
-    c.in-Ok.ensures.m c.in_ok-split_each-in-Ok.ensures.m c.exchange.ensures.tree_m c.exchange.ensures.parts_m) in
+    (put_steps c.args.instrument.now S _ _ _ _ _ (ways c.deref-2.result.now) (ways c.in_ok-paths.paths.items) _ made_at split_at
+    c.in-Ok.ensures.s c.in_ok-quarter-in-Ok.ensures.s c.exchange.ensures.tree_s c.exchange.ensures.parts_s)
+    (put_steps c.args.instrument.now O _ _ _ _ _ (ways c.deref-2.result.now) (ways c.in_ok-paths.paths.items) _ made_at split_at
+    c.in-Ok.ensures.o c.in_ok-quarter-in-Ok.ensures.o c.exchange.ensures.tree_o c.exchange.ensures.parts_o)
+    (put_steps c.args.instrument.now M _ _ _ _ _ (ways c.deref-2.result.now) (ways c.in_ok-paths.paths.items) _ made_at split_at
+    c.in-Ok.ensures.m c.in_ok-quarter-in-Ok.ensures.m c.exchange.ensures.tree_m c.exchange.ensures.parts_m) in
     let more : c.in-Some.next ≡ suc c.args.self.now.next = omega (arith, c.in-Some.ensures) in
     let out_is = c.push_reserved.ensures.items ∙ ap (λ (z : List Lent). z ++ l ∷ []) c.reserve.ensures.items in
     record {
@@ -98,7 +98,7 @@ invariant_of-self-in-Ok c =
       kept = subst (λ (z : List Lent). IsKept c.args.self.now.levels c.args.self.now.townships.items (plots c.exchange.new.self) z
           c.in-Some.next) (sym out_is)
           (kept_put c.args.self.now.levels c.args.self.now.townships.items c.args.tract.now c.args.instrument.now
-          (plots c.args.self.now.forest) (plots c.split_each.new.self) (plots c.exchange.new.self) (pieces c.in-Ok.trees)
+          (plots c.args.self.now.forest) (plots c.quarter.new.self) (plots c.exchange.new.self) (pieces c.in-Ok.trees)
           c.args.self.now.lent.items l c.args.self.now.next c.in-Some.next c.args.self.now.once c.requires.within refl
           c.land-land.ensures.land more put c.args.self.now.kept);
     }
@@ -107,18 +107,18 @@ pub returns-in-Ok-clause-put : goal.returns-in-Ok-clause-put
 returns-in-Ok-clause-put c =
     let first = ap (λ (ts : List Township). tract_spots c.args.self.now.levels ts c.args.tract.now) c.deref.ensures.value in
     let made_at = ap (λ (ps : List (Vec Quarter)). ways ps) c.deref-2.ensures.value ∙ c.in_ok-paths.ensures.paths ∙ first in
-    let split_at = ap (λ (ps : List (Vec Quarter)). ways ps) c.deref-in-Ok.ensures.value ∙ c.in_ok-paths.ensures.paths ∙ first in
+    let split_at = c.in_ok-paths.ensures.paths ∙ first in
     let l : Lent = record { number = c.args.self.now.next; land = c.land-land.result; trees = c.exchange.new.parts } in
     let put = each (λ e. IsPut c.args.instrument.now
     (tract_spots c.args.self.now.levels c.args.self.now.townships.items c.args.tract.now) e
-    (plots c.args.self.now.forest e) (plots c.split_each.new.self e) (plots c.exchange.new.self e)
+    (plots c.args.self.now.forest e) (plots c.quarter.new.self e) (plots c.exchange.new.self e)
     (pieces c.in-Ok.trees e) (pieces c.exchange.new.parts e))
-    (put_steps c.args.instrument.now S _ _ _ _ _ (ways c.deref-2.result.now) (ways c.deref-in-Ok.result.now) _ made_at split_at
-    c.in-Ok.ensures.s c.in_ok-split_each-in-Ok.ensures.s c.exchange.ensures.tree_s c.exchange.ensures.parts_s)
-    (put_steps c.args.instrument.now O _ _ _ _ _ (ways c.deref-2.result.now) (ways c.deref-in-Ok.result.now) _ made_at split_at
-    c.in-Ok.ensures.o c.in_ok-split_each-in-Ok.ensures.o c.exchange.ensures.tree_o c.exchange.ensures.parts_o)
-    (put_steps c.args.instrument.now M _ _ _ _ _ (ways c.deref-2.result.now) (ways c.deref-in-Ok.result.now) _ made_at split_at
-    c.in-Ok.ensures.m c.in_ok-split_each-in-Ok.ensures.m c.exchange.ensures.tree_m c.exchange.ensures.parts_m) in
+    (put_steps c.args.instrument.now S _ _ _ _ _ (ways c.deref-2.result.now) (ways c.in_ok-paths.paths.items) _ made_at split_at
+    c.in-Ok.ensures.s c.in_ok-quarter-in-Ok.ensures.s c.exchange.ensures.tree_s c.exchange.ensures.parts_s)
+    (put_steps c.args.instrument.now O _ _ _ _ _ (ways c.deref-2.result.now) (ways c.in_ok-paths.paths.items) _ made_at split_at
+    c.in-Ok.ensures.o c.in_ok-quarter-in-Ok.ensures.o c.exchange.ensures.tree_o c.exchange.ensures.parts_o)
+    (put_steps c.args.instrument.now M _ _ _ _ _ (ways c.deref-2.result.now) (ways c.in_ok-paths.paths.items) _ made_at split_at
+    c.in-Ok.ensures.m c.in_ok-quarter-in-Ok.ensures.m c.exchange.ensures.tree_m c.exchange.ensures.parts_m) in
     let out_is = c.push_reserved.ensures.items ∙ ap (λ (z : List Lent). z ++ l ∷ []) c.reserve.ensures.items in (
       refused_none c.args.self.now.levels c.args.self.now.townships.items c.args.tract.now c.args.instrument.now
           (plots c.args.self.now.forest) c.args.self.now.kept.room c.requires.within (λ e. (put e).made.0),
@@ -127,7 +127,7 @@ returns-in-Ok-clause-put c =
           (loans_of c.args.self.now.levels c.args.self.now.townships.items c.args.self.now.lent.items)
           (loans_of c.args.self.now.levels c.args.self.now.townships.items z)) (sym out_is)
           (put_takes c.args.self.now.levels c.args.self.now.townships.items c.args.tract.now c.args.instrument.now
-          (plots c.args.self.now.forest) (plots c.split_each.new.self) (plots c.exchange.new.self) (pieces c.in-Ok.trees)
+          (plots c.args.self.now.forest) (plots c.quarter.new.self) (plots c.exchange.new.self) (pieces c.in-Ok.trees)
           c.args.self.now.lent.items l c.args.self.now.next c.args.self.now.once c.requires.within refl c.land-land.ensures.land put
           c.args.self.now.kept),
     )
@@ -136,20 +136,20 @@ pub returns-in-Ok-clause-content : goal.returns-in-Ok-clause-content
 returns-in-Ok-clause-content c x =
     let first = ap (λ (ts : List Township). tract_spots c.args.self.now.levels ts c.args.tract.now) c.deref.ensures.value in
     let made_at = ap (λ (ps : List (Vec Quarter)). ways ps) c.deref-2.ensures.value ∙ c.in_ok-paths.ensures.paths ∙ first in
-    let split_at = ap (λ (ps : List (Vec Quarter)). ways ps) c.deref-in-Ok.ensures.value ∙ c.in_ok-paths.ensures.paths ∙ first in
+    let split_at = c.in_ok-paths.ensures.paths ∙ first in
     let l : Lent = record { number = c.args.self.now.next; land = c.land-land.result; trees = c.exchange.new.parts } in
     let put = each (λ e. IsPut c.args.instrument.now
     (tract_spots c.args.self.now.levels c.args.self.now.townships.items c.args.tract.now) e
-    (plots c.args.self.now.forest e) (plots c.split_each.new.self e) (plots c.exchange.new.self e)
+    (plots c.args.self.now.forest e) (plots c.quarter.new.self e) (plots c.exchange.new.self e)
     (pieces c.in-Ok.trees e) (pieces c.exchange.new.parts e))
-    (put_steps c.args.instrument.now S _ _ _ _ _ (ways c.deref-2.result.now) (ways c.deref-in-Ok.result.now) _ made_at split_at
-    c.in-Ok.ensures.s c.in_ok-split_each-in-Ok.ensures.s c.exchange.ensures.tree_s c.exchange.ensures.parts_s)
-    (put_steps c.args.instrument.now O _ _ _ _ _ (ways c.deref-2.result.now) (ways c.deref-in-Ok.result.now) _ made_at split_at
-    c.in-Ok.ensures.o c.in_ok-split_each-in-Ok.ensures.o c.exchange.ensures.tree_o c.exchange.ensures.parts_o)
-    (put_steps c.args.instrument.now M _ _ _ _ _ (ways c.deref-2.result.now) (ways c.deref-in-Ok.result.now) _ made_at split_at
-    c.in-Ok.ensures.m c.in_ok-split_each-in-Ok.ensures.m c.exchange.ensures.tree_m c.exchange.ensures.parts_m) in
+    (put_steps c.args.instrument.now S _ _ _ _ _ (ways c.deref-2.result.now) (ways c.in_ok-paths.paths.items) _ made_at split_at
+    c.in-Ok.ensures.s c.in_ok-quarter-in-Ok.ensures.s c.exchange.ensures.tree_s c.exchange.ensures.parts_s)
+    (put_steps c.args.instrument.now O _ _ _ _ _ (ways c.deref-2.result.now) (ways c.in_ok-paths.paths.items) _ made_at split_at
+    c.in-Ok.ensures.o c.in_ok-quarter-in-Ok.ensures.o c.exchange.ensures.tree_o c.exchange.ensures.parts_o)
+    (put_steps c.args.instrument.now M _ _ _ _ _ (ways c.deref-2.result.now) (ways c.in_ok-paths.paths.items) _ made_at split_at
+    c.in-Ok.ensures.m c.in_ok-quarter-in-Ok.ensures.m c.exchange.ensures.tree_m c.exchange.ensures.parts_m) in
     put_shows c.args.self.now.levels c.args.self.now.townships.items c.args.tract.now c.args.instrument.now
-    (plots c.args.self.now.forest) (plots c.split_each.new.self) (plots c.exchange.new.self) (pieces c.in-Ok.trees)
+    (plots c.args.self.now.forest) (plots c.quarter.new.self) (plots c.exchange.new.self) (pieces c.in-Ok.trees)
     (pieces c.exchange.new.parts) c.args.self.now.kept.room c.args.self.now.once c.requires.within put x
 
 pub unreachable-requires : goal.unreachable-requires

@@ -1,0 +1,63 @@
+#!/usr/bin/env python3
+"""Compares built programs on large scripts of some kinds, in turns in one run.
+
+    compare.py [--rows N,N..] [--kinds KIND,KIND..] [--turns N] NAME=PROGRAM NAME=PROGRAM ..
+
+Prints for each kind and each number of rows the least processor seconds of each program, its peak memory in MB (a small program shows
+what the measuring process had when it began it), how many times as fast as the first it is, and whether all reports are the same.
+"""
+import argparse
+import hashlib
+import os
+import pathlib
+import subprocess
+import sys
+import tempfile
+
+HERE = pathlib.Path(__file__).resolve().parent
+ALONE = ("deeds", "sheets", "chains", "parts", "townships", "sections", "quarters", "cells", "plats", "plants")
+RUN = ("interleaved", "short", "long", "reviewed", "crowd", "refused")
+
+
+def run(program, command, script, report):
+    """The processor seconds and the peak memory in MB of one run."""
+    with open(script, "rb") as rows, open(report, "wb") as out:
+        child = subprocess.Popen([program, command], stdin=rows, stdout=out)
+        _, status, usage = os.wait4(child.pid, 0)
+    if status != 0:
+        sys.exit(f"compare.py: {program} didn't end well: status {status}")
+    return usage.ru_utime + usage.ru_stime, usage.ru_maxrss / 1024
+
+
+def compare(kind, rows, programs, turns, work):
+    """A line for one kind and one number of rows."""
+    script, report = f"{work}/script.csv", f"{work}/report.csv"
+    with open(script, "wb") as out:
+        subprocess.run([sys.executable, HERE / "generate.py", "--kind", kind, "--rows", str(rows)], stdout=out, check=True)
+    best, sums = {}, set()
+    for _ in range(turns):
+        for name, program in programs:
+            spent = run(program, "alone" if kind in ALONE else "run", script, report)
+            best[name] = min(best.get(name, spent), spent)
+            sums.add(hashlib.sha256(pathlib.Path(report).read_bytes()).hexdigest())
+    first = best[programs[0][0]][0]
+    told = [f"{name} {best[name][0]:.2f} s {best[name][1]:.0f} MB x{first / max(best[name][0], 0.001):.1f}" for name, _ in programs]
+    return f"{kind:<12} {rows:>7}  {'  '.join(told)}  {'same' if len(sums) == 1 else 'DIFFERENT REPORTS'}"
+
+
+def main():
+    options = argparse.ArgumentParser(description="Compares built programs on large scripts, in turns in one run.")
+    options.add_argument("--rows", default="10000", help="numbers of rows (default 10000)")
+    options.add_argument("--kinds", default=",".join(ALONE[:4] + RUN), help="kinds of bench/generate.py")
+    options.add_argument("--turns", type=int, default=3, help="runs of each program (default 3)")
+    options.add_argument("programs", nargs="+", metavar="NAME=PROGRAM")
+    asked = options.parse_args()
+    programs = [it.split("=", 1) for it in asked.programs]
+    with tempfile.TemporaryDirectory() as work:
+        for kind in asked.kinds.split(","):
+            for rows in asked.rows.split(","):
+                print(compare(kind, int(rows), programs, asked.turns, work), flush=True)
+
+
+if __name__ == "__main__":
+    main()

@@ -1,0 +1,6 @@
+-- The law is a lemma.
+use Rattle.title_tree.proofs.Depths.{fits_tidied_all as lemma}
+use Rattle.title_tree.proofs.laws.tidied_all_fits.Goals as goal
+
+pub returns : goal.returns
+returns c = record { law = lemma }

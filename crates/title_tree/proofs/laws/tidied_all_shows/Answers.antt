@@ -1,0 +1,6 @@
+-- The law is a lemma.
+use Rattle.title_tree.proofs.Uniform.{tidied_all_shows as lemma}
+use Rattle.title_tree.proofs.laws.tidied_all_shows.Goals as goal
+
+pub returns : goal.returns
+returns c = record { law = lemma }

@@ -1,0 +1,104 @@
+//! The two tables of locks, asked alike.
+
+use crate::calls::{Call, Tally};
+use crate::chance::Chance;
+use crate::ground::Ground;
+use std::alloc::{AllocError, Global};
+use title_land::Node;
+use title_lock::{Guards, NodeLocks, RowLocks};
+
+pub const LISTS: u32 = 200;
+
+pub const CALLS: u32 = 300;
+
+// At how many tracts the modes are compared after a list.
+const COMPARED: u32 = 12;
+
+/// How many lists differ, and what came of the calls.
+#[derive(Clone, Copy)]
+pub struct Compared {
+    pub differ: u32,
+    pub tally: Tally,
+}
+
+#[derive(Drop)]
+struct Tables {
+    nodes: NodeLocks,
+    rows: RowLocks,
+}
+
+impl Tables {
+    fn new(alloc: Global) -> Tables {
+        Tables {
+            nodes: NodeLocks::new(alloc),
+            rows: RowLocks::new(alloc),
+        }
+    }
+
+    // Makes so many calls of both; whether all answers are one.
+    fn are_answers_one(
+        &mut self,
+        chance: &mut Chance,
+        ground: &Ground,
+        examiners: u32,
+        tally: &mut Tally,
+    ) -> bool {
+        let mut are_one = true;
+        for _ in 0..CALLS {
+            let call = Call::any(chance, ground, examiners);
+            let answer = call.make(&mut self.nodes);
+            tally.count(answer);
+            are_one &= answer == call.make(&mut self.rows);
+        }
+        are_one
+    }
+
+    fn is_mode_one(&self, examiner: u32, node: &Node) -> bool {
+        self.nodes.mode(examiner, node) == self.rows.mode(examiner, node)
+    }
+
+    // At a node and above it.
+    fn are_modes_one(&self, examiner: u32, node: Node) -> bool {
+        let mut are_one = self.is_mode_one(examiner, &node);
+        for above in node.ancestors() {
+            are_one &= self.is_mode_one(examiner, &above);
+        }
+        are_one
+    }
+
+    // At the nodes of a cover and above them, for each of so many examiners.
+    fn are_modes_one_in(&self, examiners: u32, cover: &[Node]) -> bool {
+        let mut are_one = true;
+        for node in cover {
+            for examiner in 1..=examiners {
+                are_one &= self.are_modes_one(examiner, *node);
+            }
+        }
+        are_one
+    }
+}
+
+// A list of calls by so many examiners; whether all answers are one, and after it the modes of all at some tracts.
+fn is_list_one(alloc: Global, chance: &mut Chance, ground: &Ground, tally: &mut Tally) -> bool {
+    let examiners = chance.below(39).saturating_add(2);
+    let mut tables = Tables::new(alloc);
+    let mut are_one = tables.are_answers_one(chance, ground, examiners, tally);
+    for _ in 0..COMPARED {
+        are_one &= tables.are_modes_one_in(examiners, ground.any(chance).cover());
+    }
+    are_one
+}
+
+/// Asks both tables alike, by lists of 2 to 40 examiners.
+pub fn compare(alloc: Global) -> Result<Compared, AllocError> {
+    let mut chance = Chance::new(1);
+    let ground = Ground::new(alloc, &mut chance, 200)?;
+    let mut tally = Tally::new();
+    let mut differ = 0u32;
+    for _ in 0..LISTS {
+        if !is_list_one(alloc, &mut chance, &ground, &mut tally) {
+            differ = differ.saturating_add(1);
+        }
+    }
+    Ok(Compared { differ, tally })
+}
