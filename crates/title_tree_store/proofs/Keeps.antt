@@ -125,6 +125,12 @@ taken_fit levels (x ∷ xs) t s f h y i =
       | inr j ↦ taken_fit levels xs (graft x.path x.plot t) (λ p k. s p (inr k)) (λ z k. f z (inr k)) next y j
     ]
 
+-- the same images and the same next number
+pub kept_as : (levels : ℕ) (ts : List Township) (ps : Estate → Plot) (lent less : List Lent) (n m : ℕ) → less ≡ lent → m ≡ n
+    → IsKept levels ts ps lent n → IsKept levels ts ps less m
+kept_as levels ts ps lent less n m e f k =
+    subst (λ (z : ℕ). IsKept levels ts ps less z) (sym f) (subst (λ (z : List Lent). IsKept levels ts ps z n) (sym e) k)
+
 -- ---- opening and tidying
 
 pub keeps_empty : (t : Plot) (n : ℕ) → Keeps t [] n

@@ -378,15 +378,14 @@ put_allowed levels ts x i e t u xs lent n ps qs rs f g once of made split k =
     (split ∙ ap (λ (z : List (List Quarter)). split_all z t) g) k
 
 -- trees that were quartered in part
-pub kept_stopped : (levels : ℕ) (ts : List Township) (x : Land) (old new : Estate → Plot) (lent less : List Lent) (n : ℕ)
-    (rs : List (List Quarter)) → rs ≡ tract_spots levels ts x → is_in_plant ts x ≡ true → less ≡ lent
+pub kept_stopped : (levels : ℕ) (ts : List Township) (x : Land) (old new : Estate → Plot) (lent : List Lent) (n : ℕ)
+    (rs : List (List Quarter)) → rs ≡ tract_spots levels ts x → is_in_plant ts x ≡ true
     → ((e : Estate) → Refines (old e) (new e)) → ((e : Estate) → StaysWithin rs (old e) (new e))
-    → IsKept levels ts old lent n → IsKept levels ts new less n
-kept_stopped levels ts x old new lent less n rs g of same refines within k =
-    subst (λ (z : List Lent). IsKept levels ts new z n) (sym same)
-    (kept_refined levels ts old new lent n refines
+    → IsKept levels ts old lent n → IsKept levels ts new lent n
+kept_stopped levels ts x old new lent n rs g of refines within k =
+    kept_refined levels ts old new lent n refines
     (λ e. within e (height levels)
-    (subst (λ (z : List (List Quarter)). Short z (height levels)) (sym g) (tract_short levels ts x of)) (k.fit e)) k)
+    (subst (λ (z : List (List Quarter)). Short z (height levels)) (sym g) (tract_short levels ts x of)) (k.fit e)) k
 
 -- the rule that a fault tells
 pub told : (f : Fault Rule) (rule : Rule) (o : Option Rule) → f ≡ fault.Refused rule → Tells f o → o ≡ Some rule

@@ -1,5 +1,5 @@
 -- What a store of trees keeps.
-use Rattle.std.specs.Prelude.{◌≡◌, ◌≢◌, ℕ, ◌+◌, ◌<◌, ◌≤◌, ◌^◌, Bool, true, false, ◌&&◌, cond, eqb, List, [], ◌∷◌, ◌++◌, length, map}
+use Rattle.std.specs.Prelude.{◌≡◌, ◌≢◌, ℕ, ◌+◌, ◌<◌, ◌≤◌, ◌^◌, Bool, true, false, ◌&&◌, cond, List, [], ◌∷◌, ◌++◌, length, map}
 use Rattle.title_land.specs.Depth.{depth}
 use Rattle.title_land.specs.declared.place.Township.{Township}
 use Rattle.title_land.specs.declared.rectangle.Quarter.{Quarter}
@@ -34,11 +34,6 @@ loans_of levels ts lent = map (loan_of levels ts) lent
 -- an image that is out, as pieces of an estate's tree
 abbrev pub lending : Estate → Lent → Lending
 lending e l = record { number = l.number; pieces = pieces l.trees e }
-
--- the place of the image of a number
-abbrev pub place_of : ℕ → List Lent → ℕ
-place_of n [] = 0
-place_of n (l ∷ lent) = cond (eqb l.number n) 0 (place_of n lent + 1)
 
 -- no image of this number is out
 abbrev pub IsAbsent : ℕ → List Lent → Type 0

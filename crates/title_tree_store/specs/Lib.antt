@@ -2,6 +2,8 @@
 pub mod Spots
 pub mod Forests
 pub mod Keeping
+pub mod Slots
+pub mod Out
 pub mod Refusing
 pub mod TreeSheets
 pub mod Propositions

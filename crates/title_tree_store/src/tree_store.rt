@@ -5,10 +5,11 @@ ghost use Rattle.title_land.specs.Depth.{depth};
 ghost use Rattle.title_store.specs.Plants.{IsEachOnce, node_of};
 ghost use Rattle.title_tree_store.specs.Forests.{plots};
 ghost use Rattle.title_tree_store.specs.Keeping.{content_of, loans_of, IsKept};
+ghost use Rattle.title_tree_store.specs.Out.{images};
 ghost use Rattle.title_tree_store.specs.Propositions.{once_prop, kept_prop};
 
 use crate::forest::Forest;
-use crate::lent::{Lent, take_lent};
+use crate::lent::Images;
 use crate::refusals::first_failing;
 use crate::sheets::add_estate;
 use crate::spots::tract_spots;
@@ -33,10 +34,9 @@ pub struct TreeStore {
     // The levels from the root down to a township.
     levels: usize,
     forest: Forest,
-    lent: Vec<Lent>,
-    next: u64,
+    lent: Images,
     ghost once: { IsEachOnce townships.items } by { Prim.hlevel once_prop },
-    ghost kept: { IsKept levels townships.items (plots forest) lent.items next } by { kept_prop _ _ _ _ _ },
+    ghost kept: { IsKept levels townships.items (plots forest) (images lent) lent.next } by { kept_prop _ _ _ _ _ },
 }
 
 // How many levels have a place for so many townships.
@@ -71,7 +71,7 @@ impl Store for TreeStore {
 
     ghost declared = { λ s. s.townships.items };
 
-    ghost out = { λ s. loans_of s.levels s.townships.items s.lent.items };
+    ghost out = { λ s. loans_of s.levels s.townships.items (images s.lent) };
 
     ghost number = { λ i. i.number };
 
@@ -84,29 +84,19 @@ impl Store for TreeStore {
             townships,
             levels,
             forest,
-            lent: Vec::new(alloc),
-            next: 0,
+            lent: Images::new(alloc),
         })
     }
 
     fn put(&mut self, tract: &Tract, instrument: &Instrument) -> Result<Put<Image>, AllocError> {
-        let number = self.next;
-        let Some(next) = number.checked_add(1) else {
-            return Err(AllocError);
-        };
         let paths = tract_spots(self.alloc, self.levels, &self.townships, tract)?;
         match self.forest.changed(self.alloc, &paths, instrument) {
             Ok(mut trees) => {
-                self.lent.reserve(1)?;
+                self.lent.reserve()?;
                 self.forest.quarter(self.alloc, paths)?;
                 self.forest.exchange(&mut trees);
                 let land = tract.land();
-                self.lent.push_reserved(Lent {
-                    number,
-                    land,
-                    trees,
-                });
-                self.next = next;
+                let number = self.lent.add(land, trees);
                 Ok(Put::Done(Image { number }))
             }
             Err(Fault::Memory) => Err(AllocError),
@@ -129,12 +119,12 @@ impl Store for TreeStore {
     }
 
     fn restore(&mut self, image: Image) {
-        let mut lent = take_lent(&mut self.lent, image.number).unwrap();
+        let mut lent = self.lent.take(image.number).unwrap();
         self.forest.exchange(&mut lent.trees);
     }
 
     fn forget(&mut self, image: Image) {
-        take_lent(&mut self.lent, image.number);
+        self.lent.take(image.number);
     }
 
     fn sheet(&self, alloc: Global, tract: &Tract) -> Result<Vec<SheetRow>, AllocError> {

@@ -1,5 +1,5 @@
 -- A put that is refused leaves all as it was; one that is done lends what the tract's cells held.
-use Rattle.std.proofs.Common.{◌≡◌, ◌∙◌, ◌++◌, ◌∷◌, [], suc, refl, sym, ap, subst, List, arith}
+use Rattle.std.proofs.Common.{◌≡◌, ◌∙◌, ◌++◌, ◌∷◌, [], suc, refl, sym, ap, subst, List, ℕ, arith}
 use Rattle.std.specs.Global.{Vec}
 use Rattle.title_land.specs.Depth.{depth}
 use Rattle.title_land.specs.declared.place.Township.{Township}
@@ -16,8 +16,9 @@ use Rattle.title_tree_store.specs.declared.lent.Lent.{Lent}
 use Rattle.title_tree_store.specs.Spots.{tract_spots}
 use Rattle.title_tree_store.specs.Forests.{plots, pieces}
 use Rattle.title_tree_store.specs.Keeping.{content_of, loans_of, IsKept}
+use Rattle.title_tree_store.specs.Out.{images}
 use Rattle.title_tree_store.specs.Refusing.{first_in, triple}
-use Rattle.title_tree_store.proofs.Keeps.{each}
+use Rattle.title_tree_store.proofs.Keeps.{each, kept_as}
 use Rattle.title_tree_store.proofs.Puts.{IsPut, put_steps, put_allowed, put_shows, put_takes, kept_put, kept_stopped, refused_none}
 use Rattle.title_tree_store.proofs.Puts.{found_failing, some_cell_fails, told}
 use Rattle.title_tree_store.proofs.tree_store.TreeStoreStore.put.Goals as goal
@@ -25,8 +26,9 @@ use Rattle.title_tree_store.proofs.tree_store.TreeStoreStore.put.Goals as goal
 pub invariant_of-self-in-Break-branch-2 : goal.invariant_of-self-in-Break-branch-2
 invariant_of-self-in-Break-branch-2 c = record {
   once = c.args.self.now.once;
-  kept = subst (λ (z : List Lent). IsKept c.args.self.now.levels c.args.self.now.townships.items (plots c.args.self.now.forest) z
-      c.args.self.now.next) (sym c.reserve.ensures.items) c.args.self.now.kept;
+  kept = kept_as c.args.self.now.levels c.args.self.now.townships.items (plots c.args.self.now.forest) (images c.args.self.now.lent)
+      (images c.reserve.new.self) c.args.self.now.lent.next c.reserve.new.self.next c.reserve.ensures.images c.reserve.ensures.next
+      c.args.self.now.kept;
 }
 
 pub invariant_of-self-in-Break-branch-3 : goal.invariant_of-self-in-Break-branch-3
@@ -35,14 +37,16 @@ invariant_of-self-in-Break-branch-3 c =
     let split_at = c.in_ok-paths.ensures.paths ∙ first in
     record {
       once = c.args.self.now.once;
-      kept = kept_stopped c.args.self.now.levels c.args.self.now.townships.items c.args.tract.now (plots c.args.self.now.forest)
-          (plots c.quarter.new.self) c.args.self.now.lent.items c.reserve.new.self.items c.args.self.now.next
-          (ways c.in_ok-paths.paths.items) split_at c.requires.within c.reserve.ensures.items
+      kept = kept_as c.args.self.now.levels c.args.self.now.townships.items (plots c.quarter.new.self) (images c.args.self.now.lent)
+          (images c.reserve.new.self) c.args.self.now.lent.next c.reserve.new.self.next c.reserve.ensures.images c.reserve.ensures.next
+          (kept_stopped c.args.self.now.levels c.args.self.now.townships.items c.args.tract.now (plots c.args.self.now.forest)
+          (plots c.quarter.new.self) (images c.args.self.now.lent) c.args.self.now.lent.next
+          (ways c.in_ok-paths.paths.items) split_at c.requires.within
           (each (λ e. Refines (plots c.args.self.now.forest e) (plots c.quarter.new.self e)) c.in_err-quarter-in-Ok.ensures.err_s
           c.in_err-quarter-in-Ok.ensures.err_o c.in_err-quarter-in-Ok.ensures.err_m)
           (each (λ e. StaysWithin (ways c.in_ok-paths.paths.items) (plots c.args.self.now.forest e) (plots c.quarter.new.self e))
           c.in_err-quarter-in-Ok.ensures.within_s c.in_err-quarter-in-Ok.ensures.within_o c.in_err-quarter-in-Ok.ensures.within_m)
-          c.args.self.now.kept;
+          c.args.self.now.kept);
     }
 
 pub exchange-requires-clause-s : goal.exchange-requires-clause-s
@@ -51,7 +55,7 @@ exchange-requires-clause-s c =
     let made_at = ap (λ (ps : List (Vec Quarter)). ways ps) c.deref-2.ensures.value ∙ c.in_ok-paths.ensures.paths ∙ first in
     let split_at = c.in_ok-paths.ensures.paths ∙ first in
     put_allowed c.args.self.now.levels c.args.self.now.townships.items c.args.tract.now c.args.instrument.now S _ _ _
-    c.args.self.now.lent.items c.args.self.now.next (plots c.args.self.now.forest) (ways c.deref-2.result.now)
+    (images c.args.self.now.lent) c.args.self.now.lent.next (plots c.args.self.now.forest) (ways c.deref-2.result.now)
     (ways c.in_ok-paths.paths.items) made_at split_at c.args.self.now.once c.requires.within c.in-Ok.ensures.s
     c.in_ok-quarter-in-Ok.ensures.s c.args.self.now.kept
 
@@ -61,7 +65,7 @@ exchange-requires-clause-o c =
     let made_at = ap (λ (ps : List (Vec Quarter)). ways ps) c.deref-2.ensures.value ∙ c.in_ok-paths.ensures.paths ∙ first in
     let split_at = c.in_ok-paths.ensures.paths ∙ first in
     put_allowed c.args.self.now.levels c.args.self.now.townships.items c.args.tract.now c.args.instrument.now O _ _ _
-    c.args.self.now.lent.items c.args.self.now.next (plots c.args.self.now.forest) (ways c.deref-2.result.now)
+    (images c.args.self.now.lent) c.args.self.now.lent.next (plots c.args.self.now.forest) (ways c.deref-2.result.now)
     (ways c.in_ok-paths.paths.items) made_at split_at c.args.self.now.once c.requires.within c.in-Ok.ensures.o
     c.in_ok-quarter-in-Ok.ensures.o c.args.self.now.kept
 
@@ -71,7 +75,7 @@ exchange-requires-clause-m c =
     let made_at = ap (λ (ps : List (Vec Quarter)). ways ps) c.deref-2.ensures.value ∙ c.in_ok-paths.ensures.paths ∙ first in
     let split_at = c.in_ok-paths.ensures.paths ∙ first in
     put_allowed c.args.self.now.levels c.args.self.now.townships.items c.args.tract.now c.args.instrument.now M _ _ _
-    c.args.self.now.lent.items c.args.self.now.next (plots c.args.self.now.forest) (ways c.deref-2.result.now)
+    (images c.args.self.now.lent) c.args.self.now.lent.next (plots c.args.self.now.forest) (ways c.deref-2.result.now)
     (ways c.in_ok-paths.paths.items) made_at split_at c.args.self.now.once c.requires.within c.in-Ok.ensures.m
     c.in_ok-quarter-in-Ok.ensures.m c.args.self.now.kept
 
@@ -80,7 +84,7 @@ invariant_of-self-in-Ok c =
     let first = ap (λ (ts : List Township). tract_spots c.args.self.now.levels ts c.args.tract.now) c.deref.ensures.value in
     let made_at = ap (λ (ps : List (Vec Quarter)). ways ps) c.deref-2.ensures.value ∙ c.in_ok-paths.ensures.paths ∙ first in
     let split_at = c.in_ok-paths.ensures.paths ∙ first in
-    let l : Lent = record { number = c.args.self.now.next; land = c.land-land.result; trees = c.exchange.new.parts } in
+    let l : Lent = record { number = c.reserve.new.self.next; land = c.land-land.result; trees = c.exchange.new.parts } in
     let put = each (λ e. IsPut c.args.instrument.now
     (tract_spots c.args.self.now.levels c.args.self.now.townships.items c.args.tract.now) e
     (plots c.args.self.now.forest e) (plots c.quarter.new.self e) (plots c.exchange.new.self e)
@@ -91,15 +95,16 @@ invariant_of-self-in-Ok c =
     c.in-Ok.ensures.o c.in_ok-quarter-in-Ok.ensures.o c.exchange.ensures.tree_o c.exchange.ensures.parts_o)
     (put_steps c.args.instrument.now M _ _ _ _ _ (ways c.deref-2.result.now) (ways c.in_ok-paths.paths.items) _ made_at split_at
     c.in-Ok.ensures.m c.in_ok-quarter-in-Ok.ensures.m c.exchange.ensures.tree_m c.exchange.ensures.parts_m) in
-    let more : c.in-Some.next ≡ suc c.args.self.now.next = omega (arith, c.in-Some.ensures) in
-    let out_is = c.push_reserved.ensures.items ∙ ap (λ (z : List Lent). z ++ l ∷ []) c.reserve.ensures.items in
+    let next_is = c.reserve.ensures.next in
+    let more : c.add-number.new.self.next ≡ suc c.args.self.now.lent.next = omega (arith, c.add-number.ensures.next, next_is) in
+    let out_is = c.add-number.ensures.images ∙ ap (λ (z : List Lent). z ++ l ∷ []) c.reserve.ensures.images in
     record {
       once = c.args.self.now.once;
       kept = subst (λ (z : List Lent). IsKept c.args.self.now.levels c.args.self.now.townships.items (plots c.exchange.new.self) z
-          c.in-Some.next) (sym out_is)
+          c.add-number.new.self.next) (sym out_is)
           (kept_put c.args.self.now.levels c.args.self.now.townships.items c.args.tract.now c.args.instrument.now
           (plots c.args.self.now.forest) (plots c.quarter.new.self) (plots c.exchange.new.self) (pieces c.in-Ok.trees)
-          c.args.self.now.lent.items l c.args.self.now.next c.in-Some.next c.args.self.now.once c.requires.within refl
+          (images c.args.self.now.lent) l c.args.self.now.lent.next c.add-number.new.self.next c.args.self.now.once c.requires.within c.reserve.ensures.next
           c.land-land.ensures.land more put c.args.self.now.kept);
     }
 
@@ -108,7 +113,7 @@ returns-in-Ok-clause-put c =
     let first = ap (λ (ts : List Township). tract_spots c.args.self.now.levels ts c.args.tract.now) c.deref.ensures.value in
     let made_at = ap (λ (ps : List (Vec Quarter)). ways ps) c.deref-2.ensures.value ∙ c.in_ok-paths.ensures.paths ∙ first in
     let split_at = c.in_ok-paths.ensures.paths ∙ first in
-    let l : Lent = record { number = c.args.self.now.next; land = c.land-land.result; trees = c.exchange.new.parts } in
+    let l : Lent = record { number = c.reserve.new.self.next; land = c.land-land.result; trees = c.exchange.new.parts } in
     let put = each (λ e. IsPut c.args.instrument.now
     (tract_spots c.args.self.now.levels c.args.self.now.townships.items c.args.tract.now) e
     (plots c.args.self.now.forest e) (plots c.quarter.new.self e) (plots c.exchange.new.self e)
@@ -119,17 +124,23 @@ returns-in-Ok-clause-put c =
     c.in-Ok.ensures.o c.in_ok-quarter-in-Ok.ensures.o c.exchange.ensures.tree_o c.exchange.ensures.parts_o)
     (put_steps c.args.instrument.now M _ _ _ _ _ (ways c.deref-2.result.now) (ways c.in_ok-paths.paths.items) _ made_at split_at
     c.in-Ok.ensures.m c.in_ok-quarter-in-Ok.ensures.m c.exchange.ensures.tree_m c.exchange.ensures.parts_m) in
-    let out_is = c.push_reserved.ensures.items ∙ ap (λ (z : List Lent). z ++ l ∷ []) c.reserve.ensures.items in (
+    let out_is = c.add-number.ensures.images ∙ ap (λ (z : List Lent). z ++ l ∷ []) c.reserve.ensures.images in (
       refused_none c.args.self.now.levels c.args.self.now.townships.items c.args.tract.now c.args.instrument.now
           (plots c.args.self.now.forest) c.args.self.now.kept.room c.requires.within (λ e. (put e).made.0),
-      subst (λ (z : List Lent). IsTaken c.args.self.now.next c.args.self.now.townships.items c.args.tract.now
+      subst (λ (n : ℕ). IsTaken n c.args.self.now.townships.items c.args.tract.now
           (content_of c.args.self.now.levels c.args.self.now.townships.items (plots c.args.self.now.forest))
-          (loans_of c.args.self.now.levels c.args.self.now.townships.items c.args.self.now.lent.items)
+          (loans_of c.args.self.now.levels c.args.self.now.townships.items (images c.args.self.now.lent))
+          (loans_of c.args.self.now.levels c.args.self.now.townships.items (images c.add-number.new.self)))
+          (sym (c.add-number.ensures.number ∙ c.reserve.ensures.next))
+          (subst (λ (z : List Lent). IsTaken c.args.self.now.lent.next c.args.self.now.townships.items c.args.tract.now
+          (content_of c.args.self.now.levels c.args.self.now.townships.items (plots c.args.self.now.forest))
+          (loans_of c.args.self.now.levels c.args.self.now.townships.items (images c.args.self.now.lent))
           (loans_of c.args.self.now.levels c.args.self.now.townships.items z)) (sym out_is)
           (put_takes c.args.self.now.levels c.args.self.now.townships.items c.args.tract.now c.args.instrument.now
           (plots c.args.self.now.forest) (plots c.quarter.new.self) (plots c.exchange.new.self) (pieces c.in-Ok.trees)
-          c.args.self.now.lent.items l c.args.self.now.next c.args.self.now.once c.requires.within refl c.land-land.ensures.land put
-          c.args.self.now.kept),
+          (images c.args.self.now.lent) l c.args.self.now.lent.next c.args.self.now.once c.requires.within c.reserve.ensures.next
+          c.land-land.ensures.land put
+          c.args.self.now.kept)),
     )
 
 pub returns-in-Ok-clause-content : goal.returns-in-Ok-clause-content
@@ -137,7 +148,7 @@ returns-in-Ok-clause-content c x =
     let first = ap (λ (ts : List Township). tract_spots c.args.self.now.levels ts c.args.tract.now) c.deref.ensures.value in
     let made_at = ap (λ (ps : List (Vec Quarter)). ways ps) c.deref-2.ensures.value ∙ c.in_ok-paths.ensures.paths ∙ first in
     let split_at = c.in_ok-paths.ensures.paths ∙ first in
-    let l : Lent = record { number = c.args.self.now.next; land = c.land-land.result; trees = c.exchange.new.parts } in
+    let l : Lent = record { number = c.reserve.new.self.next; land = c.land-land.result; trees = c.exchange.new.parts } in
     let put = each (λ e. IsPut c.args.instrument.now
     (tract_spots c.args.self.now.levels c.args.self.now.townships.items c.args.tract.now) e
     (plots c.args.self.now.forest e) (plots c.quarter.new.self e) (plots c.exchange.new.self e)
@@ -167,7 +178,7 @@ unreachable-requires c =
     c.requires.within (c.args.self.now.kept.fit why.0) listed
     (ap (λ (ps : List (List Quarter)). refusal_at (holding_effect c.args.instrument.now why.0) ps (plots c.args.self.now.forest why.0))
     (sym made_at) ∙ told c.in-Err-Refused.field-0 c.in-Err-Refused.field-0-0 _ c.in-Err-Refused.field-0-is why.1)
-    (sym c.in_default-first.is ∙ first)
+    (sym c.in_default.is ∙ first)
 
 pub returns-clause-put : goal.returns-clause-put
 returns-clause-put c =
@@ -177,8 +188,8 @@ returns-clause-put c =
     ∙ ap (λ (ts : List Township). triple (first_in c.args.self.now.levels ts (plots c.args.self.now.forest) c.args.instrument.now
     c.deref-in-Err-Refused-3.result.now)) c.deref-in-Err-Refused-2.ensures.value in
     let failing = found_failing c.args.self.now.levels c.args.self.now.townships.items c.args.tract.now c.args.instrument.now
-    (plots c.args.self.now.forest) c.deref-in-Err-Refused-3.result.now c.in-Some-first.rule c.in-Some-first.estate c.in-Some-first.cell
-    listed (sym c.in-Some-first.is ∙ first) in (
+    (plots c.args.self.now.forest) c.deref-in-Err-Refused-3.result.now c.in-Some.rule c.in-Some.estate c.in-Some.cell
+    listed (sym c.in-Some.is ∙ first) in (
       refused_put c.args.instrument.now
           (content_of c.args.self.now.levels c.args.self.now.townships.items (plots c.args.self.now.forest))
           c.args.self.now.townships.items c.args.tract.now (cells_of depth c.args.self.now.townships.items c.args.tract.now)
@@ -194,8 +205,8 @@ returns-clause-content c x =
     ∙ ap (λ (ts : List Township). triple (first_in c.args.self.now.levels ts (plots c.args.self.now.forest) c.args.instrument.now
     c.deref-in-Err-Refused-3.result.now)) c.deref-in-Err-Refused-2.ensures.value in
     let failing = found_failing c.args.self.now.levels c.args.self.now.townships.items c.args.tract.now c.args.instrument.now
-    (plots c.args.self.now.forest) c.deref-in-Err-Refused-3.result.now c.in-Some-first.rule c.in-Some-first.estate c.in-Some-first.cell
-    listed (sym c.in-Some-first.is ∙ first) in
+    (plots c.args.self.now.forest) c.deref-in-Err-Refused-3.result.now c.in-Some.rule c.in-Some.estate c.in-Some.cell
+    listed (sym c.in-Some.is ∙ first) in
     refused_content c.args.instrument.now
     (content_of c.args.self.now.levels c.args.self.now.townships.items (plots c.args.self.now.forest))
     c.args.self.now.townships.items c.args.tract.now x _ failing

@@ -2,6 +2,7 @@
 use Rattle.std.proofs.Common.{◌≡◌}
 use Rattle.title_tree_store.specs.Forests.{plots, written, tidied_written}
 use Rattle.title_tree_store.proofs.Keeps.{each, kept_tidied}
+use Rattle.title_tree_store.specs.Out.{images}
 use Rattle.title_tree_store.proofs.Operations.{tidies}
 use Rattle.title_tree_store.proofs.tree_store.TreeStoreStore.tidy.Goals as goal
 
@@ -9,7 +10,7 @@ pub invariant_of-self : goal.invariant_of-self
 invariant_of-self c = record {
   once = c.args.self.now.once;
   kept = kept_tidied c.args.self.now.levels c.args.self.now.townships.items (plots c.args.self.now.forest) (plots c.tidy.new.self)
-      (written c.args.self.now.forest) c.args.self.now.lent.items c.args.self.now.next c.requires.none
+      (written c.args.self.now.forest) (images c.args.self.now.lent) c.args.self.now.lent.next c.requires.none
       (each (λ e. plots c.tidy.new.self e ≡ tidied_written (written c.args.self.now.forest) (plots c.args.self.now.forest e))
       c.tidy.ensures.s c.tidy.ensures.o c.tidy.ensures.m) c.args.self.now.kept;
 }
