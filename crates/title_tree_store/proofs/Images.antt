@@ -1,12 +1,9 @@
 -- Images that are out, in the order of their numbers.
-use Rattle.std.proofs.Common.{◌≡◌, ◌≢◌, ◌∙◌, ap, sym, refl, subst, ℕ, ◌<◌, arith, eqb, inl, inr, ◌⊎◌}
+use Rattle.std.proofs.Common.{◌≡◌, ◌≢◌, ◌∙◌, ap, sym, refl, subst, ◌<◌, arith, inl, inr, ◌⊎◌}
 use Rattle.std.proofs.Common.{List, [], ◌∷◌, ◌++◌, map}
-use Rattle.std.proofs.lemmas.Bool.{cases_Bool, eqb-true, eq-eqb}
-use Rattle.title_land.specs.declared.place.Township.{Township}
-use Rattle.title_store.specs.Loans.{Loan, IsAmong, without}
 use Rattle.title_tree.specs.Pieces.{In}
 use Rattle.title_tree_store.specs.declared.lent.Lent.{Lent}
-use Rattle.title_tree_store.specs.Keeping.{loan_of, loans_of, Rises}
+use Rattle.title_tree_store.specs.Keeping.{Rises}
 
 pub in_map : {A B : Type 0} (f : A → B) (x : A) (xs : List A) → In x xs → In (f x) (map f xs)
 in_map f x [] i = i
@@ -85,39 +82,3 @@ rises_more (y ∷ lent) l r h = (
   ],
   rises_more lent l r.1 (λ x i. h x (inr i)),
 )
-
--- ---- loans
-
-pub among_in : (levels : ℕ) (ts : List Township) (lent : List Lent) (b : Loan) → IsAmong b (loans_of levels ts lent)
-    → (x : Lent) × In x lent × (b ≡ loan_of levels ts x)
-among_in levels ts [] b i = absurd i
-among_in levels ts (l ∷ lent) b i = elim i [
-  | inl e ↦ (l, inl refl, e)
-  | inr k ↦ let m = among_in levels ts lent b k in (m.0, inr m.1, m.2)
-]
-
-pub in_among : (levels : ℕ) (ts : List Township) (lent : List Lent) (x : Lent) → In x lent
-    → IsAmong (loan_of levels ts x) (loans_of levels ts lent)
-in_among levels ts [] x i = i
-in_among levels ts (l ∷ lent) x i = elim i [
-  | inl e ↦ inl (ap (loan_of levels ts) e)
-  | inr k ↦ inr (in_among levels ts lent x k)
-]
-
-without_none : (levels : ℕ) (ts : List Township) (n : ℕ) (lent : List Lent) → ((x : Lent) → In x lent → n ≢ x.number)
-    → without n (loans_of levels ts lent) ≡ loans_of levels ts lent
-without_none levels ts n [] h = refl
-without_none levels ts n (l ∷ lent) h = elim (cases_Bool (eqb n l.number)) [
-  | inl e ↦ absurd (h l (inl refl) (eqb-true n l.number e))
-  | inr e ↦ rw e (ap (λ (z : List Loan). loan_of levels ts l ∷ z) (without_none levels ts n lent (λ x i. h x (inr i))))
-]
-
-pub loans_without : (levels : ℕ) (ts : List Township) (l : Lent) (before later : List Lent) → Rises (before ++ l ∷ later)
-    → loans_of levels ts (before ++ later) ≡ without l.number (loans_of levels ts (before ++ l ∷ later))
-loans_without levels ts l [] later r =
-    let same = eq-eqb l.number l.number refl in
-    rw same (sym (without_none levels ts l.number later (λ x i e. let h = r.0 x i in omega (arith, h, e))))
-loans_without levels ts l (y ∷ before) later r = elim (cases_Bool (eqb l.number y.number)) [
-  | inl e ↦ absurd (let h = r.0 l (in_middle l before later) in let k = eqb-true l.number y.number e in omega (arith, h, k))
-  | inr e ↦ rw e (ap (λ (z : List Loan). loan_of levels ts y ∷ z) (loans_without levels ts l before later r.1))
-]

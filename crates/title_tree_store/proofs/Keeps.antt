@@ -2,7 +2,7 @@
 use Rattle.std.proofs.Common.{◌≡◌, ◌≢◌, ◌∙◌, ap, sym, refl, subst, ℕ, ◌+◌, ◌-◌}
 use Rattle.std.proofs.Common.{◌^◌, ◌<◌, ◌≤◌, arith, Bool, true, false, true≢false}
 use Rattle.std.proofs.Common.{inl, inr, List, [], ◌∷◌, ◌++◌, length, map, length-append}
-use Rattle.std.proofs.lemmas.Bool.{and_from, and_parts}
+use Rattle.std.proofs.lemmas.Bool.{and_from, and_parts, or_cases}
 use Rattle.title_land.specs.Depth.{depth}
 use Rattle.title_land.specs.declared.place.Township.{Township}
 use Rattle.title_land.specs.declared.rectangle.Quarter.{Quarter}
@@ -19,7 +19,6 @@ use Rattle.title_land.specs.declared.node.Node.TheVariants as node
 use Rattle.title_land.specs.declared.rectangle.Quarter.TheVariants.{Northeast, Northwest, Southwest}
 use Rattle.title_instrument.specs.declared.parts.Estate.{Estate}
 use Rattle.title_instrument.specs.declared.parts.Estate.TheVariants.{S, O, M}
-use Rattle.title_store.specs.Loans.{IsLast}
 use Rattle.title_tree.specs.Paths.{way, begins}
 use Rattle.title_tree.specs.Plots.{Plot, graft, fits, tidied_all}
 use Rattle.title_tree.specs.Pieces as pieces
@@ -33,10 +32,10 @@ use Rattle.title_tree_store.specs.declared.lent.Lent.{Lent}
 use Rattle.title_tree_store.specs.Spots.{index_of, township_path, section_path, cell_path, township_spots, spots, tract_spots}
 use Rattle.title_tree_store.specs.Forests as forests
 use Rattle.title_tree_store.specs.Forests.{plots, tidied_written}
-use Rattle.title_tree_store.specs.Keeping.{height, lending, loan_of, loans_of, same_ways, PiecesFit, IsBacked, IsKept, Rises, IsTakenOut}
+use Rattle.title_tree_store.specs.Keeping.{height, lending, loans_of, same_ways, PiecesFit, IsBacked, IsKept, Rises, IsTakenOut}
 use Rattle.title_tree_store.proofs.Paths.{has_from, begins_on, length-number_path}
 use Rattle.title_tree_store.proofs.Places.{IsDeclared, in_tract, tract_has, cover_declared, length-section_path}
-use Rattle.title_tree_store.proofs.Images.{in_map, in_mapped, in_joined, in_more, in_middle, in_among, rises_less, rises_apart}
+use Rattle.title_tree_store.proofs.Images.{in_map, in_mapped, in_joined, in_more, in_middle, rises_less, rises_apart}
 
 pub same_ways-is : (ps qs : List (List Quarter)) → same_ways ps qs ≡ true → ps ≡ qs
 same_ways-is [] [] h = refl
@@ -49,6 +48,20 @@ same_ways-is (p ∷ ps) (q ∷ qs) h =
 pub same_ways-self : (ps : List (List Quarter)) → same_ways ps ps ≡ true
 same_ways-self [] = refl
 same_ways-self (p ∷ ps) = and_from (same_path p p) (same_ways ps ps) (same_path-self p) (same_ways-self ps)
+
+none_is : (ps qs : List (List Quarter)) → same_ways ps [] ≡ true → (p : List Quarter) → In p ps → In p qs
+none_is [] qs h p i = absurd i
+none_is (x ∷ ps) qs h p i = absurd cc
+
+-- a path of an image is one of its tract's
+pub in_spots : (levels : ℕ) (ts : List Township) (l : Lent) (e : Estate) (p : List Quarter) → IsBacked levels ts l
+    → In p (paths (forests.pieces l.trees e)) → In p (tract_spots levels ts l.land)
+in_spots levels ts l e p backed i =
+    elim (or_cases (same_ways (paths (forests.pieces l.trees e)) []) (same_ways (paths (forests.pieces l.trees e))
+    (tract_spots levels ts l.land)) (backed.at e)) [
+      | inl h ↦ none_is (paths (forests.pieces l.trees e)) (tract_spots levels ts l.land) h p i
+      | inr h ↦ subst (λ (z : List (List Quarter)). In p z) (same_ways-is _ _ h) i
+    ]
 
 -- ---- depth
 
@@ -157,9 +170,9 @@ each P a b c S = a
 each P a b c O = b
 each P a b c M = c
 
-no_loans : (levels : ℕ) (ts : List Township) (lent : List Lent) → loans_of levels ts lent ≡ [] → lent ≡ []
-no_loans levels ts [] h = refl
-no_loans levels ts (l ∷ lent) h = absurd cc
+pub no_loans : (levels : ℕ) (ts : List Township) (ps : Estate → Plot) (lent : List Lent) → loans_of levels ts ps lent ≡ [] → lent ≡ []
+no_loans levels ts ps [] h = refl
+no_loans levels ts ps (l ∷ lent) h = absurd cc
 
 fits_tidied_written : (levels : ℕ) (puts : List (List (List Quarter))) (t : Plot) → fits levels t ≡ true
     → fits levels (tidied_written puts t) ≡ true
@@ -168,10 +181,10 @@ fits_tidied_written levels (ps ∷ puts) t f =
     fits_tidied_written levels puts (tidied_all ps t) (fits_tidied_all levels ps t f)
 
 pub kept_tidied : (levels : ℕ) (ts : List Township) (ps qs : Estate → Plot) (puts : List (List (List Quarter))) (lent : List Lent)
-    (n : ℕ) → loans_of levels ts lent ≡ [] → ((e : Estate) → qs e ≡ tidied_written puts (ps e)) → IsKept levels ts ps lent n
+    (n : ℕ) → loans_of levels ts ps lent ≡ [] → ((e : Estate) → qs e ≡ tidied_written puts (ps e)) → IsKept levels ts ps lent n
     → IsKept levels ts qs lent n
 kept_tidied levels ts ps qs puts lent n none e k =
-    subst (λ (z : List Lent). IsKept levels ts qs z n) (sym (no_loans levels ts lent none))
+    subst (λ (z : List Lent). IsKept levels ts qs z n) (sym (no_loans levels ts ps lent none))
     (kept_empty levels ts qs n k.room
     (λ x. ap (fits (height levels)) (e x) ∙ fits_tidied_written (height levels) puts (ps x) (k.fit x)))
 
@@ -252,9 +265,9 @@ goes_back levels ts ps old new n number l out k e =
     record { apart = (k.keeps e).apart (lending e l) i; ready = (k.keeps e).ready (lending e l) i }
 
 pub kept_restored : (levels : ℕ) (ts : List Township) (ps qs : Estate → Plot) (old new : List Lent) (n number : ℕ) (l : Lent)
-    → IsTakenOut number l old new → IsLast number (loans_of levels ts old)
+    → IsTakenOut number l old new → ((x : Lent) → In x old → number < x.number → meets l.land x.land ≡ false)
     → ((e : Estate) → qs e ≡ swapped (forests.pieces l.trees e) (ps e)) → IsKept levels ts ps old n → IsKept levels ts qs new n
-kept_restored levels ts ps qs old new n number l out last swap k =
+kept_restored levels ts ps qs old new n number l out apart swap k =
     let less = kept_less levels ts ps old new n number l out k in
     record {
       room = k.room;
@@ -273,23 +286,17 @@ kept_restored levels ts ps qs old new n number l out last swap k =
     backed : IsBacked levels ts l
     backed = k.backed l mine
 
-    at : (x : Lent) → In x old → (e : Estate) → paths (forests.pieces x.trees e) ≡ tract_spots levels ts x.land
-    at x i e = same_ways-is _ _ ((k.backed x i).at e)
-
     short : (e : Estate) → Short (paths (forests.pieces l.trees e)) (height levels)
-    short e = subst (λ (z : List (List Quarter)). Short z (height levels)) (sym (at l mine e)) (tract_short levels ts l.land backed.within)
+    short e p i = tract_short levels ts l.land backed.within p (in_spots levels ts l e p backed i)
 
     clear : (e : Estate) → LaterClear (lending e l) (map (lending e) old)
     clear e x i later p q a b =
         let m = in_mapped (lending e) x old i in
         let number_is = ap (λ (z : Lending). z.number) m.2 in
         let more : number < m.0.number = (let f = out.number_is in omega (arith, later, number_is, f)) in
-        let apart = last (loan_of levels ts l) (loan_of levels ts m.0) (in_among levels ts old l mine, out.number_is)
-        (in_among levels ts old m.0 m.1) more in
-        tracts_clear levels ts l.land m.0.land k.room backed.within (k.backed m.0 m.1).within apart p q
-        (subst (λ (z : List (List Quarter)). In p z) (at l mine e) a)
-        (subst (λ (z : List (List Quarter)). In q z) (at m.0 m.1 e)
-        (subst (λ (z : Lending). In q (paths z.pieces)) m.2 b))
+        tracts_clear levels ts l.land m.0.land k.room backed.within (k.backed m.0 m.1).within (apart m.0 m.1 more) p q
+        (in_spots levels ts l e p backed a)
+        (in_spots levels ts m.0 e q (k.backed m.0 m.1) (subst (λ (z : Lending). In q (paths z.pieces)) m.2 b))
 
     others : (e : Estate) (x : Lending) → In x (map (lending e) new) → In x (map (lending e) old) × (x.number ≢ (lending e l).number)
     others e x i =

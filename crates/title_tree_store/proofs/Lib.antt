@@ -6,6 +6,7 @@ pub mod Slots
 pub mod Contents
 pub mod Images
 pub mod Keeps
+pub mod Loans
 pub mod Operations
 pub mod Holdings
 pub mod Apart

@@ -1,7 +1,7 @@
 -- What a put leaves.
 use Rattle.std.proofs.Common.{◌≡◌, ◌∙◌, ap, sym, refl, subst, ℕ, suc, ◌+◌, ◌^◌, ◌<◌, ◌≤◌, arith, Bool, true, false, cond, inl, inr}
 use Rattle.std.proofs.Common.{List, [], ◌∷◌, ◌++◌, length, length-append, map, Option, Some, None, Result, Ok, Err, is_some}
-use Rattle.std.proofs.lemmas.Bool.{and_parts, and_from}
+use Rattle.std.proofs.lemmas.Bool.{and_parts, and_from, or_right}
 use Rattle.title_share.specs.Division.{Division}
 use Rattle.title_land.specs.Depth.{depth}
 use Rattle.title_land.specs.declared.place.Township.{Township}
@@ -21,9 +21,12 @@ use Rattle.title_instrument.specs.declared.owners.Effect.{Effect}
 use Rattle.title_instrument.specs.declared.owners.Effect.TheVariants.{Done, Refused}
 use Rattle.title_instrument.specs.Effect.{holding_effect, cell_effect, joined}
 use Rattle.title_instrument.specs.Owners.{opening_owners}
+use Rattle.title_instrument.specs.Estates.{names}
+use Rattle.title_instrument.specs.Parties.{estates_of}
+use Rattle.title_instrument.proofs.EffectLaws.{holding_unnamed}
 use Rattle.title_store.specs.Plants.{Plant, Failing, IsEachOnce, is_cell_of, failing_or, first_failing, done_or, plant_effect, refused_in}
 use Rattle.title_store.specs.Plants.{refusal_of}
-use Rattle.title_store.specs.Loans.{Loan, IsTaken}
+use Rattle.title_store.specs.Loans.{IsTaken}
 use Rattle.title_tree.specs.declared.change.Fault.{Fault}
 use Rattle.title_tree.specs.declared.change.Fault.TheVariants as fault
 use Rattle.title_tree.specs.Changes.{why_of, new_or, after}
@@ -42,22 +45,60 @@ use Rattle.title_tree.proofs.Swaps.{paths_taken, paths_fresh}
 use Rattle.title_tree_store.specs.declared.lent.Lent.{Lent}
 use Rattle.title_tree_store.specs.Spots.{cell_path, tract_spots}
 use Rattle.title_tree_store.specs.Forests as forests
-use Rattle.title_tree_store.specs.Forests.{owners_at, held_at, IsChange}
-use Rattle.title_tree_store.specs.Keeping.{height, content_of, lending, loan_of, loans_of, PiecesFit, IsBacked, IsKept, Rises}
+use Rattle.title_tree_store.specs.Forests.{owners_at, named_spots, IsChange}
+use Rattle.title_tree_store.specs.Keeping.{height, content_of, lending, lies_in, owners_before, loan_of, loans_of, same_ways, is_whole}
+use Rattle.title_tree_store.specs.Keeping.{PiecesFit, IsBacked, IsKept}
 use Rattle.title_tree_store.specs.Refusing.{why_cell, first_in, triple}
 use Rattle.title_tree_store.proofs.Places.{in_tract, tract_has, length-cell_path}
 use Rattle.title_tree_store.proofs.Paths.{has_in}
 use Rattle.title_tree_store.proofs.Contents.{owners_same, content_changes}
-use Rattle.title_tree_store.proofs.Images.{in_map, in_last, among_in, map_push, rises_more}
+use Rattle.title_tree_store.proofs.Images.{in_map, in_last, map_push, rises_more}
+use Rattle.title_tree_store.proofs.Loans.{among_lent, loans_push}
 use Rattle.title_tree_store.proofs.Keeps.{same_ways-self, tract_short, fits_swapped, taken_fit, kept_refined}
+use Rattle.title_tree_store.proofs.Steps.{named_or, named_short}
 use Rattle.title_tree_store.proofs.Apart.{tract_apart}
 
 -- the steps of a put in each estate's tree: what was made, the tree quartered, the exchange, the image
 pub record IsPut (i : Instrument ℕ) (ps : List (List Quarter)) (e : Estate) (t u v : Plot) (xs ys : List Piece) : Type 0 where
   pub made : IsChange i e ps t xs
-  pub split : u ≡ split_all ps t
+  pub split : u ≡ split_all (named_spots i e ps) t
   pub exchanged : v ≡ swapped xs u
   pub image : ys ≡ taken xs u
+
+-- ---- the paths of an estate that is named
+
+named_apart : (i : Instrument ℕ) (e : Estate) (ps : List (List Quarter)) → Disjoint ps → Disjoint (named_spots i e ps)
+named_apart i e ps apart = named_or Disjoint i e ps apart tt
+
+-- an estate that isn't named keeps its holdings
+unnamed_after : (i : Instrument ℕ) (e : Estate) (v : Division) → names (estates_of i) e ≡ false → after (holding_effect i e) v ≡ v
+unnamed_after i e v none = ap (new_or v) (holding_unnamed i e v none)
+
+-- so what a cell of the paths has changes as if each estate were named
+named_value : (i : Instrument ℕ) (e : Estate) (ps : List (List Quarter)) (c : List Quarter) (v : Division)
+    → cond (pieces.has (named_spots i e ps) c) (after (holding_effect i e) v) v ≡ cond (pieces.has ps c) (after (holding_effect i e) v) v
+named_value i e ps c v = go (names (estates_of i) e) refl
+  where
+    same : (b : Bool) → v ≡ cond b v v
+    same true = refl
+    same false = refl
+
+    go : (b : Bool) → names (estates_of i) e ≡ b → cond (pieces.has (cond b ps []) c) (after (holding_effect i e) v) v
+        ≡ cond (pieces.has ps c) (after (holding_effect i e) v) v
+    go true h = refl
+    go false h = same (pieces.has ps c) ∙ ap (λ (z : Division). cond (pieces.has ps c) z v) (sym (unnamed_after i e v h))
+
+named_refuses : (i : Instrument ℕ) (e : Estate) (ps : List (List Quarter)) (t : Plot) (rule : Rule)
+    → refusal_at (holding_effect i e) (named_spots i e ps) t ≡ Some rule → refusal_at (holding_effect i e) ps t ≡ Some rule
+named_refuses i e ps t rule = go (names (estates_of i) e)
+  where
+    go : (b : Bool) → refusal_at (holding_effect i e) (cond b ps []) t ≡ Some rule → refusal_at (holding_effect i e) ps t ≡ Some rule
+    go true h = h
+    go false h = absurd cc
+
+named_whole : (i : Instrument ℕ) (e : Estate) (ps : List (List Quarter)) → is_whole (named_spots i e ps) ps ≡ true
+named_whole i e ps = named_or (λ qs. is_whole qs ps ≡ true) i e ps
+    (or_right (same_ways ps []) (same_ways ps ps) (same_ways-self ps)) refl
 
 -- ---- depth
 
@@ -73,9 +114,9 @@ fresh_fit levels change (p ∷ ps) t h y i = elim i [
 -- ---- what is kept
 
 image_paths : (i : Instrument ℕ) (ps : List (List Quarter)) (e : Estate) (t u v : Plot) (xs ys : List Piece) → IsPut i ps e t u v xs ys
-    → (paths xs ≡ ps) × (paths ys ≡ ps)
+    → (paths xs ≡ named_spots i e ps) × (paths ys ≡ named_spots i e ps)
 image_paths i ps e t u v xs ys put =
-    let made = ap paths put.made.1 ∙ paths_fresh (after (holding_effect i e)) ps t in
+    let made = ap paths put.made.1 ∙ paths_fresh (after (holding_effect i e)) (named_spots i e ps) t in
     (made, ap paths put.image ∙ paths_taken xs u ∙ made)
 
 pub kept_put : (levels : ℕ) (ts : List Township) (x : Land) (i : Instrument ℕ) (old quartered new : Estate → Plot) (xs : Estate
@@ -92,8 +133,10 @@ kept_put levels ts x i old quartered new xs lent l n next once of number land mo
       (sym more)
       (subst (λ (z : ℕ). Keeps (new e) (map (lending e) lent ++ record { number = z; pieces = forests.pieces l.trees e } ∷ []) (suc n))
       (sym number)
-      (put_keeps (after (holding_effect i e)) (tract_spots levels ts x) (old e) (quartered e) (new e) (xs e) (forests.pieces l.trees e)
-      (map (lending e) lent) n (tract_apart levels ts x k.room once of) (put e).made.1 (put e).split (put e).exchanged (put e).image
+      (put_keeps (after (holding_effect i e)) (named_spots i e (tract_spots levels ts x)) (old e) (quartered e) (new e) (xs e)
+      (forests.pieces l.trees e) (map (lending e) lent) n
+      (named_apart i e (tract_spots levels ts x) (tract_apart levels ts x k.room once of)) (put e).made.1
+      (put e).split (put e).exchanged (put e).image
       (k.keeps e))));
   backed = λ y j. elim (in_last y l lent j) [
     | inl m ↦ k.backed y m
@@ -105,23 +148,23 @@ kept_put levels ts x i old quartered new xs lent l n next once of number land mo
   where
     short : (e : Estate) → Short (paths (xs e)) (height levels)
     short e = subst (λ (z : List (List Quarter)). Short z (height levels)) (sym (image_paths i _ e _ _ _ _ _ (put e)).0)
-        (tract_short levels ts x of)
+        (named_short i e (tract_spots levels ts x) (height levels) (tract_short levels ts x of))
 
     made_fit : (e : Estate) → PiecesFit (height levels) (xs e)
     made_fit e = subst (PiecesFit (height levels)) (sym (put e).made.1)
-        (fresh_fit (height levels) (after (holding_effect i e)) (tract_spots levels ts x) (old e) (k.fit e))
+        (fresh_fit (height levels) (after (holding_effect i e)) (named_spots i e (tract_spots levels ts x)) (old e) (k.fit e))
 
     quartered_fit : (e : Estate) → fits (height levels) (quartered e) ≡ true
     quartered_fit e = ap (fits (height levels)) (put e).split
-        ∙ split_all_fits (tract_spots levels ts x) (old e) (height levels) (tract_short levels ts x of) (k.fit e)
+        ∙ split_all_fits (named_spots i e (tract_spots levels ts x)) (old e) (height levels)
+        (named_short i e (tract_spots levels ts x) (height levels) (tract_short levels ts x of)) (k.fit e)
 
     mine : IsBacked levels ts l
     mine = record {
       within = ap (is_in_plant ts) land ∙ of;
-      at = λ e. ap (λ (z : Land). Rattle.title_tree_store.specs.Keeping.same_ways (paths (forests.pieces l.trees e))
-          (tract_spots levels ts z)) land
-          ∙ ap (λ (z : List (List Quarter)). Rattle.title_tree_store.specs.Keeping.same_ways z (tract_spots levels ts x))
-          (image_paths i _ e _ _ _ _ _ (put e)).1 ∙ same_ways-self (tract_spots levels ts x);
+      at = λ e. ap (λ (z : Land). is_whole (paths (forests.pieces l.trees e)) (tract_spots levels ts z)) land
+          ∙ ap (λ (z : List (List Quarter)). is_whole z (tract_spots levels ts x)) (image_paths i _ e _ _ _ _ _ (put e)).1
+          ∙ named_whole i e (tract_spots levels ts x);
       fit = λ e. subst (PiecesFit (height levels)) (sym (put e).image)
           (taken_fit (height levels) (xs e) (quartered e) (short e) (made_fit e) (quartered_fit e));
     }
@@ -129,9 +172,11 @@ kept_put levels ts x i old quartered new xs lent l n next once of number land mo
 -- the parts that were made may change places with what stands in the quartered trees
 pub put_goes : (levels : ℕ) (ts : List Township) (x : Land) (i : Instrument ℕ) (e : Estate) (t u : Plot) (xs : List Piece)
     (lent : List Lent) (n : ℕ) (ps : Estate → Plot) → IsEachOnce ts → is_in_plant ts x ≡ true → IsChange i e (tract_spots levels ts x) t xs
-    → u ≡ split_all (tract_spots levels ts x) t → IsKept levels ts ps lent n → Disjoint (paths xs) × Ready (paths xs) u
+    → u ≡ split_all (named_spots i e (tract_spots levels ts x)) t → IsKept levels ts ps lent n
+    → Disjoint (paths xs) × Ready (paths xs) u
 put_goes levels ts x i e t u xs lent n ps once of made split k =
-    put_ready (after (holding_effect i e)) (tract_spots levels ts x) t u xs (tract_apart levels ts x k.room once of) made.1 split
+    put_ready (after (holding_effect i e)) (named_spots i e (tract_spots levels ts x)) t u xs
+    (named_apart i e (tract_spots levels ts x) (tract_apart levels ts x k.room once of)) made.1 split
 
 -- ---- what a cell has
 
@@ -154,17 +199,23 @@ pub content_plant : (levels : ℕ) (ts : List Township) (ps : Estate → Plot) (
     → content_of levels ts ps c ≡ owners_at ps (cell_path levels ts c)
 content_plant levels ts ps c plant = ap (λ (b : Bool). cond b (owners_at ps (cell_path levels ts c)) opening_owners) plant
 
--- no leaf at a tract's paths refuses
+-- no leaf at a tract's paths refuses, where its estate is named
 abbrev NoneAt : ℕ → List Township → Land → Instrument ℕ → (Estate → Plot) → Type 0
-NoneAt levels ts x i ps = (e : Estate) → refusal_at (holding_effect i e) (tract_spots levels ts x) (ps e) ≡ None
+NoneAt levels ts x i ps = (e : Estate) → refusal_at (holding_effect i e) (named_spots i e (tract_spots levels ts x)) (ps e) ≡ None
 
 cell_none : (levels : ℕ) (ts : List Township) (x : Land) (i : Instrument ℕ) (ps : Estate → Plot) → length ts ≤ 4 ^ levels
     → is_in_plant ts x ≡ true → NoneAt levels ts x i ps → (c : Cell) → is_cell_of depth ts x c ≡ true → (e : Estate)
     → why_of (holding_effect i e (value_at (ps e) (cell_path levels ts c))) ≡ None
-cell_none levels ts x i ps room of none c h e =
-    let k = and_parts (has x c) (is_plant_cell depth ts c) h in
-    none_refuses_at (holding_effect i e) (tract_spots levels ts x) (ps e) (none e) (cell_path levels ts c)
-    (tract_has levels ts x c room of k.1 ∙ k.0)
+cell_none levels ts x i ps room of none c h e = go (names (estates_of i) e) refl (none e)
+  where
+    go : (b : Bool) → names (estates_of i) e ≡ b
+        → refusal_at (holding_effect i e) (cond b (tract_spots levels ts x) []) (ps e) ≡ None
+        → why_of (holding_effect i e (value_at (ps e) (cell_path levels ts c))) ≡ None
+    go true f g =
+        let k = and_parts (has x c) (is_plant_cell depth ts c) h in
+        none_refuses_at (holding_effect i e) (tract_spots levels ts x) (ps e) g (cell_path levels ts c)
+        (tract_has levels ts x c room of k.1 ∙ k.0)
+    go false f g = ap why_of (holding_unnamed i e (value_at (ps e) (cell_path levels ts c)) f)
 
 pub of_cells : (ts : List Township) (x : Land) (c : Cell) → members.In c (cells_of depth ts x) → is_cell_of depth ts x c ≡ true
 of_cells ts x c i = sym (list_has_the_cells depth ts x c) ∙ listed_from (cells_of depth ts x) c i
@@ -192,15 +243,25 @@ unfolding refused_in
 refused_none levels ts x i ps room of none =
     ap (refusal_of depth x) (none_failing levels ts x i ps (cells_of depth ts x) room of none (λ c j. of_cells ts x c j))
 
+-- what a cell has after a put, by the paths of the estate
+put_at : (levels : ℕ) (ts : List Township) (x : Land) (i : Instrument ℕ) (e : Estate) (t u v : Plot) (xs ys : List Piece)
+    (c : List Quarter) → Disjoint (tract_spots levels ts x) → is_in_plant ts x ≡ true → IsPut i (tract_spots levels ts x) e t u v xs ys
+    → length c ≡ height levels → value_at v c
+    ≡ cond (pieces.has (named_spots i e (tract_spots levels ts x)) c) (after (holding_effect i e) (value_at t c)) (value_at t c)
+put_at levels ts x i e t u v xs ys c apart of put long =
+    ap (λ (z : Plot). value_at z c) (put.exchanged ∙ ap (λ (z : List Piece). swapped z u) put.made.1
+    ∙ ap (λ (z : Plot). swapped (fresh (after (holding_effect i e)) (named_spots i e (tract_spots levels ts x)) t) z) put.split)
+    ∙ put_content (after (holding_effect i e)) (named_spots i e (tract_spots levels ts x)) t c
+    (named_apart i e (tract_spots levels ts x) apart)
+    (named_short i e (tract_spots levels ts x) (length c)
+    (subst (λ (m : ℕ). Short (tract_spots levels ts x) m) (sym long) (tract_short levels ts x of)))
+
 put_value : (levels : ℕ) (ts : List Township) (x : Land) (i : Instrument ℕ) (e : Estate) (t u v : Plot) (xs ys : List Piece)
     (c : List Quarter) → Disjoint (tract_spots levels ts x) → is_in_plant ts x ≡ true → IsPut i (tract_spots levels ts x) e t u v xs ys
     → length c ≡ height levels
     → value_at v c ≡ cond (pieces.has (tract_spots levels ts x) c) (after (holding_effect i e) (value_at t c)) (value_at t c)
 put_value levels ts x i e t u v xs ys c apart of put long =
-    ap (λ (z : Plot). value_at z c) (put.exchanged ∙ ap (λ (z : List Piece). swapped z u) put.made.1
-    ∙ ap (λ (z : Plot). swapped (fresh (after (holding_effect i e)) (tract_spots levels ts x) t) z) put.split)
-    ∙ put_content (after (holding_effect i e)) (tract_spots levels ts x) t c apart
-    (subst (λ (m : ℕ). Short (tract_spots levels ts x) m) (sym long) (tract_short levels ts x of))
+    put_at levels ts x i e t u v xs ys c apart of put long ∙ named_value i e (tract_spots levels ts x) c (value_at t c)
 
 -- the plant after a put
 pub put_shows : (levels : ℕ) (ts : List Township) (x : Land) (i : Instrument ℕ) (old quartered new : Estate → Plot) (xs ys : Estate
@@ -236,42 +297,66 @@ put_shows levels ts x i old quartered new xs ys room once of put c =
         ∙ ap (λ (z : Owners). done_or z (cell_effect i z)) (sym (content_plant levels ts old y plant))
     owners y plant false h = owners_same _ _ _ _ _ _ (value y S false h) (value y O false h) (value y M false h)
 
+-- what a cell held before a put is what the image has of it, or what the cell still holds
+before_put : (levels : ℕ) (ts : List Township) (x : Land) (i : Instrument ℕ) (e : Estate) (t u v : Plot) (xs : List Piece) (l : Lent)
+    (c : List Quarter) → Disjoint (tract_spots levels ts x) → is_in_plant ts x ≡ true
+    → IsPut i (tract_spots levels ts x) e t u v xs (forests.pieces l.trees e) → length c ≡ height levels
+    → cond (lies_in e l c) (held (forests.pieces l.trees e) c) (value_at v c) ≡ value_at t c
+before_put levels ts x i e t u v xs l c apart of put long = go (lies_in e l c) refl
+  where
+    ps : List (List Quarter)
+    ps = named_spots i e (tract_spots levels ts x)
+
+    at : pieces.has ps c ≡ lies_in e l c
+    at = ap (λ (z : List (List Quarter)). pieces.has z c) (sym (image_paths i _ e _ _ _ _ _ put).1)
+
+    short : Short ps (length c)
+    short = named_short i e (tract_spots levels ts x) (length c)
+        (subst (λ (m : ℕ). Short (tract_spots levels ts x) m) (sym long) (tract_short levels ts x of))
+
+    go : (b : Bool) → lies_in e l c ≡ b → cond b (held (forests.pieces l.trees e) c) (value_at v c) ≡ value_at t c
+    go true h =
+        ap (λ (z : List Piece). held z c) (put.image ∙ ap (λ (z : List Piece). taken z u) put.made.1
+        ∙ ap (λ (z : Plot). taken (fresh (after (holding_effect i e)) ps t) z) put.split)
+        ∙ put_held (after (holding_effect i e)) ps t c (named_apart i e (tract_spots levels ts x) apart) short (at ∙ h)
+    go false h =
+        put_at levels ts x i e t u v xs (forests.pieces l.trees e) c apart of put long
+        ∙ ap (λ (b : Bool). cond b (after (holding_effect i e) (value_at t c)) (value_at t c)) (at ∙ h)
+
 -- the image of a put
 pub put_takes : (levels : ℕ) (ts : List Township) (x : Land) (i : Instrument ℕ) (old quartered new : Estate → Plot) (xs : Estate
     → List Piece)
     (lent : List Lent) (l : Lent) (n : ℕ) → IsEachOnce ts → is_in_plant ts x ≡ true → l.number ≡ n → l.land ≡ x
     → ((e : Estate) → IsPut i (tract_spots levels ts x) e (old e) (quartered e) (new e) (xs e) (forests.pieces l.trees e))
-    → IsKept levels ts old lent n → IsTaken n ts x (content_of levels ts old) (loans_of levels ts lent)
-    (loans_of levels ts (lent ++ l ∷ []))
+    → IsKept levels ts old lent n → IsTaken n ts x (content_of levels ts old) (loans_of levels ts old lent)
+    (loans_of levels ts new (lent ++ l ∷ []))
 put_takes levels ts x i old quartered new xs lent l n once of number land put k = record {
-  held = λ c. held_at (forests.pieces l.trees) (cell_path levels ts c);
+  held = (loan_of levels ts new l []).held;
   holds = λ c h. let m = and_parts (has x c) (is_plant_cell depth ts c) h in
-      owners_same _ _ _ _ _ _ (value c m.0 m.1 S) (value c m.0 m.1 O) (value c m.0 m.1 M) ∙ sym (content_plant levels ts old c m.1);
-  above = λ b j. let m = among_in levels ts lent b j in
-      subst (λ (z : Loan). z.number < n) (sym m.2) ((k.keeps S).below (lending S m.0) (in_map (lending S) m.0 lent m.1));
-  last = map_push (loan_of levels ts) lent l
-      ∙ ap (λ (z : ℕ). loans_of levels ts lent ++ record {
+      ap (λ (b : Bool). cond b (owners_before new (l ∷ []) (cell_path levels ts c)) opening_owners)
+      (ap (λ (z : Land). is_cell_of depth ts z c) land ∙ h)
+      ∙ owners_same _ _ _ _ _ _ (value (cell_path levels ts c) (length-cell_path levels ts c) S)
+      (value (cell_path levels ts c) (length-cell_path levels ts c) O) (value (cell_path levels ts c) (length-cell_path levels ts c) M)
+      ∙ sym (content_plant levels ts old c m.1);
+  above = λ b j. let m = among_lent levels ts old lent b j in
+      subst (λ (z : ℕ). z < n) (sym m.2) ((k.keeps S).below (lending S m.0) (in_map (lending S) m.0 lent m.1));
+  last = loans_push levels ts old new lent l value
+      ∙ ap (λ (z : ℕ). loans_of levels ts old lent ++ record {
         number = z;
         land = l.land;
-        held = λ c. held_at (forests.pieces l.trees) (cell_path levels ts c);
+        held = (loan_of levels ts new l []).held;
       } ∷ []) number
-      ∙ ap (λ (z : Land). loans_of levels ts lent ++ record {
+      ∙ ap (λ (z : Land). loans_of levels ts old lent ++ record {
         number = n;
         land = z;
-        held = λ c. held_at (forests.pieces l.trees) (cell_path levels ts c);
+        held = (loan_of levels ts new l []).held;
       } ∷ []) land;
 }
   where
-    value : (c : Cell) → has x c ≡ true → is_plant_cell depth ts c ≡ true → (e : Estate)
-        → held (forests.pieces l.trees e) (cell_path levels ts c) ≡ value_at (old e) (cell_path levels ts c)
-    value c h plant e =
-        let short = subst (λ (m : ℕ). Short (tract_spots levels ts x) m) (sym (length-cell_path levels ts c)) (tract_short levels ts x of)
-        in
-        ap (λ (z : List Piece). held z (cell_path levels ts c)) ((put e).image
-        ∙ ap (λ (z : List Piece). taken z (quartered e)) (put e).made.1
-        ∙ ap (λ (z : Plot). taken (fresh (after (holding_effect i e)) (tract_spots levels ts x) (old e)) z) (put e).split)
-        ∙ put_held (after (holding_effect i e)) (tract_spots levels ts x) (old e) (cell_path levels ts c)
-        (tract_apart levels ts x k.room once of) short (tract_has levels ts x c k.room of plant ∙ h)
+    value : (p : List Quarter) → length p ≡ height levels → (e : Estate)
+        → cond (lies_in e l p) (held (forests.pieces l.trees e) p) (value_at (new e) p) ≡ value_at (old e) p
+    value p long e = before_put levels ts x i e (old e) (quartered e) (new e) (xs e) l p (tract_apart levels ts x k.room once of) of (put e)
+        long
 
 -- ---- a put that is refused
 
@@ -334,10 +419,11 @@ why_at i ps p h M = (whys _ _ _ h).2
 -- where a leaf refuses, a cell does
 pub some_cell_fails : (levels : ℕ) (ts : List Township) (x : Land) (i : Instrument ℕ) (ps : Estate → Plot) (cells : List Cell) (e : Estate)
     (rule : Rule) → length ts ≤ 4 ^ levels → is_in_plant ts x ≡ true → fits (height levels) (ps e) ≡ true → cells ≡ cells_of depth ts x
-    → refusal_at (holding_effect i e) (tract_spots levels ts x) (ps e) ≡ Some rule → None ≡ triple (first_in levels ts ps i cells) → ⊥
+    → refusal_at (holding_effect i e) (named_spots i e (tract_spots levels ts x)) (ps e) ≡ Some rule
+    → None ≡ triple (first_in levels ts ps i cells) → ⊥
 some_cell_fails levels ts x i ps cells e rule room of fit listed refusal none =
     let c = some_refuses_at (holding_effect i e) (height levels) (tract_spots levels ts x) (ps e) rule fit (tract_short levels ts x of)
-    refusal in
+    (named_refuses i e (tract_spots levels ts x) (ps e) rule refusal) in
     let k = has_in (tract_spots levels ts x) c.0 c.1 in
     let whole = begins_is k.0 c.0 k.2 in
     let long : length k.0 + length (rest k.0 c.0) ≡ height levels =
@@ -360,10 +446,10 @@ some_cell_fails levels ts x i ps cells e rule room of fit listed refusal none =
 -- ---- the steps, as the code takes them
 
 pub put_steps : (i : Instrument ℕ) (e : Estate) (t u v : Plot) (xs ys : List Piece) (qs rs ps : List (List Quarter)) → qs ≡ ps → rs ≡ ps
-    → IsChange i e qs t xs → u ≡ split_all rs t → v ≡ swapped xs u → ys ≡ taken xs u → IsPut i ps e t u v xs ys
+    → IsChange i e qs t xs → u ≡ split_all (named_spots i e rs) t → v ≡ swapped xs u → ys ≡ taken xs u → IsPut i ps e t u v xs ys
 put_steps i e t u v xs ys qs rs ps f g made split exchanged image = record {
   made = subst (λ (z : List (List Quarter)). IsChange i e z t xs) f made;
-  split = split ∙ ap (λ (z : List (List Quarter)). split_all z t) g;
+  split = split ∙ ap (λ (z : List (List Quarter)). split_all (named_spots i e z) t) g;
   exchanged = exchanged;
   image = image;
 }
@@ -371,11 +457,11 @@ put_steps i e t u v xs ys qs rs ps f g made split exchanged image = record {
 pub put_allowed : (levels : ℕ) (ts : List Township) (x : Land) (i : Instrument ℕ) (e : Estate) (t u : Plot) (xs : List Piece)
     (lent : List Lent) (n : ℕ) (ps : Estate → Plot) (qs rs : List (List Quarter)) → qs ≡ tract_spots levels ts x
     → rs ≡ tract_spots levels ts x
-    → IsEachOnce ts → is_in_plant ts x ≡ true → IsChange i e qs t xs → u ≡ split_all rs t → IsKept levels ts ps lent n
-    → Disjoint (paths xs) × Ready (paths xs) u
+    → IsEachOnce ts → is_in_plant ts x ≡ true → IsChange i e qs t xs → u ≡ split_all (named_spots i e rs) t
+    → IsKept levels ts ps lent n → Disjoint (paths xs) × Ready (paths xs) u
 put_allowed levels ts x i e t u xs lent n ps qs rs f g once of made split k =
     put_goes levels ts x i e t u xs lent n ps once of (subst (λ (z : List (List Quarter)). IsChange i e z t xs) f made)
-    (split ∙ ap (λ (z : List (List Quarter)). split_all z t) g) k
+    (split ∙ ap (λ (z : List (List Quarter)). split_all (named_spots i e z) t) g) k
 
 -- trees that were quartered in part
 pub kept_stopped : (levels : ℕ) (ts : List Township) (x : Land) (old new : Estate → Plot) (lent : List Lent) (n : ℕ)

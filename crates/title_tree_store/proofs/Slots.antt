@@ -54,7 +54,8 @@ pub absent_below : (next n : ℕ) (xs : List (Option Lent)) → IsNumbered next 
 absent_below next n xs k h l i e = let m = numbered_below next xs l k i in let a = m.1 in omega (arith, h, e, a)
 
 after_one : (n : ℕ) (l : Lent) (old new : List Lent) (o : Option Lent) → l.number ≢ n
-    → MatchOption o (IsAbsent n old) (λ x. IsTakenOut n x old new) → MatchOption o (IsAbsent n (l ∷ old)) (λ x. IsTakenOut n x (l ∷ old) (l ∷ new))
+    → MatchOption o (IsAbsent n old) (λ x. IsTakenOut n x old new)
+    → MatchOption o (IsAbsent n (l ∷ old)) (λ x. IsTakenOut n x (l ∷ old) (l ∷ new))
 after_one n l old new None h out = λ x i e. elim i [
   | inl same ↦ h (ap (λ (z : Lent). z.number) (sym same) ∙ e)
   | inr j ↦ out x j e

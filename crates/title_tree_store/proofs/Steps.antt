@@ -1,11 +1,16 @@
 -- Steps of the code.
 use Rattle.std.proofs.Common.{◌≡◌, ◌∙◌, ap, sym, subst, ℕ, suc}
-use Rattle.std.proofs.Common.{List, ◌∷◌, Result, Ok, Err, OnErr, IfOk}
+use Rattle.std.proofs.Common.{Bool, true, false, cond, List, [], ◌∷◌, Result, Ok, Err, OnErr, IfOk}
 use Rattle.title_land.specs.declared.rectangle.Quarter.{Quarter}
 use Rattle.title_land.specs.Nodes.{square}
+use Rattle.title_instrument.specs.declared.parts.Estate.{Estate}
+use Rattle.title_instrument.specs.declared.instrument.Instrument.{Instrument}
+use Rattle.title_instrument.specs.Estates.{names}
+use Rattle.title_instrument.specs.Parties.{estates_of}
 use Rattle.title_tree.specs.CellWays.{quarter_in, cell_quarters}
 use Rattle.title_tree.specs.Plots.{Plot, fits}
-use Rattle.title_tree.specs.Pieces.{split_all, Refines, StaysWithin}
+use Rattle.title_tree.specs.Pieces.{split_all, Short, Refines, StaysWithin}
+use Rattle.title_tree_store.specs.Forests.{named_spots}
 use Rattle.title_tree.proofs.Depths.{split_all_fits}
 use Rattle.title_tree.proofs.Swaps.{split_all_reaches}
 
@@ -14,10 +19,28 @@ pub split_stays : {A E : Type 0} (r : Result A E) (ps : List (List Quarter)) (t 
 split_stays (Ok x) ps t u e = tt
 split_stays (Err f) ps t u e = subst (Refines t) (sym e) (split_all_reaches ps t).1
 
-pub split_within : {A E : Type 0} (r : Result A E) (ps : List (List Quarter)) (t u : Plot) → u ≡ split_all ps t
-    → OnErr r (StaysWithin ps t u)
-split_within (Ok x) ps t u e = tt
-split_within (Err f) ps t u e = λ n s k. ap (fits n) e ∙ split_all_fits ps t n s k
+-- what holds anyway holds after a refusal
+pub on_err : {A E : Type 0} (r : Result A E) (P : Type 0) → P → OnErr r P
+on_err (Ok x) P p = tt
+on_err (Err f) P p = p
+
+-- the paths of an estate, by whether it is named
+pub named_or : (P : List (List Quarter) → Type 0) (i : Instrument ℕ) (e : Estate) (ps : List (List Quarter)) → P ps → P []
+    → P (named_spots i e ps)
+named_or P i e ps whole none = go (names (estates_of i) e)
+  where
+    go : (b : Bool) → P (cond b ps [])
+    go true = whole
+    go false = none
+
+pub named_short : (i : Instrument ℕ) (e : Estate) (ps : List (List Quarter)) (n : ℕ) → Short ps n → Short (named_spots i e ps) n
+named_short i e ps n short = named_or (λ qs. Short qs n) i e ps short (λ p j. absurd j)
+
+pub split_within : {A E : Type 0} (r : Result A E) (i : Instrument ℕ) (e : Estate) (ps : List (List Quarter)) (t u : Plot)
+    → u ≡ split_all (named_spots i e ps) t → OnErr r (StaysWithin ps t u)
+split_within (Ok x) i e ps t u h = tt
+split_within (Err f) i e ps t u h =
+    λ n s k. ap (fits n) h ∙ split_all_fits (named_spots i e ps) t n (named_short i e ps n s) k
 
 pub cell_step : (d levels less : ℕ) (w : List Quarter) (row column : ℕ) (q : Quarter) (c : List Quarter) → levels ≡ suc less
     → q ≡ quarter_in (square d w) row column → c ≡ cell_quarters d less (q ∷ w) row column → c ≡ cell_quarters d levels w row column

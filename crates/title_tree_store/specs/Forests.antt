@@ -1,5 +1,5 @@
 -- The trees of a plant as plots, by estate.
-use Rattle.std.specs.Prelude.{◌≡◌, ℕ, List, [], ◌∷◌, ◌++◌, ◌⊎◌, None, map}
+use Rattle.std.specs.Prelude.{◌≡◌, ℕ, List, [], ◌∷◌, ◌++◌, ◌⊎◌, cond, None, map}
 use Rattle.std.specs.Global.{Vec}
 use Rattle.title_land.specs.declared.rectangle.Quarter.{Quarter}
 use Rattle.title_instrument.specs.declared.parts.Estate.{Estate}
@@ -8,12 +8,14 @@ use Rattle.title_instrument.specs.declared.parts.Rule.{Rule}
 use Rattle.title_instrument.specs.declared.instrument.Instrument.{Instrument}
 use Rattle.title_instrument.specs.declared.owners.Owners.{Owners}
 use Rattle.title_instrument.specs.Effect.{holding_effect}
+use Rattle.title_instrument.specs.Estates.{names}
+use Rattle.title_instrument.specs.Parties.{estates_of}
 use Rattle.title_tree.specs.declared.change.Fault.{Fault}
 use Rattle.title_tree.specs.Changes.{after}
 use Rattle.title_tree.specs.Faults.{Tells}
 use Rattle.title_tree.specs.Plots.{Plot, value_at, tidied_all}
 use Rattle.title_tree.specs.Parts.{piece, ways}
-use Rattle.title_tree.specs.Pieces.{Piece, held, fresh, refusal_at}
+use Rattle.title_tree.specs.Pieces.{Piece, fresh, refusal_at}
 use Rattle.title_tree.specs.Trees.{plot}
 use Rattle.title_tree_store.specs.declared.forest.Forest.{Forest}
 use Rattle.title_tree_store.specs.declared.forest.Subtrees.{Subtrees}
@@ -51,14 +53,15 @@ pieces x M = map piece x.m.items
 abbrev pub owners_at : (Estate → Plot) → List Quarter → Owners
 owners_at ps c = record { s = value_at (ps S) c; o = value_at (ps O) c; m = value_at (ps M) c }
 
--- the owners of the cell at a path that parts hold
-abbrev pub held_at : (Estate → List Piece) → List Quarter → Owners
-held_at xs c = record { s = held (xs S) c; o = held (xs O) c; m = held (xs M) c }
+-- the paths, where the instrument names the estate
+abbrev pub named_spots : Instrument ℕ → Estate → List (List Quarter) → List (List Quarter)
+named_spots i e ps = cond (names (estates_of i) e) ps []
 
--- no leaf at the paths refuses the instrument, and these are the parts after it
+-- no leaf at the paths refuses the instrument, where it names the estate, and these are the parts after it
 abbrev pub IsChange : Instrument ℕ → Estate → List (List Quarter) → Plot → List Piece → Type 0
-IsChange i e ps t xs = (refusal_at (holding_effect i e) ps t ≡ None) × (xs ≡ fresh (after (holding_effect i e)) ps t)
+IsChange i e ps t xs = (refusal_at (holding_effect i e) (named_spots i e ps) t ≡ None)
+    × (xs ≡ fresh (after (holding_effect i e)) (named_spots i e ps) t)
 
 -- a fault tells the rule by which the first leaf that refuses the instrument refuses it
 abbrev pub IsRefusedIn : Instrument ℕ → Estate → List (List Quarter) → Plot → Fault Rule → Type 0
-IsRefusedIn i e ps t f = Tells f (refusal_at (holding_effect i e) ps t)
+IsRefusedIn i e ps t f = Tells f (refusal_at (holding_effect i e) (named_spots i e ps) t)

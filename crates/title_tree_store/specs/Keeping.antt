@@ -1,20 +1,23 @@
 -- What a store of trees keeps.
-use Rattle.std.specs.Prelude.{◌≡◌, ◌≢◌, ℕ, ◌+◌, ◌<◌, ◌≤◌, ◌^◌, Bool, true, false, ◌&&◌, cond, List, [], ◌∷◌, ◌++◌, length, map}
+use Rattle.std.specs.Prelude.{◌≡◌, ◌≢◌, ℕ, ◌+◌, ◌<◌, ◌≤◌, ◌^◌, Bool, true, false, ◌&&◌, ◌||◌, cond, List, [], ◌∷◌, ◌++◌, length, map}
 use Rattle.title_land.specs.Depth.{depth}
 use Rattle.title_land.specs.declared.place.Township.{Township}
 use Rattle.title_land.specs.declared.rectangle.Quarter.{Quarter}
 use Rattle.title_land.specs.Nodes.{same_path}
 use Rattle.title_land.specs.Lands.{is_in_plant, is_plant_cell}
+use Rattle.title_share.specs.Division.{Division}
 use Rattle.title_instrument.specs.declared.parts.Estate.{Estate}
+use Rattle.title_instrument.specs.declared.parts.Estate.TheVariants.{S, O, M}
+use Rattle.title_instrument.specs.declared.owners.Owners.{Owners}
 use Rattle.title_instrument.specs.Owners.{opening_owners}
-use Rattle.title_store.specs.Plants.{Plant}
+use Rattle.title_store.specs.Plants.{Plant, is_cell_of}
 use Rattle.title_store.specs.Loans.{Loan}
-use Rattle.title_tree.specs.Plots.{Plot, fits}
-use Rattle.title_tree.specs.Pieces.{In, Piece, paths}
+use Rattle.title_tree.specs.Plots.{Plot, value_at, fits}
+use Rattle.title_tree.specs.Pieces.{In, Piece, paths, has, held}
 use Rattle.title_tree.specs.Lendings.{Lending, Keeps}
 use Rattle.title_tree_store.specs.declared.lent.Lent.{Lent}
 use Rattle.title_tree_store.specs.Spots.{cell_path, tract_spots}
-use Rattle.title_tree_store.specs.Forests.{pieces, owners_at, held_at}
+use Rattle.title_tree_store.specs.Forests.{pieces, owners_at}
 
 -- the levels of a tree from the root down to a cell, where townships lie so many levels below the root
 abbrev pub height : ℕ → ℕ
@@ -24,12 +27,36 @@ height levels = levels + (3 + depth)
 abbrev pub content_of : ℕ → List Township → (Estate → Plot) → Plant
 content_of levels ts ps c = cond (is_plant_cell depth ts c) (owners_at ps (cell_path levels ts c)) opening_owners
 
--- an image that is out, as a loan
-abbrev pub loan_of : ℕ → List Township → Lent → Loan
-loan_of levels ts l = record { number = l.number; land = l.land; held = λ c. held_at (pieces l.trees) (cell_path levels ts c) }
+-- a part of the image has the cell at a path
+abbrev pub lies_in : Estate → Lent → List Quarter → Bool
+lies_in e l p = has (paths (pieces l.trees e)) p
 
-abbrev pub loans_of : ℕ → List Township → List Lent → List Loan
-loans_of levels ts lent = map (loan_of levels ts) lent
+-- what a cell held of an estate before the first of some images that has it; what it holds now, where none has
+abbrev pub held_before : Estate → List Lent → List Quarter → Division → Division
+held_before e [] p now = now
+held_before e (l ∷ later) p now = cond (lies_in e l p) (held (pieces l.trees e) p) (held_before e later p now)
+
+-- the owners that a cell had before them
+abbrev pub owners_before : (Estate → Plot) → List Lent → List Quarter → Owners
+owners_before ps lent p = record {
+  s = held_before S lent p (value_at (ps S) p);
+  o = held_before O lent p (value_at (ps O) p);
+  m = held_before M lent p (value_at (ps M) p);
+}
+
+-- an image that is out, with those that went out after it, as a loan: what an estate held that it has no parts of is read off
+-- the later ones and the trees
+abbrev pub loan_of : ℕ → List Township → (Estate → Plot) → Lent → List Lent → Loan
+loan_of levels ts ps l later = record {
+  number = l.number;
+  land = l.land;
+  held = λ c. cond (is_cell_of depth ts l.land c) (owners_before ps (l ∷ later) (cell_path levels ts c)) opening_owners;
+}
+
+-- the images that are out, as loans
+abbrev pub loans_of : ℕ → List Township → (Estate → Plot) → List Lent → List Loan
+loans_of levels ts ps [] = []
+loans_of levels ts ps (l ∷ lent) = loan_of levels ts ps l lent ∷ loans_of levels ts ps lent
 
 -- an image that is out, as pieces of an estate's tree
 abbrev pub lending : Estate → Lent → Lending
@@ -54,14 +81,18 @@ same_ways [] (q ∷ qs) = false
 same_ways (p ∷ ps) [] = false
 same_ways (p ∷ ps) (q ∷ qs) = same_path p q && same_ways ps qs
 
+-- all of the paths, or none
+abbrev pub is_whole : List (List Quarter) → List (List Quarter) → Bool
+is_whole ps qs = same_ways ps [] || same_ways ps qs
+
 -- each piece goes no deeper than the tree's cells
 abbrev pub PiecesFit : ℕ → List Piece → Type 0
 PiecesFit levels xs = (x : Piece) → In x xs → (n : ℕ) → levels ≡ length x.path + n → fits n x.plot ≡ true
 
--- an image has a piece of each estate for each node of its tract
+-- an image has a piece for each node of its tract, or none, of each estate
 pub record IsBacked (levels : ℕ) (ts : List Township) (l : Lent) : Type 0 where
   pub within : is_in_plant ts l.land ≡ true
-  pub at : (e : Estate) → same_ways (paths (pieces l.trees e)) (tract_spots levels ts l.land) ≡ true
+  pub at : (e : Estate) → is_whole (paths (pieces l.trees e)) (tract_spots levels ts l.land) ≡ true
   pub fit : (e : Estate) → PiecesFit (height levels) (pieces l.trees e)
 
 -- numbers rise

@@ -3,13 +3,16 @@
 ghost use Rattle.std.specs.Prelude.{◌≡◌, ◌++◌, ◌∷◌, [], ◌&&◌, None, map, IfOk, OnOk, OnErr, IfErr};
 ghost use Rattle.title_share.specs.Division.{all_to};
 ghost use Rattle.title_instrument.specs.Effect.{holding_effect};
+ghost use Rattle.title_instrument.specs.Estates.{names};
+ghost use Rattle.title_instrument.specs.Parties.{estates_of};
 ghost use Rattle.title_instrument.specs.declared.parts.Estate.TheVariants.{S, O, M};
 ghost use Rattle.title_tree.specs.Changes.{after};
 ghost use Rattle.title_tree.specs.Parts.{piece, ways};
 ghost use Rattle.title_tree.specs.Pieces.{Disjoint, Ready, Refines, StaysWithin, paths, swapped, taken, split_all, fresh, refusal_at};
 ghost use Rattle.title_tree.specs.Plots.{Same, is_tidy};
 ghost use Rattle.title_tree.specs.Trees.{plot};
-ghost use Rattle.title_tree_store.specs.Forests.{plots, all_ways, written, tidied_written, IsNoted, IsChange, IsRefusedIn};
+ghost use Rattle.title_tree_store.specs.Forests.{plots, named_spots, all_ways, written, tidied_written, IsNoted};
+ghost use Rattle.title_tree_store.specs.Forests.{IsChange, IsRefusedIn};
 
 use crate::passing::Passing;
 use std::alloc::{AllocError, Global};
@@ -45,7 +48,15 @@ fn opening_tree(alloc: Global) -> Result<Tree, AllocError>
     Ok(Tree::Leaf(held))
 }
 
-// What stands at some paths of a tree, after an instrument; nothing changes. Refused as the first leaf that refuses.
+// Whether an instrument names an estate.
+fn names(instrument: &Instrument, estate: Estate) -> bool
+    ensures names { result ≡ names (estates_of instrument.now) estate }
+{
+    instrument.estates().has(estate)
+}
+
+// What stands at some paths of a tree, after an instrument; nothing where it doesn't name the estate. Refused as the first
+// leaf that refuses.
 fn changed(
     alloc: Global,
     tree: &Tree,
@@ -57,12 +68,33 @@ fn changed(
     ensures why { IfErr result (IsRefusedIn instrument.now estate (ways paths.now) (plot tree.now)) }
 {
     let mut parts = Vec::new(alloc);
+    if !names(instrument, estate) {
+        return Ok(parts);
+    }
     let mut passing = Passing {
         instrument: *instrument,
         estate,
     };
     add_changed(alloc, tree, paths, &mut passing, &mut parts)?;
     Ok(parts)
+}
+
+// Quarters an estate's tree down to each path, where an instrument names the estate.
+fn split_named(
+    tree: &mut Tree,
+    alloc: Global,
+    paths: &[Vec<Quarter>],
+    instrument: &Instrument,
+    estate: Estate,
+) -> Result<(), AllocError>
+    ensures ok { OnOk result (plot tree.new ≡ split_all (named_spots instrument.now estate (ways paths.now)) (plot tree.old)) }
+    ensures err { OnErr result (Refines (plot tree.old) (plot tree.new)) }
+    ensures err_fits { OnErr result (StaysWithin (ways paths.now) (plot tree.old) (plot tree.new)) }
+{
+    if !names(instrument, estate) {
+        return Ok(());
+    }
+    split_each(tree, alloc, paths)
 }
 
 impl Forest {
@@ -126,11 +158,17 @@ impl Forest {
         Ok(Subtrees { s, o, m })
     }
 
-    // Quarters the trees down to each path. After `Err` they may be quartered down to some.
-    fn split_each(&mut self, alloc: Global, paths: &[Vec<Quarter>]) -> Result<(), AllocError>
-        ensures s { OnOk result (plot self.new.s ≡ split_all (ways paths.now) (plot self.old.s)) }
-        ensures o { OnOk result (plot self.new.o ≡ split_all (ways paths.now) (plot self.old.o)) }
-        ensures m { OnOk result (plot self.new.m ≡ split_all (ways paths.now) (plot self.old.m)) }
+    // Quarters the trees of the estates that an instrument names down to each path. After `Err` they may be quartered down
+    // to some.
+    fn split_each(
+        &mut self,
+        alloc: Global,
+        paths: &[Vec<Quarter>],
+        instrument: &Instrument,
+    ) -> Result<(), AllocError>
+        ensures s { OnOk result (plot self.new.s ≡ split_all (named_spots instrument.now S (ways paths.now)) (plot self.old.s)) }
+        ensures o { OnOk result (plot self.new.o ≡ split_all (named_spots instrument.now O (ways paths.now)) (plot self.old.o)) }
+        ensures m { OnOk result (plot self.new.m ≡ split_all (named_spots instrument.now M (ways paths.now)) (plot self.old.m)) }
         ensures err_s { OnErr result (Refines (plot self.old.s) (plot self.new.s)) }
         ensures err_o { OnErr result (Refines (plot self.old.o) (plot self.new.o)) }
         ensures err_m { OnErr result (Refines (plot self.old.m) (plot self.new.m)) }
@@ -139,20 +177,22 @@ impl Forest {
         ensures within_m { OnErr result (StaysWithin (ways paths.now) (plot self.old.m) (plot self.new.m)) }
         ensures written { self.new.written ≡ self.old.written }
     {
-        split_each(&mut self.s, alloc, paths)?;
-        split_each(&mut self.o, alloc, paths)?;
-        split_each(&mut self.m, alloc, paths)
+        split_named(&mut self.s, alloc, paths, instrument, Estate::S)?;
+        split_named(&mut self.o, alloc, paths, instrument, Estate::O)?;
+        split_named(&mut self.m, alloc, paths, instrument, Estate::M)
     }
 
-    /// Quarters the trees down to each path, and keeps the paths for `tidy`. After `Err` they may be quartered down to some.
+    /// Quarters the trees of the estates that an instrument names down to each path, and keeps the paths for `tidy`. After
+    /// `Err` they may be quartered down to some.
     pub(crate) fn quarter(
         &mut self,
         alloc: Global,
         paths: Vec<Vec<Quarter>>,
+        instrument: &Instrument,
     ) -> Result<(), AllocError>
-        ensures s { OnOk result (plot self.new.s ≡ split_all (ways paths.items) (plot self.old.s)) }
-        ensures o { OnOk result (plot self.new.o ≡ split_all (ways paths.items) (plot self.old.o)) }
-        ensures m { OnOk result (plot self.new.m ≡ split_all (ways paths.items) (plot self.old.m)) }
+        ensures s { OnOk result (plot self.new.s ≡ split_all (named_spots instrument.now S (ways paths.items)) (plot self.old.s)) }
+        ensures o { OnOk result (plot self.new.o ≡ split_all (named_spots instrument.now O (ways paths.items)) (plot self.old.o)) }
+        ensures m { OnOk result (plot self.new.m ≡ split_all (named_spots instrument.now M (ways paths.items)) (plot self.old.m)) }
         ensures err_s { OnErr result (Refines (plot self.old.s) (plot self.new.s)) }
         ensures err_o { OnErr result (Refines (plot self.old.o) (plot self.new.o)) }
         ensures err_m { OnErr result (Refines (plot self.old.m) (plot self.new.m)) }
@@ -163,7 +203,7 @@ impl Forest {
         ensures err_noted { OnErr result (IsNoted (ways paths.items) self.old self.new) }
     {
         self.written.reserve(1)?;
-        let quartered = self.split_each(alloc, &paths);
+        let quartered = self.split_each(alloc, &paths, instrument);
         self.written.push_reserved(paths);
         quartered
     }

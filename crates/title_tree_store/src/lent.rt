@@ -9,7 +9,7 @@ use std::alloc::{AllocError, Global};
 use std::collections::VecDeque;
 use title_land::Land;
 
-/// An image that is out: its number, its tract, and the trees that stood in it.
+/// An image that is out: its number, its tract, and the trees that stood in it, of the estates that were named.
 #[derive(Drop)]
 pub(crate) struct Lent {
     pub number: u64,

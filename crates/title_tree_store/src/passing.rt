@@ -19,7 +19,7 @@ fn shared(alloc: Global, held: Holding) -> Result<Arc<Holding>, AllocError>
     Ok(Arc::new(alloc, held)?)
 }
 
-/// An instrument for one estate; one that isn't named keeps its holdings, shared.
+/// An instrument for one estate.
 #[derive(Drop)]
 pub(crate) struct Passing {
     pub instrument: Instrument,
@@ -32,9 +32,6 @@ impl Change for Passing {
     ghost effect = { λ p. holding_effect p.instrument p.estate };
 
     fn apply(&mut self, alloc: Global, held: &Arc<Holding>) -> Result<Arc<Holding>, Fault<Rule>> {
-        if !self.instrument.estates().has(self.estate) {
-            return Ok(held.clone()?);
-        }
         let units = held.units(self.instrument.grantor());
         match self.instrument.passes(self.estate, units) {
             Ok(units) => {

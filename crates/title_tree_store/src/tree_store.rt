@@ -71,7 +71,7 @@ impl Store for TreeStore {
 
     ghost declared = { λ s. s.townships.items };
 
-    ghost out = { λ s. loans_of s.levels s.townships.items (images s.lent) };
+    ghost out = { λ s. loans_of s.levels s.townships.items (plots s.forest) (images s.lent) };
 
     ghost number = { λ i. i.number };
 
@@ -93,7 +93,7 @@ impl Store for TreeStore {
         match self.forest.changed(self.alloc, &paths, instrument) {
             Ok(mut trees) => {
                 self.lent.reserve()?;
-                self.forest.quarter(self.alloc, paths)?;
+                self.forest.quarter(self.alloc, paths, instrument)?;
                 self.forest.exchange(&mut trees);
                 let land = tract.land();
                 let number = self.lent.add(land, trees);

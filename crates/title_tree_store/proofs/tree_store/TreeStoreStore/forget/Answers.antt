@@ -19,5 +19,6 @@ invariant_of-self c = record {
 pub returns-clause-out : goal.returns-clause-out
 returns-clause-out c =
     forget_out c.args.self.now.levels c.args.self.now.townships.items (plots c.args.self.now.forest) (images c.args.self.now.lent)
-    (images c.take.new.self) c.args.self.now.lent.next c.args.image.number c.take.result c.requires.out c.take.ensures.taken
+    (images c.take.new.self) c.args.self.now.lent.next c.args.image.number c.take.result c.requires.out c.requires.first
+    c.take.ensures.taken
     c.args.self.now.kept

@@ -14,11 +14,13 @@ use Rattle.title_tree.specs.Parts.{ways}
 use Rattle.title_tree.specs.Pieces.{refusal_at, Refines, StaysWithin}
 use Rattle.title_tree_store.specs.declared.lent.Lent.{Lent}
 use Rattle.title_tree_store.specs.Spots.{tract_spots}
-use Rattle.title_tree_store.specs.Forests.{plots, pieces}
+use Rattle.title_tree_store.specs.Forests.{plots, pieces, named_spots}
 use Rattle.title_tree_store.specs.Keeping.{content_of, loans_of, IsKept}
 use Rattle.title_tree_store.specs.Out.{images}
 use Rattle.title_tree_store.specs.Refusing.{first_in, triple}
 use Rattle.title_tree_store.proofs.Keeps.{each, kept_as}
+use Rattle.title_tree_store.proofs.Loans.{loans_refined}
+use Rattle.title_tree_store.proofs.Steps.{on_err}
 use Rattle.title_tree_store.proofs.Puts.{IsPut, put_steps, put_allowed, put_shows, put_takes, kept_put, kept_stopped, refused_none}
 use Rattle.title_tree_store.proofs.Puts.{found_failing, some_cell_fails, told}
 use Rattle.title_tree_store.proofs.tree_store.TreeStoreStore.put.Goals as goal
@@ -48,6 +50,15 @@ invariant_of-self-in-Break-branch-3 c =
           c.in_err-quarter-in-Ok.ensures.within_s c.in_err-quarter-in-Ok.ensures.within_o c.in_err-quarter-in-Ok.ensures.within_m)
           c.args.self.now.kept);
     }
+
+pub returns-in_err-quarter-in-Ok-clause-err_out : goal.returns-in_err-quarter-in-Ok-clause-err_out
+returns-in_err-quarter-in-Ok-clause-err_out c =
+    on_err c.from_residual-in_err-quarter-in-Ok.result _
+    (ap (loans_of c.args.self.now.levels c.args.self.now.townships.items (plots c.quarter.new.self)) c.reserve.ensures.images
+    ∙ loans_refined c.args.self.now.levels c.args.self.now.townships.items (plots c.args.self.now.forest) (plots c.quarter.new.self)
+    (images c.args.self.now.lent)
+    (each (λ e. Refines (plots c.args.self.now.forest e) (plots c.quarter.new.self e)) c.in_err-quarter-in-Ok.ensures.err_s
+    c.in_err-quarter-in-Ok.ensures.err_o c.in_err-quarter-in-Ok.ensures.err_m))
 
 pub exchange-requires-clause-s : goal.exchange-requires-clause-s
 exchange-requires-clause-s c =
@@ -104,8 +115,8 @@ invariant_of-self-in-Ok c =
           c.add-number.new.self.next) (sym out_is)
           (kept_put c.args.self.now.levels c.args.self.now.townships.items c.args.tract.now c.args.instrument.now
           (plots c.args.self.now.forest) (plots c.quarter.new.self) (plots c.exchange.new.self) (pieces c.in-Ok.trees)
-          (images c.args.self.now.lent) l c.args.self.now.lent.next c.add-number.new.self.next c.args.self.now.once c.requires.within c.reserve.ensures.next
-          c.land-land.ensures.land more put c.args.self.now.kept);
+          (images c.args.self.now.lent) l c.args.self.now.lent.next c.add-number.new.self.next c.args.self.now.once
+          c.requires.within c.reserve.ensures.next c.land-land.ensures.land more put c.args.self.now.kept);
     }
 
 pub returns-in-Ok-clause-put : goal.returns-in-Ok-clause-put
@@ -129,13 +140,13 @@ returns-in-Ok-clause-put c =
           (plots c.args.self.now.forest) c.args.self.now.kept.room c.requires.within (λ e. (put e).made.0),
       subst (λ (n : ℕ). IsTaken n c.args.self.now.townships.items c.args.tract.now
           (content_of c.args.self.now.levels c.args.self.now.townships.items (plots c.args.self.now.forest))
-          (loans_of c.args.self.now.levels c.args.self.now.townships.items (images c.args.self.now.lent))
-          (loans_of c.args.self.now.levels c.args.self.now.townships.items (images c.add-number.new.self)))
+          (loans_of c.args.self.now.levels c.args.self.now.townships.items (plots c.args.self.now.forest) (images c.args.self.now.lent))
+          (loans_of c.args.self.now.levels c.args.self.now.townships.items (plots c.exchange.new.self) (images c.add-number.new.self)))
           (sym (c.add-number.ensures.number ∙ c.reserve.ensures.next))
           (subst (λ (z : List Lent). IsTaken c.args.self.now.lent.next c.args.self.now.townships.items c.args.tract.now
           (content_of c.args.self.now.levels c.args.self.now.townships.items (plots c.args.self.now.forest))
-          (loans_of c.args.self.now.levels c.args.self.now.townships.items (images c.args.self.now.lent))
-          (loans_of c.args.self.now.levels c.args.self.now.townships.items z)) (sym out_is)
+          (loans_of c.args.self.now.levels c.args.self.now.townships.items (plots c.args.self.now.forest) (images c.args.self.now.lent))
+          (loans_of c.args.self.now.levels c.args.self.now.townships.items (plots c.exchange.new.self) z)) (sym out_is)
           (put_takes c.args.self.now.levels c.args.self.now.townships.items c.args.tract.now c.args.instrument.now
           (plots c.args.self.now.forest) (plots c.quarter.new.self) (plots c.exchange.new.self) (pieces c.in-Ok.trees)
           (images c.args.self.now.lent) l c.args.self.now.lent.next c.args.self.now.once c.requires.within c.reserve.ensures.next
@@ -176,7 +187,8 @@ unreachable-requires c =
     some_cell_fails c.args.self.now.levels c.args.self.now.townships.items c.args.tract.now c.args.instrument.now
     (plots c.args.self.now.forest) c.deref-in-Err-Refused-3.result.now why.0 c.in-Err-Refused.field-0-0 c.args.self.now.kept.room
     c.requires.within (c.args.self.now.kept.fit why.0) listed
-    (ap (λ (ps : List (List Quarter)). refusal_at (holding_effect c.args.instrument.now why.0) ps (plots c.args.self.now.forest why.0))
+    (ap (λ (ps : List (List Quarter)). refusal_at (holding_effect c.args.instrument.now why.0)
+    (named_spots c.args.instrument.now why.0 ps) (plots c.args.self.now.forest why.0))
     (sym made_at) ∙ told c.in-Err-Refused.field-0 c.in-Err-Refused.field-0-0 _ c.in-Err-Refused.field-0-is why.1)
     (sym c.in_default.is ∙ first)
 

@@ -4,15 +4,15 @@ use Rattle.title_tree_store.specs.Keeping.{IsKept}
 use Rattle.title_tree.specs.Pieces.{swapped}
 use Rattle.title_instrument.specs.declared.parts.Estate.TheVariants.{S, O, M}
 use Rattle.title_tree_store.specs.Forests.{plots, pieces}
-use Rattle.title_tree_store.proofs.Keeps.{each, goes_back, kept_restored}
+use Rattle.title_tree_store.proofs.Keeps.{each, goes_back}
 use Rattle.title_tree_store.specs.Out.{images}
-use Rattle.title_tree_store.proofs.Operations.{some_taken, some_is, left_without, restores}
+use Rattle.title_tree_store.proofs.Operations.{some_taken, some_is, restored_kept, restored_out, restores}
 use Rattle.title_tree_store.proofs.tree_store.TreeStoreStore.restore.Goals as goal
 
 pub unwrap-lent-requires : goal.unwrap-lent-requires
 unwrap-lent-requires c =
-    some_taken c.args.self.now.levels c.args.self.now.townships.items (images c.args.self.now.lent) (images c.take.new.self)
-    c.args.image.number c.take.result c.requires.out c.take.ensures.taken
+    some_taken c.args.self.now.levels c.args.self.now.townships.items (plots c.args.self.now.forest) (images c.args.self.now.lent)
+    (images c.take.new.self) c.args.image.number c.take.result c.requires.out c.take.ensures.taken
 
 pub exchange-requires-clause-s : goal.exchange-requires-clause-s
 exchange-requires-clause-s c =
@@ -46,7 +46,7 @@ invariant_of-self c =
       once = c.args.self.now.once;
       kept = subst (IsKept c.args.self.now.levels c.args.self.now.townships.items (plots c.exchange.new.self) (images c.take.new.self))
           (sym c.take.ensures.next)
-          (kept_restored c.args.self.now.levels c.args.self.now.townships.items (plots c.args.self.now.forest) (plots c.exchange.new.self)
+          (restored_kept c.args.self.now.levels c.args.self.now.townships.items (plots c.args.self.now.forest) (plots c.exchange.new.self)
           (images c.args.self.now.lent) (images c.take.new.self) c.args.self.now.lent.next c.args.image.number c.unwrap-lent.result taken
           c.requires.last
           (each (λ e. plots c.exchange.new.self e ≡ swapped (pieces c.unwrap-lent.result.trees e) (plots c.args.self.now.forest e))
@@ -60,13 +60,16 @@ returns-clause-content c =
     c.unwrap-lent.ensures c.take.ensures.taken in
     restores c.args.self.now.levels c.args.self.now.townships.items (plots c.args.self.now.forest) (plots c.exchange.new.self)
     (images c.args.self.now.lent) (images c.take.new.self) c.args.self.now.lent.next c.args.image.number c.unwrap-lent.result taken
-    c.args.self.now.kept
+    c.requires.last c.args.self.now.kept
     (each (λ e. plots c.exchange.new.self e ≡ swapped (pieces c.unwrap-lent.result.trees e) (plots c.args.self.now.forest e))
     c.exchange.ensures.tree_s c.exchange.ensures.tree_o c.exchange.ensures.tree_m)
 
 pub returns-clause-out : goal.returns-clause-out
 returns-clause-out c =
-    left_without c.args.self.now.levels c.args.self.now.townships.items (images c.args.self.now.lent) (images c.take.new.self)
-    c.args.image.number c.unwrap-lent.result
-    (some_is c.args.image.number (images c.args.self.now.lent) (images c.take.new.self) c.take.result c.unwrap-lent.result
-    c.unwrap-lent.ensures c.take.ensures.taken) c.args.self.now.kept.rises
+    let taken = some_is c.args.image.number (images c.args.self.now.lent) (images c.take.new.self) c.take.result c.unwrap-lent.result
+    c.unwrap-lent.ensures c.take.ensures.taken in
+    restored_out c.args.self.now.levels c.args.self.now.townships.items (plots c.args.self.now.forest) (plots c.exchange.new.self)
+    (images c.args.self.now.lent) (images c.take.new.self) c.args.self.now.lent.next c.args.image.number c.unwrap-lent.result taken
+    c.requires.last c.args.self.now.kept
+    (each (λ e. plots c.exchange.new.self e ≡ swapped (pieces c.unwrap-lent.result.trees e) (plots c.args.self.now.forest e))
+    c.exchange.ensures.tree_s c.exchange.ensures.tree_o c.exchange.ensures.tree_m)

@@ -1,7 +1,8 @@
 -- Where no image is out the trees may be joined.
-use Rattle.std.proofs.Common.{◌≡◌}
+use Rattle.std.proofs.Common.{◌≡◌, ap}
+use Rattle.title_tree_store.specs.Keeping.{loans_of}
 use Rattle.title_tree_store.specs.Forests.{plots, written, tidied_written}
-use Rattle.title_tree_store.proofs.Keeps.{each, kept_tidied}
+use Rattle.title_tree_store.proofs.Keeps.{each, no_loans, kept_tidied}
 use Rattle.title_tree_store.specs.Out.{images}
 use Rattle.title_tree_store.proofs.Operations.{tidies}
 use Rattle.title_tree_store.proofs.tree_store.TreeStoreStore.tidy.Goals as goal
@@ -21,3 +22,8 @@ returns-clause-content c x =
     (written c.args.self.now.forest)
     (each (λ e. plots c.tidy.new.self e ≡ tidied_written (written c.args.self.now.forest) (plots c.args.self.now.forest e))
     c.tidy.ensures.s c.tidy.ensures.o c.tidy.ensures.m) x
+
+pub returns-clause-out : goal.returns-clause-out
+returns-clause-out c = ap (loans_of c.args.self.now.levels c.args.self.now.townships.items (plots c.tidy.new.self))
+    (no_loans c.args.self.now.levels c.args.self.now.townships.items (plots c.args.self.now.forest) (images c.args.self.now.lent)
+    c.requires.none)
