@@ -51,10 +51,6 @@ class Runner:
 
     def run(self, words, source=None, output=None, errors=None):
         """One run, on the bytes that were fed, or from and to files of the caller's; a file below 0 is a closed one."""
-        for file in (self.output, self.errors):
-            os.ftruncate(file, 0)
-            os.lseek(file, 0, os.SEEK_SET)
-        os.lseek(self.source, 0, os.SEEK_SET)
         start = time.monotonic()
         child = self.begin(words, source, output, errors)
         status, usage = self.wait(child)
@@ -64,6 +60,10 @@ class Runner:
 
     def begin(self, words, source=None, output=None, errors=None):
         """Begins a run, and gives its number."""
+        for file in (self.output, self.errors):
+            os.ftruncate(file, 0)
+            os.lseek(file, 0, os.SEEK_SET)
+        os.lseek(self.source, 0, os.SEEK_SET)
         asked = ((source, self.source), (output, self.output), (errors, self.errors))
         ends = [own if file is None else file for file, own in asked]
         actions = [(os.POSIX_SPAWN_DUP2, file, place) if file >= 0 else (os.POSIX_SPAWN_CLOSE, place) for place, file in enumerate(ends)]

@@ -1,22 +1,25 @@
 #!/usr/bin/env python3
 """Refuses each allocation of a built program's runs in turn, and judges how each run ends.
 
-    refuse_growths.py [--program PROGRAM] [--every K] [--jobs N] [--from-then-on] [--before-main]
+    refuse_growths.py [--program PROGRAM] [--every K] [--most N] [--jobs N] [--from-then-on]
     refuse_growths.py [..] --command run|alone|office SCRIPT..
     refuse_growths.py [..] --program PROGRAM --same WORD..
 
 A small library is compiled and loaded before the program; it counts the calls of malloc, calloc, realloc, aligned_alloc, memalign
 and posix_memalign from the beginning of main on, by all threads, and refuses the Nth. A program is run once with nothing refused, and
-then for N = 1, 2, .. until a run meets no refusal.
+then for N = 1, 2, .. until a run meets no refusal. What is asked for before main and after it is counted apart and told; nothing was
+seen there yet, and nothing is refused there. (The loader takes its own memory before the library is in place: a program that can't be
+loaded isn't tried.)
 
 By default these are the runs of titleplant on each script of examples/, on scripts of 60 to 200 rows of each kind of generate.py, and
-on some scripts and words at fault. A run has to end as the one without refusal did, or with the line `fault,6` alone and status 1, and
-with at most one line on standard error. A report of `office` may be another one of those that its script allows, and where it was the
-start of a thread that wanted memory the line may be `fault,9`. With --same the program is one whose output has to be the same whatever
-is refused, as `title_trials growths`; it tells on standard error how many calls wanted memory, and that has to be one.
+on some scripts and words at fault; of an office's allocations some 500 are refused, evenly spread. A run has to end as the one without
+refusal did, or with the line `fault,6` alone and status 1, and with at most one line on standard error. A report of `office` may be
+another one of those that its script allows, and the line is `fault,9` where it was the start of a thread that wanted memory.
 
-With --from-then-on all allocations after the Nth are refused with it. With --before-main those are refused that the C library makes
-before main begins, and it is told what came of it.
+With --same the program is one whose output has to be the same whatever is refused, as `title_trials growths`; it tells on standard error
+how many calls wanted memory, which has to be one, or none where what was refused is only to shorten a list (a realloc to fewer bytes).
+
+With --from-then-on all allocations after the Nth are refused with it.
 """
 
 import argparse
@@ -39,7 +42,7 @@ LIBRARY = r"""
 #include <dlfcn.h>
 #include <errno.h>
 #include <fcntl.h>
-#include <pthread.h>
+#include <malloc.h>
 #include <stdlib.h>
 #include <sys/mman.h>
 #include <unistd.h>
@@ -48,32 +51,35 @@ void *__libc_malloc(size_t), *__libc_calloc(size_t, size_t), *__libc_realloc(voi
 
 enum { BEFORE, MAIN, AFTER };
 
-/* How many allocations each stage asked for, how many were refused, and whether a thread's start was refused one. */
+/* How many allocations each stage asked for, how many were refused, and how many of these were to shorten what is there. */
 struct tally {
-    unsigned long asked[3], refused, starting;
+    unsigned long asked[3], refused, shortened;
 };
 
 static struct tally own, *tally = &own;
-static int stage, refused_stage;
+static int stage;
 static unsigned long first, last;
-static __thread int is_starting __attribute__((tls_model("initial-exec")));
 static int (*the_main)(int, char **, char **);
 
 static int is_refused(void) {
     int at = __atomic_load_n(&stage, __ATOMIC_SEQ_CST);
     unsigned long number = __atomic_add_fetch(&tally->asked[at], 1, __ATOMIC_SEQ_CST);
-    if (at != refused_stage || number < first || number > last)
+    if (at != MAIN || number < first || number > last)
         return 0;
     __atomic_add_fetch(&tally->refused, 1, __ATOMIC_SEQ_CST);
-    if (is_starting)
-        __atomic_store_n(&tally->starting, 1, __ATOMIC_SEQ_CST);
     errno = ENOMEM;
     return 1;
 }
 
 void *malloc(size_t size) { return is_refused() ? NULL : __libc_malloc(size); }
 void *calloc(size_t count, size_t size) { return is_refused() ? NULL : __libc_calloc(count, size); }
-void *realloc(void *old, size_t size) { return is_refused() ? NULL : __libc_realloc(old, size); }
+void *realloc(void *old, size_t size) {
+    if (!is_refused())
+        return __libc_realloc(old, size);
+    if (old != NULL && size <= malloc_usable_size(old))
+        __atomic_add_fetch(&tally->shortened, 1, __ATOMIC_SEQ_CST);
+    return NULL;
+}
 void *memalign(size_t align, size_t size) { return is_refused() ? NULL : __libc_memalign(align, size); }
 void *aligned_alloc(size_t align, size_t size) { return is_refused() ? NULL : __libc_memalign(align, size); }
 int posix_memalign(void **place, size_t align, size_t size) {
@@ -82,14 +88,6 @@ int posix_memalign(void **place, size_t align, size_t size) {
         return ENOMEM;
     *place = made;
     return 0;
-}
-
-int pthread_create(pthread_t *thread, const pthread_attr_t *attributes, void *(*start)(void *), void *argument) {
-    int (*next)(pthread_t *, const pthread_attr_t *, void *(*)(void *), void *) = dlsym(RTLD_NEXT, "pthread_create");
-    is_starting = 1;
-    int answer = next(thread, attributes, start, argument);
-    is_starting = 0;
-    return answer;
 }
 
 static int counted_main(int count, char **words, char **environment) {
@@ -122,12 +120,11 @@ __attribute__((constructor)) static void begin(void) {
     first = text == NULL ? ~0UL : strtoul(text, NULL, 10);
     text = getenv("REFUSE_LAST");
     last = text == NULL ? first : strtoul(text, NULL, 10);
-    refused_stage = getenv("REFUSE_BEFORE") == NULL ? MAIN : BEFORE;
 }
 """
 
 TALLY = struct.Struct("5L")
-Tally = collections.namedtuple("Tally", "before main after refused starting")
+Tally = collections.namedtuple("Tally", "before main after refused shortened")
 Trial = collections.namedtuple("Trial", "name program words source kind")
 
 # How many rows the scripts of each kind have that are made for this; each with few townships and parties.
@@ -137,6 +134,8 @@ SMALL = {
     "run": {"interleaved": 200, "short": 200, "long": 120, "reviewed": 120, "crowd": 120, "refused": 120},
     "office": {"own": 100, "shared": 100},
 }
+# An office keeps its plant cell by cell, and its runs are long: of their allocations so many are refused, where no script is named.
+FEW = 500
 OFFICE_WORDS = ["office", "--examiners", "3", "--tries", "50"]
 
 # Scripts at fault, and other words.
@@ -173,8 +172,6 @@ class Refuser(Runner):
         """How a run ends, and what it asked for, with this allocation refused; none where it is 0."""
         self.environment["REFUSE_FIRST"] = str(number or 2**63)
         self.environment["REFUSE_LAST"] = str(2**63 if self.options.from_then_on or not number else number)
-        if self.options.before_main:
-            self.environment["REFUSE_BEFORE"] = "1"
         self.tally[:] = bytes(TALLY.size)
         ending = self.run(self.trial.words)
         return ending, Tally(*TALLY.unpack(self.tally[:]))
@@ -200,8 +197,8 @@ def complaint(trial, ending, tally, plain):
     if trial.kind == "same":
         if (ending.status, ending.output) != (0, plain.output):
             return f"other output, status {ending.status}"
-        told = re.fullmatch(rb".*: ([0-9]+) wanted memory\n", ending.errors)
-        return None if told and told[1] == b"1" else f"tells {ending.errors!r}"
+        told = b": 0 wanted memory\n" if tally.shortened else b": 1 wanted memory\n"
+        return None if ending.errors.endswith(told) and lines(ending.errors) == 1 else f"tells {ending.errors!r}"
     if lines(ending.errors) > max(1, lines(plain.errors)):
         return f"{lines(ending.errors)} lines on standard error"
     if ending.status == 0 and ending.errors != plain.errors:
@@ -211,15 +208,15 @@ def complaint(trial, ending, tally, plain):
     if trial.kind == "office":
         if ending.status == 0 and is_office_report(ending.output, plain.output):
             return None
-        if tally.starting and (ending.status, ending.output) == (1, b"fault,9\n"):
+        if (ending.status, ending.output) == (1, b"fault,9\n"):
             return None
     return f"status {ending.status}, output {ending.output[:80]!r}"
 
 
-def kind_of_end(ending, plain):
+def kind_of_end(ending, tally, plain):
     """What an ending is counted under."""
     if (ending.status, ending.output) == (plain.status, plain.output):
-        return "as without refusal"
+        return f"as without refusal{' (a list not shortened)' if tally.shortened else ''}"
     return ending.output.decode().strip() if ending.status else "another report"
 
 
@@ -235,8 +232,8 @@ def refuse_some(task):
             missed += 1
         else:
             missed = 0
-            wrong = None if options.before_main else complaint(trial, ending, tally, plain)
-            counts[kind_of_end(ending, plain) if not wrong else "wrong"] += 1
+            wrong = complaint(trial, ending, tally, plain)
+            counts["wrong" if wrong else kind_of_end(ending, tally, plain)] += 1
             slowest = max(slowest, ending.seconds)
             if wrong:
                 faults.append(f"{trial.name}: allocation {number} refused: {wrong}")
@@ -249,7 +246,9 @@ def refuse_all(trial, work, options):
     refuser = Refuser(trial, work, options)
     plain, tally = refuser.refusing(0)
     start = time.monotonic()
-    tasks = [(trial, work, options, place * options.every + 1, options.jobs * options.every, plain) for place in range(options.jobs)]
+    most = options.most or (FEW if trial.kind == "office" and not options.words else 0)
+    every = max(options.every, -(-tally.main // most) if most else 1)
+    tasks = [(trial, work, options, place * every + 1, options.jobs * every, plain) for place in range(options.jobs)]
     if options.jobs == 1:
         done = [refuse_some(tasks[0])]
     else:
@@ -262,7 +261,8 @@ def refuse_all(trial, work, options):
     told = ", ".join(f"{number} {ending}" for ending, number in sorted(counts.items()))
     seconds = time.monotonic() - start
     stages = f"{tally.before} before main, {tally.main} in it, {tally.after} after"
-    print(f"{trial.name}: {stages}; {sum(counts.values())} refused in turn: {told or 'none'}; {seconds:.0f} s", flush=True)
+    which = " in turn" if every == 1 else f", one of each {every}"
+    print(f"{trial.name}: {stages}; {sum(counts.values())} refused{which}: {told or 'none'}; {seconds:.0f} s", flush=True)
     for fault in faults[:10]:
         print(f"  WRONG {fault}", flush=True)
     return counts, faults
@@ -325,9 +325,9 @@ def main():
     options = argparse.ArgumentParser(description="Refuses each allocation of a built program's runs in turn.")
     options.add_argument("--program", default=str(BUILT), help="the built program (default: the one that bin/titleplant builds)")
     options.add_argument("--every", type=int, default=1, help="refuse every Kth allocation alone", metavar="K")
+    options.add_argument("--most", type=int, default=0, help="refuse about N of a run's allocations (default: all)", metavar="N")
     options.add_argument("--jobs", type=int, default=1, help="so many runs side by side (default 1)", metavar="N")
     options.add_argument("--from-then-on", action="store_true", help="refuse all that follow, too")
-    options.add_argument("--before-main", action="store_true", help="refuse what is asked for before main, and only tell what comes of it")
     options.add_argument("--patience", type=int, default=60, help="seconds that a run may take (default 60)", metavar="S")
     options.add_argument("--command", choices=("run", "alone", "office"), help="of the scripts named")
     options.add_argument("--same", action="store_true", help="the words are the program's own, and its output has to be the same")
@@ -340,7 +340,7 @@ def main():
     with tempfile.TemporaryDirectory() as work:
         source = pathlib.Path(work, "refuse.c")
         source.write_text(LIBRARY)
-        subprocess.run(["cc", "-O2", "-shared", "-fPIC", "-o", f"{work}/refuse.so", source, "-ldl", "-pthread"], check=True)
+        subprocess.run(["cc", "-O2", "-shared", "-fPIC", "-o", f"{work}/refuse.so", source, "-ldl"], check=True)
         asked_for = trials(asked)
         for trial in asked_for:
             of_trial = refuse_all(trial, work, asked)
