@@ -10,6 +10,7 @@ cuts      every beginning of each script of examples/, and of small scripts of s
 mutated   N scripts (100,000 where nothing is said) with bits turned, rows exchanged, fields left out, quotes unbalanced and the like
 tracts    N descriptions, good and bad: each node's text that is told is read again, and gives that node alone
 shapes    scripts of 1 to 16 megabytes that are nothing but quotes, commas, line ends or the like: the time is linear in the bytes
+memory    scripts of each command under a limit of the memory that rises until the report is whole: before that it is `fault,6`
 
 With no trial named, all of them. Each run has to end with status 0 and a report whose last row is `end,K`, or with status 1 and one
 line of a fault that docs/FORMATS.md lists for the command; never by a signal, and with at most one line on standard error (`tract`
@@ -614,7 +615,7 @@ def read_again(runner, texts, into):
 
 def by_command(runner, text, sheet, into):
     """The command `tract` tells the same of a text as the script does, with the acres of its nodes."""
-    ending = runner.run(["tract", text])
+    ending = runner.run(["tract", "--", text])
     wrong = complaint(ending, "tract")
     rows = ending.output.decode().splitlines()
     nodes = nodes_of(sheet)
@@ -676,7 +677,34 @@ def shapes(asked):
     return into
 
 
-TRIALS = {"devices": devices, "bytes": bytes_exchanged, "cuts": cuts, "mutated": mutated, "tracts": tracts, "shapes": shapes}
+# Memory.
+
+
+def memory(asked):
+    """Scripts under a limit of the memory that rises by a twentieth until the report is whole, twice in a row."""
+    into = found()
+    runner = Runner("/bin/sh")
+    scripts = {"deeds": ("alone", 3_000), "plants": ("alone", 600), "chains": ("alone", 3_000), "crowd": ("run", 3_000),
+               "interleaved": ("run", 3_000), "own": ("office", 300)}
+    for kind, (command, rows) in scripts.items():
+        runner.feed(generated(kind, rows))
+        kilobytes, whole = 4_000, 0
+        while whole < 2:
+            ending = runner.run(["-c", 'ulimit -v "$0" && exec "$@"', str(kilobytes), asked.program, *WORDS[command]])
+            name = f"{kind} of {rows} rows in {kilobytes} kilobytes"
+            if ending.status == 127 or b"error while loading" in ending.errors:
+                into.counts["not loaded"] += 1
+            else:
+                judge(ending._replace(processor=0), command, b"", name, into)
+                if ending.status == 1 and fault_in(ending.output, command) not in (6, 9):
+                    into.wrong.append(f"{name}: {ending.output[:60]!r}")
+                whole = whole + 1 if ending.status == 0 else 0
+            kilobytes += kilobytes // 20
+    return into
+
+
+TRIALS = {"devices": devices, "bytes": bytes_exchanged, "cuts": cuts, "mutated": mutated, "tracts": tracts, "shapes": shapes,
+          "memory": memory}
 
 
 def main():

@@ -1,7 +1,7 @@
 #!/usr/bin/env python3
 """Refuses each allocation of a built program's runs in turn, and judges how each run ends.
 
-    refuse_growths.py [--program PROGRAM] [--every K] [--most N] [--jobs N] [--from-then-on]
+    refuse_growths.py [--program PROGRAM] [--first N] [--every K] [--most N] [--jobs N] [--from-then-on]
     refuse_growths.py [..] --command run|alone|office SCRIPT..
     refuse_growths.py [..] --program PROGRAM --same WORD..
 
@@ -248,7 +248,8 @@ def refuse_all(trial, work, options):
     start = time.monotonic()
     most = options.most or (FEW if trial.kind == "office" and not options.words else 0)
     every = max(options.every, -(-tally.main // most) if most else 1)
-    tasks = [(trial, work, options, place * every + 1, options.jobs * every, plain) for place in range(options.jobs)]
+    places = range(options.jobs)
+    tasks = [(trial, work, options, options.first + place * every, options.jobs * every, plain) for place in places]
     if options.jobs == 1:
         done = [refuse_some(tasks[0])]
     else:
@@ -318,18 +319,19 @@ def trials(asked):
         command = asked.command or "run"
         return [Trial(f"{command} {path}", asked.program, words_of(command), pathlib.Path(path).read_bytes(), command)
                 for path in asked.words]
-    return list(all_trials(asked.program))
+    return [trial for trial in all_trials(asked.program) if asked.command in (None, trial.kind)]
 
 
 def main():
     options = argparse.ArgumentParser(description="Refuses each allocation of a built program's runs in turn.")
     options.add_argument("--program", default=str(BUILT), help="the built program (default: the one that bin/titleplant builds)")
+    options.add_argument("--first", type=int, default=1, help="the first allocation that is refused (default 1)", metavar="N")
     options.add_argument("--every", type=int, default=1, help="refuse every Kth allocation alone", metavar="K")
     options.add_argument("--most", type=int, default=0, help="refuse about N of a run's allocations (default: all)", metavar="N")
     options.add_argument("--jobs", type=int, default=1, help="so many runs side by side (default 1)", metavar="N")
     options.add_argument("--from-then-on", action="store_true", help="refuse all that follow, too")
     options.add_argument("--patience", type=int, default=60, help="seconds that a run may take (default 60)", metavar="S")
-    options.add_argument("--command", choices=("run", "alone", "office"), help="of the scripts named")
+    options.add_argument("--command", choices=("run", "alone", "office", "words"), help="of the scripts named, or else only its runs")
     options.add_argument("--same", action="store_true", help="the words are the program's own, and its output has to be the same")
     options.add_argument("words", nargs="*", metavar="SCRIPT")
     asked = options.parse_args()
