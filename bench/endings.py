@@ -44,6 +44,10 @@ class Runner:
         self.patience = patience
         self.source, self.output, self.errors = held("source"), held("output"), held("errors")
 
+    def __del__(self):
+        for file in (self.source, self.output, self.errors):
+            os.close(file)
+
     def feed(self, script):
         """The bytes that the runs after this read."""
         os.ftruncate(self.source, 0)
