@@ -483,7 +483,7 @@ def bases():
 
 
 def mutated(asked):
-    parts = in_parts(range(asked.count), 2000)
+    parts = in_parts(range(asked.count), 200)
     scripts = bases()
     return gather(run_mutated, [(asked.program, scripts, asked.seed, part) for part in parts], asked.jobs)
 
