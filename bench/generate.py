@@ -1,7 +1,7 @@
 #!/usr/bin/env python3
 """Writes a large valid script of the program `titleplant` to standard output.
 
-    generate.py --kind KIND [--rows N] [--seed N] [--side 8|16] [--examiners N]
+    generate.py --kind KIND [--rows N] [--seed N] [--side 8|16] [--examiners N] [--townships N] [--parties N]
 
 deeds        plain deeds and releases of one examiner, each a transaction of its own       (for `alone`)
 sheets       sheets of whole sections, after a few deeds                                   (for `alone`)
@@ -22,7 +22,7 @@ refused      as many examiners have read a section, and one more posts there in 
 own          so many examiners' transactions of two deeds and a sheet, in own townships    (for `office`)
 shared       the same, all in one section                                                  (for `office`)
 
-The same kind, rows, seed and side give the same script. The rows counted are all of its rows, declarations among them. With a
+The same options give the same script. The rows counted are all of its rows, declarations among them. With a
 side of 8 a single cell is a quarter of a quarter of a quarter, as it was before a section had 16 by 16 cells; deeds, sheets and
 interleaved have no part smaller than that, and are the same script at both sides.
 """
@@ -41,7 +41,7 @@ QUARTERINGS = {8: 3, 16: 4}
 
 
 def section(chance):
-    return f"{chance.choice(TOWNSHIPS)} sec {chance.randint(1, 36)}"
+    return f"{chance.choice(chance.townships)} sec {chance.randint(1, 36)}"
 
 
 def tract(chance):
@@ -66,8 +66,8 @@ def cell(chance):
 def instrument(chance, document, where):
     """The fields of a deed or a release, after the examiner's."""
     estates = chance.choice(ESTATES)
-    grantee = chance.choice(PARTIES)
-    grantor = "UNITED STATES" if chance.random() < 0.7 else chance.choice([name for name in PARTIES if name != grantee])
+    grantee = chance.choice(chance.parties)
+    grantor = "UNITED STATES" if chance.random() < 0.7 else chance.choice([name for name in chance.parties if name != grantee])
     if chance.random() < 0.1:
         return f"release,{document},{grantor},{grantee},{estates},{where}"
     kind, share = chance.choice([("I", "1/2"), ("I", "1/1"), ("W", "1/4"), ("W", "1/64"), ("W", "1/1024")])
@@ -113,7 +113,7 @@ def chains(chance, count):
 def parts(chance, count):
     """Every second step asks for the chain of a cell of one of the eight sections."""
     for document in range(1, count + 1):
-        where = f"{TOWNSHIPS[0]} sec {chance.randint(1, 8)} {chance.choice(QUARTERS)}{chance.choice(QUARTERS)}"
+        where = f"{chance.townships[0]} sec {chance.randint(1, 8)} {chance.choice(QUARTERS)}{chance.choice(QUARTERS)}"
         if document % 2 == 0:
             yield f"1,chain,{where}{quarters(chance, chance.quarterings - 2)}"
         else:
@@ -189,7 +189,7 @@ def crowd(chance, count):
 
 def refused(chance, count):
     """All examiners but the first begin and ask for the sheet of a section, and then the first posts in it."""
-    where = f"{TOWNSHIPS[0]} sec 1"
+    where = f"{chance.townships[0]} sec 1"
     readers = min(9_998, count // 3)
     yield from (f"{examiner},begin" for examiner in range(2, readers + 2))
     yield from (f"{examiner},sheet,{where}" for examiner in range(2, readers + 2))
@@ -214,11 +214,11 @@ def transactions(chance, count, where):
 
 
 def own(chance, count):
-    yield from transactions(chance, count, lambda examiner: f"{TOWNSHIPS[examiner - 1]} sec {chance.randint(1, 36)}")
+    yield from transactions(chance, count, lambda examiner: f"{chance.townships[examiner - 1]} sec {chance.randint(1, 36)}")
 
 
 def shared(chance, count):
-    yield from transactions(chance, count, lambda examiner: f"{TOWNSHIPS[0]} sec 1")
+    yield from transactions(chance, count, lambda examiner: f"{chance.townships[0]} sec 1")
 
 
 KINDS = {
@@ -226,11 +226,11 @@ KINDS = {
     "sheets": sheets_of(section),
     "chains": chains,
     "parts": parts,
-    "townships": deeds_of(lambda chance: chance.choice(TOWNSHIPS)),
+    "townships": deeds_of(lambda chance: chance.choice(chance.townships)),
     "sections": deeds_of(section),
     "quarters": deeds_of(lambda chance: f"{section(chance)} {chance.choice(QUARTERS)}"),
     "cells": deeds_of(cell),
-    "plats": sheets_of(lambda chance: chance.choice(TOWNSHIPS)),
+    "plats": sheets_of(lambda chance: chance.choice(chance.townships)),
     "plants": sheets_of(lambda chance: "everything"),
     "interleaved": interleaved,
     "short": short,
@@ -246,15 +246,20 @@ KINDS = {
 def main():
     options = argparse.ArgumentParser(description="Writes a large valid script of the program titleplant.")
     options.add_argument("--kind", choices=sorted(KINDS), required=True)
-    options.add_argument("--rows", type=int, default=10_000, help="all rows, 300 to 100000 (default 10000)")
+    options.add_argument("--rows", type=int, default=10_000, help="all rows, at most 100000 (default 10000)")
     options.add_argument("--seed", type=int, default=1)
     options.add_argument("--examiners", type=int, choices=range(1, 65), default=8, metavar="N", help="of an office (default 8)")
+    options.add_argument("--townships", type=int, choices=range(1, 65), default=64, metavar="N", help="declared (default 64)")
+    options.add_argument("--parties", type=int, choices=range(2, 201), default=200, metavar="N", help="declared (default 200)")
     options.add_argument("--side", type=int, choices=sorted(QUARTERINGS), default=16, help="cells of a section's side (default 16)")
     asked = options.parse_args()
-    declared = [f"township,{name}" for name in TOWNSHIPS] + [f"party,{name}" for name in PARTIES]
-    if not 300 <= asked.rows <= 100_000:
-        options.error("--rows has to be from 300 to 100000")
     chance = random.Random(asked.seed)
+    chance.townships, chance.parties = TOWNSHIPS[:asked.townships], PARTIES[:asked.parties]
+    declared = [f"township,{name}" for name in chance.townships] + [f"party,{name}" for name in chance.parties]
+    if not len(declared) + 36 <= asked.rows <= 100_000:
+        options.error(f"--rows has to be from {len(declared) + 36} to 100000")
+    if asked.kind == "own" and asked.examiners > asked.townships:
+        options.error("--kind own wants a township for each examiner")
     chance.quarterings = QUARTERINGS[asked.side]
     chance.examiners = asked.examiners
     steps = KINDS[asked.kind](chance, asked.rows - len(declared))

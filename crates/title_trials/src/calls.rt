@@ -23,11 +23,12 @@ pub struct Call<'a> {
     access: Access,
 }
 
-/// How many calls found nobody in the way, and how many found somebody.
+/// How many calls found nobody in the way, how many found somebody, and how many wanted memory and were made again.
 #[derive(Clone, Copy)]
 pub struct Tally {
     pub free: u32,
     pub in_the_way: u32,
+    pub wanted: u32,
 }
 
 fn any_kind(chance: &mut Chance) -> Kind {
@@ -75,9 +76,12 @@ impl Call<'_> {
     }
 
     /// Makes the call, and once more where a growth was refused.
-    pub fn make<G: Guards>(&self, locks: &mut G) -> Result<(), LockFault> {
+    pub fn make<G: Guards>(&self, locks: &mut G, tally: &mut Tally) -> Result<(), LockFault> {
         match answer(locks, self) {
-            Err(LockFault::Memory) => answer(locks, self),
+            Err(LockFault::Memory) => {
+                tally.want();
+                answer(locks, self)
+            }
             answer => answer,
         }
     }
@@ -89,7 +93,13 @@ impl Tally {
         Tally {
             free: 0,
             in_the_way: 0,
+            wanted: 0,
         }
+    }
+
+    /// Counts a call that wanted memory.
+    pub fn want(&mut self) {
+        self.wanted = self.wanted.saturating_add(1);
     }
 
     /// Counts a call.

@@ -10,10 +10,17 @@ pub const TOWNSHIPS: u8 = 2;
 // The sections of each that tracts lie in, from section 1 on.
 const SECTIONS: u8 = 3;
 
-/// Tracts of a few sections, the townships and the whole plant, made once.
+/// How much of the land tracts lie in: one section, or a few, the townships and the whole plant.
+#[derive(Clone, Copy)]
+pub enum Reach {
+    Section,
+    Plant,
+}
+
+/// Tracts of one section and the section itself, or of a few sections, the townships and the whole plant, made once.
 #[derive(Drop)]
 pub struct Ground {
-    plant: Tract,
+    whole: Tract,
     tracts: Vec<Tract>,
 }
 
@@ -22,9 +29,26 @@ pub fn township(number: u8) -> Option<Township> {
     Township::new(number, true, 2, false)
 }
 
-fn section(chance: &mut Chance) -> Option<Section> {
-    let township = township(chance.up_to(TOWNSHIPS))?;
-    Section::new(township, chance.up_to(SECTIONS))
+fn first_section() -> Option<Section> {
+    Section::new(township(1)?, 1)
+}
+
+fn section(chance: &mut Chance, reach: Reach) -> Option<Section> {
+    match reach {
+        Reach::Section => first_section(),
+        Reach::Plant => {
+            let township = township(chance.up_to(TOWNSHIPS))?;
+            Section::new(township, chance.up_to(SECTIONS))
+        }
+    }
+}
+
+// All of the land.
+fn whole(reach: Reach) -> Tract {
+    match (reach, first_section()) {
+        (Reach::Section, Some(section)) => Tract::of(Node::Part(section, Within::section())),
+        _ => Tract::of(Node::Everything),
+    }
 }
 
 fn quarter(chance: &mut Chance) -> Quarter {
@@ -59,8 +83,9 @@ fn add_tract(
     alloc: Global,
     chance: &mut Chance,
     tracts: &mut Vec<Tract>,
+    reach: Reach,
 ) -> Result<(), AllocError> {
-    let Some(section) = section(chance) else {
+    let Some(section) = section(chance, reach) else {
         return Ok(());
     };
     let tract = if chance.below(4) == 0 {
@@ -72,30 +97,60 @@ fn add_tract(
     Ok(())
 }
 
+// Adds the tract of each township.
+fn add_townships(tracts: &mut Vec<Tract>) -> Result<(), AllocError> {
+    for number in 1..=TOWNSHIPS {
+        if let Some(township) = township(number) {
+            tracts.push(Tract::of(Node::Township(township)))?;
+        }
+    }
+    Ok(())
+}
+
 impl Ground {
-    /// The land with so many tracts of sections.
-    pub fn new(alloc: Global, chance: &mut Chance, count: u32) -> Result<Ground, AllocError> {
+    /// The land of a reach with so many tracts of sections.
+    pub fn new(
+        alloc: Global,
+        chance: &mut Chance,
+        count: u32,
+        reach: Reach,
+    ) -> Result<Ground, AllocError> {
         let mut tracts = Vec::new(alloc);
         for _ in 0..count {
-            add_tract(alloc, chance, &mut tracts)?;
+            add_tract(alloc, chance, &mut tracts, reach)?;
         }
-        for number in 1..=TOWNSHIPS {
-            if let Some(township) = township(number) {
-                tracts.push(Tract::of(Node::Township(township)))?;
-            }
+        if let Reach::Plant = reach {
+            add_townships(&mut tracts)?;
         }
-        let plant = Tract::of(Node::Everything);
-        Ok(Ground { plant, tracts })
+        let whole = whole(reach);
+        Ok(Ground { whole, tracts })
     }
 
-    /// All tracts but the whole plant.
+    /// The same, made once more and counted as wanting memory where a growth was refused.
+    pub fn again(
+        alloc: Global,
+        chance: &mut Chance,
+        count: u32,
+        reach: Reach,
+        wanted: &mut u32,
+    ) -> Result<Ground, AllocError> {
+        let before = *chance;
+        if let Ok(ground) = Ground::new(alloc, chance, count, reach) {
+            return Ok(ground);
+        }
+        *wanted = wanted.saturating_add(1);
+        *chance = before;
+        Ground::new(alloc, chance, count, reach)
+    }
+
+    /// All tracts but the whole.
     pub fn tracts(&self) -> &[Tract] {
         self.tracts.as_slice()
     }
 
-    /// The tract of a place; the whole plant past the last.
+    /// The tract of a place; the whole past the last.
     pub fn at(&self, place: u32) -> &Tract {
-        self.tracts.get(place as usize).unwrap_or(&self.plant)
+        self.tracts.get(place as usize).unwrap_or(&self.whole)
     }
 
     /// Any place, or the one past the last.

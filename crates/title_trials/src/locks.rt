@@ -2,17 +2,21 @@
 
 use crate::calls::{Call, Tally};
 use crate::chance::Chance;
-use crate::ground::Ground;
+use crate::ground::{Ground, Reach};
 use std::alloc::{AllocError, Global};
 use title_land::Node;
 use title_lock::{Guards, NodeLocks, RowLocks};
 
-pub const LISTS: u32 = 200;
-
-pub const CALLS: u32 = 300;
-
 // At how many tracts the modes are compared after a list.
 const COMPARED: u32 = 12;
+
+/// How many lists are made, how many calls each has, and in how many tracts of sections.
+#[derive(Clone, Copy)]
+pub struct Extent {
+    pub lists: u32,
+    pub calls: u32,
+    pub tracts: u32,
+}
 
 /// How many lists differ, and what came of the calls.
 #[derive(Clone, Copy)]
@@ -40,15 +44,16 @@ impl Tables {
         &mut self,
         chance: &mut Chance,
         ground: &Ground,
+        calls: u32,
         examiners: u32,
         tally: &mut Tally,
     ) -> bool {
         let mut are_one = true;
-        for _ in 0..CALLS {
+        for _ in 0..calls {
             let call = Call::any(chance, ground, examiners);
-            let answer = call.make(&mut self.nodes);
+            let answer = call.make(&mut self.nodes, tally);
             tally.count(answer);
-            are_one &= answer == call.make(&mut self.rows);
+            are_one &= answer == call.make(&mut self.rows, tally);
         }
         are_one
     }
@@ -78,11 +83,17 @@ impl Tables {
     }
 }
 
-// A list of calls by so many examiners; whether all answers are one, and after it the modes of all at some tracts.
-fn is_list_one(alloc: Global, chance: &mut Chance, ground: &Ground, tally: &mut Tally) -> bool {
+// A list of calls by 2 to 40 examiners; whether all answers are one, and after it the modes of all at some tracts.
+fn is_list_one(
+    alloc: Global,
+    chance: &mut Chance,
+    ground: &Ground,
+    calls: u32,
+    tally: &mut Tally,
+) -> bool {
     let examiners = chance.below(39).saturating_add(2);
     let mut tables = Tables::new(alloc);
-    let mut are_one = tables.are_answers_one(chance, ground, examiners, tally);
+    let mut are_one = tables.are_answers_one(chance, ground, calls, examiners, tally);
     for _ in 0..COMPARED {
         are_one &= tables.are_modes_one_in(examiners, ground.any(chance).cover());
     }
@@ -90,13 +101,14 @@ fn is_list_one(alloc: Global, chance: &mut Chance, ground: &Ground, tally: &mut 
 }
 
 /// Asks both tables alike, by lists of 2 to 40 examiners.
-pub fn compare(alloc: Global) -> Result<Compared, AllocError> {
+pub fn compare(alloc: Global, extent: Extent) -> Result<Compared, AllocError> {
     let mut chance = Chance::new(1);
-    let ground = Ground::new(alloc, &mut chance, 200)?;
     let mut tally = Tally::new();
+    let tracts = extent.tracts;
+    let ground = Ground::again(alloc, &mut chance, tracts, Reach::Plant, &mut tally.wanted)?;
     let mut differ = 0u32;
-    for _ in 0..LISTS {
-        if !is_list_one(alloc, &mut chance, &ground, &mut tally) {
+    for _ in 0..extent.lists {
+        if !is_list_one(alloc, &mut chance, &ground, extent.calls, &mut tally) {
             differ = differ.saturating_add(1);
         }
     }

@@ -5,6 +5,9 @@
 //! - `soak`: a million calls of one table of locks, after which nobody holds anything.
 //! - `stores`: the two stores, `CellStore` and `TreeStore`, each behind a desk, by their replies and their sheets; and
 //!   that trees have the fewest nodes once nobody has a transaction open.
+//!
+//! With the word `growths` it makes ten short lists of each alone. A call that wants memory is made again, so it prints the same
+//! whichever growth is refused, and tells on standard error how many calls wanted memory (`bench/refuse_growths.py`).
 #![tactic(auto)]
 
 mod calls;
@@ -19,19 +22,66 @@ mod wishes;
 
 use anyhow::Result;
 use counts::{Case, Counts};
+use ground::Reach;
+use std::env;
 use title_lock::{Guards, NodeLocks};
 
-fn tell_locks<R: Print + AllocGlobal>(rt: &R) -> Result<()> {
-    let compared = locks::compare(rt.alloc())?;
+// The lists of each run.
+const LOCKS: locks::Extent = locks::Extent {
+    lists: 200,
+    calls: 300,
+    tracts: 200,
+};
+
+const STORES: stores::Extent = stores::Extent {
+    lists: 200,
+    requests: 100,
+    examiners: 8,
+    tracts: 100,
+    reach: Reach::Plant,
+};
+
+const LONG: stores::Extent = stores::Extent {
+    lists: 1,
+    requests: 1_000,
+    examiners: 8,
+    tracts: 100,
+    reach: Reach::Plant,
+};
+
+// The lists of a run whose growths are refused in turn.
+const FEW_LOCKS: locks::Extent = locks::Extent {
+    lists: 10,
+    calls: 40,
+    tracts: 20,
+};
+
+const FEW_STORES: stores::Extent = stores::Extent {
+    lists: 9,
+    requests: 16,
+    examiners: 2,
+    tracts: 20,
+    reach: Reach::Section,
+};
+
+const ONE_MORE: stores::Extent = stores::Extent {
+    lists: 1,
+    requests: 40,
+    examiners: 3,
+    tracts: 20,
+    reach: Reach::Section,
+};
+
+// Asks both tables of locks; how many calls wanted memory.
+fn tell_locks<R: Print + AllocGlobal>(rt: &R, extent: locks::Extent) -> Result<u32> {
+    let compared = locks::compare(rt.alloc(), extent)?;
     let (free, in_the_way) = (compared.tally.free, compared.tally.in_the_way);
     println!(rt;
         "locks: {} lists of {} calls, {} differ",
-        locks::LISTS,
-        locks::CALLS,
-        compared.differ
+        extent.lists, extent.calls, compared.differ
     )?;
     println!(rt; "locks: {free} free, {in_the_way} with one in the way")?;
-    Ok(())
+    Ok(compared.tally.wanted)
 }
 
 fn tell_counts<R: Print>(rt: &R, counts: &Counts) -> Result<()> {
@@ -67,14 +117,17 @@ fn tell_soak<R: Print + AllocGlobal>(rt: &R) -> Result<()> {
     Ok(())
 }
 
-fn tell_stores<R: Print + AllocGlobal>(rt: &R) -> Result<()> {
-    let compared = stores::compare(rt.alloc())?;
+// Asks both stores; how many requests wanted memory.
+fn tell_stores<R: Print + AllocGlobal>(
+    rt: &R,
+    extent: stores::Extent,
+    last: stores::Extent,
+) -> Result<u32> {
+    let compared = stores::compare(rt.alloc(), extent, last)?;
     let (differ, tally) = (compared.differ, compared.tally);
     println!(rt;
         "stores: {} lists of {} requests and one of {}, {differ} differ or stay untidy",
-        stores::LISTS,
-        stores::REQUESTS,
-        stores::MOST_REQUESTS
+        extent.lists, extent.requests, last.requests
     )?;
     println!(rt;
         "stores: {} posted, {} refused, {} sheets",
@@ -84,13 +137,42 @@ fn tell_stores<R: Print + AllocGlobal>(rt: &R) -> Result<()> {
         "stores: {} conflicts, {} commits, {} aborts, {} others",
         tally.conflicts, tally.committed, tally.aborted, tally.others
     )?;
+    Ok(tally.wanted)
+}
+
+// Whether the first word is `growths`.
+fn are_growths_asked(rt: &HostRuntime) -> Result<bool> {
+    for word in env::args(rt)?.skip(1) {
+        return Ok(word.as_str() == "growths");
+    }
+    Ok(false)
+}
+
+// The short lists, and how many calls wanted memory, beside those before.
+fn tell_growths(rt: &HostRuntime, before: u32) -> Result<()> {
+    let of_locks = tell_locks(rt, FEW_LOCKS)?;
+    let of_stores = tell_stores(rt, FEW_STORES, ONE_MORE)?;
+    let wanted = before.saturating_add(of_locks).saturating_add(of_stores);
+    eprintln!(rt; "growths: {wanted} wanted memory")?;
+    Ok(())
+}
+
+fn tell_all(rt: &HostRuntime) -> Result<()> {
+    tell_locks(rt, LOCKS)?;
+    tell_case(rt)?;
+    tell_soak(rt)?;
+    tell_stores(rt, STORES, LONG)?;
     Ok(())
 }
 
 fn main(rt: HostRuntime) -> Result<()> {
-    tell_locks(&rt)?;
-    tell_case(&rt)?;
-    tell_soak(&rt)?;
-    tell_stores(&rt)?;
-    Ok(())
+    let (are_growths, wanted) = match are_growths_asked(&rt) {
+        Ok(are_growths) => (are_growths, 0),
+        Err(_) => (are_growths_asked(&rt)?, 1),
+    };
+    if are_growths {
+        tell_growths(&rt, wanted)
+    } else {
+        tell_all(&rt)
+    }
 }

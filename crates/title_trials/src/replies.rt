@@ -4,7 +4,7 @@ use title_chain::{Answer, Ask, Step};
 use title_land::{Node, Tract};
 use title_trace::Reply;
 
-/// How many requests were replied to so.
+/// How many requests were replied to so, and how many wanted memory and were made again.
 #[derive(Clone, Copy)]
 pub struct Tally {
     pub posted: u32,
@@ -14,6 +14,7 @@ pub struct Tally {
     pub committed: u32,
     pub aborted: u32,
     pub others: u32,
+    pub wanted: u32,
 }
 
 impl Tally {
@@ -27,7 +28,13 @@ impl Tally {
             committed: 0,
             aborted: 0,
             others: 0,
+            wanted: 0,
         }
+    }
+
+    /// Counts a request that wanted memory.
+    pub fn want(&mut self) {
+        self.wanted = self.wanted.saturating_add(1);
     }
 
     /// Counts a reply.

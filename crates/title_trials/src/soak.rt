@@ -2,7 +2,7 @@
 
 use crate::calls::{Call, Tally};
 use crate::chance::Chance;
-use crate::ground::Ground;
+use crate::ground::{Ground, Reach};
 use std::alloc::{AllocError, Global};
 use title_land::Node;
 use title_lock::{Guards, NodeLocks};
@@ -23,7 +23,8 @@ fn make_all(chance: &mut Chance, ground: &Ground, locks: &mut NodeLocks) -> Tall
     let mut tally = Tally::new();
     for _ in 0..CALLS {
         let call = Call::any(chance, ground, EXAMINERS);
-        tally.count(call.make(locks));
+        let answer = call.make(locks, &mut tally);
+        tally.count(answer);
     }
     tally
 }
@@ -66,7 +67,7 @@ fn holders(locks: &NodeLocks, ground: &Ground) -> u64 {
 /// Makes the calls; then everyone gives back.
 pub fn soak(alloc: Global) -> Result<Soaked, AllocError> {
     let mut chance = Chance::new(2);
-    let ground = Ground::new(alloc, &mut chance, 500)?;
+    let ground = Ground::new(alloc, &mut chance, 500, Reach::Plant)?;
     let mut locks = NodeLocks::new(alloc);
     let tally = make_all(&mut chance, &ground, &mut locks);
     let before = holders(&locks, &ground);

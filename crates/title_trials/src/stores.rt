@@ -1,10 +1,11 @@
 //! The two stores, each behind a desk, asked alike.
 
 use crate::chance::Chance;
-use crate::ground::{Ground, TOWNSHIPS, township};
+use crate::ground::{Ground, Reach, TOWNSHIPS, township};
 use crate::replies::{Tally, are_one};
 use crate::wishes::{PARTIES, Wish};
 use std::alloc::{AllocError, Global};
+use title_chain::Record;
 use title_desk::{Desk, may_open};
 use title_land::Township;
 use title_lock::NodeLocks;
@@ -12,13 +13,15 @@ use title_store::{CellStore, Store};
 use title_trace::{Reply, Request};
 use title_tree_store::TreeStore;
 
-pub const LISTS: u32 = 200;
-
-pub const REQUESTS: u64 = 100;
-
-pub const MOST_REQUESTS: u64 = 1_000;
-
-const EXAMINERS: u32 = 8;
+/// How many lists are made, how many requests each has, by how many examiners, and in how many tracts of sections of what land.
+#[derive(Clone, Copy)]
+pub struct Extent {
+    pub lists: u32,
+    pub requests: u64,
+    pub examiners: u32,
+    pub tracts: u32,
+    pub reach: Reach,
+}
 
 /// How many lists differ, and what was replied.
 #[derive(Clone, Copy)]
@@ -54,23 +57,56 @@ fn open(alloc: Global, townships: &[Township]) -> Result<Option<Desks>, AllocErr
     }))
 }
 
+// Opens them, once more where a growth was refused.
+fn open_again(
+    alloc: Global,
+    townships: &[Township],
+    tally: &mut Tally,
+) -> Result<Option<Desks>, AllocError> {
+    if let Ok(desks) = open(alloc, townships) {
+        return Ok(desks);
+    }
+    tally.want();
+    open(alloc, townships)
+}
+
 // Serves what an examiner wishes for, and once more where a growth was refused.
 fn serve<S: Store + Drop>(
     desk: &mut Desk<S, NodeLocks>,
     ground: &Ground,
     turn: Turn,
+    tally: &mut Tally,
 ) -> Result<Reply, AllocError> {
-    let reply = desk.serve(turn.request(ground)?);
+    let reply = desk.serve(turn.request_again(ground, tally)?);
     if let Reply::Memory = &reply {
-        return Ok(desk.serve(turn.request(ground)?));
+        tally.want();
+        return Ok(desk.serve(turn.request_again(ground, tally)?));
     }
     Ok(reply)
+}
+
+// Whether two lists have the same records, in order.
+fn same_records(records: &[Record], others: &[Record]) -> bool {
+    let mut are_same = records.len() == others.len();
+    for (record, other) in records.iter().zip(others) {
+        are_same &= record.same(other);
+    }
+    are_same
 }
 
 impl Turn {
     fn request(self, ground: &Ground) -> Result<Request, AllocError> {
         self.wish
             .request(self.alloc, ground, self.examiner, self.doc)
+    }
+
+    // The request, made once more where a growth was refused.
+    fn request_again(self, ground: &Ground, tally: &mut Tally) -> Result<Request, AllocError> {
+        if let Ok(request) = self.request(ground) {
+            return Ok(request);
+        }
+        tally.want();
+        self.request(ground)
     }
 }
 
@@ -82,9 +118,9 @@ impl Desks {
         turn: Turn,
         tally: &mut Tally,
     ) -> Result<bool, AllocError> {
-        let reply = serve(&mut self.cells, ground, turn)?;
+        let reply = serve(&mut self.cells, ground, turn, tally)?;
         tally.count(&reply);
-        let other = serve(&mut self.trees, ground, turn)?;
+        let other = serve(&mut self.trees, ground, turn, tally)?;
         Ok(are_one(reply, other))
     }
 
@@ -98,37 +134,50 @@ impl Desks {
     }
 
     // The same for any examiner's wish.
-    fn any_turn(&self, chance: &mut Chance, ground: &Ground, doc: u64) -> Turn {
-        let examiner = chance.below(EXAMINERS).saturating_add(1);
+    fn any_turn(&self, chance: &mut Chance, ground: &Ground, examiners: u32, doc: u64) -> Turn {
+        let examiner = chance.below(examiners).saturating_add(1);
         let is_open = self.cells.is_open(examiner);
         self.turn(examiner, Wish::any(chance, ground, is_open), doc)
     }
 
-    // Commits all, after which the trees have no node too many, and reads the whole plant.
-    fn are_ends_one(&mut self, ground: &Ground, tally: &mut Tally) -> Result<bool, AllocError> {
+    // Whether both have the same records, and traces of one length.
+    fn are_records_one(&self) -> bool {
+        same_records(self.cells.records(), self.trees.records())
+            && self.cells.trace().len() == self.trees.trace().len()
+    }
+
+    // Commits all, after which the trees have no node too many, and reads the whole land.
+    fn are_ends_one(
+        &mut self,
+        ground: &Ground,
+        examiners: u32,
+        tally: &mut Tally,
+    ) -> Result<bool, AllocError> {
         let mut is_one = true;
-        for examiner in 1..=EXAMINERS {
+        for examiner in 1..=examiners {
             is_one &= self.are_one(ground, self.turn(examiner, Wish::Commit, 0), tally)?;
         }
         is_one &= self.trees.store().is_tidy();
         is_one &= self.are_one(ground, self.turn(1, Wish::Begin, 0), tally)?;
         is_one &= self.are_one(ground, self.turn(1, Wish::Sheet(u32::MAX), 0), tally)?;
+        is_one &= self.are_records_one();
         Ok(is_one)
     }
 
-    // Whether all of so many requests are served alike, and what they leave is one.
+    // Whether all requests of a list are served alike, and what they leave is one.
     fn is_list_one(
         &mut self,
         chance: &mut Chance,
         ground: &Ground,
-        requests: u64,
+        extent: Extent,
         tally: &mut Tally,
     ) -> Result<bool, AllocError> {
+        let examiners = extent.examiners;
         let mut is_one = true;
-        for doc in 0..requests {
-            is_one &= self.are_one(ground, self.any_turn(chance, ground, doc), tally)?;
+        for doc in 0..extent.requests {
+            is_one &= self.are_one(ground, self.any_turn(chance, ground, examiners, doc), tally)?;
         }
-        is_one &= self.are_ends_one(ground, tally)?;
+        is_one &= self.are_ends_one(ground, examiners, tally)?;
         Ok(is_one)
     }
 }
@@ -143,20 +192,29 @@ fn townships(alloc: Global) -> Result<Vec<Township>, AllocError> {
     Ok(townships)
 }
 
+// The townships, listed once more where a growth was refused.
+fn townships_again(alloc: Global, tally: &mut Tally) -> Result<Vec<Township>, AllocError> {
+    if let Ok(townships) = townships(alloc) {
+        return Ok(townships);
+    }
+    tally.want();
+    townships(alloc)
+}
+
 // How many of a number of lists differ, each at new desks. One for which no desk opens counts with them.
 fn count_differing(
     alloc: Global,
     chance: &mut Chance,
-    lists: u32,
-    requests: u64,
+    extent: Extent,
     tally: &mut Tally,
 ) -> Result<u32, AllocError> {
-    let townships = townships(alloc)?;
-    let ground = Ground::new(alloc, chance, 100)?;
+    let townships = townships_again(alloc, tally)?;
+    let (tracts, reach) = (extent.tracts, extent.reach);
+    let ground = Ground::again(alloc, chance, tracts, reach, &mut tally.wanted)?;
     let mut differ = 0u32;
-    for _ in 0..lists {
-        let is_one = match open(alloc, townships.as_slice())? {
-            Some(mut desks) => desks.is_list_one(chance, &ground, requests, tally)?,
+    for _ in 0..extent.lists {
+        let is_one = match open_again(alloc, townships.as_slice(), tally)? {
+            Some(mut desks) => desks.is_list_one(chance, &ground, extent, tally)?,
             None => false,
         };
         if !is_one {
@@ -166,12 +224,12 @@ fn count_differing(
     Ok(differ)
 }
 
-/// Asks two desks alike, by lists of 100 requests and by one of 1,000. A list differs also where its trees stay untidy.
-pub fn compare(alloc: Global) -> Result<Compared, AllocError> {
+/// Asks two desks alike, by lists of two extents. A list differs also where its trees stay untidy.
+pub fn compare(alloc: Global, first: Extent, second: Extent) -> Result<Compared, AllocError> {
     let mut chance = Chance::new(3);
     let mut tally = Tally::new();
-    let short = count_differing(alloc, &mut chance, LISTS, REQUESTS, &mut tally)?;
-    let long = count_differing(alloc, &mut chance, 1, MOST_REQUESTS, &mut tally)?;
-    let differ = short.saturating_add(long);
+    let of_first = count_differing(alloc, &mut chance, first, &mut tally)?;
+    let of_second = count_differing(alloc, &mut chance, second, &mut tally)?;
+    let differ = of_first.saturating_add(of_second);
     Ok(Compared { differ, tally })
 }
