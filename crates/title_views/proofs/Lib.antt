@@ -1,0 +1,5 @@
+-- The lemmas.
+pub mod Growing
+pub mod Additions
+pub mod Sights
+pub mod Making
