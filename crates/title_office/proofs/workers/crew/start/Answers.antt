@@ -22,10 +22,13 @@ bench_sync a g c =
     let S = declared.shape T in
     recorded_sync (Struct S) T.D T.to T.to_one (struct_sync S (
       shr_sync _ _ (param 1 g.row.R) (search c.type_bounds),
-      (heap_sync, (
-        shr_sync _ _ (office.the_row (param 0 g.row.B) g.B.Room) (office_sync g c),
-        (shr_sync _ _ (param 2 g.row.G) (search c.type_bounds), tt),
-      )),
+      (
+        heap_sync,
+        (
+          shr_sync _ _ (office.the_row (param 0 g.row.B) g.B.Room) (office_sync g c),
+          (shr_sync _ _ (param 2 g.row.G) (search c.type_bounds), tt),
+        ),
+      ),
     ))
 
 pub spawn_with-requires-send-F : goal.spawn_with-requires-send-F
