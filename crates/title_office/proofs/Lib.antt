@@ -5,4 +5,3 @@ pub mod Settling
 pub mod Lists
 pub mod Runs
 pub mod Ends
-pub mod Crossing
