@@ -19,7 +19,7 @@ above_cases r true true false m = ap (λ (z : Option Mode). bound z (Some m)) (b
 above_cases r true false a m = bound_none (bound r (cond a (Some m) None))
 
 -- no node lies above one that has no parent
-above_none : (p k : Node) → None ≡ parent_of p → is_above k p ≡ false
+pub above_none : (p k : Node) → None ≡ parent_of p → is_above k p ≡ false
 above_none node.Everything k h = refl
 above_none (node.Township t) k h = absurd cc
 above_none (node.Part s w) k h = absurd cc

@@ -1,9 +1,11 @@
 -- A book's entries by number: one put at the end, and an examiner's last one taken out.
-use Rattle.std.proofs.Common.{◌≡◌, ◌≢◌, ℕ, ◌<◌, Bool, true, false, cond, not, List, [], ◌∷◌, ◌++◌, All, filter, reverse, Option, None, Some}
+use Rattle.std.proofs.Common.{◌≡◌, ◌≢◌, ℕ, ◌<◌, Bool, true, false, cond, not, ◌&&◌, List, [], ◌∷◌, ◌++◌, All, filter, reverse, Option, None, Some}
 use Rattle.std.proofs.Common.{IfSome, IfNone, eqb, refl, sym, ap, ◌∙◌, subst, append_assoc, arith}
+use Rattle.std.specs.Prelude.{vec_len}
+use Rattle.std.specs.Global.{Vec}
 use Rattle.std.proofs.lemmas.Bool.{eqb-true, eqb-false, ne_eqb}
 use Rattle.std.proofs.lemmas.Bool.Decides.{nat_tests}
-use Rattle.std.proofs.lemmas.List.{append-nil, reverse-append, map-append}
+use Rattle.std.proofs.lemmas.List.{nil_from_length, append-nil, reverse-append, map-append}
 use Rattle.std.proofs.lemmas.List.Elements.{All-head, All-tail}
 use Rattle.std.proofs.lemmas.Map.{NonePasses}
 use Rattle.std.specs.List.{AllByRecursion}
@@ -13,10 +15,11 @@ use Rattle.std.specs.declared.cmp.Ordering.{Ordering}
 use Rattle.std.specs.declared.cmp.Ordering.TheVariants.{Less, Greater}
 use Rattle.std.specs.Ordering.{nat_cmp, match_ordering}
 use Rattle.std.specs.Map.{keys_of, values_of, lookup, remove_entry}
-use Rattle.std.specs.BTreeMap.{insert_entry, is_at}
+use Rattle.std.specs.BTreeMap.{BTreeMap, get, insert_entry, is_at}
 use Rattle.title_lock.specs.declared.guards.Entry.{Entry}
 use Rattle.title_lock.specs.Overlaps.{without}
-use Rattle.title_lock.specs.Books.{own_keys, IsNewest}
+use Rattle.title_lock.specs.Books.{numbers_in, numbers_of, empty_in, is_empty_kept, own_keys, IsNewest}
+use Rattle.title_lock.proofs.Overlap.{and_none}
 
 -- ---- one entry more
 
@@ -297,3 +300,28 @@ taken_by e k keys es left r sorted last found rest =
     subst (λ (o : Option Entry). IsTaken e keys es left o) (sym (found ∙ last_found e k keys es sorted l))
     (subst (λ (t : List (ℕ × Entry)). IsTaken e keys es t (Some l.entry)) (sym (rest ∙ last_removed e k keys es sorted l))
     (last_taken e k keys es l))
+
+-- ---- who is kept among those with numbers
+
+-- who has a last number isn't kept with none
+last_kept : (m : BTreeMap ℕ (Vec ℕ)) (e n : ℕ) (keys : List ℕ) → numbers_of m e ≡ keys ++ n ∷ [] → is_empty_kept m e ≡ false
+last_kept m e n keys last = go (get nat_cmp m e) last
+  where
+    go : (o : Option (Vec ℕ)) → numbers_in o ≡ keys ++ n ∷ [] → empty_in o ≡ false
+    go None h = refl
+    go (Some v) h = ne_eqb (vec_len v) 0
+        (λ none. no_last n keys (sym (nil_from_length v.items (sym v.ok.0 ∙ none)) ∙ h))
+
+-- with one number more of an examiner's nobody is kept with none, if no other was
+pub kept_more : (m : BTreeMap ℕ (Vec ℕ)) (e x n : ℕ) (keys : List ℕ) → numbers_of m x ≡ keys ++ n ∷ []
+    → (e ≢ x → is_empty_kept m e ≡ false) → is_empty_kept m e ≡ false
+kept_more m e x n keys own other = go (eqb e x) refl
+  where
+    go : (b : Bool) → eqb e x ≡ b → is_empty_kept m e ≡ false
+    go true s = ap (is_empty_kept m) (eqb-true e x s) ∙ last_kept m x n keys own
+    go false s = other (eqb-false e x s)
+
+-- without an examiner nobody is kept with none, if nobody was
+pub kept_without : (m l : BTreeMap ℕ (Vec ℕ)) (e x : ℕ) → is_empty_kept l e ≡ (not (eqb e x) && is_empty_kept m e)
+    → is_empty_kept m e ≡ false → is_empty_kept l e ≡ false
+kept_without m l e x left none = left ∙ ap (λ (b : Bool). not (eqb e x) && b) none ∙ and_none (not (eqb e x))

@@ -1,16 +1,16 @@
 -- The locks with an access that is prepared, and without.
-use Rattle.std.proofs.Common.{◌≡◌, ◌≤◌, ◌+◌, ℕ, Bool, true, false, cond, not, List, [], ◌∷◌, ◌++◌, length, Option, Some, None, eqb, refl}
-use Rattle.std.proofs.Common.{sym, ap, subst, ◌∙◌, arith}
+use Rattle.std.proofs.Common.{◌≡◌, ◌≤◌, ◌+◌, ℕ, Bool, true, false, cond, not, ◌&&◌, List, [], ◌∷◌, ◌++◌, length, Option, Some, None, eqb, refl}
+use Rattle.std.proofs.Common.{sym, ap, subst, ◌∙◌, arith, inl, inr, true≢false}
 use Rattle.std.specs.List.{list_any}
-use Rattle.std.proofs.lemmas.Bool.{eq-eqb}
+use Rattle.std.proofs.lemmas.Bool.{eq-eqb, or_cases}
 use Rattle.title_land.specs.declared.node.Node.{Node}
 use Rattle.title_land.specs.Lands.{cover_of, IsLand}
 use Rattle.title_lock.specs.declared.guards.Entry.{Entry}
 use Rattle.title_lock.specs.declared.table.Table.{Table}
 use Rattle.title_lock.specs.Overlaps.{is_post, Stands, without}
 use Rattle.title_lock.specs.Books.{IsNewest}
-use Rattle.title_lock.specs.Tables.{table_mode, is_asked, HasRoom, TableIs}
-use Rattle.title_lock.specs.Locks.{granted, waiting, IsReady, AreKept}
+use Rattle.title_lock.specs.Tables.{table_mode, is_asked, is_asked_by, HasRoom, is_idle, IdleMore, IdleLess, NoMoreIdle, AllUsed, TableIs}
+use Rattle.title_lock.specs.Locks.{granted, waiting, IsReady, AreKept, IsLean}
 
 -- the table tells the modes of the entries, whether or not an access is prepared
 pub kept_table : (depth : ℕ) (p : Option ℕ) (book : List Entry) (t : Table) → AreKept depth p book t → TableIs depth (granted p book) t
@@ -103,3 +103,46 @@ prepared_taken depth e (x ∷ es) left t y h (newer, older, was, now, first) =
 pub prepared_some : (depth e : ℕ) (book : List Entry) (t : Table) → AreKept depth (Some e) book t → without e book ≡ book → ⊥
 prepared_some depth e [] t h same = cc
 prepared_some depth e (x ∷ es) t h same = own_goes e x es h.1.own same
+
+-- what is taken of an examiner whose access is prepared is what waits
+first_same : (e : ℕ) (x y : Entry) (es newer older : List Entry) → x.examiner ≡ e → x ∷ es ≡ newer ++ y ∷ older → without e newer ≡ newer
+    → x ≡ y
+first_same e x y es [] older own was first = head_same x y es older was
+first_same e x y es (z ∷ newer) older own was first =
+    absurd (own_goes e z newer (ap (λ (w : Entry). w.examiner) (sym (head_same x z es (newer ++ y ∷ older) was)) ∙ own) first)
+
+pub waiting_taken : (depth e : ℕ) (book left : List Entry) (t : Table) (y : Entry) → AreKept depth (Some e) book t → IsNewest e y left book
+    → waiting (Some e) book ≡ Some y
+waiting_taken depth e [] left t y h newest = absurd cc
+waiting_taken depth e (x ∷ es) left t y h (newer, older, was, now, first) =
+    ap (λ (z : Entry). Some z) (first_same e x y es newer older h.1.own was first)
+
+-- ---- nothing is kept but what is held and what waits
+
+waits_no_more : (i a : Bool) → (i ≡ true → a ≡ true) → (i && not a) ≡ true → ⊥
+waits_no_more true true h e = true≢false (sym e)
+waits_no_more true false h e = true≢false (sym (h refl))
+waits_no_more false a h e = true≢false (sym e)
+
+-- an access that waits no more leaves nobody idle
+pub lean_done : (depth : ℕ) (x : Entry) (t u : Table) → IsLean depth (Some x) t
+    → IdleLess t u x.examiner (λ n. list_any (is_asked n) (cover_of depth x.tract)) → (AllUsed t → AllUsed u) → IsLean depth None u
+lean_done depth x t u lean less used = record {
+  idle = λ f n idle. absurd (waits_no_more (is_idle t f n) (is_asked_by depth f n x) (lean.idle f n) (sym (less.less f n) ∙ idle));
+  used = used lean.used;
+}
+
+-- an access that is to wait makes its examiner idle where it asks
+pub lean_more : (depth : ℕ) (x : Entry) (t u : Table) → IsLean depth None t
+    → IdleMore t u x.examiner (λ n. list_any (is_asked n) (cover_of depth x.tract)) → (AllUsed t → AllUsed u) → IsLean depth (Some x) u
+lean_more depth x t u lean more used = record {
+  idle = λ f n idle. elim (or_cases (is_idle t f n) (is_asked_by depth f n x) (more.more f n idle)) [
+    | inl old ↦ absurd (true≢false (sym (lean.idle f n old)))
+    | inr new ↦ new
+  ];
+  used = used lean.used;
+}
+
+-- where nobody more is idle it is as it was
+pub lean_same : (depth : ℕ) (w : Option Entry) (t u : Table) → IsLean depth w t → NoMoreIdle t u → (AllUsed t → AllUsed u) → IsLean depth w u
+lean_same depth w t u lean same used = record { idle = λ f n idle. lean.idle f n (same.same f n idle); used = used lean.used }

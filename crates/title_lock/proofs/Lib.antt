@@ -3,6 +3,7 @@ pub mod NodeLaws
 pub mod Overlap
 pub mod AccessLaws
 pub mod TableLaws
+pub mod IdleLaws
 pub mod WayLaws
 pub mod BookLaws
 pub mod GiveBack

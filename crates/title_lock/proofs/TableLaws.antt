@@ -1,7 +1,7 @@
 -- Tables of locks, one place changed at a time.
-use Rattle.std.proofs.Common.{◌≡◌, ◌<◌, ◌+◌, ℕ, Bool, true, false, cond, ◌&&◌, List, [], ◌∷◌, Option, Some, None, length, get_or}
+use Rattle.std.proofs.Common.{◌≡◌, ◌<◌, ◌+◌, ℕ, Bool, true, false, cond, ◌&&◌, List, [], ◌∷◌, Option, Some, None, length, get_or, not}
 use Rattle.std.proofs.Common.{take, suc, eqb, refl, sym, ap, subst, ◌∙◌}
-use Rattle.std.proofs.Common.{◌||◌, zero, inl, inr, arith}
+use Rattle.std.proofs.Common.{◌||◌, zero, inl, inr, arith, true≢false}
 use Rattle.std.proofs.lemmas.Bool.{eqb-true, or_cases, or_left, or_right}
 use Rattle.std.proofs.lemmas.List.Folds.{list_any_more}
 use Rattle.std.specs.Prelude.{IsSome}
@@ -16,7 +16,7 @@ use Rattle.title_lock.specs.declared.table.Table.{Table}
 use Rattle.title_lock.specs.Modes.{bound}
 use Rattle.title_lock.specs.Holders.{Modes, holder_mode, is_free}
 use Rattle.title_land.specs.Orders.{node_cmp}
-use Rattle.title_lock.specs.Tables.{mode_in, room_in, table_room, HasRoom, is_asked}
+use Rattle.title_lock.specs.Tables.{mode_in, room_in, idle_in, unused_in, table_room, HasRoom, is_asked}
 use Rattle.title_lock.proofs.ModeLaws.{and_true, bound_none}
 use Rattle.title_lock.proofs.NodeLaws.{same_self, same_true, above_of}
 use Rattle.title_land.proofs.NodeKeys.{node_at}
@@ -84,6 +84,64 @@ module _ (m n : Places) (k : Node) (w : Option Modes) (h : Writes m n k w) where
           here ∙ ap (λ (x : Node). cond l None (mode_of m f x)) (sym (same_true q k s))
           ∙ ap (λ (b : Bool). cond b None (mode_of m f q)) (sym (and_true l))
       go false s = ap (λ (b : Bool). cond b None (mode_of m f q)) (sym (and_none l))
+
+  -- who may be idle after a write where b says who gets room
+  pub idle_more : (b : Bool) (f : ℕ) → (idle_in f w ≡ true → (idle_in f (get node_cmp m k) || b) ≡ true) → (q : Node)
+      → idle_in f (get node_cmp n q) ≡ true → (idle_in f (get node_cmp m q) || (b && same_node q k)) ≡ true
+  idle_more b f here q idle = go (same_node q k) refl (sym (written (idle_in f) q) ∙ idle)
+    where
+      go : (s : Bool) → same_node q k ≡ s → cond s (idle_in f w) (idle_in f (get node_cmp m q)) ≡ true
+          → (idle_in f (get node_cmp m q) || (b && s)) ≡ true
+      go true e i =
+          ap (λ (x : Node). idle_in f (get node_cmp m x) || (b && true)) (same_true q k e)
+          ∙ ap (λ (z : Bool). idle_in f (get node_cmp m k) || z) (and_true b) ∙ here i
+      go false e i = or_left (idle_in f (get node_cmp m q)) (b && false) i
+
+  -- who is idle after a write where b says who isn't
+  pub idle_less : (b : Bool) (f : ℕ) → idle_in f w ≡ (idle_in f (get node_cmp m k) && not b) → (q : Node)
+      → idle_in f (get node_cmp n q) ≡ (idle_in f (get node_cmp m q) && not (b && same_node q k))
+  idle_less b f here q = written (idle_in f) q ∙ go (same_node q k) refl
+    where
+      go : (s : Bool) → same_node q k ≡ s
+          → cond s (idle_in f w) (idle_in f (get node_cmp m q)) ≡ (idle_in f (get node_cmp m q) && not (b && s))
+      go true e =
+          here ∙ ap (λ (x : Node). idle_in f (get node_cmp m x) && not b) (sym (same_true q k e))
+          ∙ ap (λ (z : Bool). idle_in f (get node_cmp m q) && not z) (sym (and_true b))
+      go false e = sym (and_true (idle_in f (get node_cmp m q)))
+          ∙ ap (λ (z : Bool). idle_in f (get node_cmp m q) && not z) (sym (and_none b))
+
+  -- places are used after a write that leaves its own used
+  pub used_after : (unused_in (get node_cmp m k) ≡ false → unused_in w ≡ false) → ((q : Node) → unused_in (get node_cmp m q) ≡ false)
+      → (q : Node) → unused_in (get node_cmp n q) ≡ false
+  used_after here all q = written unused_in q ∙ go (same_node q k)
+    where
+      go : (s : Bool) → cond s (unused_in w) (unused_in (get node_cmp m q)) ≡ false
+      go true = here (all k)
+      go false = all q
+
+-- of two writes at one node the second counts
+pub rewritten : (m n o : Places) (k : Node) (v w : Option Modes) → Writes m n k v → Writes n o k w → Writes m o k w
+rewritten m n o k v w first then q =
+    then q ∙ ap (λ (z : Option Modes). cond (is_at (node_cmp k) q) w z) (first q) ∙ go (is_at (node_cmp k) q)
+  where
+    go : (b : Bool) → cond b w (cond b v (get node_cmp m q)) ≡ cond b w (get node_cmp m q)
+    go true = refl
+    go false = refl
+
+-- nobody is idle where there is no place
+pub none_idle : (m : Places) (k : Node) → get node_cmp m k ≡ None → (b : Bool) (f : ℕ) (q : Node)
+    → idle_in f (get node_cmp m q) ≡ (idle_in f (get node_cmp m q) && not (b && same_node q k))
+none_idle m k none b f q = go (same_node q k) refl
+  where
+    nothing : (i z : Bool) → i ≡ false → i ≡ (i && z)
+    nothing true z h = absurd (true≢false h)
+    nothing false z h = refl
+
+    go : (s : Bool) → same_node q k ≡ s → idle_in f (get node_cmp m q) ≡ (idle_in f (get node_cmp m q) && not (b && s))
+    go true s = nothing (idle_in f (get node_cmp m q)) (not (b && true))
+        (ap (λ (x : Node). idle_in f (get node_cmp m x)) (same_true q k s) ∙ ap (idle_in f) none)
+    go false s = sym (and_true (idle_in f (get node_cmp m q)))
+        ∙ ap (λ (z : Bool). idle_in f (get node_cmp m q) && not z) (sym (and_none b))
 
 -- nobody is taken out where there is no place
 pub none_released : (m : Places) (k : Node) → get node_cmp m k ≡ None → (l : Bool) (f : ℕ) (q : Node)

@@ -28,6 +28,10 @@ holder_mode h e = mode_of_place (lookup (is_at (nat_cmp e)) h)
 abbrev pub has_room : Modes → ℕ → Bool
 has_room h e = is_some (lookup (is_at (nat_cmp e)) h)
 
+-- examiner e has room and doesn't hold the node
+abbrev pub idles : Modes → ℕ → Bool
+idles h e = has_room h e && not (is_some (holder_mode h e))
+
 -- nobody holds the node, or has room
 abbrev pub is_free : Modes → Bool
 is_free h = length h == 0

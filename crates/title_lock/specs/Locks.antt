@@ -1,13 +1,14 @@
 -- What locks show: the entries, and the access that there is room for.
-use Rattle.std.specs.Prelude.{ℕ, ◌≡◌, List, [], ◌∷◌, Bool, true, Option, Some, None}
+use Rattle.std.specs.Prelude.{ℕ, ◌≡◌, List, [], ◌∷◌, Bool, true, false, Option, Some, None}
 use Rattle.std.specs.List.{list_any}
+use Rattle.title_land.specs.declared.node.Node.{Node}
 use Rattle.title_land.specs.Lands.{cover_of, IsLand}
 use Rattle.title_lock.specs.declared.guards.Entry.{Entry}
 use Rattle.title_lock.specs.declared.table.Table.{Table}
 use Rattle.title_lock.specs.Overlaps.{is_post, Stands}
 use Rattle.title_lock.specs.Asking.{AreSized}
 use Rattle.title_lock.specs.Standing.{StandFree}
-use Rattle.title_lock.specs.Tables.{is_asked, HasRoom, TableIs}
+use Rattle.title_lock.specs.Tables.{is_asked, is_asked_by, HasRoom, is_idle, AllUsed, TableIs}
 
 -- the entries, the newest first, and the one that there is room for, if there is one
 pub record Locks : Type 0 where
@@ -37,6 +38,21 @@ abbrev pub AreKept : ℕ → Option ℕ → List Entry → Table → Type 0
 AreKept depth None es t = TableIs depth es t
 AreKept depth (Some e) [] t = None ≡ Some e
 AreKept depth (Some e) (x ∷ es) t = TableIs depth es t × IsReady depth e x es t
+
+-- examiner f waits at n: the entry that waits is its own, and asks for something there
+abbrev pub waits_at : ℕ → Option Entry → ℕ → Node → Bool
+waits_at depth None f n = false
+waits_at depth (Some x) f n = is_asked_by depth f n x
+
+-- nothing is kept of a node or an examiner but what is held and what waits
+pub record IsLean (depth : ℕ) (waits : Option Entry) (t : Table) : Type 0 where
+  pub idle : (f : ℕ) (n : Node) → is_idle t f n ≡ true → waits_at depth waits f n ≡ true
+  pub used : AllUsed t
+
+-- locks by node: the table is that of the entries, there is room for what waits, and nothing else is kept
+pub record AreLocks (depth : ℕ) (prepared : Option ℕ) (book : List Entry) (t : Table) : Type 0 where
+  pub kept : AreKept depth prepared book t
+  pub lean : IsLean depth (waiting prepared book) t
 
 -- an entry that is prepared is one that nobody is in the way of, and there is room for it
 abbrev pub IsRoomFor : ℕ → List Entry → Option Entry → Bool → Type 0

@@ -1,5 +1,5 @@
 -- What a table of locks says: who holds each node, and who is in the way of an access by these modes.
-use Rattle.std.specs.Prelude.{ℕ, ◌≡◌, ◌≢◌, ◌==◌, Bool, true, false, ◌&&◌, ◌||◌, List, Option, Some, None, is_some}
+use Rattle.std.specs.Prelude.{ℕ, ◌≡◌, ◌≢◌, ◌==◌, Bool, true, false, ◌&&◌, ◌||◌, not, List, Option, Some, None}
 use Rattle.std.specs.List.{list_any}
 use Rattle.std.specs.BTreeMap.{get}
 use Rattle.title_land.specs.declared.node.Node.{Node}
@@ -11,7 +11,7 @@ use Rattle.title_lock.specs.declared.table.Table.{Table}
 use Rattle.title_lock.specs.declared.guards.Entry.{Entry}
 use Rattle.title_lock.specs.Modes.{allows}
 use Rattle.title_lock.specs.Asking.{own_mode, above_mode, mode_at, AreSized}
-use Rattle.title_lock.specs.Holders.{Modes, holder_mode, has_room, is_free, clashes}
+use Rattle.title_lock.specs.Holders.{Modes, holder_mode, has_room, idles, is_free, clashes}
 
 abbrev pub mode_in : ℕ → Option Modes → Option Mode
 mode_in e None = None
@@ -20,18 +20,6 @@ mode_in e (Some h) = holder_mode h e
 -- the mode of examiner e at n
 abbrev pub table_mode : Table → ℕ → Node → Option Mode
 table_mode t e n = mode_in e (get node_cmp t.places n)
-
--- the table has a place for n
-abbrev pub is_placed : Table → Node → Bool
-is_placed t n = is_some (get node_cmp t.places n)
-
-abbrev pub free_in : Option Modes → Bool
-free_in None = true
-free_in (Some h) = is_free h
-
--- nobody holds n, or has room there
-abbrev pub holds_none : Table → Node → Bool
-holds_none t n = free_in (get node_cmp t.places n)
 
 -- ---- who is in the way
 
@@ -64,6 +52,40 @@ KeepsRoom t u = (e : ℕ) (n : Node) → table_room t e n ≡ true → table_roo
 -- examiner e has room at each node that passes a test
 abbrev pub HasRoom : Table → ℕ → (Node → Bool) → Type 0
 HasRoom t e asks = (n : Node) → asks n ≡ true → table_room t e n ≡ true
+
+-- ---- what is kept and not held
+
+abbrev pub idle_in : ℕ → Option Modes → Bool
+idle_in e None = false
+idle_in e (Some h) = idles h e
+
+-- examiner e has room at n and no mode there
+abbrev pub is_idle : Table → ℕ → Node → Bool
+is_idle t e n = idle_in e (get node_cmp t.places n)
+
+-- nobody is idle but who was, and examiner e at nodes that pass a test
+pub record IdleMore (old : Table) (new : Table) (e : ℕ) (asks : Node → Bool) : Type 0 where
+  pub more : (f : ℕ) (n : Node) → is_idle new f n ≡ true → (is_idle old f n || (f == e && asks n)) ≡ true
+
+-- who was idle still is, but for examiner e at nodes that pass a test
+pub record IdleLess (old : Table) (new : Table) (e : ℕ) (asks : Node → Bool) : Type 0 where
+  pub less : (f : ℕ) (n : Node) → is_idle new f n ≡ (is_idle old f n && not (f == e && asks n))
+
+-- nobody is idle but who was
+pub record NoMoreIdle (old : Table) (new : Table) : Type 0 where
+  pub same : (f : ℕ) (n : Node) → is_idle new f n ≡ true → is_idle old f n ≡ true
+
+abbrev pub unused_in : Option Modes → Bool
+unused_in None = false
+unused_in (Some h) = is_free h
+
+-- the table has a place for n, where nobody holds n or has room
+abbrev pub is_unused : Table → Node → Bool
+is_unused t n = unused_in (get node_cmp t.places n)
+
+-- each node that has a place is one that somebody holds or has room at
+pub record AllUsed (t : Table) : Type 0 where
+  pub each : (n : Node) → is_unused t n ≡ false
 
 -- ---- what is held
 

@@ -1,17 +1,17 @@
 //! The entries in the order of their coming, and which are whose.
 
-ghost use Rattle.std.specs.Prelude.{◌≡◌, ◌≢◌, ℕ, true, List, [], ◌∷◌, ◌++◌, reverse, OnOk, OnErr, IfSome, IfNone};
+ghost use Rattle.std.specs.Prelude.{◌≡◌, ◌≢◌, ◌==◌, ◌&&◌, not, ℕ, true, List, [], ◌∷◌, ◌++◌, reverse, OnOk, OnErr, IfSome, IfNone};
 ghost use Rattle.std.specs.BTreeMap.{values};
 ghost use Rattle.title_lock.specs.declared.guards.Entry.{Entry};
 ghost use Rattle.title_lock.specs.Overlaps.{without};
-ghost use Rattle.title_lock.specs.Books.{numbers_of, number_room, IsBook, IsNewest};
+ghost use Rattle.title_lock.specs.Books.{numbers_of, number_room, is_empty_kept, IsBook, IsNewest};
 
 use crate::guards::Entry;
 use std::alloc::{AllocError, Global};
 use std::collections::BTreeMap;
 use std::marker::Model;
 
-/// Entries by numbers that ascend as they come, and the numbers of each examiner's.
+/// Entries by numbers that ascend as they come, and the numbers of each examiner's. No examiner is kept that has no entry.
 #[derive(Drop)]
 pub(crate) struct Book {
     alloc: Global,
@@ -28,7 +28,7 @@ impl Model for Book {
     ghost invariant = { λ b. IsBook b.entries b.numbers b.next };
 }
 
-// Makes room for one number of an examiner's more.
+// Makes room for one number of an examiner's more. An error keeps nobody who wasn't kept.
 fn make_room(
     alloc: Global,
     numbers: &mut BTreeMap<u32, Vec<u64>>,
@@ -36,6 +36,8 @@ fn make_room(
 ) -> Result<(), AllocError>
     ensures numbers { (e : ℕ) → numbers_of numbers.new e ≡ numbers_of numbers.old e }
     ensures room { OnOk result (number_room numbers.new examiner ≡ true) }
+    ensures others { (e : ℕ) → e ≢ examiner → is_empty_kept numbers.new e ≡ is_empty_kept numbers.old e }
+    ensures err { OnErr result (is_empty_kept numbers.new examiner ≡ is_empty_kept numbers.old examiner) }
 {
     if let Some(own) = numbers.get_mut(&examiner) {
         return own.reserve(1);
@@ -50,6 +52,7 @@ fn push_number(numbers: &mut BTreeMap<u32, Vec<u64>>, examiner: u32, number: u64
     requires room { number_room numbers.old examiner ≡ true }
     ensures own { numbers_of numbers.new examiner ≡ numbers_of numbers.old examiner ++ number ∷ [] }
     ensures others { (e : ℕ) → e ≢ examiner → numbers_of numbers.new e ≡ numbers_of numbers.old e }
+    ensures kept { (e : ℕ) → e ≢ examiner → is_empty_kept numbers.new e ≡ is_empty_kept numbers.old e }
 {
     if let Some(own) = numbers.get_mut(&examiner) {
         own.push_reserved(number);
@@ -59,6 +62,7 @@ fn push_number(numbers: &mut BTreeMap<u32, Vec<u64>>, examiner: u32, number: u64
 // Takes an examiner's room back where it has no number.
 fn drop_room(numbers: &mut BTreeMap<u32, Vec<u64>>, examiner: u32)
     ensures numbers { (e : ℕ) → numbers_of numbers.new e ≡ numbers_of numbers.old e }
+    ensures kept { (e : ℕ) → is_empty_kept numbers.new e ≡ (not (e == examiner) && is_empty_kept numbers.old e) }
 {
     let is_empty = match numbers.get(&examiner) {
         Some(own) => own.is_empty(),
@@ -74,6 +78,7 @@ fn pop_last(numbers: &mut BTreeMap<u32, Vec<u64>>, examiner: u32) -> Option<u64>
     ensures some { IfSome result (λ number. numbers_of numbers.old examiner ≡ numbers_of numbers.new examiner ++ number ∷ []) }
     ensures none { IfNone result ((numbers_of numbers.old examiner ≡ []) × (numbers_of numbers.new examiner ≡ [])) }
     ensures others { (e : ℕ) → e ≢ examiner → numbers_of numbers.new e ≡ numbers_of numbers.old e }
+    ensures kept { (e : ℕ) → e ≢ examiner → is_empty_kept numbers.new e ≡ is_empty_kept numbers.old e }
 {
     let Some(own) = numbers.get_mut(&examiner) else {
         return None;
@@ -86,6 +91,7 @@ fn pop_number(numbers: &mut BTreeMap<u32, Vec<u64>>, examiner: u32) -> Option<u6
     ensures some { IfSome result (λ number. numbers_of numbers.old examiner ≡ numbers_of numbers.new examiner ++ number ∷ []) }
     ensures none { IfNone result ((numbers_of numbers.old examiner ≡ []) × (numbers_of numbers.new examiner ≡ [])) }
     ensures others { (e : ℕ) → e ≢ examiner → numbers_of numbers.new e ≡ numbers_of numbers.old e }
+    ensures kept { (e : ℕ) → is_empty_kept numbers.new e ≡ (not (e == examiner) && is_empty_kept numbers.old e) }
 {
     let number = pop_last(numbers, examiner);
     drop_room(numbers, examiner);

@@ -1,6 +1,6 @@
 //! The holders of one node.
 
-ghost use Rattle.std.specs.Prelude.{◌≡◌, ℕ, true, not, ◌==◌, ◌&&◌, ◌||◌, if◌then◌else◌, Some, None, OnOk, slice_index};
+ghost use Rattle.std.specs.Prelude.{◌≡◌, ℕ, true, not, ◌==◌, ◌&&◌, ◌||◌, ◌≢◌, false, if◌then◌else◌, Some, None, OnOk, is_some, slice_index};
 ghost use Rattle.title_lock.specs.declared.modes.Mode.{Mode};
 ghost use Rattle.title_lock.specs.declared.modes.Mode.TheVariants.{Is, Ix, S, Six, X};
 ghost use Rattle.title_lock.specs.Modes.{bound};
@@ -21,8 +21,8 @@ pub(crate) enum Taken {
     Room,
 }
 
-/// The examiners that hold a node, with the mode of each and how many have each mode. One with `None` doesn't hold the
-/// node and has room alone.
+/// The examiners that hold a node, with the mode of each and how many have each mode. An examiner with `None` has room and
+/// doesn't hold the node.
 #[derive(Drop)]
 pub(crate) struct Holders {
     counts: Counts,
@@ -97,6 +97,7 @@ fn add_room(modes: &mut BTreeMap<u32, Option<Mode>>, examiner: u32) -> Result<()
     ensures modes { (e : ℕ) → holder_mode modes.new.entries e ≡ holder_mode modes.old.entries e }
     ensures room { OnOk result (has_room modes.new.entries examiner ≡ true) }
     ensures stays { (e : ℕ) → has_room modes.old.entries e ≡ true → has_room modes.new.entries e ≡ true }
+    ensures others { (e : ℕ) → e ≢ examiner → has_room modes.new.entries e ≡ has_room modes.old.entries e }
 {
     if !modes.contains_key(&examiner) {
         modes.insert(examiner, None)?;
@@ -127,6 +128,7 @@ impl Holders {
     /// Nobody. Takes no memory.
     pub(crate) fn new(alloc: Global) -> Holders
         ensures free { (e : ℕ) → holder_mode result e ≡ None }
+        ensures rooms { (e : ℕ) → has_room result e ≡ false }
     {
         Holders {
             counts: Counts::NONE,
@@ -176,6 +178,7 @@ impl Holders {
         ensures modes { (e : ℕ) → holder_mode self.new e ≡ holder_mode self.old e }
         ensures room { OnOk result (has_room self.new examiner ≡ true) }
         ensures stays { (e : ℕ) → has_room self.old e ≡ true → has_room self.new e ≡ true }
+        ensures others { (e : ℕ) → e ≢ examiner → has_room self.new e ≡ has_room self.old e }
     {
         add_room(&mut self.modes, examiner)
     }
@@ -195,6 +198,7 @@ impl Holders {
     // Takes an examiner out.
     fn release(&mut self, examiner: u32)
         ensures modes { (e : ℕ) → holder_mode self.new e ≡ (if e == examiner then None else holder_mode self.old e) }
+        ensures rooms { (e : ℕ) → has_room self.new e ≡ (not (e == examiner) && has_room self.old e) }
     {
         let had = self.mode(examiner);
         self.counts = self.counts.moved(had, None);
@@ -204,6 +208,8 @@ impl Holders {
     // Takes an examiner's room back where it doesn't hold the node.
     fn drop_room(&mut self, examiner: u32)
         ensures modes { (e : ℕ) → holder_mode self.new e ≡ holder_mode self.old e }
+        ensures rooms { (e : ℕ) → has_room self.new e
+            ≡ (if e == examiner then is_some (holder_mode self.old e) else has_room self.old e) }
     {
         match self.mode(examiner) {
             Some(_) => {}
@@ -211,9 +217,12 @@ impl Holders {
         }
     }
 
-    /// Takes an examiner's mode or room out, and tells whether nobody holds the node any more or has room.
+    /// Takes an examiner's mode or room out. The result tells whether the node is then free: nobody holds it, and nobody
+    /// has room.
     pub(crate) fn take_out(&mut self, examiner: u32, taken: Taken) -> bool
         ensures modes { (e : ℕ) → holder_mode self.new e ≡ (if is_mode taken && e == examiner then None else holder_mode self.old e) }
+        ensures rooms { (e : ℕ) → has_room self.new e
+            ≡ (if e == examiner then not (is_mode taken) && is_some (holder_mode self.old e) else has_room self.old e) }
         ensures free { result ≡ is_free self.new }
     {
         match taken {

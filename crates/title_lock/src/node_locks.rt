@@ -10,8 +10,8 @@ ghost use Rattle.title_lock.specs.Overlaps.{without};
 ghost use Rattle.title_lock.specs.Asking.{mode_at, AllGranted, AreSized};
 ghost use Rattle.title_lock.specs.Counts.{IsCount};
 ghost use Rattle.title_lock.specs.Standing.{StandFree};
-ghost use Rattle.title_lock.specs.Tables.{table_mode, is_asked, is_asked_by, HasRoom};
-ghost use Rattle.title_lock.specs.Locks.{Locks, granted, waiting, AreKept};
+ghost use Rattle.title_lock.specs.Tables.{table_mode, is_asked, is_asked_by, HasRoom, IdleMore, NoMoreIdle, AllUsed};
+ghost use Rattle.title_lock.specs.Locks.{Locks, granted, waiting, AreLocks};
 
 use crate::book::Book;
 use crate::guards::{Access, Entry, Guards, LockFault};
@@ -24,7 +24,7 @@ use title_land::{Node, Tract};
 
 /// Locks by node: for each node in use how many examiners hold it in each mode, and the holders. The counts decide; the
 /// holders are looked through only for the least examiner in the way. An access that is prepared stands before the
-/// entries, and has room at each node that it asks for.
+/// entries, and has room at each node that it asks for. Nothing else is kept of a node or an examiner that holds nothing.
 #[derive(Drop)]
 pub struct NodeLocks {
     alloc: Global,
@@ -38,13 +38,15 @@ impl Model for NodeLocks {
 
     ghost view = { λ l. record { entries = granted l.prepared l.book; prepared = waiting l.prepared l.book } };
 
-    ghost invariant = { λ l. AreKept depth l.prepared l.book l.table };
+    ghost invariant = { λ l. AreLocks depth l.prepared l.book l.table };
 }
 
-// Makes room for what an entry asks for, and adds it to the book.
+// Makes room for what an entry asks for, and adds it to the book. An error may leave room.
 fn fill(table: &mut Table, book: &mut Book, cover: &[Node], entry: Entry) -> Result<(), AllocError>
     ensures modes { (f : ℕ) → (n : Node) → table_mode table.new f n ≡ table_mode table.old f n }
     ensures room { OnOk result (HasRoom table.new entry.examiner (λ n. list_any (is_asked n) cover.now)) }
+    ensures idle { IdleMore table.old table.new entry.examiner (λ n. list_any (is_asked n) cover.now) }
+    ensures used { AllUsed table.old → AllUsed table.new }
     ensures ok { OnOk result (book.new ≡ entry ∷ book.old) }
     ensures err { OnErr result (book.new ≡ book.old) }
 {
@@ -52,10 +54,13 @@ fn fill(table: &mut Table, book: &mut Book, cover: &[Node], entry: Entry) -> Res
     book.push(entry)
 }
 
-// The same; an error leaves no room.
+// The same; an error leaves no room that wasn't there.
 fn stage(table: &mut Table, book: &mut Book, cover: &[Node], entry: Entry) -> Result<(), AllocError>
     ensures modes { (f : ℕ) → (n : Node) → table_mode table.new f n ≡ table_mode table.old f n }
     ensures room { OnOk result (HasRoom table.new entry.examiner (λ n. list_any (is_asked n) cover.now)) }
+    ensures idle { OnOk result (IdleMore table.old table.new entry.examiner (λ n. list_any (is_asked n) cover.now)) }
+    ensures undone { OnErr result (NoMoreIdle table.old table.new) }
+    ensures used { AllUsed table.old → AllUsed table.new }
     ensures ok { OnOk result (book.new ≡ entry ∷ book.old) }
     ensures err { OnErr result (book.new ≡ book.old) }
 {
@@ -72,6 +77,8 @@ fn give_back_all(table: &mut Table, book: &mut Book, examiner: u32)
     ensures left { book.new ≡ without examiner book.old }
     ensures modes { (f : ℕ) → (n : Node) → table_mode table.new f n
         ≡ (if f == examiner && list_any (is_asked_by depth examiner n) book.old then None else table_mode table.old f n) }
+    ensures idle { NoMoreIdle table.old table.new }
+    ensures used { AllUsed table.old → AllUsed table.new }
 {
     while let Some(entry) = book.take(examiner) {
         table.take_out_all(examiner, entry.tract.cover(), Taken::Mode);

@@ -10,8 +10,8 @@ ghost use Rattle.title_lock.specs.Asking.{own_mode, above_mode, asked_for, asked
 ghost use Rattle.title_lock.specs.declared.modes.Mode.TheVariants.{Is, Ix, S, Six, X};
 ghost use Rattle.title_lock.specs.Counts.{IsCount};
 ghost use Rattle.title_lock.specs.Holders.{clashes, is_mode};
-ghost use Rattle.title_lock.specs.Tables.{table_mode, table_room, is_placed, holds_none, clashes_above, clashes_for, clashes_with};
-ghost use Rattle.title_lock.specs.Tables.{KeepsRoom, HasRoom, is_asked};
+ghost use Rattle.title_lock.specs.Tables.{table_mode, table_room, clashes_above, clashes_for, clashes_with};
+ghost use Rattle.title_lock.specs.Tables.{KeepsRoom, HasRoom, is_asked, is_idle, is_unused, IdleMore, IdleLess, AllUsed};
 
 use crate::guards::Access;
 use crate::holders::{Holders, Taken};
@@ -52,6 +52,8 @@ impl Table {
     /// The table where nobody holds a node. Takes no memory.
     pub(crate) fn new(alloc: Global) -> Table
         ensures free { (e : ℕ) → (n : Node) → table_mode result e n ≡ None }
+        ensures idle { (e : ℕ) → (n : Node) → is_idle result e n ≡ false }
+        ensures used { AllUsed result }
     {
         Table {
             alloc,
@@ -134,6 +136,8 @@ impl Table {
         ensures modes { (f : ℕ) → (n : Node) → table_mode self.new f n ≡ table_mode self.old f n }
         ensures room { OnOk result (table_room self.new examiner node.now ≡ true) }
         ensures stays { KeepsRoom self.old self.new }
+        ensures idle { IdleMore self.old self.new examiner (λ n. same_node n node.now) }
+        ensures used { AllUsed self.old → AllUsed self.new }
     {
         if let Some(place) = self.places.get_mut(node) {
             return place.make_room(examiner);
@@ -149,6 +153,8 @@ impl Table {
         ensures modes { (f : ℕ) → (n : Node) → table_mode self.new f n ≡ table_mode self.old f n }
         ensures room { OnOk result (HasRoom self.new examiner (λ n. is_above n node.now)) }
         ensures stays { KeepsRoom self.old self.new }
+        ensures idle { IdleMore self.old self.new examiner (λ n. is_above n node.now) }
+        ensures used { AllUsed self.old → AllUsed self.new }
     {
         if let Some(parent) = node.parent() {
             self.make_room_above(examiner, &parent)?;
@@ -162,6 +168,8 @@ impl Table {
         ensures modes { (f : ℕ) → (n : Node) → table_mode self.new f n ≡ table_mode self.old f n }
         ensures room { OnOk result (HasRoom self.new examiner (λ n. is_asked n node.now)) }
         ensures stays { KeepsRoom self.old self.new }
+        ensures idle { IdleMore self.old self.new examiner (λ n. is_asked n node.now) }
+        ensures used { AllUsed self.old → AllUsed self.new }
     {
         self.make_room_above(examiner, node)?;
         self.make_room(examiner, node)?;
@@ -172,6 +180,8 @@ impl Table {
     pub(crate) fn make_room_all(&mut self, examiner: u32, cover: &[Node]) -> Result<(), AllocError>
         ensures modes { (f : ℕ) → (n : Node) → table_mode self.new f n ≡ table_mode self.old f n }
         ensures room { OnOk result (HasRoom self.new examiner (λ n. list_any (is_asked n) cover.now)) }
+        ensures idle { IdleMore self.old self.new examiner (λ n. list_any (is_asked n) cover.now) }
+        ensures used { AllUsed self.old → AllUsed self.new }
     {
         for node in cover {
             self.make_room_for(examiner, node)?;
@@ -185,6 +195,8 @@ impl Table {
         ensures modes { (f : ℕ) → (n : Node) → table_mode self.new f n
             ≡ bound (table_mode self.old f n) (if f == examiner && same_node n node.now then Some mode else None) }
         ensures stays { KeepsRoom self.old self.new }
+        ensures idle { IdleLess self.old self.new examiner (λ n. same_node n node.now) }
+        ensures used { AllUsed self.old → AllUsed self.new }
     {
         if let Some(place) = self.places.get_mut(node) {
             place.raise(examiner, mode);
@@ -197,6 +209,8 @@ impl Table {
         ensures modes { (f : ℕ) → (n : Node) → table_mode self.new f n
             ≡ bound (table_mode self.old f n) (if f == examiner && is_above n node.now then Some mode else None) }
         ensures stays { KeepsRoom self.old self.new }
+        ensures idle { IdleLess self.old self.new examiner (λ n. is_above n node.now) }
+        ensures used { AllUsed self.old → AllUsed self.new }
     {
         if let Some(parent) = node.parent() {
             self.raise_above(examiner, &parent, mode);
@@ -210,6 +224,8 @@ impl Table {
         ensures modes { (f : ℕ) → (n : Node) → table_mode self.new f n
             ≡ bound (table_mode self.old f n) (if f == examiner then asked_for (is_post access) node.now n else None) }
         ensures stays { KeepsRoom self.old self.new }
+        ensures idle { IdleLess self.old self.new examiner (λ n. is_asked n node.now) }
+        ensures used { AllUsed self.old → AllUsed self.new }
     {
         self.raise_above(examiner, node, above_mode(access));
         self.raise(examiner, node, own_mode(access));
@@ -220,6 +236,8 @@ impl Table {
         requires room { HasRoom self.old examiner (λ n. list_any (is_asked n) cover.now) }
         ensures modes { (f : ℕ) → (n : Node) → table_mode self.new f n
             ≡ bound (table_mode self.old f n) (if f == examiner then asked (is_post access) cover.now n else None) }
+        ensures idle { IdleLess self.old self.new examiner (λ n. list_any (is_asked n) cover.now) }
+        ensures used { AllUsed self.old → AllUsed self.new }
     {
         for node in cover {
             self.raise_for(examiner, node, access);
@@ -230,7 +248,9 @@ impl Table {
     fn take_out(&mut self, examiner: u32, node: &Node, taken: Taken)
         ensures modes { (f : ℕ) → (n : Node) → table_mode self.new f n
             ≡ (if is_mode taken && f == examiner && same_node n node.now then None else table_mode self.old f n) }
-        ensures dropped { holds_none self.new node.now ≡ true → is_placed self.new node.now ≡ false }
+        ensures idle { IdleLess self.old self.new examiner (λ n. same_node n node.now) }
+        ensures dropped { is_unused self.new node.now ≡ false }
+        ensures used { AllUsed self.old → AllUsed self.new }
     {
         let Some(place) = self.places.get_mut(node) else {
             return;
@@ -244,6 +264,8 @@ impl Table {
     fn take_out_above(&mut self, examiner: u32, node: &Node, taken: Taken)
         ensures modes { (f : ℕ) → (n : Node) → table_mode self.new f n
             ≡ (if is_mode taken && f == examiner && is_above n node.now then None else table_mode self.old f n) }
+        ensures idle { IdleLess self.old self.new examiner (λ n. is_above n node.now) }
+        ensures used { AllUsed self.old → AllUsed self.new }
     {
         if let Some(parent) = node.parent() {
             self.take_out(examiner, &parent, taken);
@@ -255,6 +277,8 @@ impl Table {
     fn take_out_for(&mut self, examiner: u32, node: &Node, taken: Taken)
         ensures modes { (f : ℕ) → (n : Node) → table_mode self.new f n
             ≡ (if is_mode taken && f == examiner && is_asked n node.now then None else table_mode self.old f n) }
+        ensures idle { IdleLess self.old self.new examiner (λ n. is_asked n node.now) }
+        ensures used { AllUsed self.old → AllUsed self.new }
     {
         self.take_out(examiner, node, taken);
         self.take_out_above(examiner, node, taken);
@@ -264,6 +288,8 @@ impl Table {
     pub(crate) fn take_out_all(&mut self, examiner: u32, cover: &[Node], taken: Taken)
         ensures modes { (f : ℕ) → (n : Node) → table_mode self.new f n
             ≡ (if is_mode taken && f == examiner && list_any (is_asked n) cover.now then None else table_mode self.old f n) }
+        ensures idle { IdleLess self.old self.new examiner (λ n. list_any (is_asked n) cover.now) }
+        ensures used { AllUsed self.old → AllUsed self.new }
     {
         for node in cover {
             self.take_out_for(examiner, node, taken);

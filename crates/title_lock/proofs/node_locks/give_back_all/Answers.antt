@@ -7,6 +7,7 @@ use Rattle.title_lock.specs.declared.modes.Mode.{Mode}
 use Rattle.title_lock.specs.Tables.{table_mode, is_asked, is_asked_by}
 use Rattle.title_land.specs.Lands.{cover_of}
 use Rattle.title_lock.proofs.AccessLaws.{gone_join}
+use Rattle.title_lock.proofs.IdleLaws.{less_more}
 use Rattle.title_lock.proofs.GiveBack.{asked_more, without_more, none_left}
 use Rattle.title_lock.proofs.node_locks.give_back_all.Goals as goal
 
@@ -28,6 +29,9 @@ loop-entry-preserved c =
           ∙ gone_join (eqb f e) (list_any (is_asked n) (cover_of depth x.tract)) (list_any (is_asked_by depth e n) left) held
           ∙ ap (λ (a : Bool). cond (eqb f e && a) None held) (asked_more depth e n x left book own more)
           ∙ c.loop-entry.invariant.modes f n;
+      idle = less_more c.args.table.now c.loop-entry.table c.take_out_all.new.self e
+          (λ n. list_any (is_asked n) c.cover.result.now) c.loop-entry.invariant.idle c.take_out_all.ensures.idle;
+      used = λ used. c.take_out_all.ensures.used (c.loop-entry.invariant.used used);
     }
 
 pub returns-clause-modes : goal.returns-clause-modes

@@ -1,10 +1,11 @@
--- The others' entries stay, and what is given back with those that are left is what is given back in all.
+-- The others' entries stay, and what is given back with those that are left is what is given back in all;
+-- nobody more is idle.
 use Rattle.std.proofs.Common.{◌≡◌, ℕ, None, ◌&&◌, cond, eqb, length}
 use Rattle.title_land.specs.Depth.{depth}
 use Rattle.std.specs.List.{list_any}
 use Rattle.title_land.specs.declared.node.Node.{Node}
 use Rattle.title_lock.specs.Overlaps.{without}
-use Rattle.title_lock.specs.Tables.{table_mode, is_asked_by}
+use Rattle.title_lock.specs.Tables.{table_mode, is_asked_by, NoMoreIdle, AllUsed}
 use Rattle.title_lock.proofs.node_locks.give_back_all.Given as goal
 
 abbrev pub invariant-loop-entry : goal.invariant-loop-entry
@@ -12,6 +13,8 @@ invariant-loop-entry l = record {
   others : without l.examiner l.book ≡ without l.examiner l.initial.book;
   modes : (f : ℕ) (n : Node) → cond (eqb f l.examiner && list_any (is_asked_by depth l.examiner n) l.book) None (table_mode l.table f n)
       ≡ cond (eqb f l.examiner && list_any (is_asked_by depth l.examiner n) l.initial.book) None (table_mode l.initial.table f n);
+  idle : NoMoreIdle l.initial.table l.table;
+  used : AllUsed l.initial.table → AllUsed l.table;
 }
 
 abbrev pub decreases-loop-entry : goal.decreases-loop-entry

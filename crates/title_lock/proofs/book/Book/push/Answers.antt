@@ -4,7 +4,7 @@ use Rattle.std.proofs.lemmas.List.Elements.{All-weaker, All-push, All-same}
 use Rattle.std.specs.Map.{keys_of, values_of}
 use Rattle.title_lock.specs.declared.guards.Entry.{Entry}
 use Rattle.title_lock.specs.Books.{numbers_of, own_keys}
-use Rattle.title_lock.proofs.BookLaws.{insert_last, view_more, keys_more, own_more}
+use Rattle.title_lock.proofs.BookLaws.{insert_last, view_more, keys_more, own_more, kept_more}
 use Rattle.title_lock.proofs.book.Book.push.Goals as goal
 
 pub invariant_of-self-2 : goal.invariant_of-self-2
@@ -23,6 +23,9 @@ invariant_of-self-2 c =
           (c.make_room.ensures.numbers e ∙ c.self.invariant.own e)
           (λ h. subst (λ (f : ℕ). numbers_of c.push_number.new.numbers f ≡ numbers_of c.make_room.new.numbers f ++ n ∷ []) h
           c.push_number.ensures.own) (λ h. c.push_number.ensures.others e h) ∙ ap (own_keys e) (sym last);
+      kept = λ e. kept_more c.push_number.new.numbers e x.examiner n (numbers_of c.make_room.new.numbers x.examiner)
+          c.push_number.ensures.own
+          (λ h. c.push_number.ensures.kept e h ∙ c.make_room.ensures.others e h ∙ c.self.invariant.kept e);
     }
 
 pub returns-clause-ok : goal.returns-clause-ok

@@ -8,7 +8,7 @@ use Rattle.std.specs.BTreeMap.{is_at}
 use Rattle.title_lock.specs.declared.guards.Entry.{Entry}
 use Rattle.title_lock.specs.Overlaps.{without}
 use Rattle.title_lock.specs.Books.{numbers_of}
-use Rattle.title_lock.proofs.BookLaws.{IsTaken, taken_by, not_none, none_gone}
+use Rattle.title_lock.proofs.BookLaws.{IsTaken, taken_by, not_none, none_gone, kept_without}
 use Rattle.title_lock.proofs.book.Book.take.Goals as goal
 
 taken : (c : goal.After-remove) → IsTaken c.args.examiner (numbers_of c.pop_number.new.numbers c.args.examiner)
@@ -38,6 +38,8 @@ invariant_of-self-2 c =
           (All-map-remove_entry (is_at (nat_cmp k)) (λ (p : ℕ × Entry). p.0) (λ j. j < c.self.inside.next) es c.self.invariant.below);
       own = λ f. (taken c).keys_are f (numbers_of c.pop_number.new.numbers f) (λ h. ap (numbers_of c.pop_number.new.numbers) h)
           (λ h. c.pop_number.ensures.others f h ∙ c.self.invariant.own f);
+      kept = λ f. kept_without c.self.inside.numbers c.pop_number.new.numbers f c.args.examiner (c.pop_number.ensures.kept f)
+          (c.self.invariant.kept f);
     }
 
 pub returns-clause-own : goal.returns-clause-own

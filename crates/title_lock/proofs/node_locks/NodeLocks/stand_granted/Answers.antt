@@ -14,7 +14,7 @@ use Rattle.title_lock.proofs.node_locks.NodeLocks.stand_granted.Goals as goal
 pub returns : goal.returns
 returns c =
     let entries = granted c.self.inside.prepared c.self.inside.book in
-    let are = kept_table depth c.self.inside.prepared c.self.inside.book c.self.inside.table c.self.invariant in
+    let are = kept_table depth c.self.inside.prepared c.self.inside.book c.self.inside.table c.self.invariant.kept in
     let view = ap (λ (l : Locks). l.entries) c.self.view_is in
     let sized = are.sized in
     let granted_all = apart_granted depth entries (λ e f o n. are.apart e f o n) in

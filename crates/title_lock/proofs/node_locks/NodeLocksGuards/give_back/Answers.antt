@@ -4,26 +4,31 @@ use Rattle.title_land.specs.Depth.{depth}
 use Rattle.title_lock.specs.declared.guards.Entry.{Entry}
 use Rattle.title_lock.specs.Overlaps.{without}
 use Rattle.title_lock.specs.Tables.{TableIs}
-use Rattle.title_lock.specs.Locks.{Locks, granted, AreKept}
+use Rattle.title_lock.specs.Locks.{Locks, granted, waiting, AreKept, IsLean, AreLocks}
 use Rattle.title_lock.proofs.GiveBack.{table_fewer}
-use Rattle.title_lock.proofs.KeptLaws.{none_waiting}
+use Rattle.title_lock.proofs.KeptLaws.{none_waiting, lean_same}
 use Rattle.title_lock.proofs.node_locks.NodeLocksGuards.give_back.Goals as goal
 
 pub invariant_of-self : goal.invariant_of-self
 invariant_of-self c =
     let book = c.self.inside.book in
     let table = c.self.inside.table in
-    let none : c.self.inside.prepared ≡ None = none_waiting depth c.self.inside.prepared book table c.self.invariant
+    let none : c.self.inside.prepared ≡ None = none_waiting depth c.self.inside.prepared book table c.self.invariant.kept
     (ap (λ (l : Locks). l.prepared) c.self.view_is ∙ c.forget.ensures.none) in
-    let are : TableIs depth book table = subst (λ (p : Option ℕ). AreKept depth p book table) none c.self.invariant in
-    subst (λ (p : Option ℕ). AreKept depth p c.give_back_all.new.book c.give_back_all.new.table) (sym none)
-    (subst (λ (es : List Entry). TableIs depth es c.give_back_all.new.table) (sym c.give_back_all.ensures.left)
-    (table_fewer depth c.args.examiner book table c.give_back_all.new.table are c.give_back_all.ensures.modes))
+    let more = c.give_back_all.new.table in
+    let are : TableIs depth book table = subst (λ (p : Option ℕ). AreKept depth p book table) none c.self.invariant.kept in
+    subst (λ (p : Option ℕ). AreLocks depth p c.give_back_all.new.book more) (sym none) (record {
+      kept = subst (λ (es : List Entry). TableIs depth es more) (sym c.give_back_all.ensures.left)
+          (table_fewer depth c.args.examiner book table more are c.give_back_all.ensures.modes);
+      lean = lean_same depth None table more
+          (subst (λ (p : Option ℕ). IsLean depth (waiting p book) table) none c.self.invariant.lean)
+          c.give_back_all.ensures.idle c.give_back_all.ensures.used;
+    })
 
 pub returns : goal.returns
 returns c =
     let book = c.self.inside.book in
-    let none : c.self.inside.prepared ≡ None = none_waiting depth c.self.inside.prepared book c.self.inside.table c.self.invariant
+    let none : c.self.inside.prepared ≡ None = none_waiting depth c.self.inside.prepared book c.self.inside.table c.self.invariant.kept
     (ap (λ (l : Locks). l.prepared) c.self.view_is ∙ c.forget.ensures.none) in
     let old = sym (ap (λ (p : Option ℕ). granted p book) none) ∙ ap (λ (l : Locks). l.entries) c.self.view_is ∙ c.forget.ensures.stays in
     record {

@@ -1,5 +1,5 @@
 -- The table with what was prepared is that of the entries with the new one.
-use Rattle.std.proofs.Common.{◌∷◌, ◌∙◌, sym, ap, subst, List, None, cond, eqb}
+use Rattle.std.proofs.Common.{◌∷◌, ◌∙◌, sym, ap, subst, List, Option, None, cond, eqb}
 use Rattle.title_land.specs.Depth.{depth}
 use Rattle.std.specs.List.{list_any}
 use Rattle.title_land.specs.declared.node.Node.{Node}
@@ -7,17 +7,17 @@ use Rattle.title_lock.specs.declared.guards.Entry.{Entry}
 use Rattle.title_lock.specs.Modes.{bound}
 use Rattle.title_lock.specs.Overlaps.{is_post}
 use Rattle.title_lock.specs.Asking.{asked}
-use Rattle.title_lock.specs.Tables.{table_mode, is_asked, TableIs}
-use Rattle.title_lock.specs.Locks.{Locks, granted}
+use Rattle.title_lock.specs.Tables.{table_mode, is_asked, IdleLess, TableIs}
+use Rattle.title_lock.specs.Locks.{Locks, granted, IsLean}
 use Rattle.title_lock.proofs.MeetLaws.{meet_by_covers}
 use Rattle.title_lock.proofs.GiveBack.{table_more}
-use Rattle.title_lock.proofs.KeptLaws.{kept_table, first_waits}
+use Rattle.title_lock.proofs.KeptLaws.{kept_table, first_waits, lean_done}
 use Rattle.title_lock.proofs.node_locks.NodeLocksGuards.grant.Goals as goal
 
 pub raise_all-requires : goal.raise_all-requires
 raise_all-requires c =
     let x : Entry = record { examiner = c.args.examiner; tract = c.args.tract.now; access = c.args.access } in
-    let first = first_waits depth c.self.inside.prepared c.self.inside.book c.self.inside.table x c.self.invariant
+    let first = first_waits depth c.self.inside.prepared c.self.inside.book c.self.inside.table x c.self.invariant.kept
     (ap (λ (l : Locks). l.prepared) c.self.view_is ∙ c.requires.prepared) in
     record { room = λ n asks. first.room n (ap (λ (t : List Node). list_any (is_asked n) t) (sym c.cover.ensures.cover) ∙ asks) }
 
@@ -26,18 +26,26 @@ invariant_of-self c =
     let x : Entry = record { examiner = c.args.examiner; tract = c.args.tract.now; access = c.args.access } in
     let table = c.self.inside.table in
     let es = granted c.self.inside.prepared c.self.inside.book in
-    let first = first_waits depth c.self.inside.prepared c.self.inside.book table x c.self.invariant
+    let first = first_waits depth c.self.inside.prepared c.self.inside.book table x c.self.invariant.kept
     (ap (λ (l : Locks). l.prepared) c.self.view_is ∙ c.requires.prepared) in
-    subst (λ (t : List Entry). TableIs depth t c.raise_all.new.self) (sym first.first)
-    (table_more depth meet_by_covers es table c.raise_all.new.self x first.wide
-    (kept_table depth c.self.inside.prepared c.self.inside.book table c.self.invariant) first.free
-    (λ f n. c.raise_all.ensures.modes f n
-    ∙ ap (λ (t : List Node). bound (table_mode table f n) (cond (eqb f x.examiner) (asked
-    (is_post x.access) t n) None)) c.cover.ensures.cover))
+    record {
+      kept = subst (λ (t : List Entry). TableIs depth t c.raise_all.new.self) (sym first.first)
+          (table_more depth meet_by_covers es table c.raise_all.new.self x first.wide
+          (kept_table depth c.self.inside.prepared c.self.inside.book table c.self.invariant.kept) first.free
+          (λ f n. c.raise_all.ensures.modes f n
+          ∙ ap (λ (t : List Node). bound (table_mode table f n) (cond (eqb f x.examiner) (asked
+          (is_post x.access) t n) None)) c.cover.ensures.cover));
+      lean = lean_done depth x table c.raise_all.new.self
+          (subst (λ (w : Option Entry). IsLean depth w table) (ap (λ (l : Locks). l.prepared) c.self.view_is ∙ c.requires.prepared)
+          c.self.invariant.lean)
+          (subst (λ (t : List Node). IdleLess table c.raise_all.new.self x.examiner (λ n. list_any (is_asked n) t)) c.cover.ensures.cover
+          c.raise_all.ensures.idle)
+          c.raise_all.ensures.used;
+    }
 
 pub returns : goal.returns
 returns c =
     let x : Entry = record { examiner = c.args.examiner; tract = c.args.tract.now; access = c.args.access } in
-    let first = first_waits depth c.self.inside.prepared c.self.inside.book c.self.inside.table x c.self.invariant
+    let first = first_waits depth c.self.inside.prepared c.self.inside.book c.self.inside.table x c.self.invariant.kept
     (ap (λ (l : Locks). l.prepared) c.self.view_is ∙ c.requires.prepared) in
     record { granted = first.first ∙ ap (λ (l : Locks). x ∷ l.entries) c.self.view_is }

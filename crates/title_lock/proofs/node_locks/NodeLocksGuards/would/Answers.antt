@@ -23,5 +23,5 @@ returns c =
     record {
       would = subst (λ (z : List Entry). Stands z e t p c.ways.result) (ap (λ (l : Locks). l.entries) c.self.view_is)
           (stands depth meet_by_covers (granted c.self.inside.prepared c.self.inside.book) table e p t c.ways.result wide
-          (kept_table depth c.self.inside.prepared c.self.inside.book table c.self.invariant) least);
+          (kept_table depth c.self.inside.prepared c.self.inside.book table c.self.invariant.kept) least);
     }

@@ -1,5 +1,7 @@
 -- Room at the parent and at all above it; above the whole plant there is no node.
 use Rattle.title_lock.proofs.TableLaws.{room_above_parent, none_above_whole}
+use Rattle.title_land.specs.Nodes.{is_above}
+use Rattle.title_lock.proofs.IdleLaws.{more_same, more_above, more_above_at}
 use Rattle.title_lock.proofs.table.Table.+make_room_above.Goals as goal
 
 pub returns-in_ok-make_room-clause-room : goal.returns-in_ok-make_room-clause-room
@@ -10,3 +12,18 @@ returns-in_ok-make_room-clause-room t c =
 
 pub returns-in_default-clause-room : goal.returns-in_default-clause-room
 returns-in_default-clause-room t c n up = absurd (none_above_whole c.args.node.now n c.in_default.ensures.parent up)
+
+pub returns-in_err-make_room_above-clause-idle : goal.returns-in_err-make_room_above-clause-idle
+returns-in_err-make_room_above-clause-idle t c =
+    more_above c.args.node.now c.in-Some.parent c.in-Some.ensures.parent c.make_room_above.ensures.idle
+
+pub returns-in_err-make_room-clause-idle : goal.returns-in_err-make_room-clause-idle
+returns-in_err-make_room-clause-idle t c =
+    more_above_at c.args.node.now c.in-Some.parent c.in-Some.ensures.parent c.make_room_above.ensures.idle c.make_room.ensures.idle
+
+pub returns-in_ok-make_room-clause-idle : goal.returns-in_ok-make_room-clause-idle
+returns-in_ok-make_room-clause-idle t c =
+    more_above_at c.args.node.now c.in-Some.parent c.in-Some.ensures.parent c.make_room_above.ensures.idle c.make_room.ensures.idle
+
+pub returns-in_default-clause-idle : goal.returns-in_default-clause-idle
+returns-in_default-clause-idle t c = more_same c.args.self.now c.args.examiner (λ n. is_above n c.args.node.now)

@@ -1,11 +1,12 @@
 -- A mode at the parent and at all above it.
 use Rattle.std.proofs.Common.{rules, ◌∙◌, ap, Option, Some, None, cond, ◌&&◌, eqb}
-use Rattle.title_land.specs.Nodes.{same_node}
+use Rattle.title_land.specs.Nodes.{same_node, is_above}
 use Rattle.title_lock.specs.declared.modes.Mode.{Mode}
 use Rattle.title_lock.specs.Modes.{bound}
 use Rattle.title_lock.specs.Tables.{table_mode}
-use Rattle.title_lock.proofs.AccessLaws.{none_above, above_join}
+use Rattle.title_lock.proofs.AccessLaws.{above_none, none_above, above_join}
 use Rattle.title_lock.proofs.TableLaws.{parent_above, above_parent}
+use Rattle.title_lock.proofs.IdleLaws.{less_same, less_above_at}
 use Rattle.title_lock.proofs.table.Table.+raise_above.Goals as goal
 
 pub returns-in_default-clause-modes : goal.returns-in_default-clause-modes
@@ -31,3 +32,11 @@ raise-requires t c = record {
   room = c.raise_above.ensures.stays c.args.examiner c.in-Some.parent
       (c.requires.room c.in-Some.parent (parent_above c.args.node.now c.in-Some.parent c.in-Some.ensures.parent));
 }
+
+pub returns-in-Some-clause-idle : goal.returns-in-Some-clause-idle
+returns-in-Some-clause-idle t c =
+    less_above_at c.args.node.now c.in-Some.parent c.in-Some.ensures.parent c.raise_above.ensures.idle c.raise.ensures.idle
+
+pub returns-in_default-clause-idle : goal.returns-in_default-clause-idle
+returns-in_default-clause-idle t c = less_same c.args.self.now c.args.examiner (λ n. is_above n c.args.node.now)
+    (λ n. above_none c.args.node.now n c.in_default.ensures.parent)

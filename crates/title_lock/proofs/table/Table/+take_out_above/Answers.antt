@@ -4,7 +4,8 @@ use Rattle.title_land.specs.Nodes.{is_above}
 use Rattle.title_lock.specs.declared.modes.Mode.{Mode}
 use Rattle.title_lock.specs.Holders.{is_mode}
 use Rattle.title_lock.specs.Tables.{table_mode}
-use Rattle.title_lock.proofs.AccessLaws.{above_gone}
+use Rattle.title_lock.proofs.AccessLaws.{above_gone, above_none}
+use Rattle.title_lock.proofs.IdleLaws.{less_same, less_at_above}
 use Rattle.title_lock.proofs.table.Table.+take_out_above.Goals as goal
 
 pub returns-in-Some : goal.returns-in-Some
@@ -15,4 +16,10 @@ returns-in-Some t c = record {
       (c.take_out.ensures.modes f n)
       ∙ above_gone (is_mode c.args.taken && eqb f c.args.examiner)
       (table_mode c.args.self.now f n) c.args.node.now c.in-Some.parent n c.in-Some.ensures.parent;
+  idle = less_at_above c.args.node.now c.in-Some.parent c.in-Some.ensures.parent c.take_out.ensures.idle c.take_out_above.ensures.idle;
+  used = λ used. c.take_out_above.ensures.used (c.take_out.ensures.used used);
 }
+
+pub returns-in_default-clause-idle : goal.returns-in_default-clause-idle
+returns-in_default-clause-idle t c = less_same c.args.self.now c.args.examiner (λ n. is_above n c.args.node.now)
+    (λ n. above_none c.args.node.now n c.in_default.ensures.parent)

@@ -5,10 +5,16 @@ use Rattle.std.proofs.lemmas.List.{take_all}
 use Rattle.title_land.specs.declared.node.Node.{Node}
 use Rattle.title_lock.specs.Tables.{is_asked, HasRoom}
 use Rattle.title_lock.proofs.TableLaws.{room_more}
+use Rattle.title_lock.proofs.IdleLaws.{more_same, more_all}
 use Rattle.title_lock.proofs.table.Table.make_room_all.Goals as goal
 
 pub loop-node-init : goal.loop-node-init
-loop-node-init c = record { modes = λ f n. refl; room = λ n asks. absurd cc }
+loop-node-init c = record {
+  modes = λ f n. refl;
+  room = λ n asks. absurd cc;
+  idle = more_same c.args.self.now c.args.examiner (λ n. list_any (is_asked n) c.args.cover.now);
+  used = λ used. used;
+}
 
 pub loop-node-preserved : goal.loop-node-preserved
 loop-node-preserved c =
@@ -19,9 +25,17 @@ loop-node-preserved c =
           c.node-item.result c.node-item.is low
           c.in_ok-make_room_for.ensures.room
           (λ n asks. c.make_room_for.ensures.stays c.args.examiner n (c.loop-node.invariant.room n asks));
+      idle = more_all c.args.cover.now c.loop-node.node-index c.node-item.result c.node-item.is low c.loop-node.invariant.idle
+          c.make_room_for.ensures.idle;
+      used = λ used. c.make_room_for.ensures.used (c.loop-node.invariant.used used);
     }
 
 pub returns-clause-room : goal.returns-clause-room
 returns-clause-room c =
     subst (λ (nodes : List Node). HasRoom c.loop-node.self c.args.examiner (λ n. list_any (is_asked n) nodes))
     (take_all c.loop-node.node-index c.args.cover.now (omega arith)) c.loop-node.invariant.room
+
+pub returns-in_err-make_room_for-clause-idle : goal.returns-in_err-make_room_for-clause-idle
+returns-in_err-make_room_for-clause-idle c =
+    more_all c.args.cover.now c.loop-node.node-index c.node-item.result c.node-item.is (omega arith) c.loop-node.invariant.idle
+    c.make_room_for.ensures.idle

@@ -1,9 +1,10 @@
 -- One place changes, and it keeps its room.
-use Rattle.std.proofs.Common.{◌∙◌, ap, Some, None, cond, eqb, Option}
+use Rattle.std.proofs.Common.{◌∙◌, ◌&&◌, not, ap, Some, None, cond, eqb, Option}
 use Rattle.title_lock.specs.Holders.{Modes}
 use Rattle.title_lock.specs.Modes.{bound}
-use Rattle.title_lock.specs.Tables.{mode_in, room_in}
-use Rattle.title_lock.proofs.TableLaws.{is_found, raised, room_stays}
+use Rattle.title_lock.specs.Tables.{mode_in, room_in, idle_in, unused_in}
+use Rattle.title_lock.proofs.TableLaws.{is_found, raised, room_stays, idle_less, used_after}
+use Rattle.title_lock.proofs.IdleLaws.{idles_raised, rooms_used}
 use Rattle.title_lock.proofs.table.Table.raise.Goals as goal
 
 pub returns-in-Some-clause-modes : goal.returns-in-Some-clause-modes
@@ -22,3 +23,26 @@ returns-in-Some-clause-stays c f =
     room_stays c.args.self.now.places (c.get_mut.follows.lender w) c.args.node.now (Some w)
     ((c.get_mut.follows.holds w).3 (is_found _ _ had)).0 f
     (λ h. c.raise.ensures.rooms f ∙ ap (room_in f) had ∙ h)
+
+pub returns-in-Some-clause-idle : goal.returns-in-Some-clause-idle
+returns-in-Some-clause-idle c =
+    let e = c.args.examiner in
+    let h = c.in-Some.place.now in
+    let w = c.raise.new.self in
+    let had = c.in-Some.ensures.value in
+    record {
+      less = λ f. idle_less c.args.self.now.places (c.get_mut.follows.lender w) c.args.node.now (Some w)
+          ((c.get_mut.follows.holds w).3 (is_found _ _ had)).0 (eqb f e) f
+          (idles_raised h w f e c.args.mode (c.raise.ensures.modes f) (c.raise.ensures.rooms f)
+          ∙ ap (λ (o : Option Modes). idle_in f o && not (eqb f e)) had);
+    }
+
+pub returns-in-Some-clause-used : goal.returns-in-Some-clause-used
+returns-in-Some-clause-used c used =
+    let w = c.raise.new.self in
+    let had = c.in-Some.ensures.value in
+    record {
+      each = used_after c.args.self.now.places (c.get_mut.follows.lender w) c.args.node.now (Some w)
+          ((c.get_mut.follows.holds w).3 (is_found _ _ had)).0
+          (λ here. rooms_used c.in-Some.place.now w (λ f room. c.raise.ensures.rooms f ∙ room) (ap unused_in had ∙ here)) used.each;
+    }

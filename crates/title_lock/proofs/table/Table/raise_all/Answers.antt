@@ -1,14 +1,16 @@
 -- One node of the cover more.
-use Rattle.std.proofs.Common.{◌<◌, ◌∙◌, ap, sym, List, None, cond, eqb, length, arith}
-use Rattle.std.proofs.lemmas.List.{drop_all}
+use Rattle.std.proofs.Common.{◌<◌, ◌∙◌, ap, sym, subst, List, None, cond, eqb, length, arith}
+use Rattle.std.proofs.lemmas.List.{drop_all, take_all}
 use Rattle.std.proofs.lemmas.Grind.{common_steps}
+use Rattle.std.specs.List.{list_any}
 use Rattle.title_land.specs.declared.node.Node.{Node}
 use Rattle.title_lock.specs.Modes.{bound}
 use Rattle.title_lock.specs.Overlaps.{is_post}
 use Rattle.title_lock.specs.Asking.{asked}
-use Rattle.title_lock.specs.Tables.{table_mode}
+use Rattle.title_lock.specs.Tables.{table_mode, is_asked, IdleLess}
 use Rattle.title_lock.proofs.AccessLaws.{rest_join, rest_none}
 use Rattle.title_lock.proofs.TableLaws.{asked_of_one}
+use Rattle.title_lock.proofs.IdleLaws.{less_next}
 use Rattle.title_lock.proofs.table.Table.raise_all.Goals as goal
 
 pub loop-node-preserved : goal.loop-node-preserved
@@ -18,6 +20,9 @@ loop-node-preserved c =
     record {
       modes = λ f n. grind (arith, common_steps, rest_join, c.raise_for.ensures.modes f n, c.loop-node.invariant.modes f n);
       room = λ n asks. c.raise_for.ensures.stays e n (c.loop-node.invariant.room n asks);
+      idle = less_next c.args.cover.now c.loop-node.node-index c.node-item.result c.node-item.is low c.loop-node.invariant.idle
+          c.raise_for.ensures.idle;
+      used = λ used. c.raise_for.ensures.used (c.loop-node.invariant.used used);
     }
 
 pub raise_for-requires : goal.raise_for-requires
@@ -33,4 +38,7 @@ returns c = record {
       (cond (eqb f c.args.examiner) (asked (is_post c.args.access) nodes n) None))
       (sym (drop_all c.loop-node.node-index c.args.cover.now (omega arith)))
       ∙ c.loop-node.invariant.modes f n;
+  idle = subst (λ (nodes : List Node). IdleLess c.args.self.now c.loop-node.self c.args.examiner (λ n. list_any (is_asked n) nodes))
+      (take_all c.loop-node.node-index c.args.cover.now (omega arith)) c.loop-node.invariant.idle;
+  used = c.loop-node.invariant.used;
 }

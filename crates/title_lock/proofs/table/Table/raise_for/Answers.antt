@@ -9,6 +9,7 @@ use Rattle.title_lock.specs.Tables.{table_mode}
 use Rattle.title_lock.proofs.AccessLaws.{for_join}
 use Rattle.std.proofs.lemmas.Bool.{or_left}
 use Rattle.title_lock.proofs.NodeLaws.{same_self}
+use Rattle.title_lock.proofs.IdleLaws.{less_asked_at}
 use Rattle.title_lock.proofs.table.Table.raise_for.Goals as goal
 
 pub returns-clause-modes : goal.returns-clause-modes
@@ -32,3 +33,6 @@ raise-requires c =
       room = c.raise_above.ensures.stays c.args.examiner k (c.requires.room k (or_left (same_node k k) (is_above k k)
           (same_self k)));
     }
+
+pub returns-clause-idle : goal.returns-clause-idle
+returns-clause-idle c = less_asked_at c.args.node.now c.raise_above.ensures.idle c.raise.ensures.idle

@@ -5,6 +5,7 @@ use Rattle.title_lock.specs.declared.modes.Mode.{Mode}
 use Rattle.title_lock.specs.Holders.{is_mode}
 use Rattle.title_lock.specs.Tables.{table_mode}
 use Rattle.title_lock.proofs.AccessLaws.{gone_join}
+use Rattle.title_lock.proofs.IdleLaws.{less_at_asked}
 use Rattle.title_lock.proofs.table.Table.take_out_for.Goals as goal
 
 pub returns : goal.returns
@@ -15,4 +16,6 @@ returns c = record {
       (c.take_out.ensures.modes f n)
       ∙ gone_join (is_mode c.args.taken && eqb f c.args.examiner) (same_node n c.args.node.now) (is_above n c.args.node.now)
       (table_mode c.args.self.now f n);
+  idle = less_at_asked c.args.node.now c.take_out.ensures.idle c.take_out_above.ensures.idle;
+  used = λ used. c.take_out_above.ensures.used (c.take_out.ensures.used used);
 }

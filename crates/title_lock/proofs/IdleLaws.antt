@@ -1,0 +1,276 @@
+-- Who is idle at a node, and which places are used, after one change and after several.
+use Rattle.std.proofs.Common.{◌≡◌, ◌≢◌, ℕ, Bool, true, false, cond, not, ◌&&◌, ◌||◌, List, [], ◌∷◌, Option, Some, None, length, is_some, eqb, refl, ◌<◌, ◌+◌, take, get_or}
+use Rattle.std.proofs.Common.{sym, ap, ◌∙◌, inl, inr, true≢false, arith}
+use Rattle.std.proofs.lemmas.Bool.{eqb-false, ne_eqb, or_cases, or_left, or_right}
+use Rattle.std.proofs.lemmas.Bool.Decides.{nat_tests}
+use Rattle.std.proofs.lemmas.List.Folds.{list_any_more}
+use Rattle.std.specs.List.{list_any}
+use Rattle.std.specs.Map.{lookup}
+use Rattle.std.specs.Ordering.{nat_cmp}
+use Rattle.std.specs.BTreeMap.{is_at}
+use Rattle.title_land.specs.declared.node.Node.{Node}
+use Rattle.title_land.specs.Nodes.{same_node, parent_of, is_above}
+use Rattle.title_lock.specs.declared.modes.Mode.{Mode}
+use Rattle.title_lock.specs.declared.table.Table.{Table}
+use Rattle.title_lock.specs.Modes.{bound}
+use Rattle.title_lock.specs.Holders.{Modes, holder_mode, has_room, idles, is_free, mode_of_place}
+use Rattle.title_lock.specs.Tables.{is_asked, is_idle, IdleMore, IdleLess, NoMoreIdle}
+use Rattle.title_lock.proofs.NodeLaws.{above_of}
+use Rattle.title_lock.proofs.TableLaws.{above_parent, asked_of_one}
+
+-- ---- the holders of one node
+
+hit : (k : ℕ) → is_at (nat_cmp k) k ≡ true
+hit k = grind (arith, nat_tests)
+
+-- the first of a node's holders has room
+first_room : (p : ℕ × Option Mode) (h : Modes) → has_room (p ∷ h) p.0 ≡ true
+first_room p h = ap (λ (b : Bool). is_some (cond b (Some (p.1)) (lookup (is_at (nat_cmp p.0)) h))) (hit p.0)
+
+-- a node where somebody has room isn't free
+pub room_used : (h : Modes) (e : ℕ) → has_room h e ≡ true → is_free h ≡ false
+room_used [] e room = absurd (true≢false (sym room))
+room_used (p ∷ h) e room = ne_eqb (length (p ∷ h)) 0 (λ none. omega arith)
+
+-- a node that isn't free stays so where each keeps room
+pub rooms_used : (h g : Modes) → ((e : ℕ) → has_room h e ≡ true → has_room g e ≡ true) → is_free h ≡ false → is_free g ≡ false
+rooms_used [] g keeps used = absurd (true≢false used)
+rooms_used (p ∷ h) g keeps used = room_used g p.0 (keeps p.0 (first_room p h))
+
+-- who has a mode has room
+pub mode_room : (h : Modes) (e : ℕ) → is_some (holder_mode h e) ≡ true → has_room h e ≡ true
+mode_room h e some = go (lookup (is_at (nat_cmp e)) h) some
+  where
+    go : (o : Option (Option Mode)) → is_some (mode_of_place o) ≡ true → is_some o ≡ true
+    go None s = absurd (true≢false (sym s))
+    go (Some r) s = refl
+
+-- who gets room may be idle, and nobody else is but who was
+pub idles_more : (h g : Modes) (f e : ℕ) → holder_mode g f ≡ holder_mode h f → (f ≢ e → has_room g f ≡ has_room h f) → idles g f ≡ true
+    → (idles h f || eqb f e) ≡ true
+idles_more h g f e mode room idle = go (eqb f e) refl
+  where
+    go : (b : Bool) → eqb f e ≡ b → (idles h f || b) ≡ true
+    go true s = or_right (idles h f) true refl
+    go false s = or_left (idles h f) false
+        (sym (ap (λ (z : Bool). z && not (is_some (holder_mode g f))) (room (eqb-false f e s))
+        ∙ ap (λ (r : Option Mode). has_room h f && not (is_some r)) mode) ∙ idle)
+
+-- where nobody had room, only who gets it may be idle
+pub idles_first : (h g : Modes) (f e : ℕ) → has_room h f ≡ false → holder_mode g f ≡ holder_mode h f → (f ≢ e → has_room g f ≡ has_room h f)
+    → idles g f ≡ true → eqb f e ≡ true
+idles_first h g f e none mode room idle =
+    sym (ap (λ (z : Bool). (z && not (is_some (holder_mode h f))) || eqb f e) none) ∙ idles_more h g f e mode room idle
+
+-- who is given a mode isn't idle
+pub idles_raised : (h g : Modes) (f e : ℕ) (a : Mode) → holder_mode g f ≡ bound (holder_mode h f) (cond (eqb f e) (Some a) None)
+    → has_room g f ≡ has_room h f → idles g f ≡ (idles h f && not (eqb f e))
+idles_raised h g f e a mode room =
+    ap (λ (z : Bool). z && not (is_some (holder_mode g f))) room
+    ∙ ap (λ (r : Option Mode). has_room h f && not (is_some r)) mode
+    ∙ go (eqb f e) (holder_mode h f) (has_room h f)
+  where
+    go : (b : Bool) (r : Option Mode) (s : Bool)
+        → (s && not (is_some (bound r (cond b (Some a) None)))) ≡ ((s && not (is_some r)) && not b)
+    go true None true = refl
+    go true None false = refl
+    go true (Some x) true = refl
+    go true (Some x) false = refl
+    go false None true = refl
+    go false None false = refl
+    go false (Some x) true = refl
+    go false (Some x) false = refl
+
+-- who is taken out isn't idle
+pub idles_taken : (h g : Modes) (f e : ℕ) (m : Bool) → holder_mode g f ≡ cond (m && eqb f e) None (holder_mode h f)
+    → has_room g f ≡ cond (eqb f e) (not m && is_some (holder_mode h f)) (has_room h f) → idles g f ≡ (idles h f && not (eqb f e))
+idles_taken h g f e m mode room =
+    ap (λ (z : Bool). z && not (is_some (holder_mode g f))) room
+    ∙ ap (λ (r : Option Mode). cond (eqb f e) (not m && is_some (holder_mode h f)) (has_room h f) && not (is_some r)) mode
+    ∙ go (eqb f e) m (holder_mode h f) (has_room h f)
+  where
+    go : (b m : Bool) (r : Option Mode) (s : Bool)
+        → (cond b (not m && is_some r) s && not (is_some (cond (m && b) None r))) ≡ ((s && not (is_some r)) && not b)
+    go true true None true = refl
+    go true true None false = refl
+    go true true (Some x) true = refl
+    go true true (Some x) false = refl
+    go true false None true = refl
+    go true false None false = refl
+    go true false (Some x) true = refl
+    go true false (Some x) false = refl
+    go false true None true = refl
+    go false true None false = refl
+    go false true (Some x) true = refl
+    go false true (Some x) false = refl
+    go false false None true = refl
+    go false false None false = refl
+    go false false (Some x) true = refl
+    go false false (Some x) false = refl
+
+-- nobody is idle at a free node
+pub free_idles : (h : Modes) → is_free h ≡ true → (e : ℕ) → idles h e ≡ false
+free_idles [] free e = refl
+free_idles (p ∷ h) free e = absurd (true≢false (sym free ∙ ne_eqb (length (p ∷ h)) 0 (λ none. omega arith)))
+
+-- ---- what lies above a node, and what a cover asks for
+
+or_turned : (a b : Bool) → (a || b) ≡ (b || a)
+or_turned true true = refl
+or_turned true false = refl
+or_turned false true = refl
+or_turned false false = refl
+
+-- above a node lie its parent and what lies above that
+pub above_parts : (p c n : Node) → Some c ≡ parent_of p → (same_node n c || is_above n c) ≡ is_above n p
+above_parts p c n h = sym (ap (λ (z : List Node). list_any (same_node n) z) (above_of p c h))
+
+pub parts_above : (p c n : Node) → Some c ≡ parent_of p → (is_above n c || same_node n c) ≡ is_above n p
+parts_above p c n h = or_turned (is_above n c) (same_node n c) ∙ above_parts p c n h
+
+pub asked_parts : (c n : Node) → (is_above n c || same_node n c) ≡ is_asked n c
+asked_parts c n = or_turned (is_above n c) (same_node n c)
+
+-- what a list's first nodes ask for, and the next
+pub list_parts : (nodes : List Node) (i : ℕ) (c n : Node) → c ≡ get_or nodes i c → i < length nodes
+    → (list_any (is_asked n) (take i nodes) || is_asked n c) ≡ list_any (is_asked n) (take (i + 1) nodes)
+list_parts nodes i c n at_it low =
+    ap (λ (x : Node). list_any (is_asked n) (take i nodes) || is_asked n x) at_it ∙ sym (list_any_more (is_asked n) nodes i c low)
+
+-- ---- tables
+
+-- the same table has nobody more idle
+pub more_same : (t : Table) (e : ℕ) (asks : Node → Bool) → IdleMore t t e asks
+more_same t e asks = record { more = λ f n idle. or_left (is_idle t f n) (eqb f e && asks n) idle }
+
+wider : (b p r : Bool) → (p ≡ true → r ≡ true) → (b && p) ≡ true → (b && r) ≡ true
+wider true p r h both = h both
+wider false p r h both = both
+
+-- what may be idle by one test may be by a wider one
+pub more_wider : (t u : Table) (e : ℕ) (p r : Node → Bool) → ((n : Node) → p n ≡ true → r n ≡ true) → IdleMore t u e p → IdleMore t u e r
+more_wider t u e p r wide h = record {
+  more = λ f n idle. elim (or_cases (is_idle t f n) (eqb f e && p n) (h.more f n idle)) [
+    | inl old ↦ or_left (is_idle t f n) (eqb f e && r n) old
+    | inr new ↦ or_right (is_idle t f n) (eqb f e && r n) (wider (eqb f e) (p n) (r n) (wide n) new)
+  ];
+}
+
+-- what may be idle by two changes in turn
+pub more_join : (t u v : Table) (e : ℕ) (p r : Node → Bool) → ((n : Node) → p n ≡ true → r n ≡ true) → IdleMore t u e r → IdleMore u v e p
+    → IdleMore t v e r
+more_join t u v e p r wide first then = record {
+  more = λ f n idle. elim (or_cases (is_idle u f n) (eqb f e && p n) (then.more f n idle)) [
+    | inl old ↦ first.more f n old
+    | inr new ↦ or_right (is_idle t f n) (eqb f e && r n) (wider (eqb f e) (p n) (r n) (wide n) new)
+  ];
+}
+
+both_gone : (i b p q : Bool) → ((i && not (b && p)) && not (b && q)) ≡ (i && not (b && (p || q)))
+both_gone true true true true = refl
+both_gone true true true false = refl
+both_gone true true false q = refl
+both_gone true false p q = refl
+both_gone false b p q = refl
+
+-- the same table has nobody less idle by a test that passes no node
+pub less_same : (t : Table) (e : ℕ) (asks : Node → Bool) → ((n : Node) → asks n ≡ false) → IdleLess t t e asks
+less_same t e asks none = record {
+  less = λ f n. go (is_idle t f n) (eqb f e) ∙ ap (λ (z : Bool). is_idle t f n && not (eqb f e && z)) (sym (none n));
+}
+  where
+    go : (i b : Bool) → i ≡ (i && not (b && false))
+    go true true = refl
+    go true false = refl
+    go false b = refl
+
+-- who is no more idle after two changes in turn
+pub less_join : (t u v : Table) (e : ℕ) (p q r : Node → Bool) → ((n : Node) → (p n || q n) ≡ r n) → IdleLess t u e p → IdleLess u v e q
+    → IdleLess t v e r
+less_join t u v e p q r parts first then = record {
+  less = λ f n. then.less f n ∙ ap (λ (z : Bool). z && not (eqb f e && q n)) (first.less f n)
+      ∙ both_gone (is_idle t f n) (eqb f e) (p n) (q n)
+      ∙ ap (λ (z : Bool). is_idle t f n && not (eqb f e && z)) (parts n);
+}
+
+fewer : (i b : Bool) → (i && not b) ≡ true → i ≡ true
+fewer true b h = refl
+fewer false b h = h
+
+-- nobody is idle but who was, also after one who was is no more
+pub less_more : (t u v : Table) (e : ℕ) (asks : Node → Bool) → NoMoreIdle t u → IdleLess u v e asks → NoMoreIdle t v
+less_more t u v e asks first then = record {
+  same = λ f n idle. first.same f n (fewer (is_idle u f n) (eqb f e && asks n) (sym (then.less f n) ∙ idle));
+}
+
+one_undone : (i j a : Bool) → (i ≡ true → (j || a) ≡ true) → (i && not a) ≡ true → j ≡ true
+one_undone true true a h g = refl
+one_undone true false true h g = absurd (true≢false (sym g))
+one_undone true false false h g = h refl
+one_undone false j a h g = absurd (true≢false (sym g))
+
+-- who may have become idle by a test, and then isn't by the same, was idle before
+pub more_undone : {t u v : Table} {e : ℕ} {asks : Node → Bool} → IdleMore t u e asks → IdleLess u v e asks → NoMoreIdle t v
+more_undone {t = t} {u = u} {v = v} {e = e} {asks = asks} first then = record {
+  same = λ f n idle. one_undone (is_idle u f n) (is_idle t f n) (eqb f e && asks n) (first.more f n) (sym (then.less f n) ∙ idle);
+}
+
+-- ---- along the ways of the table
+
+module _ {t u : Table} {e : ℕ} (p c : Node) (parent : Some c ≡ parent_of p) where
+  -- what may be idle above the parent may be above the node
+  pub more_above : IdleMore t u e (λ n. is_above n c) → IdleMore t u e (λ n. is_above n p)
+  more_above first = more_wider t u e (λ n. is_above n c) (λ n. is_above n p) (λ n up. above_parent p c n parent up) first
+
+  -- and at the parent
+  pub more_above_at : {v : Table} → IdleMore t u e (λ n. is_above n c) → IdleMore u v e (λ n. same_node n c)
+      → IdleMore t v e (λ n. is_above n p)
+  more_above_at {v = v} first then = more_join t u v e (λ n. same_node n c) (λ n. is_above n p)
+      (λ n same. sym (above_parts p c n parent) ∙ or_left (same_node n c) (is_above n c) same) (more_above first) then
+
+  -- who isn't idle above the parent and at it isn't above the node
+  pub less_above_at : {v : Table} → IdleLess t u e (λ n. is_above n c) → IdleLess u v e (λ n. same_node n c)
+      → IdleLess t v e (λ n. is_above n p)
+  less_above_at {v = v} first then = less_join t u v e (λ n. is_above n c) (λ n. same_node n c) (λ n. is_above n p)
+      (λ n. parts_above p c n parent) first then
+
+  pub less_at_above : {v : Table} → IdleLess t u e (λ n. same_node n c) → IdleLess u v e (λ n. is_above n c)
+      → IdleLess t v e (λ n. is_above n p)
+  less_at_above {v = v} first then = less_join t u v e (λ n. same_node n c) (λ n. is_above n c) (λ n. is_above n p)
+      (λ n. above_parts p c n parent) first then
+
+module _ {t u : Table} {e : ℕ} (c : Node) where
+  -- what may be idle above a node may be where the node asks
+  pub more_asked : IdleMore t u e (λ n. is_above n c) → IdleMore t u e (λ n. is_asked n c)
+  more_asked first =
+      more_wider t u e (λ n. is_above n c) (λ n. is_asked n c) (λ n up. or_right (same_node n c) (is_above n c) up) first
+
+  -- and at the node
+  pub more_asked_at : {v : Table} → IdleMore t u e (λ n. is_above n c) → IdleMore u v e (λ n. same_node n c)
+      → IdleMore t v e (λ n. is_asked n c)
+  more_asked_at {v = v} first then = more_join t u v e (λ n. same_node n c) (λ n. is_asked n c)
+      (λ n same. or_left (same_node n c) (is_above n c) same) (more_asked first) then
+
+  -- who isn't idle above a node and at it isn't where the node asks
+  pub less_asked_at : {v : Table} → IdleLess t u e (λ n. is_above n c) → IdleLess u v e (λ n. same_node n c)
+      → IdleLess t v e (λ n. is_asked n c)
+  less_asked_at {v = v} first then = less_join t u v e (λ n. is_above n c) (λ n. same_node n c) (λ n. is_asked n c)
+      (λ n. asked_parts c n) first then
+
+  pub less_at_asked : {v : Table} → IdleLess t u e (λ n. same_node n c) → IdleLess u v e (λ n. is_above n c)
+      → IdleLess t v e (λ n. is_asked n c)
+  less_at_asked {v = v} first then = less_join t u v e (λ n. same_node n c) (λ n. is_above n c) (λ n. is_asked n c)
+      (λ n. refl) first then
+
+module _ {t u v : Table} {e : ℕ} (nodes : List Node) (i : ℕ) (c : Node) (at_it : c ≡ get_or nodes i c) (low : i < length nodes) where
+  -- one node of a cover more may be where its examiner is idle
+  pub more_all : IdleMore t u e (λ n. list_any (is_asked n) nodes) → IdleMore u v e (λ n. is_asked n c)
+      → IdleMore t v e (λ n. list_any (is_asked n) nodes)
+  more_all first then = more_join t u v e (λ n. is_asked n c) (λ n. list_any (is_asked n) nodes)
+      (λ n asks. asked_of_one n nodes i c at_it low asks) first then
+
+  -- one node of a cover more is where its examiner isn't idle
+  pub less_next : IdleLess t u e (λ n. list_any (is_asked n) (take i nodes)) → IdleLess u v e (λ n. is_asked n c)
+      → IdleLess t v e (λ n. list_any (is_asked n) (take (i + 1) nodes))
+  less_next first then = less_join t u v e (λ n. list_any (is_asked n) (take i nodes)) (λ n. is_asked n c)
+      (λ n. list_any (is_asked n) (take (i + 1) nodes)) (λ n. list_parts nodes i c n at_it low) first then
