@@ -25,7 +25,8 @@ invariant_of-self c =
       kept = subst (λ (es : List Entry). TableIs depth es c.take_out_all.new.self) (sym left)
           (table_same depth (granted (Some e) book) table c.take_out_all.new.self c.take_out_all.ensures.modes (kept_table depth
           (Some e) book table kept));
-      lean = lean_done depth x table c.take_out_all.new.self (subst (λ (w : Option Entry). IsLean depth w table) waits c.self.invariant.lean)
+      lean = lean_done depth x table c.take_out_all.new.self
+          (subst (λ (w : Option Entry). IsLean depth w table) waits c.self.invariant.lean)
           (subst (λ (f : ℕ). IdleLess table c.take_out_all.new.self f (λ n. list_any (is_asked n) (cover_of depth x.tract))) (sym own)
           (subst (λ (t : List Node). IdleLess table c.take_out_all.new.self e (λ n. list_any (is_asked n) t)) c.cover.ensures.cover
           c.take_out_all.ensures.idle))

@@ -21,8 +21,8 @@ returns-in_default c =
       modes = λ f n. subst (λ (z : Places). mode_of z f n ≡ cond (is_mode c.args.taken && eqb f e && same_node n k) None (mode_of m f n))
           (sym now) (none_released m k none (is_mode c.args.taken && eqb f e) f n);
       idle = record {
-        less = λ f n. subst (λ (z : Places). idle_in f (get node_cmp z n) ≡ (idle_in f (get node_cmp m n) && not (eqb f e && same_node n k)))
-            (sym now) (none_idle m k none (eqb f e) f n);
+        less = λ f n. subst (λ (z : Places). idle_in f (get node_cmp z n)
+            ≡ (idle_in f (get node_cmp m n) && not (eqb f e && same_node n k))) (sym now) (none_idle m k none (eqb f e) f n);
       };
       dropped = ap (λ (z : Places). unused_in (get node_cmp z k)) now ∙ ap unused_in none;
       used = λ used. record { each = λ n. ap (λ (z : Places). unused_in (get node_cmp z n)) now ∙ used.each n };
@@ -48,7 +48,8 @@ returns-then-take_out c =
           (c.take_out.ensures.modes f ∙ ap (λ (o : Option Modes). cond (is_mode c.args.taken && eqb f e) None (mode_in f o)) had) n;
       idle = record {
         less = λ f. idle_less m c.remove.new.self k None both (eqb f e) f
-            (sym (free_idles w free f) ∙ idles_taken h w f e (is_mode c.args.taken) (c.take_out.ensures.modes f) (c.take_out.ensures.rooms f)
+            (sym (free_idles w free f)
+            ∙ idles_taken h w f e (is_mode c.args.taken) (c.take_out.ensures.modes f) (c.take_out.ensures.rooms f)
             ∙ ap (λ (o : Option Modes). idle_in f o && not (eqb f e)) had);
       };
       dropped = ap unused_in c.remove.ensures.updates.1;
