@@ -1,8 +1,10 @@
 -- Which cell refuses an instrument.
-use Rattle.std.specs.Prelude.{ℕ, List, Option, Some, None}
+use Rattle.std.specs.Prelude.{ℕ, List, filter, Option, Some, None}
 use Rattle.title_share.specs.Division.{Division}
 use Rattle.title_land.specs.declared.place.Township.{Township}
 use Rattle.title_land.specs.declared.place.Cell.{Cell}
+use Rattle.title_land.specs.declared.tract.Land.{Land}
+use Rattle.title_land.specs.Lands.{has}
 use Rattle.title_instrument.specs.declared.parts.Estate.{Estate}
 use Rattle.title_instrument.specs.declared.parts.Rule.{Rule}
 use Rattle.title_instrument.specs.declared.instrument.Instrument.{Instrument}
@@ -32,3 +34,7 @@ first_in levels ts ps i cells = first_failing i (λ c. owners_at ps (cell_path l
 abbrev pub triple : Option Failing → Option (Rule × Estate × Cell)
 triple None = None
 triple (Some f) = Some (f.rule, f.estate, f.cell)
+
+-- the same for those of the cells that a tract has
+abbrev pub first_of : ℕ → List Township → (Estate → Plot) → Instrument ℕ → Land → List Cell → Option (Rule × Estate × Cell)
+first_of levels ts ps i land cells = triple (first_in levels ts ps i (filter (has land) cells))

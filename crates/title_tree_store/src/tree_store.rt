@@ -15,7 +15,7 @@ use crate::sheets::add_estate;
 use crate::spots::tract_spots;
 use std::alloc::{AllocError, Global};
 use title_instrument::{Estate, Instrument};
-use title_land::{Cell, Node, Township, Tract, cells_of};
+use title_land::{Cell, Node, Township, Tract};
 use title_store::{Put, SheetRow, Store};
 use title_tree::Fault;
 
@@ -101,13 +101,12 @@ impl Store for TreeStore {
             }
             Err(Fault::Memory) => Err(AllocError),
             Err(Fault::Refused(_)) => {
-                let cells = cells_of(self.alloc, &self.townships, tract)?;
                 let first = first_failing(
                     self.alloc,
                     self.levels,
                     &self.townships,
                     &self.forest,
-                    &cells,
+                    tract,
                     instrument,
                 )?;
                 let Some((rule, estate, cell)) = first else {

@@ -1,9 +1,14 @@
--- The first cell that refuses is among the rest.
+-- The first cell that refuses is among those of the townships that are left.
 use Rattle.std.proofs.Common.{◌≡◌, drop}
+use Rattle.std.specs.List.{flat_map}
+use Rattle.title_land.specs.Depth.{depth}
+use Rattle.title_land.specs.CellLists.{township_cells}
 use Rattle.title_tree_store.specs.Forests.{plots}
-use Rattle.title_tree_store.specs.Refusing.{first_in}
+use Rattle.title_tree_store.specs.Refusing.{first_of}
 use Rattle.title_tree_store.proofs.refusals.first_failing.Given as goal
 
-abbrev pub invariant-loop-cell : goal.invariant-loop-cell
-invariant-loop-cell l = first_in l.levels l.townships (plots l.forest) l.instrument l.cells
-    ≡ first_in l.levels l.townships (plots l.forest) l.instrument (drop l.cell-index l.cells)
+abbrev pub invariant-loop-township : goal.invariant-loop-township
+invariant-loop-township l =
+    first_of l.levels l.townships (plots l.forest) l.instrument l.tract (flat_map (township_cells depth) l.townships)
+    ≡ first_of l.levels l.townships (plots l.forest) l.instrument l.tract
+    (flat_map (township_cells depth) (drop l.township-index l.townships))

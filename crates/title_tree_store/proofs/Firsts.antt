@@ -1,0 +1,141 @@
+-- The first of a tract's cells that refuses, list after list.
+use Rattle.std.proofs.Common.{◌≡◌, ◌∙◌, ap, sym, refl, subst, ℕ, zero, suc, ◌+◌, ◌-◌, ◌<◌, ◌≤◌, arith, true, false}
+use Rattle.std.proofs.Common.{List, [], ◌∷◌, ◌++◌, length, drop, get_or, Option, Some, None, is_some}
+use Rattle.std.specs.Prelude.{filter, Result, IfOk}
+use Rattle.std.specs.List.{flat_map}
+use Rattle.std.specs.Option.{option_or}
+use Rattle.std.proofs.lemmas.List.{drop_more, drop_all}
+use Rattle.std.proofs.lemmas.List.Elements.{filter-append}
+use Rattle.title_land.specs.Depth.{depth}
+use Rattle.title_land.specs.declared.place.Township.{Township}
+use Rattle.title_land.specs.declared.place.Section.{Section}
+use Rattle.title_land.specs.declared.place.Cell.{Cell}
+use Rattle.title_land.specs.declared.rectangle.Quarter.{Quarter}
+use Rattle.title_land.specs.declared.tract.Land.{Land}
+use Rattle.title_land.specs.Nodes.{quarters}
+use Rattle.title_land.specs.Lands.{has}
+use Rattle.title_land.specs.CellLists.{cells_below, section_cells, township_cells, plant_cells, cells_of}
+use Rattle.title_land.specs.Places.{same_township}
+use Rattle.title_land.specs.declared.grid.Grid.{Grid}
+use Rattle.title_land.specs.declared.tract.Land.TheVariants as land
+use Rattle.title_land.proofs.CellFilters.{township_elsewhere, part_elsewhere, part_in_township}
+use Rattle.title_instrument.specs.declared.parts.Estate.{Estate}
+use Rattle.title_instrument.specs.declared.parts.Rule.{Rule}
+use Rattle.title_instrument.specs.declared.instrument.Instrument.{Instrument}
+use Rattle.title_instrument.specs.declared.owners.Effect.{Effect}
+use Rattle.title_instrument.specs.declared.owners.Effect.TheVariants.{Done, Refused}
+use Rattle.title_instrument.specs.Effect.{cell_effect}
+use Rattle.title_store.specs.Plants.{Plant, Failing, failing_or, first_failing}
+use Rattle.title_tree.specs.Plots.{Plot}
+use Rattle.title_tree_store.specs.Spots.{cell_path}
+use Rattle.title_tree_store.specs.Forests.{owners_at}
+use Rattle.title_tree_store.specs.Refusing.{first_in, first_of, triple}
+
+failing_or_join : (c : Cell) (e : Effect) (x y : Option Failing) → failing_or c e (option_or x y) ≡ option_or (failing_or c e x) y
+failing_or_join c (Done w) x y = refl
+failing_or_join c (Refused rule estate) x y = refl
+
+failing_join : (i : Instrument ℕ) (p : Plant) (xs ys : List Cell)
+    → first_failing i p (xs ++ ys) ≡ option_or (first_failing i p xs) (first_failing i p ys)
+failing_join i p [] ys = refl
+failing_join i p (c ∷ xs) ys =
+    ap (failing_or c (cell_effect i (p c))) (failing_join i p xs ys)
+    ∙ failing_or_join c (cell_effect i (p c)) (first_failing i p xs) (first_failing i p ys)
+
+triple_join : (x y : Option Failing) → triple (option_or x y) ≡ option_or (triple x) (triple y)
+triple_join None y = refl
+triple_join (Some f) y = refl
+
+pub first_join : (levels : ℕ) (ts : List Township) (ps : Estate → Plot) (i : Instrument ℕ) (tr : Land) (xs ys : List Cell)
+    → first_of levels ts ps i tr (xs ++ ys) ≡ option_or (first_of levels ts ps i tr xs) (first_of levels ts ps i tr ys)
+first_join levels ts ps i tr xs ys =
+    ap (λ (cells : List Cell). triple (first_in levels ts ps i cells)) (filter-append (has tr) xs ys)
+    ∙ ap triple (failing_join i (λ c. owners_at ps (cell_path levels ts c)) (filter (has tr) xs) (filter (has tr) ys))
+    ∙ triple_join _ _
+
+-- where none of the first list refuses
+pub first_later : (levels : ℕ) (ts : List Township) (ps : Estate → Plot) (i : Instrument ℕ) (tr : Land) (xs ys : List Cell)
+    (o : Option (Rule × Estate × Cell)) → is_some o ≡ false → o ≡ first_of levels ts ps i tr xs
+    → first_of levels ts ps i tr (xs ++ ys) ≡ first_of levels ts ps i tr ys
+first_later levels ts ps i tr xs ys None none h =
+    first_join levels ts ps i tr xs ys
+    ∙ ap (λ (o : Option (Rule × Estate × Cell)). option_or o (first_of levels ts ps i tr ys)) (sym h)
+first_later levels ts ps i tr xs ys (Some f) none h = absurd cc
+
+-- where one of them does
+pub first_here : (levels : ℕ) (ts : List Township) (ps : Estate → Plot) (i : Instrument ℕ) (tr : Land) (xs ys : List Cell)
+    (o : Option (Rule × Estate × Cell)) → is_some o ≡ true → o ≡ first_of levels ts ps i tr xs
+    → o ≡ first_of levels ts ps i tr (xs ++ ys)
+first_here levels ts ps i tr xs ys None some h = absurd cc
+first_here levels ts ps i tr xs ys (Some f) some h =
+    sym (first_join levels ts ps i tr xs ys
+    ∙ ap (λ (o : Option (Rule × Estate × Cell)). option_or o (first_of levels ts ps i tr ys)) (sym h))
+
+-- the next of some lists
+pub next_later : {X : Type 0} (levels : ℕ) (ts : List Township) (ps : Estate → Plot) (i : Instrument ℕ) (tr : Land)
+    (cells : X → List Cell) (xs : List X) (n : ℕ) (x : X) (o : Option (Rule × Estate × Cell)) → n < length xs → x ≡ get_or xs n x
+    → is_some o ≡ false → o ≡ first_of levels ts ps i tr (cells x)
+    → first_of levels ts ps i tr (flat_map cells (drop n xs)) ≡ first_of levels ts ps i tr (flat_map cells (drop (n + 1) xs))
+next_later {X} levels ts ps i tr cells xs n x o l at none h =
+    ap (λ (z : List X). first_of levels ts ps i tr (flat_map cells z)) (drop_more xs n x l
+    ∙ ap (λ (y : X). y ∷ drop (n + 1) xs) (sym at))
+    ∙ first_later levels ts ps i tr (cells x) (flat_map cells (drop (n + 1) xs)) o none h
+
+pub next_here : {X : Type 0} (levels : ℕ) (ts : List Township) (ps : Estate → Plot) (i : Instrument ℕ) (tr : Land)
+    (cells : X → List Cell) (xs : List X) (n : ℕ) (x : X) (o : Option (Rule × Estate × Cell)) → n < length xs → x ≡ get_or xs n x
+    → is_some o ≡ true → o ≡ first_of levels ts ps i tr (cells x)
+    → o ≡ first_of levels ts ps i tr (flat_map cells (drop n xs))
+next_here {X} levels ts ps i tr cells xs n x o l at some h =
+    first_here levels ts ps i tr (cells x) (flat_map cells (drop (n + 1) xs)) o some h
+    ∙ sym (ap (λ (z : List X). first_of levels ts ps i tr (flat_map cells z)) (drop_more xs n x l
+    ∙ ap (λ (y : X). y ∷ drop (n + 1) xs) (sym at)))
+
+pub none_left : {X : Type 0} (levels : ℕ) (ts : List Township) (ps : Estate → Plot) (i : Instrument ℕ) (tr : Land)
+    (cells : X → List Cell) (xs : List X) (n : ℕ) → length xs ≤ n → None ≡ first_of levels ts ps i tr (flat_map cells (drop n xs))
+none_left {X} levels ts ps i tr cells xs n l =
+    ap (λ (z : List X). first_of levels ts ps i tr (flat_map cells z)) (sym (drop_all n xs l))
+
+-- a square's cells by its quarters
+pub square_cells : (s : Section) (below : ℕ) (w : List Quarter) → 0 < below
+    → flat_map (λ q. cells_below depth s (below - 1) (q ∷ w)) quarters ≡ cells_below depth s below w
+square_cells s zero w l = absurd (omega (arith, l))
+square_cells s (suc below) w l =
+    let k : suc below - 1 ≡ below = omega arith in
+    rw k refl
+
+-- the tract's cells by the townships
+pub tract_cells : (levels : ℕ) (ts : List Township) (ps : Estate → Plot) (i : Instrument ℕ) (tr : Land)
+    → first_of levels ts ps i tr (flat_map (township_cells depth) ts) ≡ triple (first_in levels ts ps i (cells_of depth ts tr))
+unfolding cells_of plant_cells
+tract_cells levels ts ps i tr = refl
+
+-- none of another township
+pub none_of_township : (levels : ℕ) (ts : List Township) (ps : Estate → Plot) (i : Instrument ℕ) (x : Land) (t u : Township)
+    → x ≡ land.Township t → same_township t u ≡ false → None ≡ first_of levels ts ps i x (township_cells depth u)
+none_of_township levels ts ps i x t u e h =
+    ap (λ (cells : List Cell). triple (first_in levels ts ps i cells))
+    (sym (ap (λ (y : Land). filter (has y) (township_cells depth u)) e ∙ township_elsewhere depth t u h))
+
+pub none_of_part : (levels : ℕ) (ts : List Township) (ps : Estate → Plot) (i : Instrument ℕ) (x : Land) (s : Section) (g : Grid)
+    (u : Township) → x ≡ land.Part s g → same_township s.township u ≡ false → None ≡ first_of levels ts ps i x (township_cells depth u)
+none_of_part levels ts ps i x s g u e h =
+    ap (λ (cells : List Cell). triple (first_in levels ts ps i cells))
+    (sym (ap (λ (y : Land). filter (has y) (township_cells depth u)) e ∙ part_elsewhere depth s g u h))
+
+pub part_in : (levels : ℕ) (ts : List Township) (ps : Estate → Plot) (i : Instrument ℕ) (x : Land) (s : Section) (g : Grid)
+    (u : Township) → x ≡ land.Part s g → same_township s.township u ≡ true
+    → first_of levels ts ps i x (section_cells depth s) ≡ first_of levels ts ps i x (township_cells depth u)
+part_in levels ts ps i x s g u e h =
+    ap (λ (cells : List Cell). triple (first_in levels ts ps i cells))
+    (ap (λ (y : Land). filter (has y) (section_cells depth s)) e ∙ sym (part_in_township depth s g u h)
+    ∙ sym (ap (λ (y : Land). filter (has y) (township_cells depth u)) e))
+
+-- what is found is the same by another name
+pub if_ok : {A E : Type 0} (r : Result A E) (x y : A) → x ≡ y → IfOk r (λ f. f ≡ x) → IfOk r (λ f. f ≡ y)
+if_ok {A} {E} r x y e h = subst (λ (z : A). IfOk r (λ f. f ≡ z)) e h
+
+-- an item that is there is there by any default
+pub item_is : {X : Type 0} (xs : List X) (n : ℕ) (d : X) → n < length xs → get_or xs n d ≡ get_or xs n (get_or xs n d)
+item_is [] n d l = absurd (omega (arith, l))
+item_is (x ∷ xs) zero d l = refl
+item_is (x ∷ xs) (suc n) d l = item_is xs n d (omega (arith, l))

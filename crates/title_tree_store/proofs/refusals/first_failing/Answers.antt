@@ -1,0 +1,34 @@
+-- The townships come in their order.
+use Rattle.std.proofs.Common.{◌≡◌, ◌∙◌, ap, sym}
+use Rattle.title_land.specs.Depth.{depth}
+use Rattle.title_land.specs.CellLists.{township_cells}
+use Rattle.title_tree_store.specs.Forests.{plots}
+use Rattle.title_tree_store.specs.Refusing.{first_of}
+use Rattle.title_tree_store.proofs.Firsts.{next_here, next_later, none_left, tract_cells}
+use Rattle.title_tree_store.proofs.refusals.first_failing.Goals as goal
+
+pub returns-then-is_some : goal.returns-then-is_some
+returns-then-is_some c =
+    record {
+      first = next_here c.args.levels c.args.townships.now (plots c.args.forest.now) c.args.instrument.now c.args.tract.now
+          (township_cells depth) c.args.townships.now c.loop-township.township-index c.township-item.result c.in_ok-found.found
+          c.loop-township-test.true c.township-item.is (sym c.is_some.ensures ∙ c.if-is_some.true) c.in_ok-found.ensures.first
+          ∙ sym c.loop-township.invariant
+          ∙ tract_cells c.args.levels c.args.townships.now (plots c.args.forest.now) c.args.instrument.now c.args.tract.now;
+    }
+
+pub loop-township-preserved : goal.loop-township-preserved
+loop-township-preserved c =
+    c.loop-township.invariant
+    ∙ next_later c.args.levels c.args.townships.now (plots c.args.forest.now) c.args.instrument.now c.args.tract.now
+    (township_cells depth) c.args.townships.now c.loop-township.township-index c.township-item.result c.in_ok-found.found
+    c.loop-township-test.true c.township-item.is (sym c.is_some.ensures ∙ c.if-is_some.false) c.in_ok-found.ensures.first
+
+pub returns : goal.returns
+returns c =
+    record {
+      first = none_left c.args.levels c.args.townships.now (plots c.args.forest.now) c.args.instrument.now c.args.tract.now
+          (township_cells depth) c.args.townships.now c.loop-township.township-index c.loop-township-test.false
+          ∙ sym c.loop-township.invariant
+          ∙ tract_cells c.args.levels c.args.townships.now (plots c.args.forest.now) c.args.instrument.now c.args.tract.now;
+    }
