@@ -1,7 +1,7 @@
 -- The first of a tract's cells that refuses, list after list.
-use Rattle.std.proofs.Common.{◌≡◌, ◌∙◌, ap, sym, refl, subst, ℕ, zero, suc, ◌+◌, ◌-◌, ◌<◌, ◌≤◌, arith, true, false}
+use Rattle.std.proofs.Common.{◌≡◌, ◌∙◌, ap, sym, refl, ℕ, zero, suc, ◌+◌, ◌-◌, ◌<◌, ◌≤◌, arith, true, false}
 use Rattle.std.proofs.Common.{List, [], ◌∷◌, ◌++◌, length, drop, get_or, Option, Some, None, is_some}
-use Rattle.std.specs.Prelude.{filter, Result, IfOk}
+use Rattle.std.specs.Prelude.{filter}
 use Rattle.std.specs.List.{flat_map}
 use Rattle.std.specs.Option.{option_or}
 use Rattle.std.proofs.lemmas.List.{drop_more, drop_all}
@@ -129,10 +129,6 @@ part_in levels ts ps i x s g u e h =
     ap (λ (cells : List Cell). triple (first_in levels ts ps i cells))
     (ap (λ (y : Land). filter (has y) (section_cells depth s)) e ∙ sym (part_in_township depth s g u h)
     ∙ sym (ap (λ (y : Land). filter (has y) (township_cells depth u)) e))
-
--- what is found is the same by another name
-pub if_ok : {A E : Type 0} (r : Result A E) (x y : A) → x ≡ y → IfOk r (λ f. f ≡ x) → IfOk r (λ f. f ≡ y)
-if_ok {A} {E} r x y e h = subst (λ (z : A). IfOk r (λ f. f ≡ z)) e h
 
 -- an item that is there is there by any default
 pub item_is : {X : Type 0} (xs : List X) (n : ℕ) (d : X) → n < length xs → get_or xs n d ≡ get_or xs n (get_or xs n d)

@@ -1,209 +1,270 @@
 //! The first cell of a tract that refuses an instrument.
 
-ghost use Rattle.std.specs.Prelude.{◌≡◌, ◌+◌, ◌∷◌, [], length, IfOk};
+ghost use Rattle.std.specs.Prelude.{◌≡◌, ◌≤◌, ◌+◌, ◌∷◌, [], ◌&&◌, ◌↔◌, length, true};
 ghost use Rattle.title_land.specs.Depth.{depth};
-ghost use Rattle.title_land.specs.CellLists.{cells_below, section_cells, township_cells, cells_of};
+ghost use Rattle.title_land.specs.declared.node.Node.TheVariants as node;
+ghost use Rattle.title_land.specs.CellLists.{corner_of, cells_below, section_cells, township_cells, cells_of};
+ghost use Rattle.title_land.specs.Lands.{Meets, land_of};
+ghost use Rattle.title_land.specs.Nodes.{square};
+ghost use Rattle.title_land.specs.Paths.{quarter_at};
 ghost use Rattle.title_instrument.specs.Effect.{cell_effect};
-ghost use Rattle.title_tree.specs.Plots.{value_at};
+ghost use Rattle.title_tree.specs.Paths.{number_path};
+ghost use Rattle.title_tree.specs.Plots.{value_at, plot_at};
 ghost use Rattle.title_tree.specs.Trees.{plot};
-ghost use Rattle.title_tree_store.specs.Forests.{plots, owners_at};
-ghost use Rattle.title_tree_store.specs.Refusing.{why_holding, why_cell, first_in, first_of, triple};
+ghost use Rattle.title_tree_store.specs.Forests.{plots};
+ghost use Rattle.title_tree_store.specs.Refusing.{why_holding, why_first, is_leaf, StandsAt, first_in, first_of, triple};
 
 use crate::forest::Forest;
-use crate::spots::cell_path;
-use std::alloc::{AllocError, Global};
+use crate::spots::{SECTION_LEVELS, index_of};
 use title_instrument::{Estate, Instrument, Rule};
-use title_land::{Cell, DEPTH, Land, Quarter, Section, Township, Tract, Within};
+use title_land::{Cell, DEPTH, Land, Node, Quarter, Section, Township, Tract, Within};
 use title_tree::Tree;
 
-// Why an instrument is refused by the holding of an estate in the cell at a path.
-fn why_holding(
-    tree: &Tree,
-    instrument: &Instrument,
-    estate: Estate,
-    path: &[Quarter],
-) -> Option<Rule>
-    ensures why { result ≡ why_holding instrument.now estate (value_at (plot tree.now) path.now) }
+// The quarter at a place among the four; from the fourth on it is the last.
+fn quarter_at(place: usize) -> Quarter
+    ensures quarter { result ≡ quarter_at place }
 {
-    let units = tree.holding(path).units(instrument.grantor());
+    match place {
+        0 => Quarter::Northeast,
+        1 => Quarter::Northwest,
+        2 => Quarter::Southwest,
+        _ => Quarter::Southeast,
+    }
+}
+
+// Whether one holding is that of all cells.
+fn is_leaf(tree: &Tree) -> bool
+    ensures leaf { result ≡ is_leaf (plot tree.now) }
+{
+    match tree {
+        Tree::Leaf(_) => true,
+        Tree::Quarters(_, _, _, _) => false,
+    }
+}
+
+// Why an instrument is refused by the holding of an estate in a tree's first cell.
+fn why_holding(tree: &Tree, instrument: &Instrument, estate: Estate) -> Option<Rule>
+    ensures why { result ≡ why_holding instrument.now estate (value_at (plot tree.now) []) }
+{
+    let units = tree.holding(&[]).units(instrument.grantor());
     match instrument.passes(estate, units) {
         Ok(_) => None,
         Err(rule) => Some(rule),
     }
 }
 
-// Why the cell at a path refuses an instrument: the rule and the first estate.
-#[tactic(auto, unfolding(title_instrument::specs::Effect::cell_effect))]
-fn why_cell(forest: &Forest, instrument: &Instrument, path: &[Quarter]) -> Option<(Rule, Estate)>
-    ensures why { result ≡ why_cell (cell_effect instrument.now (owners_at (plots forest.now) path.now)) }
-{
-    if let Some(rule) = why_holding(&forest.s, instrument, Estate::S, path) {
-        return Some((rule, Estate::S));
-    }
-    if let Some(rule) = why_holding(&forest.o, instrument, Estate::O, path) {
-        return Some((rule, Estate::O));
-    }
-    if let Some(rule) = why_holding(&forest.m, instrument, Estate::M, path) {
-        return Some((rule, Estate::M));
-    }
-    None
+// What stands in one square, of each estate's tree.
+#[derive(Clone, Copy)]
+struct Trees<'a> {
+    s: &'a Tree,
+    o: &'a Tree,
+    m: &'a Tree,
 }
 
-// What refuses in a cell, where it is one of the tract's.
-fn first_in_cell(
-    alloc: Global,
-    levels: usize,
-    townships: &[Township],
-    forest: &Forest,
-    tract: &Tract,
-    instrument: &Instrument,
-    cell: Cell,
-) -> Result<Option<(Rule, Estate, Cell)>, AllocError>
-    ensures first { IfOk result (λ f. f
-        ≡ first_of levels townships.now (plots forest.now) instrument.now tract.now (cell ∷ [])) }
-{
-    if !tract.has_cell(cell) {
-        return Ok(None);
+impl<'a> Trees<'a> {
+    // What stands in a quarter of the square.
+    fn quarter(&self, which: Quarter) -> Trees<'a>
+        ensures s { plot result.s.now ≡ plot_at (which ∷ []) (plot self.now.s.now) }
+        ensures o { plot result.o.now ≡ plot_at (which ∷ []) (plot self.now.o.now) }
+        ensures m { plot result.m.now ≡ plot_at (which ∷ []) (plot self.now.m.now) }
+    {
+        Trees {
+            s: self.s.at(&[which]),
+            o: self.o.at(&[which]),
+            m: self.m.at(&[which]),
+        }
     }
-    let path = cell_path(alloc, levels, townships, cell)?;
-    let Some((rule, estate)) = why_cell(forest, instrument, &path) else {
-        return Ok(None);
-    };
-    Ok(Some((rule, estate, cell)))
+
+    // What stands in the square of this number among those that lie so many levels below.
+    fn numbered(&self, levels: usize, number: usize) -> Trees<'a>
+        ensures s { plot result.s.now ≡ plot_at (number_path levels number) (plot self.now.s.now) }
+        ensures o { plot result.o.now ≡ plot_at (number_path levels number) (plot self.now.o.now) }
+        ensures m { plot result.m.now ≡ plot_at (number_path levels number) (plot self.now.m.now) }
+    {
+        if levels == 0 {
+            return *self;
+        }
+        let outer = self.numbered(levels - 1, number / 4);
+        outer.quarter(quarter_at(number % 4))
+    }
+
+    // Whether each estate has one holding in all cells of the square.
+    fn are_leaves(&self) -> bool
+        ensures leaves { result ≡ (is_leaf (plot self.now.s.now) && is_leaf (plot self.now.o.now) && is_leaf (plot self.now.m.now)) }
+    {
+        is_leaf(self.s) && is_leaf(self.o) && is_leaf(self.m)
+    }
+
+    // Why the square's first cell refuses an instrument: the rule and the first estate.
+    #[tactic(auto, unfolding(title_instrument::specs::Effect::cell_effect))]
+    fn why(&self, instrument: &Instrument) -> Option<(Rule, Estate)>
+        ensures why { result ≡ why_first instrument.now (plot self.now.s.now) (plot self.now.o.now) (plot self.now.m.now) }
+    {
+        if let Some(rule) = why_holding(self.s, instrument, Estate::S) {
+            return Some((rule, Estate::S));
+        }
+        if let Some(rule) = why_holding(self.o, instrument, Estate::O) {
+            return Some((rule, Estate::O));
+        }
+        if let Some(rule) = why_holding(self.m, instrument, Estate::M) {
+            return Some((rule, Estate::M));
+        }
+        None
+    }
 }
 
-// The first cell that refuses of a square with so many levels below it.
-fn first_in_square(
-    alloc: Global,
-    levels: usize,
-    townships: &[Township],
-    forest: &Forest,
-    tract: &Tract,
-    instrument: &Instrument,
-    section: Section,
-    below: u8,
-    within: Within,
-) -> Result<Option<(Rule, Estate, Cell)>, AllocError>
-    requires below { below + length within ≡ depth }
-    ensures first { IfOk result (λ f. f
-        ≡ first_of levels townships.now (plots forest.now) instrument.now tract.now (cells_below depth section below within)) }
-{
-    if below == 0 {
+/// A search for the first cell of a tract that refuses an instrument, in the order of the tract's cells. No cell after it is
+/// looked at, and a square in which no estate is quartered is judged once. Takes no memory.
+#[derive(Clone, Copy)]
+pub(crate) struct Search<'a> {
+    pub levels: usize,
+    pub townships: &'a [Township],
+    pub forest: &'a Forest,
+    pub tract: &'a Tract,
+    pub instrument: &'a Instrument,
+}
+
+impl<'a> Search<'a> {
+    // What stands in a section.
+    fn section_trees(&self, section: Section) -> Trees<'a>
+        ensures stands { StandsAt self.now.levels self.now.townships.now (plots self.now.forest.now) section []
+            (plot result.s.now) (plot result.o.now) (plot result.m.now) }
+    {
+        let root = Trees {
+            s: &self.forest.s,
+            o: &self.forest.o,
+            m: &self.forest.m,
+        };
+        let township = root.numbered(self.levels, index_of(self.townships, section.township));
+        township.numbered(SECTION_LEVELS, usize::from(section.number - 1))
+    }
+
+    // Whether the tract has a cell in a square.
+    fn meets(&self, section: Section, within: Within) -> bool
+        ensures shares { (result ≡ true) ↔ Meets depth self.now.tract.now (land_of depth (node.Part section within)) }
+    {
+        self.tract.meets(&Tract::of(Node::Part(section, within)))
+    }
+
+    // What refuses in a square of one cell, where that is one of the tract's.
+    fn first_in_cell(
+        &self,
+        trees: &Trees<'a>,
+        section: Section,
+        within: Within,
+    ) -> Option<(Rule, Estate, Cell)>
+        requires cell { length within ≡ depth }
+        requires here { StandsAt self.now.levels self.now.townships.now (plots self.now.forest.now) section within
+            (plot trees.now.s.now) (plot trees.now.o.now) (plot trees.now.m.now) }
+        ensures first { result ≡ first_of self.now.levels self.now.townships.now (plots self.now.forest.now) self.now.instrument.now
+            self.now.tract.now (corner_of section (square depth within) ∷ []) }
+    {
         let corner = within.square();
         let cell = Cell {
             section,
             row: corner.top,
             column: corner.left,
         };
-        return first_in_cell(alloc, levels, townships, forest, tract, instrument, cell);
-    }
-    for which in Quarter::ALL {
-        let found = first_in_square(
-            alloc,
-            levels,
-            townships,
-            forest,
-            tract,
-            instrument,
-            section,
-            below - 1,
-            within.quarter(which),
-        )?;
-        if found.is_some() {
-            return Ok(found);
+        if !self.tract.has_cell(cell) {
+            return None;
         }
+        let (rule, estate) = trees.why(self.instrument)?;
+        Some((rule, estate, cell))
     }
-    Ok(None)
-}
 
-// The first cell that refuses of a section.
-#[tactic(auto, using(title_land::proofs::Sides::depth_is))]
-fn first_in_section(
-    alloc: Global,
-    levels: usize,
-    townships: &[Township],
-    forest: &Forest,
-    tract: &Tract,
-    instrument: &Instrument,
-    section: Section,
-) -> Result<Option<(Rule, Estate, Cell)>, AllocError>
-    ensures first { IfOk result (λ f. f
-        ≡ first_of levels townships.now (plots forest.now) instrument.now tract.now (section_cells depth section)) }
-{
-    let whole = Within::section();
-    first_in_square(
-        alloc, levels, townships, forest, tract, instrument, section, DEPTH, whole,
-    )
-}
-
-// The first cell that refuses of a township, section by section.
-fn first_in_township(
-    alloc: Global,
-    levels: usize,
-    townships: &[Township],
-    forest: &Forest,
-    tract: &Tract,
-    instrument: &Instrument,
-    township: Township,
-) -> Result<Option<(Rule, Estate, Cell)>, AllocError>
-    ensures first { IfOk result (λ f. f
-        ≡ first_of levels townships.now (plots forest.now) instrument.now tract.now (township_cells depth township)) }
-{
-    for section in township.sections() {
-        let found = first_in_section(alloc, levels, townships, forest, tract, instrument, section)?;
-        if found.is_some() {
-            return Ok(found);
+    // The first cell that refuses of a square with so many levels below it.
+    fn first_in_square(
+        &self,
+        trees: &Trees<'a>,
+        section: Section,
+        below: u8,
+        within: Within,
+    ) -> Option<(Rule, Estate, Cell)>
+        requires below { below + length within ≡ depth }
+        requires here { StandsAt self.now.levels self.now.townships.now (plots self.now.forest.now) section within
+            (plot trees.now.s.now) (plot trees.now.o.now) (plot trees.now.m.now) }
+        ensures first { result ≡ first_of self.now.levels self.now.townships.now (plots self.now.forest.now) self.now.instrument.now
+            self.now.tract.now (cells_below depth section below within) }
+    {
+        if below == 0 {
+            return self.first_in_cell(trees, section, within);
         }
-    }
-    Ok(None)
-}
-
-// The same, where none is tried of another township or section than the tract's.
-fn first_in_part(
-    alloc: Global,
-    levels: usize,
-    townships: &[Township],
-    forest: &Forest,
-    tract: &Tract,
-    instrument: &Instrument,
-    township: Township,
-) -> Result<Option<(Rule, Estate, Cell)>, AllocError>
-    ensures first { IfOk result (λ f. f
-        ≡ first_of levels townships.now (plots forest.now) instrument.now tract.now (township_cells depth township)) }
-{
-    match tract.land() {
-        Land::Township(other) if !other.is(township) => Ok(None),
-        Land::Part(section, _) => {
-            if !section.township.is(township) {
-                return Ok(None);
+        if !self.meets(section, within) {
+            return None;
+        }
+        if trees.are_leaves() && trees.why(self.instrument).is_none() {
+            return None;
+        }
+        for which in Quarter::ALL {
+            let found = self.first_in_square(
+                &trees.quarter(which),
+                section,
+                below - 1,
+                within.quarter(which),
+            );
+            if found.is_some() {
+                return found;
             }
-            first_in_section(alloc, levels, townships, forest, tract, instrument, section)
         }
-        _ => first_in_township(
-            alloc, levels, townships, forest, tract, instrument, township,
-        ),
+        None
     }
-}
 
-/// The first cell of a tract that refuses an instrument, with the rule and the estate. No cell after it is tried.
-pub(crate) fn first_failing(
-    alloc: Global,
-    levels: usize,
-    townships: &[Township],
-    forest: &Forest,
-    tract: &Tract,
-    instrument: &Instrument,
-) -> Result<Option<(Rule, Estate, Cell)>, AllocError>
-    ensures first { IfOk result (λ f. f
-        ≡ triple (first_in levels townships.now (plots forest.now) instrument.now (cells_of depth townships.now tract.now))) }
-{
-    for township in townships {
-        let found = first_in_part(
-            alloc, levels, townships, forest, tract, instrument, *township,
-        )?;
-        if found.is_some() {
-            return Ok(found);
+    // The first cell that refuses of a section.
+    #[tactic(auto, using(title_land::proofs::Sides::depth_is))]
+    fn first_in_section(&self, section: Section) -> Option<(Rule, Estate, Cell)>
+        ensures first { result ≡ first_of self.now.levels self.now.townships.now (plots self.now.forest.now) self.now.instrument.now
+            self.now.tract.now (section_cells depth section) }
+    {
+        self.first_in_square(
+            &self.section_trees(section),
+            section,
+            DEPTH,
+            Within::section(),
+        )
+    }
+
+    // The first cell that refuses of a township, section by section.
+    fn first_in_township(&self, township: Township) -> Option<(Rule, Estate, Cell)>
+        ensures first { result ≡ first_of self.now.levels self.now.townships.now (plots self.now.forest.now) self.now.instrument.now
+            self.now.tract.now (township_cells depth township) }
+    {
+        for section in township.sections() {
+            let found = self.first_in_section(section);
+            if found.is_some() {
+                return found;
+            }
+        }
+        None
+    }
+
+    // The same, where nothing is looked at in another township or section than the tract's.
+    fn first_in_part(&self, township: Township) -> Option<(Rule, Estate, Cell)>
+        ensures first { result ≡ first_of self.now.levels self.now.townships.now (plots self.now.forest.now) self.now.instrument.now
+            self.now.tract.now (township_cells depth township) }
+    {
+        match self.tract.land() {
+            Land::Township(other) if !other.is(township) => None,
+            Land::Part(section, _) => {
+                if !section.township.is(township) {
+                    return None;
+                }
+                self.first_in_section(section)
+            }
+            _ => self.first_in_township(township),
         }
     }
-    Ok(None)
+
+    /// The first cell of the tract that refuses the instrument, with the rule and the estate.
+    pub(crate) fn first(&self) -> Option<(Rule, Estate, Cell)>
+        ensures first { result ≡ triple (first_in self.now.levels self.now.townships.now (plots self.now.forest.now)
+            self.now.instrument.now (cells_of depth self.now.townships.now self.now.tract.now)) }
+    {
+        for township in self.townships {
+            let found = self.first_in_part(*township);
+            if found.is_some() {
+                return found;
+            }
+        }
+        None
+    }
 }

@@ -10,7 +10,7 @@ ghost use Rattle.title_tree_store.specs.Propositions.{once_prop, kept_prop};
 
 use crate::forest::Forest;
 use crate::lent::Images;
-use crate::refusals::first_failing;
+use crate::refusals::Search;
 use crate::sheets::add_estate;
 use crate::spots::tract_spots;
 use std::alloc::{AllocError, Global};
@@ -101,15 +101,14 @@ impl Store for TreeStore {
             }
             Err(Fault::Memory) => Err(AllocError),
             Err(Fault::Refused(_)) => {
-                let first = first_failing(
-                    self.alloc,
-                    self.levels,
-                    &self.townships,
-                    &self.forest,
+                let search = Search {
+                    levels: self.levels,
+                    townships: &self.townships,
+                    forest: &self.forest,
                     tract,
                     instrument,
-                )?;
-                let Some((rule, estate, cell)) = first else {
+                };
+                let Some((rule, estate, cell)) = search.first() else {
                     unreachable!()
                 };
                 Ok(Put::Refused(rule, estate, node_of(tract, cell)))

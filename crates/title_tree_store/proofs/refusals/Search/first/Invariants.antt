@@ -5,10 +5,11 @@ use Rattle.title_land.specs.Depth.{depth}
 use Rattle.title_land.specs.CellLists.{township_cells}
 use Rattle.title_tree_store.specs.Forests.{plots}
 use Rattle.title_tree_store.specs.Refusing.{first_of}
-use Rattle.title_tree_store.proofs.refusals.first_failing.Given as goal
+use Rattle.title_tree_store.proofs.refusals.Search.first.Given as goal
 
 abbrev pub invariant-loop-township : goal.invariant-loop-township
 invariant-loop-township l =
-    first_of l.levels l.townships (plots l.forest) l.instrument l.tract (flat_map (township_cells depth) l.townships)
-    ≡ first_of l.levels l.townships (plots l.forest) l.instrument l.tract
-    (flat_map (township_cells depth) (drop l.township-index l.townships))
+    first_of l.self.levels l.self.townships.now (plots l.self.forest.now) l.self.instrument.now l.self.tract.now
+    (flat_map (township_cells depth) l.self.townships.now)
+    ≡ first_of l.self.levels l.self.townships.now (plots l.self.forest.now) l.self.instrument.now l.self.tract.now
+    (flat_map (township_cells depth) (drop l.township-index l.self.townships.now))

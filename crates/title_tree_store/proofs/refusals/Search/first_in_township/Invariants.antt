@@ -5,9 +5,11 @@ use Rattle.title_land.specs.Depth.{depth}
 use Rattle.title_land.specs.CellLists.{section_cells, township_cells}
 use Rattle.title_tree_store.specs.Forests.{plots}
 use Rattle.title_tree_store.specs.Refusing.{first_of}
-use Rattle.title_tree_store.proofs.refusals.first_in_township.Given as goal
+use Rattle.title_tree_store.proofs.refusals.Search.first_in_township.Given as goal
 
 abbrev pub invariant-loop-section : goal.invariant-loop-section
 invariant-loop-section l =
-    first_of l.levels l.townships (plots l.forest) l.instrument l.tract (township_cells depth l.fn.township)
-    ≡ first_of l.levels l.townships (plots l.forest) l.instrument l.tract (flat_map (section_cells depth) l.section-iterator)
+    first_of l.self.levels l.self.townships.now (plots l.self.forest.now) l.self.instrument.now l.self.tract.now
+    (township_cells depth l.fn.township)
+    ≡ first_of l.self.levels l.self.townships.now (plots l.self.forest.now) l.self.instrument.now l.self.tract.now
+    (flat_map (section_cells depth) l.section-iterator)

@@ -1,0 +1,268 @@
+-- What stands in a square of each estate's tree, and what refuses there.
+use Rattle.std.proofs.Common.{◌≡◌, ◌∙◌, ap, sym, refl, subst, ℕ, suc, ◌+◌, ◌-◌, ◌/◌, ◌%◌, ◌≤◌, arith, Bool, true, false, ◌&&◌}
+use Rattle.std.proofs.Common.{inl, inr, List, [], ◌∷◌, ◌++◌, length, append_assoc, Option, Some, None, is_some}
+use Rattle.std.specs.Prelude.{filter, ◌↔◌}
+use Rattle.std.proofs.lemmas.Bool.{and_from, false_from_ne_true}
+use Rattle.std.proofs.lemmas.List.{reverse-append, append-nil}
+use Rattle.title_land.specs.Depth.{depth}
+use Rattle.title_land.specs.declared.place.Township.{Township}
+use Rattle.title_land.specs.declared.place.Section.{Section}
+use Rattle.title_land.specs.declared.place.Cell.{Cell}
+use Rattle.title_land.specs.declared.rectangle.Quarter.{Quarter}
+use Rattle.title_land.specs.declared.rectangle.Quarter.TheVariants.{Northeast, Northwest, Southwest, Southeast}
+use Rattle.title_land.specs.declared.node.Node.TheVariants as node
+use Rattle.title_land.specs.declared.tract.Land.{Land}
+use Rattle.title_land.specs.Places.{same_section}
+use Rattle.title_land.specs.Paths.{quarter_at}
+use Rattle.title_land.specs.Rectangles.{holds}
+use Rattle.title_land.specs.Nodes.{square}
+use Rattle.title_land.specs.Lands.{has, land_of, Meets}
+use Rattle.title_land.specs.CellLists.{corner_of, cells_below}
+use Rattle.title_land.proofs.CellMembers.{cells_below-in}
+use Rattle.title_land.proofs.CoverSet.{cell_in_grid}
+use Rattle.title_land.proofs.Members.{In, in_filtered, filter_none}
+use Rattle.title_land.proofs.NodeLands.{has-land_of}
+use Rattle.title_land.proofs.SameLand.{same_section-self}
+use Rattle.title_land.proofs.Squares.{holds_from}
+use Rattle.title_instrument.specs.declared.parts.Estate.{Estate}
+use Rattle.title_instrument.specs.declared.parts.Estate.TheVariants.{S, O, M}
+use Rattle.title_instrument.specs.declared.parts.Rule.{Rule}
+use Rattle.title_instrument.specs.declared.instrument.Instrument.{Instrument}
+use Rattle.title_instrument.specs.declared.owners.Owners.{Owners}
+use Rattle.title_instrument.specs.declared.owners.Effect.{Effect}
+use Rattle.title_instrument.specs.declared.owners.Effect.TheVariants.{Done, Refused}
+use Rattle.title_instrument.specs.Effect.{cell_effect}
+use Rattle.title_store.specs.Plants.{Plant, Failing, failing_or, first_failing}
+use Rattle.title_tree.specs.CellWays.{cell_way}
+use Rattle.title_tree.specs.Paths.{way, begins, rest, number_path}
+use Rattle.title_tree.specs.Plots.{Plot, Same, Four, value_at, plot_at}
+use Rattle.title_tree.proofs.CellSquares.{squares_by_paths}
+use Rattle.title_tree.proofs.Grafts.{value_plot_at, plot_at_same}
+use Rattle.title_tree_store.specs.Spots.{index_of, township_path, section_path, square_path, cell_path}
+use Rattle.title_tree_store.specs.Forests.{owners_at}
+use Rattle.title_tree_store.specs.Refusing.{why_cell, why_first, is_leaf, StandsAt, first_in, first_of, triple}
+use Rattle.title_tree_store.proofs.Contents.{owners_same}
+use Rattle.title_tree_store.proofs.Paths.{begins_under}
+use Rattle.title_tree_store.proofs.Places.{corner_way, grid_parts}
+
+-- ---- going down
+
+plot_at_join : (p q : List Quarter) (t : Plot) → plot_at (p ++ q) t ≡ plot_at q (plot_at p t)
+plot_at_join [] q t = refl
+plot_at_join (x ∷ p) q (Same held) = sym (plot_at_same q held)
+plot_at_join (Northeast ∷ p) q (Four a b c d) = plot_at_join p q a
+plot_at_join (Northwest ∷ p) q (Four a b c d) = plot_at_join p q b
+plot_at_join (Southwest ∷ p) q (Four a b c d) = plot_at_join p q c
+plot_at_join (Southeast ∷ p) q (Four a b c d) = plot_at_join p q d
+
+-- the square of a number by that of its quarter
+pub number_down : (levels less n : ℕ) (q : Quarter) (t x y : Plot) → levels ≡ suc less → q ≡ quarter_at (n % 4)
+    → x ≡ plot_at (number_path less (n / 4)) t → y ≡ plot_at (q ∷ []) x → y ≡ plot_at (number_path levels n) t
+number_down levels less n q t x y e f h k =
+    k ∙ ap (plot_at (q ∷ [])) h ∙ ap (λ (z : Quarter). plot_at (z ∷ []) (plot_at (number_path less (n / 4)) t)) f
+    ∙ sym (plot_at_join (number_path less (n / 4)) (quarter_at (n % 4) ∷ []) t)
+    ∙ ap (λ (l : ℕ). plot_at (number_path l n) t) (sym e)
+
+path_down : (levels : ℕ) (ts : List Township) (s : Section) (w : List Quarter) (q : Quarter)
+    → square_path levels ts s w ++ q ∷ [] ≡ square_path levels ts s (q ∷ w)
+path_down levels ts s w q =
+    append_assoc (section_path levels ts s) (way w) (q ∷ [])
+    ∙ ap (λ (z : List Quarter). section_path levels ts s ++ z) (sym (reverse-append (q ∷ []) w))
+
+square_down : (levels : ℕ) (ts : List Township) (s : Section) (w : List Quarter) (q : Quarter) (t x y : Plot)
+    → x ≡ plot_at (square_path levels ts s w) t → y ≡ plot_at (q ∷ []) x → y ≡ plot_at (square_path levels ts s (q ∷ w)) t
+square_down levels ts s w q t x y h k =
+    k ∙ ap (plot_at (q ∷ [])) h ∙ sym (plot_at_join (square_path levels ts s w) (q ∷ []) t)
+    ∙ ap (λ (p : List Quarter). plot_at p t) (path_down levels ts s w q)
+
+-- a quarter of a square
+pub stands_down : (levels : ℕ) (ts : List Township) (ps : Estate → Plot) (s : Section) (w v : List Quarter) (q : Quarter)
+    (a b c x y z : Plot) → StandsAt levels ts ps s w a b c → v ≡ q ∷ w → x ≡ plot_at (q ∷ []) a → y ≡ plot_at (q ∷ []) b
+    → z ≡ plot_at (q ∷ []) c → StandsAt levels ts ps s v x y z
+stands_down levels ts ps s w v q a b c x y z h e f g k =
+    subst (λ (u : List Quarter). StandsAt levels ts ps s u x y z) (sym e) record {
+      s_is = square_down levels ts s w q (ps S) a x h.s_is f;
+      o_is = square_down levels ts s w q (ps O) b y h.o_is g;
+      m_is = square_down levels ts s w q (ps M) c z h.m_is k;
+    }
+
+section_down : (levels : ℕ) (ts : List Township) (s : Section) (t x y : Plot)
+    → x ≡ plot_at (township_path levels ts s.township) t → y ≡ plot_at (number_path 3 (s.number - 1)) x
+    → y ≡ plot_at (square_path levels ts s []) t
+section_down levels ts s t x y h k =
+    k ∙ ap (plot_at (number_path 3 (s.number - 1))) h
+    ∙ sym (plot_at_join (township_path levels ts s.township) (number_path 3 (s.number - 1)) t)
+    ∙ ap (λ (p : List Quarter). plot_at p t) (sym (append-nil (section_path levels ts s)))
+
+-- a section of a township
+pub section_stands : (levels : ℕ) (ts : List Township) (ps : Estate → Plot) (s : Section) (n m : ℕ) (a b c x y z : Plot)
+    → n ≡ index_of ts s.township → m ≡ s.number - 1 → a ≡ plot_at (number_path levels n) (ps S) → b ≡ plot_at (number_path levels n) (ps O)
+    → c ≡ plot_at (number_path levels n) (ps M) → x ≡ plot_at (number_path 3 m) a → y ≡ plot_at (number_path 3 m) b
+    → z ≡ plot_at (number_path 3 m) c
+    → StandsAt levels ts ps s [] x y z
+section_stands levels ts ps s n m a b c x y z e d f g h i j k = record {
+  s_is = section_down levels ts s (ps S) a x (f ∙ at (ps S)) (i ∙ ap (λ (o : ℕ). plot_at (number_path 3 o) a) d);
+  o_is = section_down levels ts s (ps O) b y (g ∙ at (ps O)) (j ∙ ap (λ (o : ℕ). plot_at (number_path 3 o) b) d);
+  m_is = section_down levels ts s (ps M) c z (h ∙ at (ps M)) (k ∙ ap (λ (o : ℕ). plot_at (number_path 3 o) c) d);
+}
+  where
+    at : (t : Plot) → plot_at (number_path levels n) t ≡ plot_at (township_path levels ts s.township) t
+    at t = ap (λ (o : ℕ). plot_at (number_path levels o) t) e
+
+-- ---- one cell
+
+value_here : (p : List Quarter) (t : Plot) → value_at t p ≡ value_at (plot_at p t) []
+value_here [] t = refl
+value_here (q ∷ p) (Same held) = refl
+value_here (Northeast ∷ p) (Four a b c d) = value_here p a
+value_here (Northwest ∷ p) (Four a b c d) = value_here p b
+value_here (Southwest ∷ p) (Four a b c d) = value_here p c
+value_here (Southeast ∷ p) (Four a b c d) = value_here p d
+
+value_there : (levels : ℕ) (ts : List Township) (s : Section) (w : List Quarter) (t x : Plot) → length w ≡ depth
+    → x ≡ plot_at (square_path levels ts s w) t
+    → value_at t (cell_path levels ts (corner_of s (square depth w))) ≡ value_at x []
+value_there levels ts s w t x l h =
+    ap (λ (z : List Quarter). value_at t (section_path levels ts s ++ z)) (corner_way s w l)
+    ∙ value_here (square_path levels ts s w) t ∙ ap (λ (y : Plot). value_at y []) (sym h)
+
+-- a rule and an estate with the cell
+pub with_cell : Cell → Option (Rule × Estate) → Option (Rule × Estate × Cell)
+with_cell c None = None
+with_cell c (Some why) = Some (why.0, why.1, c)
+
+triple_one : (c : Cell) (e : Effect) → with_cell c (why_cell e) ≡ triple (failing_or c e None)
+unfolding with_cell
+triple_one c (Done owners) = refl
+triple_one c (Refused rule estate) = refl
+
+filter_yes : (p : Cell → Bool) (c : Cell) → p c ≡ true → filter p (c ∷ []) ≡ c ∷ []
+filter_yes p c h = rw h refl
+
+filter_no : (p : Cell → Bool) (c : Cell) → p c ≡ false → filter p (c ∷ []) ≡ []
+filter_no p c h = rw h refl
+
+cell_why : (levels : ℕ) (ts : List Township) (ps : Estate → Plot) (i : Instrument ℕ) (tr : Land) (s : Section) (w : List Quarter)
+    (x y z : Plot) (o : Option (Rule × Estate)) → length w ≡ depth → StandsAt levels ts ps s w x y z
+    → has tr (corner_of s (square depth w)) ≡ true → o ≡ why_first i x y z
+    → with_cell (corner_of s (square depth w)) o ≡ first_of levels ts ps i tr (corner_of s (square depth w) ∷ [])
+cell_why levels ts ps i tr s w x y z o l h k e =
+    let c = corner_of s (square depth w) in
+    ap (with_cell c) e
+    ∙ triple_one c (cell_effect i (record { s = value_at x []; o = value_at y []; m = value_at z [] }))
+    ∙ ap (λ (v : Owners). triple (failing_or c (cell_effect i v) None)) (sym (owners_same _ _ _ _ _ _
+    (value_there levels ts s w (ps S) x l h.s_is) (value_there levels ts s w (ps O) y l h.o_is)
+    (value_there levels ts s w (ps M) z l h.m_is)))
+    ∙ ap (λ (cells : List Cell). triple (first_in levels ts ps i cells)) (sym (filter_yes (has tr) c k))
+
+-- a cell that refuses
+pub cell_refuses : (levels : ℕ) (ts : List Township) (ps : Estate → Plot) (i : Instrument ℕ) (tr : Land) (s : Section) (w : List Quarter)
+    (x y z : Plot) (o : Option (Rule × Estate)) (why : Rule × Estate) → length w ≡ depth → StandsAt levels ts ps s w x y z
+    → has tr (corner_of s (square depth w)) ≡ true → o ≡ why_first i x y z → o ≡ Some why
+    → Some (why.0, why.1, corner_of s (square depth w)) ≡ first_of levels ts ps i tr (corner_of s (square depth w) ∷ [])
+unfolding with_cell
+cell_refuses levels ts ps i tr s w x y z o why l h k e f =
+    ap (with_cell (corner_of s (square depth w))) (sym f) ∙ cell_why levels ts ps i tr s w x y z o l h k e
+
+-- a cell that doesn't
+pub cell_passes : (levels : ℕ) (ts : List Township) (ps : Estate → Plot) (i : Instrument ℕ) (tr : Land) (s : Section) (w : List Quarter)
+    (x y z : Plot) (o : Option (Rule × Estate)) → length w ≡ depth → StandsAt levels ts ps s w x y z
+    → has tr (corner_of s (square depth w)) ≡ true → o ≡ why_first i x y z → o ≡ None
+    → None ≡ first_of levels ts ps i tr (corner_of s (square depth w) ∷ [])
+unfolding with_cell
+cell_passes levels ts ps i tr s w x y z o l h k e f =
+    ap (with_cell (corner_of s (square depth w))) (sym f) ∙ cell_why levels ts ps i tr s w x y z o l h k e
+
+-- a cell that isn't the tract's
+pub cell_elsewhere : (levels : ℕ) (ts : List Township) (ps : Estate → Plot) (i : Instrument ℕ) (tr : Land) (c : Cell)
+    → has tr c ≡ false → None ≡ first_of levels ts ps i tr (c ∷ [])
+cell_elsewhere levels ts ps i tr c h =
+    ap (λ (cells : List Cell). triple (first_in levels ts ps i cells)) (sym (filter_no (has tr) c h))
+
+-- ---- a square
+
+-- its cells lie on the grid below its path
+pub record LiesBelow (levels : ℕ) (ts : List Township) (s : Section) (w : List Quarter) (c : Cell) : Type 0 where
+  pub section_is : c.section ≡ s
+  pub held : holds (square depth w) c.row c.column ≡ true
+  pub begun : begins (square_path levels ts s w) (cell_path levels ts c) ≡ true
+
+lies_below : (levels : ℕ) (ts : List Township) (s : Section) (below : ℕ) (w : List Quarter) (c : Cell) → below + length w ≡ depth
+    → In c (cells_below depth s below w) → LiesBelow levels ts s w c
+lies_below levels ts s below w c l i =
+    let k = cells_below-in depth s below w c l i in
+    let short : length w ≤ depth = omega (arith, l) in
+    let g = grid_parts record { section = s; row = c.row; column = c.column } (cell_in_grid depth s w c.row c.column short k.1) in
+    let h = holds_from (square depth w) c.row c.column k.1 in
+    record {
+      section_is = k.0;
+      held = h;
+      begun = subst (λ (u : Section). begins (square_path levels ts s w) (section_path levels ts u ++ cell_way depth c.row c.column) ≡ true)
+          (sym k.0)
+          (begins_under (section_path levels ts s) (way w) (cell_way depth c.row c.column)
+          ∙ sym (squares_by_paths depth w c.row c.column short g.0 g.1) ∙ h);
+    }
+
+leaf_value : (t : Plot) (c : List Quarter) → is_leaf t ≡ true → value_at t c ≡ value_at t []
+leaf_value (Same held) c h = refl
+leaf_value (Four a b c d) p h = absurd cc
+
+value_below : (p c : List Quarter) (t x : Plot) → begins p c ≡ true → x ≡ plot_at p t → is_leaf x ≡ true
+    → value_at t c ≡ value_at x []
+value_below p c t x h e leaf =
+    sym (value_plot_at p t c h) ∙ ap (λ (y : Plot). value_at y (rest p c)) (sym e) ∙ leaf_value x (rest p c) leaf
+
+none_failing : (i : Instrument ℕ) (p : Plant) (cells : List Cell)
+    → ((c : Cell) → In c cells → why_cell (cell_effect i (p c)) ≡ None) → first_failing i p cells ≡ None
+none_failing i p [] f = refl
+none_failing i p (c ∷ cells) f =
+    one (cell_effect i (p c)) (first_failing i p cells) (f c (inl refl)) ∙ none_failing i p cells (λ z j. f z (inr j))
+  where
+    one : (e : Effect) (later : Option Failing) → why_cell e ≡ None → failing_or c e later ≡ later
+    one (Done owners) later h = refl
+    one (Refused rule estate) later h = absurd cc
+
+all_three : (a b c : Bool) → (a && b && c) ≡ true → (a ≡ true) × (b ≡ true) × (c ≡ true)
+all_three true true true h = (refl, refl, refl)
+all_three false b c h = absurd cc
+all_three true false c h = absurd cc
+all_three true true false h = absurd cc
+
+no_why : (o : Option (Rule × Estate)) → is_some o ≡ false → o ≡ None
+no_why None h = refl
+no_why (Some why) h = absurd cc
+
+-- where it has one holding of each estate, and these pass
+pub leaves_pass : (levels : ℕ) (ts : List Township) (ps : Estate → Plot) (i : Instrument ℕ) (tr : Land) (s : Section) (below : ℕ)
+    (w : List Quarter) (x y z : Plot) (o : Option (Rule × Estate)) → below + length w ≡ depth → StandsAt levels ts ps s w x y z
+    → (is_leaf x && is_leaf y && is_leaf z) ≡ true → o ≡ why_first i x y z → is_some o ≡ false
+    → None ≡ first_of levels ts ps i tr (cells_below depth s below w)
+leaves_pass levels ts ps i tr s below w x y z o l h leaves e none =
+    ap triple (sym (none_failing i (λ c. owners_at ps (cell_path levels ts c)) (filter (has tr) (cells_below depth s below w)) passes))
+  where
+    passes : (c : Cell) → In c (filter (has tr) (cells_below depth s below w))
+        → why_cell (cell_effect i (owners_at ps (cell_path levels ts c))) ≡ None
+    passes c j =
+        let k = lies_below levels ts s below w c l (in_filtered (has tr) (cells_below depth s below w) c j).0 in
+        let p = all_three (is_leaf x) (is_leaf y) (is_leaf z) leaves in
+        ap (λ (v : Owners). why_cell (cell_effect i v)) (owners_same _ _ _ _ _ _
+        (value_below _ _ (ps S) x k.begun h.s_is p.0) (value_below _ _ (ps O) y k.begun h.o_is p.1)
+        (value_below _ _ (ps M) z k.begun h.m_is p.2))
+        ∙ sym e ∙ no_why o none
+
+-- where the tract has no cell of it
+pub none_of_square : (levels : ℕ) (ts : List Township) (ps : Estate → Plot) (i : Instrument ℕ) (tr : Land) (s : Section) (below : ℕ)
+    (w : List Quarter) (b : Bool) → below + length w ≡ depth → (b ≡ true) ↔ Meets depth tr (land_of depth (node.Part s w)) → b ≡ false
+    → None ≡ first_of levels ts ps i tr (cells_below depth s below w)
+none_of_square levels ts ps i tr s below w b l shares apart =
+    ap (λ (cells : List Cell). triple (first_in levels ts ps i cells)) (sym (filter_none (has tr) (cells_below depth s below w) none))
+  where
+    none : (c : Cell) → In c (cells_below depth s below w) → has tr c ≡ false
+    none c j = false_from_ne_true (has tr c) (λ h.
+        let k = cells_below-in depth s below w c l j in
+        let short : length w ≤ depth = omega (arith, l) in
+        let inside : has (land_of depth (node.Part s w)) c ≡ true = has-land_of depth (node.Part s w) c short
+        ∙ and_from (same_section s c.section) (holds (square depth w) c.row c.column)
+        (subst (λ (u : Section). same_section s u ≡ true) (sym k.0) (same_section-self s)) (holds_from (square depth w) c.row c.column k.1) in
+        let clash : true ≡ false = sym (shares.1 (c, cell_in_grid depth s w c.row c.column short k.1, h, inside)) ∙ apart in
+        absurd cc)
