@@ -1,9 +1,10 @@
 -- The first of a tract's cells that refuses, list after list.
-use Rattle.std.proofs.Common.{◌≡◌, ◌∙◌, ap, sym, refl, ℕ, zero, suc, ◌+◌, ◌-◌, ◌<◌, ◌≤◌, arith, true, false}
-use Rattle.std.proofs.Common.{List, [], ◌∷◌, ◌++◌, length, drop, get_or, Option, Some, None, is_some}
+use Rattle.std.proofs.Common.{◌≡◌, ◌∙◌, ap, sym, refl, subst, ℕ, zero, suc, ◌+◌, ◌-◌, ◌<◌, ◌≤◌, arith, true, false}
+use Rattle.std.proofs.Common.{List, [], ◌∷◌, ◌++◌, length, drop, get_or, Option, Some, None, is_some, inl, inr, ◌⊎◌, Bool}
 use Rattle.std.specs.Prelude.{filter}
-use Rattle.std.specs.List.{flat_map}
+use Rattle.std.specs.List.{flat_map, list_any}
 use Rattle.std.specs.Option.{option_or}
+use Rattle.std.proofs.lemmas.Bool.{cases_Bool}
 use Rattle.std.proofs.lemmas.List.{drop_more, drop_all}
 use Rattle.std.proofs.lemmas.List.Elements.{filter-append}
 use Rattle.title_land.specs.Depth.{depth}
@@ -13,11 +14,12 @@ use Rattle.title_land.specs.declared.place.Cell.{Cell}
 use Rattle.title_land.specs.declared.rectangle.Quarter.{Quarter}
 use Rattle.title_land.specs.declared.tract.Land.{Land}
 use Rattle.title_land.specs.Nodes.{quarters}
-use Rattle.title_land.specs.Lands.{has}
+use Rattle.title_land.specs.Lands.{has, is_in_plant}
 use Rattle.title_land.specs.CellLists.{cells_below, section_cells, township_cells, plant_cells, cells_of}
 use Rattle.title_land.specs.Places.{same_township}
 use Rattle.title_land.specs.declared.grid.Grid.{Grid}
 use Rattle.title_land.specs.declared.tract.Land.TheVariants as land
+use Rattle.title_land.proofs.SameLand.{same_township-is}
 use Rattle.title_land.proofs.CellFilters.{township_elsewhere, part_elsewhere, part_in_township}
 use Rattle.title_instrument.specs.declared.parts.Estate.{Estate}
 use Rattle.title_instrument.specs.declared.parts.Rule.{Rule}
@@ -135,3 +137,69 @@ pub item_is : {X : Type 0} (xs : List X) (n : ℕ) (d : X) → n < length xs →
 item_is [] n d l = absurd (omega (arith, l))
 item_is (x ∷ xs) zero d l = refl
 item_is (x ∷ xs) (suc n) d l = item_is xs n d (omega (arith, l))
+
+-- ---- a township that is one of some
+
+or_self : {X : Type 0} (o p r : Option X) → (p ≡ o) ⊎ (p ≡ None) → option_or o r ≡ o → option_or o (option_or p r) ≡ o
+or_self {X} (Some x) p r h k = refl
+or_self {X} None p r h k = ap (λ (z : Option X). option_or z r) (both h) ∙ k
+  where
+    both : (p ≡ None) ⊎ (p ≡ None) → p ≡ None
+    both g = elim g [ inl e ↦ e | inr e ↦ e ]
+
+or_none : {X : Type 0} (o : Option X) → option_or o None ≡ o
+or_none None = refl
+or_none (Some x) = refl
+
+-- where each of some lists begins the same way or not at all
+kept_first : {X : Type 0} (levels : ℕ) (ts : List Township) (ps : Estate → Plot) (i : Instrument ℕ) (tr : Land)
+    (cells : X → List Cell) (o : Option (Rule × Estate × Cell)) (xs : List X)
+    → ((x : X) → (first_of levels ts ps i tr (cells x) ≡ o) ⊎ (first_of levels ts ps i tr (cells x) ≡ None))
+    → option_or o (first_of levels ts ps i tr (flat_map cells xs)) ≡ o
+kept_first {X} levels ts ps i tr cells o [] f = or_none o
+kept_first {X} levels ts ps i tr cells o (x ∷ xs) f =
+    ap (option_or o) (first_join levels ts ps i tr (cells x) (flat_map cells xs))
+    ∙ or_self o (first_of levels ts ps i tr (cells x)) (first_of levels ts ps i tr (flat_map cells xs)) (f x)
+    (kept_first levels ts ps i tr cells o xs f)
+
+found_among : {X : Type 0} (levels : ℕ) (ts : List Township) (ps : Estate → Plot) (i : Instrument ℕ) (tr : Land)
+    (cells : X → List Cell) (o : Option (Rule × Estate × Cell)) (test : X → Bool) (xs : List X)
+    → ((x : X) → test x ≡ true → first_of levels ts ps i tr (cells x) ≡ o)
+    → ((x : X) → test x ≡ false → first_of levels ts ps i tr (cells x) ≡ None)
+    → list_any test xs ≡ true → first_of levels ts ps i tr (flat_map cells xs) ≡ o
+found_among {X} levels ts ps i tr cells o test [] f g h = absurd cc
+found_among {X} levels ts ps i tr cells o test (x ∷ xs) f g h =
+    first_join levels ts ps i tr (cells x) (flat_map cells xs) ∙ elim (cases_Bool (test x)) [
+      | inl e ↦
+          ap (λ (z : Option (Rule × Estate × Cell)). option_or z (first_of levels ts ps i tr (flat_map cells xs))) (f x e)
+          ∙ kept_first levels ts ps i tr cells o xs either
+      | inr e ↦
+          ap (λ (z : Option (Rule × Estate × Cell)). option_or z (first_of levels ts ps i tr (flat_map cells xs))) (g x e)
+          ∙ found_among levels ts ps i tr cells o test xs f g (rw e at h)
+    ]
+  where
+    either : (y : X) → (first_of levels ts ps i tr (cells y) ≡ o) ⊎ (first_of levels ts ps i tr (cells y) ≡ None)
+    either y = elim (cases_Bool (test y)) [ inl e ↦ inl (f y e) | inr e ↦ inr (g y e) ]
+
+-- a tract that is a township of the plant
+pub township_found : (levels : ℕ) (ts : List Township) (ps : Estate → Plot) (i : Instrument ℕ) (x : Land) (t : Township)
+    → x ≡ land.Township t → is_in_plant ts x ≡ true
+    → first_of levels ts ps i x (township_cells depth t) ≡ triple (first_in levels ts ps i (cells_of depth ts x))
+township_found levels ts ps i x t e of =
+    sym (found_among levels ts ps i x (township_cells depth) (first_of levels ts ps i x (township_cells depth t)) (same_township t) ts
+    (λ u h. ap (λ (v : Township). first_of levels ts ps i x (township_cells depth v)) (sym (same_township-is t u h)))
+    (λ u h. sym (none_of_township levels ts ps i x t u e h))
+    (subst (λ (y : Land). is_in_plant ts y ≡ true) e of))
+    ∙ tract_cells levels ts ps i x
+
+-- a tract of a section of the plant
+pub part_found : (levels : ℕ) (ts : List Township) (ps : Estate → Plot) (i : Instrument ℕ) (x : Land) (s : Section) (g : Grid)
+    → x ≡ land.Part s g → is_in_plant ts x ≡ true
+    → first_of levels ts ps i x (section_cells depth s) ≡ triple (first_in levels ts ps i (cells_of depth ts x))
+part_found levels ts ps i x s g e of =
+    sym (found_among levels ts ps i x (township_cells depth) (first_of levels ts ps i x (section_cells depth s))
+    (same_township s.township) ts
+    (λ u h. sym (part_in levels ts ps i x s g u e h))
+    (λ u h. sym (none_of_part levels ts ps i x s g u e h))
+    (subst (λ (y : Land). is_in_plant ts y ≡ true) e of))
+    ∙ tract_cells levels ts ps i x

@@ -1,9 +1,10 @@
 -- What stands in a square of each estate's tree, and what refuses there.
 use Rattle.std.proofs.Common.{◌≡◌, ◌∙◌, ap, sym, refl, subst, ℕ, suc, ◌+◌, ◌-◌, ◌/◌, ◌%◌, ◌≤◌, arith, Bool, true, false, ◌&&◌}
-use Rattle.std.proofs.Common.{inl, inr, List, [], ◌∷◌, ◌++◌, length, append_assoc, Option, Some, None, is_some}
+use Rattle.std.proofs.Common.{inl, inr, List, [], ◌∷◌, ◌++◌, length, append_assoc, Option, Some, None, is_some, Result, Ok, Err, not}
 use Rattle.std.specs.Prelude.{filter, ◌↔◌}
 use Rattle.std.proofs.lemmas.Bool.{and_from, false_from_ne_true}
 use Rattle.std.proofs.lemmas.List.{reverse-append, append-nil}
+use Rattle.title_share.specs.Division.{Division}
 use Rattle.title_land.specs.Depth.{depth}
 use Rattle.title_land.specs.declared.place.Township.{Township}
 use Rattle.title_land.specs.declared.place.Section.{Section}
@@ -31,8 +32,12 @@ use Rattle.title_instrument.specs.declared.instrument.Instrument.{Instrument}
 use Rattle.title_instrument.specs.declared.owners.Owners.{Owners}
 use Rattle.title_instrument.specs.declared.owners.Effect.{Effect}
 use Rattle.title_instrument.specs.declared.owners.Effect.TheVariants.{Done, Refused}
-use Rattle.title_instrument.specs.Effect.{cell_effect}
+use Rattle.title_instrument.specs.Effect.{holding_effect, cell_effect, joined}
+use Rattle.title_instrument.specs.Estates.{names}
+use Rattle.title_instrument.specs.Parties.{estates_of}
+use Rattle.title_instrument.proofs.EffectLaws.{holding_unnamed}
 use Rattle.title_store.specs.Plants.{Plant, Failing, failing_or, first_failing}
+use Rattle.title_tree.specs.Changes.{why_of}
 use Rattle.title_tree.specs.CellWays.{cell_way}
 use Rattle.title_tree.specs.Paths.{way, begins, rest, number_path}
 use Rattle.title_tree.specs.Plots.{Plot, Same, Four, value_at, plot_at}
@@ -40,10 +45,11 @@ use Rattle.title_tree.proofs.CellSquares.{squares_by_paths}
 use Rattle.title_tree.proofs.Grafts.{value_plot_at, plot_at_same}
 use Rattle.title_tree_store.specs.Spots.{index_of, township_path, section_path, square_path, cell_path}
 use Rattle.title_tree_store.specs.Forests.{owners_at}
-use Rattle.title_tree_store.specs.Refusing.{why_cell, why_first, is_leaf, StandsAt, first_in, first_of, triple}
+use Rattle.title_tree_store.specs.Refusing.{why_cell, why_first, is_settled, StandsAt, first_in, first_of, triple}
 use Rattle.title_tree_store.proofs.Contents.{owners_same}
 use Rattle.title_tree_store.proofs.Paths.{begins_under}
 use Rattle.title_tree_store.proofs.Places.{corner_way, grid_parts}
+use Rattle.title_tree_store.proofs.Puts.{whys}
 
 -- ---- going down
 
@@ -77,37 +83,32 @@ square_down levels ts s w q t x y h k =
 
 -- a quarter of a square
 pub stands_down : (levels : ℕ) (ts : List Township) (ps : Estate → Plot) (s : Section) (w v : List Quarter) (q : Quarter)
-    (a b c x y z : Plot) → StandsAt levels ts ps s w a b c → v ≡ q ∷ w → x ≡ plot_at (q ∷ []) a → y ≡ plot_at (q ∷ []) b
-    → z ≡ plot_at (q ∷ []) c → StandsAt levels ts ps s v x y z
+    (a b c x y z : Plot) → StandsAt ps (square_path levels ts s w) a b c → v ≡ q ∷ w → x ≡ plot_at (q ∷ []) a → y ≡ plot_at (q ∷ []) b
+    → z ≡ plot_at (q ∷ []) c → StandsAt ps (square_path levels ts s v) x y z
 stands_down levels ts ps s w v q a b c x y z h e f g k =
-    subst (λ (u : List Quarter). StandsAt levels ts ps s u x y z) (sym e) record {
+    subst (λ (u : List Quarter). StandsAt ps (square_path levels ts s u) x y z) (sym e) record {
       s_is = square_down levels ts s w q (ps S) a x h.s_is f;
       o_is = square_down levels ts s w q (ps O) b y h.o_is g;
       m_is = square_down levels ts s w q (ps M) c z h.m_is k;
     }
 
-section_down : (levels : ℕ) (ts : List Township) (s : Section) (t x y : Plot)
-    → x ≡ plot_at (township_path levels ts s.township) t → y ≡ plot_at (number_path 3 (s.number - 1)) x
+section_down : (levels : ℕ) (ts : List Township) (s : Section) (m : ℕ) (t x y : Plot) → m ≡ s.number - 1
+    → x ≡ plot_at (township_path levels ts s.township) t → y ≡ plot_at (number_path 3 m) x
     → y ≡ plot_at (square_path levels ts s []) t
-section_down levels ts s t x y h k =
-    k ∙ ap (plot_at (number_path 3 (s.number - 1))) h
+section_down levels ts s m t x y e h k =
+    k ∙ ap (λ (o : ℕ). plot_at (number_path 3 o) x) e ∙ ap (plot_at (number_path 3 (s.number - 1))) h
     ∙ sym (plot_at_join (township_path levels ts s.township) (number_path 3 (s.number - 1)) t)
     ∙ ap (λ (p : List Quarter). plot_at p t) (sym (append-nil (section_path levels ts s)))
 
 -- a section of a township
-pub section_stands : (levels : ℕ) (ts : List Township) (ps : Estate → Plot) (s : Section) (n m : ℕ) (a b c x y z : Plot)
-    → n ≡ index_of ts s.township → m ≡ s.number - 1 → a ≡ plot_at (number_path levels n) (ps S) → b ≡ plot_at (number_path levels n) (ps O)
-    → c ≡ plot_at (number_path levels n) (ps M) → x ≡ plot_at (number_path 3 m) a → y ≡ plot_at (number_path 3 m) b
-    → z ≡ plot_at (number_path 3 m) c
-    → StandsAt levels ts ps s [] x y z
-section_stands levels ts ps s n m a b c x y z e d f g h i j k = record {
-  s_is = section_down levels ts s (ps S) a x (f ∙ at (ps S)) (i ∙ ap (λ (o : ℕ). plot_at (number_path 3 o) a) d);
-  o_is = section_down levels ts s (ps O) b y (g ∙ at (ps O)) (j ∙ ap (λ (o : ℕ). plot_at (number_path 3 o) b) d);
-  m_is = section_down levels ts s (ps M) c z (h ∙ at (ps M)) (k ∙ ap (λ (o : ℕ). plot_at (number_path 3 o) c) d);
+pub section_stands : (levels : ℕ) (ts : List Township) (ps : Estate → Plot) (s : Section) (m : ℕ) (a b c x y z : Plot)
+    → StandsAt ps (township_path levels ts s.township) a b c → m ≡ s.number - 1 → x ≡ plot_at (number_path 3 m) a
+    → y ≡ plot_at (number_path 3 m) b → z ≡ plot_at (number_path 3 m) c → StandsAt ps (square_path levels ts s []) x y z
+section_stands levels ts ps s m a b c x y z h e f g k = record {
+  s_is = section_down levels ts s m (ps S) a x e h.s_is f;
+  o_is = section_down levels ts s m (ps O) b y e h.o_is g;
+  m_is = section_down levels ts s m (ps M) c z e h.m_is k;
 }
-  where
-    at : (t : Plot) → plot_at (number_path levels n) t ≡ plot_at (township_path levels ts s.township) t
-    at t = ap (λ (o : ℕ). plot_at (number_path levels o) t) e
 
 -- ---- one cell
 
@@ -143,7 +144,7 @@ filter_no : (p : Cell → Bool) (c : Cell) → p c ≡ false → filter p (c ∷
 filter_no p c h = rw h refl
 
 cell_why : (levels : ℕ) (ts : List Township) (ps : Estate → Plot) (i : Instrument ℕ) (tr : Land) (s : Section) (w : List Quarter)
-    (x y z : Plot) (o : Option (Rule × Estate)) → length w ≡ depth → StandsAt levels ts ps s w x y z
+    (x y z : Plot) (o : Option (Rule × Estate)) → length w ≡ depth → StandsAt ps (square_path levels ts s w) x y z
     → has tr (corner_of s (square depth w)) ≡ true → o ≡ why_first i x y z
     → with_cell (corner_of s (square depth w)) o ≡ first_of levels ts ps i tr (corner_of s (square depth w) ∷ [])
 cell_why levels ts ps i tr s w x y z o l h k e =
@@ -157,7 +158,7 @@ cell_why levels ts ps i tr s w x y z o l h k e =
 
 -- a cell that refuses
 pub cell_refuses : (levels : ℕ) (ts : List Township) (ps : Estate → Plot) (i : Instrument ℕ) (tr : Land) (s : Section) (w : List Quarter)
-    (x y z : Plot) (o : Option (Rule × Estate)) (why : Rule × Estate) → length w ≡ depth → StandsAt levels ts ps s w x y z
+    (x y z : Plot) (o : Option (Rule × Estate)) (why : Rule × Estate) → length w ≡ depth → StandsAt ps (square_path levels ts s w) x y z
     → has tr (corner_of s (square depth w)) ≡ true → o ≡ why_first i x y z → o ≡ Some why
     → Some (why.0, why.1, corner_of s (square depth w)) ≡ first_of levels ts ps i tr (corner_of s (square depth w) ∷ [])
 unfolding with_cell
@@ -166,7 +167,7 @@ cell_refuses levels ts ps i tr s w x y z o why l h k e f =
 
 -- a cell that doesn't
 pub cell_passes : (levels : ℕ) (ts : List Township) (ps : Estate → Plot) (i : Instrument ℕ) (tr : Land) (s : Section) (w : List Quarter)
-    (x y z : Plot) (o : Option (Rule × Estate)) → length w ≡ depth → StandsAt levels ts ps s w x y z
+    (x y z : Plot) (o : Option (Rule × Estate)) → length w ≡ depth → StandsAt ps (square_path levels ts s w) x y z
     → has tr (corner_of s (square depth w)) ≡ true → o ≡ why_first i x y z → o ≡ None
     → None ≡ first_of levels ts ps i tr (corner_of s (square depth w) ∷ [])
 unfolding with_cell
@@ -203,14 +204,40 @@ lies_below levels ts s below w c l i =
           ∙ sym (squares_by_paths depth w c.row c.column short g.0 g.1) ∙ h);
     }
 
-leaf_value : (t : Plot) (c : List Quarter) → is_leaf t ≡ true → value_at t c ≡ value_at t []
-leaf_value (Same held) c h = refl
-leaf_value (Four a b c d) p h = absurd cc
+not_true : (b : Bool) → not b ≡ true → b ≡ false
+not_true true h = sym h
+not_true false h = refl
 
-value_below : (p c : List Quarter) (t x : Plot) → begins p c ≡ true → x ≡ plot_at p t → is_leaf x ≡ true
-    → value_at t c ≡ value_at x []
-value_below p c t x h e leaf =
-    sym (value_plot_at p t c h) ∙ ap (λ (y : Plot). value_at y (rest p c)) (sym e) ∙ leaf_value x (rest p c) leaf
+-- where the first cell passes, all do that are treated alike
+settled_passes : (i : Instrument ℕ) (e : Estate) (t : Plot) (c : List Quarter) → is_settled i e t ≡ true
+    → why_of (holding_effect i e (value_at t [])) ≡ None → why_of (holding_effect i e (value_at t c)) ≡ None
+settled_passes i e (Same held) c h k = k
+settled_passes i e (Four a b c d) p h k =
+    ap why_of (holding_unnamed i e (value_at (Four a b c d) p) (not_true (names (estates_of i) e) h))
+
+passes_below : (i : Instrument ℕ) (e : Estate) (p c : List Quarter) (t x : Plot) → begins p c ≡ true → x ≡ plot_at p t
+    → is_settled i e x ≡ true → why_of (holding_effect i e (value_at x [])) ≡ None → why_of (holding_effect i e (value_at t c)) ≡ None
+passes_below i e p c t x h same settled none =
+    ap (λ (v : Division). why_of (holding_effect i e v))
+    (sym (value_plot_at p t c h) ∙ ap (λ (y : Plot). value_at y (rest p c)) (sym same))
+    ∙ settled_passes i e x (rest p c) settled none
+
+none_joined : (s o m : Result Division Rule) → why_of s ≡ None → why_of o ≡ None → why_of m ≡ None → why_cell (joined s o m) ≡ None
+none_joined (Ok s) (Ok o) (Ok m) f g h = refl
+none_joined (Err r) o m f g h = absurd cc
+none_joined (Ok s) (Err r) m f g h = absurd cc
+none_joined (Ok s) (Ok o) (Err r) f g h = absurd cc
+
+-- a cell passes where each estate does
+cell_passes_by : (i : Instrument ℕ) (w : Owners) → why_of (holding_effect i S w.s) ≡ None → why_of (holding_effect i O w.o) ≡ None
+    → why_of (holding_effect i M w.m) ≡ None → why_cell (cell_effect i w) ≡ None
+unfolding cell_effect
+cell_passes_by i w f g h = none_joined _ _ _ f g h
+
+each_passes : (i : Instrument ℕ) (w : Owners) → why_cell (cell_effect i w) ≡ None → (why_of (holding_effect i S w.s) ≡ None)
+    × (why_of (holding_effect i O w.o) ≡ None) × (why_of (holding_effect i M w.m) ≡ None)
+unfolding cell_effect
+each_passes i w h = whys _ _ _ h
 
 none_failing : (i : Instrument ℕ) (p : Plant) (cells : List Cell)
     → ((c : Cell) → In c cells → why_cell (cell_effect i (p c)) ≡ None) → first_failing i p cells ≡ None
@@ -232,23 +259,25 @@ no_why : (o : Option (Rule × Estate)) → is_some o ≡ false → o ≡ None
 no_why None h = refl
 no_why (Some why) h = absurd cc
 
--- where it has one holding of each estate, and these pass
-pub leaves_pass : (levels : ℕ) (ts : List Township) (ps : Estate → Plot) (i : Instrument ℕ) (tr : Land) (s : Section) (below : ℕ)
-    (w : List Quarter) (x y z : Plot) (o : Option (Rule × Estate)) → below + length w ≡ depth → StandsAt levels ts ps s w x y z
-    → (is_leaf x && is_leaf y && is_leaf z) ≡ true → o ≡ why_first i x y z → is_some o ≡ false
+-- where all cells are treated alike, and the first passes
+pub settled_square : (levels : ℕ) (ts : List Township) (ps : Estate → Plot) (i : Instrument ℕ) (tr : Land) (s : Section) (below : ℕ)
+    (w : List Quarter) (x y z : Plot) (o : Option (Rule × Estate)) → below + length w ≡ depth
+    → StandsAt ps (square_path levels ts s w) x y z
+    → (is_settled i S x && is_settled i O y && is_settled i M z) ≡ true → o ≡ why_first i x y z → is_some o ≡ false
     → None ≡ first_of levels ts ps i tr (cells_below depth s below w)
-leaves_pass levels ts ps i tr s below w x y z o l h leaves e none =
+settled_square levels ts ps i tr s below w x y z o l h settled e none =
     ap triple (sym (none_failing i (λ c. owners_at ps (cell_path levels ts c)) (filter (has tr) (cells_below depth s below w)) passes))
   where
     passes : (c : Cell) → In c (filter (has tr) (cells_below depth s below w))
         → why_cell (cell_effect i (owners_at ps (cell_path levels ts c))) ≡ None
     passes c j =
         let k = lies_below levels ts s below w c l (in_filtered (has tr) (cells_below depth s below w) c j).0 in
-        let p = all_three (is_leaf x) (is_leaf y) (is_leaf z) leaves in
-        ap (λ (v : Owners). why_cell (cell_effect i v)) (owners_same _ _ _ _ _ _
-        (value_below _ _ (ps S) x k.begun h.s_is p.0) (value_below _ _ (ps O) y k.begun h.o_is p.1)
-        (value_below _ _ (ps M) z k.begun h.m_is p.2))
-        ∙ sym e ∙ no_why o none
+        let p = all_three (is_settled i S x) (is_settled i O y) (is_settled i M z) settled in
+        let q = each_passes i (record { s = value_at x []; o = value_at y []; m = value_at z [] }) (sym e ∙ no_why o none) in
+        cell_passes_by i (owners_at ps (cell_path levels ts c))
+        (passes_below i S _ _ (ps S) x k.begun h.s_is p.0 q.0)
+        (passes_below i O _ _ (ps O) y k.begun h.o_is p.1 q.1)
+        (passes_below i M _ _ (ps M) z k.begun h.m_is p.2 q.2)
 
 -- where the tract has no cell of it
 pub none_of_square : (levels : ℕ) (ts : List Township) (ps : Estate → Plot) (i : Instrument ℕ) (tr : Land) (s : Section) (below : ℕ)

@@ -4,17 +4,19 @@ ghost use Rattle.std.specs.Prelude.{◌≡◌, ◌≤◌, ◌+◌, ◌∷◌, []
 ghost use Rattle.title_land.specs.Depth.{depth};
 ghost use Rattle.title_land.specs.declared.node.Node.TheVariants as node;
 ghost use Rattle.title_land.specs.CellLists.{corner_of, cells_below, section_cells, township_cells, cells_of};
-ghost use Rattle.title_land.specs.Lands.{Meets, land_of};
+ghost use Rattle.title_land.specs.Lands.{Meets, land_of, is_in_plant};
 ghost use Rattle.title_land.specs.Nodes.{square};
 ghost use Rattle.title_land.specs.Paths.{quarter_at};
 ghost use Rattle.title_instrument.specs.Effect.{cell_effect};
+ghost use Rattle.title_instrument.specs.declared.parts.Estate.TheVariants.{S, O, M};
 ghost use Rattle.title_tree.specs.Paths.{number_path};
 ghost use Rattle.title_tree.specs.Plots.{value_at, plot_at};
 ghost use Rattle.title_tree.specs.Trees.{plot};
+ghost use Rattle.title_tree_store.specs.Spots.{township_path, square_path};
 ghost use Rattle.title_tree_store.specs.Forests.{plots};
-ghost use Rattle.title_tree_store.specs.Refusing.{why_holding, why_first, is_leaf, StandsAt, first_in, first_of, triple};
+ghost use Rattle.title_tree_store.specs.Refusing.{why_holding, why_first, is_settled, StandsAt, first_in, first_of, triple};
 
-use crate::forest::Forest;
+use crate::forest::{Forest, names};
 use crate::spots::{SECTION_LEVELS, index_of};
 use title_instrument::{Estate, Instrument, Rule};
 use title_land::{Cell, DEPTH, Land, Node, Quarter, Section, Township, Tract, Within};
@@ -32,13 +34,13 @@ fn quarter_at(place: usize) -> Quarter
     }
 }
 
-// Whether one holding is that of all cells.
-fn is_leaf(tree: &Tree) -> bool
-    ensures leaf { result ≡ is_leaf (plot tree.now) }
+// Whether an instrument treats all cells of a tree alike: they have one holding, or it doesn't name the estate.
+fn is_settled(tree: &Tree, instrument: &Instrument, estate: Estate) -> bool
+    ensures settled { result ≡ is_settled instrument.now estate (plot tree.now) }
 {
     match tree {
         Tree::Leaf(_) => true,
-        Tree::Quarters(_, _, _, _) => false,
+        Tree::Quarters(_, _, _, _) => !names(instrument, estate),
     }
 }
 
@@ -88,11 +90,14 @@ impl<'a> Trees<'a> {
         outer.quarter(quarter_at(number % 4))
     }
 
-    // Whether each estate has one holding in all cells of the square.
-    fn are_leaves(&self) -> bool
-        ensures leaves { result ≡ (is_leaf (plot self.now.s.now) && is_leaf (plot self.now.o.now) && is_leaf (plot self.now.m.now)) }
+    // Whether an instrument treats all cells of the square alike.
+    fn are_settled(&self, instrument: &Instrument) -> bool
+        ensures settled { result ≡ (is_settled instrument.now S (plot self.now.s.now)
+            && is_settled instrument.now O (plot self.now.o.now) && is_settled instrument.now M (plot self.now.m.now)) }
     {
-        is_leaf(self.s) && is_leaf(self.o) && is_leaf(self.m)
+        is_settled(self.s, instrument, Estate::S)
+            && is_settled(self.o, instrument, Estate::O)
+            && is_settled(self.m, instrument, Estate::M)
     }
 
     // Why the square's first cell refuses an instrument: the rule and the first estate.
@@ -114,7 +119,7 @@ impl<'a> Trees<'a> {
 }
 
 /// A search for the first cell of a tract that refuses an instrument, in the order of the tract's cells. No cell after it is
-/// looked at, and a square in which no estate is quartered is judged once. Takes no memory.
+/// looked at, and a square whose cells it treats alike is judged once. Takes no memory.
 #[derive(Clone, Copy)]
 pub(crate) struct Search<'a> {
     pub levels: usize,
@@ -125,9 +130,9 @@ pub(crate) struct Search<'a> {
 }
 
 impl<'a> Search<'a> {
-    // What stands in a section.
-    fn section_trees(&self, section: Section) -> Trees<'a>
-        ensures stands { StandsAt self.now.levels self.now.townships.now (plots self.now.forest.now) section []
+    // What stands in a township.
+    fn township_trees(&self, township: Township) -> Trees<'a>
+        ensures stands { StandsAt (plots self.now.forest.now) (township_path self.now.levels self.now.townships.now township)
             (plot result.s.now) (plot result.o.now) (plot result.m.now) }
     {
         let root = Trees {
@@ -135,8 +140,7 @@ impl<'a> Search<'a> {
             o: &self.forest.o,
             m: &self.forest.m,
         };
-        let township = root.numbered(self.levels, index_of(self.townships, section.township));
-        township.numbered(SECTION_LEVELS, usize::from(section.number - 1))
+        root.numbered(self.levels, index_of(self.townships, township))
     }
 
     // Whether the tract has a cell in a square.
@@ -154,7 +158,7 @@ impl<'a> Search<'a> {
         within: Within,
     ) -> Option<(Rule, Estate, Cell)>
         requires cell { length within ≡ depth }
-        requires here { StandsAt self.now.levels self.now.townships.now (plots self.now.forest.now) section within
+        requires here { StandsAt (plots self.now.forest.now) (square_path self.now.levels self.now.townships.now section within)
             (plot trees.now.s.now) (plot trees.now.o.now) (plot trees.now.m.now) }
         ensures first { result ≡ first_of self.now.levels self.now.townships.now (plots self.now.forest.now) self.now.instrument.now
             self.now.tract.now (corner_of section (square depth within) ∷ []) }
@@ -181,7 +185,7 @@ impl<'a> Search<'a> {
         within: Within,
     ) -> Option<(Rule, Estate, Cell)>
         requires below { below + length within ≡ depth }
-        requires here { StandsAt self.now.levels self.now.townships.now (plots self.now.forest.now) section within
+        requires here { StandsAt (plots self.now.forest.now) (square_path self.now.levels self.now.townships.now section within)
             (plot trees.now.s.now) (plot trees.now.o.now) (plot trees.now.m.now) }
         ensures first { result ≡ first_of self.now.levels self.now.townships.now (plots self.now.forest.now) self.now.instrument.now
             self.now.tract.now (cells_below depth section below within) }
@@ -192,7 +196,7 @@ impl<'a> Search<'a> {
         if !self.meets(section, within) {
             return None;
         }
-        if trees.are_leaves() && trees.why(self.instrument).is_none() {
+        if trees.are_settled(self.instrument) && trees.why(self.instrument).is_none() {
             return None;
         }
         for which in Quarter::ALL {
@@ -209,18 +213,20 @@ impl<'a> Search<'a> {
         None
     }
 
-    // The first cell that refuses of a section.
+    // The first cell that refuses of a section, from what stands in its township.
     #[tactic(auto, using(title_land::proofs::Sides::depth_is))]
-    fn first_in_section(&self, section: Section) -> Option<(Rule, Estate, Cell)>
+    fn first_in_section(
+        &self,
+        township: &Trees<'a>,
+        section: Section,
+    ) -> Option<(Rule, Estate, Cell)>
+        requires here { StandsAt (plots self.now.forest.now) (township_path self.now.levels self.now.townships.now section.township)
+            (plot township.now.s.now) (plot township.now.o.now) (plot township.now.m.now) }
         ensures first { result ≡ first_of self.now.levels self.now.townships.now (plots self.now.forest.now) self.now.instrument.now
             self.now.tract.now (section_cells depth section) }
     {
-        self.first_in_square(
-            &self.section_trees(section),
-            section,
-            DEPTH,
-            Within::section(),
-        )
+        let trees = township.numbered(SECTION_LEVELS, usize::from(section.number - 1));
+        self.first_in_square(&trees, section, DEPTH, Within::section())
     }
 
     // The first cell that refuses of a township, section by section.
@@ -228,8 +234,9 @@ impl<'a> Search<'a> {
         ensures first { result ≡ first_of self.now.levels self.now.townships.now (plots self.now.forest.now) self.now.instrument.now
             self.now.tract.now (township_cells depth township) }
     {
+        let trees = self.township_trees(township);
         for section in township.sections() {
-            let found = self.first_in_section(section);
+            let found = self.first_in_section(&trees, section);
             if found.is_some() {
                 return found;
             }
@@ -237,34 +244,33 @@ impl<'a> Search<'a> {
         None
     }
 
-    // The same, where nothing is looked at in another township or section than the tract's.
-    fn first_in_part(&self, township: Township) -> Option<(Rule, Estate, Cell)>
-        ensures first { result ≡ first_of self.now.levels self.now.townships.now (plots self.now.forest.now) self.now.instrument.now
-            self.now.tract.now (township_cells depth township) }
-    {
-        match self.tract.land() {
-            Land::Township(other) if !other.is(township) => None,
-            Land::Part(section, _) => {
-                if !section.township.is(township) {
-                    return None;
-                }
-                self.first_in_section(section)
-            }
-            _ => self.first_in_township(township),
-        }
-    }
-
-    /// The first cell of the tract that refuses the instrument, with the rule and the estate.
-    pub(crate) fn first(&self) -> Option<(Rule, Estate, Cell)>
+    // The first cell that refuses of the plant, township by township.
+    fn first_in_plant(&self) -> Option<(Rule, Estate, Cell)>
         ensures first { result ≡ triple (first_in self.now.levels self.now.townships.now (plots self.now.forest.now)
             self.now.instrument.now (cells_of depth self.now.townships.now self.now.tract.now)) }
     {
         for township in self.townships {
-            let found = self.first_in_part(*township);
+            let found = self.first_in_township(*township);
             if found.is_some() {
                 return found;
             }
         }
         None
+    }
+
+    /// The first cell of the tract that refuses the instrument, with the rule and the estate. Nothing is looked at in another
+    /// township or section than the tract's.
+    pub(crate) fn first(&self) -> Option<(Rule, Estate, Cell)>
+        requires within { is_in_plant self.now.townships.now self.now.tract.now ≡ true }
+        ensures first { result ≡ triple (first_in self.now.levels self.now.townships.now (plots self.now.forest.now)
+            self.now.instrument.now (cells_of depth self.now.townships.now self.now.tract.now)) }
+    {
+        match self.tract.land() {
+            Land::Everything => self.first_in_plant(),
+            Land::Township(township) => self.first_in_township(township),
+            Land::Part(section, _) => {
+                self.first_in_section(&self.township_trees(section.township), section)
+            }
+        }
     }
 }

@@ -10,7 +10,7 @@ use Rattle.title_tree.specs.Trees.{plot}
 use Rattle.title_tree_store.specs.Forests.{plots}
 use Rattle.title_tree_store.specs.Refusing.{first_of}
 use Rattle.title_tree_store.proofs.Firsts.{next_here, next_later, square_cells, item_is}
-use Rattle.title_tree_store.proofs.Standing.{none_of_square, leaves_pass, stands_down}
+use Rattle.title_tree_store.proofs.Standing.{none_of_square, settled_square, stands_down}
 use Rattle.title_tree_store.proofs.refusals.Search.+first_in_square.Goals as goal
 
 pub returns-then-not-meets : goal.returns-then-not-meets
@@ -24,10 +24,10 @@ returns-then-not-meets t c =
 pub returns-then-is_none : goal.returns-then-is_none
 returns-then-is_none t c =
     record {
-      first = leaves_pass c.args.self.now.levels c.args.self.now.townships.now (plots c.args.self.now.forest.now)
+      first = settled_square c.args.self.now.levels c.args.self.now.townships.now (plots c.args.self.now.forest.now)
           c.args.self.now.instrument.now c.args.self.now.tract.now c.args.section c.args.below c.args.within
           (plot c.args.trees.now.s.now) (plot c.args.trees.now.o.now) (plot c.args.trees.now.m.now) c.why.result c.requires.below
-          c.requires.here (sym c.are_leaves.ensures.leaves ∙ c.if-are_leaves.true) c.why.ensures.why
+          c.requires.here (sym c.are_settled.ensures.settled ∙ c.if-are_settled.true) c.why.ensures.why
           (c.is_none.ensures ∙ ap not c.if-is_none.true);
     }
 

@@ -1,38 +1,23 @@
--- The townships come in their order.
+-- A tract of one township has no cell elsewhere.
 use Rattle.std.proofs.Common.{◌∙◌, sym}
-use Rattle.title_land.specs.Depth.{depth}
-use Rattle.title_land.specs.CellLists.{township_cells}
 use Rattle.title_tree_store.specs.Forests.{plots}
-use Rattle.title_tree_store.proofs.Firsts.{next_here, next_later, none_left, tract_cells}
+use Rattle.title_tree_store.proofs.Firsts.{township_found, part_found}
 use Rattle.title_tree_store.proofs.refusals.Search.first.Goals as goal
 
-pub returns-then-is_some : goal.returns-then-is_some
-returns-then-is_some c =
+pub returns-in-Township : goal.returns-in-Township
+returns-in-Township c =
     record {
-      first = next_here c.args.self.now.levels c.args.self.now.townships.now (plots c.args.self.now.forest.now)
-          c.args.self.now.instrument.now c.args.self.now.tract.now (township_cells depth) c.args.self.now.townships.now
-          c.loop-township.township-index c.township-item.result c.first_in_part-found.result
-          c.loop-township-test.true c.township-item.is (sym c.is_some.ensures ∙ c.if-is_some.true) c.first_in_part-found.ensures.first
-          ∙ sym c.loop-township.invariant
-          ∙ tract_cells c.args.self.now.levels c.args.self.now.townships.now (plots c.args.self.now.forest.now)
-          c.args.self.now.instrument.now c.args.self.now.tract.now;
+      first = c.first_in_township.ensures.first
+          ∙ township_found c.args.self.now.levels c.args.self.now.townships.now (plots c.args.self.now.forest.now)
+          c.args.self.now.instrument.now c.args.self.now.tract.now c.in-Township.township (sym c.land.ensures.land ∙ c.in-Township.is)
+          c.requires.within;
     }
 
-pub loop-township-preserved : goal.loop-township-preserved
-loop-township-preserved c =
-    c.loop-township.invariant
-    ∙ next_later c.args.self.now.levels c.args.self.now.townships.now (plots c.args.self.now.forest.now)
-    c.args.self.now.instrument.now c.args.self.now.tract.now (township_cells depth) c.args.self.now.townships.now
-    c.loop-township.township-index c.township-item.result c.first_in_part-found.result
-    c.loop-township-test.true c.township-item.is (sym c.is_some.ensures ∙ c.if-is_some.false) c.first_in_part-found.ensures.first
-
-pub returns : goal.returns
-returns c =
+pub returns-in-Part : goal.returns-in-Part
+returns-in-Part c =
     record {
-      first = none_left c.args.self.now.levels c.args.self.now.townships.now (plots c.args.self.now.forest.now)
-          c.args.self.now.instrument.now c.args.self.now.tract.now (township_cells depth) c.args.self.now.townships.now
-          c.loop-township.township-index c.loop-township-test.false
-          ∙ sym c.loop-township.invariant
-          ∙ tract_cells c.args.self.now.levels c.args.self.now.townships.now (plots c.args.self.now.forest.now)
-          c.args.self.now.instrument.now c.args.self.now.tract.now;
+      first = c.first_in_section.ensures.first
+          ∙ part_found c.args.self.now.levels c.args.self.now.townships.now (plots c.args.self.now.forest.now)
+          c.args.self.now.instrument.now c.args.self.now.tract.now c.in-Part.section c.in-Part.field-1
+          (sym c.land.ensures.land ∙ c.in-Part.is) c.requires.within;
     }

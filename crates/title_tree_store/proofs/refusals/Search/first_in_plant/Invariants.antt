@@ -5,7 +5,7 @@ use Rattle.title_land.specs.Depth.{depth}
 use Rattle.title_land.specs.CellLists.{township_cells}
 use Rattle.title_tree_store.specs.Forests.{plots}
 use Rattle.title_tree_store.specs.Refusing.{first_of}
-use Rattle.title_tree_store.proofs.refusals.Search.first.Given as goal
+use Rattle.title_tree_store.proofs.refusals.Search.first_in_plant.Given as goal
 
 abbrev pub invariant-loop-township : goal.invariant-loop-township
 invariant-loop-township l =
