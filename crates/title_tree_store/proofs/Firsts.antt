@@ -1,7 +1,7 @@
 -- The first of a tract's cells that refuses, list after list.
 use Rattle.std.proofs.Common.{◌≡◌, ◌∙◌, ap, sym, refl, subst, ℕ, zero, suc, ◌+◌, ◌-◌, ◌<◌, ◌≤◌, arith, true, false}
 use Rattle.std.proofs.Common.{List, [], ◌∷◌, ◌++◌, length, drop, get_or, Option, Some, None, is_some, inl, inr, ◌⊎◌, Bool}
-use Rattle.std.specs.Prelude.{filter}
+use Rattle.std.specs.Prelude.{filter, find}
 use Rattle.std.specs.List.{flat_map, list_any}
 use Rattle.std.specs.Option.{option_or}
 use Rattle.std.proofs.lemmas.Bool.{cases_Bool}
@@ -12,10 +12,11 @@ use Rattle.title_land.specs.declared.place.Township.{Township}
 use Rattle.title_land.specs.declared.place.Section.{Section}
 use Rattle.title_land.specs.declared.place.Cell.{Cell}
 use Rattle.title_land.specs.declared.rectangle.Quarter.{Quarter}
+use Rattle.title_land.specs.declared.rectangle.Rectangle.{Rectangle}
 use Rattle.title_land.specs.declared.tract.Land.{Land}
-use Rattle.title_land.specs.Nodes.{quarters}
+use Rattle.title_land.specs.Nodes.{square, quarters}
 use Rattle.title_land.specs.Lands.{has, is_in_plant}
-use Rattle.title_land.specs.CellLists.{cells_below, section_cells, township_cells, plant_cells, cells_of}
+use Rattle.title_land.specs.CellLists.{corner_of, cells_below, section_cells, township_cells, plant_cells, cells_of}
 use Rattle.title_land.specs.Places.{same_township}
 use Rattle.title_land.specs.declared.grid.Grid.{Grid}
 use Rattle.title_land.specs.declared.tract.Land.TheVariants as land
@@ -55,47 +56,39 @@ first_join levels ts ps i tr xs ys =
     ∙ ap triple (failing_join i (λ c. owners_at ps (cell_path levels ts c)) (filter (has tr) xs) (filter (has tr) ys))
     ∙ triple_join _ _
 
--- where none of the first list refuses
-pub first_later : (levels : ℕ) (ts : List Township) (ps : Estate → Plot) (i : Instrument ℕ) (tr : Land) (xs ys : List Cell)
-    (o : Option (Rule × Estate × Cell)) → is_some o ≡ false → o ≡ first_of levels ts ps i tr xs
-    → first_of levels ts ps i tr (xs ++ ys) ≡ first_of levels ts ps i tr ys
-first_later levels ts ps i tr xs ys None none h =
-    first_join levels ts ps i tr xs ys
-    ∙ ap (λ (o : Option (Rule × Estate × Cell)). option_or o (first_of levels ts ps i tr ys)) (sym h)
-first_later levels ts ps i tr xs ys (Some f) none h = absurd cc
+-- a search of lists takes the first of two lists that has something
+abbrev pub Joins : {A : Type 0} → (List Cell → Option A) → Type 0
+Joins g = (xs ys : List Cell) → g (xs ++ ys) ≡ option_or (g xs) (g ys)
 
--- where one of them does
-pub first_here : (levels : ℕ) (ts : List Township) (ps : Estate → Plot) (i : Instrument ℕ) (tr : Land) (xs ys : List Cell)
-    (o : Option (Rule × Estate × Cell)) → is_some o ≡ true → o ≡ first_of levels ts ps i tr xs
-    → o ≡ first_of levels ts ps i tr (xs ++ ys)
-first_here levels ts ps i tr xs ys None some h = absurd cc
-first_here levels ts ps i tr xs ys (Some f) some h =
-    sym (first_join levels ts ps i tr xs ys
-    ∙ ap (λ (o : Option (Rule × Estate × Cell)). option_or o (first_of levels ts ps i tr ys)) (sym h))
+-- where the first list has nothing
+pub first_later : {A : Type 0} (g : List Cell → Option A) → Joins g → (xs ys : List Cell) (o : Option A) → is_some o ≡ false
+    → o ≡ g xs → g (xs ++ ys) ≡ g ys
+first_later {A} g join xs ys None none h = join xs ys ∙ ap (λ (o : Option A). option_or o (g ys)) (sym h)
+first_later {A} g join xs ys (Some f) none h = absurd cc
+
+-- where it has something
+pub first_here : {A : Type 0} (g : List Cell → Option A) → Joins g → (xs ys : List Cell) (o : Option A) → is_some o ≡ true
+    → o ≡ g xs → o ≡ g (xs ++ ys)
+first_here {A} g join xs ys None some h = absurd cc
+first_here {A} g join xs ys (Some f) some h = sym (join xs ys ∙ ap (λ (o : Option A). option_or o (g ys)) (sym h))
 
 -- the next of some lists
-pub next_later : {X : Type 0} (levels : ℕ) (ts : List Township) (ps : Estate → Plot) (i : Instrument ℕ) (tr : Land)
-    (cells : X → List Cell) (xs : List X) (n : ℕ) (x : X) (o : Option (Rule × Estate × Cell)) → n < length xs → x ≡ get_or xs n x
-    → is_some o ≡ false → o ≡ first_of levels ts ps i tr (cells x)
-    → first_of levels ts ps i tr (flat_map cells (drop n xs)) ≡ first_of levels ts ps i tr (flat_map cells (drop (n + 1) xs))
-next_later {X} levels ts ps i tr cells xs n x o l at none h =
-    ap (λ (z : List X). first_of levels ts ps i tr (flat_map cells z)) (drop_more xs n x l
-    ∙ ap (λ (y : X). y ∷ drop (n + 1) xs) (sym at))
-    ∙ first_later levels ts ps i tr (cells x) (flat_map cells (drop (n + 1) xs)) o none h
+pub next_later : {A X : Type 0} (g : List Cell → Option A) → Joins g → (cells : X → List Cell) (xs : List X) (n : ℕ) (x : X)
+    (o : Option A) → n < length xs → x ≡ get_or xs n x → is_some o ≡ false → o ≡ g (cells x)
+    → g (flat_map cells (drop n xs)) ≡ g (flat_map cells (drop (n + 1) xs))
+next_later {A} {X} g join cells xs n x o l at none h =
+    ap (λ (z : List X). g (flat_map cells z)) (drop_more xs n x l ∙ ap (λ (y : X). y ∷ drop (n + 1) xs) (sym at))
+    ∙ first_later g join (cells x) (flat_map cells (drop (n + 1) xs)) o none h
 
-pub next_here : {X : Type 0} (levels : ℕ) (ts : List Township) (ps : Estate → Plot) (i : Instrument ℕ) (tr : Land)
-    (cells : X → List Cell) (xs : List X) (n : ℕ) (x : X) (o : Option (Rule × Estate × Cell)) → n < length xs → x ≡ get_or xs n x
-    → is_some o ≡ true → o ≡ first_of levels ts ps i tr (cells x)
-    → o ≡ first_of levels ts ps i tr (flat_map cells (drop n xs))
-next_here {X} levels ts ps i tr cells xs n x o l at some h =
-    first_here levels ts ps i tr (cells x) (flat_map cells (drop (n + 1) xs)) o some h
-    ∙ sym (ap (λ (z : List X). first_of levels ts ps i tr (flat_map cells z)) (drop_more xs n x l
-    ∙ ap (λ (y : X). y ∷ drop (n + 1) xs) (sym at)))
+pub next_here : {A X : Type 0} (g : List Cell → Option A) → Joins g → (cells : X → List Cell) (xs : List X) (n : ℕ) (x : X)
+    (o : Option A) → n < length xs → x ≡ get_or xs n x → is_some o ≡ true → o ≡ g (cells x) → o ≡ g (flat_map cells (drop n xs))
+next_here {A} {X} g join cells xs n x o l at some h =
+    first_here g join (cells x) (flat_map cells (drop (n + 1) xs)) o some h
+    ∙ sym (ap (λ (z : List X). g (flat_map cells z)) (drop_more xs n x l ∙ ap (λ (y : X). y ∷ drop (n + 1) xs) (sym at)))
 
-pub none_left : {X : Type 0} (levels : ℕ) (ts : List Township) (ps : Estate → Plot) (i : Instrument ℕ) (tr : Land)
-    (cells : X → List Cell) (xs : List X) (n : ℕ) → length xs ≤ n → None ≡ first_of levels ts ps i tr (flat_map cells (drop n xs))
-none_left {X} levels ts ps i tr cells xs n l =
-    ap (λ (z : List X). first_of levels ts ps i tr (flat_map cells z)) (sym (drop_all n xs l))
+pub none_left : {A X : Type 0} (g : List Cell → Option A) → g [] ≡ None → (cells : X → List Cell) (xs : List X) (n : ℕ)
+    → length xs ≤ n → None ≡ g (flat_map cells (drop n xs))
+none_left {A} {X} g none cells xs n l = sym (ap (λ (z : List X). g (flat_map cells z)) (drop_all n xs l) ∙ none)
 
 -- a square's cells by its quarters
 pub square_cells : (s : Section) (below : ℕ) (w : List Quarter) → 0 < below
@@ -203,3 +196,32 @@ part_found levels ts ps i x s g e of =
     (λ u h. sym (none_of_part levels ts ps i x s g u e h))
     (subst (λ (y : Land). is_in_plant ts y ≡ true) e of))
     ∙ tract_cells levels ts ps i x
+
+-- ---- the first cell of a tract
+
+pub find_yes : (p : Cell → Bool) (c : Cell) (cells : List Cell) → p c ≡ true → find p (c ∷ cells) ≡ Some c
+find_yes p c cells h = rw h refl
+
+pub find_no : (p : Cell → Bool) (c : Cell) (cells : List Cell) → p c ≡ false → find p (c ∷ cells) ≡ find p cells
+find_no p c cells h = rw h refl
+
+pub find_join : (p : Cell → Bool) → Joins (find p)
+find_join p [] ys = refl
+find_join p (c ∷ xs) ys = elim (cases_Bool (p c)) [
+  | inl e ↦ find_yes p c (xs ++ ys) e ∙ ap (λ (o : Option Cell). option_or o (find p ys)) (sym (find_yes p c xs e))
+  | inr e ↦
+      find_no p c (xs ++ ys) e ∙ find_join p xs ys ∙ ap (λ (o : Option Cell). option_or o (find p ys)) (sym (find_no p c xs e))
+]
+
+-- a square of one cell
+pub cell_found : (p : Cell → Bool) (s : Section) (below : ℕ) (w : List Quarter) (r : Rectangle) → below ≡ 0 → r ≡ square depth w
+    → p (corner_of s r) ≡ true → Some (corner_of s r) ≡ find p (cells_below depth s below w)
+cell_found p s below w r e f h =
+    sym (find_yes p (corner_of s r) [] h)
+    ∙ ap (λ (q : Rectangle). find p (corner_of s q ∷ [])) f ∙ ap (λ (n : ℕ). find p (cells_below depth s n w)) (sym e)
+
+pub cell_missed : (p : Cell → Bool) (s : Section) (below : ℕ) (w : List Quarter) (r : Rectangle) → below ≡ 0 → r ≡ square depth w
+    → p (corner_of s r) ≡ false → None ≡ find p (cells_below depth s below w)
+cell_missed p s below w r e f h =
+    sym (find_no p (corner_of s r) [] h)
+    ∙ ap (λ (q : Rectangle). find p (corner_of s q ∷ [])) f ∙ ap (λ (n : ℕ). find p (cells_below depth s n w)) (sym e)

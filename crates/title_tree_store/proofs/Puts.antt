@@ -403,7 +403,7 @@ each_done f c (z ∷ cells) p i g h j = go (λ k m. each_done f c cells p i g k 
     go later (Refused rule s) e k = let none : Some (record { rule = rule; estate = s; cell = z }) ≡ None =
         sym (ap (λ (y : Effect). failing_or z y (first_failing i p cells)) e) ∙ k in absurd cc
 
-pub whys : (s o m : Result Division Rule) → why_cell (joined s o m) ≡ None → (why_of s ≡ None) × (why_of o ≡ None) × (why_of m ≡ None)
+whys : (s o m : Result Division Rule) → why_cell (joined s o m) ≡ None → (why_of s ≡ None) × (why_of o ≡ None) × (why_of m ≡ None)
 whys (Ok s) (Ok o) (Ok m) h = (refl, refl, refl)
 whys (Err r) o m h = absurd cc
 whys (Ok s) (Err r) m h = absurd cc

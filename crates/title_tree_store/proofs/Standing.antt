@@ -1,8 +1,8 @@
 -- What stands in a square of each estate's tree, and what refuses there.
-use Rattle.std.proofs.Common.{◌≡◌, ◌∙◌, ap, sym, refl, subst, ℕ, suc, ◌+◌, ◌-◌, ◌/◌, ◌%◌, ◌≤◌, arith, Bool, true, false, ◌&&◌}
-use Rattle.std.proofs.Common.{inl, inr, List, [], ◌∷◌, ◌++◌, length, append_assoc, Option, Some, None, is_some, Result, Ok, Err, not}
-use Rattle.std.specs.Prelude.{filter, ◌↔◌}
-use Rattle.std.proofs.lemmas.Bool.{and_from, false_from_ne_true}
+use Rattle.std.proofs.Common.{◌≡◌, ◌∙◌, ap, sym, refl, subst, ℕ, zero, suc, ◌+◌, ◌-◌, ◌/◌, ◌%◌, ◌<◌, ◌≤◌, arith, Bool, true, false, ◌&&◌}
+use Rattle.std.proofs.Common.{inl, inr, List, [], ◌∷◌, ◌++◌, length, append_assoc, Option, Some, None, Result, Ok, Err, not}
+use Rattle.std.specs.Prelude.{filter, find, ◌↔◌, ◌==◌, ◌||◌}
+use Rattle.std.proofs.lemmas.Bool.{and_from, or_cases, cases_Bool, eqb-true, false_from_ne_true}
 use Rattle.std.proofs.lemmas.List.{reverse-append, append-nil}
 use Rattle.title_share.specs.Division.{Division}
 use Rattle.title_land.specs.Depth.{depth}
@@ -21,7 +21,7 @@ use Rattle.title_land.specs.Lands.{has, land_of, Meets}
 use Rattle.title_land.specs.CellLists.{corner_of, cells_below}
 use Rattle.title_land.proofs.CellMembers.{cells_below-in}
 use Rattle.title_land.proofs.CoverSet.{cell_in_grid}
-use Rattle.title_land.proofs.Members.{In, in_filtered, filter_none}
+use Rattle.title_land.proofs.Members.{In, filter_none}
 use Rattle.title_land.proofs.NodeLands.{has-land_of}
 use Rattle.title_land.proofs.SameLand.{same_section-self}
 use Rattle.title_land.proofs.Squares.{holds_from}
@@ -43,13 +43,13 @@ use Rattle.title_tree.specs.Paths.{way, begins, rest, number_path}
 use Rattle.title_tree.specs.Plots.{Plot, Same, Four, value_at, plot_at}
 use Rattle.title_tree.proofs.CellSquares.{squares_by_paths}
 use Rattle.title_tree.proofs.Grafts.{value_plot_at, plot_at_same}
-use Rattle.title_tree_store.specs.Spots.{index_of, township_path, section_path, square_path, cell_path}
+use Rattle.title_tree_store.specs.Spots.{township_path, section_path, square_path, cell_path}
 use Rattle.title_tree_store.specs.Forests.{owners_at}
-use Rattle.title_tree_store.specs.Refusing.{why_cell, why_first, is_settled, StandsAt, first_in, first_of, triple}
+use Rattle.title_tree_store.specs.Refusing.{why_cell, why_first, is_settled, refused_at, StandsAt, first_in, first_of, triple}
 use Rattle.title_tree_store.proofs.Contents.{owners_same}
+use Rattle.title_tree_store.proofs.Firsts.{find_yes, find_no}
 use Rattle.title_tree_store.proofs.Paths.{begins_under}
 use Rattle.title_tree_store.proofs.Places.{corner_way, grid_parts}
-use Rattle.title_tree_store.proofs.Puts.{whys}
 
 -- ---- going down
 
@@ -127,59 +127,6 @@ value_there levels ts s w t x l h =
     ap (λ (z : List Quarter). value_at t (section_path levels ts s ++ z)) (corner_way s w l)
     ∙ value_here (square_path levels ts s w) t ∙ ap (λ (y : Plot). value_at y []) (sym h)
 
--- a rule and an estate with the cell
-pub with_cell : Cell → Option (Rule × Estate) → Option (Rule × Estate × Cell)
-with_cell c None = None
-with_cell c (Some why) = Some (why.0, why.1, c)
-
-triple_one : (c : Cell) (e : Effect) → with_cell c (why_cell e) ≡ triple (failing_or c e None)
-unfolding with_cell
-triple_one c (Done owners) = refl
-triple_one c (Refused rule estate) = refl
-
-filter_yes : (p : Cell → Bool) (c : Cell) → p c ≡ true → filter p (c ∷ []) ≡ c ∷ []
-filter_yes p c h = rw h refl
-
-filter_no : (p : Cell → Bool) (c : Cell) → p c ≡ false → filter p (c ∷ []) ≡ []
-filter_no p c h = rw h refl
-
-cell_why : (levels : ℕ) (ts : List Township) (ps : Estate → Plot) (i : Instrument ℕ) (tr : Land) (s : Section) (w : List Quarter)
-    (x y z : Plot) (o : Option (Rule × Estate)) → length w ≡ depth → StandsAt ps (square_path levels ts s w) x y z
-    → has tr (corner_of s (square depth w)) ≡ true → o ≡ why_first i x y z
-    → with_cell (corner_of s (square depth w)) o ≡ first_of levels ts ps i tr (corner_of s (square depth w) ∷ [])
-cell_why levels ts ps i tr s w x y z o l h k e =
-    let c = corner_of s (square depth w) in
-    ap (with_cell c) e
-    ∙ triple_one c (cell_effect i (record { s = value_at x []; o = value_at y []; m = value_at z [] }))
-    ∙ ap (λ (v : Owners). triple (failing_or c (cell_effect i v) None)) (sym (owners_same _ _ _ _ _ _
-    (value_there levels ts s w (ps S) x l h.s_is) (value_there levels ts s w (ps O) y l h.o_is)
-    (value_there levels ts s w (ps M) z l h.m_is)))
-    ∙ ap (λ (cells : List Cell). triple (first_in levels ts ps i cells)) (sym (filter_yes (has tr) c k))
-
--- a cell that refuses
-pub cell_refuses : (levels : ℕ) (ts : List Township) (ps : Estate → Plot) (i : Instrument ℕ) (tr : Land) (s : Section) (w : List Quarter)
-    (x y z : Plot) (o : Option (Rule × Estate)) (why : Rule × Estate) → length w ≡ depth → StandsAt ps (square_path levels ts s w) x y z
-    → has tr (corner_of s (square depth w)) ≡ true → o ≡ why_first i x y z → o ≡ Some why
-    → Some (why.0, why.1, corner_of s (square depth w)) ≡ first_of levels ts ps i tr (corner_of s (square depth w) ∷ [])
-unfolding with_cell
-cell_refuses levels ts ps i tr s w x y z o why l h k e f =
-    ap (with_cell (corner_of s (square depth w))) (sym f) ∙ cell_why levels ts ps i tr s w x y z o l h k e
-
--- a cell that doesn't
-pub cell_passes : (levels : ℕ) (ts : List Township) (ps : Estate → Plot) (i : Instrument ℕ) (tr : Land) (s : Section) (w : List Quarter)
-    (x y z : Plot) (o : Option (Rule × Estate)) → length w ≡ depth → StandsAt ps (square_path levels ts s w) x y z
-    → has tr (corner_of s (square depth w)) ≡ true → o ≡ why_first i x y z → o ≡ None
-    → None ≡ first_of levels ts ps i tr (corner_of s (square depth w) ∷ [])
-unfolding with_cell
-cell_passes levels ts ps i tr s w x y z o l h k e f =
-    ap (with_cell (corner_of s (square depth w))) (sym f) ∙ cell_why levels ts ps i tr s w x y z o l h k e
-
--- a cell that isn't the tract's
-pub cell_elsewhere : (levels : ℕ) (ts : List Township) (ps : Estate → Plot) (i : Instrument ℕ) (tr : Land) (c : Cell)
-    → has tr c ≡ false → None ≡ first_of levels ts ps i tr (c ∷ [])
-cell_elsewhere levels ts ps i tr c h =
-    ap (λ (cells : List Cell). triple (first_in levels ts ps i cells)) (sym (filter_no (has tr) c h))
-
 -- ---- a square
 
 -- its cells lie on the grid below its path
@@ -208,46 +155,46 @@ not_true : (b : Bool) → not b ≡ true → b ≡ false
 not_true true h = sym h
 not_true false h = refl
 
--- where the first cell passes, all do that are treated alike
-settled_passes : (i : Instrument ℕ) (e : Estate) (t : Plot) (c : List Quarter) → is_settled i e t ≡ true
-    → why_of (holding_effect i e (value_at t [])) ≡ None → why_of (holding_effect i e (value_at t c)) ≡ None
-settled_passes i e (Same held) c h k = k
-settled_passes i e (Four a b c d) p h k =
-    ap why_of (holding_unnamed i e (value_at (Four a b c d) p) (not_true (names (estates_of i) e) h))
+-- all cells of a plot are treated as the first
+settled_alike : (i : Instrument ℕ) (e : Estate) (t : Plot) (c : List Quarter) → is_settled i e t ≡ true
+    → why_of (holding_effect i e (value_at t c)) ≡ why_of (holding_effect i e (value_at t []))
+settled_alike i e (Same held) c h = refl
+settled_alike i e (Four a b c d) p h =
+    let unnamed = not_true (names (estates_of i) e) h in
+    ap why_of (holding_unnamed i e (value_at (Four a b c d) p) unnamed)
+    ∙ sym (ap why_of (holding_unnamed i e (value_at (Four a b c d) []) unnamed))
 
-passes_below : (i : Instrument ℕ) (e : Estate) (p c : List Quarter) (t x : Plot) → begins p c ≡ true → x ≡ plot_at p t
-    → is_settled i e x ≡ true → why_of (holding_effect i e (value_at x [])) ≡ None → why_of (holding_effect i e (value_at t c)) ≡ None
-passes_below i e p c t x h same settled none =
+alike_below : (i : Instrument ℕ) (e : Estate) (p c : List Quarter) (t x : Plot) → begins p c ≡ true → x ≡ plot_at p t
+    → is_settled i e x ≡ true → why_of (holding_effect i e (value_at t c)) ≡ why_of (holding_effect i e (value_at x []))
+alike_below i e p c t x h same settled =
     ap (λ (v : Division). why_of (holding_effect i e v))
     (sym (value_plot_at p t c h) ∙ ap (λ (y : Plot). value_at y (rest p c)) (sym same))
-    ∙ settled_passes i e x (rest p c) settled none
+    ∙ settled_alike i e x (rest p c) settled
 
-none_joined : (s o m : Result Division Rule) → why_of s ≡ None → why_of o ≡ None → why_of m ≡ None → why_cell (joined s o m) ≡ None
-none_joined (Ok s) (Ok o) (Ok m) f g h = refl
-none_joined (Err r) o m f g h = absurd cc
-none_joined (Ok s) (Err r) m f g h = absurd cc
-none_joined (Ok s) (Ok o) (Err r) f g h = absurd cc
+-- why a cell refuses, by why each estate does
+why_three : Option Rule → Option Rule → Option Rule → Option (Rule × Estate)
+why_three (Some r) o m = Some (r, S)
+why_three None (Some r) m = Some (r, O)
+why_three None None (Some r) = Some (r, M)
+why_three None None None = None
 
--- a cell passes where each estate does
-cell_passes_by : (i : Instrument ℕ) (w : Owners) → why_of (holding_effect i S w.s) ≡ None → why_of (holding_effect i O w.o) ≡ None
-    → why_of (holding_effect i M w.m) ≡ None → why_cell (cell_effect i w) ≡ None
+why_joined : (s o m : Result Division Rule) → why_cell (joined s o m) ≡ why_three (why_of s) (why_of o) (why_of m)
+unfolding why_three
+why_joined (Err r) o m = refl
+why_joined (Ok s) (Err r) m = refl
+why_joined (Ok s) (Ok o) (Err r) = refl
+why_joined (Ok s) (Ok o) (Ok m) = refl
+
+why_by : (i : Instrument ℕ) (w v : Owners) → why_of (holding_effect i S w.s) ≡ why_of (holding_effect i S v.s)
+    → why_of (holding_effect i O w.o) ≡ why_of (holding_effect i O v.o) → why_of (holding_effect i M w.m) ≡ why_of (holding_effect i M v.m)
+    → why_cell (cell_effect i w) ≡ why_cell (cell_effect i v)
 unfolding cell_effect
-cell_passes_by i w f g h = none_joined _ _ _ f g h
-
-each_passes : (i : Instrument ℕ) (w : Owners) → why_cell (cell_effect i w) ≡ None → (why_of (holding_effect i S w.s) ≡ None)
-    × (why_of (holding_effect i O w.o) ≡ None) × (why_of (holding_effect i M w.m) ≡ None)
-unfolding cell_effect
-each_passes i w h = whys _ _ _ h
-
-none_failing : (i : Instrument ℕ) (p : Plant) (cells : List Cell)
-    → ((c : Cell) → In c cells → why_cell (cell_effect i (p c)) ≡ None) → first_failing i p cells ≡ None
-none_failing i p [] f = refl
-none_failing i p (c ∷ cells) f =
-    one (cell_effect i (p c)) (first_failing i p cells) (f c (inl refl)) ∙ none_failing i p cells (λ z j. f z (inr j))
-  where
-    one : (e : Effect) (later : Option Failing) → why_cell e ≡ None → failing_or c e later ≡ later
-    one (Done owners) later h = refl
-    one (Refused rule estate) later h = absurd cc
+why_by i w v f g h =
+    why_joined (holding_effect i S w.s) (holding_effect i O w.o) (holding_effect i M w.m)
+    ∙ ap (λ (x : Option Rule). why_three x (why_of (holding_effect i O w.o)) (why_of (holding_effect i M w.m))) f
+    ∙ ap (λ (x : Option Rule). why_three (why_of (holding_effect i S v.s)) x (why_of (holding_effect i M w.m))) g
+    ∙ ap (λ (x : Option Rule). why_three (why_of (holding_effect i S v.s)) (why_of (holding_effect i O v.o)) x) h
+    ∙ sym (why_joined (holding_effect i S v.s) (holding_effect i O v.o) (holding_effect i M v.m))
 
 all_three : (a b c : Bool) → (a && b && c) ≡ true → (a ≡ true) × (b ≡ true) × (c ≡ true)
 all_three true true true h = (refl, refl, refl)
@@ -255,43 +202,113 @@ all_three false b c h = absurd cc
 all_three true false c h = absurd cc
 all_three true true false h = absurd cc
 
-no_why : (o : Option (Rule × Estate)) → is_some o ≡ false → o ≡ None
-no_why None h = refl
-no_why (Some why) h = absurd cc
+one_corner : (levels : ℕ) (ts : List Township) (ps : Estate → Plot) (i : Instrument ℕ) (s : Section) (below : ℕ) (w : List Quarter)
+    (x y z : Plot) (c : Cell) → below ≡ 0 → below + length w ≡ depth → StandsAt ps (square_path levels ts s w) x y z
+    → In c (cells_below depth s below w) → why_cell (cell_effect i (owners_at ps (cell_path levels ts c))) ≡ why_first i x y z
+one_corner levels ts ps i s below w x y z c none l h j =
+    let whole : length w ≡ depth = omega (arith, none, l) in
+    let k : In c (corner_of s (square depth w) ∷ []) = subst (λ (n : ℕ). In c (cells_below depth s n w)) none j in
+    elim k [
+      | inl e ↦
+          ap (λ (b : Cell). why_cell (cell_effect i (owners_at ps (cell_path levels ts b)))) e
+          ∙ ap (λ (v : Owners). why_cell (cell_effect i v)) (owners_same _ _ _ _ _ _
+          (value_there levels ts s w (ps S) x whole h.s_is) (value_there levels ts s w (ps O) y whole h.o_is)
+          (value_there levels ts s w (ps M) z whole h.m_is))
+      | inr none ↦ absurd none
+    ]
 
--- where all cells are treated alike, and the first passes
-pub settled_square : (levels : ℕ) (ts : List Township) (ps : Estate → Plot) (i : Instrument ℕ) (tr : Land) (s : Section) (below : ℕ)
-    (w : List Quarter) (x y z : Plot) (o : Option (Rule × Estate)) → below + length w ≡ depth
-    → StandsAt ps (square_path levels ts s w) x y z
-    → (is_settled i S x && is_settled i O y && is_settled i M z) ≡ true → o ≡ why_first i x y z → is_some o ≡ false
-    → None ≡ first_of levels ts ps i tr (cells_below depth s below w)
-settled_square levels ts ps i tr s below w x y z o l h settled e none =
-    ap triple (sym (none_failing i (λ c. owners_at ps (cell_path levels ts c)) (filter (has tr) (cells_below depth s below w)) passes))
-  where
-    passes : (c : Cell) → In c (filter (has tr) (cells_below depth s below w))
-        → why_cell (cell_effect i (owners_at ps (cell_path levels ts c))) ≡ None
-    passes c j =
-        let k = lies_below levels ts s below w c l (in_filtered (has tr) (cells_below depth s below w) c j).0 in
-        let p = all_three (is_settled i S x) (is_settled i O y) (is_settled i M z) settled in
-        let q = each_passes i (record { s = value_at x []; o = value_at y []; m = value_at z [] }) (sym e ∙ no_why o none) in
-        cell_passes_by i (owners_at ps (cell_path levels ts c))
-        (passes_below i S _ _ (ps S) x k.begun h.s_is p.0 q.0)
-        (passes_below i O _ _ (ps O) y k.begun h.o_is p.1 q.1)
-        (passes_below i M _ _ (ps M) z k.begun h.m_is p.2 q.2)
+-- each cell of a square is treated as the first
+alike : (levels : ℕ) (ts : List Township) (ps : Estate → Plot) (i : Instrument ℕ) (s : Section) (below : ℕ) (w : List Quarter)
+    (x y z : Plot) (c : Cell) → below + length w ≡ depth → StandsAt ps (square_path levels ts s w) x y z
+    → (below == 0 || (is_settled i S x && is_settled i O y && is_settled i M z)) ≡ true → In c (cells_below depth s below w)
+    → why_cell (cell_effect i (owners_at ps (cell_path levels ts c))) ≡ why_first i x y z
+alike levels ts ps i s below w x y z c l h same j =
+    elim (or_cases (below == 0) (is_settled i S x && is_settled i O y && is_settled i M z) same) [
+      | inl e ↦ one_corner levels ts ps i s below w x y z c (eqb-true below 0 e) l h j
+      | inr e ↦
+          let k = lies_below levels ts s below w c l j in
+          let p = all_three (is_settled i S x) (is_settled i O y) (is_settled i M z) e in
+          why_by i (owners_at ps (cell_path levels ts c)) (record { s = value_at x []; o = value_at y []; m = value_at z [] })
+          (alike_below i S _ _ (ps S) x k.begun h.s_is p.0) (alike_below i O _ _ (ps O) y k.begun h.o_is p.1)
+          (alike_below i M _ _ (ps M) z k.begun h.m_is p.2)
+    ]
 
--- where the tract has no cell of it
+-- ---- cells that are treated alike
+
+one : (c : Cell) (e : Effect) (o : Option (Rule × Estate)) (y : Option Cell) (later : Option Failing) → why_cell e ≡ o
+    → refused_at o y ≡ triple later → refused_at o (Some c) ≡ triple (failing_or c e later)
+one c (Done owners) o y later h k =
+    ap (λ (q : Option (Rule × Estate)). refused_at q (Some c)) (sym h) ∙ ap (λ (q : Option (Rule × Estate)). refused_at q y) h ∙ k
+one c (Refused rule estate) o y later h k = ap (λ (q : Option (Rule × Estate)). refused_at q (Some c)) (sym h)
+
+nowhere : (o : Option (Rule × Estate)) → refused_at o None ≡ None
+nowhere None = refl
+nowhere (Some why) = refl
+
+filter_yes : (p : Cell → Bool) (c : Cell) (cells : List Cell) → p c ≡ true → filter p (c ∷ cells) ≡ c ∷ filter p cells
+filter_yes p c cells h = rw h refl
+
+filter_no : (p : Cell → Bool) (c : Cell) (cells : List Cell) → p c ≡ false → filter p (c ∷ cells) ≡ filter p cells
+filter_no p c cells h = rw h refl
+
+first_alike : (i : Instrument ℕ) (plant : Plant) (p : Cell → Bool) (cells : List Cell) (o : Option (Rule × Estate))
+    → ((c : Cell) → In c cells → why_cell (cell_effect i (plant c)) ≡ o)
+    → refused_at o (find p cells) ≡ triple (first_failing i plant (filter p cells))
+first_alike i plant p [] o f = nowhere o
+first_alike i plant p (c ∷ cells) o f =
+    let later = first_alike i plant p cells o (λ z j. f z (inr j)) in
+    elim (cases_Bool (p c)) [
+      | inl e ↦
+          ap (refused_at o) (find_yes p c cells e)
+          ∙ one c (cell_effect i (plant c)) o (find p cells) (first_failing i plant (filter p cells)) (f c (inl refl)) later
+          ∙ sym (ap (λ (cs : List Cell). triple (first_failing i plant cs)) (filter_yes p c cells e))
+      | inr e ↦
+          ap (refused_at o) (find_no p c cells e) ∙ later
+          ∙ sym (ap (λ (cs : List Cell). triple (first_failing i plant cs)) (filter_no p c cells e))
+    ]
+
+-- what refuses in a square whose cells are treated alike
+pub alike_square : (levels : ℕ) (ts : List Township) (ps : Estate → Plot) (i : Instrument ℕ) (tr : Land) (s : Section) (below : ℕ)
+    (w : List Quarter) (x y z : Plot) → below + length w ≡ depth → StandsAt ps (square_path levels ts s w) x y z
+    → (below == 0 || (is_settled i S x && is_settled i O y && is_settled i M z)) ≡ true
+    → refused_at (why_first i x y z) (find (has tr) (cells_below depth s below w))
+    ≡ first_of levels ts ps i tr (cells_below depth s below w)
+alike_square levels ts ps i tr s below w x y z l h same =
+    first_alike i (λ c. owners_at ps (cell_path levels ts c)) (has tr) (cells_below depth s below w) (why_first i x y z)
+    (λ c j. alike levels ts ps i s below w x y z c l h same j)
+
+-- ---- a square in which the tract has no cell
+
+has_none : (tr : Land) (s : Section) (below : ℕ) (w : List Quarter) (b : Bool) → below + length w ≡ depth
+    → (b ≡ true) ↔ Meets depth tr (land_of depth (node.Part s w)) → b ≡ false → (c : Cell) → In c (cells_below depth s below w)
+    → has tr c ≡ false
+has_none tr s below w b l shares apart c j = false_from_ne_true (has tr c) (λ h.
+    let k = cells_below-in depth s below w c l j in
+    let short : length w ≤ depth = omega (arith, l) in
+    let inside : has (land_of depth (node.Part s w)) c ≡ true = has-land_of depth (node.Part s w) c short
+    ∙ and_from (same_section s c.section) (holds (square depth w) c.row c.column)
+    (subst (λ (u : Section). same_section s u ≡ true) (sym k.0) (same_section-self s))
+    (holds_from (square depth w) c.row c.column k.1) in
+    let clash : true ≡ false = sym (shares.1 (c, cell_in_grid depth s w c.row c.column short k.1, h, inside)) ∙ apart in
+    absurd cc)
+
+find_none : (p : Cell → Bool) (cells : List Cell) → ((c : Cell) → In c cells → p c ≡ false) → None ≡ find p cells
+find_none p [] f = refl
+find_none p (c ∷ cells) f = find_none p cells (λ z j. f z (inr j)) ∙ sym (find_no p c cells (f c (inl refl)))
+
 pub none_of_square : (levels : ℕ) (ts : List Township) (ps : Estate → Plot) (i : Instrument ℕ) (tr : Land) (s : Section) (below : ℕ)
     (w : List Quarter) (b : Bool) → below + length w ≡ depth → (b ≡ true) ↔ Meets depth tr (land_of depth (node.Part s w)) → b ≡ false
     → None ≡ first_of levels ts ps i tr (cells_below depth s below w)
 none_of_square levels ts ps i tr s below w b l shares apart =
-    ap (λ (cells : List Cell). triple (first_in levels ts ps i cells)) (sym (filter_none (has tr) (cells_below depth s below w) none))
-  where
-    none : (c : Cell) → In c (cells_below depth s below w) → has tr c ≡ false
-    none c j = false_from_ne_true (has tr c) (λ h.
-        let k = cells_below-in depth s below w c l j in
-        let short : length w ≤ depth = omega (arith, l) in
-        let inside : has (land_of depth (node.Part s w)) c ≡ true = has-land_of depth (node.Part s w) c short
-        ∙ and_from (same_section s c.section) (holds (square depth w) c.row c.column)
-        (subst (λ (u : Section). same_section s u ≡ true) (sym k.0) (same_section-self s)) (holds_from (square depth w) c.row c.column k.1) in
-        let clash : true ≡ false = sym (shares.1 (c, cell_in_grid depth s w c.row c.column short k.1, h, inside)) ∙ apart in
-        absurd cc)
+    ap (λ (cells : List Cell). triple (first_in levels ts ps i cells))
+    (sym (filter_none (has tr) (cells_below depth s below w) (has_none tr s below w b l shares apart)))
+
+pub no_cell : (tr : Land) (s : Section) (below : ℕ) (w : List Quarter) (b : Bool) → below + length w ≡ depth
+    → (b ≡ true) ↔ Meets depth tr (land_of depth (node.Part s w)) → b ≡ false → None ≡ find (has tr) (cells_below depth s below w)
+no_cell tr s below w b l shares apart =
+    find_none (has tr) (cells_below depth s below w) (has_none tr s below w b l shares apart)
+
+-- where cells aren't treated alike there are levels below
+pub has_levels : (below : ℕ) (b : Bool) → (below == 0 || b) ≡ false → 0 < below
+has_levels zero b h = absurd cc
+has_levels (suc below) b h = omega arith

@@ -57,3 +57,9 @@ pub record StandsAt (ps : Estate → Plot) (path : List Quarter) (x y z : Plot) 
   pub s_is : x ≡ plot_at path (ps S)
   pub o_is : y ≡ plot_at path (ps O)
   pub m_is : z ≡ plot_at path (ps M)
+
+-- a rule and an estate with the cell
+abbrev pub refused_at : Option (Rule × Estate) → Option Cell → Option (Rule × Estate × Cell)
+refused_at None c = None
+refused_at (Some why) None = None
+refused_at (Some why) (Some c) = Some (why.0, why.1, c)

@@ -1,11 +1,10 @@
 //! The first cell of a tract that refuses an instrument.
 
-ghost use Rattle.std.specs.Prelude.{◌≡◌, ◌≤◌, ◌+◌, ◌∷◌, [], ◌&&◌, ◌↔◌, length, true};
+ghost use Rattle.std.specs.Prelude.{◌≡◌, ◌+◌, ◌∷◌, [], ◌&&◌, ◌||◌, ◌==◌, ◌↔◌, length, find, true};
 ghost use Rattle.title_land.specs.Depth.{depth};
 ghost use Rattle.title_land.specs.declared.node.Node.TheVariants as node;
-ghost use Rattle.title_land.specs.CellLists.{corner_of, cells_below, section_cells, township_cells, cells_of};
-ghost use Rattle.title_land.specs.Lands.{Meets, land_of, is_in_plant};
-ghost use Rattle.title_land.specs.Nodes.{square};
+ghost use Rattle.title_land.specs.CellLists.{cells_below, section_cells, township_cells, cells_of};
+ghost use Rattle.title_land.specs.Lands.{has, Meets, land_of, is_in_plant};
 ghost use Rattle.title_land.specs.Paths.{quarter_at};
 ghost use Rattle.title_instrument.specs.Effect.{cell_effect};
 ghost use Rattle.title_instrument.specs.declared.parts.Estate.TheVariants.{S, O, M};
@@ -14,7 +13,7 @@ ghost use Rattle.title_tree.specs.Plots.{value_at, plot_at};
 ghost use Rattle.title_tree.specs.Trees.{plot};
 ghost use Rattle.title_tree_store.specs.Spots.{township_path, square_path};
 ghost use Rattle.title_tree_store.specs.Forests.{plots};
-ghost use Rattle.title_tree_store.specs.Refusing.{why_holding, why_first, is_settled, StandsAt, first_in, first_of, triple};
+ghost use Rattle.title_tree_store.specs.Refusing.{why_holding, why_first, is_settled, refused_at, StandsAt, first_in, first_of, triple};
 
 use crate::forest::{Forest, names};
 use crate::spots::{SECTION_LEVELS, index_of};
@@ -90,14 +89,15 @@ impl<'a> Trees<'a> {
         outer.quarter(quarter_at(number % 4))
     }
 
-    // Whether an instrument treats all cells of the square alike.
-    fn are_settled(&self, instrument: &Instrument) -> bool
-        ensures settled { result ≡ (is_settled instrument.now S (plot self.now.s.now)
-            && is_settled instrument.now O (plot self.now.o.now) && is_settled instrument.now M (plot self.now.m.now)) }
+    // Whether an instrument treats all cells of the square alike, which has so many levels below it.
+    fn are_alike(&self, instrument: &Instrument, below: u8) -> bool
+        ensures alike { result ≡ (below == 0 || (is_settled instrument.now S (plot self.now.s.now)
+            && is_settled instrument.now O (plot self.now.o.now) && is_settled instrument.now M (plot self.now.m.now))) }
     {
-        is_settled(self.s, instrument, Estate::S)
-            && is_settled(self.o, instrument, Estate::O)
-            && is_settled(self.m, instrument, Estate::M)
+        below == 0
+            || (is_settled(self.s, instrument, Estate::S)
+                && is_settled(self.o, instrument, Estate::O)
+                && is_settled(self.m, instrument, Estate::M))
     }
 
     // Why the square's first cell refuses an instrument: the rule and the first estate.
@@ -150,29 +150,49 @@ impl<'a> Search<'a> {
         self.tract.meets(&Tract::of(Node::Part(section, within)))
     }
 
-    // What refuses in a square of one cell, where that is one of the tract's.
-    fn first_in_cell(
+    // The first cell of the tract in a square with so many levels below it.
+    fn first_cell(&self, section: Section, below: u8, within: Within) -> Option<Cell>
+        requires below { below + length within ≡ depth }
+        ensures first { result ≡ find (has self.now.tract.now) (cells_below depth section below within) }
+    {
+        if below == 0 {
+            let corner = within.square();
+            let cell = Cell {
+                section,
+                row: corner.top,
+                column: corner.left,
+            };
+            if !self.tract.has_cell(cell) {
+                return None;
+            }
+            return Some(cell);
+        }
+        if !self.meets(section, within) {
+            return None;
+        }
+        for quarter in Quarter::ALL {
+            let found = self.first_cell(section, below - 1, within.quarter(quarter));
+            if found.is_some() {
+                return found;
+            }
+        }
+        None
+    }
+
+    // What refuses in a square whose cells are treated as its first one: the tract's first cell there.
+    fn first_alike(
         &self,
         trees: &Trees<'a>,
         section: Section,
+        below: u8,
         within: Within,
     ) -> Option<(Rule, Estate, Cell)>
-        requires cell { length within ≡ depth }
-        requires here { StandsAt (plots self.now.forest.now) (square_path self.now.levels self.now.townships.now section within)
-            (plot trees.now.s.now) (plot trees.now.o.now) (plot trees.now.m.now) }
-        ensures first { result ≡ first_of self.now.levels self.now.townships.now (plots self.now.forest.now) self.now.instrument.now
-            self.now.tract.now (corner_of section (square depth within) ∷ []) }
+        requires below { below + length within ≡ depth }
+        ensures first { result ≡ refused_at (why_first self.now.instrument.now (plot trees.now.s.now) (plot trees.now.o.now)
+            (plot trees.now.m.now)) (find (has self.now.tract.now) (cells_below depth section below within)) }
     {
-        let corner = within.square();
-        let cell = Cell {
-            section,
-            row: corner.top,
-            column: corner.left,
-        };
-        if !self.tract.has_cell(cell) {
-            return None;
-        }
         let (rule, estate) = trees.why(self.instrument)?;
+        let cell = self.first_cell(section, below, within)?;
         Some((rule, estate, cell))
     }
 
@@ -190,14 +210,11 @@ impl<'a> Search<'a> {
         ensures first { result ≡ first_of self.now.levels self.now.townships.now (plots self.now.forest.now) self.now.instrument.now
             self.now.tract.now (cells_below depth section below within) }
     {
-        if below == 0 {
-            return self.first_in_cell(trees, section, within);
-        }
         if !self.meets(section, within) {
             return None;
         }
-        if trees.are_settled(self.instrument) && trees.why(self.instrument).is_none() {
-            return None;
+        if trees.are_alike(self.instrument, below) {
+            return self.first_alike(trees, section, below, within);
         }
         for which in Quarter::ALL {
             let found = self.first_in_square(

@@ -1,5 +1,5 @@
 -- The quarters come in their order; none that has no cell of the tract, and none of a square that doesn't refuse.
-use Rattle.std.proofs.Common.{◌∙◌, ◌-◌, ◌∷◌, List, length, ap, sym, arith, not}
+use Rattle.std.proofs.Common.{◌∙◌, ◌-◌, ◌∷◌, List, length, ap, sym, arith, refl}
 use Rattle.title_land.specs.Depth.{depth}
 use Rattle.title_land.specs.declared.place.Cell.{Cell}
 use Rattle.title_land.specs.declared.rectangle.Quarter.{Quarter}
@@ -9,8 +9,8 @@ use Rattle.title_land.specs.CellLists.{cells_below}
 use Rattle.title_tree.specs.Trees.{plot}
 use Rattle.title_tree_store.specs.Forests.{plots}
 use Rattle.title_tree_store.specs.Refusing.{first_of}
-use Rattle.title_tree_store.proofs.Firsts.{next_here, next_later, square_cells, item_is}
-use Rattle.title_tree_store.proofs.Standing.{none_of_square, settled_square, stands_down}
+use Rattle.title_tree_store.proofs.Firsts.{first_join, next_here, next_later, square_cells, item_is}
+use Rattle.title_tree_store.proofs.Standing.{none_of_square, alike_square, has_levels, stands_down}
 use Rattle.title_tree_store.proofs.refusals.Search.+first_in_square.Goals as goal
 
 pub returns-then-not-meets : goal.returns-then-not-meets
@@ -21,15 +21,18 @@ returns-then-not-meets t c =
           c.requires.below c.meets.ensures.shares c.if-not-meets.true;
     }
 
-pub returns-then-is_none : goal.returns-then-is_none
-returns-then-is_none t c =
+pub returns-then-are_alike : goal.returns-then-are_alike
+returns-then-are_alike t c =
     record {
-      first = settled_square c.args.self.now.levels c.args.self.now.townships.now (plots c.args.self.now.forest.now)
+      first = c.first_alike.ensures.first
+          ∙ alike_square c.args.self.now.levels c.args.self.now.townships.now (plots c.args.self.now.forest.now)
           c.args.self.now.instrument.now c.args.self.now.tract.now c.args.section c.args.below c.args.within
-          (plot c.args.trees.now.s.now) (plot c.args.trees.now.o.now) (plot c.args.trees.now.m.now) c.why.result c.requires.below
-          c.requires.here (sym c.are_settled.ensures.settled ∙ c.if-are_settled.true) c.why.ensures.why
-          (c.is_none.ensures ∙ ap not c.if-is_none.true);
+          (plot c.args.trees.now.s.now) (plot c.args.trees.now.o.now) (plot c.args.trees.now.m.now) c.requires.below
+          c.requires.here (sym c.are_alike.ensures.alike ∙ c.if-are_alike.true);
     }
+
+pub loop-which-init : goal.loop-which-init
+loop-which-init t c = (has_levels c.args.below _ (sym c.are_alike.ensures.alike ∙ c.if-are_alike.false), refl)
 
 pub first_in_square-found-requires : goal.first_in_square-found-requires
 first_in_square-found-requires t c =
@@ -51,8 +54,10 @@ returns-then-is_some t c =
     let h = c.first_in_square-found.ensures.first
     ∙ ap (λ (w : List Quarter). of (cells_below depth c.args.section (c.args.below - 1) w)) c.quarter-in-loop-which.ensures.quarter in
     record {
-      first = next_here c.args.self.now.levels c.args.self.now.townships.now (plots c.args.self.now.forest.now)
-          c.args.self.now.instrument.now c.args.self.now.tract.now
+      first = next_here (first_of c.args.self.now.levels c.args.self.now.townships.now (plots c.args.self.now.forest.now)
+          c.args.self.now.instrument.now c.args.self.now.tract.now)
+          (first_join c.args.self.now.levels c.args.self.now.townships.now (plots c.args.self.now.forest.now)
+          c.args.self.now.instrument.now c.args.self.now.tract.now)
           (λ q. cells_below depth c.args.section (c.args.below - 1) (q ∷ c.args.within)) quarters c.loop-which.which-index _
           c.first_in_square-found.result c.loop-which-test.true
           (item_is quarters c.loop-which.which-index Northeast c.loop-which-test.true)
@@ -69,8 +74,10 @@ loop-which-preserved t c =
     ∙ ap (λ (w : List Quarter). of (cells_below depth c.args.section (c.args.below - 1) w)) c.quarter-in-loop-which.ensures.quarter in (
       c.loop-which.invariant.0,
       c.loop-which.invariant.1
-          ∙ next_later c.args.self.now.levels c.args.self.now.townships.now (plots c.args.self.now.forest.now)
-          c.args.self.now.instrument.now c.args.self.now.tract.now
+          ∙ next_later (first_of c.args.self.now.levels c.args.self.now.townships.now (plots c.args.self.now.forest.now)
+          c.args.self.now.instrument.now c.args.self.now.tract.now)
+          (first_join c.args.self.now.levels c.args.self.now.townships.now (plots c.args.self.now.forest.now)
+          c.args.self.now.instrument.now c.args.self.now.tract.now)
           (λ q. cells_below depth c.args.section (c.args.below - 1) (q ∷ c.args.within)) quarters c.loop-which.which-index _
           c.first_in_square-found.result c.loop-which-test.true
           (item_is quarters c.loop-which.which-index Northeast c.loop-which-test.true)

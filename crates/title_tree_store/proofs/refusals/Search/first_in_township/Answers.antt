@@ -1,17 +1,17 @@
 -- The sections come in their order.
-use Rattle.std.proofs.Common.{◌≡◌, ◌∙◌, List, ap, sym, subst, inl, inr, refl}
+use Rattle.std.proofs.Common.{◌∙◌, List, ap, sym, subst, inl, inr, refl}
 use Rattle.std.specs.List.{flat_map}
 use Rattle.title_land.specs.Depth.{depth}
 use Rattle.title_land.specs.declared.place.Section.{Section}
 use Rattle.title_land.specs.declared.place.Township.{Township}
-use Rattle.title_land.specs.CellLists.{sections_of, section_cells}
+use Rattle.title_land.specs.CellLists.{section_cells}
 use Rattle.title_land.proofs.Members.{In}
 use Rattle.title_land.proofs.CellMembers.{sections_of-in}
 use Rattle.title_tree.specs.Trees.{plot}
 use Rattle.title_tree_store.specs.Spots.{township_path}
 use Rattle.title_tree_store.specs.Forests.{plots}
 use Rattle.title_tree_store.specs.Refusing.{first_of, StandsAt}
-use Rattle.title_tree_store.proofs.Firsts.{first_here, first_later}
+use Rattle.title_tree_store.proofs.Firsts.{first_join, first_here, first_later}
 use Rattle.title_tree_store.proofs.refusals.Search.first_in_township.Goals as goal
 
 pub returns-then-is_some : goal.returns-then-is_some
@@ -20,8 +20,10 @@ returns-then-is_some c =
     (plots c.args.self.now.forest.now) c.args.self.now.instrument.now c.args.self.now.tract.now
     (flat_map (section_cells depth) sections) in
     record {
-      first = first_here c.args.self.now.levels c.args.self.now.townships.now (plots c.args.self.now.forest.now)
-          c.args.self.now.instrument.now c.args.self.now.tract.now (section_cells depth c.in-Some.section)
+      first = first_here (first_of c.args.self.now.levels c.args.self.now.townships.now (plots c.args.self.now.forest.now)
+          c.args.self.now.instrument.now c.args.self.now.tract.now)
+          (first_join c.args.self.now.levels c.args.self.now.townships.now (plots c.args.self.now.forest.now)
+          c.args.self.now.instrument.now c.args.self.now.tract.now) (section_cells depth c.in-Some.section)
           (flat_map (section_cells depth) c.next.new.self) c.first_in_section-found.result
           (sym c.is_some.ensures ∙ c.if-is_some.true) c.first_in_section-found.ensures.first
           ∙ ap left (sym c.in-Some.ensures.steps) ∙ sym c.loop-section.invariant.0;
@@ -33,8 +35,10 @@ loop-section-preserved c =
     (plots c.args.self.now.forest.now) c.args.self.now.instrument.now c.args.self.now.tract.now
     (flat_map (section_cells depth) sections) in (
       c.loop-section.invariant.0 ∙ ap left c.in-Some.ensures.steps
-          ∙ first_later c.args.self.now.levels c.args.self.now.townships.now (plots c.args.self.now.forest.now)
-          c.args.self.now.instrument.now c.args.self.now.tract.now (section_cells depth c.in-Some.section)
+          ∙ first_later (first_of c.args.self.now.levels c.args.self.now.townships.now (plots c.args.self.now.forest.now)
+          c.args.self.now.instrument.now c.args.self.now.tract.now)
+          (first_join c.args.self.now.levels c.args.self.now.townships.now (plots c.args.self.now.forest.now)
+          c.args.self.now.instrument.now c.args.self.now.tract.now) (section_cells depth c.in-Some.section)
           (flat_map (section_cells depth) c.next.new.self) c.first_in_section-found.result
           (sym c.is_some.ensures ∙ c.if-is_some.false) c.first_in_section-found.ensures.first,
       λ s i. c.loop-section.invariant.1 s (subst (λ (ss : List Section). In s ss) (sym c.in-Some.ensures.steps) (inr i)),
