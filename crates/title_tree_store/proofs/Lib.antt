@@ -11,3 +11,5 @@ pub mod Operations
 pub mod Holdings
 pub mod Apart
 pub mod Puts
+pub mod Firsts
+pub mod Standing

@@ -152,7 +152,7 @@ plant_parts : (ts : List Township) (c : Cell) → is_plant_cell depth ts c ≡ t
     → (is_on_grid depth c ≡ true) × IsOf ts c.section.township
 plant_parts ts c h = and_parts (is_on_grid depth c) (list_any (same_township c.section.township) ts) h
 
-grid_parts : (c : Cell) → is_on_grid depth c ≡ true → (c.row < side depth) × (c.column < side depth)
+pub grid_parts : (c : Cell) → is_on_grid depth c ≡ true → (c.row < side depth) × (c.column < side depth)
 grid_parts c h =
     let k = and_parts (nat_lt c.row (side depth)) (nat_lt c.column (side depth)) h in
     (ltb-true c.row (side depth) k.0, ltb-true c.column (side depth) k.1)
@@ -255,7 +255,7 @@ tract_has levels ts x c room of plant =
 -- ---- cells at paths
 
 -- the cell of a section at a square without squares below it
-corner_way : (s : Section) (w : List Quarter) → length w ≡ depth → cell_way depth (square depth w).top (square depth w).left ≡ way w
+pub corner_way : (s : Section) (w : List Quarter) → length w ≡ depth → cell_way depth (square depth w).top (square depth w).left ≡ way w
 corner_way s w l =
     let none : 0 + length w ≡ depth = omega (arith, l) in
     let i = has_corner depth 0 w none in

@@ -1,13 +1,11 @@
 -- Steps of the code.
-use Rattle.std.proofs.Common.{◌≡◌, ◌∙◌, ap, sym, subst, ℕ, suc}
-use Rattle.std.proofs.Common.{Bool, true, false, cond, List, [], ◌∷◌, Result, Ok, Err, OnErr, IfOk}
+use Rattle.std.proofs.Common.{◌≡◌, ◌∙◌, ap, sym, subst, ℕ}
+use Rattle.std.proofs.Common.{Bool, true, false, cond, List, [], Result, Ok, Err, OnErr}
 use Rattle.title_land.specs.declared.rectangle.Quarter.{Quarter}
-use Rattle.title_land.specs.Nodes.{square}
 use Rattle.title_instrument.specs.declared.parts.Estate.{Estate}
 use Rattle.title_instrument.specs.declared.instrument.Instrument.{Instrument}
 use Rattle.title_instrument.specs.Estates.{names}
 use Rattle.title_instrument.specs.Parties.{estates_of}
-use Rattle.title_tree.specs.CellWays.{quarter_in, cell_quarters}
 use Rattle.title_tree.specs.Plots.{Plot, fits}
 use Rattle.title_tree.specs.Pieces.{split_all, Short, Refines, StaysWithin}
 use Rattle.title_tree_store.specs.Forests.{named_spots}
@@ -41,14 +39,3 @@ pub split_within : {A E : Type 0} (r : Result A E) (i : Instrument ℕ) (e : Est
 split_within (Ok x) i e ps t u h = tt
 split_within (Err f) i e ps t u h =
     λ n s k. ap (fits n) h ∙ split_all_fits (named_spots i e ps) t n (named_short i e ps n s) k
-
-pub cell_step : (d levels less : ℕ) (w : List Quarter) (row column : ℕ) (q : Quarter) (c : List Quarter) → levels ≡ suc less
-    → q ≡ quarter_in (square d w) row column → c ≡ cell_quarters d less (q ∷ w) row column → c ≡ cell_quarters d levels w row column
-cell_step d levels less w row column q c e f g =
-    g ∙ ap (λ (x : Quarter). cell_quarters d less (x ∷ w) row column) f
-    ∙ ap (λ (n : ℕ). cell_quarters d n w row column) (sym e)
-
-pub path_for : {E : Type 0} {A : Type 0} (items : A → List Quarter) (r : Result A E) (f : List Quarter
-    → List Quarter) (w v : List Quarter) → w ≡ v
-    → IfOk r (λ p. items p ≡ f w) → IfOk r (λ p. items p ≡ f v)
-path_for items r f w v e h = subst (λ (x : List Quarter). IfOk r (λ p. items p ≡ f x)) e h

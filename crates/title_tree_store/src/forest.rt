@@ -48,8 +48,8 @@ fn opening_tree(alloc: Global) -> Result<Tree, AllocError>
     Ok(Tree::Leaf(held))
 }
 
-// Whether an instrument names an estate.
-fn names(instrument: &Instrument, estate: Estate) -> bool
+/// Whether an instrument names an estate.
+pub(crate) fn names(instrument: &Instrument, estate: Estate) -> bool
     ensures names { result ≡ names (estates_of instrument.now) estate }
 {
     instrument.estates().has(estate)

@@ -1,68 +1,293 @@
 //! The first cell of a tract that refuses an instrument.
 
-ghost use Rattle.std.specs.Prelude.{◌≡◌, IfOk};
+ghost use Rattle.std.specs.Prelude.{◌≡◌, ◌+◌, ◌∷◌, [], ◌&&◌, ◌||◌, ◌==◌, ◌↔◌, length, find, true};
+ghost use Rattle.title_land.specs.Depth.{depth};
+ghost use Rattle.title_land.specs.declared.node.Node.TheVariants as node;
+ghost use Rattle.title_land.specs.CellLists.{cells_below, section_cells, township_cells, cells_of};
+ghost use Rattle.title_land.specs.Lands.{has, Meets, land_of, is_in_plant};
+ghost use Rattle.title_land.specs.Paths.{quarter_at};
 ghost use Rattle.title_instrument.specs.Effect.{cell_effect};
-ghost use Rattle.title_tree.specs.Plots.{value_at};
+ghost use Rattle.title_instrument.specs.declared.parts.Estate.TheVariants.{S, O, M};
+ghost use Rattle.title_tree.specs.Paths.{number_path};
+ghost use Rattle.title_tree.specs.Plots.{value_at, plot_at};
 ghost use Rattle.title_tree.specs.Trees.{plot};
-ghost use Rattle.title_tree_store.specs.Forests.{plots, owners_at};
-ghost use Rattle.title_tree_store.specs.Refusing.{why_holding, why_cell, first_in, triple};
+ghost use Rattle.title_tree_store.specs.Spots.{township_path, square_path};
+ghost use Rattle.title_tree_store.specs.Forests.{plots};
+ghost use Rattle.title_tree_store.specs.Refusing.{why_holding, why_first, is_settled, refused_at, StandsAt, first_in, first_of, triple};
 
-use crate::forest::Forest;
-use crate::spots::cell_path;
-use std::alloc::{AllocError, Global};
+use crate::forest::{Forest, names};
+use crate::spots::{SECTION_LEVELS, index_of};
 use title_instrument::{Estate, Instrument, Rule};
-use title_land::{Cell, Quarter, Township};
+use title_land::{Cell, DEPTH, Land, Node, Quarter, Section, Township, Tract, Within};
 use title_tree::Tree;
 
-// Why an instrument is refused by the holding of an estate in the cell at a path.
-fn why_holding(
-    tree: &Tree,
-    instrument: &Instrument,
-    estate: Estate,
-    path: &[Quarter],
-) -> Option<Rule>
-    ensures why { result ≡ why_holding instrument.now estate (value_at (plot tree.now) path.now) }
+// The quarter at a place among the four; from the fourth on it is the last.
+fn quarter_at(place: usize) -> Quarter
+    ensures quarter { result ≡ quarter_at place }
 {
-    let units = tree.holding(path).units(instrument.grantor());
+    match place {
+        0 => Quarter::Northeast,
+        1 => Quarter::Northwest,
+        2 => Quarter::Southwest,
+        _ => Quarter::Southeast,
+    }
+}
+
+// Whether an instrument treats all cells of a tree alike: they have one holding, or it doesn't name the estate.
+fn is_settled(tree: &Tree, instrument: &Instrument, estate: Estate) -> bool
+    ensures settled { result ≡ is_settled instrument.now estate (plot tree.now) }
+{
+    match tree {
+        Tree::Leaf(_) => true,
+        Tree::Quarters(_, _, _, _) => !names(instrument, estate),
+    }
+}
+
+// Why an instrument is refused by the holding of an estate in a tree's first cell.
+fn why_holding(tree: &Tree, instrument: &Instrument, estate: Estate) -> Option<Rule>
+    ensures why { result ≡ why_holding instrument.now estate (value_at (plot tree.now) []) }
+{
+    let units = tree.holding(&[]).units(instrument.grantor());
     match instrument.passes(estate, units) {
         Ok(_) => None,
         Err(rule) => Some(rule),
     }
 }
 
-// Why the cell at a path refuses an instrument: the rule and the first estate.
-#[tactic(auto, unfolding(title_instrument::specs::Effect::cell_effect))]
-fn why_cell(forest: &Forest, instrument: &Instrument, path: &[Quarter]) -> Option<(Rule, Estate)>
-    ensures why { result ≡ why_cell (cell_effect instrument.now (owners_at (plots forest.now) path.now)) }
-{
-    if let Some(rule) = why_holding(&forest.s, instrument, Estate::S, path) {
-        return Some((rule, Estate::S));
-    }
-    if let Some(rule) = why_holding(&forest.o, instrument, Estate::O, path) {
-        return Some((rule, Estate::O));
-    }
-    if let Some(rule) = why_holding(&forest.m, instrument, Estate::M, path) {
-        return Some((rule, Estate::M));
-    }
-    None
+// What stands in one square, of each estate's tree.
+#[derive(Clone, Copy)]
+struct Trees<'a> {
+    s: &'a Tree,
+    o: &'a Tree,
+    m: &'a Tree,
 }
 
-/// The first of some cells that refuses an instrument, with the rule and the estate.
-pub(crate) fn first_failing(
-    alloc: Global,
-    levels: usize,
-    townships: &[Township],
-    forest: &Forest,
-    cells: &[Cell],
-    instrument: &Instrument,
-) -> Result<Option<(Rule, Estate, Cell)>, AllocError>
-    ensures first { IfOk result (λ f. f ≡ triple (first_in levels townships.now (plots forest.now) instrument.now cells.now)) }
-{
-    for cell in cells {
-        let path = cell_path(alloc, levels, townships, *cell)?;
-        if let Some((rule, estate)) = why_cell(forest, instrument, &path) {
-            return Ok(Some((rule, estate, *cell)));
+impl<'a> Trees<'a> {
+    // What stands in a quarter of the square.
+    fn quarter(&self, which: Quarter) -> Trees<'a>
+        ensures s { plot result.s.now ≡ plot_at (which ∷ []) (plot self.now.s.now) }
+        ensures o { plot result.o.now ≡ plot_at (which ∷ []) (plot self.now.o.now) }
+        ensures m { plot result.m.now ≡ plot_at (which ∷ []) (plot self.now.m.now) }
+    {
+        Trees {
+            s: self.s.at(&[which]),
+            o: self.o.at(&[which]),
+            m: self.m.at(&[which]),
         }
     }
-    Ok(None)
+
+    // What stands in the square of this number among those that lie so many levels below.
+    fn numbered(&self, levels: usize, number: usize) -> Trees<'a>
+        ensures s { plot result.s.now ≡ plot_at (number_path levels number) (plot self.now.s.now) }
+        ensures o { plot result.o.now ≡ plot_at (number_path levels number) (plot self.now.o.now) }
+        ensures m { plot result.m.now ≡ plot_at (number_path levels number) (plot self.now.m.now) }
+    {
+        if levels == 0 {
+            return *self;
+        }
+        let outer = self.numbered(levels - 1, number / 4);
+        outer.quarter(quarter_at(number % 4))
+    }
+
+    // Whether an instrument treats all cells of the square alike, which has so many levels below it.
+    fn are_alike(&self, instrument: &Instrument, below: u8) -> bool
+        ensures alike { result ≡ (below == 0 || (is_settled instrument.now S (plot self.now.s.now)
+            && is_settled instrument.now O (plot self.now.o.now) && is_settled instrument.now M (plot self.now.m.now))) }
+    {
+        below == 0
+            || (is_settled(self.s, instrument, Estate::S)
+                && is_settled(self.o, instrument, Estate::O)
+                && is_settled(self.m, instrument, Estate::M))
+    }
+
+    // Why the square's first cell refuses an instrument: the rule and the first estate.
+    #[tactic(auto, unfolding(title_instrument::specs::Effect::cell_effect))]
+    fn why(&self, instrument: &Instrument) -> Option<(Rule, Estate)>
+        ensures why { result ≡ why_first instrument.now (plot self.now.s.now) (plot self.now.o.now) (plot self.now.m.now) }
+    {
+        if let Some(rule) = why_holding(self.s, instrument, Estate::S) {
+            return Some((rule, Estate::S));
+        }
+        if let Some(rule) = why_holding(self.o, instrument, Estate::O) {
+            return Some((rule, Estate::O));
+        }
+        if let Some(rule) = why_holding(self.m, instrument, Estate::M) {
+            return Some((rule, Estate::M));
+        }
+        None
+    }
+}
+
+/// A search for the first cell of a tract that refuses an instrument, in the order of the tract's cells. No cell after it is
+/// looked at, and a square whose cells it treats alike is judged once. Takes no memory.
+#[derive(Clone, Copy)]
+pub(crate) struct Search<'a> {
+    pub levels: usize,
+    pub townships: &'a [Township],
+    pub forest: &'a Forest,
+    pub tract: &'a Tract,
+    pub instrument: &'a Instrument,
+}
+
+impl<'a> Search<'a> {
+    // What stands in a township.
+    fn township_trees(&self, township: Township) -> Trees<'a>
+        ensures stands { StandsAt (plots self.now.forest.now) (township_path self.now.levels self.now.townships.now township)
+            (plot result.s.now) (plot result.o.now) (plot result.m.now) }
+    {
+        let root = Trees {
+            s: &self.forest.s,
+            o: &self.forest.o,
+            m: &self.forest.m,
+        };
+        root.numbered(self.levels, index_of(self.townships, township))
+    }
+
+    // Whether the tract has a cell in a square.
+    fn meets(&self, section: Section, within: Within) -> bool
+        ensures shares { (result ≡ true) ↔ Meets depth self.now.tract.now (land_of depth (node.Part section within)) }
+    {
+        self.tract.meets(&Tract::of(Node::Part(section, within)))
+    }
+
+    // The first cell of the tract in a square with so many levels below it.
+    fn first_cell(&self, section: Section, below: u8, within: Within) -> Option<Cell>
+        requires below { below + length within ≡ depth }
+        ensures first { result ≡ find (has self.now.tract.now) (cells_below depth section below within) }
+    {
+        if below == 0 {
+            let corner = within.square();
+            let cell = Cell {
+                section,
+                row: corner.top,
+                column: corner.left,
+            };
+            if !self.tract.has_cell(cell) {
+                return None;
+            }
+            return Some(cell);
+        }
+        if !self.meets(section, within) {
+            return None;
+        }
+        for quarter in Quarter::ALL {
+            let found = self.first_cell(section, below - 1, within.quarter(quarter));
+            if found.is_some() {
+                return found;
+            }
+        }
+        None
+    }
+
+    // What refuses in a square whose cells are treated as its first one: the tract's first cell there.
+    fn first_alike(
+        &self,
+        trees: &Trees<'a>,
+        section: Section,
+        below: u8,
+        within: Within,
+    ) -> Option<(Rule, Estate, Cell)>
+        requires below { below + length within ≡ depth }
+        ensures first { result ≡ refused_at (why_first self.now.instrument.now (plot trees.now.s.now) (plot trees.now.o.now)
+            (plot trees.now.m.now)) (find (has self.now.tract.now) (cells_below depth section below within)) }
+    {
+        let (rule, estate) = trees.why(self.instrument)?;
+        let cell = self.first_cell(section, below, within)?;
+        Some((rule, estate, cell))
+    }
+
+    // The first cell that refuses of a square with so many levels below it.
+    fn first_in_square(
+        &self,
+        trees: &Trees<'a>,
+        section: Section,
+        below: u8,
+        within: Within,
+    ) -> Option<(Rule, Estate, Cell)>
+        requires below { below + length within ≡ depth }
+        requires here { StandsAt (plots self.now.forest.now) (square_path self.now.levels self.now.townships.now section within)
+            (plot trees.now.s.now) (plot trees.now.o.now) (plot trees.now.m.now) }
+        ensures first { result ≡ first_of self.now.levels self.now.townships.now (plots self.now.forest.now) self.now.instrument.now
+            self.now.tract.now (cells_below depth section below within) }
+    {
+        if !self.meets(section, within) {
+            return None;
+        }
+        if trees.are_alike(self.instrument, below) {
+            return self.first_alike(trees, section, below, within);
+        }
+        for which in Quarter::ALL {
+            let found = self.first_in_square(
+                &trees.quarter(which),
+                section,
+                below - 1,
+                within.quarter(which),
+            );
+            if found.is_some() {
+                return found;
+            }
+        }
+        None
+    }
+
+    // The first cell that refuses of a section, from what stands in its township.
+    #[tactic(auto, using(title_land::proofs::Sides::depth_is))]
+    fn first_in_section(
+        &self,
+        township: &Trees<'a>,
+        section: Section,
+    ) -> Option<(Rule, Estate, Cell)>
+        requires here { StandsAt (plots self.now.forest.now) (township_path self.now.levels self.now.townships.now section.township)
+            (plot township.now.s.now) (plot township.now.o.now) (plot township.now.m.now) }
+        ensures first { result ≡ first_of self.now.levels self.now.townships.now (plots self.now.forest.now) self.now.instrument.now
+            self.now.tract.now (section_cells depth section) }
+    {
+        let trees = township.numbered(SECTION_LEVELS, usize::from(section.number - 1));
+        self.first_in_square(&trees, section, DEPTH, Within::section())
+    }
+
+    // The first cell that refuses of a township, section by section.
+    fn first_in_township(&self, township: Township) -> Option<(Rule, Estate, Cell)>
+        ensures first { result ≡ first_of self.now.levels self.now.townships.now (plots self.now.forest.now) self.now.instrument.now
+            self.now.tract.now (township_cells depth township) }
+    {
+        let trees = self.township_trees(township);
+        for section in township.sections() {
+            let found = self.first_in_section(&trees, section);
+            if found.is_some() {
+                return found;
+            }
+        }
+        None
+    }
+
+    // The first cell that refuses of the plant, township by township.
+    fn first_in_plant(&self) -> Option<(Rule, Estate, Cell)>
+        ensures first { result ≡ triple (first_in self.now.levels self.now.townships.now (plots self.now.forest.now)
+            self.now.instrument.now (cells_of depth self.now.townships.now self.now.tract.now)) }
+    {
+        for township in self.townships {
+            let found = self.first_in_township(*township);
+            if found.is_some() {
+                return found;
+            }
+        }
+        None
+    }
+
+    /// The first cell of the tract that refuses the instrument, with the rule and the estate. Nothing is looked at in another
+    /// township or section than the tract's.
+    pub(crate) fn first(&self) -> Option<(Rule, Estate, Cell)>
+        requires within { is_in_plant self.now.townships.now self.now.tract.now ≡ true }
+        ensures first { result ≡ triple (first_in self.now.levels self.now.townships.now (plots self.now.forest.now)
+            self.now.instrument.now (cells_of depth self.now.townships.now self.now.tract.now)) }
+    {
+        match self.tract.land() {
+            Land::Everything => self.first_in_plant(),
+            Land::Township(township) => self.first_in_township(township),
+            Land::Part(section, _) => {
+                self.first_in_section(&self.township_trees(section.township), section)
+            }
+        }
+    }
 }

@@ -3,21 +3,19 @@
 ghost use Rattle.std.specs.Prelude.{◌≡◌, ◌≤◌, ◌+◌, ◌++◌, ◌∷◌, [], length, OnOk, IfOk};
 ghost use Rattle.std.specs.List.{flat_map};
 ghost use Rattle.title_land.specs.Depth.{depth};
-ghost use Rattle.title_land.specs.Rectangles.{InSection};
 ghost use Rattle.title_tree.specs.Parts.{ways};
-ghost use Rattle.title_tree.specs.CellWays.{quarter_in, cell_quarters};
-ghost use Rattle.title_tree_store.specs.Spots.{index_of, township_path, section_path, square_path, cell_path};
+ghost use Rattle.title_tree_store.specs.Spots.{index_of, township_path, section_path, square_path};
 ghost use Rattle.title_tree_store.specs.Spots.{township_spots, spots, tract_spots};
 
 use std::alloc::{AllocError, Global};
-use title_land::{Cell, DEPTH, Node, Quarter, Rectangle, Section, Township, Tract, Within};
+use title_land::{DEPTH, Node, Quarter, Section, Township, Tract, Within};
 use title_tree::{add_number, add_square};
 
-// The levels from a township down to its sections.
-const SECTION_LEVELS: usize = 3;
+/// The levels from a township down to its sections.
+pub(crate) const SECTION_LEVELS: usize = 3;
 
-// The place of a township in a list; how many there are where it isn't one of them.
-fn index_of(townships: &[Township], township: Township) -> usize
+/// The place of a township in a list; how many there are where it isn't one of them.
+pub(crate) fn index_of(townships: &[Township], township: Township) -> usize
     ensures index { result ≡ index_of townships.now township }
     ensures bound { result ≤ length townships.now }
 {
@@ -74,49 +72,6 @@ fn square_path(
     let mut path = section_path(alloc, levels, townships, section)?;
     add_square(&mut path, square)?;
     Ok(path)
-}
-
-// The quarter of a rectangle in which a cell of it lies.
-fn quarter_in(rectangle: Rectangle, row: u8, column: u8) -> Quarter
-    requires inside { InSection depth rectangle }
-    ensures quarter { result ≡ quarter_in rectangle row column }
-{
-    if rectangle.quarter(Quarter::Northeast).holds(row, column) {
-        return Quarter::Northeast;
-    }
-    if rectangle.quarter(Quarter::Northwest).holds(row, column) {
-        return Quarter::Northwest;
-    }
-    if rectangle.quarter(Quarter::Southwest).holds(row, column) {
-        return Quarter::Southwest;
-    }
-    Quarter::Southeast
-}
-
-// The square of a cell, which lies so many levels below another.
-fn cell_square(levels: u8, square: Within, row: u8, column: u8) -> Within
-    requires levels { levels + length square ≡ depth }
-    ensures cell { result ≡ cell_quarters depth levels square row column }
-{
-    if levels == 0 {
-        return square;
-    }
-    let which = quarter_in(square.square(), row, column);
-    cell_square(levels - 1, square.quarter(which), row, column)
-}
-
-/// The path of a cell.
-#[tactic(auto, using(title_land::proofs::Sides::depth_is))]
-pub(crate) fn cell_path(
-    alloc: Global,
-    levels: usize,
-    townships: &[Township],
-    cell: Cell,
-) -> Result<Vec<Quarter>, AllocError>
-    ensures path { IfOk result (λ p. p.items ≡ cell_path levels townships.now cell) }
-{
-    let square = cell_square(DEPTH, Within::section(), cell.row, cell.column);
-    square_path(alloc, levels, townships, cell.section, square)
 }
 
 // Adds the path of a part of a township: a quarter of the sections' squares, or a quarter of a quarter.

@@ -10,12 +10,12 @@ ghost use Rattle.title_tree_store.specs.Propositions.{once_prop, kept_prop};
 
 use crate::forest::Forest;
 use crate::lent::Images;
-use crate::refusals::first_failing;
+use crate::refusals::Search;
 use crate::sheets::add_estate;
 use crate::spots::tract_spots;
 use std::alloc::{AllocError, Global};
 use title_instrument::{Estate, Instrument};
-use title_land::{Cell, Node, Township, Tract, cells_of};
+use title_land::{Cell, Node, Township, Tract};
 use title_store::{Put, SheetRow, Store};
 use title_tree::Fault;
 
@@ -101,16 +101,14 @@ impl Store for TreeStore {
             }
             Err(Fault::Memory) => Err(AllocError),
             Err(Fault::Refused(_)) => {
-                let cells = cells_of(self.alloc, &self.townships, tract)?;
-                let first = first_failing(
-                    self.alloc,
-                    self.levels,
-                    &self.townships,
-                    &self.forest,
-                    &cells,
+                let search = Search {
+                    levels: self.levels,
+                    townships: &self.townships,
+                    forest: &self.forest,
+                    tract,
                     instrument,
-                )?;
-                let Some((rule, estate, cell)) = first else {
+                };
+                let Some((rule, estate, cell)) = search.first() else {
                     unreachable!()
                 };
                 Ok(Put::Refused(rule, estate, node_of(tract, cell)))

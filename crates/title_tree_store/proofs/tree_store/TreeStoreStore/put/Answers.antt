@@ -25,8 +25,8 @@ use Rattle.title_tree_store.proofs.Puts.{IsPut, put_steps, put_allowed, put_show
 use Rattle.title_tree_store.proofs.Puts.{found_failing, some_cell_fails, told}
 use Rattle.title_tree_store.proofs.tree_store.TreeStoreStore.put.Goals as goal
 
-pub invariant_of-self-in-Break-branch-2 : goal.invariant_of-self-in-Break-branch-2
-invariant_of-self-in-Break-branch-2 c = record {
+pub invariant_of-self : goal.invariant_of-self
+invariant_of-self c = record {
   once = c.args.self.now.once;
   kept = kept_as c.args.self.now.levels c.args.self.now.townships.items (plots c.args.self.now.forest) (images c.args.self.now.lent)
       (images c.reserve.new.self) c.args.self.now.lent.next c.reserve.new.self.next c.reserve.ensures.images c.reserve.ensures.next
@@ -176,17 +176,15 @@ returns-in-Ok-clause-content c x =
 
 pub unreachable-requires : goal.unreachable-requires
 unreachable-requires c =
-    let listed = c.deref-in-Err-Refused-3.ensures.value ∙ c.in_ok-cells-in-Err-Refused.ensures.cells
-    ∙ ap (λ (ts : List Township). cells_of depth ts c.args.tract.now) c.deref-in-Err-Refused.ensures.value in
-    let first = c.in_ok-first-in-Err-Refused.ensures.first
+    let first = c.first.ensures.first
     ∙ ap (λ (ts : List Township). triple (first_in c.args.self.now.levels ts (plots c.args.self.now.forest) c.args.instrument.now
-    c.deref-in-Err-Refused-3.result.now)) c.deref-in-Err-Refused-2.ensures.value in
+    (cells_of depth ts c.args.tract.now))) c.deref-in-Err-Refused.ensures.value in
     let made_at = ap (λ (ps : List (Vec Quarter)). ways ps) c.deref-2.ensures.value ∙ c.in_ok-paths.ensures.paths
     ∙ ap (λ (ts : List Township). tract_spots c.args.self.now.levels ts c.args.tract.now) c.deref.ensures.value in
     let why = c.in-Err-Refused.ensures.why in
     some_cell_fails c.args.self.now.levels c.args.self.now.townships.items c.args.tract.now c.args.instrument.now
-    (plots c.args.self.now.forest) c.deref-in-Err-Refused-3.result.now why.0 c.in-Err-Refused.field-0-0 c.args.self.now.kept.room
-    c.requires.within (c.args.self.now.kept.fit why.0) listed
+    (plots c.args.self.now.forest) (cells_of depth c.args.self.now.townships.items c.args.tract.now) why.0
+    c.in-Err-Refused.field-0-0 c.args.self.now.kept.room c.requires.within (c.args.self.now.kept.fit why.0) refl
     (ap (λ (ps : List (List Quarter)). refusal_at (holding_effect c.args.instrument.now why.0)
     (named_spots c.args.instrument.now why.0 ps) (plots c.args.self.now.forest why.0))
     (sym made_at) ∙ told c.in-Err-Refused.field-0 c.in-Err-Refused.field-0-0 _ c.in-Err-Refused.field-0-is why.1)
@@ -194,14 +192,12 @@ unreachable-requires c =
 
 pub returns-clause-put : goal.returns-clause-put
 returns-clause-put c =
-    let listed = c.deref-in-Err-Refused-3.ensures.value ∙ c.in_ok-cells-in-Err-Refused.ensures.cells
-    ∙ ap (λ (ts : List Township). cells_of depth ts c.args.tract.now) c.deref-in-Err-Refused.ensures.value in
-    let first = c.in_ok-first-in-Err-Refused.ensures.first
+    let first = c.first.ensures.first
     ∙ ap (λ (ts : List Township). triple (first_in c.args.self.now.levels ts (plots c.args.self.now.forest) c.args.instrument.now
-    c.deref-in-Err-Refused-3.result.now)) c.deref-in-Err-Refused-2.ensures.value in
+    (cells_of depth ts c.args.tract.now))) c.deref-in-Err-Refused.ensures.value in
     let failing = found_failing c.args.self.now.levels c.args.self.now.townships.items c.args.tract.now c.args.instrument.now
-    (plots c.args.self.now.forest) c.deref-in-Err-Refused-3.result.now c.in-Some.rule c.in-Some.estate c.in-Some.cell
-    listed (sym c.in-Some.is ∙ first) in (
+    (plots c.args.self.now.forest) (cells_of depth c.args.self.now.townships.items c.args.tract.now) c.in-Some.rule
+    c.in-Some.estate c.in-Some.cell refl (sym c.in-Some.is ∙ first) in (
       refused_put c.args.instrument.now
           (content_of c.args.self.now.levels c.args.self.now.townships.items (plots c.args.self.now.forest))
           c.args.self.now.townships.items c.args.tract.now (cells_of depth c.args.self.now.townships.items c.args.tract.now)
@@ -211,14 +207,12 @@ returns-clause-put c =
 
 pub returns-clause-content : goal.returns-clause-content
 returns-clause-content c x =
-    let listed = c.deref-in-Err-Refused-3.ensures.value ∙ c.in_ok-cells-in-Err-Refused.ensures.cells
-    ∙ ap (λ (ts : List Township). cells_of depth ts c.args.tract.now) c.deref-in-Err-Refused.ensures.value in
-    let first = c.in_ok-first-in-Err-Refused.ensures.first
+    let first = c.first.ensures.first
     ∙ ap (λ (ts : List Township). triple (first_in c.args.self.now.levels ts (plots c.args.self.now.forest) c.args.instrument.now
-    c.deref-in-Err-Refused-3.result.now)) c.deref-in-Err-Refused-2.ensures.value in
+    (cells_of depth ts c.args.tract.now))) c.deref-in-Err-Refused.ensures.value in
     let failing = found_failing c.args.self.now.levels c.args.self.now.townships.items c.args.tract.now c.args.instrument.now
-    (plots c.args.self.now.forest) c.deref-in-Err-Refused-3.result.now c.in-Some.rule c.in-Some.estate c.in-Some.cell
-    listed (sym c.in-Some.is ∙ first) in
+    (plots c.args.self.now.forest) (cells_of depth c.args.self.now.townships.items c.args.tract.now) c.in-Some.rule
+    c.in-Some.estate c.in-Some.cell refl (sym c.in-Some.is ∙ first) in
     refused_content c.args.instrument.now
     (content_of c.args.self.now.levels c.args.self.now.townships.items (plots c.args.self.now.forest))
     c.args.self.now.townships.items c.args.tract.now x _ failing

@@ -1,0 +1,43 @@
+-- The townships come in their order.
+use Rattle.std.proofs.Common.{◌∙◌, sym, refl}
+use Rattle.title_land.specs.Depth.{depth}
+use Rattle.title_land.specs.CellLists.{township_cells}
+use Rattle.title_tree_store.specs.Forests.{plots}
+use Rattle.title_tree_store.specs.Refusing.{first_of}
+use Rattle.title_tree_store.proofs.Firsts.{first_join, next_here, next_later, none_left, tract_cells}
+use Rattle.title_tree_store.proofs.refusals.Search.first_in_plant.Goals as goal
+
+pub returns-then-is_some : goal.returns-then-is_some
+returns-then-is_some c =
+    record {
+      first = next_here (first_of c.args.self.now.levels c.args.self.now.townships.now (plots c.args.self.now.forest.now)
+          c.args.self.now.instrument.now c.args.self.now.tract.now)
+          (first_join c.args.self.now.levels c.args.self.now.townships.now (plots c.args.self.now.forest.now)
+          c.args.self.now.instrument.now c.args.self.now.tract.now) (township_cells depth) c.args.self.now.townships.now
+          c.loop-township.township-index c.township-item.result c.first_in_township-found.result
+          c.loop-township-test.true c.township-item.is (sym c.is_some.ensures ∙ c.if-is_some.true) c.first_in_township-found.ensures.first
+          ∙ sym c.loop-township.invariant
+          ∙ tract_cells c.args.self.now.levels c.args.self.now.townships.now (plots c.args.self.now.forest.now)
+          c.args.self.now.instrument.now c.args.self.now.tract.now;
+    }
+
+pub loop-township-preserved : goal.loop-township-preserved
+loop-township-preserved c =
+    c.loop-township.invariant
+    ∙ next_later (first_of c.args.self.now.levels c.args.self.now.townships.now (plots c.args.self.now.forest.now)
+    c.args.self.now.instrument.now c.args.self.now.tract.now)
+    (first_join c.args.self.now.levels c.args.self.now.townships.now (plots c.args.self.now.forest.now)
+    c.args.self.now.instrument.now c.args.self.now.tract.now) (township_cells depth) c.args.self.now.townships.now
+    c.loop-township.township-index c.township-item.result c.first_in_township-found.result
+    c.loop-township-test.true c.township-item.is (sym c.is_some.ensures ∙ c.if-is_some.false) c.first_in_township-found.ensures.first
+
+pub returns : goal.returns
+returns c =
+    record {
+      first = none_left (first_of c.args.self.now.levels c.args.self.now.townships.now (plots c.args.self.now.forest.now)
+          c.args.self.now.instrument.now c.args.self.now.tract.now) refl (township_cells depth) c.args.self.now.townships.now
+          c.loop-township.township-index c.loop-township-test.false
+          ∙ sym c.loop-township.invariant
+          ∙ tract_cells c.args.self.now.levels c.args.self.now.townships.now (plots c.args.self.now.forest.now)
+          c.args.self.now.instrument.now c.args.self.now.tract.now;
+    }

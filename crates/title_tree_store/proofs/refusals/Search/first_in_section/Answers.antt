@@ -1,0 +1,31 @@
+-- The walk begins with the whole section and all its levels.
+use Rattle.std.proofs.Common.{◌∙◌, List, [], ℕ, ap, sym, subst}
+use Rattle.title_land.specs.Depth.{depth}
+use Rattle.title_land.specs.declared.rectangle.TheConstants.{DEPTH}
+use Rattle.title_land.specs.declared.rectangle.Quarter.{Quarter}
+use Rattle.title_land.specs.CellLists.{cells_below}
+use Rattle.title_land.proofs.Sides.{depth_is}
+use Rattle.title_tree.specs.Trees.{plot}
+use Rattle.title_tree_store.specs.Spots.{square_path}
+use Rattle.title_tree_store.specs.Forests.{plots}
+use Rattle.title_tree_store.specs.Refusing.{first_of, StandsAt}
+use Rattle.title_tree_store.proofs.Standing.{section_stands}
+use Rattle.title_tree_store.proofs.refusals.Search.first_in_section.Goals as goal
+
+pub first_in_square-requires-clause-here : goal.first_in_square-requires-clause-here
+first_in_square-requires-clause-here c =
+    subst (λ (w : List Quarter). StandsAt (plots c.args.self.now.forest.now)
+    (square_path c.args.self.now.levels c.args.self.now.townships.now c.args.section w) (plot c.numbered-trees.result.s.now)
+    (plot c.numbered-trees.result.o.now) (plot c.numbered-trees.result.m.now)) (sym c.section.ensures.whole)
+    (section_stands c.args.self.now.levels c.args.self.now.townships.now (plots c.args.self.now.forest.now) c.args.section c.from.result
+    (plot c.args.township.now.s.now) (plot c.args.township.now.o.now) (plot c.args.township.now.m.now)
+    (plot c.numbered-trees.result.s.now) (plot c.numbered-trees.result.o.now) (plot c.numbered-trees.result.m.now) c.requires.here
+    c.from.ensures c.numbered-trees.ensures.s c.numbered-trees.ensures.o c.numbered-trees.ensures.m)
+
+pub returns : goal.returns
+returns c =
+    let of = λ (n : ℕ) (w : List Quarter). first_of c.args.self.now.levels c.args.self.now.townships.now (plots c.args.self.now.forest.now)
+    c.args.self.now.instrument.now c.args.self.now.tract.now (cells_below depth c.args.section n w) in
+    record {
+      first = c.first_in_square.ensures.first ∙ ap (of DEPTH) c.section.ensures.whole ∙ ap (λ (n : ℕ). of n []) (sym depth_is);
+    }

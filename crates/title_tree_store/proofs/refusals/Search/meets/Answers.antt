@@ -1,0 +1,13 @@
+-- The square is a tract of its own.
+use Rattle.std.proofs.Common.{◌≡◌, true, subst}
+use Rattle.std.specs.Prelude.{◌↔◌}
+use Rattle.title_land.specs.Depth.{depth}
+use Rattle.title_land.specs.declared.tract.Land.{Land}
+use Rattle.title_land.specs.Lands.{Meets}
+use Rattle.title_tree_store.proofs.refusals.Search.meets.Goals as goal
+
+pub returns : goal.returns
+returns c = record {
+  shares = subst (λ (x : Land). (c.meets.result ≡ true) ↔ Meets depth c.args.self.now.tract.now x) c.of.ensures.of
+      c.meets.ensures.shares;
+}
