@@ -11,3 +11,4 @@ pub mod Operations
 pub mod Holdings
 pub mod Apart
 pub mod Puts
+pub mod Crossing
