@@ -5,3 +5,4 @@ pub mod Settling
 pub mod Lists
 pub mod Runs
 pub mod Ends
+pub mod Crossing

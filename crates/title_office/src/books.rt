@@ -13,13 +13,13 @@ use crate::room::Room;
 use std::marker::{Model, PhantomData};
 use title_desk::Desk;
 use title_lock::NodeLocks;
-use title_store::CellStore;
 use title_trace::{Reply, Request};
+use title_tree_store::TreeStore;
 
 /// What lies behind an office's lock: the desk. A contract sees its trace, which is due.
 #[derive(Drop)]
 pub struct Books<B: Room> {
-    pub(crate) desk: Desk<CellStore, NodeLocks>,
+    pub(crate) desk: Desk<TreeStore, NodeLocks>,
     pub(crate) of: PhantomData<B>,
 }
 

@@ -13,3 +13,4 @@ pub mod Apart
 pub mod Puts
 pub mod Firsts
 pub mod Standing
+pub mod Crossing
