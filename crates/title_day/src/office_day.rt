@@ -18,7 +18,9 @@ use std::sync::Wait;
 use std::thread::Threads;
 use title_chain::Records;
 use title_land::Township;
-use title_office::{Fault, Office, OpenGate, Opened, Outcome, Room, Script, Seat, Worked, work};
+use title_office::{
+    Fault, Ledger, Office, OpenGate, Opened, Outcome, Room, Script, Seat, Worked, work,
+};
 use title_script::RunFault;
 
 /// What a settled office leaves: a tally for each examiner, in order, and the committed records in the order of their commits.
@@ -30,6 +32,9 @@ pub(crate) struct Day {
 
 /// The number by which the office tells its own seats and slips.
 const OFFICE: u64 = 1;
+
+/// Nobody looks at it while its scripts run.
+const VIEWERS: u32 = 0;
 
 // The fault of the first worker that has ended with one.
 fn first_fault<B: Room>(worked: &[Worked<B>]) -> Option<Fault>
@@ -111,8 +116,9 @@ fn run_scripts<B: Room + Send + Sync, T: Threads + Wait + Sync>(
     }
 }
 
-// Settles the office with what the workers know.
-fn settle<B: Room>(
+// Settles the office with what the workers know, and ends it.
+fn settle<B: Room, T: Wait>(
+    rt: &T,
     alloc: Global,
     office: Office<B>,
     worked: Vec<Worked<B>>,
@@ -123,27 +129,38 @@ fn settle<B: Room>(
     ensures serial { IfOk result (λ day. IsSerial depth B.setting.townships (reverse day.records)) }
     ensures why { IfErr result IsOfficeTrouble }
 {
-    let tallies = tallies(alloc, worked.as_slice())?;
-    let outcomes = gather(alloc, worked)?;
+    let Ok(tallies) = tallies(alloc, worked.as_slice()) else {
+        office.close(rt);
+        return Err(OfficeFault::Run(RunFault::Memory));
+    };
+    let Ok(outcomes) = gather(alloc, worked) else {
+        office.close(rt);
+        return Err(OfficeFault::Run(RunFault::Memory));
+    };
     match office.settle(outcomes) {
         Ok(settled) => Ok(Day {
             tallies,
-            records: settled.records,
+            records: settled.close(rt),
         }),
-        Err((_, _, why)) => Err(OfficeFault::Unsettled(why)),
+        Err((office, _, why)) => {
+            office.close(rt);
+            Err(OfficeFault::Unsettled(why))
+        }
     }
 }
 
-// Opens an office, runs the scripts and settles it.
+// Opens an office without viewers, runs the scripts, settles it and ends it.
 fn keep_day<B: Room + Send + Sync, T: Threads + Wait + Sync>(
     rt: &T,
     alloc: Global,
+    ledger: Ledger,
     parties: u32,
     townships: &[Township],
     examiners: u32,
     scripts: Vec<Script>,
     tries: u32,
 ) -> Result<Day, OfficeFault>
+    requires book { ledger ≡ B.book }
     requires setting { B.setting ≡ record { parties = parties; townships = townships.now } }
     requires may_open { MayOpen parties townships.now }
     requires seats { examiners ≤ most_seats }
@@ -153,12 +170,24 @@ fn keep_day<B: Room + Send + Sync, T: Threads + Wait + Sync>(
     ensures serial { IfOk result (λ day. IsSerial depth townships.now (reverse day.records)) }
     ensures why { IfErr result IsOfficeTrouble }
 {
-    let Ok(opened) = Office::<B>::open(alloc, OFFICE, parties, townships, examiners) else {
+    let opened = Office::<B>::open(
+        rt, alloc, ledger, OFFICE, parties, townships, examiners, VIEWERS,
+    );
+    let Ok(opened) = opened else {
         return Err(OfficeFault::Run(RunFault::Memory));
     };
-    let Opened { office, seats } = opened;
-    let worked = run_scripts(rt, alloc, &office, seats, scripts, tries)?;
-    settle(alloc, office, worked)
+    let Opened {
+        office,
+        seats,
+        viewers: _,
+    } = opened;
+    match run_scripts(rt, alloc, &office, seats, scripts, tries) {
+        Ok(worked) => settle(rt, alloc, office, worked),
+        Err(why) => {
+            office.close(rt);
+            Err(why)
+        }
+    }
 }
 
 /// Opens an office for parties numbered from 0 and these townships, runs each examiner's script by a thread of its own, and settles
@@ -180,5 +209,14 @@ pub(crate) fn run_day<T: Threads + Wait + Sync>(
     ensures serial { IfOk result (λ day. IsSerial depth townships.now (reverse day.records)) }
     ensures why { IfErr result IsOfficeTrouble }
 {
-    keep_day::<Brand, _>(rt, alloc, parties, townships, examiners, scripts, tries)
+    keep_day::<Brand, _>(
+        rt,
+        alloc,
+        Ledger::new(),
+        parties,
+        townships,
+        examiners,
+        scripts,
+        tries,
+    )
 }

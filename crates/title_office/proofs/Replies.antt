@@ -80,7 +80,7 @@ past_to_step : (setting : Setting) (before : List Call) (e : ℕ) (a : Ask) (way
 past_to_step setting before e a None = tt
 past_to_step setting before e a (Some f) = tt
 
-due_to_step : (setting : Setting) (before : List Call) (e : ℕ) (a : Ask) (r : Reply) (begun inside : Bool) (cause : Option Cause)
+pub due_to_step : (setting : Setting) (before : List Call) (e : ℕ) (a : Ask) (r : Reply) (begun inside : Bool) (cause : Option Cause)
     (full : Bool) → DueStep depth setting before e a r begun inside cause full → IsToStep r
 due_to_step setting before e a r false inside cause full due = subst IsToStep (sym due) tt
 due_to_step setting before e a r true false cause full due = subst IsToStep (sym due) tt

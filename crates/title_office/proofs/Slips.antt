@@ -3,7 +3,7 @@ use Rattle.std.proofs.Common.{◌≡◌, ◌≤◌, ◌++◌, ℕ, suc, Bool, tr
 use Rattle.std.proofs.Common.{refl, sym, ap, ◌∙◌, subst}
 use Rattle.std.proofs.lemmas.Bool.{eq-eqb}
 use Rattle.std.proofs.Math.Nat.{le_refl}
-use Rattle.std.proofs.lemmas.List.{reverse-append, reverse-reverse}
+use Rattle.std.proofs.lemmas.List.{reverse-append, reverse-reverse, length-reverse}
 use Rattle.title_land.specs.Depth.{depth}
 use Rattle.title_instrument.specs.declared.parts.Cause.{Cause}
 use Rattle.title_chain.specs.declared.ask.Ask.{Ask}
@@ -23,7 +23,8 @@ use Rattle.title_trace.proofs.Law.{committed_serial}
 use Rattle.title_office.specs.declared.fault.Fault.{Fault}
 use Rattle.title_office.specs.declared.fault.Fault.TheVariants as fault
 use Rattle.title_office.specs.Offices.{IsServed, IsRefused, refusal_of, SlipState, SeatState, Stands, Falls, Answers, Commits, IsLast}
-use Rattle.title_office.specs.Offices.{seeing, with_step, with_steps, having_seen}
+use Rattle.title_office.specs.Offices.{seeing, receipt_for, with_step, with_steps, having_seen}
+use Rattle.title_views.specs.Views.{Shows}
 use Rattle.title_office.proofs.Replies.{added, committed_at}
 
 abbrev pub call : Request → Reply → Call
@@ -65,36 +66,60 @@ falls_at_commit setting slip before Holds fault.Memory due falls = absurd falls
 falls_at_commit setting slip before Holds fault.NoThread due falls = absurd falls
 
 -- a commit that nothing refuses
-pub commits : (setting : Setting) (slip : SlipState) (before after : List Call) (r : Reply) (place : ℕ) (rec : Record) (seat : SeatState)
-    → setting.parties ≤ most_parties → IsDue depth setting before → IsServed setting before (request.Commit slip.seat.examiner) r after
-    → refusal_of r ≡ None → Stands slip before → slip.rec.examiner ≡ slip.seat.examiner → place ≡ length (committed after)
-    → rec ≡ slip.rec → seat ≡ record slip.seat { seen = place } → Commits setting slip place rec seat
-commits setting slip before after r place rec seat few due served none stands own count same left =
+pub commits : (setting : Setting) (slip : SlipState) (before after : List Call) (r : Reply) (place : ℕ) (rec : Record) (receipt : Shows)
+    (seat : SeatState) → setting.parties ≤ most_parties → IsDue depth setting before
+    → IsServed setting before (request.Commit slip.seat.examiner) r after → refusal_of r ≡ None → Stands slip before
+    → slip.rec.examiner ≡ slip.seat.examiner → place ≡ length receipt.front → receipt ≡ receipt_for slip.seat after
+    → rec ≡ slip.rec → seat ≡ record slip.seat { seen = place } → Commits setting slip place rec receipt seat
+commits setting slip before after r place rec receipt seat few due served none stands own count given same left =
     let e = slip.seat.examiner in
     let a = added setting before after (request.Commit e) r served none in
     let is = committed_at setting before e r a.1 none in
     let now : List Call = record { request = request.Commit e; reply = reply.Committed (suc (length (committed before))) } ∷ before in
     let grown : after ≡ now = a.0 ∙ ap (λ (s : Reply). call (request.Commit e) s ∷ before) is in
-    let at : place ≡ suc (length (committed before)) = count ∙ ap (λ t. length (committed t)) grown in
+    let fronts : receipt.front ≡ reverse (committed now) =
+    ap (λ (s : Shows). s.front) given ∙ ap (λ t. reverse (committed t)) grown in
+    let at : place ≡ suc (length (committed before)) = count ∙ ap length fronts ∙ length-reverse (committed now) in
     let last : IsDue depth setting now = (due, subst (DueReply depth setting before (request.Commit e)) is a.1) in
     let steps : reverse (open_steps before e) ≡ slip.rec.steps = ap reverse stands.1 ∙ reverse-reverse slip.rec.steps in
     let whole : record_of e (open_steps before e) ≡ slip.rec = λ i. record { examiner = sym own i; steps = steps i } in
-    let own_record : record_of e (open_steps before e) ≡ rec = whole ∙ sym same in (
+    let own_record : record_of e (open_steps before e) ≡ rec = whole ∙ sym same in
+    let shown : List Record → Shows = λ done. record { number = slip.seat.number; front = reverse done } in (
       before,
       subst (λ n. IsDue depth setting (record { request = request.Commit e; reply = reply.Committed n } ∷ before)) (sym at) last,
       stands,
       at,
       same,
       subst (λ r. IsSerial depth setting.townships (r ∷ committed before)) own_record (committed_serial depth setting few now last),
+      given ∙ ap (λ t. shown (committed t)) grown ∙ ap (λ (y : Record). shown (y ∷ committed before)) own_record,
       left,
     )
 
 -- ---- what is open after a call
 
+-- a slip without steps
+abbrev pub begun_with : SeatState → ℕ → Shows → SlipState
+begun_with seat count receipt = record {
+  seat = record seat { seen = count };
+  rec = record { examiner = seat.examiner; steps = [] };
+  receipt = receipt;
+}
+
+-- a slip that was begun with a receipt of what is committed
+pub begun : (before : List Call) (seat : SeatState) (receipt : Shows) → receipt ≡ receipt_for seat before
+    → begun_with seat (length receipt.front) receipt ≡ begun_with seat (length (committed before)) (receipt_for seat before)
+begun before seat receipt is =
+    ap (λ (q : Shows). begun_with seat (length q.front) q) is
+    ∙ ap (λ (n : ℕ). begun_with seat n (receipt_for seat before)) (length-reverse (committed before))
+
 -- an examiner who has begun stands
 pub stands_begun : (before after : List Call) (seat : SeatState) (slip : SlipState)
     → after ≡ record { request = request.Begin seat.examiner; reply = reply.Began } ∷ before
-    → slip ≡ record { seat = seeing seat before; rec = record { examiner = seat.examiner; steps = [] } } → Stands slip after
+    → slip ≡ record {
+      seat = seeing seat before;
+      rec = record { examiner = seat.examiner; steps = [] };
+      receipt = receipt_for seat before;
+    } → Stands slip after
 stands_begun before after seat slip grown is =
     let e = seat.examiner in
     let now : List Call = record { request = request.Begin e; reply = reply.Began } ∷ before in
@@ -135,12 +160,18 @@ pub put_back : (s0 s1 s2 : SlipState) (own : List Step) → s1 ≡ with_steps s0
 put_back s0 s1 s2 own emptied filled = filled ∙ ap (λ (s : SlipState). with_steps s own) emptied
 
 -- and after its seat has seen the records
-pub with_answer : (s0 s2 s3 : SlipState) (before : List Call) (a : Ask) (given : Answer) (own : List Step) (n : ℕ)
-    → own ≡ s0.rec.steps ++ record { ask = a; answer = given } ∷ [] → n ≡ length (committed before)
-    → s2 ≡ with_steps s0 own → s3 ≡ having_seen s2 n → s3 ≡ with_step s0 before a given
-with_answer s0 s2 s3 before a given own n grown count filled seen =
-    seen ∙ ap (λ (s : SlipState). having_seen s n) filled ∙ ap (λ (k : ℕ). having_seen (with_steps s0 own) k) count
-    ∙ ap (λ (l : List Step). having_seen (with_steps s0 l) (length (committed before))) grown
+pub with_answer : (s0 s2 s3 : SlipState) (before : List Call) (a : Ask) (given : Answer) (own : List Step) (receipt : Shows)
+    → own ≡ s0.rec.steps ++ record { ask = a; answer = given } ∷ [] → receipt ≡ receipt_for s0.seat before
+    → s2 ≡ with_steps s0 own → s3 ≡ having_seen s2 receipt → s3 ≡ with_step s0 before a given
+with_answer s0 s2 s3 before a given own receipt grown is filled seen =
+    let shows = receipt_for s0.seat before in
+    let counted : ℕ → SlipState = λ n. record {
+      seat = record s0.seat { seen = n };
+      rec = record { examiner = s0.rec.examiner; steps = s0.rec.steps ++ record { ask = a; answer = given } ∷ [] };
+      receipt = shows;
+    } in
+    seen ∙ ap (λ (s : SlipState). having_seen s receipt) filled ∙ ap (λ (q : Shows). having_seen (with_steps s0 own) q) is
+    ∙ ap (λ (l : List Step). having_seen (with_steps s0 l) shows) grown ∙ ap counted (length-reverse (committed before))
 
 -- who has committed has nothing open
 pub shut_committed : (setting : Setting) (before after : List Call) (r : Reply) (e : ℕ) → IsServed setting before (request.Commit e) r after

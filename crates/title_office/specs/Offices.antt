@@ -19,6 +19,7 @@ use Rattle.title_settle.specs.declared.outcome.Outcome.{Outcome}
 use Rattle.title_settle.specs.declared.outcome.Unsettled.{Unsettled}
 use Rattle.title_settle.specs.declared.outcome.Unsettled.TheVariants as unsettled
 use Rattle.title_settle.specs.Settling.{IsSettled, IsUneven}
+use Rattle.title_views.specs.Views.{Shows, Sight}
 use Rattle.title_office.specs.declared.fault.Fault.{Fault}
 use Rattle.title_office.specs.declared.fault.Fault.TheVariants as fault
 
@@ -28,18 +29,19 @@ pub record SeatState : Type 0 where
   pub examiner : ℕ
   pub seen : ℕ
 
--- a slip: the seat that it was begun from, and its record so far
+-- a slip: the seat that it was begun from, its record so far, and its receipt
 pub record SlipState : Type 0 where
   pub seat : SeatState
   pub rec : Record
+  pub receipt : Shows
 
 -- the slip with these steps in place of its own
 abbrev pub with_steps : SlipState → List Step → SlipState
-with_steps slip own = record { seat = slip.seat; rec = record { examiner = slip.rec.examiner; steps = own } }
+with_steps slip own = record slip { rec = record { examiner = slip.rec.examiner; steps = own } }
 
--- the slip whose seat has seen so many records
-abbrev pub having_seen : SlipState → ℕ → SlipState
-having_seen slip count = record { seat = record slip.seat { seen = count }; rec = slip.rec }
+-- the slip with this receipt, whose records its seat has seen
+abbrev pub having_seen : SlipState → Shows → SlipState
+having_seen slip receipt = record { seat = record slip.seat { seen = length receipt.front }; rec = slip.rec; receipt = receipt }
 
 -- the most seats of an office
 abbrev pub most_seats : ℕ
@@ -58,6 +60,15 @@ last_answer steps = first_answer (reverse steps)
 abbrev pub opening_seats : ℕ → ℕ → List SeatState
 opening_seats number zero = []
 opening_seats number (suc e) = opening_seats number e ++ record { number = number; examiner = suc e; seen = 0 } ∷ []
+
+-- a viewer that has just been opened: it has seen no record, and learnt of none
+abbrev pub opening_sight : ℕ → Sight
+opening_sight number = record { number = number; seen = []; told = [] }
+
+-- a request that publishes no record: it isn't the commit of a transaction that is open
+abbrev pub PublishesNothing : List Call → Request → Type 0
+PublishesNothing before (request.Commit e) = is_open e before ≡ false
+PublishesNothing before _ = Unit {0}
 
 -- under the lock a call is added to the trace with the due reply, or wants memory and changes nothing
 abbrev pub IsServed : Setting → List Call → Request → Reply → List Call → Type 0
@@ -82,17 +93,26 @@ Stands slip before =
 abbrev pub seeing : SeatState → List Call → SeatState
 seeing seat before = record seat { seen = length (committed before) }
 
+-- the receipt of what is committed, for this seat; a receipt lists the oldest record first
+abbrev pub receipt_for : SeatState → List Call → Shows
+receipt_for seat before = record { number = seat.number; front = reverse (committed before) }
+
 -- a transaction is begun: the slip has no step
 abbrev pub Begins : Setting → SeatState → SlipState → Type 0
 Begins setting seat slip =
     (before : List Call) × IsLast setting before (request.Begin seat.examiner) reply.Began × HasSeen seat before
-    × (slip ≡ record { seat = seeing seat before; rec = record { examiner = seat.examiner; steps = [] } })
+    × (slip ≡ record {
+      seat = seeing seat before;
+      rec = record { examiner = seat.examiner; steps = [] };
+      receipt = receipt_for seat before;
+    })
 
 -- the slip with an answered ask more
 abbrev pub with_step : SlipState → List Call → Ask → Answer → SlipState
 with_step slip before a given = record {
   seat = seeing slip.seat before;
   rec = record { examiner = slip.rec.examiner; steps = slip.rec.steps ++ record { ask = a; answer = given } ∷ [] };
+  receipt = receipt_for slip.seat before;
 }
 
 -- a step is answered: the slip has this ask with the due answer more
@@ -101,11 +121,12 @@ Answers setting slip a after =
     (before : List Call) × (given : Answer) × IsLast setting before (request.Step slip.seat.examiner a) (reply.Answered given)
     × Stands slip before × (after ≡ with_step slip before a given)
 
--- a transaction is committed: its record is the slip's, behind the records before it; these and it are serial
-abbrev pub Commits : Setting → SlipState → ℕ → Record → SeatState → Type 0
-Commits setting slip place rec seat =
+-- a transaction is committed: its record is the slip's, behind the records before it; these and it are serial, and the receipt has them
+abbrev pub Commits : Setting → SlipState → ℕ → Record → Shows → SeatState → Type 0
+Commits setting slip place rec receipt seat =
     (before : List Call) × IsLast setting before (request.Commit slip.seat.examiner) (reply.Committed place) × Stands slip before
     × (place ≡ suc (length (committed before))) × (rec ≡ slip.rec) × IsSerial depth setting.townships (rec ∷ committed before)
+    × (receipt ≡ record { number = slip.seat.number; front = reverse (rec ∷ committed before) })
     × (seat ≡ record slip.seat { seen = place })
 
 -- a transaction is aborted, or its examiner has none open

@@ -8,21 +8,19 @@ ghost use Rattle.title_office.specs.Offices.{Aborts, Answers, Begins, Commits, H
 
 use crate::books::Books;
 use crate::fault::Fault;
-use crate::room::Room;
 use crate::seat::Seat;
 use crate::slip::Slip;
-use std::alloc::Global;
 use std::marker::Model;
 use std::sync::{Mutex, MutexGuard, Wait};
 use title_chain::{Ask, Posting, Record};
 use title_land::Tract;
+use title_ledger::Room;
 use title_trace::Reply;
+use title_views::Receipt;
 
 /// One desk behind a lock. A contract sees its number, by which it tells its own seats and slips from those of another office with
-/// the same parameter.
-#[derive(Drop)]
+/// the same parameter. It isn't let go but by `settle` and `close`.
 pub struct Office<B: Room> {
-    pub(crate) alloc: Global,
     pub(crate) number: u64,
     pub(crate) books: Mutex<Books<B>>,
 }
@@ -35,11 +33,12 @@ impl<B: Room> Model for Office<B> {
     ghost view = { λ o. o.number };
 }
 
-/// A commit: the place of the record, from 1, the record, and the seat, which has seen that many records.
+/// A commit: the place of the record, from 1, the record, the receipt of the records up to it, and the seat, which has seen them.
 #[derive(Drop)]
 pub struct Done<B: Room> {
     pub place: u64,
     pub rec: Record,
+    pub receipt: Receipt<B>,
     pub seat: Seat<B>,
 }
 
@@ -54,7 +53,7 @@ impl<B: Room> Office<B> {
             return Err((seat, Fault::Stranger));
         }
         let mut books = self.books.lock(rt);
-        let answer = books.begin_of(self.alloc, seat);
+        let answer = books.begin_of(rt, seat);
         MutexGuard::unlock(books);
         answer
     }
@@ -69,7 +68,7 @@ impl<B: Room> Office<B> {
             return Err(Fault::Stranger);
         }
         let mut books = self.books.lock(rt);
-        let answer = books.step_of(self.alloc, slip, ask);
+        let answer = books.step_of(rt, slip, ask);
         MutexGuard::unlock(books);
         answer
     }
@@ -105,7 +104,7 @@ impl<B: Room> Office<B> {
     /// Commits the transaction. Faults in their order: Stranger by the number, NotOpen, Stranger by the steps or by the records seen,
     /// Memory; the slip comes back as it was.
     pub fn commit<R: Wait>(&self, rt: &R, slip: Slip<B>) -> Result<Done<B>, (Slip<B>, Fault)>
-        ensures committed { MatchResult result (λ done. Commits B.setting slip done.place done.rec done.seat)
+        ensures committed { MatchResult result (λ done. Commits B.setting slip done.place done.rec done.receipt done.seat)
             (λ e. (e.0 ≡ slip) × IsRefused B.setting (Stands slip) (request.Commit slip.seat.examiner) e.1) }
         ensures own { OnOk result (slip.seat.number ≡ self.now) }
     {
@@ -113,7 +112,7 @@ impl<B: Room> Office<B> {
             return Err((slip, Fault::Stranger));
         }
         let mut books = self.books.lock(rt);
-        let answer = books.commit_of(slip);
+        let answer = books.commit_of(rt, slip);
         MutexGuard::unlock(books);
         answer
     }
@@ -129,7 +128,7 @@ impl<B: Room> Office<B> {
             return Err((slip, Fault::Stranger));
         }
         let mut books = self.books.lock(rt);
-        let answer = books.abort_of(slip);
+        let answer = books.abort_of(rt, slip);
         MutexGuard::unlock(books);
         answer
     }
@@ -139,8 +138,14 @@ impl<B: Room> Office<B> {
         ensures swept { Sweeps B.setting examiner result }
     {
         let mut books = self.books.lock(rt);
-        let reply = books.sweep(examiner);
+        let reply = books.sweep(rt, examiner);
         MutexGuard::unlock(books);
         reply
+    }
+
+    /// Ends the office: its viewers show nothing from then on. It may wait for them; takes no memory.
+    pub fn close<R: Wait>(self, rt: &R) {
+        let Office { number: _, books } = self;
+        books.into_inner().close(rt);
     }
 }

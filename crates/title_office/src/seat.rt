@@ -1,12 +1,13 @@
 //! Seats.
 
-ghost use Rattle.std.specs.Prelude.{◌≡◌, []};
+ghost use Rattle.std.specs.Prelude.{◌≡◌, [], length};
 
-use crate::room::Room;
 use crate::slip::Slip;
 use std::alloc::Global;
 use std::marker::{Model, PhantomData};
 use title_chain::{Record, Steps};
+use title_ledger::Room;
+use title_views::Receipt;
 
 /// The right of one examiner to open a transaction at one office. It knows how many records its examiner has seen committed.
 #[derive(Drop)]
@@ -45,18 +46,22 @@ impl<B: Room> Seat<B> {
         }
     }
 
-    // The slip of a transaction begun from this seat, which has seen so many records.
-    pub(crate) fn opened(self, alloc: Global, seen: u64) -> Slip<B>
-        ensures opened { result
-            ≡ record { seat = record self { seen = seen }; rec = record { examiner = self.examiner; steps = [] } } }
+    // The slip of a transaction begun from this seat, which has seen the records of a receipt.
+    pub(crate) fn opened(self, alloc: Global, receipt: Receipt<B>) -> Slip<B>
+        ensures opened { result ≡ record {
+          seat = record self { seen = length receipt.front };
+          rec = record { examiner = self.examiner; steps = [] };
+          receipt = receipt;
+        } }
     {
         let rec = Record {
             examiner: self.examiner,
             steps: Steps::empty(alloc),
         };
         Slip {
-            seat: self.having_seen(seen),
+            seat: self.having_seen(receipt.place()),
             rec,
+            receipt,
         }
     }
 

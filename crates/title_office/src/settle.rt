@@ -5,22 +5,33 @@ ghost use Rattle.title_office.specs.Offices.{IsUnsettled, Settles};
 
 use crate::books::Books;
 use crate::office::Office;
-use crate::room::Room;
-use std::alloc::Global;
 use std::marker::Model;
-use std::sync::Mutex;
+use std::sync::{Mutex, Wait};
 use title_chain::Records;
+use title_ledger::Room;
 use title_settle::{Outcome, Unsettled, compare};
+use title_views::Fronts;
 
-/// A settled office: its committed records, in the order of their commits.
-#[derive(Drop)]
-pub struct Settled {
+/// A settled office: its committed records, in the order of their commits. Its viewers still show them. It isn't let go but by `close`.
+pub struct Settled<B: Room> {
     pub records: Records,
+    fronts: Fronts<B>,
+}
+
+impl<B: Room> Settled<B> {
+    /// Ends the office, and gives its records: its viewers show nothing from then on. It may wait for them; takes no memory.
+    pub fn close<R: Wait>(self, rt: &R) -> Records
+        ensures records { result ≡ self.records }
+    {
+        let Settled { records, fronts } = self;
+        fronts.close(rt);
+        records
+    }
 }
 
 impl<B: Room> Books<B> {
     // The records, where nobody has a transaction open and the outcomes are these records.
-    fn settled(&self, alloc: Global, outcomes: &[Outcome]) -> Result<Records, Unsettled>
+    fn settled(&self, outcomes: &[Outcome]) -> Result<Records, Unsettled>
         ensures settled { MatchResult result (λ records. Settles B.setting outcomes.now records)
             (λ why. IsUnsettled B.setting outcomes.now why) }
     {
@@ -28,10 +39,10 @@ impl<B: Room> Books<B> {
             return Err(Unsettled::Open(examiner));
         }
         let records = self.desk.records();
-        if let Err(why) = compare(alloc, records, outcomes) {
+        if let Err(why) = compare(self.alloc, records, outcomes) {
             return Err(why);
         }
-        match Records::copy_of(alloc, records) {
+        match Records::copy_of(self.alloc, records) {
             Ok(records) => Ok(records),
             Err(_) => Err(Unsettled::Memory),
         }
@@ -45,26 +56,24 @@ impl<B: Room> Office<B> {
     pub fn settle(
         self,
         outcomes: Vec<Outcome>,
-    ) -> Result<Settled, (Office<B>, Vec<Outcome>, Unsettled)>
+    ) -> Result<Settled<B>, (Office<B>, Vec<Outcome>, Unsettled)>
         ensures settled { MatchResult result (λ done. Settles B.setting outcomes.items done.records)
             (λ e. (e.0 ≡ self) × (e.1 ≡ outcomes) × IsUnsettled B.setting outcomes.items e.2) }
     {
-        let Office {
-            alloc,
-            number,
-            books,
-        } = self;
+        let Office { number, books } = self;
         let books = books.into_inner();
-        match books.settled(alloc, &outcomes) {
-            Ok(records) => Ok(Settled { records }),
+        match books.settled(&outcomes) {
+            Ok(records) => {
+                let Books {
+                    alloc: _,
+                    desk: _,
+                    fronts,
+                } = books;
+                Ok(Settled { records, fronts })
+            }
             Err(why) => {
                 let books = Mutex::new(books);
-                let office = Office {
-                    alloc,
-                    number,
-                    books,
-                };
-                Err((office, outcomes, why))
+                Err((Office { number, books }, outcomes, why))
             }
         }
     }

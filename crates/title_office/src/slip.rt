@@ -1,21 +1,23 @@
 //! Slips.
 
-ghost use Rattle.std.specs.Prelude.{◌≡◌, [], option_map};
+ghost use Rattle.std.specs.Prelude.{◌≡◌, [], length, option_map};
 ghost use Rattle.title_office.specs.Offices.{last_answer, having_seen, with_steps};
 
 use crate::office::Done;
-use crate::room::Room;
 use crate::seat::Seat;
 use std::alloc::Global;
 use std::marker::Model;
 use std::mem::replace;
 use title_chain::{Answer, Record, Step, Steps};
+use title_ledger::Room;
+use title_views::Receipt;
 
-/// An open transaction: the seat that it was begun from, and its steps so far.
+/// An open transaction: the seat that it was begun from, its steps so far, and the receipt of what its last answer stands on.
 #[derive(Drop)]
 pub struct Slip<B: Room> {
     pub(crate) seat: Seat<B>,
     pub(crate) rec: Record,
+    pub(crate) receipt: Receipt<B>,
 }
 
 impl<B: Room> Model for Slip<B> {
@@ -24,7 +26,7 @@ impl<B: Room> Model for Slip<B> {
 
     ghost Value = { SlipState };
 
-    ghost view = { λ s. record { seat = s.seat; rec = s.rec } };
+    ghost view = { λ s. record { seat = s.seat; rec = s.rec; receipt = s.receipt } };
 
     ghost invariant = { λ s. s.rec.examiner ≡ s.seat.examiner };
 }
@@ -45,12 +47,26 @@ impl<B: Room> Slip<B> {
         Some(&step.answer)
     }
 
+    /// The receipt of the records that were committed when its last call was answered. Takes no memory.
+    pub fn receipt(&self) -> &Receipt<B>
+        ensures receipt { result.now ≡ self.now.receipt }
+    {
+        &self.receipt
+    }
+
     // The examiner whose transaction it is.
     pub(crate) fn examiner(&self) -> u32
         ensures examiner { result ≡ self.now.seat.examiner }
         ensures own { result ≡ self.now.rec.examiner }
     {
         self.rec.examiner
+    }
+
+    // The seat that it was begun from.
+    pub(crate) fn seat(&self) -> &Seat<B>
+        ensures seat { result.now ≡ self.now.seat }
+    {
+        &self.seat
     }
 
     // Takes the steps out.
@@ -68,32 +84,44 @@ impl<B: Room> Slip<B> {
         self.rec.steps = Steps::new(steps);
     }
 
-    // Notes how many records the seat has seen.
-    pub(crate) fn see(&mut self, seen: u64)
-        ensures seen { self.new ≡ having_seen self.old seen }
+    // Takes a receipt, whose records its seat has then seen.
+    pub(crate) fn see(&mut self, receipt: Receipt<B>)
+        ensures seen { self.new ≡ having_seen self.old receipt }
     {
-        self.seat.seen = seen;
+        self.seat.seen = receipt.place();
+        self.receipt = receipt;
     }
 
-    // What comes of a commit at this place.
-    pub(crate) fn committed(self, place: u64) -> Done<B>
-        ensures place { result.place ≡ place }
+    // What comes of a commit with this receipt.
+    pub(crate) fn committed(self, receipt: Receipt<B>) -> Done<B>
+        ensures place { result.place ≡ length receipt.front }
         ensures rec { result.rec ≡ self.rec }
-        ensures seat { result.seat ≡ record self.seat { seen = place } }
+        ensures receipt { result.receipt ≡ receipt }
+        ensures seat { result.seat ≡ record self.seat { seen = length receipt.front } }
     {
-        let Slip { seat, rec } = self;
+        let Slip {
+            seat,
+            rec,
+            receipt: _,
+        } = self;
+        let place = receipt.place();
         Done {
             place,
             rec,
+            receipt,
             seat: seat.having_seen(place),
         }
     }
 
-    // The seat that it was begun from.
+    // The seat that it was begun from, by value.
     pub(crate) fn into_seat(self) -> Seat<B>
         ensures seat { result ≡ self.seat }
     {
-        let Slip { seat, rec: _ } = self;
+        let Slip {
+            seat,
+            rec: _,
+            receipt: _,
+        } = self;
         seat
     }
 }

@@ -18,7 +18,6 @@ ghost use Rattle.title_office.specs.Workers.{AreCounted, examiners_of, seat_exam
 use crate::fault::Fault;
 use crate::gate::Gate;
 use crate::office::Office;
-use crate::room::Room;
 use crate::seat::Seat;
 use crate::workers::bench::Bench;
 use crate::workers::crew::run_threads;
@@ -28,6 +27,7 @@ use std::marker::Model;
 use std::sync::Wait;
 use std::thread::Threads;
 use title_chain::Ask;
+use title_ledger::Room;
 use title_settle::Outcome;
 
 /// A transaction that a worker is to run: its asks in order, and whether it is committed or aborted at its end.

@@ -1,4 +1,4 @@
-//! Tests of the office through its public calls: what no contract says of seats, slips, settling and threads.
+//! Tests of the office through its public calls: what no contract says of seats, slips, viewers, settling and threads.
 #![tactic(auto)]
 
 #[cfg(test)]
@@ -9,3 +9,7 @@ mod settling;
 mod slips;
 #[cfg(test)]
 mod turns;
+#[cfg(test)]
+mod viewers;
+#[cfg(test)]
+mod watching;

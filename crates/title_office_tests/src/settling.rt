@@ -1,17 +1,15 @@
 //! The settling of an office: each reason why it can't be settled, and then its records.
 
 ghost use Rattle.std.specs.Prelude.{◌≡◌};
-ghost use Rattle.title_trace.specs.Due.{MayOpen};
 
-use crate::days::{begin_with_post, commit, township};
+use crate::days::{WHOLE, begin_with_deed, commit, open, outcome_of, township};
 use std::alloc::{AllocError, Global};
 use std::marker::Brand;
 use std::process::Abort;
 use std::sync::Wait;
 use std::test::Fail;
-use title_desk::may_open;
 use title_land::Township;
-use title_office::{Office, Opened, Outcome, Room, Seat, Unsettled};
+use title_office::{Ledger, Office, Opened, Outcome, Room, Seat, Slip, Unsettled};
 
 // An equal outcome with this place.
 fn placed(alloc: Global, outcome: &Outcome, place: u64) -> Result<Outcome, AllocError> {
@@ -33,20 +31,52 @@ fn outcomes(
     Ok(outcomes)
 }
 
-// The office can't be settled with these, for this reason, and comes back.
-fn assert_unsettled<B: Room>(
-    rt: &impl Abort,
+// The office can't be settled with these outcomes, for this reason, and comes back.
+fn assert_unsettled<B: Room, R: Wait + Abort>(
+    rt: &R,
+    alloc: Global,
     office: Office<B>,
-    outcomes: Vec<Outcome>,
-    wanted: Unsettled,
+    commits: &(Outcome, Outcome),
+    wanted: &[(bool, u64)],
+    reason: Unsettled,
 ) -> Result<Office<B>, Fail> {
-    let many = outcomes.len();
+    let Ok(outcomes) = outcomes(alloc, commits, wanted) else {
+        office.close(rt);
+        return Err(Fail::new("there is memory"));
+    };
     match office.settle(outcomes) {
-        Ok(_) => Err(Fail::new("it was settled")),
+        Ok(settled) => {
+            settled.close(rt);
+            Err(Fail::new("it was settled"))
+        }
         Err((office, back, why)) => {
-            assert_eq!(rt; why, wanted);
-            assert_eq!(rt; back.len(), many);
+            assert_eq!(rt; why, reason);
+            assert_eq!(rt; back.len(), wanted.len());
             Ok(office)
+        }
+    }
+}
+
+// The office is settled with these outcomes.
+fn assert_settled<B: Room, R: Wait + Abort>(
+    rt: &R,
+    alloc: Global,
+    office: Office<B>,
+    commits: &(Outcome, Outcome),
+    wanted: &[(bool, u64)],
+) -> Result<(), Fail> {
+    let Ok(outcomes) = outcomes(alloc, commits, wanted) else {
+        office.close(rt);
+        return Err(Fail::new("there is memory"));
+    };
+    match office.settle(outcomes) {
+        Ok(settled) => {
+            assert_eq!(rt; settled.close(rt).as_slice().len(), 2);
+            Ok(())
+        }
+        Err((office, _, _)) => {
+            office.close(rt);
+            Err(Fail::new("the office is settled"))
         }
     }
 }
@@ -64,73 +94,90 @@ const SWAPPED: [(bool, u64); 2] = [(true, 2), (false, 1)];
 const AS_THEY_ARE: [(bool, u64); 2] = [(false, 2), (true, 1)];
 
 // Each wrong list of outcomes, and then the right one, in another order.
-fn assert_reasons<B: Room>(
-    rt: &impl Abort,
+fn assert_reasons<B: Room, R: Wait + Abort>(
+    rt: &R,
     alloc: Global,
     office: Office<B>,
     commits: &(Outcome, Outcome),
 ) -> Result<(), Fail> {
-    let alone = outcomes(alloc, commits, &FIRST_ALONE)?;
-    let office = assert_unsettled(rt, office, alone, Unsettled::Missing(2))?;
-    let twice = outcomes(alloc, commits, &FIRST_TWICE)?;
-    let office = assert_unsettled(rt, office, twice, Unsettled::Doubled(1))?;
-    let at_three = outcomes(alloc, commits, &FIRST_AT_THREE)?;
-    let office = assert_unsettled(rt, office, at_three, Unsettled::Unknown(3))?;
-    let at_nought = outcomes(alloc, commits, &AT_NOUGHT)?;
-    let office = assert_unsettled(rt, office, at_nought, Unsettled::Unknown(0))?;
-    let swapped = outcomes(alloc, commits, &SWAPPED)?;
-    let office = assert_unsettled(rt, office, swapped, Unsettled::Different(1))?;
-    let right = outcomes(alloc, commits, &AS_THEY_ARE)?;
-    match office.settle(right) {
-        Ok(settled) => assert_eq!(rt; settled.records.as_slice().len(), 2),
-        Err(_) => return Err(Fail::new("the office is settled")),
+    let wrong: [(&[(bool, u64)], Unsettled); 5] = [
+        (&FIRST_ALONE, Unsettled::Missing(2)),
+        (&FIRST_TWICE, Unsettled::Doubled(1)),
+        (&FIRST_AT_THREE, Unsettled::Unknown(3)),
+        (&AT_NOUGHT, Unsettled::Unknown(0)),
+        (&SWAPPED, Unsettled::Different(1)),
+    ];
+    let mut office = office;
+    for (wanted, reason) in wrong {
+        office = assert_unsettled(rt, alloc, office, commits, wanted, reason)?;
     }
-    Ok(())
+    assert_settled(rt, alloc, office, commits, &AS_THEY_ARE)
 }
 
-// The two commits of two examiners; the second one's seat begins again, and the office isn't settled until it is given up.
+// The two commits of two examiners, and a slip of the second one's seat, which begins again.
 fn commit_two<B: Room, R: Wait + Abort>(
     rt: &R,
     alloc: Global,
-    office: Office<B>,
+    office: &Office<B>,
     first: Seat<B>,
     second: Seat<B>,
+) -> Result<((Outcome, Outcome), Slip<B>), Fail> {
+    let slip = begin_with_deed(rt, alloc, office, first, 5, WHOLE)?;
+    let (one, _) = outcome_of(commit(rt, office, slip)?);
+    let slip = begin_with_deed(rt, alloc, office, second, 6, WHOLE)?;
+    let (two, seat) = outcome_of(commit(rt, office, slip)?);
+    let open = begin_with_deed(rt, alloc, office, seat, 7, WHOLE)?;
+    Ok(((one, two), open))
+}
+
+// The office isn't settled until the open slip is given up, and then only with the right outcomes.
+fn settle_at_last<B: Room, R: Wait + Abort>(
+    rt: &R,
+    alloc: Global,
+    office: Office<B>,
+    commits: &(Outcome, Outcome),
+    slip: Slip<B>,
 ) -> Result<(), Fail> {
-    let slip = begin_with_post(rt, alloc, &office, first, 5)?;
-    let (one, _) = commit(rt, &office, slip)?;
-    let slip = begin_with_post(rt, alloc, &office, second, 6)?;
-    let (two, seat) = commit(rt, &office, slip)?;
-    let commits = (one, two);
-    let open = begin_with_post(rt, alloc, &office, seat, 7)?;
-    let right = outcomes(alloc, &commits, &AS_THEY_ARE)?;
-    let office = assert_unsettled(rt, office, right, Unsettled::Open(2))?;
-    if office.abort(rt, open).is_err() {
+    let open = Unsettled::Open(2);
+    let office = assert_unsettled(rt, alloc, office, commits, &AS_THEY_ARE, open)?;
+    if office.abort(rt, slip).is_err() {
+        office.close(rt);
         return Err(Fail::new("the slip is aborted"));
     }
-    assert_reasons(rt, alloc, office, &commits)
+    assert_reasons(rt, alloc, office, commits)
 }
 
 // An office of two examiners.
 fn settle_day<B: Room, R: Wait + Abort>(
     rt: &R,
     alloc: Global,
+    ledger: Ledger,
     townships: &[Township],
 ) -> Result<(), Fail>
+    requires book { ledger ≡ B.book }
     requires setting { B.setting ≡ record { parties = 2; townships = townships.now } }
 {
-    assert!(rt; may_open(2, townships));
-    let Ok(opened) = Office::<B>::open(alloc, 7, 2, townships, 2) else {
-        return Err(Fail::new("the office opens"));
+    let opened = open::<B, R>(rt, alloc, ledger, townships, 2, 0)?;
+    let Opened {
+        office,
+        mut seats,
+        viewers: _,
+    } = opened;
+    let (Some(second), Some(first)) = (seats.pop(), seats.pop()) else {
+        office.close(rt);
+        return Err(Fail::new("two seats"));
     };
-    let Opened { office, mut seats } = opened;
-    match (seats.pop(), seats.pop()) {
-        (Some(second), Some(first)) => commit_two(rt, alloc, office, first, second),
-        _ => Err(Fail::new("two seats")),
+    match commit_two(rt, alloc, &office, first, second) {
+        Ok((commits, slip)) => settle_at_last(rt, alloc, office, &commits, slip),
+        Err(fail) => {
+            office.close(rt);
+            Err(fail)
+        }
     }
 }
 
 #[test]
 fn each_reason_comes(rt: HostRuntime) -> Result<(), Fail> {
     let townships = [township(&rt)];
-    settle_day::<Brand, _>(&rt, rt.alloc(), &townships)
+    settle_day::<Brand, _>(&rt, rt.alloc(), Ledger::new(), &townships)
 }

@@ -1,8 +1,9 @@
 //! Workers run beside each other: each waits, between its begin and its next call, until the other has begun too.
 
 ghost use Rattle.std.specs.Prelude.{◌≡◌, IfOk};
+ghost use Rattle.title_office.specs.Offices.{opening_seats};
 
-use crate::days::{posting, section, township};
+use crate::days::{WHOLE, deed, open, section, township};
 use std::alloc::{AllocError, Global};
 use std::marker::Brand;
 use std::process::Abort;
@@ -11,9 +12,8 @@ use std::sync::atomic::{AtomicBool, Ordering};
 use std::test::Fail;
 use std::thread::{Threads, yield_now};
 use title_chain::Ask;
-use title_desk::may_open;
 use title_land::Township;
-use title_office::{Gate, Office, Opened, Room, Script, Transaction, Worked, work};
+use title_office::{Gate, Ledger, Office, Opened, Room, Script, Seat, Transaction, Worked, work};
 
 /// The most turns that a worker waits for the other.
 const TURNS: u64 = 100_000_000;
@@ -61,7 +61,7 @@ fn script(rt: &impl Abort, alloc: Global, examiner: u32, number: u8) -> Result<S
     ensures examiner { IfOk result (λ s. s.examiner ≡ examiner) }
 {
     let mut asks = Vec::new(alloc);
-    asks.push(Ask::Post(posting(section(rt, alloc, number)?)))?;
+    asks.push(Ask::Post(deed(rt, section(rt, alloc, number)?, WHOLE)))?;
     let mut transactions = Vec::new(alloc);
     transactions.push(Transaction {
         asks,
@@ -83,27 +83,24 @@ fn assert_done<B: Room>(rt: &impl Abort, worked: &[Worked<B>]) {
     }
 }
 
-fn turns_day<B: Room + Send + Sync, R: Threads + Wait + Abort + Sync>(
+// Two workers, each with a script of its own, in an office of two seats.
+fn work_beside<B: Room + Send + Sync, R: Threads + Wait + Abort + Sync>(
     rt: &R,
     alloc: Global,
-    townships: &[Township],
+    office: &Office<B>,
+    seats: Vec<Seat<B>>,
 ) -> Result<(), Fail>
-    requires setting { B.setting ≡ record { parties = 2; townships = townships.now } }
+    requires seats { seats.items ≡ opening_seats 7 2 }
 {
-    assert!(rt; may_open(2, townships));
     let mut scripts = Vec::new(alloc);
     scripts.push(script(rt, alloc, 1, 5)?)?;
     scripts.push(script(rt, alloc, 2, 6)?)?;
-    let Ok(opened) = Office::<B>::open(alloc, 7, 2, townships, 2) else {
-        return Err(Fail::new("the office opens"));
-    };
-    let Opened { office, seats } = opened;
     let gate = TwoFlags {
         first: AtomicBool::new(false),
         second: AtomicBool::new(false),
         in_vain: AtomicBool::new(false),
     };
-    match work(rt, alloc, &office, seats, scripts, 1, &gate) {
+    match work(rt, alloc, office, seats, scripts, 1, &gate) {
         Ok(worked) => assert_done(rt, &worked),
         Err(_) => return Err(Fail::new("there is memory")),
     }
@@ -111,8 +108,28 @@ fn turns_day<B: Room + Send + Sync, R: Threads + Wait + Abort + Sync>(
     Ok(())
 }
 
+fn turns_day<B: Room + Send + Sync, R: Threads + Wait + Abort + Sync>(
+    rt: &R,
+    alloc: Global,
+    ledger: Ledger,
+    townships: &[Township],
+) -> Result<(), Fail>
+    requires book { ledger ≡ B.book }
+    requires setting { B.setting ≡ record { parties = 2; townships = townships.now } }
+{
+    let opened = open::<B, R>(rt, alloc, ledger, townships, 2, 0)?;
+    let Opened {
+        office,
+        seats,
+        viewers: _,
+    } = opened;
+    let answer = work_beside(rt, alloc, &office, seats);
+    office.close(rt);
+    answer
+}
+
 #[test]
 fn workers_overlap(rt: HostRuntime) -> Result<(), Fail> {
     let townships = [township(&rt)];
-    turns_day::<Brand, _>(&rt, rt.alloc(), &townships)
+    turns_day::<Brand, _>(&rt, rt.alloc(), Ledger::new(), &townships)
 }

@@ -11,18 +11,18 @@ ghost use Rattle.title_office.specs.Offices.{Aborts, Answers, Begins, Commits, H
 use crate::books::Books;
 use crate::fault::{Fault, answer_in, refusal};
 use crate::office::Done;
-use crate::room::Room;
 use crate::seat::Seat;
 use crate::slip::Slip;
-use std::alloc::Global;
+use std::sync::Wait;
 use title_chain::{Ask, Step};
+use title_ledger::Room;
 use title_trace::Request;
 
 impl<B: Room> Books<B> {
     // Opens a transaction.
-    pub(crate) fn begin_of(
+    pub(crate) fn begin_of<R: Wait>(
         &mut self,
-        alloc: Global,
+        rt: &R,
         seat: Seat<B>,
     ) -> Result<Slip<B>, (Seat<B>, Fault)>
         ensures begun { MatchResult result (λ slip. Begins B.setting seat slip)
@@ -33,18 +33,18 @@ impl<B: Room> Books<B> {
             return Err((seat, Fault::Stranger));
         }
         self.is_due();
-        let (examiner, seen) = (seat.examiner(), self.count());
-        let reply = self.serve(Request::Begin(examiner));
+        let (examiner, receipt) = (seat.examiner(), self.receipt(&seat));
+        let reply = self.serve(rt, Request::Begin(examiner));
         if let Some(why) = refusal(&reply) {
             return Err((seat, why));
         }
-        Ok(seat.opened(alloc, seen))
+        Ok(seat.opened(self.alloc, receipt))
     }
 
     // Asks the desk, and adds the ask with its answer to the steps. Room for it is made first, so that after the answer nothing fails.
-    fn add_step(
+    fn add_step<R: Wait>(
         &mut self,
-        alloc: Global,
+        rt: &R,
         examiner: u32,
         ask: Ask,
         steps: &mut Vec<Step>,
@@ -56,14 +56,14 @@ impl<B: Room> Books<B> {
             (λ why. IsRefused B.setting (λ before. before ≡ self.old) (request.Step examiner ask) why
             × (steps.new.items ≡ steps.old.items)) }
     {
-        let Ok(copied) = ask.copy(alloc) else {
+        let Ok(copied) = ask.copy(self.alloc) else {
             return Err(Fault::Memory);
         };
         let Ok(()) = steps.reserve(1) else {
             return Err(Fault::Memory);
         };
         self.is_due();
-        let reply = self.serve(Request::Step(examiner, ask));
+        let reply = self.serve(rt, Request::Step(examiner, ask));
         match answer_in(reply) {
             Ok(answer) => {
                 steps.push_reserved(Step {
@@ -77,9 +77,9 @@ impl<B: Room> Books<B> {
     }
 
     // Asks for a step of the slip's transaction.
-    pub(crate) fn step_of(
+    pub(crate) fn step_of<R: Wait>(
         &mut self,
-        alloc: Global,
+        rt: &R,
         slip: &mut Slip<B>,
         ask: Ask,
     ) -> Result<(), Fault>
@@ -91,20 +91,24 @@ impl<B: Room> Books<B> {
         if let Err(why) = self.standing(slip) {
             return Err(why);
         }
-        let (examiner, seen) = (slip.examiner(), self.count());
-        let mut steps = slip.take_steps(alloc);
-        let answer = self.add_step(alloc, examiner, ask, &mut steps);
+        let (examiner, receipt) = (slip.examiner(), self.receipt(slip.seat()));
+        let mut steps = slip.take_steps(self.alloc);
+        let answer = self.add_step(rt, examiner, ask, &mut steps);
         slip.put_steps(steps);
         if let Err(why) = answer {
             return Err(why);
         }
-        slip.see(seen);
+        slip.see(receipt);
         Ok(())
     }
 
     // Commits the slip's transaction.
-    pub(crate) fn commit_of(&mut self, slip: Slip<B>) -> Result<Done<B>, (Slip<B>, Fault)>
-        ensures committed { MatchResult result (λ done. Commits B.setting slip done.place done.rec done.seat)
+    pub(crate) fn commit_of<R: Wait>(
+        &mut self,
+        rt: &R,
+        slip: Slip<B>,
+    ) -> Result<Done<B>, (Slip<B>, Fault)>
+        ensures committed { MatchResult result (λ done. Commits B.setting slip done.place done.rec done.receipt done.seat)
             (λ e. (e.0 ≡ slip) × IsRefused B.setting (Stands slip) (request.Commit slip.seat.examiner) e.1) }
         ensures shut { OnOk result (is_open slip.seat.examiner self.new ≡ false) }
     {
@@ -112,15 +116,20 @@ impl<B: Room> Books<B> {
         if let Err(why) = self.standing(&slip) {
             return Err((slip, why));
         }
-        let reply = self.serve(Request::Commit(slip.examiner()));
+        let reply = self.serve(rt, Request::Commit(slip.examiner()));
         if let Some(why) = refusal(&reply) {
             return Err((slip, why));
         }
-        Ok(slip.committed(self.count()))
+        let receipt = self.receipt(slip.seat());
+        Ok(slip.committed(receipt))
     }
 
     // Aborts the slip's transaction, where it is open.
-    pub(crate) fn abort_of(&mut self, slip: Slip<B>) -> Result<(Seat<B>, bool), (Slip<B>, Fault)>
+    pub(crate) fn abort_of<R: Wait>(
+        &mut self,
+        rt: &R,
+        slip: Slip<B>,
+    ) -> Result<(Seat<B>, bool), (Slip<B>, Fault)>
         ensures aborted { MatchResult result (λ back. Aborts B.setting slip back.0 back.1)
             (λ e. (e.0 ≡ slip) × (e.1 ≡ fault.Stranger)) }
         ensures shut { OnOk result (is_open slip.seat.examiner self.new ≡ false) }
@@ -128,7 +137,7 @@ impl<B: Room> Books<B> {
         self.is_due();
         match self.standing(&slip) {
             Ok(()) => {
-                self.serve(Request::Abort(slip.examiner()));
+                self.serve(rt, Request::Abort(slip.examiner()));
                 Ok((slip.into_seat(), true))
             }
             Err(Fault::NotOpen) => Ok((slip.into_seat(), false)),

@@ -9,10 +9,10 @@ ghost use Rattle.title_office.specs.Offices.{Falls, HasSeen, Stands};
 
 use crate::books::Books;
 use crate::fault::Fault;
-use crate::room::Room;
 use crate::seat::Seat;
 use crate::slip::Slip;
 use title_chain::same_steps;
+use title_ledger::Room;
 
 impl<B: Room> Books<B> {
     // The trace is due, and there are no more parties than a plant may have. It does nothing: the type says so.
@@ -24,7 +24,7 @@ impl<B: Room> Books<B> {
     }
 
     // How many records are committed.
-    pub(crate) fn count(&self) -> u64
+    fn count(&self) -> u64
         ensures count { result ≡ length (committed self.now) }
     {
         self.desk.records().len() as u64

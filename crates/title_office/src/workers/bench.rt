@@ -6,13 +6,13 @@ ghost use Rattle.title_office.specs.Turns.{EndsTry, EndsWorker};
 use crate::fault::Fault;
 use crate::gate::Gate;
 use crate::office::{Done, Office};
-use crate::room::Room;
 use crate::seat::Seat;
 use crate::slip::Slip;
 use crate::workers::caller::Caller;
 use std::alloc::Global;
 use std::sync::Wait;
 use title_chain::Ask;
+use title_ledger::Room;
 
 /// What the workers share: their office, and the gate that stands before and after each call.
 #[derive(Drop)]

@@ -3,8 +3,8 @@
 ghost use Rattle.std.specs.Prelude.{◌≡◌};
 
 use crate::fault::Fault;
-use crate::room::Room;
 use crate::seat::Seat;
+use title_ledger::Room;
 use title_settle::Outcome;
 
 /// What came of one try of a transaction: its outcome, or that its own script aborted it, or that it was aborted because another

@@ -4,7 +4,6 @@ ghost use Rattle.std.specs.Prelude.{◌≡◌, ◌≤◌, IfSome, [], map, vec_c
 ghost use Rattle.title_office.specs.Turns.{HaveRun, report_of, tasks_of};
 
 use crate::gate::Gate;
-use crate::room::Room;
 use crate::workers::Worked;
 use crate::workers::bench::Bench;
 use crate::workers::job::Job;
@@ -13,6 +12,7 @@ use crate::workers::pledge::Pledge;
 use std::sync::Wait;
 use std::thread;
 use std::thread::{PromisedHandle, Scope, Threads};
+use title_ledger::Room;
 
 /// Runs each job by a thread of its own, and answers once all have ended, in the order of the jobs.
 pub(crate) fn run_threads<B: Room + Send + Sync, R: Threads + Wait + Sync, G: Gate + Sync>(

@@ -4,12 +4,12 @@ ghost use Rattle.std.specs.Prelude.{◌≡◌, ◌+◌, ◌++◌, ◌∷◌, [],
 ghost use Rattle.title_office.specs.Turns.{task_of, tasks_of};
 ghost use Rattle.title_office.specs.Workers.{examiners_of, seat_examiners};
 
-use crate::room::Room;
 use crate::seat::Seat;
 use crate::workers::Script;
 use crate::workers::job::Job;
 use crate::workers::tally::Tally;
 use std::alloc::{AllocError, Global};
+use title_ledger::Room;
 
 /// The scripts that no thread runs yet, in their order, and for each the seat of its examiner and an empty tally with room.
 #[derive(Drop)]

@@ -5,11 +5,11 @@ ghost use Rattle.title_office.specs.declared.fault.Fault.TheVariants as fault;
 ghost use Rattle.title_office.specs.Turns.{HasRun, report_of};
 
 use crate::fault::Fault;
-use crate::room::Room;
 use crate::workers::Worked;
 use crate::workers::job::Job;
 use std::alloc::Global;
 use std::thread::{Promise, PromisedHandle, Threads};
+use title_ledger::Room;
 
 /// The examiner and the number of transactions that a thread's answer is for.
 #[derive(Clone, Copy)]

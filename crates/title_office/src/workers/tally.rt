@@ -4,11 +4,11 @@ ghost use Rattle.std.specs.Prelude.{◌≡◌, ◌+◌, ◌^◌, ◌<◌, ◌≤
 ghost use Rattle.title_office.specs.Turns.{with_came};
 
 use crate::fault::Fault;
-use crate::room::Room;
 use crate::seat::Seat;
 use crate::workers::Worked;
 use crate::workers::came::Came;
 use std::alloc::{AllocError, Global};
+use title_ledger::Room;
 use title_settle::Outcome;
 
 /// The outcomes of a worker's transactions, and how many were aborted by their own script, given up, and are still to come. There

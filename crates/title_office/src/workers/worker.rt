@@ -6,7 +6,7 @@ ghost use Rattle.title_office.specs.Turns.{EndsTry, EndsWorker, HasRun, IsCameOf
 
 use crate::fault::Fault;
 use crate::gate::Gate;
-use crate::room::Room;
+use crate::office::Done;
 use crate::seat::Seat;
 use crate::slip::Slip;
 use crate::workers::bench::Bench;
@@ -18,6 +18,7 @@ use crate::workers::{Transaction, Worked};
 use std::sync::Wait;
 use std::thread;
 use title_chain::Ask;
+use title_ledger::Room;
 use title_settle::Outcome;
 
 impl<'a, B: Room, R: Wait, G: Gate> Bench<'a, B, R, G> {
@@ -120,13 +121,15 @@ impl<'a, B: Room, R: Wait, G: Gate> Bench<'a, B, R, G> {
         ensures came { IfOk result (λ tried. IsCameOf true tried.1) }
     {
         match self.commit(caller, slip) {
-            Ok(done) => Ok((
-                done.seat,
-                Came::Committed(Outcome {
-                    place: done.place,
-                    rec: done.rec,
-                }),
-            )),
+            Ok(done) => {
+                let Done {
+                    place,
+                    rec,
+                    seat,
+                    ..
+                } = done;
+                Ok((seat, Came::Committed(Outcome { place, rec })))
+            }
             Err((slip, fault)) => Err(self.stop(caller, slip, fault)),
         }
     }

@@ -1,9 +1,12 @@
 -- The office has settled the outcomes of all workers, so that each record is counted.
+use Rattle.std.proofs.Common.{sym, subst}
+use Rattle.title_settle.specs.Settling.{IsSettled}
 use Rattle.title_day.proofs.OfficeCounts.{records_counted}
 use Rattle.title_day.proofs.office_day.settle.Goals as goal
 
 pub returns-in-Ok-clause-counted : goal.returns-in-Ok-clause-counted
 returns-in-Ok-clause-counted g c =
-    records_counted c.as_slice.result.now c.args.worked.items c.in_ok-tallies.tallies.items c.in_ok-outcomes.outcomes.items
-    c.in-Ok.settled.records (λ w. w.examiner) (λ w. w.outcomes.items) (λ w. w.aborted) (λ w. w.given_up) c.as_slice.ensures.value
-    c.in_ok-tallies.ensures.tallies c.in_ok-outcomes.ensures.outcomes c.in-Ok.ensures.settled.5
+    let settled = subst (λ l. IsSettled l c.in-Ok-gather.outcomes.items) (sym c.close.ensures.records) c.in-Ok-settle.ensures.settled.5 in
+    records_counted c.as_slice.result.now c.args.worked.items c.in-Ok.tallies.items c.in-Ok-gather.outcomes.items
+    c.close.result (λ w. w.examiner) (λ w. w.outcomes.items) (λ w. w.aborted) (λ w. w.given_up) c.as_slice.ensures.value
+    c.in-Ok.ensures.tallies c.in-Ok-gather.ensures.outcomes settled

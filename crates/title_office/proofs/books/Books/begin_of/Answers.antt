@@ -4,7 +4,7 @@ use Rattle.title_trace.specs.declared.call.Reply.{Reply}
 use Rattle.title_trace.specs.declared.call.Request.TheVariants as request
 use Rattle.title_office.specs.Offices.{HasSeen, IsServed, SlipState}
 use Rattle.title_office.proofs.Replies.{added, began, refused}
-use Rattle.title_office.proofs.Slips.{call, stands_begun}
+use Rattle.title_office.proofs.Slips.{begun, call, stands_begun}
 use Rattle.title_office.proofs.books.Books.begin_of.Goals as goal
 
 pub returns-in-Some : goal.returns-in-Some
@@ -24,19 +24,15 @@ returns-in-Some g c =
 pub returns : goal.returns
 returns g c =
     let e = c.args.seat.examiner in
-    let served = subst (λ n. IsServed g.B.Room.setting c.args.self.now (request.Begin n) c.serve-reply.result c.serve-reply.new.self)
+    let before = c.args.self.now in
+    let served = subst (λ n. IsServed g.B.Room.setting before (request.Begin n) c.serve-reply.result c.serve-reply.new.self)
     c.examiner-examiner.ensures.examiner c.serve-reply.ensures.served in
     let none = sym c.in_default.ensures.refusal in
-    let a = added g.B.Room.setting c.args.self.now c.serve-reply.new.self (request.Begin e)
-    c.serve-reply.result served none in
-    let is = began g.B.Room.setting c.args.self.now e c.serve-reply.result a.1 none in
-    let begun : ℕ → SlipState = λ n. record {
-      seat = record c.args.seat { seen = n };
-      rec = record { examiner = e; steps = [] };
-    } in
-    let slip = c.opened.ensures.opened ∙ ap begun c.count-seen.ensures.count in
+    let a = added g.B.Room.setting before c.serve-reply.new.self (request.Begin e) c.serve-reply.result served none in
+    let is = began g.B.Room.setting before e c.serve-reply.result a.1 none in
+    let slip = c.opened.ensures.opened ∙ begun before c.args.seat c.receipt-receipt.result c.receipt-receipt.ensures.receipt in
     record {
-      begun = (c.args.self.now, (c.is_due.ensures.due, sym is ∙ a.1), c.if-not-has_shown.ensures.shown refl, slip);
-      stands = stands_begun c.args.self.now c.serve-reply.new.self c.args.seat c.opened.result
-          (a.0 ∙ ap (λ (s : Reply). call (request.Begin e) s ∷ c.args.self.now) is) slip;
+      begun = (before, (c.is_due.ensures.due, sym is ∙ a.1), c.if-not-has_shown.ensures.shown refl, slip);
+      stands = stands_begun before c.serve-reply.new.self c.args.seat c.opened.result
+          (a.0 ∙ ap (λ (s : Reply). call (request.Begin e) s ∷ before) is) slip;
     }

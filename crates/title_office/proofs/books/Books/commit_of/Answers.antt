@@ -1,7 +1,8 @@
 -- A commit that nothing refuses.
-use Rattle.std.proofs.Common.{refl, sym, ap, ◌∙◌, subst}
+use Rattle.std.proofs.Common.{length, refl, sym, ap, ◌∙◌, subst}
 use Rattle.title_trace.specs.declared.call.Request.TheVariants as request
-use Rattle.title_office.specs.Offices.{IsServed, Stands}
+use Rattle.title_office.specs.Offices.{IsServed, SeatState, Stands, receipt_for}
+use Rattle.title_views.specs.Views.{Shows}
 use Rattle.title_office.proofs.Replies.{refused}
 use Rattle.title_office.proofs.Slips.{commits, falls_at_commit, shut_committed}
 use Rattle.title_office.proofs.books.Books.commit_of.Goals as goal
@@ -38,9 +39,12 @@ returns g c =
     c.examiner.ensures.examiner c.serve-reply.ensures.served in
     record {
       committed = commits g.B.Room.setting c.args.slip c.args.self.now c.serve-reply.new.self c.serve-reply.result
-          c.committed.result.place c.committed.result.rec c.committed.result.seat c.is_due.ensures.few
+          c.committed.result.place c.committed.result.rec c.committed.result.receipt c.committed.result.seat c.is_due.ensures.few
           c.is_due.ensures.due served none c.in_default.ensures.stands own
-          (c.committed.ensures.place ∙ c.count.ensures.count) c.committed.ensures.rec
+          (c.committed.ensures.place ∙ ap (λ (q : Shows). length q.front) (sym c.committed.ensures.receipt))
+          (c.committed.ensures.receipt ∙ c.receipt-receipt.ensures.receipt
+          ∙ ap (λ (s : SeatState). receipt_for s c.serve-reply.new.self) c.seat.ensures.seat)
+          c.committed.ensures.rec
           (c.committed.ensures.seat ∙ ap (λ n. record c.args.slip.seat { seen = n }) (sym c.committed.ensures.place));
       shut = shut_committed g.B.Room.setting c.args.self.now c.serve-reply.new.self c.serve-reply.result
           c.args.slip.seat.examiner served none;

@@ -2,7 +2,7 @@
 use Rattle.std.proofs.Common.{◌++◌, ◌∷◌, [], List, refl, ap, ◌∙◌, subst}
 use Rattle.title_chain.specs.declared.ask.Step.{Step}
 use Rattle.title_trace.specs.declared.call.Request.TheVariants as request
-use Rattle.title_office.specs.Offices.{IsRefused, Stands, with_steps}
+use Rattle.title_office.specs.Offices.{IsRefused, SeatState, Stands, receipt_for, with_steps}
 use Rattle.title_office.proofs.Replies.{refused_there}
 use Rattle.title_office.proofs.Slips.{answers, falls_at_step, put_back, with_answer}
 use Rattle.title_office.proofs.books.Books.step_of.Goals as goal
@@ -38,9 +38,10 @@ returns g c =
     let slip = c.args.slip.now in
     let told = c.in_default-answer.ensures.added in
     let filled = put_back slip c.take_steps-steps.new.self c.put_steps.new.self _ c.take_steps-steps.ensures.left c.put_steps.ensures.put in
-    let is = with_answer slip c.put_steps.new.self c.see.new.self c.args.self.now c.args.ask told.0 _ c.count-seen.result
+    let is = with_answer slip c.put_steps.new.self c.see.new.self c.args.self.now c.args.ask told.0 _ c.receipt-receipt.result
     (told.3 ∙ ap (λ (l : List Step). l ++ record { ask = c.args.ask; answer = told.0 } ∷ []) c.take_steps-steps.ensures.taken)
-    c.count-seen.ensures.count filled c.see.ensures.seen in
+    (c.receipt-receipt.ensures.receipt ∙ ap (λ (s : SeatState). receipt_for s c.args.self.now) c.seat.ensures.seat) filled
+    c.see.ensures.seen in
     let both = answers g.B.Room.setting c.args.self.now c.add_step-answer.new.self slip c.see.new.self c.args.ask
     c.examiner-examiner.result told.0 c.examiner-examiner.ensures.examiner told.1 told.2 c.in_default.ensures.stands is in
     record { answered = both.0; stands = both.1 }

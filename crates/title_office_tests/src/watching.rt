@@ -1,0 +1,154 @@
+//! One thread commits a hundred deeds, while another asks a viewer a thousand times.
+
+ghost use Rattle.std.specs.Prelude.{◌≡◌};
+
+use crate::days::{WHOLE, begin_with_deed, commit, open, section, township};
+use std::alloc::Global;
+use std::marker::Brand;
+use std::process::Abort;
+use std::sync::Wait;
+use std::test::Fail;
+use std::thread::{Threads, join};
+use title_instrument::Estate;
+use title_land::{Township, Tract};
+use title_office::{Done, Ledger, Office, Opened, Receipt, Room, Seat, Seen, Viewer};
+
+/// How many deeds are committed.
+const DEEDS: u64 = 100;
+
+/// How often the viewer is asked.
+const VIEWS: u64 = 1000;
+
+/// What each deed passes, in units: 1/1024 of the whole.
+const UNITS: u64 = 4_194_304;
+
+// A deed is committed: its receipt, and the seat.
+fn sell<B: Room, R: Wait + Abort>(
+    rt: &R,
+    alloc: Global,
+    office: &Office<B>,
+    seat: Seat<B>,
+) -> Result<(Receipt<B>, Seat<B>), Fail> {
+    let slip = begin_with_deed(rt, alloc, office, seat, 5, UNITS)?;
+    let Done { receipt, seat, .. } = commit(rt, office, slip)?;
+    Ok((receipt, seat))
+}
+
+// All deeds are committed: the receipt of the last.
+fn sell_all<B: Room, R: Wait + Abort>(
+    rt: &R,
+    alloc: Global,
+    office: &Office<B>,
+    seat: Seat<B>,
+) -> Result<Receipt<B>, Fail> {
+    let (mut receipt, mut seat) = sell(rt, alloc, office, seat)?;
+    for _ in 1..DEEDS {
+        let (later, back) = sell(rt, alloc, office, seat)?;
+        receipt = later;
+        seat = back;
+    }
+    Ok(receipt)
+}
+
+// What party 0 has left of the surface after so many deeds.
+fn units_left(deeds: u64) -> u64 {
+    WHOLE.saturating_sub(UNITS.saturating_mul(deeds))
+}
+
+// The sheet is that after as many deeds as it tells.
+fn assert_sheet(rt: &impl Abort, seen: &Seen) {
+    let rows = seen.rows.as_slice();
+    assert!(rt; !rows.is_empty());
+    let first = &rows[0];
+    assert!(rt; first.estate == Estate::S && first.party == 0);
+    assert_eq!(rt; first.units, units_left(seen.front));
+}
+
+// Asks the viewer over and over: what it shows never gets older. `None`: it showed nothing.
+fn watch<B: Room, R: Wait + Abort>(
+    rt: &R,
+    tract: &Tract,
+    mut viewer: Viewer<B>,
+) -> Option<Viewer<B>> {
+    let mut front = 0;
+    for _ in 0..VIEWS {
+        let Ok(seen) = viewer.sheet(tract) else {
+            return None;
+        };
+        assert!(rt; front <= seen.front);
+        front = seen.front;
+        assert_sheet(rt, &seen);
+    }
+    Some(viewer)
+}
+
+// Once it has learnt of the last deed the viewer shows all of them.
+fn assert_all_shown<B: Room>(
+    rt: &impl Abort,
+    tract: &Tract,
+    mut viewer: Viewer<B>,
+    receipt: &Receipt<B>,
+) -> Result<(), Fail> {
+    assert!(rt; viewer.learn(receipt).is_ok());
+    let Ok(seen) = viewer.sheet(tract) else {
+        return Err(Fail::new("the viewer shows the last sheet"));
+    };
+    assert_eq!(rt; seen.front, 100);
+    let rows = seen.rows.as_slice();
+    assert_eq!(rt; rows.len(), 4);
+    assert_eq!(rt; (rows[0].party, rows[0].units), (0, 3_875_536_896));
+    assert_eq!(rt; (rows[1].party, rows[1].units), (1, 419_430_400));
+    Ok(())
+}
+
+// One thread sells, the other watches.
+fn sell_and_watch<B: Room + Send + Sync, R: Threads + Wait + Abort + Sync>(
+    rt: &R,
+    alloc: Global,
+    office: &Office<B>,
+    seat: Seat<B>,
+    viewer: Viewer<B>,
+) -> Result<(), Fail> {
+    let tract = section(rt, alloc, 5)?;
+    let place = &tract;
+    let (sold, watched) = join(
+        rt,
+        || sell_all(rt, alloc, office, seat),
+        || watch(rt, place, viewer),
+    );
+    let receipt = sold?;
+    match watched {
+        Some(viewer) => assert_all_shown(rt, &tract, viewer, &receipt),
+        None => Err(Fail::new("the viewer shows a sheet")),
+    }
+}
+
+// An office of one examiner and one viewer.
+fn watching_day<B: Room + Send + Sync, R: Threads + Wait + Abort + Sync>(
+    rt: &R,
+    alloc: Global,
+    ledger: Ledger,
+    townships: &[Township],
+) -> Result<(), Fail>
+    requires book { ledger ≡ B.book }
+    requires setting { B.setting ≡ record { parties = 2; townships = townships.now } }
+{
+    let opened = open::<B, R>(rt, alloc, ledger, townships, 1, 1)?;
+    let Opened {
+        office,
+        mut seats,
+        mut viewers,
+    } = opened;
+    let answer = match (seats.pop(), viewers.pop()) {
+        (Some(seat), Some(viewer)) => sell_and_watch(rt, alloc, &office, seat, viewer),
+        _ => Err(Fail::new("a seat and a viewer")),
+    };
+    office.close(rt);
+    answer
+}
+
+#[test]
+fn viewers_watch_a_hundred_deeds(rt: HostRuntime) -> Result<(), Fail> {
+    let townships = [township(&rt)];
+    watching_day::<Brand, _>(&rt, rt.alloc(), Ledger::new(), &townships)
+}
