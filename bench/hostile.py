@@ -194,12 +194,8 @@ def bad_outputs(runner, into):
         runner.feed(script)
         whole, alone = runner.run(words), runner.run(words, errors=file)
         ending = runner.run(words, output=file)
-        expect(into, f"{name}, output {how}", ending, 1, b"", 1 + lines(whole.errors))
-        if ending.errors == UNWRITTEN:
-            into.counts["of them one line on standard error"] += 1
-        elif ending.errors == UNWRITTEN + whole.errors:
-            into.counts["of them also with the sentence on the fault"] += 1
-        else:
+        expect(into, f"{name}, output {how}", ending, 1, b"", 1)
+        if ending.errors != UNWRITTEN:
             into.wrong.append(f"{name}, output {how}: errors {ending.errors!r}")
         both = runner.run(words, output=file, errors=file)
         expect(into, f"{name}, output and errors {how}", both, 1, b"", 0)

@@ -1,7 +1,6 @@
 //! Calls of a table of locks.
 
-use crate::chance::Chance;
-use crate::ground::Ground;
+use title_chance::{Chance, Ground};
 use title_land::Tract;
 use title_lock::{Access, Guards, LockFault};
 

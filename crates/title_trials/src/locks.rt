@@ -1,9 +1,8 @@
 //! The two tables of locks, asked alike.
 
 use crate::calls::{Call, Tally};
-use crate::chance::Chance;
-use crate::ground::{Ground, Reach};
 use std::alloc::{AllocError, Global};
+use title_chance::{Chance, Ground, Reach};
 use title_land::Node;
 use title_lock::{Guards, NodeLocks, RowLocks};
 

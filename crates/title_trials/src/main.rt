@@ -11,19 +11,16 @@
 #![tactic(auto)]
 
 mod calls;
-mod chance;
 mod counts;
-mod ground;
 mod locks;
 mod replies;
 mod soak;
 mod stores;
-mod wishes;
 
 use anyhow::Result;
 use counts::{Case, Counts};
-use ground::Reach;
 use std::env;
+use title_chance::Reach;
 use title_lock::{Guards, NodeLocks};
 
 // The lists of each run.

@@ -1,9 +1,8 @@
 //! Many calls of one table of locks.
 
 use crate::calls::{Call, Tally};
-use crate::chance::Chance;
-use crate::ground::{Ground, Reach};
 use std::alloc::{AllocError, Global};
+use title_chance::{Chance, Ground, Reach};
 use title_land::Node;
 use title_lock::{Guards, NodeLocks};
 

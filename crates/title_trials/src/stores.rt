@@ -1,11 +1,9 @@
 //! The two stores, each behind a desk, asked alike.
 
-use crate::chance::Chance;
-use crate::ground::{Ground, Reach, TOWNSHIPS, township};
 use crate::replies::{Tally, are_one};
-use crate::wishes::{PARTIES, Wish};
 use std::alloc::{AllocError, Global};
 use title_chain::Record;
+use title_chance::{Chance, Ground, PARTIES, Reach, StepWish, TOWNSHIPS, Wish, township};
 use title_desk::{Desk, may_open};
 use title_land::Township;
 use title_lock::NodeLocks;
@@ -159,7 +157,11 @@ impl Desks {
         }
         is_one &= self.trees.store().is_tidy();
         is_one &= self.are_one(ground, self.turn(1, Wish::Begin, 0), tally)?;
-        is_one &= self.are_one(ground, self.turn(1, Wish::Sheet(u32::MAX), 0), tally)?;
+        is_one &= self.are_one(
+            ground,
+            self.turn(1, Wish::Step(StepWish::Sheet(u32::MAX)), 0),
+            tally,
+        )?;
         is_one &= self.are_records_one();
         Ok(is_one)
     }

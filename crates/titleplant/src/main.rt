@@ -6,7 +6,7 @@ use std::io::IsTerminal;
 use std::process::ExitCode;
 use std::{env, io};
 use title_advice::{Heard, Progress, explain};
-use title_device::Device;
+use title_device::{Device, Sink};
 use title_program::{WordsFault, obey_words, refuse_untaken};
 
 fn words(rt: &HostRuntime) -> Result<Vec<String>, WordsFault> {
@@ -33,7 +33,10 @@ fn main(rt: HostRuntime) -> ExitCode {
                 &mut progress,
             );
             progress.wipe();
-            explain(rt.alloc(), words, ending, &source, &mut errors);
+            // (That the output has failed is told already, in one line.)
+            if !sink.failed() {
+                explain(rt.alloc(), words, ending, &source, &mut errors);
+            }
             ending.status
         }
         Err(why) => refuse_untaken(why, &mut sink, &mut errors).status,

@@ -1,4 +1,4 @@
-//! What is asked of a desk.
+//! What is asked of a desk or an office.
 
 use crate::chance::Chance;
 use crate::ground::Ground;
@@ -12,14 +12,22 @@ use title_trace::Request;
 /// The parties of the plant.
 pub const PARTIES: u32 = 4;
 
-/// What an examiner wishes for: a tract is named by its place in the ground, an instrument by the seed that makes it.
+/// What an examiner wishes for in a transaction: a tract is named by its place in the ground, an instrument by the seed that
+/// makes it.
+#[derive(Clone, Copy)]
+pub enum StepWish {
+    Sheet(u32),
+    Chain(u32),
+    Post(u32, u32),
+}
+
+/// What an examiner wishes for.
 #[derive(Clone, Copy)]
 pub enum Wish {
     Begin,
     Commit,
     Abort,
-    Sheet(u32),
-    Post(u32, u32),
+    Step(StepWish),
 }
 
 // Mostly party 0, which owns all at first.
@@ -93,8 +101,29 @@ fn post(alloc: Global, tract: &Tract, seed: u32, doc: u64) -> Result<Ask, AllocE
     }))
 }
 
+impl StepWish {
+    /// A chain in one of eight, a sheet in three, and else a post.
+    pub fn any(chance: &mut Chance, ground: &Ground) -> StepWish {
+        let place = ground.any_place(chance);
+        match chance.below(8) {
+            0 => StepWish::Chain(place),
+            1..=3 => StepWish::Sheet(place),
+            _ => StepWish::Post(place, chance.below(u32::MAX)),
+        }
+    }
+
+    /// The ask for it; a post makes a document with this number.
+    pub fn ask(self, alloc: Global, ground: &Ground, doc: u64) -> Result<Ask, AllocError> {
+        Ok(match self {
+            StepWish::Sheet(place) => Ask::Sheet(ground.at(place).copy(alloc)?),
+            StepWish::Chain(place) => Ask::Chain(ground.at(place).copy(alloc)?),
+            StepWish::Post(place, seed) => post(alloc, ground.at(place), seed, doc)?,
+        })
+    }
+}
+
 impl Wish {
-    /// To begin, where the examiner hasn't begun, or else a step, now and then the end.
+    /// To begin, where the examiner hasn't begun, or else a sheet or a post, now and then the end.
     pub fn any(chance: &mut Chance, ground: &Ground, is_open: bool) -> Wish {
         if !is_open {
             return Wish::Begin;
@@ -103,8 +132,8 @@ impl Wish {
         match chance.below(16) {
             0 => Wish::Commit,
             1 | 2 => Wish::Abort,
-            3..=5 => Wish::Sheet(place),
-            _ => Wish::Post(place, chance.below(u32::MAX)),
+            3..=5 => Wish::Step(StepWish::Sheet(place)),
+            _ => Wish::Step(StepWish::Post(place, chance.below(u32::MAX))),
         }
     }
 
@@ -116,13 +145,11 @@ impl Wish {
         examiner: u32,
         doc: u64,
     ) -> Result<Request, AllocError> {
-        let ask = match self {
-            Wish::Begin => return Ok(Request::Begin(examiner)),
-            Wish::Commit => return Ok(Request::Commit(examiner)),
-            Wish::Abort => return Ok(Request::Abort(examiner)),
-            Wish::Sheet(place) => Ask::Sheet(ground.at(place).copy(alloc)?),
-            Wish::Post(place, seed) => post(alloc, ground.at(place), seed, doc)?,
-        };
-        Ok(Request::Step(examiner, ask))
+        Ok(match self {
+            Wish::Begin => Request::Begin(examiner),
+            Wish::Commit => Request::Commit(examiner),
+            Wish::Abort => Request::Abort(examiner),
+            Wish::Step(step) => Request::Step(examiner, step.ask(alloc, ground, doc)?),
+        })
     }
 }

@@ -1,0 +1,110 @@
+//! The plain machine: a desk over cells and over a list of locks, at which one transaction is open at a time.
+
+use std::alloc::{AllocError, Global};
+use std::fmt::{Display, Error, Formatter, Write};
+use title_chain::{Record, Step};
+use title_chance::PARTIES;
+use title_desk::{Desk, may_open};
+use title_land::Township;
+use title_lock::RowLocks;
+use title_settle::Outcome;
+use title_store::CellStore;
+use title_trace::{Reply, Request};
+
+/// Where a history and the plain machine disagree first: a step, from 1, of the transaction at a place, or that a place has
+/// no transaction or more than one.
+#[derive(Clone, Copy)]
+pub enum Disagreement {
+    Step(u64, u64),
+    Place(u64),
+}
+
+/// A plain machine.
+#[derive(Drop)]
+pub struct Plain {
+    alloc: Global,
+    desk: Desk<CellStore, RowLocks>,
+}
+
+impl Display for Disagreement {
+    fn fmt<W: Write>(&self, f: &mut Formatter<W>) -> Result<(), Error> {
+        match self {
+            Disagreement::Step(place, step) => write!(f, "place {place}, step {step} disagrees"),
+            Disagreement::Place(place) => write!(f, "place {place} has not one transaction"),
+        }
+    }
+}
+
+impl Plain {
+    /// A machine that has run nothing; `None` where no desk opens for these townships.
+    pub fn new(alloc: Global, townships: &[Township]) -> Result<Option<Plain>, AllocError> {
+        if !may_open(PARTIES, townships) {
+            return Ok(None);
+        }
+        let desk = Desk::open(alloc, PARTIES, townships)?;
+        Ok(Some(Plain { alloc, desk }))
+    }
+
+    /// Serves a request.
+    pub fn serve(&mut self, request: Request) -> Reply {
+        self.desk.serve(request)
+    }
+
+    /// The transactions that it has committed, in order.
+    pub fn records(&self) -> &[Record] {
+        self.desk.records()
+    }
+
+    // Whether it answers a step alike.
+    fn agrees(&mut self, examiner: u32, step: &Step) -> Result<bool, AllocError> {
+        let ask = step.ask.copy(self.alloc)?;
+        let reply = self
+            .desk
+            .serve(Request::Step(examiner, step.ask.copy(self.alloc)?));
+        match reply {
+            Reply::Answered(answer) => Ok(Step { ask, answer }.same(step)),
+            Reply::Memory => Err(AllocError),
+            _ => Ok(false),
+        }
+    }
+
+    // The first step of a transaction that it answers otherwise, from 1.
+    fn first_step(&mut self, record: &Record) -> Result<Option<u64>, AllocError> {
+        let mut number = 0u64;
+        for step in record.steps.as_slice() {
+            number = number.saturating_add(1);
+            if !self.agrees(record.examiner, step)? {
+                return Ok(Some(number));
+            }
+        }
+        Ok(None)
+    }
+
+    // Runs the transaction at a place.
+    fn run(&mut self, place: u64, record: &Record) -> Result<Option<Disagreement>, AllocError> {
+        self.desk.serve(Request::Begin(record.examiner));
+        if let Some(step) = self.first_step(record)? {
+            return Ok(Some(Disagreement::Step(place, step)));
+        }
+        match self.desk.serve(Request::Commit(record.examiner)) {
+            Reply::Committed(told) if told == place => Ok(None),
+            Reply::Memory => Err(AllocError),
+            _ => Ok(Some(Disagreement::Place(place))),
+        }
+    }
+
+    /// Runs the transactions of a history, each at its place from 1, and tells the first disagreement.
+    pub fn check(&mut self, history: &[Outcome]) -> Result<Option<Disagreement>, AllocError> {
+        for index in 0..history.len() {
+            let place = (index as u64).saturating_add(1);
+            let Some(outcome) = history.iter().find(|outcome| outcome.place == place) else {
+                return Ok(Some(Disagreement::Place(place)));
+            };
+            let found = self.run(place, &outcome.rec)?;
+            if found.is_some() {
+                return Ok(found);
+            }
+        }
+        Ok(None)
+    }
+}
