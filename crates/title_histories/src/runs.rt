@@ -15,7 +15,7 @@ use std::thread::Threads;
 use title_chance::{Chance, Ground, PARTIES, Reach, TOWNSHIPS, township};
 use title_desk::may_open;
 use title_land::Township;
-use title_office::{Office, Opened, Room, Script, Seat, Worked, work};
+use title_office::{Ledger, Office, Opened, Room, Script, Seat, Worked, work};
 use title_settle::Outcome;
 
 // How often a transaction is begun before it is given up.
@@ -129,28 +129,20 @@ fn check(
     }
 }
 
-// Runs scripts of so many examiners by threads in a new office, and checks their history.
-fn run_in_office<B: Room + Send + Sync, R: Threads + Wait + Sync>(
+// Runs a script for each seat by threads, and checks their history.
+fn run_scripts<B: Room + Send + Sync, R: Threads + Wait + Sync>(
     rt: &R,
     subject: Subject<'_>,
     chance: &mut Chance,
-    parties: u32,
     townships: &[Township],
-    examiners: u32,
-) -> Result<Run, AllocError>
-    requires setting { B.setting ≡ record { parties = parties; townships = townships.now } }
-    requires may_open { MayOpen parties townships.now }
-    requires seats { examiners ≤ most_seats }
-{
+    office: &Office<B>,
+    seats: Vec<Seat<B>>,
+) -> Result<Run, AllocError> {
     let alloc = subject.alloc;
-    let Ok(opened) = Office::<B>::open(alloc, 1, parties, townships, examiners) else {
-        return Err(AllocError);
-    };
-    let Opened { office, seats } = opened;
     let scripts = scripts_for(subject, chance, seats.as_slice())?;
     let calls = count_calls(scripts.as_slice());
     let gate = Yielding::new();
-    let Ok(worked) = work(rt, alloc, &office, seats, scripts, TRIES, &gate) else {
+    let Ok(worked) = work(rt, alloc, office, seats, scripts, TRIES, &gate) else {
         return Err(AllocError);
     };
     let has_ended_early = has_ended_early(worked.as_slice());
@@ -160,6 +152,36 @@ fn run_in_office<B: Room + Send + Sync, R: Threads + Wait + Sync>(
         has_ended_early,
         found: check(alloc, townships, history.as_slice())?,
     })
+}
+
+// The same for so many examiners in a new office.
+fn run_in_office<B: Room + Send + Sync, R: Threads + Wait + Sync>(
+    rt: &R,
+    subject: Subject<'_>,
+    chance: &mut Chance,
+    ledger: Ledger,
+    parties: u32,
+    townships: &[Township],
+    examiners: u32,
+) -> Result<Run, AllocError>
+    requires book { ledger ≡ B.book }
+    requires setting { B.setting ≡ record { parties = parties; townships = townships.now } }
+    requires may_open { MayOpen parties townships.now }
+    requires seats { examiners ≤ most_seats }
+{
+    let alloc = subject.alloc;
+    let opened = Office::<B>::open(rt, alloc, ledger, 1, parties, townships, examiners, 0);
+    let Ok(opened) = opened else {
+        return Err(AllocError);
+    };
+    let Opened {
+        office,
+        seats,
+        viewers: _,
+    } = opened;
+    let run = run_scripts(rt, subject, chance, townships, &office, seats);
+    office.close(rt);
+    run
 }
 
 // The same, in an office of its own parameter.
@@ -174,7 +196,15 @@ fn run_once<R: Threads + Wait + Sync>(
     requires may_open { MayOpen parties townships.now }
     requires seats { examiners ≤ most_seats }
 {
-    run_in_office::<Brand, _>(rt, subject, chance, parties, townships, examiners)
+    run_in_office::<Brand, _>(
+        rt,
+        subject,
+        chance,
+        Ledger::new(),
+        parties,
+        townships,
+        examiners,
+    )
 }
 
 // Counts runs until so many had transactions in each other's way.
