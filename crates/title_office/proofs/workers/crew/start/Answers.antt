@@ -1,6 +1,6 @@
 -- What a thread is given may cross to it.
 use denote.Param.{param}
-use denote.Param.Send.{AllSync, IsSync, struct_sync, recorded_sync, shr_sync, sendable}
+use denote.Param.Send.{IsSync, struct_sync, recorded_sync, shr_sync, sendable}
 use denote.Ref.{NamedLft}
 use denote.Struct.Declared as declared
 use denote.Struct.Struct.{Struct}
