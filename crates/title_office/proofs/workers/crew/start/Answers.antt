@@ -8,12 +8,13 @@ use Rattle.std.proofs.Crossing as std
 use Rattle.title_office.proofs.Crossing.{desk_send, heap_sync}
 use Rattle.title_office.specs.contracts.office.Office as office
 use Rattle.title_office.specs.contracts.workers.bench.Bench as bench
+use Rattle.title_views.proofs.fronts.Fronts.TheSendSync as fronts_sent
 use Rattle.title_office.proofs.workers.job.Job.TheSendSync as job_sent
 use Rattle.title_office.proofs.workers.crew.start.Given as given
 use Rattle.title_office.proofs.workers.crew.start.Goals as goal
 
 office_sync : (g : given.Over) (c : goal.After-pledge-pledge g) → IsSync (office.the_row (param 0 g.row.B) g.B.Room)
-office_sync g c = search (desk_send, std.crosses, sendable, c.type_bounds) depth 60 fits 20000
+office_sync g c = search (desk_send, fronts_sent.the_send, std.crosses, sendable, c.type_bounds) depth 60 fits 20000
 
 bench_sync : (a : NamedLft) (g : given.Over) (c : goal.After-pledge-pledge g)
     → IsSync (bench.the_row a (param 0 g.row.B) (param 1 g.row.R) (param 2 g.row.G) g.B.Room)
