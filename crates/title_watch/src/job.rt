@@ -1,0 +1,43 @@
+//! What is to be done.
+
+use anyhow::Result;
+use std::env;
+
+/// How many viewers ask, how many records stand before they do, how many are committed meanwhile, and for how many sheets
+/// each viewer asks.
+#[derive(Clone, Copy)]
+pub struct Job {
+    pub viewers: u32,
+    pub records: u32,
+    pub sales: u32,
+    pub sheets: u32,
+}
+
+impl Job {
+    fn set(&mut self, place: usize, number: u32) {
+        match place {
+            0 => self.viewers = number,
+            1 => self.records = number,
+            2 => self.sales = number,
+            _ => self.sheets = number,
+        }
+    }
+
+    /// The job that the words after the program's name say, in their order. A word that is no number changes nothing.
+    pub fn of_words(rt: &HostRuntime) -> Result<Job> {
+        let mut job = Job {
+            viewers: 2,
+            records: 8,
+            sales: 8,
+            sheets: 100,
+        };
+        let mut place = 0usize;
+        for word in env::args(rt)?.skip(1) {
+            if let Ok(number) = word.as_str().parse::<u32>() {
+                job.set(place, number);
+            }
+            place = place.saturating_add(1);
+        }
+        Ok(job)
+    }
+}
