@@ -100,17 +100,16 @@ fn assert_reasons<B: Room, R: Wait + Abort>(
     office: Office<B>,
     commits: &(Outcome, Outcome),
 ) -> Result<(), Fail> {
-    let wrong: [(&[(bool, u64)], Unsettled); 5] = [
-        (&FIRST_ALONE, Unsettled::Missing(2)),
-        (&FIRST_TWICE, Unsettled::Doubled(1)),
-        (&FIRST_AT_THREE, Unsettled::Unknown(3)),
-        (&AT_NOUGHT, Unsettled::Unknown(0)),
-        (&SWAPPED, Unsettled::Different(1)),
-    ];
-    let mut office = office;
-    for (wanted, reason) in wrong {
-        office = assert_unsettled(rt, alloc, office, commits, wanted, reason)?;
-    }
+    let missing = Unsettled::Missing(2);
+    let office = assert_unsettled(rt, alloc, office, commits, &FIRST_ALONE, missing)?;
+    let doubled = Unsettled::Doubled(1);
+    let office = assert_unsettled(rt, alloc, office, commits, &FIRST_TWICE, doubled)?;
+    let unknown = Unsettled::Unknown(3);
+    let office = assert_unsettled(rt, alloc, office, commits, &FIRST_AT_THREE, unknown)?;
+    let nought = Unsettled::Unknown(0);
+    let office = assert_unsettled(rt, alloc, office, commits, &AT_NOUGHT, nought)?;
+    let different = Unsettled::Different(1);
+    let office = assert_unsettled(rt, alloc, office, commits, &SWAPPED, different)?;
     assert_settled(rt, alloc, office, commits, &AS_THEY_ARE)
 }
 

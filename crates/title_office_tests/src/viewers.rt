@@ -3,7 +3,7 @@
 ghost use Rattle.std.specs.Prelude.{◌≡◌};
 
 use crate::days::{WHOLE, begin_with_deed, commit, open, outcome_of, section, township};
-use std::alloc::Global;
+use std::alloc::{AllocError, Global};
 use std::marker::Brand;
 use std::process::Abort;
 use std::sync::Wait;
@@ -11,7 +11,7 @@ use std::test::Fail;
 use title_instrument::Estate;
 use title_land::{Node, Township, Tract};
 use title_office::{
-    Ledger, Office, Opened, Outcome, Receipt, Room, Seat, Seen, Settled, Unseen, Viewer,
+    Done, Ledger, Office, Opened, Outcome, Receipt, Room, Seat, Seen, Settled, Unseen, Viewer,
 };
 
 // The rows of a sheet are these: estates, parties and units.
@@ -68,27 +68,36 @@ fn assert_not_declared<B: Room>(rt: &impl Abort, viewer: &mut Viewer<B>) -> Resu
     }
 }
 
+// The one outcome of a commit.
+fn outcomes_of<B: Room>(alloc: Global, done: Done<B>) -> Result<Vec<Outcome>, AllocError> {
+    let (outcome, _) = outcome_of(done);
+    let mut outcomes = Vec::new(alloc);
+    outcomes.push(outcome)?;
+    Ok(outcomes)
+}
+
 // One examiner sells section 5: the first viewer learns of it, the second doesn't and may show either front.
 fn read_back<B: Room, R: Wait + Abort>(
     rt: &R,
     alloc: Global,
     office: &Office<B>,
     seat: Seat<B>,
-    viewers: &mut (Viewer<B>, Viewer<B>),
-) -> Result<Outcome, Fail> {
+    viewer: &mut Viewer<B>,
+    other: &mut Viewer<B>,
+) -> Result<Vec<Outcome>, Fail> {
     let tract = section(rt, alloc, 5)?;
     let slip = begin_with_deed(rt, alloc, office, seat, 5, WHOLE)?;
     assert_eq!(rt; slip.receipt().place(), 0);
     let done = commit(rt, office, slip)?;
     assert_eq!(rt; (done.place, done.receipt.place()), (1, 1));
-    assert_shown(rt, &tract, &mut viewers.0, &done.receipt)?;
-    match viewers.1.sheet(&tract) {
+    assert_shown(rt, &tract, viewer, &done.receipt)?;
+    match other.sheet(&tract) {
         Ok(seen) => assert!(rt; seen.front <= 1),
         Err(_) => return Err(Fail::new("the second viewer shows a sheet")),
     }
-    assert_not_declared(rt, &mut viewers.1)?;
-    let (outcome, _) = outcome_of(done);
-    Ok(outcome)
+    assert_not_declared(rt, other)?;
+    let outcomes = outcomes_of(alloc, done)?;
+    Ok(outcomes)
 }
 
 // A settled office is shown until it is closed.
@@ -110,26 +119,18 @@ fn assert_closed_at_last<B: Room, R: Wait + Abort>(
     Ok(())
 }
 
-// The office is settled with its one outcome, and its first viewer shows it until the end.
+// The office is settled with its one outcome, and a viewer shows it until the end.
 fn settle_with_one<B: Room, R: Wait + Abort>(
     rt: &R,
-    alloc: Global,
+    tract: &Tract,
     office: Office<B>,
-    outcome: Outcome,
+    outcomes: Vec<Outcome>,
     viewer: &mut Viewer<B>,
 ) -> Result<(), Fail> {
-    let mut outcomes = Vec::new(alloc);
-    let tract = section(rt, alloc, 5);
-    let pushed = outcomes.push(outcome).is_ok();
-    match (office.settle(outcomes), tract) {
-        (Ok(settled), Ok(tract)) => assert_closed_at_last(rt, &tract, settled, viewer),
-        (Ok(settled), Err(_)) => {
-            settled.close(rt);
-            Err(Fail::new("there is memory"))
-        }
-        (Err((office, _, _)), _) => {
+    match office.settle(outcomes) {
+        Ok(settled) => assert_closed_at_last(rt, tract, settled, viewer),
+        Err((office, _, _)) => {
             office.close(rt);
-            assert!(rt; pushed);
             Err(Fail::new("the office is settled"))
         }
     }
@@ -145,19 +146,23 @@ fn viewers_day<B: Room, R: Wait + Abort>(
     requires book { ledger ≡ B.book }
     requires setting { B.setting ≡ record { parties = 2; townships = townships.now } }
 {
+    let tract = section(rt, alloc, 5)?;
     let opened = open::<B, R>(rt, alloc, ledger, townships, 1, 2)?;
     let Opened {
         office,
         mut seats,
         mut viewers,
     } = opened;
-    let (Some(seat), Some(first), Some(second)) = (seats.pop(), viewers.pop(), viewers.pop()) else {
+    let (Some(seat), Some(mut first), Some(mut second)) = (
+        seats.pop(),
+        viewers.pop(),
+        viewers.pop(),
+    ) else {
         office.close(rt);
         return Err(Fail::new("a seat and two viewers"));
     };
-    let mut both = (first, second);
-    match read_back(rt, alloc, &office, seat, &mut both) {
-        Ok(outcome) => settle_with_one(rt, alloc, office, outcome, &mut both.0),
+    match read_back(rt, alloc, &office, seat, &mut first, &mut second) {
+        Ok(outcomes) => settle_with_one(rt, &tract, office, outcomes, &mut first),
         Err(fail) => {
             office.close(rt);
             Err(fail)
