@@ -111,10 +111,10 @@ fn sell_and_watch<B: Room + Send + Sync, R: Threads + Wait + Abort + Sync>(
 ) -> Result<(), Fail> {
     let tract = section(rt, alloc, 5)?;
     let place = &tract;
-    let (sold, watched) = join(
+    let (watched, sold) = join(
         rt,
-        || sell_all(rt, alloc, office, seat),
         || watch(rt, place, viewer),
+        || sell_all(rt, alloc, office, seat),
     );
     let receipt = sold?;
     match watched {
