@@ -14,14 +14,19 @@ use title_trace::{Reply, Request};
 #[derive(Drop)]
 pub struct Doctored {
     alloc: Global,
-    townships: [Township; 1],
+    township: Township,
     deed: Record,
     sheet: Record,
     stale: Record,
 }
 
+// All of a section.
+fn whole(section: Section) -> Tract {
+    Tract::of(Node::Part(section, Within::section()))
+}
+
 // A release of the surface from party 0 to party 1.
-fn deed(section: Tract) -> Ask {
+fn deed_of(section: Section) -> Ask {
     let estates = Estates {
         s: true,
         o: false,
@@ -29,13 +34,17 @@ fn deed(section: Tract) -> Ask {
     };
     Ask::Post(Posting {
         doc: 1,
-        tract: section,
+        tract: whole(section),
         instrument: Instrument::Release(Release {
             from: 0,
             to: 1,
             estates,
         }),
     })
+}
+
+fn sheet_of(section: Section) -> Ask {
+    Ask::Sheet(whole(section))
 }
 
 // The record of an examiner's transaction of one ask, as the machine commits it.
@@ -65,6 +74,36 @@ fn outcome(alloc: Global, place: u64, record: &Record) -> Result<Outcome, AllocE
     })
 }
 
+// The deed, and the sheet after it.
+fn sold(
+    alloc: Global,
+    township: Township,
+    section: Section,
+) -> Result<Option<(Record, Record)>, AllocError> {
+    let Some(mut machine) = Plain::new(alloc, &[township])? else {
+        return Ok(None);
+    };
+    let Some(deed) = commit(alloc, &mut machine, 1, deed_of(section))? else {
+        return Ok(None);
+    };
+    let Some(sheet) = commit(alloc, &mut machine, 2, sheet_of(section))? else {
+        return Ok(None);
+    };
+    Ok(Some((deed, sheet)))
+}
+
+// The sheet where there was no deed.
+fn unsold(
+    alloc: Global,
+    township: Township,
+    section: Section,
+) -> Result<Option<Record>, AllocError> {
+    let Some(mut machine) = Plain::new(alloc, &[township])? else {
+        return Ok(None);
+    };
+    commit(alloc, &mut machine, 2, sheet_of(section))
+}
+
 impl Doctored {
     /// The records, as plain machines make them; `None` where none opens.
     pub fn new(alloc: Global) -> Result<Option<Doctored>, AllocError> {
@@ -74,27 +113,15 @@ impl Doctored {
         let Some(section) = Section::new(township, 1) else {
             return Ok(None);
         };
-        let node = Node::Part(section, Within::section());
-        Doctored::of(alloc, township, node)
-    }
-
-    fn of(alloc: Global, township: Township, node: Node) -> Result<Option<Doctored>, AllocError> {
-        let townships = [township];
-        let Some(mut machine) = Plain::new(alloc, &townships)? else {
+        let Some((deed, sheet)) = sold(alloc, township, section)? else {
             return Ok(None);
         };
-        let Some(mut untouched) = Plain::new(alloc, &townships)? else {
-            return Ok(None);
-        };
-        let deed = commit(alloc, &mut machine, 1, deed(Tract::of(node)))?;
-        let sheet = commit(alloc, &mut machine, 2, Ask::Sheet(Tract::of(node)))?;
-        let stale = commit(alloc, &mut untouched, 2, Ask::Sheet(Tract::of(node)))?;
-        let (Some(deed), Some(sheet), Some(stale)) = (deed, sheet, stale) else {
+        let Some(stale) = unsold(alloc, township, section)? else {
             return Ok(None);
         };
         Ok(Some(Doctored {
             alloc,
-            townships,
+            township,
             deed,
             sheet,
             stale,
@@ -103,7 +130,7 @@ impl Doctored {
 
     // What a new machine finds wrong with a history.
     fn check(&self, history: &[Outcome]) -> Result<Option<Disagreement>, AllocError> {
-        match Plain::new(self.alloc, &self.townships)? {
+        match Plain::new(self.alloc, &[self.township])? {
             Some(mut machine) => machine.check(history),
             None => Err(AllocError),
         }
