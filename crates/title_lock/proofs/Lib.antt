@@ -15,3 +15,4 @@ pub mod LeastLaws
 pub mod CountLaws
 pub mod KeptLaws
 pub mod RowLaws
+pub mod AloneLaws

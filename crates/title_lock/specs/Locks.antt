@@ -1,5 +1,5 @@
 -- What locks show: the entries, and the access that there is room for.
-use Rattle.std.specs.Prelude.{ℕ, ◌≡◌, List, [], ◌∷◌, Bool, true, false, Option, Some, None}
+use Rattle.std.specs.Prelude.{ℕ, ◌≡◌, ◌==◌, List, [], ◌∷◌, Bool, true, false, if◌then◌else◌, Option, Some, None, All}
 use Rattle.std.specs.List.{list_any}
 use Rattle.title_land.specs.declared.node.Node.{Node}
 use Rattle.title_land.specs.Lands.{cover_of, IsLand}
@@ -64,3 +64,24 @@ pub record AreRows (depth : ℕ) (es : List Entry) (prepared : Option Entry) (ro
   pub free : StandFree es
   pub sized : AreSized depth es
   pub ready : IsRoomFor depth es prepared room
+
+-- ---- one examiner's accesses listed, or all of them spread over the nodes
+
+-- the access that waits, where it is examiner e's
+abbrev pub own_waiting : ℕ → Option Entry → Option Entry
+own_waiting e None = None
+own_waiting e (Some x) = if x.examiner == e then Some x else None
+
+-- where one examiner alone has any, the list shows; else the locks by node
+abbrev pub shown : Option ℕ → Locks → Locks → Locks
+shown None listed spread = spread
+shown (Some e) listed spread = record { entries = listed.entries; prepared = own_waiting e listed.prepared }
+
+-- every entry is examiner e's
+abbrev pub AreOwn : ℕ → List Entry → Type 0
+AreOwn e es = All (λ x. x.examiner ≡ e) es
+
+-- the entries stand in the list or in the locks by node, and those in the list are all of the one examiner
+abbrev pub AreInOne : Option ℕ → List Entry → List Entry → Type 0
+AreInOne None listed spread = listed ≡ []
+AreInOne (Some e) listed spread = AreOwn e listed × (spread ≡ [])

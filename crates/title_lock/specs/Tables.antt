@@ -67,7 +67,7 @@ is_idle t e n = idle_in e (get node_cmp t.places n)
 pub record IdleMore (old : Table) (new : Table) (e : ℕ) (asks : Node → Bool) : Type 0 where
   pub more : (f : ℕ) (n : Node) → is_idle new f n ≡ true → (is_idle old f n || (f == e && asks n)) ≡ true
 
--- who was idle still is, but for examiner e at nodes that pass a test
+-- exactly those are idle who were, but for examiner e at nodes that pass a test
 pub record IdleLess (old : Table) (new : Table) (e : ℕ) (asks : Node → Bool) : Type 0 where
   pub less : (f : ℕ) (n : Node) → is_idle new f n ≡ (is_idle old f n && not (f == e && asks n))
 

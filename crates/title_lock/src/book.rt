@@ -4,7 +4,7 @@ ghost use Rattle.std.specs.Prelude.{◌≡◌, ◌≢◌, ◌==◌, ◌&&◌, no
 ghost use Rattle.std.specs.BTreeMap.{values};
 ghost use Rattle.title_lock.specs.declared.guards.Entry.{Entry};
 ghost use Rattle.title_lock.specs.Overlaps.{without};
-ghost use Rattle.title_lock.specs.Books.{numbers_of, number_room, is_empty_kept, IsBook, IsNewest};
+ghost use Rattle.title_lock.specs.Books.{is_nothing, numbers_of, number_room, is_empty_kept, IsBook, IsNewest};
 
 use crate::guards::Entry;
 use std::alloc::{AllocError, Global};
@@ -109,6 +109,13 @@ impl Book {
             numbers: BTreeMap::new(alloc),
             next: 0,
         }
+    }
+
+    /// Whether there is no entry.
+    pub(crate) fn is_empty(&self) -> bool
+        ensures empty { result ≡ is_nothing self.now }
+    {
+        self.entries.is_empty()
     }
 
     /// Adds an entry. An error, for memory or after 2^64 - 1 entries, leaves them as they were.

@@ -47,8 +47,8 @@ fn clashes(mode: Mode, held: Option<Mode>) -> bool
     }
 }
 
-// How many of those with a mode one examiner is, by what it holds.
-fn own_part(held: Option<Mode>, mode: Mode) -> u64
+/// How many of those with a mode one examiner is, by what it holds.
+pub(crate) fn own_part(held: Option<Mode>, mode: Mode) -> u64
     ensures own { result ≡ own_part held mode }
 {
     match (held, mode) {

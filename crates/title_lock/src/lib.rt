@@ -11,6 +11,7 @@ mod least;
 pub mod modes;
 pub mod node_locks;
 pub mod row_locks;
+mod spread_locks;
 mod table;
 
 pub use guards::{Access, Entry, Guards, LockFault};

@@ -1,88 +1,88 @@
-//! Locks as a table of the holders of each node.
+//! Locks that are listed while one examiner alone has any, and else stand by node.
 
-ghost use Rattle.std.specs.Prelude.{◌≡◌, ℕ, List, None, ◌∷◌, ◌==◌, ◌&&◌, if◌then◌else◌, OnOk, OnErr, slice_index};
+ghost use Rattle.std.specs.Prelude.{◌≡◌, [], reverse, OnOk, OnErr, IfOk, slice_index};
 ghost use Rattle.title_land.specs.Depth.{depth};
-ghost use Rattle.std.specs.List.{list_any};
-ghost use Rattle.title_land.specs.declared.node.Node.{Node};
-ghost use Rattle.title_lock.specs.declared.guards.Entry.{Entry};
 ghost use Rattle.title_lock.specs.declared.modes.Mode.TheVariants.{Is, Ix, S, Six, X};
-ghost use Rattle.title_lock.specs.Overlaps.{without};
+ghost use Rattle.title_lock.specs.Books.{is_nothing};
 ghost use Rattle.title_lock.specs.Asking.{mode_at, AllGranted, AreSized};
 ghost use Rattle.title_lock.specs.Counts.{IsCount};
+ghost use Rattle.title_lock.specs.Holders.{own_part};
 ghost use Rattle.title_lock.specs.Standing.{StandFree};
-ghost use Rattle.title_lock.specs.Tables.{table_mode, is_asked, is_asked_by, HasRoom, IdleMore, NoMoreIdle, AllUsed};
-ghost use Rattle.title_lock.specs.Locks.{Locks, granted, waiting, AreLocks};
+ghost use Rattle.title_lock.specs.Locks.{Locks, shown, AreInOne};
 
-use crate::book::Book;
 use crate::guards::{Access, Entry, Guards, LockFault};
-use crate::holders::Taken;
+use crate::holders::own_part;
 use crate::modes::Mode;
-use crate::table::Table;
+use crate::row_locks::RowLocks;
+use crate::spread_locks::SpreadLocks;
 use std::alloc::{AllocError, Global};
 use std::marker::Model;
 use title_land::{Node, Tract};
 
-/// Locks by node: for each node in use how many examiners hold it in each mode, and the holders. The counts decide; the
-/// holders are looked through only for the least examiner in the way. An access that is prepared stands before the
-/// entries, and has room at each node that it asks for. Nothing else is kept of a node or an examiner that holds nothing.
+/// Locks by node. While one examiner alone has accesses they are only listed, and nobody is in its way. They are spread over
+/// the nodes when a second one asks, and stay so until nobody has any: then each node in use has its holders and how many
+/// have each mode; the counts decide, and the holders tell the least examiner in the way.
 #[derive(Drop)]
 pub struct NodeLocks {
     alloc: Global,
-    book: Book,
-    table: Table,
-    prepared: Option<u32>,
+    // The one examiner whose accesses are listed; `None` where all stand in `spread`.
+    alone: Option<u32>,
+    listed: RowLocks,
+    spread: SpreadLocks,
 }
 
 impl Model for NodeLocks {
     ghost Value = { Locks };
 
-    ghost view = { λ l. record { entries = granted l.prepared l.book; prepared = waiting l.prepared l.book } };
+    ghost view = { λ l. shown l.alone l.listed l.spread };
 
-    ghost invariant = { λ l. AreLocks depth l.prepared l.book l.table };
+    ghost invariant = { λ l. AreInOne l.alone l.listed.entries l.spread.entries };
 }
 
-// Makes room for what an entry asks for, and adds it to the book. An error may leave room.
-fn fill(table: &mut Table, book: &mut Book, cover: &[Node], entry: Entry) -> Result<(), AllocError>
-    ensures modes { (f : ℕ) → (n : Node) → table_mode table.new f n ≡ table_mode table.old f n }
-    ensures room { OnOk result (HasRoom table.new entry.examiner (λ n. list_any (is_asked n) cover.now)) }
-    ensures idle { IdleMore table.old table.new entry.examiner (λ n. list_any (is_asked n) cover.now) }
-    ensures used { AllUsed table.old → AllUsed table.new }
-    ensures ok { OnOk result (book.new ≡ entry ∷ book.old) }
-    ensures err { OnErr result (book.new ≡ book.old) }
+// The locks by node of a list of entries, the oldest first.
+fn spread_of(alloc: Global, rows: &[Entry]) -> Result<SpreadLocks, AllocError>
+    ensures spread { IfOk result (λ s. s.entries ≡ reverse rows.now) }
 {
-    table.make_room_all(entry.examiner, cover)?;
-    book.push(entry)
-}
-
-// The same; an error leaves no room that wasn't there.
-fn stage(table: &mut Table, book: &mut Book, cover: &[Node], entry: Entry) -> Result<(), AllocError>
-    ensures modes { (f : ℕ) → (n : Node) → table_mode table.new f n ≡ table_mode table.old f n }
-    ensures room { OnOk result (HasRoom table.new entry.examiner (λ n. list_any (is_asked n) cover.now)) }
-    ensures idle { OnOk result (IdleMore table.old table.new entry.examiner (λ n. list_any (is_asked n) cover.now)) }
-    ensures undone { OnErr result (NoMoreIdle table.old table.new) }
-    ensures used { AllUsed table.old → AllUsed table.new }
-    ensures ok { OnOk result (book.new ≡ entry ∷ book.old) }
-    ensures err { OnErr result (book.new ≡ book.old) }
-{
-    let examiner = entry.examiner;
-    if fill(table, book, cover, entry).is_ok() {
-        return Ok(());
+    let mut spread = SpreadLocks::new(alloc);
+    for row in rows {
+        let Ok(()) = spread.ask(row.examiner, &row.tract, row.access) else {
+            return Err(AllocError);
+        };
     }
-    table.take_out_all(examiner, cover, Taken::Room);
-    Err(AllocError)
+    Ok(spread)
 }
 
-// Takes out an examiner's entries, and the examiner out of the holders of all nodes that they ask for.
-fn give_back_all(table: &mut Table, book: &mut Book, examiner: u32)
-    ensures left { book.new ≡ without examiner book.old }
-    ensures modes { (f : ℕ) → (n : Node) → table_mode table.new f n
-        ≡ (if f == examiner && list_any (is_asked_by depth examiner n) book.old then None else table_mode table.old f n) }
-    ensures idle { NoMoreIdle table.old table.new }
-    ensures used { AllUsed table.old → AllUsed table.new }
+// Spreads what is listed over the nodes. An error leaves it listed.
+fn spread_out(
+    alloc: Global,
+    listed: &mut RowLocks,
+    spread: &mut SpreadLocks,
+) -> Result<(), AllocError>
+    ensures spread { OnOk result (spread.new.entries ≡ listed.old.entries) }
+    ensures left { OnOk result (listed.new.entries ≡ []) }
+    ensures err_spread { OnErr result (spread.new ≡ spread.old) }
+    ensures err_listed { OnErr result (listed.new ≡ listed.old) }
 {
-    while let Some(entry) = book.take(examiner) {
-        table.take_out_all(examiner, entry.tract.cover(), Taken::Mode);
-    }
+    *spread = spread_of(alloc, listed.rows())?;
+    *listed = RowLocks::new(alloc);
+    Ok(())
+}
+
+// How many examiners have each mode, from IS to X, where one has this and the others have none.
+fn counts_of_one(held: Option<Mode>) -> [u64; 5]
+    ensures is { slice_index result 0 ≡ own_part held Is }
+    ensures ix { slice_index result 1 ≡ own_part held Ix }
+    ensures s { slice_index result 2 ≡ own_part held S }
+    ensures six { slice_index result 3 ≡ own_part held Six }
+    ensures x { slice_index result 4 ≡ own_part held X }
+{
+    [
+        own_part(held, Mode::Is),
+        own_part(held, Mode::Ix),
+        own_part(held, Mode::S),
+        own_part(held, Mode::Six),
+        own_part(held, Mode::X),
+    ]
 }
 
 impl NodeLocks {
@@ -93,7 +93,10 @@ impl NodeLocks {
         ensures granted { AllGranted depth self.now.entries }
         ensures sized { AreSized depth self.now.entries }
     {
-        let _ = &self.table;
+        match self.alone {
+            Some(_) => self.listed.stand_granted(),
+            None => self.spread.stand_granted(),
+        }
     }
 
     /// How many examiners have each mode at a node, in the order IS, IX, S, SIX, X. Takes no memory.
@@ -104,21 +107,30 @@ impl NodeLocks {
         ensures six { IsCount (λ e. mode_at depth self.now.entries e node.now) Six (slice_index result 3) }
         ensures x { IsCount (λ e. mode_at depth self.now.entries e node.now) X (slice_index result 4) }
     {
-        self.table.counts(node)
+        match self.alone {
+            Some(owner) => counts_of_one(self.listed.mode(owner, node)),
+            None => self.spread.counts(node),
+        }
     }
 
-    // Takes back the room of an access that was prepared and not granted.
-    fn forget(&mut self)
+    // Whether nobody has an entry. What is prepared by node is forgotten.
+    fn is_free(&mut self) -> bool
         ensures stays { self.new.entries ≡ self.old.entries }
-        ensures none { self.new.prepared ≡ None }
+        ensures free { result ≡ is_nothing self.new.entries }
     {
-        let Some(examiner) = self.prepared else {
-            return;
-        };
-        self.prepared = None;
-        if let Some(entry) = self.book.take(examiner) {
-            self.table
-                .take_out_all(examiner, entry.tract.cover(), Taken::Room);
+        if self.alone.is_some() {
+            return self.listed.rows().is_empty();
+        }
+        self.spread.forget();
+        self.spread.is_idle()
+    }
+
+    // Lists what comes from now on, as an examiner's, where nobody has an entry.
+    fn begin(&mut self, examiner: u32)
+        ensures stays { self.new.entries ≡ self.old.entries }
+    {
+        if self.is_free() {
+            self.alone = Some(examiner);
         }
     }
 }
@@ -131,47 +143,63 @@ impl Guards for NodeLocks {
     fn new(alloc: Global) -> NodeLocks {
         NodeLocks {
             alloc,
-            book: Book::new(alloc),
-            table: Table::new(alloc),
-            prepared: None,
+            alone: None,
+            listed: RowLocks::new(alloc),
+            spread: SpreadLocks::new(alloc),
         }
     }
 
     fn would(&self, examiner: u32, tract: &Tract, access: Access) -> Option<u32> {
-        self.table.ways(examiner, tract.cover(), access)
+        let Some(owner) = self.alone else {
+            return self.spread.would(examiner, tract, access);
+        };
+        if owner == examiner {
+            return None;
+        }
+        self.listed.would(examiner, tract, access)
     }
 
     fn prepare(&mut self, examiner: u32, tract: &Tract, access: Access) -> Result<(), LockFault> {
-        self.forget();
-        if let Some(other) = self.would(examiner, tract, access) {
-            return Err(LockFault::Conflict(other));
+        self.begin(examiner);
+        if let Some(owner) = self.alone {
+            if owner == examiner {
+                let Ok(()) = self.listed.make_room(examiner, tract, access) else {
+                    return Err(LockFault::Memory);
+                };
+                return Ok(());
+            }
+            if spread_out(self.alloc, &mut self.listed, &mut self.spread).is_err() {
+                return Err(match self.listed.would(examiner, tract, access) {
+                    Some(other) => LockFault::Conflict(other),
+                    None => LockFault::Memory,
+                });
+            }
+            self.alone = None;
         }
-        let Ok(copy) = tract.copy(self.alloc) else {
-            return Err(LockFault::Memory);
-        };
-        let entry = Entry {
-            examiner,
-            tract: copy,
-            access,
-        };
-        let Ok(()) = stage(&mut self.table, &mut self.book, tract.cover(), entry) else {
-            return Err(LockFault::Memory);
-        };
-        self.prepared = Some(examiner);
-        Ok(())
+        self.spread.prepare(examiner, tract, access)
     }
 
     fn grant(&mut self, examiner: u32, tract: &Tract, access: Access) {
-        self.prepared = None;
-        self.table.raise_all(examiner, tract.cover(), access);
+        match self.alone {
+            Some(_) => self.listed.grant(examiner, tract, access),
+            None => self.spread.grant(examiner, tract, access),
+        }
     }
 
     fn give_back(&mut self, examiner: u32) {
-        self.forget();
-        give_back_all(&mut self.table, &mut self.book, examiner);
+        let Some(owner) = self.alone else {
+            self.spread.give_back(examiner);
+            return;
+        };
+        if owner == examiner {
+            self.listed.give_back(examiner);
+        }
     }
 
     fn mode(&self, examiner: u32, node: &Node) -> Option<Mode> {
-        self.table.mode(examiner, node)
+        match self.alone {
+            Some(_) => self.listed.mode(examiner, node),
+            None => self.spread.mode(examiner, node),
+        }
     }
 }

@@ -1,6 +1,6 @@
-//! Locks as a plain list of entries, for tests to compare with.
+//! Locks as a plain list of entries.
 
-ghost use Rattle.std.specs.Prelude.{◌≡◌, ◌&&◌, ◌==◌, if◌then◌else◌, None, List, reverse, filter, not};
+ghost use Rattle.std.specs.Prelude.{◌≡◌, ◌&&◌, ◌==◌, if◌then◌else◌, Some, None, List, reverse, filter, not, OnOk};
 ghost use Rattle.title_land.specs.Depth.{depth};
 ghost use Rattle.title_land.specs.Nodes.{same_node, is_above};
 ghost use Rattle.title_land.specs.Lands.{cover_of};
@@ -12,7 +12,7 @@ ghost use Rattle.title_lock.specs.Standing.{StandFree};
 use crate::guards::{Access, Entry, Guards, LockFault};
 use crate::least::least;
 use crate::modes::{Mode, bound};
-use std::alloc::Global;
+use std::alloc::{AllocError, Global};
 use std::marker::Model;
 use title_land::{Node, Tract};
 
@@ -157,6 +157,39 @@ impl RowLocks {
     {
         let _ = &self.rows;
     }
+
+    /// The entries, the oldest first.
+    pub(crate) fn rows(&self) -> &[Entry]
+        ensures rows { reverse result.now ≡ self.now.entries }
+    {
+        self.rows.as_slice()
+    }
+
+    /// Makes room for an access that nobody is in the way of, and adds nothing. The list isn't gone through. An error is for
+    /// memory.
+    pub(crate) fn make_room(
+        &mut self,
+        examiner: u32,
+        tract: &Tract,
+        access: Access,
+    ) -> Result<(), AllocError>
+        requires free { Stands self.old.entries examiner tract.now (is_post access) None }
+        ensures stays { self.new.entries ≡ self.old.entries }
+        ensures prepared { OnOk result
+            (self.new.prepared ≡ Some (record { examiner = examiner; tract = tract.now; access = access })) }
+    {
+        self.prepared = None;
+        // The cover says that a tract's set is as large as the grid.
+        let _ = tract.cover();
+        let copy = tract.copy(self.alloc)?;
+        self.rows.reserve(1)?;
+        self.prepared = Some(Entry {
+            examiner,
+            tract: copy,
+            access,
+        });
+        Ok(())
+    }
 }
 
 impl Guards for RowLocks {
@@ -177,21 +210,12 @@ impl Guards for RowLocks {
     }
 
     fn prepare(&mut self, examiner: u32, tract: &Tract, access: Access) -> Result<(), LockFault> {
-        self.prepared = None;
-        if let Some(other) = way(&self.rows, examiner, tract, access) {
+        if let Some(other) = self.would(examiner, tract, access) {
             return Err(LockFault::Conflict(other));
         }
-        let Ok(copy) = Tract::new(self.alloc, tract.land()) else {
+        let Ok(()) = self.make_room(examiner, tract, access) else {
             return Err(LockFault::Memory);
         };
-        let Ok(()) = self.rows.reserve(1) else {
-            return Err(LockFault::Memory);
-        };
-        self.prepared = Some(Entry {
-            examiner,
-            tract: copy,
-            access,
-        });
         Ok(())
     }
 

@@ -9,7 +9,7 @@ use Rattle.title_lock.proofs.KeptLaws.{kept_table}
 use Rattle.title_lock.proofs.Granted.{apart_granted}
 use Rattle.title_lock.proofs.MeetLaws.{meet_by_covers}
 use Rattle.title_lock.proofs.Standing.{granted_free}
-use Rattle.title_lock.proofs.node_locks.NodeLocks.stand_granted.Goals as goal
+use Rattle.title_lock.proofs.spread_locks.SpreadLocks.stand_granted.Goals as goal
 
 pub returns : goal.returns
 returns c =

@@ -9,7 +9,7 @@ use Rattle.title_land.specs.Lands.{cover_of}
 use Rattle.title_lock.proofs.AccessLaws.{gone_join}
 use Rattle.title_lock.proofs.IdleLaws.{less_more}
 use Rattle.title_lock.proofs.GiveBack.{asked_more, without_more, none_left}
-use Rattle.title_lock.proofs.node_locks.give_back_all.Goals as goal
+use Rattle.title_lock.proofs.spread_locks.give_back_all.Goals as goal
 
 pub loop-entry-preserved : goal.loop-entry-preserved
 loop-entry-preserved c =

@@ -6,7 +6,7 @@ use Rattle.std.specs.List.{list_any}
 use Rattle.title_land.specs.declared.node.Node.{Node}
 use Rattle.title_lock.specs.Overlaps.{without}
 use Rattle.title_lock.specs.Tables.{table_mode, is_asked_by, NoMoreIdle, AllUsed}
-use Rattle.title_lock.proofs.node_locks.give_back_all.Given as goal
+use Rattle.title_lock.proofs.spread_locks.give_back_all.Given as goal
 
 abbrev pub invariant-loop-entry : goal.invariant-loop-entry
 invariant-loop-entry l = record {

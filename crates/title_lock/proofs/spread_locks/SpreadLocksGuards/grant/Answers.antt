@@ -12,7 +12,7 @@ use Rattle.title_lock.specs.Locks.{Locks, granted, IsLean}
 use Rattle.title_lock.proofs.MeetLaws.{meet_by_covers}
 use Rattle.title_lock.proofs.GiveBack.{table_more}
 use Rattle.title_lock.proofs.KeptLaws.{kept_table, first_waits, lean_done}
-use Rattle.title_lock.proofs.node_locks.NodeLocksGuards.grant.Goals as goal
+use Rattle.title_lock.proofs.spread_locks.SpreadLocksGuards.grant.Goals as goal
 
 pub raise_all-requires : goal.raise_all-requires
 raise_all-requires c =

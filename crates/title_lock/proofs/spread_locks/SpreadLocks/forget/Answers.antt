@@ -8,7 +8,7 @@ use Rattle.title_land.specs.Lands.{cover_of}
 use Rattle.title_lock.specs.Tables.{is_asked, IdleLess, TableIs}
 use Rattle.title_lock.specs.Locks.{Locks, granted, waiting, AreKept, IsLean}
 use Rattle.title_lock.proofs.KeptLaws.{kept_table, table_same, prepared_taken, prepared_some, waiting_taken, lean_done}
-use Rattle.title_lock.proofs.node_locks.NodeLocks.forget.Goals as goal
+use Rattle.title_lock.proofs.spread_locks.SpreadLocks.forget.Goals as goal
 
 pub invariant_of-self : goal.invariant_of-self
 invariant_of-self c =

@@ -1,0 +1,95 @@
+-- Entries of one examiner alone.
+use Rattle.std.proofs.Common.{◌≡◌, ◌≢◌, ◌&&◌, ◌||◌, ℕ, Bool, false, cond, not, List, [], ◌∷◌, Option, Some, None, eqb, refl, sym}
+use Rattle.std.proofs.Common.{ap, subst, ◌∙◌, arith}
+use Rattle.std.proofs.lemmas.Bool.{ne_eqb}
+use Rattle.std.proofs.lemmas.List.Elements.{All-head, All-tail, All-same, All-filter}
+use Rattle.title_land.specs.declared.node.Node.{Node}
+use Rattle.title_land.specs.declared.tract.Land.{Land}
+use Rattle.title_land.specs.Lands.{cover_of}
+use Rattle.title_lock.specs.declared.guards.Entry.{Entry}
+use Rattle.title_lock.specs.declared.modes.Mode.{Mode}
+use Rattle.title_lock.specs.Modes.{bound}
+use Rattle.title_lock.specs.Overlaps.{is_post, overlap, against, Stands, without}
+use Rattle.title_lock.specs.Asking.{asked, mode_at}
+use Rattle.title_lock.specs.Counts.{IsCount}
+use Rattle.title_lock.specs.Holders.{own_part}
+use Rattle.title_lock.specs.Locks.{Locks, shown, AreOwn, AreInOne}
+use Rattle.title_lock.proofs.CountLaws.{count_none, count_moved}
+
+-- the first is not f's where it is another's
+first_other : (e f : ℕ) (x : Entry) (es : List Entry) → AreOwn e (x ∷ es) → f ≢ e → eqb f x.examiner ≡ false
+first_other e f x es own other = ne_eqb f x.examiner (λ s. other (s ∙ All-head (λ (z : Entry). z.examiner ≡ e) x es own))
+
+rest_own : (e : ℕ) (x : Entry) (es : List Entry) → AreOwn e (x ∷ es) → AreOwn e es
+rest_own e x es own = All-tail (λ (z : Entry). z.examiner ≡ e) x es own
+
+-- none of its entries is another's
+none_against : (e f : ℕ) (es : List Entry) (land : Land) (post : Bool) → AreOwn e es → f ≢ e → against land post f es ≡ false
+none_against e f [] land post own other = refl
+none_against e f (x ∷ es) land post own other =
+    ap (λ (b : Bool). (b && overlap land post x.tract (is_post x.access)) || against land post f es) (first_other e f x es own other)
+    ∙ none_against e f es land post (rest_own e x es own) other
+
+-- nobody is in its way
+own_free : (e : ℕ) (es : List Entry) (land : Land) (post : Bool) → AreOwn e es → Stands es e land post None
+own_free e es land post own f other = none_against e f es land post own other
+
+-- nobody else holds a node
+mode_other : (depth e f : ℕ) (es : List Entry) (n : Node) → AreOwn e es → f ≢ e → mode_at depth es f n ≡ None
+mode_other depth e f [] n own other = refl
+mode_other depth e f (x ∷ es) n own other =
+    ap (λ (b : Bool). bound (cond b (asked (is_post x.access) (cover_of depth x.tract) n) None) (mode_at depth es f n))
+    (first_other e f x es own other)
+    ∙ mode_other depth e f es n (rest_own e x es own) other
+
+-- as many have a mode as the one examiner is of those with it
+pub count_alone : (depth e : ℕ) (es : List Entry) (n : Node) (m : Mode) (k : ℕ) → AreOwn e es → k ≡ own_part (mode_at depth es e n) m
+    → IsCount (λ f. mode_at depth es f n) m k
+count_alone depth e es n m k own is =
+    count_moved (λ f. None) (λ f. mode_at depth es f n) e (λ f other. mode_other depth e f es n own other) m 0 k
+    (count_none (λ f. None) m (λ f. refl)) (omega (arith, is))
+
+-- none of its entries is taken out with another's
+pub without_other : (e o : ℕ) (es : List Entry) → AreOwn o es → e ≢ o → without e es ≡ es
+without_other e o [] own other = refl
+without_other e o (x ∷ es) own other =
+    ap (λ (b : Bool). cond (not b) (x ∷ without e es) (without e es))
+    (ne_eqb x.examiner e (λ s. other (sym s ∙ All-head (λ (z : Entry). z.examiner ≡ o) x es own)))
+    ∙ ap (λ (t : List Entry). x ∷ t) (without_other e o es (rest_own o x es own) other)
+
+-- ---- where one examiner is alone
+
+-- what is listed shows
+pub listed_shown : (alone : Option ℕ) (e : ℕ) (listed spread locks : Locks) → shown alone listed spread ≡ locks → alone ≡ Some e
+    → listed.entries ≡ locks.entries
+listed_shown alone e listed spread locks view is =
+    ap (λ (a : Option ℕ). (shown a listed spread).entries) (sym is) ∙ ap (λ (l : Locks). l.entries) view
+
+-- and is all its own
+listed_own : (alone : Option ℕ) (e : ℕ) (listed spread : List Entry) → AreInOne alone listed spread → alone ≡ Some e → AreOwn e listed
+listed_own alone e listed spread one is = (subst (λ (a : Option ℕ). AreInOne a listed spread) is one).0
+
+pub shown_own : (alone : Option ℕ) (e : ℕ) (listed spread locks : Locks) → shown alone listed spread ≡ locks
+    → AreInOne alone listed.entries spread.entries → alone ≡ Some e → AreOwn e locks.entries
+shown_own alone e listed spread locks view one is =
+    subst (λ (es : List Entry). AreOwn e es) (listed_shown alone e listed spread locks view is)
+    (listed_own alone e listed.entries spread.entries one is)
+
+-- nobody is in its way
+pub alone_free : (alone : Option ℕ) (e f : ℕ) (listed spread locks : Locks) (es : List Entry) → shown alone listed spread ≡ locks
+    → AreInOne alone listed.entries spread.entries → locks.entries ≡ es → alone ≡ Some e → e ≡ f → (land : Land) (post : Bool)
+    → Stands es f land post None
+alone_free alone e f listed spread locks es view one kept is same land post =
+    subst (λ (g : ℕ). Stands es g land post None) same
+    (own_free e es land post (subst (λ (t : List Entry). AreOwn e t) kept (shown_own alone e listed spread locks view one is)))
+
+-- fewer of them are so, too
+pub fewer_in_one : (alone : Option ℕ) (o e : ℕ) (listed fewer spread : List Entry) → fewer ≡ without e listed → AreInOne alone listed spread
+    → alone ≡ Some o → AreInOne alone fewer spread
+fewer_in_one alone o e listed fewer spread left one is =
+    let now = subst (λ (a : Option ℕ). AreInOne a listed spread) is one in
+    subst (λ (a : Option ℕ). AreInOne a fewer spread) (sym is) (
+      All-same (λ (z : Entry). z.examiner ≡ o) fewer (without e listed) left
+          (All-filter (λ (z : Entry). not (eqb z.examiner e)) (λ (z : Entry). z.examiner ≡ o) listed now.0),
+      now.1,
+    )

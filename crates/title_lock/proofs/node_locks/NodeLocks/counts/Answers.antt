@@ -1,0 +1,37 @@
+-- Where one examiner is alone, the counts are what it is of those with each mode.
+use Rattle.std.proofs.Common.{◌≡◌, ◌∙◌, ℕ, List, Option, ap, slice_index}
+use Rattle.title_land.specs.Depth.{depth}
+use Rattle.title_lock.specs.declared.guards.Entry.{Entry}
+use Rattle.title_lock.specs.declared.modes.Mode.{Mode}
+use Rattle.title_lock.specs.declared.modes.Mode.TheVariants.{Is, Ix, S, Six, X}
+use Rattle.title_lock.specs.Asking.{mode_at}
+use Rattle.title_lock.specs.Counts.{IsCount}
+use Rattle.title_lock.specs.Holders.{own_part}
+use Rattle.title_lock.proofs.AloneLaws.{listed_shown, shown_own, count_alone}
+use Rattle.title_lock.proofs.node_locks.NodeLocks.counts.Goals as goal
+
+counted : (c : goal.After-counts_of_one) → (m : Mode) (k : ℕ) → k ≡ own_part c.mode.result m
+    → IsCount (λ f. mode_at depth c.args.self.now.entries f c.args.node.now) m k
+counted c m k is =
+    let e = c.in-Some.owner in
+    let n = c.args.node.now in
+    let i = c.self.inside in
+    let es = c.args.self.now.entries in
+    let same = listed_shown i.alone e i.listed i.spread c.args.self.now c.self.view_is c.in-Some.is in
+    count_alone depth e es n m k (shown_own i.alone e i.listed i.spread c.args.self.now c.self.view_is c.self.invariant c.in-Some.is)
+    (is ∙ ap (λ (o : Option Mode). own_part o m) (c.mode.ensures.mode ∙ ap (λ (t : List Entry). mode_at depth t e n) same))
+
+pub returns-in-Some-clause-is : goal.returns-in-Some-clause-is
+returns-in-Some-clause-is c = counted c Is (slice_index c.counts_of_one.result 0) c.counts_of_one.ensures.is
+
+pub returns-in-Some-clause-ix : goal.returns-in-Some-clause-ix
+returns-in-Some-clause-ix c = counted c Ix (slice_index c.counts_of_one.result 1) c.counts_of_one.ensures.ix
+
+pub returns-in-Some-clause-s : goal.returns-in-Some-clause-s
+returns-in-Some-clause-s c = counted c S (slice_index c.counts_of_one.result 2) c.counts_of_one.ensures.s
+
+pub returns-in-Some-clause-six : goal.returns-in-Some-clause-six
+returns-in-Some-clause-six c = counted c Six (slice_index c.counts_of_one.result 3) c.counts_of_one.ensures.six
+
+pub returns-in-Some-clause-x : goal.returns-in-Some-clause-x
+returns-in-Some-clause-x c = counted c X (slice_index c.counts_of_one.result 4) c.counts_of_one.ensures.x

@@ -1,0 +1,27 @@
+-- The least examiner in the way by the table is the least whose entry overlaps.
+use Rattle.std.proofs.Common.{subst, ap, List}
+use Rattle.title_land.specs.Depth.{depth}
+use Rattle.title_land.specs.declared.node.Node.{Node}
+use Rattle.title_lock.specs.declared.guards.Entry.{Entry}
+use Rattle.title_lock.specs.Overlaps.{IsLeast, Stands, is_post}
+use Rattle.title_lock.specs.Tables.{table_mode, clashes_with}
+use Rattle.title_lock.proofs.MeetLaws.{meet_by_covers}
+use Rattle.title_lock.specs.Locks.{Locks, granted}
+use Rattle.title_lock.proofs.KeptLaws.{kept_table}
+use Rattle.title_lock.proofs.WayLaws.{stands}
+use Rattle.title_lock.proofs.spread_locks.SpreadLocksGuards.would.Goals as goal
+
+pub returns : goal.returns
+returns c =
+    let e = c.args.examiner in
+    let t = c.args.tract.now in
+    let p = is_post c.args.access in
+    let table = c.self.inside.table in
+    let wide = c.cover.ensures.sized in
+    let least = subst (λ (u : List Node). IsLeast (λ f. clashes_with p (λ n. table_mode table f n) u) e c.ways.result) c.cover.ensures.cover
+    c.ways.ensures.way in
+    record {
+      would = subst (λ (z : List Entry). Stands z e t p c.ways.result) (ap (λ (l : Locks). l.entries) c.self.view_is)
+          (stands depth meet_by_covers (granted c.self.inside.prepared c.self.inside.book) table e p t c.ways.result wide
+          (kept_table depth c.self.inside.prepared c.self.inside.book table c.self.invariant.kept) least);
+    }
