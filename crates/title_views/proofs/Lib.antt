@@ -3,3 +3,4 @@ pub mod Growing
 pub mod Additions
 pub mod Sights
 pub mod Making
+pub mod Crossing

@@ -1,7 +1,7 @@
 -- What a viewer has seen.
 use Rattle.std.proofs.Common.{◌≡◌, ◌⊎◌, ⊎_elim, ℕ, ◌≤◌, ◌<◌, Bool, true, false, List, length, take, drop, ap, ◌∙◌, sym, subst}
 use Rattle.std.proofs.Common.{arith, length-append}
-use Rattle.std.specs.Prelude.{nat_lt, if◌then◌else◌}
+use Rattle.std.specs.Prelude.{Option, nat_lt, if◌then◌else◌}
 use Rattle.std.proofs.lemmas.Bool.Decides.{nat_tests}
 use Rattle.std.proofs.lemmas.List.{take-append-drop, take-append-le}
 use Rattle.std.proofs.Math.Seq.{take-length}
@@ -11,7 +11,8 @@ use Rattle.title_store.specs.Plants.{Plant}
 use Rattle.title_store.specs.Loans.{Loan}
 use Rattle.title_chain.specs.declared.record.Record.{Record}
 use Rattle.title_ledger.proofs.Beginnings.{prefix_trans, prefix_whole}
-use Rattle.title_views.specs.Views.{Sight, IsMade}
+use Rattle.title_views.specs.declared.kept.Made.{Made}
+use Rattle.title_views.specs.Views.{Sight, IsMade, IsKept}
 
 abbrev pub sight : ℕ → List Record → List Record → Sight
 sight number seen told = record { number = number; seen = seen; told = told }
@@ -54,3 +55,9 @@ pub made_later : (townships : List Township) (v w : List Record) (count : ℕ) (
 made_later townships v w count content declared out p m =
     let le = prefix_length v w p in
     (omega (arith, m.0, le), rw (take_prefix count v w p m.0) m.1, m.2, m.3)
+
+-- and the sheet that was made of it stays the plant's
+pub kept_later : (townships : List Township) (v w : List Record) (count : ℕ) (content : Plant) (declared : List Township)
+    (out : List Loan) (made : Option Made) → IsPrefix v w → IsKept townships v count content declared out made
+    → IsKept townships w count content declared out made
+kept_later townships v w count content declared out made p k = (made_later townships v w count content declared out p k.0, k.1)

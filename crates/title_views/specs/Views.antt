@@ -1,6 +1,6 @@
 -- What is published, and what viewers know of it. Lists of records here have the oldest first.
 use Rattle.std.specs.Prelude.{◌≡◌, ◌≤◌, ℕ, zero, suc, ◌-◌, true, false, List, [], ◌∷◌, ◌++◌, take, length, reverse, nat_lt, if◌then◌else◌}
-use Rattle.std.specs.Prelude.{Option, None, slice_get}
+use Rattle.std.specs.Prelude.{Option, None, IfSome, slice_get}
 use mathlib.Core.Option.{some}
 use mathlib.Core.List.{IsPrefix}
 use lib.ListN.{get_elem?}
@@ -16,6 +16,7 @@ use Rattle.title_store.specs.Sheets.{sheet_of}
 use Rattle.title_chain.specs.declared.record.Record.{Record}
 use Rattle.title_chain.specs.Alone.{plant_after}
 use Rattle.title_ledger.specs.Ledgers.{AreSerial, PageState, shown_of}
+use Rattle.title_views.specs.declared.kept.Made.{Made}
 use Rattle.title_views.specs.declared.unseen.Unseen.{Unseen}
 use Rattle.title_views.specs.declared.unseen.Unseen.TheVariants as unseen
 
@@ -74,6 +75,15 @@ abbrev pub IsMade : List Township → List Record → ℕ → Plant → List Tow
 IsMade townships records count content declared out =
     (count ≤ length records) × SameContent (plant_after depth townships (reverse (take count records))) content
     × (declared ≡ townships) × (out ≡ [])
+
+-- the rows are the sheet of a tract in this plant, and the tract's townships are declared
+abbrev pub IsSheetIn : List Township → Plant → Land → List SheetRow → Type 0
+IsSheetIn declared content land rows = (rows ≡ sheet_of depth declared content land) × (is_in_plant declared land ≡ true)
+
+-- what a viewer keeps: a plant made of the first so many of these records, and no sheet, or one in that very plant
+abbrev pub IsKept : List Township → List Record → ℕ → Plant → List Township → List Loan → Option Made → Type 0
+IsKept townships records count content declared out made =
+    IsMade townships records count content declared out × IfSome made (λ m. IsSheetIn declared content m.land m.rows)
 
 -- what a viewer may be shown: serial records that begin with all that it has seen and with all that it has learnt of
 abbrev pub Follows : List Township → Sight → List Record → Type 0

@@ -8,18 +8,40 @@ ghost use Rattle.title_store.specs.Sheets.{sheet_of};
 ghost use Rattle.title_chain.specs.Asks.{effect};
 ghost use Rattle.title_chain.specs.Alone.{after_steps, plant_after, IsSerial};
 ghost use Rattle.title_chain.specs.Replays.{CanReplay, Replays};
-ghost use Rattle.title_views.specs.Views.{IsMade};
+ghost use Rattle.title_views.specs.Views.{IsKept, IsMade, IsSheetIn};
 
+use crate::same_land::same_land;
 use std::alloc::{AllocError, Global};
 use title_chain::{Answer, Ask, Record, SheetRows, Step};
-use title_land::{Township, Tract};
+use title_land::{Land, Township, Tract};
 use title_store::{Put, Store};
 
-/// A plant that was made of so many records.
+/// The sheet of a tract, by the tract's land.
+#[derive(Drop)]
+pub struct Made {
+    pub(crate) land: Land,
+    pub(crate) rows: SheetRows,
+}
+
+/// A plant that was made of so many records, and the sheet that was last made of it, if one was.
 #[derive(Drop)]
 pub struct Kept<S: Store + Drop> {
     pub(crate) store: S,
     pub(crate) count: usize,
+    pub(crate) made: Option<Made>,
+}
+
+impl Made {
+    // The same rows, where they are of this land. They are shared, so no memory is taken.
+    fn of(&self, land: &Land) -> Option<SheetRows>
+        ensures rows { IfSome result (λ rows. rows ≡ self.now.rows) }
+        ensures land { IfSome result (λ rows. self.now.land ≡ land.now) }
+    {
+        if !same_land(&self.land, land) {
+            return None;
+        }
+        self.rows.copy().ok()
+    }
 }
 
 // Posts a step's instrument again, if it was posted.
@@ -55,7 +77,7 @@ fn post_all_again<S: Store>(store: &mut S, steps: &[Step]) -> Result<(), AllocEr
     Ok(())
 }
 
-// Posts again what the records from a place on posted, one record after another.
+// Posts again what the records from a place on posted, one record after another, and tidies up after each.
 fn post_rest_again<S: Store>(
     store: &mut S,
     records: &[Record],
@@ -68,11 +90,12 @@ fn post_rest_again<S: Store>(
 {
     for index in from..records.len() {
         post_all_again(store, records[index].steps.as_slice())?;
+        store.tidy();
     }
     Ok(())
 }
 
-// The plant made of these records, by what was kept of an earlier view, if anything was.
+// The plant made of these records, by what was kept of an earlier view, if anything was. The sheet that was kept is let go.
 pub(crate) fn bring_up<S: Store + Drop>(
     alloc: Global,
     townships: &[Township],
@@ -81,33 +104,57 @@ pub(crate) fn bring_up<S: Store + Drop>(
 ) -> Result<Kept<S>, AllocError>
     requires once { IsEachOnce townships.now }
     requires serial { IsSerial depth townships.now (reverse records.now) }
-    requires made { IfSome kept (λ k. IsMade townships.now records.now k.count (S.content k.store) (S.declared k.store) (S.out k.store)) }
-    ensures made { IfOk result (λ k. IsMade townships.now records.now k.count (S.content k.store) (S.declared k.store) (S.out k.store)) }
+    requires kept { IfSome kept (λ k. IsKept townships.now records.now k.count (S.content k.store) (S.declared k.store)
+        (S.out k.store) k.made) }
+    ensures kept { IfOk result (λ k. IsKept townships.now records.now k.count (S.content k.store) (S.declared k.store)
+        (S.out k.store) k.made) }
     ensures count { IfOk result (λ k. k.count ≡ length records.now) }
 {
-    let kept = match kept {
+    let mut kept = match kept {
         Some(kept) => kept,
         None => Kept {
             store: S::open(alloc, townships)?,
             count: 0,
+            made: None,
         },
     };
-    let Kept { mut store, count } = kept;
-    post_rest_again(&mut store, records, count)?;
-    Ok(Kept {
-        store,
-        count: records.len(),
-    })
+    post_rest_again(&mut kept.store, records, kept.count)?;
+    kept.count = records.len();
+    kept.made = None;
+    Ok(kept)
 }
 
 impl<S: Store + Drop> Kept<S> {
-    // The sheet of a tract.
-    pub(crate) fn sheet(&self, alloc: Global, tract: &Tract) -> Result<SheetRows, AllocError>
-        requires within { is_in_plant (S.declared self.now.store) tract.now ≡ true }
-        ensures sheet { IfOk result (λ rows. rows
-            ≡ sheet_of depth (S.declared self.now.store) (S.content self.now.store) tract.now) }
+    // The sheet that was last made, where it is of this land and was made after so many records.
+    pub(crate) fn again(&self, count: usize, land: &Land) -> Option<SheetRows>
+        requires made { IfSome self.now.made (λ m. IsSheetIn (S.declared self.now.store) (S.content self.now.store) m.land m.rows) }
+        ensures count { IfSome result (λ rows. self.now.count ≡ count) }
+        ensures sheet { IfSome result (λ rows. IsSheetIn (S.declared self.now.store) (S.content self.now.store) land.now rows) }
     {
-        let rows = self.store.sheet(alloc, tract)?;
-        SheetRows::new(rows)
+        if self.count != count {
+            return None;
+        }
+        let Some(made) = &self.made else {
+            return None;
+        };
+        made.of(land)
+    }
+
+    // The sheet of a tract, which is kept.
+    pub(crate) fn sheet(&mut self, alloc: Global, tract: &Tract) -> Result<SheetRows, AllocError>
+        requires within { is_in_plant (S.declared self.old.store) tract.now ≡ true }
+        requires made { IfSome self.old.made (λ m. IsSheetIn (S.declared self.old.store) (S.content self.old.store) m.land m.rows) }
+        ensures store { self.new.store ≡ self.old.store }
+        ensures count { self.new.count ≡ self.old.count }
+        ensures made { IfSome self.new.made (λ m. IsSheetIn (S.declared self.new.store) (S.content self.new.store) m.land m.rows) }
+        ensures sheet { IfOk result (λ rows. rows
+            ≡ sheet_of depth (S.declared self.old.store) (S.content self.old.store) tract.now) }
+    {
+        let rows = SheetRows::new(self.store.sheet(alloc, tract)?)?;
+        self.made = Some(Made {
+            land: tract.land(),
+            rows: rows.copy()?,
+        });
+        Ok(rows)
     }
 }

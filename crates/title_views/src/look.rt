@@ -6,7 +6,7 @@ ghost use Rattle.left_right.specs.Sides.{view};
 ghost use Rattle.title_land.specs.Lands.{is_in_plant};
 ghost use Rattle.title_store.specs.Plants.{IsEachOnce};
 ghost use Rattle.title_ledger.specs.Ledgers.{AreSerial, sure_of, IsSettled};
-ghost use Rattle.title_views.specs.Views.{IsMade, IsNoRecord, IsOf, IsUnseen, record_at, sheet_after};
+ghost use Rattle.title_views.specs.Views.{IsKept, IsNoRecord, IsOf, IsUnseen, record_at, sheet_after};
 
 use crate::kept::{Kept, bring_up};
 use crate::published::{Published, Sees, Watch};
@@ -29,14 +29,15 @@ fn sheet_of_all<S: Store + Drop>(
     requires once { IsEachOnce townships.now }
     requires serial { AreSerial townships.now records.now }
     requires within { is_in_plant townships.now tract.now ≡ true }
-    requires made { IfSome kept (λ k. IsMade townships.now records.now k.count (S.content k.store) (S.declared k.store) (S.out k.store)) }
-    ensures made { IfSome result.0 (λ k. IsMade townships.now records.now k.count (S.content k.store) (S.declared k.store)
-        (S.out k.store)) }
+    requires kept { IfSome kept (λ k. IsKept townships.now records.now k.count (S.content k.store) (S.declared k.store)
+        (S.out k.store) k.made) }
+    ensures kept { IfSome result.0 (λ k. IsKept townships.now records.now k.count (S.content k.store) (S.declared k.store)
+        (S.out k.store) k.made) }
     ensures shown { MatchResult result.1
         (λ s. (s.front ≡ length records.now) × (s.rows ≡ sheet_after townships.now records.now tract.now))
         (λ why. why ≡ Unseen.Memory) }
 {
-    let Ok(kept) = bring_up(alloc, townships, kept, records) else {
+    let Ok(mut kept) = bring_up(alloc, townships, kept, records) else {
         return (None, Err(Unseen::Memory));
     };
     let front = records.len() as u64;
@@ -55,6 +56,26 @@ fn covers<B: Room>(told: &Front<B>, published: &Published) -> bool
     told.covered_by(published.page())
 }
 
+// The sheet that was last made, where it is of this tract and no record came since.
+fn seen_again<B: Room, S: Store + Drop>(
+    kept: &Option<Kept<S>>,
+    records: &[Record],
+    tract: &Tract,
+) -> Option<Seen>
+    requires kept { IfSome kept.now (λ k. IsKept B.setting.townships records.now k.count (S.content k.store) (S.declared k.store)
+        (S.out k.store) k.made) }
+    ensures again { IfSome result (λ s. (s.front ≡ length records.now)
+        × (s.rows ≡ sheet_after B.setting.townships records.now tract.now) × (is_in_plant B.setting.townships tract.now ≡ true)) }
+{
+    let Some(kept) = kept else {
+        return None;
+    };
+    let count = records.len();
+    let rows = kept.again(count, &tract.land())?;
+    let front = count as u64;
+    Some(Seen { front, rows })
+}
+
 // The sheet of a tract by what is published.
 fn sheet_in<B: Room, S: Store + Drop>(
     alloc: Global,
@@ -68,10 +89,10 @@ fn sheet_in<B: Room, S: Store + Drop>(
     requires once { IsEachOnce B.setting.townships }
     requires settled { IsSettled told.now }
     requires its { IsOf B.setting.townships B.book published.now }
-    requires made { IfSome kept (λ k. IsMade B.setting.townships published.now.records k.count (S.content k.store)
-        (S.declared k.store) (S.out k.store)) }
-    ensures made { IfSome result.0 (λ k. IsMade B.setting.townships published.now.records k.count (S.content k.store)
-        (S.declared k.store) (S.out k.store)) }
+    requires kept { IfSome kept (λ k. IsKept B.setting.townships published.now.records k.count (S.content k.store)
+        (S.declared k.store) (S.out k.store) k.made) }
+    ensures kept { IfSome result.0 (λ k. IsKept B.setting.townships published.now.records k.count (S.content k.store)
+        (S.declared k.store) (S.out k.store) k.made) }
     ensures shown { MatchResult result.1
         (λ s. IsPrefix (sure_of told.now) published.now.records × (s.front ≡ length published.now.records)
         × (s.rows ≡ sheet_after B.setting.townships published.now.records tract.now)
@@ -81,10 +102,14 @@ fn sheet_in<B: Room, S: Store + Drop>(
     if !covers(told, published) {
         return (kept, Err(Unseen::Closed));
     }
+    let records = published.records();
+    if let Some(seen) = seen_again::<B, S>(&kept, records, tract) {
+        return (kept, Ok(seen));
+    }
     if !tract.is_in(townships) {
         return (kept, Err(Unseen::NoSuchTownship));
     }
-    sheet_of_all(alloc, townships, kept, published.records(), tract)
+    sheet_of_all(alloc, townships, kept, records, tract)
 }
 
 /// One look at the sheet of a tract.
@@ -99,11 +124,11 @@ pub(crate) fn look<B: Room, S: Store + Drop>(
     requires townships { townships.now ≡ B.setting.townships }
     requires once { IsEachOnce B.setting.townships }
     requires settled { IsSettled told.now }
-    requires made { IfSome kept (λ k. IsMade B.setting.townships (view reader.place) k.count (S.content k.store)
-        (S.declared k.store) (S.out k.store)) }
+    requires kept { IfSome kept (λ k. IsKept B.setting.townships (view reader.place) k.count (S.content k.store)
+        (S.declared k.store) (S.out k.store) k.made) }
     ensures later { IsPrefix (view reader.place) (view result.0.place) }
-    ensures made { IfSome result.1 (λ k. IsMade B.setting.townships (view result.0.place) k.count (S.content k.store)
-        (S.declared k.store) (S.out k.store)) }
+    ensures kept { IfSome result.1 (λ k. IsKept B.setting.townships (view result.0.place) k.count (S.content k.store)
+        (S.declared k.store) (S.out k.store) k.made) }
     ensures shown { MatchResult result.2
         (λ s. AreSerial B.setting.townships (view result.0.place) × IsPrefix (sure_of told.now) (view result.0.place)
         × (s.front ≡ length (view result.0.place)) × (s.rows ≡ sheet_after B.setting.townships (view result.0.place) tract.now)

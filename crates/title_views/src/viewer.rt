@@ -17,7 +17,8 @@ use std::marker::Model;
 use title_chain::{Record, SheetRows};
 use title_land::{Township, Tract};
 use title_ledger::{Front, Room};
-use title_store::{CellStore, Store};
+use title_store::Store;
+use title_tree_store::TreeStore;
 
 /// A sheet, and how many records stand behind it.
 #[derive(Drop)]
@@ -26,7 +27,7 @@ pub struct Seen {
     pub rows: SheetRows,
 }
 
-/// What a viewer is, by any store: it keeps the plant that it made of the records that it last showed.
+/// What a viewer is, by any store: it keeps the plant that it made of the records that it last showed, and the last sheet of it.
 #[derive(Drop)]
 pub struct Watcher<B: Room, S: Store + Drop> {
     alloc: Global,
@@ -43,7 +44,7 @@ impl<B: Room, S: Store + Drop> Model for Watcher<B, S> {
     ghost use Rattle.left_right.specs.Sides.{view as known};
     ghost use Rattle.title_store.specs.Plants.{IsEachOnce};
     ghost use Rattle.title_ledger.specs.Ledgers.{sure_of, IsSettled};
-    ghost use Rattle.title_views.specs.Views.{IsMade, Sight};
+    ghost use Rattle.title_views.specs.Views.{IsKept, Sight};
 
     ghost Value = { Sight };
 
@@ -55,8 +56,8 @@ impl<B: Room, S: Store + Drop> Model for Watcher<B, S> {
 
     ghost invariant = { λ w. (w.townships.items ≡ B.setting.townships) × IsEachOnce B.setting.townships × IsSettled w.told
         × (w.count ≤ length (unwrap_or (option_map (λ r. known r.place) w.reader) []))
-        × IfSome w.kept (λ k. IsMade B.setting.townships (unwrap_or (option_map (λ r. known r.place) w.reader) []) k.count
-        (S.content k.store) (S.declared k.store) (S.out k.store)) };
+        × IfSome w.kept (λ k. IsKept B.setting.townships (unwrap_or (option_map (λ r. known r.place) w.reader) []) k.count
+        (S.content k.store) (S.declared k.store) (S.out k.store) k.made) };
 }
 
 impl<B: Room, S: Store + Drop> Watcher<B, S> {
@@ -149,7 +150,7 @@ impl<B: Room, S: Store + Drop> Watcher<B, S> {
 /// and those that it has learnt of: what it is shown begins with both.
 #[derive(Drop)]
 pub struct Viewer<B: Room> {
-    watcher: Watcher<B, CellStore>,
+    watcher: Watcher<B, TreeStore>,
 }
 
 impl<B: Room> Model for Viewer<B> {

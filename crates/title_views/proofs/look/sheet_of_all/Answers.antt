@@ -8,5 +8,5 @@ returns-in-Ok-sheet-clause-shown g c = (
   refl,
   made_sheet c.args.townships.now c.args.records.now c.in-Ok.kept.count (g.S.Store.content c.in-Ok.kept.store)
       (g.S.Store.declared c.in-Ok.kept.store) (g.S.Store.out c.in-Ok.kept.store) c.args.tract.now c.in-Ok-sheet.rows
-      c.in-Ok.ensures.made c.in-Ok.ensures.count c.in-Ok-sheet.ensures.sheet,
+      c.in-Ok.ensures.kept.0 c.in-Ok.ensures.count c.in-Ok-sheet.ensures.sheet,
 )
