@@ -15,7 +15,7 @@ use Rattle.title_aliquot.specs.declared.syntax.Entry.TheVariants as entry
 use Rattle.title_aliquot.specs.Areas.{IsArea, IsAreaOf}
 use Rattle.title_aliquot.specs.Entries.{leading, parts_in}
 use Rattle.title_aliquot.specs.Meaning.{parts_exist}
-use Rattle.title_aliquot.proofs.Shapes.{union_next, shared_decides}
+use Rattle.title_aliquot.specs.Laws.Shapes.{union_next, shared_decides}
 
 -- ---- one more rectangle
 

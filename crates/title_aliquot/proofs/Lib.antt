@@ -1,16 +1,8 @@
-pub mod Grammar
 pub mod Loops
 pub mod TextWalks
 pub mod Entries
-pub mod Whole
-pub mod Shapes
 pub mod Areas
-pub mod Texts
-pub mod Lands
-pub mod Unique
 pub mod Spellings
 pub mod NodeTexts
 pub mod NodeCovers
-pub mod Total
 pub mod TextsDoubled
-pub mod Readings

@@ -17,12 +17,12 @@ use Rattle.title_land.specs.Nodes.{square, IsNode}
 use Rattle.title_land.specs.Rectangles.{part_of, step_of, is_even, exists, holds}
 use Rattle.title_land.specs.Grids.{grid_of}
 use Rattle.title_land.specs.Lands.{cover_of, land_of}
-use Rattle.title_land.proofs.Squares.{sized}
-use Rattle.title_land.proofs.NodeLands.{cover_of-land_of}
+use Rattle.title_land.specs.Laws.Squares.{sized}
+use Rattle.title_land.specs.Laws.NodeLands.{cover_of-land_of}
 use Rattle.title_aliquot.specs.Meaning.{union, rectangles, Overlap, StandsFor}
 use Rattle.title_aliquot.specs.Grammar.{SectionSyntax}
 use Rattle.title_aliquot.specs.TextLaws.{ReadsBack}
-use Rattle.title_aliquot.proofs.Lands.{township_stands, section_stands, PartsStand}
+use Rattle.title_aliquot.specs.Laws.Lands.{township_stands, section_stands, PartsStand}
 use Rattle.title_aliquot.proofs.Spellings.{steps_of}
 use Rattle.title_aliquot.proofs.NodeTexts.{node_syntax, parts_named, node_says}
 

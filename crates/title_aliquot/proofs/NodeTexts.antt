@@ -20,7 +20,7 @@ use Rattle.title_land.specs.declared.node.Node.{Node}
 use Rattle.title_land.specs.declared.node.Node.TheVariants as node
 use Rattle.title_land.specs.Depth.{depth}
 use Rattle.title_land.specs.Nodes.{IsNode}
-use Rattle.title_land.proofs.PathNumbers.{depth_fits}
+use Rattle.title_land.specs.Laws.PathNumbers.{depth_fits}
 use Rattle.title_land.specs.Texts.{township_text, section_text, quarter_text, quarters_text, path_text, node_text}
 use Rattle.title_grammar.specs.Language.{Gives, ◌<|>◌}
 use Rattle.title_aliquot.specs.Grammar.{Syntax, Everything, SectionSyntax, Description, PlaceText, TownshipText, RangeText, SectionText}

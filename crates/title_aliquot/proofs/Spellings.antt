@@ -14,7 +14,7 @@ use Rattle.title_land.specs.declared.rectangle.Step.{Step}
 use Rattle.title_land.specs.declared.rectangle.Step.TheVariants as step
 use Rattle.title_land.specs.Grids.{range_all}
 use Rattle.title_land.specs.Texts.{quarter_text, quarters_text, path_text}
-use Rattle.title_land.proofs.Filling.{range_all_at}
+use Rattle.title_land.specs.Laws.Filling.{range_all_at}
 use Rattle.title_grammar.specs.Language.{Language, member, OneOf, Many, Word, Maybe, ◌*>◌}
 use Rattle.title_aliquot.specs.Grammar.{digits, decimal, Number, StepText, Part, Parts}
 use Rattle.title_aliquot.specs.Letters.{passed_over, letters}

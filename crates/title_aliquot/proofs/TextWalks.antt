@@ -10,7 +10,7 @@ use Rattle.std.proofs.lemmas.Str.{chars_past_char, length-encode, encodes-chars,
 use Rattle.std.proofs.lemmas.Str.{chars-nil, encodes-append, IsCharBoundary-at_seam}
 use Rattle.std.proofs.Math.Seq.{take-nil, drop-nil, take-append_seam, drop-append_seam}
 use Rattle.std.proofs.Math.Utf8.{scalar, scalars}
-use Rattle.title_grammar.proofs.Exact.{tells}
+use Rattle.title_grammar.specs.Laws.Exact.{tells}
 use denote.Ref.{Bor}
 use Rattle.title_aliquot.specs.Letters.{passed_over, letters, letters_from, offset}
 

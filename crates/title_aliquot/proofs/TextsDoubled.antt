@@ -13,10 +13,10 @@ use Rattle.title_land.specs.Places.{side}
 use Rattle.title_land.specs.Rectangles.{part_of, holds, SharesCell}
 use Rattle.title_land.specs.Grids.{grid_has, grid_of}
 use Rattle.title_land.specs.Doubled.{double, doubled}
-use Rattle.title_land.proofs.GridLaws.{grid_has-grid_of}
-use Rattle.title_land.proofs.PartsDoubled.{part_double, two_pow}
-use Rattle.title_land.proofs.SquaresDoubled.{holds_double}
-use Rattle.title_land.proofs.CoversDoubled.{grid_same}
+use Rattle.title_land.specs.Laws.GridLaws.{grid_has-grid_of}
+use Rattle.title_land.specs.Laws.PartsDoubled.{part_double, two_pow}
+use Rattle.title_land.specs.Laws.SquaresDoubled.{holds_double}
+use Rattle.title_land.specs.Laws.CoversDoubled.{grid_same}
 use Rattle.title_aliquot.specs.declared.fault.DescFault.TheVariants as fault
 use Rattle.title_aliquot.specs.Grammar.{Syntax, Everything, InPlace, SectionSyntax}
 use Rattle.title_aliquot.specs.Meaning.{section_parts, parts_of, parts_exist, rectangles, SharesCellWithOne, Overlap, union, IsLandIn}

@@ -12,3 +12,4 @@ pub mod Answers
 pub mod TextLaws
 pub mod DepthLaws
 pub mod Reading
+pub mod Laws

@@ -13,10 +13,10 @@ use Rattle.title_land.specs.declared.tract.Land.{Land}
 use Rattle.title_land.specs.Nodes.{same_node, parent_of, is_above}
 use Rattle.title_land.specs.Lands.{cover_of, IsLand}
 use Rattle.title_land.specs.Orders.{node_cmp}
-use Rattle.title_land.proofs.NodeKeys.{node_at}
-use Rattle.title_land.proofs.SameNode.{same_node-is}
-use Rattle.title_land.proofs.CoverSet.{above_by_parent}
-use Rattle.title_store.proofs.Each.{each_append}
+use Rattle.title_land.specs.Laws.NodeKeys.{node_at}
+use Rattle.title_land.specs.Laws.SameNode.{same_node-is}
+use Rattle.title_land.specs.Laws.CoverSet.{above_by_parent}
+use Rattle.title_store.specs.Laws.Each.{each_append}
 use Rattle.title_chain.specs.declared.ask.Step.{Step}
 use Rattle.title_chain.specs.declared.filing.Filing.{Filing}
 use Rattle.title_chain.specs.declared.place.Place.{Place}

@@ -12,9 +12,9 @@ use Rattle.std.specs.BTreeSet.{BTreeSet}
 use Rattle.std.specs.List.{list_any}
 use Rattle.title_land.specs.declared.node.Node.{Node}
 use Rattle.title_land.specs.Nodes.{parent_of, above}
-use Rattle.title_land.proofs.LandSharing.{equal_tests}
-use Rattle.title_land.proofs.Keys.{found_at, then_parts}
-use Rattle.title_land.proofs.CoverSet.{above_by_parent}
+use Rattle.title_land.specs.Laws.LandSharing.{equal_tests}
+use Rattle.title_land.specs.Laws.Keys.{found_at, then_parts}
+use Rattle.title_land.specs.Laws.CoverSet.{above_by_parent}
 use Rattle.title_chain.specs.declared.place.Place.{Place}
 use Rattle.title_chain.specs.PostPlaces.{same_place, is_listed}
 use Rattle.title_chain.specs.PlaceMaps.{place_cmp, is_found}

@@ -1,7 +1,4 @@
 -- The lemmas.
-pub mod AskLaws
-pub mod Past
-pub mod PostsAgain
 pub mod PlaceOrder
 pub mod PlaceEntries
 pub mod Filings

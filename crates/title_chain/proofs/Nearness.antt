@@ -7,9 +7,9 @@ use Rattle.title_land.specs.declared.tract.Land.{Land}
 use Rattle.title_land.specs.Nodes.{same_node, above, is_above, are_related}
 use Rattle.title_land.specs.Lands.{cover_of, meets, IsLand}
 use Rattle.title_land.specs.CoverSets.{covers_meet, MeetsByCovers}
-use Rattle.title_land.proofs.SameNode.{same_node-is}
-use Rattle.title_land.proofs.LandSharing.{equal_tests}
-use Rattle.title_land.proofs.CoversMeet.{meets_by_covers}
+use Rattle.title_land.specs.Laws.SameNode.{same_node-is}
+use Rattle.title_land.specs.Laws.LandSharing.{equal_tests}
+use Rattle.title_land.specs.Laws.CoversMeet.{meets_by_covers}
 use Rattle.title_chain.specs.declared.filing.Filing.{Filing}
 use Rattle.title_chain.specs.declared.place.Place.{Place}
 use Rattle.title_chain.specs.PostPlaces.{PlacedPost, same_place, is_place_where}

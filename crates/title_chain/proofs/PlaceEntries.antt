@@ -8,7 +8,7 @@ use Rattle.std.proofs.lemmas.List.{append-nil, reverse-append, reverse-reverse, 
 use Rattle.std.proofs.lemmas.Option.{slice_get_past}
 use Rattle.title_land.specs.declared.tract.Land.{Land}
 use Rattle.title_land.specs.Lands.{meets}
-use Rattle.title_store.proofs.Each.{each_from, each_append}
+use Rattle.title_store.specs.Laws.Each.{each_from, each_append}
 use Rattle.title_chain.specs.declared.ask.Ask.{Ask}
 use Rattle.title_chain.specs.declared.ask.Ask.TheVariants as ask
 use Rattle.title_chain.specs.declared.ask.Answer.{Answer}

@@ -10,7 +10,7 @@ use Rattle.std.specs.BTreeSet.{BTreeSet, IsOrdered}
 use Rattle.std.specs.List.{AllByRecursion, list_any}
 use Rattle.std.specs.List.Sorted.{IsStrictlySortedBy}
 use Rattle.title_land.specs.declared.tract.Land.{Land}
-use Rattle.title_store.proofs.Each.{each_from, each_append}
+use Rattle.title_store.specs.Laws.Each.{each_from, each_append}
 use Rattle.title_chain.specs.declared.ask.Ask.{Ask}
 use Rattle.title_chain.specs.declared.ask.Ask.TheVariants as ask
 use Rattle.title_chain.specs.declared.ask.Answer.{Answer}

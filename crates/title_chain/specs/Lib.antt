@@ -9,3 +9,4 @@ pub mod Replays
 pub mod PostPlaces
 pub mod PlaceMaps
 pub mod TractIndexes
+pub mod Laws

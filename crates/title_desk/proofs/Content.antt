@@ -16,7 +16,7 @@ use Rattle.title_chain.specs.Asks.{tract_of, is_post, overlap, effect}
 use Rattle.title_chain.specs.Alone.{after_steps, plant_after}
 use Rattle.title_chain.specs.Overlaps.{overlaps, Clear}
 use Rattle.title_chain.specs.ChainLaws.{SameIn}
-use Rattle.title_chain.proofs.AskLaws.{cell_meets, effect_outside}
+use Rattle.title_chain.specs.Laws.AskLaws.{cell_meets, effect_outside}
 use Rattle.title_lock.specs.declared.guards.Entry.{Entry}
 use Rattle.title_desk.specs.Images.{is_posted, posted_at, Peels, Backed}
 use Rattle.title_desk.specs.Keeps.{Facts}

@@ -16,8 +16,8 @@ use Rattle.title_chain.specs.Asks.{tract_of, is_post, effect}
 use Rattle.title_chain.specs.Alone.{after_steps, plant_after}
 use Rattle.title_chain.specs.Overlaps.{overlaps, Clear, record_of}
 use Rattle.title_chain.specs.ChainLaws.{SameIn}
-use Rattle.title_chain.proofs.AskLaws.{effect_same, effect_outside}
-use Rattle.title_chain.proofs.Past.{SameAt, clear_same, steps_same}
+use Rattle.title_chain.specs.Laws.AskLaws.{effect_same, effect_outside}
+use Rattle.title_chain.specs.Laws.Past.{SameAt, clear_same, steps_same}
 use Rattle.title_lock.specs.declared.guards.Entry.{Entry}
 use Rattle.title_lock.specs.Overlaps.{against, overlap, without, is_post as is_post_access}
 use Rattle.title_desk.specs.Images.{is_posted, posted_at, IsOf, Peels, Backed, IsRestored, without_all}

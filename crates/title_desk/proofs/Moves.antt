@@ -20,7 +20,7 @@ use Rattle.title_trace.specs.declared.call.Request.TheVariants as request
 use Rattle.title_trace.specs.declared.call.Reply.TheVariants as reply
 use Rattle.title_trace.specs.Trace.{is_open, open_steps, committed}
 use Rattle.title_trace.specs.Due.{Setting, DueReply}
-use Rattle.title_trace.proofs.Law.{kept}
+use Rattle.title_trace.specs.Laws.Law.{kept}
 use Rattle.title_desk.specs.declared.refusal.Refusal.{Refusal}
 use Rattle.title_desk.specs.declared.refusal.Refusal.TheVariants as refusal
 use Rattle.title_desk.specs.declared.slots.Slot.{Slot}

@@ -10,7 +10,7 @@ use Rattle.title_land.specs.declared.tract.Land.{Land}
 use Rattle.title_instrument.specs.declared.instrument.Instrument.{Instrument}
 use Rattle.title_store.specs.Plants.{Plant, Refusal, SameContent, is_cell_of, refused_in, plant_effect}
 use Rattle.title_store.specs.Loans.{Loan, IsAmong, IsLentAs, IsOut, IsLast, IsTaken, without}
-use Rattle.title_store.proofs.EffectLaws as store
+use Rattle.title_store.specs.Laws.EffectLaws as store
 use Rattle.title_chain.specs.declared.ask.Ask.{Ask}
 use Rattle.title_chain.specs.declared.ask.Ask.TheVariants as ask
 use Rattle.title_chain.specs.declared.ask.Answer.TheVariants as answer
@@ -22,7 +22,7 @@ use Rattle.title_chain.specs.Chains.{chain_of}
 use Rattle.title_chain.specs.Alone.{after_steps, plant_after, alone}
 use Rattle.title_chain.specs.Overlaps.{overlaps}
 use Rattle.title_chain.specs.ChainLaws.{SameIn}
-use Rattle.title_chain.proofs.AskLaws.{answer_same, answer_post, effect_same, effect_outside, effect_post}
+use Rattle.title_chain.specs.Laws.AskLaws.{answer_same, answer_post, effect_same, effect_outside, effect_post}
 use Rattle.title_lock.specs.declared.guards.Access.TheVariants as access
 use Rattle.title_lock.specs.declared.guards.Entry.{Entry}
 use Rattle.title_trace.specs.declared.call.Call.{Call}

@@ -23,7 +23,7 @@ use Rattle.title_chain.specs.Asks.{tract_of, is_post, cause_of, effect, post_ans
 use Rattle.title_chain.specs.Chains.{chain_of}
 use Rattle.title_chain.specs.Alone.{after_steps, plant_after, alone}
 use Rattle.title_chain.specs.Overlaps.{overlaps}
-use Rattle.title_chain.proofs.AskLaws.{answer_same, answer_sheet, answer_chain, answer_post, effect_read, effect_refused}
+use Rattle.title_chain.specs.Laws.AskLaws.{answer_same, answer_sheet, answer_chain, answer_post, effect_read, effect_refused}
 use Rattle.title_lock.specs.declared.guards.Access.{Access}
 use Rattle.title_lock.specs.declared.guards.Entry.{Entry}
 use Rattle.title_lock.specs.Overlaps.{against, Stands, is_post as is_post_access}

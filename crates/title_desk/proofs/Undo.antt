@@ -10,7 +10,7 @@ use Rattle.title_store.specs.Loans.{Loan, IsLentAs, IsOut, IsLast, IsFirst, with
 use Rattle.title_chain.specs.declared.ask.Step.{Step}
 use Rattle.title_chain.specs.Asks.{tract_of, effect}
 use Rattle.title_chain.specs.Alone.{after_steps}
-use Rattle.title_chain.proofs.AskLaws.{effect_outside}
+use Rattle.title_chain.specs.Laws.AskLaws.{effect_outside}
 use Rattle.title_desk.specs.Images.{is_posted, posted_at, Peels, Backed, put_back, IsRestored, without_all, Restorable, Forgettable}
 use Rattle.title_desk.proofs.Loaned.{Remain, remain_later}
 

@@ -1,2 +1,1 @@
 -- Laws of instruments, public to the crates above.
-pub mod EffectLaws

@@ -7,3 +7,4 @@ pub mod Check
 pub mod Passing
 pub mod Owners
 pub mod Effect
+pub mod Laws

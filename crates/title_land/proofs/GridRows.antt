@@ -21,7 +21,7 @@ use Rattle.title_land.specs.Places.{side}
 use Rattle.title_land.specs.Rectangles.{holds, InSection}
 use Rattle.title_land.specs.RowBits.{is_set, row_cells, grid_cells, row_numbers, HasColumns, IsRows}
 use Rattle.title_land.specs.RowNumbers.{length-row_cells, get_or-row_cells, rows_back}
-use Rattle.title_land.proofs.Filling.{range_all_at, range_all_from}
+use Rattle.title_land.specs.Laws.Filling.{range_all_at, range_all_from}
 use Rattle.title_land.proofs.RowBits.{same_test, set_or, row_some, row_meets, row_counts, covers_mask, covered_mask}
 
 -- a set has as many rows and columns as its section

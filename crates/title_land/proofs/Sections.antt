@@ -5,7 +5,7 @@ use Rattle.title_land.specs.declared.place.Township.{Township}
 use Rattle.title_land.specs.declared.place.Section.{Section}
 use Rattle.title_land.specs.Places.{IsSection, IsSectionNumber}
 use Rattle.title_land.specs.CellLists.{sections_from, sections_of, sections_left}
-use Rattle.title_land.proofs.CellMembers.{section_if-is}
+use Rattle.title_land.specs.Laws.CellMembers.{section_if-is}
 
 -- all are left at first
 pub left_first : (t : Township) → sections_left t 1 ≡ sections_of t

@@ -20,3 +20,4 @@ pub mod Acres
 pub mod Doubled
 pub mod CellLaws
 pub mod CellOrder
+pub mod Laws

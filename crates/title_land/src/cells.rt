@@ -134,7 +134,7 @@ fn add_square(
 }
 
 /// Adds the cells of a section that lie in the tract.
-#[tactic(auto, using(crate::proofs::Sides::depth_is))]
+#[tactic(auto, using(crate::specs::Laws::Sides::depth_is))]
 fn add_section(tract: &Tract, section: Section, cells: &mut Vec<Cell>) -> Result<(), AllocError>
     ensures cells { OnOk result (cells.new.items
         ≡ cells.old.items ++ filter (has tract.now) (section_cells depth section)) }

@@ -40,7 +40,7 @@ fn add_cover(
 }
 
 /// The nodes that list a set of a section's cells.
-#[tactic(auto, using(crate::proofs::Sides::depth_is))]
+#[tactic(auto, using(crate::specs::Laws::Sides::depth_is))]
 pub(crate) fn cover_of(
     alloc: Global,
     section: Section,
@@ -78,7 +78,7 @@ fn filled_square(grid: &Grid, levels: u8, within: Within, area: Rectangle) -> Op
 }
 
 /// The square that has just the set's cells, where there is one.
-#[tactic(auto, using(crate::proofs::Sides::depth_is))]
+#[tactic(auto, using(crate::specs::Laws::Sides::depth_is))]
 pub(crate) fn sole_square(grid: &Grid) -> Option<Within>
     ensures square { IfSome result (λ w. grid.now ≡ grid_of depth (holds (square depth w))) }
     ensures short { IfSome result (λ w. length w ≤ depth) }

@@ -142,7 +142,7 @@ fn columns_of(r: Rectangle) -> u32
 }
 
 /// Whether a set has each cell of a rectangle.
-#[tactic(auto, using(crate::proofs::Sides::side_fits))]
+#[tactic(auto, using(crate::specs::Laws::Sides::side_fits))]
 pub fn fills(grid: &Grid, r: Rectangle) -> bool
     requires inside { InSection depth r }
     ensures fills { result ≡ fills (grid_has grid.now) r }

@@ -122,7 +122,7 @@ impl Rectangle {
     }
 
     /// A half, the sides halved whether even or not.
-    #[tactic(auto, using(crate::proofs::Sides::side_fits))]
+    #[tactic(auto, using(crate::specs::Laws::Sides::side_fits))]
     pub fn half(self, which: Half) -> Rectangle
         requires inside { InSection depth self }
         ensures half { result ≡ half_of which self }
@@ -197,7 +197,7 @@ impl Rectangle {
     }
 
     /// Whether a cell of the section lies in it.
-    #[tactic(auto, using(crate::proofs::Sides::side_fits))]
+    #[tactic(auto, using(crate::specs::Laws::Sides::side_fits))]
     pub fn holds(self, row: u8, column: u8) -> bool
         requires inside { InSection depth self }
         ensures holds { result ≡ holds self row column }
@@ -209,7 +209,7 @@ impl Rectangle {
     }
 
     /// Whether they share a cell; an empty one shares none.
-    #[tactic(auto, using(crate::proofs::Sides::side_fits))]
+    #[tactic(auto, using(crate::specs::Laws::Sides::side_fits))]
     pub fn meets(self, other: Rectangle) -> bool
         requires inside { InSection depth self }
         requires other_inside { InSection depth other }

@@ -7,7 +7,7 @@ use mathlib.Core.List.{IsPrefix}
 use prog.Atomic.{either}
 use Rattle.logbook.specs.Pages.{Cell, cell, keeps, no_nib, step, Moves, Goes}
 use Rattle.title_ledger.specs.Ledgers.{IsKept, Adds}
-use Rattle.title_ledger.proofs.Beginnings.{prefix_whole}
+use Rattle.title_ledger.specs.Laws.Beginnings.{prefix_whole}
 
 -- clients see nothing of the entries
 abbrev pub shown : {E : Type 0} → List E → List E

@@ -1,4 +1,2 @@
 -- The lemmas.
-pub mod Beginnings
 pub mod Adding
-pub mod Entries

@@ -8,8 +8,8 @@ use Rattle.title_land.specs.declared.rectangle.Quarter.{Quarter}
 use Rattle.title_land.specs.declared.node.Node.{Node}
 use Rattle.title_land.specs.declared.node.Node.TheVariants as node
 use Rattle.title_land.specs.Nodes.{same_node, parent_of, above_in, above, is_above}
-use Rattle.title_land.proofs.SameNode.{same_node-is, same_node-self}
-use Rattle.title_land.proofs.CoverSet.{above_by_parent}
+use Rattle.title_land.specs.Laws.SameNode.{same_node-is, same_node-self}
+use Rattle.title_land.specs.Laws.CoverSet.{above_by_parent}
 
 pub same_self : (n : Node) → same_node n n ≡ true
 same_self n = same_node-self n

@@ -19,7 +19,7 @@ use Rattle.title_land.specs.Orders.{node_cmp}
 use Rattle.title_lock.specs.Tables.{mode_in, room_in, idle_in, unused_in, table_room, HasRoom, is_asked}
 use Rattle.title_lock.proofs.ModeLaws.{and_true, bound_none}
 use Rattle.title_lock.proofs.NodeLaws.{same_self, same_true, above_of}
-use Rattle.title_land.proofs.NodeKeys.{node_at}
+use Rattle.title_land.specs.Laws.NodeKeys.{node_at}
 use Rattle.title_lock.proofs.Overlap.{and_none}
 
 abbrev pub Places : Type 0

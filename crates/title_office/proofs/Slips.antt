@@ -19,7 +19,7 @@ use Rattle.title_trace.specs.declared.call.Reply.{Reply}
 use Rattle.title_trace.specs.declared.call.Reply.TheVariants as reply
 use Rattle.title_trace.specs.Trace.{is_open, open_steps, committed}
 use Rattle.title_trace.specs.Due.{Setting, IsDue, DueReply, DueStep}
-use Rattle.title_trace.proofs.Law.{committed_serial}
+use Rattle.title_trace.specs.Laws.Law.{committed_serial}
 use Rattle.title_office.specs.declared.fault.Fault.{Fault}
 use Rattle.title_office.specs.declared.fault.Fault.TheVariants as fault
 use Rattle.title_office.specs.Offices.{IsServed, IsRefused, refusal_of, SlipState, SeatState, Stands, Falls, Answers, Commits, IsLast}

@@ -11,7 +11,7 @@ use Rattle.std.proofs.lemmas.Bool.{cases_Bool, ne_eqb}
 use Rattle.csv.specs.Records.{field_at}
 use Rattle.title_share.specs.Share.{IsNumber}
 use Rattle.title_share.specs.Texts.{number_in}
-use Rattle.title_share.proofs.Texts.{numbers_read}
+use Rattle.title_share.specs.Laws.Texts.{numbers_read}
 use Rattle.title_instrument.specs.declared.parts.Estate.{Estate}
 use Rattle.title_instrument.specs.declared.parts.Estate.TheVariants.{S, O, M}
 use Rattle.title_instrument.specs.Estates.{letter_of}

@@ -5,7 +5,7 @@ use Rattle.title_land.specs.declared.tract.Land.{Land}
 use Rattle.title_aliquot.specs.declared.fault.DescFault.{DescFault}
 use Rattle.title_aliquot.specs.Describes.{Describes, FaultOf}
 use Rattle.title_aliquot.specs.Reading.{reading}
-use Rattle.title_aliquot.proofs.Total.{each_text}
+use Rattle.title_aliquot.specs.Laws.Total.{each_text}
 
 -- what a text says, as the law that each text is answered gives it
 unfoldable pub land_in : List ℕ → Result Land DescFault

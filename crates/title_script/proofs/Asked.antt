@@ -4,7 +4,7 @@ use Rattle.title_land.specs.Depth.{depth}
 use Rattle.title_trace.specs.declared.call.Request.{Request}
 use Rattle.title_trace.specs.declared.call.Reply.{Reply}
 use Rattle.title_trace.specs.declared.call.Reply.TheVariants as reply
-use Rattle.title_trace.proofs.OneReply.{one_due_reply}
+use Rattle.title_trace.specs.Laws.OneReply.{one_due_reply}
 use Rattle.title_desk.specs.Told.{Books, Added, Told}
 use Rattle.title_script.specs.Served.{after_call, reply_to}
 

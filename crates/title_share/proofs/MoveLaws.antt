@@ -6,8 +6,8 @@ use Rattle.std.proofs.lemmas.List.{append_assoc}
 use Rattle.std.proofs.Math.ListN.{drop_of_length-le}
 use Rattle.std.proofs.Math.Seq.{drop-cons}
 use Rattle.title_share.specs.Rows.{units_in, total, in_order, with_front, with_units, moved_rows}
-use Rattle.title_share.proofs.Cases.{case_eqb}
-use Rattle.title_share.proofs.RowLaws.{row_fits, units_absent}
+use Rattle.title_share.specs.Laws.Cases.{case_eqb}
+use Rattle.title_share.specs.Laws.RowLaws.{row_fits, units_absent}
 
 -- what a row has left
 abbrev pub left_of : ℕ → ℕ → ℕ → ℕ × ℕ → ℕ

@@ -4,3 +4,4 @@ pub mod Division
 pub mod Share
 pub mod Texts
 pub mod TextLaws
+pub mod Laws

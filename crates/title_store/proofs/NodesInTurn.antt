@@ -20,14 +20,14 @@ use Rattle.title_land.specs.Lands.{is_plant_cell}
 use Rattle.title_land.specs.CellLists.{section_if, sections_from, sections_of, section_cells, township_cells, plant_cells, children_of}
 use Rattle.title_land.specs.CoverSets.{quarter_before, path_before}
 use Rattle.title_land.specs.CellOrder.{is_met_before}
-use Rattle.title_land.proofs.SameLand.{same_township-is, same_township-self, same_section-is, same_section-self}
-use Rattle.title_land.proofs.Squares.{inside, quarters_apart}
-use Rattle.title_land.proofs.Members.{In, any_from, any_found}
-use Rattle.title_land.proofs.CoverOrder.{branch_before}
-use Rattle.title_land.proofs.CellMembers.{section_if-in, sections_from-in, sections_of-in, section_cells-has, section_cells-in}
-use Rattle.title_land.proofs.CellMembers.{township_cells-has, township_cells-in}
-use Rattle.title_land.proofs.MetBefore.{Met, not_from, flat_before, flat_at}
-use Rattle.title_land.proofs.CellsInOrder.{met_section, met_plant}
+use Rattle.title_land.specs.Laws.SameLand.{same_township-is, same_township-self, same_section-is, same_section-self}
+use Rattle.title_land.specs.Laws.Squares.{inside, quarters_apart}
+use Rattle.title_land.specs.Laws.Members.{In, any_from, any_found}
+use Rattle.title_land.specs.Laws.CoverOrder.{branch_before}
+use Rattle.title_land.specs.Laws.CellMembers.{section_if-in, sections_from-in, sections_of-in, section_cells-has, section_cells-in}
+use Rattle.title_land.specs.Laws.CellMembers.{township_cells-has, township_cells-in}
+use Rattle.title_land.specs.Laws.MetBefore.{Met, not_from, flat_before, flat_at}
+use Rattle.title_land.specs.Laws.CellsInOrder.{met_section, met_plant}
 use Rattle.title_store.specs.Plants.{IsEachOnce}
 use Rattle.title_store.proofs.Turns.{Pairs, pairs_append, pairs_map, pairs_more}
 

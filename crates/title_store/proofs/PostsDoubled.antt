@@ -16,11 +16,11 @@ use Rattle.title_land.specs.Nodes.{node_has}
 use Rattle.title_land.specs.Lands.{has, cover_of}
 use Rattle.title_land.specs.CellLists.{cells_of}
 use Rattle.title_land.specs.Doubled.{halved, cell_in, four_cells, doubled}
-use Rattle.title_land.proofs.Members.{In}
-use Rattle.title_land.proofs.LandSharing.{cover_in_tree}
-use Rattle.title_land.proofs.CoversDoubled.{cover_doubles}
-use Rattle.title_land.proofs.CellsDoubled.{four_halved, grid_double, doubled_has_the_cells, nodes_have_the_cells}
-use Rattle.title_land.proofs.ListsDoubled.{cells_double}
+use Rattle.title_land.specs.Laws.Members.{In}
+use Rattle.title_land.specs.Laws.LandSharing.{cover_in_tree}
+use Rattle.title_land.specs.Laws.CoversDoubled.{cover_doubles}
+use Rattle.title_land.specs.Laws.CellsDoubled.{four_halved, grid_double, doubled_has_the_cells, nodes_have_the_cells}
+use Rattle.title_land.specs.Laws.ListsDoubled.{cells_double}
 use Rattle.title_instrument.specs.declared.instrument.Instrument.{Instrument}
 use Rattle.title_instrument.specs.declared.owners.Effect.{Effect}
 use Rattle.title_instrument.specs.declared.owners.Effect.TheVariants.{Done, Refused}

@@ -13,11 +13,11 @@ use Rattle.title_land.specs.Nodes.{same_node, node_has}
 use Rattle.title_land.specs.Lands.{has, cover_of, is_plant_cell}
 use Rattle.title_land.specs.CellLists.{same_cell, cells_of}
 use Rattle.title_land.specs.CellOrder.{is_met_before}
-use Rattle.title_land.proofs.Members.{In}
-use Rattle.title_land.proofs.MetBefore.{false_from}
-use Rattle.title_land.proofs.SameNode.{same_node-self}
-use Rattle.title_land.proofs.CellMembers.{same_cells_are_equal}
-use Rattle.title_land.proofs.CoverSet.{cover_finds}
+use Rattle.title_land.specs.Laws.Members.{In}
+use Rattle.title_land.specs.Laws.MetBefore.{false_from}
+use Rattle.title_land.specs.Laws.SameNode.{same_node-self}
+use Rattle.title_land.specs.Laws.CellMembers.{same_cells_are_equal}
+use Rattle.title_land.specs.Laws.CoverSet.{cover_finds}
 use Rattle.title_instrument.specs.declared.instrument.Instrument.{Instrument}
 use Rattle.title_instrument.specs.declared.owners.Owners.{Owners}
 use Rattle.title_instrument.specs.declared.owners.Effect.{Effect}
@@ -25,7 +25,7 @@ use Rattle.title_instrument.specs.declared.owners.Effect.TheVariants.{Done, Refu
 use Rattle.title_instrument.specs.Effect.{cell_effect}
 use Rattle.title_store.specs.Plants.{Plant, Failing, Refusal, is_cell_of, failing_or, first_failing, node_of, refusal_of, refused_in}
 use Rattle.title_store.specs.RefusalLaws.{IsRefusedAt, RefusedAtTheFirst}
-use Rattle.title_store.proofs.PlantCells.{cells_each}
+use Rattle.title_store.specs.Laws.PlantCells.{cells_each}
 
 -- the cell of a list that fails first
 record FailsFirst (i : Instrument ℕ) (p : Plant) (cells : List Cell) (f : Failing) : Type 0 where

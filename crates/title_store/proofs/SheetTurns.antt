@@ -15,18 +15,18 @@ use Rattle.title_land.specs.declared.node.Node.TheVariants as node
 use Rattle.title_land.specs.Places.{same_section}
 use Rattle.title_land.specs.Nodes.{same_quarter, node_has}
 use Rattle.title_land.specs.CoverSets.{quarter_before, path_before, comes_before, are_in_order}
-use Rattle.title_land.proofs.Members.{In, in_flat_mapped}
-use Rattle.title_land.proofs.CoverSet.{cover_is_cover}
-use Rattle.title_land.proofs.CellsInOrder.{met_nodes}
+use Rattle.title_land.specs.Laws.Members.{In, in_flat_mapped}
+use Rattle.title_land.specs.Laws.CoverSet.{cover_is_cover}
+use Rattle.title_land.specs.Laws.CellsInOrder.{met_nodes}
 use Rattle.title_instrument.specs.declared.parts.Estate.{Estate}
 use Rattle.title_instrument.specs.declared.parts.Estate.TheVariants.{S, O, M}
 use Rattle.title_store.specs.declared.sheet_row.SheetRow.{SheetRow}
 use Rattle.title_store.specs.Plants.{Plant, IsEachOnce}
 use Rattle.title_store.specs.Sheets.{one_holding, holding_rows, sheet_below, estates, sheet_of}
 use Rattle.title_store.specs.SheetOrder.{InTurn, IsFirst, SheetIsInOrder}
-use Rattle.title_store.proofs.SheetSteps.{sheet_one, sheet_none}
-use Rattle.title_store.proofs.SheetNodes.{option_cases, sheet_split, row_of, row_node}
-use Rattle.title_store.proofs.SheetShows.{in_from, cover_apart}
+use Rattle.title_store.specs.Laws.SheetSteps.{sheet_one, sheet_none}
+use Rattle.title_store.specs.Laws.SheetNodes.{option_cases, sheet_split, row_of, row_node}
+use Rattle.title_store.specs.Laws.SheetShows.{in_from, cover_apart}
 use Rattle.title_store.proofs.Turns.{Pairs, pairs_flat, pairs_more, pairs_all}
 use Rattle.title_store.proofs.NodesInTurn.{Before, never_before, children_in_turn}
 

@@ -17,21 +17,21 @@ use Rattle.title_land.specs.Nodes.{square, quarters, node_has, IsNode}
 use Rattle.title_land.specs.Lands.{cover_of}
 use Rattle.title_land.specs.CellLists.{sections_of, plant_cells, node_cells, children_of}
 use Rattle.title_land.specs.Doubled.{cell_in, four_cells, doubled}
-use Rattle.title_land.proofs.Members.{In, in_mapped, in_filter, in_filtered, filter_none}
-use Rattle.title_land.proofs.SameLand.{same_section-is}
-use Rattle.title_land.proofs.Squares.{inside, sized}
-use Rattle.title_land.proofs.LandSharing.{cover_in_tree}
-use Rattle.title_land.proofs.CoversDoubled.{cover_doubles}
-use Rattle.title_land.proofs.CellsDoubled.{four_halved}
-use Rattle.title_land.proofs.ListsDoubled.{node_cells_double}
+use Rattle.title_land.specs.Laws.Members.{In, in_mapped, in_filter, in_filtered, filter_none}
+use Rattle.title_land.specs.Laws.SameLand.{same_section-is}
+use Rattle.title_land.specs.Laws.Squares.{inside, sized}
+use Rattle.title_land.specs.Laws.LandSharing.{cover_in_tree}
+use Rattle.title_land.specs.Laws.CoversDoubled.{cover_doubles}
+use Rattle.title_land.specs.Laws.CellsDoubled.{four_halved}
+use Rattle.title_land.specs.Laws.ListsDoubled.{node_cells_double}
 use Rattle.title_instrument.specs.declared.parts.Estate.{Estate}
 use Rattle.title_instrument.specs.Owners.{holding_of}
 use Rattle.title_store.specs.declared.sheet_row.SheetRow.{SheetRow}
 use Rattle.title_store.specs.Plants.{Plant}
 use Rattle.title_store.specs.Sheets.{same_division, one_holding, rows_or, sheet_below, estates, sheet_of}
 use Rattle.title_store.specs.DepthLaws.{finer, SheetDoubles}
-use Rattle.title_store.proofs.SheetLaws.{same_divisions_are_equal}
-use Rattle.title_store.proofs.TractNodes.{quarter_in}
+use Rattle.title_store.specs.Laws.SheetLaws.{same_divisions_are_equal}
+use Rattle.title_store.specs.Laws.TractNodes.{quarter_in}
 
 -- ---- one holding
 

@@ -1,7 +1,7 @@
 -- Lists whose elements stand pairwise in a relation.
 use Rattle.std.proofs.Common.{◌≡◌, ◌⊎◌, inl, inr, List, [], ◌∷◌, ◌++◌, map, refl, sym, subst}
 use Rattle.std.specs.List.{flat_map}
-use Rattle.title_land.proofs.Members.{In, in_append, in_flat_mapped, in_mapped}
+use Rattle.title_land.specs.Laws.Members.{In, in_append, in_flat_mapped, in_mapped}
 
 -- each element stands so to all after it
 abbrev pub Pairs : {A : Type 0} → (A → A → Type 0) → List A → Type 0

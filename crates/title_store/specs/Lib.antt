@@ -7,3 +7,4 @@ pub mod SheetShows
 pub mod SheetOrder
 pub mod DepthLaws
 pub mod CellMaps
+pub mod Laws

@@ -15,7 +15,7 @@ use title_land::{Cell, DEPTH, Node, Township, Tract, children_of, node_cells};
 use title_share::Holding;
 
 // The levels of nodes below the whole plant: townships, sections, and as often as a section is quartered.
-#[tactic(auto, using(title_land::proofs::Sides::depth_is))]
+#[tactic(auto, using(title_land::specs::Laws::Sides::depth_is))]
 fn levels_below_plant() -> u8
     ensures levels { result ≡ depth + 2 }
 {
@@ -87,7 +87,7 @@ fn add_sheet(
 }
 
 /// Adds the sheet of a tract for one estate: the sheets of its cover's nodes in order.
-#[tactic(auto, using(title_land::proofs::Sides::depth_is))]
+#[tactic(auto, using(title_land::specs::Laws::Sides::depth_is))]
 pub(crate) fn add_estate(
     alloc: Global,
     map: &CellMap,

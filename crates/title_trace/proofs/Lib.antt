@@ -1,4 +1,1 @@
-pub mod Law
-pub mod Causes
-pub mod OneReply
 pub mod Idle

@@ -1,3 +1,4 @@
 pub mod Trace
 pub mod Due
 pub mod Serial
+pub mod Laws

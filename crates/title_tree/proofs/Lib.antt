@@ -1,11 +1,2 @@
 -- Lemmas.
-pub mod SameDivisions
-pub mod Grafts
-pub mod Beginnings
-pub mod Swaps
-pub mod Images
-pub mod Uniform
-pub mod Refusals
-pub mod Depths
-pub mod CellSquares
 pub mod Numbers

@@ -13,3 +13,4 @@ pub mod PieceLaws
 pub mod LendingLaws
 pub mod DepthLaws
 pub mod CellWays
+pub mod Laws

@@ -15,17 +15,17 @@ use Rattle.title_land.specs.Places.{same_township, same_section}
 use Rattle.title_land.specs.Nodes.{same_quarter}
 use Rattle.title_land.specs.Lands.{is_in_plant, cover_of}
 use Rattle.title_land.specs.CoverSets.{quarter_before, path_before, comes_before, are_in_order}
-use Rattle.title_land.proofs.Members as members
-use Rattle.title_land.proofs.Members.{any_from}
-use Rattle.title_land.proofs.SameLand.{same_township-self}
-use Rattle.title_land.proofs.CoverSet.{cover_is_cover}
+use Rattle.title_land.specs.Laws.Members as members
+use Rattle.title_land.specs.Laws.Members.{any_from}
+use Rattle.title_land.specs.Laws.SameLand.{same_township-self}
+use Rattle.title_land.specs.Laws.CoverSet.{cover_is_cover}
 use Rattle.title_store.specs.Plants.{IsEachOnce}
-use Rattle.title_store.proofs.SheetShows.{cover_apart}
+use Rattle.title_store.specs.Laws.SheetShows.{cover_apart}
 use Rattle.title_tree.specs.Paths.{begins}
 use Rattle.title_tree.specs.Pieces as pieces
 use Rattle.title_tree.specs.Pieces.{In, Disjoint}
-use Rattle.title_tree.proofs.Beginnings.{begins_append}
-use Rattle.title_tree.proofs.Uniform.{corner, length-corner}
+use Rattle.title_tree.specs.Laws.Beginnings.{begins_append}
+use Rattle.title_tree.specs.Laws.Uniform.{corner, length-corner}
 use Rattle.title_tree_store.specs.Spots.{index_of, township_path, blocks, township_spots, spots, tract_spots}
 use Rattle.title_tree_store.specs.Keeping.{height}
 use Rattle.title_tree_store.proofs.Paths.{begins_parts, begins_on, has_from, disjoint_under, disjoint_join, in_join, length-number_path}

@@ -20,8 +20,8 @@ use Rattle.title_land.specs.CellLists.{corner_of, cells_below, section_cells, to
 use Rattle.title_land.specs.Places.{same_township}
 use Rattle.title_land.specs.declared.grid.Grid.{Grid}
 use Rattle.title_land.specs.declared.tract.Land.TheVariants as land
-use Rattle.title_land.proofs.SameLand.{same_township-is}
-use Rattle.title_land.proofs.CellFilters.{township_elsewhere, part_elsewhere, part_in_township}
+use Rattle.title_land.specs.Laws.SameLand.{same_township-is}
+use Rattle.title_land.specs.Laws.CellFilters.{township_elsewhere, part_elsewhere, part_in_township}
 use Rattle.title_instrument.specs.declared.parts.Estate.{Estate}
 use Rattle.title_instrument.specs.declared.parts.Rule.{Rule}
 use Rattle.title_instrument.specs.declared.instrument.Instrument.{Instrument}

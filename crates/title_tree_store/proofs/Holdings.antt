@@ -17,25 +17,25 @@ use Rattle.title_land.specs.Places.{same_township}
 use Rattle.title_land.specs.Nodes.{quarters}
 use Rattle.title_land.specs.Lands.{is_in_plant, is_plant_cell, cover_of}
 use Rattle.title_land.specs.CellLists.{sections_of, node_cells, children_of}
-use Rattle.title_land.proofs.SameLand.{same_township-self}
-use Rattle.title_land.proofs.Members as members
-use Rattle.title_land.proofs.Members.{any_from}
-use Rattle.title_land.proofs.CellMembers.{sections_of-in}
+use Rattle.title_land.specs.Laws.SameLand.{same_township-self}
+use Rattle.title_land.specs.Laws.Members as members
+use Rattle.title_land.specs.Laws.Members.{any_from}
+use Rattle.title_land.specs.Laws.CellMembers.{sections_of-in}
 use Rattle.title_instrument.specs.declared.parts.Estate.{Estate}
 use Rattle.title_instrument.specs.declared.parts.Estate.TheVariants.{S, O, M}
 use Rattle.title_instrument.specs.Owners.{holding_of, opening_owners}
 use Rattle.title_store.specs.declared.sheet_row.SheetRow.{SheetRow}
 use Rattle.title_store.specs.Sheets.{one_holding, rows_or, sheet_below, estates, sheet_of}
-use Rattle.title_store.proofs.SheetHoldings.{one_found, one_from, one_some, in_node, of_node}
+use Rattle.title_store.specs.Laws.SheetHoldings.{one_found, one_from, one_some, in_node, of_node}
 use Rattle.title_tree.specs.Paths.{begins, rest}
 use Rattle.title_tree.specs.Plots.{Plot, value_at, plot_at, uniform, same_division, fits}
 use Rattle.title_tree.specs.Pieces as pieces
 use Rattle.title_tree.specs.Pieces.{In, Short, both_have, uniform_at}
-use Rattle.title_tree.proofs.Beginnings.{begins_append, begins_is, rest_append}
-use Rattle.title_tree.proofs.Depths.{fits_plot_at}
-use Rattle.title_tree.proofs.Grafts.{value_plot_at}
-use Rattle.title_tree.proofs.SameDivisions.{same_is, same_self}
-use Rattle.title_tree.proofs.Uniform.{uniform_is_held, uniform_is_found, corner, length-corner}
+use Rattle.title_tree.specs.Laws.Beginnings.{begins_append, begins_is, rest_append}
+use Rattle.title_tree.specs.Laws.Depths.{fits_plot_at}
+use Rattle.title_tree.specs.Laws.Grafts.{value_plot_at}
+use Rattle.title_tree.specs.Laws.SameDivisions.{same_is, same_self}
+use Rattle.title_tree.specs.Laws.Uniform.{uniform_is_held, uniform_is_found, corner, length-corner}
 use Rattle.title_tree_store.specs.Spots.{cell_path, spots}
 use Rattle.title_tree_store.specs.Forests.{owners_at}
 use Rattle.title_tree_store.specs.Keeping.{height, content_of}

@@ -11,9 +11,9 @@ use Rattle.title_land.specs.Nodes.{same_path}
 use Rattle.title_land.specs.Lands.{is_in_plant, cover_of, meets}
 use Rattle.std.specs.List.{flat_map}
 use Rattle.std.proofs.lemmas.List.{length-reverse}
-use Rattle.title_land.proofs.SameNode.{same_path-is, same_path-self}
-use Rattle.title_land.proofs.TractSharing.{common_meets}
-use Rattle.title_land.proofs.Members as members
+use Rattle.title_land.specs.Laws.SameNode.{same_path-is, same_path-self}
+use Rattle.title_land.specs.Laws.TractSharing.{common_meets}
+use Rattle.title_land.specs.Laws.Members as members
 use Rattle.title_land.specs.declared.node.Node.{Node}
 use Rattle.title_land.specs.declared.node.Node.TheVariants as node
 use Rattle.title_land.specs.declared.rectangle.Quarter.TheVariants.{Northeast, Northwest, Southwest}
@@ -24,10 +24,10 @@ use Rattle.title_tree.specs.Plots.{Plot, graft, fits, tidied_all}
 use Rattle.title_tree.specs.Pieces as pieces
 use Rattle.title_tree.specs.Pieces.{In, Piece, paths, Disjoint, Ready, Short, Refines, swapped, taken, held}
 use Rattle.title_tree.specs.Lendings.{Lending, Keeps, LaterClear, Clear}
-use Rattle.title_tree.proofs.Beginnings.{begins_append}
-use Rattle.title_tree.proofs.Uniform.{corner, length-corner}
-use Rattle.title_tree.proofs.Depths.{fits_graft, fits_plot_at, fits_tidied_all}
-use Rattle.title_tree.proofs.Images.{keeps_less, keeps_restored, keeps_refined}
+use Rattle.title_tree.specs.Laws.Beginnings.{begins_append}
+use Rattle.title_tree.specs.Laws.Uniform.{corner, length-corner}
+use Rattle.title_tree.specs.Laws.Depths.{fits_graft, fits_plot_at, fits_tidied_all}
+use Rattle.title_tree.specs.Laws.Images.{keeps_less, keeps_restored, keeps_refined}
 use Rattle.title_tree_store.specs.declared.lent.Lent.{Lent}
 use Rattle.title_tree_store.specs.Spots.{index_of, township_path, section_path, cell_path, township_spots, spots, tract_spots}
 use Rattle.title_tree_store.specs.Forests as forests

@@ -10,7 +10,7 @@ use Rattle.title_land.specs.declared.place.Cell.{Cell}
 use Rattle.title_land.specs.declared.rectangle.Quarter.{Quarter}
 use Rattle.title_land.specs.declared.tract.Land.{Land}
 use Rattle.title_land.specs.Lands.{has, is_plant_cell, meets}
-use Rattle.title_land.proofs.TractSharing.{common_meets}
+use Rattle.title_land.specs.Laws.TractSharing.{common_meets}
 use Rattle.title_instrument.specs.declared.parts.Estate.{Estate}
 use Rattle.title_instrument.specs.declared.parts.Estate.TheVariants.{S, O, M}
 use Rattle.title_instrument.specs.Owners.{opening_owners}

@@ -17,8 +17,8 @@ use Rattle.title_store.specs.Loans.{Loan, IsLentAs, IsOut, IsLast, IsFirst, with
 use Rattle.title_tree.specs.Plots.{Plot, Same, value_at, tidied_all}
 use Rattle.title_tree.specs.Pieces as pieces
 use Rattle.title_tree.specs.Pieces.{In, held, swapped}
-use Rattle.title_tree.proofs.Swaps.{value_swapped}
-use Rattle.title_tree.proofs.Uniform.{tidied_all_shows}
+use Rattle.title_tree.specs.Laws.Swaps.{value_swapped}
+use Rattle.title_tree.specs.Laws.Uniform.{tidied_all_shows}
 use Rattle.title_tree_store.specs.declared.lent.Lent.{Lent}
 use Rattle.title_tree_store.specs.Spots.{cell_path, tract_spots}
 use Rattle.title_tree_store.specs.Forests as forests

@@ -8,8 +8,8 @@ use Rattle.std.proofs.lemmas.Bool.{and_from, and_parts, or_left, or_right, or_ca
 use Rattle.title_land.specs.declared.rectangle.Quarter.{Quarter}
 use Rattle.title_land.specs.Nodes.{same_quarter}
 use Rattle.title_land.specs.Paths.{quarter_at, quarter_number}
-use Rattle.title_land.proofs.PathNumbers.{quarter_below, quarter_at-number, quarter_number-at}
-use Rattle.title_land.proofs.SameNode.{same_quarter-is, same_quarter-self}
+use Rattle.title_land.specs.Laws.PathNumbers.{quarter_below, quarter_at-number, quarter_number-at}
+use Rattle.title_land.specs.Laws.SameNode.{same_quarter-is, same_quarter-self}
 use Rattle.title_tree.specs.Paths.{begins, number_path}
 use Rattle.title_tree.specs.Pieces.{In, has, Apart, Disjoint}
 

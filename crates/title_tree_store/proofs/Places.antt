@@ -21,18 +21,18 @@ use Rattle.title_land.specs.Rectangles.{holds}
 use Rattle.title_land.specs.Nodes.{square, node_has}
 use Rattle.title_land.specs.Lands.{has, cover_of, is_in_plant, is_plant_cell}
 use Rattle.title_land.specs.Paths.{quarter_number}
-use Rattle.title_land.proofs.PathNumbers.{quarter_below}
-use Rattle.title_land.proofs.SameLand.{same_township-is, same_township-self, same_section-is}
-use Rattle.title_land.proofs.Squares.{holds_from, has_corner}
-use Rattle.title_land.proofs.CoverSet.{cell_in_grid}
-use Rattle.title_land.proofs.LandSharing.{cover_has_its_cells, part_found, equal_tests}
-use Rattle.title_land.proofs.Members.{any_found, any_from}
-use Rattle.title_land.proofs.Members as members
+use Rattle.title_land.specs.Laws.PathNumbers.{quarter_below}
+use Rattle.title_land.specs.Laws.SameLand.{same_township-is, same_township-self, same_section-is}
+use Rattle.title_land.specs.Laws.Squares.{holds_from, has_corner}
+use Rattle.title_land.specs.Laws.CoverSet.{cell_in_grid}
+use Rattle.title_land.specs.Laws.LandSharing.{cover_has_its_cells, part_found, equal_tests}
+use Rattle.title_land.specs.Laws.Members.{any_found, any_from}
+use Rattle.title_land.specs.Laws.Members as members
 use Rattle.title_tree.specs.Paths.{way, begins, number_path}
 use Rattle.title_tree.specs.CellWays.{cell_way}
 use Rattle.title_tree.specs.Pieces as pieces
 use Rattle.title_tree.specs.Pieces.{In}
-use Rattle.title_tree.proofs.CellSquares.{squares_by_paths, cell_ways_are_whole}
+use Rattle.title_tree.specs.Laws.CellSquares.{squares_by_paths, cell_ways_are_whole}
 use Rattle.title_tree_store.specs.Spots.{index_of, township_path, section_path, square_path}
 use Rattle.title_tree_store.specs.Spots.{cell_path, blocks, township_spots, spots, tract_spots}
 use Rattle.title_tree_store.specs.Keeping.{height}

@@ -10,8 +10,8 @@ use Rattle.title_land.specs.declared.rectangle.Quarter.{Quarter}
 use Rattle.title_land.specs.declared.tract.Land.{Land}
 use Rattle.title_land.specs.Lands.{has, is_in_plant, is_plant_cell}
 use Rattle.title_land.specs.CellLists.{cells_of}
-use Rattle.title_land.proofs.Members as members
-use Rattle.title_land.proofs.CellMembers.{listed, listed_from, list_has_the_cells}
+use Rattle.title_land.specs.Laws.Members as members
+use Rattle.title_land.specs.Laws.CellMembers.{listed, listed_from, list_has_the_cells}
 use Rattle.title_instrument.specs.declared.parts.Estate.{Estate}
 use Rattle.title_instrument.specs.declared.parts.Estate.TheVariants.{S, O, M}
 use Rattle.title_instrument.specs.declared.parts.Rule.{Rule}
@@ -23,7 +23,7 @@ use Rattle.title_instrument.specs.Effect.{holding_effect, cell_effect, joined}
 use Rattle.title_instrument.specs.Owners.{opening_owners}
 use Rattle.title_instrument.specs.Estates.{names}
 use Rattle.title_instrument.specs.Parties.{estates_of}
-use Rattle.title_instrument.proofs.EffectLaws.{holding_unnamed}
+use Rattle.title_instrument.specs.Laws.EffectLaws.{holding_unnamed}
 use Rattle.title_store.specs.Plants.{Plant, Failing, IsEachOnce, is_cell_of, failing_or, first_failing, done_or, plant_effect, refused_in}
 use Rattle.title_store.specs.Plants.{refusal_of}
 use Rattle.title_store.specs.Loans.{IsTaken}
@@ -37,11 +37,11 @@ use Rattle.title_tree.specs.Pieces.{In, Piece, Disjoint, Ready, Short, paths, he
 use Rattle.title_tree.specs.Pieces.{swapped, taken, split_all, fresh, refusal_at, Refines, StaysWithin}
 use Rattle.title_tree.specs.Lendings.{Lending, Keeps}
 use Rattle.title_tree.specs.Paths.{rest}
-use Rattle.title_tree.proofs.Beginnings.{begins_is}
-use Rattle.title_tree.proofs.Depths.{fits_plot_at, fits_changed, split_all_fits}
-use Rattle.title_tree.proofs.Images.{put_ready, put_keeps, put_content, put_held}
-use Rattle.title_tree.proofs.Refusals.{none_refuses_at, some_refuses_at}
-use Rattle.title_tree.proofs.Swaps.{paths_taken, paths_fresh}
+use Rattle.title_tree.specs.Laws.Beginnings.{begins_is}
+use Rattle.title_tree.specs.Laws.Depths.{fits_plot_at, fits_changed, split_all_fits}
+use Rattle.title_tree.specs.Laws.Images.{put_ready, put_keeps, put_content, put_held}
+use Rattle.title_tree.specs.Laws.Refusals.{none_refuses_at, some_refuses_at}
+use Rattle.title_tree.specs.Laws.Swaps.{paths_taken, paths_fresh}
 use Rattle.title_tree_store.specs.declared.lent.Lent.{Lent}
 use Rattle.title_tree_store.specs.Spots.{cell_path, tract_spots}
 use Rattle.title_tree_store.specs.Forests as forests

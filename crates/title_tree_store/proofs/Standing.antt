@@ -19,12 +19,12 @@ use Rattle.title_land.specs.Rectangles.{holds}
 use Rattle.title_land.specs.Nodes.{square}
 use Rattle.title_land.specs.Lands.{has, land_of, Meets}
 use Rattle.title_land.specs.CellLists.{corner_of, cells_below}
-use Rattle.title_land.proofs.CellMembers.{cells_below-in}
-use Rattle.title_land.proofs.CoverSet.{cell_in_grid}
-use Rattle.title_land.proofs.Members.{In, filter_none}
-use Rattle.title_land.proofs.NodeLands.{has-land_of}
-use Rattle.title_land.proofs.SameLand.{same_section-self}
-use Rattle.title_land.proofs.Squares.{holds_from}
+use Rattle.title_land.specs.Laws.CellMembers.{cells_below-in}
+use Rattle.title_land.specs.Laws.CoverSet.{cell_in_grid}
+use Rattle.title_land.specs.Laws.Members.{In, filter_none}
+use Rattle.title_land.specs.Laws.NodeLands.{has-land_of}
+use Rattle.title_land.specs.Laws.SameLand.{same_section-self}
+use Rattle.title_land.specs.Laws.Squares.{holds_from}
 use Rattle.title_instrument.specs.declared.parts.Estate.{Estate}
 use Rattle.title_instrument.specs.declared.parts.Estate.TheVariants.{S, O, M}
 use Rattle.title_instrument.specs.declared.parts.Rule.{Rule}
@@ -35,14 +35,14 @@ use Rattle.title_instrument.specs.declared.owners.Effect.TheVariants.{Done, Refu
 use Rattle.title_instrument.specs.Effect.{holding_effect, cell_effect, joined}
 use Rattle.title_instrument.specs.Estates.{names}
 use Rattle.title_instrument.specs.Parties.{estates_of}
-use Rattle.title_instrument.proofs.EffectLaws.{holding_unnamed}
+use Rattle.title_instrument.specs.Laws.EffectLaws.{holding_unnamed}
 use Rattle.title_store.specs.Plants.{Plant, Failing, failing_or, first_failing}
 use Rattle.title_tree.specs.Changes.{why_of}
 use Rattle.title_tree.specs.CellWays.{cell_way}
 use Rattle.title_tree.specs.Paths.{way, begins, rest, number_path}
 use Rattle.title_tree.specs.Plots.{Plot, Same, Four, value_at, plot_at}
-use Rattle.title_tree.proofs.CellSquares.{squares_by_paths}
-use Rattle.title_tree.proofs.Grafts.{value_plot_at, plot_at_same}
+use Rattle.title_tree.specs.Laws.CellSquares.{squares_by_paths}
+use Rattle.title_tree.specs.Laws.Grafts.{value_plot_at, plot_at_same}
 use Rattle.title_tree_store.specs.Spots.{township_path, section_path, square_path, cell_path}
 use Rattle.title_tree_store.specs.Forests.{owners_at}
 use Rattle.title_tree_store.specs.Refusing.{why_cell, why_first, is_settled, refused_at, StandsAt, first_in, first_of, triple}

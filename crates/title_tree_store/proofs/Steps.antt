@@ -9,8 +9,8 @@ use Rattle.title_instrument.specs.Parties.{estates_of}
 use Rattle.title_tree.specs.Plots.{Plot, fits}
 use Rattle.title_tree.specs.Pieces.{split_all, Short, Refines, StaysWithin}
 use Rattle.title_tree_store.specs.Forests.{named_spots}
-use Rattle.title_tree.proofs.Depths.{split_all_fits}
-use Rattle.title_tree.proofs.Swaps.{split_all_reaches}
+use Rattle.title_tree.specs.Laws.Depths.{split_all_fits}
+use Rattle.title_tree.specs.Laws.Swaps.{split_all_reaches}
 
 -- what was quartered has the same cells and all nodes
 pub split_stays : {A E : Type 0} (r : Result A E) (ps : List (List Quarter)) (t u : Plot) → u ≡ split_all ps t → OnErr r (Refines t u)

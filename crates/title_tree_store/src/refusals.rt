@@ -231,7 +231,7 @@ impl<'a> Search<'a> {
     }
 
     // The first cell that refuses of a section, from what stands in its township.
-    #[tactic(auto, using(title_land::proofs::Sides::depth_is))]
+    #[tactic(auto, using(title_land::specs::Laws::Sides::depth_is))]
     fn first_in_section(
         &self,
         township: &Trees<'a>,

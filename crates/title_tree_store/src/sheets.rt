@@ -21,7 +21,7 @@ use title_store::SheetRow;
 use title_tree::{Tree, uniform_at};
 
 // The levels of nodes below the whole plant: townships, sections, and as often as a section is quartered.
-#[tactic(auto, using(title_land::proofs::Sides::depth_is))]
+#[tactic(auto, using(title_land::specs::Laws::Sides::depth_is))]
 fn levels_below_plant() -> u8
     ensures levels { result ≡ depth + 2 }
 {

@@ -10,7 +10,7 @@ use Rattle.title_chain.specs.declared.record.Record.{Record}
 use Rattle.title_ledger.specs.declared.entry.Entry.{Entry}
 use Rattle.title_ledger.specs.declared.entry.Entry.TheVariants as entry
 use Rattle.title_ledger.specs.Ledgers.{AreSerial, lists_of, sure_of, shown_of, IsSettled}
-use Rattle.title_ledger.proofs.Entries.{lists_snoc}
+use Rattle.title_ledger.specs.Laws.Entries.{lists_snoc}
 use Rattle.title_views.specs.declared.published.Addition.{Addition}
 use Rattle.title_views.specs.Views.{Shown, placed, IsOf}
 

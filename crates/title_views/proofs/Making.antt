@@ -12,7 +12,7 @@ use Rattle.title_chain.specs.declared.record.Record.{Record}
 use Rattle.title_chain.specs.declared.ask.Step.{Step}
 use Rattle.title_chain.specs.Alone.{after_steps, IsSerial}
 use Rattle.title_chain.specs.Replays.{Replays}
-use Rattle.title_chain.proofs.PostsAgain.{same_plant, can_replay_record, record_content}
+use Rattle.title_chain.specs.Laws.PostsAgain.{same_plant, can_replay_record, record_content}
 use Rattle.title_views.specs.Views.{IsMade, sheet_after}
 
 -- the steps of the next record can be replayed

@@ -10,7 +10,7 @@ use Rattle.title_land.specs.declared.place.Township.{Township}
 use Rattle.title_store.specs.Plants.{Plant}
 use Rattle.title_store.specs.Loans.{Loan}
 use Rattle.title_chain.specs.declared.record.Record.{Record}
-use Rattle.title_ledger.proofs.Beginnings.{prefix_trans, prefix_whole}
+use Rattle.title_ledger.specs.Laws.Beginnings.{prefix_trans, prefix_whole}
 use Rattle.title_views.specs.declared.kept.Made.{Made}
 use Rattle.title_views.specs.Views.{Sight, IsMade, IsKept}
 

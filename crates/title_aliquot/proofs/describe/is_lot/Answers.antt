@@ -4,7 +4,7 @@ use Rattle.std.specs.Prelude.{codes}
 use Rattle.std.specs.Str.{chars}
 use Rattle.title_grammar.specs.Reading.{word_at}
 use Rattle.title_aliquot.specs.Letters.{letters}
-use Rattle.title_aliquot.proofs.Texts.{lot_result, no_lot}
+use Rattle.title_aliquot.specs.Laws.Texts.{lot_result, no_lot}
 use Rattle.title_aliquot.proofs.describe.is_lot.Goals as goal
 
 pub returns-in-Ok-clause-lot : goal.returns-in-Ok-clause-lot

@@ -1,5 +1,5 @@
 -- What was left to show of `read`.
-use Rattle.title_aliquot.proofs.Unique.{only_tract, only_fault}
+use Rattle.title_aliquot.specs.Laws.Unique.{only_tract, only_fault}
 use Rattle.title_aliquot.proofs.describe.read.Goals as goal
 
 pub returns-clause-only : goal.returns-clause-only

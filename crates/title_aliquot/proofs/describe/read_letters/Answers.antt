@@ -5,7 +5,7 @@ use Rattle.std.proofs.lemmas.Bool.{eqb-true}
 use Rattle.title_aliquot.specs.Letters.{letters}
 use Rattle.title_aliquot.specs.Readers.{description_at}
 use Rattle.title_aliquot.specs.Views.{words_view}
-use Rattle.title_aliquot.proofs.Whole.{left_some, words_found, left_after, stuck_after, left_shorter, stuck_shorter}
+use Rattle.title_aliquot.specs.Laws.Whole.{left_some, words_found, left_after, stuck_after, left_shorter, stuck_shorter}
 use Rattle.title_aliquot.proofs.describe.read_letters.Goals as goal
 
 pub letters_before-requires : goal.letters_before-requires

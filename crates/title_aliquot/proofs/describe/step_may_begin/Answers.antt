@@ -5,7 +5,7 @@ use Rattle.title_aliquot.specs.Letters.{letters}
 use Rattle.title_aliquot.specs.Readers.{description_at}
 use Rattle.title_aliquot.specs.Views.{words_view}
 use Rattle.title_aliquot.proofs.TextWalks.{step_letters}
-use Rattle.title_aliquot.proofs.Whole.{got_begins, stuck_begins}
+use Rattle.title_aliquot.specs.Laws.Whole.{got_begins, stuck_begins}
 use Rattle.title_aliquot.proofs.describe.step_may_begin.Goals as goal
 
 pub returns-in_default-clause-may : goal.returns-in_default-clause-may

@@ -1,5 +1,5 @@
 -- What was left to show of `one_land_at_most`.
-use Rattle.title_aliquot.proofs.Unique.{one_land}
+use Rattle.title_aliquot.specs.Laws.Unique.{one_land}
 use Rattle.title_land.specs.Depth.{depth}
 use Rattle.title_aliquot.proofs.laws.one_land_at_most.Goals as goal
 

@@ -2,7 +2,7 @@
 use Rattle.std.proofs.Common.{ap}
 use Rattle.std.specs.Option.{option_map}
 use Rattle.title_aliquot.specs.Views.{section_view, place_view}
-use Rattle.title_aliquot.proofs.Lands.{township_stands, section_stands}
+use Rattle.title_aliquot.specs.Laws.Lands.{township_stands, section_stands}
 use Rattle.title_aliquot.proofs.meaning.land_of_place.Goals as goal
 
 pub returns-in_default-section-clause-land : goal.returns-in_default-section-clause-land

@@ -7,7 +7,7 @@ use Rattle.title_land.specs.declared.rectangle.Quarter.{Quarter}
 use Rattle.title_land.specs.declared.place.Cell.{Cell}
 use Rattle.title_land.specs.Lands.{has}
 use Rattle.title_land.specs.CellLists.{cells_below}
-use Rattle.title_land.proofs.Sides.{depth_is}
+use Rattle.title_land.specs.Laws.Sides.{depth_is}
 use Rattle.title_land.proofs.cells.add_section.Goals as goal
 
 pub returns : goal.returns

@@ -1,5 +1,5 @@
 -- After the last township all cells are there.
-use Rattle.title_land.proofs.CellFilters.{plant_all}
+use Rattle.title_land.specs.Laws.CellFilters.{plant_all}
 use Rattle.title_land.proofs.cells.cells_of.Goals as goal
 
 pub returns : goal.returns

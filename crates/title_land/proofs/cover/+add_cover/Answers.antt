@@ -6,7 +6,7 @@ use Rattle.title_land.specs.declared.rectangle.Rectangle.{Rectangle}
 use Rattle.std.proofs.lemmas.List.{append-nil}
 use Rattle.title_land.specs.Covers.{node_at}
 use Rattle.title_land.specs.Grids.{grid_has, fills}
-use Rattle.title_land.proofs.CoverLaws.{cover_filled, cover_cell, cover_more, cover_done}
+use Rattle.title_land.specs.Laws.CoverLaws.{cover_filled, cover_cell, cover_more, cover_done}
 use Rattle.title_land.proofs.cover.+add_cover.Goals as goal
 
 pub returns-in_ok-push : goal.returns-in_ok-push

@@ -6,7 +6,7 @@ use Rattle.title_land.specs.declared.rectangle.Quarter.{Quarter}
 use Rattle.title_land.specs.declared.node.Node.{Node}
 use Rattle.title_land.specs.Covers.{cover_below, node_at}
 use Rattle.title_land.specs.Grids.{grid_has}
-use Rattle.title_land.proofs.Sides.{depth_is}
+use Rattle.title_land.specs.Laws.Sides.{depth_is}
 use Rattle.title_land.proofs.cover.cover_of.Goals as goal
 
 pub returns-clause-cover : goal.returns-clause-cover

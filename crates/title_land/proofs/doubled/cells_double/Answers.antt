@@ -1,5 +1,5 @@
 -- The law is a lemma.
-use Rattle.title_land.proofs.ListsDoubled.{cells_double as lemma}
+use Rattle.title_land.specs.Laws.ListsDoubled.{cells_double as lemma}
 use Rattle.title_land.proofs.doubled.cells_double.Goals as goal
 
 pub returns : goal.returns

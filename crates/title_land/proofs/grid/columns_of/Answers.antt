@@ -5,7 +5,7 @@ use Rattle.std.proofs.lemmas.Nat.{one_shl, pow_pos}
 use Rattle.title_land.specs.Depth.{depth}
 use Rattle.title_land.specs.Places.{side}
 use Rattle.title_land.proofs.RowBits.{columns_value, columns_fit, columns_set}
-use Rattle.title_land.proofs.Sides.{side_fits}
+use Rattle.title_land.specs.Laws.Sides.{side_fits}
 use Rattle.title_land.proofs.grid.columns_of.Goals as goal
 
 pub overflow_shl-result : goal.overflow_shl-result

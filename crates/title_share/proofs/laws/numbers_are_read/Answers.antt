@@ -1,6 +1,6 @@
 -- Numbers in texts, and those of some texts.
 use Rattle.std.proofs.Common.{refl}
-use Rattle.title_share.proofs.Texts.{numbers_read}
+use Rattle.title_share.specs.Laws.Texts.{numbers_read}
 use Rattle.title_share.proofs.laws.numbers_are_read.Goals as goal
 
 pub returns-clause-law : goal.returns-clause-law

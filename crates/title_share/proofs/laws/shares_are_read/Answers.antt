@@ -1,6 +1,6 @@
 -- Shares in texts, and those of some texts.
 use Rattle.std.proofs.Common.{refl}
-use Rattle.title_share.proofs.Texts.{shares_read}
+use Rattle.title_share.specs.Laws.Texts.{shares_read}
 use Rattle.title_share.proofs.laws.shares_are_read.Goals as goal
 
 pub returns-clause-law : goal.returns-clause-law

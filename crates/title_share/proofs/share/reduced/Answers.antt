@@ -1,7 +1,7 @@
 -- Halving ends in lowest terms.
 use Rattle.std.proofs.Common.{arith}
 use Rattle.title_share.specs.Share.{lowest}
-use Rattle.title_share.proofs.ShareLaws.{reduced_more, reduced_done}
+use Rattle.title_share.specs.Laws.ShareLaws.{reduced_more, reduced_done}
 use Rattle.title_share.proofs.share.reduced.Goals as goal
 use Rattle.title_share.proofs.share.reduced.Goals.{then-loop-exponent-test+else-above-eq0, else-loop-exponent-test}
 

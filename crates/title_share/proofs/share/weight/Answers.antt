@@ -1,6 +1,6 @@
 -- A power of two times its weight is the whole.
 use Rattle.std.proofs.Common.{◌≡◌, ◌≤◌, ◌<◌, ◌*◌, ◌^◌, ◌%◌, ◌-◌, ◌∙◌, ℕ, ap, arith}
-use Rattle.title_share.proofs.ShareLaws.{weight_is, power_is}
+use Rattle.title_share.specs.Laws.ShareLaws.{weight_is, power_is}
 use Rattle.title_share.proofs.share.weight.Goals as goal
 
 pub returns-then-bottom-k : goal.returns-then-bottom-k

@@ -1,5 +1,5 @@
 -- The law is a lemma.
-use Rattle.title_store.proofs.EffectLaws.{effect_outside as lemma}
+use Rattle.title_store.specs.Laws.EffectLaws.{effect_outside as lemma}
 use Rattle.title_store.proofs.laws.effect_outside.Goals as goal
 
 pub returns : goal.returns

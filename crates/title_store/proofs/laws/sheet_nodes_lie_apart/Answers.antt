@@ -1,6 +1,6 @@
 -- The law is a lemma.
 use Rattle.title_land.specs.Depth.{depth}
-use Rattle.title_store.proofs.SheetShows.{sheet_nodes_lie_apart as lemma}
+use Rattle.title_store.specs.Laws.SheetShows.{sheet_nodes_lie_apart as lemma}
 use Rattle.title_store.proofs.laws.sheet_nodes_lie_apart.Goals as goal
 
 pub returns : goal.returns

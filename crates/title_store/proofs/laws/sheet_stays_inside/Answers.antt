@@ -1,6 +1,6 @@
 -- The law is a lemma.
 use Rattle.title_land.specs.Depth.{depth}
-use Rattle.title_store.proofs.SheetShows.{sheet_stays_inside as lemma}
+use Rattle.title_store.specs.Laws.SheetShows.{sheet_stays_inside as lemma}
 use Rattle.title_store.proofs.laws.sheet_stays_inside.Goals as goal
 
 pub returns : goal.returns

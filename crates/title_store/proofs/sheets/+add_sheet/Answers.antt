@@ -8,7 +8,7 @@ use Rattle.title_land.specs.declared.node.Node.{Node}
 use Rattle.title_store.specs.declared.sheet_row.SheetRow.{SheetRow}
 use Rattle.title_store.specs.CellMaps.{content_of}
 use Rattle.title_store.specs.Sheets.{one_holding, sheet_below}
-use Rattle.title_store.proofs.SheetSteps.{sheet_parts}
+use Rattle.title_store.specs.Laws.SheetSteps.{sheet_parts}
 use Rattle.title_store.proofs.sheets.+add_sheet.Goals as goal
 
 pub returns : goal.returns

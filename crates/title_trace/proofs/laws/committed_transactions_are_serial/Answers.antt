@@ -1,4 +1,4 @@
-use Rattle.title_trace.proofs.Law.{committed_serial, open_last}
+use Rattle.title_trace.specs.Laws.Law.{committed_serial, open_last}
 use Rattle.title_land.specs.Depth.{depth}
 use Rattle.title_trace.proofs.laws.committed_transactions_are_serial.Goals as goal
 

@@ -1,5 +1,5 @@
 -- The law is a lemma.
-use Rattle.title_tree.proofs.Depths.{fits_changed as lemma}
+use Rattle.title_tree.specs.Laws.Depths.{fits_changed as lemma}
 use Rattle.title_tree.proofs.laws.changed_fits.Goals as goal
 
 pub returns : goal.returns

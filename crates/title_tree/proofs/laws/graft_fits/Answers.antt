@@ -1,5 +1,5 @@
 -- The law is a lemma.
-use Rattle.title_tree.proofs.Depths.{fits_graft as lemma}
+use Rattle.title_tree.specs.Laws.Depths.{fits_graft as lemma}
 use Rattle.title_tree.proofs.laws.graft_fits.Goals as goal
 
 pub returns : goal.returns

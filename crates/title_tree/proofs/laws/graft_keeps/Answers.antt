@@ -1,5 +1,5 @@
 -- The law is a lemma.
-use Rattle.title_tree.proofs.Grafts.{has_graft as lemma}
+use Rattle.title_tree.specs.Laws.Grafts.{has_graft as lemma}
 use Rattle.title_tree.proofs.laws.graft_keeps.Goals as goal
 
 pub returns : goal.returns

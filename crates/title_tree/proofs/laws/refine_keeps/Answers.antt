@@ -1,5 +1,5 @@
 -- The law is a lemma.
-use Rattle.title_tree.proofs.Images.{keeps_refined as lemma}
+use Rattle.title_tree.specs.Laws.Images.{keeps_refined as lemma}
 use Rattle.title_tree.proofs.laws.refine_keeps.Goals as goal
 
 pub returns : goal.returns

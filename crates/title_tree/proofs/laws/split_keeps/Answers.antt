@@ -1,5 +1,5 @@
 -- The law is a lemma.
-use Rattle.title_tree.proofs.Grafts.{split_keeps as lemma}
+use Rattle.title_tree.specs.Laws.Grafts.{split_keeps as lemma}
 use Rattle.title_tree.proofs.laws.split_keeps.Goals as goal
 
 pub returns : goal.returns

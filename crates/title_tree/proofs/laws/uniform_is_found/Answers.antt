@@ -1,5 +1,5 @@
 -- The law is a lemma.
-use Rattle.title_tree.proofs.Uniform.{uniform_is_found as lemma}
+use Rattle.title_tree.specs.Laws.Uniform.{uniform_is_found as lemma}
 use Rattle.title_tree.proofs.laws.uniform_is_found.Goals as goal
 
 pub returns : goal.returns

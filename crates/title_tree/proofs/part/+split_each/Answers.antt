@@ -5,8 +5,8 @@ use Rattle.title_land.specs.declared.rectangle.Quarter.{Quarter}
 use Rattle.title_tree.specs.Parts.{ways}
 use Rattle.title_tree.specs.Plots.{split}
 use Rattle.title_tree.specs.Trees.{plot}
-use Rattle.title_tree.proofs.Depths.{within_split}
-use Rattle.title_tree.proofs.Swaps.{refines_split}
+use Rattle.title_tree.specs.Laws.Depths.{within_split}
+use Rattle.title_tree.specs.Laws.Swaps.{refines_split}
 use Rattle.title_tree.proofs.part.+split_each.Goals as goal
 
 pub returns-clause-err : goal.returns-clause-err

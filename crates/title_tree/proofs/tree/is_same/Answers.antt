@@ -1,4 +1,4 @@
-use Rattle.title_tree.proofs.SameDivisions.{same_test}
+use Rattle.title_tree.specs.Laws.SameDivisions.{same_test}
 use Rattle.title_tree.proofs.tree.is_same.Goals as goal
 
 pub returns : goal.returns

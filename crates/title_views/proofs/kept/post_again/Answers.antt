@@ -1,6 +1,6 @@
 -- The image of a done post goes back, and the post has the effect of its ask.
 use Rattle.std.proofs.Common.{◌∙◌}
-use Rattle.title_chain.proofs.PostsAgain.{taken_out, post_done}
+use Rattle.title_chain.specs.Laws.PostsAgain.{taken_out, post_done}
 use Rattle.title_views.proofs.kept.post_again.Goals as goal
 
 pub forget-requires-clause-out : goal.forget-requires-clause-out

@@ -1,6 +1,6 @@
 -- Each step can be replayed in its turn, and has its effect.
 use Rattle.std.proofs.Common.{◌∙◌}
-use Rattle.title_chain.proofs.PostsAgain.{can_replay, step_content}
+use Rattle.title_chain.specs.Laws.PostsAgain.{can_replay, step_content}
 use Rattle.title_views.proofs.kept.post_all_again.Goals as goal
 
 pub post_again-requires-clause-replays : goal.post_again-requires-clause-replays

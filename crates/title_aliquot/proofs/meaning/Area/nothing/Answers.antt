@@ -1,5 +1,5 @@
 -- No rectangle has no cells.
-use Rattle.title_aliquot.proofs.Shapes.{overlap_none}
+use Rattle.title_aliquot.specs.Laws.Shapes.{overlap_none}
 use Rattle.title_aliquot.proofs.meaning.Area.nothing.Goals as goal
 
 pub returns : goal.returns

@@ -4,7 +4,7 @@ use Rattle.title_land.specs.Depth.{depth}
 use Rattle.title_chain.specs.Alone.{IsSerial}
 use Rattle.title_chain.specs.Overlaps.{record_of}
 use Rattle.title_trace.specs.Trace.{committed, open_steps}
-use Rattle.title_trace.proofs.Law.{committed_serial, open_last}
+use Rattle.title_trace.specs.Laws.Law.{committed_serial, open_last}
 use Rattle.title_desk.specs.Told.{Books}
 use Rattle.title_desk.proofs.transactions.Desk.is_serial.Goals as goal
 

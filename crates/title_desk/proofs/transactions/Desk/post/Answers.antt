@@ -5,7 +5,7 @@ use Rattle.std.proofs.lemmas.Grind.{common_steps}
 use Rattle.std.proofs.lemmas.List.{reverse-append}
 use Rattle.title_store.specs.Plants.{SameContent}
 use Rattle.title_store.specs.Loans.{IsTaken}
-use Rattle.title_store.proofs.EffectLaws as store
+use Rattle.title_store.specs.Laws.EffectLaws as store
 use Rattle.title_chain.specs.declared.ask.Ask.TheVariants.{Post}
 use Rattle.title_chain.specs.declared.ask.Answer.TheVariants.{Posted}
 use Rattle.title_chain.specs.Alone.{alone}

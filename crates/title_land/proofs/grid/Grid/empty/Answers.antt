@@ -4,10 +4,10 @@ use Rattle.std.proofs.lemmas.Nat.{pow_pos}
 use Rattle.title_land.specs.declared.rectangle.TheConstants.{ROWS}
 use Rattle.title_land.specs.Depth.{depth}
 use Rattle.title_land.specs.Places.{side}
-use Rattle.title_land.proofs.GridLaws.{has_none}
+use Rattle.title_land.specs.Laws.GridLaws.{has_none}
 use Rattle.title_land.proofs.GridRows.{one_rows, one_row}
 use Rattle.title_land.proofs.RowBits.{zero_clear}
-use Rattle.title_land.proofs.Sides.{rows_are}
+use Rattle.title_land.specs.Laws.Sides.{rows_are}
 use Rattle.title_land.proofs.grid.Grid.empty.Goals as goal
 
 pub invariant_of-result : goal.invariant_of-result

@@ -6,9 +6,9 @@ use Rattle.title_land.specs.Depth.{depth}
 use Rattle.title_land.specs.Places.{side}
 use Rattle.title_land.specs.RowBits.{HasColumns}
 use Rattle.title_land.specs.declared.rectangle.Rectangle.{Rectangle}
-use Rattle.title_land.proofs.GridLaws.{has_every}
+use Rattle.title_land.specs.Laws.GridLaws.{has_every}
 use Rattle.title_land.proofs.GridRows.{one_rows, one_row}
-use Rattle.title_land.proofs.Sides.{rows_are}
+use Rattle.title_land.specs.Laws.Sides.{rows_are}
 use Rattle.title_land.proofs.grid.Grid.full.Goals as goal
 
 pub invariant_of-result : goal.invariant_of-result

@@ -6,7 +6,7 @@ use Rattle.title_land.specs.declared.node.Node.{Node}
 use Rattle.title_land.specs.declared.rectangle.Rectangle.{Rectangle}
 use Rattle.title_land.specs.Rectangles.{SharesCell}
 use Rattle.title_land.specs.Nodes.{IsNode, square}
-use Rattle.title_land.proofs.NodeSharing.{township_part_related, part_township_related, parts_related, sections_apart}
+use Rattle.title_land.specs.Laws.NodeSharing.{township_part_related, part_township_related, parts_related, sections_apart}
 use Rattle.title_land.proofs.node.Node.meets.Goals as goal
 
 pub returns-in-Part-other : goal.returns-in-Part-other

@@ -1,5 +1,5 @@
 -- A cell's number is one of the last.
-use Rattle.title_land.proofs.PathNumbers.{number_of, cell_test}
+use Rattle.title_land.specs.Laws.PathNumbers.{number_of, cell_test}
 use Rattle.title_land.proofs.node.Within.is_cell.Goals as goal
 
 pub returns : goal.returns

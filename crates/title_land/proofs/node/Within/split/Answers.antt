@@ -1,7 +1,7 @@
 -- A square's number has its last quarter and the square around it.
 use Rattle.std.proofs.Common.{◌/◌, ◌∷◌, List, sym, ap, ◌∙◌, arith}
 use Rattle.title_land.specs.declared.rectangle.Quarter.{Quarter}
-use Rattle.title_land.proofs.PathNumbers.{number_of, quarters_of_number, is_path_number, path_short, path_split}
+use Rattle.title_land.specs.Laws.PathNumbers.{number_of, quarters_of_number, is_path_number, path_short, path_split}
 use Rattle.title_land.proofs.node.Within.split.Goals as goal
 
 pub invariant_of-outer : goal.invariant_of-outer

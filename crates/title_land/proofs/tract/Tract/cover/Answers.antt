@@ -8,8 +8,8 @@ use Rattle.title_land.specs.declared.tract.Shape.{Shape}
 use Rattle.title_land.specs.CoverSets.{IsCover}
 use Rattle.title_land.specs.Extents.{kept_land, IsExtent}
 use Rattle.title_land.specs.Lands.{cover_of, land_of, IsLand}
-use Rattle.title_land.proofs.CoverSet.{cover_is_cover}
-use Rattle.title_land.proofs.NodeLands.{cover_of-land_of, is_land-land_of}
+use Rattle.title_land.specs.Laws.CoverSet.{cover_is_cover}
+use Rattle.title_land.specs.Laws.NodeLands.{cover_of-land_of, is_land-land_of}
 use Rattle.title_land.proofs.tract.Tract.cover.Goals as goal
 
 pub returns-in-Node-clause-cover : goal.returns-in-Node-clause-cover

@@ -5,7 +5,7 @@ use Rattle.title_land.specs.declared.tract.Land.{Land}
 use Rattle.title_land.specs.declared.tract.Extent.{Extent}
 use Rattle.title_land.specs.Extents.{kept_land, IsExtent}
 use Rattle.title_land.specs.Lands.{has, land_of}
-use Rattle.title_land.proofs.NodeLands.{has-land_of}
+use Rattle.title_land.specs.Laws.NodeLands.{has-land_of}
 use Rattle.title_land.proofs.tract.Tract.has_cell.Goals as goal
 
 pub returns-in-Node : goal.returns-in-Node

@@ -5,8 +5,8 @@ use Rattle.title_land.specs.declared.tract.Land.{Land}
 use Rattle.title_land.specs.declared.tract.Extent.{Extent}
 use Rattle.title_land.specs.Extents.{kept_land, IsExtent}
 use Rattle.title_land.specs.Lands.{land_of, meets, IsLand}
-use Rattle.title_land.proofs.NodeLands.{meets-land_of, is_land-land_of}
-use Rattle.title_land.proofs.TractSharing.{result_at_a_cell}
+use Rattle.title_land.specs.Laws.NodeLands.{meets-land_of, is_land-land_of}
+use Rattle.title_land.specs.Laws.TractSharing.{result_at_a_cell}
 use Rattle.title_land.proofs.tract.Tract.meets.Goals as goal
 
 pub returns-in-Node-Node-clause-meets : goal.returns-in-Node-Node-clause-meets

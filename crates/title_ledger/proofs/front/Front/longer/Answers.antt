@@ -1,5 +1,5 @@
 -- The shorter begins the longer.
-use Rattle.title_ledger.proofs.Entries.{sure_later}
+use Rattle.title_ledger.specs.Laws.Entries.{sure_later}
 use Rattle.title_ledger.proofs.front.Front.longer.Goals as goal
 
 pub returns-then-begins-clause-this : goal.returns-then-begins-clause-this

@@ -1,6 +1,6 @@
 -- The front's records are serial once the one that was tried is committed.
 use Rattle.std.proofs.Common.{ap, ◌∙◌}
-use Rattle.title_ledger.proofs.Entries.{settled_ok}
+use Rattle.title_ledger.specs.Laws.Entries.{settled_ok}
 use Rattle.title_ledger.proofs.front.Front.settled_once.Goals as goal
 
 pub invariant_of-result : goal.invariant_of-result

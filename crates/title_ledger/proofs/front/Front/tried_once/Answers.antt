@@ -2,7 +2,7 @@
 use Rattle.std.proofs.Common.{◌≡◌, ◌++◌, [], ◌∷◌, ap, ◌∙◌}
 use Rattle.title_ledger.specs.declared.entry.Entry.TheVariants as entry
 use Rattle.title_ledger.specs.Ledgers.{AreSerial, sure_of}
-use Rattle.title_ledger.proofs.Entries.{tried_ok}
+use Rattle.title_ledger.specs.Laws.Entries.{tried_ok}
 use Rattle.title_ledger.proofs.front.Front.tried_once.Goals as goal
 
 pub invariant_of-result : goal.invariant_of-result

@@ -1,6 +1,6 @@
 -- The front that has seen no entry.
 use Rattle.std.proofs.Common.{◌∙◌}
-use Rattle.title_ledger.proofs.Entries.{empty_ok}
+use Rattle.title_ledger.specs.Laws.Entries.{empty_ok}
 use Rattle.title_ledger.proofs.ledger.Ledger.named.Goals as goal
 
 pub invariant_of-result-2 : goal.invariant_of-result-2

@@ -3,7 +3,7 @@ use Rattle.std.proofs.Common.{◌≤◌, List, length, ap, arith, subst}
 use Rattle.std.proofs.lemmas.Bool.Decides.{nat_tests}
 use mathlib.Core.List.{IsPrefix}
 use Rattle.title_ledger.specs.declared.entry.Entry.{Entry}
-use Rattle.title_ledger.proofs.Beginnings.{prefix_shorter}
+use Rattle.title_ledger.specs.Laws.Beginnings.{prefix_shorter}
 use Rattle.title_ledger.proofs.page.Page.begins.Goals as goal
 
 pub returns-clause-this : goal.returns-clause-this

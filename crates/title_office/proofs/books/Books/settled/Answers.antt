@@ -4,7 +4,7 @@ use Rattle.std.proofs.lemmas.List.{reverse-reverse}
 use Rattle.title_land.specs.Depth.{depth}
 use Rattle.title_chain.specs.Alone.{IsSerial}
 use Rattle.title_settle.specs.Settling.{IsSettled}
-use Rattle.title_trace.proofs.Law.{committed_serial}
+use Rattle.title_trace.specs.Laws.Law.{committed_serial}
 use Rattle.title_office.proofs.Settling.{uneven}
 use Rattle.title_office.proofs.books.Books.settled.Goals as goal
 

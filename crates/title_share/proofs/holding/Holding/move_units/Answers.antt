@@ -2,7 +2,7 @@
 use Rattle.std.proofs.Common.{◌∙◌, sym, ap}
 use Rattle.std.proofs.lemmas.Bool.{eq-eqb, or_left, or_right}
 use Rattle.title_share.specs.Division.{units_of}
-use Rattle.title_share.proofs.DivisionLaws.{viewed_rows, moved_none, moved_is, units-moved}
+use Rattle.title_share.specs.Laws.DivisionLaws.{viewed_rows, moved_none, moved_is, units-moved}
 use Rattle.title_share.proofs.holding.Holding.move_units.Goals as goal
 use Rattle.title_share.proofs.holding.Holding.move_units.Goals.{then-units-eq0-via-then-units-eq0}
 use Rattle.title_share.proofs.holding.Holding.move_units.Goals.{then-units-eq0-via-else-units-eq0+then-from-to}

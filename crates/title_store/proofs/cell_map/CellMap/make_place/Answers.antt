@@ -1,7 +1,7 @@
 -- A new place holds the opening owners, so nothing changes hands.
 use Rattle.std.proofs.Common.{◌∙◌, sym, subst}
 use Rattle.title_instrument.specs.declared.owners.Owners.{Owners}
-use Rattle.title_store.proofs.MapLaws.{Writes, placed_content, written_stays}
+use Rattle.title_store.specs.Laws.MapLaws.{Writes, placed_content, written_stays}
 use Rattle.title_store.proofs.cell_map.CellMap.make_place.Goals as goal
 
 pub returns-clause-content : goal.returns-clause-content

@@ -2,8 +2,8 @@
 use Rattle.std.proofs.Common.{◌≡◌, ◌<◌, ◌∙◌, subst, true, length, arith}
 use Rattle.title_land.specs.declared.place.Cell.{Cell}
 use Rattle.title_store.specs.CellMaps.{is_there}
-use Rattle.title_store.proofs.Each.{each_from}
-use Rattle.title_store.proofs.MapLaws.{each_more}
+use Rattle.title_store.specs.Laws.Each.{each_from}
+use Rattle.title_store.specs.Laws.MapLaws.{each_more}
 use Rattle.title_store.proofs.cell_map.CellMap.make_places.Goals as goal
 
 pub loop-cell-preserved : goal.loop-cell-preserved

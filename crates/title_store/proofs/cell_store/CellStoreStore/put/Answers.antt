@@ -10,9 +10,9 @@ use Rattle.title_store.specs.declared.kept.Lent.{Lent}
 use Rattle.title_store.specs.Loans.{AllBelow}
 use Rattle.title_store.specs.Plants.{first_failing, done_or}
 use Rattle.title_store.specs.CellMaps.{content_of, keep_from, loans_of}
-use Rattle.title_store.proofs.MapLaws.{refused_by, refused_content, post_content}
-use Rattle.title_store.proofs.Backing.{backed_stays, backed_same}
-use Rattle.title_store.proofs.Puts.{refused_put, below_after, taken, backed_after, places_kept}
+use Rattle.title_store.specs.Laws.MapLaws.{refused_by, refused_content, post_content}
+use Rattle.title_store.specs.Laws.Backing.{backed_stays, backed_same}
+use Rattle.title_store.specs.Laws.Puts.{refused_put, below_after, taken, backed_after, places_kept}
 use Rattle.title_store.proofs.cell_store.CellStoreStore.put.Goals as goal
 
 pub returns-in-Refused-clause-put : goal.returns-in-Refused-clause-put

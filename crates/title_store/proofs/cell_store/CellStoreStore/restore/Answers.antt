@@ -4,8 +4,8 @@ use Rattle.std.specs.Option.{IsSome}
 use Rattle.title_store.specs.declared.kept.Lent.{Lent}
 use Rattle.title_store.specs.Loans.{Loan, IsAmong}
 use Rattle.title_store.specs.CellMaps.{is_there, loans_of}
-use Rattle.title_store.proofs.LoanLaws.{among_without, loans_without, found_as}
-use Rattle.title_store.proofs.Backing.{each_kept, backed_stays, backed_fewer, restored}
+use Rattle.title_store.specs.Laws.LoanLaws.{among_without, loans_without, found_as}
+use Rattle.title_store.specs.Laws.Backing.{each_kept, backed_stays, backed_fewer, restored}
 use Rattle.title_store.proofs.cell_store.CellStoreStore.restore.Goals as goal
 
 pub unwrap-lent-requires : goal.unwrap-lent-requires

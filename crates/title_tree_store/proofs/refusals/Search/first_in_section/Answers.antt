@@ -4,7 +4,7 @@ use Rattle.title_land.specs.Depth.{depth}
 use Rattle.title_land.specs.declared.rectangle.TheConstants.{DEPTH}
 use Rattle.title_land.specs.declared.rectangle.Quarter.{Quarter}
 use Rattle.title_land.specs.CellLists.{cells_below}
-use Rattle.title_land.proofs.Sides.{depth_is}
+use Rattle.title_land.specs.Laws.Sides.{depth_is}
 use Rattle.title_tree.specs.Trees.{plot}
 use Rattle.title_tree_store.specs.Spots.{square_path}
 use Rattle.title_tree_store.specs.Forests.{plots}

@@ -5,8 +5,8 @@ use Rattle.title_land.specs.Depth.{depth}
 use Rattle.title_land.specs.declared.place.Section.{Section}
 use Rattle.title_land.specs.declared.place.Township.{Township}
 use Rattle.title_land.specs.CellLists.{section_cells}
-use Rattle.title_land.proofs.Members.{In}
-use Rattle.title_land.proofs.CellMembers.{sections_of-in}
+use Rattle.title_land.specs.Laws.Members.{In}
+use Rattle.title_land.specs.Laws.CellMembers.{sections_of-in}
 use Rattle.title_tree.specs.Trees.{plot}
 use Rattle.title_tree_store.specs.Spots.{township_path}
 use Rattle.title_tree_store.specs.Forests.{plots}

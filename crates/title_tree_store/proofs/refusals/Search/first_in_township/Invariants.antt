@@ -4,7 +4,7 @@ use Rattle.std.specs.List.{flat_map}
 use Rattle.title_land.specs.Depth.{depth}
 use Rattle.title_land.specs.declared.place.Section.{Section}
 use Rattle.title_land.specs.CellLists.{section_cells, township_cells}
-use Rattle.title_land.proofs.Members.{In}
+use Rattle.title_land.specs.Laws.Members.{In}
 use Rattle.title_tree_store.specs.Forests.{plots}
 use Rattle.title_tree_store.specs.Refusing.{first_of}
 use Rattle.title_tree_store.proofs.refusals.Search.first_in_township.Given as goal

@@ -8,8 +8,8 @@ use Rattle.title_land.specs.CellLists.{cells_of}
 use Rattle.title_instrument.specs.declared.parts.Estate.TheVariants.{S, O, M}
 use Rattle.title_instrument.specs.Effect.{holding_effect}
 use Rattle.title_store.specs.Loans.{IsTaken}
-use Rattle.title_store.proofs.MapLaws.{refused_content}
-use Rattle.title_store.proofs.Puts.{refused_put}
+use Rattle.title_store.specs.Laws.MapLaws.{refused_content}
+use Rattle.title_store.specs.Laws.Puts.{refused_put}
 use Rattle.title_tree.specs.Parts.{ways}
 use Rattle.title_tree.specs.Pieces.{refusal_at, Refines, StaysWithin}
 use Rattle.title_tree_store.specs.declared.lent.Lent.{Lent}

@@ -1,0 +1,8 @@
+-- The laws that the crates above cite, each with its proof.
+pub mod Exact
+pub mod Repeat
+pub mod Combine
+pub mod Words
+pub mod Places
+pub mod Sets
+pub mod Heads

@@ -1,0 +1,14 @@
+-- The laws that the crates above cite, each with its proof.
+pub mod Each
+pub mod EffectLaws
+pub mod SheetLaws
+pub mod MapLaws
+pub mod SheetHoldings
+pub mod SheetShows
+pub mod Puts
+pub mod LoanLaws
+pub mod PlantCells
+pub mod TractNodes
+pub mod Backing
+pub mod SheetNodes
+pub mod SheetSteps

@@ -1,0 +1,84 @@
+-- What a put leaves.
+use Rattle.std.proofs.Common.{◌≡◌, ℕ, ◌<◌, true, cond, List, [], ◌∷◌, ◌++◌, Some, sym, ap, subst, ◌∙◌}
+use Rattle.title_land.specs.Depth.{depth}
+use Rattle.std.specs.Prelude.{unwrap_or}
+use Rattle.std.specs.List.{AllByRecursion}
+use Rattle.std.specs.Ordering.{nat_cmp}
+use Rattle.std.specs.BTreeMap.{BTreeMap, get, is_at, insert_entry}
+use Rattle.title_land.specs.declared.place.Township.{Township}
+use Rattle.title_land.specs.declared.place.Cell.{Cell}
+use Rattle.title_land.specs.declared.node.Node.{Node}
+use Rattle.title_land.specs.declared.tract.Land.{Land}
+use Rattle.title_land.specs.CellLists.{cells_of}
+use Rattle.title_instrument.specs.declared.instrument.Instrument.{Instrument}
+use Rattle.title_instrument.specs.Owners.{opening_owners}
+use Rattle.title_store.specs.declared.cell_map.CellMap.{CellMap}
+use Rattle.title_store.specs.declared.kept.Kept.{Kept}
+use Rattle.title_store.specs.declared.kept.Lent.{Lent}
+use Rattle.title_store.specs.Plants.{Plant, Failing, is_cell_of, node_of, first_failing, refused_in}
+use Rattle.title_store.specs.Loans.{AllBelow, IsTaken}
+use Rattle.title_store.specs.CellMaps.{is_there, kept_at, kept_cells, keep_from, loans_of, AreBacked}
+use Rattle.title_store.specs.Laws.LoanLaws.{insert_last, loans_push, below_push}
+use Rattle.title_store.specs.Laws.MapLaws.{cells_kept, held_from, listed_is, refused_by}
+use Rattle.title_store.specs.Laws.Backing.{keeps_from, places_for, backed_stays, backed_more}
+
+-- why a put is refused, from the first failing cell
+pub refused_put : (i : Instrument ℕ) (p : Plant) (ts : List Township) (land : Land) (cells : List Cell) (f : Failing) (n : Node)
+    → cells ≡ cells_of depth ts land → first_failing i p cells ≡ Some f
+    → n ≡ node_of depth land f.cell → refused_in depth ts i p land ≡ Some (record { rule = f.rule; estate = f.estate; node = n })
+refused_put i p ts land cells f n listed failing node =
+    refused_by i p ts land (Some f) (ap (first_failing i p) (sym listed) ∙ failing)
+    ∙ ap (λ (x : Node). Some (record { rule = f.rule; estate = f.estate; node = x })) (sym node)
+
+-- what is out after a put: its image last, with the number above all others
+pub entries_after : (old new : BTreeMap ℕ Lent) (n : ℕ) (l : Lent) → AllBelow n (loans_of old.entries)
+    → new.entries ≡ insert_entry nat_cmp old.entries n l → new.entries ≡ old.entries ++ (n, l) ∷ []
+entries_after old new n l below entries = entries ∙ insert_last old.entries n l below
+
+pub below_after : (old new : BTreeMap ℕ Lent) (n next : ℕ) (l : Lent) → AllBelow n (loans_of old.entries) → n < next
+    → new.entries ≡ insert_entry nat_cmp old.entries n l → AllBelow next (loans_of new.entries)
+below_after old new n next l below more entries =
+    subst (λ (es : List (ℕ × Lent)). AllBelow next (loans_of es)) (sym (entries_after old new n l below entries))
+    (below_push n next old.entries l more below)
+
+-- the image of a put is taken
+pub taken : (p : Plant) (ts : List Township) (land : Land) (cells : List Cell) (old new : BTreeMap ℕ Lent) (n : ℕ) (l : Lent)
+    → cells ≡ cells_of depth ts land → l.land ≡ land → l.old.items ≡ keep_from p cells
+    → AllBelow n (loans_of old.entries) → new.entries ≡ insert_entry nat_cmp old.entries n l
+    → IsTaken n ts land p (loans_of old.entries) (loans_of new.entries)
+taken p ts land cells old new n l listed same kept below entries =
+    record {
+      held = λ c. unwrap_or (kept_at l.old.items c) opening_owners;
+      holds = λ c h. held_from p (cells_of depth ts land) l.old.items c (kept ∙ ap (keep_from p) listed) (listed_is ts land c ∙ h);
+      above = below;
+      last = ap loans_of (entries_after old new n l below entries) ∙ loans_push old.entries (n, l)
+          ∙ ap (λ (x : Land). loans_of old.entries ++ record {
+            number = n;
+            land = x;
+            held = λ c.
+                unwrap_or (kept_at l.old.items c) opening_owners;
+          } ∷ []) same;
+    }
+
+-- every image that is out can go back after a put
+pub backed_after : (p : Plant) (ts : List Township) (land : Land) (cells : List Cell) (m placed written : CellMap)
+    (old new : BTreeMap ℕ Lent) (n : ℕ) (l : Lent)
+    → cells ≡ cells_of depth ts land → l.land ≡ land → l.old.items ≡ keep_from p cells
+    → ((c : Cell) → is_there m c ≡ true → is_there placed c ≡ true) → AllByRecursion (λ c. is_there placed c ≡ true) cells
+    → ((c : Cell) → is_there placed c ≡ true → is_there written c ≡ true)
+    → ((q : ℕ) → get nat_cmp new q ≡ cond (is_at (nat_cmp n) q) (Some l) (get nat_cmp old q)) → AreBacked ts m old
+    → AreBacked ts written new
+backed_after p ts land cells m placed written old new n l listed same kept stays there stays2 updates backed =
+    let places = places_for ts land placed (subst (AllByRecursion (λ (c : Cell). is_there placed c ≡ true)) listed there) in
+    backed_more ts written old new n l updates
+    (backed_stays ts placed written old stays2 (backed_stays ts m placed old stays backed))
+    (λ c. (
+      keeps_from p ts land l.old.items (kept ∙ ap (keep_from p) listed) c ∙ ap (λ (x : Land). is_cell_of depth ts x c) (sym same),
+      λ h. stays2 c (places c (ap (λ (x : Land). is_cell_of depth ts x c) (sym same) ∙ h)),
+    ))
+
+-- the cells that are written have places
+pub places_kept : (q : Plant) (m : CellMap) (cells : List Cell) (ks : List Kept) → ks ≡ keep_from q cells
+    → AllByRecursion (λ c. is_there m c ≡ true) cells → AllByRecursion (λ c. is_there m c ≡ true) (kept_cells ks)
+places_kept q m cells ks kept there = subst (AllByRecursion (λ (c : Cell). is_there m c ≡ true))
+    (sym (ap kept_cells kept ∙ cells_kept q cells)) there

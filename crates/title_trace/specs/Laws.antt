@@ -1,0 +1,4 @@
+-- The laws that the crates above cite, each with its proof.
+pub mod Law
+pub mod OneReply
+pub mod Causes
