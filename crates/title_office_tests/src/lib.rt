@@ -2,7 +2,15 @@
 #![tactic(auto)]
 
 #[cfg(test)]
+mod answers;
+#[cfg(test)]
 mod days;
+#[cfg(test)]
+mod endings;
+#[cfg(test)]
+mod gone;
+#[cfg(test)]
+mod records;
 #[cfg(test)]
 mod settling;
 #[cfg(test)]

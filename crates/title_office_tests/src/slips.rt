@@ -26,8 +26,8 @@ fn seat_back<B: Room>(
     Some(seat)
 }
 
-// Aborts a slip; its seat.
-fn abort<B: Room, R: Wait>(
+/// Aborts a slip; its seat.
+pub fn abort<B: Room, R: Wait>(
     rt: &R,
     office: &Office<B>,
     slip: Slip<B>,
