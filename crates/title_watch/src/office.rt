@@ -5,12 +5,12 @@ ghost use Rattle.title_trace.specs.Due.{MayOpen};
 ghost use Rattle.title_views.specs.Views.{most_viewers};
 
 use crate::job::Job;
-use crate::sales::{first_section, sell_all, township};
+use crate::sales::{Selling, first_section, sell_all, township};
 use crate::views::watch_all;
 use std::alloc::{AllocError, Global};
 use std::marker::Brand;
 use std::sync::Wait;
-use std::thread::{Threads, join};
+use std::thread::Threads;
 use title_desk::may_open;
 use title_land::Township;
 use title_office::{Ledger, MOST_VIEWERS, Office, Opened, Room, Seat, Viewer};
@@ -37,13 +37,16 @@ fn sell_and_watch<B: Room + Send + Sync, R: Threads + Wait + Sync>(
     };
     let seat = sell_all(rt, alloc, office, seat, 0, job.records)?;
     let tract = first_section(alloc)?;
-    let place = &tract;
     let records = job.records.saturating_add(job.sales);
-    let (sheets, sold) = join(
+    let selling = Selling {
         rt,
-        || watch_all(rt, place, viewers, job.sheets),
-        || sell_all(rt, alloc, office, seat, job.records, records),
-    );
+        alloc,
+        office,
+        seat,
+        from: job.records,
+        to: records,
+    };
+    let (sheets, sold) = watch_all(&tract, viewers, job.sheets, selling);
     match sold {
         Ok(_) => Ok(Told { records, sheets }),
         Err(why) => Err(why),

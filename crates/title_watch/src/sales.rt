@@ -73,6 +73,32 @@ fn sell<B: Room, R: Wait>(
     }
 }
 
+/// An examiner at an office, and the numbers of the sales that it is to make.
+#[derive(Drop)]
+pub struct Selling<'a, B: Room, R: Wait> {
+    pub rt: &'a R,
+    pub alloc: Global,
+    pub office: &'a Office<B>,
+    pub seat: Seat<B>,
+    pub from: u32,
+    pub to: u32,
+}
+
+impl<B: Room, R: Wait> Selling<'_, B, R> {
+    /// Makes the sales: the seat.
+    pub fn sell(self) -> Result<Seat<B>, AllocError> {
+        let Selling {
+            rt,
+            alloc,
+            office,
+            seat,
+            from,
+            to,
+        } = self;
+        sell_all(rt, alloc, office, seat, from, to)
+    }
+}
+
 /// Makes the sales from one number up to another: the seat.
 pub fn sell_all<B: Room, R: Wait>(
     rt: &R,
