@@ -17,7 +17,9 @@ refusal did, or with the line `fault,6` alone and status 1, and with at most one
 another one of those that its script allows, and the line is `fault,9` where it was the start of a thread that wanted memory.
 
 With --same the program is one whose output has to be the same whatever is refused, as `title_trials growths`; it tells on standard error
-how many calls wanted memory, which has to be one, or none where what was refused is only to shorten a list (a realloc to fewer bytes).
+how many calls wanted memory, which has to be one, or none. Where it is none, that is told: what was refused was only to shorten a list
+(a realloc to fewer bytes); or it was room by a hint (a `collect` asks for as much as its iterator tells, and where that is refused at
+once for no more than it needs); or the call was answered without it (a conflict is told also where the accesses couldn't be spread).
 
 With --from-then-on all allocations after the Nth are refused with it.
 """
@@ -51,9 +53,10 @@ void *__libc_malloc(size_t), *__libc_calloc(size_t, size_t), *__libc_realloc(voi
 
 enum { BEFORE, MAIN, AFTER };
 
-/* How many allocations each stage asked for, how many were refused, and how many of these were to shorten what is there. */
+/* How many allocations each stage asked for, how many were refused, how many of these were to shorten what is there, and after how many
+   the same thread asked next for no more than had been refused. */
 struct tally {
-    unsigned long asked[3], refused, shortened;
+    unsigned long asked[3], refused, shortened, lessened;
 };
 
 static struct tally own, *tally = &own;
@@ -61,29 +64,35 @@ static int stage;
 static unsigned long first, last;
 static int (*the_main)(int, char **, char **);
 
-static int is_refused(void) {
+static __thread size_t just_refused __attribute__((tls_model("initial-exec")));
+
+static int is_refused(size_t size) {
+    if (just_refused != 0 && size <= just_refused)
+        __atomic_add_fetch(&tally->lessened, 1, __ATOMIC_SEQ_CST);
+    just_refused = 0;
     int at = __atomic_load_n(&stage, __ATOMIC_SEQ_CST);
     unsigned long number = __atomic_add_fetch(&tally->asked[at], 1, __ATOMIC_SEQ_CST);
     if (at != MAIN || number < first || number > last)
         return 0;
     __atomic_add_fetch(&tally->refused, 1, __ATOMIC_SEQ_CST);
+    just_refused = size;
     errno = ENOMEM;
     return 1;
 }
 
-void *malloc(size_t size) { return is_refused() ? NULL : __libc_malloc(size); }
-void *calloc(size_t count, size_t size) { return is_refused() ? NULL : __libc_calloc(count, size); }
+void *malloc(size_t size) { return is_refused(size) ? NULL : __libc_malloc(size); }
+void *calloc(size_t count, size_t size) { return is_refused(count * size) ? NULL : __libc_calloc(count, size); }
 void *realloc(void *old, size_t size) {
-    if (!is_refused())
+    if (!is_refused(size))
         return __libc_realloc(old, size);
     if (old != NULL && size <= malloc_usable_size(old))
         __atomic_add_fetch(&tally->shortened, 1, __ATOMIC_SEQ_CST);
     return NULL;
 }
-void *memalign(size_t align, size_t size) { return is_refused() ? NULL : __libc_memalign(align, size); }
-void *aligned_alloc(size_t align, size_t size) { return is_refused() ? NULL : __libc_memalign(align, size); }
+void *memalign(size_t align, size_t size) { return is_refused(size) ? NULL : __libc_memalign(align, size); }
+void *aligned_alloc(size_t align, size_t size) { return is_refused(size) ? NULL : __libc_memalign(align, size); }
 int posix_memalign(void **place, size_t align, size_t size) {
-    void *made = is_refused() ? NULL : __libc_memalign(align, size);
+    void *made = is_refused(size) ? NULL : __libc_memalign(align, size);
     if (made == NULL)
         return ENOMEM;
     *place = made;
@@ -123,9 +132,12 @@ __attribute__((constructor)) static void begin(void) {
 }
 """
 
-TALLY = struct.Struct("5L")
-Tally = collections.namedtuple("Tally", "before main after refused shortened")
+TALLY = struct.Struct("6L")
+Tally = collections.namedtuple("Tally", "before main after refused shortened lessened")
 Trial = collections.namedtuple("Trial", "name program words source kind")
+
+# What is told where no call wanted memory.
+NONE_WANTED = b": 0 wanted memory\n"
 
 # How many rows the scripts of each kind have that are made for this; each with few townships and parties.
 SMALL = {
@@ -197,8 +209,9 @@ def complaint(trial, ending, tally, plain):
     if trial.kind == "same":
         if (ending.status, ending.output) != (0, plain.output):
             return f"other output, status {ending.status}"
-        told = b": 0 wanted memory\n" if tally.shortened else b": 1 wanted memory\n"
-        return None if ending.errors.endswith(told) and lines(ending.errors) == 1 else f"tells {ending.errors!r}"
+        is_one = ending.errors.endswith(b": 1 wanted memory\n") and not tally.shortened
+        is_told = is_one or ending.errors.endswith(NONE_WANTED)
+        return None if lines(ending.errors) == 1 and is_told else f"tells {ending.errors!r}"
     if lines(ending.errors) > max(1, lines(plain.errors)):
         return f"{lines(ending.errors)} lines on standard error"
     if ending.status == 0 and ending.errors != plain.errors:
@@ -216,7 +229,11 @@ def complaint(trial, ending, tally, plain):
 def kind_of_end(ending, tally, plain):
     """What an ending is counted under."""
     if (ending.status, ending.output) == (plain.status, plain.output):
-        return f"as without refusal{' (a list not shortened)' if tally.shortened else ''}"
+        if tally.shortened:
+            return "as without refusal (a list not shortened)"
+        if ending.errors.endswith(NONE_WANTED):
+            return f"as without refusal ({'room by a hint' if tally.lessened else 'answered without it'})"
+        return "as without refusal"
     return ending.output.decode().strip() if ending.status else "another report"
 
 
@@ -274,7 +291,7 @@ def is_plain(trial, plain):
     if trial.kind == "words":
         return plain.status in (0, 1, 2)
     if trial.kind == "same":
-        return plain.status == 0 and plain.errors.endswith(b": 0 wanted memory\n")
+        return plain.status == 0 and plain.errors.endswith(NONE_WANTED)
     is_report = plain.status == 0 and steps_told(plain.output) is not None and plain.errors == b""
     return is_report or trial.name.startswith("fault") and plain.status == 1
 
