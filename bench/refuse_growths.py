@@ -136,8 +136,8 @@ TALLY = struct.Struct("6L")
 Tally = collections.namedtuple("Tally", "before main after refused shortened lessened")
 Trial = collections.namedtuple("Trial", "name program words source kind")
 
-# What is told where no call wanted memory.
-NONE_WANTED = b": 0 wanted memory\n"
+# What is told where no call wanted memory, and where one did.
+NONE_WANTED, ONE_WANTED = b": 0 wanted memory\n", b": 1 wanted memory\n"
 
 # How many rows the scripts of each kind have that are made for this; each with few townships and parties.
 SMALL = {
@@ -209,8 +209,7 @@ def complaint(trial, ending, tally, plain):
     if trial.kind == "same":
         if (ending.status, ending.output) != (0, plain.output):
             return f"other output, status {ending.status}"
-        is_one = ending.errors.endswith(b": 1 wanted memory\n") and not tally.shortened
-        is_told = is_one or ending.errors.endswith(NONE_WANTED)
+        is_told = ending.errors.endswith((ONE_WANTED, NONE_WANTED))
         return None if lines(ending.errors) == 1 and is_told else f"tells {ending.errors!r}"
     if lines(ending.errors) > max(1, lines(plain.errors)):
         return f"{lines(ending.errors)} lines on standard error"
@@ -229,6 +228,8 @@ def complaint(trial, ending, tally, plain):
 def kind_of_end(ending, tally, plain):
     """What an ending is counted under."""
     if (ending.status, ending.output) == (plain.status, plain.output):
+        if ending.errors.endswith(ONE_WANTED):
+            return "as without refusal"
         if tally.shortened:
             return "as without refusal (a list not shortened)"
         if ending.errors.endswith(NONE_WANTED):
