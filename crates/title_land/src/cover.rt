@@ -13,7 +13,7 @@ use crate::place::Section;
 use crate::rectangle::{DEPTH, Quarter, Rectangle};
 use std::alloc::{AllocError, Global};
 
-// Adds the nodes that list the set within one square, with so many levels below it.
+// Adds the nodes that list the set within one square, with so many levels below it. Squares without a cell of the set aren't walked.
 fn add_cover(
     grid: &Grid,
     section: Section,
@@ -30,7 +30,7 @@ fn add_cover(
 {
     if fills(grid, area) {
         nodes.push(Node::Part(section, within))?;
-    } else if levels > 0 {
+    } else if levels > 0 && grid.meets(&Grid::of(area)) {
         for which in Quarter::ALL {
             let (square, quarter) = (within.quarter(which), area.quarter(which));
             add_cover(grid, section, levels - 1, square, quarter, nodes)?;

@@ -1,18 +1,22 @@
 -- The cells of a cover are those of its land.
-use Rattle.std.proofs.Common.{◌≡◌, ℕ, zero, suc, ◌+◌, ◌-◌, ◌*◌, ◌/◌, ◌≤◌, ◌^◌, Bool, true, false, ◌⊎◌, inl, inr, List, [], ◌∷◌, ◌++◌}
+use Rattle.std.proofs.Common.{◌≡◌, ℕ, zero, suc, ◌+◌, ◌-◌, ◌*◌, ◌/◌, ◌<◌, ◌≤◌, ◌^◌, Bool, true, false, ◌⊎◌, inl, inr, List, [], ◌∷◌, ◌++◌}
 use Rattle.std.proofs.Common.{length, refl, sym, ap, subst, ◌∙◌, arith, append_assoc}
-use Rattle.std.proofs.lemmas.Bool.{cases_Bool, cases_lt}
+use Rattle.std.proofs.lemmas.Bool.{both_ways, cases_Bool, cases_lt}
 use Rattle.title_land.specs.declared.rectangle.Quarter.{Quarter}
 use Rattle.title_land.specs.declared.rectangle.Quarter.TheVariants.{Northeast, Northwest, Southwest, Southeast}
 use Rattle.title_land.specs.declared.rectangle.Rectangle.{Rectangle}
-use Rattle.title_land.specs.Rectangles.{quarter_of}
+use Rattle.title_land.specs.declared.grid.Grid.{Grid}
+use Rattle.title_land.specs.Rectangles.{quarter_of, holds}
 use Rattle.title_land.specs.Nodes.{square}
-use Rattle.title_land.specs.Grids.{fills}
+use Rattle.title_land.specs.Places.{side}
+use Rattle.title_land.specs.Grids.{fills, grid_has, grid_of, grids_meet}
+use Rattle.title_land.specs.Laws.GridLaws.{grid_has-grid_of}
+use Rattle.title_land.specs.Laws.GridSharing.{grids_from}
 use Rattle.title_land.specs.Covers.{cover_below}
 use Rattle.title_land.specs.Laws.CoverLaws.{cover_filled, cover_cell, cover_split}
-use Rattle.title_land.specs.Laws.Squares.{Inside, Sized, sized}
+use Rattle.title_land.specs.Laws.Squares.{Inside, Sized, sized, has_corner, holds_from, square_inside}
 use Rattle.title_land.specs.Laws.Members.{In, in_left, in_right, in_append}
-use Rattle.title_land.specs.Laws.Filling.{fills_from}
+use Rattle.title_land.specs.Laws.Filling.{fills_at, fills_from}
 
 -- a list in four pieces
 in_four : (p : List Quarter) (a b c d : List (List Quarter)) → In p (a ++ b ++ c ++ d) → In p a ⊎ (In p b ⊎ (In p c ⊎ In p d))
@@ -183,3 +187,30 @@ cover_complete d has (suc levels) q row column l i h = elim (cases_Bool (fills h
       let k = cover_complete d has levels (x.0 ∷ q) row column m x.1 h in
       (k.0, cover_part_in d has levels q k.0 e x.0 k.1, k.2)
 ]
+
+-- a list without a member is empty
+none_in : (ps : List (List Quarter)) → ((p : List Quarter) → In p ps → ⊥) → ps ≡ []
+none_in [] f = refl
+none_in (p ∷ ps) f = absurd (f p (inl refl))
+
+-- a square without a cell of the set has nothing of its cover
+pub cover_none : (d : ℕ) (has : ℕ → ℕ → Bool) (levels : ℕ) (q : List Quarter) → levels + length q ≡ d
+    → ((row column : ℕ) → Inside (square d q) row column → has row column ≡ true → ⊥) → cover_below d has levels q ≡ []
+cover_none d has levels q l none = none_in (cover_below d has levels q) (λ p i.
+    let f = cover_found d has levels q p i in
+    let long : (d - length p) + length p ≡ d = omega (arith, f.long) in
+    let corner = has_corner d (d - length p) p long in
+    let there = subst (λ (z : List Quarter). Inside (square d z) (square d p).top (square d p).left) f.path_is corner in
+    none (square d p).top (square d p).left (square_inside d f.inner q (square d p).top (square d p).left there)
+    (fills_at has (square d p) (square d p).top (square d p).left f.filled corner))
+
+-- nor has a square that the set doesn't meet
+pub cover_missed : (d levels : ℕ) (q : List Quarter) (g h : Grid) → levels + length q ≡ d → h ≡ grid_of d (holds (square d q))
+    → grids_meet g h ≡ false → cover_below d (grid_has g) levels q ≡ []
+cover_missed d levels q g h l e m = cover_none d (grid_has g) levels q l (λ row column i a.
+    let s = sized d levels q l in
+    let low : row < side d = omega (arith, i.above, s.height_is, s.high) in
+    let near : column < side d = omega (arith, i.left, s.width_is, s.wide) in
+    let b = ap (λ (x : Grid). grid_has x row column) e ∙ grid_has-grid_of d (holds (square d q)) row column low near
+    ∙ holds_from (square d q) row column i in
+    both_ways (grids_meet g h) m (grids_from g h row column a b))
