@@ -14,7 +14,8 @@ use crate::lists::{Records, SheetRows};
 use crate::record::Record;
 use std::alloc::{AllocError, Global};
 use title_land::{Township, Tract};
-use title_store::{CellStore, Put, Store};
+use title_store::{Put, Store};
+use title_tree_store::TreeStore;
 
 // Posts a step's instrument again, if it was posted.
 fn post_again<S: Store>(store: &mut S, step: &Step) -> Result<(), AllocError>
@@ -96,5 +97,5 @@ pub fn sheet_by_chain(
     ensures sheet { IfOk result (λ rows. rows ≡ sheet_of depth townships.now (plant_after depth townships.now (reverse records.now))
         tract.now) }
 {
-    sheet_by_replay::<CellStore>(alloc, records, townships, tract)
+    sheet_by_replay::<TreeStore>(alloc, records, townships, tract)
 }
