@@ -15,18 +15,19 @@ use title_lock::NodeLocks;
 use title_plan::{Schedule, ScriptFault, read_script};
 use title_tree_store::TreeStore;
 
-// The report of a script's bytes, or its first fault, or Memory.
+// The report of a script's bytes, or its first fault, or Memory. The bytes are let go before the first step is served.
 #[tactic(auto, unfolding(crate::specs::Reports::report_of))]
 fn report_of<V: Watch>(
     alloc: Global,
     schedule: Schedule,
-    script: &[u8],
+    script: Vec<u8>,
     watch: &mut V,
 ) -> Result<Vec<u8>, ScriptFault>
-    ensures report { IfOk result (λ v. report_of schedule script.now ≡ Ok v.items) }
-    ensures why { IfErr result (λ e. (e ≡ script_fault.Memory) ⊎ (report_of schedule script.now ≡ Err e)) }
+    ensures report { IfOk result (λ v. report_of schedule script.items ≡ Ok v.items) }
+    ensures why { IfErr result (λ e. (e ≡ script_fault.Memory) ⊎ (report_of schedule script.items ≡ Err e)) }
 {
-    let mut plan = read_script(alloc, schedule, script)?;
+    let mut plan = read_script(alloc, schedule, script.as_slice())?;
+    drop(script);
     let report = write_report::<TreeStore, NodeLocks, V>(alloc, &mut plan, watch)?;
     Ok(report)
 }
@@ -49,7 +50,7 @@ pub fn run_by<R: Source, W: Sink, V: Watch>(
         (R.has_failed source.new) (W.taken sink.old) (W.taken sink.new) (W.has_failed sink.new) result }
 {
     let script = read_all(alloc, source)?;
-    let report = report_of(alloc, schedule, script.as_slice(), watch)?;
+    let report = report_of(alloc, schedule, script, watch)?;
     write_all(sink, report.as_slice())?;
     Ok(())
 }
