@@ -2,7 +2,8 @@
 """Runs the built program titleplant on the greatest scripts that its limits allow: loads.py [--program PROGRAM] [LOAD..]
 
 Prints for each load the bytes and rows of its script, the processor's and the clock's seconds, the peak memory in MB, the bytes of the
-report, and how the run ended. A load that has to be refused ends with its fault. With no load named, all of them, some minutes.
+report, and how the run ended. A load that has to be refused ends with its fault. With no load named, all of them, some minutes; "everything,
+99,871" wants 15 GB of memory and 10 GB for its report.
 """
 
 import argparse
@@ -165,6 +166,7 @@ LOADS = {
     "deeds of everything, 1,000": ("alone", lambda: deeds_of_everything(1_000), None),
     "everything, 1,000": ("alone", lambda: everything(1_000, 64), None),
     "everything, 10,000": ("alone", lambda: everything(10_000, 64), None),
+    "everything, 99,871": ("alone", lambda: everything(99_871, 64), None),
     "everything, 10,000, nothing posted": ("alone", lambda: everything(10_000), None),
     "1,000 deeds and chains": ("alone", lambda: many_chains(1_000), None),
     "2,000 deeds and chains": ("alone", lambda: many_chains(2_000), None),
