@@ -7,7 +7,8 @@ use Rattle.title_grammar.specs.Language.{Language, Gives, Many, Begins, NoText, 
 use Rattle.title_grammar.specs.Reading.{Read, Got, Stuck, and_then, starts, gives_at, many_from, many_at}
 use Rattle.title_grammar.specs.Laws.Heads.{SameHead, SameHead-refl, SameHead-front, SameHead-starts, disjoint}
 use Rattle.title_grammar.specs.Laws.Sets.{starts-split}
-use Rattle.title_grammar.specs.Laws.Exact.{HeadsIn, GotBy, StuckBy, Exact, both_got, either_stuck, got_not_stuck, follow_then, tells, same_next}
+use Rattle.title_grammar.specs.Laws.Exact.{HeadsIn, GotBy, StuckBy, Exact, both_got}
+use Rattle.title_grammar.specs.Laws.Exact.{either_stuck, got_not_stuck, follow_then, tells, same_next}
 use Rattle.title_grammar.specs.Laws.Exact.{same_end, same_choice, starts_of}
 
 -- ---- any number of times

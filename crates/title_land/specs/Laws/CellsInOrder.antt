@@ -27,7 +27,8 @@ use Rattle.title_land.specs.Laws.Members.{In, any_found, any_from}
 use Rattle.title_land.specs.Laws.NodeSharing.{equal_from_same, related_from_cell}
 use Rattle.title_land.specs.Laws.LandSharing.{cover_has, cover_in_tree}
 use Rattle.title_land.specs.Laws.CoverSet.{cover_is_cover, cover_nodes_apart}
-use Rattle.title_land.specs.Laws.CellMembers.{cells_below-has, cells_below-in, in_quarters, in_sections_of, section_cells-in, township_cells-in}
+use Rattle.title_land.specs.Laws.CellMembers.{cells_below-has, cells_below-in, in_quarters}
+use Rattle.title_land.specs.Laws.CellMembers.{in_sections_of, section_cells-in, township_cells-in}
 use Rattle.title_land.specs.Laws.MetBefore.{Met, flat_before, flat_at, met_filter, met_member, met_apart, met_in_order}
 
 quarters_met : (a b : Quarter) → quarter_before a b ≡ true → is_met_before same_quarter quarters a b ≡ true
