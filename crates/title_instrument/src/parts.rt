@@ -65,11 +65,20 @@ impl fmt::Display for Estate {
     ghost output = { λ e. Some (estate_text e) };
 
     fn fmt<W: fmt::Write>(&self, f: &mut fmt::Formatter<W>) -> fmt::Result {
-        f.write_str(match self {
+        f.write_str(self.letter())
+    }
+}
+
+impl Estate {
+    /// Its letter, as it is printed.
+    pub fn letter(self) -> &'static str
+        ensures text { result.now ≡ estate_text self }
+    {
+        match self {
             Estate::S => "S",
             Estate::O => "O",
             Estate::M => "M",
-        })
+        }
     }
 }
 
@@ -78,14 +87,27 @@ impl fmt::Display for Estates {
     ghost output = { λ e. Some (estates_text e) };
 
     fn fmt<W: fmt::Write>(&self, f: &mut fmt::Formatter<W>) -> fmt::Result {
-        let s = if self.s { "S" } else { "" };
-        let o = if self.o { "O" } else { "" };
-        let m = if self.m { "M" } else { "" };
-        write!(f, "{s}{o}{m}")
+        f.write_str(self.letters())
     }
 }
 
 impl Estates {
+    /// The letters of those that are named, in order, as they are printed.
+    pub fn letters(self) -> &'static str
+        ensures text { result.now ≡ estates_text self }
+    {
+        match (self.s, self.o, self.m) {
+            (true, true, true) => "SOM",
+            (true, true, false) => "SO",
+            (true, false, true) => "SM",
+            (true, false, false) => "S",
+            (false, true, true) => "OM",
+            (false, true, false) => "O",
+            (false, false, true) => "M",
+            (false, false, false) => "",
+        }
+    }
+
     /// Whether an estate is named.
     pub fn has(self, estate: Estate) -> bool
         ensures has { result ≡ names self estate }

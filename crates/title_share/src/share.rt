@@ -157,11 +157,20 @@ pub struct Fraction {
     pub units: u64,
 }
 
+impl Fraction {
+    /// The numbers above and below the line, in lowest terms, as it is printed; 0 and 1 for no units.
+    pub fn parts(self) -> (u64, u64)
+        ensures text { share_text self.units ≡ decimal result.0 ++ 47 ∷ decimal result.1 }
+    {
+        reduced(self.units)
+    }
+}
+
 impl fmt::Display for Fraction {
     ghost output = { λ f. Some (share_text f.units) };
 
     fn fmt<W: fmt::Write>(&self, f: &mut fmt::Formatter<W>) -> fmt::Result {
-        let (top, bottom) = reduced(self.units);
+        let (top, bottom) = self.parts();
         write!(f, "{top}/{bottom}")
     }
 }
