@@ -1,0 +1,51 @@
+-- The texts of quoted fields and of rows, in parts.
+use Rattle.std.proofs.Common.{◌≡◌, ◌∙◌, ◌++◌, ◌∷◌, [], ◌<◌, ◌+◌, ℕ, suc, List, length, take, drop, get_or, refl, sym, ap, append_assoc, arith}
+use Rattle.std.proofs.lemmas.List.{take-append-drop, take_more}
+use Rattle.csv.proofs.WriteFacts.{escaped-append, escaped-double, escaped-other}
+use Rattle.csv.specs.Writing.{escaped, field_text, fields_text, is_blank, row_body, row_text}
+use Rattle.csv.specs.declared.writer.WriterBuilder.{WriterBuilder}
+use Rattle.title_page.specs.Rows.{row_writer}
+
+-- a quote is written twice
+pub escaped_quote : (b : ℕ) → b ≡ 34 → escaped row_writer (b ∷ []) ≡ 34 ∷ 34 ∷ []
+escaped_quote b e = rw e (escaped-double row_writer 34 refl refl)
+
+-- another byte once
+pub escaped_byte : (b : ℕ) → (b ≡ 34 → ⊥) → escaped row_writer (b ∷ []) ≡ b ∷ []
+escaped_byte b n = escaped-other row_writer b n
+
+-- the bytes up to one more
+pub escaped_more : (field : List ℕ) (i : ℕ) → i < length field
+    → escaped row_writer (take (i + 1) field) ≡ escaped row_writer (take i field) ++ escaped row_writer (get_or field i 0 ∷ [])
+escaped_more field i lt = rw (take_more field i 0 lt) (escaped-append row_writer (take i field) (get_or field i 0 ∷ []))
+
+-- the bytes up to one, and the rest
+pub escaped_front : (field : List ℕ) (i : ℕ)
+    → escaped row_writer field ≡ escaped row_writer (take i field) ++ escaped row_writer (drop i field)
+escaped_front field i =
+    ap (λ (x : List ℕ). escaped row_writer x) (sym (take-append-drop i field)) ∙ escaped-append row_writer (take i field) (drop i field)
+
+-- further fields in two parts
+fields_parts : (cfg : WriterBuilder) (xs ys : List (List ℕ)) → fields_text cfg (xs ++ ys) ≡ fields_text cfg xs ++ fields_text cfg ys
+unfolding fields_text
+fields_parts cfg [] ys = refl
+fields_parts cfg (x ∷ xs) ys =
+    rw (fields_parts cfg xs ys, append_assoc (field_text cfg x) (fields_text cfg xs) (fields_text cfg ys)) refl
+
+-- a row begins with its first fields
+pub row_front : (cfg : WriterBuilder) (rows : List (List ℕ)) (i : ℕ)
+    → (rest : List ℕ) × (row_body cfg rows ≡ row_body cfg (take (suc i) rows) ++ rest)
+row_front cfg [] i = ([], refl)
+row_front cfg (r ∷ rs) i = (
+  fields_text cfg (drop i rs),
+  ap (λ (x : List (List ℕ)). field_text cfg r ++ fields_text cfg x) (sym (take-append-drop i rs))
+      ∙ ap (λ (x : List ℕ). field_text cfg r ++ x) (fields_parts cfg (take i rs) (drop i rs))
+      ∙ sym (append_assoc (field_text cfg r) (fields_text cfg (take i rs)) (fields_text cfg (drop i rs))),
+)
+
+-- a row of two fields or more ends after the last
+pub row_ends : (rows : List (List ℕ)) → 1 < length rows → row_text row_writer rows ≡ row_body row_writer rows ++ 10 ∷ []
+unfolding is_blank
+row_ends [] lt = absurd (omega (arith, lt))
+row_ends (x ∷ []) lt = absurd (omega (arith, lt))
+row_ends (x ∷ y ∷ rest) lt = refl

@@ -1,0 +1,9 @@
+//! Rows of CSV that are written to a sink through a page of 8 KB. Writing them takes no memory.
+#![tactic(auto)]
+
+mod field;
+mod page;
+mod row;
+
+pub use field::Field;
+pub use page::Page;

@@ -1,0 +1,155 @@
+//! The page through which rows are written.
+
+ghost use Rattle.std.specs.Prelude.{◌≡◌, ◌∷◌, [], true, false, OnOk, OnErr};
+ghost use Rattle.csv.specs.Writing.{escaped, field_text, needs_quotes, quoted};
+ghost use Rattle.csv.specs.Quoting.{needs_byte};
+ghost use Rattle.title_page.specs.Pages.{Stopped, Written};
+ghost use Rattle.title_page.specs.Rows.{row_writer};
+
+use arrayvec::ArrayVec;
+use std::marker::Model;
+use title_device::{Failed, Sink, write_all};
+
+/// The bytes that were written and that the sink has not been given yet, at most 8 KB. A contract sees these bytes.
+#[derive(Drop)]
+pub struct Page {
+    bytes: ArrayVec<u8, 8192>,
+}
+
+impl Model for Page {
+    ghost use Rattle.std.specs.Prelude.{ℕ, List};
+
+    ghost Value = { List ℕ };
+
+    ghost view = { λ p. p.bytes.items };
+}
+
+// Whether a field with this byte is quoted.
+fn is_special(byte: u8) -> bool
+    ensures special { result ≡ needs_byte row_writer byte }
+{
+    byte == b',' || byte == b'"' || byte == b'\r' || byte == b'\n'
+}
+
+// Whether a field is quoted.
+fn is_quoted(field: &[u8]) -> bool
+    ensures quoted { result ≡ needs_quotes row_writer field.now }
+{
+    for byte in field {
+        if is_special(*byte) {
+            return true;
+        }
+    }
+    false
+}
+
+impl Page {
+    /// A page with nothing on it.
+    pub fn new() -> Page
+        ensures empty { result ≡ [] }
+    {
+        Page {
+            bytes: ArrayVec::new(),
+        }
+    }
+
+    /// Gives the sink all that stands on the page. `Failed` where a push fails; the sink then has a beginning of it.
+    pub fn pass<S: Sink>(&mut self, sink: &mut S) -> Result<(), Failed>
+        requires works { S.has_failed sink.old ≡ false }
+        ensures empty { OnOk result (self.new ≡ []) }
+        ensures written { OnOk result (Written (S.taken sink.old) self.old (S.taken sink.new) self.new []) }
+        ensures well { OnOk result (S.has_failed sink.new ≡ false) }
+        ensures stopped { OnErr result (Stopped (S.taken sink.old) self.old (S.taken sink.new) []) }
+        ensures failed { OnErr result (S.has_failed sink.new ≡ true) }
+    {
+        write_all(sink, self.bytes.as_slice())?;
+        self.bytes.clear();
+        Ok(())
+    }
+
+    // Writes bytes where nothing stands on the page; more than a page are given to the sink at once.
+    fn put_first<S: Sink>(&mut self, sink: &mut S, text: &[u8]) -> Result<(), Failed>
+        requires works { S.has_failed sink.old ≡ false }
+        requires empty { self.old ≡ [] }
+        ensures written { OnOk result (Written (S.taken sink.old) self.old (S.taken sink.new) self.new text.now) }
+        ensures well { OnOk result (S.has_failed sink.new ≡ false) }
+        ensures stopped { OnErr result (Stopped (S.taken sink.old) self.old (S.taken sink.new) text.now) }
+        ensures failed { OnErr result (S.has_failed sink.new ≡ true) }
+    {
+        if self.bytes.try_extend_from_slice(text).is_ok() {
+            return Ok(());
+        }
+        write_all(sink, text)
+    }
+
+    /// Writes bytes as they are. `Failed` where a push fails; the sink then has a beginning of what was written.
+    pub fn put<S: Sink>(&mut self, sink: &mut S, text: &[u8]) -> Result<(), Failed>
+        requires works { S.has_failed sink.old ≡ false }
+        ensures written { OnOk result (Written (S.taken sink.old) self.old (S.taken sink.new) self.new text.now) }
+        ensures well { OnOk result (S.has_failed sink.new ≡ false) }
+        ensures stopped { OnErr result (Stopped (S.taken sink.old) self.old (S.taken sink.new) text.now) }
+        ensures failed { OnErr result (S.has_failed sink.new ≡ true) }
+    {
+        if self.bytes.try_extend_from_slice(text).is_ok() {
+            return Ok(());
+        }
+        self.pass(sink)?;
+        self.put_first(sink, text)
+    }
+
+    // Writes a byte of a quoted field: a quote twice.
+    fn put_escaped<S: Sink>(&mut self, sink: &mut S, byte: u8) -> Result<(), Failed>
+        requires works { S.has_failed sink.old ≡ false }
+        ensures written { OnOk result (Written (S.taken sink.old) self.old (S.taken sink.new) self.new
+            (escaped row_writer (byte ∷ []))) }
+        ensures well { OnOk result (S.has_failed sink.new ≡ false) }
+        ensures stopped { OnErr result (Stopped (S.taken sink.old) self.old (S.taken sink.new) (escaped row_writer (byte ∷ []))) }
+        ensures failed { OnErr result (S.has_failed sink.new ≡ true) }
+    {
+        if byte == b'"' {
+            return self.put(sink, b"\"\"");
+        }
+        self.put(sink, &[byte])
+    }
+
+    // Writes the bytes of a quoted field.
+    fn put_all_escaped<S: Sink>(&mut self, sink: &mut S, field: &[u8]) -> Result<(), Failed>
+        requires works { S.has_failed sink.old ≡ false }
+        ensures written { OnOk result (Written (S.taken sink.old) self.old (S.taken sink.new) self.new (escaped row_writer field.now)) }
+        ensures well { OnOk result (S.has_failed sink.new ≡ false) }
+        ensures stopped { OnErr result (Stopped (S.taken sink.old) self.old (S.taken sink.new) (escaped row_writer field.now)) }
+        ensures failed { OnErr result (S.has_failed sink.new ≡ true) }
+    {
+        for byte in field {
+            self.put_escaped(sink, *byte)?;
+        }
+        Ok(())
+    }
+
+    // Writes a field between quotes.
+    fn put_quoted<S: Sink>(&mut self, sink: &mut S, field: &[u8]) -> Result<(), Failed>
+        requires works { S.has_failed sink.old ≡ false }
+        ensures written { OnOk result (Written (S.taken sink.old) self.old (S.taken sink.new) self.new (quoted row_writer field.now)) }
+        ensures well { OnOk result (S.has_failed sink.new ≡ false) }
+        ensures stopped { OnErr result (Stopped (S.taken sink.old) self.old (S.taken sink.new) (quoted row_writer field.now)) }
+        ensures failed { OnErr result (S.has_failed sink.new ≡ true) }
+    {
+        self.put(sink, b"\"")?;
+        self.put_all_escaped(sink, field)?;
+        self.put(sink, b"\"")
+    }
+
+    /// Writes a field: in quotes where it has a comma, a quote or a line's end. `Failed` as with `put`.
+    pub fn field<S: Sink>(&mut self, sink: &mut S, field: &[u8]) -> Result<(), Failed>
+        requires works { S.has_failed sink.old ≡ false }
+        ensures written { OnOk result (Written (S.taken sink.old) self.old (S.taken sink.new) self.new (field_text row_writer field.now)) }
+        ensures well { OnOk result (S.has_failed sink.new ≡ false) }
+        ensures stopped { OnErr result (Stopped (S.taken sink.old) self.old (S.taken sink.new) (field_text row_writer field.now)) }
+        ensures failed { OnErr result (S.has_failed sink.new ≡ true) }
+    {
+        if is_quoted(field) {
+            return self.put_quoted(sink, field);
+        }
+        self.put(sink, field)
+    }
+}
