@@ -14,7 +14,7 @@ use Rattle.title_chain.specs.declared.ask.Answer.TheVariants as answer
 use Rattle.title_chain.specs.Alone.{plant_after}
 use Rattle.title_chain.specs.Asks.{answer_to}
 use Rattle.title_trace.specs.declared.call.Reply.TheVariants as reply
-use Rattle.title_report.specs.Writing.{row, rows_text}
+use Rattle.title_page.specs.Rows.{row, rows_text}
 use Rattle.title_day.specs.OfficeReports.{closing_sheet}
 
 -- the rows of the whole plant are the closing sheet of a plant with townships

@@ -17,7 +17,7 @@ use Rattle.title_plan.specs.Asked.{Asked}
 use Rattle.title_day.specs.declared.tally.Tally.{Tally}
 use Rattle.title_report.specs.Replies.{reply_rows, end_row}
 use Rattle.title_day.specs.Tallies.{settled_row, tally_row}
-use Rattle.title_report.specs.Writing.{row, rows_text}
+use Rattle.title_page.specs.Rows.{row, rows_text}
 
 -- the sheet of the whole plant after all records; a plant without townships has none
 abbrev pub closing_sheet : List Township → List Record → Reply

@@ -1,30 +1,35 @@
 //! The report of an office that is settled.
 
-ghost use Rattle.std.specs.Prelude.{◌≡◌, ◌++◌, IfOk, map, reverse};
+ghost use Rattle.std.specs.Prelude.{◌≡◌, ◌++◌, ℕ, true, false, IfOk, OnOk, OnErr, map, reverse, take};
 ghost use Rattle.std.specs.String.{string_bytes};
+ghost use Rattle.std.specs.Io.KnownBytes.{Appends};
 ghost use Rattle.title_land.specs.Depth.{depth};
 ghost use Rattle.title_chain.specs.Alone.{IsSerial};
 ghost use Rattle.title_store.specs.Plants.{IsEachOnce};
-ghost use Rattle.title_day.specs.Tallies.{tally_row};
-ghost use Rattle.title_report.specs.Writing.{rows_text};
+ghost use Rattle.title_page.specs.Pages.{Stopped, Written};
+ghost use Rattle.title_page.specs.Rows.{rows_text};
+ghost use Rattle.title_day.specs.Closings.{closed_rows, closed_text};
 ghost use Rattle.title_day.specs.OfficeReports.{closing_sheet, closing_text};
 
-use crate::tally::{Tally, add_settled, add_tally};
+use crate::tally::{Tally, put_settled, put_tallies};
 use indexmap::IndexSet;
 use std::alloc::{AllocError, Global};
 use title_chain::{Answer, Records, sheet_by_chain};
+use title_device::{Failed, Sink};
 use title_land::{Node, Township, Tract};
-use title_report::Report;
+use title_page::Page;
+use title_report::{put_end, put_reply};
 use title_trace::Reply;
 
-// Writes the rows of tallies.
-fn write_tallies(mut report: Report, tallies: &[Tally]) -> Result<Report, AllocError>
-    ensures rows { IfOk result (λ r. r ≡ report ++ rows_text (map tally_row tallies.now)) }
-{
-    for tally in tallies {
-        report = add_tally(report, *tally)?;
-    }
-    Ok(report)
+/// What the report of a settled office shows: the names of the parties, a tally for each examiner, how many records there
+/// are, the closing sheet, and the number of step rows.
+#[derive(Drop)]
+pub(crate) struct Closing {
+    pub names: IndexSet<String>,
+    pub tallies: Vec<Tally>,
+    pub records: usize,
+    pub sheet: Reply,
+    pub steps: usize,
 }
 
 // The sheet of the whole plant after all records; a plant without townships has none.
@@ -46,26 +51,55 @@ fn closing_sheet(
     Ok(Reply::Answered(Answer::Rows(rows)))
 }
 
-/// The report of a settled office: a row for each tally, how many records there are, the closing sheet, and the number of step rows.
-/// `Err` is Memory.
-pub fn office_report(
+/// What the report of a settled office shows. `Err` is Memory.
+pub(crate) fn close_office(
     alloc: Global,
-    names: &IndexSet<String>,
+    names: IndexSet<String>,
     townships: &[Township],
     steps: usize,
-    tallies: &[Tally],
+    tallies: Vec<Tally>,
     records: &Records,
-) -> Result<Vec<u8>, AllocError>
+) -> Result<Closing, AllocError>
     requires once { IsEachOnce townships.now }
     requires serial { IsSerial depth townships.now (reverse records.now) }
-    ensures text { IfOk result (λ v. v.items
-        ≡ closing_text townships.now (map string_bytes names.now.keys) steps tallies.now records.now) }
+    ensures text { IfOk result (λ closing. closed_text closing
+        ≡ closing_text townships.now (map string_bytes names.keys) steps tallies.items records.now) }
 {
-    let report = Report::new(alloc)?;
-    let report = write_tallies(report, tallies)?;
-    let report = add_settled(report, records.as_slice().len())?;
     let sheet = closing_sheet(alloc, townships, records)?;
-    let report = report.reply(names, 0, &sheet)?;
-    let text = report.end(steps)?;
-    Ok(text)
+    Ok(Closing {
+        names,
+        tallies,
+        records: records.as_slice().len(),
+        sheet,
+        steps,
+    })
+}
+
+// Writes the rows of a report but for the last.
+fn put_closing<S: Sink>(page: &mut Page, sink: &mut S, closing: &Closing) -> Result<(), Failed>
+    requires works { S.has_failed sink.old ≡ false }
+    ensures written { OnOk result (Written (S.taken sink.old) page.old (S.taken sink.new) page.new
+        (rows_text (closed_rows closing.now))) }
+    ensures well { OnOk result (S.has_failed sink.new ≡ false) }
+    ensures stopped { OnErr result (Stopped (S.taken sink.old) page.old (S.taken sink.new) (rows_text (closed_rows closing.now))) }
+    ensures failed { OnErr result (S.has_failed sink.new ≡ true) }
+{
+    put_tallies(page, sink, closing.tallies.as_slice())?;
+    put_settled(page, sink, closing.records)?;
+    put_reply(page, sink, &closing.names, 0, &closing.sheet)
+}
+
+/// Writes the report of a settled office. It takes no memory. `Failed` where a push fails; the sink has then taken a
+/// beginning of the report.
+pub(crate) fn write_closing<S: Sink>(sink: &mut S, closing: &Closing) -> Result<(), Failed>
+    requires works { S.has_failed sink.old ≡ false }
+    ensures bytes { OnOk result (Appends (S.taken sink.old) (S.taken sink.new) (closed_text closing.now)) }
+    ensures well { OnOk result (S.has_failed sink.new ≡ false) }
+    ensures write { OnErr result (S.has_failed sink.new ≡ true) }
+    ensures part { OnErr result ((n : ℕ) × Appends (S.taken sink.old) (S.taken sink.new) (take n (closed_text closing.now))) }
+{
+    let mut page = Page::new();
+    put_closing(&mut page, sink, closing)?;
+    put_end(&mut page, sink, closing.steps)?;
+    page.pass(sink)
 }

@@ -2,27 +2,28 @@
 
 ghost use Rattle.std.specs.Prelude.{◌≡◌, ◌≤◌, false, IfErr, IfOk};
 ghost use Rattle.title_office.specs.Offices.{most_seats};
+ghost use Rattle.title_day.specs.Closings.{closed_text};
 ghost use Rattle.title_day.specs.OfficeRuns.{IsOfficeRun, IsOwnCause, IsReportOf};
 
-use crate::closing::office_report;
+use crate::closing::{Closing, close_office, write_closing};
 use crate::office_day::run_day;
 use crate::office_fault::OfficeFault;
 use crate::office_script::{OfficeScript, read_office};
 use std::alloc::Global;
 use std::sync::Wait;
 use std::thread::Threads;
-use title_device::{Sink, Source, read_all, write_all};
+use title_device::{Sink, Source, read_all};
 
-// The report of the script of an office, whose examiners' rows are run by threads.
-fn report_by_threads<T: Threads + Wait + Sync>(
+// What the report of the script of an office shows, whose examiners' rows are run by threads.
+fn close_by_threads<T: Threads + Wait + Sync>(
     rt: &T,
     alloc: Global,
     examiners: u32,
     tries: u32,
     bytes: &[u8],
-) -> Result<Vec<u8>, OfficeFault>
+) -> Result<Closing, OfficeFault>
     requires seats { examiners ≤ most_seats }
-    ensures report { IfOk result (λ v. IsReportOf examiners bytes.now v.items) }
+    ensures report { IfOk result (λ closing. IsReportOf examiners bytes.now (closed_text closing)) }
     ensures why { IfErr result (IsOwnCause examiners bytes.now) }
 {
     let script = read_office(alloc, examiners, bytes)?;
@@ -35,15 +36,8 @@ fn report_by_threads<T: Threads + Wait + Sync>(
     let count = parties.len() as u32;
     let plant = townships.as_slice();
     let day = run_day(rt, alloc, count, plant, examiners, scripts, tries)?;
-    let report = office_report(
-        alloc,
-        &parties,
-        plant,
-        steps,
-        day.tallies.as_slice(),
-        &day.records,
-    )?;
-    Ok(report)
+    let closing = close_office(alloc, parties, plant, steps, day.tallies, &day.records)?;
+    Ok(closing)
 }
 
 /// Reads an office's script whole, runs each examiner's rows by a thread of its own, at most so many tries a transaction, settles the
@@ -64,7 +58,7 @@ pub fn run_office<T: Threads + Wait + Sync, R: Source, W: Sink>(
         (R.has_failed source.new) (W.taken sink.old) (W.taken sink.new) (W.has_failed sink.new) result }
 {
     let script = read_all(alloc, source)?;
-    let report = report_by_threads(rt, alloc, examiners, tries, script.as_slice())?;
-    write_all(sink, report.as_slice())?;
+    let closing = close_by_threads(rt, alloc, examiners, tries, script.as_slice())?;
+    write_closing(sink, &closing)?;
     Ok(())
 }

@@ -1,6 +1,8 @@
 -- The texts of quoted fields and of rows, in parts.
 use Rattle.std.proofs.Common.{◌≡◌, ◌∙◌, ◌++◌, ◌∷◌, [], ◌<◌, ◌+◌, ℕ, suc, List, length, take, drop, get_or, refl, sym, ap, append_assoc, arith}
-use Rattle.std.proofs.lemmas.List.{take-append-drop, take_more}
+use Rattle.std.proofs.lemmas.List.{append-nil, take-append-drop, take_more}
+use Rattle.std.proofs.lemmas.List.Folds.{concat-append}
+use Rattle.std.specs.List.{concat}
 use Rattle.csv.proofs.WriteFacts.{escaped-append, escaped-double, escaped-other}
 use Rattle.csv.specs.Writing.{escaped, field_text, fields_text, is_blank, row_body, row_text}
 use Rattle.csv.specs.declared.writer.WriterBuilder.{WriterBuilder}
@@ -49,3 +51,14 @@ unfolding is_blank
 row_ends [] lt = absurd (omega (arith, lt))
 row_ends (x ∷ []) lt = absurd (omega (arith, lt))
 row_ends (x ∷ y ∷ rest) lt = refl
+
+-- the texts up to one more
+pub concat_more : (texts : List (List ℕ)) (i : ℕ) → i < length texts
+    → concat (take (i + 1) texts) ≡ concat (take i texts) ++ get_or texts i []
+concat_more texts i lt =
+    rw (take_more texts i [] lt, concat-append (take i texts) (get_or texts i [] ∷ []), append-nil (get_or texts i [])) refl
+
+-- the texts up to one, and the rest
+pub concat_front : (texts : List (List ℕ)) (i : ℕ) → concat texts ≡ concat (take i texts) ++ concat (drop i texts)
+concat_front texts i =
+    ap (λ (x : List (List ℕ)). concat x) (sym (take-append-drop i texts)) ∙ concat-append (take i texts) (drop i texts)

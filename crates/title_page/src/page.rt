@@ -1,8 +1,9 @@
 //! The page through which rows are written.
 
-ghost use Rattle.std.specs.Prelude.{◌≡◌, ◌∷◌, [], true, false, OnOk, OnErr};
+ghost use Rattle.std.specs.Prelude.{◌≡◌, ◌∷◌, [], true, false, map, OnOk, OnErr};
 ghost use Rattle.csv.specs.Writing.{escaped, field_text, needs_quotes, quoted};
 ghost use Rattle.csv.specs.Quoting.{needs_byte};
+ghost use Rattle.std.specs.List.{concat};
 ghost use Rattle.title_page.specs.Pages.{Stopped, Written};
 ghost use Rattle.title_page.specs.Rows.{row_writer};
 
@@ -95,6 +96,21 @@ impl Page {
         }
         self.pass(sink)?;
         self.put_first(sink, text)
+    }
+
+    /// Writes texts as they are, one after another. `Failed` as with `put`.
+    pub fn put_each<S: Sink>(&mut self, sink: &mut S, texts: &[&[u8]]) -> Result<(), Failed>
+        requires works { S.has_failed sink.old ≡ false }
+        ensures written { OnOk result (Written (S.taken sink.old) self.old (S.taken sink.new) self.new
+            (concat (map (λ t. t.now) texts.now))) }
+        ensures well { OnOk result (S.has_failed sink.new ≡ false) }
+        ensures stopped { OnErr result (Stopped (S.taken sink.old) self.old (S.taken sink.new) (concat (map (λ t. t.now) texts.now))) }
+        ensures failed { OnErr result (S.has_failed sink.new ≡ true) }
+    {
+        for at in 0..texts.len() {
+            self.put(sink, texts[at])?;
+        }
+        Ok(())
     }
 
     // Writes a byte of a quoted field: a quote twice.

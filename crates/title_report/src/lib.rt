@@ -1,7 +1,10 @@
-//! Reports: the rows of replies, written as CSV.
+//! Reports: the rows of replies, written as CSV to a sink through a page. Writing them takes no memory.
 #![tactic(auto)]
 
-mod report;
-mod rows;
+mod answers;
+mod field;
+mod nodes;
+mod replies;
 
-pub use report::Report;
+pub use field::ReportField;
+pub use replies::{put_described, put_end, put_reply, put_row};

@@ -1,12 +1,14 @@
 -- The rows of step rows one after another.
-use Rattle.std.proofs.Common.{◌≡◌, ◌∙◌, ℕ, List, [], ◌∷◌, ◌++◌, refl, sym, ap, subst}
+use Rattle.std.proofs.Common.{◌≡◌, ◌∙◌, ℕ, List, [], ◌∷◌, ◌++◌, refl, sym, ap, ap₂, subst}
 use Rattle.std.proofs.lemmas.List.{append-nil, append_assoc}
-use Rattle.std.proofs.lemmas.Grind.{flat_map-append}
+use Rattle.std.specs.List.{flat_map}
 use Rattle.title_trace.specs.declared.call.Call.{Call}
 use Rattle.title_trace.specs.Due.{Setting}
 use Rattle.title_plan.specs.declared.line.Line.{Line}
-use Rattle.title_report.specs.Writing.{row, rows_text}
+use Rattle.title_plan.specs.declared.line.Line.TheVariants as line
+use Rattle.title_script.specs.declared.told.Told.{Told}
 use Rattle.title_script.specs.Served.{after_line, due_rows, line_rows}
+use Rattle.title_script.specs.Told.{all_due_told, due_told, told_rows}
 use Rattle.title_script.specs.ReportLaws.{after_lines}
 
 pub rows_in_order : (setting : Setting) (names : List (List ℕ)) (before : List Call) (lines more : List Line) →
@@ -18,20 +20,33 @@ rows_in_order setting names before (l ∷ lines) more =
     (rows_in_order setting names (after_line setting before l) lines more)
     ∙ sym (append_assoc (line_rows setting names before l) _ _)
 
--- what is written, and what the steps that are left owe
-abbrev pub and_rest : Setting → List (List ℕ) → List ℕ → List Call → List Line → List ℕ
-and_rest setting names report before lines = report ++ rows_text (due_rows setting names before lines)
+-- what came of the steps so far, and what comes of those that are left
+abbrev pub and_rest : Setting → List Told → List Call → List Line → List Told
+and_rest setting done before lines = done ++ all_due_told setting before lines
 
 -- a step that is served from the front owes no more
-pub rest_served : (setting : Setting) (names : List (List ℕ)) (report : List ℕ) (before : List Call) (l : Line) (lines : List Line) →
-    and_rest setting names (report ++ rows_text (line_rows setting names before l)) (after_line setting before l) lines
-    ≡ and_rest setting names report before (l ∷ lines)
-rest_served setting names report before l lines =
-    append_assoc report (rows_text (line_rows setting names before l)) _
-    ∙ ap (λ (text : List ℕ). report ++ text) (sym (flat_map-append row (line_rows setting names before l) _))
+pub rest_served : (setting : Setting) (done : List Told) (before : List Call) (l : Line) (lines : List Line) →
+    and_rest setting (done ++ due_told setting before l ∷ []) (after_line setting before l) lines
+    ≡ and_rest setting done before (l ∷ lines)
+rest_served setting done before l lines = append_assoc done (due_told setting before l ∷ []) _
 
--- no step being left, what is written is all
-pub none_left : (setting : Setting) (names : List (List ℕ)) (report all : List ℕ) (before : List Call) (lines : List Line) →
-    lines ≡ [] → and_rest setting names report before lines ≡ all → report ≡ all
-none_left setting names report all before lines none owed =
-    sym (append-nil report) ∙ subst (λ (left : List Line). and_rest setting names report before left ≡ all) none owed
+-- no step being left, what came so far is all
+pub none_left : (setting : Setting) (done all : List Told) (before : List Call) (lines : List Line) →
+    lines ≡ [] → and_rest setting done before lines ≡ all → done ≡ all
+none_left setting done all before lines none owed =
+    sym (append-nil done) ∙ subst (λ (left : List Line). and_rest setting done before left ≡ all) none owed
+
+-- what comes of a step row has its rows
+line_told : (setting : Setting) (names : List (List ℕ)) (before : List Call) (l : Line) →
+    told_rows names (due_told setting before l) ≡ line_rows setting names before l
+line_told setting names before (line.Asks q) = refl
+line_told setting names before (line.Alone e a) = refl
+line_told setting names before (line.Described e why) = refl
+
+-- and so has what comes of all
+pub all_told : (setting : Setting) (names : List (List ℕ)) (before : List Call) (lines : List Line) →
+    flat_map (told_rows names) (all_due_told setting before lines) ≡ due_rows setting names before lines
+all_told setting names before [] = refl
+all_told setting names before (l ∷ lines) =
+    ap₂ (λ (rows more : List (List (List ℕ))). rows ++ more) (line_told setting names before l)
+        (all_told setting names (after_line setting before l) lines)

@@ -1,5 +1,6 @@
 pub mod Faults
 pub mod Served
+pub mod Told
 pub mod Reports
 pub mod Runs
 pub mod ReportLaws

@@ -6,7 +6,7 @@ use Rattle.title_plan.specs.declared.line.Schedule.{Schedule}
 use Rattle.title_plan.specs.Asked.{Asked}
 use Rattle.title_plan.specs.Plans.{script_of}
 use Rattle.title_report.specs.Replies.{end_row}
-use Rattle.title_report.specs.Writing.{row, rows_text}
+use Rattle.title_page.specs.Rows.{row, rows_text}
 use Rattle.title_script.specs.Served.{due_rows}
 
 -- the desk that a script asks: its parties and its townships

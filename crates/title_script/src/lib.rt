@@ -5,7 +5,9 @@ mod fault;
 pub mod laws;
 mod runs;
 mod serving;
+mod told;
 mod watch;
+mod writing;
 
 pub use fault::RunFault;
 pub use runs::{run, run_alone, run_by};

@@ -5,31 +5,34 @@ ghost use Rattle.title_plan.specs.declared.fault.ScriptFault.TheVariants as scri
 ghost use Rattle.title_plan.specs.declared.line.Schedule.TheVariants as schedule;
 ghost use Rattle.title_script.specs.Reports.{report_of};
 ghost use Rattle.title_script.specs.Runs.{IsRun};
+ghost use Rattle.title_script.specs.Told.{served_text};
 
 use crate::fault::RunFault;
-use crate::serving::write_report;
+use crate::serving::serve_plan;
+use crate::told::Served;
 use crate::watch::{Unwatched, Watch};
+use crate::writing::write_served;
 use std::alloc::Global;
-use title_device::{Sink, Source, read_all, write_all};
+use title_device::{Sink, Source, read_all};
 use title_lock::NodeLocks;
 use title_plan::{Schedule, ScriptFault, read_script};
 use title_tree_store::TreeStore;
 
-// The report of a script's bytes, or its first fault, or Memory. The bytes are let go before the first step is served.
+// A script's steps, served, or its first fault, or Memory. The bytes are let go before the first step is served.
 #[tactic(auto, unfolding(crate::specs::Reports::report_of))]
-fn report_of<V: Watch>(
+fn serve_script<V: Watch>(
     alloc: Global,
     schedule: Schedule,
     script: Vec<u8>,
     watch: &mut V,
-) -> Result<Vec<u8>, ScriptFault>
-    ensures report { IfOk result (λ v. report_of schedule script.items ≡ Ok v.items) }
+) -> Result<Served, ScriptFault>
+    ensures report { IfOk result (λ s. report_of schedule script.items ≡ Ok (served_text s)) }
     ensures why { IfErr result (λ e. (e ≡ script_fault.Memory) ⊎ (report_of schedule script.items ≡ Err e)) }
 {
-    let mut plan = read_script(alloc, schedule, script.as_slice())?;
+    let plan = read_script(alloc, schedule, script.as_slice())?;
     drop(script);
-    let report = write_report::<TreeStore, NodeLocks, V>(alloc, &mut plan, watch)?;
-    Ok(report)
+    let served = serve_plan::<TreeStore, NodeLocks, V>(alloc, plan, watch)?;
+    Ok(served)
 }
 
 /// Reads a script whole, serves its steps in their order, and writes its report. `Interleaved`: the steps as they stand;
@@ -50,8 +53,8 @@ pub fn run_by<R: Source, W: Sink, V: Watch>(
         (R.has_failed source.new) (W.taken sink.old) (W.taken sink.new) (W.has_failed sink.new) result }
 {
     let script = read_all(alloc, source)?;
-    let report = report_of(alloc, schedule, script, watch)?;
-    write_all(sink, report.as_slice())?;
+    let served = serve_script(alloc, schedule, script, watch)?;
+    write_served(sink, &served)?;
     Ok(())
 }
 

@@ -1,23 +1,21 @@
 //! The steps of a script, served one after another.
 
-ghost use Rattle.std.specs.Prelude.{◌≡◌, ◌++◌, [], IfOk, OnOk, length, map};
-ghost use Rattle.std.specs.String.{string_bytes};
+ghost use Rattle.std.specs.Prelude.{◌≡◌, ◌++◌, ◌∷◌, [], IfOk, OnOk, length};
 ghost use Rattle.title_trace.specs.declared.call.Request.TheVariants as request;
 ghost use Rattle.title_trace.specs.Due.{MayOpen};
 ghost use Rattle.title_plan.specs.Asked.{asked_in};
-ghost use Rattle.title_report.specs.Writing.{rows_text};
-ghost use Rattle.title_script.specs.Served.{after_alone, after_call, after_line, due_rows, ending, line_rows, reply_to};
+ghost use Rattle.title_script.specs.Served.{after_alone, after_call, after_line, ending, reply_to};
+ghost use Rattle.title_script.specs.Told.{all_due_told, due_told, served_text};
 ghost use Rattle.title_script.specs.Reports.{report_on, setting_of};
 
+use crate::told::{Served, Told};
 use crate::watch::Watch;
-use indexmap::IndexSet;
 use std::alloc::{AllocError, Global};
 use std::collections::VecDeque;
 use title_chain::Ask;
 use title_desk::Desk;
 use title_lock::Guards;
 use title_plan::{Line, Plan};
-use title_report::Report;
 use title_store::Store;
 use title_trace::{Reply, Request};
 
@@ -63,50 +61,56 @@ fn ask_alone<S: Store + Drop, G: Guards + Drop>(
     Ok(reply)
 }
 
-// Serves a step row and writes its rows.
+// Serves a step row.
 fn serve_line<S: Store + Drop, G: Guards + Drop>(
     desk: &mut Desk<S, G>,
     line: Line,
-    names: &IndexSet<String>,
-    report: Report,
-) -> Result<Report, AllocError>
+) -> Result<Told, AllocError>
     ensures setting { desk.new.setting ≡ desk.old.setting }
     ensures trace { OnOk result (desk.new.trace ≡ after_line desk.old.setting desk.old.trace line) }
-    ensures rows { IfOk result (λ r. r ≡ report
-        ++ rows_text (line_rows desk.old.setting (map string_bytes names.now.keys) desk.old.trace line)) }
+    ensures told { IfOk result (λ told. told ≡ due_told desk.old.setting desk.old.trace line) }
 {
     match line {
         Line::Asks(request) => {
             let examiner = request.examiner();
             let reply = ask(desk, request)?;
-            report.reply(names, examiner, &reply)
+            Ok(Told::Replied(examiner, reply))
         }
         Line::Alone(examiner, step) => {
             let reply = ask_alone(desk, examiner, step)?;
-            report.reply(names, examiner, &reply)
+            Ok(Told::Replied(examiner, reply))
         }
-        Line::Described(examiner, why) => report.described(examiner, why),
+        Line::Described(examiner, why) => Ok(Told::Described(examiner, why)),
     }
 }
 
-// Takes step rows from the front, serves them at a desk and writes their rows. Who watches is told after each.
+// Adds what came of a step row to that of those before.
+fn add_told(all: &mut Vec<Told>, told: Told) -> Result<(), AllocError>
+    ensures added { OnOk result (all.new.items ≡ all.old.items ++ told ∷ []) }
+{
+    all.push(told)?;
+    Ok(())
+}
+
+// Takes step rows from the front and serves them at a desk. Who watches is told after each.
 #[tactic(auto, using(crate::proofs::ServedLaws::rest_served))]
 fn serve_lines<S: Store + Drop, G: Guards + Drop, V: Watch>(
+    alloc: Global,
     mut desk: Desk<S, G>,
     lines: &mut VecDeque<Line>,
-    names: &IndexSet<String>,
-    mut report: Report,
     watch: &mut V,
-) -> Result<Report, AllocError>
-    ensures rows { IfOk result (λ r. r ≡ report
-        ++ rows_text (due_rows desk.setting (map string_bytes names.now.keys) desk.trace lines.old.items)) }
+) -> Result<Vec<Told>, AllocError>
+    ensures told { IfOk result (λ v. v.items ≡ all_due_told desk.setting desk.trace lines.old.items) }
 {
     let steps = lines.len();
+    let mut all = Vec::new(alloc);
+    all.reserve(steps)?;
     while let Some(line) = lines.pop_front() {
-        report = serve_line(&mut desk, line, names, report)?;
+        let told = serve_line(&mut desk, line)?;
+        add_told(&mut all, told)?;
         watch.served(steps.saturating_sub(lines.len()), steps);
     }
-    Ok(report)
+    Ok(all)
 }
 
 // A desk for what a plan declares.
@@ -122,18 +126,17 @@ fn open_desk<S: Store + Drop, G: Guards + Drop>(
     Desk::open(alloc, parties, plan.townships.as_slice())
 }
 
-/// The report of what a plan asks for, over a store and guards of any kinds. It takes the steps out of the plan.
-pub(crate) fn write_report<S: Store + Drop, G: Guards + Drop, V: Watch>(
+/// Serves what a plan asks for, over a store and guards of any kinds.
+pub(crate) fn serve_plan<S: Store + Drop, G: Guards + Drop, V: Watch>(
     alloc: Global,
-    plan: &mut Plan,
+    mut plan: Plan,
     watch: &mut V,
-) -> Result<Vec<u8>, AllocError>
-    requires opens { MayOpen (length plan.old.parties.keys) plan.old.townships.items }
-    ensures report { IfOk result (λ v. v.items ≡ report_on (asked_in plan.old)) }
+) -> Result<Served, AllocError>
+    requires opens { MayOpen (length plan.parties.keys) plan.townships.items }
+    ensures report { IfOk result (λ s. served_text s ≡ report_on (asked_in plan)) }
 {
-    let report = Report::new(alloc)?;
     let steps = plan.lines.len();
-    let desk = open_desk::<S, G>(alloc, plan)?;
-    let report = serve_lines(desk, &mut plan.lines, &plan.parties, report, watch)?;
-    report.end(steps)
+    let desk = open_desk::<S, G>(alloc, &plan)?;
+    let told = serve_lines(alloc, desk, &mut plan.lines, watch)?;
+    Ok(Served { plan, told, steps })
 }

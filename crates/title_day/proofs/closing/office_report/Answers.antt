@@ -5,7 +5,7 @@ use Rattle.title_chain.specs.declared.record.Record.{Record}
 use Rattle.title_trace.specs.declared.call.Reply.{Reply}
 use Rattle.title_report.specs.Replies.{end_row, reply_rows}
 use Rattle.title_day.specs.Tallies.{settled_row, tally_row}
-use Rattle.title_report.specs.Writing.{row, rows_text}
+use Rattle.title_page.specs.Rows.{row, rows_text}
 use Rattle.title_day.specs.OfficeReports.{closing_sheet}
 use Rattle.title_day.proofs.Closes.{parts_close}
 use Rattle.title_day.proofs.closing.office_report.Goals as goal

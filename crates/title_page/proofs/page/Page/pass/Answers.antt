@@ -1,6 +1,6 @@
 -- The sink took the page, or a beginning of it.
 use Rattle.std.proofs.Common.{◌≡◌, rules}
-use Rattle.title_page.proofs.Joined.{on_err, stopped_page}
+use Rattle.title_page.specs.Laws.InTurn.{on_err, stopped_page}
 use Rattle.title_page.proofs.page.Page.pass.Goals as goal
 
 pub returns-in_err-write_all-clause-stopped : goal.returns-in_err-write_all-clause-stopped

@@ -1,7 +1,7 @@
 -- What stood on the page went before the text.
 use Rattle.std.proofs.Common.{◌≡◌, [], rules}
 use Rattle.std.proofs.lemmas.Result.{on_ok_weaker, on_err_weaker}
-use Rattle.title_page.proofs.Joined.{stopped_then, written_then}
+use Rattle.title_page.specs.Laws.InTurn.{stopped_then, written_then}
 use Rattle.title_page.proofs.page.Page.put.Goals as goal
 
 pub returns-clause-written : goal.returns-clause-written

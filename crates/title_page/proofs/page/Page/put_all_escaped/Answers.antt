@@ -2,7 +2,7 @@
 use Rattle.std.proofs.Common.{◌+◌, drop}
 use Rattle.csv.specs.Writing.{escaped}
 use Rattle.title_page.specs.Rows.{row_writer}
-use Rattle.title_page.proofs.Joined.{on_err, stopped_before, stopped_then, written_none, written_then}
+use Rattle.title_page.specs.Laws.InTurn.{on_err, stopped_before, stopped_then, written_none, written_then}
 use Rattle.title_page.proofs.Texts.{escaped_front, escaped_more}
 use Rattle.title_page.proofs.page.Page.put_all_escaped.Goals as goal
 

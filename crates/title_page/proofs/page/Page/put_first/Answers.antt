@@ -1,6 +1,6 @@
 -- A text that no page holds goes to the sink at once.
 use Rattle.std.proofs.lemmas.Result.{on_err_weaker}
-use Rattle.title_page.proofs.Joined.{stopped_at_once}
+use Rattle.title_page.specs.Laws.InTurn.{stopped_at_once}
 use Rattle.title_page.proofs.page.Page.put_first.Goals as goal
 
 pub returns-clause-stopped : goal.returns-clause-stopped

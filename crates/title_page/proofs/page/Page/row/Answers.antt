@@ -3,7 +3,7 @@ use Rattle.std.proofs.Common.{◌<◌, ◌∷◌, [], length, map, arith}
 use Rattle.std.proofs.lemmas.List.{length-map}
 use Rattle.std.proofs.lemmas.Result.{on_ok_weaker, on_err_weaker}
 use Rattle.title_page.specs.Rows.{row}
-use Rattle.title_page.proofs.Joined.{on_err, stopped_before, stopped_then, written_then}
+use Rattle.title_page.specs.Laws.InTurn.{on_err, stopped_before, stopped_then, written_then}
 use Rattle.title_page.proofs.Texts.{row_ends}
 use Rattle.title_page.proofs.page.Page.row.Goals as goal
 

@@ -1,7 +1,8 @@
--- Texts that are written one after another.
-use Rattle.std.proofs.Common.{◌≡◌, ◌∙◌, ◌++◌, [], ℕ, List, Option, Result, Ok, Err, OnErr, take, drop, sym, ap, append_assoc}
+-- Texts that are written one after another through a page, and the whole at its end.
+use Rattle.std.proofs.Common.{◌≡◌, ◌∙◌, ◌++◌, [], ℕ, List, Option, Result, Ok, Err, OnErr, take, drop, length, subst, sym, ap, append_assoc}
 use Rattle.std.specs.Io.KnownBytes.{Appends}
 use Rattle.std.proofs.lemmas.List.{append-nil, take-append-drop}
+use Rattle.std.proofs.Math.Seq.{take-append_seam}
 use Rattle.csv.proofs.WriteFacts.{appends-more, appends-none}
 use Rattle.title_page.specs.Pages.{Stopped, Written}
 
@@ -54,3 +55,22 @@ stopped_at_once text n x = record { parts = (take n text, drop n text, x, sym (t
 pub on_err : {T E : Type 0} (r : Result T E) {P : Type 0} → P → OnErr r P
 on_err (Ok _) p = tt
 on_err (Err _) p = p
+
+-- a text that was written from an empty page and all given to the sink
+pub all_given : {a b : Option (List ℕ)} (text : List ℕ) → Written a [] b [] text → Appends a b text
+all_given {a} {b} text w =
+    let (given, x, e) = w.parts in
+    subst (λ (t : List ℕ). Appends a b t) (sym (e ∙ append-nil given)) x
+
+-- a text that was written from an empty page until the sink failed: a beginning of it was given to the sink
+pub part_given : {a b : Option (List ℕ)} (text : List ℕ) → Stopped a [] b text → (n : ℕ) × Appends a b (take n text)
+part_given {a} {b} text v =
+    let (given, rest, x, e) = v.parts in
+    (length given, subst (λ (t : List ℕ). Appends a b t) (sym (ap (λ (t : List ℕ). take (length given) t) e ∙ take-append_seam given rest)) x)
+
+-- a text by another name
+pub written_as : {a b : Option (List ℕ)} {p q s t : List ℕ} → t ≡ s → Written a p b q s → Written a p b q t
+written_as {a} {b} {p} {q} e w = subst (λ (x : List ℕ). Written a p b q x) (sym e) w
+
+pub stopped_as : {a b : Option (List ℕ)} {p s t : List ℕ} → t ≡ s → Stopped a p b s → Stopped a p b t
+stopped_as {a} {b} {p} e v = subst (λ (x : List ℕ). Stopped a p b x) (sym e) v

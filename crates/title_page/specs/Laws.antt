@@ -1,0 +1,4 @@
+-- Laws that crates above cite.
+pub mod InTurn
+pub mod Rows
+pub mod Whole

@@ -1,0 +1,13 @@
+-- The rows so far are written.
+use Rattle.std.proofs.Common.{◌≡◌, false, map, take}
+use Rattle.std.specs.String.{string_bytes}
+use Rattle.title_page.specs.Pages.{Written}
+use Rattle.title_page.specs.Rows.{rows_text}
+use Rattle.title_report.specs.Replies.{sheet_row}
+use Rattle.title_report.proofs.answers.put_sheet_rows.Given as goal
+
+abbrev pub invariant-loop-line : goal.invariant-loop-line
+invariant-loop-line g l =
+    Written (g.S.Sink.taken l.fn.sink) l.fn.page (g.S.Sink.taken l.sink) l.page
+    (rows_text (map (sheet_row (map string_bytes l.names.keys) l.examiner) (take l.line-index l.lines)))
+    × (g.S.Sink.has_failed l.sink ≡ false)

@@ -1,0 +1,235 @@
+//! The rows of answers.
+
+ghost use Rattle.std.specs.Prelude.{◌≡◌, ◌∷◌, [], true, false, OnOk, OnErr, codes, length, map};
+ghost use Rattle.std.specs.String.{string_bytes};
+ghost use Rattle.title_instrument.specs.Kinds.{kind_word};
+ghost use Rattle.title_page.specs.Pages.{Stopped, Written};
+ghost use Rattle.title_page.specs.Rows.{rows_text};
+ghost use Rattle.title_report.specs.Replies.{answer_rows, entry_row, name_of, number_row, refused_row, sheet_row};
+
+use crate::field::ReportField;
+use crate::replies::{Names, put_number_row, put_row, put_word_row};
+use title_chain::{Answer, Entry};
+use title_device::{Failed, Sink};
+use title_instrument::{Estate, Kind, Rule};
+use title_land::Node;
+use title_page::Page;
+use title_store::SheetRow;
+
+// The name of the party of this number.
+fn name_bytes(names: &Names, party: u32) -> &[u8]
+    ensures name { result.now ≡ name_of (map string_bytes names.now.keys) party }
+{
+    match names.get_index(party as usize) {
+        Some(name) => name.as_bytes(),
+        None => b"",
+    }
+}
+
+// Writes the row of a refused post.
+fn put_refused<S: Sink>(
+    page: &mut Page,
+    sink: &mut S,
+    examiner: u32,
+    rule: Rule,
+    estate: Estate,
+    node: Node,
+) -> Result<(), Failed>
+    requires works { S.has_failed sink.old ≡ false }
+    ensures written { OnOk result (Written (S.taken sink.old) page.old (S.taken sink.new) page.new
+        (rows_text (refused_row examiner rule estate node ∷ []))) }
+    ensures well { OnOk result (S.has_failed sink.new ≡ false) }
+    ensures stopped { OnErr result (Stopped (S.taken sink.old) page.old (S.taken sink.new)
+        (rows_text (refused_row examiner rule estate node ∷ []))) }
+    ensures failed { OnErr result (S.has_failed sink.new ≡ true) }
+{
+    let fields = [
+        ReportField::Number(u64::from(examiner)),
+        ReportField::Text(b"refused"),
+        ReportField::Number(u64::from(rule.number())),
+        ReportField::Text(estate.letter().as_bytes()),
+        ReportField::Node(node),
+    ];
+    put_row(page, sink, &fields)
+}
+
+// Writes a row of a sheet.
+fn put_sheet_row<S: Sink>(
+    page: &mut Page,
+    sink: &mut S,
+    names: &Names,
+    examiner: u32,
+    line: SheetRow,
+) -> Result<(), Failed>
+    requires works { S.has_failed sink.old ≡ false }
+    ensures written { OnOk result (Written (S.taken sink.old) page.old (S.taken sink.new) page.new
+        (rows_text (sheet_row (map string_bytes names.now.keys) examiner line ∷ []))) }
+    ensures well { OnOk result (S.has_failed sink.new ≡ false) }
+    ensures stopped { OnErr result (Stopped (S.taken sink.old) page.old (S.taken sink.new)
+        (rows_text (sheet_row (map string_bytes names.now.keys) examiner line ∷ []))) }
+    ensures failed { OnErr result (S.has_failed sink.new ≡ true) }
+{
+    let name = name_bytes(names, line.party);
+    let fields = [
+        ReportField::Number(u64::from(examiner)),
+        ReportField::Text(b"row"),
+        ReportField::Node(line.node),
+        ReportField::Text(line.estate.letter().as_bytes()),
+        ReportField::Text(name),
+        ReportField::Share(line.units),
+    ];
+    put_row(page, sink, &fields)
+}
+
+// Writes the rows of a sheet.
+fn put_sheet_rows<S: Sink>(
+    page: &mut Page,
+    sink: &mut S,
+    names: &Names,
+    examiner: u32,
+    lines: &[SheetRow],
+) -> Result<(), Failed>
+    requires works { S.has_failed sink.old ≡ false }
+    ensures written { OnOk result (Written (S.taken sink.old) page.old (S.taken sink.new) page.new
+        (rows_text (map (sheet_row (map string_bytes names.now.keys) examiner) lines.now))) }
+    ensures well { OnOk result (S.has_failed sink.new ≡ false) }
+    ensures stopped { OnErr result (Stopped (S.taken sink.old) page.old (S.taken sink.new)
+        (rows_text (map (sheet_row (map string_bytes names.now.keys) examiner) lines.now))) }
+    ensures failed { OnErr result (S.has_failed sink.new ≡ true) }
+{
+    for line in lines {
+        put_sheet_row(page, sink, names, examiner, *line)?;
+    }
+    Ok(())
+}
+
+// Writes a sheet: the row that counts its rows, and these.
+fn put_sheet<S: Sink>(
+    page: &mut Page,
+    sink: &mut S,
+    names: &Names,
+    examiner: u32,
+    lines: &[SheetRow],
+) -> Result<(), Failed>
+    requires works { S.has_failed sink.old ≡ false }
+    ensures written { OnOk result (Written (S.taken sink.old) page.old (S.taken sink.new) page.new
+        (rows_text (number_row examiner (codes "sheet") (length lines.now) ∷ map (sheet_row (map string_bytes names.now.keys) examiner) lines.now))) }
+    ensures well { OnOk result (S.has_failed sink.new ≡ false) }
+    ensures stopped { OnErr result (Stopped (S.taken sink.old) page.old (S.taken sink.new)
+        (rows_text (number_row examiner (codes "sheet") (length lines.now) ∷ map (sheet_row (map string_bytes names.now.keys) examiner) lines.now))) }
+    ensures failed { OnErr result (S.has_failed sink.new ≡ true) }
+{
+    put_number_row(page, sink, examiner, b"sheet", lines.len() as u64)?;
+    put_sheet_rows(page, sink, names, examiner, lines)
+}
+
+// The word of a kind of instrument.
+fn kind_bytes(kind: Kind) -> &'static [u8]
+    ensures word { result.now ≡ kind_word kind }
+{
+    match kind {
+        Kind::Deed => b"deed",
+        Kind::Warranty => b"warranty",
+        Kind::Release => b"release",
+    }
+}
+
+// Writes a row of a chain.
+fn put_entry<S: Sink>(
+    page: &mut Page,
+    sink: &mut S,
+    names: &Names,
+    examiner: u32,
+    entry: &Entry,
+) -> Result<(), Failed>
+    requires works { S.has_failed sink.old ≡ false }
+    ensures written { OnOk result (Written (S.taken sink.old) page.old (S.taken sink.new) page.new
+        (rows_text (entry_row (map string_bytes names.now.keys) examiner entry.now ∷ []))) }
+    ensures well { OnOk result (S.has_failed sink.new ≡ false) }
+    ensures stopped { OnErr result (Stopped (S.taken sink.old) page.old (S.taken sink.new)
+        (rows_text (entry_row (map string_bytes names.now.keys) examiner entry.now ∷ []))) }
+    ensures failed { OnErr result (S.has_failed sink.new ≡ true) }
+{
+    let instrument = entry.posting.instrument;
+    let from = name_bytes(names, instrument.grantor());
+    let to = name_bytes(names, instrument.grantee());
+    let fields = [
+        ReportField::Number(u64::from(examiner)),
+        ReportField::Text(b"entry"),
+        ReportField::Number(entry.place),
+        ReportField::Number(entry.posting.doc),
+        ReportField::Text(kind_bytes(instrument.kind())),
+        ReportField::Text(from),
+        ReportField::Text(to),
+        ReportField::Text(instrument.estates().letters().as_bytes()),
+    ];
+    put_row(page, sink, &fields)
+}
+
+// Writes the entries of a chain.
+fn put_entries<S: Sink>(
+    page: &mut Page,
+    sink: &mut S,
+    names: &Names,
+    examiner: u32,
+    entries: &[Entry],
+) -> Result<(), Failed>
+    requires works { S.has_failed sink.old ≡ false }
+    ensures written { OnOk result (Written (S.taken sink.old) page.old (S.taken sink.new) page.new
+        (rows_text (map (entry_row (map string_bytes names.now.keys) examiner) entries.now))) }
+    ensures well { OnOk result (S.has_failed sink.new ≡ false) }
+    ensures stopped { OnErr result (Stopped (S.taken sink.old) page.old (S.taken sink.new)
+        (rows_text (map (entry_row (map string_bytes names.now.keys) examiner) entries.now))) }
+    ensures failed { OnErr result (S.has_failed sink.new ≡ true) }
+{
+    for entry in entries {
+        put_entry(page, sink, names, examiner, entry)?;
+    }
+    Ok(())
+}
+
+// Writes a chain: the row that counts its entries, and these.
+fn put_chain<S: Sink>(
+    page: &mut Page,
+    sink: &mut S,
+    names: &Names,
+    examiner: u32,
+    entries: &[Entry],
+) -> Result<(), Failed>
+    requires works { S.has_failed sink.old ≡ false }
+    ensures written { OnOk result (Written (S.taken sink.old) page.old (S.taken sink.new) page.new
+        (rows_text (number_row examiner (codes "chain") (length entries.now) ∷ map (entry_row (map string_bytes names.now.keys) examiner) entries.now))) }
+    ensures well { OnOk result (S.has_failed sink.new ≡ false) }
+    ensures stopped { OnErr result (Stopped (S.taken sink.old) page.old (S.taken sink.new)
+        (rows_text (number_row examiner (codes "chain") (length entries.now) ∷ map (entry_row (map string_bytes names.now.keys) examiner) entries.now))) }
+    ensures failed { OnErr result (S.has_failed sink.new ≡ true) }
+{
+    put_number_row(page, sink, examiner, b"chain", entries.len() as u64)?;
+    put_entries(page, sink, names, examiner, entries)
+}
+
+// Writes the rows of an answer.
+pub(crate) fn put_answer<S: Sink>(
+    page: &mut Page,
+    sink: &mut S,
+    names: &Names,
+    examiner: u32,
+    answer: &Answer,
+) -> Result<(), Failed>
+    requires works { S.has_failed sink.old ≡ false }
+    ensures written { OnOk result (Written (S.taken sink.old) page.old (S.taken sink.new) page.new
+        (rows_text (answer_rows (map string_bytes names.now.keys) examiner answer.now))) }
+    ensures well { OnOk result (S.has_failed sink.new ≡ false) }
+    ensures stopped { OnErr result (Stopped (S.taken sink.old) page.old (S.taken sink.new)
+        (rows_text (answer_rows (map string_bytes names.now.keys) examiner answer.now))) }
+    ensures failed { OnErr result (S.has_failed sink.new ≡ true) }
+{
+    match answer {
+        Answer::Rows(rows) => put_sheet(page, sink, names, examiner, rows.as_slice()),
+        Answer::Entries(entries) => put_chain(page, sink, names, examiner, entries.as_slice()),
+        Answer::Posted => put_word_row(page, sink, examiner, b"posted"),
+        Answer::Refused(rule, estate, node) => {
+            put_refused(page, sink, examiner, *rule, *estate, *node)
+        }
+    }
+}

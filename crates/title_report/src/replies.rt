@@ -1,0 +1,184 @@
+//! The rows of replies.
+
+ghost use Rattle.std.specs.Prelude.{◌≡◌, ◌<◌, ◌∷◌, [], true, false, OnOk, OnErr, length, map};
+ghost use Rattle.std.specs.String.{string_bytes};
+ghost use Rattle.title_page.specs.Pages.{Stopped, Written};
+ghost use Rattle.title_page.specs.Rows.{rows_text};
+ghost use Rattle.title_report.specs.Fields.{text_of};
+ghost use Rattle.title_report.specs.Replies.{described_row, end_row, number_row, reply_rows, word_row};
+
+use crate::answers::put_answer;
+use crate::field::ReportField;
+use indexmap::IndexSet;
+use title_aliquot::DescFault;
+use title_device::{Failed, Sink};
+use title_page::Page;
+use title_trace::Reply;
+
+// The names of the parties, each at the place that is its number.
+pub(crate) type Names = IndexSet<String>;
+
+/// Writes a row of two fields or more. `Failed` where a push fails; the sink then has a beginning of what was written.
+pub fn put_row<S: Sink>(
+    page: &mut Page,
+    sink: &mut S,
+    fields: &[ReportField<'_>],
+) -> Result<(), Failed>
+    requires several { 1 < length fields.now }
+    requires works { S.has_failed sink.old ≡ false }
+    ensures written { OnOk result (Written (S.taken sink.old) page.old (S.taken sink.new) page.new
+        (rows_text (map text_of fields.now ∷ []))) }
+    ensures well { OnOk result (S.has_failed sink.new ≡ false) }
+    ensures stopped { OnErr result (Stopped (S.taken sink.old) page.old (S.taken sink.new)
+        (rows_text (map text_of fields.now ∷ []))) }
+    ensures failed { OnErr result (S.has_failed sink.new ≡ true) }
+{
+    page.row(sink, fields)
+}
+
+// Writes a row `E,WORD`.
+pub(crate) fn put_word_row<S: Sink>(
+    page: &mut Page,
+    sink: &mut S,
+    examiner: u32,
+    word: &[u8],
+) -> Result<(), Failed>
+    requires works { S.has_failed sink.old ≡ false }
+    ensures written { OnOk result (Written (S.taken sink.old) page.old (S.taken sink.new) page.new
+        (rows_text (word_row examiner word.now ∷ []))) }
+    ensures well { OnOk result (S.has_failed sink.new ≡ false) }
+    ensures stopped { OnErr result (Stopped (S.taken sink.old) page.old (S.taken sink.new)
+        (rows_text (word_row examiner word.now ∷ []))) }
+    ensures failed { OnErr result (S.has_failed sink.new ≡ true) }
+{
+    let fields = [
+        ReportField::Number(u64::from(examiner)),
+        ReportField::Text(word),
+    ];
+    put_row(page, sink, &fields)
+}
+
+// Writes a row `E,WORD,NUMBER`.
+pub(crate) fn put_number_row<S: Sink>(
+    page: &mut Page,
+    sink: &mut S,
+    examiner: u32,
+    word: &[u8],
+    number: u64,
+) -> Result<(), Failed>
+    requires works { S.has_failed sink.old ≡ false }
+    ensures written { OnOk result (Written (S.taken sink.old) page.old (S.taken sink.new) page.new
+        (rows_text (number_row examiner word.now number ∷ []))) }
+    ensures well { OnOk result (S.has_failed sink.new ≡ false) }
+    ensures stopped { OnErr result (Stopped (S.taken sink.old) page.old (S.taken sink.new)
+        (rows_text (number_row examiner word.now number ∷ []))) }
+    ensures failed { OnErr result (S.has_failed sink.new ≡ true) }
+{
+    let fields = [
+        ReportField::Number(u64::from(examiner)),
+        ReportField::Text(word),
+        ReportField::Number(number),
+    ];
+    put_row(page, sink, &fields)
+}
+
+/// Writes the rows of a reply to an examiner, the names having the parties' numbers as places; a Memory reply has none.
+/// `Failed` where a push fails; the sink then has a beginning of what was written.
+pub fn put_reply<S: Sink>(
+    page: &mut Page,
+    sink: &mut S,
+    names: &Names,
+    examiner: u32,
+    reply: &Reply,
+) -> Result<(), Failed>
+    requires works { S.has_failed sink.old ≡ false }
+    ensures written { OnOk result (Written (S.taken sink.old) page.old (S.taken sink.new) page.new
+        (rows_text (reply_rows (map string_bytes names.now.keys) examiner reply.now))) }
+    ensures well { OnOk result (S.has_failed sink.new ≡ false) }
+    ensures stopped { OnErr result (Stopped (S.taken sink.old) page.old (S.taken sink.new)
+        (rows_text (reply_rows (map string_bytes names.now.keys) examiner reply.now))) }
+    ensures failed { OnErr result (S.has_failed sink.new ≡ true) }
+{
+    match reply {
+        Reply::Began => put_word_row(page, sink, examiner, b"began"),
+        Reply::Answered(answer) => put_answer(page, sink, names, examiner, answer),
+        Reply::Committed(place) => put_number_row(page, sink, examiner, b"committed", *place),
+        Reply::Aborted => put_word_row(page, sink, examiner, b"aborted"),
+        Reply::NotOpen => put_word_row(page, sink, examiner, b"notopen"),
+        Reply::AlreadyOpen => put_word_row(page, sink, examiner, b"alreadyopen"),
+        Reply::NoSuchTownship => put_word_row(page, sink, examiner, b"notownship"),
+        Reply::Invalid(cause) => {
+            put_number_row(page, sink, examiner, b"invalid", u64::from(cause.number()))
+        }
+        Reply::TooLong => put_word_row(page, sink, examiner, b"toolong"),
+        Reply::Conflict(other) => {
+            put_number_row(page, sink, examiner, b"conflict", u64::from(*other))
+        }
+        Reply::Memory => Ok(()),
+    }
+}
+
+// Writes the row of a description that is none at this byte.
+fn put_bad_text<S: Sink>(
+    page: &mut Page,
+    sink: &mut S,
+    examiner: u32,
+    byte: usize,
+) -> Result<(), Failed>
+    requires works { S.has_failed sink.old ≡ false }
+    ensures written { OnOk result (Written (S.taken sink.old) page.old (S.taken sink.new) page.new
+        (rows_text (described_row examiner (DescFault.BadText byte) ∷ []))) }
+    ensures well { OnOk result (S.has_failed sink.new ≡ false) }
+    ensures stopped { OnErr result (Stopped (S.taken sink.old) page.old (S.taken sink.new)
+        (rows_text (described_row examiner (DescFault.BadText byte) ∷ []))) }
+    ensures failed { OnErr result (S.has_failed sink.new ≡ true) }
+{
+    let fields = [
+        ReportField::Number(u64::from(examiner)),
+        ReportField::Text(b"description"),
+        ReportField::Text(b"21"),
+        ReportField::Number(byte as u64),
+    ];
+    put_row(page, sink, &fields)
+}
+
+/// Writes the row of a description that is none. `Failed` as with `put_reply`.
+pub fn put_described<S: Sink>(
+    page: &mut Page,
+    sink: &mut S,
+    examiner: u32,
+    why: DescFault,
+) -> Result<(), Failed>
+    requires works { S.has_failed sink.old ≡ false }
+    ensures written { OnOk result (Written (S.taken sink.old) page.old (S.taken sink.new) page.new
+        (rows_text (described_row examiner why ∷ []))) }
+    ensures well { OnOk result (S.has_failed sink.new ≡ false) }
+    ensures stopped { OnErr result (Stopped (S.taken sink.old) page.old (S.taken sink.new)
+        (rows_text (described_row examiner why ∷ []))) }
+    ensures failed { OnErr result (S.has_failed sink.new ≡ true) }
+{
+    match why {
+        DescFault::BadText(byte) => put_bad_text(page, sink, examiner, byte),
+        _ => put_number_row(
+            page,
+            sink,
+            examiner,
+            b"description",
+            u64::from(why.number()),
+        ),
+    }
+}
+
+/// Writes the last row, with the number of step rows. `Failed` as with `put_reply`.
+pub fn put_end<S: Sink>(page: &mut Page, sink: &mut S, steps: usize) -> Result<(), Failed>
+    requires works { S.has_failed sink.old ≡ false }
+    ensures written { OnOk result (Written (S.taken sink.old) page.old (S.taken sink.new) page.new
+        (rows_text (end_row steps ∷ []))) }
+    ensures well { OnOk result (S.has_failed sink.new ≡ false) }
+    ensures stopped { OnErr result (Stopped (S.taken sink.old) page.old (S.taken sink.new)
+        (rows_text (end_row steps ∷ []))) }
+    ensures failed { OnErr result (S.has_failed sink.new ≡ true) }
+{
+    let fields = [ReportField::Text(b"end"), ReportField::Number(steps as u64)];
+    put_row(page, sink, &fields)
+}
