@@ -101,5 +101,6 @@ pub(crate) fn write_closing<S: Sink>(sink: &mut S, closing: &Closing) -> Result<
     let mut page = Page::new();
     put_closing(&mut page, sink, closing)?;
     put_end(&mut page, sink, closing.steps)?;
-    page.pass(sink)
+    page.pass(sink)?;
+    Ok(())
 }

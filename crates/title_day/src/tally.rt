@@ -37,7 +37,11 @@ fn put_tally<S: Sink>(page: &mut Page, sink: &mut S, tally: Tally) -> Result<(),
 }
 
 // Writes the rows of tallies.
-pub(crate) fn put_tallies<S: Sink>(page: &mut Page, sink: &mut S, tallies: &[Tally]) -> Result<(), Failed>
+pub(crate) fn put_tallies<S: Sink>(
+    page: &mut Page,
+    sink: &mut S,
+    tallies: &[Tally],
+) -> Result<(), Failed>
     requires works { S.has_failed sink.old ≡ false }
     ensures written { OnOk result (Written (S.taken sink.old) page.old (S.taken sink.new) page.new (rows_text (map tally_row tallies.now))) }
     ensures well { OnOk result (S.has_failed sink.new ≡ false) }
@@ -51,13 +55,20 @@ pub(crate) fn put_tallies<S: Sink>(page: &mut Page, sink: &mut S, tallies: &[Tal
 }
 
 // Writes the row that counts the committed records.
-pub(crate) fn put_settled<S: Sink>(page: &mut Page, sink: &mut S, records: usize) -> Result<(), Failed>
+pub(crate) fn put_settled<S: Sink>(
+    page: &mut Page,
+    sink: &mut S,
+    records: usize,
+) -> Result<(), Failed>
     requires works { S.has_failed sink.old ≡ false }
     ensures written { OnOk result (Written (S.taken sink.old) page.old (S.taken sink.new) page.new (rows_text (settled_row records ∷ []))) }
     ensures well { OnOk result (S.has_failed sink.new ≡ false) }
     ensures stopped { OnErr result (Stopped (S.taken sink.old) page.old (S.taken sink.new) (rows_text (settled_row records ∷ []))) }
     ensures failed { OnErr result (S.has_failed sink.new ≡ true) }
 {
-    let fields = [ReportField::Text(b"settled"), ReportField::Number(records as u64)];
+    let fields = [
+        ReportField::Text(b"settled"),
+        ReportField::Number(records as u64),
+    ];
     put_row(page, sink, &fields)
 }

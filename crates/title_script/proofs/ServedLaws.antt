@@ -1,12 +1,15 @@
 -- The rows of step rows one after another.
-use Rattle.std.proofs.Common.{◌≡◌, ◌∙◌, ℕ, List, [], ◌∷◌, ◌++◌, refl, sym, ap, ap₂, subst}
+use Rattle.std.proofs.Common.{◌≡◌, ◌∙◌, ℕ, List, [], ◌∷◌, ◌++◌, length, refl, sym, ap, ap₂, subst}
 use Rattle.std.proofs.lemmas.List.{append-nil, append_assoc}
 use Rattle.std.specs.List.{flat_map}
+use Rattle.title_land.specs.declared.place.Township.{Township}
 use Rattle.title_trace.specs.declared.call.Call.{Call}
 use Rattle.title_trace.specs.Due.{Setting}
 use Rattle.title_plan.specs.declared.line.Line.{Line}
 use Rattle.title_plan.specs.declared.line.Line.TheVariants as line
 use Rattle.title_script.specs.declared.told.Told.{Told}
+use Rattle.title_page.specs.Rows.{row, rows_text}
+use Rattle.title_report.specs.Replies.{end_row}
 use Rattle.title_script.specs.Served.{after_line, due_rows, line_rows}
 use Rattle.title_script.specs.Told.{all_due_told, due_told, told_rows}
 use Rattle.title_script.specs.ReportLaws.{after_lines}
@@ -49,4 +52,17 @@ pub all_told : (setting : Setting) (names : List (List ℕ)) (before : List Call
 all_told setting names before [] = refl
 all_told setting names before (l ∷ lines) =
     ap₂ (λ (rows more : List (List (List ℕ))). rows ++ more) (line_told setting names before l)
-        (all_told setting names (after_line setting before l) lines)
+    (all_told setting names (after_line setting before l) lines)
+
+-- so the text of what came of a script's steps is its report
+pub served_on : (names : List (List ℕ)) (townships : List Township) (lines : List Line) (setting : Setting) (before : List Call)
+    (told : List Told) (steps : ℕ) → setting ≡ record { parties = length names; townships = townships } → before ≡ [] →
+    told ≡ all_due_told setting before lines → steps ≡ length lines →
+    rows_text (flat_map (told_rows names) told) ++ row (end_row steps)
+    ≡ rows_text (due_rows (record { parties = length names; townships = townships }) names [] lines) ++ row (end_row (length lines))
+served_on names townships lines setting before told steps same none all count =
+    ap₂ (λ (rows : List (List (List ℕ))) (n : ℕ). rows_text rows ++ row (end_row n))
+    (ap (λ (ts : List Told). flat_map (told_rows names) ts)
+    (all ∙ ap₂ (λ (s : Setting) (b : List Call). all_due_told s b lines) same none)
+    ∙ all_told (record { parties = length names; townships = townships }) names [] lines)
+    count

@@ -66,7 +66,13 @@ pub(crate) fn write_served<S: Sink>(sink: &mut S, served: &Served) -> Result<(),
     ensures part { OnErr result ((n : ℕ) × Appends (S.taken sink.old) (S.taken sink.new) (take n (served_text served.now))) }
 {
     let mut page = Page::new();
-    put_all_told(&mut page, sink, &served.plan.parties, served.told.as_slice())?;
+    put_all_told(
+        &mut page,
+        sink,
+        &served.plan.parties,
+        served.told.as_slice(),
+    )?;
     put_end(&mut page, sink, served.steps)?;
-    page.pass(sink)
+    page.pass(sink)?;
+    Ok(())
 }

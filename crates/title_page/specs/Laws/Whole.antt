@@ -1,5 +1,5 @@
 -- A text of rows and a last row, written from an empty page, and the page given to the sink at the end.
-use Rattle.std.proofs.Common.{◌≡◌, ◌∙◌, ◌++◌, ◌∷◌, [], ℕ, List, Option, take, subst, sym, ap, append_assoc}
+use Rattle.std.proofs.Common.{◌≡◌, ◌++◌, ◌∷◌, [], ℕ, List, Option, take, subst, sym, ap}
 use Rattle.std.proofs.lemmas.List.{append-nil}
 use Rattle.std.specs.Io.KnownBytes.{Appends}
 use Rattle.title_page.specs.Pages.{Stopped, Written}

@@ -1,5 +1,4 @@
 -- A node's text is its own field.
-use Rattle.title_land.specs.declared.node.Node.TheVariants as node
 use Rattle.std.proofs.lemmas.Result.{on_ok_weaker, on_err_weaker}
 use Rattle.title_page.specs.Laws.InTurn.{stopped_as, written_as}
 use Rattle.title_report.proofs.Plain.{node_field}

@@ -1,5 +1,5 @@
 -- The two numbers, with the line between them.
-use Rattle.std.proofs.Common.{◌≡◌, ◌∙◌, rules}
+use Rattle.std.proofs.Common.{◌∙◌, rules}
 use Rattle.std.proofs.lemmas.Result.{on_ok_weaker, on_err_weaker}
 use Rattle.title_page.specs.Laws.InTurn.{stopped_as, written_as}
 use Rattle.title_report.proofs.Plain.{share_field}

@@ -16,5 +16,5 @@ loop-one-preserved g c = (
 pub returns-in_err-put_told-clause-stopped : goal.returns-in_err-put_told-clause-stopped
 returns-in_err-put_told-clause-stopped g c =
     on_err c.from_residual.result (stopped_at_one (told_rows (map string_bytes c.args.names.now.keys)) c.args.told.now
-        c.loop-one.one-index c.one-item.result c.loop-one-test.true c.one-item.is c.loop-one.invariant.0
-        c.in_err-put_told.ensures.stopped)
+    c.loop-one.one-index c.one-item.result c.loop-one-test.true c.one-item.is c.loop-one.invariant.0
+    c.in_err-put_told.ensures.stopped)

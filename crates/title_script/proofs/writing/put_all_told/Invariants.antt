@@ -10,5 +10,5 @@ use Rattle.title_script.proofs.writing.put_all_told.Given as goal
 abbrev pub invariant-loop-one : goal.invariant-loop-one
 invariant-loop-one g l =
     Written (g.S.Sink.taken l.fn.sink) l.fn.page (g.S.Sink.taken l.sink) l.page
-        (rows_text (flat_map (told_rows (map string_bytes l.names.keys)) (take l.one-index l.told)))
+    (rows_text (flat_map (told_rows (map string_bytes l.names.keys)) (take l.one-index l.told)))
     × (g.S.Sink.has_failed l.sink ≡ false)

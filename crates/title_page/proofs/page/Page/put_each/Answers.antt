@@ -1,5 +1,5 @@
 -- One text more, behind those before it.
-use Rattle.std.proofs.Common.{◌≡◌, ◌∙◌, ◌+◌, ◌<◌, ◌++◌, ◌∷◌, [], ℕ, List, length, map, take, drop, arith, sym, ap}
+use Rattle.std.proofs.Common.{◌+◌, ◌<◌, [], ℕ, List, length, map, drop, arith}
 use Rattle.std.proofs.lemmas.List.{get_or-map, length-map}
 use Rattle.std.specs.List.{concat}
 use Rattle.title_page.specs.Laws.InTurn.{on_err, stopped_before, stopped_then, written_then}

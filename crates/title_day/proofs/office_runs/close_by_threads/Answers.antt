@@ -1,8 +1,10 @@
 -- What the office's day leaves is a report of the script.
+use Rattle.std.proofs.Common.{refl}
+use Rattle.title_day.specs.Closings.{closed_text}
 use Rattle.title_day.proofs.OfficeCauses.{residual_is_own}
 use Rattle.title_day.proofs.OfficeOrder.{seats_fit}
 use Rattle.title_day.proofs.OfficeReported.{reported}
-use Rattle.title_day.proofs.office_runs.report_by_threads.Goals as goal
+use Rattle.title_day.proofs.office_runs.close_by_threads.Goals as goal
 
 pub returns-in_err-script-clause-why : goal.returns-in_err-script-clause-why
 returns-in_err-script-clause-why g c =
@@ -16,7 +18,7 @@ run_day-requires-clause-fits g c κs within =
 
 pub returns-clause-report : goal.returns-clause-report
 returns-clause-report g c =
-    reported c.args.examiners c.args.bytes.now c.in_ok-script.script c.as_slice-plant.result.now c.as_slice.result.now
-    c.in_ok-day.day.tallies.items c.in_ok-day.day.records c.in_ok-report.report.items c.in_ok-script.ensures.script
-    c.as_slice-plant.ensures.value c.as_slice.ensures.value c.in_ok-day.ensures.told c.in_ok-day.ensures.counted
-    c.in_ok-day.ensures.serial c.in_ok-report.ensures.text
+    reported c.args.examiners c.args.bytes.now c.in_ok-script.script c.as_slice.result.now c.in_ok-day.day.tallies.items
+    c.in_ok-day.day.tallies.items c.in_ok-day.day.records (closed_text c.in_ok-closing.closing) c.in_ok-script.ensures.script
+    c.as_slice.ensures.value refl c.in_ok-day.ensures.told c.in_ok-day.ensures.counted
+    c.in_ok-day.ensures.serial c.in_ok-closing.ensures.text
