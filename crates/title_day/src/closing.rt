@@ -24,7 +24,7 @@ use title_trace::Reply;
 /// What the report of a settled office shows: the names of the parties, a tally for each examiner, how many records there
 /// are, the closing sheet, and the number of step rows.
 #[derive(Drop)]
-pub(crate) struct Closing {
+pub struct Closing {
     pub names: IndexSet<String>,
     pub tallies: Vec<Tally>,
     pub records: usize,
@@ -52,7 +52,7 @@ fn closing_sheet(
 }
 
 /// What the report of a settled office shows. `Err` is Memory.
-pub(crate) fn close_office(
+pub fn close_office(
     alloc: Global,
     names: IndexSet<String>,
     townships: &[Township],
@@ -91,7 +91,7 @@ fn put_closing<S: Sink>(page: &mut Page, sink: &mut S, closing: &Closing) -> Res
 
 /// Writes the report of a settled office. It takes no memory. `Failed` where a push fails; the sink has then taken a
 /// beginning of the report.
-pub(crate) fn write_closing<S: Sink>(sink: &mut S, closing: &Closing) -> Result<(), Failed>
+pub fn write_closing<S: Sink>(sink: &mut S, closing: &Closing) -> Result<(), Failed>
     requires works { S.has_failed sink.old ≡ false }
     ensures bytes { OnOk result (Appends (S.taken sink.old) (S.taken sink.new) (closed_text closing.now)) }
     ensures well { OnOk result (S.has_failed sink.new ≡ false) }

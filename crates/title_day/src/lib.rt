@@ -11,7 +11,7 @@ mod office_runs;
 mod office_script;
 mod tally;
 
-pub use closing::office_report;
+pub use closing::{Closing, close_office, write_closing};
 pub use office_fault::OfficeFault;
 pub use office_runs::run_office;
 pub use office_script::{OfficeScript, read_office};

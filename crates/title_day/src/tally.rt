@@ -43,7 +43,8 @@ pub(crate) fn put_tallies<S: Sink>(
     tallies: &[Tally],
 ) -> Result<(), Failed>
     requires works { S.has_failed sink.old ≡ false }
-    ensures written { OnOk result (Written (S.taken sink.old) page.old (S.taken sink.new) page.new (rows_text (map tally_row tallies.now))) }
+    ensures written { OnOk result (Written (S.taken sink.old) page.old (S.taken sink.new) page.new
+        (rows_text (map tally_row tallies.now))) }
     ensures well { OnOk result (S.has_failed sink.new ≡ false) }
     ensures stopped { OnErr result (Stopped (S.taken sink.old) page.old (S.taken sink.new) (rows_text (map tally_row tallies.now))) }
     ensures failed { OnErr result (S.has_failed sink.new ≡ true) }

@@ -33,7 +33,8 @@ impl Page {
         ensures written { OnOk result (Written (S.taken sink.old) self.old (S.taken sink.new) self.new
             (row_body row_writer (map F.text fields.now))) }
         ensures well { OnOk result (S.has_failed sink.new ≡ false) }
-        ensures stopped { OnErr result (Stopped (S.taken sink.old) self.old (S.taken sink.new) (row_body row_writer (map F.text fields.now))) }
+        ensures stopped { OnErr result (Stopped (S.taken sink.old) self.old (S.taken sink.new)
+            (row_body row_writer (map F.text fields.now))) }
         ensures failed { OnErr result (S.has_failed sink.new ≡ true) }
     {
         for at in 0..fields.len() {

@@ -35,7 +35,13 @@ both_plain a b p q = list_any-append (needs_byte row_writer) a b ∙ rw (p, q) r
 -- a digit calls for no quotes
 plain_digit : (c : ℕ) → 48 ≤ c → c < 58 → needs_byte row_writer c ≡ false
 plain_digit c low high =
-    rw (ne_eqb c 44 (λ e. omega (arith, e)), ne_eqb c 34 (λ e. omega (arith, e)), ne_eqb c 13 (λ e. omega (arith, e)), ne_eqb c 10 (λ e. omega (arith, e))) refl
+    rw (
+      ne_eqb c 44 (λ e. omega (arith, e)),
+      ne_eqb c 34 (λ e. omega (arith, e)),
+      ne_eqb c 13 (λ e. omega (arith, e)),
+      ne_eqb
+          c 10 (λ e. omega (arith, e)),
+    ) refl
 
 plain_digits : (ds : List ℕ) → AllDigits 10 ds → IsPlain ds
 plain_digits [] all = refl

@@ -113,10 +113,12 @@ fn put_sheet<S: Sink>(
 ) -> Result<(), Failed>
     requires works { S.has_failed sink.old ≡ false }
     ensures written { OnOk result (Written (S.taken sink.old) page.old (S.taken sink.new) page.new
-        (rows_text (number_row examiner (codes "sheet") (length lines.now) ∷ map (sheet_row (map string_bytes names.now.keys) examiner) lines.now))) }
+        (rows_text (number_row examiner (codes "sheet") (length lines.now)
+        ∷ map (sheet_row (map string_bytes names.now.keys) examiner) lines.now))) }
     ensures well { OnOk result (S.has_failed sink.new ≡ false) }
     ensures stopped { OnErr result (Stopped (S.taken sink.old) page.old (S.taken sink.new)
-        (rows_text (number_row examiner (codes "sheet") (length lines.now) ∷ map (sheet_row (map string_bytes names.now.keys) examiner) lines.now))) }
+        (rows_text (number_row examiner (codes "sheet") (length lines.now)
+        ∷ map (sheet_row (map string_bytes names.now.keys) examiner) lines.now))) }
     ensures failed { OnErr result (S.has_failed sink.new ≡ true) }
 {
     put_number_row(page, sink, examiner, b"sheet", lines.len() as u64)?;
@@ -198,10 +200,12 @@ fn put_chain<S: Sink>(
 ) -> Result<(), Failed>
     requires works { S.has_failed sink.old ≡ false }
     ensures written { OnOk result (Written (S.taken sink.old) page.old (S.taken sink.new) page.new
-        (rows_text (number_row examiner (codes "chain") (length entries.now) ∷ map (entry_row (map string_bytes names.now.keys) examiner) entries.now))) }
+        (rows_text (number_row examiner (codes "chain") (length entries.now)
+        ∷ map (entry_row (map string_bytes names.now.keys) examiner) entries.now))) }
     ensures well { OnOk result (S.has_failed sink.new ≡ false) }
     ensures stopped { OnErr result (Stopped (S.taken sink.old) page.old (S.taken sink.new)
-        (rows_text (number_row examiner (codes "chain") (length entries.now) ∷ map (entry_row (map string_bytes names.now.keys) examiner) entries.now))) }
+        (rows_text (number_row examiner (codes "chain") (length entries.now)
+        ∷ map (entry_row (map string_bytes names.now.keys) examiner) entries.now))) }
     ensures failed { OnErr result (S.has_failed sink.new ≡ true) }
 {
     put_number_row(page, sink, examiner, b"chain", entries.len() as u64)?;

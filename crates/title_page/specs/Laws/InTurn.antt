@@ -65,8 +65,11 @@ all_given {a} {b} text w =
 -- a text that was written from an empty page until the sink failed: a beginning of it was given to the sink
 pub part_given : {a b : Option (List ℕ)} (text : List ℕ) → Stopped a [] b text → (n : ℕ) × Appends a b (take n text)
 part_given {a} {b} text v =
-    let (given, rest, x, e) = v.parts in
-    (length given, subst (λ (t : List ℕ). Appends a b t) (sym (ap (λ (t : List ℕ). take (length given) t) e ∙ take-append_seam given rest)) x)
+    let (given, rest, x, e) = v.parts in (
+      length given,
+      subst (λ (t : List ℕ). Appends a b t) (sym (ap (λ (t : List ℕ). take (length given) t) e
+          ∙ take-append_seam given rest)) x,
+    )
 
 -- a text by another name
 pub written_as : {a b : Option (List ℕ)} {p q s t : List ℕ} → t ≡ s → Written a p b q s → Written a p b q t

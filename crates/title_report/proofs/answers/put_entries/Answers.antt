@@ -8,7 +8,8 @@ use Rattle.title_report.proofs.answers.put_entries.Goals as goal
 
 pub loop-entry-preserved : goal.loop-entry-preserved
 loop-entry-preserved g c = (
-  one_row_more (entry_row (map string_bytes c.args.names.now.keys) c.args.examiner) c.args.entries.now c.loop-entry.entry-index c.entry-item.result
+  one_row_more (entry_row (map string_bytes c.args.names.now.keys) c.args.examiner) c.args.entries.now
+      c.loop-entry.entry-index c.entry-item.result
       c.loop-entry-test.true c.entry-item.is c.loop-entry.invariant.0 c.in_ok-put_entry.ensures.written,
   c.in_ok-put_entry.ensures.well,
 )
@@ -16,4 +17,5 @@ loop-entry-preserved g c = (
 pub returns-in_err-put_entry-clause-stopped : goal.returns-in_err-put_entry-clause-stopped
 returns-in_err-put_entry-clause-stopped g c =
     on_err c.from_residual.result (stopped_at_a_row (entry_row (map string_bytes c.args.names.now.keys) c.args.examiner)
-    c.args.entries.now c.loop-entry.entry-index c.entry-item.result c.loop-entry-test.true c.entry-item.is c.loop-entry.invariant.0 c.in_err-put_entry.ensures.stopped)
+    c.args.entries.now c.loop-entry.entry-index c.entry-item.result c.loop-entry-test.true c.entry-item.is
+    c.loop-entry.invariant.0 c.in_err-put_entry.ensures.stopped)

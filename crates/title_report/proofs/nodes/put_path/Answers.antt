@@ -8,12 +8,15 @@ use Rattle.title_report.proofs.nodes.put_path.Goals as goal
 
 pub returns-in_err-put-clause-stopped : goal.returns-in_err-put-clause-stopped
 returns-in_err-put-clause-stopped g c =
-    on_err c.from_residual.result (stopped_as (path_parts _ _ _ c.in-Some.ensures.split) (stopped_before (32 ∷ []) (quarters_text c.args.within) c.in_err-put.ensures.stopped))
+    on_err c.from_residual.result (stopped_as (path_parts _ _ _ c.in-Some.ensures.split) (stopped_before (32 ∷ [])
+    (quarters_text c.args.within) c.in_err-put.ensures.stopped))
 
 pub returns-clause-written : goal.returns-clause-written
 returns-clause-written g c = on_ok_weaker c.put_quarters.result
-    (λ w. written_as (path_parts _ _ _ c.in-Some.ensures.split) (written_then (32 ∷ []) (quarters_text c.args.within) c.in_ok-put.ensures.written w)) c.put_quarters.ensures.written
+    (λ w. written_as (path_parts _ _ _ c.in-Some.ensures.split) (written_then (32 ∷ []) (quarters_text c.args.within)
+    c.in_ok-put.ensures.written w)) c.put_quarters.ensures.written
 
 pub returns-clause-stopped : goal.returns-clause-stopped
 returns-clause-stopped g c = on_err_weaker c.put_quarters.result
-    (λ v. stopped_as (path_parts _ _ _ c.in-Some.ensures.split) (stopped_then (32 ∷ []) (quarters_text c.args.within) c.in_ok-put.ensures.written v)) c.put_quarters.ensures.stopped
+    (λ v. stopped_as (path_parts _ _ _ c.in-Some.ensures.split) (stopped_then (32 ∷ []) (quarters_text c.args.within)
+    c.in_ok-put.ensures.written v)) c.put_quarters.ensures.stopped
