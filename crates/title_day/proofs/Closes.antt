@@ -1,5 +1,5 @@
 -- The closing sheet, and the text of a report from its parts.
-use Rattle.std.proofs.Common.{◌≡◌, List, [], ◌∷◌, true, false, reverse, ap}
+use Rattle.std.proofs.Common.{◌≡◌, List, [], ◌∷◌, true, reverse, ap}
 use Rattle.std.proofs.lemmas.Bool.{false≢true}
 use Rattle.title_land.specs.Depth.{depth}
 use Rattle.title_land.specs.Lands.{is_in_plant}

@@ -5,8 +5,6 @@ use Rattle.title_plan.specs.declared.fault.ScriptFault.{ScriptFault}
 use Rattle.title_plan.specs.declared.fault.ScriptFault.TheVariants as script_fault
 use Rattle.title_plan.specs.declared.line.Schedule.TheVariants as schedule
 use Rattle.title_plan.specs.Plans.{script_of}
-use Rattle.title_script.specs.declared.fault.RunFault.{RunFault}
-use Rattle.title_script.specs.declared.fault.RunFault.TheVariants as fault
 use Rattle.title_day.specs.declared.office_fault.OfficeFault.{OfficeFault}
 use Rattle.title_day.specs.declared.office_fault.OfficeFault.TheVariants as office
 use Rattle.title_script.specs.Faults.{of_script}

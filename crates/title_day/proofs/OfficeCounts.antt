@@ -12,8 +12,8 @@ use Rattle.title_office.specs.declared.fault.Fault.{Fault}
 use Rattle.title_office.specs.declared.workers.Script.{Script}
 use Rattle.title_office.specs.Workers.{AreCounted, examiners_of}
 use Rattle.title_day.specs.declared.tally.Tally.{Tally}
-use Rattle.title_day.specs.Dealing.{transactions_of, dealt_in, AreDealt, IsDealt}
-use Rattle.title_day.specs.OfficeReports.{is_begin_of, IsTally, AreTallies}
+use Rattle.title_day.specs.Dealing.{dealt_in, AreDealt, IsDealt}
+use Rattle.title_day.specs.OfficeReports.{is_begin_of, AreTallies}
 use Rattle.title_day.specs.OfficeDays.{AreTold, committed_by, first_there, tally_of}
 use Rattle.title_day.proofs.DealingLaws.{as_many_as_begun}
 use Rattle.title_day.proofs.OneOutcomeEach.{as_many_outcomes_as_records}

@@ -1,5 +1,5 @@
 -- The seats of an office and the scripts dealt for it are of the same examiners, in order.
-use Rattle.std.proofs.Common.{◌≡◌, ◌∙◌, ◌+◌, ℕ, zero, suc, List, [], ◌∷◌, ◌++◌, length, map, refl, sym, ap, ap₂, arith, subst}
+use Rattle.std.proofs.Common.{◌≡◌, ◌∙◌, ◌+◌, ℕ, zero, suc, List, [], ◌∷◌, ◌++◌, length, refl, sym, ap, ap₂, arith}
 use Rattle.title_plan.specs.declared.line.Line.{Line}
 use Rattle.title_office.specs.declared.workers.Script.{Script}
 use Rattle.title_office.specs.Offices.{SeatState, opening_seats}

@@ -1,6 +1,6 @@
 -- Where each record has one outcome with its place, and each outcome the place of a record, there are as many outcomes as records.
 use Rattle.std.proofs.Common.{◌≡◌, ◌∙◌, ◌+◌, ◌<◌, ◌≤◌, ◌≢◌, ◌⊎◌, inl, inr, ℕ, zero, suc, eqb, cond, Bool, true, false, refl, sym, ap, arith}
-use Rattle.std.proofs.Common.{List, [], ◌∷◌, length, filter, All}
+use Rattle.std.proofs.Common.{List, [], ◌∷◌, length}
 use Rattle.std.proofs.lemmas.Bool.{ne_eqb}
 use Rattle.std.proofs.lemmas.Bool.Decides.{eqb_tells}
 use Rattle.std.proofs.lemmas.List.Elements.{All-head, All-tail}

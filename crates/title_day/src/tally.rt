@@ -19,11 +19,11 @@ pub struct Tally {
 }
 
 // Writes the row of a tally.
-fn put_tally<S: Sink>(page: &mut Page, sink: &mut S, tally: Tally) -> Result<(), Failed>
+fn put_tally<S: Sink>(page: &mut Page, sink: &mut S, tally: &Tally) -> Result<(), Failed>
     requires works { S.has_failed sink.old ≡ false }
-    ensures written { OnOk result (Written (S.taken sink.old) page.old (S.taken sink.new) page.new (rows_text (tally_row tally ∷ []))) }
+    ensures written { OnOk result (Written (S.taken sink.old) page.old (S.taken sink.new) page.new (rows_text (tally_row tally.now ∷ []))) }
     ensures well { OnOk result (S.has_failed sink.new ≡ false) }
-    ensures stopped { OnErr result (Stopped (S.taken sink.old) page.old (S.taken sink.new) (rows_text (tally_row tally ∷ []))) }
+    ensures stopped { OnErr result (Stopped (S.taken sink.old) page.old (S.taken sink.new) (rows_text (tally_row tally.now ∷ []))) }
     ensures failed { OnErr result (S.has_failed sink.new ≡ true) }
 {
     let fields = [
@@ -50,7 +50,7 @@ pub(crate) fn put_tallies<S: Sink>(
     ensures failed { OnErr result (S.has_failed sink.new ≡ true) }
 {
     for tally in tallies {
-        put_tally(page, sink, *tally)?;
+        put_tally(page, sink, tally)?;
     }
     Ok(())
 }

@@ -12,12 +12,12 @@ returns-in_err-put_closing-clause-part g c =
 
 pub returns-in_err-put_end-clause-part : goal.returns-in_err-put_end-clause-part
 returns-in_err-put_end-clause-part g c =
-    on_err c.from_residual.result (part_at_last (closed_rows c.args.closing.now) (end_row c.args.closing.now.steps)
+    on_err c.from_residual-in_err-put_end.result (part_at_last (closed_rows c.args.closing.now) (end_row c.args.closing.now.steps)
     c.new-page.ensures.empty c.in_ok-put_closing.ensures.written c.in_err-put_end.ensures.stopped)
 
 pub returns-in_err-pass-clause-part : goal.returns-in_err-pass-clause-part
 returns-in_err-pass-clause-part g c =
-    on_err c.from_residual.result (part_at_end (closed_rows c.args.closing.now) (end_row c.args.closing.now.steps)
+    on_err c.from_residual-in_err-pass.result (part_at_end (closed_rows c.args.closing.now) (end_row c.args.closing.now.steps)
     c.new-page.ensures.empty c.in_ok-put_closing.ensures.written c.in_ok-put_end.ensures.written c.in_err-pass.ensures.stopped)
 
 pub returns-clause-bytes : goal.returns-clause-bytes

@@ -18,7 +18,7 @@ run_day-requires-clause-fits g c κs within =
 
 pub returns-clause-report : goal.returns-clause-report
 returns-clause-report g c =
-    reported c.args.examiners c.args.bytes.now c.in_ok-script.script c.as_slice.result.now c.in_ok-day.day.tallies.items
+    reported c.args.examiners c.args.bytes.now c.in_ok-script.script c.as_slice-plant.result.now c.in_ok-day.day.tallies.items
     c.in_ok-day.day.tallies.items c.in_ok-day.day.records (closed_text c.in_ok-closing.closing) c.in_ok-script.ensures.script
-    c.as_slice.ensures.value refl c.in_ok-day.ensures.told c.in_ok-day.ensures.counted
+    c.as_slice-plant.ensures.value refl c.in_ok-day.ensures.told c.in_ok-day.ensures.counted
     c.in_ok-day.ensures.serial c.in_ok-closing.ensures.text
