@@ -3,7 +3,7 @@
 
 Prints for each load the bytes and rows of its script, the processor's and the clock's seconds, the peak memory in MB, the bytes of the
 report, and how the run ended. A load that has to be refused ends with its fault. With no load named, all of them, some minutes; "everything,
-99,871" wants 15 GB of memory and 10 GB for its report.
+99,871" wants 6 GB of memory and 10 GB for its report.
 """
 
 import argparse
@@ -201,7 +201,7 @@ def run(program, name, command, script, fault):
     seconds, memory = usage.ru_utime + usage.ru_stime, usage.ru_maxrss / 1024
     told = end.rstrip().rsplit(b"\n", 1)[-1].decode() if is_right else f"WRONG: wait status {status}, {end!r}"
     rows = script.count(b"\n")
-    allowed = "" if fault or memory <= 500 + 4 * size / 1e6 else ", above 4 times its report and 500 MB"
+    allowed = "" if fault or memory <= 500 + 2 * size / 1e6 else ", above twice its report and 500 MB"
     print(f"{name:<36} {len(script):>9} {rows:>7} {seconds:>7.2f} {clock:>7.2f} {memory:>8.0f} {size:>11}  {told}{allowed}", flush=True)
     return is_right
 
