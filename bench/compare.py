@@ -1,7 +1,7 @@
 #!/usr/bin/env python3
 """Compares built programs on large scripts of some kinds, in turns in one run.
 
-    compare.py [--rows N,N..] [--kinds KIND,KIND..] [--turns N] NAME=PROGRAM NAME=PROGRAM ..
+    compare.py [--rows N,N..] [--kinds KIND,KIND..] [--turns N] [--side 8|16] NAME=PROGRAM NAME=PROGRAM ..
 
 Prints for each kind and each number of rows the least processor seconds of each program, its peak memory in MB (a small program shows
 what the measuring process had when it began it), how many times as fast as the first it is, and whether all reports are the same.
@@ -16,7 +16,8 @@ import tempfile
 
 HERE = pathlib.Path(__file__).resolve().parent
 ALONE = ("deeds", "sheets", "chains", "parts", "townships", "sections", "quarters", "cells", "plats", "plants")
-RUN = ("interleaved", "short", "long", "reviewed", "crowd", "refused")
+ALONE += ("bargains", "owners", "histories")
+RUN = ("interleaved", "fifty", "short", "long", "reviewed", "crowd", "refused")
 
 
 def run(program, command, script, report):
@@ -29,17 +30,18 @@ def run(program, command, script, report):
     return usage.ru_utime + usage.ru_stime, usage.ru_maxrss / 1024
 
 
-def compare(kind, rows, programs, turns, work):
+def compare(kind, rows, side, programs, turns, work):
     """A line for one kind and one number of rows."""
     script, report = f"{work}/script.csv", f"{work}/report.csv"
     with open(script, "wb") as out:
-        subprocess.run([sys.executable, HERE / "generate.py", "--kind", kind, "--rows", str(rows)], stdout=out, check=True)
+        subprocess.run([sys.executable, HERE / "generate.py", "--kind", kind, "--rows", str(rows), "--side", side], stdout=out, check=True)
     best, sums = {}, set()
     for _ in range(turns):
         for name, program in programs:
             spent = run(program, "alone" if kind in ALONE else "run", script, report)
             best[name] = min(best.get(name, spent), spent)
-            sums.add(hashlib.sha256(pathlib.Path(report).read_bytes()).hexdigest())
+            with open(report, "rb") as rows_written:
+                sums.add(hashlib.file_digest(rows_written, "sha256").hexdigest())
     first = best[programs[0][0]][0]
     told = [f"{name} {best[name][0]:.2f} s {best[name][1]:.0f} MB x{first / max(best[name][0], 0.001):.1f}" for name, _ in programs]
     return f"{kind:<12} {rows:>7}  {'  '.join(told)}  {'same' if len(sums) == 1 else 'DIFFERENT REPORTS'}"
@@ -50,13 +52,14 @@ def main():
     options.add_argument("--rows", default="10000", help="numbers of rows (default 10000)")
     options.add_argument("--kinds", default=",".join(ALONE[:4] + RUN), help="kinds of bench/generate.py")
     options.add_argument("--turns", type=int, default=3, help="runs of each program (default 3)")
+    options.add_argument("--side", default="16", help="cells of a section's side (default 16)")
     options.add_argument("programs", nargs="+", metavar="NAME=PROGRAM")
     asked = options.parse_args()
     programs = [it.split("=", 1) for it in asked.programs]
     with tempfile.TemporaryDirectory() as work:
         for kind in asked.kinds.split(","):
             for rows in asked.rows.split(","):
-                print(compare(kind, int(rows), programs, asked.turns, work), flush=True)
+                print(compare(kind, int(rows), asked.side, programs, asked.turns, work), flush=True)
 
 
 if __name__ == "__main__":

@@ -13,7 +13,11 @@ quarters     the same of quarter sections                                       
 cells        the same of single cells                                                      (for `alone`)
 plats        sheets of whole townships, after a few deeds                                  (for `alone`)
 plants       sheets of everything, after a few deeds                                       (for `alone`)
+bargains     transactions of eight deeds in a section, each with the section's sheet       (for `alone`)
+owners       sheets of eight sections in which many parties own                            (for `alone`)
+histories    deeds in 64 sections and chains of them, of tens of entries                   (for `alone`)
 interleaved  eight examiners at work at once, in transactions of up to 20 steps            (for `run`)
+fifty        the same by fifty examiners                                                   (for `run`)
 short        the same in transactions of two deeds of single cells                         (for `run`)
 long         one examiner's transactions of 5,000 deeds of single cells each               (for `run`)
 reviewed     the same, then a chain of each of those cells in the same transaction         (for `run`)
@@ -120,23 +124,67 @@ def parts(chance, count):
             yield f"1,{instrument(chance, document, where)}"
 
 
-def interleaved(chance, count):
-    """Each turn is that of an examiner by chance; a transaction has up to 20 steps, and one of ten is aborted."""
-    left = [0] * (EXAMINERS + 1)
-    for document in range(1, count + 1):
-        examiner = chance.randint(1, EXAMINERS)
-        if left[examiner] == 0:
-            left[examiner] = chance.randint(2, 21)
-            yield f"{examiner},begin"
-        elif left[examiner] == 1:
-            left[examiner] = 0
-            yield f"{examiner},{'abort' if chance.random() < 0.1 else 'commit'}"
+def part_of(chance, sections):
+    """A square of one of a township's first sections, of ten acres or of forty."""
+    where = f"{chance.townships[0]} sec {chance.randint(1, sections)}"
+    return f"{where} {quarters(chance, chance.choice([2, 3]))}"
+
+
+def bargains(chance, count):
+    """Transactions of eleven rows: a begin, eight deeds of parts of a section, its sheet, a commit."""
+    for document in range(1, count // 11 * 11 + 1):
+        turn = document % 11
+        if turn == 1:
+            where = section(chance)
+            yield "1,begin"
+        elif turn == 10:
+            yield f"1,sheet,{where}"
+        elif turn == 0:
+            yield "1,commit"
         else:
-            left[examiner] -= 1
-            if chance.random() < 0.3:
-                yield f"{examiner},sheet,{tract(chance)}"
+            yield f"1,{instrument(chance, document, f'{where} {quarters(chance, chance.choice([1, 2, 3]))}')}"
+
+
+def owners(chance, count):
+    """Deeds of parts of eight sections, a fiftieth of the steps and at most 600, and then sheets of these sections."""
+    posted = min(count // 50, 600)
+    for document in range(1, posted + 1):
+        yield f"1,{instrument(chance, document, part_of(chance, 8))}"
+    for _ in range(count - posted):
+        yield f"1,sheet,{chance.townships[0]} sec {chance.randint(1, 8)}"
+
+
+def histories(chance, count):
+    """Deeds of parts of 64 sections, a twentieth of the steps and at most 2,000, and then chains of these sections."""
+    posted = min(count // 20, 2_000)
+    places = [section(chance) for _ in range(64)]
+    for document in range(1, posted + 1):
+        yield f"1,{instrument(chance, document, f'{chance.choice(places)} {quarters(chance, chance.choice([1, 2]))}')}"
+    for _ in range(count - posted):
+        yield f"1,chain,{chance.choice(places)}"
+
+
+def interleaved_by(examiners):
+    """Each turn is that of an examiner by chance; a transaction has up to 20 steps, and one of ten is aborted."""
+
+    def steps(chance, count):
+        left = [0] * (examiners + 1)
+        for document in range(1, count + 1):
+            examiner = chance.randint(1, examiners)
+            if left[examiner] == 0:
+                left[examiner] = chance.randint(2, 21)
+                yield f"{examiner},begin"
+            elif left[examiner] == 1:
+                left[examiner] = 0
+                yield f"{examiner},{'abort' if chance.random() < 0.1 else 'commit'}"
             else:
-                yield f"{examiner},{instrument(chance, document, tract(chance))}"
+                left[examiner] -= 1
+                if chance.random() < 0.3:
+                    yield f"{examiner},sheet,{tract(chance)}"
+                else:
+                    yield f"{examiner},{instrument(chance, document, tract(chance))}"
+
+    return steps
 
 
 def short(chance, count):
@@ -232,7 +280,11 @@ KINDS = {
     "cells": deeds_of(cell),
     "plats": sheets_of(lambda chance: chance.choice(chance.townships)),
     "plants": sheets_of(lambda chance: "everything"),
-    "interleaved": interleaved,
+    "bargains": bargains,
+    "owners": owners,
+    "histories": histories,
+    "interleaved": interleaved_by(EXAMINERS),
+    "fifty": interleaved_by(50),
     "short": short,
     "long": long,
     "reviewed": reviewed,
