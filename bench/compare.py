@@ -16,7 +16,7 @@ import tempfile
 
 HERE = pathlib.Path(__file__).resolve().parent
 ALONE = ("deeds", "sheets", "chains", "parts", "townships", "sections", "quarters", "cells", "plats", "plants")
-ALONE += ("bargains", "owners", "histories")
+MANY = ("bargains", "owners", "histories")
 RUN = ("interleaved", "fifty", "short", "long", "reviewed", "crowd", "refused")
 
 
@@ -30,6 +30,15 @@ def run(program, command, script, report):
     return usage.ru_utime + usage.ru_stime, usage.ru_maxrss / 1024
 
 
+def sum_of(report):
+    """A report's checksum, made piece by piece: what this script holds, the next program would begin with."""
+    found = hashlib.sha256()
+    with open(report, "rb") as rows:
+        for piece in iter(lambda: rows.read(1 << 20), b""):
+            found.update(piece)
+    return found.hexdigest()
+
+
 def compare(kind, rows, side, programs, turns, work):
     """A line for one kind and one number of rows."""
     script, report = f"{work}/script.csv", f"{work}/report.csv"
@@ -38,10 +47,9 @@ def compare(kind, rows, side, programs, turns, work):
     best, sums = {}, set()
     for _ in range(turns):
         for name, program in programs:
-            spent = run(program, "alone" if kind in ALONE else "run", script, report)
+            spent = run(program, "alone" if kind in ALONE + MANY else "run", script, report)
             best[name] = min(best.get(name, spent), spent)
-            with open(report, "rb") as rows_written:
-                sums.add(hashlib.file_digest(rows_written, "sha256").hexdigest())
+            sums.add(sum_of(report))
     first = best[programs[0][0]][0]
     told = [f"{name} {best[name][0]:.2f} s {best[name][1]:.0f} MB x{first / max(best[name][0], 0.001):.1f}" for name, _ in programs]
     return f"{kind:<12} {rows:>7}  {'  '.join(told)}  {'same' if len(sums) == 1 else 'DIFFERENT REPORTS'}"
@@ -52,7 +60,7 @@ def main():
     options.add_argument("--rows", default="10000", help="numbers of rows (default 10000)")
     options.add_argument("--kinds", default=",".join(ALONE[:4] + RUN), help="kinds of bench/generate.py")
     options.add_argument("--turns", type=int, default=3, help="runs of each program (default 3)")
-    options.add_argument("--side", default="16", help="cells of a section's side (default 16)")
+    options.add_argument("--side", choices=("8", "16"), default="16", help="cells of a section's side (default 16)")
     options.add_argument("programs", nargs="+", metavar="NAME=PROGRAM")
     asked = options.parse_args()
     programs = [it.split("=", 1) for it in asked.programs]

@@ -19,7 +19,7 @@ trap 'rm -rf "$work"' EXIT
 printf '%-12s %8s %8s %8s %8s %9s %8s %8s %8s\n' kind rows steps wall cpu steps/s MB time steps
 for kind in ${KINDS:-deeds sheets chains parts interleaved short long reviewed crowd refused}; do
     case $kind in
-        interleaved | short | long | reviewed | crowd | refused) command=run ;;
+        interleaved | fifty | short | long | reviewed | crowd | refused) command=run ;;
         *) command=alone ;;
     esac
     before=
