@@ -55,6 +55,7 @@ impl Page {
     }
 
     /// Gives the sink all that stands on the page. `Failed` where a push fails; the sink then has a beginning of it.
+    #[inline(never)]
     pub fn pass<S: Sink>(&mut self, sink: &mut S) -> Result<(), Failed>
         requires works { S.has_failed sink.old ≡ false }
         ensures empty { OnOk result (self.new ≡ []) }
@@ -69,6 +70,7 @@ impl Page {
     }
 
     // Writes bytes where nothing stands on the page; more than a page are given to the sink at once.
+    #[inline(never)]
     fn put_first<S: Sink>(&mut self, sink: &mut S, text: &[u8]) -> Result<(), Failed>
         requires works { S.has_failed sink.old ≡ false }
         requires empty { self.old ≡ [] }
@@ -84,6 +86,7 @@ impl Page {
     }
 
     /// Writes bytes as they are. `Failed` where a push fails; the sink then has a beginning of what was written.
+    #[inline]
     pub fn put<S: Sink>(&mut self, sink: &mut S, text: &[u8]) -> Result<(), Failed>
         requires works { S.has_failed sink.old ≡ false }
         ensures written { OnOk result (Written (S.taken sink.old) self.old (S.taken sink.new) self.new text.now) }
@@ -143,6 +146,7 @@ impl Page {
     }
 
     // Writes a field between quotes.
+    #[inline(never)]
     fn put_quoted<S: Sink>(&mut self, sink: &mut S, field: &[u8]) -> Result<(), Failed>
         requires works { S.has_failed sink.old ≡ false }
         ensures written { OnOk result (Written (S.taken sink.old) self.old (S.taken sink.new) self.new (quoted row_writer field.now)) }
@@ -156,6 +160,7 @@ impl Page {
     }
 
     /// Writes a field: in quotes where it has a comma, a quote or a line's end. `Failed` as with `put`.
+    #[inline]
     pub fn field<S: Sink>(&mut self, sink: &mut S, field: &[u8]) -> Result<(), Failed>
         requires works { S.has_failed sink.old ≡ false }
         ensures written { OnOk result (Written (S.taken sink.old) self.old (S.taken sink.new) self.new (field_text row_writer field.now)) }
