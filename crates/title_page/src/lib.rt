@@ -2,8 +2,10 @@
 #![tactic(auto)]
 
 mod field;
+mod line;
 mod page;
 mod row;
 
 pub use field::Field;
+pub use line::Line;
 pub use page::Page;

@@ -1,13 +1,17 @@
 //! The rows of answers.
 
-ghost use Rattle.std.specs.Prelude.{◌≡◌, ◌∷◌, [], true, false, OnOk, OnErr, codes, length, map};
+ghost use Rattle.std.specs.Prelude.{◌≡◌, ◌∷◌, ◌++◌, [], true, false, OnOk, OnErr, codes, length, map};
 ghost use Rattle.std.specs.String.{string_bytes};
+ghost use Rattle.csv.specs.Writing.{field_text};
 ghost use Rattle.title_instrument.specs.Kinds.{kind_word};
 ghost use Rattle.title_page.specs.Pages.{Stopped, Written};
-ghost use Rattle.title_page.specs.Rows.{rows_text};
+ghost use Rattle.title_page.specs.Rows.{row_writer, rows_text};
+ghost use Rattle.title_report.specs.Fronts.{tail_text, IsFront};
 ghost use Rattle.title_report.specs.Replies.{answer_rows, entry_row, name_of, number_row, refused_row, sheet_row};
 
 use crate::field::ReportField;
+use crate::front::Front;
+use crate::nodes::put_share;
 use crate::replies::{Names, put_number_row, put_row, put_word_row};
 use title_chain::{Answer, Entry};
 use title_device::{Failed, Sink};
@@ -81,6 +85,66 @@ fn put_sheet_row<S: Sink>(
     put_row(page, sink, &fields)
 }
 
+// Writes what stands behind the name in a row of a sheet.
+fn put_tail<S: Sink>(page: &mut Page, sink: &mut S, units: u64) -> Result<(), Failed>
+    requires works { S.has_failed sink.old ≡ false }
+    ensures written { OnOk result (Written (S.taken sink.old) page.old (S.taken sink.new) page.new (tail_text units)) }
+    ensures well { OnOk result (S.has_failed sink.new ≡ false) }
+    ensures stopped { OnErr result (Stopped (S.taken sink.old) page.old (S.taken sink.new) (tail_text units)) }
+    ensures failed { OnErr result (S.has_failed sink.new ≡ true) }
+{
+    page.put(sink, b",")?;
+    put_share(page, sink, units)?;
+    page.put(sink, b"\n")
+}
+
+// Writes a row of a sheet whose beginning is made.
+fn put_row_from<S: Sink>(
+    page: &mut Page,
+    sink: &mut S,
+    front: &[u8],
+    name: &[u8],
+    units: u64,
+) -> Result<(), Failed>
+    requires works { S.has_failed sink.old ≡ false }
+    ensures written { OnOk result (Written (S.taken sink.old) page.old (S.taken sink.new) page.new
+        (front.now ++ (field_text row_writer name.now ++ tail_text units))) }
+    ensures well { OnOk result (S.has_failed sink.new ≡ false) }
+    ensures stopped { OnErr result (Stopped (S.taken sink.old) page.old (S.taken sink.new)
+        (front.now ++ (field_text row_writer name.now ++ tail_text units))) }
+    ensures failed { OnErr result (S.has_failed sink.new ≡ true) }
+{
+    page.put(sink, front)?;
+    page.field(sink, name)?;
+    put_tail(page, sink, units)
+}
+
+// Writes a row of a sheet, from the beginning that it shares with the row before where these are one.
+fn put_sheet_line<S: Sink>(
+    page: &mut Page,
+    sink: &mut S,
+    names: &Names,
+    examiner: u32,
+    front: &mut Front,
+    line: &SheetRow,
+) -> Result<(), Failed>
+    requires works { S.has_failed sink.old ≡ false }
+    requires front { IsFront examiner front.old }
+    ensures front { IsFront examiner front.new }
+    ensures written { OnOk result (Written (S.taken sink.old) page.old (S.taken sink.new) page.new
+        (rows_text (sheet_row (map string_bytes names.now.keys) examiner line.now ∷ []))) }
+    ensures well { OnOk result (S.has_failed sink.new ≡ false) }
+    ensures stopped { OnErr result (Stopped (S.taken sink.old) page.old (S.taken sink.new)
+        (rows_text (sheet_row (map string_bytes names.now.keys) examiner line.now ∷ []))) }
+    ensures failed { OnErr result (S.has_failed sink.new ≡ true) }
+{
+    if front.text_for(examiner, line).is_none() {
+        return put_sheet_row(page, sink, names, examiner, *line);
+    }
+    let name = name_bytes(names, line.party);
+    put_row_from(page, sink, front.text.as_bytes(), name, line.units)
+}
+
 // Writes the rows of a sheet.
 fn put_sheet_rows<S: Sink>(
     page: &mut Page,
@@ -97,8 +161,9 @@ fn put_sheet_rows<S: Sink>(
         (rows_text (map (sheet_row (map string_bytes names.now.keys) examiner) lines.now))) }
     ensures failed { OnErr result (S.has_failed sink.new ≡ true) }
 {
+    let mut front = Front::new();
     for line in lines {
-        put_sheet_row(page, sink, names, examiner, *line)?;
+        put_sheet_line(page, sink, names, examiner, &mut front, line)?;
     }
     Ok(())
 }

@@ -3,8 +3,10 @@
 
 mod answers;
 mod field;
+mod front;
 mod nodes;
 mod replies;
+mod same;
 
 pub use field::ReportField;
 pub use replies::{put_described, put_end, put_reply, put_row};

@@ -122,7 +122,7 @@ fn put_section<S: Sink>(page: &mut Page, sink: &mut S, section: Section) -> Resu
 }
 
 // The name of a quarter, with its mark.
-fn quarter_bytes(which: Quarter) -> &'static [u8]
+pub(crate) fn quarter_bytes(which: Quarter) -> &'static [u8]
     ensures name { result.now ≡ quarter_text which }
 {
     match which {

@@ -1,0 +1,180 @@
+//! The text with which rows of a sheet begin, made once for all rows of a node and an estate.
+
+ghost use Rattle.std.specs.Prelude.{◌≡◌, ◌++◌, ℕ, true, cond, codes, OnSome};
+ghost use Rattle.std.specs.Fmt.{decimal};
+ghost use Rattle.title_instrument.specs.Estates.{estate_text};
+ghost use Rattle.title_land.specs.Texts.{node_text, path_text, quarters_text, section_text, township_text};
+ghost use Rattle.title_report.specs.Fronts.{front_text, head_text, IsFront};
+
+use crate::nodes::quarter_bytes;
+use crate::same::{same_node, same_section};
+use itoa::Buffer;
+use title_instrument::Estate;
+use title_land::{Node, Section, Township, Within};
+use title_page::Line;
+use title_store::SheetRow;
+
+// The last row whose beginning was made, with that beginning, and the part up to its section.
+#[derive(Drop)]
+pub(crate) struct Front {
+    pub(crate) section: Option<Section>,
+    pub(crate) head: Line,
+    pub(crate) row: Option<SheetRow>,
+    pub(crate) text: Line,
+}
+
+// Adds a number in decimal.
+fn add_number(line: &mut Line, number: u64) -> Option<()>
+    ensures added { OnSome result (line.new ≡ line.old ++ decimal number) }
+{
+    let mut digits = Buffer::new();
+    line.add(digits.format(number).as_bytes())
+}
+
+// Adds a small number in decimal.
+fn add_byte(line: &mut Line, number: u8) -> Option<()>
+    ensures added { OnSome result (line.new ≡ line.old ++ decimal number) }
+{
+    let mut digits = Buffer::new();
+    line.add(digits.format(number).as_bytes())
+}
+
+// Adds the letter of a side.
+fn add_side(line: &mut Line, first: bool, yes: &[u8], no: &[u8]) -> Option<()>
+    ensures added { OnSome result (line.new ≡ line.old ++ cond first yes.now no.now) }
+{
+    if first { line.add(yes) } else { line.add(no) }
+}
+
+// Adds a township.
+fn add_township(line: &mut Line, township: Township) -> Option<()>
+    ensures added { OnSome result (line.new ≡ line.old ++ township_text township) }
+{
+    line.add(b"T")?;
+    add_byte(line, township.number)?;
+    add_side(line, township.north, b"N", b"S")?;
+    line.add(b" R")?;
+    add_byte(line, township.range)?;
+    add_side(line, township.east, b"E", b"W")
+}
+
+// Adds a section.
+fn add_section(line: &mut Line, section: Section) -> Option<()>
+    ensures added { OnSome result (line.new ≡ line.old ++ section_text section) }
+{
+    add_township(line, section.township)?;
+    line.add(b" sec ")?;
+    add_byte(line, section.number)
+}
+
+// Adds the quarters of a square, the innermost first.
+fn add_quarters(line: &mut Line, within: Within) -> Option<()>
+    ensures added { OnSome result (line.new ≡ line.old ++ quarters_text within) }
+{
+    let Some(parts) = within.split() else {
+        return Some(());
+    };
+    line.add(quarter_bytes(parts.0))?;
+    add_quarters(line, parts.1)
+}
+
+// Adds what a square's quarters add to its section's text.
+fn add_path(line: &mut Line, within: Within) -> Option<()>
+    ensures added { OnSome result (line.new ≡ line.old ++ path_text within) }
+{
+    let Some((_, _)) = within.split() else {
+        return Some(());
+    };
+    line.add(b" ")?;
+    add_quarters(line, within)
+}
+
+// Makes the beginning up to the section anew.
+fn make_head(line: &mut Line, examiner: u32, section: Section) -> Option<()>
+    ensures made { OnSome result (line.new ≡ head_text examiner section) }
+{
+    line.clear();
+    add_number(line, u64::from(examiner))?;
+    line.add(b",row,")?;
+    add_section(line, section)
+}
+
+// Makes the beginning of rows of a square anew, from that up to its section.
+fn make_text(line: &mut Line, head: &[u8], within: Within, estate: Estate) -> Option<()>
+    ensures made { OnSome result (line.new ≡ head.now ++ path_text within ++ codes "," ++ estate_text estate ++ codes ",") }
+{
+    line.clear();
+    line.add(head)?;
+    add_path(line, within)?;
+    line.add(b",")?;
+    line.add(estate.letter().as_bytes())?;
+    line.add(b",")
+}
+
+impl Front {
+    // A front with no beginning made.
+    pub(crate) fn new() -> Front
+        ensures front { (e : ℕ) → IsFront e result }
+    {
+        Front {
+            section: None,
+            head: Line::new(),
+            row: None,
+            text: Line::new(),
+        }
+    }
+
+    // Whether the head is that of this section.
+    fn is_headed(&self, section: Section) -> bool
+        ensures headed { result ≡ true → (e : ℕ) → IsFront e self.now → self.now.head ≡ head_text e section }
+    {
+        match self.section {
+            Some(last) => same_section(last, section),
+            None => false,
+        }
+    }
+
+    // Whether a row begins as the last one did.
+    fn serves(&self, line: &SheetRow) -> bool
+        ensures serves { result ≡ true → (e : ℕ) → IsFront e self.now → self.now.text ≡ front_text e line.now.node line.now.estate }
+    {
+        match &self.row {
+            Some(last) => last.estate == line.estate && same_node(&last.node, &line.node),
+            None => false,
+        }
+    }
+
+    // Makes the head that of this section.
+    fn head_for(&mut self, examiner: u32, section: Section) -> Option<()>
+        requires front { IsFront examiner self.old }
+        ensures front { IsFront examiner self.new }
+        ensures head { OnSome result (self.new.head ≡ head_text examiner section) }
+    {
+        if self.is_headed(section) {
+            return Some(());
+        }
+        self.section = None;
+        make_head(&mut self.head, examiner, section)?;
+        self.section = Some(section);
+        Some(())
+    }
+
+    // Makes the beginning that of a row, where its node is a square of a section. `None` where it isn't made.
+    pub(crate) fn text_for(&mut self, examiner: u32, line: &SheetRow) -> Option<()>
+        requires front { IsFront examiner self.old }
+        ensures front { IsFront examiner self.new }
+        ensures text { OnSome result (self.new.text ≡ front_text examiner line.now.node line.now.estate) }
+    {
+        if self.serves(line) {
+            return Some(());
+        }
+        let Node::Part(section, within) = &line.node else {
+            return None;
+        };
+        self.head_for(examiner, *section)?;
+        self.row = None;
+        make_text(&mut self.text, self.head.as_bytes(), *within, line.estate)?;
+        self.row = Some(*line);
+        Some(())
+    }
+}
