@@ -28,6 +28,13 @@ pub escaped_front : (field : List ℕ) (i : ℕ)
 escaped_front field i =
     ap (λ (x : List ℕ). escaped row_writer x) (sym (take-append-drop i field)) ∙ escaped-append row_writer (take i field) (drop i field)
 
+-- one byte more that is no quote, where those before stand as they are
+pub plain_byte_more : (field : List ℕ) (i : ℕ) → i < length field → (get_or field i 0 ≡ 34 → ⊥)
+    → escaped row_writer (take i field) ≡ take i field → escaped row_writer (take (i + 1) field) ≡ take (i + 1) field
+plain_byte_more field i lt other same =
+    escaped_more field i lt ∙ ap (λ (x : List ℕ). x ++ escaped row_writer (get_or field i 0 ∷ [])) same
+    ∙ ap (λ (x : List ℕ). take i field ++ x) (escaped_byte (get_or field i 0) other) ∙ sym (take_more field i 0 lt)
+
 -- further fields in two parts
 fields_parts : (cfg : WriterBuilder) (xs ys : List (List ℕ)) → fields_text cfg (xs ++ ys) ≡ fields_text cfg xs ++ fields_text cfg ys
 unfolding fields_text

@@ -44,6 +44,18 @@ fn is_quoted(field: &[u8]) -> bool
     false
 }
 
+// Whether a field has a quote.
+fn has_quote(field: &[u8]) -> bool
+    ensures none { result ≡ false → escaped row_writer field.now ≡ field.now }
+{
+    for byte in field {
+        if *byte == b'"' {
+            return true;
+        }
+    }
+    false
+}
+
 impl Page {
     /// A page with nothing on it.
     pub fn new() -> Page
@@ -131,7 +143,21 @@ impl Page {
         self.put(sink, &[byte])
     }
 
-    // Writes the bytes of a quoted field.
+    // Writes the bytes of a quoted field: at once where none is a quote.
+    fn put_inside<S: Sink>(&mut self, sink: &mut S, field: &[u8]) -> Result<(), Failed>
+        requires works { S.has_failed sink.old ≡ false }
+        ensures written { OnOk result (Written (S.taken sink.old) self.old (S.taken sink.new) self.new (escaped row_writer field.now)) }
+        ensures well { OnOk result (S.has_failed sink.new ≡ false) }
+        ensures stopped { OnErr result (Stopped (S.taken sink.old) self.old (S.taken sink.new) (escaped row_writer field.now)) }
+        ensures failed { OnErr result (S.has_failed sink.new ≡ true) }
+    {
+        if has_quote(field) {
+            return self.put_all_escaped(sink, field);
+        }
+        self.put(sink, field)
+    }
+
+    // Writes the bytes of a quoted field one by one.
     fn put_all_escaped<S: Sink>(&mut self, sink: &mut S, field: &[u8]) -> Result<(), Failed>
         requires works { S.has_failed sink.old ≡ false }
         ensures written { OnOk result (Written (S.taken sink.old) self.old (S.taken sink.new) self.new (escaped row_writer field.now)) }
@@ -155,7 +181,7 @@ impl Page {
         ensures failed { OnErr result (S.has_failed sink.new ≡ true) }
     {
         self.put(sink, b"\"")?;
-        self.put_all_escaped(sink, field)?;
+        self.put_inside(sink, field)?;
         self.put(sink, b"\"")
     }
 

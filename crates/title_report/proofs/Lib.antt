@@ -1,3 +1,4 @@
+pub mod Halvings
 pub mod Lines
 pub mod Parts
 pub mod Plain

@@ -111,3 +111,7 @@ share_field units a b top bottom text p q e f =
     ap (λ (x : List ℕ). field_text row_writer x) text ∙ plain
     ∙ ap (λ (x : List ℕ). x ++ 47 ∷ decimal b) (sym e) ∙ ap (λ (x : List ℕ). top ++ 47 ∷ x) (sym f)
     ∙ ap (λ (x : List ℕ). top ++ 47 ∷ x) (sym (append-nil bottom))
+
+-- a number is its own field
+pub number_field : (n : ℕ) (text : List ℕ) → n < 2 ^ 64 → text ≡ decimal n → field_text row_writer (decimal n) ≡ text
+number_field n text small e = plain_field (decimal n) (plain_number n small) ∙ sym e

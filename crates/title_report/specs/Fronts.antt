@@ -23,6 +23,14 @@ front_text e n estate = decimal e ++ codes ",row," ++ node_text n ++ codes "," +
 abbrev pub tail_text : ℕ → List ℕ
 tail_text units = 44 ∷ (field_text row_writer (share_text units) ++ 10 ∷ [])
 
+-- with which the rows of a chain begin: `E,entry,`
+abbrev pub entry_start : ℕ → List ℕ
+entry_start e = decimal e ++ codes ",entry,"
+
+-- two names with a comma between them
+abbrev pub names_text : List ℕ → List ℕ → List ℕ
+names_text giver taker = field_text row_writer giver ++ 44 ∷ field_text row_writer taker
+
 -- what a front remembers are beginnings of the examiner's rows
 pub record IsFront (e : ℕ) (f : Front) : Type 0 where
   pub head : IfSome f.section (λ s. f.head ≡ head_text e s)

@@ -6,18 +6,20 @@ ghost use Rattle.csv.specs.Writing.{field_text};
 ghost use Rattle.title_instrument.specs.Kinds.{kind_word};
 ghost use Rattle.title_page.specs.Pages.{Stopped, Written};
 ghost use Rattle.title_page.specs.Rows.{row_writer, rows_text};
-ghost use Rattle.title_report.specs.Fronts.{tail_text, IsFront};
+ghost use Rattle.title_report.specs.Fronts.{entry_start, tail_text, IsFront};
 ghost use Rattle.title_report.specs.Replies.{answer_rows, entry_row, name_of, number_row, refused_row, sheet_row};
 
+use crate::entries::{estates_end, make_entry, make_start, put_entry_from};
 use crate::field::ReportField;
 use crate::front::Front;
-use crate::nodes::put_share;
+use crate::nodes::number_is_plain;
 use crate::replies::{Names, put_number_row, put_row, put_word_row};
+use crate::shares::put_tail;
 use title_chain::{Answer, Entry};
 use title_device::{Failed, Sink};
 use title_instrument::{Estate, Kind, Rule};
 use title_land::Node;
-use title_page::Page;
+use title_page::{Line, Page};
 use title_store::SheetRow;
 
 // The name of the party of this number.
@@ -83,19 +85,6 @@ fn put_sheet_row<S: Sink>(
         ReportField::Share(line.units),
     ];
     put_row(page, sink, &fields)
-}
-
-// Writes what stands behind the name in a row of a sheet.
-fn put_tail<S: Sink>(page: &mut Page, sink: &mut S, units: u64) -> Result<(), Failed>
-    requires works { S.has_failed sink.old ≡ false }
-    ensures written { OnOk result (Written (S.taken sink.old) page.old (S.taken sink.new) page.new (tail_text units)) }
-    ensures well { OnOk result (S.has_failed sink.new ≡ false) }
-    ensures stopped { OnErr result (Stopped (S.taken sink.old) page.old (S.taken sink.new) (tail_text units)) }
-    ensures failed { OnErr result (S.has_failed sink.new ≡ true) }
-{
-    page.put(sink, b",")?;
-    put_share(page, sink, units)?;
-    page.put(sink, b"\n")
 }
 
 // Writes a row of a sheet whose beginning is made.
@@ -233,8 +222,8 @@ fn put_entry<S: Sink>(
     put_row(page, sink, &fields)
 }
 
-// Writes the entries of a chain.
-fn put_entries<S: Sink>(
+// Writes the entries of a chain field by field.
+fn put_entries_by_fields<S: Sink>(
     page: &mut Page,
     sink: &mut S,
     names: &Names,
@@ -253,6 +242,93 @@ fn put_entries<S: Sink>(
         put_entry(page, sink, names, examiner, entry)?;
     }
     Ok(())
+}
+
+// Writes a row of a chain, from the text with which all its rows begin.
+fn put_entry_line<S: Sink>(
+    page: &mut Page,
+    sink: &mut S,
+    names: &Names,
+    examiner: u32,
+    start: &[u8],
+    line: &mut Line,
+    entry: &Entry,
+) -> Result<(), Failed>
+    requires start { start.now ≡ entry_start examiner }
+    requires works { S.has_failed sink.old ≡ false }
+    ensures written { OnOk result (Written (S.taken sink.old) page.old (S.taken sink.new) page.new
+        (rows_text (entry_row (map string_bytes names.now.keys) examiner entry.now ∷ []))) }
+    ensures well { OnOk result (S.has_failed sink.new ≡ false) }
+    ensures stopped { OnErr result (Stopped (S.taken sink.old) page.old (S.taken sink.new)
+        (rows_text (entry_row (map string_bytes names.now.keys) examiner entry.now ∷ []))) }
+    ensures failed { OnErr result (S.has_failed sink.new ≡ true) }
+{
+    let instrument = entry.posting.instrument;
+    if make_entry(
+        line,
+        start,
+        entry.place,
+        entry.posting.doc,
+        instrument.kind(),
+    )
+    .is_none()
+    {
+        return put_entry(page, sink, names, examiner, entry);
+    }
+    number_is_plain(entry.place);
+    number_is_plain(entry.posting.doc);
+    let giver = name_bytes(names, instrument.grantor());
+    let taker = name_bytes(names, instrument.grantee());
+    let end = estates_end(instrument.estates());
+    put_entry_from(page, sink, line.as_bytes(), giver, taker, end)
+}
+
+// Writes the entries of a chain, each from the text with which they begin.
+fn put_entries_from<S: Sink>(
+    page: &mut Page,
+    sink: &mut S,
+    names: &Names,
+    examiner: u32,
+    start: &[u8],
+    entries: &[Entry],
+) -> Result<(), Failed>
+    requires start { start.now ≡ entry_start examiner }
+    requires works { S.has_failed sink.old ≡ false }
+    ensures written { OnOk result (Written (S.taken sink.old) page.old (S.taken sink.new) page.new
+        (rows_text (map (entry_row (map string_bytes names.now.keys) examiner) entries.now))) }
+    ensures well { OnOk result (S.has_failed sink.new ≡ false) }
+    ensures stopped { OnErr result (Stopped (S.taken sink.old) page.old (S.taken sink.new)
+        (rows_text (map (entry_row (map string_bytes names.now.keys) examiner) entries.now))) }
+    ensures failed { OnErr result (S.has_failed sink.new ≡ true) }
+{
+    let mut line = Line::new();
+    for entry in entries {
+        put_entry_line(page, sink, names, examiner, start, &mut line, entry)?;
+    }
+    Ok(())
+}
+
+// Writes the entries of a chain.
+fn put_entries<S: Sink>(
+    page: &mut Page,
+    sink: &mut S,
+    names: &Names,
+    examiner: u32,
+    entries: &[Entry],
+) -> Result<(), Failed>
+    requires works { S.has_failed sink.old ≡ false }
+    ensures written { OnOk result (Written (S.taken sink.old) page.old (S.taken sink.new) page.new
+        (rows_text (map (entry_row (map string_bytes names.now.keys) examiner) entries.now))) }
+    ensures well { OnOk result (S.has_failed sink.new ≡ false) }
+    ensures stopped { OnErr result (Stopped (S.taken sink.old) page.old (S.taken sink.new)
+        (rows_text (map (entry_row (map string_bytes names.now.keys) examiner) entries.now))) }
+    ensures failed { OnErr result (S.has_failed sink.new ≡ true) }
+{
+    let mut start = Line::new();
+    if make_start(&mut start, examiner).is_none() {
+        return put_entries_by_fields(page, sink, names, examiner, entries);
+    }
+    put_entries_from(page, sink, names, examiner, start.as_bytes(), entries)
 }
 
 // Writes a chain: the row that counts its entries, and these.

@@ -24,7 +24,7 @@ pub(crate) struct Front {
 }
 
 // Adds a number in decimal.
-fn add_number(line: &mut Line, number: u64) -> Option<()>
+pub(crate) fn add_number(line: &mut Line, number: u64) -> Option<()>
     ensures added { OnSome result (line.new ≡ line.old ++ decimal number) }
 {
     let mut digits = Buffer::new();

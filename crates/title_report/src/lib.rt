@@ -2,11 +2,13 @@
 #![tactic(auto)]
 
 mod answers;
+mod entries;
 mod field;
 mod front;
 mod nodes;
 mod replies;
 mod same;
+mod shares;
 
 pub use field::ReportField;
 pub use replies::{put_described, put_end, put_reply, put_row};

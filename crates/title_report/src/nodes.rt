@@ -14,6 +14,11 @@ use title_land::{Node, Quarter, Section, Township, Within};
 use title_page::Page;
 use title_share::Fraction;
 
+// A number in decimal stands without quotes. The function does nothing: its clause is the law.
+pub(crate) fn number_is_plain(number: u64)
+    ensures plain { field_text row_writer (decimal number) ≡ decimal number }
+{}
+
 // Writes a number in decimal.
 pub(crate) fn put_number<S: Sink>(page: &mut Page, sink: &mut S, number: u64) -> Result<(), Failed>
     requires works { S.has_failed sink.old ≡ false }
@@ -24,7 +29,7 @@ pub(crate) fn put_number<S: Sink>(page: &mut Page, sink: &mut S, number: u64) ->
     ensures failed { OnErr result (S.has_failed sink.new ≡ true) }
 {
     let mut digits = Buffer::new();
-    page.field(sink, digits.format(number).as_bytes())
+    page.put(sink, digits.format(number).as_bytes())
 }
 
 // Writes a share of so many units as a fraction in lowest terms.

@@ -4,7 +4,7 @@ use Rattle.std.specs.String.{string_bytes}
 use Rattle.title_page.specs.Pages.{Written}
 use Rattle.title_page.specs.Rows.{rows_text}
 use Rattle.title_report.specs.Replies.{entry_row}
-use Rattle.title_report.proofs.answers.put_entries.Given as goal
+use Rattle.title_report.proofs.answers.put_entries_by_fields.Given as goal
 
 abbrev pub invariant-loop-entry : goal.invariant-loop-entry
 invariant-loop-entry g l =
