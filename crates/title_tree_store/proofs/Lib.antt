@@ -13,4 +13,5 @@ pub mod Apart
 pub mod Puts
 pub mod Firsts
 pub mod Standing
+pub mod Squares
 pub mod Crossing

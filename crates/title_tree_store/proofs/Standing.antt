@@ -53,7 +53,7 @@ use Rattle.title_tree_store.proofs.Places.{corner_way, grid_parts}
 
 -- ---- going down
 
-plot_at_join : (p q : List Quarter) (t : Plot) → plot_at (p ++ q) t ≡ plot_at q (plot_at p t)
+pub plot_at_join : (p q : List Quarter) (t : Plot) → plot_at (p ++ q) t ≡ plot_at q (plot_at p t)
 plot_at_join [] q t = refl
 plot_at_join (x ∷ p) q (Same held) = sym (plot_at_same q held)
 plot_at_join (Northeast ∷ p) q (Four a b c d) = plot_at_join p q a
@@ -75,7 +75,7 @@ path_down levels ts s w q =
     append_assoc (section_path levels ts s) (way w) (q ∷ [])
     ∙ ap (λ (z : List Quarter). section_path levels ts s ++ z) (sym (reverse-append (q ∷ []) w))
 
-square_down : (levels : ℕ) (ts : List Township) (s : Section) (w : List Quarter) (q : Quarter) (t x y : Plot)
+pub square_down : (levels : ℕ) (ts : List Township) (s : Section) (w : List Quarter) (q : Quarter) (t x y : Plot)
     → x ≡ plot_at (square_path levels ts s w) t → y ≡ plot_at (q ∷ []) x → y ≡ plot_at (square_path levels ts s (q ∷ w)) t
 square_down levels ts s w q t x y h k =
     k ∙ ap (plot_at (q ∷ [])) h ∙ sym (plot_at_join (square_path levels ts s w) (q ∷ []) t)
@@ -92,7 +92,7 @@ stands_down levels ts ps s w v q a b c x y z h e f g k =
       m_is = square_down levels ts s w q (ps M) c z h.m_is k;
     }
 
-section_down : (levels : ℕ) (ts : List Township) (s : Section) (m : ℕ) (t x y : Plot) → m ≡ s.number - 1
+pub section_down : (levels : ℕ) (ts : List Township) (s : Section) (m : ℕ) (t x y : Plot) → m ≡ s.number - 1
     → x ≡ plot_at (township_path levels ts s.township) t → y ≡ plot_at (number_path 3 m) x
     → y ≡ plot_at (square_path levels ts s []) t
 section_down levels ts s m t x y e h k =

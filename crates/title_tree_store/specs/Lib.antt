@@ -6,4 +6,5 @@ pub mod Slots
 pub mod Out
 pub mod Refusing
 pub mod TreeSheets
+pub mod SquareSheets
 pub mod Propositions

@@ -9,5 +9,6 @@ mod refusals;
 mod sheets;
 mod spots;
 pub mod tree_store;
+mod walks;
 
 pub use tree_store::{Image, TreeStore};

@@ -5,7 +5,6 @@ ghost use Rattle.title_land.specs.Depth.{depth};
 ghost use Rattle.title_land.specs.declared.node.Node.TheVariants as node;
 ghost use Rattle.title_land.specs.CellLists.{cells_below, section_cells, township_cells, cells_of};
 ghost use Rattle.title_land.specs.Lands.{has, Meets, land_of, is_in_plant};
-ghost use Rattle.title_land.specs.Paths.{quarter_at};
 ghost use Rattle.title_instrument.specs.Effect.{cell_effect};
 ghost use Rattle.title_instrument.specs.declared.parts.Estate.TheVariants.{S, O, M};
 ghost use Rattle.title_tree.specs.Paths.{number_path};
@@ -17,21 +16,10 @@ ghost use Rattle.title_tree_store.specs.Refusing.{why_holding, why_first, is_set
 
 use crate::forest::{Forest, names};
 use crate::spots::{SECTION_LEVELS, index_of};
+use crate::walks::quarter_at;
 use title_instrument::{Estate, Instrument, Rule};
 use title_land::{Cell, DEPTH, Land, Node, Quarter, Section, Township, Tract, Within};
 use title_tree::Tree;
-
-// The quarter at a place among the four; from the fourth on it is the last.
-fn quarter_at(place: usize) -> Quarter
-    ensures quarter { result ≡ quarter_at place }
-{
-    match place {
-        0 => Quarter::Northeast,
-        1 => Quarter::Northwest,
-        2 => Quarter::Southwest,
-        _ => Quarter::Southeast,
-    }
-}
 
 // Whether an instrument treats all cells of a tree alike: they have one holding, or it doesn't name the estate.
 fn is_settled(tree: &Tree, instrument: &Instrument, estate: Estate) -> bool

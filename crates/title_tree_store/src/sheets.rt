@@ -1,45 +1,84 @@
 //! Rows of sheets, read off a tree.
 
-ghost use Rattle.std.specs.Prelude.{◌≡◌, ◌+◌, ◌++◌, OnOk, IfOk};
+ghost use Rattle.std.specs.Prelude.{◌≡◌, ◌+◌, ◌++◌, List, length, OnOk, IfOk};
 ghost use Rattle.std.specs.List.{flat_map};
 ghost use Rattle.std.specs.Option.{option_map};
 ghost use Rattle.title_land.specs.Depth.{depth};
 ghost use Rattle.title_land.specs.Lands.{cover_of};
-ghost use Rattle.title_tree.specs.Parts.{ways};
 ghost use Rattle.title_tree.specs.Pieces.{uniform_at};
+ghost use Rattle.title_tree.specs.Plots.{agreed, same_division, uniform};
 ghost use Rattle.title_tree.specs.Trees.{plot};
-ghost use Rattle.title_store.specs.Sheets.{holding_rows};
-ghost use Rattle.title_tree_store.specs.Spots.{spots};
+ghost use Rattle.title_land.specs.declared.node.Node.TheVariants as node;
+ghost use Rattle.title_store.specs.declared.sheet_row.SheetRow.{SheetRow};
+ghost use Rattle.title_store.specs.Sheets.{holding_rows, rows_or};
+ghost use Rattle.title_tree_store.specs.Spots.{blocks, spots};
+ghost use Rattle.title_tree_store.specs.SquareSheets.{part_sheet, plant_sheet, section_sheet, square_sheet, township_sheet};
 ghost use Rattle.title_tree_store.specs.TreeSheets.{tree_sheet};
 
-use crate::spots::add_spots;
+use crate::spots::{SECTION_LEVELS, add_spots};
+use crate::walks::{numbered, section_tree, square_tree, township_tree};
 use std::alloc::{AllocError, Global};
 use title_instrument::Estate;
-use title_land::{DEPTH, Node, Township, Tract, children_of};
+use title_land::{Node, Quarter, Section, Township, Tract, Within};
 use title_share::Holding;
 use title_store::SheetRow;
 use title_tree::{Tree, uniform_at};
 
-// The levels of nodes below the whole plant: townships, sections, and as often as a section is quartered.
-#[tactic(auto, using(title_land::specs::Laws::Sides::depth_is))]
-fn levels_below_plant() -> u8
-    ensures levels { result ≡ depth + 2 }
+// Whether the holdings are one.
+fn is_same(held: &Holding, other: &Holding) -> bool
+    ensures same { result ≡ same_division held.now other.now }
 {
-    DEPTH + 2
+    held.same(other)
 }
 
-// The one holding of a node's cells, where they have one.
-fn one_holding<'a>(
+// The holding of four squares that have one each, where it is the same.
+fn agreed<'a>(
+    first: Option<&'a Holding>,
+    second: Option<&'a Holding>,
+    third: Option<&'a Holding>,
+    fourth: Option<&'a Holding>,
+) -> Option<&'a Holding>
+    ensures agreed { option_map (λ held. held.now) result ≡ agreed (option_map (λ held. held.now) first.entry)
+        (option_map (λ held. held.now) second.entry) (option_map (λ held. held.now) third.entry) (option_map (λ held. held.now) fourth.entry) }
+{
+    let held = first?;
+    let second = second?;
+    let third = third?;
+    let fourth = fourth?;
+    if is_same(held, second) && is_same(held, third) && is_same(held, fourth) {
+        Some(held)
+    } else {
+        None
+    }
+}
+
+// The one holding of a township's cells, where they have one.
+fn township_holding(tree: &Tree) -> Option<&Holding>
+    ensures holding { option_map (λ held. held.now) result ≡ uniform_at blocks (plot tree.now) }
+{
+    let held = tree.at(&[Quarter::Northeast]).uniform()?;
+    let second = tree.at(&[Quarter::Northwest]).uniform()?;
+    let third = tree
+        .at(&[Quarter::Southwest, Quarter::Northeast])
+        .uniform()?;
+    if is_same(second, third) && is_same(held, second) {
+        Some(held)
+    } else {
+        None
+    }
+}
+
+// The one holding of the plant's cells, where they have one.
+fn plant_holding<'a>(
     alloc: Global,
     tree: &'a Tree,
     levels: usize,
     townships: &[Township],
-    node: Node,
 ) -> Result<Option<&'a Holding>, AllocError>
-    ensures holding { IfOk result (λ o. option_map (λ held. held.now) o ≡ uniform_at (spots levels townships.now node) (plot tree.now)) }
+    ensures holding { IfOk result (λ o. option_map (λ held. held.now) o ≡ uniform_at (spots levels townships.now node.Everything) (plot tree.now)) }
 {
     let mut paths = Vec::new(alloc);
-    add_spots(alloc, levels, townships, node, &mut paths)?;
+    add_spots(alloc, levels, townships, Node::Everything, &mut paths)?;
     Ok(uniform_at(tree, &paths))
 }
 
@@ -63,43 +102,151 @@ fn add_entries(
     Ok(())
 }
 
-// Adds the sheet of a node with so many levels of nodes below it.
-fn add_sheet(
-    alloc: Global,
-    tree: &Tree,
-    levels: usize,
-    townships: &[Township],
-    below: u8,
+// Puts a holding's rows in place of those from a place on, where there is one.
+fn settle(
+    held: Option<&Holding>,
+    start: usize,
+    node: &Node,
     estate: Estate,
-    node: Node,
     rows: &mut Vec<SheetRow>,
 ) -> Result<(), AllocError>
-    ensures rows { OnOk result (rows.new.items
-        ≡ rows.old.items ++ tree_sheet below levels townships.now (plot tree.now) estate node) }
+    ensures rows { OnOk result ((done parts : List SheetRow) → rows.old.items ≡ done ++ parts → length done ≡ start
+        → rows.new.items ≡ done ++ rows_or node.now estate (option_map (λ held. held.now) held.entry) parts) }
 {
-    let held = one_holding(alloc, tree, levels, townships, node)?;
-    if let Some(held) = held {
-        return add_entries(&node, estate, held, rows);
-    }
-    if below == 0 {
+    let Some(held) = held else {
         return Ok(());
+    };
+    rows.truncate(start);
+    add_entries(node, estate, held, rows)
+}
+
+// Adds the sheet of a square of a section from what stands there, and gives the square's one holding, where it has one.
+// Each quarter adds its rows; where they turn out to hold the same, those of the one holding take their place.
+fn add_square<'a>(
+    tree: &'a Tree,
+    section: Section,
+    within: Within,
+    estate: Estate,
+    rows: &mut Vec<SheetRow>,
+) -> Result<Option<&'a Holding>, AllocError>
+    ensures held { IfOk result (λ o. option_map (λ held. held.now) o ≡ uniform (plot tree.now)) }
+    ensures rows { OnOk result (rows.new.items ≡ rows.old.items ++ square_sheet (plot tree.now) estate section within) }
+{
+    let node = Node::Part(section, within);
+    match tree {
+        Tree::Leaf(held) => {
+            add_entries(&node, estate, held, rows)?;
+            Ok(Some(&**held))
+        }
+        Tree::Quarters(northeast, northwest, southwest, southeast) => {
+            let start = rows.as_slice().len();
+            if within.is_cell() {
+                let held = tree.uniform();
+                settle(held, start, &node, estate, rows)?;
+                return Ok(held);
+            }
+            let inner = within.quarter(Quarter::Northeast);
+            let first = add_square(northeast, section, inner, estate, rows)?;
+            let inner = within.quarter(Quarter::Northwest);
+            let second = add_square(northwest, section, inner, estate, rows)?;
+            let inner = within.quarter(Quarter::Southwest);
+            let third = add_square(southwest, section, inner, estate, rows)?;
+            let inner = within.quarter(Quarter::Southeast);
+            let fourth = add_square(southeast, section, inner, estate, rows)?;
+            let held = agreed(first, second, third, fourth);
+            settle(held, start, &node, estate, rows)?;
+            Ok(held)
+        }
     }
-    for child in &children_of(alloc, townships, node)? {
-        add_sheet(
-            alloc,
-            tree,
-            levels,
-            townships,
-            below - 1,
-            estate,
-            *child,
-            rows,
-        )?;
+}
+
+// Adds the sheet of a node of a section from what stands in the section.
+fn add_part(
+    tree: &Tree,
+    node: &Node,
+    estate: Estate,
+    rows: &mut Vec<SheetRow>,
+) -> Result<(), AllocError>
+    ensures rows { OnOk result (rows.new.items ≡ rows.old.items ++ part_sheet (plot tree.now) estate node.now) }
+{
+    if let Node::Part(section, within) = node {
+        let stands = square_tree(tree, *within);
+        add_square(stands, *section, *within, estate, rows)?;
     }
     Ok(())
 }
 
-/// Adds the sheet of a tract for one estate: the sheets of its cover's nodes in order.
+// Adds the sheets of nodes of a section from what stands in the section.
+fn add_parts(
+    tree: &Tree,
+    nodes: &[Node],
+    estate: Estate,
+    rows: &mut Vec<SheetRow>,
+) -> Result<(), AllocError>
+    ensures rows { OnOk result (rows.new.items ≡ rows.old.items ++ flat_map (part_sheet (plot tree.now) estate) nodes.now) }
+{
+    for node in nodes {
+        add_part(tree, node, estate, rows)?;
+    }
+    Ok(())
+}
+
+// Adds the sheet of a section from what stands in its township.
+fn add_section(
+    tree: &Tree,
+    section: Section,
+    estate: Estate,
+    rows: &mut Vec<SheetRow>,
+) -> Result<(), AllocError>
+    ensures rows { OnOk result (rows.new.items ≡ rows.old.items ++ section_sheet (plot tree.now) estate section) }
+{
+    let stands = numbered(tree, SECTION_LEVELS, usize::from(section.number - 1));
+    add_square(stands, section, Within::section(), estate, rows)?;
+    Ok(())
+}
+
+// Adds the sheet of a township from what stands there.
+fn add_township(
+    tree: &Tree,
+    township: Township,
+    estate: Estate,
+    rows: &mut Vec<SheetRow>,
+) -> Result<(), AllocError>
+    ensures rows { OnOk result (rows.new.items ≡ rows.old.items ++ township_sheet (plot tree.now) estate township) }
+{
+    if let Some(held) = township_holding(tree) {
+        return add_entries(&Node::Township(township), estate, held, rows);
+    }
+    for section in township.sections() {
+        add_section(tree, section, estate, rows)?;
+    }
+    Ok(())
+}
+
+// Adds the sheet of the whole plant.
+fn add_plant(
+    alloc: Global,
+    tree: &Tree,
+    levels: usize,
+    townships: &[Township],
+    estate: Estate,
+    rows: &mut Vec<SheetRow>,
+) -> Result<(), AllocError>
+    ensures rows { OnOk result (rows.new.items ≡ rows.old.items ++ plant_sheet levels townships.now (plot tree.now) estate) }
+{
+    let held = plant_holding(alloc, tree, levels, townships)?;
+    if let Some(held) = held {
+        return add_entries(&Node::Everything, estate, held, rows);
+    }
+    for township in townships {
+        let stands = township_tree(tree, levels, townships, *township);
+        add_township(stands, *township, estate, rows)?;
+    }
+    Ok(())
+}
+
+/// Adds the sheet of a tract for one estate: the sheets of its cover's nodes in order. The nodes of a part of a section are
+/// walked to from the section, which is found once.
 pub(crate) fn add_estate(
     alloc: Global,
     tree: &Tree,
@@ -112,9 +259,18 @@ pub(crate) fn add_estate(
     ensures rows { OnOk result (rows.new.items ≡ rows.old.items
         ++ flat_map (tree_sheet (depth + 2) levels townships.now (plot tree.now) estate) (cover_of depth tract.now)) }
 {
-    let below = levels_below_plant();
-    for node in tract.cover() {
-        add_sheet(alloc, tree, levels, townships, below, estate, *node, rows)?;
+    let Some((first, _)) = tract.cover().split_first() else {
+        return Ok(());
+    };
+    match first {
+        Node::Everything => add_plant(alloc, tree, levels, townships, estate, rows),
+        Node::Township(township) => {
+            let stands = township_tree(tree, levels, townships, *township);
+            add_township(stands, *township, estate, rows)
+        }
+        Node::Part(section, _) => {
+            let stands = section_tree(tree, levels, townships, *section);
+            add_parts(stands, tract.cover(), estate, rows)
+        }
     }
-    Ok(())
 }
