@@ -1,2 +1,3 @@
 -- Lemmas.
 pub mod Numbers
+pub mod Joins

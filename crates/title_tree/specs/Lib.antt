@@ -3,6 +3,7 @@ pub mod Changes
 pub mod Faults
 pub mod Paths
 pub mod Plots
+pub mod Joins
 pub mod Trees
 pub mod Pieces
 pub mod Parts

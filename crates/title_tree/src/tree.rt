@@ -5,6 +5,7 @@ ghost use Rattle.std.specs.Option.{option_map};
 ghost use Rattle.std.specs.Arc.{arc_value};
 ghost use Rattle.title_tree.specs.Changes.{after};
 ghost use Rattle.title_tree.specs.Faults.{Tells};
+ghost use Rattle.title_tree.specs.Joins.{is_joinable};
 ghost use Rattle.title_tree.specs.Plots.{Same, Four, value_at, has_path, plot_at, graft, split, changed, first_refusal};
 ghost use Rattle.title_tree.specs.Plots.{same_division, uniform, same_leaf, joined, is_tidy, tidied, tidied_at};
 ghost use Rattle.title_tree.specs.Trees.{plot};
@@ -242,11 +243,28 @@ impl Tree {
         }
     }
 
-    // Joins the quarters where they are leaves that have the same holding. Takes no memory.
+    // Whether it has quarters that are leaves of the same holding.
+    fn is_joinable(&self) -> bool
+        ensures joinable { result ≡ is_joinable (plot self.now) }
+    {
+        match self {
+            Tree::Leaf(_) => false,
+            Tree::Quarters(northeast, northwest, southwest, southeast) => {
+                northeast.is_same_leaf(northwest)
+                    && northeast.is_same_leaf(southwest)
+                    && northeast.is_same_leaf(southeast)
+            }
+        }
+    }
+
+    // Joins the quarters where they are leaves that have the same holding; else nothing is moved. Takes no memory.
+    #[tactic(auto, using(crate::proofs::Joins::not_joined))]
     fn join(&mut self)
         ensures joined { plot self.new ≡ joined (plot self.old) }
     {
-        replace_with(self, (), |tree, ()| (tree.joined(), ()))
+        if self.is_joinable() {
+            replace_with(self, (), |tree, ()| (tree.joined(), ()));
+        }
     }
 
     /// Joins quarters that are leaves of the same holding, from below; no cell's holding changes. Takes no memory.
