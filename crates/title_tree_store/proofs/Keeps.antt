@@ -180,13 +180,14 @@ fits_tidied_written levels [] t f = f
 fits_tidied_written levels (ps ∷ puts) t f =
     fits_tidied_written levels puts (tidied_all ps t) (fits_tidied_all levels ps t f)
 
-pub kept_tidied : (levels : ℕ) (ts : List Township) (ps qs : Estate → Plot) (puts : List (List (List Quarter))) (lent : List Lent)
-    (n : ℕ) → loans_of levels ts ps lent ≡ [] → ((e : Estate) → qs e ≡ tidied_written puts (ps e)) → IsKept levels ts ps lent n
+pub kept_tidied : (levels : ℕ) (ts : List Township) (ps qs : Estate → Plot) (puts : Estate → List (List (List Quarter)))
+    (lent : List Lent) (n : ℕ) → loans_of levels ts ps lent ≡ [] → ((e : Estate) → qs e ≡ tidied_written (puts e) (ps e))
+    → IsKept levels ts ps lent n
     → IsKept levels ts qs lent n
 kept_tidied levels ts ps qs puts lent n none e k =
     subst (λ (z : List Lent). IsKept levels ts qs z n) (sym (no_loans levels ts ps lent none))
     (kept_empty levels ts qs n k.room
-    (λ x. ap (fits (height levels)) (e x) ∙ fits_tidied_written (height levels) puts (ps x) (k.fit x)))
+    (λ x. ap (fits (height levels)) (e x) ∙ fits_tidied_written (height levels) (puts x) (ps x) (k.fit x)))
 
 -- ---- quartering, where it stops for want of memory
 

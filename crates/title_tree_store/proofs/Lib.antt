@@ -2,6 +2,7 @@
 pub mod Paths
 pub mod Places
 pub mod Steps
+pub mod Noted
 pub mod Slots
 pub mod Contents
 pub mod Images

@@ -50,10 +50,10 @@ tidied_written_shows : (puts : List (List (List Quarter))) (t : Plot) (p : List 
 tidied_written_shows [] t p = refl
 tidied_written_shows (ps ∷ puts) t p = tidied_written_shows puts (tidied_all ps t) p ∙ tidied_all_shows ps t p
 
-pub tidies : (levels : ℕ) (ts : List Township) (ps qs : Estate → Plot) (puts : List (List (List Quarter)))
-    → ((e : Estate) → qs e ≡ tidied_written puts (ps e)) → (c : Cell) → content_of levels ts qs c ≡ content_of levels ts ps c
+pub tidies : (levels : ℕ) (ts : List Township) (ps qs : Estate → Plot) (puts : Estate → List (List (List Quarter)))
+    → ((e : Estate) → qs e ≡ tidied_written (puts e) (ps e)) → (c : Cell) → content_of levels ts qs c ≡ content_of levels ts ps c
 tidies levels ts ps qs puts h c =
-    content_agrees levels ts ps qs (λ e p. ap (λ (t : Plot). value_at t p) (h e) ∙ tidied_written_shows puts (ps e) p) c
+    content_agrees levels ts ps qs (λ e p. ap (λ (t : Plot). value_at t p) (h e) ∙ tidied_written_shows (puts e) (ps e) p) c
 
 -- ---- taking an image out
 

@@ -25,7 +25,8 @@ use Rattle.title_store.specs.Sheets.{rows_or}
 use Rattle.title_tree.specs.Paths.{way, number_path}
 use Rattle.title_tree.specs.Plots.{Plot, Same, Four, plot_at, uniform}
 use Rattle.title_tree.specs.Pieces.{uniform_at, both_have}
-use Rattle.title_tree_store.specs.Spots.{blocks, township_path, section_path, square_path, township_spots}
+use Rattle.title_tree_store.specs.Spots.{blocks, township_path, section_path, square_path, township_spots, spots, tract_spots}
+use Rattle.title_tree_store.specs.Stems.{stem_spots}
 use Rattle.title_tree_store.specs.SquareSheets.{square_sheet, part_sheet, section_sheet, township_sheet, plant_sheet}
 use Rattle.title_tree_store.specs.TreeSheets.{tree_sheet}
 use Rattle.title_tree_store.proofs.Standing.{plot_at_join, square_down, section_down}
@@ -178,3 +179,11 @@ parts_cover x s w rest levels ts t y e h k =
     cover_same (part_sheet y e) (tree_sheet (depth + 2) levels ts t e) x s w rest h
     (λ v. square_is (depth + 2) levels ts t (plot_at (way v) y) e s v (omega arith)
     (join_down (section_path levels ts s) (way v) t y (plot_at (way v) y) k refl))
+
+-- the paths of a cover's nodes, from that of their section
+pub stems_cover : (x : Land) (s : Section) (w : List Quarter) (rest : List Node) (levels : ℕ) (ts : List Township) (stem : List Quarter)
+    → cover_of depth x ≡ node.Part s w ∷ rest → stem ≡ section_path levels ts s
+    → flat_map (stem_spots stem) (cover_of depth x) ≡ tract_spots levels ts x
+stems_cover x s w rest levels ts stem h k =
+    ap (λ (p : List Quarter). flat_map (stem_spots p) (cover_of depth x)) k
+    ∙ cover_same (stem_spots (section_path levels ts s)) (spots levels ts) x s w rest h (λ v. refl)

@@ -1,6 +1,5 @@
 -- The trees of a plant as plots, by estate.
 use Rattle.std.specs.Prelude.{◌≡◌, ℕ, List, [], ◌∷◌, ◌++◌, ◌⊎◌, cond, None, map}
-use Rattle.std.specs.Global.{Vec}
 use Rattle.title_land.specs.declared.rectangle.Quarter.{Quarter}
 use Rattle.title_instrument.specs.declared.parts.Estate.{Estate}
 use Rattle.title_instrument.specs.declared.parts.Estate.TheVariants.{S, O, M}
@@ -19,6 +18,7 @@ use Rattle.title_tree.specs.Pieces.{Piece, fresh, refusal_at}
 use Rattle.title_tree.specs.Trees.{plot}
 use Rattle.title_tree_store.specs.declared.forest.Forest.{Forest}
 use Rattle.title_tree_store.specs.declared.forest.Subtrees.{Subtrees}
+use Rattle.title_tree_store.specs.declared.forest.Written.{Written}
 
 -- the plot of each estate
 abbrev pub plots : Forest → Estate → Plot
@@ -26,22 +26,18 @@ plots f S = plot f.s
 plots f O = plot f.o
 plots f M = plot f.m
 
--- the paths in vectors of each put
-abbrev pub all_ways : List (Vec (Vec Quarter)) → List (List (List Quarter))
-all_ways puts = map (λ paths. ways paths.items) puts
+-- the paths at which a put wrote an estate
+abbrev pub put_ways : Estate → Written → List (List Quarter)
+put_ways e w = cond (names w.estates e) (ways w.paths.items) []
 
--- the paths that were written since a forest was last tidied, put by put
-abbrev pub written : Forest → List (List (List Quarter))
-written f = all_ways f.written.items
+-- the paths at which an estate was written since a forest was last tidied, put by put
+abbrev pub written : Estate → Forest → List (List (List Quarter))
+written e f = map (put_ways e) f.written.items
 
 -- tidied at the paths of each put in turn
 abbrev pub tidied_written : List (List (List Quarter)) → Plot → Plot
 tidied_written [] t = t
 tidied_written (ps ∷ puts) t = tidied_written puts (tidied_all ps t)
-
--- the paths are kept as those of the last put, or no tree changed
-abbrev pub IsNoted : List (List Quarter) → Forest → Forest → Type 0
-IsNoted ps old new = (written new ≡ written old ++ ps ∷ []) ⊎ ((e : Estate) → plots new e ≡ plots old e)
 
 -- the parts of each estate
 abbrev pub pieces : Subtrees → Estate → List Piece
@@ -56,6 +52,11 @@ owners_at ps c = record { s = value_at (ps S) c; o = value_at (ps O) c; m = valu
 -- the paths, where the instrument names the estate
 abbrev pub named_spots : Instrument ℕ → Estate → List (List Quarter) → List (List Quarter)
 named_spots i e ps = cond (names (estates_of i) e) ps []
+
+-- the paths are kept as those of the last put, for the estates that the instrument names, or no tree changed
+abbrev pub IsNoted : Instrument ℕ → List (List Quarter) → Forest → Forest → Type 0
+IsNoted i ps old new =
+    ((e : Estate) → written e new ≡ written e old ++ named_spots i e ps ∷ []) ⊎ ((e : Estate) → plots new e ≡ plots old e)
 
 -- no leaf at the paths refuses the instrument, where it names the estate, and these are the parts after it
 abbrev pub IsChange : Instrument ℕ → Estate → List (List Quarter) → Plot → List Piece → Type 0

@@ -9,18 +9,25 @@ ghost use Rattle.title_instrument.specs.declared.parts.Estate.TheVariants.{S, O,
 ghost use Rattle.title_tree.specs.Changes.{after};
 ghost use Rattle.title_tree.specs.Parts.{piece, ways};
 ghost use Rattle.title_tree.specs.Pieces.{Disjoint, Ready, Refines, StaysWithin, paths, swapped, taken, split_all, fresh, refusal_at};
-ghost use Rattle.title_tree.specs.Plots.{Same, is_tidy};
+ghost use Rattle.title_tree.specs.Plots.{Same, is_tidy, tidied_all};
 ghost use Rattle.title_tree.specs.Trees.{plot};
-ghost use Rattle.title_tree_store.specs.Forests.{plots, named_spots, all_ways, written, tidied_written, IsNoted};
+ghost use Rattle.title_tree_store.specs.Forests.{plots, named_spots, put_ways, written, tidied_written, IsNoted};
 ghost use Rattle.title_tree_store.specs.Forests.{IsChange, IsRefusedIn};
 
 use crate::passing::Passing;
 use std::alloc::{AllocError, Global};
 use std::sync::Arc;
-use title_instrument::{Estate, Instrument, Rule};
+use title_instrument::{Estate, Estates, Instrument, Rule};
 use title_land::Quarter;
 use title_share::Holding;
 use title_tree::{Fault, Part, Tree, add_changed, exchange_all, split_each, tidy_all};
+
+/// What a put wrote: the paths down to which it quartered the trees of some estates.
+#[derive(Drop)]
+pub(crate) struct Written {
+    pub paths: Vec<Vec<Quarter>>,
+    pub estates: Estates,
+}
 
 /// A tree for each estate.
 #[derive(Drop)]
@@ -28,8 +35,8 @@ pub(crate) struct Forest {
     pub s: Tree,
     pub o: Tree,
     pub m: Tree,
-    // The paths down to which the trees were quartered since they were last joined, those of each put together.
-    pub written: Vec<Vec<Vec<Quarter>>>,
+    // What was written since the trees were last joined, put by put.
+    pub written: Vec<Written>,
 }
 
 /// Parts of each estate's tree.
@@ -67,10 +74,10 @@ fn changed(
     ensures change { IfOk result (λ parts. IsChange instrument.now estate (ways paths.now) (plot tree.now) (map piece parts.items)) }
     ensures why { IfErr result (IsRefusedIn instrument.now estate (ways paths.now) (plot tree.now)) }
 {
-    let mut parts = Vec::new(alloc);
     if !names(instrument, estate) {
-        return Ok(parts);
+        return Ok(Vec::new(alloc));
     }
+    let mut parts = Vec::with_capacity(alloc, paths.len())?;
     let mut passing = Passing {
         instrument: *instrument,
         estate,
@@ -133,7 +140,7 @@ impl Forest {
         ensures parts_s { map piece parts.new.s.items ≡ taken (map piece parts.old.s.items) (plot self.old.s) }
         ensures parts_o { map piece parts.new.o.items ≡ taken (map piece parts.old.o.items) (plot self.old.o) }
         ensures parts_m { map piece parts.new.m.items ≡ taken (map piece parts.old.m.items) (plot self.old.m) }
-        ensures written { written self.new ≡ written self.old }
+        ensures written { self.new.written ≡ self.old.written }
     {
         exchange_vec(&mut self.s, &mut parts.s);
         exchange_vec(&mut self.o, &mut parts.o);
@@ -182,8 +189,8 @@ impl Forest {
         split_named(&mut self.m, alloc, paths, instrument, Estate::M)
     }
 
-    /// Quarters the trees of the estates that an instrument names down to each path, and keeps the paths for `tidy`. After
-    /// `Err` they may be quartered down to some.
+    /// Quarters the trees of the estates that an instrument names down to each path, and keeps the paths and the estates for
+    /// `tidy`. After `Err` they may be quartered down to some.
     pub(crate) fn quarter(
         &mut self,
         alloc: Global,
@@ -199,12 +206,14 @@ impl Forest {
         ensures within_s { OnErr result (StaysWithin (ways paths.items) (plot self.old.s) (plot self.new.s)) }
         ensures within_o { OnErr result (StaysWithin (ways paths.items) (plot self.old.o) (plot self.new.o)) }
         ensures within_m { OnErr result (StaysWithin (ways paths.items) (plot self.old.m) (plot self.new.m)) }
-        ensures noted { OnOk result (written self.new ≡ written self.old ++ ways paths.items ∷ []) }
-        ensures err_noted { OnErr result (IsNoted (ways paths.items) self.old self.new) }
+        ensures noted { OnOk result ((e : Estate)
+            → written e self.new ≡ written e self.old ++ named_spots instrument.now e (ways paths.items) ∷ []) }
+        ensures err_noted { OnErr result (IsNoted instrument.now (ways paths.items) self.old self.new) }
     {
         self.written.reserve(1)?;
+        let estates = instrument.estates();
         let quartered = self.split_each(alloc, &paths, instrument);
-        self.written.push_reserved(paths);
+        self.written.push_reserved(Written { paths, estates });
         quartered
     }
 
@@ -215,28 +224,37 @@ impl Forest {
         self.s.is_tidy() && self.o.is_tidy() && self.m.is_tidy()
     }
 
-    /// Joins quarters that are leaves of the same holding, below and above each path written since this was last done.
-    /// Takes no memory.
+    /// Joins quarters that are leaves of the same holding, below and above each path written since this was last done, in
+    /// the trees of the estates that were written. Takes no memory.
     pub(crate) fn tidy(&mut self)
-        ensures s { plot self.new.s ≡ tidied_written (written self.old) (plot self.old.s) }
-        ensures o { plot self.new.o ≡ tidied_written (written self.old) (plot self.old.o) }
-        ensures m { plot self.new.m ≡ tidied_written (written self.old) (plot self.old.m) }
-        ensures written { written self.new ≡ [] }
+        ensures s { plot self.new.s ≡ tidied_written (written S self.old) (plot self.old.s) }
+        ensures o { plot self.new.o ≡ tidied_written (written O self.old) (plot self.old.o) }
+        ensures m { plot self.new.m ≡ tidied_written (written M self.old) (plot self.old.m) }
+        ensures written { (e : Estate) → written e self.new ≡ [] }
     {
-        tidy_written(&mut self.s, &self.written);
-        tidy_written(&mut self.o, &self.written);
-        tidy_written(&mut self.m, &self.written);
+        tidy_written(&mut self.s, &self.written, Estate::S);
+        tidy_written(&mut self.o, &self.written, Estate::O);
+        tidy_written(&mut self.m, &self.written, Estate::M);
         self.written.clear();
     }
 }
 
-// Joins quarters below and above the paths of each put.
-fn tidy_written(tree: &mut Tree, written: &[Vec<Vec<Quarter>>])
-    ensures tidied { plot tree.new ≡ tidied_written (all_ways written.now) (plot tree.old) }
+// Joins quarters below and above the paths of a put, where it wrote the estate.
+fn tidy_put(tree: &mut Tree, put: &Written, estate: Estate)
+    ensures tidied { plot tree.new ≡ tidied_all (put_ways estate put.now) (plot tree.old) }
 {
-    if let Some((paths, rest)) = written.split_first() {
-        tidy_all(tree, paths);
-        tidy_written(tree, rest);
+    if put.estates.has(estate) {
+        tidy_all(tree, &put.paths);
+    }
+}
+
+// Joins quarters below and above the paths of each put that wrote the estate.
+fn tidy_written(tree: &mut Tree, written: &[Written], estate: Estate)
+    ensures tidied { plot tree.new ≡ tidied_written (map (put_ways estate) written.now) (plot tree.old) }
+{
+    if let Some((put, rest)) = written.split_first() {
+        tidy_put(tree, put, estate);
+        tidy_written(tree, rest, estate);
     }
 }
 

@@ -39,7 +39,8 @@ fn agreed<'a>(
     fourth: Option<&'a Holding>,
 ) -> Option<&'a Holding>
     ensures agreed { option_map (λ held. held.now) result ≡ agreed (option_map (λ held. held.now) first.entry)
-        (option_map (λ held. held.now) second.entry) (option_map (λ held. held.now) third.entry) (option_map (λ held. held.now) fourth.entry) }
+        (option_map (λ held. held.now) second.entry) (option_map (λ held. held.now) third.entry)
+        (option_map (λ held. held.now) fourth.entry) }
 {
     let held = first?;
     let second = second?;
@@ -75,7 +76,8 @@ fn plant_holding<'a>(
     levels: usize,
     townships: &[Township],
 ) -> Result<Option<&'a Holding>, AllocError>
-    ensures holding { IfOk result (λ o. option_map (λ held. held.now) o ≡ uniform_at (spots levels townships.now node.Everything) (plot tree.now)) }
+    ensures holding { IfOk result (λ o. option_map (λ held. held.now) o
+        ≡ uniform_at (spots levels townships.now node.Everything) (plot tree.now)) }
 {
     let mut paths = Vec::new(alloc);
     add_spots(alloc, levels, townships, Node::Everything, &mut paths)?;
@@ -91,13 +93,15 @@ fn add_entries(
 ) -> Result<(), AllocError>
     ensures rows { OnOk result (rows.new.items ≡ rows.old.items ++ holding_rows node.now estate held.now) }
 {
-    for entry in held.rows() {
-        rows.push(SheetRow {
+    let entries = held.rows();
+    rows.reserve(entries.len())?;
+    for entry in entries {
+        rows.push_reserved(SheetRow {
             node: *node,
             estate,
             party: entry.0,
             units: entry.1,
-        })?;
+        });
     }
     Ok(())
 }

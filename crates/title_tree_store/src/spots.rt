@@ -1,10 +1,14 @@
 //! Where nodes and cells lie in a tree of the plant.
 
-ghost use Rattle.std.specs.Prelude.{◌≡◌, ◌≤◌, ◌+◌, ◌++◌, ◌∷◌, [], length, OnOk, IfOk};
+ghost use Rattle.std.specs.Prelude.{◌≡◌, ◌≤◌, ◌+◌, ◌++◌, ◌∷◌, [], List, length, OnOk, IfOk, IfSome};
 ghost use Rattle.std.specs.List.{flat_map};
 ghost use Rattle.title_land.specs.Depth.{depth};
+ghost use Rattle.title_land.specs.declared.node.Node.{Node};
+ghost use Rattle.title_land.specs.declared.node.Node.TheVariants as node;
+ghost use Rattle.title_land.specs.declared.rectangle.Quarter.{Quarter};
 ghost use Rattle.title_tree.specs.Parts.{ways};
 ghost use Rattle.title_tree_store.specs.Spots.{index_of, township_path, section_path, square_path};
+ghost use Rattle.title_tree_store.specs.Stems.{stem_spots};
 ghost use Rattle.title_tree_store.specs.Spots.{township_spots, spots, tract_spots};
 
 use std::alloc::{AllocError, Global};
@@ -174,7 +178,54 @@ fn add_all(
     add_all(alloc, levels, townships, rest, paths)
 }
 
-/// The paths of the tree's nodes that together have a tract's cells.
+// Adds the path of a node of a section, from that of the section.
+fn add_below(
+    alloc: Global,
+    stem: &[Quarter],
+    node: &Node,
+    paths: &mut Vec<Vec<Quarter>>,
+) -> Result<(), AllocError>
+    ensures paths { OnOk result (ways paths.new.items ≡ ways paths.old.items ++ stem_spots stem.now node.now) }
+{
+    let Node::Part(_, within) = node else {
+        return Ok(());
+    };
+    let mut path = Vec::with_capacity(alloc, stem.len().saturating_add(usize::from(DEPTH)))?;
+    path.extend_from_slice(stem)?;
+    add_square(&mut path, *within)?;
+    push_path(path, paths)
+}
+
+// Adds the paths of nodes of a section, from that of the section.
+fn add_each_below(
+    alloc: Global,
+    stem: &[Quarter],
+    nodes: &[Node],
+    paths: &mut Vec<Vec<Quarter>>,
+) -> Result<(), AllocError>
+    ensures paths { OnOk result (ways paths.new.items ≡ ways paths.old.items ++ flat_map (stem_spots stem.now) nodes.now) }
+{
+    for node in nodes {
+        add_below(alloc, stem, node, paths)?;
+    }
+    Ok(())
+}
+
+// The section of the first of several nodes, where it lies in one.
+fn shared_section(nodes: &[Node]) -> Option<Section>
+    ensures shared { IfSome result (λ s. (w : List Quarter) × (rest : List Node) × (nodes.now ≡ node.Part s w ∷ rest)) }
+{
+    let (first, rest) = nodes.split_first()?;
+    if rest.is_empty() {
+        return None;
+    }
+    let Node::Part(section, _) = first else {
+        return None;
+    };
+    Some(*section)
+}
+
+/// The paths of the tree's nodes that together have a tract's cells. Where several lie in a section, its path is made once.
 pub(crate) fn tract_spots(
     alloc: Global,
     levels: usize,
@@ -184,6 +235,11 @@ pub(crate) fn tract_spots(
     ensures paths { IfOk result (λ paths. ways paths.items ≡ tract_spots levels townships.now tract.now) }
 {
     let mut paths = Vec::with_capacity(alloc, tract.cover().len())?;
-    add_all(alloc, levels, townships, tract.cover(), &mut paths)?;
+    let Some(section) = shared_section(tract.cover()) else {
+        add_all(alloc, levels, townships, tract.cover(), &mut paths)?;
+        return Ok(paths);
+    };
+    let stem = section_path(alloc, levels, townships, section)?;
+    add_each_below(alloc, &stem, tract.cover(), &mut paths)?;
     Ok(paths)
 }

@@ -1,10 +1,13 @@
 -- The trees are quartered down to the paths that are kept.
-use Rattle.std.proofs.Common.{OnErr, List, subst}
+use Rattle.std.proofs.Common.{OnErr, List, subst, ap, ◌∙◌, inl}
 use Rattle.std.specs.Global.{Vec}
 use Rattle.title_land.specs.declared.rectangle.Quarter.{Quarter}
 use Rattle.title_tree.specs.Parts.{ways}
 use Rattle.title_tree.specs.Pieces.{StaysWithin}
 use Rattle.title_tree.specs.Trees.{plot}
+use Rattle.title_tree_store.specs.declared.forest.Written.{Written}
+use Rattle.title_tree_store.proofs.Noted.{on_ok, put_noted}
+use Rattle.title_tree_store.proofs.Steps.{on_err}
 use Rattle.title_tree_store.proofs.forest.Forest.quarter.Goals as goal
 
 pub returns-clause-within_s : goal.returns-clause-within_s
@@ -21,3 +24,19 @@ pub returns-clause-within_m : goal.returns-clause-within_m
 returns-clause-within_m c =
     subst (λ (ps : List (Vec Quarter)). OnErr c.split_each-quartered.result (StaysWithin (ways ps) (plot c.args.self.now.m)
     (plot c.split_each-quartered.new.self.m))) c.deref.ensures.value c.split_each-quartered.ensures.within_m
+
+pub returns-clause-noted : goal.returns-clause-noted
+returns-clause-noted c =
+    on_ok c.split_each-quartered.result _
+    (put_noted c.args.instrument.now c.args.self.now.written.items c.split_each-quartered.new.self.written.items
+    c.push_reserved.new.self.items record { paths = c.args.paths; estates = c.estates-estates.result }
+    (ap (λ (puts : Vec Written). puts.items) c.split_each-quartered.ensures.written ∙ c.reserve.ensures.items)
+    c.push_reserved.ensures.items c.estates-estates.ensures.estates)
+
+pub returns-clause-err_noted : goal.returns-clause-err_noted
+returns-clause-err_noted c =
+    on_err c.split_each-quartered.result _
+    (inl (put_noted c.args.instrument.now c.args.self.now.written.items c.split_each-quartered.new.self.written.items
+    c.push_reserved.new.self.items record { paths = c.args.paths; estates = c.estates-estates.result }
+    (ap (λ (puts : Vec Written). puts.items) c.split_each-quartered.ensures.written ∙ c.reserve.ensures.items)
+    c.push_reserved.ensures.items c.estates-estates.ensures.estates))

@@ -11,16 +11,16 @@ pub invariant_of-self : goal.invariant_of-self
 invariant_of-self c = record {
   once = c.args.self.now.once;
   kept = kept_tidied c.args.self.now.levels c.args.self.now.townships.items (plots c.args.self.now.forest) (plots c.tidy.new.self)
-      (written c.args.self.now.forest) (images c.args.self.now.lent) c.args.self.now.lent.next c.requires.none
-      (each (λ e. plots c.tidy.new.self e ≡ tidied_written (written c.args.self.now.forest) (plots c.args.self.now.forest e))
+      (λ e. written e c.args.self.now.forest) (images c.args.self.now.lent) c.args.self.now.lent.next c.requires.none
+      (each (λ e. plots c.tidy.new.self e ≡ tidied_written (written e c.args.self.now.forest) (plots c.args.self.now.forest e))
       c.tidy.ensures.s c.tidy.ensures.o c.tidy.ensures.m) c.args.self.now.kept;
 }
 
 pub returns-clause-content : goal.returns-clause-content
 returns-clause-content c x =
     tidies c.args.self.now.levels c.args.self.now.townships.items (plots c.args.self.now.forest) (plots c.tidy.new.self)
-    (written c.args.self.now.forest)
-    (each (λ e. plots c.tidy.new.self e ≡ tidied_written (written c.args.self.now.forest) (plots c.args.self.now.forest e))
+    (λ e. written e c.args.self.now.forest)
+    (each (λ e. plots c.tidy.new.self e ≡ tidied_written (written e c.args.self.now.forest) (plots c.args.self.now.forest e))
     c.tidy.ensures.s c.tidy.ensures.o c.tidy.ensures.m) x
 
 pub returns-clause-out : goal.returns-clause-out
