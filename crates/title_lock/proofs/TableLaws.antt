@@ -6,7 +6,8 @@ use Rattle.std.proofs.lemmas.Bool.{eqb-true, or_cases, or_left, or_right}
 use Rattle.std.proofs.lemmas.List.Folds.{list_any_more}
 use Rattle.std.specs.Prelude.{IsSome}
 use Rattle.std.specs.List.{list_any}
-use Rattle.std.specs.BTreeMap.{BTreeMap, get, is_at}
+use Rattle.std.specs.HashMap.{HashMap, get}
+use Rattle.std.proofs.Common.{BuildHasherDefault, FoldHasher}
 use Rattle.std.proofs.lemmas.List.{nil_from_length}
 use Rattle.title_land.specs.declared.node.Node.{Node}
 use Rattle.title_land.specs.declared.node.Node.TheVariants as node
@@ -15,50 +16,59 @@ use Rattle.title_lock.specs.declared.modes.Mode.{Mode}
 use Rattle.title_lock.specs.declared.table.Table.{Table}
 use Rattle.title_lock.specs.Modes.{bound}
 use Rattle.title_lock.specs.Holders.{Modes, holder_mode, is_free}
-use Rattle.title_land.specs.Orders.{node_cmp}
-use Rattle.title_lock.specs.Tables.{mode_in, room_in, idle_in, unused_in, table_room, HasRoom, is_asked}
+use Rattle.title_lock.specs.Tables.{place_at, mode_in, room_in, idle_in, unused_in, table_room, HasRoom, is_asked}
 use Rattle.title_lock.proofs.ModeLaws.{and_true, bound_none}
 use Rattle.title_lock.proofs.NodeLaws.{same_self, same_true, above_of}
-use Rattle.title_land.specs.Laws.NodeKeys.{node_at}
+use Rattle.title_lock.specs.Codes.{node_code}
+use Rattle.title_lock.proofs.CodeLaws.{code_at}
 use Rattle.title_lock.proofs.Overlap.{and_none}
 
 abbrev pub Places : Type 0
-Places = BTreeMap Node Modes
+Places = HashMap ℕ Modes (BuildHasherDefault FoldHasher)
 
 -- the second map is the first with this at a node
 abbrev pub Writes : Places → Places → Node → Option Modes → Type 0
-Writes m n k w = (q : Node) → get node_cmp n q ≡ cond (is_at (node_cmp k) q) w (get node_cmp m q)
+Writes m n k w = (q : Node) → place_at n q ≡ cond (eqb (node_code k) (node_code q)) w (place_at m q)
+
+-- a map by numbers, changed at a node's number, is changed at that node
+pub node_writes : (m n : Places) (k : ℕ) (c : Node) (w : Option Modes) → k ≡ node_code c
+    → ((q : ℕ) → get eqb n q ≡ cond (eqb k q) w (get eqb m q)) → Writes m n c w
+node_writes m n k c w e h q = h (node_code q) ∙ ap (λ (z : ℕ). cond (eqb z (node_code q)) w (place_at m q)) e
+
+-- what is found at a node's number is found at that node
+pub node_finds : (m : Places) (k : ℕ) (c : Node) (o : Option Modes) → k ≡ node_code c → o ≡ get eqb m k → o ≡ place_at m c
+node_finds m k c o e h = h ∙ ap (get eqb m) e
 
 -- the mode of an examiner at a node of a map
 abbrev pub mode_of : Places → ℕ → Node → Option Mode
-mode_of m f q = mode_in f (get node_cmp m q)
+mode_of m f q = mode_in f (place_at m q)
 
 module _ (m n : Places) (k : Node) (w : Option Modes) (h : Writes m n k w) where
   -- what is read of a map after a write
   written : {V : Type 0} (read : Option Modes → V) (q : Node)
-      → read (get node_cmp n q) ≡ cond (same_node q k) (read w) (read (get node_cmp m q))
-  written read q = ap read (h q) ∙ ap (λ (b : Bool). read (cond b w (get node_cmp m q))) (node_at k q) ∙ go (same_node q k)
+      → read (place_at n q) ≡ cond (same_node q k) (read w) (read (place_at m q))
+  written read q = ap read (h q) ∙ ap (λ (b : Bool). read (cond b w (place_at m q))) (code_at k q) ∙ go (same_node q k)
     where
-      go : (b : Bool) → read (cond b w (get node_cmp m q)) ≡ cond b (read w) (read (get node_cmp m q))
+      go : (b : Bool) → read (cond b w (place_at m q)) ≡ cond b (read w) (read (place_at m q))
       go true = refl
       go false = refl
 
   -- what a write leaves at its node it leaves everywhere
-  pub same_everywhere : {V : Type 0} (read : Option Modes → V) → read w ≡ read (get node_cmp m k) → (q : Node)
-      → read (get node_cmp n q) ≡ read (get node_cmp m q)
+  pub same_everywhere : {V : Type 0} (read : Option Modes → V) → read w ≡ read (place_at m k) → (q : Node)
+      → read (place_at n q) ≡ read (place_at m q)
   same_everywhere read same q = written read q ∙ go (same_node q k) refl
     where
-      go : (b : Bool) → same_node q k ≡ b → cond b (read w) (read (get node_cmp m q)) ≡ read (get node_cmp m q)
-      go true e = same ∙ ap (λ (x : Node). read (get node_cmp m x)) (sym (same_true q k e))
+      go : (b : Bool) → same_node q k ≡ b → cond b (read w) (read (place_at m q)) ≡ read (place_at m q)
+      go true e = same ∙ ap (λ (x : Node). read (place_at m x)) (sym (same_true q k e))
       go false e = refl
 
   -- a write that keeps room at its node keeps room everywhere
-  pub room_stays : (e : ℕ) → (room_in e (get node_cmp m k) ≡ true → room_in e w ≡ true) → (q : Node)
-      → room_in e (get node_cmp m q) ≡ true → room_in e (get node_cmp n q) ≡ true
+  pub room_stays : (e : ℕ) → (room_in e (place_at m k) ≡ true → room_in e w ≡ true) → (q : Node)
+      → room_in e (place_at m q) ≡ true → room_in e (place_at n q) ≡ true
   room_stays e keeps q room = written (room_in e) q ∙ go (same_node q k) refl
     where
-      go : (b : Bool) → same_node q k ≡ b → cond b (room_in e w) (room_in e (get node_cmp m q)) ≡ true
-      go true s = keeps (ap (λ (x : Node). room_in e (get node_cmp m x)) (sym (same_true q k s)) ∙ room)
+      go : (b : Bool) → same_node q k ≡ b → cond b (room_in e w) (room_in e (place_at m q)) ≡ true
+      go true s = keeps (ap (λ (x : Node). room_in e (place_at m x)) (sym (same_true q k s)) ∙ room)
       go false s = room
 
   -- an examiner raised at a node
@@ -86,65 +96,65 @@ module _ (m n : Places) (k : Node) (w : Option Modes) (h : Writes m n k w) where
       go false s = ap (λ (b : Bool). cond b None (mode_of m f q)) (sym (and_none l))
 
   -- who may be idle after a write where b says who gets room
-  pub idle_more : (b : Bool) (f : ℕ) → (idle_in f w ≡ true → (idle_in f (get node_cmp m k) || b) ≡ true) → (q : Node)
-      → idle_in f (get node_cmp n q) ≡ true → (idle_in f (get node_cmp m q) || (b && same_node q k)) ≡ true
+  pub idle_more : (b : Bool) (f : ℕ) → (idle_in f w ≡ true → (idle_in f (place_at m k) || b) ≡ true) → (q : Node)
+      → idle_in f (place_at n q) ≡ true → (idle_in f (place_at m q) || (b && same_node q k)) ≡ true
   idle_more b f here q idle = go (same_node q k) refl (sym (written (idle_in f) q) ∙ idle)
     where
-      go : (s : Bool) → same_node q k ≡ s → cond s (idle_in f w) (idle_in f (get node_cmp m q)) ≡ true
-          → (idle_in f (get node_cmp m q) || (b && s)) ≡ true
+      go : (s : Bool) → same_node q k ≡ s → cond s (idle_in f w) (idle_in f (place_at m q)) ≡ true
+          → (idle_in f (place_at m q) || (b && s)) ≡ true
       go true e i =
-          ap (λ (x : Node). idle_in f (get node_cmp m x) || (b && true)) (same_true q k e)
-          ∙ ap (λ (z : Bool). idle_in f (get node_cmp m k) || z) (and_true b) ∙ here i
-      go false e i = or_left (idle_in f (get node_cmp m q)) (b && false) i
+          ap (λ (x : Node). idle_in f (place_at m x) || (b && true)) (same_true q k e)
+          ∙ ap (λ (z : Bool). idle_in f (place_at m k) || z) (and_true b) ∙ here i
+      go false e i = or_left (idle_in f (place_at m q)) (b && false) i
 
   -- who is idle after a write where b says who isn't
-  pub idle_less : (b : Bool) (f : ℕ) → idle_in f w ≡ (idle_in f (get node_cmp m k) && not b) → (q : Node)
-      → idle_in f (get node_cmp n q) ≡ (idle_in f (get node_cmp m q) && not (b && same_node q k))
+  pub idle_less : (b : Bool) (f : ℕ) → idle_in f w ≡ (idle_in f (place_at m k) && not b) → (q : Node)
+      → idle_in f (place_at n q) ≡ (idle_in f (place_at m q) && not (b && same_node q k))
   idle_less b f here q = written (idle_in f) q ∙ go (same_node q k) refl
     where
       go : (s : Bool) → same_node q k ≡ s
-          → cond s (idle_in f w) (idle_in f (get node_cmp m q)) ≡ (idle_in f (get node_cmp m q) && not (b && s))
+          → cond s (idle_in f w) (idle_in f (place_at m q)) ≡ (idle_in f (place_at m q) && not (b && s))
       go true e =
-          here ∙ ap (λ (x : Node). idle_in f (get node_cmp m x) && not b) (sym (same_true q k e))
-          ∙ ap (λ (z : Bool). idle_in f (get node_cmp m q) && not z) (sym (and_true b))
-      go false e = sym (and_true (idle_in f (get node_cmp m q)))
-          ∙ ap (λ (z : Bool). idle_in f (get node_cmp m q) && not z) (sym (and_none b))
+          here ∙ ap (λ (x : Node). idle_in f (place_at m x) && not b) (sym (same_true q k e))
+          ∙ ap (λ (z : Bool). idle_in f (place_at m q) && not z) (sym (and_true b))
+      go false e = sym (and_true (idle_in f (place_at m q)))
+          ∙ ap (λ (z : Bool). idle_in f (place_at m q) && not z) (sym (and_none b))
 
   -- places are used after a write that leaves its own used
-  pub used_after : (unused_in (get node_cmp m k) ≡ false → unused_in w ≡ false) → ((q : Node) → unused_in (get node_cmp m q) ≡ false)
-      → (q : Node) → unused_in (get node_cmp n q) ≡ false
+  pub used_after : (unused_in (place_at m k) ≡ false → unused_in w ≡ false) → ((q : Node) → unused_in (place_at m q) ≡ false)
+      → (q : Node) → unused_in (place_at n q) ≡ false
   used_after here all q = written unused_in q ∙ go (same_node q k)
     where
-      go : (s : Bool) → cond s (unused_in w) (unused_in (get node_cmp m q)) ≡ false
+      go : (s : Bool) → cond s (unused_in w) (unused_in (place_at m q)) ≡ false
       go true = here (all k)
       go false = all q
 
 -- of two writes at one node the second counts
 pub rewritten : (m n o : Places) (k : Node) (v w : Option Modes) → Writes m n k v → Writes n o k w → Writes m o k w
 rewritten m n o k v w first then q =
-    then q ∙ ap (λ (z : Option Modes). cond (is_at (node_cmp k) q) w z) (first q) ∙ go (is_at (node_cmp k) q)
+    then q ∙ ap (λ (z : Option Modes). cond (eqb (node_code k) (node_code q)) w z) (first q) ∙ go (eqb (node_code k) (node_code q))
   where
-    go : (b : Bool) → cond b w (cond b v (get node_cmp m q)) ≡ cond b w (get node_cmp m q)
+    go : (b : Bool) → cond b w (cond b v (place_at m q)) ≡ cond b w (place_at m q)
     go true = refl
     go false = refl
 
 -- nobody is idle where there is no place
-pub none_idle : (m : Places) (k : Node) → get node_cmp m k ≡ None → (b : Bool) (f : ℕ) (q : Node)
-    → idle_in f (get node_cmp m q) ≡ (idle_in f (get node_cmp m q) && not (b && same_node q k))
+pub none_idle : (m : Places) (k : Node) → place_at m k ≡ None → (b : Bool) (f : ℕ) (q : Node)
+    → idle_in f (place_at m q) ≡ (idle_in f (place_at m q) && not (b && same_node q k))
 none_idle m k none b f q = go (same_node q k) refl
   where
     nothing : (i z : Bool) → i ≡ false → i ≡ (i && z)
     nothing true z h = absurd (true≢false h)
     nothing false z h = refl
 
-    go : (s : Bool) → same_node q k ≡ s → idle_in f (get node_cmp m q) ≡ (idle_in f (get node_cmp m q) && not (b && s))
-    go true s = nothing (idle_in f (get node_cmp m q)) (not (b && true))
-        (ap (λ (x : Node). idle_in f (get node_cmp m x)) (same_true q k s) ∙ ap (idle_in f) none)
-    go false s = sym (and_true (idle_in f (get node_cmp m q)))
-        ∙ ap (λ (z : Bool). idle_in f (get node_cmp m q) && not z) (sym (and_none b))
+    go : (s : Bool) → same_node q k ≡ s → idle_in f (place_at m q) ≡ (idle_in f (place_at m q) && not (b && s))
+    go true s = nothing (idle_in f (place_at m q)) (not (b && true))
+        (ap (λ (x : Node). idle_in f (place_at m x)) (same_true q k s) ∙ ap (idle_in f) none)
+    go false s = sym (and_true (idle_in f (place_at m q)))
+        ∙ ap (λ (z : Bool). idle_in f (place_at m q) && not z) (sym (and_none b))
 
 -- nobody is taken out where there is no place
-pub none_released : (m : Places) (k : Node) → get node_cmp m k ≡ None → (l : Bool) (f : ℕ) (q : Node)
+pub none_released : (m : Places) (k : Node) → place_at m k ≡ None → (l : Bool) (f : ℕ) (q : Node)
     → mode_of m f q ≡ cond (l && same_node q k) None (mode_of m f q)
 none_released m k none l f q = go (same_node q k) refl
   where

@@ -1,17 +1,21 @@
 -- What a table of locks says: who holds each node, and who is in the way of an access by these modes.
-use Rattle.std.specs.Prelude.{ℕ, ◌≡◌, ◌≢◌, ◌==◌, Bool, true, false, ◌&&◌, ◌||◌, not, List, Option, Some, None}
+use Rattle.std.specs.Prelude.{ℕ, ◌≡◌, ◌≢◌, ◌==◌, nat_eq, Bool, true, false, ◌&&◌, ◌||◌, not, List, Option, Some, None}
 use Rattle.std.specs.List.{list_any}
-use Rattle.std.specs.BTreeMap.{get}
+use Rattle.std.specs.HashMap.{HashMap, get}
 use Rattle.title_land.specs.declared.node.Node.{Node}
 use Rattle.title_land.specs.Nodes.{same_node, above, is_above}
 use Rattle.title_land.specs.Lands.{cover_of}
-use Rattle.title_land.specs.Orders.{node_cmp}
 use Rattle.title_lock.specs.declared.modes.Mode.{Mode}
 use Rattle.title_lock.specs.declared.table.Table.{Table}
 use Rattle.title_lock.specs.declared.guards.Entry.{Entry}
+use Rattle.title_lock.specs.Codes.{node_code}
 use Rattle.title_lock.specs.Modes.{allows}
 use Rattle.title_lock.specs.Asking.{own_mode, above_mode, mode_at, AreSized}
 use Rattle.title_lock.specs.Holders.{Modes, holder_mode, has_room, idles, is_free, clashes}
+
+-- the holders at n, in a map by the numbers of nodes
+abbrev pub place_at : {S : Type 0} → HashMap ℕ Modes S → Node → Option Modes
+place_at m n = get nat_eq m (node_code n)
 
 abbrev pub mode_in : ℕ → Option Modes → Option Mode
 mode_in e None = None
@@ -19,7 +23,7 @@ mode_in e (Some h) = holder_mode h e
 
 -- the mode of examiner e at n
 abbrev pub table_mode : Table → ℕ → Node → Option Mode
-table_mode t e n = mode_in e (get node_cmp t.places n)
+table_mode t e n = mode_in e (place_at t.places n)
 
 -- ---- who is in the way
 
@@ -43,7 +47,7 @@ room_in e (Some h) = has_room h e
 
 -- examiner e can be given a mode at n without memory
 abbrev pub table_room : Table → ℕ → Node → Bool
-table_room t e n = room_in e (get node_cmp t.places n)
+table_room t e n = room_in e (place_at t.places n)
 
 -- where the first table has room, so has the second
 abbrev pub KeepsRoom : Table → Table → Type 0
@@ -61,7 +65,7 @@ idle_in e (Some h) = idles h e
 
 -- examiner e has room at n and no mode there
 abbrev pub is_idle : Table → ℕ → Node → Bool
-is_idle t e n = idle_in e (get node_cmp t.places n)
+is_idle t e n = idle_in e (place_at t.places n)
 
 -- nobody is idle but who was, and examiner e at nodes that pass a test
 pub record IdleMore (old : Table) (new : Table) (e : ℕ) (asks : Node → Bool) : Type 0 where
@@ -81,7 +85,7 @@ unused_in (Some h) = is_free h
 
 -- the table has a place for n, where nobody holds n or has room
 abbrev pub is_unused : Table → Node → Bool
-is_unused t n = unused_in (get node_cmp t.places n)
+is_unused t n = unused_in (place_at t.places n)
 
 -- each node that has a place is one that somebody holds or has room at
 pub record AllUsed (t : Table) : Type 0 where

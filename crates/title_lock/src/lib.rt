@@ -3,6 +3,7 @@
 #![tactic(auto)]
 
 mod book;
+mod codes;
 mod counts;
 pub mod guards;
 mod holders;

@@ -13,19 +13,21 @@ ghost use Rattle.title_lock.specs.Holders.{clashes, is_mode};
 ghost use Rattle.title_lock.specs.Tables.{table_mode, table_room, clashes_above, clashes_for, clashes_with};
 ghost use Rattle.title_lock.specs.Tables.{KeepsRoom, HasRoom, is_asked, is_idle, is_unused, IdleMore, IdleLess, AllUsed};
 
+use crate::codes::node_code;
 use crate::guards::Access;
 use crate::holders::{Holders, Taken};
 use crate::least::least;
 use crate::modes::Mode;
 use std::alloc::{AllocError, Global};
-use std::collections::BTreeMap;
+use std::collections::HashMap;
 use title_land::Node;
 
 /// The holders of each node in use.
 #[derive(Drop)]
 pub(crate) struct Table {
     alloc: Global,
-    places: BTreeMap<Node, Holders>,
+    // By the numbers of nodes.
+    places: HashMap<u64, Holders>,
 }
 
 /// What an access asks of a node of the cover.
@@ -57,7 +59,7 @@ impl Table {
     {
         Table {
             alloc,
-            places: BTreeMap::new(alloc),
+            places: HashMap::new(alloc),
         }
     }
 
@@ -65,7 +67,8 @@ impl Table {
     pub(crate) fn mode(&self, examiner: u32, node: &Node) -> Option<Mode>
         ensures mode { result ≡ table_mode self.now examiner node.now }
     {
-        match self.places.get(node) {
+        let code = node_code(node);
+        match self.places.get(&code) {
             Some(place) => place.mode(examiner),
             None => None,
         }
@@ -79,7 +82,8 @@ impl Table {
         ensures six { IsCount (λ e. table_mode self.now e node.now) Six (slice_index result 3) }
         ensures x { IsCount (λ e. table_mode self.now e node.now) X (slice_index result 4) }
     {
-        match self.places.get(node) {
+        let code = node_code(node);
+        match self.places.get(&code) {
             Some(place) => place.numbers(),
             None => [0; 5],
         }
@@ -89,7 +93,8 @@ impl Table {
     fn way_of(&self, examiner: u32, node: &Node, mode: Mode) -> Option<u32>
         ensures way { IsLeast (λ f. clashes mode (table_mode self.now f node.now)) examiner result }
     {
-        match self.places.get(node) {
+        let code = node_code(node);
+        match self.places.get(&code) {
             Some(place) => place.way(examiner, mode),
             None => None,
         }
@@ -139,12 +144,13 @@ impl Table {
         ensures idle { IdleMore self.old self.new examiner (λ n. same_node n node.now) }
         ensures used { AllUsed self.old → AllUsed self.new }
     {
-        if let Some(place) = self.places.get_mut(node) {
+        let code = node_code(node);
+        if let Some(place) = self.places.get_mut(&code) {
             return place.make_room(examiner);
         }
         let mut place = Holders::new(self.alloc);
         place.make_room(examiner)?;
-        self.places.insert(*node, place)?;
+        self.places.insert(code, place)?;
         Ok(())
     }
 
@@ -198,7 +204,8 @@ impl Table {
         ensures idle { IdleLess self.old self.new examiner (λ n. same_node n node.now) }
         ensures used { AllUsed self.old → AllUsed self.new }
     {
-        if let Some(place) = self.places.get_mut(node) {
+        let code = node_code(node);
+        if let Some(place) = self.places.get_mut(&code) {
             place.raise(examiner, mode);
         }
     }
@@ -252,11 +259,12 @@ impl Table {
         ensures dropped { is_unused self.new node.now ≡ false }
         ensures used { AllUsed self.old → AllUsed self.new }
     {
-        let Some(place) = self.places.get_mut(node) else {
+        let code = node_code(node);
+        let Some(place) = self.places.get_mut(&code) else {
             return;
         };
         if place.take_out(examiner, taken) {
-            self.places.remove(node);
+            self.places.remove(&code);
         }
     }
 

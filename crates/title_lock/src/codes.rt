@@ -1,0 +1,68 @@
+//! Nodes as numbers, by which a table of locks finds them.
+
+ghost use Rattle.std.specs.Prelude.{◌≡◌, ◌<◌, ◌^◌};
+ghost use Rattle.title_land.specs.Paths.{quarter_number, path_number};
+ghost use Rattle.title_lock.specs.Codes.{flag_code, township_code, section_code, node_code};
+
+use title_land::{Node, Quarter, Section, Township, Within};
+
+// 1 for north of the base line, and for east of the meridian.
+fn flag_code(flag: bool) -> u64
+    ensures code { result ≡ flag_code flag }
+    ensures fits { result < 2 }
+{
+    if flag { 1 } else { 0 }
+}
+
+// The number of a township, which is that of no other.
+fn township_code(township: Township) -> u64
+    ensures code { result ≡ township_code township }
+    ensures fits { result < 2 ^ 20 }
+{
+    let north = township.number as u64 * 2 + flag_code(township.north);
+    let range = north * 128 + township.range as u64;
+    range * 2 + flag_code(township.east)
+}
+
+// The number of a section.
+fn section_code(section: Section) -> u64
+    ensures code { result ≡ section_code section }
+    ensures fits { result < 2 ^ 32 }
+{
+    township_code(section.township) * 64 + section.number as u64
+}
+
+// The place of a quarter among the four.
+fn quarter_code(quarter: Quarter) -> u64
+    ensures code { result ≡ quarter_number quarter }
+    ensures fits { result < 4 }
+{
+    match quarter {
+        Quarter::Northeast => 0,
+        Quarter::Northwest => 1,
+        Quarter::Southwest => 2,
+        Quarter::Southeast => 3,
+    }
+}
+
+// The number of a square of a section: the section's own is 1, and the quarters of square n are 4 n to 4 n + 3.
+fn square_code(within: Within) -> u64
+    ensures code { result ≡ path_number within }
+    ensures fits { result < 2 ^ 16 }
+{
+    match within.split() {
+        None => 1,
+        Some((which, outer)) => square_code(outer) * 4 + quarter_code(which),
+    }
+}
+
+/// The number of a node, which is that of no other node.
+pub(crate) fn node_code(node: &Node) -> u64
+    ensures code { result ≡ node_code node.now }
+{
+    match node {
+        Node::Everything => 0,
+        Node::Township(township) => township_code(*township) * 64,
+        Node::Part(section, within) => square_code(*within) * 4194304 + section_code(*section),
+    }
+}
