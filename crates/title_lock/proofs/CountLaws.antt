@@ -1,13 +1,13 @@
 -- How many examiners have a mode: after one examiner's mode has changed, and what a small number tells of the others.
 use Rattle.std.proofs.Common.{◌≡◌, ◌≢◌, ◌+◌, ◌≤◌, ◌<◌, ◌^◌, ℕ, zero, suc, Bool, true, false, cond, not, ◌&&◌, ◌||◌, List, [], ◌∷◌}
-use Rattle.std.proofs.Common.{filter, length}
+use Rattle.std.proofs.Common.{filter, length, inl, inr}
 use Rattle.std.proofs.Common.{Option, Some, None, is_some, eqb, refl, sym, ap, subst, ◌∙◌, arith, ◌↔◌}
 use Rattle.std.proofs.lemmas.Bool.{eqb-true, eqb-false, eq-eqb, ne_eqb, false_from_ne_true, both_ways, and_parts, or_left}
 use Rattle.title_lock.specs.declared.modes.Mode.{Mode}
 use Rattle.title_lock.specs.declared.modes.Mode.TheVariants.{Is, Ix, S, Six, X}
 use Rattle.title_lock.specs.Counts.{member, NoRepeat, IsCount}
 use Rattle.std.specs.Prelude.{nat_le}
-use Rattle.std.proofs.lemmas.Bool.{leb-true}
+use Rattle.std.proofs.lemmas.Bool.{leb-true, le-leb, and_from, or_cases, or_right}
 use Rattle.title_lock.specs.declared.counts.Counts.{Counts}
 use Rattle.title_lock.specs.Modes.{compat}
 use Rattle.title_lock.specs.Holders.{Modes, holder_mode, clashes, same_mode, has_mode, own_part, count_in, leaves, is_clear, AreCounted}
@@ -346,3 +346,27 @@ clear_way counts h e own wanted are had clear f other = go (holder_mode h f) ref
     go : (o : Option Mode) → holder_mode h f ≡ o → clashes wanted o ≡ false
     go None is = refl
     go (Some a) is = fits a (compat wanted a) is refl (left a)
+
+-- ---- nobody at all is in the way
+
+leaves_more : (counts : Counts) (own : Option Mode) (wanted m : Mode) → leaves counts None wanted m ≡ true → leaves counts own wanted m ≡ true
+leaves_more counts own wanted m h = elim (or_cases (compat wanted m) (nat_le (count_in counts m) 0) h) [
+  | inl stands ↦ or_left (compat wanted m) (nat_le (count_in counts m) (own_part own m)) stands
+  | inr none ↦
+      let few = leb-true (count_in counts m) 0 none in
+      or_right (compat wanted m) (nat_le (count_in counts m) (own_part own m)) (le-leb (count_in counts m) (own_part own m) (omega (arith, few)))
+]
+
+-- counts that are clear of who holds nothing are clear of anybody
+pub clear_more : (counts : Counts) (own : Option Mode) (wanted : Mode) → is_clear counts None wanted ≡ true → is_clear counts own wanted ≡ true
+clear_more counts own wanted clear =
+    let l = leaves counts None wanted in
+    let r = leaves counts own wanted in
+    let a = and_parts (l Is) (l Ix && (l S && (l Six && l X))) clear in
+    let b = and_parts (l Ix) (l S && (l Six && l X)) a.1 in
+    let c = and_parts (l S) (l Six && l X) b.1 in
+    let d = and_parts (l Six) (l X) c.1 in
+    and_from (r Is) (r Ix && (r S && (r Six && r X))) (leaves_more counts own wanted Is a.0)
+    (and_from (r Ix) (r S && (r Six && r X)) (leaves_more counts own wanted Ix b.0)
+    (and_from (r S) (r Six && r X) (leaves_more counts own wanted S c.0)
+    (and_from (r Six) (r X) (leaves_more counts own wanted Six d.0) (leaves_more counts own wanted X d.1))))

@@ -1,6 +1,6 @@
 -- The holders of one node: the mode of each, who has room for one, and how many have each mode.
 use Rattle.std.specs.Prelude.{ℕ, ◌≡◌, ◌<◌, ◌^◌, ◌==◌, nat_le, Bool, true, false, ◌&&◌, ◌||◌, not, if◌then◌else◌, Option, Some, None}
-use Rattle.std.specs.Prelude.{is_some, List, length}
+use Rattle.std.specs.Prelude.{is_some, List, ◌∷◌, length}
 use Rattle.std.specs.Ordering.{nat_cmp}
 use Rattle.std.specs.Map.{lookup}
 use Rattle.std.specs.BTreeMap.{is_at}
@@ -78,3 +78,20 @@ is_clear c own wanted =
 pub record AreCounted (counts : Counts) (h : Modes) : Type 0 where
   pub few : (e : ℕ) → is_some (holder_mode h e) ≡ true → e < 2 ^ 32
   pub each : (m : Mode) → IsCount (holder_mode h) m (count_in counts m)
+
+-- ---- the first place beside the others
+
+-- the places of a node's holders, the first before the others
+abbrev pub listed : Option (ℕ × Option Mode) → Modes → Modes
+listed None h = h
+listed (Some p) h = p ∷ h
+
+-- who is first has no place among the others
+abbrev pub IsApart : Option (ℕ × Option Mode) → Modes → Type 0
+IsApart None h = Unit {0}
+IsApart (Some p) h = has_room h p.0 ≡ false
+
+-- the first, where it is another examiner than e in the way of mode m
+abbrev pub first_way : Option (ℕ × Option Mode) → ℕ → Mode → Option ℕ
+first_way None e m = None
+first_way (Some p) e m = if not (p.0 == e) && clashes m p.1 then Some p.0 else None

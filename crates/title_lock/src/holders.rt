@@ -10,8 +10,8 @@ ghost use Rattle.title_lock.specs.Holders.{Modes, holder_mode, has_room, is_free
 
 use crate::counts::Counts;
 use crate::modes::{Mode, bound, compat};
+use crate::places::Places;
 use std::alloc::{AllocError, Global};
-use std::collections::BTreeMap;
 use std::marker::Model;
 
 /// What is taken out of a node's holders: an examiner's mode and room, or its room alone where it holds nothing.
@@ -26,25 +26,15 @@ pub(crate) enum Taken {
 #[derive(Drop)]
 pub(crate) struct Holders {
     counts: Counts,
-    modes: BTreeMap<u32, Option<Mode>>,
+    places: Places,
 }
 
 impl Model for Holders {
     ghost Value = { Modes };
 
-    ghost view = { λ h. h.modes.entries };
+    ghost view = { λ h. h.places };
 
-    ghost invariant = { λ h. AreCounted h.counts h.modes.entries };
-}
-
-/// Whether what is held doesn't let a mode stand beside it.
-fn clashes(mode: Mode, held: Option<Mode>) -> bool
-    ensures clashes { result ≡ clashes mode held }
-{
-    match held {
-        None => false,
-        Some(held) => !compat(mode, held),
-    }
+    ghost invariant = { λ h. AreCounted h.counts h.places };
 }
 
 /// How many of those with a mode one examiner is, by what it holds.
@@ -79,49 +69,11 @@ fn is_clear(counts: Counts, own: Option<Mode>, wanted: Mode) -> bool
         && leaves(counts, own, wanted, Mode::X)
 }
 
-// Looks for the least other examiner whose mode doesn't stand beside the one wanted.
-fn search(modes: &BTreeMap<u32, Option<Mode>>, examiner: u32, wanted: Mode) -> Option<u32>
-    ensures least { IsLeast (λ f. clashes wanted (holder_mode modes.now.entries f)) examiner result }
+// Whether by the counts nobody at all is in the way.
+fn is_open(counts: Counts, wanted: Mode) -> bool
+    ensures open { result ≡ is_clear counts None wanted }
 {
-    for (other, held) in modes {
-        let in_way = clashes(wanted, *held);
-        if in_way && *other != examiner {
-            return Some(*other);
-        }
-    }
-    None
-}
-
-// Makes room for an examiner.
-fn add_room(modes: &mut BTreeMap<u32, Option<Mode>>, examiner: u32) -> Result<(), AllocError>
-    ensures modes { (e : ℕ) → holder_mode modes.new.entries e ≡ holder_mode modes.old.entries e }
-    ensures room { OnOk result (has_room modes.new.entries examiner ≡ true) }
-    ensures stays { (e : ℕ) → has_room modes.old.entries e ≡ true → has_room modes.new.entries e ≡ true }
-    ensures others { (e : ℕ) → e ≢ examiner → has_room modes.new.entries e ≡ has_room modes.old.entries e }
-{
-    if !modes.contains_key(&examiner) {
-        modes.insert(examiner, None)?;
-    }
-    Ok(())
-}
-
-// Writes a mode where there is room for it.
-fn write(modes: &mut BTreeMap<u32, Option<Mode>>, examiner: u32, mode: Option<Mode>)
-    requires room { has_room modes.old.entries examiner ≡ true }
-    ensures modes { (e : ℕ) → holder_mode modes.new.entries e ≡ (if e == examiner then mode else holder_mode modes.old.entries e) }
-    ensures rooms { (e : ℕ) → has_room modes.new.entries e ≡ has_room modes.old.entries e }
-{
-    if let Some(held) = modes.get_mut(&examiner) {
-        *held = mode;
-    }
-}
-
-// Takes out an examiner's place.
-fn erase(modes: &mut BTreeMap<u32, Option<Mode>>, examiner: u32)
-    ensures modes { (e : ℕ) → holder_mode modes.new.entries e ≡ (if e == examiner then None else holder_mode modes.old.entries e) }
-    ensures rooms { (e : ℕ) → has_room modes.new.entries e ≡ (not (e == examiner) && has_room modes.old.entries e) }
-{
-    modes.remove(&examiner);
+    is_clear(counts, None, wanted)
 }
 
 impl Holders {
@@ -132,7 +84,7 @@ impl Holders {
     {
         Holders {
             counts: Counts::NONE,
-            modes: BTreeMap::new(alloc),
+            places: Places::new(alloc),
         }
     }
 
@@ -140,10 +92,7 @@ impl Holders {
     pub(crate) fn mode(&self, examiner: u32) -> Option<Mode>
         ensures mode { result ≡ holder_mode self.now examiner }
     {
-        match self.modes.get(&examiner) {
-            Some(held) => *held,
-            None => None,
-        }
+        self.places.mode(examiner)
     }
 
     /// How many examiners have each mode, from IS to X.
@@ -163,14 +112,18 @@ impl Holders {
         ]
     }
 
-    /// The least other examiner whose mode doesn't stand beside the one wanted. The counts tell whether there is one.
+    /// The least other examiner whose mode doesn't stand beside the one wanted. The counts alone tell where
+    /// there is none.
     pub(crate) fn way(&self, examiner: u32, wanted: Mode) -> Option<u32>
         ensures way { IsLeast (λ f. clashes wanted (holder_mode self.now f)) examiner result }
     {
+        if is_open(self.counts, wanted) {
+            return None;
+        }
         if is_clear(self.counts, self.mode(examiner), wanted) {
             return None;
         }
-        search(&self.modes, examiner, wanted)
+        self.places.way(examiner, wanted)
     }
 
     /// Makes room for an examiner. Nobody's mode changes.
@@ -180,7 +133,7 @@ impl Holders {
         ensures stays { (e : ℕ) → has_room self.old e ≡ true → has_room self.new e ≡ true }
         ensures others { (e : ℕ) → e ≢ examiner → has_room self.new e ≡ has_room self.old e }
     {
-        add_room(&mut self.modes, examiner)
+        self.places.make_room(examiner)
     }
 
     /// Gives an examiner one mode more. Takes no memory.
@@ -189,10 +142,9 @@ impl Holders {
         ensures modes { (e : ℕ) → holder_mode self.new e ≡ bound (holder_mode self.old e) (if e == examiner then Some mode else None) }
         ensures rooms { (e : ℕ) → has_room self.new e ≡ has_room self.old e }
     {
-        let had = self.mode(examiner);
+        let had = self.places.raise(examiner, mode);
         let raised = bound(had, Some(mode));
         self.counts = self.counts.moved(had, raised);
-        write(&mut self.modes, examiner, raised);
     }
 
     // Takes an examiner out.
@@ -200,9 +152,8 @@ impl Holders {
         ensures modes { (e : ℕ) → holder_mode self.new e ≡ (if e == examiner then None else holder_mode self.old e) }
         ensures rooms { (e : ℕ) → has_room self.new e ≡ (not (e == examiner) && has_room self.old e) }
     {
-        let had = self.mode(examiner);
+        let had = self.places.erase(examiner);
         self.counts = self.counts.moved(had, None);
-        erase(&mut self.modes, examiner);
     }
 
     // Takes an examiner's room back where it doesn't hold the node.
@@ -213,7 +164,9 @@ impl Holders {
     {
         match self.mode(examiner) {
             Some(_) => {}
-            None => erase(&mut self.modes, examiner),
+            None => {
+                self.places.erase(examiner);
+            }
         }
     }
 
@@ -229,6 +182,6 @@ impl Holders {
             Taken::Mode => self.release(examiner),
             Taken::Room => self.drop_room(examiner),
         }
-        self.modes.is_empty()
+        self.places.is_empty()
     }
 }

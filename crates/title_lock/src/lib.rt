@@ -11,6 +11,7 @@ pub mod laws;
 mod least;
 pub mod modes;
 pub mod node_locks;
+mod places;
 pub mod row_locks;
 mod spread_locks;
 mod table;

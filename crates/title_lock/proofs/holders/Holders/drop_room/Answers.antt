@@ -6,8 +6,8 @@ use Rattle.title_lock.proofs.holders.Holders.drop_room.Goals as goal
 
 pub invariant_of-self : goal.invariant_of-self
 invariant_of-self c =
-    let h = c.self.inside.modes.entries in
-    let g = c.erase.new.modes.entries in
+    let h = c.self.inside.places in
+    let g = c.erase.new.self in
     let e = c.args.examiner in
     counted_same c.self.inside.counts h g
     (dropped_same h g e (ap (λ (k : Modes). holder_mode k e) c.self.view_is
