@@ -1,4 +1,5 @@
 -- Nodes have one number exactly where they are one.
+use Rattle.std.proofs.Common.{◌/◌, ◌%◌, ltb, lt-ltb, le-ltb, cond, [], ◌∷◌, Option, Some, unwrap_or}
 use Rattle.std.proofs.Common.{◌≡◌, ◌<◌, ◌+◌, ◌*◌, ℕ, Bool, true, false, eqb, refl, sym, ap, ◌∙◌, arith}
 use Rattle.std.proofs.lemmas.Bool.{and_from, eqb-true, eq-eqb, false_from_ne_true, true≢false}
 use Rattle.title_land.specs.declared.place.Township.{Township}
@@ -6,11 +7,11 @@ use Rattle.title_land.specs.declared.place.Section.{Section}
 use Rattle.title_land.specs.declared.node.Node.{Node}
 use Rattle.title_land.specs.declared.node.Node.TheVariants as node
 use Rattle.title_land.specs.Places.{same_flag, same_township, same_section}
-use Rattle.title_land.specs.Nodes.{same_node}
-use Rattle.title_land.specs.Laws.PathNumbers.{path_positive, path_number-is}
+use Rattle.title_land.specs.Nodes.{same_node, parent_of}
+use Rattle.title_land.specs.Laws.PathNumbers.{quarter_below, path_positive, path_number-is}
 use Rattle.title_land.specs.Laws.SameNode.{same_node-is, same_path-self}
-use Rattle.title_land.specs.Paths.{path_number}
-use Rattle.title_lock.specs.Codes.{flag_code, township_code, section_code, node_code}
+use Rattle.title_land.specs.Paths.{path_number, quarter_number}
+use Rattle.title_lock.specs.Codes.{flag_code, township_code, section_code, node_code, code_above}
 
 flag_below : (b : Bool) → flag_code b < 2
 flag_below true = omega arith
@@ -95,3 +96,44 @@ code_at k q = go (same_node q k) refl
     go true e = eq-eqb (node_code k) (node_code q) (ap node_code (sym ((same_node-is q k).0 e)))
     go false e = false_from_ne_true _
         (λ h. true≢false (sym (node_is q k (sym (eqb-true (node_code k) (node_code q) h))) ∙ e))
+
+-- ---- the node above
+
+-- a township's number is below any square's
+above_low : (k : ℕ) → k < 4194304 → code_above k ≡ 0
+above_low k low = ap (λ (b : Bool). cond b 0 (cond (ltb k 16777216) (k % 4194304 / 64 * 64) (k / 16777216 * 4194304 + k % 4194304)))
+    (lt-ltb k 4194304 low)
+
+-- above a section's own square is its township
+above_mid : (k t n : ℕ) → k ≡ 1 * 4194304 + (t * 64 + n) → n < 64 → t * 64 + n < 4194304 → code_above k ≡ t * 64
+above_mid k t n is few low =
+    let rest : k % 4194304 / 64 * 64 ≡ t * 64 = omega arith in
+    ap (λ (b : Bool). cond b 0 (cond (ltb k 16777216) (k % 4194304 / 64 * 64) (k / 16777216 * 4194304 + k % 4194304)))
+    (le-ltb k 4194304 (omega arith))
+    ∙ ap (λ (b : Bool). cond b (k % 4194304 / 64 * 64) (k / 16777216 * 4194304 + k % 4194304)) (lt-ltb k 16777216 (omega arith))
+    ∙ rest
+
+-- above a quarter is the square that it is a quarter of
+above_high : (k p q s : ℕ) → k ≡ (p * 4 + q) * 4194304 + s → 0 < p → q < 4 → s < 4194304 → code_above k ≡ p * 4194304 + s
+above_high k p q s is some few low =
+    let square : k / 16777216 ≡ p = omega arith in
+    let rest : k % 4194304 ≡ s = omega arith in
+    ap (λ (b : Bool). cond b 0 (cond (ltb k 16777216) (k % 4194304 / 64 * 64) (k / 16777216 * 4194304 + k % 4194304)))
+    (le-ltb k 4194304 (omega arith))
+    ∙ ap (λ (b : Bool). cond b (k % 4194304 / 64 * 64) (k / 16777216 * 4194304 + k % 4194304)) (le-ltb k 16777216 (omega arith))
+    ∙ ap (λ (z : ℕ). z * 4194304 + k % 4194304) square ∙ ap (λ (z : ℕ). p * 4194304 + z) rest
+
+some_is : (a b : Node) → Some a ≡ Some b → a ≡ b
+some_is a b h = ap (λ (o : Option Node). unwrap_or o a) h
+
+-- the number of a node's parent, from its own
+pub parent_code : (p c : Node) (k : ℕ) → Some c ≡ parent_of p → k ≡ node_code p → code_above k ≡ node_code c
+parent_code node.Everything c k h is = absurd cc
+parent_code (node.Township t) c k h is =
+    above_low k (omega (arith, township_below t, is)) ∙ ap node_code (sym (some_is c node.Everything h))
+parent_code (node.Part s []) c k h is =
+    above_mid k (township_code s.township) s.number is (number_below s) (section_below s)
+    ∙ ap node_code (sym (some_is c (node.Township s.township) h))
+parent_code (node.Part s (q ∷ w)) c k h is =
+    above_high k (path_number w) (quarter_number q) (section_code s) is (path_positive w) (quarter_below q) (section_below s)
+    ∙ ap node_code (sym (some_is c (node.Part s w) h))

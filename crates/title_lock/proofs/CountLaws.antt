@@ -349,16 +349,19 @@ clear_way counts h e own wanted are had clear f other = go (holder_mode h f) ref
 
 -- ---- nobody at all is in the way
 
-leaves_more : (counts : Counts) (own : Option Mode) (wanted m : Mode) → leaves counts None wanted m ≡ true → leaves counts own wanted m ≡ true
+leaves_more : (counts : Counts) (own : Option Mode) (wanted m : Mode) → leaves counts None wanted m ≡ true
+    → leaves counts own wanted m ≡ true
 leaves_more counts own wanted m h = elim (or_cases (compat wanted m) (nat_le (count_in counts m) 0) h) [
   | inl stands ↦ or_left (compat wanted m) (nat_le (count_in counts m) (own_part own m)) stands
   | inr none ↦
       let few = leb-true (count_in counts m) 0 none in
-      or_right (compat wanted m) (nat_le (count_in counts m) (own_part own m)) (le-leb (count_in counts m) (own_part own m) (omega (arith, few)))
+      or_right (compat wanted m) (nat_le (count_in counts m) (own_part own m))
+      (le-leb (count_in counts m) (own_part own m) (omega (arith, few)))
 ]
 
 -- counts that are clear of who holds nothing are clear of anybody
-pub clear_more : (counts : Counts) (own : Option Mode) (wanted : Mode) → is_clear counts None wanted ≡ true → is_clear counts own wanted ≡ true
+pub clear_more : (counts : Counts) (own : Option Mode) (wanted : Mode) → is_clear counts None wanted ≡ true
+    → is_clear counts own wanted ≡ true
 clear_more counts own wanted clear =
     let l = leaves counts None wanted in
     let r = leaves counts own wanted in

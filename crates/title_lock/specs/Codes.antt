@@ -1,5 +1,5 @@
 -- A node as a number, by which a table of locks finds it: from above its quarters, its township and its section.
-use Rattle.std.specs.Prelude.{ℕ, ◌+◌, ◌*◌, Bool, true, false}
+use Rattle.std.specs.Prelude.{ℕ, ◌+◌, ◌*◌, ◌/◌, ◌%◌, nat_lt, if◌then◌else◌, Bool, true, false}
 use Rattle.title_land.specs.declared.place.Township.{Township}
 use Rattle.title_land.specs.declared.place.Section.{Section}
 use Rattle.title_land.specs.declared.node.Node.{Node}
@@ -22,3 +22,8 @@ abbrev pub node_code : Node → ℕ
 node_code node.Everything = 0
 node_code (node.Township t) = township_code t * 64
 node_code (node.Part s w) = path_number w * 4194304 + section_code s
+
+-- the number of the node above the one with this number, which isn't the whole plant
+abbrev pub code_above : ℕ → ℕ
+code_above k =
+    if nat_lt k 4194304 then 0 else (if nat_lt k 16777216 then k % 4194304 / 64 * 64 else k / 16777216 * 4194304 + k % 4194304)

@@ -1,8 +1,10 @@
-//! Nodes as numbers, by which a table of locks finds them.
+//! Nodes as numbers, by which a table of locks finds them. A number's last 6 bits are the section's, the 16 before them the
+//! township's, and those before them the square's; a township has no section and no square, and the whole plant is 0.
 
-ghost use Rattle.std.specs.Prelude.{◌≡◌, ◌<◌, ◌^◌};
+ghost use Rattle.std.specs.Prelude.{◌≡◌, ◌<◌, ◌^◌, Some, None, MatchOption};
+ghost use Rattle.title_land.specs.Nodes.{parent_of};
 ghost use Rattle.title_land.specs.Paths.{quarter_number, path_number};
-ghost use Rattle.title_lock.specs.Codes.{flag_code, township_code, section_code, node_code};
+ghost use Rattle.title_lock.specs.Codes.{flag_code, township_code, section_code, node_code, code_above};
 
 use title_land::{Node, Quarter, Section, Township, Within};
 
@@ -63,6 +65,50 @@ pub(crate) fn node_code(node: &Node) -> u64
     match node {
         Node::Everything => 0,
         Node::Township(township) => township_code(*township) * 64,
-        Node::Part(section, within) => square_code(*within) * 4194304 + section_code(*section),
+        Node::Part(section, within) => square_code(*within) * 4_194_304 + section_code(*section),
+    }
+}
+
+// The number of the node above the one with this number.
+fn code_above(code: u64) -> u64
+    ensures above { result ≡ code_above code }
+{
+    if code < 4_194_304 {
+        0
+    } else if code < 16_777_216 {
+        code % 4_194_304 / 64 * 64
+    } else {
+        code / 16_777_216 * 4_194_304 + code % 4_194_304
+    }
+}
+
+/// A node with its number.
+#[derive(Clone, Copy)]
+pub(crate) struct Spot {
+    pub(crate) node: Node,
+    pub(crate) code: u64,
+    ghost numbered: { code ≡ node_code node },
+}
+
+impl Spot {
+    /// A node, with its number.
+    pub(crate) fn of(node: &Node) -> Spot
+        ensures of { result.node ≡ node.now }
+    {
+        Spot {
+            node: *node,
+            code: node_code(node),
+        }
+    }
+
+    /// The node above, whose number comes from this one's; `None` for the whole plant alone.
+    pub(crate) fn parent(&self) -> Option<Spot>
+        ensures parent { MatchOption result (None ≡ parent_of self.now.node) (λ p. Some p.node ≡ parent_of self.now.node) }
+    {
+        let node = self.node.parent()?;
+        Some(Spot {
+            node,
+            code: code_above(self.code),
+        })
     }
 }

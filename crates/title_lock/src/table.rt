@@ -13,7 +13,7 @@ ghost use Rattle.title_lock.specs.Holders.{clashes, is_mode};
 ghost use Rattle.title_lock.specs.Tables.{table_mode, table_room, clashes_above, clashes_for, clashes_with};
 ghost use Rattle.title_lock.specs.Tables.{KeepsRoom, HasRoom, is_asked, is_idle, is_unused, IdleMore, IdleLess, AllUsed};
 
-use crate::codes::node_code;
+use crate::codes::{Spot, node_code};
 use crate::guards::Access;
 use crate::holders::{Holders, Taken};
 use crate::least::least;
@@ -90,21 +90,20 @@ impl Table {
     }
 
     // The least other examiner that a mode can't stand beside at a node.
-    fn way_of(&self, examiner: u32, node: &Node, mode: Mode) -> Option<u32>
-        ensures way { IsLeast (λ f. clashes mode (table_mode self.now f node.now)) examiner result }
+    fn way_of(&self, examiner: u32, spot: &Spot, mode: Mode) -> Option<u32>
+        ensures way { IsLeast (λ f. clashes mode (table_mode self.now f spot.now.node)) examiner result }
     {
-        let code = node_code(node);
-        match self.places.get(&code) {
+        match self.places.get(&spot.code) {
             Some(place) => place.way(examiner, mode),
             None => None,
         }
     }
 
     // The least other examiner that a mode can't stand beside at some node above.
-    fn way_above(&self, examiner: u32, node: &Node, mode: Mode) -> Option<u32>
-        ensures way { IsLeast (λ f. clashes_above mode (λ n. table_mode self.now f n) (above node.now)) examiner result }
+    fn way_above(&self, examiner: u32, spot: &Spot, mode: Mode) -> Option<u32>
+        ensures way { IsLeast (λ f. clashes_above mode (λ n. table_mode self.now f n) (above spot.now.node)) examiner result }
     {
-        match node.parent() {
+        match spot.parent() {
             None => None,
             Some(parent) => least(
                 self.way_of(examiner, &parent, mode),
@@ -114,14 +113,14 @@ impl Table {
     }
 
     // The least other examiner in the way of an access at a node of the cover or above it.
-    fn way_for(&self, examiner: u32, node: &Node, access: Access) -> Option<u32>
-        ensures way { IsLeast (λ f. clashes_for (is_post access) (λ n. table_mode self.now f n) node.now) examiner result }
+    fn way_for(&self, examiner: u32, spot: &Spot, access: Access) -> Option<u32>
+        ensures way { IsLeast (λ f. clashes_for (is_post access) (λ n. table_mode self.now f n) spot.now.node) examiner result }
     {
         let above = above_mode(access);
         let own = own_mode(access);
         least(
-            self.way_above(examiner, node, above),
-            self.way_of(examiner, node, own),
+            self.way_above(examiner, spot, above),
+            self.way_of(examiner, spot, own),
         )
     }
 
@@ -131,38 +130,38 @@ impl Table {
     {
         let mut way = None;
         for node in cover {
-            way = least(way, self.way_for(examiner, node, access));
+            let spot = Spot::of(node);
+            way = least(way, self.way_for(examiner, &spot, access));
         }
         way
     }
 
     // Makes room for an examiner at a node.
-    fn make_room(&mut self, examiner: u32, node: &Node) -> Result<(), AllocError>
+    fn make_room(&mut self, examiner: u32, spot: &Spot) -> Result<(), AllocError>
         ensures modes { (f : ℕ) → (n : Node) → table_mode self.new f n ≡ table_mode self.old f n }
-        ensures room { OnOk result (table_room self.new examiner node.now ≡ true) }
+        ensures room { OnOk result (table_room self.new examiner spot.now.node ≡ true) }
         ensures stays { KeepsRoom self.old self.new }
-        ensures idle { IdleMore self.old self.new examiner (λ n. same_node n node.now) }
+        ensures idle { IdleMore self.old self.new examiner (λ n. same_node n spot.now.node) }
         ensures used { AllUsed self.old → AllUsed self.new }
     {
-        let code = node_code(node);
-        if let Some(place) = self.places.get_mut(&code) {
+        if let Some(place) = self.places.get_mut(&spot.code) {
             return place.make_room(examiner);
         }
         let mut place = Holders::new(self.alloc);
         place.make_room(examiner)?;
-        self.places.insert(code, place)?;
+        self.places.insert(spot.code, place)?;
         Ok(())
     }
 
     // Makes room at all nodes above.
-    fn make_room_above(&mut self, examiner: u32, node: &Node) -> Result<(), AllocError>
+    fn make_room_above(&mut self, examiner: u32, spot: &Spot) -> Result<(), AllocError>
         ensures modes { (f : ℕ) → (n : Node) → table_mode self.new f n ≡ table_mode self.old f n }
-        ensures room { OnOk result (HasRoom self.new examiner (λ n. is_above n node.now)) }
+        ensures room { OnOk result (HasRoom self.new examiner (λ n. is_above n spot.now.node)) }
         ensures stays { KeepsRoom self.old self.new }
-        ensures idle { IdleMore self.old self.new examiner (λ n. is_above n node.now) }
+        ensures idle { IdleMore self.old self.new examiner (λ n. is_above n spot.now.node) }
         ensures used { AllUsed self.old → AllUsed self.new }
     {
-        if let Some(parent) = node.parent() {
+        if let Some(parent) = spot.parent() {
             self.make_room_above(examiner, &parent)?;
             self.make_room(examiner, &parent)?;
         }
@@ -170,15 +169,15 @@ impl Table {
     }
 
     // Makes room at a node of the cover and at all above it.
-    fn make_room_for(&mut self, examiner: u32, node: &Node) -> Result<(), AllocError>
+    fn make_room_for(&mut self, examiner: u32, spot: &Spot) -> Result<(), AllocError>
         ensures modes { (f : ℕ) → (n : Node) → table_mode self.new f n ≡ table_mode self.old f n }
-        ensures room { OnOk result (HasRoom self.new examiner (λ n. is_asked n node.now)) }
+        ensures room { OnOk result (HasRoom self.new examiner (λ n. is_asked n spot.now.node)) }
         ensures stays { KeepsRoom self.old self.new }
-        ensures idle { IdleMore self.old self.new examiner (λ n. is_asked n node.now) }
+        ensures idle { IdleMore self.old self.new examiner (λ n. is_asked n spot.now.node) }
         ensures used { AllUsed self.old → AllUsed self.new }
     {
-        self.make_room_above(examiner, node)?;
-        self.make_room(examiner, node)?;
+        self.make_room_above(examiner, spot)?;
+        self.make_room(examiner, spot)?;
         Ok(())
     }
 
@@ -190,52 +189,52 @@ impl Table {
         ensures used { AllUsed self.old → AllUsed self.new }
     {
         for node in cover {
-            self.make_room_for(examiner, node)?;
+            let spot = Spot::of(node);
+            self.make_room_for(examiner, &spot)?;
         }
         Ok(())
     }
 
     // Gives an examiner one mode more at a node.
-    fn raise(&mut self, examiner: u32, node: &Node, mode: Mode)
-        requires room { table_room self.old examiner node.now ≡ true }
+    fn raise(&mut self, examiner: u32, spot: &Spot, mode: Mode)
+        requires room { table_room self.old examiner spot.now.node ≡ true }
         ensures modes { (f : ℕ) → (n : Node) → table_mode self.new f n
-            ≡ bound (table_mode self.old f n) (if f == examiner && same_node n node.now then Some mode else None) }
+            ≡ bound (table_mode self.old f n) (if f == examiner && same_node n spot.now.node then Some mode else None) }
         ensures stays { KeepsRoom self.old self.new }
-        ensures idle { IdleLess self.old self.new examiner (λ n. same_node n node.now) }
+        ensures idle { IdleLess self.old self.new examiner (λ n. same_node n spot.now.node) }
         ensures used { AllUsed self.old → AllUsed self.new }
     {
-        let code = node_code(node);
-        if let Some(place) = self.places.get_mut(&code) {
+        if let Some(place) = self.places.get_mut(&spot.code) {
             place.raise(examiner, mode);
         }
     }
 
     // Gives an examiner a mode at all nodes above, from the whole plant on.
-    fn raise_above(&mut self, examiner: u32, node: &Node, mode: Mode)
-        requires room { HasRoom self.old examiner (λ n. is_above n node.now) }
+    fn raise_above(&mut self, examiner: u32, spot: &Spot, mode: Mode)
+        requires room { HasRoom self.old examiner (λ n. is_above n spot.now.node) }
         ensures modes { (f : ℕ) → (n : Node) → table_mode self.new f n
-            ≡ bound (table_mode self.old f n) (if f == examiner && is_above n node.now then Some mode else None) }
+            ≡ bound (table_mode self.old f n) (if f == examiner && is_above n spot.now.node then Some mode else None) }
         ensures stays { KeepsRoom self.old self.new }
-        ensures idle { IdleLess self.old self.new examiner (λ n. is_above n node.now) }
+        ensures idle { IdleLess self.old self.new examiner (λ n. is_above n spot.now.node) }
         ensures used { AllUsed self.old → AllUsed self.new }
     {
-        if let Some(parent) = node.parent() {
+        if let Some(parent) = spot.parent() {
             self.raise_above(examiner, &parent, mode);
             self.raise(examiner, &parent, mode);
         }
     }
 
     // Gives an examiner what an access asks for at one node of the cover.
-    fn raise_for(&mut self, examiner: u32, node: &Node, access: Access)
-        requires room { HasRoom self.old examiner (λ n. is_asked n node.now) }
+    fn raise_for(&mut self, examiner: u32, spot: &Spot, access: Access)
+        requires room { HasRoom self.old examiner (λ n. is_asked n spot.now.node) }
         ensures modes { (f : ℕ) → (n : Node) → table_mode self.new f n
-            ≡ bound (table_mode self.old f n) (if f == examiner then asked_for (is_post access) node.now n else None) }
+            ≡ bound (table_mode self.old f n) (if f == examiner then asked_for (is_post access) spot.now.node n else None) }
         ensures stays { KeepsRoom self.old self.new }
-        ensures idle { IdleLess self.old self.new examiner (λ n. is_asked n node.now) }
+        ensures idle { IdleLess self.old self.new examiner (λ n. is_asked n spot.now.node) }
         ensures used { AllUsed self.old → AllUsed self.new }
     {
-        self.raise_above(examiner, node, above_mode(access));
-        self.raise(examiner, node, own_mode(access));
+        self.raise_above(examiner, spot, above_mode(access));
+        self.raise(examiner, spot, own_mode(access));
     }
 
     /// Gives an examiner what an access asks for, where there is room for it. Takes no memory.
@@ -247,49 +246,49 @@ impl Table {
         ensures used { AllUsed self.old → AllUsed self.new }
     {
         for node in cover {
-            self.raise_for(examiner, node, access);
+            let spot = Spot::of(node);
+            self.raise_for(examiner, &spot, access);
         }
     }
 
     // Takes an examiner's mode or room out of a node's holders, and the node with the last of them.
-    fn take_out(&mut self, examiner: u32, node: &Node, taken: Taken)
+    fn take_out(&mut self, examiner: u32, spot: &Spot, taken: Taken)
         ensures modes { (f : ℕ) → (n : Node) → table_mode self.new f n
-            ≡ (if is_mode taken && f == examiner && same_node n node.now then None else table_mode self.old f n) }
-        ensures idle { IdleLess self.old self.new examiner (λ n. same_node n node.now) }
-        ensures dropped { is_unused self.new node.now ≡ false }
+            ≡ (if is_mode taken && f == examiner && same_node n spot.now.node then None else table_mode self.old f n) }
+        ensures idle { IdleLess self.old self.new examiner (λ n. same_node n spot.now.node) }
+        ensures dropped { is_unused self.new spot.now.node ≡ false }
         ensures used { AllUsed self.old → AllUsed self.new }
     {
-        let code = node_code(node);
-        let Some(place) = self.places.get_mut(&code) else {
+        let Some(place) = self.places.get_mut(&spot.code) else {
             return;
         };
         if place.take_out(examiner, taken) {
-            self.places.remove(&code);
+            self.places.remove(&spot.code);
         }
     }
 
     // The same at all nodes above.
-    fn take_out_above(&mut self, examiner: u32, node: &Node, taken: Taken)
+    fn take_out_above(&mut self, examiner: u32, spot: &Spot, taken: Taken)
         ensures modes { (f : ℕ) → (n : Node) → table_mode self.new f n
-            ≡ (if is_mode taken && f == examiner && is_above n node.now then None else table_mode self.old f n) }
-        ensures idle { IdleLess self.old self.new examiner (λ n. is_above n node.now) }
+            ≡ (if is_mode taken && f == examiner && is_above n spot.now.node then None else table_mode self.old f n) }
+        ensures idle { IdleLess self.old self.new examiner (λ n. is_above n spot.now.node) }
         ensures used { AllUsed self.old → AllUsed self.new }
     {
-        if let Some(parent) = node.parent() {
+        if let Some(parent) = spot.parent() {
             self.take_out(examiner, &parent, taken);
             self.take_out_above(examiner, &parent, taken);
         }
     }
 
     // The same at a node of the cover and at all above it.
-    fn take_out_for(&mut self, examiner: u32, node: &Node, taken: Taken)
+    fn take_out_for(&mut self, examiner: u32, spot: &Spot, taken: Taken)
         ensures modes { (f : ℕ) → (n : Node) → table_mode self.new f n
-            ≡ (if is_mode taken && f == examiner && is_asked n node.now then None else table_mode self.old f n) }
-        ensures idle { IdleLess self.old self.new examiner (λ n. is_asked n node.now) }
+            ≡ (if is_mode taken && f == examiner && is_asked n spot.now.node then None else table_mode self.old f n) }
+        ensures idle { IdleLess self.old self.new examiner (λ n. is_asked n spot.now.node) }
         ensures used { AllUsed self.old → AllUsed self.new }
     {
-        self.take_out(examiner, node, taken);
-        self.take_out_above(examiner, node, taken);
+        self.take_out(examiner, spot, taken);
+        self.take_out_above(examiner, spot, taken);
     }
 
     /// Takes an examiner's modes or rooms out of the holders of what an access asks for. Takes no memory.
@@ -300,7 +299,8 @@ impl Table {
         ensures used { AllUsed self.old → AllUsed self.new }
     {
         for node in cover {
-            self.take_out_for(examiner, node, taken);
+            let spot = Spot::of(node);
+            self.take_out_for(examiner, &spot, taken);
         }
     }
 }

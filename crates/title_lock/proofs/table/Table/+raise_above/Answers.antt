@@ -10,33 +10,34 @@ use Rattle.title_lock.proofs.IdleLaws.{less_same, less_above_at}
 use Rattle.title_lock.proofs.table.Table.+raise_above.Goals as goal
 
 pub returns-in_default-clause-modes : goal.returns-in_default-clause-modes
-returns-in_default-clause-modes t c f n = none_above (eqb f c.args.examiner) c.args.mode (table_mode c.args.self.now f n) c.args.node.now n
+returns-in_default-clause-modes t c f n =
+    none_above (eqb f c.args.examiner) c.args.mode (table_mode c.args.self.now f n) c.args.spot.now.node n
     c.in_default.ensures.parent
 
 pub returns-in-Some-clause-modes : goal.returns-in-Some-clause-modes
 returns-in-Some-clause-modes t c f n =
     c.raise.ensures.modes f n
-    ∙ ap (λ (r : Option Mode). bound r (cond (eqb f c.args.examiner && same_node n c.in-Some.parent) (Some c.args.mode) None))
+    ∙ ap (λ (r : Option Mode). bound r (cond (eqb f c.args.examiner && same_node n c.in-Some.parent.node) (Some c.args.mode) None))
     (c.raise_above.ensures.modes f n)
-    ∙ above_join (eqb f c.args.examiner) c.args.mode (table_mode c.args.self.now f n) c.args.node.now c.in-Some.parent n
+    ∙ above_join (eqb f c.args.examiner) c.args.mode (table_mode c.args.self.now f n) c.args.spot.now.node c.in-Some.parent.node n
     c.in-Some.ensures.parent
 
 pub raise_above-requires : goal.raise_above-requires
 raise_above-requires t c = (
   search rules,
-  λ n up. c.requires.room n (above_parent c.args.node.now c.in-Some.parent n c.in-Some.ensures.parent up),
+  λ n up. c.requires.room n (above_parent c.args.spot.now.node c.in-Some.parent.node n c.in-Some.ensures.parent up),
 )
 
 pub raise-requires : goal.raise-requires
 raise-requires t c = record {
-  room = c.raise_above.ensures.stays c.args.examiner c.in-Some.parent
-      (c.requires.room c.in-Some.parent (parent_above c.args.node.now c.in-Some.parent c.in-Some.ensures.parent));
+  room = c.raise_above.ensures.stays c.args.examiner c.in-Some.parent.node
+      (c.requires.room c.in-Some.parent.node (parent_above c.args.spot.now.node c.in-Some.parent.node c.in-Some.ensures.parent));
 }
 
 pub returns-in-Some-clause-idle : goal.returns-in-Some-clause-idle
 returns-in-Some-clause-idle t c =
-    less_above_at c.args.node.now c.in-Some.parent c.in-Some.ensures.parent c.raise_above.ensures.idle c.raise.ensures.idle
+    less_above_at c.args.spot.now.node c.in-Some.parent.node c.in-Some.ensures.parent c.raise_above.ensures.idle c.raise.ensures.idle
 
 pub returns-in_default-clause-idle : goal.returns-in_default-clause-idle
-returns-in_default-clause-idle t c = less_same c.args.self.now c.args.examiner (λ n. is_above n c.args.node.now)
-    (λ n. above_none c.args.node.now n c.in_default.ensures.parent)
+returns-in_default-clause-idle t c = less_same c.args.self.now c.args.examiner (λ n. is_above n c.args.spot.now.node)
+    (λ n. above_none c.args.spot.now.node n c.in_default.ensures.parent)

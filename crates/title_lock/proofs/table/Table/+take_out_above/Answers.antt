@@ -12,14 +12,15 @@ pub returns-in-Some : goal.returns-in-Some
 returns-in-Some t c = record {
   modes = λ f n.
       c.take_out_above.ensures.modes f n
-      ∙ ap (λ (r : Option Mode). cond (is_mode c.args.taken && eqb f c.args.examiner && is_above n c.in-Some.parent) None r)
+      ∙ ap (λ (r : Option Mode). cond (is_mode c.args.taken && eqb f c.args.examiner && is_above n c.in-Some.parent.node) None r)
       (c.take_out.ensures.modes f n)
       ∙ above_gone (is_mode c.args.taken && eqb f c.args.examiner)
-      (table_mode c.args.self.now f n) c.args.node.now c.in-Some.parent n c.in-Some.ensures.parent;
-  idle = less_at_above c.args.node.now c.in-Some.parent c.in-Some.ensures.parent c.take_out.ensures.idle c.take_out_above.ensures.idle;
+      (table_mode c.args.self.now f n) c.args.spot.now.node c.in-Some.parent.node n c.in-Some.ensures.parent;
+  idle = less_at_above c.args.spot.now.node c.in-Some.parent.node c.in-Some.ensures.parent c.take_out.ensures.idle
+      c.take_out_above.ensures.idle;
   used = λ used. c.take_out_above.ensures.used (c.take_out.ensures.used used);
 }
 
 pub returns-in_default-clause-idle : goal.returns-in_default-clause-idle
-returns-in_default-clause-idle t c = less_same c.args.self.now c.args.examiner (λ n. is_above n c.args.node.now)
-    (λ n. above_none c.args.node.now n c.in_default.ensures.parent)
+returns-in_default-clause-idle t c = less_same c.args.self.now c.args.examiner (λ n. is_above n c.args.spot.now.node)
+    (λ n. above_none c.args.spot.now.node n c.in_default.ensures.parent)

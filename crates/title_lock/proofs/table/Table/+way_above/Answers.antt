@@ -12,10 +12,10 @@ pub returns-in-Some : goal.returns-in-Some
 returns-in-Some t c =
     let e = c.args.examiner in
     let m = c.args.mode in
-    let k = c.in-Some.parent in
+    let k = c.in-Some.parent.node in
     let table = c.args.self.now in
     record {
-      way = least_above_child table e m c.args.node.now k c.least.result c.in-Some.ensures.parent
+      way = least_above_child table e m c.args.spot.now.node k c.least.result c.in-Some.ensures.parent
           (subst (λ (w : Option ℕ). IsLeast (λ f. clashes m (table_mode table f k) || clashes_above m (λ n. table_mode table f n) (above k))
           e w) (sym c.least.ensures.least)
           (least_join (λ f. clashes m (table_mode table f k)) (λ f. clashes_above m (λ n. table_mode table f n) (above k)) e c.way_of.result

@@ -1,5 +1,5 @@
 -- Room for one node of the cover more, and those before keep theirs.
-use Rattle.std.proofs.Common.{◌<◌, ◌∙◌, subst, refl, List, length, arith}
+use Rattle.std.proofs.Common.{◌≡◌, get_or, sym, ◌<◌, ◌∙◌, subst, refl, List, length, arith}
 use Rattle.std.specs.List.{list_any}
 use Rattle.std.proofs.lemmas.List.{take_all}
 use Rattle.title_land.specs.declared.node.Node.{Node}
@@ -19,13 +19,17 @@ loop-node-init c = record {
 pub loop-node-preserved : goal.loop-node-preserved
 loop-node-preserved c =
     let low : c.loop-node.node-index < length c.args.cover.now = omega arith in
+    let nodes = c.args.cover.now in
+    let i = c.loop-node.node-index in
+    let k = c.of-spot.result.node in
+    let at_it : k ≡ get_or nodes i k = subst (λ (z : Node). z ≡ get_or nodes i z) (sym c.of-spot.ensures.of) c.node-item.is in
     record {
       modes = λ f n. c.make_room_for.ensures.modes f n ∙ c.loop-node.invariant.modes f n;
       room = room_more c.make_room_for.new.self c.args.examiner c.args.cover.now c.loop-node.node-index
-          c.node-item.result c.node-item.is low
+          k at_it low
           c.in_ok-make_room_for.ensures.room
           (λ n asks. c.make_room_for.ensures.stays c.args.examiner n (c.loop-node.invariant.room n asks));
-      idle = more_all c.args.cover.now c.loop-node.node-index c.node-item.result c.node-item.is low c.loop-node.invariant.idle
+      idle = more_all c.args.cover.now c.loop-node.node-index k at_it low c.loop-node.invariant.idle
           c.make_room_for.ensures.idle;
       used = λ used. c.make_room_for.ensures.used (c.loop-node.invariant.used used);
     }
@@ -37,5 +41,9 @@ returns-clause-room c =
 
 pub returns-in_err-make_room_for-clause-idle : goal.returns-in_err-make_room_for-clause-idle
 returns-in_err-make_room_for-clause-idle c =
-    more_all c.args.cover.now c.loop-node.node-index c.node-item.result c.node-item.is (omega arith) c.loop-node.invariant.idle
+    let nodes = c.args.cover.now in
+    let i = c.loop-node.node-index in
+    let k = c.of-spot.result.node in
+    let at_it : k ≡ get_or nodes i k = subst (λ (z : Node). z ≡ get_or nodes i z) (sym c.of-spot.ensures.of) c.node-item.is in
+    more_all nodes i k at_it (omega arith) c.loop-node.invariant.idle
     c.make_room_for.ensures.idle

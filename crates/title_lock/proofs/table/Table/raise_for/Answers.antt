@@ -16,7 +16,7 @@ pub returns-clause-modes : goal.returns-clause-modes
 returns-clause-modes c f n =
     let r = table_mode c.args.self.now f n in
     let b = eqb f c.args.examiner in
-    let k = c.args.node.now in
+    let k = c.args.spot.now.node in
     let p = is_post c.args.access in
     c.raise.ensures.modes f n
     ∙ ap (λ (z : Option Mode). bound z (cond (b && same_node n k) (Some c.own_mode.result) None)) (c.raise_above.ensures.modes f n)
@@ -28,11 +28,11 @@ returns-clause-modes c f n =
 
 pub raise-requires : goal.raise-requires
 raise-requires c =
-    let k = c.args.node.now in
+    let k = c.args.spot.now.node in
     record {
       room = c.raise_above.ensures.stays c.args.examiner k (c.requires.room k (or_left (same_node k k) (is_above k k)
           (same_self k)));
     }
 
 pub returns-clause-idle : goal.returns-clause-idle
-returns-clause-idle c = less_asked_at c.args.node.now c.raise_above.ensures.idle c.raise.ensures.idle
+returns-clause-idle c = less_asked_at c.args.spot.now.node c.raise_above.ensures.idle c.raise.ensures.idle

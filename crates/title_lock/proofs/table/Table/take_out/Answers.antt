@@ -3,7 +3,8 @@ use Rattle.std.proofs.Common.{◌≡◌, ◌∙◌, refl, ap, sym, subst, true, 
 use Rattle.title_land.specs.Nodes.{same_node}
 use Rattle.title_lock.specs.Holders.{Modes, is_mode, is_free}
 use Rattle.title_lock.specs.Tables.{place_at, mode_in, idle_in, unused_in}
-use Rattle.title_lock.proofs.TableLaws.{Places, Writes, node_writes, node_finds, is_found, mode_of, same_everywhere, released, none_released, free_none}
+use Rattle.title_lock.proofs.TableLaws.{Places, Writes, node_writes, node_finds, is_found, mode_of, same_everywhere, released}
+use Rattle.title_lock.proofs.TableLaws.{none_released, free_none}
 use Rattle.title_lock.proofs.TableLaws.{idle_less, none_idle, used_after, rewritten}
 use Rattle.title_lock.proofs.IdleLaws.{idles_taken, free_idles}
 use Rattle.title_lock.proofs.table.Table.take_out.Goals as goal
@@ -11,8 +12,8 @@ use Rattle.title_lock.proofs.table.Table.take_out.Goals as goal
 pub returns-in_default : goal.returns-in_default
 returns-in_default c =
     let e = c.args.examiner in
-    let k = c.args.node.now in
-    let none = sym (node_finds c.args.self.now.places c.node_code-code.result k None c.node_code-code.ensures.code c.in_default.ensures.value) in
+    let k = c.args.spot.now.node in
+    let none = sym (node_finds c.args.self.now.places c.args.spot.now.code k None c.args.spot.now.numbered c.in_default.ensures.value) in
     let now = c.get_mut.follows.holds-at-none in
     let m = c.args.self.now.places in
     record {
@@ -29,20 +30,20 @@ returns-in_default c =
 pub returns-then-take_out : goal.returns-then-take_out
 returns-then-take_out c =
     let e = c.args.examiner in
-    let k = c.args.node.now in
+    let k = c.args.spot.now.node in
     let h = c.in-Some.place.now in
     let w = c.take_out.new.self in
-    let code = c.node_code-code.ensures.code in
+    let code = c.args.spot.now.numbered in
     let m = c.args.self.now.places in
     let mid = c.get_mut.follows.lender w in
     let found = c.in-Some.ensures.value in
-    let had = node_finds m c.node_code-code.result k (Some h) code found in
+    let had = node_finds m c.args.spot.now.code k (Some h) code found in
     let changes = (c.get_mut.follows.holds w).3 (is_found _ _ found) in
-    let writes = node_writes m mid c.node_code-code.result k (Some w) code changes.0 in
-    let left : Some w ≡ place_at mid k = node_finds mid c.node_code-code.result k (Some w) code (sym changes.1) in
+    let writes = node_writes m mid c.args.spot.now.code k (Some w) code changes.0 in
+    let left : Some w ≡ place_at mid k = node_finds mid c.args.spot.now.code k (Some w) code (sym changes.1) in
     let free : is_free w ≡ true = sym c.take_out.ensures.free ∙ c.if-take_out.true in
-    let removes = node_writes mid c.remove.new.self c.node_code-code.result k None code c.remove.ensures.updates.0 in
-    let gone : None ≡ place_at c.remove.new.self k = node_finds c.remove.new.self c.node_code-code.result k None code
+    let removes = node_writes mid c.remove.new.self c.args.spot.now.code k None code c.remove.ensures.updates.0 in
+    let gone : None ≡ place_at c.remove.new.self k = node_finds c.remove.new.self c.args.spot.now.code k None code
     (sym c.remove.ensures.updates.1) in
     let both : Writes m c.remove.new.self k None = rewritten m mid c.remove.new.self k (Some w) None writes removes in
     record {
@@ -64,17 +65,17 @@ returns-then-take_out c =
 pub returns-else-take_out : goal.returns-else-take_out
 returns-else-take_out c =
     let e = c.args.examiner in
-    let k = c.args.node.now in
+    let k = c.args.spot.now.node in
     let h = c.in-Some.place.now in
     let w = c.take_out.new.self in
-    let code = c.node_code-code.ensures.code in
+    let code = c.args.spot.now.numbered in
     let m = c.args.self.now.places in
     let mid = c.get_mut.follows.lender w in
     let found = c.in-Some.ensures.value in
-    let had = node_finds m c.node_code-code.result k (Some h) code found in
+    let had = node_finds m c.args.spot.now.code k (Some h) code found in
     let changes = (c.get_mut.follows.holds w).3 (is_found _ _ found) in
-    let writes = node_writes m mid c.node_code-code.result k (Some w) code changes.0 in
-    let left : Some w ≡ place_at mid k = node_finds mid c.node_code-code.result k (Some w) code (sym changes.1) in
+    let writes = node_writes m mid c.args.spot.now.code k (Some w) code changes.0 in
+    let left : Some w ≡ place_at mid k = node_finds mid c.args.spot.now.code k (Some w) code (sym changes.1) in
     let kept : is_free w ≡ false = sym c.take_out.ensures.free ∙ c.if-take_out.false in
     record {
       modes = λ f. released m mid k (Some w) writes (is_mode c.args.taken && eqb f e) f

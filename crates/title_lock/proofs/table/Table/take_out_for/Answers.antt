@@ -12,10 +12,10 @@ pub returns : goal.returns
 returns c = record {
   modes = λ f n.
       c.take_out_above.ensures.modes f n
-      ∙ ap (λ (r : Option Mode). cond (is_mode c.args.taken && eqb f c.args.examiner && is_above n c.args.node.now) None r)
+      ∙ ap (λ (r : Option Mode). cond (is_mode c.args.taken && eqb f c.args.examiner && is_above n c.args.spot.now.node) None r)
       (c.take_out.ensures.modes f n)
-      ∙ gone_join (is_mode c.args.taken && eqb f c.args.examiner) (same_node n c.args.node.now) (is_above n c.args.node.now)
+      ∙ gone_join (is_mode c.args.taken && eqb f c.args.examiner) (same_node n c.args.spot.now.node) (is_above n c.args.spot.now.node)
       (table_mode c.args.self.now f n);
-  idle = less_at_asked c.args.node.now c.take_out.ensures.idle c.take_out_above.ensures.idle;
+  idle = less_at_asked c.args.spot.now.node c.take_out.ensures.idle c.take_out_above.ensures.idle;
   used = λ used. c.take_out_above.ensures.used (c.take_out.ensures.used used);
 }

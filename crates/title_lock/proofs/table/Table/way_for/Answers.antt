@@ -13,7 +13,7 @@ pub returns : goal.returns
 returns c =
     let e = c.args.examiner in
     let p = is_post c.args.access in
-    let k = c.args.node.now in
+    let k = c.args.spot.now.node in
     let table = c.args.self.now in
     record {
       way = subst (λ (w : Option ℕ). IsLeast (λ f. clashes_for p (λ n. table_mode table f n) k) e w) (sym c.least.ensures.least)

@@ -1,5 +1,5 @@
 -- One node of the cover more.
-use Rattle.std.proofs.Common.{◌<◌, ◌+◌, ◌∙◌, ◌||◌, ap, sym, subst, ℕ, List, Option, length, take, arith}
+use Rattle.std.proofs.Common.{◌≡◌, get_or, ◌<◌, ◌+◌, ◌∙◌, ◌||◌, ap, sym, subst, ℕ, List, Option, length, take, arith}
 use Rattle.std.proofs.lemmas.List.{take_all}
 use Rattle.std.proofs.lemmas.List.Folds.{list_any_more}
 use Rattle.title_land.specs.declared.node.Node.{Node}
@@ -16,13 +16,14 @@ loop-node-preserved c =
     let i = c.loop-node.node-index in
     let nodes = c.args.cover.now in
     let table = c.args.self.now in
-    let k = c.node-item.result in
+    let k = c.of-spot.result.node in
+    let at_it : k ≡ get_or nodes i k = subst (λ (z : Node). z ≡ get_or nodes i z) (sym c.of-spot.ensures.of) c.node-item.is in
     let before = λ (f : ℕ). clashes_with p (λ n. table_mode table f n) (take i nodes) in
     let here = λ (f : ℕ). clashes_for p (λ n. table_mode table f n) k in
     subst (λ (w : Option ℕ). IsLeast (λ f. clashes_with p (λ n. table_mode table f n) (take (i + 1) nodes)) e w)
     (sym c.least-way.ensures.least)
     (least_same (λ f. before f || here f) (λ f. clashes_with p (λ n. table_mode table f n) (take (i + 1) nodes)) e _
-    (λ f o. ap (λ (x : Node). before f || clashes_for p (λ n. table_mode table f n) x) c.node-item.is
+    (λ f o. ap (λ (x : Node). before f || clashes_for p (λ n. table_mode table f n) x) at_it
     ∙ sym (list_any_more (clashes_for p (λ n. table_mode table f n)) nodes i k low))
     (least_join before here e c.loop-node.way c.way_for.result c.loop-node.invariant c.way_for.ensures.way))
 
