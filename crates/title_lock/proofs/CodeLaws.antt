@@ -39,7 +39,7 @@ path_parts a b g h l m e = (omega arith, omega arith)
 
 -- ---- townships and sections
 
-township_below : (t : Township) → township_code t < 65536
+pub township_below : (t : Township) → township_code t < 65536
 township_below t = omega (arith, t.numbered.1, t.ranged.1, flag_below t.north, flag_below t.east)
 
 township_positive : (t : Township) → 0 < township_code t
@@ -74,7 +74,7 @@ section_is s u e =
 times_sixty_four : (a b : ℕ) → a * 64 ≡ b * 64 → a ≡ b
 times_sixty_four a b e = omega arith
 
-node_is : (a b : Node) → node_code a ≡ node_code b → same_node a b ≡ true
+pub node_is : (a b : Node) → node_code a ≡ node_code b → same_node a b ≡ true
 node_is node.Everything node.Everything e = refl
 node_is node.Everything (node.Township u) e = absurd (omega (arith, township_positive u, e))
 node_is node.Everything (node.Part u w) e = absurd (omega (arith, path_positive w, e))

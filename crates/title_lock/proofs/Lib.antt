@@ -5,6 +5,7 @@ pub mod AccessLaws
 pub mod CodeLaws
 pub mod TableLaws
 pub mod IdleLaws
+pub mod FamilyLaws
 pub mod WayLaws
 pub mod BookLaws
 pub mod GiveBack

@@ -1,5 +1,5 @@
 -- A node as a number, by which a table of locks finds it: from above its quarters, its township and its section.
-use Rattle.std.specs.Prelude.{ℕ, ◌+◌, ◌*◌, ◌/◌, ◌%◌, nat_lt, if◌then◌else◌, Bool, true, false}
+use Rattle.std.specs.Prelude.{ℕ, ◌+◌, ◌*◌, ◌/◌, ◌%◌, ◌==◌, nat_lt, if◌then◌else◌, Option, Some, None, Bool, true, false}
 use Rattle.title_land.specs.declared.place.Township.{Township}
 use Rattle.title_land.specs.declared.place.Section.{Section}
 use Rattle.title_land.specs.declared.node.Node.{Node}
@@ -27,3 +27,13 @@ node_code (node.Part s w) = path_number w * 4194304 + section_code s
 abbrev pub code_above : ℕ → ℕ
 code_above k =
     if nat_lt k 4194304 then 0 else (if nat_lt k 16777216 then k % 4194304 / 64 * 64 else k / 16777216 * 4194304 + k % 4194304)
+
+-- the number of the node above a square; it tells which squares have all nodes above them in common
+abbrev pub family : ℕ → Option ℕ
+family k = if nat_lt k 4194304 then None else Some (code_above k)
+
+-- both have one family
+abbrev pub same_family : Option ℕ → Option ℕ → Bool
+same_family None b = false
+same_family (Some a) None = false
+same_family (Some a) (Some b) = a == b

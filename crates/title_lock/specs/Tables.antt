@@ -9,7 +9,7 @@ use Rattle.title_lock.specs.declared.modes.Mode.{Mode}
 use Rattle.title_lock.specs.declared.table.Table.{Table}
 use Rattle.title_lock.specs.declared.guards.Entry.{Entry}
 use Rattle.title_lock.specs.Codes.{node_code}
-use Rattle.title_lock.specs.Modes.{allows}
+use Rattle.title_lock.specs.Modes.{allows, bound}
 use Rattle.title_lock.specs.Asking.{own_mode, above_mode, mode_at, AreSized}
 use Rattle.title_lock.specs.Holders.{Modes, holder_mode, has_room, idles, is_free, clashes}
 
@@ -74,6 +74,16 @@ pub record IdleMore (old : Table) (new : Table) (e : ℕ) (asks : Node → Bool)
 -- exactly those are idle who were, but for examiner e at nodes that pass a test
 pub record IdleLess (old : Table) (new : Table) (e : ℕ) (asks : Node → Bool) : Type 0 where
   pub less : (f : ℕ) (n : Node) → is_idle new f n ≡ (is_idle old f n && not (f == e && asks n))
+
+-- examiner e has mode m or more at each node that passes a test, and isn't idle there
+pub record IsRaised (t : Table) (e : ℕ) (m : Mode) (asks : Node → Bool) : Type 0 where
+  pub more : (n : Node) → asks n ≡ true → bound (table_mode t e n) (Some m) ≡ table_mode t e n
+  pub busy : (n : Node) → asks n ≡ true → is_idle t e n ≡ false
+
+-- examiner e isn't idle at any node that passes a test, and has no mode there where modes are taken out
+pub record IsTakenOut (t : Table) (e : ℕ) (modes : Bool) (asks : Node → Bool) : Type 0 where
+  pub none : (n : Node) → asks n ≡ true → modes ≡ true → table_mode t e n ≡ None
+  pub busy : (n : Node) → asks n ≡ true → is_idle t e n ≡ false
 
 -- nobody is idle but who was
 pub record NoMoreIdle (old : Table) (new : Table) : Type 0 where

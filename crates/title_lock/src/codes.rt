@@ -4,7 +4,7 @@
 ghost use Rattle.std.specs.Prelude.{◌≡◌, ◌<◌, ◌^◌, Some, None, MatchOption};
 ghost use Rattle.title_land.specs.Nodes.{parent_of};
 ghost use Rattle.title_land.specs.Paths.{quarter_number, path_number};
-ghost use Rattle.title_lock.specs.Codes.{flag_code, township_code, section_code, node_code, code_above};
+ghost use Rattle.title_lock.specs.Codes.{flag_code, township_code, section_code, node_code, code_above, family, same_family};
 
 use title_land::{Node, Quarter, Section, Township, Within};
 
@@ -110,5 +110,25 @@ impl Spot {
             node,
             code: code_above(self.code),
         })
+    }
+
+    /// The number of the node above a square; `None` for the plant and a township.
+    pub(crate) fn family(&self) -> Option<u64>
+        ensures family { result ≡ family self.now.code }
+    {
+        if self.code < 4_194_304 {
+            return None;
+        }
+        Some(code_above(self.code))
+    }
+}
+
+/// Whether two nodes are squares with all nodes above them in common, by their families.
+pub(crate) fn is_same_family(last: Option<u64>, family: Option<u64>) -> bool
+    ensures same { result ≡ same_family last family }
+{
+    match (last, family) {
+        (Some(a), Some(b)) => a == b,
+        _ => false,
     }
 }

@@ -12,8 +12,9 @@ ghost use Rattle.title_lock.specs.Counts.{IsCount};
 ghost use Rattle.title_lock.specs.Holders.{clashes, is_mode};
 ghost use Rattle.title_lock.specs.Tables.{table_mode, table_room, clashes_above, clashes_for, clashes_with};
 ghost use Rattle.title_lock.specs.Tables.{KeepsRoom, HasRoom, is_asked, is_idle, is_unused, IdleMore, IdleLess, AllUsed};
+ghost use Rattle.title_lock.specs.Tables.{IsRaised, IsTakenOut};
 
-use crate::codes::{Spot, node_code};
+use crate::codes::{Spot, is_same_family, node_code};
 use crate::guards::Access;
 use crate::holders::{Holders, Taken};
 use crate::least::least;
@@ -181,6 +182,27 @@ impl Table {
         Ok(())
     }
 
+    // The same, where there may be room at all nodes above already.
+    fn make_room_next(
+        &mut self,
+        examiner: u32,
+        spot: &Spot,
+        is_known: bool,
+    ) -> Result<(), AllocError>
+        requires known { is_known ≡ true → HasRoom self.old examiner (λ n. is_above n spot.now.node) }
+        ensures modes { (f : ℕ) → (n : Node) → table_mode self.new f n ≡ table_mode self.old f n }
+        ensures room { OnOk result (HasRoom self.new examiner (λ n. is_asked n spot.now.node)) }
+        ensures stays { KeepsRoom self.old self.new }
+        ensures idle { IdleMore self.old self.new examiner (λ n. is_asked n spot.now.node) }
+        ensures used { AllUsed self.old → AllUsed self.new }
+    {
+        if is_known {
+            self.make_room(examiner, spot)?;
+            return Ok(());
+        }
+        self.make_room_for(examiner, spot)
+    }
+
     /// Makes room for what an access asks for. No mode changes, also where memory is refused.
     pub(crate) fn make_room_all(&mut self, examiner: u32, cover: &[Node]) -> Result<(), AllocError>
         ensures modes { (f : ℕ) → (n : Node) → table_mode self.new f n ≡ table_mode self.old f n }
@@ -188,9 +210,13 @@ impl Table {
         ensures idle { IdleMore self.old self.new examiner (λ n. list_any (is_asked n) cover.now) }
         ensures used { AllUsed self.old → AllUsed self.new }
     {
+        let mut last = None;
         for node in cover {
             let spot = Spot::of(node);
-            self.make_room_for(examiner, &spot)?;
+            let family = spot.family();
+            let is_known = is_same_family(last, family);
+            self.make_room_next(examiner, &spot, is_known)?;
+            last = family;
         }
         Ok(())
     }
@@ -237,6 +263,24 @@ impl Table {
         self.raise(examiner, spot, own_mode(access));
     }
 
+    // The same, where the examiner may have it at all nodes above already.
+    fn raise_next(&mut self, examiner: u32, spot: &Spot, access: Access, is_known: bool)
+        requires room { HasRoom self.old examiner (λ n. is_asked n spot.now.node) }
+        requires known { is_known ≡ true
+            → IsRaised self.old examiner (above_mode (is_post access)) (λ n. is_above n spot.now.node) }
+        ensures modes { (f : ℕ) → (n : Node) → table_mode self.new f n
+            ≡ bound (table_mode self.old f n) (if f == examiner then asked_for (is_post access) spot.now.node n else None) }
+        ensures stays { KeepsRoom self.old self.new }
+        ensures idle { IdleLess self.old self.new examiner (λ n. is_asked n spot.now.node) }
+        ensures used { AllUsed self.old → AllUsed self.new }
+    {
+        if is_known {
+            self.raise(examiner, spot, own_mode(access));
+            return;
+        }
+        self.raise_for(examiner, spot, access);
+    }
+
     /// Gives an examiner what an access asks for, where there is room for it. Takes no memory.
     pub(crate) fn raise_all(&mut self, examiner: u32, cover: &[Node], access: Access)
         requires room { HasRoom self.old examiner (λ n. list_any (is_asked n) cover.now) }
@@ -245,9 +289,13 @@ impl Table {
         ensures idle { IdleLess self.old self.new examiner (λ n. list_any (is_asked n) cover.now) }
         ensures used { AllUsed self.old → AllUsed self.new }
     {
+        let mut last = None;
         for node in cover {
             let spot = Spot::of(node);
-            self.raise_for(examiner, &spot, access);
+            let family = spot.family();
+            let is_known = is_same_family(last, family);
+            self.raise_next(examiner, &spot, access, is_known);
+            last = family;
         }
     }
 
@@ -291,6 +339,21 @@ impl Table {
         self.take_out_above(examiner, spot, taken);
     }
 
+    // The same, where the examiner may be taken out at all nodes above already.
+    fn take_out_next(&mut self, examiner: u32, spot: &Spot, taken: Taken, is_known: bool)
+        requires known { is_known ≡ true → IsTakenOut self.old examiner (is_mode taken) (λ n. is_above n spot.now.node) }
+        ensures modes { (f : ℕ) → (n : Node) → table_mode self.new f n
+            ≡ (if is_mode taken && f == examiner && is_asked n spot.now.node then None else table_mode self.old f n) }
+        ensures idle { IdleLess self.old self.new examiner (λ n. is_asked n spot.now.node) }
+        ensures used { AllUsed self.old → AllUsed self.new }
+    {
+        if is_known {
+            self.take_out(examiner, spot, taken);
+            return;
+        }
+        self.take_out_for(examiner, spot, taken);
+    }
+
     /// Takes an examiner's modes or rooms out of the holders of what an access asks for. Takes no memory.
     pub(crate) fn take_out_all(&mut self, examiner: u32, cover: &[Node], taken: Taken)
         ensures modes { (f : ℕ) → (n : Node) → table_mode self.new f n
@@ -298,9 +361,13 @@ impl Table {
         ensures idle { IdleLess self.old self.new examiner (λ n. list_any (is_asked n) cover.now) }
         ensures used { AllUsed self.old → AllUsed self.new }
     {
+        let mut last = None;
         for node in cover {
             let spot = Spot::of(node);
-            self.take_out_for(examiner, &spot, taken);
+            let family = spot.family();
+            let is_known = is_same_family(last, family);
+            self.take_out_next(examiner, &spot, taken, is_known);
+            last = family;
         }
     }
 }

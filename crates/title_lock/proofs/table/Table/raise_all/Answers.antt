@@ -1,5 +1,5 @@
 -- One node of the cover more.
-use Rattle.std.proofs.Common.{◌≡◌, get_or, ◌<◌, ◌∙◌, ap, sym, subst, List, None, cond, eqb, length, arith}
+use Rattle.std.proofs.Common.{ℕ, Option, ◌≡◌, get_or, ◌<◌, ◌∙◌, ap, sym, subst, List, None, cond, eqb, length, arith}
 use Rattle.std.proofs.lemmas.List.{drop_all, take_all}
 use Rattle.std.proofs.lemmas.Grind.{common_steps}
 use Rattle.std.specs.List.{list_any}
@@ -7,6 +7,8 @@ use Rattle.title_land.specs.declared.node.Node.{Node}
 use Rattle.title_lock.specs.Modes.{bound}
 use Rattle.title_lock.specs.Overlaps.{is_post}
 use Rattle.title_lock.specs.Asking.{asked_for, asked}
+use Rattle.title_lock.specs.Codes.{node_code, family, same_family}
+use Rattle.title_lock.proofs.FamilyLaws.{raised_after}
 use Rattle.title_lock.specs.Tables.{table_mode, is_asked, IdleLess}
 use Rattle.title_lock.proofs.AccessLaws.{rest_join, rest_none}
 use Rattle.title_lock.proofs.TableLaws.{asked_of_one}
@@ -21,29 +23,38 @@ loop-node-preserved c =
     let i = c.loop-node.node-index in
     let k = c.of-spot.result.node in
     let at_it : k ≡ get_or nodes i k = subst (λ (z : Node). z ≡ get_or nodes i z) (sym c.of-spot.ensures.of) c.node-item.is in
+    let fam : c.family-family.result ≡ family (node_code k) = c.family-family.ensures.family ∙ ap family c.of-spot.result.numbered in
     record {
       modes = λ f n. grind (
         arith,
         common_steps,
         rest_join,
-        (subst (λ (z : Node). table_mode c.raise_for.new.self f n
+        (subst (λ (z : Node). table_mode c.raise_next.new.self f n
             ≡ bound (table_mode c.loop-node.self f n) (cond (eqb f e) (asked_for (is_post c.args.access) z n) None)) c.of-spot.ensures.of
-            (c.raise_for.ensures.modes f n)),
+            (c.raise_next.ensures.modes f n)),
         c.loop-node.invariant.modes f n,
       );
-      room = λ n asks. c.raise_for.ensures.stays e n (c.loop-node.invariant.room n asks);
+      room = λ n asks. c.raise_next.ensures.stays e n (c.loop-node.invariant.room n asks);
       idle = less_next c.args.cover.now c.loop-node.node-index k at_it low c.loop-node.invariant.idle
-          c.raise_for.ensures.idle;
-      used = λ used. c.raise_for.ensures.used (c.loop-node.invariant.used used);
+          c.raise_next.ensures.idle;
+      known = λ n same. raised_after k (is_post c.args.access) n
+          (ap (λ (z : Option ℕ). same_family z (family (node_code n))) (sym fam) ∙ same)
+          c.raise_next.ensures.modes c.raise_next.ensures.idle;
+      used = λ used. c.raise_next.ensures.used (c.loop-node.invariant.used used);
     }
 
-pub raise_for-requires : goal.raise_for-requires
-raise_for-requires c =
+pub raise_next-requires : goal.raise_next-requires
+raise_next-requires c =
     let nodes = c.args.cover.now in
     let i = c.loop-node.node-index in
     let k = c.of-spot.result.node in
     let at_it : k ≡ get_or nodes i k = subst (λ (z : Node). z ≡ get_or nodes i z) (sym c.of-spot.ensures.of) c.node-item.is in
-    record { room = λ n asks. c.loop-node.invariant.room n (asked_of_one n nodes i k at_it (omega arith) asks) }
+    let fam : c.family-family.result ≡ family (node_code k) = c.family-family.ensures.family ∙ ap family c.of-spot.result.numbered in
+    record {
+      room = λ n asks. c.loop-node.invariant.room n (asked_of_one n nodes i k at_it (omega arith) asks);
+      known = λ yes. c.loop-node.invariant.known k
+          (sym (c.is_same_family-is_known.ensures.same ∙ ap (same_family c.loop-node.last) fam) ∙ yes);
+    }
 
 pub returns : goal.returns
 returns c = record {

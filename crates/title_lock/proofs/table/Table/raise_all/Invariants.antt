@@ -1,15 +1,17 @@
 -- The loop over the cover.
 use Rattle.title_land.specs.declared.node.Node.{Node}
-use Rattle.std.proofs.Common.{◌≡◌, ℕ, drop, take, eqb, cond, None}
+use Rattle.title_land.specs.Nodes.{is_above}
+use Rattle.title_lock.specs.Codes.{node_code, family, same_family}
+use Rattle.std.proofs.Common.{true, ◌≡◌, ℕ, drop, take, eqb, cond, None}
 use Rattle.std.specs.List.{list_any}
 use Rattle.title_lock.specs.Modes.{bound}
 use Rattle.title_lock.specs.Overlaps.{is_post}
-use Rattle.title_lock.specs.Asking.{asked}
-use Rattle.title_lock.specs.Tables.{table_mode, is_asked, HasRoom, IdleLess, AllUsed}
+use Rattle.title_lock.specs.Asking.{above_mode, asked}
+use Rattle.title_lock.specs.Tables.{table_mode, is_asked, HasRoom, IdleLess, IsRaised, AllUsed}
 use Rattle.title_lock.proofs.table.Table.raise_all.Given as goal
 
 -- the modes so far and what the rest asks for are the old modes and what all asks for; there is room for all,
--- and the examiner isn't idle where it was raised
+-- and the examiner isn't idle where it was raised, and has what is asked above the last one's family
 abbrev pub invariant-loop-node : goal.invariant-loop-node
 invariant-loop-node l = record {
   modes : (f : ℕ) (n : Node) →
@@ -17,5 +19,7 @@ invariant-loop-node l = record {
       ≡ bound (table_mode l.fn.self f n) (cond (eqb f l.examiner) (asked (is_post l.access) l.cover n) None);
   room : HasRoom l.self l.examiner (λ n. list_any (is_asked n) l.cover);
   idle : IdleLess l.fn.self l.self l.examiner (λ n. list_any (is_asked n) (take l.node-index l.cover));
+  known : (n : Node) → same_family l.last (family (node_code n)) ≡ true
+      → IsRaised l.self l.examiner (above_mode (is_post l.access)) (λ m. is_above m n);
   used : AllUsed l.fn.self → AllUsed l.self;
 }

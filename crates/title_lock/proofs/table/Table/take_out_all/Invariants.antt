@@ -1,16 +1,20 @@
 -- The loop over the cover.
 use Rattle.title_land.specs.declared.node.Node.{Node}
-use Rattle.std.proofs.Common.{◌≡◌, ℕ, ◌&&◌, take, eqb, cond, None}
+use Rattle.title_land.specs.Nodes.{is_above}
+use Rattle.title_lock.specs.Codes.{node_code, family, same_family}
+use Rattle.std.proofs.Common.{true, ◌≡◌, ℕ, ◌&&◌, take, eqb, cond, None}
 use Rattle.std.specs.List.{list_any}
 use Rattle.title_lock.specs.Holders.{is_mode}
-use Rattle.title_lock.specs.Tables.{table_mode, is_asked, IdleLess, AllUsed}
+use Rattle.title_lock.specs.Tables.{table_mode, is_asked, IdleLess, IsTakenOut, AllUsed}
 use Rattle.title_lock.proofs.table.Table.take_out_all.Given as goal
 
--- the examiner holds nothing that the nodes so far ask for, and isn't idle there
+-- the examiner holds nothing that the nodes so far ask for, nor above the last one's family, and isn't idle there
 abbrev pub invariant-loop-node : goal.invariant-loop-node
 invariant-loop-node l = record {
   modes : (f : ℕ) (n : Node) → table_mode l.self f n
       ≡ cond (is_mode l.taken && eqb f l.examiner && list_any (is_asked n) (take l.node-index l.cover)) None (table_mode l.fn.self f n);
   idle : IdleLess l.fn.self l.self l.examiner (λ n. list_any (is_asked n) (take l.node-index l.cover));
+  known : (n : Node) → same_family l.last (family (node_code n)) ≡ true
+      → IsTakenOut l.self l.examiner (is_mode l.taken) (λ m. is_above m n);
   used : AllUsed l.fn.self → AllUsed l.self;
 }
