@@ -6,3 +6,4 @@ pub mod Spellings
 pub mod NodeTexts
 pub mod NodeCovers
 pub mod TextsDoubled
+mod SquareParts

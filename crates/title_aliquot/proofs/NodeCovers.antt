@@ -41,14 +41,14 @@ quarter_there d q w h =
     let z = sized d (suc k) w (omega arith) in
     rw (power_even (square d w).height k z.height_is, power_even (square d w).width k z.width_is) refl
 
-part_is_square : (d : ℕ) (w : List Quarter) → length w ≤ d → part_of d (steps_of w) ≡ Some (square d w)
+pub part_is_square : (d : ℕ) (w : List Quarter) → length w ≤ d → part_of d (steps_of w) ≡ Some (square d w)
 part_is_square d [] h = refl
 part_is_square d (q ∷ w) h = rw (part_is_square d w (omega arith)) (rw (quarter_there d q w h) refl)
 
 -- ---- the node's land
 
 -- the cells of one rectangle
-one_union : (d : ℕ) (r : Rectangle) → grid_of d (union (r ∷ [])) ≡ grid_of d (holds r)
+pub one_union : (d : ℕ) (r : Rectangle) → grid_of d (union (r ∷ [])) ≡ grid_of d (holds r)
 one_union d r = λ i. grid_of d (λ row column. or-false (holds r row column) i)
 
 -- one part overlaps with none
@@ -57,7 +57,7 @@ alone r (inl o) = o
 alone r (inr o) = o
 
 -- a part that is there stands alone
-part_stands : (steps : List Step) (r : Rectangle) → part_of depth steps ≡ Some r → PartsStand (steps ∷ []) (grid_of depth (union (r ∷ [])))
+pub part_stands : (steps : List Step) (r : Rectangle) → part_of depth steps ≡ Some r → PartsStand (steps ∷ []) (grid_of depth (union (r ∷ [])))
 part_stands steps r e = record {
   exist = rw e refl;
   apart = λ o. let P : List Rectangle → Type 0 = λ z. Overlap z in let k : rectangles depth (steps ∷ []) ≡ r ∷ [] = rw e refl in

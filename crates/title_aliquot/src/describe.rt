@@ -18,6 +18,7 @@ use crate::fault::DescFault;
 use crate::letters::{offset_of, split_at_letter};
 use crate::meaning::land_of;
 use crate::reader::{Reader, Stop};
+use crate::squares::node_of;
 use crate::syntax::Words;
 use std::alloc::Global;
 use title_land::Tract;
@@ -102,6 +103,9 @@ fn tract_of(alloc: Global, text: &str) -> Result<Tract, DescFault>
     ensures fault { IfErr result (λ e. e ≢ fault.Memory → FaultOf depth text.now e) }
 {
     let words = words_of(alloc, text)?;
+    if let Some(node) = node_of(&words) {
+        return Ok(Tract::of(node));
+    }
     let land = land_of(&words)?;
     Ok(Tract::new(alloc, land)?)
 }

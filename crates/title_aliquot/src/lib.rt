@@ -8,6 +8,7 @@ pub mod laws;
 mod letters;
 mod meaning;
 mod reader;
+mod squares;
 mod syntax;
 
 pub use describe::read;

@@ -1,0 +1,54 @@
+-- A list of one part whose steps are quarters is the square of these quarters.
+use Rattle.std.proofs.Common.{◌≡◌, ◌∙◌, ◌==◌, false, ℕ, ◌+◌, ◌<◌, ◌≤◌, List, [], ◌∷◌, length, drop, get_or, refl, sym, ap, subst, arith}
+use Rattle.std.proofs.Common.{drop-cons, add-one}
+use Rattle.title_land.specs.Depth.{depth}
+use Rattle.title_land.specs.declared.grid.Grid.{Grid}
+use Rattle.title_land.specs.declared.rectangle.Quarter.{Quarter}
+use Rattle.title_land.specs.declared.rectangle.Step.{Step}
+use Rattle.title_land.specs.declared.rectangle.Step.TheVariants as step
+use Rattle.title_land.specs.Grids.{grid_of}
+use Rattle.title_land.specs.Nodes.{square}
+use Rattle.title_land.specs.Rectangles.{holds}
+use Rattle.title_aliquot.specs.declared.syntax.Entry.{Entry}
+use Rattle.title_aliquot.specs.declared.syntax.Entry.TheVariants as entry
+use Rattle.title_aliquot.specs.Entries.{leading, parts_in}
+use Rattle.title_aliquot.specs.Laws.Lands.{PartsStand, parts_stand_as}
+use Rattle.title_aliquot.proofs.NodeCovers.{one_union, part_is_square, part_stands}
+use Rattle.title_aliquot.proofs.Spellings.{steps_of}
+
+-- entries that are steps alone: the quarters of a square
+pub record Squared (es : List Entry) (w : List Quarter) : Type 0 where
+  pub steps : leading es ≡ steps_of w
+  pub alone : parts_in es ≡ []
+  pub short : length w ≤ depth
+
+pub squared_nothing : Squared [] []
+squared_nothing = record { steps = refl; alone = refl; short = omega arith }
+
+-- one entry more
+squared_next : (es : List Entry) (q : Quarter) (w : List Quarter) → length w < depth → Squared es w
+    → Squared (entry.Step (step.Quarter q) ∷ es) (q ∷ w)
+squared_next es q w h k = record { steps = ap (λ (z : List Step). step.Quarter q ∷ z) k.steps; alone = k.alone; short = omega arith }
+
+pub squared_more : (es : List Entry) (i : ℕ) (d : Entry) (q : Quarter) (w : List Quarter) → i < length es
+    → get_or es i d ≡ entry.Step (step.Quarter q) → length w < depth → Squared (drop (i + 1) es) w → Squared (drop i es) (q ∷ w)
+squared_more es i d q w l e h k =
+    let there : drop i es ≡ entry.Step (step.Quarter q) ∷ drop (i + 1) es = rw (drop-cons es i d l, add-one, e) refl in
+    subst (λ (z : List Entry). Squared z (q ∷ w)) (sym there) (squared_next (drop (i + 1) es) q w h k)
+
+pub some_entry : (es : List Entry) → (length es == 0) ≡ false → 0 < length es
+some_entry [] h = absurd cc
+some_entry (e ∷ es) h = omega arith
+
+-- the steps behind the entry that begins a part
+one_part : (es : List Entry) (w : List Quarter) → leading es ≡ [] → 0 < length es → Squared (drop 1 es) w → parts_in es ≡ steps_of w ∷ []
+one_part [] w h l k = absurd (omega arith)
+one_part (entry.Part ∷ es) w h l k = rw (k.steps, k.alone) refl
+one_part (entry.Step s ∷ es) w h l k = absurd cc
+
+pub square_stands : (es : List Entry) (w : List Quarter) → leading es ≡ [] → 0 < length es → Squared (drop 1 es) w
+    → PartsStand (parts_in es) (grid_of depth (holds (square depth w)))
+square_stands es w h l k =
+    let stands = part_stands (steps_of w) (square depth w) (part_is_square depth w k.short) in
+    let same = subst (λ (g : Grid). PartsStand (steps_of w ∷ []) g) (one_union depth (square depth w)) stands in
+    parts_stand_as (steps_of w ∷ []) (parts_in es) _ (sym (one_part es w h l k)) same

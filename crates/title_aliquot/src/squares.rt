@@ -1,0 +1,60 @@
+//! Words that name a node of the tree of tracts: everything, a township, a section, or one square of it by its quarters.
+
+ghost use Rattle.std.specs.Prelude.{◌≡◌, [], IfSome};
+ghost use Rattle.title_land.specs.Depth.{depth};
+ghost use Rattle.title_aliquot.specs.Entries.{leading, parts_in};
+ghost use Rattle.title_aliquot.specs.Grammar.{InPlace};
+ghost use Rattle.title_aliquot.specs.Laws.Lands.{PartsStand};
+ghost use Rattle.title_aliquot.specs.Meaning.{StandsFor};
+ghost use Rattle.title_aliquot.specs.Views.{words_view, place_view};
+ghost use Rattle.title_land.specs.Grids.{grid_of};
+ghost use Rattle.title_land.specs.Lands.{land_of};
+ghost use Rattle.title_land.specs.Nodes.{square};
+ghost use Rattle.title_land.specs.Rectangles.{holds};
+
+use crate::syntax::{Entry, PlaceWords, Words};
+use title_land::{Node, Section, Step, Township, Within};
+
+/// The square that a list of parts is, where it is one part whose steps are all quarters, down to a cell at most.
+fn square_of(entries: &[Entry]) -> Option<Within>
+    requires begun { leading entries.now ≡ [] }
+    ensures square { IfSome result (λ w. PartsStand (parts_in entries.now) (grid_of depth (holds (square depth w)))) }
+{
+    if entries.is_empty() {
+        return None;
+    }
+    let mut within = Within::section();
+    'entries: for place in (1..entries.len()).rev() {
+        let Entry::Step(Step::Quarter(which)) = entries[place] else {
+            return None;
+        };
+        if within.is_cell() {
+            return None;
+        }
+        within = within.quarter(which);
+    }
+    Some(within)
+}
+
+/// The node that a place is, where it is one by its words alone.
+fn node_of_place(place: &PlaceWords) -> Option<Node>
+    ensures node { IfSome result (λ n. StandsFor depth (InPlace (place_view place.now)) (land_of depth n)) }
+{
+    let township = Township::new(place.township, place.north, place.range, place.east)?;
+    let Some(words) = &place.section else {
+        return Some(Node::Township(township));
+    };
+    let section = Section::new(township, words.number)?;
+    let within = square_of(words.parts.entries())?;
+    Some(Node::Part(section, within))
+}
+
+/// The node that words stand for, where it is one by its words alone: no set of cells is then made. `None` says nothing.
+pub fn node_of(words: &Words) -> Option<Node>
+    ensures node { IfSome result (λ n. StandsFor depth (words_view words.now) (land_of depth n)) }
+{
+    match words {
+        Words::Everything => Some(Node::Everything),
+        Words::Place(place) => node_of_place(place),
+    }
+}
