@@ -7,6 +7,7 @@ pub mod lands;
 pub mod laws;
 pub mod line;
 pub mod plan;
+mod readings;
 pub mod row;
 pub mod script;
 pub mod terms;

@@ -12,6 +12,7 @@ ghost use Rattle.title_plan.specs.Townships.{each_once};
 
 use crate::fault::ScriptFault;
 use crate::line::{Line, Schedule};
+use crate::readings::Readings;
 use crate::row::{Act, Row, read_row};
 use csv::{ByteRecord, StringRecord};
 use indexmap::IndexSet;
@@ -69,6 +70,7 @@ impl Plan {
     // Takes a step of an examiner in the n-th row, where the office has that examiner and the step is in its turn.
     fn take_step(
         &mut self,
+        readings: &mut Readings,
         schedule: Schedule,
         n: u64,
         examiner: u32,
@@ -84,19 +86,50 @@ impl Plan {
         if self.is_out_of_turn(schedule, examiner, act) {
             return Err(ScriptFault::Order(n));
         }
-        self.take_act(schedule, n, examiner, act)
+        self.take_act(readings, schedule, n, examiner, act)
     }
 
     // Takes what the n-th row says.
-    fn take_said(&mut self, schedule: Schedule, n: u64, row: &Row<&str>) -> Result<(), ScriptFault>
+    fn take_said(
+        &mut self,
+        readings: &mut Readings,
+        schedule: Schedule,
+        n: u64,
+        row: &Row<&str>,
+    ) -> Result<(), ScriptFault>
         ensures ok { OnOk result (after_said schedule n (asked_in self.old) (said row.now) ≡ Ok (asked_in self.new)) }
         ensures err { IfErr result (λ e. (e ≡ fault.Memory) ⊎ (after_said schedule n (asked_in self.old) (said row.now) ≡ Err e)) }
     {
         match *row {
             Row::Township(text) => self.take_township(n, text),
             Row::Party(name) => self.take_party(n, name),
-            Row::Step(examiner, ref act) => self.take_step(schedule, n, examiner, act),
+            Row::Step(examiner, ref act) => self.take_step(readings, schedule, n, examiner, act),
         }
+    }
+
+    // Takes the n-th row, as `take_row` does, with the descriptions that were read before it. Gives the record back.
+    pub(crate) fn take_record(
+        &mut self,
+        readings: &mut Readings,
+        schedule: Schedule,
+        n: u64,
+        raw: ByteRecord,
+    ) -> Result<ByteRecord, ScriptFault>
+        ensures ok { OnOk result (after_row schedule n (asked_in self.old) (fields_of raw) ≡ Ok (asked_in self.new)) }
+        ensures within { OnOk result (n ≤ most_rows) }
+        ensures err { IfErr result (λ e. (e ≡ fault.Memory) ⊎ (after_row schedule n (asked_in self.old) (fields_of raw) ≡ Err e)) }
+    {
+        if n > ROWS {
+            return Err(ScriptFault::Row(n));
+        }
+        let Ok(row) = StringRecord::from_byte_record(raw) else {
+            return Err(ScriptFault::Row(n));
+        };
+        let Some(said) = read_row(&row) else {
+            return Err(ScriptFault::Row(n));
+        };
+        self.take_said(readings, schedule, n, &said)?;
+        Ok(row.into_byte_record())
     }
 
     /// Takes the n-th row. Faults in their order: Row(n) where it isn't understood or the office has no such examiner, Order(n)
@@ -112,15 +145,8 @@ impl Plan {
         ensures within { OnOk result (n ≤ most_rows) }
         ensures err { IfErr result (λ e. (e ≡ fault.Memory) ⊎ (after_row schedule n (asked_in self.old) (fields_of raw) ≡ Err e)) }
     {
-        if n > ROWS {
-            return Err(ScriptFault::Row(n));
-        }
-        let Ok(row) = StringRecord::from_byte_record(raw) else {
-            return Err(ScriptFault::Row(n));
-        };
-        match read_row(&row) {
-            Some(row) => self.take_said(schedule, n, &row),
-            None => Err(ScriptFault::Row(n)),
-        }
+        let mut readings = Readings::new(self.alloc);
+        self.take_record(&mut readings, schedule, n, raw)?;
+        Ok(())
     }
 }

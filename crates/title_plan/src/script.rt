@@ -11,7 +11,8 @@ ghost use Rattle.title_plan.specs.declared.fault.ScriptFault.TheVariants as faul
 use crate::fault::ScriptFault;
 use crate::line::Schedule;
 use crate::plan::Plan;
-use csv::{Error, ErrorKind, ReaderBuilder};
+use crate::readings::Readings;
+use csv::{ByteRecord, Error, ErrorKind, ReaderBuilder};
 use std::alloc::Global;
 
 // Splitting a text in memory into rows ends early for want of memory only: rows may have any lengths, and their bytes are
@@ -36,19 +37,23 @@ pub fn read_script(alloc: Global, schedule: Schedule, text: &[u8]) -> Result<Pla
     ensures opens { IfOk result (λ plan. MayOpen (length plan.parties.keys) plan.townships.items) }
     ensures why { IfErr result (λ e. (e ≡ fault.Memory) ⊎ (script_of schedule text.now ≡ Err e)) }
 {
-    let rdr = ReaderBuilder::new()
+    let mut reader = ReaderBuilder::new()
         .has_headers(false)
         .flexible(true)
         .from_reader(alloc, text);
     let mut plan = Plan::new(alloc)?;
+    let mut readings = Readings::new(alloc);
+    let mut raw = ByteRecord::new(alloc);
     let mut n = 0;
-    for row in rdr.into_byte_records() {
-        let raw = match row {
-            Ok(raw) => raw,
+    'rows: loop {
+        let found = match reader.read_byte_record(&mut raw) {
+            Ok(found) => found,
             Err(error) => return Err(fault_of(error)),
         };
+        if !found {
+            return Ok(plan);
+        }
         n += 1;
-        plan.take_row(schedule, n, raw)?;
+        raw = plan.take_record(&mut readings, schedule, n, raw)?;
     }
-    Ok(plan)
 }

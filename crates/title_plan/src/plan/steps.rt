@@ -9,10 +9,10 @@ ghost use Rattle.title_plan.specs.Plans.{after_act, after_asked, line_of, number
 ghost use Rattle.title_plan.specs.Rows.{done, named};
 
 use crate::fault::ScriptFault;
-use crate::lands::read_tract;
 use crate::line::{Line, Schedule};
 use crate::plan::Plan;
 use crate::plan::turns::{begin, end};
+use crate::readings::Readings;
 use crate::row::Act;
 use std::alloc::AllocError;
 use title_aliquot::DescFault;
@@ -99,6 +99,7 @@ impl Plan {
     // Takes what an examiner does in its turn.
     pub(super) fn take_act(
         &mut self,
+        readings: &mut Readings,
         schedule: Schedule,
         n: u64,
         examiner: u32,
@@ -113,18 +114,18 @@ impl Plan {
             Act::Commit => Ok(self.end(Request::Commit(examiner), examiner)?),
             Act::Abort => Ok(self.end(Request::Abort(examiner), examiner)?),
             Act::Sheet(text) => {
-                let asked = read_tract(self.alloc, text)?.map(Ask::Sheet);
+                let asked = readings.read(text)?.map(Ask::Sheet);
                 self.take_asked(schedule, n, examiner, asked)
             }
             Act::Chain(text) => {
-                let asked = read_tract(self.alloc, text)?.map(Ask::Chain);
+                let asked = readings.read(text)?.map(Ask::Chain);
                 self.take_asked(schedule, n, examiner, asked)
             }
             Act::Post(doc, ref instrument, text) => {
                 let Some(instrument) = self.numbered(instrument) else {
                     return Err(ScriptFault::Party(n));
                 };
-                let tract = read_tract(self.alloc, text)?;
+                let tract = readings.read(text)?;
                 let asked = tract.map(|tract| Ask::Post(Posting {
                     doc,
                     tract,
