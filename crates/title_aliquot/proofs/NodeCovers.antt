@@ -1,5 +1,5 @@
 -- The land of a node's text has that node alone as its cover.
-use Rattle.std.proofs.Common.{◌≡◌, ◌∙◌, ℕ, suc, ◌+◌, ◌-◌, ◌*◌, ◌^◌, ◌≤◌, ◌%◌, true, false, List, [], ◌∷◌, length, Some, None, refl, sym, ap}
+use Rattle.std.proofs.Common.{◌≡◌, ℕ, suc, ◌-◌, ◌*◌, ◌^◌, ◌≤◌, ◌%◌, true, List, [], ◌∷◌, length, Some, None, refl, ap}
 use Rattle.std.proofs.Common.{subst, inl, inr, arith}
 use Rattle.std.proofs.lemmas.Bool.{eq-eqb}
 use Rattle.std.proofs.Math.Bool.{or-false}
@@ -11,12 +11,10 @@ use Rattle.title_land.specs.declared.rectangle.Rectangle.{Rectangle}
 use Rattle.title_land.specs.declared.grid.Grid.{Grid}
 use Rattle.title_land.specs.declared.node.Node.{Node}
 use Rattle.title_land.specs.declared.node.Node.TheVariants as node
-use Rattle.title_land.specs.declared.tract.Land.{Land}
-use Rattle.title_land.specs.declared.tract.Land.TheVariants as land
 use Rattle.title_land.specs.Nodes.{square, IsNode}
-use Rattle.title_land.specs.Rectangles.{part_of, step_of, is_even, exists, holds}
+use Rattle.title_land.specs.Rectangles.{part_of, is_even, exists, holds}
 use Rattle.title_land.specs.Grids.{grid_of}
-use Rattle.title_land.specs.Lands.{cover_of, land_of}
+use Rattle.title_land.specs.Lands.{land_of}
 use Rattle.title_land.specs.Laws.Squares.{sized}
 use Rattle.title_land.specs.Laws.NodeLands.{cover_of-land_of}
 use Rattle.title_aliquot.specs.Meaning.{union, rectangles, Overlap, StandsFor}

@@ -1,5 +1,5 @@
 -- A list of one part whose steps are quarters is the square of these quarters.
-use Rattle.std.proofs.Common.{◌≡◌, ◌∙◌, ◌==◌, false, ℕ, ◌+◌, ◌<◌, ◌≤◌, List, [], ◌∷◌, length, drop, get_or, refl, sym, ap, subst, arith}
+use Rattle.std.proofs.Common.{◌≡◌, ◌==◌, false, ℕ, ◌+◌, ◌<◌, ◌≤◌, List, [], ◌∷◌, length, drop, get_or, refl, sym, ap, subst, arith}
 use Rattle.std.proofs.Common.{drop-cons, add-one}
 use Rattle.title_land.specs.Depth.{depth}
 use Rattle.title_land.specs.declared.grid.Grid.{Grid}
