@@ -1,14 +1,12 @@
--- Sets of places: one is found exactly where the same one stands; what is found above a node is found at its parent or above that.
-use Rattle.std.proofs.Common.{◌≡◌, ℕ, ◌+◌, ◌<◌, Bool, true, false, cond, ◌||◌, List, Some, length, take, get_or, refl, sym, ap, ◌∙◌}
+-- Places: one is found exactly where the same one stands; what is found above a node is found at its parent or above that.
+use Rattle.std.proofs.Common.{◌≡◌, Bool, true, false, ◌||◌, List, Some, refl, sym, ap, ◌∙◌}
 use Rattle.std.proofs.lemmas.Bool.{and_parts, and_from, eqb-true, eq-eqb}
-use Rattle.std.proofs.lemmas.List.Folds.{list_any_more}
 use Rattle.std.proofs.lemmas.Map.Lookups.{exact_unsigned}
 use Rattle.std.specs.declared.cmp.Ordering.TheVariants.{Equal}
 use Rattle.std.specs.Ordering.{nat_cmp}
 use Rattle.std.specs.Prelude.{nat_eq}
 use Rattle.std.specs.Cmp.{tied_itself, nat_cmp_total}
 use Rattle.std.specs.BTreeMap.{is_at}
-use Rattle.std.specs.BTreeSet.{BTreeSet}
 use Rattle.std.specs.List.{list_any}
 use Rattle.title_land.specs.declared.node.Node.{Node}
 use Rattle.title_land.specs.Nodes.{parent_of, above}
@@ -16,8 +14,8 @@ use Rattle.title_land.specs.Laws.LandSharing.{equal_tests}
 use Rattle.title_land.specs.Laws.Keys.{found_at, then_parts}
 use Rattle.title_land.specs.Laws.CoverSet.{above_by_parent}
 use Rattle.title_chain.specs.declared.place.Place.{Place}
-use Rattle.title_chain.specs.PostPlaces.{same_place, is_listed}
-use Rattle.title_chain.specs.PlaceMaps.{place_cmp, is_found}
+use Rattle.title_chain.specs.PostPlaces.{same_place}
+use Rattle.title_chain.specs.PlaceMaps.{place_cmp}
 
 -- places that are one by their numbers are one value
 pub same_place-is : (p q : Place) → same_place p q ≡ true → p ≡ q
@@ -40,7 +38,7 @@ place_tied p q h =
 pub place_self : (p : Place) → place_cmp p p ≡ Equal
 place_self p = rw (tied_itself nat_cmp_total p.record, tied_itself nat_cmp_total p.step) refl
 
--- a set of places finds one exactly there
+-- a place is found exactly there
 pub place_at_is : (p q : Place) → is_at (place_cmp p) q ≡ same_place p q
 place_at_is p q = found_at place_cmp (λ a b. same_place b a) p q (λ h. sym (same_place-is p q h)) (place_tied p q) (place_self p)
     (same_place-self p)
@@ -52,36 +50,10 @@ same_place-turned p q = equal_tests (same_place p q) (same_place q p) (turned p 
     turned : (a b : Place) → same_place a b ≡ true → same_place b a ≡ true
     turned a b h = ap (λ (x : Place). same_place b x) (same_place-is a b h) ∙ same_place-self b
 
--- a set with a place more has what it had and that place
-place_more :
-    (m n : BTreeSet Place) (k p : Place) → is_found n p ≡ cond (is_at (place_cmp k) p) true (is_found m p)
-    → is_found n p ≡ (is_found m p || same_place p k)
-place_more m n k p h = h ∙ ap (λ (b : Bool). cond b true (is_found m p)) (place_at_is k p ∙ same_place-turned k p)
-    ∙ last (same_place p k) (is_found m p)
-  where
-    last : (b x : Bool) → cond b true x ≡ (x || b)
-    last true true = refl
-    last true false = refl
-    last false true = refl
-    last false false = refl
-
 -- sums of tests by three
 or_assoc : (a b c : Bool) → ((a || b) || c) ≡ (a || (b || c))
 or_assoc true b c = refl
 or_assoc false b c = refl
-
--- a set to which one more place of a list was added
-pub found_more :
-    (first m n : BTreeSet Place) (k d : Place) (places : List Place) (i : ℕ) → i < length places → k ≡ get_or places i d →
-    ((p : Place) → is_found n p ≡ cond (is_at (place_cmp k) p) true (is_found m p)) →
-    ((p : Place) → is_found m p ≡ (is_found first p || is_listed p (take i places))) →
-    (p : Place) → is_found n p ≡ (is_found first p || is_listed p (take (i + 1) places))
-found_more first m n k d places i h is added so_far p =
-    place_more m n k p (added p)
-    ∙ ap (λ (b : Bool). b || same_place p k) (so_far p)
-    ∙ or_assoc (is_found first p) (is_listed p (take i places)) (same_place p k)
-    ∙ ap (λ (x : Place). is_found first p || (is_listed p (take i places) || same_place p x)) is
-    ∙ ap (λ (b : Bool). is_found first p || b) (sym (list_any_more (same_place p) places i d h))
 
 -- what was found before, at the parent, and at the nodes above that was found before or above the node
 pub above_more :

@@ -1,10 +1,10 @@
 -- The entries of the steps at the places of posts are those of the records, or of a transaction's own steps.
-use Rattle.std.proofs.Common.{◌≡◌, ℕ, ◌+◌, ◌≤◌, suc, Bool, true, false, cond, List, [], ◌∷◌, ◌++◌, length, reverse, Option, Some, refl, sym}
-use Rattle.std.proofs.Common.{ap, subst, ◌∙◌, append_assoc, add-one}
+use Rattle.std.proofs.Common.{◌≡◌, ℕ, ◌+◌, ◌≤◌, ◌<◌, suc, Bool, true, false, cond, List, [], ◌∷◌, ◌++◌, length, reverse, Option, Some}
+use Rattle.std.proofs.Common.{refl, sym, ap, subst, ◌∙◌, append_assoc, add-one, drop, get_or}
 use Rattle.std.specs.Prelude.{slice_get}
-use Rattle.std.specs.BTreeSet.{BTreeSet, IsOrdered}
+use Rattle.std.specs.List.Sorted.{IsStrictlySortedBy}
 use Rattle.std.specs.List.{AllByRecursion}
-use Rattle.std.proofs.lemmas.List.{append-nil, reverse-append, reverse-reverse, length-reverse}
+use Rattle.std.proofs.lemmas.List.{append-nil, drop_more, reverse-append, reverse-reverse, length-reverse}
 use Rattle.std.proofs.lemmas.Option.{slice_get_past}
 use Rattle.title_land.specs.declared.tract.Land.{Land}
 use Rattle.title_land.specs.Lands.{meets}
@@ -19,43 +19,54 @@ use Rattle.title_chain.specs.declared.place.Place.{Place}
 use Rattle.title_chain.specs.declared.record.Record.{Record}
 use Rattle.title_chain.specs.StepEntries.{entry_of, step_entries}
 use Rattle.title_chain.specs.Chains.{record_entries}
-use Rattle.title_chain.specs.PlaceMaps.{place_cmp, is_found}
-use Rattle.title_chain.specs.PostPlaces.{PlacedPost, post_of, place_at, step_posts, record_posts, places_where, is_place_where, step_entry}
-use Rattle.title_chain.specs.PostPlaces.{entry_in, entry_at, own_entry_at, entries_at}
+use Rattle.title_chain.specs.PlaceMaps.{place_cmp}
+use Rattle.title_chain.specs.PostPlaces.{PlacedPost, post_of, place_at, step_posts, record_posts, places_where, is_listed}
+use Rattle.title_chain.specs.PostPlaces.{is_place_where, step_entry, posted, entry_in, entry_at, own_entry_at, entries_at}
 use Rattle.title_chain.proofs.PlaceOrder.{IsAmong, steps_among, steps_ascend, records_ascend, keys_are}
 
 -- a place past the records, or past the steps of its record, gives no entry
-pub past_records : (records : List Record) (land : Land) (p : Place) (entries : List Entry) → length records ≤ p.record
-    → entries ≡ entries ++ entry_at records land p
-past_records records land p entries h =
-    sym (ap (λ (o : Option Record). entries ++ entry_in (suc p.record) land p.step o) (slice_get_past records p.record h)
+pub past_records : (records : List Record) (p : Place) (entries : List Entry) → length records ≤ p.record
+    → entries ≡ entries ++ entry_at records p
+past_records records p entries h =
+    sym (ap (λ (o : Option Record). entries ++ entry_in (suc p.record) p.step o) (slice_get_past records p.record h)
     ∙ append-nil entries)
 
 pub past_steps :
-    (records : List Record) (land : Land) (p : Place) (r : Record) (entries : List Entry) →
-    slice_get records p.record ≡ Some r → length r.steps ≤ p.step → entries ≡ entries ++ entry_at records land p
-past_steps records land p r entries is h =
-    sym (ap (λ (o : Option Record). entries ++ entry_in (suc p.record) land p.step o) is
-    ∙ ap (λ (o : Option Step). entries ++ step_entry (suc p.record) land o) (slice_get_past r.steps p.step h) ∙ append-nil entries)
+    (records : List Record) (p : Place) (r : Record) (entries : List Entry) →
+    slice_get records p.record ≡ Some r → length r.steps ≤ p.step → entries ≡ entries ++ entry_at records p
+past_steps records p r entries is h =
+    sym (ap (λ (o : Option Record). entries ++ entry_in (suc p.record) p.step o) is
+    ∙ ap (λ (o : Option Step). entries ++ step_entry (suc p.record) o) (slice_get_past r.steps p.step h) ∙ append-nil entries)
 
 -- else it gives that of its step
 pub entry_is :
-    (records : List Record) (land : Land) (p : Place) (r : Record) (s : Step) →
+    (records : List Record) (p : Place) (r : Record) (s : Step) →
     slice_get records p.record ≡ Some r → slice_get r.steps p.step ≡ Some s
-    → entry_of (p.record + 1) land s.ask s.answer ≡ entry_at records land p
-entry_is records land p r s is there =
-    ap (λ (n : ℕ). entry_of n land s.ask s.answer) (add-one p.record)
-    ∙ sym (ap (entry_in (suc p.record) land p.step) is ∙ ap (step_entry (suc p.record) land) there)
+    → posted (p.record + 1) s.ask s.answer ≡ entry_at records p
+entry_is records p r s is there =
+    ap (λ (n : ℕ). posted n s.ask s.answer) (add-one p.record)
+    ∙ sym (ap (entry_in (suc p.record) p.step) is ∙ ap (step_entry (suc p.record)) there)
 
 -- a transaction's own step gives the entry at its place, and past the steps there is none
-pub past_own : (steps : List Step) (land : Land) (i : ℕ) (entries : List Entry) → length steps ≤ i
-    → entries ≡ entries ++ step_entry 0 land (slice_get steps i)
-past_own steps land i entries h = sym (ap (λ (o : Option Step). entries ++ step_entry 0 land o) (slice_get_past steps i h)
+pub past_own : (steps : List Step) (i : ℕ) (entries : List Entry) → length steps ≤ i
+    → entries ≡ entries ++ step_entry 0 (slice_get steps i)
+past_own steps i entries h = sym (ap (λ (o : Option Step). entries ++ step_entry 0 o) (slice_get_past steps i h)
     ∙ append-nil entries)
 
-pub own_entry_is : (steps : List Step) (land : Land) (i : ℕ) (s : Step) → slice_get steps i ≡ Some s
-    → entry_of 0 land s.ask s.answer ≡ step_entry 0 land (slice_get steps i)
-own_entry_is steps land i s there = sym (ap (step_entry 0 land) there)
+pub own_entry_is : (steps : List Step) (i : ℕ) (s : Step) → slice_get steps i ≡ Some s
+    → posted 0 s.ask s.answer ≡ step_entry 0 (slice_get steps i)
+own_entry_is steps i s there = sym (ap (step_entry 0) there)
+
+-- the entries of the first places, and of the next one
+pub one_place_more :
+    (at : Place → List Entry) (places : List Place) (i : ℕ) (d : Place) (was entries all : List Entry) → i < length places →
+    entries ≡ was ++ at (get_or places i d) → was ++ entries_at at (drop i places) ≡ all →
+    entries ++ entries_at at (drop (i + 1) places) ≡ all
+one_place_more at places i d was entries all low here so =
+    ap (λ (es : List Entry). es ++ entries_at at (drop (i + 1) places)) here
+    ∙ append_assoc was (at (get_or places i d)) (entries_at at (drop (i + 1) places))
+    ∙ ap (λ (rest : List Place). was ++ entries_at at rest) (sym (drop_more places i d low))
+    ∙ so
 
 -- the entry that a post gives to the chain of a tract, with a record's number
 abbrev pub post_entry : ℕ → Land → PlacedPost → List Entry
@@ -112,9 +123,13 @@ back_seam {A} xs y ys = ap (slice_get (reverse xs ++ y ∷ ys)) (sym (length-rev
 back_more : {A : Type 0} (xs : List A) (y : A) (ys : List A) → reverse (y ∷ xs) ++ ys ≡ reverse xs ++ y ∷ ys
 back_more {A} xs y ys = ap (λ (zs : List A). zs ++ ys) (reverse-append (y ∷ []) xs) ∙ append_assoc (reverse xs) (y ∷ []) ys
 
+-- the entry of a post, with a record's number
+abbrev pub whole_entry : ℕ → PlacedPost → List Entry
+whole_entry n x = record { place = n; posting = x.posting } ∷ []
+
 -- the step of the post among these, which have the oldest first, gives the post's entry
 abbrev pub IsStepOf : List Step → PlacedPost → Type 0
-IsStepOf steps x = (n : ℕ) (l : Land) → step_entry n l (slice_get steps x.place.step) ≡ post_entry n l x
+IsStepOf steps x = (n : ℕ) → step_entry n (slice_get steps x.place.step) ≡ whole_entry n x
 
 one_step : (steps : List Step) (i j : ℕ) (s : Step) (a : Ask) (given : Answer) → s.ask ≡ a → s.answer ≡ given → slice_get steps j ≡ Some s
     → AllByRecursion (IsStepOf steps) (post_of (place_at i j) a given)
@@ -123,7 +138,7 @@ one_step steps i j s (ask.Chain t) given asked answered is = tt
 one_step steps i j s (ask.Post p) (answer.Rows rows) asked answered is = tt
 one_step steps i j s (ask.Post p) (answer.Entries entries) asked answered is = tt
 one_step steps i j s (ask.Post p) answer.Posted asked answered is =
-    (λ n l. ap (step_entry n l) is ∙ ap (λ (a : Ask). entry_of n l a s.answer) asked ∙ ap (entry_of n l (ask.Post p)) answered, tt)
+    (λ n. ap (step_entry n) is ∙ ap (λ (a : Ask). posted n a s.answer) asked ∙ ap (posted n (ask.Post p)) answered, tt)
 one_step steps i j s (ask.Post p) (answer.Refused rule estate node) asked answered is = tt
 
 steps_found : (i : ℕ) (steps later : List Step) → AllByRecursion (IsStepOf (reverse steps ++ later)) (step_posts i steps)
@@ -140,11 +155,11 @@ both_of P Q (x ∷ xs) h k = ((h.0, k.0), both_of P Q xs h.1 k.1)
 
 -- the step at the place of the post of these records, which have the oldest first, gives the post's entry
 abbrev pub IsPlaced : List Record → PlacedPost → Type 0
-IsPlaced records x = (l : Land) → entry_at records l x.place ≡ post_entry (suc x.place.record) l x
+IsPlaced records x = entry_at records x.place ≡ whole_entry (suc x.place.record) x
 
 record_placed : (records : List Record) (r : Record) (x : PlacedPost) → slice_get records x.place.record ≡ Some r → IsStepOf r.steps x
     → IsPlaced records x
-record_placed records r x is step l = ap (entry_in (suc x.place.record) l x.place.step) is ∙ step (suc x.place.record) l
+record_placed records r x is step = ap (entry_in (suc x.place.record) x.place.step) is ∙ step (suc x.place.record)
 
 record_found : (i : ℕ) (records : List Record) (r : Record) → slice_get records i ≡ Some r
     → AllByRecursion (IsPlaced records) (step_posts i (reverse r.steps))
@@ -165,55 +180,52 @@ records_found (r ∷ older) later =
     (record_found (length older) (reverse older ++ r ∷ later) r (back_seam older r later)))
 
 -- at the post's place stands its entry
-abbrev IsAt : (ℕ → ℕ) → Land → (Place → List Entry) → PlacedPost → Type 0
-IsAt number land at x = at x.place ≡ post_entry (number x.place.record) land x
+abbrev IsAt : (ℕ → ℕ) → (Place → List Entry) → PlacedPost → Type 0
+IsAt number at x = at x.place ≡ whole_entry (number x.place.record) x
 
 -- the places of the posts that share a cell give the entries of all: the others have none
 where_entries :
-    (number : ℕ → ℕ) (land : Land) (at : Place → List Entry) (posts : List PlacedPost) → AllByRecursion (IsAt number land at) posts →
+    (number : ℕ → ℕ) (land : Land) (at : Place → List Entry) (posts : List PlacedPost) → AllByRecursion (IsAt number at) posts →
     entries_at at (places_where (meets land) posts) ≡ post_entries number land posts
 where_entries number land at [] h = refl
-where_entries number land at (x ∷ posts) h = go (meets land x.posting.tract) h.0 (where_entries number land at posts h.1)
+where_entries number land at (x ∷ posts) h = go (meets land x.posting.tract) (where_entries number land at posts h.1)
   where
     places : List Place
     places = places_where (meets land) posts
 
-    entry_if : Bool → List Entry
-    entry_if b = cond b (record { place = number x.place.record; posting = x.posting } ∷ []) []
-
-    go : (b : Bool) → at x.place ≡ entry_if b → entries_at at places ≡ post_entries number land posts →
-        entries_at at (cond b (x.place ∷ places) places) ≡ entry_if b ++ post_entries number land posts
-    go true here rest = λ i. here i ++ rest i
-    go false here rest = rest
+    go : (b : Bool) → entries_at at places ≡ post_entries number land posts →
+        entries_at at (cond b (x.place ∷ places) places)
+        ≡ cond b (whole_entry (number x.place.record) x) [] ++ post_entries number land posts
+    go true rest = λ i. h.0 i ++ rest i
+    go false rest = rest
 
 -- the entries at the places of the posts that share a cell are those of the records
 pub place_entries :
-    (records : List Record) (land : Land) (found : BTreeSet Place) → IsOrdered place_cmp found →
-    ((p : Place) → is_found found p ≡ is_place_where (meets land) (record_posts (reverse records)) p) →
-    entries_at (entry_at records land) found.keys ≡ record_entries land (reverse records)
+    (records : List Record) (land : Land) (found : List Place) → IsStrictlySortedBy place_cmp found →
+    ((p : Place) → is_listed p found ≡ is_place_where (meets land) (record_posts (reverse records)) p) →
+    entries_at (entry_at records) found ≡ record_entries land (reverse records)
 place_entries records land found ordered same =
     let newest : List Record = reverse records in
     let posts : List PlacedPost = record_posts newest in
     let all : reverse newest ++ [] ≡ records = append-nil (reverse newest) ∙ reverse-reverse records in
     let placed : AllByRecursion (IsPlaced records) posts =
     subst (λ (items : List Record). AllByRecursion (IsPlaced items) posts) all (records_found newest []) in
-    ap (entries_at (entry_at records land)) (keys_are found posts (meets land) ordered (records_ascend newest) same)
-    ∙ where_entries from_one land (entry_at records land) posts
-    (each_from (IsPlaced records) (IsAt from_one land (entry_at records land)) posts (λ x h. h land) placed)
+    ap (entries_at (entry_at records)) (keys_are found posts (meets land) ordered (records_ascend newest) same)
+    ∙ where_entries from_one land (entry_at records) posts placed
     ∙ records_entries land newest
 
 -- and those of a transaction's own steps
 pub own_entries :
-    (steps : List Step) (land : Land) (found : BTreeSet Place) → IsOrdered place_cmp found →
-    ((p : Place) → is_found found p ≡ is_place_where (meets land) (step_posts 0 (reverse steps)) p) →
-    entries_at (own_entry_at steps land) found.keys ≡ step_entries 0 land (reverse steps)
+    (steps : List Step) (land : Land) (found : List Place) → IsStrictlySortedBy place_cmp found →
+    ((p : Place) → is_listed p found ≡ is_place_where (meets land) (step_posts 0 (reverse steps)) p) →
+    entries_at (own_entry_at steps) found ≡ step_entries 0 land (reverse steps)
 own_entries steps land found ordered same =
     let newest : List Step = reverse steps in
     let posts : List PlacedPost = step_posts 0 newest in
     let all : reverse newest ++ [] ≡ steps = append-nil (reverse newest) ∙ reverse-reverse steps in
     let placed : AllByRecursion (IsStepOf steps) posts =
     subst (λ (items : List Step). AllByRecursion (IsStepOf items) posts) all (steps_found 0 newest []) in
-    ap (entries_at (own_entry_at steps land)) (keys_are found posts (meets land) ordered (steps_ascend 0 newest) same)
-    ∙ where_entries own_place land (own_entry_at steps land) posts
-    (each_from (IsStepOf steps) (IsAt own_place land (own_entry_at steps land)) posts (λ x h. h 0 land) placed)
+    ap (entries_at (own_entry_at steps)) (keys_are found posts (meets land) ordered (steps_ascend 0 newest) same)
+    ∙ where_entries own_place land (own_entry_at steps) posts
+    (each_from (IsStepOf steps) (IsAt own_place (own_entry_at steps)) posts (λ x h. h 0) placed)
     ∙ steps_entries own_place land 0 newest

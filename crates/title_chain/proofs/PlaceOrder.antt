@@ -1,4 +1,4 @@
--- The places of posts ascend, and a set of the places of posts of a kind lists them in their order.
+-- The places of posts ascend, and a list of the places of posts of a kind that ascends has them in their order.
 use Rattle.std.proofs.Common.{◌≡◌, ℕ, ◌<◌, suc, Bool, true, false, cond, ◌&&◌, ◌||◌, List, [], ◌∷◌, ◌++◌, length, reverse, refl, sym, ◌∙◌}
 use Rattle.std.proofs.Common.{arith}
 use Rattle.std.proofs.lemmas.Bool.{lt-ltb}
@@ -6,7 +6,6 @@ use Rattle.std.proofs.lemmas.Map.Lookups.{btree_set_from_contains}
 use Rattle.std.specs.declared.cmp.Ordering.TheVariants.{Less}
 use Rattle.std.specs.Cmp.{nat_cmp_total, tied_itself}
 use Rattle.std.specs.BTreeMap.{is_at}
-use Rattle.std.specs.BTreeSet.{BTreeSet, IsOrdered}
 use Rattle.std.specs.List.{AllByRecursion, list_any}
 use Rattle.std.specs.List.Sorted.{IsStrictlySortedBy}
 use Rattle.title_land.specs.declared.tract.Land.{Land}
@@ -19,8 +18,9 @@ use Rattle.title_chain.specs.declared.ask.Step.{Step}
 use Rattle.title_chain.specs.declared.place.Place.{Place}
 use Rattle.title_chain.specs.declared.record.Record.{Record}
 use Rattle.title_chain.specs.contracts.place.PlaceOrd.TheImpl.Laws as place_laws
-use Rattle.title_chain.specs.PlaceMaps.{place_cmp, is_found}
-use Rattle.title_chain.specs.PostPlaces.{PlacedPost, post_of, place_at, step_posts, record_posts, places_where, same_place, is_place_where}
+use Rattle.title_chain.specs.PlaceMaps.{place_cmp}
+use Rattle.title_chain.specs.PostPlaces.{PlacedPost, post_of, place_at, step_posts, record_posts, places_where, same_place}
+use Rattle.title_chain.specs.PostPlaces.{is_listed, is_place_where}
 use Rattle.title_chain.proofs.FoundLaws.{place_tied, place_at_is}
 
 -- a place of an earlier record stands before one of a later record
@@ -159,10 +159,11 @@ where_found test (x ∷ posts) p = go (test x.posting.tract) (where_found test p
     go true rest = λ i. (place_at_is p x.place ∙ with_true (same_place p x.place)) i || rest i
     go false rest = λ i. with_false (same_place p x.place) i || rest i
 
--- a set of the places of posts of a kind lists them in the posts' order
+-- a list that ascends and has the places of posts of a kind has them in the posts' order
 pub keys_are :
-    (found : BTreeSet Place) (posts : List PlacedPost) (test : Land → Bool) → IsOrdered place_cmp found → Ascend posts →
-    ((p : Place) → is_found found p ≡ is_place_where test posts p) → found.keys ≡ places_where test posts
+    (found : List Place) (posts : List PlacedPost) (test : Land → Bool) → IsStrictlySortedBy place_cmp found → Ascend posts →
+    ((p : Place) → is_listed p found ≡ is_place_where test posts p) → found ≡ places_where test posts
 keys_are found posts test ordered ascend same =
-    btree_set_from_contains place_laws.total-law found (record { keys = places_where test posts }) ordered (where_sorted test posts ascend)
-    (λ p. same p ∙ sym (where_found test posts p)) place_tied
+    btree_set_from_contains place_laws.total-law (record { keys = found }) (record { keys = places_where test posts }) ordered
+    (where_sorted test posts ascend)
+    (λ p. (λ i. list_any (λ q. place_at_is p q i) found) ∙ same p ∙ sym (where_found test posts p)) place_tied

@@ -1,10 +1,9 @@
--- Maps from nodes to lists of places, and sets of places.
-use Rattle.std.specs.Prelude.{Bool, List, [], Option, Some, None}
+-- Maps from nodes to lists of places, and the order of places.
+use Rattle.std.specs.Prelude.{List, [], Option, Some, None}
 use Rattle.std.specs.declared.cmp.Ordering.{Ordering}
 use Rattle.std.specs.Ordering.{nat_cmp, ordering_then}
 use Rattle.std.specs.Global.{Vec}
 use Rattle.std.specs.BTreeMap.{BTreeMap, get}
-use Rattle.std.specs.BTreeSet.{BTreeSet, contains}
 use Rattle.title_land.specs.declared.node.Node.{Node}
 use Rattle.title_land.specs.Orders.{node_cmp}
 use Rattle.title_chain.specs.declared.place.Place.{Place}
@@ -21,7 +20,3 @@ places_under lists n = places_in (get node_cmp lists n)
 -- places by record, then by step
 abbrev pub place_cmp : Place → Place → Ordering
 place_cmp a b = ordering_then (nat_cmp a.record b.record) (nat_cmp a.step b.step)
-
--- the place is in the set
-abbrev pub is_found : BTreeSet Place → Place → Bool
-is_found found p = contains place_cmp found p

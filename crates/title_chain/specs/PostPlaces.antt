@@ -12,7 +12,6 @@ use Rattle.title_chain.specs.declared.ask.Posting.{Posting}
 use Rattle.title_chain.specs.declared.ask.Step.{Step}
 use Rattle.title_chain.specs.declared.place.Place.{Place}
 use Rattle.title_chain.specs.declared.record.Record.{Record}
-use Rattle.title_chain.specs.StepEntries.{entry_of}
 
 -- a posted instrument with the place of its step
 pub record PlacedPost : Type 0 where
@@ -59,23 +58,32 @@ is_listed p places = list_any (same_place p) places
 abbrev pub is_place_where : (Land → Bool) → List PlacedPost → Place → Bool
 is_place_where test posts p = list_any (λ x. same_place p x.place && test x.posting.tract) posts
 
+-- the entry of a step that was posted, with this place
+abbrev pub posted : ℕ → Ask → Answer → List Entry
+posted n (ask.Sheet t) given = []
+posted n (ask.Chain t) given = []
+posted n (ask.Post p) (answer.Rows rows) = []
+posted n (ask.Post p) (answer.Entries entries) = []
+posted n (ask.Post p) answer.Posted = record { place = n; posting = p } ∷ []
+posted n (ask.Post p) (answer.Refused rule estate node) = []
+
 -- the entry of a step, if there is one
-abbrev pub step_entry : ℕ → Land → Option Step → List Entry
-step_entry n land None = []
-step_entry n land (Some s) = entry_of n land s.ask s.answer
+abbrev pub step_entry : ℕ → Option Step → List Entry
+step_entry n None = []
+step_entry n (Some s) = posted n s.ask s.answer
 
 -- the entry of the step at an index of a record, if there is one
-abbrev pub entry_in : ℕ → Land → ℕ → Option Record → List Entry
-entry_in n land j None = []
-entry_in n land j (Some r) = step_entry n land (slice_get r.steps j)
+abbrev pub entry_in : ℕ → ℕ → Option Record → List Entry
+entry_in n j None = []
+entry_in n j (Some r) = step_entry n (slice_get r.steps j)
 
 -- the entry of the step at a place of records, which have the oldest first here, with its record's number from 1
-abbrev pub entry_at : List Record → Land → Place → List Entry
-entry_at records land p = entry_in (suc p.record) land p.step (slice_get records p.record)
+abbrev pub entry_at : List Record → Place → List Entry
+entry_at records p = entry_in (suc p.record) p.step (slice_get records p.record)
 
 -- the entry of the step at a place of a transaction's own steps, which have the oldest first here, with place 0
-abbrev pub own_entry_at : List Step → Land → Place → List Entry
-own_entry_at steps land p = step_entry 0 land (slice_get steps p.step)
+abbrev pub own_entry_at : List Step → Place → List Entry
+own_entry_at steps p = step_entry 0 (slice_get steps p.step)
 
 -- the entries at these places, given the entry at each
 abbrev pub entries_at : (Place → List Entry) → List Place → List Entry

@@ -3,16 +3,13 @@
 ghost use Rattle.std.specs.Prelude.{◌≡◌, IfOk, ◌++◌, reverse, slice_get};
 ghost use Rattle.title_chain.specs.StepEntries.{entry_of, step_entries};
 ghost use Rattle.title_chain.specs.Chains.{record_entries, chain_of};
-ghost use Rattle.std.specs.BTreeSet.{IsOrdered};
-ghost use Rattle.title_chain.specs.PostPlaces.{step_entry, entry_at, own_entry_at, entries_at};
-ghost use Rattle.title_chain.specs.PlaceMaps.{place_cmp};
+ghost use Rattle.title_chain.specs.PostPlaces.{posted, step_entry, entry_at, own_entry_at, entries_at};
 
 use crate::ask::{Answer, Ask, Entry, Step};
 use crate::lists::{Entries, Records};
 use crate::place::Place;
 use crate::record::Record;
 use std::alloc::{AllocError, Global};
-use std::collections::BTreeSet;
 use title_land::Tract;
 
 // Adds the entry of a step: it was posted, and its tract shares a cell.
@@ -69,15 +66,33 @@ pub(crate) fn add_records(
     Ok(())
 }
 
+// Adds the entry of a step that was posted, whatever its tract.
+fn add_posted(
+    alloc: Global,
+    entries: &mut Vec<Entry>,
+    place: u64,
+    step: &Step,
+) -> Result<(), AllocError>
+    ensures added { IfOk result (λ _. entries.new.items ≡ entries.old.items ++ posted place step.now.ask step.now.answer) }
+{
+    match (&step.ask, &step.answer) {
+        (Ask::Post(posting), Answer::Posted) => {
+            let posting = posting.copy(alloc)?;
+            entries.push(Entry { place, posting })?;
+            Ok(())
+        }
+        _ => Ok(()),
+    }
+}
+
 // Adds the entry of the step at a place, if these records have it, with its record's number from 1.
 fn add_entry_at(
     alloc: Global,
     entries: &mut Vec<Entry>,
     records: &[Record],
     place: Place,
-    tract: &Tract,
 ) -> Result<(), AllocError>
-    ensures added { IfOk result (λ _. entries.new.items ≡ entries.old.items ++ entry_at records.now tract.now place) }
+    ensures added { IfOk result (λ _. entries.new.items ≡ entries.old.items ++ entry_at records.now place) }
 {
     let Some(record) = records.get(place.record) else {
         return Ok(());
@@ -85,23 +100,21 @@ fn add_entry_at(
     let Some(step) = record.steps.as_slice().get(place.step) else {
         return Ok(());
     };
-    add_entry(alloc, entries, place.record as u64 + 1, step, tract)
+    add_posted(alloc, entries, place.record as u64 + 1, step)
 }
 
-/// Adds the entries of the steps at these places of records, each with its record's number from 1.
+/// Adds the entries of the steps at these places of records, each with its record's number from 1, with room for all at once.
 pub(crate) fn add_entries_at(
     alloc: Global,
     entries: &mut Vec<Entry>,
     records: &[Record],
-    places: &BTreeSet<Place>,
-    tract: &Tract,
+    places: &[Place],
 ) -> Result<(), AllocError>
-    ensures added { IfOk result (λ _. entries.new.items
-        ≡ entries.old.items ++ entries_at (entry_at records.now tract.now) places.now.keys) }
-    ensures ordered { IsOrdered place_cmp places.now }
+    ensures added { IfOk result (λ _. entries.new.items ≡ entries.old.items ++ entries_at (entry_at records.now) places.now) }
 {
+    entries.reserve_exact(places.len())?;
     for place in places {
-        add_entry_at(alloc, entries, records, *place, tract)?;
+        add_entry_at(alloc, entries, records, *place)?;
     }
     Ok(())
 }
@@ -112,30 +125,27 @@ fn add_own_entry_at(
     entries: &mut Vec<Entry>,
     steps: &[Step],
     index: usize,
-    tract: &Tract,
 ) -> Result<(), AllocError>
-    ensures added { IfOk result (λ _. entries.new.items ≡ entries.old.items ++ step_entry 0 tract.now (slice_get steps.now index)) }
+    ensures added { IfOk result (λ _. entries.new.items ≡ entries.old.items ++ step_entry 0 (slice_get steps.now index)) }
 {
     let Some(step) = steps.get(index) else {
         return Ok(());
     };
-    add_entry(alloc, entries, 0, step, tract)
+    add_posted(alloc, entries, 0, step)
 }
 
-/// Adds the entries of a transaction's own steps at these places, each with place 0.
+/// Adds the entries of a transaction's own steps at these places, each with place 0, with room for all at once.
 pub(crate) fn add_own_entries_at(
     alloc: Global,
     entries: &mut Vec<Entry>,
     steps: &[Step],
-    places: &BTreeSet<Place>,
-    tract: &Tract,
+    places: &[Place],
 ) -> Result<(), AllocError>
-    ensures added { IfOk result (λ _. entries.new.items ≡ entries.old.items
-        ++ entries_at (own_entry_at steps.now tract.now) places.now.keys) }
-    ensures ordered { IsOrdered place_cmp places.now }
+    ensures added { IfOk result (λ _. entries.new.items ≡ entries.old.items ++ entries_at (own_entry_at steps.now) places.now) }
 {
+    entries.reserve_exact(places.len())?;
     for place in places {
-        add_own_entry_at(alloc, entries, steps, place.step, tract)?;
+        add_own_entry_at(alloc, entries, steps, place.step)?;
     }
     Ok(())
 }

@@ -1,20 +1,21 @@
 //! An index of posts by the nodes of the tree of tracts.
 
-ghost use Rattle.std.specs.Prelude.{◌≡◌, ◌++◌, ◌∷◌, ◌&&◌, ◌||◌, [], List, IfOk, OnOk, length, reverse};
+ghost use Rattle.std.specs.Prelude.{◌≡◌, ◌++◌, ◌∷◌, ◌&&◌, ◌||◌, [], List, IfOk, OnOk, length, reverse, true};
 ghost use Rattle.title_land.specs.Depth.{depth};
 ghost use Rattle.std.specs.List.{list_any};
 ghost use Rattle.title_land.specs.declared.node.Node.{Node};
 ghost use Rattle.title_land.specs.Nodes.{same_node, above, is_above};
 ghost use Rattle.title_chain.specs.declared.place.Place.{Place};
 ghost use Rattle.title_chain.specs.PostPlaces.{same_place, is_listed};
-ghost use Rattle.title_chain.specs.PlaceMaps.{places_under, is_found};
+ghost use Rattle.title_chain.specs.PlaceMaps.{places_under, place_cmp};
+ghost use Rattle.std.specs.List.Sorted.{IsStrictlySortedBy};
 
 use crate::ask::{Answer, Ask, Entry, Step};
 use crate::chains::{add_entries_at, add_own_entries_at};
 use crate::place::Place;
 use crate::record::Record;
 use std::alloc::{AllocError, Global};
-use std::collections::{BTreeMap, BTreeSet};
+use std::collections::BTreeMap;
 use title_land::{Node, Tract};
 
 /// The places of the posts of a list's first records, or of a transaction's first steps as those of a record at index 0:
@@ -86,13 +87,36 @@ fn file_above(
 }
 
 // Adds places to those found.
-fn find_all(found: &mut BTreeSet<Place>, places: &[Place]) -> Result<(), AllocError>
-    ensures found { OnOk result ((p : Place) → is_found found.new p ≡ (is_found found.old p || is_listed p places.now)) }
+fn find_all(found: &mut Vec<Place>, places: &[Place]) -> Result<(), AllocError>
+    ensures found { OnOk result ((p : Place) → is_listed p found.new.items ≡ (is_listed p found.old.items || is_listed p places.now)) }
 {
-    for place in places {
-        found.insert(*place)?;
-    }
+    found.extend_from_slice(places)?;
     Ok(())
+}
+
+// Whether each place stands before the next.
+fn ascend(places: &[Place]) -> bool
+    ensures ascend { result ≡ true → IsStrictlySortedBy place_cmp places.now }
+{
+    let mut i = 1;
+    while i < places.len() {
+        if !places[i - 1].is_before(places[i]) {
+            return false;
+        }
+        i += 1;
+    }
+    true
+}
+
+// Puts places in order, each once. Those of one list are so already.
+fn put_in_order(places: &mut Vec<Place>)
+    ensures ordered { IsStrictlySortedBy place_cmp places.new.items }
+    ensures same { (p : Place) → is_listed p places.new.items ≡ is_listed p places.old.items }
+{
+    if !ascend(places) {
+        places.sort_unstable();
+        places.dedup();
+    }
 }
 
 impl Filing {
@@ -222,9 +246,9 @@ impl Filing {
     }
 
     // Adds the places of the posts whose cover has a node above.
-    fn find_above(&self, found: &mut BTreeSet<Place>, node: &Node) -> Result<(), AllocError>
-        ensures found { OnOk result ((p : Place) → is_found found.new p
-            ≡ (is_found found.old p || list_any (λ a. is_listed p (places_under self.now.at a)) (above node.now))) }
+    fn find_above(&self, found: &mut Vec<Place>, node: &Node) -> Result<(), AllocError>
+        ensures found { OnOk result ((p : Place) → is_listed p found.new.items
+            ≡ (is_listed p found.old.items || list_any (λ a. is_listed p (places_under self.now.at a)) (above node.now))) }
     {
         if let Some(parent) = node.parent() {
             find_all(found, places_at(&self.at, &parent))?;
@@ -234,22 +258,25 @@ impl Filing {
     }
 
     // Adds the places of the posts whose cover has the node, or one above or below it.
-    fn find_near(&self, found: &mut BTreeSet<Place>, node: &Node) -> Result<(), AllocError>
-        ensures found { OnOk result ((p : Place) → is_found found.new p ≡ (is_found found.old p || is_near self.now p node.now)) }
+    fn find_near(&self, found: &mut Vec<Place>, node: &Node) -> Result<(), AllocError>
+        ensures found { OnOk result ((p : Place) → is_listed p found.new.items
+            ≡ (is_listed p found.old.items || is_near self.now p node.now)) }
     {
         find_all(found, places_at(&self.at, node))?;
         find_all(found, places_at(&self.below, node))?;
         self.find_above(found, node)
     }
 
-    // The places of the posts whose cover has one of these nodes, or one above or below one of them.
-    fn find(&self, alloc: Global, cover: &[Node]) -> Result<BTreeSet<Place>, AllocError>
-        ensures found { IfOk result (λ found. (p : Place) → is_found found p ≡ list_any (is_near self.now p) cover.now) }
+    // The places of the posts whose cover has one of these nodes, or one above or below one of them, in order.
+    fn find(&self, alloc: Global, cover: &[Node]) -> Result<Vec<Place>, AllocError>
+        ensures found { IfOk result (λ found. (p : Place) → is_listed p found.items ≡ list_any (is_near self.now p) cover.now) }
+        ensures ordered { IfOk result (λ found. IsStrictlySortedBy place_cmp found.items) }
     {
-        let mut found = BTreeSet::new(alloc);
+        let mut found = Vec::new(alloc);
         for node in cover {
             self.find_near(&mut found, node)?;
         }
+        put_in_order(&mut found);
         Ok(found)
     }
 
@@ -265,7 +292,7 @@ impl Filing {
         ensures added { OnOk result (entries.new.items ≡ entries.old.items ++ record_entries tract.now (reverse records.now)) }
     {
         let found = self.find(alloc, tract.cover())?;
-        add_entries_at(alloc, entries, records, &found, tract)
+        add_entries_at(alloc, entries, records, &found)
     }
 
     /// Adds the entries of an open transaction's steps that were all read to the chain of a tract, each with place 0.
@@ -280,6 +307,6 @@ impl Filing {
         ensures added { OnOk result (entries.new.items ≡ entries.old.items ++ step_entries 0 tract.now (reverse steps.now)) }
     {
         let found = self.find(alloc, tract.cover())?;
-        add_own_entries_at(alloc, entries, steps, &found, tract)
+        add_own_entries_at(alloc, entries, steps, &found)
     }
 }

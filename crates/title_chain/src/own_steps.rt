@@ -91,6 +91,9 @@ impl OwnSteps {
         ensures own { self.new ≡ self.old }
         ensures added { OnOk result (entries.new.items ≡ entries.old.items ++ step_entries 0 tract.now (reverse self.old.steps)) }
     {
+        if self.steps.is_empty() {
+            return Ok(());
+        }
         self.filing.read_on_own(alloc, &self.steps)?;
         self.filing
             .add_own_entries(alloc, entries, &self.steps, tract)

@@ -21,17 +21,11 @@ fn same_section(a: Section, b: Section) -> bool
     a.is(b)
 }
 
-// Compares quarter by quarter, the innermost first.
+// Squares of a section are one exactly where their numbers are, which the derived comparison compares.
 fn same_within(a: Within, b: Within) -> bool
     ensures same { (result ≡ true) ↔ (a ≡ b) }
 {
-    match (a.split(), b.split()) {
-        (None, None) => true,
-        (Some((which, outer)), Some((other, around))) => {
-            which == other && same_within(outer, around)
-        }
-        _ => false,
-    }
+    a == b
 }
 
 /// Whether two nodes are one.
@@ -81,10 +75,10 @@ pub(crate) fn same_rule(a: Rule, b: Rule) -> bool
 fn same_row(a: &SheetRow, b: &SheetRow) -> bool
     ensures same { (result ≡ true) ↔ (a.now ≡ b.now) }
 {
-    same_node(&a.node, &b.node)
-        && same_estate(a.estate, b.estate)
-        && a.party == b.party
+    a.party == b.party
         && a.units == b.units
+        && same_estate(a.estate, b.estate)
+        && same_node(&a.node, &b.node)
 }
 
 /// Whether two sheets have the same rows, in order.

@@ -8,14 +8,14 @@ use Rattle.title_chain.proofs.chains.add_own_entry_at.Goals as goal
 
 pub returns-in_default : goal.returns-in_default
 returns-in_default c = record {
-  added = past_own c.args.steps.now c.args.tract.now c.args.index c.args.entries.now.items c.in_default.ensures.lookup.3;
+  added = past_own c.args.steps.now c.args.index c.args.entries.now.items c.in_default.ensures.lookup.3;
 }
 
 pub returns : goal.returns
 returns c =
     let found = c.in-Some.ensures.lookup in record {
-      added = subst (λ (es : List Entry). IfOk c.add_entry.result (λ x. c.add_entry.new.entries.items ≡ c.args.entries.now.items ++ es))
-          (own_entry_is c.args.steps.now c.args.tract.now c.args.index c.in-Some.step.now
+      added = subst (λ (es : List Entry). IfOk c.add_posted.result (λ x. c.add_posted.new.entries.items ≡ c.args.entries.now.items ++ es))
+          (own_entry_is c.args.steps.now c.args.index c.in-Some.step.now
           (slice_get_read c.args.steps.now _ c.args.index c.in-Some.step.now refl found.3.0 found.1))
-          c.add_entry.ensures.added;
+          c.add_posted.ensures.added;
     }

@@ -1,9 +1,12 @@
--- One more place.
-use Rattle.std.proofs.Common.{refl, arith}
-use Rattle.title_chain.proofs.FoundLaws.{found_more}
+-- A place of two lists in turn stands in one of them.
+use Rattle.std.proofs.Common.{List, ap, ◌∙◌}
+use Rattle.std.proofs.lemmas.List.Folds.{list_any-append}
+use Rattle.title_chain.specs.declared.place.Place.{Place}
+use Rattle.title_chain.specs.PostPlaces.{same_place, is_listed}
 use Rattle.title_chain.proofs.filing.find_all.Goals as goal
 
-pub loop-place-preserved : goal.loop-place-preserved
-loop-place-preserved c =
-    found_more _ c.loop-place.found c.insert.new.self _ _ c.args.places.now c.loop-place.place-index (omega arith) refl
-    c.in_ok-insert.ensures.updates.0 c.loop-place.invariant
+pub returns : goal.returns
+returns c = record {
+  found = λ p. ap (λ (places : List Place). is_listed p places) c.in_ok-extend_from_slice.ensures.items
+      ∙ list_any-append (same_place p) c.args.found.now.items c.args.places.now;
+}

@@ -6,7 +6,8 @@ use Rattle.std.specs.Prelude.{OnOk}
 use Rattle.title_land.specs.declared.node.Node.{Node}
 use Rattle.title_land.specs.Lands.{IsLand}
 use Rattle.title_chain.specs.declared.ask.Entry.{Entry}
-use Rattle.title_chain.specs.PostPlaces.{record_posts}
+use Rattle.title_chain.specs.declared.place.Place.{Place}
+use Rattle.title_chain.specs.PostPlaces.{entry_at, entries_at, record_posts}
 use Rattle.title_chain.specs.TractIndexes.{is_near}
 use Rattle.title_chain.proofs.Nearness.{near_meets}
 use Rattle.title_chain.proofs.PlaceEntries.{place_entries}
@@ -20,9 +21,11 @@ returns c =
     let sized : IsLand depth land = c.cover.ensures.sized in record {
       added = subst (λ (es : List Entry). OnOk c.add_entries_at.result
           (c.add_entries_at.new.entries.items ≡ c.args.entries.now.items ++ es))
-          (place_entries records land c.in_ok-found.found c.add_entries_at.ensures.ordered
+          (place_entries records land c.in_ok-found.found.items c.in_ok-found.ensures.ordered
           (λ p. c.in_ok-found.ensures.found p
           ∙ ap (λ (cover : List Node). list_any (is_near f p) cover) c.cover.ensures.cover
           ∙ near_meets f (record_posts (reverse records)) c.requires.filed land sized p))
-          c.add_entries_at.ensures.added;
+          (subst (λ (places : List Place). OnOk c.add_entries_at.result
+          (c.add_entries_at.new.entries.items ≡ c.args.entries.now.items ++ entries_at (entry_at records) places)) c.deref.ensures.value
+          c.add_entries_at.ensures.added);
     }

@@ -6,7 +6,8 @@ use Rattle.std.specs.Prelude.{OnOk}
 use Rattle.title_land.specs.declared.node.Node.{Node}
 use Rattle.title_land.specs.Lands.{IsLand}
 use Rattle.title_chain.specs.declared.ask.Entry.{Entry}
-use Rattle.title_chain.specs.PostPlaces.{step_posts}
+use Rattle.title_chain.specs.declared.place.Place.{Place}
+use Rattle.title_chain.specs.PostPlaces.{own_entry_at, entries_at, step_posts}
 use Rattle.title_chain.specs.TractIndexes.{is_near}
 use Rattle.title_chain.proofs.Nearness.{near_meets}
 use Rattle.title_chain.proofs.PlaceEntries.{own_entries}
@@ -20,9 +21,11 @@ returns c =
     let sized : IsLand depth land = c.cover.ensures.sized in record {
       added = subst (λ (es : List Entry). OnOk c.add_own_entries_at.result
           (c.add_own_entries_at.new.entries.items ≡ c.args.entries.now.items ++ es))
-          (own_entries steps land c.in_ok-found.found c.add_own_entries_at.ensures.ordered
+          (own_entries steps land c.in_ok-found.found.items c.in_ok-found.ensures.ordered
           (λ p. c.in_ok-found.ensures.found p
           ∙ ap (λ (cover : List Node). list_any (is_near f p) cover) c.cover.ensures.cover
           ∙ near_meets f (step_posts 0 (reverse steps)) c.requires.filed land sized p))
-          c.add_own_entries_at.ensures.added;
+          (subst (λ (places : List Place). OnOk c.add_own_entries_at.result
+          (c.add_own_entries_at.new.entries.items ≡ c.args.entries.now.items ++ entries_at (own_entry_at steps) places))
+          c.deref.ensures.value c.add_own_entries_at.ensures.added);
     }
