@@ -55,7 +55,8 @@ alone r (inl o) = o
 alone r (inr o) = o
 
 -- a part that is there stands alone
-pub part_stands : (steps : List Step) (r : Rectangle) → part_of depth steps ≡ Some r → PartsStand (steps ∷ []) (grid_of depth (union (r ∷ [])))
+pub part_stands : (steps : List Step) (r : Rectangle) → part_of depth steps ≡ Some r
+    → PartsStand (steps ∷ []) (grid_of depth (union (r ∷ [])))
 part_stands steps r e = record {
   exist = rw e refl;
   apart = λ o. let P : List Rectangle → Type 0 = λ z. Overlap z in let k : rectangles depth (steps ∷ []) ≡ r ∷ [] = rw e refl in

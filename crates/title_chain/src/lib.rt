@@ -21,4 +21,5 @@ pub use own_steps::OwnSteps;
 pub use record::Record;
 pub use replay::sheet_by_chain;
 pub use same::same_steps;
+pub use same_parts::same_tract;
 pub use tract_index::TractIndex;

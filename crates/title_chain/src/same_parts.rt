@@ -52,7 +52,7 @@ fn same_land(a: &Land, b: &Land) -> bool
 }
 
 /// Whether two tracts have the same land.
-pub(crate) fn same_tract(a: &Tract, b: &Tract) -> bool
+pub fn same_tract(a: &Tract, b: &Tract) -> bool
     ensures same { (result ≡ true) ↔ (a.now ≡ b.now) }
 {
     same_land(&a.land(), &b.land())

@@ -7,3 +7,4 @@ pub mod Moves
 pub mod Steps
 pub mod Posts
 pub mod Admitted
+pub mod Shows

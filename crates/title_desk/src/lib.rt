@@ -4,6 +4,7 @@
 mod asks;
 pub mod headline;
 mod images;
+mod plant;
 mod refusal;
 mod slots;
 pub mod transactions;

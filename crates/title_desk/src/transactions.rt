@@ -18,12 +18,13 @@ ghost use Rattle.title_desk.specs.Admissions.{Admits, IsFit, entry_of};
 
 use crate::asks::{access_in, add_step, cause_in, keep_post, tract_in};
 use crate::images::{forget_all, restore_all, tidy_up};
+use crate::plant::Plant;
 use crate::refusal::{Admission, Refusal};
 use crate::slots::{Slot, add_slot, chain_for, count_steps, first_in, is_in, steps_of, take_slot};
 use std::alloc::{AllocError, Global};
 use std::collections::BTreeMap;
 use std::marker::Model;
-use title_chain::{Answer, Ask, Posting, Record, SheetRows, TractIndex};
+use title_chain::{Answer, Ask, Posting, Record, TractIndex};
 use title_land::{Township, Tract};
 use title_lock::{Guards, LockFault};
 use title_store::{Put, Store};
@@ -60,7 +61,7 @@ pub struct Desk<S: Store + Drop, G: Guards + Drop> {
     alloc: Global,
     parties: u32,
     townships: Vec<Township>,
-    store: S,
+    store: Plant<S>,
     guards: G,
     trace: Vec<Call>,
     records: TractIndex,
@@ -99,7 +100,7 @@ impl<S: Store + Drop, G: Guards + Drop> Desk<S, G> {
         ensures setting { IfOk result (λ d. d.setting ≡ record { parties = parties; townships = townships.now }) }
         ensures trace { IfOk result (λ d. d.trace ≡ []) }
     {
-        let store = S::open(alloc, townships)?;
+        let store = Plant::open(alloc, townships)?;
         let townships = Vec::from_slice(alloc, townships)?;
         Ok(Desk {
             alloc,
@@ -277,10 +278,7 @@ impl<S: Store + Drop, G: Guards + Drop> Desk<S, G> {
         requires prepared { self.old.prepared ≡ Some (entry_of examiner (Sheet tract)) }
         ensures told { Told self.old (Step examiner (Sheet tract)) result self.new }
     {
-        let Ok(rows) = self.store.sheet(self.alloc, &tract) else {
-            return Reply::Memory;
-        };
-        let Ok(rows) = SheetRows::new(rows) else {
+        let Ok(rows) = self.store.rows(self.alloc, &tract) else {
             return Reply::Memory;
         };
         self.add_answer(examiner, Ask::Sheet(tract), Answer::Rows(rows))
@@ -436,7 +434,7 @@ impl<S: Store + Drop, G: Guards + Drop> Desk<S, G> {
         ensures rest { (c : Cell) → ((e : ℕ) → posted_at self.now.setting.townships c (open_steps self.now.trace e) ≡ false) →
             S.content result.now c ≡ plant_after depth self.now.setting.townships (committed self.now.trace) c }
     {
-        &self.store
+        self.store.store()
     }
 
     /// Each reply of the trace is the due one, and there are no more parties than a plant may have. It does nothing: the

@@ -15,8 +15,6 @@ pub add_answer-requires-clause-alone : goal.add_answer-requires-clause-alone
 add_answer-requires-clause-alone g c =
     let free = subst (λ (b : Books). InTheWay b.trace c.args.examiner (Sheet c.args.tract) None) (sym c.self.view_is) c.requires.passes.4 in
     let k = c.self.invariant.0 in
-    subst (λ (b : Books). Rows c.in-Ok-new.rows ≡ alone depth b.setting.townships (committed b.trace) (open_steps b.trace c.args.examiner)
-    (Sheet c.args.tract)) c.self.view_is
-    (ap Rows (c.in-Ok-new.ensures.new ∙ c.in-Ok.ensures.sheet
+    ap Rows (c.in-Ok.ensures.rows
     ∙ ap (λ ts. sheet_of depth ts (g.S.Store.content c.self.inside.store) c.args.tract) k.declared_are)
-    ∙ sheet_due c.args.examiner c.args.tract k free)
+    ∙ sheet_due c.args.examiner c.args.tract k free

@@ -13,3 +13,7 @@ no_want_of_place viewers (Err e) made = λ no. absurd (cc)
 pub returns-in_err-fronts-clause-why : goal.returns-in_err-fronts-clause-why
 returns-in_err-fronts-clause-why g c =
     no_want_of_place c.args.viewers c.from_residual-in_err-fronts.result c.from_residual-in_err-fronts.ensures.1
+
+pub returns-in_err-seats-clause-why : goal.returns-in_err-seats-clause-why
+returns-in_err-seats-clause-why g c =
+    no_want_of_place c.args.viewers c.from_residual-in_err-seats.result c.from_residual-in_err-seats.ensures.1
