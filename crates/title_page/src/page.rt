@@ -25,23 +25,46 @@ impl Model for Page {
     ghost view = { λ p. p.bytes.items };
 }
 
+// For each byte, whether a field with it is quoted: it is where it has a line feed, a carriage return, a quote or a comma.
+static SPECIAL: [bool; 256] = [
+    false, false, false, false, false, false, false, false, false, false, true, false, false, true,
+    false, false, false, false, false, false, false, false, false, false, false, false, false,
+    false, false, false, false, false, false, false, true, false, false, false, false, false,
+    false, false, false, false, true, false, false, false, false, false, false, false, false,
+    false, false, false, false, false, false, false, false, false, false, false, false, false,
+    false, false, false, false, false, false, false, false, false, false, false, false, false,
+    false, false, false, false, false, false, false, false, false, false, false, false, false,
+    false, false, false, false, false, false, false, false, false, false, false, false, false,
+    false, false, false, false, false, false, false, false, false, false, false, false, false,
+    false, false, false, false, false, false, false, false, false, false, false, false, false,
+    false, false, false, false, false, false, false, false, false, false, false, false, false,
+    false, false, false, false, false, false, false, false, false, false, false, false, false,
+    false, false, false, false, false, false, false, false, false, false, false, false, false,
+    false, false, false, false, false, false, false, false, false, false, false, false, false,
+    false, false, false, false, false, false, false, false, false, false, false, false, false,
+    false, false, false, false, false, false, false, false, false, false, false, false, false,
+    false, false, false, false, false, false, false, false, false, false, false, false, false,
+    false, false, false, false, false, false, false, false, false, false, false, false, false,
+    false, false, false, false, false, false, false, false, false, false, false, false, false,
+    false, false, false, false, false, false, false, false,
+];
+
 // Whether a field with this byte is quoted.
 fn is_special(byte: u8) -> bool
     ensures special { result ≡ needs_byte row_writer byte }
 {
-    byte == b',' || byte == b'"' || byte == b'\r' || byte == b'\n'
+    SPECIAL[usize::from(byte)]
 }
 
-// Whether a field is quoted.
+// Whether a field is quoted. It looks at each byte, which costs less than to stop at the first that calls for quotes.
 fn is_quoted(field: &[u8]) -> bool
     ensures quoted { result ≡ needs_quotes row_writer field.now }
 {
+    let mut some = false;
     for byte in field {
-        if is_special(*byte) {
-            return true;
-        }
+        some |= is_special(*byte);
     }
-    false
+    some
 }
 
 // Whether a field has a quote.
