@@ -25,6 +25,8 @@ pub(crate) fn field(row: &StringRecord, i: usize) -> &str
     row.get(i).unwrap_or("")
 }
 
+// Out of line: within the reading of a row its loop would set all that the row's other ends want anew for each byte.
+#[inline(never)]
 fn has_name_bytes(text: &str) -> bool
     ensures bytes { result ≡ list_all is_name_byte text.now }
 {
