@@ -8,3 +8,4 @@ pub mod Steps
 pub mod Posts
 pub mod Admitted
 pub mod Shows
+pub mod Singles

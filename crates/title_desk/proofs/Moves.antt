@@ -93,7 +93,7 @@ keeps_refused q (refusal.Conflict f) due k = record {
   facts = k.facts;
 }
 
-none_from : {X : Type 0} (o : Option X) → is_some o ≡ false → o ≡ None
+pub none_from : {X : Type 0} (o : Option X) → is_some o ≡ false → o ≡ None
 none_from None h = refl
 none_from (Some x) h = cc
 
@@ -295,7 +295,7 @@ keeps_committed {number = number} {setting = setting} {content = content} {out =
       facts = facts_same refl (fun_ext (images_ended slots slots' e left)) (fun_ext (λ c. sym (same c))) (sym out_is) (sym locks_are) facts;
     }
 
-none_out : (out : List Loan) → ((b : Loan) → IsAmong b out → ⊥) → out ≡ []
+pub none_out : (out : List Loan) → ((b : Loan) → IsAmong b out → ⊥) → out ≡ []
 none_out [] h = refl
 none_out (x ∷ out) h = absurd (h x (inl refl))
 

@@ -9,7 +9,7 @@ use Rattle.title_land.specs.declared.place.Cell.{Cell}
 use Rattle.title_land.specs.declared.tract.Land.{Land}
 use Rattle.title_instrument.specs.declared.instrument.Instrument.{Instrument}
 use Rattle.title_store.specs.Plants.{Plant, Refusal, SameContent, is_cell_of, refused_in, plant_effect}
-use Rattle.title_store.specs.Loans.{Loan, IsAmong, IsLentAs, IsOut, IsLast, IsTaken, without}
+use Rattle.title_store.specs.Loans.{Loan, IsAmong, IsLentAs, IsOut, IsLast, IsFirst, IsTaken, without}
 use Rattle.title_store.specs.Laws.EffectLaws as store
 use Rattle.title_chain.specs.declared.ask.Ask.{Ask}
 use Rattle.title_chain.specs.declared.ask.Ask.TheVariants as ask
@@ -83,6 +83,15 @@ pub image_last : (n : ℕ) (ts : List Township) (land : Land) (before : Plant) (
 image_last n ts land before out out' taken b x lent at higher =
     elim (among_parts x (record { number = n; land = land; held = taken.held }) out (subst (IsAmong x) taken.last at)) [
       | inl old ↦ absurd (let low : x.number < n = taken.above x old in omega arith)
+      | inr is ↦ absurd (let same : x.number ≡ n = ap (λ z. z.number) is in omega arith)
+    ]
+
+-- and the first one, where no other is out
+pub image_first : (n : ℕ) (ts : List Township) (land : Land) (before : Plant) (out out' : List Loan) → out ≡ []
+    → IsTaken n ts land before out out' → IsFirst n out'
+image_first n ts land before out out' none taken b x lent at lower =
+    elim (among_parts x (record { number = n; land = land; held = taken.held }) out (subst (IsAmong x) taken.last at)) [
+      | inl old ↦ absurd (subst (IsAmong x) none old)
       | inr is ↦ absurd (let same : x.number ≡ n = ap (λ z. z.number) is in omega arith)
     ]
 

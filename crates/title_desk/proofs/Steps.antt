@@ -123,7 +123,7 @@ post_leaves ts seen p None h n c = cc
 post_leaves ts seen p (Some r) h n c = effect_refused depth ts seen p r c h
 
 -- a step that posted nothing leaves the plant
-leaves : (ts : List Township) (done : List Record) (own : List Step) (a : Ask) (given : Answer) → given ≡ alone depth ts done own a
+pub leaves : (ts : List Township) (done : List Record) (own : List Step) (a : Ask) (given : Answer) → given ≡ alone depth ts done own a
     → is_posted a given ≡ false →
     (c : Cell) → effect depth ts (after_steps depth ts (plant_after depth ts done) own) a c
     ≡ after_steps depth ts (plant_after depth ts done) own c

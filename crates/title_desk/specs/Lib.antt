@@ -6,3 +6,4 @@ pub mod Keeps
 pub mod Refusals
 pub mod Headline
 pub mod Admissions
+pub mod Singles

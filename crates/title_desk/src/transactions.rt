@@ -30,6 +30,8 @@ use title_lock::{Guards, LockFault};
 use title_store::{Put, Store};
 use title_trace::{Call, MOST_PARTIES, MOST_STEPS, MOST_TOWNSHIPS, Reply, Request};
 
+mod singles;
+
 // Whether no township stands twice.
 fn each_once(townships: &[Township]) -> bool
     ensures once { (result ≡ true) ↔ IsEachOnce townships.now }

@@ -1,2 +1,3 @@
 mod Asked
+mod AskedAlone
 mod ServedLaws

@@ -11,7 +11,7 @@ use title_land::{Land, Node, Quarter, Township, Tract};
 use title_lock::NodeLocks;
 use title_share::Share;
 use title_store::Store;
-use title_trace::{Reply, Request};
+use title_trace::{Call, Reply, Request};
 use title_tree_store::TreeStore;
 
 type TestDesk = Desk<TreeStore, NodeLocks>;
@@ -275,5 +275,74 @@ fn a_hundred_thousand_records(rt: HostRuntime) -> Result<(), Fail> {
     let mut desk = open(rt.alloc(), &rt)?;
     commit_a_hundred_thousand(&rt, &mut desk);
     assert_eq!(rt; desk.records().len(), 100_000);
+    Ok(())
+}
+
+/// An examiner's act as a transaction of its own is replied to by this word.
+fn assert_alone(
+    alloc: Global,
+    rt: &impl Abort,
+    desk: &mut TestDesk,
+    act: Act,
+    wanted: &str,
+) -> Result<(), AllocError> {
+    let land = Land::of(square(rt, 5, &[Quarter::Northeast]));
+    let Request::Step(examiner, ask) = request(alloc, land, 1, act)? else {
+        panic!(rt; "a step");
+    };
+    let None = desk.first_open() else {
+        panic!(rt; "nobody is open");
+    };
+    let reply = desk.serve_alone(examiner, ask);
+    assert_eq!(rt; word(&reply), wanted);
+    Ok(())
+}
+
+/// The calls have these replies.
+fn assert_calls(rt: &impl Abort, calls: &[Call], wanted: &[&str]) {
+    let mut rest = calls;
+    for one in wanted {
+        let [first, more @ ..] = rest else {
+            panic!(rt; "a call with {one}");
+        };
+        assert_eq!(rt; word(&first.reply), *one);
+        rest = more;
+    }
+    assert!(rt; rest.is_empty());
+}
+
+const ALONE: [&str; 9] = [
+    "began",
+    "rows",
+    "committed",
+    "began",
+    "posted",
+    "committed",
+    "began",
+    "entries",
+    "committed",
+];
+
+/// A transaction of one step in one call has the trace of its three requests.
+#[test]
+fn a_step_alone_is_begun_and_committed(rt: HostRuntime) -> Result<(), Fail> {
+    let mut desk = open(rt.alloc(), &rt)?;
+    assert_alone(rt.alloc(), &rt, &mut desk, Act::Sheet, "rows")?;
+    assert_alone(rt.alloc(), &rt, &mut desk, Act::Post(7), "posted")?;
+    assert_alone(rt.alloc(), &rt, &mut desk, Act::Chain, "entries")?;
+    assert_calls(&rt, desk.trace(), &ALONE);
+    assert_eq!(rt; desk.records().len(), 3);
+    Ok(())
+}
+
+/// One whose township isn't declared is begun and aborted.
+#[test]
+fn a_step_alone_is_begun_and_aborted(rt: HostRuntime) -> Result<(), Fail> {
+    let townships = [township(&rt, 4)];
+    assert!(rt; may_open(3, &townships));
+    let mut desk: TestDesk = Desk::open(rt.alloc(), 3, &townships)?;
+    assert_alone(rt.alloc(), &rt, &mut desk, Act::Post(7), "another")?;
+    assert_calls(&rt, desk.trace(), &["began", "another", "aborted"]);
+    assert!(rt; desk.records().is_empty());
     Ok(())
 }

@@ -1,0 +1,66 @@
+-- The record and the three calls of a transaction whose step posts nothing are added.
+use Rattle.std.proofs.Common.{◌≡◌, ◌++◌, ◌∷◌, [], ap, arith, length, refl, reverse, subst, suc, sym}
+use Rattle.title_land.specs.Depth.{depth}
+use Rattle.std.proofs.lemmas.Grind.{common_steps}
+use Rattle.title_chain.specs.Alone.{alone}
+use Rattle.title_chain.specs.declared.ask.Step.{Step}
+use Rattle.title_trace.specs.declared.call.Reply.TheVariants.{Answered}
+use Rattle.title_trace.specs.Trace.{committed, open_steps}
+use Rattle.title_trace.specs.Due.{IsDue}
+use Rattle.title_desk.specs.Singles.{IsIdle, Stands, after_single}
+use Rattle.title_desk.specs.Told.{Books}
+use Rattle.title_desk.proofs.Singles.{keeps_read, place_is, single_due}
+use Rattle.title_desk.proofs.transactions.Desk.answer_alone.Goals as goal
+
+pub invariant_of-self-2 : goal.invariant_of-self-2
+invariant_of-self-2 g c =
+    let idle = subst (λ (b : Books). IsIdle b.trace) (sym c.self.view_is) c.requires.idle in
+    let stands = subst (λ (b : Books). Stands b.setting c.args.ask) (sym c.self.view_is) c.requires.stands in
+    let is = subst (λ (b : Books). c.args.answer ≡ alone depth b.setting.townships (committed b.trace) (open_steps b.trace c.args.examiner)
+    c.args.ask) (sym c.self.view_is) c.requires.alone in
+    let s : Step = record { ask = c.args.ask; answer = c.args.answer } in
+    let more : c.push_reserved.new.self.records
+    ≡ c.self.inside.records.records ++ record { examiner = c.args.examiner; steps = s ∷ [] } ∷ [] =
+    rw (
+      c.push_reserved.ensures.records,
+      c.reserve-2.ensures.records,
+      c.in-Ok-one_step.ensures.steps,
+      c.in-Ok-copy.ensures.copy,
+      c.in-Ok-copy-2.ensures.copy,
+    ) refl in
+    let place : c.len-place.result ≡ suc (length (committed (reverse c.self.inside.trace.items))) =
+    place_is c.self.invariant.0 _ c.len-place.result more c.len-place.ensures.len in (
+      rw (c.add_calls.ensures.calls, c.reserve.ensures.items, c.in-Ok.ensures.copy, place)
+          (keeps_read c.idle_have_no_steps.ensures.none idle c.self.invariant.0 c.args.examiner c.args.ask c.args.answer stands is
+          c.requires.unposted more),
+      grind (arith, common_steps, c.self.invariant.1, c.add_calls.ensures.len, c.add_calls.ensures.capacity),
+    )
+
+pub returns : goal.returns
+returns g c =
+    let idle = subst (λ (b : Books). IsIdle b.trace) (sym c.self.view_is) c.requires.idle in
+    let stands = subst (λ (b : Books). Stands b.setting c.args.ask) (sym c.self.view_is) c.requires.stands in
+    let is = subst (λ (b : Books). c.args.answer ≡ alone depth b.setting.townships (committed b.trace) (open_steps b.trace c.args.examiner)
+    c.args.ask) (sym c.self.view_is) c.requires.alone in
+    let s : Step = record { ask = c.args.ask; answer = c.args.answer } in
+    let more : c.push_reserved.new.self.records
+    ≡ c.self.inside.records.records ++ record { examiner = c.args.examiner; steps = s ∷ [] } ∷ [] =
+    rw (
+      c.push_reserved.ensures.records,
+      c.reserve-2.ensures.records,
+      c.in-Ok-one_step.ensures.steps,
+      c.in-Ok-copy.ensures.copy,
+      c.in-Ok-copy-2.ensures.copy,
+    ) refl in
+    let place : c.len-place.result ≡ suc (length (committed (reverse c.self.inside.trace.items))) =
+    place_is c.self.invariant.0 _ c.len-place.result more c.len-place.ensures.len in
+    record {
+      told = (
+        ap (λ (b : Books). b.setting) c.self.view_is,
+        rw (c.add_calls.ensures.calls, c.reserve.ensures.items, c.in-Ok.ensures.copy, place)
+            (ap (λ (b : Books). after_single b.trace c.args.examiner c.args.ask (Answered c.args.answer)) c.self.view_is),
+        subst (λ (b : Books). IsDue depth b.setting (after_single b.trace c.args.examiner c.args.ask (Answered c.args.answer)))
+            c.self.view_is
+            (single_due c.idle_have_no_steps.ensures.none idle c.self.invariant.0 c.args.examiner c.args.ask c.args.answer stands is),
+      );
+    }

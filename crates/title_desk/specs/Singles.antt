@@ -1,0 +1,54 @@
+-- A transaction of one step, which is begun, asked and ended in one call. Traces have the newest call first.
+use Rattle.std.specs.Prelude.{◌≡◌, ℕ, suc, true, false, List, ◌∷◌, length, Some, None}
+use Rattle.title_land.specs.Depth.{depth}
+use Rattle.title_land.specs.Lands.{is_in_plant}
+use Rattle.title_chain.specs.declared.ask.Ask.{Ask}
+use Rattle.title_chain.specs.Asks.{tract_of, cause_of}
+use Rattle.title_trace.specs.declared.call.Call.{Call}
+use Rattle.title_trace.specs.declared.call.Request.TheVariants as request
+use Rattle.title_trace.specs.declared.call.Reply.{Reply}
+use Rattle.title_trace.specs.declared.call.Reply.TheVariants as reply
+use Rattle.title_trace.specs.Trace.{is_open, committed}
+use Rattle.title_trace.specs.Due.{Setting, IsDue}
+use Rattle.title_desk.specs.declared.refusal.Refusal.{Refusal}
+use Rattle.title_desk.specs.declared.refusal.Refusal.TheVariants as refusal
+use Rattle.title_desk.specs.Told.{Books, Stays}
+
+-- nobody has a transaction open
+abbrev pub IsIdle : List Call → Type 0
+IsIdle trace = (e : ℕ) → is_open e trace ≡ false
+
+-- the last call of a transaction of one step: its commit, in the next place, where the step is answered; else its abort
+abbrev pub last_call : ℕ → List Call → Reply → Call
+last_call e before (reply.Answered given) = record {
+  request = request.Commit e;
+  reply = reply.Committed (suc (length (committed before)));
+}
+last_call e before _ = record { request = request.Abort e; reply = reply.Aborted }
+
+-- the calls of a transaction of one step, after those before it
+abbrev pub after_single : List Call → ℕ → Ask → Reply → List Call
+after_single before e a r =
+    last_call e before r ∷ record { request = request.Step e a; reply = r }
+    ∷ record { request = request.Begin e; reply = reply.Began } ∷ before
+
+-- its calls are added, each with the due reply
+abbrev pub AddedSingle : Books → ℕ → Ask → Reply → Books → Type 0
+AddedSingle old e a r new =
+    (new.setting ≡ old.setting) × (new.trace ≡ after_single old.trace e a r) × IsDue depth old.setting (after_single old.trace e a r)
+
+-- a transaction of one step adds its calls with the due replies, or wants memory and changes nothing
+abbrev pub ToldSingle : Books → ℕ → Ask → Reply → Books → Type 0
+ToldSingle old e a reply.Memory new = Stays old new
+ToldSingle old e a r new = AddedSingle old e a r new
+
+-- the ask's tract is in the plant, and its instrument can stand
+abbrev pub Stands : Setting → Ask → Type 0
+Stands setting a = (is_in_plant setting.townships (tract_of a) ≡ true) × (cause_of setting.parties a ≡ None)
+
+-- why a transaction of this one step is refused where nobody is open
+abbrev pub Bars : Setting → Ask → Refusal → Type 0
+Bars setting a refusal.NoSuchTownship = is_in_plant setting.townships (tract_of a) ≡ false
+Bars setting a (refusal.Invalid cause) =
+    (is_in_plant setting.townships (tract_of a) ≡ true) × (cause_of setting.parties a ≡ Some cause)
+Bars setting a _ = ⊥

@@ -1,0 +1,8 @@
+use Rattle.title_script.proofs.AskedAlone.{asked_alone}
+use Rattle.title_script.proofs.serving.ask_at_once.Goals as goal
+
+pub returns-in_default : goal.returns-in_default
+returns-in_default g c =
+    let a = asked_alone c.args.desk.now c.serve_alone.new.self c.args.examiner c.args.step c.serve_alone.result
+    c.in_default.not-Memory c.serve_alone.ensures.told in
+    record { setting = a.0; trace = a.1; reply = a.2 }
