@@ -5,3 +5,4 @@ pub mod GridCounts
 pub mod ListSteps
 pub mod RowBits
 pub mod GridRows
+pub mod Nestings

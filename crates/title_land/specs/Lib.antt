@@ -13,6 +13,7 @@ pub mod Extents
 pub mod CellLists
 pub mod Orders
 pub mod Texts
+pub mod Nestings
 pub mod NodeLaws
 pub mod CoverSets
 pub mod SharedCells

@@ -6,6 +6,7 @@ ghost use Rattle.std.specs.List.{list_any};
 ghost use Rattle.title_land.specs.Places.{same_township};
 ghost use Rattle.title_land.specs.Rectangles.{InSection};
 ghost use Rattle.title_land.specs.Nodes.{square, node_has, are_related};
+ghost use Rattle.title_land.specs.Nestings.{lies_in};
 ghost use Rattle.title_land.specs.Lands.{has, cover_of, is_in_plant};
 ghost use Rattle.title_land.specs.CellLists.{same_cell, cells_below, section_cells, township_cells, cells_of};
 
@@ -45,6 +46,19 @@ impl Within {
             Some((which, outer)) => outer.square().quarter(which),
         }
     }
+
+    // Whether it lies in another square: it is that one, or a quarter of a square that lies in it.
+    fn lies_in(self, other: Within) -> bool
+        ensures lies { result ≡ lies_in other self }
+    {
+        if self == other {
+            return true;
+        }
+        match self.split() {
+            None => false,
+            Some((_, outer)) => outer.lies_in(other),
+        }
+    }
 }
 
 impl Node {
@@ -77,7 +91,7 @@ impl Node {
             Node::Part(s, v) => match other {
                 Node::Everything => true,
                 Node::Township(u) => s.township.is(u),
-                Node::Part(u, w) => s.is(u) && v.square().meets(w.square()),
+                Node::Part(u, w) => s.is(u) && (v.lies_in(w) || w.lies_in(v)),
             },
         }
     }

@@ -1,12 +1,15 @@
 -- Two nodes share a cell by their kinds.
-use Rattle.std.proofs.Common.{◌≡◌, Bool, subst, ◌∙◌, sym, ap}
-use Rattle.std.specs.Prelude.{◌&&◌, ◌↔◌, true}
+use Rattle.std.proofs.Common.{◌≡◌, Bool, refl, subst, ◌∙◌, sym, ap}
+use Rattle.std.specs.Prelude.{◌||◌, true}
 use Rattle.title_land.specs.Depth.{depth}
 use Rattle.title_land.specs.declared.node.Node.{Node}
-use Rattle.title_land.specs.declared.rectangle.Rectangle.{Rectangle}
-use Rattle.title_land.specs.Rectangles.{SharesCell}
-use Rattle.title_land.specs.Nodes.{IsNode, square}
-use Rattle.title_land.specs.Laws.NodeSharing.{township_part_related, part_township_related, parts_related, sections_apart}
+use Rattle.title_land.specs.declared.place.Section.{Section}
+use Rattle.title_land.specs.Places.{same_section}
+use Rattle.title_land.specs.Nodes.{IsNode}
+use Rattle.title_land.specs.Nestings.{lies_in}
+use Rattle.title_land.specs.Laws.SameLand.{same_section-is, same_section-self}
+use Rattle.title_land.specs.Laws.NodeSharing.{township_part_related, part_township_related, sections_apart}
+use Rattle.title_land.proofs.Nestings.{squares_related}
 use Rattle.title_land.proofs.node.Node.meets.Goals as goal
 
 pub returns-in-Part-other : goal.returns-in-Part-other
@@ -21,16 +24,25 @@ returns-in-Township-other-2 c =
     let e = c.is-in-Township-other-2.ensures.is ∙ part_township_related depth c.in-Part.s c.in-Part.v c.in-Township-other-2.u short in
     record { meets = rw (c.in-Part.is, c.in-Township-other-2.is) e }
 
-pub returns-then-is : goal.returns-then-is
-returns-then-is c =
-    let v = subst (λ (n : Node). IsNode depth n) c.in-Part.is c.is_in_tree.ensures.tree in
-    let w = subst (λ (n : Node). IsNode depth n) c.in-Part-other-2.is c.is_in_tree-2.ensures.tree in
-    let shares = subst (λ (r : Rectangle). (c.meets.result ≡ true) ↔ SharesCell r (square depth c.in-Part-other-2.w))
-    c.square.ensures.square
-    (subst (λ (r : Rectangle). (c.meets.result ≡ true) ↔ SharesCell c.square.result r) c.square-then-is.ensures.square
-    c.meets.ensures.shares) in
-    let e = ap (λ (b : Bool). b && c.meets.result) (sym (sym c.is-in-Part-other-2.ensures.is ∙ c.if-is.true))
-    ∙ parts_related depth c.in-Part.s c.in-Part-other-2.u c.in-Part.v c.in-Part-other-2.w c.meets.result v w shares in
+-- the squares lie in one section
+in_section : (s u : Section) (b : Bool) → b ≡ same_section s u → b ≡ true → (same_section s u ≡ true) × (same_section u s ≡ true)
+in_section s u b is holds =
+    let one = sym is ∙ holds in
+    (one, ap (same_section u) (same_section-is s u one) ∙ same_section-self u)
+
+pub returns-then-lies_in : goal.returns-then-lies_in
+returns-then-lies_in c =
+    let one = in_section c.in-Part.s c.in-Part-other-2.u _ c.is-in-Part-other-2.ensures.is c.if-is.true in
+    let e = c.if-lies_in.true ∙ sym (ap (λ (b : Bool). b || lies_in c.in-Part.v c.in-Part-other-2.w) c.if-lies_in.true)
+    ∙ squares_related c.in-Part.s c.in-Part-other-2.u c.in-Part.v c.in-Part-other-2.w _ _ one.0 one.1 c.lies_in.ensures.lies refl in
+    record { meets = rw (c.in-Part.is, c.in-Part-other-2.is) e }
+
+pub returns-else-lies_in : goal.returns-else-lies_in
+returns-else-lies_in c =
+    let one = in_section c.in-Part.s c.in-Part-other-2.u _ c.is-in-Part-other-2.ensures.is c.if-is.true in
+    let e = sym (ap (λ (b : Bool). b || c.lies_in-else-lies_in.result) c.if-lies_in.false)
+    ∙ squares_related c.in-Part.s c.in-Part-other-2.u c.in-Part.v c.in-Part-other-2.w _ _ one.0 one.1 c.lies_in.ensures.lies
+    c.lies_in-else-lies_in.ensures.lies in
     record { meets = rw (c.in-Part.is, c.in-Part-other-2.is) e }
 
 pub returns-else-is : goal.returns-else-is
