@@ -78,9 +78,8 @@ fn holding_after(
     let held = holding.units(instrument.grantor());
     match instrument.passes(estate, held) {
         Ok(units) => {
-            let mut after = holding.copy(alloc)?;
-            after.move_units(instrument.grantor(), instrument.grantee(), units)?;
-            Ok(Ok(after))
+            let (from, to) = (instrument.grantor(), instrument.grantee());
+            Ok(Ok(holding.moved(alloc, from, to, units)?))
         }
         Err(rule) => Ok(Err(rule)),
     }

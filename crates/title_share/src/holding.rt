@@ -146,6 +146,24 @@ impl Holding {
         self.rows() == other.rows()
     }
 
+    /// The holding that `move_units` would leave, made beside this one.
+    pub fn moved(
+        &self,
+        alloc: Global,
+        from: u32,
+        to: u32,
+        units: u64,
+    ) -> Result<Holding, AllocError>
+        requires held { units ≤ units_of from self.now }
+        ensures moved { IfOk result (λ h. h ≡ moved from to units self.now) }
+    {
+        if units == 0 || from == to {
+            return self.copy(alloc);
+        }
+        let rows = rows_after(alloc, &self.rows, from, to, units)?;
+        Ok(Holding { rows })
+    }
+
     /// Passes units of a party, which has at least so many, to another. With 0 units, or from a
     /// party to itself, nothing changes.
     pub fn move_units(&mut self, from: u32, to: u32, units: u64) -> Result<(), AllocError>

@@ -35,8 +35,8 @@ impl Change for Passing {
         let units = held.units(self.instrument.grantor());
         match self.instrument.passes(self.estate, units) {
             Ok(units) => {
-                let mut after = held.copy(alloc)?;
-                after.move_units(self.instrument.grantor(), self.instrument.grantee(), units)?;
+                let (from, to) = (self.instrument.grantor(), self.instrument.grantee());
+                let after = held.moved(alloc, from, to, units)?;
                 Ok(shared(alloc, after)?)
             }
             Err(rule) => Err(Fault::Refused(rule)),
