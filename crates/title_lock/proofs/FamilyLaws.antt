@@ -97,6 +97,13 @@ gone_known true true u r h = refl
 gone_known true false true r h = h refl refl
 gone_known true false false r h = refl
 
+-- what clashes above and is known adds nothing
+pub known_clash : (b t u o : Bool) → (t ≡ true → u ≡ true → b ≡ true) → (b || ((not t && u) || o)) ≡ (b || (u || o))
+known_clash true t u o h = refl
+known_clash false false u o h = refl
+known_clash false true false o h = refl
+known_clash false true true o h = absurd (true≢false (sym (h refl refl)))
+
 -- a mode at the node is all that it asks for, where it was raised above
 pub raised_known : (t u : Table) (e : ℕ) (k : Node) (p : Bool) → IsRaised t e (above_mode p) (λ n. is_above n k)
     → ((f : ℕ) (n : Node) → table_mode u f n ≡ bound (table_mode t f n) (cond (eqb f e && same_node n k) (Some (own_mode p)) None))

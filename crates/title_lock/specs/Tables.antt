@@ -35,6 +35,10 @@ clashes_above m held nodes = list_any (λ n. clashes m (held n)) nodes
 abbrev pub clashes_for : Bool → (Node → Option Mode) → Node → Bool
 clashes_for post held c = clashes_above (above_mode post) held (above c) || clashes (own_mode post) (held c)
 
+-- the same, where what is asked above c is left out if it is known
+abbrev pub clashes_next : Bool → Bool → (Node → Option Mode) → Node → Bool
+clashes_next post known held c = (not known && clashes_above (above_mode post) held (above c)) || clashes (own_mode post) (held c)
+
 -- what an access asks for clashes somewhere
 abbrev pub clashes_with : Bool → (Node → Option Mode) → List Node → Bool
 clashes_with post held cover = list_any (clashes_for post held) cover

@@ -10,7 +10,7 @@ ghost use Rattle.title_lock.specs.Asking.{own_mode, above_mode, asked_for, asked
 ghost use Rattle.title_lock.specs.declared.modes.Mode.TheVariants.{Is, Ix, S, Six, X};
 ghost use Rattle.title_lock.specs.Counts.{IsCount};
 ghost use Rattle.title_lock.specs.Holders.{clashes, is_mode};
-ghost use Rattle.title_lock.specs.Tables.{table_mode, table_room, clashes_above, clashes_for, clashes_with};
+ghost use Rattle.title_lock.specs.Tables.{table_mode, table_room, clashes_above, clashes_for, clashes_next, clashes_with};
 ghost use Rattle.title_lock.specs.Tables.{KeepsRoom, HasRoom, is_asked, is_idle, is_unused, IdleMore, IdleLess, AllUsed};
 ghost use Rattle.title_lock.specs.Tables.{IsRaised, IsTakenOut};
 
@@ -125,14 +125,29 @@ impl Table {
         )
     }
 
+    // The same, where it may be known who is in the way above.
+    fn way_next(&self, examiner: u32, spot: &Spot, access: Access, is_known: bool) -> Option<u32>
+        ensures way { IsLeast (λ f. clashes_next (is_post access) is_known (λ n. table_mode self.now f n) spot.now.node)
+            examiner result }
+    {
+        if is_known {
+            return self.way_of(examiner, spot, own_mode(access));
+        }
+        self.way_for(examiner, spot, access)
+    }
+
     /// The least other examiner in the way of an access, by modes. Takes no memory.
     pub(crate) fn ways(&self, examiner: u32, cover: &[Node], access: Access) -> Option<u32>
         ensures way { IsLeast (λ f. clashes_with (is_post access) (λ n. table_mode self.now f n) cover.now) examiner result }
     {
         let mut way = None;
+        let mut last = None;
         for node in cover {
             let spot = Spot::of(node);
-            way = least(way, self.way_for(examiner, &spot, access));
+            let family = spot.family();
+            let is_known = is_same_family(last, family);
+            way = least(way, self.way_next(examiner, &spot, access, is_known));
+            last = family;
         }
         way
     }
