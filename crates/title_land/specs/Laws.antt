@@ -26,5 +26,6 @@ pub mod CellFilters
 pub mod Keys
 pub mod NodeKeys
 pub mod PathNumbers
+pub mod NodeNumbers
 pub mod NodeLands
 pub mod CoverLaws

@@ -14,6 +14,7 @@ pub mod CellLists
 pub mod Orders
 pub mod Texts
 pub mod Nestings
+pub mod NodeNumbers
 pub mod NodeLaws
 pub mod CoverSets
 pub mod SharedCells

@@ -5,6 +5,7 @@ ghost use Rattle.title_land.specs.CellLaws.{SameCellsAreEqual, PlantHasItsCells,
 ghost use Rattle.title_land.specs.Constants.{DepthIsSaidOnce};
 ghost use Rattle.title_land.specs.Depth.{depth};
 ghost use Rattle.title_land.specs.CoverSets.{CoverNodesLieApart, CoverFindsTheNode, CoverHasItsCells, LandsShareACell, MeetsByCovers};
+ghost use Rattle.title_land.specs.NodeNumbers.{NumbersTellNodes, NumbersGoUp};
 ghost use Rattle.title_land.specs.NodeLaws.{AboveByParent, SameNodesAreEqual, AboveIsTransitive, AboveHasTheCells, NodesShareACell};
 
 /// The code's numbers of the grid are those of the definitions: the depth is said once in each.
@@ -20,6 +21,16 @@ pub fn same_nodes_are_equal()
 /// Above a node lie its parent and what lies above that.
 pub fn above_by_parent()
     ensures law { AboveByParent }
+{}
+
+/// No two nodes have one number.
+pub fn numbers_tell_nodes()
+    ensures law { NumbersTellNodes }
+{}
+
+/// The number of the node above comes from a node's own.
+pub fn numbers_go_up()
+    ensures law { NumbersGoUp }
 {}
 
 /// What lies above a node that lies above a third lies above that.

@@ -3,6 +3,7 @@
 ghost use Rattle.std.specs.Prelude.{◌≡◌, ◌≤◌, ◌<◌, ◌∷◌, [], length, nat_le, Some, MatchOption};
 ghost use Rattle.title_land.specs.Depth.{depth};
 ghost use Rattle.title_land.specs.Nodes.{parent_of, IsNode};
+ghost use Rattle.title_land.specs.Paths.{path_number};
 ghost use Rattle.title_land.specs.Texts.{path_text, quarters_text, node_text};
 ghost use Rattle.std.specs.Fmt.{WritesOnOk};
 
@@ -66,6 +67,13 @@ impl Within {
             return None;
         }
         Some(square.quarter(*which))
+    }
+
+    // The square's number in its section, from 1 for the section itself.
+    pub(crate) fn number(self) -> u16
+        ensures number { result ≡ path_number self }
+    {
+        self.number
     }
 
     /// Whether it is a cell, which has no quarters.
