@@ -10,69 +10,69 @@ use Rattle.title_land.specs.declared.node.Node.{Node}
 use Rattle.title_land.specs.declared.node.Node.TheVariants as node
 use Rattle.title_land.specs.Nodes.{same_node, parent_in, above, is_above}
 use Rattle.title_land.specs.Laws.PathNumbers.{path_positive}
-use Rattle.title_land.specs.Laws.SameNode.{same_node-is}
 use Rattle.title_lock.specs.declared.modes.Mode.{Mode}
 use Rattle.title_lock.specs.declared.table.Table.{Table}
 use Rattle.title_lock.specs.Modes.{bound}
 use Rattle.title_lock.specs.Asking.{own_mode, above_mode, asked_for}
-use Rattle.title_lock.specs.Codes.{township_code, node_code, code_above, family, same_family}
+use Rattle.title_land.specs.NodeNumbers.{township_number, node_number, number_above}
+use Rattle.title_lock.specs.Families.{family, same_family}
 use Rattle.title_lock.specs.Tables.{table_mode, is_asked, is_idle, IdleMore, IdleLess, IsRaised, IsTakenOut}
 use Rattle.title_lock.proofs.ModeLaws.{bound_none, bound_assoc, sup_self}
 use Rattle.title_lock.proofs.NodeLaws.{above_of, above_apart}
-use Rattle.title_lock.proofs.CodeLaws.{node_is, parent_code, township_below}
+use Rattle.title_land.specs.Laws.NodeNumbers.{numbers_tell_nodes, numbers_go_up, township_below}
 use Rattle.title_lock.proofs.IdleLaws.{more_wider}
 use Rattle.title_lock.proofs.Overlap.{and_none}
 
 -- ---- families
 
 family_none : (k : ℕ) → k < 4194304 → family k ≡ None
-family_none k low = ap (λ (b : Bool). cond b None (Some (code_above k))) (lt-ltb k 4194304 low)
+family_none k low = ap (λ (b : Bool). cond b None (Some (number_above k))) (lt-ltb k 4194304 low)
 
-family_some : (k : ℕ) → 4194304 ≤ k → family k ≡ Some (code_above k)
-family_some k wide = ap (λ (b : Bool). cond b None (Some (code_above k))) (le-ltb k 4194304 wide)
+family_some : (k : ℕ) → 4194304 ≤ k → family k ≡ Some (number_above k)
+family_some k wide = ap (λ (b : Bool). cond b None (Some (number_above k))) (le-ltb k 4194304 wide)
 
 none_right : (a : Option ℕ) → same_family a None ≡ false
 none_right None = refl
 none_right (Some a) = refl
 
-square_wide : (s : Section) (v : List Quarter) → 4194304 ≤ node_code (node.Part s v)
+square_wide : (s : Section) (v : List Quarter) → 4194304 ≤ node_number (node.Part s v)
 square_wide s v = omega (arith, path_positive v)
 
 -- squares below one node have the same nodes above
-squares_above : (s u : Section) (v w : List Quarter) → code_above (node_code (node.Part s v)) ≡ code_above (node_code (node.Part u w))
+squares_above : (s u : Section) (v w : List Quarter) → number_above (node_number (node.Part s v)) ≡ number_above (node_number (node.Part u w))
     → above (node.Part s v) ≡ above (node.Part u w)
 squares_above s u v w h =
     let p = parent_in s v in
     let q = parent_in u w in
-    let first = parent_code (node.Part s v) p (node_code (node.Part s v)) refl refl in
-    let second = parent_code (node.Part u w) q (node_code (node.Part u w)) refl refl in
-    let e : node_code p ≡ node_code q = sym first ∙ h ∙ second in
-    let same : p ≡ q = (same_node-is p q).0 (node_is p q e) in
+    let first = numbers_go_up (node.Part s v) p refl in
+    let second = numbers_go_up (node.Part u w) q refl in
+    let e : node_number p ≡ node_number q = sym first ∙ h ∙ second in
+    let same : p ≡ q = numbers_tell_nodes p q e in
     above_of (node.Part s v) p refl ∙ ap (λ (z : Node). z ∷ above z) same ∙ sym (above_of (node.Part u w) q refl)
 
 -- nodes of one family have the same nodes above
-pub one_above : (a b : Node) → same_family (family (node_code a)) (family (node_code b)) ≡ true → above a ≡ above b
+pub one_above : (a b : Node) → same_family (family (node_number a)) (family (node_number b)) ≡ true → above a ≡ above b
 one_above node.Everything b h =
-    absurd (true≢false (sym h ∙ ap (λ (z : Option ℕ). same_family z (family (node_code b))) (family_none 0 (omega arith))))
+    absurd (true≢false (sym h ∙ ap (λ (z : Option ℕ). same_family z (family (node_number b))) (family_none 0 (omega arith))))
 one_above (node.Township t) b h =
-    absurd (true≢false (sym h ∙ ap (λ (z : Option ℕ). same_family z (family (node_code b)))
-    (family_none (township_code t * 64) (omega (arith, township_below t)))))
+    absurd (true≢false (sym h ∙ ap (λ (z : Option ℕ). same_family z (family (node_number b)))
+    (family_none (township_number t * 64) (omega (arith, township_below t)))))
 one_above (node.Part s v) node.Everything h =
-    let f = family (node_code (node.Part s v)) in
+    let f = family (node_number (node.Part s v)) in
     absurd (true≢false (sym h ∙ ap (same_family f) (family_none 0 (omega arith)) ∙ none_right f))
 one_above (node.Part s v) (node.Township t) h =
-    let f = family (node_code (node.Part s v)) in
-    absurd (true≢false (sym h ∙ ap (same_family f) (family_none (township_code t * 64) (omega (arith, township_below t))) ∙ none_right f))
+    let f = family (node_number (node.Part s v)) in
+    absurd (true≢false (sym h ∙ ap (same_family f) (family_none (township_number t * 64) (omega (arith, township_below t))) ∙ none_right f))
 one_above (node.Part s v) (node.Part u w) h =
-    let k = node_code (node.Part s v) in
-    let j = node_code (node.Part u w) in
-    let some : same_family (Some (code_above k)) (Some (code_above j)) ≡ true =
-    ap (λ (z : Option ℕ). same_family z (Some (code_above j))) (sym (family_some k (square_wide s v)))
+    let k = node_number (node.Part s v) in
+    let j = node_number (node.Part u w) in
+    let some : same_family (Some (number_above k)) (Some (number_above j)) ≡ true =
+    ap (λ (z : Option ℕ). same_family z (Some (number_above j))) (sym (family_some k (square_wide s v)))
     ∙ ap (same_family (family k)) (sym (family_some j (square_wide u w))) ∙ h in
-    squares_above s u v w (eqb-true (code_above k) (code_above j) some)
+    squares_above s u v w (eqb-true (number_above k) (number_above j) some)
 
 -- what lies above one lies above the other
-pub above_too : (a b n : Node) → same_family (family (node_code a)) (family (node_code b)) ≡ true → is_above n b ≡ true
+pub above_too : (a b n : Node) → same_family (family (node_number a)) (family (node_number b)) ≡ true → is_above n b ≡ true
     → is_above n a ≡ true
 above_too a b n h up = ap (list_any (same_node n)) (one_above a b h) ∙ up
 
@@ -151,7 +151,7 @@ module _ {t u : Table} {e : ℕ} (k : Node) where
   more_known h = more_wider t u e (λ n. same_node n k) (λ n. is_asked n k) (λ n same. ap (λ (b : Bool). b || is_above n k) same) h
 
   -- after a node's raise it is raised above
-  pub raised_after : (p : Bool) (c : Node) → same_family (family (node_code k)) (family (node_code c)) ≡ true
+  pub raised_after : (p : Bool) (c : Node) → same_family (family (node_number k)) (family (node_number c)) ≡ true
       → ((f : ℕ) (n : Node) → table_mode u f n ≡ bound (table_mode t f n) (cond (eqb f e) (asked_for p k n) None))
       → IdleLess t u e (λ n. is_asked n k) → IsRaised u e (above_mode p) (λ n. is_above n c)
   raised_after p c one modes idle = record {
@@ -167,7 +167,7 @@ module _ {t u : Table} {e : ℕ} (k : Node) where
   }
 
   -- after a node is taken out it is taken out above
-  pub gone_after : (m : Bool) (c : Node) → same_family (family (node_code k)) (family (node_code c)) ≡ true
+  pub gone_after : (m : Bool) (c : Node) → same_family (family (node_number k)) (family (node_number c)) ≡ true
       → ((f : ℕ) (n : Node) → table_mode u f n ≡ cond (m && eqb f e && is_asked n k) None (table_mode t f n))
       → IdleLess t u e (λ n. is_asked n k) → IsTakenOut u e m (λ n. is_above n c)
   gone_after m c one modes idle = record {

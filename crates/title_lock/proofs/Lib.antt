@@ -2,7 +2,6 @@ pub mod ModeLaws
 pub mod NodeLaws
 pub mod Overlap
 pub mod AccessLaws
-pub mod CodeLaws
 pub mod TableLaws
 pub mod IdleLaws
 pub mod FamilyLaws

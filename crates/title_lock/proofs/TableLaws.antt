@@ -6,8 +6,8 @@ use Rattle.std.proofs.lemmas.Bool.{eqb-true, or_cases, or_left, or_right}
 use Rattle.std.proofs.lemmas.List.Folds.{list_any_more}
 use Rattle.std.specs.Prelude.{IsSome}
 use Rattle.std.specs.List.{list_any}
-use Rattle.std.specs.HashMap.{HashMap, get}
-use Rattle.std.proofs.Common.{BuildHasherDefault, FoldHasher}
+use Rattle.std.specs.Ordering.{nat_cmp}
+use Rattle.std.specs.BTreeMap.{BTreeMap, get, is_at}
 use Rattle.std.proofs.lemmas.List.{nil_from_length}
 use Rattle.title_land.specs.declared.node.Node.{Node}
 use Rattle.title_land.specs.declared.node.Node.TheVariants as node
@@ -19,25 +19,25 @@ use Rattle.title_lock.specs.Holders.{Modes, holder_mode, is_free}
 use Rattle.title_lock.specs.Tables.{place_at, mode_in, room_in, idle_in, unused_in, table_room, HasRoom, is_asked}
 use Rattle.title_lock.proofs.ModeLaws.{and_true, bound_none}
 use Rattle.title_lock.proofs.NodeLaws.{same_self, same_true, above_of}
-use Rattle.title_lock.specs.Codes.{node_code}
-use Rattle.title_lock.proofs.CodeLaws.{code_at}
+use Rattle.title_land.specs.NodeNumbers.{node_number}
+use Rattle.title_land.specs.Laws.NodeNumbers.{numbered_at}
 use Rattle.title_lock.proofs.Overlap.{and_none}
 
 abbrev pub Places : Type 0
-Places = HashMap ℕ Modes (BuildHasherDefault FoldHasher)
+Places = BTreeMap ℕ Modes
 
 -- the second map is the first with this at a node
 abbrev pub Writes : Places → Places → Node → Option Modes → Type 0
-Writes m n k w = (q : Node) → place_at n q ≡ cond (eqb (node_code k) (node_code q)) w (place_at m q)
+Writes m n k w = (q : Node) → place_at n q ≡ cond (is_at (nat_cmp (node_number k)) (node_number q)) w (place_at m q)
 
 -- a map by numbers, changed at a node's number, is changed at that node
-pub node_writes : (m n : Places) (k : ℕ) (c : Node) (w : Option Modes) → k ≡ node_code c
-    → ((q : ℕ) → get eqb n q ≡ cond (eqb k q) w (get eqb m q)) → Writes m n c w
-node_writes m n k c w e h q = h (node_code q) ∙ ap (λ (z : ℕ). cond (eqb z (node_code q)) w (place_at m q)) e
+pub node_writes : (m n : Places) (k : ℕ) (c : Node) (w : Option Modes) → k ≡ node_number c
+    → ((q : ℕ) → get nat_cmp n q ≡ cond (is_at (nat_cmp k) q) w (get nat_cmp m q)) → Writes m n c w
+node_writes m n k c w e h q = h (node_number q) ∙ ap (λ (z : ℕ). cond (is_at (nat_cmp z) (node_number q)) w (place_at m q)) e
 
 -- what is found at a node's number is found at that node
-pub node_finds : (m : Places) (k : ℕ) (c : Node) (o : Option Modes) → k ≡ node_code c → o ≡ get eqb m k → o ≡ place_at m c
-node_finds m k c o e h = h ∙ ap (get eqb m) e
+pub node_finds : (m : Places) (k : ℕ) (c : Node) (o : Option Modes) → k ≡ node_number c → o ≡ get nat_cmp m k → o ≡ place_at m c
+node_finds m k c o e h = h ∙ ap (get nat_cmp m) e
 
 -- the mode of an examiner at a node of a map
 abbrev pub mode_of : Places → ℕ → Node → Option Mode
@@ -47,7 +47,7 @@ module _ (m n : Places) (k : Node) (w : Option Modes) (h : Writes m n k w) where
   -- what is read of a map after a write
   written : {V : Type 0} (read : Option Modes → V) (q : Node)
       → read (place_at n q) ≡ cond (same_node q k) (read w) (read (place_at m q))
-  written read q = ap read (h q) ∙ ap (λ (b : Bool). read (cond b w (place_at m q))) (code_at k q) ∙ go (same_node q k)
+  written read q = ap read (h q) ∙ ap (λ (b : Bool). read (cond b w (place_at m q))) (numbered_at k q) ∙ go (same_node q k)
     where
       go : (b : Bool) → read (cond b w (place_at m q)) ≡ cond b (read w) (read (place_at m q))
       go true = refl
@@ -132,7 +132,8 @@ module _ (m n : Places) (k : Node) (w : Option Modes) (h : Writes m n k w) where
 -- of two writes at one node the second counts
 pub rewritten : (m n o : Places) (k : Node) (v w : Option Modes) → Writes m n k v → Writes n o k w → Writes m o k w
 rewritten m n o k v w first then q =
-    then q ∙ ap (λ (z : Option Modes). cond (eqb (node_code k) (node_code q)) w z) (first q) ∙ go (eqb (node_code k) (node_code q))
+    then q ∙ ap (λ (z : Option Modes). cond (is_at (nat_cmp (node_number k)) (node_number q)) w z) (first q)
+    ∙ go (is_at (nat_cmp (node_number k)) (node_number q))
   where
     go : (b : Bool) → cond b w (cond b v (place_at m q)) ≡ cond b w (place_at m q)
     go true = refl

@@ -4,7 +4,7 @@ pub mod Asking
 pub mod Standing
 pub mod Counts
 pub mod Holders
-pub mod Codes
+pub mod Families
 pub mod Tables
 pub mod Books
 pub mod Locks

@@ -1,21 +1,22 @@
 -- What a table of locks says: who holds each node, and who is in the way of an access by these modes.
-use Rattle.std.specs.Prelude.{ℕ, ◌≡◌, ◌≢◌, ◌==◌, nat_eq, Bool, true, false, ◌&&◌, ◌||◌, not, List, Option, Some, None}
+use Rattle.std.specs.Prelude.{ℕ, ◌≡◌, ◌≢◌, ◌==◌, Bool, true, false, ◌&&◌, ◌||◌, not, List, Option, Some, None}
 use Rattle.std.specs.List.{list_any}
-use Rattle.std.specs.HashMap.{HashMap, get}
+use Rattle.std.specs.Ordering.{nat_cmp}
+use Rattle.std.specs.BTreeMap.{BTreeMap, get}
 use Rattle.title_land.specs.declared.node.Node.{Node}
 use Rattle.title_land.specs.Nodes.{same_node, above, is_above}
 use Rattle.title_land.specs.Lands.{cover_of}
 use Rattle.title_lock.specs.declared.modes.Mode.{Mode}
 use Rattle.title_lock.specs.declared.table.Table.{Table}
 use Rattle.title_lock.specs.declared.guards.Entry.{Entry}
-use Rattle.title_lock.specs.Codes.{node_code}
+use Rattle.title_land.specs.NodeNumbers.{node_number}
 use Rattle.title_lock.specs.Modes.{allows, bound}
 use Rattle.title_lock.specs.Asking.{own_mode, above_mode, mode_at, AreSized}
 use Rattle.title_lock.specs.Holders.{Modes, holder_mode, has_room, idles, is_free, clashes}
 
 -- the holders at n, in a map by the numbers of nodes
-abbrev pub place_at : {S : Type 0} → HashMap ℕ Modes S → Node → Option Modes
-place_at m n = get nat_eq m (node_code n)
+abbrev pub place_at : BTreeMap ℕ Modes → Node → Option Modes
+place_at m n = get nat_cmp m (node_number n)
 
 abbrev pub mode_in : ℕ → Option Modes → Option Mode
 mode_in e None = None

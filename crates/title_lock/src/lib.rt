@@ -3,7 +3,6 @@
 #![tactic(auto)]
 
 mod book;
-mod codes;
 mod counts;
 pub mod guards;
 mod holders;
@@ -13,6 +12,7 @@ pub mod modes;
 pub mod node_locks;
 mod places;
 pub mod row_locks;
+mod spots;
 mod spread_locks;
 mod table;
 

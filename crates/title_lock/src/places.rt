@@ -1,11 +1,10 @@
 //! The places of one node's holders.
 
-ghost use Rattle.std.specs.Prelude.{◌≡◌, ℕ, true, false, not, ◌==◌, ◌&&◌, ◌≢◌, if◌then◌else◌, Some, None, OnOk};
+ghost use Rattle.std.specs.Prelude.{◌≡◌, ℕ, true, false, not, ◌==◌, ◌&&◌, ◌≢◌, ◌||◌, if◌then◌else◌, Some, None, OnOk};
 ghost use Rattle.title_lock.specs.Modes.{bound};
 ghost use Rattle.title_lock.specs.Overlaps.{IsLeast};
-ghost use Rattle.title_lock.specs.Holders.{Modes, holder_mode, has_room, is_free, clashes, listed, first_way, IsApart};
+ghost use Rattle.title_lock.specs.Holders.{Modes, holder_mode, has_room, is_free, clashes, listed, first_way, is_one, is_before, IsApart};
 
-use crate::least::least;
 use crate::modes::{Mode, bound, compat};
 use std::alloc::{AllocError, Global};
 use std::collections::BTreeMap;
@@ -51,17 +50,37 @@ fn first_way(first: Option<(u32, Option<Mode>)>, examiner: u32, wanted: Mode) ->
     }
 }
 
-// Looks for the least other examiner whose mode doesn't stand beside the one wanted.
-fn search(modes: &BTreeMap<u32, Option<Mode>>, examiner: u32, wanted: Mode) -> Option<u32>
-    ensures least { IsLeast (λ f. clashes wanted (holder_mode modes.now.entries f)) examiner result }
+// Whether the first in the way stands before another examiner.
+fn is_before(first: Option<u32>, other: u32) -> bool
+    ensures before { result ≡ is_before first other }
+{
+    match first {
+        Some(first) => first < other,
+        None => false,
+    }
+}
+
+// Looks for the least other examiner whose mode doesn't stand beside the one wanted, among the first in the way and all
+// that stand before it.
+fn search(
+    modes: &BTreeMap<u32, Option<Mode>>,
+    examiner: u32,
+    wanted: Mode,
+    first: Option<u32>,
+) -> Option<u32>
+    requires other { is_one first examiner ≡ false }
+    ensures least { IsLeast (λ f. is_one first f || clashes wanted (holder_mode modes.now.entries f)) examiner result }
 {
     for (other, held) in modes {
+        if is_before(first, *other) {
+            return first;
+        }
         let in_way = clashes(wanted, *held);
         if in_way && *other != examiner {
             return Some(*other);
         }
     }
-    None
+    first
 }
 
 // The mode of an examiner.
@@ -154,10 +173,8 @@ impl Places {
     pub(crate) fn way(&self, examiner: u32, wanted: Mode) -> Option<u32>
         ensures way { IsLeast (λ f. clashes wanted (holder_mode self.now f)) examiner result }
     {
-        least(
-            first_way(self.first, examiner, wanted),
-            search(&self.others, examiner, wanted),
-        )
+        let first = first_way(self.first, examiner, wanted);
+        search(&self.others, examiner, wanted, first)
     }
 
     /// Makes room for an examiner. Nobody's mode changes.

@@ -14,13 +14,13 @@ ghost use Rattle.title_lock.specs.Tables.{table_mode, table_room, clashes_above,
 ghost use Rattle.title_lock.specs.Tables.{KeepsRoom, HasRoom, is_asked, is_idle, is_unused, IdleMore, IdleLess, AllUsed};
 ghost use Rattle.title_lock.specs.Tables.{IsRaised, IsTakenOut};
 
-use crate::codes::{Spot, is_same_family, node_code};
 use crate::guards::Access;
 use crate::holders::{Holders, Taken};
 use crate::least::least;
 use crate::modes::Mode;
+use crate::spots::{Spot, is_same_family};
 use std::alloc::{AllocError, Global};
-use std::collections::HashMap;
+use std::collections::BTreeMap;
 use title_land::Node;
 
 /// The holders of each node in use.
@@ -28,7 +28,7 @@ use title_land::Node;
 pub(crate) struct Table {
     alloc: Global,
     // By the numbers of nodes.
-    places: HashMap<u64, Holders>,
+    places: BTreeMap<u64, Holders>,
 }
 
 /// What an access asks of a node of the cover.
@@ -60,7 +60,7 @@ impl Table {
     {
         Table {
             alloc,
-            places: HashMap::new(alloc),
+            places: BTreeMap::new(alloc),
         }
     }
 
@@ -68,8 +68,7 @@ impl Table {
     pub(crate) fn mode(&self, examiner: u32, node: &Node) -> Option<Mode>
         ensures mode { result ≡ table_mode self.now examiner node.now }
     {
-        let code = node_code(node);
-        match self.places.get(&code) {
+        match self.places.get(&node.number()) {
             Some(place) => place.mode(examiner),
             None => None,
         }
@@ -83,8 +82,7 @@ impl Table {
         ensures six { IsCount (λ e. table_mode self.now e node.now) Six (slice_index result 3) }
         ensures x { IsCount (λ e. table_mode self.now e node.now) X (slice_index result 4) }
     {
-        let code = node_code(node);
-        match self.places.get(&code) {
+        match self.places.get(&node.number()) {
             Some(place) => place.numbers(),
             None => [0; 5],
         }
@@ -94,7 +92,7 @@ impl Table {
     fn way_of(&self, examiner: u32, spot: &Spot, mode: Mode) -> Option<u32>
         ensures way { IsLeast (λ f. clashes mode (table_mode self.now f spot.now.node)) examiner result }
     {
-        match self.places.get(&spot.code) {
+        match self.places.get(&spot.number) {
             Some(place) => place.way(examiner, mode),
             None => None,
         }
@@ -160,12 +158,12 @@ impl Table {
         ensures idle { IdleMore self.old self.new examiner (λ n. same_node n spot.now.node) }
         ensures used { AllUsed self.old → AllUsed self.new }
     {
-        if let Some(place) = self.places.get_mut(&spot.code) {
+        if let Some(place) = self.places.get_mut(&spot.number) {
             return place.make_room(examiner);
         }
         let mut place = Holders::new(self.alloc);
         place.make_room(examiner)?;
-        self.places.insert(spot.code, place)?;
+        self.places.insert(spot.number, place)?;
         Ok(())
     }
 
@@ -245,7 +243,7 @@ impl Table {
         ensures idle { IdleLess self.old self.new examiner (λ n. same_node n spot.now.node) }
         ensures used { AllUsed self.old → AllUsed self.new }
     {
-        if let Some(place) = self.places.get_mut(&spot.code) {
+        if let Some(place) = self.places.get_mut(&spot.number) {
             place.raise(examiner, mode);
         }
     }
@@ -322,11 +320,11 @@ impl Table {
         ensures dropped { is_unused self.new spot.now.node ≡ false }
         ensures used { AllUsed self.old → AllUsed self.new }
     {
-        let Some(place) = self.places.get_mut(&spot.code) else {
+        let Some(place) = self.places.get_mut(&spot.number) else {
             return;
         };
         if place.take_out(examiner, taken) {
-            self.places.remove(&spot.code);
+            self.places.remove(&spot.number);
         }
     }
 

@@ -5,7 +5,8 @@ use Rattle.std.proofs.lemmas.List.{take_all}
 use Rattle.title_land.specs.declared.node.Node.{Node}
 use Rattle.std.proofs.lemmas.Bool.{or_right}
 use Rattle.title_land.specs.Nodes.{same_node, is_above}
-use Rattle.title_lock.specs.Codes.{node_code, family, same_family}
+use Rattle.title_lock.specs.Families.{family, same_family}
+use Rattle.title_land.specs.NodeNumbers.{node_number}
 use Rattle.title_lock.proofs.FamilyLaws.{above_too}
 use Rattle.title_lock.specs.Tables.{is_asked, HasRoom}
 use Rattle.title_lock.proofs.TableLaws.{room_more}
@@ -28,7 +29,7 @@ loop-node-preserved c =
     let i = c.loop-node.node-index in
     let k = c.of-spot.result.node in
     let at_it : k ≡ get_or nodes i k = subst (λ (z : Node). z ≡ get_or nodes i z) (sym c.of-spot.ensures.of) c.node-item.is in
-    let fam : c.family-family.result ≡ family (node_code k) = c.family-family.ensures.family ∙ ap family c.of-spot.result.numbered in
+    let fam : c.family-family.result ≡ family (node_number k) = c.family-family.ensures.family ∙ ap family c.of-spot.result.numbered in
     record {
       modes = λ f n. c.make_room_next.ensures.modes f n ∙ c.loop-node.invariant.modes f n;
       room = room_more c.make_room_next.new.self c.args.examiner c.args.cover.now c.loop-node.node-index
@@ -39,7 +40,7 @@ loop-node-preserved c =
           c.make_room_next.ensures.idle;
       known = λ n same m up. c.in_ok-make_room_next.ensures.room m
           (or_right (same_node m k) (is_above m k) (above_too k n m
-          (ap (λ (z : Option ℕ). same_family z (family (node_code n))) (sym fam) ∙ same) up));
+          (ap (λ (z : Option ℕ). same_family z (family (node_number n))) (sym fam) ∙ same) up));
       used = λ used. c.make_room_next.ensures.used (c.loop-node.invariant.used used);
     }
 
@@ -60,7 +61,7 @@ returns-in_err-make_room_next-clause-idle c =
 pub make_room_next-requires : goal.make_room_next-requires
 make_room_next-requires c =
     let k = c.of-spot.result.node in
-    let fam : c.family-family.result ≡ family (node_code k) = c.family-family.ensures.family ∙ ap family c.of-spot.result.numbered in
+    let fam : c.family-family.result ≡ family (node_number k) = c.family-family.ensures.family ∙ ap family c.of-spot.result.numbered in
     record {
       known = λ yes. c.loop-node.invariant.known k
           (sym (c.is_same_family-is_known.ensures.same ∙ ap (same_family c.loop-node.last) fam) ∙ yes);

@@ -1,7 +1,8 @@
 -- The loop over the cover.
 use Rattle.title_land.specs.declared.node.Node.{Node}
 use Rattle.title_land.specs.Nodes.{is_above}
-use Rattle.title_lock.specs.Codes.{node_code, family, same_family}
+use Rattle.title_lock.specs.Families.{family, same_family}
+use Rattle.title_land.specs.NodeNumbers.{node_number}
 use Rattle.std.proofs.Common.{true, ◌≡◌, ℕ, take}
 use Rattle.std.specs.List.{list_any}
 use Rattle.title_lock.specs.Tables.{table_mode, is_asked, HasRoom, IdleMore, AllUsed}
@@ -14,6 +15,6 @@ invariant-loop-node l = record {
   modes : (f : ℕ) (n : Node) → table_mode l.self f n ≡ table_mode l.fn.self f n;
   room : HasRoom l.self l.examiner (λ n. list_any (is_asked n) (take l.node-index l.cover));
   idle : IdleMore l.fn.self l.self l.examiner (λ n. list_any (is_asked n) l.cover);
-  known : (n : Node) → same_family l.last (family (node_code n)) ≡ true → HasRoom l.self l.examiner (λ m. is_above m n);
+  known : (n : Node) → same_family l.last (family (node_number n)) ≡ true → HasRoom l.self l.examiner (λ m. is_above m n);
   used : AllUsed l.fn.self → AllUsed l.self;
 }

@@ -13,8 +13,8 @@ returns-in-Some-clause-modes c f =
     let w = c.raise.new.self in
     let code = c.args.spot.now.numbered in
     let found = c.in-Some.ensures.value in
-    let had = node_finds c.args.self.now.places c.args.spot.now.code c.args.spot.now.node (Some c.in-Some.place.now) code found in
-    let writes = node_writes c.args.self.now.places (c.get_mut.follows.lender w) c.args.spot.now.code c.args.spot.now.node (Some w) code
+    let had = node_finds c.args.self.now.places c.args.spot.now.number c.args.spot.now.node (Some c.in-Some.place.now) code found in
+    let writes = node_writes c.args.self.now.places (c.get_mut.follows.lender w) c.args.spot.now.number c.args.spot.now.node (Some w) code
     ((c.get_mut.follows.holds w).3 (is_found _ _ found)).0 in
     raised c.args.self.now.places (c.get_mut.follows.lender w) c.args.spot.now.node (Some w) writes
     e f c.args.mode
@@ -25,8 +25,8 @@ returns-in-Some-clause-stays c f =
     let w = c.raise.new.self in
     let code = c.args.spot.now.numbered in
     let found = c.in-Some.ensures.value in
-    let had = node_finds c.args.self.now.places c.args.spot.now.code c.args.spot.now.node (Some c.in-Some.place.now) code found in
-    let writes = node_writes c.args.self.now.places (c.get_mut.follows.lender w) c.args.spot.now.code c.args.spot.now.node (Some w) code
+    let had = node_finds c.args.self.now.places c.args.spot.now.number c.args.spot.now.node (Some c.in-Some.place.now) code found in
+    let writes = node_writes c.args.self.now.places (c.get_mut.follows.lender w) c.args.spot.now.number c.args.spot.now.node (Some w) code
     ((c.get_mut.follows.holds w).3 (is_found _ _ found)).0 in
     room_stays c.args.self.now.places (c.get_mut.follows.lender w) c.args.spot.now.node (Some w)
     writes f
@@ -39,8 +39,8 @@ returns-in-Some-clause-idle c =
     let w = c.raise.new.self in
     let code = c.args.spot.now.numbered in
     let found = c.in-Some.ensures.value in
-    let had = node_finds c.args.self.now.places c.args.spot.now.code c.args.spot.now.node (Some c.in-Some.place.now) code found in
-    let writes = node_writes c.args.self.now.places (c.get_mut.follows.lender w) c.args.spot.now.code c.args.spot.now.node (Some w) code
+    let had = node_finds c.args.self.now.places c.args.spot.now.number c.args.spot.now.node (Some c.in-Some.place.now) code found in
+    let writes = node_writes c.args.self.now.places (c.get_mut.follows.lender w) c.args.spot.now.number c.args.spot.now.node (Some w) code
     ((c.get_mut.follows.holds w).3 (is_found _ _ found)).0 in
     record {
       less = λ f. idle_less c.args.self.now.places (c.get_mut.follows.lender w) c.args.spot.now.node (Some w)
@@ -54,8 +54,8 @@ returns-in-Some-clause-used c used =
     let w = c.raise.new.self in
     let code = c.args.spot.now.numbered in
     let found = c.in-Some.ensures.value in
-    let had = node_finds c.args.self.now.places c.args.spot.now.code c.args.spot.now.node (Some c.in-Some.place.now) code found in
-    let writes = node_writes c.args.self.now.places (c.get_mut.follows.lender w) c.args.spot.now.code c.args.spot.now.node (Some w) code
+    let had = node_finds c.args.self.now.places c.args.spot.now.number c.args.spot.now.node (Some c.in-Some.place.now) code found in
+    let writes = node_writes c.args.self.now.places (c.get_mut.follows.lender w) c.args.spot.now.number c.args.spot.now.node (Some w) code
     ((c.get_mut.follows.holds w).3 (is_found _ _ found)).0 in
     record {
       each = used_after c.args.self.now.places (c.get_mut.follows.lender w) c.args.spot.now.node (Some w)

@@ -7,7 +7,8 @@ use Rattle.title_land.specs.declared.node.Node.{Node}
 use Rattle.title_lock.specs.Modes.{bound}
 use Rattle.title_lock.specs.Overlaps.{is_post}
 use Rattle.title_lock.specs.Asking.{asked_for, asked}
-use Rattle.title_lock.specs.Codes.{node_code, family, same_family}
+use Rattle.title_lock.specs.Families.{family, same_family}
+use Rattle.title_land.specs.NodeNumbers.{node_number}
 use Rattle.title_lock.proofs.FamilyLaws.{raised_after}
 use Rattle.title_lock.specs.Tables.{table_mode, is_asked, IdleLess}
 use Rattle.title_lock.proofs.AccessLaws.{rest_join, rest_none}
@@ -23,7 +24,7 @@ loop-node-preserved c =
     let i = c.loop-node.node-index in
     let k = c.of-spot.result.node in
     let at_it : k ≡ get_or nodes i k = subst (λ (z : Node). z ≡ get_or nodes i z) (sym c.of-spot.ensures.of) c.node-item.is in
-    let fam : c.family-family.result ≡ family (node_code k) = c.family-family.ensures.family ∙ ap family c.of-spot.result.numbered in
+    let fam : c.family-family.result ≡ family (node_number k) = c.family-family.ensures.family ∙ ap family c.of-spot.result.numbered in
     record {
       modes = λ f n. grind (
         arith,
@@ -38,7 +39,7 @@ loop-node-preserved c =
       idle = less_next c.args.cover.now c.loop-node.node-index k at_it low c.loop-node.invariant.idle
           c.raise_next.ensures.idle;
       known = λ n same. raised_after k (is_post c.args.access) n
-          (ap (λ (z : Option ℕ). same_family z (family (node_code n))) (sym fam) ∙ same)
+          (ap (λ (z : Option ℕ). same_family z (family (node_number n))) (sym fam) ∙ same)
           c.raise_next.ensures.modes c.raise_next.ensures.idle;
       used = λ used. c.raise_next.ensures.used (c.loop-node.invariant.used used);
     }
@@ -49,7 +50,7 @@ raise_next-requires c =
     let i = c.loop-node.node-index in
     let k = c.of-spot.result.node in
     let at_it : k ≡ get_or nodes i k = subst (λ (z : Node). z ≡ get_or nodes i z) (sym c.of-spot.ensures.of) c.node-item.is in
-    let fam : c.family-family.result ≡ family (node_code k) = c.family-family.ensures.family ∙ ap family c.of-spot.result.numbered in
+    let fam : c.family-family.result ≡ family (node_number k) = c.family-family.ensures.family ∙ ap family c.of-spot.result.numbered in
     record {
       room = λ n asks. c.loop-node.invariant.room n (asked_of_one n nodes i k at_it (omega arith) asks);
       known = λ yes. c.loop-node.invariant.known k

@@ -1,7 +1,8 @@
 -- The loop over the cover.
 use Rattle.title_land.specs.declared.node.Node.{Node}
 use Rattle.title_land.specs.Nodes.{is_above}
-use Rattle.title_lock.specs.Codes.{node_code, family, same_family}
+use Rattle.title_lock.specs.Families.{family, same_family}
+use Rattle.title_land.specs.NodeNumbers.{node_number}
 use Rattle.std.proofs.Common.{true, ◌≡◌, ℕ, drop, take, eqb, cond, None}
 use Rattle.std.specs.List.{list_any}
 use Rattle.title_lock.specs.Modes.{bound}
@@ -19,7 +20,7 @@ invariant-loop-node l = record {
       ≡ bound (table_mode l.fn.self f n) (cond (eqb f l.examiner) (asked (is_post l.access) l.cover n) None);
   room : HasRoom l.self l.examiner (λ n. list_any (is_asked n) l.cover);
   idle : IdleLess l.fn.self l.self l.examiner (λ n. list_any (is_asked n) (take l.node-index l.cover));
-  known : (n : Node) → same_family l.last (family (node_code n)) ≡ true
+  known : (n : Node) → same_family l.last (family (node_number n)) ≡ true
       → IsRaised l.self l.examiner (above_mode (is_post l.access)) (λ m. is_above m n);
   used : AllUsed l.fn.self → AllUsed l.self;
 }

@@ -13,7 +13,7 @@ pub returns-in_default : goal.returns-in_default
 returns-in_default c =
     let e = c.args.examiner in
     let k = c.args.spot.now.node in
-    let none = sym (node_finds c.args.self.now.places c.args.spot.now.code k None c.args.spot.now.numbered c.in_default.ensures.value) in
+    let none = sym (node_finds c.args.self.now.places c.args.spot.now.number k None c.args.spot.now.numbered c.in_default.ensures.value) in
     let now = c.get_mut.follows.holds-at-none in
     let m = c.args.self.now.places in
     record {
@@ -37,13 +37,13 @@ returns-then-take_out c =
     let m = c.args.self.now.places in
     let mid = c.get_mut.follows.lender w in
     let found = c.in-Some.ensures.value in
-    let had = node_finds m c.args.spot.now.code k (Some h) code found in
+    let had = node_finds m c.args.spot.now.number k (Some h) code found in
     let changes = (c.get_mut.follows.holds w).3 (is_found _ _ found) in
-    let writes = node_writes m mid c.args.spot.now.code k (Some w) code changes.0 in
-    let left : Some w ≡ place_at mid k = node_finds mid c.args.spot.now.code k (Some w) code (sym changes.1) in
+    let writes = node_writes m mid c.args.spot.now.number k (Some w) code changes.0 in
+    let left : Some w ≡ place_at mid k = node_finds mid c.args.spot.now.number k (Some w) code (sym changes.1) in
     let free : is_free w ≡ true = sym c.take_out.ensures.free ∙ c.if-take_out.true in
-    let removes = node_writes mid c.remove.new.self c.args.spot.now.code k None code c.remove.ensures.updates.0 in
-    let gone : None ≡ place_at c.remove.new.self k = node_finds c.remove.new.self c.args.spot.now.code k None code
+    let removes = node_writes mid c.remove.new.self c.args.spot.now.number k None code c.remove.ensures.updates.0 in
+    let gone : None ≡ place_at c.remove.new.self k = node_finds c.remove.new.self c.args.spot.now.number k None code
     (sym c.remove.ensures.updates.1) in
     let both : Writes m c.remove.new.self k None = rewritten m mid c.remove.new.self k (Some w) None writes removes in
     record {
@@ -72,10 +72,10 @@ returns-else-take_out c =
     let m = c.args.self.now.places in
     let mid = c.get_mut.follows.lender w in
     let found = c.in-Some.ensures.value in
-    let had = node_finds m c.args.spot.now.code k (Some h) code found in
+    let had = node_finds m c.args.spot.now.number k (Some h) code found in
     let changes = (c.get_mut.follows.holds w).3 (is_found _ _ found) in
-    let writes = node_writes m mid c.args.spot.now.code k (Some w) code changes.0 in
-    let left : Some w ≡ place_at mid k = node_finds mid c.args.spot.now.code k (Some w) code (sym changes.1) in
+    let writes = node_writes m mid c.args.spot.now.number k (Some w) code changes.0 in
+    let left : Some w ≡ place_at mid k = node_finds mid c.args.spot.now.number k (Some w) code (sym changes.1) in
     let kept : is_free w ≡ false = sym c.take_out.ensures.free ∙ c.if-take_out.false in
     record {
       modes = λ f. released m mid k (Some w) writes (is_mode c.args.taken && eqb f e) f

@@ -4,7 +4,8 @@ use Rattle.std.proofs.Common.{ℕ, ◌≡◌, get_or, sym, subst, ◌<◌, ◌�
 use Rattle.std.specs.List.{list_any}
 use Rattle.title_lock.specs.declared.modes.Mode.{Mode}
 use Rattle.title_lock.specs.Holders.{is_mode}
-use Rattle.title_lock.specs.Codes.{node_code, family, same_family}
+use Rattle.title_lock.specs.Families.{family, same_family}
+use Rattle.title_land.specs.NodeNumbers.{node_number}
 use Rattle.title_lock.proofs.FamilyLaws.{gone_after}
 use Rattle.title_lock.specs.Tables.{table_mode, is_asked}
 use Rattle.title_lock.proofs.AccessLaws.{gone_join}
@@ -18,7 +19,7 @@ loop-node-preserved c =
     let i = c.loop-node.node-index in
     let k = c.of-spot.result.node in
     let at_it : k ≡ get_or nodes i k = subst (λ (z : Node). z ≡ get_or nodes i z) (sym c.of-spot.ensures.of) c.node-item.is in
-    let fam : c.family-family.result ≡ family (node_code k) = c.family-family.ensures.family ∙ ap family c.of-spot.result.numbered in
+    let fam : c.family-family.result ≡ family (node_number k) = c.family-family.ensures.family ∙ ap family c.of-spot.result.numbered in
     record {
       modes = λ f n.
           let mine = is_mode c.args.taken && eqb f c.args.examiner in
@@ -30,7 +31,7 @@ loop-node-preserved c =
           ∙ ap (λ (b : Bool). cond (mine && b) None old) (list_parts nodes i k n at_it low);
       idle = less_next c.args.cover.now c.loop-node.node-index k at_it low c.loop-node.invariant.idle
           c.take_out_next.ensures.idle;
-      known = λ n same. gone_after k (is_mode c.args.taken) n (ap (λ (z : Option ℕ). same_family z (family (node_code n))) (sym fam) ∙ same)
+      known = λ n same. gone_after k (is_mode c.args.taken) n (ap (λ (z : Option ℕ). same_family z (family (node_number n))) (sym fam) ∙ same)
           c.take_out_next.ensures.modes c.take_out_next.ensures.idle;
       used = λ used. c.take_out_next.ensures.used (c.loop-node.invariant.used used);
     }
@@ -38,7 +39,7 @@ loop-node-preserved c =
 pub take_out_next-requires : goal.take_out_next-requires
 take_out_next-requires c =
     let k = c.of-spot.result.node in
-    let fam : c.family-family.result ≡ family (node_code k) = c.family-family.ensures.family ∙ ap family c.of-spot.result.numbered in
+    let fam : c.family-family.result ≡ family (node_number k) = c.family-family.ensures.family ∙ ap family c.of-spot.result.numbered in
     record {
       known = λ yes. c.loop-node.invariant.known k
           (sym (c.is_same_family-is_known.ensures.same ∙ ap (same_family c.loop-node.last) fam) ∙ yes);

@@ -7,7 +7,8 @@ use Rattle.title_land.specs.declared.node.Node.{Node}
 use Rattle.title_land.specs.Nodes.{above}
 use Rattle.title_lock.specs.Overlaps.{is_post, IsLeast}
 use Rattle.title_lock.specs.Asking.{own_mode, above_mode}
-use Rattle.title_lock.specs.Codes.{node_code, family, same_family}
+use Rattle.title_lock.specs.Families.{family, same_family}
+use Rattle.title_land.specs.NodeNumbers.{node_number}
 use Rattle.title_lock.specs.Holders.{clashes}
 use Rattle.title_lock.specs.Tables.{table_mode, clashes_above, clashes_for, clashes_next, clashes_with}
 use Rattle.title_lock.proofs.FamilyLaws.{one_above, known_clash}
@@ -27,7 +28,7 @@ loop-node-preserved c =
     let table = c.args.self.now in
     let k = c.of-spot.result.node in
     let at_it : k ≡ get_or nodes i k = subst (λ (z : Node). z ≡ get_or nodes i z) (sym c.of-spot.ensures.of) c.node-item.is in
-    let fam : c.family-family.result ≡ family (node_code k) = c.family-family.ensures.family ∙ ap family c.of-spot.result.numbered in
+    let fam : c.family-family.result ≡ family (node_number k) = c.family-family.ensures.family ∙ ap family c.of-spot.result.numbered in
     let before = λ (f : ℕ). clashes_with p (λ n. table_mode table f n) (take i nodes) in
     let next = λ (f : ℕ). clashes_next p c.is_same_family-is_known.result (λ n. table_mode table f n) k in
     record {
@@ -48,7 +49,7 @@ loop-node-preserved c =
           (ap (clashes_for p held) (sym at_it)
           ∙ or_left (clashes_above (above_mode p) held (above k)) (clashes (own_mode p) (held k))
           (ap (λ (z : List Node). clashes_above (above_mode p) held z)
-          (one_above k n (ap (λ (z : Option ℕ). same_family z (family (node_code n))) (sym fam) ∙ same)) ∙ clash));
+          (one_above k n (ap (λ (z : Option ℕ). same_family z (family (node_number n))) (sym fam) ∙ same)) ∙ clash));
     }
 
 pub returns : goal.returns

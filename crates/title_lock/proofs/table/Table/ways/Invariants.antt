@@ -4,7 +4,8 @@ use Rattle.title_land.specs.declared.node.Node.{Node}
 use Rattle.title_land.specs.Nodes.{above}
 use Rattle.title_lock.specs.Overlaps.{is_post, IsLeast}
 use Rattle.title_lock.specs.Asking.{above_mode}
-use Rattle.title_lock.specs.Codes.{node_code, family, same_family}
+use Rattle.title_lock.specs.Families.{family, same_family}
+use Rattle.title_land.specs.NodeNumbers.{node_number}
 use Rattle.title_lock.specs.Tables.{table_mode, clashes_above, clashes_with}
 use Rattle.title_lock.proofs.table.Table.ways.Given as goal
 
@@ -12,7 +13,7 @@ use Rattle.title_lock.proofs.table.Table.ways.Given as goal
 abbrev pub invariant-loop-node : goal.invariant-loop-node
 invariant-loop-node l = record {
   way : IsLeast (λ f. clashes_with (is_post l.access) (λ n. table_mode l.self f n) (take l.node-index l.cover)) l.examiner l.way;
-  known : (n : Node) → same_family l.last (family (node_code n)) ≡ true → (f : ℕ)
+  known : (n : Node) → same_family l.last (family (node_number n)) ≡ true → (f : ℕ)
       → clashes_above (above_mode (is_post l.access)) (λ m. table_mode l.self f m) (above n) ≡ true
       → clashes_with (is_post l.access) (λ m. table_mode l.self f m) (take l.node-index l.cover) ≡ true;
 }
