@@ -1,6 +1,6 @@
 //! The page through which rows are written.
 
-ghost use Rattle.std.specs.Prelude.{◌≡◌, ◌∷◌, [], true, false, map, OnOk, OnErr};
+ghost use Rattle.std.specs.Prelude.{◌≡◌, ◌+◌, ◌∷◌, [], true, false, nat_le, length, map, OnOk, OnErr};
 ghost use Rattle.csv.specs.Writing.{escaped, field_text, needs_quotes, quoted};
 ghost use Rattle.csv.specs.Quoting.{needs_byte};
 ghost use Rattle.std.specs.List.{concat};
@@ -89,6 +89,14 @@ impl Page {
         }
     }
 
+    /// Whether so many bytes more fit on the page: nothing is then given to the sink while they are written.
+    #[inline]
+    pub fn has_room(&self, bytes: usize) -> bool
+        ensures room { result ≡ nat_le (length self.now + bytes) 8192 }
+    {
+        bytes <= self.bytes.remaining_capacity()
+    }
+
     /// Gives the sink all that stands on the page. `Failed` where a push fails; the sink then has a beginning of it.
     #[inline(never)]
     pub fn pass<S: Sink>(&mut self, sink: &mut S) -> Result<(), Failed>
@@ -166,7 +174,7 @@ impl Page {
         self.put(sink, &[byte])
     }
 
-    // Writes the bytes of a quoted field: at once where none is a quote.
+    // Writes the bytes of a quoted field: at once where none is a quote and the page has room for them.
     fn put_inside<S: Sink>(&mut self, sink: &mut S, field: &[u8]) -> Result<(), Failed>
         requires works { S.has_failed sink.old ≡ false }
         ensures written { OnOk result (Written (S.taken sink.old) self.old (S.taken sink.new) self.new (escaped row_writer field.now)) }
@@ -174,7 +182,7 @@ impl Page {
         ensures stopped { OnErr result (Stopped (S.taken sink.old) self.old (S.taken sink.new) (escaped row_writer field.now)) }
         ensures failed { OnErr result (S.has_failed sink.new ≡ true) }
     {
-        if has_quote(field) {
+        if has_quote(field) || !self.has_room(field.len()) {
             return self.put_all_escaped(sink, field);
         }
         self.put(sink, field)

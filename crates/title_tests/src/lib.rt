@@ -20,6 +20,8 @@ mod land;
 #[cfg(test)]
 mod lock;
 #[cfg(test)]
+mod pages;
+#[cfg(test)]
 mod places;
 #[cfg(test)]
 mod row;
