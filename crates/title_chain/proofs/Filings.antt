@@ -1,58 +1,69 @@
 -- One place more under a node, and one post more under the nodes of its cover and those above them.
-use Rattle.std.proofs.Common.{◌≡◌, ◌<◌, ◌+◌, ℕ, Bool, true, false, cond, ◌&&◌, ◌||◌, List, [], ◌∷◌, ◌++◌, Option, Some, length, get_or}
-use Rattle.std.proofs.Common.{take, reverse, append_assoc, arith, refl, sym, ap, subst, ◌∙◌}
+use Rattle.std.proofs.Common.{◌≡◌, ◌≢◌, ◌<◌, ◌+◌, ℕ, Bool, true, false, cond, ◌&&◌, ◌||◌, List, [], ◌∷◌, ◌++◌, Option, Some, length, get_or}
+use Rattle.std.proofs.Common.{take, reverse, append_assoc, arith, refl, sym, ap, subst, ◌∙◌, eqb}
 use Rattle.std.specs.Prelude.{IsSome}
 use Rattle.std.specs.Global.{Vec}
+use Rattle.std.specs.Ordering.{nat_cmp}
 use Rattle.std.specs.BTreeMap.{BTreeMap, get, is_at}
+use Rattle.std.specs.Cmp.{unsigned_tied}
 use Rattle.std.specs.List.{list_any}
 use Rattle.std.proofs.lemmas.List.{take_more, reverse-append, length-reverse, length-take-le}
 use Rattle.std.proofs.lemmas.List.Folds.{list_any_more, list_any-append}
 use Rattle.std.proofs.Math.Bool.{or-false}
+use Rattle.std.proofs.lemmas.Bool.{eqb-true}
 use Rattle.title_land.specs.declared.node.Node.{Node}
 use Rattle.title_land.specs.declared.tract.Land.{Land}
-use Rattle.title_land.specs.Nodes.{same_node, parent_of, is_above}
+use Rattle.title_land.specs.Nodes.{same_node, is_above}
 use Rattle.title_land.specs.Lands.{cover_of, IsLand}
-use Rattle.title_land.specs.Orders.{node_cmp}
-use Rattle.title_land.specs.Laws.NodeKeys.{node_at}
-use Rattle.title_land.specs.Laws.SameNode.{same_node-is}
 use Rattle.title_land.specs.Laws.CoverSet.{above_by_parent}
 use Rattle.title_store.specs.Laws.Each.{each_append}
 use Rattle.title_chain.specs.declared.ask.Step.{Step}
 use Rattle.title_chain.specs.declared.filing.Filing.{Filing}
 use Rattle.title_chain.specs.declared.place.Place.{Place}
 use Rattle.title_chain.specs.PostPlaces.{PlacedPost, post_of, place_at, step_posts, same_place, is_listed, is_place_where}
-use Rattle.title_chain.specs.PlaceMaps.{places_in, places_under}
+use Rattle.title_land.specs.NodeNumbers.{node_number, number_above}
+use Rattle.title_chain.specs.PlaceMaps.{places_in, places_numbered, places_under}
 use Rattle.title_chain.specs.TractIndexes.{IsFiled, covers, covers_below}
+use Rattle.title_land.specs.Laws.NodeNumbers.{number_at, node_above, whole_is}
 
 -- ---- one place more under a node
 
--- lists of places by nodes
+-- lists of places by the numbers of nodes
 abbrev pub Lists : Type 0
-Lists = BTreeMap Node (Vec Place)
+Lists = BTreeMap ℕ (Vec Place)
 
--- the second map is the first with this at a node
-abbrev pub Writes : Lists → Lists → Node → Option (Vec Place) → Type 0
-Writes m n k w = (q : Node) → get node_cmp n q ≡ cond (is_at (node_cmp k) q) w (get node_cmp m q)
+-- the second map is the first with this at a number
+abbrev pub Writes : Lists → Lists → ℕ → Option (Vec Place) → Type 0
+Writes m n k w = (q : ℕ) → get nat_cmp n q ≡ cond (is_at (nat_cmp k) q) w (get nat_cmp m q)
 
--- a map with one place more at a node has it there, and no other anywhere
+-- a map with one place more at a number has it there, and no other anywhere
 pub one_more_under :
-    (m n : Lists) (k : Node) (w : Option (Vec Place)) (place : Place) → Writes m n k w →
-    ((p : Place) → is_listed p (places_in w) ≡ (is_listed p (places_under m k) || same_place p place)) →
-    (q : Node) (p : Place) → is_listed p (places_under n q) ≡ (is_listed p (places_under m q) || (same_node q k && same_place p place))
+    (m n : Lists) (k : ℕ) (w : Option (Vec Place)) (place : Place) → Writes m n k w →
+    ((p : Place) → is_listed p (places_in w) ≡ (is_listed p (places_numbered m k) || same_place p place)) →
+    (q : ℕ) (p : Place) → is_listed p (places_numbered n q) ≡ (is_listed p (places_numbered m q) || (eqb k q && same_place p place))
 one_more_under m n k w place h here q p =
-    ap (λ (o : Option (Vec Place)). is_listed p (places_in o)) (h q ∙ ap (λ (b : Bool). cond b w (get node_cmp m q)) (node_at k q))
-    ∙ go (same_node q k) refl
+    ap (λ (o : Option (Vec Place)). is_listed p (places_in o)) (h q ∙ ap (λ (b : Bool). cond b w (get nat_cmp m q)) (unsigned_tied k q))
+    ∙ go (eqb k q) refl
   where
-    go : (b : Bool) → same_node q k ≡ b → is_listed p (places_in (cond b w (get node_cmp m q)))
-        ≡ (is_listed p (places_under m q) || (b && same_place p place))
-    go true s = here p ∙ ap (λ (x : Node). is_listed p (places_under m x) || same_place p place) (sym ((same_node-is q k).0 s))
-    go false s = sym (or-false (is_listed p (places_under m q)))
+    go : (b : Bool) → eqb k q ≡ b → is_listed p (places_in (cond b w (get nat_cmp m q)))
+        ≡ (is_listed p (places_numbered m q) || (b && same_place p place))
+    go true s = here p ∙ ap (λ (x : ℕ). is_listed p (places_numbered m x) || same_place p place) (eqb-true k q s)
+    go false s = sym (or-false (is_listed p (places_numbered m q)))
+
+-- a map with one place more at the number of a node has it at that node
+pub at_node : (m n : Lists) (k : ℕ) (c : Node) (place : Place) → k ≡ node_number c →
+    ((q : ℕ) (p : Place) → is_listed p (places_numbered n q) ≡ (is_listed p (places_numbered m q) || (eqb k q && same_place p place))) →
+    (q : Node) (p : Place) → is_listed p (places_under n q) ≡ (is_listed p (places_under m q) || (same_node q c && same_place p place))
+at_node m n k c place is h q p =
+    h (node_number q) p
+    ∙ ap (λ (b : Bool). is_listed p (places_under m q) || (b && same_place p place))
+    (ap (λ (z : ℕ). eqb z (node_number q)) is ∙ number_at c q)
 
 -- what a borrowed list was found with
 pub is_there : (v : Vec Place) (o : Option (Vec Place)) → Some v ≡ o → IsSome o
 is_there v o h = subst (λ (z : Option (Vec Place)). IsSome z) h refl
 
--- ---- under two nodes, and under those above a node
+-- ---- under two nodes, and under those above a node, one after another
 
 -- one of two nodes, or the other
 either : (was a b placed : Bool) → ((was || (a && placed)) || (b && placed)) ≡ (was || ((a || b) && placed))
@@ -63,16 +74,46 @@ either false true true false = refl
 either false true false false = refl
 either false false b placed = refl
 
--- a place under the parent and all above it is under all above the node
-pub all_above :
-    (n parent q : Node) (was between now placed : Bool) → Some parent ≡ parent_of n →
-    between ≡ (was || (same_node q parent && placed)) → now ≡ (between || (is_above q parent && placed))
-    → now ≡ (was || (is_above q n && placed))
-all_above n parent q was between now placed h first rest =
-    rest
-    ∙ ap (λ (b : Bool). b || (is_above q parent && placed)) first
-    ∙ either was (same_node q parent) (is_above q parent) placed
-    ∙ ap (λ (nodes : List Node). was || (list_any (same_node q) nodes && placed)) (sym (above_by_parent.1 n parent (sym h)))
+-- a node above n, or n itself, with this number: with the place under all above it, it is under all above n
+pub record IsFiledTo (was now : Lists) (place : Place) (n : Node) (k : ℕ) : Type 0 where
+  pub reached : Node
+  pub numbered : k ≡ node_number reached
+  pub filed : (q : Node) (p : Place) → (is_listed p (places_under now q) || (is_above q reached && same_place p place))
+      ≡ (is_listed p (places_under was q) || (is_above q n && same_place p place))
+
+-- nothing was filed yet
+pub filed_to_itself : (m : Lists) (place : Place) (n : Node) (k : ℕ) → k ≡ node_number n → IsFiledTo m m place n k
+filed_to_itself m place n k is = record {
+  reached = n;
+  numbered = is;
+  filed = λ q p. refl;
+}
+
+-- the place is filed under the next node above
+pub filed_further : (was m now : Lists) (place : Place) (n : Node) (k above : ℕ) → IsFiledTo was m place n k → k ≢ 0
+    → above ≡ number_above k → ((q : ℕ) (p : Place) → is_listed p (places_numbered now q)
+    ≡ (is_listed p (places_numbered m q) || (eqb above q && same_place p place))) → IsFiledTo was now place n above
+filed_further was m now place n k above so positive is one =
+    let next = node_above so.reached k so.numbered positive in record {
+      reached = next.parent;
+      numbered = is ∙ next.numbered;
+      filed = λ q p.
+          ap (λ (b : Bool). b || (is_above q next.parent && same_place p place)) (at_node m now above next.parent place (is ∙ next.numbered)
+          one q p)
+          ∙ either (is_listed p (places_under m q)) (same_node q next.parent) (is_above q next.parent) (same_place p place)
+          ∙ ap (λ (nodes : List Node). is_listed p (places_under m q) || (list_any (same_node q) nodes && same_place p place))
+          (sym (above_by_parent.1 so.reached next.parent (sym next.is)))
+          ∙ so.filed q p;
+    }
+
+-- the place is filed under all nodes above
+pub filed_to_the_top : (was now : Lists) (place : Place) (n : Node) (k : ℕ) → IsFiledTo was now place n k → k ≡ 0
+    → (q : Node) (p : Place) → is_listed p (places_under now q) ≡ (is_listed p (places_under was q) || (is_above q n && same_place p place))
+filed_to_the_top was now place n k so none q p =
+    sym (or-false (is_listed p (places_under now q)))
+    ∙ ap (λ (x : Node). is_listed p (places_under now q) || (is_above q x && same_place p place))
+    (sym (whole_is so.reached (sym so.numbered ∙ none)))
+    ∙ so.filed q p
 
 -- ---- one node of a cover more
 

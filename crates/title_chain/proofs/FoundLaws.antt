@@ -1,6 +1,8 @@
 -- Places: one is found exactly where the same one stands; what is found above a node is found at its parent or above that.
-use Rattle.std.proofs.Common.{◌≡◌, Bool, true, false, ◌||◌, List, Some, refl, sym, ap, ◌∙◌}
-use Rattle.std.proofs.lemmas.Bool.{and_parts, and_from, eqb-true, eq-eqb}
+use Rattle.std.proofs.Common.{◌≡◌, ◌≢◌, ◌<◌, ◌+◌, ℕ, Bool, true, false, ◌||◌, List, [], ◌∷◌, length, get_or, take, refl, sym, ap, ◌∙◌}
+use Rattle.std.proofs.Common.{inl, inr, true≢false}
+use Rattle.std.proofs.lemmas.Bool.{and_parts, and_from, eqb-true, eq-eqb, or_cases, or_left, or_right}
+use Rattle.std.proofs.lemmas.List.Folds.{list_any_more}
 use Rattle.std.proofs.lemmas.Map.Lookups.{exact_unsigned}
 use Rattle.std.specs.declared.cmp.Ordering.TheVariants.{Equal}
 use Rattle.std.specs.Ordering.{nat_cmp}
@@ -9,13 +11,20 @@ use Rattle.std.specs.Cmp.{tied_itself, nat_cmp_total}
 use Rattle.std.specs.BTreeMap.{is_at}
 use Rattle.std.specs.List.{list_any}
 use Rattle.title_land.specs.declared.node.Node.{Node}
-use Rattle.title_land.specs.Nodes.{parent_of, above}
+use Rattle.title_land.specs.Nodes.{same_node, above}
 use Rattle.title_land.specs.Laws.LandSharing.{equal_tests}
 use Rattle.title_land.specs.Laws.Keys.{found_at, then_parts}
 use Rattle.title_land.specs.Laws.CoverSet.{above_by_parent}
+use Rattle.std.proofs.Math.Bool.{or-false}
+use Rattle.title_chain.specs.declared.filing.Filing.{Filing}
 use Rattle.title_chain.specs.declared.place.Place.{Place}
-use Rattle.title_chain.specs.PostPlaces.{same_place}
-use Rattle.title_chain.specs.PlaceMaps.{place_cmp}
+use Rattle.title_chain.specs.PostPlaces.{same_place, is_listed}
+use Rattle.title_land.specs.NodeNumbers.{node_number, number_above}
+use Rattle.title_chain.specs.PlaceMaps.{places_numbered, places_under, place_cmp}
+use Rattle.title_chain.specs.TractIndexes.{is_near}
+use Rattle.title_chain.proofs.Filings.{Lists}
+use Rattle.title_land.specs.Laws.SameNode.{same_node-is, same_node-self}
+use Rattle.title_land.specs.Laws.NodeNumbers.{node_above, whole_is, one_above}
 
 -- places that are one by their numbers are one value
 pub same_place-is : (p q : Place) → same_place p q ≡ true → p ≡ q
@@ -55,13 +64,103 @@ or_assoc : (a b c : Bool) → ((a || b) || c) ≡ (a || (b || c))
 or_assoc true b c = refl
 or_assoc false b c = refl
 
--- what was found before, at the parent, and at the nodes above that was found before or above the node
-pub above_more :
-    (test : Node → Bool) (n c : Node) (first some all : Bool) → Some c ≡ parent_of n → some ≡ (first || test c)
-    → all ≡ (some || list_any test (above c)) →
-    all ≡ (first || list_any test (above n))
-above_more test n c first some all is here rest =
-    rest
-    ∙ ap (λ (b : Bool). b || list_any test (above c)) here
-    ∙ or_assoc first (test c) (list_any test (above c))
-    ∙ ap (λ (nodes : List Node). first || list_any test nodes) (sym (above_by_parent.1 n c (sym is)))
+-- a node above n, or n itself, with this number: what was found and what lies above it is what was found before or above n
+pub record IsFoundTo (lists : Lists) (was now : List Place) (n : Node) (k : ℕ) : Type 0 where
+  pub reached : Node
+  pub numbered : k ≡ node_number reached
+  pub found : (p : Place) → (is_listed p now || list_any (λ a. is_listed p (places_under lists a)) (above reached))
+      ≡ (is_listed p was || list_any (λ a. is_listed p (places_under lists a)) (above n))
+
+-- nothing was found yet
+pub found_to_itself : (lists : Lists) (was : List Place) (n : Node) (k : ℕ) → k ≡ node_number n → IsFoundTo lists was was n k
+found_to_itself lists was n k is = record {
+  reached = n;
+  numbered = is;
+  found = λ p. refl;
+}
+
+-- the places under the next node above were found
+pub found_further : (lists : Lists) (was m now : List Place) (n : Node) (k above_it : ℕ) → IsFoundTo lists was m n k → k ≢ 0
+    → above_it ≡ number_above k → ((p : Place) → is_listed p now ≡ (is_listed p m || is_listed p (places_numbered lists above_it)))
+    → IsFoundTo lists was now n above_it
+found_further lists was m now n k above_it so positive is one =
+    let next = node_above so.reached k so.numbered positive in record {
+      reached = next.parent;
+      numbered = is ∙ next.numbered;
+      found = λ p.
+          let test : Node → Bool = λ a. is_listed p (places_under lists a) in
+          ap (λ (b : Bool). b || list_any test (above next.parent))
+          (one p ∙ ap (λ (z : ℕ). is_listed p m || is_listed p (places_numbered lists z)) (is ∙ next.numbered))
+          ∙ or_assoc (is_listed p m) (test next.parent) (list_any test (above next.parent))
+          ∙ ap (λ (nodes : List Node). is_listed p m || list_any test nodes) (sym (above_by_parent.1 so.reached next.parent (sym next.is)))
+          ∙ so.found p;
+    }
+
+-- the places under all nodes above were found
+pub found_to_the_top : (lists : Lists) (was now : List Place) (n : Node) (k : ℕ) → IsFoundTo lists was now n k → k ≡ 0
+    → (p : Place) → is_listed p now ≡ (is_listed p was || list_any (λ a. is_listed p (places_under lists a)) (above n))
+found_to_the_top lists was now n k so none p =
+    sym (or-false (is_listed p now))
+    ∙ ap (λ (x : Node). is_listed p now || list_any (λ a. is_listed p (places_under lists a)) (above x))
+    (sym (whole_is so.reached (sym so.numbered ∙ none)))
+    ∙ so.found p
+
+-- ---- near a node
+
+-- the places filed above a node
+abbrev pub is_higher : Filing → Place → Node → Bool
+is_higher f p n = list_any (λ a. is_listed p (places_under f.at a)) (above n)
+
+-- what was found under a node, then under it in the other lists, and above it, where that was found before, is what is near it
+pub near_known : (f : Filing) (n : Node) (k : ℕ) (p : Place) (was first second : Bool) → k ≡ node_number n
+    → first ≡ (was || is_listed p (places_numbered f.at k)) → second ≡ (first || is_listed p (places_numbered f.below k))
+    → (is_higher f p n ≡ true → was ≡ true) → second ≡ (was || is_near f p n)
+near_known f n k p was first second is at below known =
+    below
+    ∙ (λ i. at i || is_listed p (places_numbered f.below k))
+    ∙ (λ i. (was || is_listed p (places_numbered f.at (is i))) || is_listed p (places_numbered f.below (is i)))
+    ∙ skipped was (is_listed p (places_under f.at n)) (is_listed p (places_under f.below n)) (is_higher f p n) known
+  where
+    skipped : (w a b h : Bool) → (h ≡ true → w ≡ true) → ((w || a) || b) ≡ (w || (a || (b || h)))
+    skipped true a b h k = refl
+    skipped false true b h k = refl
+    skipped false false true h k = refl
+    skipped false false false true k = absurd (true≢false (sym (k refl)))
+    skipped false false false false k = refl
+
+-- a node of the list lies below the one with this number
+pub record SomeBelow (nodes : List Node) (k : ℕ) : Type 0 where
+  pub node : Node
+  pub listed : list_any (same_node node) nodes ≡ true
+  pub numbered : number_above (node_number node) ≡ k
+
+-- the last node of a list that was gone through so far
+pub next_below : (nodes : List Node) (i : ℕ) (n : Node) (k : ℕ) → i < length nodes → n ≡ get_or nodes i n
+    → k ≡ number_above (node_number n) → SomeBelow (take (i + 1) nodes) k
+next_below nodes i n k low at is = record {
+  node = n;
+  listed = list_any_more (same_node n) nodes i n low
+      ∙ or_right (list_any (same_node n) (take i nodes)) (same_node n (get_or nodes i n))
+      (ap (same_node n) (sym at) ∙ same_node-self n);
+  numbered = sym is;
+}
+
+-- what one node of a list passes, some node of it passes
+any_of : (test : Node → Bool) (n : Node) (nodes : List Node) → list_any (same_node n) nodes ≡ true → test n ≡ true
+    → list_any test nodes ≡ true
+any_of test n [] h passes = h
+any_of test n (x ∷ nodes) h passes = elim (or_cases (same_node n x) (list_any (same_node n) nodes) h) [
+  | inl same ↦ or_left (test x) (list_any test nodes) (ap test (sym ((same_node-is n x).0 same)) ∙ passes)
+  | inr more ↦ or_right (test x) (list_any test nodes) (any_of test n nodes more passes)
+]
+
+-- what is filed above a node is near the nodes of a list that has one below the same node
+pub near_before : (f : Filing) (p : Place) (nodes : List Node) (k : ℕ) (n : Node) → k ≢ 0 → SomeBelow nodes k
+    → number_above (node_number n) ≡ k → is_higher f p n ≡ true → list_any (is_near f p) nodes ≡ true
+near_before f p nodes k n positive some is higher =
+    let here : Bool = is_listed p (places_under f.at some.node) in
+    let lower : Bool = is_listed p (places_under f.below some.node) in
+    any_of (is_near f p) some.node nodes some.listed
+    (or_right here (lower || is_higher f p some.node) (or_right lower (is_higher f p some.node)
+    (ap (λ (up : List Node). list_any (λ a. is_listed p (places_under f.at a)) up) (one_above some.node n k positive some.numbered is)
+    ∙ higher)))

@@ -67,6 +67,7 @@ pub(crate) fn add_records(
 }
 
 // Adds the entry of a step that was posted, whatever its tract.
+#[inline(always)]
 fn add_posted(
     alloc: Global,
     entries: &mut Vec<Entry>,

@@ -1,13 +1,14 @@
 //! An index of posts by the nodes of the tree of tracts.
 
-ghost use Rattle.std.specs.Prelude.{◌≡◌, ◌++◌, ◌∷◌, ◌&&◌, ◌||◌, [], List, IfOk, OnOk, length, reverse, true};
+ghost use Rattle.std.specs.Prelude.{◌≡◌, ◌≢◌, ℕ, ◌++◌, ◌∷◌, ◌&&◌, ◌||◌, ◌==◌, [], List, IfOk, OnOk, length, reverse, true};
 ghost use Rattle.title_land.specs.Depth.{depth};
 ghost use Rattle.std.specs.List.{list_any};
 ghost use Rattle.title_land.specs.declared.node.Node.{Node};
 ghost use Rattle.title_land.specs.Nodes.{same_node, above, is_above};
 ghost use Rattle.title_chain.specs.declared.place.Place.{Place};
 ghost use Rattle.title_chain.specs.PostPlaces.{same_place, is_listed};
-ghost use Rattle.title_chain.specs.PlaceMaps.{places_under, place_cmp};
+ghost use Rattle.title_land.specs.NodeNumbers.{node_number, number_above};
+ghost use Rattle.title_chain.specs.PlaceMaps.{places_numbered, places_under, place_cmp};
 ghost use Rattle.std.specs.List.Sorted.{IsStrictlySortedBy};
 
 use crate::ask::{Answer, Ask, Entry, Step};
@@ -16,22 +17,25 @@ use crate::place::Place;
 use crate::record::Record;
 use std::alloc::{AllocError, Global};
 use std::collections::BTreeMap;
-use title_land::{Node, Tract};
+use title_land::{Node, Tract, number_above};
+
+// So many places may be found, some more than once, before they are put in order.
+const FEW: usize = 1_024;
 
 /// The places of the posts of a list's first records, or of a transaction's first steps as those of a record at index 0:
-/// under each node those of the posts whose cover has the node, and those of the posts whose cover has a node below it.
+/// under each node's number those of the posts whose cover has the node, and those of the posts whose cover has a node below it.
 #[derive(Debug, Drop)]
 pub(crate) struct Filing {
     read: usize,
-    at: BTreeMap<Node, Vec<Place>>,
-    below: BTreeMap<Node, Vec<Place>>,
+    at: BTreeMap<u64, Vec<Place>>,
+    below: BTreeMap<u64, Vec<Place>>,
 }
 
-// The places under a node.
-fn places_at<'a>(lists: &'a BTreeMap<Node, Vec<Place>>, node: &Node) -> &'a [Place]
-    ensures places { result.now ≡ places_under lists.now node.now }
+// The places under the node with a number.
+fn places_at<'a>(lists: &'a BTreeMap<u64, Vec<Place>>, number: u64) -> &'a [Place]
+    ensures places { result.now ≡ places_numbered lists.now number }
 {
-    match lists.get(node) {
+    match lists.get(&number) {
         Some(places) => places.as_slice(),
         None => &[],
     }
@@ -50,38 +54,39 @@ fn push_once(list: &mut Vec<Place>, place: Place) -> Result<(), AllocError>
     Ok(())
 }
 
-// Adds a place to those under a node.
+// Adds a place to those under the node with a number.
 fn file_under(
     alloc: Global,
-    lists: &mut BTreeMap<Node, Vec<Place>>,
-    node: &Node,
+    lists: &mut BTreeMap<u64, Vec<Place>>,
+    number: u64,
     place: Place,
 ) -> Result<(), AllocError>
-    ensures filed { OnOk result ((n : Node) (p : Place) → is_listed p (places_under lists.new n)
-        ≡ (is_listed p (places_under lists.old n) || (same_node n node.now && same_place p place))) }
+    ensures filed { OnOk result ((k : ℕ) (p : Place) → is_listed p (places_numbered lists.new k)
+        ≡ (is_listed p (places_numbered lists.old k) || (number == k && same_place p place))) }
 {
-    if let Some(list) = lists.get_mut(node) {
+    if let Some(list) = lists.get_mut(&number) {
         return push_once(list, place);
     }
     let mut list = Vec::new(alloc);
     push_once(&mut list, place)?;
-    lists.insert(*node, list)?;
+    lists.insert(number, list)?;
     Ok(())
 }
 
-// Adds a place to those under each node above.
+// Adds a place to those under each node above the one with a number.
 fn file_above(
     alloc: Global,
-    lists: &mut BTreeMap<Node, Vec<Place>>,
-    node: &Node,
+    lists: &mut BTreeMap<u64, Vec<Place>>,
+    number: u64,
     place: Place,
 ) -> Result<(), AllocError>
-    ensures filed { OnOk result ((n : Node) (p : Place) → is_listed p (places_under lists.new n)
-        ≡ (is_listed p (places_under lists.old n) || (is_above n node.now && same_place p place))) }
+    ensures filed { (c : Node) → number ≡ node_number c → OnOk result ((n : Node) (p : Place) → is_listed p (places_under lists.new n)
+        ≡ (is_listed p (places_under lists.old n) || (is_above n c && same_place p place))) }
 {
-    if let Some(parent) = node.parent() {
-        file_under(alloc, lists, &parent, place)?;
-        file_above(alloc, lists, &parent, place)?;
+    let mut reached = number;
+    while reached != 0 {
+        reached = number_above(reached);
+        file_under(alloc, lists, reached, place)?;
     }
     Ok(())
 }
@@ -90,6 +95,9 @@ fn file_above(
 fn find_all(found: &mut Vec<Place>, places: &[Place]) -> Result<(), AllocError>
     ensures found { OnOk result ((p : Place) → is_listed p found.new.items ≡ (is_listed p found.old.items || is_listed p places.now)) }
 {
+    if places.is_empty() {
+        return Ok(());
+    }
     found.extend_from_slice(places)?;
     Ok(())
 }
@@ -119,6 +127,18 @@ fn put_in_order(places: &mut Vec<Place>)
     }
 }
 
+// Puts places in order, each once, where they are more than so many. The result is how many may be there before that is
+// done again: twice as many as are left, so that no more memory is taken than for these.
+fn thin_out(places: &mut Vec<Place>, most: usize) -> usize
+    ensures same { (p : Place) → is_listed p places.new.items ≡ is_listed p places.old.items }
+{
+    if places.len() <= most {
+        return most;
+    }
+    put_in_order(places);
+    most.max(places.len().saturating_mul(2))
+}
+
 impl Filing {
     ghost use Rattle.title_chain.specs.Chains.{record_entries};
     ghost use Rattle.title_chain.specs.StepEntries.{step_entries};
@@ -146,8 +166,9 @@ impl Filing {
             ≡ (is_listed p (places_under self.old.below n) || (list_any (is_above n) cover.now && same_place p place))) }
     {
         for node in cover {
-            file_under(alloc, &mut self.at, node, place)?;
-            file_above(alloc, &mut self.below, node, place)?;
+            let number = node.number();
+            file_under(alloc, &mut self.at, number, place)?;
+            file_above(alloc, &mut self.below, number, place)?;
         }
         Ok(())
     }
@@ -245,26 +266,37 @@ impl Filing {
         filed
     }
 
-    // Adds the places of the posts whose cover has a node above.
-    fn find_above(&self, found: &mut Vec<Place>, node: &Node) -> Result<(), AllocError>
-        ensures found { OnOk result ((p : Place) → is_listed p found.new.items
-            ≡ (is_listed p found.old.items || list_any (λ a. is_listed p (places_under self.now.at a)) (above node.now))) }
+    // Adds the places of the posts whose cover has a node above the one with a number.
+    fn find_above(&self, found: &mut Vec<Place>, number: u64) -> Result<(), AllocError>
+        ensures found { (c : Node) → number ≡ node_number c → OnOk result ((p : Place) → is_listed p found.new.items
+            ≡ (is_listed p found.old.items || list_any (λ a. is_listed p (places_under self.now.at a)) (above c))) }
     {
-        if let Some(parent) = node.parent() {
-            find_all(found, places_at(&self.at, &parent))?;
-            self.find_above(found, &parent)?;
+        let mut reached = number;
+        while reached != 0 {
+            reached = number_above(reached);
+            find_all(found, places_at(&self.at, reached))?;
         }
         Ok(())
     }
 
-    // Adds the places of the posts whose cover has the node, or one above or below it.
-    fn find_near(&self, found: &mut Vec<Place>, node: &Node) -> Result<(), AllocError>
+    // Adds the places of the posts whose cover has the node, or one above or below it, and gives the number of the node above.
+    // That of the node before is `last`, or 0. Where both are one, and not the whole plant's, what lies above was found then.
+    fn find_near(&self, found: &mut Vec<Place>, node: &Node, last: u64) -> Result<u64, AllocError>
+        requires known { last ≢ 0 → (c : Node) → number_above (node_number c) ≡ last
+            → (p : Place) → list_any (λ a. is_listed p (places_under self.now.at a)) (above c) ≡ true → is_listed p found.old.items ≡ true }
         ensures found { OnOk result ((p : Place) → is_listed p found.new.items
             ≡ (is_listed p found.old.items || is_near self.now p node.now)) }
+        ensures above { IfOk result (λ parent. parent ≡ number_above (node_number node.now)) }
     {
-        find_all(found, places_at(&self.at, node))?;
-        find_all(found, places_at(&self.below, node))?;
-        self.find_above(found, node)
+        let number = node.number();
+        find_all(found, places_at(&self.at, number))?;
+        find_all(found, places_at(&self.below, number))?;
+        let parent = number_above(number);
+        if parent != 0 && parent == last {
+            return Ok(parent);
+        }
+        self.find_above(found, number)?;
+        Ok(parent)
     }
 
     // The places of the posts whose cover has one of these nodes, or one above or below one of them, in order.
@@ -273,8 +305,10 @@ impl Filing {
         ensures ordered { IfOk result (λ found. IsStrictlySortedBy place_cmp found.items) }
     {
         let mut found = Vec::new(alloc);
+        let (mut last, mut most) = (0, FEW);
         for node in cover {
-            self.find_near(&mut found, node)?;
+            last = self.find_near(&mut found, node, last)?;
+            most = thin_out(&mut found, most);
         }
         put_in_order(&mut found);
         Ok(found)

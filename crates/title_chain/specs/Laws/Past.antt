@@ -1,5 +1,5 @@
 -- Steps past a record that none of them overlaps.
-use Rattle.std.proofs.Common.{◌≡◌, ℕ, ◌≤◌, suc, false, List, [], ◌∷◌, ◌++◌, refl, ◌∙◌, sym, length}
+use Rattle.std.proofs.Common.{◌≡◌, ℕ, suc, false, List, [], ◌∷◌, ◌++◌, refl, ◌∙◌, sym, length}
 use Rattle.std.proofs.lemmas.Bool.{or_parts, or_from}
 use Rattle.std.proofs.lemmas.List.{append-nil, reverse-reverse}
 use Rattle.title_land.specs.declared.place.Cell.{Cell}

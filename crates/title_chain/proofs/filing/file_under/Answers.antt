@@ -13,7 +13,7 @@ returns-in-Some c =
     let w = c.push_once.new.list in
     let had = c.in-Some.ensures.value in record {
       filed = on_ok_weaker c.push_once.result
-          (λ more. one_more_under c.args.lists.now (c.get_mut.follows.lender w) c.args.node.now (Some w) c.args.place
+          (λ more. one_more_under c.args.lists.now (c.get_mut.follows.lender w) c.args.number (Some w) c.args.place
           ((c.get_mut.follows.holds w).3 (is_there _ _ had)).0
           (λ p. more p ∙ ap (λ (o : Option (Vec Place)). is_listed p (places_in o) || same_place p c.args.place) had))
           c.push_once.ensures.listed;
@@ -22,8 +22,8 @@ returns-in-Some c =
 pub returns : goal.returns
 returns c =
     let v = c.push_once-2.new.list in record {
-      filed = one_more_under c.args.lists.now c.insert.new.self c.args.node.now (Some v) c.args.place
-          (subst (λ (m : Lists). Writes m c.insert.new.self c.args.node.now (Some v)) c.get_mut.follows.holds-at-none
+      filed = one_more_under c.args.lists.now c.insert.new.self c.args.number (Some v) c.args.place
+          (subst (λ (m : Lists). Writes m c.insert.new.self c.args.number (Some v)) c.get_mut.follows.holds-at-none
           c.in_ok-insert.ensures.updates.0)
           (λ p. c.in_ok-push_once.ensures.listed p
           ∙ ap (λ (places : List Place). is_listed p places || same_place p c.args.place)

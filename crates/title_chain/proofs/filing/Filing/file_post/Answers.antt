@@ -1,8 +1,6 @@
 -- The post is filed where its cover is.
-use Rattle.std.proofs.Common.{subst, Result, Ok, Err, OnOk}
+use Rattle.std.proofs.Common.{Result, Ok, Err, OnOk}
 use Rattle.title_land.specs.Depth.{depth}
-use Rattle.title_land.specs.declared.tract.Land.{Land}
-use Rattle.title_land.specs.Lands.{IsLand}
 use Rattle.title_chain.proofs.Filings.{post_filed}
 use Rattle.title_chain.proofs.filing.Filing.file_post.Goals as goal
 
