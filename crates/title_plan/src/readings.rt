@@ -5,8 +5,8 @@ ghost use Rattle.std.specs.String.{string_bytes};
 ghost use Rattle.title_plan.specs.Lands.{land_in};
 
 use crate::lands::read_tract;
-use indexmap::IndexMap;
 use std::alloc::{AllocError, Global};
+use std::collections::BTreeMap;
 use std::hash::{BuildHasher, BuildHasherDefault, FoldHasher};
 use title_aliquot::DescFault;
 use title_land::Tract;
@@ -44,7 +44,7 @@ fn copied(alloc: Global, said: &Result<Tract, DescFault>) -> Option<Result<Tract
 pub(crate) struct Readings {
     alloc: Global,
     hashers: BuildHasherDefault<FoldHasher>,
-    kept: IndexMap<u64, Reading>,
+    kept: BTreeMap<u64, Reading>,
 }
 
 impl Readings {
@@ -53,7 +53,7 @@ impl Readings {
         Readings {
             alloc,
             hashers: BuildHasherDefault::new(),
-            kept: IndexMap::new(alloc),
+            kept: BTreeMap::new(alloc),
         }
     }
 
