@@ -7,7 +7,7 @@ use std::process::Abort;
 use std::test::Fail;
 use title_land::{
     Cell, Grid, Half, Land, Node, Quarter, Rectangle, Section, Township, Tract, Within, cells_of,
-    children_of, node_cells,
+    children_of, node_cells, number_above,
 };
 
 const NORTHEAST: Quarter = Quarter::Northeast;
@@ -46,6 +46,18 @@ fn add_cells(lines: &mut String, cells: &[Cell], places: &[usize]) -> Result<(),
         }
     }
     Ok(())
+}
+
+/// A number for each node: T3N R2W is (3 · 2 + 1) · 128 + 2, twice, times 64.
+#[test]
+fn a_node_has_a_number(rt: HostRuntime) {
+    assert_eq!(rt; Node::Everything.number(), 0);
+    assert_eq!(rt; Node::Township(township(&rt, 3)).number(), 114_944);
+    assert_eq!(rt; square(&rt, 5, &[]).number(), 4_309_253);
+    assert_eq!(rt; square(&rt, 5, &[SOUTHWEST]).number(), 25_280_773);
+    assert_eq!(rt; number_above(25_280_773), 4_309_253);
+    assert_eq!(rt; number_above(4_309_253), 114_944);
+    assert_eq!(rt; number_above(114_944), 0);
 }
 
 /// The nodes above a cell, the nearest first.

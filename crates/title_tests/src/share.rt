@@ -93,6 +93,18 @@ fn assert_held(rt: &impl Abort, holding: &Holding, rows: &[(u32, u64)], units: &
     }
 }
 
+// Party 7 has a quarter of it in a holding beside the first, where party 0 has the whole.
+#[test]
+fn a_moved_holding_stands_beside_the_other(rt: HostRuntime) -> Result<(), Fail> {
+    let holding = Holding::whole(rt.alloc(), 0)?;
+    assert!(rt; 1_073_741_824 <= holding.units(0));
+    let moved = holding.moved(rt.alloc(), 0, 7, 1_073_741_824)?;
+    let rows = [(0, 3_221_225_472), (7, 1_073_741_824)];
+    assert_held(&rt, &moved, &rows, &[(7, 1_073_741_824), (1, 0)]);
+    assert_held(&rt, &holding, &[(0, WHOLE)], &[(0, WHOLE)]);
+    Ok(())
+}
+
 // Party 0 has 5/8, party 2 and party 7 have 3/16 each; then all goes back.
 #[test]
 fn units_pass_from_party_to_party(rt: HostRuntime) -> Result<(), Fail> {
