@@ -1,16 +1,15 @@
 //! Rows of sheets, read off a tree.
 
-ghost use Rattle.std.specs.Prelude.{◌≡◌, ◌+◌, ◌++◌, List, length, OnOk, IfOk};
+ghost use Rattle.std.specs.Prelude.{◌≡◌, ◌+◌, ◌++◌, OnOk, IfOk};
 ghost use Rattle.std.specs.List.{flat_map};
 ghost use Rattle.std.specs.Option.{option_map};
 ghost use Rattle.title_land.specs.Depth.{depth};
 ghost use Rattle.title_land.specs.Lands.{cover_of};
 ghost use Rattle.title_tree.specs.Pieces.{uniform_at};
-ghost use Rattle.title_tree.specs.Plots.{agreed, same_division, uniform};
+ghost use Rattle.title_tree.specs.Plots.{same_division};
 ghost use Rattle.title_tree.specs.Trees.{plot};
 ghost use Rattle.title_land.specs.declared.node.Node.TheVariants as node;
-ghost use Rattle.title_store.specs.declared.sheet_row.SheetRow.{SheetRow};
-ghost use Rattle.title_store.specs.Sheets.{holding_rows, rows_or};
+ghost use Rattle.title_store.specs.Sheets.{holding_rows};
 ghost use Rattle.title_tree_store.specs.Spots.{blocks, spots};
 ghost use Rattle.title_tree_store.specs.SquareSheets.{part_sheet, plant_sheet, section_sheet, square_sheet, township_sheet};
 ghost use Rattle.title_tree_store.specs.TreeSheets.{tree_sheet};
@@ -29,28 +28,6 @@ fn is_same(held: &Holding, other: &Holding) -> bool
     ensures same { result ≡ same_division held.now other.now }
 {
     held.same(other)
-}
-
-// The holding of four squares that have one each, where it is the same.
-fn agreed<'a>(
-    first: Option<&'a Holding>,
-    second: Option<&'a Holding>,
-    third: Option<&'a Holding>,
-    fourth: Option<&'a Holding>,
-) -> Option<&'a Holding>
-    ensures agreed { option_map (λ held. held.now) result ≡ agreed (option_map (λ held. held.now) first.entry)
-        (option_map (λ held. held.now) second.entry) (option_map (λ held. held.now) third.entry)
-        (option_map (λ held. held.now) fourth.entry) }
-{
-    let held = first?;
-    let second = second?;
-    let third = third?;
-    let fourth = fourth?;
-    if is_same(held, second) && is_same(held, third) && is_same(held, fourth) {
-        Some(held)
-    } else {
-        None
-    }
 }
 
 // The one holding of a township's cells, where they have one.
@@ -106,62 +83,34 @@ fn add_entries(
     Ok(())
 }
 
-// Puts a holding's rows in place of those from a place on, where there is one.
-fn settle(
-    held: Option<&Holding>,
-    start: usize,
-    node: &Node,
-    estate: Estate,
-    rows: &mut Vec<SheetRow>,
-) -> Result<(), AllocError>
-    ensures rows { OnOk result ((done parts : List SheetRow) → rows.old.items ≡ done ++ parts → length done ≡ start
-        → rows.new.items ≡ done ++ rows_or node.now estate (option_map (λ held. held.now) held.entry) parts) }
-{
-    let Some(held) = held else {
-        return Ok(());
-    };
-    rows.truncate(start);
-    add_entries(node, estate, held, rows)
-}
-
-// Adds the sheet of a square of a section from what stands there, and gives the square's one holding, where it has one.
-// Each quarter adds its rows; where they turn out to hold the same, those of the one holding take their place.
-fn add_square<'a>(
-    tree: &'a Tree,
+// Adds the sheet of a square of a section from what stands there: the rows of its one holding, where it has one, else its
+// quarters' sheets.
+fn add_square(
+    tree: &Tree,
     section: Section,
     within: Within,
     estate: Estate,
     rows: &mut Vec<SheetRow>,
-) -> Result<Option<&'a Holding>, AllocError>
-    ensures held { IfOk result (λ o. option_map (λ held. held.now) o ≡ uniform (plot tree.now)) }
+) -> Result<(), AllocError>
     ensures rows { OnOk result (rows.new.items ≡ rows.old.items ++ square_sheet (plot tree.now) estate section within) }
 {
-    let node = Node::Part(section, within);
-    match tree {
-        Tree::Leaf(held) => {
-            add_entries(&node, estate, held, rows)?;
-            Ok(Some(&**held))
-        }
-        Tree::Quarters(northeast, northwest, southwest, southeast) => {
-            let start = rows.as_slice().len();
-            if within.is_cell() {
-                let held = tree.uniform();
-                settle(held, start, &node, estate, rows)?;
-                return Ok(held);
-            }
-            let inner = within.quarter(Quarter::Northeast);
-            let first = add_square(northeast, section, inner, estate, rows)?;
-            let inner = within.quarter(Quarter::Northwest);
-            let second = add_square(northwest, section, inner, estate, rows)?;
-            let inner = within.quarter(Quarter::Southwest);
-            let third = add_square(southwest, section, inner, estate, rows)?;
-            let inner = within.quarter(Quarter::Southeast);
-            let fourth = add_square(southeast, section, inner, estate, rows)?;
-            let held = agreed(first, second, third, fourth);
-            settle(held, start, &node, estate, rows)?;
-            Ok(held)
-        }
+    if let Some(held) = tree.uniform() {
+        return add_entries(&Node::Part(section, within), estate, held, rows);
     }
+    let Tree::Quarters(northeast, northwest, southwest, southeast) = tree else {
+        return Ok(());
+    };
+    if within.is_cell() {
+        return Ok(());
+    }
+    let inner = within.quarter(Quarter::Northeast);
+    add_square(northeast, section, inner, estate, rows)?;
+    let inner = within.quarter(Quarter::Northwest);
+    add_square(northwest, section, inner, estate, rows)?;
+    let inner = within.quarter(Quarter::Southwest);
+    add_square(southwest, section, inner, estate, rows)?;
+    let inner = within.quarter(Quarter::Southeast);
+    add_square(southeast, section, inner, estate, rows)
 }
 
 // Adds the sheet of a node of a section from what stands in the section.
