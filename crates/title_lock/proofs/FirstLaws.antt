@@ -1,18 +1,24 @@
 -- The least other examiner in the way among the holders of a node, which stand in the order of their numbers.
 use Rattle.std.proofs.Common.{◌≡◌, ◌≢◌, ◌<◌, ◌≤◌, ℕ, Bool, true, false, cond, List, [], ◌∷◌, Option, Some, None, eqb, refl, sym, ap, subst}
-use Rattle.std.proofs.Common.{◌||◌, ◌&&◌, not, is_some}
+use Rattle.std.proofs.Common.{◌||◌, ◌&&◌, not, is_some, filter, ltb, lt-ltb, le-ltb}
+use Rattle.std.specs.declared.cmp.Ordering.{Ordering}
+use Rattle.std.specs.Ordering.{is_le}
+use Rattle.std.specs.declared.ops.Bound.TheVariants.{Excluded, Unbounded}
+use Rattle.std.specs.BTreeMap.Range.{range_contains, entries_between}
+use Rattle.std.proofs.lemmas.Map.Entries.{lookup-filter-keys}
+use Rattle.std.proofs.lemmas.List.Kept.{IsStrictlySortedBy-filter}
 use Rattle.std.proofs.Common.{◌∙◌, arith}
 use Rattle.std.specs.Ordering.{nat_cmp, MatchOrdering}
-use Rattle.std.specs.declared.cmp.Ordering.TheVariants.{Less}
+use Rattle.std.specs.declared.cmp.Ordering.TheVariants.{Less, Equal, Greater}
 use Rattle.std.specs.Cmp.{ranks, unsigned_tied}
 use Rattle.std.specs.Map.{keys_of, lookup}
 use Rattle.std.specs.BTreeMap.{is_at}
 use Rattle.std.specs.List.Sorted.{IsStrictlySortedBy}
-use Rattle.std.proofs.lemmas.Bool.{ne_eqb, eq-eqb, eqb-true, eqb-false, ltb-true, ltb-false, or_left, or_right, or_from, true≢false}
+use Rattle.std.proofs.lemmas.Bool.{ne_eqb, eq-eqb, eqb-true, eqb-false, ltb-true, or_left, or_right, or_from, and_parts, true≢false}
 use Rattle.std.proofs.Math.Bool.{or-false}
 use Rattle.title_lock.specs.Overlaps.{IsLeast}
 use Rattle.title_lock.specs.declared.modes.Mode.{Mode}
-use Rattle.title_lock.specs.Holders.{Modes, mode_of_place, holder_mode, clashes, is_one, is_before, first_way, listed, IsApart}
+use Rattle.title_lock.specs.Holders.{Modes, mode_of_place, holder_mode, clashes, first_way, listed, IsApart}
 
 abbrev Held : Type 0
 Held = List (ℕ × Option Mode)
@@ -68,57 +74,102 @@ carries_on m entries k b rest e over carries =
         ∙ ap (in_way m ((k, b) ∷ rest)) (sym same)
     by f false h o = sym (way_first m k b rest f ∙ ap (λ t. cond t (clashes m b) (in_way m rest f)) h)
 
+-- the first entry that isn't stepped over is the least other
+pub carries_least : (m : Mode) (entries : Held) (k : ℕ) (b : Option Mode) (rest : Held) (e : ℕ) → k ≢ e → clashes m b ≡ true
+    → Carries m entries ((k, b) ∷ rest) e → IsLeast (in_way m entries) e (Some k)
+carries_least m entries k b rest e other clash carries = (
+  other,
+  sym (carries.1 k other) ∙ way_own m k b rest ∙ clash,
+  λ g lt o.
+      sym (carries.1 g o) ∙ way_other m k b rest g (λ s. omega (arith, s, lt)) ∙ none_after m k g rest carries.0 (omega (arith, lt)),
+)
+
+-- where nothing is left nobody else is in the way
+pub carries_none : (m : Mode) (entries : Held) (e : ℕ) → Carries m entries [] e → IsLeast (in_way m entries) e None
+carries_none m entries e carries = λ f o. sym (carries.1 f o)
+
+-- ---- the entries before an examiner
+
+-- the entries of those who stand before examiner x
+abbrev pub before : ℕ → Held → Held
+before x es = entries_between nat_cmp Unbounded (Excluded x) es
+
+keys_filter : (p : ℕ → Bool) (es : Held) → keys_of (filter (λ e. p e.0) es) ≡ filter p (keys_of es)
+keys_filter p [] = refl
+keys_filter p (e ∷ es) = go (p e.0) (keys_filter p es)
+  where
+    go : (b : Bool) → keys_of (filter (λ e. p e.0) es) ≡ filter p (keys_of es)
+        → keys_of (cond b (e ∷ filter (λ e. p e.0) es) (filter (λ e. p e.0) es)) ≡ cond b (e.0 ∷ filter p (keys_of es)) (filter p (keys_of es))
+    go true h = ap (λ (ks : List ℕ). e.0 ∷ ks) h
+    go false h = h
+
+pub before_sorted : (x : ℕ) (es : Held) → IsStrictlySortedBy nat_cmp (keys_of es) → IsStrictlySortedBy nat_cmp (keys_of (before x es))
+before_sorted x es h =
+    subst (λ (ks : List ℕ). IsStrictlySortedBy nat_cmp ks) (sym (keys_filter (range_contains nat_cmp Unbounded (Excluded x)) es))
+    (IsStrictlySortedBy-filter nat_cmp (range_contains nat_cmp Unbounded (Excluded x)) (keys_of es) h)
+
+before_is : (x f : ℕ) → range_contains nat_cmp Unbounded (Excluded x) f ≡ ltb f x
+before_is x f = go (nat_cmp x f) (ranks x f)
+  where
+    go : (r : Ordering) → MatchOrdering r (x < f) (x ≡ f) (f < x) → not (is_le r) ≡ ltb f x
+    go Less h = sym (le-ltb f x (omega (arith, h)))
+    go Equal h = sym (le-ltb f x (omega (arith, h)))
+    go Greater h = sym (lt-ltb f x h)
+
+-- who is in the way by these entries stands before x, and is in the way by all
+pub in_way_before : (m : Mode) (x : ℕ) (es : Held) (f : ℕ) → in_way m (before x es) f ≡ (ltb f x && in_way m es f)
+in_way_before m x es f =
+    let p : ℕ → Bool = range_contains nat_cmp Unbounded (Excluded x) in
+    ap (λ (o : Option (Option Mode)). clashes m (mode_of_place o)) (lookup-filter-keys (is_at (nat_cmp f)) p (p f)
+    (λ k t. ap p (sym (eqb-true f k (sym (unsigned_tied f k) ∙ t)))) es)
+    ∙ go (p f) (lookup (is_at (nat_cmp f)) es)
+    ∙ ap (λ (b : Bool). b && in_way m es f) (before_is x f)
+  where
+    go : (b : Bool) (o : Option (Option Mode)) → clashes m (mode_of_place (cond b o None)) ≡ (b && clashes m (mode_of_place o))
+    go true o = refl
+    go false o = refl
+
+-- ---- the first place beside the others
+
+-- it is this examiner
+abbrev pub is_one : Option ℕ → ℕ → Bool
+is_one None f = false
+is_one (Some x) f = eqb f x
+
 -- the first in the way, or one who is in the way by the entries
 abbrev pub either_way : Option ℕ → Mode → Held → ℕ → Bool
 either_way first m entries f = is_one first f || in_way m entries f
 
--- before the first entry nobody is in the way
-none_before : (m : Mode) (k : ℕ) (b : Option Mode) (rest : Held) (g : ℕ) → IsStrictlySortedBy nat_cmp (k ∷ keys_of rest) → g < k
-    → in_way m ((k, b) ∷ rest) g ≡ false
-none_before m k b rest g sorted lt = way_other m k b rest g (λ s. omega (arith, s, lt)) ∙ none_after m k g rest sorted (omega (arith, lt))
+-- the least of those before the first, or else the first
+abbrev pub or_first : Option ℕ → ℕ → Option ℕ
+or_first None x = Some x
+or_first (Some y) x = Some y
 
 another : (x e : ℕ) → is_one (Some x) e ≡ false → x ≢ e
 another x e h s = eqb-false e x h (sym s)
 
--- the first, before what is left, is the least other
-pub first_least : (m : Mode) (entries : Held) (k : ℕ) (b : Option Mode) (rest : Held) (e : ℕ) (first : Option ℕ) → is_one first e ≡ false
-    → is_before first k ≡ true → Carries m entries ((k, b) ∷ rest) e → IsLeast (either_way first m entries) e first
-first_least m entries k b rest e None other before carries = absurd (true≢false (sym before))
-first_least m entries k b rest e (Some x) other before carries =
-    let low = ltb-true x k before in (
-      another x e other,
-      or_left (eqb x x) (in_way m entries x) (eq-eqb x x refl),
-      λ g lt o.
-          or_from (eqb g x) (in_way m entries g) (ne_eqb g x (λ s. omega (arith, s, lt)))
-          (sym (carries.1 g o) ∙ none_before m k b rest g carries.0 (omega (arith, lt, low))),
-    )
+none_there : (b w : Bool) → b ≡ true → (b && w) ≡ false → w ≡ false
+none_there true w s h = h
+none_there false w s h = absurd (true≢false (sym s))
 
--- the first entry that isn't stepped over, and not before the first, is the least other
-pub carries_least : (m : Mode) (entries : Held) (k : ℕ) (b : Option Mode) (rest : Held) (e : ℕ) (first : Option ℕ) → k ≢ e
-    → clashes m b ≡ true → is_before first k ≡ false → Carries m entries ((k, b) ∷ rest) e → IsLeast (either_way first m entries) e (Some k)
-carries_least m entries k b rest e first other clash behind carries = (
-  other,
-  or_right (is_one first k) (in_way m entries k) (sym (carries.1 k other) ∙ way_own m k b rest ∙ clash),
-  λ g lt o.
-      or_from (is_one first g) (in_way m entries g) (not_first first behind g lt)
-      (sym (carries.1 g o) ∙ none_before m k b rest g carries.0 lt),
-)
-  where
-    not_first : (first : Option ℕ) → is_before first k ≡ false → (g : ℕ) → g < k → is_one first g ≡ false
-    not_first None h g lt = refl
-    not_first (Some x) h g lt = ne_eqb g x (λ s. omega (arith, s, lt, ltb-false x k h))
-
--- where nothing is left nobody else is in the way
-pub carries_none : (m : Mode) (entries : Held) (e : ℕ) (first : Option ℕ) → is_one first e ≡ false → Carries m entries [] e
-    → IsLeast (either_way first m entries) e first
-carries_none m entries e None other carries = λ f o. sym (carries.1 f o)
-carries_none m entries e (Some x) other carries = (
+pub before_first : (m : Mode) (es : Held) (e x : ℕ) (r : Option ℕ) → is_one (Some x) e ≡ false
+    → IsLeast (λ f. ltb f x && in_way m es f) e r → IsLeast (either_way (Some x) m es) e (or_first r x)
+before_first m es e x None other h = (
   another x e other,
-  or_left (eqb x x) (in_way m entries x) (eq-eqb x x refl),
-  λ g lt o. or_from (eqb g x) (in_way m entries g) (ne_eqb g x (λ s. omega (arith, s, lt))) (sym (carries.1 g o)),
+  or_left (eqb x x) (in_way m es x) (eq-eqb x x refl),
+  λ g lt o.
+      or_from (eqb g x) (in_way m es g) (ne_eqb g x (λ s. omega (arith, s, lt)))
+      (none_there (ltb g x) (in_way m es g) (lt-ltb g x lt) (h g o)),
 )
-
--- ---- the first place beside the others
+before_first m es e x (Some y) other h =
+    let both = and_parts (ltb y x) (in_way m es y) h.1 in
+    let low = ltb-true y x both.0 in (
+      h.0,
+      or_right (eqb y x) (in_way m es y) both.1,
+      λ g lt o.
+          or_from (eqb g x) (in_way m es g) (ne_eqb g x (λ s. omega (arith, s, lt, low)))
+          (none_there (ltb g x) (in_way m es g) (lt-ltb g x (omega (arith, lt, low))) (h.2 g lt o)),
+    )
 
 -- who is first in the way isn't the examiner
 pub first_other : (first : Option (ℕ × Option Mode)) (e : ℕ) (m : Mode) → is_one (first_way first e m) e ≡ false

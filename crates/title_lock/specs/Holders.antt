@@ -1,5 +1,5 @@
 -- The holders of one node: the mode of each, who has room for one, and how many have each mode.
-use Rattle.std.specs.Prelude.{ℕ, ◌≡◌, ◌<◌, ◌^◌, ◌==◌, nat_le, nat_lt, Bool, true, false, ◌&&◌, ◌||◌, not, if◌then◌else◌, Option, Some, None}
+use Rattle.std.specs.Prelude.{ℕ, ◌≡◌, ◌<◌, ◌^◌, ◌==◌, nat_le, Bool, true, false, ◌&&◌, ◌||◌, not, if◌then◌else◌, Option, Some, None}
 use Rattle.std.specs.Prelude.{is_some, List, ◌∷◌, length}
 use Rattle.std.specs.Ordering.{nat_cmp}
 use Rattle.std.specs.Map.{lookup}
@@ -90,16 +90,6 @@ listed (Some p) h = p ∷ h
 abbrev pub IsApart : Option (ℕ × Option Mode) → Modes → Type 0
 IsApart None h = Unit {0}
 IsApart (Some p) h = has_room h p.0 ≡ false
-
--- it is this examiner
-abbrev pub is_one : Option ℕ → ℕ → Bool
-is_one None f = false
-is_one (Some x) f = f == x
-
--- it stands before this examiner
-abbrev pub is_before : Option ℕ → ℕ → Bool
-is_before None f = false
-is_before (Some x) f = nat_lt x f
 
 -- the first, where it is another examiner than e in the way of mode m
 abbrev pub first_way : Option (ℕ × Option Mode) → ℕ → Mode → Option ℕ

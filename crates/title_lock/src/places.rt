@@ -1,9 +1,9 @@
 //! The places of one node's holders.
 
-ghost use Rattle.std.specs.Prelude.{◌≡◌, ℕ, true, false, not, ◌==◌, ◌&&◌, ◌≢◌, ◌||◌, if◌then◌else◌, Some, None, OnOk};
+ghost use Rattle.std.specs.Prelude.{◌≡◌, ℕ, true, false, not, ◌==◌, ◌&&◌, ◌≢◌, nat_lt, if◌then◌else◌, Some, None, OnOk};
 ghost use Rattle.title_lock.specs.Modes.{bound};
 ghost use Rattle.title_lock.specs.Overlaps.{IsLeast};
-ghost use Rattle.title_lock.specs.Holders.{Modes, holder_mode, has_room, is_free, clashes, listed, first_way, is_one, is_before, IsApart};
+ghost use Rattle.title_lock.specs.Holders.{Modes, holder_mode, has_room, is_free, clashes, listed, first_way, IsApart};
 
 use crate::modes::{Mode, bound, compat};
 use std::alloc::{AllocError, Global};
@@ -50,37 +50,35 @@ fn first_way(first: Option<(u32, Option<Mode>)>, examiner: u32, wanted: Mode) ->
     }
 }
 
-// Whether the first in the way stands before another examiner.
-fn is_before(first: Option<u32>, other: u32) -> bool
-    ensures before { result ≡ is_before first other }
-{
-    match first {
-        Some(first) => first < other,
-        None => false,
-    }
-}
-
-// Looks for the least other examiner whose mode doesn't stand beside the one wanted, among the first in the way and all
-// that stand before it.
-fn search(
-    modes: &BTreeMap<u32, Option<Mode>>,
-    examiner: u32,
-    wanted: Mode,
-    first: Option<u32>,
-) -> Option<u32>
-    requires other { is_one first examiner ≡ false }
-    ensures least { IsLeast (λ f. is_one first f || clashes wanted (holder_mode modes.now.entries f)) examiner result }
+// Looks for the least other examiner whose mode doesn't stand beside the one wanted.
+fn search(modes: &BTreeMap<u32, Option<Mode>>, examiner: u32, wanted: Mode) -> Option<u32>
+    ensures least { IsLeast (λ f. clashes wanted (holder_mode modes.now.entries f)) examiner result }
 {
     for (other, held) in modes {
-        if is_before(first, *other) {
-            return first;
-        }
         let in_way = clashes(wanted, *held);
         if in_way && *other != examiner {
             return Some(*other);
         }
     }
-    first
+    None
+}
+
+// The same among those who stand before an examiner: none behind is looked at.
+fn search_before(
+    modes: &BTreeMap<u32, Option<Mode>>,
+    examiner: u32,
+    wanted: Mode,
+    end: u32,
+) -> Option<u32>
+    ensures least { IsLeast (λ f. nat_lt f end && clashes wanted (holder_mode modes.now.entries f)) examiner result }
+{
+    for (other, held) in modes.range(..end) {
+        let in_way = clashes(wanted, *held);
+        if in_way && *other != examiner {
+            return Some(*other);
+        }
+    }
+    None
 }
 
 // The mode of an examiner.
@@ -173,8 +171,13 @@ impl Places {
     pub(crate) fn way(&self, examiner: u32, wanted: Mode) -> Option<u32>
         ensures way { IsLeast (λ f. clashes wanted (holder_mode self.now f)) examiner result }
     {
-        let first = first_way(self.first, examiner, wanted);
-        search(&self.others, examiner, wanted, first)
+        let Some(first) = first_way(self.first, examiner, wanted) else {
+            return search(&self.others, examiner, wanted);
+        };
+        match search_before(&self.others, examiner, wanted, first) {
+            None => Some(first),
+            before => before,
+        }
     }
 
     /// Makes room for an examiner. Nobody's mode changes.

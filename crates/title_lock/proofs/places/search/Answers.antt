@@ -1,6 +1,6 @@
 -- The first other examiner in the way is the least.
 use Rattle.std.proofs.Common.{subst, ◌∙◌, sym, refl}
-use Rattle.title_lock.proofs.FirstLaws.{Carries, carries_on, first_least, carries_least, carries_none}
+use Rattle.title_lock.proofs.FirstLaws.{Carries, carries_on, carries_least, carries_none}
 use Rattle.title_lock.proofs.places.search.Goals as goal
 use Rattle.title_lock.proofs.places.search.Goals.{else-in_way-via-then-in_way+else-other-examiner, else-in_way-via-else-in_way}
 
@@ -14,18 +14,8 @@ returns-then-other-examiner c =
     let entries = c.args.modes.now.entries in
     let carries = subst (λ rest. Carries c.args.wanted entries rest c.args.examiner) c.in-Some.ensures.steps c.loop-other.invariant in
     record {
-      least = carries_least c.args.wanted entries c.in-Some.other.now c.in-Some.held.now c.next.new.self c.args.examiner c.args.first
-          c.if-other-examiner.true (sym c.clashes-in_way.ensures.clashes ∙ c.if-in_way.true)
-          (sym c.is_before.ensures.before ∙ c.if-is_before.false) carries;
-    }
-
-pub returns-then-is_before : goal.returns-then-is_before
-returns-then-is_before c =
-    let entries = c.args.modes.now.entries in
-    let carries = subst (λ rest. Carries c.args.wanted entries rest c.args.examiner) c.in-Some.ensures.steps c.loop-other.invariant in
-    record {
-      least = first_least c.args.wanted entries c.in-Some.other.now c.in-Some.held.now c.next.new.self c.args.examiner c.args.first
-          c.requires.other (sym c.is_before.ensures.before ∙ c.if-is_before.true) carries;
+      least = carries_least c.args.wanted entries c.in-Some.other.now c.in-Some.held.now c.next.new.self c.args.examiner
+          c.if-other-examiner.true (sym c.clashes-in_way.ensures.clashes ∙ c.if-in_way.true) carries;
     }
 
 pub loop-other-preserved : goal.loop-other-preserved
@@ -42,6 +32,6 @@ pub returns : goal.returns
 returns c =
     let entries = c.args.modes.now.entries in
     record {
-      least = carries_none c.args.wanted entries c.args.examiner c.args.first c.requires.other
+      least = carries_none c.args.wanted entries c.args.examiner
           (subst (λ rest. Carries c.args.wanted entries rest c.args.examiner) c.in-None.ensures.steps.0 c.loop-other.invariant);
     }
