@@ -32,16 +32,6 @@ fn name_bytes(names: &Names, party: u32) -> &[u8]
     }
 }
 
-// The most bytes of a row of a sheet or a chain that are none of its names: the text before these, their quotes, and what
-// stands behind them.
-const MOST_BESIDE_NAMES: usize = 128;
-
-// Whether the page has room for a row with names of so many bytes in all, each of which may be a quote. Where it has none, the
-// row is written field by field, so that a page goes to the sink where it would if all rows were.
-fn has_room_for(page: &Page, names: usize) -> bool {
-    page.has_room(names.saturating_mul(2).saturating_add(MOST_BESIDE_NAMES))
-}
-
 // Writes the row of a refused post.
 fn put_refused<S: Sink>(
     page: &mut Page,
@@ -118,7 +108,8 @@ fn put_row_from<S: Sink>(
     put_tail(page, sink, units)
 }
 
-// Writes a row of a sheet, from the beginning that it shares with the row before where these are one.
+// Writes a row of a sheet, from the beginning that it shares with the row before where these are one. Where the page has no
+// room for that, field by field, so that it goes to the sink where it would if all rows were written so.
 fn put_sheet_line<S: Sink>(
     page: &mut Page,
     sink: &mut S,
@@ -137,13 +128,13 @@ fn put_sheet_line<S: Sink>(
         (rows_text (sheet_row (map string_bytes names.now.keys) examiner line.now ∷ []))) }
     ensures failed { OnErr result (S.has_failed sink.new ≡ true) }
 {
-    let name = name_bytes(names, line.party);
-    if !has_room_for(page, name.len()) {
-        return put_sheet_row(page, sink, names, examiner, *line);
-    }
     if front.text_for(examiner, line).is_none() {
         return put_sheet_row(page, sink, names, examiner, *line);
     }
+    if !page.has_room(front.text.as_bytes().len()) {
+        return put_sheet_row(page, sink, names, examiner, *line);
+    }
+    let name = name_bytes(names, line.party);
     put_row_from(page, sink, front.text.as_bytes(), name, line.units)
 }
 
@@ -257,7 +248,7 @@ fn put_entries_by_fields<S: Sink>(
     Ok(())
 }
 
-// Writes a row of a chain, from the text with which all its rows begin.
+// Writes a row of a chain, from the text with which all its rows begin; field by field where the page has no room for it.
 fn put_entry_line<S: Sink>(
     page: &mut Page,
     sink: &mut S,
@@ -277,11 +268,6 @@ fn put_entry_line<S: Sink>(
     ensures failed { OnErr result (S.has_failed sink.new ≡ true) }
 {
     let instrument = entry.posting.instrument;
-    let giver = name_bytes(names, instrument.grantor());
-    let taker = name_bytes(names, instrument.grantee());
-    if !has_room_for(page, giver.len().saturating_add(taker.len())) {
-        return put_entry(page, sink, names, examiner, entry);
-    }
     if make_entry(
         line,
         start,
@@ -293,8 +279,13 @@ fn put_entry_line<S: Sink>(
     {
         return put_entry(page, sink, names, examiner, entry);
     }
+    if !page.has_room(line.as_bytes().len()) {
+        return put_entry(page, sink, names, examiner, entry);
+    }
     number_is_plain(entry.place);
     number_is_plain(entry.posting.doc);
+    let giver = name_bytes(names, instrument.grantor());
+    let taker = name_bytes(names, instrument.grantee());
     let end = estates_end(instrument.estates());
     put_entry_from(page, sink, line.as_bytes(), giver, taker, end)
 }

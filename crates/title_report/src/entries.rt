@@ -81,6 +81,23 @@ fn put_names<S: Sink>(page: &mut Page, sink: &mut S, from: &[u8], to: &[u8]) -> 
     page.field(sink, to)
 }
 
+// Writes the end of a chain's row: in its three parts where the page has no room for it.
+fn put_end<S: Sink>(page: &mut Page, sink: &mut S, end: &[u8]) -> Result<(), Failed>
+    requires works { S.has_failed sink.old ≡ false }
+    ensures written { OnOk result (Written (S.taken sink.old) page.old (S.taken sink.new) page.new end.now) }
+    ensures well { OnOk result (S.has_failed sink.new ≡ false) }
+    ensures stopped { OnErr result (Stopped (S.taken sink.old) page.old (S.taken sink.new) end.now) }
+    ensures failed { OnErr result (S.has_failed sink.new ≡ true) }
+{
+    let [first, letters @ .., last] = end else {
+        return page.put(sink, end);
+    };
+    if page.has_room(end.len()) {
+        return page.put(sink, end);
+    }
+    page.put_each(sink, &[&[*first], letters, &[*last]])
+}
+
 // Writes a chain's row of which all but the names is made.
 pub(crate) fn put_entry_from<S: Sink>(
     page: &mut Page,
@@ -100,5 +117,5 @@ pub(crate) fn put_entry_from<S: Sink>(
 {
     page.put(sink, front)?;
     put_names(page, sink, from, to)?;
-    page.put(sink, end)
+    put_end(page, sink, end)
 }

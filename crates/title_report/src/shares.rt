@@ -100,7 +100,11 @@ fn put_tail_field<S: Sink>(page: &mut Page, sink: &mut S, units: u64) -> Result<
     page.put(sink, b"\n")
 }
 
-// Writes what stands behind the name in a row of a sheet.
+// The most bytes that stand behind the name in a row of a sheet: a comma, twenty digits, and a slash with ten more and the
+// line's end.
+const MOST_BEHIND: usize = 33;
+
+// Writes what stands behind the name in a row of a sheet; field by field where the page may have no room for it.
 pub(crate) fn put_tail<S: Sink>(page: &mut Page, sink: &mut S, units: u64) -> Result<(), Failed>
     requires works { S.has_failed sink.old ≡ false }
     ensures written { OnOk result (Written (S.taken sink.old) page.old (S.taken sink.new) page.new (tail_text units)) }
@@ -108,6 +112,9 @@ pub(crate) fn put_tail<S: Sink>(page: &mut Page, sink: &mut S, units: u64) -> Re
     ensures stopped { OnErr result (Stopped (S.taken sink.old) page.old (S.taken sink.new) (tail_text units)) }
     ensures failed { OnErr result (S.has_failed sink.new ≡ true) }
 {
+    if !page.has_room(MOST_BEHIND) {
+        return put_tail_field(page, sink, units);
+    }
     let halved = halvings(units);
     let Some(bottom) = bottom_bytes(32 - halved) else {
         return put_tail_field(page, sink, units);

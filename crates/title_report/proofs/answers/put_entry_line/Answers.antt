@@ -10,9 +10,9 @@ pub returns-clause-written : goal.returns-clause-written
 returns-clause-written g c =
     let made = of_some c.make_entry.result (c.if-is_none.ensures {u = tt}) c.make_entry.ensures.made in
     let small : c.args.examiner < 2 ^ 64 = omega (arith, c.ranges.examiner.fits) in
-    let parts = entry_from c.args.start.now c.as_bytes.result.now c.name_bytes-giver.result.now c.name_bytes-taker.result.now
+    let parts = entry_from c.args.start.now c.as_bytes-2.result.now c.name_bytes-giver.result.now c.name_bytes-taker.result.now
     c.estates_end-end.result.now c.kind.result c.grantor.result c.grantee.result c.estates.result
-    (map string_bytes c.args.names.now.keys) c.args.examiner c.args.entry.now c.requires.start (c.as_bytes.ensures.bytes ∙ made)
+    (map string_bytes c.args.names.now.keys) c.args.examiner c.args.entry.now c.requires.start (c.as_bytes-2.ensures.bytes ∙ made)
     c.kind.ensures.kind c.name_bytes-giver.ensures.name c.grantor.ensures.grantor c.name_bytes-taker.ensures.name
     c.grantee.ensures.grantee c.estates_end-end.ensures.letters c.estates.ensures.estates small
     c.number_is_plain.ensures.plain c.number_is_plain-2.ensures.plain in
@@ -22,9 +22,9 @@ pub returns-clause-stopped : goal.returns-clause-stopped
 returns-clause-stopped g c =
     let made = of_some c.make_entry.result (c.if-is_none.ensures {u = tt}) c.make_entry.ensures.made in
     let small : c.args.examiner < 2 ^ 64 = omega (arith, c.ranges.examiner.fits) in
-    let parts = entry_from c.args.start.now c.as_bytes.result.now c.name_bytes-giver.result.now c.name_bytes-taker.result.now
+    let parts = entry_from c.args.start.now c.as_bytes-2.result.now c.name_bytes-giver.result.now c.name_bytes-taker.result.now
     c.estates_end-end.result.now c.kind.result c.grantor.result c.grantee.result c.estates.result
-    (map string_bytes c.args.names.now.keys) c.args.examiner c.args.entry.now c.requires.start (c.as_bytes.ensures.bytes ∙ made)
+    (map string_bytes c.args.names.now.keys) c.args.examiner c.args.entry.now c.requires.start (c.as_bytes-2.ensures.bytes ∙ made)
     c.kind.ensures.kind c.name_bytes-giver.ensures.name c.grantor.ensures.grantor c.name_bytes-taker.ensures.name
     c.grantee.ensures.grantee c.estates_end-end.ensures.letters c.estates.ensures.estates small
     c.number_is_plain.ensures.plain c.number_is_plain-2.ensures.plain in

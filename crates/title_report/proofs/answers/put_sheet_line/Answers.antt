@@ -10,14 +10,14 @@ pub returns-clause-written : goal.returns-clause-written
 returns-clause-written g c =
     let made = of_some c.text_for.result (c.if-is_none.ensures {u = tt}) c.text_for.ensures.text in
     let small : c.args.examiner < 2 ^ 64 = omega (arith, c.ranges.examiner.fits) in
-    let parts = line_parts c.as_bytes.result.now c.name_bytes-name.result.now (map string_bytes c.args.names.now.keys)
-    c.args.examiner c.args.line.now (c.as_bytes.ensures.bytes ∙ made) c.name_bytes-name.ensures.name small in
+    let parts = line_parts c.as_bytes-2.result.now c.name_bytes-name.result.now (map string_bytes c.args.names.now.keys)
+    c.args.examiner c.args.line.now (c.as_bytes-2.ensures.bytes ∙ made) c.name_bytes-name.ensures.name small in
     on_ok_weaker c.put_row_from.result (λ w. written_as parts w) c.put_row_from.ensures.written
 
 pub returns-clause-stopped : goal.returns-clause-stopped
 returns-clause-stopped g c =
     let made = of_some c.text_for.result (c.if-is_none.ensures {u = tt}) c.text_for.ensures.text in
     let small : c.args.examiner < 2 ^ 64 = omega (arith, c.ranges.examiner.fits) in
-    let parts = line_parts c.as_bytes.result.now c.name_bytes-name.result.now (map string_bytes c.args.names.now.keys)
-    c.args.examiner c.args.line.now (c.as_bytes.ensures.bytes ∙ made) c.name_bytes-name.ensures.name small in
+    let parts = line_parts c.as_bytes-2.result.now c.name_bytes-name.result.now (map string_bytes c.args.names.now.keys)
+    c.args.examiner c.args.line.now (c.as_bytes-2.ensures.bytes ∙ made) c.name_bytes-name.ensures.name small in
     on_err_weaker c.put_row_from.result (λ v. stopped_as parts v) c.put_row_from.ensures.stopped
