@@ -39,7 +39,8 @@ square_wide : (s : Section) (v : List Quarter) → 4194304 ≤ node_number (node
 square_wide s v = omega (arith, path_positive v)
 
 -- squares below one node have the same nodes above
-squares_above : (s u : Section) (v w : List Quarter) → number_above (node_number (node.Part s v)) ≡ number_above (node_number (node.Part u w))
+squares_above : (s u : Section) (v w : List Quarter)
+    → number_above (node_number (node.Part s v)) ≡ number_above (node_number (node.Part u w))
     → above (node.Part s v) ≡ above (node.Part u w)
 squares_above s u v w h =
     let p = parent_in s v in

@@ -99,7 +99,8 @@ keys_filter p [] = refl
 keys_filter p (e ∷ es) = go (p e.0) (keys_filter p es)
   where
     go : (b : Bool) → keys_of (filter (λ e. p e.0) es) ≡ filter p (keys_of es)
-        → keys_of (cond b (e ∷ filter (λ e. p e.0) es) (filter (λ e. p e.0) es)) ≡ cond b (e.0 ∷ filter p (keys_of es)) (filter p (keys_of es))
+        → keys_of (cond b (e ∷ filter (λ e. p e.0) es) (filter (λ e. p e.0) es))
+        ≡ cond b (e.0 ∷ filter p (keys_of es)) (filter p (keys_of es))
     go true h = ap (λ (ks : List ℕ). e.0 ∷ ks) h
     go false h = h
 

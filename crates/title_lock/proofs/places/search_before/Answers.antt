@@ -16,7 +16,8 @@ returns-then-other-examiner c =
     let entries = before c.args.end c.args.modes.now.entries in
     let carries = subst (λ rest. Carries c.args.wanted entries rest c.args.examiner) c.in-Some.ensures.steps c.loop-other.invariant in
     record {
-      least = least_same (in_way c.args.wanted entries) _ c.args.examiner (Some c.in-Some.other.now) (λ f o. in_way_before c.args.wanted c.args.end c.args.modes.now.entries f)
+      least = least_same (in_way c.args.wanted entries) _ c.args.examiner (Some c.in-Some.other.now)
+          (λ f o. in_way_before c.args.wanted c.args.end c.args.modes.now.entries f)
           (carries_least c.args.wanted entries c.in-Some.other.now c.in-Some.held.now c.next.new.self c.args.examiner
           c.if-other-examiner.true (sym c.clashes-in_way.ensures.clashes ∙ c.if-in_way.true) carries);
     }
@@ -35,7 +36,8 @@ pub returns : goal.returns
 returns c =
     let entries = before c.args.end c.args.modes.now.entries in
     record {
-      least = least_same (in_way c.args.wanted entries) _ c.args.examiner None (λ f o. in_way_before c.args.wanted c.args.end c.args.modes.now.entries f)
+      least = least_same (in_way c.args.wanted entries) _ c.args.examiner None
+          (λ f o. in_way_before c.args.wanted c.args.end c.args.modes.now.entries f)
           (carries_none c.args.wanted entries c.args.examiner
           (subst (λ rest. Carries c.args.wanted entries rest c.args.examiner) c.in-None.ensures.steps.0 c.loop-other.invariant));
     }

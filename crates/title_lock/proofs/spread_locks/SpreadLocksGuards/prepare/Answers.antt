@@ -18,7 +18,8 @@ invariant_of-self c =
     let book = c.self.inside.book in
     let t = c.self.inside.table in
     let u = c.stage.new.table in
-    let none : p ≡ None = none_waiting depth p book t c.self.invariant.kept (ap (λ (l : Locks). l.prepared) c.self.view_is ∙ c.forget.ensures.none) in
+    let none : p ≡ None = none_waiting depth p book t c.self.invariant.kept
+    (ap (λ (l : Locks). l.prepared) c.self.view_is ∙ c.forget.ensures.none) in
     let same : c.stage.new.book ≡ book = c.in_default-stage.ensures.err in
     record {
       kept = subst (λ (b : List Entry). AreKept depth p b u) (sym same)
@@ -37,7 +38,8 @@ invariant_of-self-2 c =
     let u = c.stage.new.table in
     let e = c.args.examiner in
     let x : Entry = record { examiner = e; tract = c.in-Ok.copy; access = c.args.access } in
-    let none : p ≡ None = none_waiting depth p book t c.self.invariant.kept (ap (λ (l : Locks). l.prepared) c.self.view_is ∙ c.forget.ensures.none) in
+    let none : p ≡ None = none_waiting depth p book t c.self.invariant.kept
+    (ap (λ (l : Locks). l.prepared) c.self.view_is ∙ c.forget.ensures.none) in
     let es : granted p book ≡ c.forget.new.self.entries = ap (λ (l : Locks). l.entries) c.self.view_is in
     let all : granted p book ≡ book = ap (λ (q : Option ℕ). granted q book) none in
     let cover : c.cover.result.now ≡ cover_of depth c.in-Ok.copy = c.cover.ensures.cover ∙ ap (cover_of depth) (sym c.in-Ok.ensures.copy) in
@@ -49,7 +51,8 @@ invariant_of-self-2 c =
           own = refl;
           wide = subst (λ (l : Land). IsLand depth l) (sym c.in-Ok.ensures.copy) c.cover.ensures.sized;
           free = subst (λ (l : Land). Stands book e l (is_post c.args.access) None) (sym c.in-Ok.ensures.copy)
-              (subst (λ (b : List Entry). Stands b e c.args.tract.now (is_post c.args.access) None) (sym es ∙ all) c.in_default.ensures.would);
+              (subst (λ (b : List Entry). Stands b e c.args.tract.now (is_post c.args.access) None) (sym es ∙ all)
+              c.in_default.ensures.would);
           room = subst (λ (nodes : List Node). HasRoom u e (λ n. list_any (is_asked n) nodes)) cover c.in-Ok-stage.ensures.room;
         },
       );

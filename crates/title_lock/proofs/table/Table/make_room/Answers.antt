@@ -39,7 +39,8 @@ returns-clause-modes c f =
     let code = c.args.spot.now.numbered in
     let none = node_finds c.args.self.now.places c.args.spot.now.number c.args.spot.now.node None code c.in_default.ensures.value in
     let writes = node_writes c.args.self.now.places c.insert.new.self c.args.spot.now.number c.args.spot.now.node (Some v) code
-    (subst (λ (m : Places). (q : ℕ) → get nat_cmp c.insert.new.self q ≡ cond (is_at (nat_cmp c.args.spot.now.number) q) (Some v) (get nat_cmp m q))
+    (subst (λ (m : Places). (q : ℕ) → get nat_cmp c.insert.new.self q
+    ≡ cond (is_at (nat_cmp c.args.spot.now.number) q) (Some v) (get nat_cmp m q))
     c.get_mut.follows.holds-at-none c.in_ok-insert.ensures.updates.0) in
     same_everywhere c.args.self.now.places c.insert.new.self c.args.spot.now.node (Some v)
     writes
@@ -52,7 +53,8 @@ returns-clause-stays c e =
     let code = c.args.spot.now.numbered in
     let none = node_finds c.args.self.now.places c.args.spot.now.number c.args.spot.now.node None code c.in_default.ensures.value in
     let writes = node_writes c.args.self.now.places c.insert.new.self c.args.spot.now.number c.args.spot.now.node (Some v) code
-    (subst (λ (m : Places). (q : ℕ) → get nat_cmp c.insert.new.self q ≡ cond (is_at (nat_cmp c.args.spot.now.number) q) (Some v) (get nat_cmp m q))
+    (subst (λ (m : Places). (q : ℕ) → get nat_cmp c.insert.new.self q
+    ≡ cond (is_at (nat_cmp c.args.spot.now.number) q) (Some v) (get nat_cmp m q))
     c.get_mut.follows.holds-at-none c.in_ok-insert.ensures.updates.0) in
     room_stays c.args.self.now.places c.insert.new.self c.args.spot.now.node (Some v)
     writes e
@@ -96,7 +98,8 @@ returns-clause-idle c =
     let code = c.args.spot.now.numbered in
     let none = node_finds c.args.self.now.places c.args.spot.now.number c.args.spot.now.node None code c.in_default.ensures.value in
     let writes = node_writes c.args.self.now.places c.insert.new.self c.args.spot.now.number c.args.spot.now.node (Some v) code
-    (subst (λ (m : Places). (q : ℕ) → get nat_cmp c.insert.new.self q ≡ cond (is_at (nat_cmp c.args.spot.now.number) q) (Some v) (get nat_cmp m q))
+    (subst (λ (m : Places). (q : ℕ) → get nat_cmp c.insert.new.self q
+    ≡ cond (is_at (nat_cmp c.args.spot.now.number) q) (Some v) (get nat_cmp m q))
     c.get_mut.follows.holds-at-none c.in_ok-insert.ensures.updates.0) in
     record {
       more = λ f. idle_more c.args.self.now.places c.insert.new.self c.args.spot.now.node (Some v)
@@ -112,7 +115,8 @@ returns-clause-used c used =
     let code = c.args.spot.now.numbered in
     let none = node_finds c.args.self.now.places c.args.spot.now.number c.args.spot.now.node None code c.in_default.ensures.value in
     let writes = node_writes c.args.self.now.places c.insert.new.self c.args.spot.now.number c.args.spot.now.node (Some v) code
-    (subst (λ (m : Places). (q : ℕ) → get nat_cmp c.insert.new.self q ≡ cond (is_at (nat_cmp c.args.spot.now.number) q) (Some v) (get nat_cmp m q))
+    (subst (λ (m : Places). (q : ℕ) → get nat_cmp c.insert.new.self q
+    ≡ cond (is_at (nat_cmp c.args.spot.now.number) q) (Some v) (get nat_cmp m q))
     c.get_mut.follows.holds-at-none c.in_ok-insert.ensures.updates.0) in
     record {
       each = used_after c.args.self.now.places c.insert.new.self c.args.spot.now.node (Some v)

@@ -31,7 +31,8 @@ loop-node-preserved c =
           ∙ ap (λ (b : Bool). cond (mine && b) None old) (list_parts nodes i k n at_it low);
       idle = less_next c.args.cover.now c.loop-node.node-index k at_it low c.loop-node.invariant.idle
           c.take_out_next.ensures.idle;
-      known = λ n same. gone_after k (is_mode c.args.taken) n (ap (λ (z : Option ℕ). same_family z (family (node_number n))) (sym fam) ∙ same)
+      known = λ n same. gone_after k (is_mode c.args.taken) n
+          (ap (λ (z : Option ℕ). same_family z (family (node_number n))) (sym fam) ∙ same)
           c.take_out_next.ensures.modes c.take_out_next.ensures.idle;
       used = λ used. c.take_out_next.ensures.used (c.loop-node.invariant.used used);
     }
