@@ -56,10 +56,11 @@ fn is_special(byte: u8) -> bool
     SPECIAL[usize::from(byte)]
 }
 
-// Whether a field is quoted. It looks at each byte, which costs less than to stop at the first that calls for quotes.
-fn is_quoted(field: &[u8]) -> bool
+/// Whether a field is quoted: where it has a comma, a quote or a line's end.
+pub fn is_quoted(field: &[u8]) -> bool
     ensures quoted { result ≡ needs_quotes row_writer field.now }
 {
+    // It looks at each byte, which costs less than to stop at the first that calls for quotes.
     let mut some = false;
     for byte in field {
         some |= is_special(*byte);
@@ -225,7 +226,25 @@ impl Page {
         ensures stopped { OnErr result (Stopped (S.taken sink.old) self.old (S.taken sink.new) (field_text row_writer field.now)) }
         ensures failed { OnErr result (S.has_failed sink.new ≡ true) }
     {
-        if is_quoted(field) {
+        self.judged_field(sink, field, is_quoted(field))
+    }
+
+    /// Writes a field of which it is known whether it is quoted. `Failed` as with `put`.
+    #[inline]
+    pub fn judged_field<S: Sink>(
+        &mut self,
+        sink: &mut S,
+        field: &[u8],
+        in_quotes: bool,
+    ) -> Result<(), Failed>
+        requires works { S.has_failed sink.old ≡ false }
+        requires judged { in_quotes ≡ needs_quotes row_writer field.now }
+        ensures written { OnOk result (Written (S.taken sink.old) self.old (S.taken sink.new) self.new (field_text row_writer field.now)) }
+        ensures well { OnOk result (S.has_failed sink.new ≡ false) }
+        ensures stopped { OnErr result (Stopped (S.taken sink.old) self.old (S.taken sink.new) (field_text row_writer field.now)) }
+        ensures failed { OnErr result (S.has_failed sink.new ≡ true) }
+    {
+        if in_quotes {
             return self.put_quoted(sink, field);
         }
         self.put(sink, field)

@@ -1,4 +1,5 @@
 pub mod Halvings
+pub mod Judged
 pub mod Lines
 pub mod Parts
 pub mod Plain

@@ -1,3 +1,4 @@
 pub mod Fields
 pub mod Fronts
 pub mod Replies
+pub mod Rosters

@@ -13,7 +13,8 @@ use crate::entries::{estates_end, make_entry, make_start, put_entry_from};
 use crate::field::ReportField;
 use crate::front::Front;
 use crate::nodes::number_is_plain;
-use crate::replies::{Names, put_number_row, put_row, put_word_row};
+use crate::replies::{put_number_row, put_row, put_word_row};
+use crate::roster::{Name, Roster};
 use crate::shares::put_tail;
 use title_chain::{Answer, Entry};
 use title_device::{Failed, Sink};
@@ -21,16 +22,6 @@ use title_instrument::{Estate, Kind, Rule};
 use title_land::Node;
 use title_page::{Line, Page};
 use title_store::SheetRow;
-
-// The name of the party of this number.
-fn name_bytes(names: &Names, party: u32) -> &[u8]
-    ensures name { result.now ≡ name_of (map string_bytes names.now.keys) party }
-{
-    match names.get_index(party as usize) {
-        Some(name) => name.as_bytes(),
-        None => b"",
-    }
-}
 
 // Writes the row of a refused post.
 fn put_refused<S: Sink>(
@@ -63,19 +54,19 @@ fn put_refused<S: Sink>(
 fn put_sheet_row<S: Sink>(
     page: &mut Page,
     sink: &mut S,
-    names: &Names,
+    roster: &Roster,
     examiner: u32,
     line: SheetRow,
 ) -> Result<(), Failed>
     requires works { S.has_failed sink.old ≡ false }
     ensures written { OnOk result (Written (S.taken sink.old) page.old (S.taken sink.new) page.new
-        (rows_text (sheet_row (map string_bytes names.now.keys) examiner line ∷ []))) }
+        (rows_text (sheet_row roster.now examiner line ∷ []))) }
     ensures well { OnOk result (S.has_failed sink.new ≡ false) }
     ensures stopped { OnErr result (Stopped (S.taken sink.old) page.old (S.taken sink.new)
-        (rows_text (sheet_row (map string_bytes names.now.keys) examiner line ∷ []))) }
+        (rows_text (sheet_row roster.now examiner line ∷ []))) }
     ensures failed { OnErr result (S.has_failed sink.new ≡ true) }
 {
-    let name = name_bytes(names, line.party);
+    let name = roster.bytes(line.party);
     let fields = [
         ReportField::Number(u64::from(examiner)),
         ReportField::Text(b"row"),
@@ -92,7 +83,7 @@ fn put_row_from<S: Sink>(
     page: &mut Page,
     sink: &mut S,
     front: &[u8],
-    name: &[u8],
+    name: &Name,
     units: u64,
 ) -> Result<(), Failed>
     requires works { S.has_failed sink.old ≡ false }
@@ -104,7 +95,7 @@ fn put_row_from<S: Sink>(
     ensures failed { OnErr result (S.has_failed sink.new ≡ true) }
 {
     page.put(sink, front)?;
-    page.field(sink, name)?;
+    name.write(page, sink)?;
     put_tail(page, sink, units)
 }
 
@@ -113,7 +104,7 @@ fn put_row_from<S: Sink>(
 fn put_sheet_line<S: Sink>(
     page: &mut Page,
     sink: &mut S,
-    names: &Names,
+    roster: &Roster,
     examiner: u32,
     front: &mut Front,
     line: &SheetRow,
@@ -122,41 +113,41 @@ fn put_sheet_line<S: Sink>(
     requires front { IsFront examiner front.old }
     ensures front { IsFront examiner front.new }
     ensures written { OnOk result (Written (S.taken sink.old) page.old (S.taken sink.new) page.new
-        (rows_text (sheet_row (map string_bytes names.now.keys) examiner line.now ∷ []))) }
+        (rows_text (sheet_row roster.now examiner line.now ∷ []))) }
     ensures well { OnOk result (S.has_failed sink.new ≡ false) }
     ensures stopped { OnErr result (Stopped (S.taken sink.old) page.old (S.taken sink.new)
-        (rows_text (sheet_row (map string_bytes names.now.keys) examiner line.now ∷ []))) }
+        (rows_text (sheet_row roster.now examiner line.now ∷ []))) }
     ensures failed { OnErr result (S.has_failed sink.new ≡ true) }
 {
     if front.text_for(examiner, line).is_none() {
-        return put_sheet_row(page, sink, names, examiner, *line);
+        return put_sheet_row(page, sink, roster, examiner, *line);
     }
     if !page.has_room(front.text.as_bytes().len()) {
-        return put_sheet_row(page, sink, names, examiner, *line);
+        return put_sheet_row(page, sink, roster, examiner, *line);
     }
-    let name = name_bytes(names, line.party);
-    put_row_from(page, sink, front.text.as_bytes(), name, line.units)
+    let name = roster.name(line.party);
+    put_row_from(page, sink, front.text.as_bytes(), &name, line.units)
 }
 
 // Writes the rows of a sheet.
 fn put_sheet_rows<S: Sink>(
     page: &mut Page,
     sink: &mut S,
-    names: &Names,
+    roster: &Roster,
     examiner: u32,
     lines: &[SheetRow],
 ) -> Result<(), Failed>
     requires works { S.has_failed sink.old ≡ false }
     ensures written { OnOk result (Written (S.taken sink.old) page.old (S.taken sink.new) page.new
-        (rows_text (map (sheet_row (map string_bytes names.now.keys) examiner) lines.now))) }
+        (rows_text (map (sheet_row roster.now examiner) lines.now))) }
     ensures well { OnOk result (S.has_failed sink.new ≡ false) }
     ensures stopped { OnErr result (Stopped (S.taken sink.old) page.old (S.taken sink.new)
-        (rows_text (map (sheet_row (map string_bytes names.now.keys) examiner) lines.now))) }
+        (rows_text (map (sheet_row roster.now examiner) lines.now))) }
     ensures failed { OnErr result (S.has_failed sink.new ≡ true) }
 {
     let mut front = Front::new();
     for line in lines {
-        put_sheet_line(page, sink, names, examiner, &mut front, line)?;
+        put_sheet_line(page, sink, roster, examiner, &mut front, line)?;
     }
     Ok(())
 }
@@ -165,22 +156,22 @@ fn put_sheet_rows<S: Sink>(
 fn put_sheet<S: Sink>(
     page: &mut Page,
     sink: &mut S,
-    names: &Names,
+    roster: &Roster,
     examiner: u32,
     lines: &[SheetRow],
 ) -> Result<(), Failed>
     requires works { S.has_failed sink.old ≡ false }
     ensures written { OnOk result (Written (S.taken sink.old) page.old (S.taken sink.new) page.new
         (rows_text (number_row examiner (codes "sheet") (length lines.now)
-        ∷ map (sheet_row (map string_bytes names.now.keys) examiner) lines.now))) }
+        ∷ map (sheet_row roster.now examiner) lines.now))) }
     ensures well { OnOk result (S.has_failed sink.new ≡ false) }
     ensures stopped { OnErr result (Stopped (S.taken sink.old) page.old (S.taken sink.new)
         (rows_text (number_row examiner (codes "sheet") (length lines.now)
-        ∷ map (sheet_row (map string_bytes names.now.keys) examiner) lines.now))) }
+        ∷ map (sheet_row roster.now examiner) lines.now))) }
     ensures failed { OnErr result (S.has_failed sink.new ≡ true) }
 {
     put_number_row(page, sink, examiner, b"sheet", lines.len() as u64)?;
-    put_sheet_rows(page, sink, names, examiner, lines)
+    put_sheet_rows(page, sink, roster, examiner, lines)
 }
 
 // The word of a kind of instrument.
@@ -198,21 +189,21 @@ fn kind_bytes(kind: Kind) -> &'static [u8]
 fn put_entry<S: Sink>(
     page: &mut Page,
     sink: &mut S,
-    names: &Names,
+    roster: &Roster,
     examiner: u32,
     entry: &Entry,
 ) -> Result<(), Failed>
     requires works { S.has_failed sink.old ≡ false }
     ensures written { OnOk result (Written (S.taken sink.old) page.old (S.taken sink.new) page.new
-        (rows_text (entry_row (map string_bytes names.now.keys) examiner entry.now ∷ []))) }
+        (rows_text (entry_row roster.now examiner entry.now ∷ []))) }
     ensures well { OnOk result (S.has_failed sink.new ≡ false) }
     ensures stopped { OnErr result (Stopped (S.taken sink.old) page.old (S.taken sink.new)
-        (rows_text (entry_row (map string_bytes names.now.keys) examiner entry.now ∷ []))) }
+        (rows_text (entry_row roster.now examiner entry.now ∷ []))) }
     ensures failed { OnErr result (S.has_failed sink.new ≡ true) }
 {
     let instrument = entry.posting.instrument;
-    let from = name_bytes(names, instrument.grantor());
-    let to = name_bytes(names, instrument.grantee());
+    let from = roster.bytes(instrument.grantor());
+    let to = roster.bytes(instrument.grantee());
     let fields = [
         ReportField::Number(u64::from(examiner)),
         ReportField::Text(b"entry"),
@@ -230,20 +221,20 @@ fn put_entry<S: Sink>(
 fn put_entries_by_fields<S: Sink>(
     page: &mut Page,
     sink: &mut S,
-    names: &Names,
+    roster: &Roster,
     examiner: u32,
     entries: &[Entry],
 ) -> Result<(), Failed>
     requires works { S.has_failed sink.old ≡ false }
     ensures written { OnOk result (Written (S.taken sink.old) page.old (S.taken sink.new) page.new
-        (rows_text (map (entry_row (map string_bytes names.now.keys) examiner) entries.now))) }
+        (rows_text (map (entry_row roster.now examiner) entries.now))) }
     ensures well { OnOk result (S.has_failed sink.new ≡ false) }
     ensures stopped { OnErr result (Stopped (S.taken sink.old) page.old (S.taken sink.new)
-        (rows_text (map (entry_row (map string_bytes names.now.keys) examiner) entries.now))) }
+        (rows_text (map (entry_row roster.now examiner) entries.now))) }
     ensures failed { OnErr result (S.has_failed sink.new ≡ true) }
 {
     for entry in entries {
-        put_entry(page, sink, names, examiner, entry)?;
+        put_entry(page, sink, roster, examiner, entry)?;
     }
     Ok(())
 }
@@ -252,7 +243,7 @@ fn put_entries_by_fields<S: Sink>(
 fn put_entry_line<S: Sink>(
     page: &mut Page,
     sink: &mut S,
-    names: &Names,
+    roster: &Roster,
     examiner: u32,
     start: &[u8],
     line: &mut Line,
@@ -261,10 +252,10 @@ fn put_entry_line<S: Sink>(
     requires start { start.now ≡ entry_start examiner }
     requires works { S.has_failed sink.old ≡ false }
     ensures written { OnOk result (Written (S.taken sink.old) page.old (S.taken sink.new) page.new
-        (rows_text (entry_row (map string_bytes names.now.keys) examiner entry.now ∷ []))) }
+        (rows_text (entry_row roster.now examiner entry.now ∷ []))) }
     ensures well { OnOk result (S.has_failed sink.new ≡ false) }
     ensures stopped { OnErr result (Stopped (S.taken sink.old) page.old (S.taken sink.new)
-        (rows_text (entry_row (map string_bytes names.now.keys) examiner entry.now ∷ []))) }
+        (rows_text (entry_row roster.now examiner entry.now ∷ []))) }
     ensures failed { OnErr result (S.has_failed sink.new ≡ true) }
 {
     let instrument = entry.posting.instrument;
@@ -277,24 +268,24 @@ fn put_entry_line<S: Sink>(
     )
     .is_none()
     {
-        return put_entry(page, sink, names, examiner, entry);
+        return put_entry(page, sink, roster, examiner, entry);
     }
     if !page.has_room(line.as_bytes().len()) {
-        return put_entry(page, sink, names, examiner, entry);
+        return put_entry(page, sink, roster, examiner, entry);
     }
     number_is_plain(entry.place);
     number_is_plain(entry.posting.doc);
-    let giver = name_bytes(names, instrument.grantor());
-    let taker = name_bytes(names, instrument.grantee());
+    let giver = roster.name(instrument.grantor());
+    let taker = roster.name(instrument.grantee());
     let end = estates_end(instrument.estates());
-    put_entry_from(page, sink, line.as_bytes(), giver, taker, end)
+    put_entry_from(page, sink, line.as_bytes(), &giver, &taker, end)
 }
 
 // Writes the entries of a chain, each from the text with which they begin.
 fn put_entries_from<S: Sink>(
     page: &mut Page,
     sink: &mut S,
-    names: &Names,
+    roster: &Roster,
     examiner: u32,
     start: &[u8],
     entries: &[Entry],
@@ -302,15 +293,15 @@ fn put_entries_from<S: Sink>(
     requires start { start.now ≡ entry_start examiner }
     requires works { S.has_failed sink.old ≡ false }
     ensures written { OnOk result (Written (S.taken sink.old) page.old (S.taken sink.new) page.new
-        (rows_text (map (entry_row (map string_bytes names.now.keys) examiner) entries.now))) }
+        (rows_text (map (entry_row roster.now examiner) entries.now))) }
     ensures well { OnOk result (S.has_failed sink.new ≡ false) }
     ensures stopped { OnErr result (Stopped (S.taken sink.old) page.old (S.taken sink.new)
-        (rows_text (map (entry_row (map string_bytes names.now.keys) examiner) entries.now))) }
+        (rows_text (map (entry_row roster.now examiner) entries.now))) }
     ensures failed { OnErr result (S.has_failed sink.new ≡ true) }
 {
     let mut line = Line::new();
     for entry in entries {
-        put_entry_line(page, sink, names, examiner, start, &mut line, entry)?;
+        put_entry_line(page, sink, roster, examiner, start, &mut line, entry)?;
     }
     Ok(())
 }
@@ -319,66 +310,66 @@ fn put_entries_from<S: Sink>(
 fn put_entries<S: Sink>(
     page: &mut Page,
     sink: &mut S,
-    names: &Names,
+    roster: &Roster,
     examiner: u32,
     entries: &[Entry],
 ) -> Result<(), Failed>
     requires works { S.has_failed sink.old ≡ false }
     ensures written { OnOk result (Written (S.taken sink.old) page.old (S.taken sink.new) page.new
-        (rows_text (map (entry_row (map string_bytes names.now.keys) examiner) entries.now))) }
+        (rows_text (map (entry_row roster.now examiner) entries.now))) }
     ensures well { OnOk result (S.has_failed sink.new ≡ false) }
     ensures stopped { OnErr result (Stopped (S.taken sink.old) page.old (S.taken sink.new)
-        (rows_text (map (entry_row (map string_bytes names.now.keys) examiner) entries.now))) }
+        (rows_text (map (entry_row roster.now examiner) entries.now))) }
     ensures failed { OnErr result (S.has_failed sink.new ≡ true) }
 {
     let mut start = Line::new();
     if make_start(&mut start, examiner).is_none() {
-        return put_entries_by_fields(page, sink, names, examiner, entries);
+        return put_entries_by_fields(page, sink, roster, examiner, entries);
     }
-    put_entries_from(page, sink, names, examiner, start.as_bytes(), entries)
+    put_entries_from(page, sink, roster, examiner, start.as_bytes(), entries)
 }
 
 // Writes a chain: the row that counts its entries, and these.
 fn put_chain<S: Sink>(
     page: &mut Page,
     sink: &mut S,
-    names: &Names,
+    roster: &Roster,
     examiner: u32,
     entries: &[Entry],
 ) -> Result<(), Failed>
     requires works { S.has_failed sink.old ≡ false }
     ensures written { OnOk result (Written (S.taken sink.old) page.old (S.taken sink.new) page.new
         (rows_text (number_row examiner (codes "chain") (length entries.now)
-        ∷ map (entry_row (map string_bytes names.now.keys) examiner) entries.now))) }
+        ∷ map (entry_row roster.now examiner) entries.now))) }
     ensures well { OnOk result (S.has_failed sink.new ≡ false) }
     ensures stopped { OnErr result (Stopped (S.taken sink.old) page.old (S.taken sink.new)
         (rows_text (number_row examiner (codes "chain") (length entries.now)
-        ∷ map (entry_row (map string_bytes names.now.keys) examiner) entries.now))) }
+        ∷ map (entry_row roster.now examiner) entries.now))) }
     ensures failed { OnErr result (S.has_failed sink.new ≡ true) }
 {
     put_number_row(page, sink, examiner, b"chain", entries.len() as u64)?;
-    put_entries(page, sink, names, examiner, entries)
+    put_entries(page, sink, roster, examiner, entries)
 }
 
 // Writes the rows of an answer.
 pub(crate) fn put_answer<S: Sink>(
     page: &mut Page,
     sink: &mut S,
-    names: &Names,
+    roster: &Roster,
     examiner: u32,
     answer: &Answer,
 ) -> Result<(), Failed>
     requires works { S.has_failed sink.old ≡ false }
     ensures written { OnOk result (Written (S.taken sink.old) page.old (S.taken sink.new) page.new
-        (rows_text (answer_rows (map string_bytes names.now.keys) examiner answer.now))) }
+        (rows_text (answer_rows roster.now examiner answer.now))) }
     ensures well { OnOk result (S.has_failed sink.new ≡ false) }
     ensures stopped { OnErr result (Stopped (S.taken sink.old) page.old (S.taken sink.new)
-        (rows_text (answer_rows (map string_bytes names.now.keys) examiner answer.now))) }
+        (rows_text (answer_rows roster.now examiner answer.now))) }
     ensures failed { OnErr result (S.has_failed sink.new ≡ true) }
 {
     match answer {
-        Answer::Rows(rows) => put_sheet(page, sink, names, examiner, rows.as_slice()),
-        Answer::Entries(entries) => put_chain(page, sink, names, examiner, entries.as_slice()),
+        Answer::Rows(rows) => put_sheet(page, sink, roster, examiner, rows.as_slice()),
+        Answer::Entries(entries) => put_chain(page, sink, roster, examiner, entries.as_slice()),
         Answer::Posted => put_word_row(page, sink, examiner, b"posted"),
         Answer::Refused(rule, estate, node) => {
             put_refused(page, sink, examiner, *rule, *estate, *node)

@@ -10,6 +10,7 @@ ghost use Rattle.title_page.specs.Rows.{row_writer};
 ghost use Rattle.title_report.specs.Fronts.{entry_start, names_text};
 
 use crate::front::add_number;
+use crate::roster::Name;
 use title_device::{Failed, Sink};
 use title_instrument::{Estates, Kind};
 use title_page::{Line, Page};
@@ -69,16 +70,16 @@ pub(crate) fn make_entry(
 }
 
 // Writes two names with a comma between them.
-fn put_names<S: Sink>(page: &mut Page, sink: &mut S, from: &[u8], to: &[u8]) -> Result<(), Failed>
+fn put_names<S: Sink>(page: &mut Page, sink: &mut S, from: &Name, to: &Name) -> Result<(), Failed>
     requires works { S.has_failed sink.old ≡ false }
     ensures written { OnOk result (Written (S.taken sink.old) page.old (S.taken sink.new) page.new (names_text from.now to.now)) }
     ensures well { OnOk result (S.has_failed sink.new ≡ false) }
     ensures stopped { OnErr result (Stopped (S.taken sink.old) page.old (S.taken sink.new) (names_text from.now to.now)) }
     ensures failed { OnErr result (S.has_failed sink.new ≡ true) }
 {
-    page.field(sink, from)?;
+    from.write(page, sink)?;
     page.put(sink, b",")?;
-    page.field(sink, to)
+    to.write(page, sink)
 }
 
 // Writes the end of a chain's row: in its three parts where the page has no room for it.
@@ -103,8 +104,8 @@ pub(crate) fn put_entry_from<S: Sink>(
     page: &mut Page,
     sink: &mut S,
     front: &[u8],
-    from: &[u8],
-    to: &[u8],
+    from: &Name,
+    to: &Name,
     end: &[u8],
 ) -> Result<(), Failed>
     requires works { S.has_failed sink.old ≡ false }

@@ -7,8 +7,10 @@ mod field;
 mod front;
 mod nodes;
 mod replies;
+mod roster;
 mod same;
 mod shares;
 
 pub use field::ReportField;
-pub use replies::{put_described, put_end, put_reply, put_row};
+pub use replies::{put_described, put_end, put_reply, put_reply_with, put_row};
+pub use roster::Roster;

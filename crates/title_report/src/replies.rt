@@ -9,6 +9,7 @@ ghost use Rattle.title_report.specs.Replies.{described_row, end_row, number_row,
 
 use crate::answers::put_answer;
 use crate::field::ReportField;
+use crate::roster::Roster;
 use indexmap::IndexSet;
 use title_aliquot::DescFault;
 use title_device::{Failed, Sink};
@@ -99,9 +100,28 @@ pub fn put_reply<S: Sink>(
         (rows_text (reply_rows (map string_bytes names.now.keys) examiner reply.now))) }
     ensures failed { OnErr result (S.has_failed sink.new ≡ true) }
 {
+    put_reply_with(page, sink, &Roster::new(names), examiner, reply)
+}
+
+/// The same with a roster, for many replies. `Failed` as with `put_reply`.
+pub fn put_reply_with<S: Sink>(
+    page: &mut Page,
+    sink: &mut S,
+    roster: &Roster,
+    examiner: u32,
+    reply: &Reply,
+) -> Result<(), Failed>
+    requires works { S.has_failed sink.old ≡ false }
+    ensures written { OnOk result (Written (S.taken sink.old) page.old (S.taken sink.new) page.new
+        (rows_text (reply_rows roster.now examiner reply.now))) }
+    ensures well { OnOk result (S.has_failed sink.new ≡ false) }
+    ensures stopped { OnErr result (Stopped (S.taken sink.old) page.old (S.taken sink.new)
+        (rows_text (reply_rows roster.now examiner reply.now))) }
+    ensures failed { OnErr result (S.has_failed sink.new ≡ true) }
+{
     match reply {
         Reply::Began => put_word_row(page, sink, examiner, b"began"),
-        Reply::Answered(answer) => put_answer(page, sink, names, examiner, answer),
+        Reply::Answered(answer) => put_answer(page, sink, roster, examiner, answer),
         Reply::Committed(place) => put_number_row(page, sink, examiner, b"committed", *place),
         Reply::Aborted => put_word_row(page, sink, examiner, b"aborted"),
         Reply::NotOpen => put_word_row(page, sink, examiner, b"notopen"),

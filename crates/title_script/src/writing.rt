@@ -1,36 +1,34 @@
 //! What came of a script's steps, written as a report.
 
-ghost use Rattle.std.specs.Prelude.{◌≡◌, ◌++◌, ℕ, true, false, OnOk, OnErr, map, take};
+ghost use Rattle.std.specs.Prelude.{◌≡◌, ◌++◌, ℕ, true, false, OnOk, OnErr, take};
 ghost use Rattle.std.specs.List.{flat_map};
-ghost use Rattle.std.specs.String.{string_bytes};
 ghost use Rattle.std.specs.Io.KnownBytes.{Appends};
 ghost use Rattle.title_page.specs.Pages.{Stopped, Written};
 ghost use Rattle.title_page.specs.Rows.{rows_text};
 ghost use Rattle.title_script.specs.Told.{served_text, told_rows};
 
 use crate::told::{Served, Told};
-use indexmap::IndexSet;
 use title_device::{Failed, Sink};
 use title_page::Page;
-use title_report::{put_described, put_end, put_reply};
+use title_report::{Roster, put_described, put_end, put_reply_with};
 
 // Writes the rows of what came of a step row.
 fn put_told<S: Sink>(
     page: &mut Page,
     sink: &mut S,
-    names: &IndexSet<String>,
+    roster: &Roster,
     told: &Told,
 ) -> Result<(), Failed>
     requires works { S.has_failed sink.old ≡ false }
     ensures written { OnOk result (Written (S.taken sink.old) page.old (S.taken sink.new) page.new
-        (rows_text (told_rows (map string_bytes names.now.keys) told.now))) }
+        (rows_text (told_rows roster.now told.now))) }
     ensures well { OnOk result (S.has_failed sink.new ≡ false) }
     ensures stopped { OnErr result (Stopped (S.taken sink.old) page.old (S.taken sink.new)
-        (rows_text (told_rows (map string_bytes names.now.keys) told.now))) }
+        (rows_text (told_rows roster.now told.now))) }
     ensures failed { OnErr result (S.has_failed sink.new ≡ true) }
 {
     match told {
-        Told::Replied(examiner, reply) => put_reply(page, sink, names, *examiner, reply),
+        Told::Replied(examiner, reply) => { put_reply_with(page, sink, roster, *examiner, reply) },
         Told::Described(examiner, why) => put_described(page, sink, *examiner, *why),
     }
 }
@@ -39,19 +37,19 @@ fn put_told<S: Sink>(
 fn put_all_told<S: Sink>(
     page: &mut Page,
     sink: &mut S,
-    names: &IndexSet<String>,
+    roster: &Roster,
     told: &[Told],
 ) -> Result<(), Failed>
     requires works { S.has_failed sink.old ≡ false }
     ensures written { OnOk result (Written (S.taken sink.old) page.old (S.taken sink.new) page.new
-        (rows_text (flat_map (told_rows (map string_bytes names.now.keys)) told.now))) }
+        (rows_text (flat_map (told_rows roster.now) told.now))) }
     ensures well { OnOk result (S.has_failed sink.new ≡ false) }
     ensures stopped { OnErr result (Stopped (S.taken sink.old) page.old (S.taken sink.new)
-        (rows_text (flat_map (told_rows (map string_bytes names.now.keys)) told.now))) }
+        (rows_text (flat_map (told_rows roster.now) told.now))) }
     ensures failed { OnErr result (S.has_failed sink.new ≡ true) }
 {
     for one in told {
-        put_told(page, sink, names, one)?;
+        put_told(page, sink, roster, one)?;
     }
     Ok(())
 }
@@ -66,12 +64,8 @@ pub(crate) fn write_served<S: Sink>(sink: &mut S, served: &Served) -> Result<(),
     ensures part { OnErr result ((n : ℕ) × Appends (S.taken sink.old) (S.taken sink.new) (take n (served_text served.now))) }
 {
     let mut page = Page::new();
-    put_all_told(
-        &mut page,
-        sink,
-        &served.plan.parties,
-        served.told.as_slice(),
-    )?;
+    let roster = Roster::judged(&served.plan.parties);
+    put_all_told(&mut page, sink, &roster, served.told.as_slice())?;
     put_end(&mut page, sink, served.steps)?;
     page.pass(sink)?;
     Ok(())

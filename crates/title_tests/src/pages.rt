@@ -10,7 +10,7 @@ use title_device::{Failed, Sink};
 use title_instrument::{Estate, Estates, Instrument, Release};
 use title_land::{Node, Quarter, Tract};
 use title_page::Page;
-use title_report::{ReportField, put_reply, put_row};
+use title_report::{ReportField, Roster, put_reply, put_reply_with, put_row};
 use title_store::SheetRow;
 use title_trace::Reply;
 
@@ -133,6 +133,14 @@ fn pushes_of(names: &IndexSet<String>, reply: &Reply) -> Result<Pushes, Failed> 
     Ok(pushes)
 }
 
+// The same with a roster.
+fn pushes_with(roster: &Roster, reply: &Reply) -> Result<Pushes, Failed> {
+    let (mut page, mut pushes) = (Page::new(), Pushes { count: 0, sum: 0 });
+    put_reply_with(&mut page, &mut pushes, roster, EXAMINER, reply)?;
+    page.pass(&mut pushes)?;
+    Ok(pushes)
+}
+
 fn put_count(
     page: &mut Page,
     pushes: &mut Pushes,
@@ -214,11 +222,16 @@ fn a_sheets_pages_end_where_its_fields_end(rt: HostRuntime) -> Result<(), Fail> 
     let Ok(wanted) = pushes_of_rows(&names, rows.as_slice()) else {
         panic!(&rt; "no push fails");
     };
-    let Ok(pushes) = pushes_of(&names, &Reply::Answered(Answer::Rows(rows))) else {
+    let reply = Reply::Answered(Answer::Rows(rows));
+    let Ok(pushes) = pushes_of(&names, &reply) else {
+        panic!(&rt; "no push fails");
+    };
+    let Ok(judged) = pushes_with(&Roster::judged(&names), &reply) else {
         panic!(&rt; "no push fails");
     };
     assert!(rt; pushes.count > 20);
     assert_eq!(rt; pushes, wanted);
+    assert_eq!(rt; judged, wanted);
     Ok(())
 }
 
@@ -230,10 +243,57 @@ fn a_chains_pages_end_where_its_fields_end(rt: HostRuntime) -> Result<(), Fail> 
     let Ok(wanted) = pushes_of_entries(&names, entries.as_slice()) else {
         panic!(&rt; "no push fails");
     };
-    let Ok(pushes) = pushes_of(&names, &Reply::Answered(Answer::Entries(entries))) else {
+    let reply = Reply::Answered(Answer::Entries(entries));
+    let Ok(pushes) = pushes_of(&names, &reply) else {
+        panic!(&rt; "no push fails");
+    };
+    let Ok(judged) = pushes_with(&Roster::judged(&names), &reply) else {
         panic!(&rt; "no push fails");
     };
     assert!(rt; pushes.count > 20);
     assert_eq!(rt; pushes, wanted);
+    assert_eq!(rt; judged, wanted);
+    Ok(())
+}
+
+// More names than a roster judges once; every other has a comma.
+fn many_names(alloc: Global) -> Result<IndexSet<String>, AllocError> {
+    let mut names = IndexSet::new(alloc);
+    for party in 0..4_100 {
+        names.insert(if party % 2 == 0 {
+            format!(in alloc; "NAME {party}")?
+        } else {
+            format!(in alloc; "NAME, {party}")?
+        })?;
+    }
+    Ok(names)
+}
+
+/// The last names that a roster judges once, those behind them, and parties that have none are written alike.
+#[test]
+fn names_are_quoted_on_both_sides_of_the_last_judged(rt: HostRuntime) -> Result<(), Fail> {
+    let names = many_names(rt.alloc())?;
+    let mut rows = Vec::new(rt.alloc());
+    for party in 4_090..4_105 {
+        rows.push(SheetRow {
+            node: Node::Everything,
+            estate: Estate::O,
+            party,
+            units: 1,
+        })?;
+    }
+    let rows = SheetRows::new(rows)?;
+    let Ok(wanted) = pushes_of_rows(&names, rows.as_slice()) else {
+        panic!(&rt; "no push fails");
+    };
+    let reply = Reply::Answered(Answer::Rows(rows));
+    let Ok(pushes) = pushes_of(&names, &reply) else {
+        panic!(&rt; "no push fails");
+    };
+    let Ok(judged) = pushes_with(&Roster::judged(&names), &reply) else {
+        panic!(&rt; "no push fails");
+    };
+    assert_eq!(rt; pushes, wanted);
+    assert_eq!(rt; judged, wanted);
     Ok(())
 }

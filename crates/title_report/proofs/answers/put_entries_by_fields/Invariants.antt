@@ -1,6 +1,5 @@
 -- The rows so far are written.
 use Rattle.std.proofs.Common.{◌≡◌, false, map, take}
-use Rattle.std.specs.String.{string_bytes}
 use Rattle.title_page.specs.Pages.{Written}
 use Rattle.title_page.specs.Rows.{rows_text}
 use Rattle.title_report.specs.Replies.{entry_row}
@@ -9,5 +8,5 @@ use Rattle.title_report.proofs.answers.put_entries_by_fields.Given as goal
 abbrev pub invariant-loop-entry : goal.invariant-loop-entry
 invariant-loop-entry g l =
     Written (g.S.Sink.taken l.fn.sink) l.fn.page (g.S.Sink.taken l.sink) l.page
-    (rows_text (map (entry_row (map string_bytes l.names.keys) l.examiner) (take l.entry-index l.entries)))
+    (rows_text (map (entry_row l.roster l.examiner) (take l.entry-index l.entries)))
     × (g.S.Sink.has_failed l.sink ≡ false)

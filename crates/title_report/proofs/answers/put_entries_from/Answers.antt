@@ -1,6 +1,5 @@
 -- One row more, behind those before it.
 use Rattle.std.proofs.Common.{map}
-use Rattle.std.specs.String.{string_bytes}
 use Rattle.title_page.specs.Laws.InTurn.{on_err}
 use Rattle.title_page.specs.Laws.Rows.{one_row_more, stopped_at_a_row}
 use Rattle.title_report.specs.Replies.{entry_row}
@@ -8,7 +7,7 @@ use Rattle.title_report.proofs.answers.put_entries_from.Goals as goal
 
 pub loop-entry-preserved : goal.loop-entry-preserved
 loop-entry-preserved g c = (
-  one_row_more (entry_row (map string_bytes c.args.names.now.keys) c.args.examiner) c.args.entries.now
+  one_row_more (entry_row c.args.roster.now c.args.examiner) c.args.entries.now
       c.loop-entry.entry-index c.entry-item.result
       c.loop-entry-test.true c.entry-item.is c.loop-entry.invariant.0 c.in_ok-put_entry_line.ensures.written,
   c.in_ok-put_entry_line.ensures.well,
@@ -16,6 +15,6 @@ loop-entry-preserved g c = (
 
 pub returns-in_err-put_entry_line-clause-stopped : goal.returns-in_err-put_entry_line-clause-stopped
 returns-in_err-put_entry_line-clause-stopped g c =
-    on_err c.from_residual.result (stopped_at_a_row (entry_row (map string_bytes c.args.names.now.keys) c.args.examiner)
+    on_err c.from_residual.result (stopped_at_a_row (entry_row c.args.roster.now c.args.examiner)
     c.args.entries.now c.loop-entry.entry-index c.entry-item.result c.loop-entry-test.true c.entry-item.is
     c.loop-entry.invariant.0 c.in_err-put_entry_line.ensures.stopped)

@@ -1,7 +1,6 @@
 -- The row that counts, and those that it counts.
 use Rattle.std.proofs.Common.{◌∷◌, [], codes, length, map}
 use Rattle.std.proofs.lemmas.Result.{on_ok_weaker, on_err_weaker}
-use Rattle.std.specs.String.{string_bytes}
 use Rattle.title_page.specs.Laws.InTurn.{on_err}
 use Rattle.title_page.specs.Laws.Rows.{rows_stopped_before, rows_stopped_then, rows_then}
 use Rattle.title_report.specs.Replies.{sheet_row, number_row}
@@ -10,19 +9,19 @@ use Rattle.title_report.proofs.answers.put_sheet.Goals as goal
 pub returns-in_err-put_number_row-clause-stopped : goal.returns-in_err-put_number_row-clause-stopped
 returns-in_err-put_number_row-clause-stopped g c =
     on_err c.from_residual.result (rows_stopped_before (number_row c.args.examiner (codes "sheet") (length c.args.lines.now) ∷ [])
-    (map (sheet_row (map string_bytes c.args.names.now.keys) c.args.examiner) c.args.lines.now)
+    (map (sheet_row c.args.roster.now c.args.examiner) c.args.lines.now)
     c.in_err-put_number_row.ensures.stopped)
 
 pub returns-clause-written : goal.returns-clause-written
 returns-clause-written g c = on_ok_weaker c.put_sheet_rows.result
     (λ w. rows_then (number_row c.args.examiner (codes "sheet") (length c.args.lines.now) ∷ [])
-    (map (sheet_row (map string_bytes c.args.names.now.keys) c.args.examiner) c.args.lines.now)
+    (map (sheet_row c.args.roster.now c.args.examiner) c.args.lines.now)
     c.in_ok-put_number_row.ensures.written w)
     c.put_sheet_rows.ensures.written
 
 pub returns-clause-stopped : goal.returns-clause-stopped
 returns-clause-stopped g c = on_err_weaker c.put_sheet_rows.result
     (λ v. rows_stopped_then (number_row c.args.examiner (codes "sheet") (length c.args.lines.now) ∷ [])
-    (map (sheet_row (map string_bytes c.args.names.now.keys) c.args.examiner) c.args.lines.now)
+    (map (sheet_row c.args.roster.now c.args.examiner) c.args.lines.now)
     c.in_ok-put_number_row.ensures.written v)
     c.put_sheet_rows.ensures.stopped

@@ -1,6 +1,5 @@
 -- One row more, behind those before it.
 use Rattle.std.proofs.Common.{map}
-use Rattle.std.specs.String.{string_bytes}
 use Rattle.title_page.specs.Laws.InTurn.{on_err}
 use Rattle.title_page.specs.Laws.Rows.{one_row_more, stopped_at_a_row}
 use Rattle.title_report.specs.Replies.{sheet_row}
@@ -8,7 +7,7 @@ use Rattle.title_report.proofs.answers.put_sheet_rows.Goals as goal
 
 pub loop-line-preserved : goal.loop-line-preserved
 loop-line-preserved g c = (
-  one_row_more (sheet_row (map string_bytes c.args.names.now.keys) c.args.examiner) c.args.lines.now c.loop-line.line-index
+  one_row_more (sheet_row c.args.roster.now c.args.examiner) c.args.lines.now c.loop-line.line-index
       c.line-item.result
       c.loop-line-test.true c.line-item.is c.loop-line.invariant.0 c.in_ok-put_sheet_line.ensures.written,
   c.in_ok-put_sheet_line.ensures.well,
@@ -17,6 +16,6 @@ loop-line-preserved g c = (
 
 pub returns-in_err-put_sheet_line-clause-stopped : goal.returns-in_err-put_sheet_line-clause-stopped
 returns-in_err-put_sheet_line-clause-stopped g c =
-    on_err c.from_residual.result (stopped_at_a_row (sheet_row (map string_bytes c.args.names.now.keys) c.args.examiner)
+    on_err c.from_residual.result (stopped_at_a_row (sheet_row c.args.roster.now c.args.examiner)
     c.args.lines.now c.loop-line.line-index c.line-item.result c.loop-line-test.true c.line-item.is c.loop-line.invariant.0
     c.in_err-put_sheet_line.ensures.stopped)

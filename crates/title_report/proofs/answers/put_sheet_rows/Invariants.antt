@@ -1,6 +1,5 @@
 -- The rows so far are written, and what the front remembers are beginnings of rows.
 use Rattle.std.proofs.Common.{◌≡◌, false, map, take}
-use Rattle.std.specs.String.{string_bytes}
 use Rattle.title_page.specs.Pages.{Written}
 use Rattle.title_page.specs.Rows.{rows_text}
 use Rattle.title_report.specs.Fronts.{IsFront}
@@ -10,6 +9,6 @@ use Rattle.title_report.proofs.answers.put_sheet_rows.Given as goal
 abbrev pub invariant-loop-line : goal.invariant-loop-line
 invariant-loop-line g l =
     Written (g.S.Sink.taken l.fn.sink) l.fn.page (g.S.Sink.taken l.sink) l.page
-    (rows_text (map (sheet_row (map string_bytes l.names.keys) l.examiner) (take l.line-index l.lines)))
+    (rows_text (map (sheet_row l.roster l.examiner) (take l.line-index l.lines)))
     × (g.S.Sink.has_failed l.sink ≡ false)
     × IsFront l.examiner l.front

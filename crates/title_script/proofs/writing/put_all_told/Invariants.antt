@@ -1,7 +1,6 @@
 -- The rows so far are written.
-use Rattle.std.proofs.Common.{◌≡◌, false, map, take}
+use Rattle.std.proofs.Common.{◌≡◌, false, take}
 use Rattle.std.specs.List.{flat_map}
-use Rattle.std.specs.String.{string_bytes}
 use Rattle.title_page.specs.Pages.{Written}
 use Rattle.title_page.specs.Rows.{rows_text}
 use Rattle.title_script.specs.Told.{told_rows}
@@ -10,5 +9,5 @@ use Rattle.title_script.proofs.writing.put_all_told.Given as goal
 abbrev pub invariant-loop-one : goal.invariant-loop-one
 invariant-loop-one g l =
     Written (g.S.Sink.taken l.fn.sink) l.fn.page (g.S.Sink.taken l.sink) l.page
-    (rows_text (flat_map (told_rows (map string_bytes l.names.keys)) (take l.one-index l.told)))
+    (rows_text (flat_map (told_rows l.roster) (take l.one-index l.told)))
     × (g.S.Sink.has_failed l.sink ≡ false)

@@ -1,5 +1,5 @@
 -- Each reply has its rows.
-use Rattle.title_report.proofs.replies.put_reply.Goals as goal
+use Rattle.title_report.proofs.replies.put_reply_with.Goals as goal
 
 pub returns-in-Committed-clause-written : goal.returns-in-Committed-clause-written
 returns-in-Committed-clause-written g c = rw c.in-Committed.is c.put_number_row.ensures.written

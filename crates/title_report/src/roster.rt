@@ -1,0 +1,141 @@
+//! The names of a report's parties.
+
+ghost use Rattle.std.specs.Prelude.{◌≡◌, false, map, OnErr, OnOk, true};
+ghost use Rattle.std.specs.String.{string_bytes};
+ghost use Rattle.csv.specs.Writing.{field_text, needs_quotes};
+ghost use Rattle.title_page.specs.Pages.{Stopped, Written};
+ghost use Rattle.title_page.specs.Rows.{row_writer};
+ghost use Rattle.title_report.specs.Replies.{name_of};
+ghost use Rattle.title_report.specs.Rosters.{AreJudged, where_known};
+
+use crate::replies::Names;
+use arrayvec::ArrayVec;
+use std::marker::Model;
+use title_device::{Failed, Sink};
+use title_page::{Page, is_quoted};
+
+/// The names of the parties, each at the place that is its number, and whether the first of them are quoted where they are
+/// written as fields: that is found out once, and not at each row. A contract sees the names' bytes.
+#[derive(Drop)]
+pub struct Roster<'a> {
+    names: &'a Names,
+    in_quotes: ArrayVec<bool, 4096>,
+}
+
+impl<'a> Model for Roster<'a> {
+    ghost use Rattle.std.specs.Prelude.{ℕ, List, map};
+    ghost use Rattle.std.specs.String.{string_bytes};
+    ghost use Rattle.title_report.specs.Rosters.{AreJudged};
+
+    ghost Value = { List (List ℕ) };
+
+    ghost view = { λ r. map string_bytes r.names.now.keys };
+
+    ghost invariant = { λ r. AreJudged (map string_bytes r.names.now.keys) r.in_quotes.items };
+}
+
+/// A party's name, and whether it is quoted where that is known. A contract sees its bytes.
+#[derive(Drop)]
+pub(crate) struct Name<'a> {
+    bytes: &'a [u8],
+    in_quotes: Option<bool>,
+}
+
+impl<'a> Model for Name<'a> {
+    ghost use Rattle.std.specs.Prelude.{◌≡◌, ℕ, List};
+    ghost use Rattle.csv.specs.Writing.{needs_quotes};
+    ghost use Rattle.title_page.specs.Rows.{row_writer};
+    ghost use Rattle.title_report.specs.Rosters.{where_known};
+
+    ghost Value = { List ℕ };
+
+    ghost view = { λ n. n.bytes.now };
+
+    ghost invariant = { λ n. n.in_quotes ≡ where_known n.in_quotes (needs_quotes row_writer n.bytes.now) };
+}
+
+impl<'a> Name<'a> {
+    /// Writes it as a field.
+    #[inline]
+    pub(crate) fn write<S: Sink>(&self, page: &mut Page, sink: &mut S) -> Result<(), Failed>
+        requires works { S.has_failed sink.old ≡ false }
+        ensures written { OnOk result (Written (S.taken sink.old) page.old (S.taken sink.new) page.new (field_text row_writer self.now)) }
+        ensures well { OnOk result (S.has_failed sink.new ≡ false) }
+        ensures stopped { OnErr result (Stopped (S.taken sink.old) page.old (S.taken sink.new) (field_text row_writer self.now)) }
+        ensures failed { OnErr result (S.has_failed sink.new ≡ true) }
+    {
+        match self.in_quotes {
+            Some(in_quotes) => page.judged_field(sink, self.bytes, in_quotes),
+            None => page.field(sink, self.bytes),
+        }
+    }
+}
+
+// Whether the first names are quoted, as many as there is room for.
+fn judge(names: &[String]) -> ArrayVec<bool, 4096>
+    ensures judged { AreJudged (map string_bytes names.now) result.items }
+{
+    let mut in_quotes = ArrayVec::new();
+    for name in names {
+        let Ok(()) = in_quotes.try_push(is_quoted(name.as_bytes())) else {
+            return in_quotes;
+        };
+    }
+    in_quotes
+}
+
+impl<'a> Roster<'a> {
+    /// The roster of these names, of which none is judged before it is written.
+    pub fn new(names: &'a Names) -> Roster<'a>
+        ensures names { result ≡ map string_bytes names.now.keys }
+    {
+        Roster {
+            names,
+            in_quotes: ArrayVec::new(),
+        }
+    }
+
+    /// The roster of these names, of which the first 4,096 are judged once.
+    pub fn judged(names: &'a Names) -> Roster<'a>
+        ensures names { result ≡ map string_bytes names.now.keys }
+    {
+        Roster {
+            names,
+            in_quotes: judge(names.as_slice()),
+        }
+    }
+
+    // Whether the name of the party of this number is quoted, where that is known.
+    fn known(&self, party: u32) -> Option<bool>
+        ensures known { result ≡ where_known result (needs_quotes row_writer (name_of self.now party)) }
+    {
+        let known = self.in_quotes.as_slice();
+        let at = party as usize;
+        if at < known.len() {
+            Some(known[at])
+        } else {
+            None
+        }
+    }
+
+    /// The bytes of the name of the party of this number; none where there is no such party.
+    pub(crate) fn bytes(&self, party: u32) -> &[u8]
+        ensures name { result.now ≡ name_of self.now party }
+    {
+        match self.names.get_index(party as usize) {
+            Some(name) => name.as_bytes(),
+            None => b"",
+        }
+    }
+
+    /// The name of the party of this number; an empty one where there is no such party.
+    #[inline]
+    pub(crate) fn name(&self, party: u32) -> Name<'_>
+        ensures name { result ≡ name_of self.now party }
+    {
+        Name {
+            bytes: self.bytes(party),
+            in_quotes: self.known(party),
+        }
+    }
+}
