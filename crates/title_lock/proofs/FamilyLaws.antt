@@ -11,12 +11,12 @@ use Rattle.title_land.specs.declared.node.Node.TheVariants as node
 use Rattle.title_land.specs.Nodes.{same_node, parent_in, above, is_above}
 use Rattle.title_land.specs.Laws.PathNumbers.{path_positive}
 use Rattle.title_lock.specs.declared.modes.Mode.{Mode}
-use Rattle.title_lock.specs.declared.table.Table.{Table}
 use Rattle.title_lock.specs.Modes.{bound}
 use Rattle.title_lock.specs.Asking.{own_mode, above_mode, asked_for}
 use Rattle.title_land.specs.NodeNumbers.{township_number, node_number, number_above}
 use Rattle.title_lock.specs.Families.{family, same_family}
-use Rattle.title_lock.specs.Tables.{table_mode, is_asked, is_idle, IdleMore, IdleLess, IsRaised, IsTakenOut}
+use Rattle.title_lock.specs.Tables.{Placed, table_mode, is_asked, is_idle, IdleMore, IdleLess, IsRaised, IsTakenOut}
+use Rattle.title_lock.specs.Tables.{is_shelf_above, is_shelf_asked, shelf_asked_for}
 use Rattle.title_lock.proofs.ModeLaws.{bound_none, bound_assoc, sup_self}
 use Rattle.title_lock.proofs.NodeLaws.{above_of, above_apart}
 use Rattle.title_land.specs.Laws.NodeNumbers.{numbers_tell_nodes, numbers_go_up, township_below}
@@ -106,12 +106,12 @@ known_clash false true false o h = refl
 known_clash false true true o h = absurd (true≢false (sym (h refl refl)))
 
 -- a mode at the node is all that it asks for, where it was raised above
-pub raised_known : (t u : Table) (e : ℕ) (k : Node) (p : Bool) → IsRaised t e (above_mode p) (λ n. is_above n k)
+pub raised_known : (t u : Placed) (e : ℕ) (k : Node) (p : Bool) → IsRaised t e (above_mode p) (λ n. is_shelf_above n k)
     → ((f : ℕ) (n : Node) → table_mode u f n ≡ bound (table_mode t f n) (cond (eqb f e && same_node n k) (Some (own_mode p)) None))
-    → (f : ℕ) (n : Node) → table_mode u f n ≡ bound (table_mode t f n) (cond (eqb f e) (asked_for p k n) None)
+    → (f : ℕ) (n : Node) → table_mode u f n ≡ bound (table_mode t f n) (cond (eqb f e) (shelf_asked_for p k n) None)
 raised_known t u e k p known h f n =
     h f n
-    ∙ mode_known (eqb f e) (same_node n k) (is_above n k) (own_mode p) (above_mode p) (table_mode t f n)
+    ∙ mode_known (eqb f e) (same_node n k) (is_shelf_above n k) (own_mode p) (above_mode p) (table_mode t f n)
     (λ b up. subst (λ (z : ℕ). bound (table_mode t z n) (Some (above_mode p)) ≡ table_mode t z n) (sym (eqb-true f e b)) (known.more n up))
 
 asked_above : (k : Node) (p : Bool) (n : Node) → is_above n k ≡ true → asked_for p k n ≡ Some (above_mode p)
@@ -122,22 +122,22 @@ asked_above k p n up = go (same_node n k) refl
     go false other = ap (λ (b : Bool). cond b (Some (above_mode p)) None) up
 
 -- taken out at the node is taken out where it asks, where it was so above
-pub gone_known_all : (t u : Table) (e : ℕ) (k : Node) (m : Bool) → IsTakenOut t e m (λ n. is_above n k)
+pub gone_known_all : (t u : Placed) (e : ℕ) (k : Node) (m : Bool) → IsTakenOut t e m (λ n. is_shelf_above n k)
     → ((f : ℕ) (n : Node) → table_mode u f n ≡ cond (m && eqb f e && same_node n k) None (table_mode t f n))
-    → (f : ℕ) (n : Node) → table_mode u f n ≡ cond (m && eqb f e && is_asked n k) None (table_mode t f n)
+    → (f : ℕ) (n : Node) → table_mode u f n ≡ cond (m && eqb f e && is_shelf_asked n k) None (table_mode t f n)
 gone_known_all t u e k m known h f n =
     h f n
-    ∙ gone_known (m && eqb f e) (same_node n k) (is_above n k) (table_mode t f n)
+    ∙ gone_known (m && eqb f e) (same_node n k) (is_shelf_above n k) (table_mode t f n)
     (λ b up. let both = and_parts m (eqb f e) b in
     ap (λ (z : ℕ). table_mode t z n) (eqb-true f e both.1) ∙ known.none n up both.0)
 
-module _ {t u : Table} {e : ℕ} (k : Node) where
+module _ {t u : Placed} {e : ℕ} (k : Node) where
   -- who isn't idle at a node, and wasn't above it
-  pub less_known : ((n : Node) → is_above n k ≡ true → is_idle t e n ≡ false) → IdleLess t u e (λ n. same_node n k)
-      → IdleLess t u e (λ n. is_asked n k)
+  pub less_known : ((n : Node) → is_shelf_above n k ≡ true → is_idle t e n ≡ false) → IdleLess t u e (λ n. same_node n k)
+      → IdleLess t u e (λ n. is_shelf_asked n k)
   less_known busy h = record {
     less = λ f n. h.less f n
-        ∙ idle_known (is_idle t f n) (eqb f e) (same_node n k) (is_above n k)
+        ∙ idle_known (is_idle t f n) (eqb f e) (same_node n k) (is_shelf_above n k)
         (λ b up. ap (λ (z : ℕ). is_idle t z n) (eqb-true f e b) ∙ busy n up);
   }
 
@@ -148,8 +148,8 @@ module _ {t u : Table} {e : ℕ} (k : Node) where
       ∙ ap (λ (b : Bool). is_idle t e n && not b) (or_right (same_node n k) (is_above n k) up)
       ∙ and_none (is_idle t e n)
 
-  pub more_known : IdleMore t u e (λ n. same_node n k) → IdleMore t u e (λ n. is_asked n k)
-  more_known h = more_wider t u e (λ n. same_node n k) (λ n. is_asked n k) (λ n same. ap (λ (b : Bool). b || is_above n k) same) h
+  pub more_known : IdleMore t u e (λ n. same_node n k) → IdleMore t u e (λ n. is_shelf_asked n k)
+  more_known h = more_wider t u e (λ n. same_node n k) (λ n. is_shelf_asked n k) (λ n same. ap (λ (b : Bool). b || is_shelf_above n k) same) h
 
   -- after a node's raise it is raised above
   pub raised_after : (p : Bool) (c : Node) → same_family (family (node_number k)) (family (node_number c)) ≡ true

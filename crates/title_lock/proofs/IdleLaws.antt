@@ -9,13 +9,13 @@ use Rattle.std.specs.Map.{lookup}
 use Rattle.std.specs.Ordering.{nat_cmp}
 use Rattle.std.specs.BTreeMap.{is_at}
 use Rattle.title_land.specs.declared.node.Node.{Node}
-use Rattle.title_land.specs.Nodes.{same_node, parent_of, is_above}
+use Rattle.title_land.specs.Nodes.{same_node}
 use Rattle.title_lock.specs.declared.modes.Mode.{Mode}
-use Rattle.title_lock.specs.declared.table.Table.{Table}
 use Rattle.title_lock.specs.Modes.{bound}
 use Rattle.title_lock.specs.Holders.{Modes, holder_mode, has_room, idles, is_free, mode_of_place}
-use Rattle.title_lock.specs.Tables.{is_asked, is_idle, IdleMore, IdleLess, NoMoreIdle}
-use Rattle.title_lock.proofs.NodeLaws.{above_of}
+use Rattle.title_lock.specs.Tables.{Placed, is_asked, is_idle, IdleMore, IdleLess, NoMoreIdle}
+use Rattle.title_lock.specs.Tables.{shelf_parent, is_shelf_above, is_shelf_asked}
+use Rattle.title_lock.proofs.NodeLaws.{shelf_above_of}
 use Rattle.title_lock.proofs.TableLaws.{above_parent, asked_of_one}
 
 -- ---- the holders of one node
@@ -122,14 +122,14 @@ or_turned false true = refl
 or_turned false false = refl
 
 -- above a node lie its parent and what lies above that
-pub above_parts : (p c n : Node) → Some c ≡ parent_of p → (same_node n c || is_above n c) ≡ is_above n p
-above_parts p c n h = sym (ap (λ (z : List Node). list_any (same_node n) z) (above_of p c h))
+pub above_parts : (p c n : Node) → Some c ≡ shelf_parent p → (same_node n c || is_shelf_above n c) ≡ is_shelf_above n p
+above_parts p c n h = sym (ap (λ (z : List Node). list_any (same_node n) z) (shelf_above_of p c h))
 
-pub parts_above : (p c n : Node) → Some c ≡ parent_of p → (is_above n c || same_node n c) ≡ is_above n p
-parts_above p c n h = or_turned (is_above n c) (same_node n c) ∙ above_parts p c n h
+pub parts_above : (p c n : Node) → Some c ≡ shelf_parent p → (is_shelf_above n c || same_node n c) ≡ is_shelf_above n p
+parts_above p c n h = or_turned (is_shelf_above n c) (same_node n c) ∙ above_parts p c n h
 
-pub asked_parts : (c n : Node) → (is_above n c || same_node n c) ≡ is_asked n c
-asked_parts c n = or_turned (is_above n c) (same_node n c)
+pub asked_parts : (c n : Node) → (is_shelf_above n c || same_node n c) ≡ is_shelf_asked n c
+asked_parts c n = or_turned (is_shelf_above n c) (same_node n c)
 
 -- what a list's first nodes ask for, and the next
 pub list_parts : (nodes : List Node) (i : ℕ) (c n : Node) → c ≡ get_or nodes i c → i < length nodes
@@ -140,7 +140,7 @@ list_parts nodes i c n at_it low =
 -- ---- tables
 
 -- the same table has nobody more idle
-pub more_same : (t : Table) (e : ℕ) (asks : Node → Bool) → IdleMore t t e asks
+pub more_same : (t : Placed) (e : ℕ) (asks : Node → Bool) → IdleMore t t e asks
 more_same t e asks = record { more = λ f n idle. or_left (is_idle t f n) (eqb f e && asks n) idle }
 
 wider : (b p r : Bool) → (p ≡ true → r ≡ true) → (b && p) ≡ true → (b && r) ≡ true
@@ -148,7 +148,7 @@ wider true p r h both = h both
 wider false p r h both = both
 
 -- what may be idle by one test may be by a wider one
-pub more_wider : (t u : Table) (e : ℕ) (p r : Node → Bool) → ((n : Node) → p n ≡ true → r n ≡ true) → IdleMore t u e p → IdleMore t u e r
+pub more_wider : (t u : Placed) (e : ℕ) (p r : Node → Bool) → ((n : Node) → p n ≡ true → r n ≡ true) → IdleMore t u e p → IdleMore t u e r
 more_wider t u e p r wide h = record {
   more = λ f n idle. elim (or_cases (is_idle t f n) (eqb f e && p n) (h.more f n idle)) [
     | inl old ↦ or_left (is_idle t f n) (eqb f e && r n) old
@@ -157,7 +157,7 @@ more_wider t u e p r wide h = record {
 }
 
 -- what may be idle by two changes in turn
-pub more_join : (t u v : Table) (e : ℕ) (p r : Node → Bool) → ((n : Node) → p n ≡ true → r n ≡ true) → IdleMore t u e r → IdleMore u v e p
+pub more_join : (t u v : Placed) (e : ℕ) (p r : Node → Bool) → ((n : Node) → p n ≡ true → r n ≡ true) → IdleMore t u e r → IdleMore u v e p
     → IdleMore t v e r
 more_join t u v e p r wide first then = record {
   more = λ f n idle. elim (or_cases (is_idle u f n) (eqb f e && p n) (then.more f n idle)) [
@@ -174,7 +174,7 @@ both_gone true false p q = refl
 both_gone false b p q = refl
 
 -- the same table has nobody less idle by a test that passes no node
-pub less_same : (t : Table) (e : ℕ) (asks : Node → Bool) → ((n : Node) → asks n ≡ false) → IdleLess t t e asks
+pub less_same : (t : Placed) (e : ℕ) (asks : Node → Bool) → ((n : Node) → asks n ≡ false) → IdleLess t t e asks
 less_same t e asks none = record {
   less = λ f n. go (is_idle t f n) (eqb f e) ∙ ap (λ (z : Bool). is_idle t f n && not (eqb f e && z)) (sym (none n));
 }
@@ -185,7 +185,7 @@ less_same t e asks none = record {
     go false b = refl
 
 -- who is no more idle after two changes in turn
-pub less_join : (t u v : Table) (e : ℕ) (p q r : Node → Bool) → ((n : Node) → (p n || q n) ≡ r n) → IdleLess t u e p → IdleLess u v e q
+pub less_join : (t u v : Placed) (e : ℕ) (p q r : Node → Bool) → ((n : Node) → (p n || q n) ≡ r n) → IdleLess t u e p → IdleLess u v e q
     → IdleLess t v e r
 less_join t u v e p q r parts first then = record {
   less = λ f n. then.less f n ∙ ap (λ (z : Bool). z && not (eqb f e && q n)) (first.less f n)
@@ -198,7 +198,7 @@ fewer true b h = refl
 fewer false b h = h
 
 -- nobody is idle but who was, also after one who was is no more
-pub less_more : (t u v : Table) (e : ℕ) (asks : Node → Bool) → NoMoreIdle t u → IdleLess u v e asks → NoMoreIdle t v
+pub less_more : (t u v : Placed) (e : ℕ) (asks : Node → Bool) → NoMoreIdle t u → IdleLess u v e asks → NoMoreIdle t v
 less_more t u v e asks first then = record {
   same = λ f n idle. first.same f n (fewer (is_idle u f n) (eqb f e && asks n) (sym (then.less f n) ∙ idle));
 }
@@ -210,59 +210,59 @@ one_undone true false false h g = h refl
 one_undone false j a h g = absurd (true≢false (sym g))
 
 -- who may have become idle by a test, and then isn't by the same, was idle before
-pub more_undone : {t u v : Table} {e : ℕ} {asks : Node → Bool} → IdleMore t u e asks → IdleLess u v e asks → NoMoreIdle t v
+pub more_undone : {t u v : Placed} {e : ℕ} {asks : Node → Bool} → IdleMore t u e asks → IdleLess u v e asks → NoMoreIdle t v
 more_undone {t = t} {u = u} {v = v} {e = e} {asks = asks} first then = record {
   same = λ f n idle. one_undone (is_idle u f n) (is_idle t f n) (eqb f e && asks n) (first.more f n) (sym (then.less f n) ∙ idle);
 }
 
 -- ---- along the ways of the table
 
-module _ {t u : Table} {e : ℕ} (p c : Node) (parent : Some c ≡ parent_of p) where
+module _ {t u : Placed} {e : ℕ} (p c : Node) (parent : Some c ≡ shelf_parent p) where
   -- what may be idle above the parent may be above the node
-  pub more_above : IdleMore t u e (λ n. is_above n c) → IdleMore t u e (λ n. is_above n p)
-  more_above first = more_wider t u e (λ n. is_above n c) (λ n. is_above n p) (λ n up. above_parent p c n parent up) first
+  pub more_above : IdleMore t u e (λ n. is_shelf_above n c) → IdleMore t u e (λ n. is_shelf_above n p)
+  more_above first = more_wider t u e (λ n. is_shelf_above n c) (λ n. is_shelf_above n p) (λ n up. above_parent p c n parent up) first
 
   -- and at the parent
-  pub more_above_at : {v : Table} → IdleMore t u e (λ n. is_above n c) → IdleMore u v e (λ n. same_node n c)
-      → IdleMore t v e (λ n. is_above n p)
-  more_above_at {v = v} first then = more_join t u v e (λ n. same_node n c) (λ n. is_above n p)
-      (λ n same. sym (above_parts p c n parent) ∙ or_left (same_node n c) (is_above n c) same) (more_above first) then
+  pub more_above_at : {v : Placed} → IdleMore t u e (λ n. is_shelf_above n c) → IdleMore u v e (λ n. same_node n c)
+      → IdleMore t v e (λ n. is_shelf_above n p)
+  more_above_at {v = v} first then = more_join t u v e (λ n. same_node n c) (λ n. is_shelf_above n p)
+      (λ n same. sym (above_parts p c n parent) ∙ or_left (same_node n c) (is_shelf_above n c) same) (more_above first) then
 
   -- who isn't idle above the parent and at it isn't above the node
-  pub less_above_at : {v : Table} → IdleLess t u e (λ n. is_above n c) → IdleLess u v e (λ n. same_node n c)
-      → IdleLess t v e (λ n. is_above n p)
-  less_above_at {v = v} first then = less_join t u v e (λ n. is_above n c) (λ n. same_node n c) (λ n. is_above n p)
+  pub less_above_at : {v : Placed} → IdleLess t u e (λ n. is_shelf_above n c) → IdleLess u v e (λ n. same_node n c)
+      → IdleLess t v e (λ n. is_shelf_above n p)
+  less_above_at {v = v} first then = less_join t u v e (λ n. is_shelf_above n c) (λ n. same_node n c) (λ n. is_shelf_above n p)
       (λ n. parts_above p c n parent) first then
 
-  pub less_at_above : {v : Table} → IdleLess t u e (λ n. same_node n c) → IdleLess u v e (λ n. is_above n c)
-      → IdleLess t v e (λ n. is_above n p)
-  less_at_above {v = v} first then = less_join t u v e (λ n. same_node n c) (λ n. is_above n c) (λ n. is_above n p)
+  pub less_at_above : {v : Placed} → IdleLess t u e (λ n. same_node n c) → IdleLess u v e (λ n. is_shelf_above n c)
+      → IdleLess t v e (λ n. is_shelf_above n p)
+  less_at_above {v = v} first then = less_join t u v e (λ n. same_node n c) (λ n. is_shelf_above n c) (λ n. is_shelf_above n p)
       (λ n. above_parts p c n parent) first then
 
-module _ {t u : Table} {e : ℕ} (c : Node) where
+module _ {t u : Placed} {e : ℕ} (c : Node) where
   -- what may be idle above a node may be where the node asks
-  pub more_asked : IdleMore t u e (λ n. is_above n c) → IdleMore t u e (λ n. is_asked n c)
+  pub more_asked : IdleMore t u e (λ n. is_shelf_above n c) → IdleMore t u e (λ n. is_shelf_asked n c)
   more_asked first =
-      more_wider t u e (λ n. is_above n c) (λ n. is_asked n c) (λ n up. or_right (same_node n c) (is_above n c) up) first
+      more_wider t u e (λ n. is_shelf_above n c) (λ n. is_shelf_asked n c) (λ n up. or_right (same_node n c) (is_shelf_above n c) up) first
 
   -- and at the node
-  pub more_asked_at : {v : Table} → IdleMore t u e (λ n. is_above n c) → IdleMore u v e (λ n. same_node n c)
-      → IdleMore t v e (λ n. is_asked n c)
-  more_asked_at {v = v} first then = more_join t u v e (λ n. same_node n c) (λ n. is_asked n c)
-      (λ n same. or_left (same_node n c) (is_above n c) same) (more_asked first) then
+  pub more_asked_at : {v : Placed} → IdleMore t u e (λ n. is_shelf_above n c) → IdleMore u v e (λ n. same_node n c)
+      → IdleMore t v e (λ n. is_shelf_asked n c)
+  more_asked_at {v = v} first then = more_join t u v e (λ n. same_node n c) (λ n. is_shelf_asked n c)
+      (λ n same. or_left (same_node n c) (is_shelf_above n c) same) (more_asked first) then
 
   -- who isn't idle above a node and at it isn't where the node asks
-  pub less_asked_at : {v : Table} → IdleLess t u e (λ n. is_above n c) → IdleLess u v e (λ n. same_node n c)
-      → IdleLess t v e (λ n. is_asked n c)
-  less_asked_at {v = v} first then = less_join t u v e (λ n. is_above n c) (λ n. same_node n c) (λ n. is_asked n c)
+  pub less_asked_at : {v : Placed} → IdleLess t u e (λ n. is_shelf_above n c) → IdleLess u v e (λ n. same_node n c)
+      → IdleLess t v e (λ n. is_shelf_asked n c)
+  less_asked_at {v = v} first then = less_join t u v e (λ n. is_shelf_above n c) (λ n. same_node n c) (λ n. is_shelf_asked n c)
       (λ n. asked_parts c n) first then
 
-  pub less_at_asked : {v : Table} → IdleLess t u e (λ n. same_node n c) → IdleLess u v e (λ n. is_above n c)
-      → IdleLess t v e (λ n. is_asked n c)
-  less_at_asked {v = v} first then = less_join t u v e (λ n. same_node n c) (λ n. is_above n c) (λ n. is_asked n c)
+  pub less_at_asked : {v : Placed} → IdleLess t u e (λ n. same_node n c) → IdleLess u v e (λ n. is_shelf_above n c)
+      → IdleLess t v e (λ n. is_shelf_asked n c)
+  less_at_asked {v = v} first then = less_join t u v e (λ n. same_node n c) (λ n. is_shelf_above n c) (λ n. is_shelf_asked n c)
       (λ n. refl) first then
 
-module _ {t u v : Table} {e : ℕ} (nodes : List Node) (i : ℕ) (c : Node) (at_it : c ≡ get_or nodes i c) (low : i < length nodes) where
+module _ {t u v : Placed} {e : ℕ} (nodes : List Node) (i : ℕ) (c : Node) (at_it : c ≡ get_or nodes i c) (low : i < length nodes) where
   -- one node of a cover more may be where its examiner is idle
   pub more_all : IdleMore t u e (λ n. list_any (is_asked n) nodes) → IdleMore u v e (λ n. is_asked n c)
       → IdleMore t v e (λ n. list_any (is_asked n) nodes)

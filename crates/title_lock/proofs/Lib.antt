@@ -3,6 +3,8 @@ pub mod NodeLaws
 pub mod Overlap
 pub mod AccessLaws
 pub mod TableLaws
+pub mod SectionLaws
+pub mod TwoShelves
 pub mod IdleLaws
 pub mod FamilyLaws
 pub mod WayLaws

@@ -11,14 +11,14 @@ use Rattle.std.specs.BTreeMap.{BTreeMap, get, is_at}
 use Rattle.std.proofs.lemmas.List.{nil_from_length}
 use Rattle.title_land.specs.declared.node.Node.{Node}
 use Rattle.title_land.specs.declared.node.Node.TheVariants as node
-use Rattle.title_land.specs.Nodes.{same_node, parent_of, is_above}
+use Rattle.title_land.specs.Nodes.{same_node}
 use Rattle.title_lock.specs.declared.modes.Mode.{Mode}
-use Rattle.title_lock.specs.declared.table.Table.{Table}
 use Rattle.title_lock.specs.Modes.{bound}
 use Rattle.title_lock.specs.Holders.{Modes, holder_mode, is_free}
-use Rattle.title_lock.specs.Tables.{place_at, mode_in, room_in, idle_in, unused_in, table_room, HasRoom, is_asked}
+use Rattle.title_lock.specs.Tables.{place_at, mode_in, room_in, idle_in, unused_in, Placed, table_room, HasRoom, is_asked}
+use Rattle.title_lock.specs.Tables.{shelf_parent, is_shelf_above, is_shelf_asked}
 use Rattle.title_lock.proofs.ModeLaws.{and_true, bound_none}
-use Rattle.title_lock.proofs.NodeLaws.{same_self, same_true, above_of}
+use Rattle.title_lock.proofs.NodeLaws.{same_self, same_true, shelf_above_of}
 use Rattle.title_land.specs.NodeNumbers.{node_number}
 use Rattle.title_land.specs.Laws.NodeNumbers.{numbered_at}
 use Rattle.title_lock.proofs.Overlap.{and_none}
@@ -180,37 +180,38 @@ is_found v o h = subst (λ (z : Option Modes). IsSome z) h refl
 -- ---- room at many nodes
 
 -- room above a node is room at its parent and above that
-pub room_above_parent : (t : Table) (e : ℕ) (p c : Node) → Some c ≡ parent_of p → table_room t e c ≡ true → HasRoom t e (λ n. is_above n c)
-    → HasRoom t e (λ n. is_above n p)
+pub room_above_parent : (t : Placed) (e : ℕ) (p c : Node) → Some c ≡ shelf_parent p → table_room t e c ≡ true → HasRoom t e (λ n. is_shelf_above n c)
+    → HasRoom t e (λ n. is_shelf_above n p)
 room_above_parent t e p c h here above_it n up =
-    elim (or_cases (same_node n c) (is_above n c) (ap (λ (z : List Node). list_any (same_node n) z) (sym (above_of p c h)) ∙ up)) [
+    elim (or_cases (same_node n c) (is_shelf_above n c) (ap (λ (z : List Node). list_any (same_node n) z) (sym (shelf_above_of p c h)) ∙ up)) [
       | inl same ↦ subst (λ (z : Node). table_room t e z ≡ true) (sym (same_true n c same)) here
       | inr more ↦ above_it n more
     ]
 
 -- the parent of a node lies above it
-pub parent_above : (p c : Node) → Some c ≡ parent_of p → is_above c p ≡ true
-parent_above p c h = ap (list_any (same_node c)) (above_of p c h) ∙ or_left (same_node c c) (is_above c c) (same_self c)
+pub parent_above : (p c : Node) → Some c ≡ shelf_parent p → is_shelf_above c p ≡ true
+parent_above p c h = ap (list_any (same_node c)) (shelf_above_of p c h) ∙ or_left (same_node c c) (is_shelf_above c c) (same_self c)
 
 -- what lies above the parent lies above the node
-pub above_parent : (p c n : Node) → Some c ≡ parent_of p → is_above n c ≡ true → is_above n p ≡ true
-above_parent p c n h up = ap (list_any (same_node n)) (above_of p c h) ∙ or_right (same_node n c) (is_above n c) up
+pub above_parent : (p c n : Node) → Some c ≡ shelf_parent p → is_shelf_above n c ≡ true → is_shelf_above n p ≡ true
+above_parent p c n h up = ap (list_any (same_node n)) (shelf_above_of p c h) ∙ or_right (same_node n c) (is_shelf_above n c) up
 
 -- no node lies above the whole
-pub none_above_whole : (p n : Node) → None ≡ parent_of p → is_above n p ≡ true → ⊥
+pub none_above_whole : (p n : Node) → None ≡ shelf_parent p → is_shelf_above n p ≡ true → ⊥
 none_above_whole node.Everything n h up = cc
 none_above_whole (node.Township t) n h up = cc
-none_above_whole (node.Part s w) n h up = cc
+none_above_whole (node.Part s []) n h up = cc
+none_above_whole (node.Part s (q ∷ w)) n h up = cc
 
 -- room for what is asked for one node is room at it and above it
-pub room_for : (t : Table) (e : ℕ) (c : Node) → table_room t e c ≡ true → HasRoom t e (λ n. is_above n c) → HasRoom t e (λ n. is_asked n c)
-room_for t e c here above_it n asks = elim (or_cases (same_node n c) (is_above n c) asks) [
+pub room_for : (t : Placed) (e : ℕ) (c : Node) → table_room t e c ≡ true → HasRoom t e (λ n. is_shelf_above n c) → HasRoom t e (λ n. is_shelf_asked n c)
+room_for t e c here above_it n asks = elim (or_cases (same_node n c) (is_shelf_above n c) asks) [
   | inl same ↦ subst (λ (z : Node). table_room t e z ≡ true) (sym (same_true n c same)) here
   | inr more ↦ above_it n more
 ]
 
 -- room for what is asked for a list's first nodes, and for the next
-pub room_more : (t : Table) (e : ℕ) (nodes : List Node) (i : ℕ) (c : Node) → c ≡ get_or nodes i c → i < length nodes
+pub room_more : (t : Placed) (e : ℕ) (nodes : List Node) (i : ℕ) (c : Node) → c ≡ get_or nodes i c → i < length nodes
     → HasRoom t e (λ n. is_asked n c) → HasRoom t e (λ n. list_any (is_asked n) (take i nodes))
     → HasRoom t e (λ n. list_any (is_asked n) (take (i + 1) nodes))
 room_more t e nodes i c at_it low here before n asks =

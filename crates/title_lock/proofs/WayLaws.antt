@@ -5,28 +5,27 @@ use Rattle.std.proofs.lemmas.Bool.{not_from_true}
 use Rattle.std.specs.List.{list_any}
 use Rattle.title_land.specs.declared.node.Node.{Node}
 use Rattle.title_land.specs.declared.tract.Land.{Land}
-use Rattle.title_land.specs.Nodes.{same_node, parent_of, above, is_above}
+use Rattle.title_land.specs.Nodes.{same_node, above, is_above}
 use Rattle.title_land.specs.Lands.{cover_of, IsLand}
 use Rattle.title_lock.specs.declared.modes.Mode.{Mode}
-use Rattle.title_lock.specs.declared.table.Table.{Table}
 use Rattle.title_lock.specs.declared.guards.Entry.{Entry}
 use Rattle.title_lock.specs.Modes.{allows}
 use Rattle.title_lock.specs.Overlaps.{IsLeast, against}
 use Rattle.title_lock.specs.Asking.{own_mode, above_mode, asked_for, asked}
 use Rattle.title_lock.specs.Holders.{clashes}
-use Rattle.title_lock.specs.Tables.{table_mode, clashes_above, clashes_for, clashes_with, TableIs}
-use Rattle.title_lock.proofs.NodeLaws.{same_self, same_true, above_of, above_apart}
+use Rattle.title_lock.specs.Tables.{Placed, table_mode, clashes_above, clashes_for, clashes_with, shelf_parent, shelf_above, TableIs}
+use Rattle.title_lock.proofs.NodeLaws.{same_self, same_true, shelf_above_of, above_apart}
 use Rattle.title_lock.proofs.LeastLaws.{least_same}
 use Rattle.title_lock.proofs.Overlap.{MeetByCovers, Allow, allow_bound, allow_parts, entries_fit, entries_clear}
 
 -- ---- all nodes of an access
 
 -- in the way at a node or above it is in the way above its child
-pub least_above_child : (table : Table) (e : ℕ) (m : Mode) (p c : Node) (w : Option ℕ) → Some c ≡ parent_of p →
-    IsLeast (λ f. clashes m (table_mode table f c) || clashes_above m (λ n. table_mode table f n) (above c)) e w
-    → IsLeast (λ f. clashes_above m (λ n. table_mode table f n) (above p)) e w
+pub least_above_child : (table : Placed) (e : ℕ) (m : Mode) (p c : Node) (w : Option ℕ) → Some c ≡ shelf_parent p →
+    IsLeast (λ f. clashes m (table_mode table f c) || clashes_above m (λ n. table_mode table f n) (shelf_above c)) e w
+    → IsLeast (λ f. clashes_above m (λ n. table_mode table f n) (shelf_above p)) e w
 least_above_child table e m p c w h joined =
-    subst (λ (nodes : List Node). IsLeast (λ f. clashes_above m (λ n. table_mode table f n) nodes) e w) (sym (above_of p c h)) joined
+    subst (λ (nodes : List Node). IsLeast (λ f. clashes_above m (λ n. table_mode table f n) nodes) e w) (sym (shelf_above_of p c h)) joined
 
 -- ---- in the way exactly where the modes don't stand beside each other
 
@@ -100,7 +99,7 @@ same_when_false false true h k = sym (h refl)
 same_when_false false false h k = refl
 
 -- the least examiner in the way by the table is the least whose entry overlaps
-pub stands : (depth : ℕ) → MeetByCovers depth → (es : List Entry) (table : Table) (e : ℕ) (p : Bool) (land : Land) (w : Option ℕ)
+pub stands : (depth : ℕ) → MeetByCovers depth → (es : List Entry) (table : Placed) (e : ℕ) (p : Bool) (land : Land) (w : Option ℕ)
     → IsLand depth land → TableIs depth es table →
     IsLeast (λ f. clashes_with p (λ n. table_mode table f n) (cover_of depth land)) e w → IsLeast (λ f. against land p f es) e w
 stands depth by es table e p land w wide are =

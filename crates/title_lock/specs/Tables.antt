@@ -1,15 +1,19 @@
 -- What a table of locks says: who holds each node, and who is in the way of an access by these modes.
-use Rattle.std.specs.Prelude.{ℕ, ◌≡◌, ◌≢◌, ◌==◌, Bool, true, false, ◌&&◌, ◌||◌, not, List, Option, Some, None}
+use Rattle.std.specs.Prelude.{ℕ, ◌≡◌, ◌≢◌, ◌==◌, Bool, true, false, ◌&&◌, ◌||◌, not, List, [], ◌∷◌, length, if◌then◌else◌, Option, Some, None, IfSome}
 use Rattle.std.specs.List.{list_any}
 use Rattle.std.specs.Ordering.{nat_cmp}
 use Rattle.std.specs.BTreeMap.{BTreeMap, get}
+use Rattle.title_land.specs.declared.place.Section.{Section}
+use Rattle.title_land.specs.declared.rectangle.Quarter.{Quarter}
 use Rattle.title_land.specs.declared.node.Node.{Node}
-use Rattle.title_land.specs.Nodes.{same_node, above, is_above}
+use Rattle.title_land.specs.declared.node.Node.TheVariants as node
+use Rattle.title_land.specs.Nodes.{same_node, above, above_in, is_above}
 use Rattle.title_land.specs.Lands.{cover_of}
 use Rattle.title_lock.specs.declared.modes.Mode.{Mode}
+use Rattle.title_lock.specs.declared.shelf.Shelf.{Shelf}
 use Rattle.title_lock.specs.declared.table.Table.{Table}
 use Rattle.title_lock.specs.declared.guards.Entry.{Entry}
-use Rattle.title_land.specs.NodeNumbers.{node_number}
+use Rattle.title_land.specs.NodeNumbers.{node_number, section_number}
 use Rattle.title_lock.specs.Modes.{allows, bound}
 use Rattle.title_lock.specs.Asking.{own_mode, above_mode, mode_at, AreSized}
 use Rattle.title_lock.specs.Holders.{Modes, holder_mode, has_room, idles, is_free, clashes}
@@ -22,9 +26,34 @@ abbrev pub mode_in : ℕ → Option Modes → Option Mode
 mode_in e None = None
 mode_in e (Some h) = holder_mode h e
 
+-- the holders of each node, where there are any
+abbrev pub Placed : Type 0
+Placed = Node → Option Modes
+
+-- those on a shelf
+abbrev pub on_shelf : Shelf → Placed
+on_shelf s n = place_at s.places n
+
+abbrev pub nowhere : Placed
+nowhere n = None
+
+abbrev pub on_some : Option Shelf → Placed
+on_some None = nowhere
+on_some (Some s) = on_shelf s
+
+-- those on the shelf of the section with this number
+abbrev pub on_section : Table → ℕ → Placed
+on_section t k = on_some (get nat_cmp t.sections k)
+
+-- those in a table: a section's squares stand on a shelf of their own, and the plant and its townships on another
+abbrev pub placed : Table → Placed
+placed t node.Everything = on_shelf t.upper node.Everything
+placed t (node.Township u) = on_shelf t.upper (node.Township u)
+placed t (node.Part s w) = on_section t (section_number s) (node.Part s w)
+
 -- the mode of examiner e at n
-abbrev pub table_mode : Table → ℕ → Node → Option Mode
-table_mode t e n = mode_in e (place_at t.places n)
+abbrev pub table_mode : Placed → ℕ → Node → Option Mode
+table_mode t e n = mode_in e (t n)
 
 -- ---- who is in the way
 
@@ -44,6 +73,58 @@ clashes_next post known held c = (not known && clashes_above (above_mode post) h
 abbrev pub clashes_with : Bool → (Node → Option Mode) → List Node → Bool
 clashes_with post held cover = list_any (clashes_for post held) cover
 
+-- ---- on one shelf
+
+-- the nodes above a node that stand on its shelf, the nearest first
+abbrev pub shelf_above : Node → List Node
+shelf_above node.Everything = []
+shelf_above (node.Township t) = node.Everything ∷ []
+shelf_above (node.Part s w) = above_in s w
+
+abbrev pub is_shelf_above : Node → Node → Bool
+is_shelf_above a b = list_any (same_node a) (shelf_above b)
+
+-- a square of a section, on that section's shelf
+abbrev pub StandsIn : Node → ℕ → Node → Type 0
+StandsIn n home township =
+    (s : Section) × (w : List Quarter) × (n ≡ node.Part s w) × (home ≡ section_number s) × (township ≡ node.Township s.township)
+
+abbrev pub is_square : Node → Bool
+is_square node.Everything = false
+is_square (node.Township t) = false
+is_square (node.Part s w) = true
+
+-- the node above, where it stands on the same shelf
+abbrev pub shelf_parent : Node → Option Node
+shelf_parent node.Everything = None
+shelf_parent (node.Township t) = Some node.Everything
+shelf_parent (node.Part s []) = None
+shelf_parent (node.Part s (q ∷ w)) = Some (node.Part s w)
+
+-- what an access asks at n for the node c of its cover, where n is on its shelf
+abbrev pub shelf_asked_for : Bool → Node → Node → Option Mode
+shelf_asked_for post c n =
+    if same_node n c then Some (own_mode post) else (if is_shelf_above n c then Some (above_mode post) else None)
+
+abbrev pub is_shelf_asked : Node → Node → Bool
+is_shelf_asked n c = same_node n c || is_shelf_above n c
+
+-- an access asks something at n of the upper shelf for a square of a section in township t, where that isn't known
+abbrev pub asks_upper : Bool → Node → Node → Bool
+asks_upper known t n = not known && is_shelf_asked n t
+
+-- what an access asks for the node c of its cover clashes at c or above it on its shelf
+abbrev pub shelf_clashes_for : Bool → (Node → Option Mode) → Node → Bool
+shelf_clashes_for post held c = clashes_above (above_mode post) held (shelf_above c) || clashes (own_mode post) (held c)
+
+abbrev pub shelf_clashes_next : Bool → Bool → (Node → Option Mode) → Node → Bool
+shelf_clashes_next post known held c =
+    (not known && clashes_above (above_mode post) held (shelf_above c)) || clashes (own_mode post) (held c)
+
+-- one mode clashes at c or above it on its shelf
+abbrev pub clashes_from : Mode → (Node → Option Mode) → Node → Bool
+clashes_from m held c = clashes m (held c) || clashes_above m held (shelf_above c)
+
 -- ---- room
 
 abbrev pub room_in : ℕ → Option Modes → Bool
@@ -51,15 +132,15 @@ room_in e None = false
 room_in e (Some h) = has_room h e
 
 -- examiner e can be given a mode at n without memory
-abbrev pub table_room : Table → ℕ → Node → Bool
-table_room t e n = room_in e (place_at t.places n)
+abbrev pub table_room : Placed → ℕ → Node → Bool
+table_room t e n = room_in e (t n)
 
--- where the first table has room, so has the second
-abbrev pub KeepsRoom : Table → Table → Type 0
+-- where there was room at first there is room after
+abbrev pub KeepsRoom : Placed → Placed → Type 0
 KeepsRoom t u = (e : ℕ) (n : Node) → table_room t e n ≡ true → table_room u e n ≡ true
 
 -- examiner e has room at each node that passes a test
-abbrev pub HasRoom : Table → ℕ → (Node → Bool) → Type 0
+abbrev pub HasRoom : Placed → ℕ → (Node → Bool) → Type 0
 HasRoom t e asks = (n : Node) → asks n ≡ true → table_room t e n ≡ true
 
 -- ---- what is kept and not held
@@ -69,42 +150,56 @@ idle_in e None = false
 idle_in e (Some h) = idles h e
 
 -- examiner e has room at n and no mode there
-abbrev pub is_idle : Table → ℕ → Node → Bool
-is_idle t e n = idle_in e (place_at t.places n)
+abbrev pub is_idle : Placed → ℕ → Node → Bool
+is_idle t e n = idle_in e (t n)
 
 -- nobody is idle but who was, and examiner e at nodes that pass a test
-pub record IdleMore (old : Table) (new : Table) (e : ℕ) (asks : Node → Bool) : Type 0 where
+pub record IdleMore (old : Placed) (new : Placed) (e : ℕ) (asks : Node → Bool) : Type 0 where
   pub more : (f : ℕ) (n : Node) → is_idle new f n ≡ true → (is_idle old f n || (f == e && asks n)) ≡ true
 
 -- exactly those are idle who were, but for examiner e at nodes that pass a test
-pub record IdleLess (old : Table) (new : Table) (e : ℕ) (asks : Node → Bool) : Type 0 where
+pub record IdleLess (old : Placed) (new : Placed) (e : ℕ) (asks : Node → Bool) : Type 0 where
   pub less : (f : ℕ) (n : Node) → is_idle new f n ≡ (is_idle old f n && not (f == e && asks n))
 
 -- examiner e has mode m or more at each node that passes a test, and isn't idle there
-pub record IsRaised (t : Table) (e : ℕ) (m : Mode) (asks : Node → Bool) : Type 0 where
+pub record IsRaised (t : Placed) (e : ℕ) (m : Mode) (asks : Node → Bool) : Type 0 where
   pub more : (n : Node) → asks n ≡ true → bound (table_mode t e n) (Some m) ≡ table_mode t e n
   pub busy : (n : Node) → asks n ≡ true → is_idle t e n ≡ false
 
 -- examiner e isn't idle at any node that passes a test, and has no mode there where modes are taken out
-pub record IsTakenOut (t : Table) (e : ℕ) (modes : Bool) (asks : Node → Bool) : Type 0 where
+pub record IsTakenOut (t : Placed) (e : ℕ) (modes : Bool) (asks : Node → Bool) : Type 0 where
   pub none : (n : Node) → asks n ≡ true → modes ≡ true → table_mode t e n ≡ None
   pub busy : (n : Node) → asks n ≡ true → is_idle t e n ≡ false
 
 -- nobody is idle but who was
-pub record NoMoreIdle (old : Table) (new : Table) : Type 0 where
+pub record NoMoreIdle (old : Placed) (new : Placed) : Type 0 where
   pub same : (f : ℕ) (n : Node) → is_idle new f n ≡ true → is_idle old f n ≡ true
 
 abbrev pub unused_in : Option Modes → Bool
 unused_in None = false
 unused_in (Some h) = is_free h
 
--- the table has a place for n, where nobody holds n or has room
-abbrev pub is_unused : Table → Node → Bool
-is_unused t n = unused_in (place_at t.places n)
+-- there is a place for n, where nobody holds n or has room
+abbrev pub is_unused : Placed → Node → Bool
+is_unused t n = unused_in (t n)
 
 -- each node that has a place is one that somebody holds or has room at
-pub record AllUsed (t : Table) : Type 0 where
+pub record AllUsed (t : Placed) : Type 0 where
   pub each : (n : Node) → is_unused t n ≡ false
+
+-- a shelf has no place
+abbrev pub is_bare : Shelf → Bool
+is_bare s = length s.places.entries == 0
+
+-- a section's shelf has a place, where there is one
+abbrev pub IsStocked : Option Shelf → Type 0
+IsStocked shelf = IfSome shelf (λ s. is_bare s ≡ false)
+
+-- each place of a table is one that somebody holds or has room at, and no section's shelf is bare
+pub record TableUsed (t : Table) : Type 0 where
+  pub upper : AllUsed (on_shelf t.upper)
+  pub sections : (k : ℕ) → AllUsed (on_section t k)
+  pub stocked : (k : ℕ) → IsStocked (get nat_cmp t.sections k)
 
 -- ---- what is held
 
@@ -117,7 +212,7 @@ abbrev pub is_asked_by : ℕ → ℕ → Node → Entry → Bool
 is_asked_by depth e n x = e == x.examiner && list_any (is_asked n) (cover_of depth x.tract)
 
 -- the table tells the modes of the entries, whose tracts are as large as the grid, and any two examiners' stand beside each other
-pub record TableIs (depth : ℕ) (entries : List Entry) (t : Table) : Type 0 where
+pub record TableIs (depth : ℕ) (entries : List Entry) (t : Placed) : Type 0 where
   pub apart : (e f : ℕ) → f ≢ e → (n : Node) → allows (mode_at depth entries e n) (mode_at depth entries f n) ≡ true
   pub sized : AreSized depth entries
   pub modes : (e : ℕ) (n : Node) → table_mode t e n ≡ mode_at depth entries e n

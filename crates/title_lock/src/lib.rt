@@ -12,6 +12,7 @@ pub mod modes;
 pub mod node_locks;
 mod places;
 pub mod row_locks;
+mod shelf;
 mod spots;
 mod spread_locks;
 mod table;

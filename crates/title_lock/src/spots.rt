@@ -1,9 +1,10 @@
 //! Nodes with their numbers, by which a table of locks finds them.
 
-ghost use Rattle.std.specs.Prelude.{◌≡◌, Some, None, MatchOption};
+ghost use Rattle.std.specs.Prelude.{◌≡◌, false, Some, None, MatchOption};
 ghost use Rattle.title_land.specs.Nodes.{parent_of};
 ghost use Rattle.title_land.specs.NodeNumbers.{node_number};
 ghost use Rattle.title_lock.specs.Families.{family, same_family};
+ghost use Rattle.title_lock.specs.Tables.{is_square, shelf_parent, StandsIn};
 
 use title_land::{Node, number_above};
 
@@ -35,6 +36,27 @@ impl Spot {
             node,
             number: number_above(self.number),
         })
+    }
+
+    /// The node above, where it stands on the same shelf; `None` for the plant and for a section.
+    pub(crate) fn shelf_parent(&self) -> Option<Spot>
+        ensures parent { MatchOption result (None ≡ shelf_parent self.now.node) (λ p. Some p.node ≡ shelf_parent self.now.node) }
+    {
+        if self.number >= 4_194_304 && self.number < 16_777_216 {
+            return None;
+        }
+        self.parent()
+    }
+
+    /// The number of a square's section, and its township; `None` for the plant and a township.
+    pub(crate) fn section(&self) -> Option<(u64, Spot)>
+        ensures section { MatchOption result (is_square self.now.node ≡ false) (λ p. StandsIn self.now.node p.0 p.1.node) }
+    {
+        let Node::Part(section, _) = self.node else {
+            return None;
+        };
+        let township = Node::Township(section.township);
+        Some((self.number % 4_194_304, Spot::of(&township)))
     }
 
     /// The number of the node above a square; `None` for the plant and a township.

@@ -7,6 +7,7 @@ use Rattle.std.proofs.lemmas.Bool.{or_right}
 use Rattle.title_land.specs.Nodes.{same_node, is_above}
 use Rattle.title_lock.specs.Families.{family, same_family}
 use Rattle.title_land.specs.NodeNumbers.{node_number}
+use Rattle.title_lock.specs.Tables.{placed}
 use Rattle.title_lock.proofs.FamilyLaws.{above_too}
 use Rattle.title_lock.specs.Tables.{is_asked, HasRoom}
 use Rattle.title_lock.proofs.TableLaws.{room_more}
@@ -17,7 +18,7 @@ pub loop-node-init : goal.loop-node-init
 loop-node-init c = record {
   modes = λ f n. refl;
   room = λ n asks. absurd cc;
-  idle = more_same c.args.self.now c.args.examiner (λ n. list_any (is_asked n) c.args.cover.now);
+  idle = more_same (placed c.args.self.now) c.args.examiner (λ n. list_any (is_asked n) c.args.cover.now);
   known = λ n same m up. absurd (true≢false (sym same));
   used = λ used. used;
 }
@@ -32,7 +33,7 @@ loop-node-preserved c =
     let fam : c.family-family.result ≡ family (node_number k) = c.family-family.ensures.family ∙ ap family c.of-spot.result.numbered in
     record {
       modes = λ f n. c.make_room_next.ensures.modes f n ∙ c.loop-node.invariant.modes f n;
-      room = room_more c.make_room_next.new.self c.args.examiner c.args.cover.now c.loop-node.node-index
+      room = room_more (placed c.make_room_next.new.self) c.args.examiner c.args.cover.now c.loop-node.node-index
           k at_it low
           c.in_ok-make_room_next.ensures.room
           (λ n asks. c.make_room_next.ensures.stays c.args.examiner n (c.loop-node.invariant.room n asks));
@@ -46,7 +47,7 @@ loop-node-preserved c =
 
 pub returns-clause-room : goal.returns-clause-room
 returns-clause-room c =
-    subst (λ (nodes : List Node). HasRoom c.loop-node.self c.args.examiner (λ n. list_any (is_asked n) nodes))
+    subst (λ (nodes : List Node). HasRoom (placed c.loop-node.self) c.args.examiner (λ n. list_any (is_asked n) nodes))
     (take_all c.loop-node.node-index c.args.cover.now (omega arith)) c.loop-node.invariant.room
 
 pub returns-in_err-make_room_next-clause-idle : goal.returns-in_err-make_room_next-clause-idle

@@ -9,6 +9,7 @@ use Rattle.title_lock.specs.Overlaps.{is_post}
 use Rattle.title_lock.specs.Asking.{asked_for, asked}
 use Rattle.title_lock.specs.Families.{family, same_family}
 use Rattle.title_land.specs.NodeNumbers.{node_number}
+use Rattle.title_lock.specs.Tables.{placed}
 use Rattle.title_lock.proofs.FamilyLaws.{raised_after}
 use Rattle.title_lock.specs.Tables.{table_mode, is_asked, IdleLess}
 use Rattle.title_lock.proofs.AccessLaws.{rest_join, rest_none}
@@ -30,8 +31,8 @@ loop-node-preserved c =
         arith,
         common_steps,
         rest_join,
-        (subst (λ (z : Node). table_mode c.raise_next.new.self f n
-            ≡ bound (table_mode c.loop-node.self f n) (cond (eqb f e) (asked_for (is_post c.args.access) z n) None)) c.of-spot.ensures.of
+        (subst (λ (z : Node). table_mode (placed c.raise_next.new.self) f n
+            ≡ bound (table_mode (placed c.loop-node.self) f n) (cond (eqb f e) (asked_for (is_post c.args.access) z n) None)) c.of-spot.ensures.of
             (c.raise_next.ensures.modes f n)),
         c.loop-node.invariant.modes f n,
       );
@@ -59,12 +60,12 @@ raise_next-requires c =
 
 pub returns : goal.returns
 returns c = record {
-  modes = λ f n. rest_none (eqb f c.args.examiner) (table_mode c.loop-node.self f n)
-      ∙ ap (λ (nodes : List Node). bound (table_mode c.loop-node.self f n)
+  modes = λ f n. rest_none (eqb f c.args.examiner) (table_mode (placed c.loop-node.self) f n)
+      ∙ ap (λ (nodes : List Node). bound (table_mode (placed c.loop-node.self) f n)
       (cond (eqb f c.args.examiner) (asked (is_post c.args.access) nodes n) None))
       (sym (drop_all c.loop-node.node-index c.args.cover.now (omega arith)))
       ∙ c.loop-node.invariant.modes f n;
-  idle = subst (λ (nodes : List Node). IdleLess c.args.self.now c.loop-node.self c.args.examiner (λ n. list_any (is_asked n) nodes))
+  idle = subst (λ (nodes : List Node). IdleLess (placed c.args.self.now) (placed c.loop-node.self) c.args.examiner (λ n. list_any (is_asked n) nodes))
       (take_all c.loop-node.node-index c.args.cover.now (omega arith)) c.loop-node.invariant.idle;
   used = c.loop-node.invariant.used;
 }

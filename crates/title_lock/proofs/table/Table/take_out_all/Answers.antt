@@ -6,6 +6,7 @@ use Rattle.title_lock.specs.declared.modes.Mode.{Mode}
 use Rattle.title_lock.specs.Holders.{is_mode}
 use Rattle.title_lock.specs.Families.{family, same_family}
 use Rattle.title_land.specs.NodeNumbers.{node_number}
+use Rattle.title_lock.specs.Tables.{placed}
 use Rattle.title_lock.proofs.FamilyLaws.{gone_after}
 use Rattle.title_lock.specs.Tables.{table_mode, is_asked}
 use Rattle.title_lock.proofs.AccessLaws.{gone_join}
@@ -23,7 +24,7 @@ loop-node-preserved c =
     record {
       modes = λ f n.
           let mine = is_mode c.args.taken && eqb f c.args.examiner in
-          let old = table_mode c.args.self.now f n in
+          let old = table_mode (placed c.args.self.now) f n in
           let first = list_any (is_asked n) (take i nodes) in
           c.take_out_next.ensures.modes f n
           ∙ ap (λ (r : Option Mode). cond (mine && is_asked n k) None r) (c.loop-node.invariant.modes f n)

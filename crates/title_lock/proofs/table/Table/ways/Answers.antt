@@ -11,6 +11,7 @@ use Rattle.title_lock.specs.Families.{family, same_family}
 use Rattle.title_land.specs.NodeNumbers.{node_number}
 use Rattle.title_lock.specs.Holders.{clashes}
 use Rattle.title_lock.specs.Tables.{table_mode, clashes_above, clashes_for, clashes_next, clashes_with}
+use Rattle.title_lock.specs.Tables.{placed}
 use Rattle.title_lock.proofs.FamilyLaws.{one_above, known_clash}
 use Rattle.title_lock.proofs.LeastLaws.{least_join, least_same}
 use Rattle.title_lock.proofs.table.Table.ways.Goals as goal
@@ -25,7 +26,7 @@ loop-node-preserved c =
     let p = is_post c.args.access in
     let i = c.loop-node.node-index in
     let nodes = c.args.cover.now in
-    let table = c.args.self.now in
+    let table = (placed c.args.self.now) in
     let k = c.of-spot.result.node in
     let at_it : k ≡ get_or nodes i k = subst (λ (z : Node). z ≡ get_or nodes i z) (sym c.of-spot.ensures.of) c.node-item.is in
     let fam : c.family-family.result ≡ family (node_number k) = c.family-family.ensures.family ∙ ap family c.of-spot.result.numbered in
@@ -54,7 +55,7 @@ loop-node-preserved c =
 
 pub returns : goal.returns
 returns c = record {
-  way = subst (λ (nodes : List Node). IsLeast (λ f. clashes_with (is_post c.args.access) (λ n. table_mode c.args.self.now f n) nodes)
+  way = subst (λ (nodes : List Node). IsLeast (λ f. clashes_with (is_post c.args.access) (λ n. table_mode (placed c.args.self.now) f n) nodes)
       c.args.examiner c.loop-node.way)
       (take_all c.loop-node.node-index c.args.cover.now (omega arith)) c.loop-node.invariant.way;
 }

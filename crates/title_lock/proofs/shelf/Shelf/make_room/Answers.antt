@@ -1,0 +1,138 @@
+-- A place gets room, and a new place holds nobody and has room for one.
+use Rattle.std.proofs.Common.{◌≡◌, ◌∙◌, ap, sym, subst, ℕ, List, Some, None, cond, eqb, ◌||◌, true≢false}
+use Rattle.std.specs.Ordering.{nat_cmp}
+use Rattle.std.specs.BTreeMap.{get, is_at}
+use Rattle.std.specs.Map.{lookup}
+use Rattle.title_land.specs.NodeNumbers.{node_number}
+use Rattle.title_lock.specs.Holders.{Modes}
+use Rattle.title_lock.specs.Tables.{place_at, mode_in, room_in, idle_in, unused_in}
+use Rattle.title_lock.proofs.TableLaws.{Places, node_writes, node_finds, is_found, same_everywhere, room_stays, idle_more, used_after}
+use Rattle.title_lock.proofs.IdleLaws.{idles_more, idles_first, rooms_used, room_used}
+use Rattle.title_lock.proofs.shelf.Shelf.make_room.Goals as goal
+
+pub returns-in-Some-clause-modes : goal.returns-in-Some-clause-modes
+returns-in-Some-clause-modes c f =
+    let w = c.make_room.new.self in
+    let code = c.args.spot.now.numbered in
+    let found = c.in-Some.ensures.value in
+    let had = node_finds c.args.self.now.places c.args.spot.now.number c.args.spot.now.node (Some c.in-Some.place.now) code found in
+    let writes = node_writes c.args.self.now.places (c.get_mut.follows.lender w) c.args.spot.now.number c.args.spot.now.node (Some w) code
+    ((c.get_mut.follows.holds w).3 (is_found _ _ found)).0 in
+    same_everywhere c.args.self.now.places (c.get_mut.follows.lender w) c.args.spot.now.node (Some w)
+    writes (mode_in f) (c.make_room.ensures.modes f ∙ ap (mode_in f) had)
+
+pub returns-in-Some-clause-stays : goal.returns-in-Some-clause-stays
+returns-in-Some-clause-stays c e =
+    let w = c.make_room.new.self in
+    let code = c.args.spot.now.numbered in
+    let found = c.in-Some.ensures.value in
+    let had = node_finds c.args.self.now.places c.args.spot.now.number c.args.spot.now.node (Some c.in-Some.place.now) code found in
+    let writes = node_writes c.args.self.now.places (c.get_mut.follows.lender w) c.args.spot.now.number c.args.spot.now.node (Some w) code
+    ((c.get_mut.follows.holds w).3 (is_found _ _ found)).0 in
+    room_stays c.args.self.now.places (c.get_mut.follows.lender w) c.args.spot.now.node (Some w)
+    writes e
+    (λ h. c.make_room.ensures.stays e (ap (room_in e) had ∙ h))
+
+pub returns-clause-modes : goal.returns-clause-modes
+returns-clause-modes c f =
+    let v = c.make_room-2.new.self in
+    let code = c.args.spot.now.numbered in
+    let none = node_finds c.args.self.now.places c.args.spot.now.number c.args.spot.now.node None code c.in_default.ensures.value in
+    let writes = node_writes c.args.self.now.places c.insert.new.self c.args.spot.now.number c.args.spot.now.node (Some v) code
+    (subst (λ (m : Places). (q : ℕ) → get nat_cmp c.insert.new.self q
+    ≡ cond (is_at (nat_cmp c.args.spot.now.number) q) (Some v) (get nat_cmp m q))
+    c.get_mut.follows.holds-at-none c.in_ok-insert.ensures.updates.0) in
+    same_everywhere c.args.self.now.places c.insert.new.self c.args.spot.now.node (Some v)
+    writes
+    (mode_in f)
+    (c.make_room-2.ensures.modes f ∙ c.new-place.ensures.free f ∙ ap (mode_in f) none)
+
+pub returns-clause-stays : goal.returns-clause-stays
+returns-clause-stays c e =
+    let v = c.make_room-2.new.self in
+    let code = c.args.spot.now.numbered in
+    let none = node_finds c.args.self.now.places c.args.spot.now.number c.args.spot.now.node None code c.in_default.ensures.value in
+    let writes = node_writes c.args.self.now.places c.insert.new.self c.args.spot.now.number c.args.spot.now.node (Some v) code
+    (subst (λ (m : Places). (q : ℕ) → get nat_cmp c.insert.new.self q
+    ≡ cond (is_at (nat_cmp c.args.spot.now.number) q) (Some v) (get nat_cmp m q))
+    c.get_mut.follows.holds-at-none c.in_ok-insert.ensures.updates.0) in
+    room_stays c.args.self.now.places c.insert.new.self c.args.spot.now.node (Some v)
+    writes e
+    (λ h. absurd (true≢false (sym h ∙ ap (room_in e) (sym none))))
+
+pub returns-in-Some-clause-idle : goal.returns-in-Some-clause-idle
+returns-in-Some-clause-idle c =
+    let e = c.args.examiner in
+    let h = c.in-Some.place.now in
+    let w = c.make_room.new.self in
+    let code = c.args.spot.now.numbered in
+    let found = c.in-Some.ensures.value in
+    let had = node_finds c.args.self.now.places c.args.spot.now.number c.args.spot.now.node (Some c.in-Some.place.now) code found in
+    let writes = node_writes c.args.self.now.places (c.get_mut.follows.lender w) c.args.spot.now.number c.args.spot.now.node (Some w) code
+    ((c.get_mut.follows.holds w).3 (is_found _ _ found)).0 in
+    record {
+      more = λ f. idle_more c.args.self.now.places (c.get_mut.follows.lender w) c.args.spot.now.node (Some w)
+          writes (eqb f e) f
+          (λ idle. ap (λ o. idle_in f o || eqb f e) (sym had)
+          ∙ idles_more h w f e (c.make_room.ensures.modes f) (c.make_room.ensures.others f) idle);
+    }
+
+pub returns-in-Some-clause-used : goal.returns-in-Some-clause-used
+returns-in-Some-clause-used c used =
+    let w = c.make_room.new.self in
+    let code = c.args.spot.now.numbered in
+    let found = c.in-Some.ensures.value in
+    let had = node_finds c.args.self.now.places c.args.spot.now.number c.args.spot.now.node (Some c.in-Some.place.now) code found in
+    let writes = node_writes c.args.self.now.places (c.get_mut.follows.lender w) c.args.spot.now.number c.args.spot.now.node (Some w) code
+    ((c.get_mut.follows.holds w).3 (is_found _ _ found)).0 in
+    record {
+      each = used_after c.args.self.now.places (c.get_mut.follows.lender w) c.args.spot.now.node (Some w)
+          writes
+          (λ here. rooms_used c.in-Some.place.now w c.make_room.ensures.stays (ap unused_in had ∙ here)) used.each;
+    }
+
+pub returns-clause-idle : goal.returns-clause-idle
+returns-clause-idle c =
+    let e = c.args.examiner in
+    let v = c.make_room-2.new.self in
+    let code = c.args.spot.now.numbered in
+    let none = node_finds c.args.self.now.places c.args.spot.now.number c.args.spot.now.node None code c.in_default.ensures.value in
+    let writes = node_writes c.args.self.now.places c.insert.new.self c.args.spot.now.number c.args.spot.now.node (Some v) code
+    (subst (λ (m : Places). (q : ℕ) → get nat_cmp c.insert.new.self q
+    ≡ cond (is_at (nat_cmp c.args.spot.now.number) q) (Some v) (get nat_cmp m q))
+    c.get_mut.follows.holds-at-none c.in_ok-insert.ensures.updates.0) in
+    record {
+      more = λ f. idle_more c.args.self.now.places c.insert.new.self c.args.spot.now.node (Some v)
+          writes (eqb f e) f
+          (λ idle. ap (λ o. idle_in f o || eqb f e) (sym none)
+          ∙ idles_first c.new-place.result v f e (c.new-place.ensures.rooms f) (c.make_room-2.ensures.modes f)
+          (c.make_room-2.ensures.others f) idle);
+    }
+
+pub returns-clause-used : goal.returns-clause-used
+returns-clause-used c used =
+    let v = c.make_room-2.new.self in
+    let code = c.args.spot.now.numbered in
+    let none = node_finds c.args.self.now.places c.args.spot.now.number c.args.spot.now.node None code c.in_default.ensures.value in
+    let writes = node_writes c.args.self.now.places c.insert.new.self c.args.spot.now.number c.args.spot.now.node (Some v) code
+    (subst (λ (m : Places). (q : ℕ) → get nat_cmp c.insert.new.self q
+    ≡ cond (is_at (nat_cmp c.args.spot.now.number) q) (Some v) (get nat_cmp m q))
+    c.get_mut.follows.holds-at-none c.in_ok-insert.ensures.updates.0) in
+    record {
+      each = used_after c.args.self.now.places c.insert.new.self c.args.spot.now.node (Some v)
+          writes
+          (λ here. room_used v c.args.examiner c.in_ok-make_room.ensures.room) used.each;
+    }
+
+pub returns-in_err-make_room-clause-used : goal.returns-in_err-make_room-clause-used
+returns-in_err-make_room-clause-used c used = record {
+  each = λ n. ap (λ (m : Places). unused_in (place_at m n)) c.get_mut.follows.holds-at-none ∙ used.each n;
+}
+
+pub returns-in_err-insert-clause-used : goal.returns-in_err-insert-clause-used
+returns-in_err-insert-clause-used c used = record {
+  each = λ n.
+      ap (λ (es : List (ℕ × Modes)). unused_in (lookup (is_at (nat_cmp (node_number n))) es))
+      (c.in_err-insert.ensures.err ∙ ap (λ (m : Places). m.entries) c.get_mut.follows.holds-at-none)
+      ∙ used.each n;
+}
