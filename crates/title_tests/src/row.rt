@@ -4,7 +4,7 @@ use csv::StringRecord;
 use std::alloc::{AllocError, Global};
 use std::process::Abort;
 use std::test::Fail;
-use title_plan::read_row;
+use title_plan::{Plan, Schedule, ScriptFault, read_row};
 
 // A row whose fields a line has with | between them.
 fn row_of(alloc: Global, line: &str) -> Result<StringRecord, AllocError> {
@@ -93,5 +93,45 @@ const ROWS: [(&str, &str); 38] = [
 #[test]
 fn rows_say_something_or_nothing(rt: HostRuntime) -> Result<(), Fail> {
     assert_said(rt.alloc(), &rt, &ROWS)?;
+    Ok(())
+}
+
+// The numbers of parties, townships and steps of a script of these rows, taken one after another; or the first fault.
+fn taken(alloc: Global, rows: &[(u64, &str)]) -> Result<(usize, usize, usize), ScriptFault> {
+    let mut plan = Plan::new(alloc)?;
+    for &(n, line) in rows {
+        let row = row_of(alloc, line)?;
+        plan.take_row(Schedule::Interleaved, n, row.into_byte_record())?;
+    }
+    Ok((plan.parties.len(), plan.townships.len(), plan.lines.len()))
+}
+
+const SCRIPT: [(u64, &str); 5] = [
+    (1, "township|T2N R1W"),
+    (2, "party|ADAMS, J."),
+    (3, "party|BELL"),
+    (4, "1|begin"),
+    (5, "1|sheet|T2N R1W sec 5"),
+];
+
+// Scripts of one row and what they are faulty by.
+const FAULTY: [(u64, &str, ScriptFault); 4] = [
+    (1, "Township|T2N R1W", ScriptFault::Row(1)),
+    (1, "party|UNITED STATES", ScriptFault::Party(1)),
+    (
+        2,
+        "1|deed|12|ADAMS|BELL|S|W1/2||T2N R1W",
+        ScriptFault::Party(2),
+    ),
+    (100_001, "1|begin", ScriptFault::Row(100_001)),
+];
+
+#[test]
+fn rows_are_taken_one_by_one(rt: HostRuntime) -> Result<(), Fail> {
+    // UNITED STATES is a party of each script.
+    assert!(rt; taken(rt.alloc(), &SCRIPT) == Ok((3, 1, 2)));
+    for &(n, line, fault) in &FAULTY {
+        assert!(rt; taken(rt.alloc(), &[(n, line)]) == Err(fault), "at {line}");
+    }
     Ok(())
 }
