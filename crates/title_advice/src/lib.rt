@@ -2,7 +2,6 @@
 #![tactic(auto)]
 
 mod declared;
-mod explaining;
 mod field;
 mod heard;
 mod land;
@@ -14,7 +13,6 @@ mod row;
 mod script;
 mod word;
 
-pub use explaining::explain;
 pub use heard::Heard;
 pub use land::{pointed_out, sentence_of};
 pub use progress::Progress;

@@ -19,7 +19,7 @@ pub use chains::chain;
 pub use lists::{Entries, Records, SheetRows, Steps};
 pub use own_steps::OwnSteps;
 pub use record::Record;
-pub use replay::sheet_by_chain;
+pub use replay::{post_all_again, sheet_by_chain};
 pub use same::same_steps;
 pub use same_parts::same_tract;
 pub use tract_index::TractIndex;

@@ -15,7 +15,6 @@ use crate::record::Record;
 use std::alloc::{AllocError, Global};
 use title_land::{Township, Tract};
 use title_store::{Put, Store};
-use title_tree_store::TreeStore;
 
 // Posts a step's instrument again, if it was posted.
 fn post_again<S: Store>(store: &mut S, step: &Step) -> Result<(), AllocError>
@@ -35,8 +34,9 @@ fn post_again<S: Store>(store: &mut S, step: &Step) -> Result<(), AllocError>
     Ok(())
 }
 
-// Posts again what these steps posted.
-fn post_all_again<S: Store>(store: &mut S, steps: &[Step]) -> Result<(), AllocError>
+/// Posts again what these steps posted, one after another, in a plant of which no before-image is out; the plant then is as it
+/// was after the steps. `Err` is Memory, and then only some are posted.
+pub fn post_all_again<S: Store>(store: &mut S, steps: &[Step]) -> Result<(), AllocError>
     requires none { S.out store.old ≡ [] }
     requires replays { Replays depth (S.declared store.old) (S.content store.old) (reverse steps.now) }
     ensures content { OnOk result (SameContent (after_steps depth (S.declared store.old) (S.content store.old) (reverse steps.now))
@@ -64,8 +64,10 @@ fn post_records_again<S: Store>(store: &mut S, records: &[Record]) -> Result<(),
     Ok(())
 }
 
-// The sheet after these records, by any store.
-fn sheet_by_replay<S: Store + Drop>(
+/// The sheet after these records, made from their posted instruments alone, in order: a plant of these townships is opened
+/// in a store, and each of them is posted again. No township stands twice, and each record's answers are those that its asks
+/// get alone, one after another, after the records before it.
+pub fn sheet_by_chain<S: Store + Drop>(
     alloc: Global,
     records: &Records,
     townships: &[Township],
@@ -80,22 +82,4 @@ fn sheet_by_replay<S: Store + Drop>(
     let mut store = S::open(alloc, townships)?;
     post_records_again(&mut store, records.as_slice())?;
     SheetRows::new(store.sheet(alloc, tract)?)
-}
-
-/// The sheet after these records, made from their posted instruments alone, in order: a plant of these townships is opened
-/// and each of them is posted again. No township stands twice, and each record's answers are those that its asks get alone,
-/// one after another, after the records before it.
-pub fn sheet_by_chain(
-    alloc: Global,
-    records: &Records,
-    townships: &[Township],
-    tract: &Tract,
-) -> Result<SheetRows, AllocError>
-    requires once { IsEachOnce townships.now }
-    requires within { is_in_plant townships.now tract.now ≡ true }
-    requires serial { IsSerial depth townships.now (reverse records.now) }
-    ensures sheet { IfOk result (λ rows. rows ≡ sheet_of depth townships.now (plant_after depth townships.now (reverse records.now))
-        tract.now) }
-{
-    sheet_by_replay::<TreeStore>(alloc, records, townships, tract)
 }

@@ -20,6 +20,7 @@ use title_land::{Node, Township, Tract};
 use title_page::Page;
 use title_report::{put_end, put_reply};
 use title_trace::Reply;
+use title_tree_store::TreeStore;
 
 /// What the report of a settled office shows: the names of the parties, a tally for each examiner, how many records there
 /// are, the closing sheet, and the number of step rows.
@@ -47,7 +48,7 @@ fn closing_sheet(
         return Ok(Reply::NoSuchTownship);
     }
     let everything = Tract::of(Node::Everything);
-    let rows = sheet_by_chain(alloc, records, townships, &everything)?;
+    let rows = sheet_by_chain::<TreeStore>(alloc, records, townships, &everything)?;
     Ok(Reply::Answered(Answer::Rows(rows)))
 }
 

@@ -12,6 +12,7 @@ use title_instrument::{Estate, Estates, Instrument, Release, Rule};
 use title_land::{Node, Quarter, Tract};
 use title_share::WHOLE;
 use title_store::SheetRow;
+use title_tree_store::TreeStore;
 
 const UNITED_STATES: u32 = 0;
 
@@ -138,7 +139,7 @@ fn a_sheet_by_the_chain_of_no_records(rt: HostRuntime) -> Result<(), Fail> {
     let tract = Tract::of(Node::Everything);
     assert!(rt; tract.is_in(&townships));
     let records = Records::new(Vec::new(rt.alloc()));
-    let rows = sheet_by_chain(rt.alloc(), &records, &townships, &tract)?;
+    let rows = sheet_by_chain::<TreeStore>(rt.alloc(), &records, &townships, &tract)?;
     assert!(rt; rows.as_slice().len() == 3);
     Ok(())
 }

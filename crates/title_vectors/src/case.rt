@@ -5,8 +5,9 @@ use anyhow::Result;
 use std::alloc::{AllocError, Global};
 use std::sync::Wait;
 use std::thread::Threads;
-use title_advice::{Heard, explain};
+use title_advice::Heard;
 use title_device::Device;
+use title_explain::explain;
 use title_program::{Unwatched, obey_words};
 
 /// What is printed, and the status after it.

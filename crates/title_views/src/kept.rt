@@ -1,20 +1,18 @@
 //! The plant that a viewer keeps.
 
-ghost use Rattle.std.specs.Prelude.{◌≡◌, ◌≤◌, IfOk, OnOk, IfSome, [], true, reverse, take, length};
+ghost use Rattle.std.specs.Prelude.{◌≡◌, IfOk, OnOk, IfSome, true, reverse, length};
 ghost use Rattle.title_land.specs.Depth.{depth};
 ghost use Rattle.title_land.specs.Lands.{is_in_plant};
-ghost use Rattle.title_store.specs.Plants.{SameContent, IsEachOnce};
+ghost use Rattle.title_store.specs.Plants.{IsEachOnce};
 ghost use Rattle.title_store.specs.Sheets.{sheet_of};
-ghost use Rattle.title_chain.specs.Asks.{effect};
-ghost use Rattle.title_chain.specs.Alone.{after_steps, plant_after, IsSerial};
-ghost use Rattle.title_chain.specs.Replays.{CanReplay, Replays};
+ghost use Rattle.title_chain.specs.Alone.{IsSerial};
 ghost use Rattle.title_views.specs.Views.{IsKept, IsMade, IsSheetIn};
 
 use crate::same_land::same_land;
 use std::alloc::{AllocError, Global};
-use title_chain::{Answer, Ask, Record, SheetRows, Step};
+use title_chain::{Record, SheetRows, post_all_again};
 use title_land::{Land, Township, Tract};
-use title_store::{Put, Store};
+use title_store::Store;
 
 /// The sheet of a tract, by the tract's land.
 #[derive(Drop)]
@@ -42,39 +40,6 @@ impl Made {
         }
         self.rows.copy().ok()
     }
-}
-
-// Posts a step's instrument again, if it was posted.
-fn post_again<S: Store>(store: &mut S, step: &Step) -> Result<(), AllocError>
-    requires none { S.out store.old ≡ [] }
-    requires replays { CanReplay depth (S.declared store.old) (S.content store.old) step.now }
-    ensures content { OnOk result (SameContent (effect depth (S.declared store.old) (S.content store.old) step.now.ask)
-        (S.content store.new)) }
-    ensures declared { S.declared store.new ≡ S.declared store.old }
-    ensures out { OnOk result (S.out store.new ≡ []) }
-{
-    let (Ask::Post(posting), Answer::Posted) = (&step.ask, &step.answer) else {
-        return Ok(());
-    };
-    if let Put::Done(image) = store.put(&posting.tract, &posting.instrument)? {
-        store.forget(image);
-    }
-    Ok(())
-}
-
-// Posts again what these steps posted.
-fn post_all_again<S: Store>(store: &mut S, steps: &[Step]) -> Result<(), AllocError>
-    requires none { S.out store.old ≡ [] }
-    requires replays { Replays depth (S.declared store.old) (S.content store.old) (reverse steps.now) }
-    ensures content { OnOk result (SameContent (after_steps depth (S.declared store.old) (S.content store.old) (reverse steps.now))
-        (S.content store.new)) }
-    ensures declared { S.declared store.new ≡ S.declared store.old }
-    ensures out { OnOk result (S.out store.new ≡ []) }
-{
-    for step in steps {
-        post_again(store, step)?;
-    }
-    Ok(())
 }
 
 // Posts again what the records from a place on posted, one record after another, and tidies up after each.

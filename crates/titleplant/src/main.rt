@@ -5,8 +5,9 @@
 use std::io::IsTerminal;
 use std::process::ExitCode;
 use std::{env, io};
-use title_advice::{Heard, Progress, explain};
+use title_advice::{Heard, Progress};
 use title_device::{Device, Sink};
+use title_explain::explain;
 use title_program::{WordsFault, obey_words, refuse_untaken};
 
 fn words(rt: &HostRuntime) -> Result<Vec<String>, WordsFault> {

@@ -1,12 +1,11 @@
-//! What a person is told on the errors.
+//! What a person is told on the errors where a command failed, by why it ended.
+#![tactic(auto)]
 
 ghost use Rattle.std.specs.Prelude.{◌≡◌, ℕ, List, None};
 ghost use Rattle.std.specs.Io.KnownBytes.{Appends};
 
-use crate::heard::Heard;
-use crate::land::pointed_out;
-use crate::script::{Script, script_advice};
 use std::alloc::{AllocError, Global};
+use title_advice::{Heard, Script, pointed_out, script_advice};
 use title_aliquot::DescFault;
 use title_day::OfficeFault;
 use title_device::{SCRIPT_LIMIT, Sink, write_all};
