@@ -60,6 +60,7 @@ impl<'a> Reader<'a> {
     }
 
     /// A reader of this text's letters and then of another's.
+    // (Put inline at each call: a call for each letter cost a tenth of reading a description.)
     #[inline(always)]
     pub fn of_both(text: &'a str, more: &'a str) -> Reader<'a>
         ensures both { result ≡ letters (chars text.now) ++ letters (chars more.now) }
@@ -77,6 +78,7 @@ impl<'a> Reader<'a> {
     }
 
     /// Whether one of these characters comes next.
+    // (Put inline at each call: a call for each letter cost a tenth of reading a description.)
     #[inline(always)]
     fn starts(&self, set: &str) -> bool
         ensures starts { result ≡ starts set.now self.now }
@@ -88,6 +90,7 @@ impl<'a> Reader<'a> {
     }
 
     /// Takes one letter.
+    // (Put inline at each call: a call for each letter cost a tenth of reading a description.)
     #[inline(always)]
     fn letter(&mut self, letter: char) -> Result<(), Stop>
         ensures read { Reads (λ u. tt) result self.new (word_at (letter ∷ []) self.old) }
@@ -102,6 +105,7 @@ impl<'a> Reader<'a> {
     }
 
     /// Takes the letters of an ASCII word.
+    // (Put inline at each call: a call for each letter cost a tenth of reading a description.)
     #[inline(always)]
     pub fn word(&mut self, word: &str) -> Result<(), Stop>
         ensures read { Reads (λ u. tt) result self.new (word_at word.now self.old) }
