@@ -1,7 +1,7 @@
 #!/usr/bin/env python3
 """Writes a large valid script of the program `titleplant` to standard output.
 
-    generate.py --kind KIND [--rows N] [--seed N] [--side 8|16] [--examiners N] [--townships N] [--parties N]
+    generate.py --kind KIND [--rows N] [--seed N] [--side 8|16] [--examiners N] [--townships N] [--parties N] [--sections N]
 
 deeds        plain deeds and releases of one examiner, each a transaction of its own       (for `alone`)
 sheets       sheets of whole sections, after a few deeds                                   (for `alone`)
@@ -14,7 +14,7 @@ cells        the same of single cells                                           
 plats        sheets of whole townships, after a few deeds                                  (for `alone`)
 plants       sheets of everything, after a few deeds                                       (for `alone`)
 bargains     transactions of eight deeds in a section, each with the section's sheet       (for `alone`)
-owners       sheets of eight sections in which many parties own                            (for `alone`)
+owners       sheets of eight sections, or of N, in which many parties own                  (for `alone`)
 histories    deeds in 64 sections and chains of them, of tens of entries                   (for `alone`)
 interleaved  eight examiners at work at once, in transactions of up to 20 steps            (for `run`)
 fifty        the same by fifty examiners                                                   (for `run`)
@@ -124,10 +124,15 @@ def parts(chance, count):
             yield f"1,{instrument(chance, document, where)}"
 
 
+def one_of(chance, sections):
+    """One of the first sections, which go on in the next township after 36."""
+    number = chance.randint(1, sections) - 1
+    return f"{chance.townships[number // 36]} sec {number % 36 + 1}"
+
+
 def part_of(chance, sections):
-    """A square of one of a township's first sections, of ten acres or of forty."""
-    where = f"{chance.townships[0]} sec {chance.randint(1, sections)}"
-    return f"{where} {quarters(chance, chance.choice([2, 3]))}"
+    """A square of one of the first sections, of ten acres or of forty."""
+    return f"{one_of(chance, sections)} {quarters(chance, chance.choice([2, 3]))}"
 
 
 def bargains(chance, count):
@@ -146,12 +151,12 @@ def bargains(chance, count):
 
 
 def owners(chance, count):
-    """Deeds of parts of eight sections, a fiftieth of the steps and at most 600, and then sheets of these sections."""
-    posted = min(count // 50, 600)
+    """Deeds of parts of some sections, 75 for each but at most a fiftieth of the steps, and then sheets of these sections."""
+    posted = min(count // 50, 75 * chance.sections)
     for document in range(1, posted + 1):
-        yield f"1,{instrument(chance, document, part_of(chance, 8))}"
+        yield f"1,{instrument(chance, document, part_of(chance, chance.sections))}"
     for _ in range(count - posted):
-        yield f"1,sheet,{chance.townships[0]} sec {chance.randint(1, 8)}"
+        yield f"1,sheet,{one_of(chance, chance.sections)}"
 
 
 def histories(chance, count):
@@ -303,6 +308,7 @@ def main():
     options.add_argument("--examiners", type=int, choices=range(1, 65), default=8, metavar="N", help="of an office (default 8)")
     options.add_argument("--townships", type=int, choices=range(1, 65), default=64, metavar="N", help="declared (default 64)")
     options.add_argument("--parties", type=int, choices=range(2, 201), default=200, metavar="N", help="declared (default 200)")
+    options.add_argument("--sections", type=int, choices=range(1, 2_305), default=8, metavar="N", help="that owners go by (default 8)")
     options.add_argument("--side", type=int, choices=sorted(QUARTERINGS), default=16, help="cells of a section's side (default 16)")
     asked = options.parse_args()
     chance = random.Random(asked.seed)
@@ -312,7 +318,10 @@ def main():
         options.error(f"--rows has to be from {len(declared) + 36} to 100000")
     if asked.kind == "own" and asked.examiners > asked.townships:
         options.error("--kind own wants a township for each examiner")
+    if asked.sections > 36 * asked.townships:
+        options.error("--sections has to be at most 36 for each township")
     chance.quarterings = QUARTERINGS[asked.side]
+    chance.sections = asked.sections
     chance.examiners = asked.examiners
     steps = KINDS[asked.kind](chance, asked.rows - len(declared))
     sys.stdout.writelines(f"{row}\n" for row in declared)
