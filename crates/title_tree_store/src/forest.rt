@@ -63,7 +63,7 @@ pub(crate) fn names(instrument: &Instrument, estate: Estate) -> bool
 }
 
 // What stands at some paths of a tree, after an instrument; nothing where it doesn't name the estate. Refused as the first
-// leaf that refuses.
+// leaf that refuses. The list is made once nothing refuses at the first path: a refusal there takes none.
 fn changed(
     alloc: Global,
     tree: &Tree,
@@ -77,12 +77,20 @@ fn changed(
     if !names(instrument, estate) {
         return Ok(Vec::new(alloc));
     }
-    let mut parts = Vec::with_capacity(alloc, paths.len())?;
+    let Some((first, rest)) = paths.split_first() else {
+        return Ok(Vec::new(alloc));
+    };
     let mut passing = Passing {
         instrument: *instrument,
         estate,
     };
-    add_changed(alloc, tree, paths, &mut passing, &mut parts)?;
+    let changed = tree.at(first.as_slice()).changed(alloc, &mut passing)?;
+    let mut parts = Vec::with_capacity(alloc, paths.len())?;
+    parts.push_reserved(Part {
+        path: first.to_vec(alloc)?,
+        tree: changed,
+    });
+    add_changed(alloc, tree, rest, &mut passing, &mut parts)?;
     Ok(parts)
 }
 
