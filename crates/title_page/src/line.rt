@@ -1,6 +1,6 @@
 //! Texts that are put together before they are written.
 
-ghost use Rattle.std.specs.Prelude.{◌≡◌, ◌++◌, [], OnSome};
+ghost use Rattle.std.specs.Prelude.{◌≡◌, ◌≤◌, ◌+◌, ◌++◌, ◌↔◌, [], IfNone, IsSome, OnSome, length};
 
 use arrayvec::ArrayVec;
 use std::marker::Model;
@@ -38,10 +38,12 @@ impl Line {
         self.bytes.clear();
     }
 
-    /// Adds a text at the end. `None` where the line has no room for it.
+    /// Adds a text at the end. `None` where the line would then have more than 64 bytes; it is then as it was.
     #[inline]
     pub fn add(&mut self, text: &[u8]) -> Option<()>
+        ensures room { IsSome result ↔ (length self.old + length text.now ≤ 64) }
         ensures added { OnSome result (self.new ≡ self.old ++ text.now) }
+        ensures full { IfNone result (self.new ≡ self.old) }
     {
         self.bytes.try_extend_from_slice(text).ok()
     }

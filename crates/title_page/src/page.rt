@@ -1,6 +1,6 @@
 //! The page through which rows are written.
 
-ghost use Rattle.std.specs.Prelude.{◌≡◌, ◌+◌, ◌∷◌, [], true, false, nat_le, length, map, OnOk, OnErr};
+ghost use Rattle.std.specs.Prelude.{◌≡◌, ◌≤◌, ◌+◌, ◌++◌, ◌∷◌, [], true, false, nat_le, length, map, OnOk, OnErr};
 ghost use Rattle.csv.specs.Writing.{escaped, field_text, needs_quotes, quoted};
 ghost use Rattle.csv.specs.Quoting.{needs_byte};
 ghost use Rattle.std.specs.List.{concat};
@@ -90,7 +90,7 @@ impl Page {
         }
     }
 
-    /// Whether so many bytes more fit on the page: nothing is then given to the sink while they are written.
+    /// Whether so many bytes more fit on the page: nothing is then given to the sink while they are put there.
     #[inline]
     pub fn has_room(&self, bytes: usize) -> bool
         ensures room { result ≡ nat_le (length self.now + bytes) 8192 }
@@ -99,6 +99,7 @@ impl Page {
     }
 
     /// Gives the sink all that stands on the page. `Failed` where a push fails; the sink then has a beginning of it.
+    // Out of line, as what follows: a full page is rare, and `put` taken in by each writer would save all registers for it.
     #[inline(never)]
     pub fn pass<S: Sink>(&mut self, sink: &mut S) -> Result<(), Failed>
         requires works { S.has_failed sink.old ≡ false }
@@ -129,10 +130,13 @@ impl Page {
         write_all(sink, text)
     }
 
-    /// Writes bytes as they are. `Failed` where a push fails; the sink then has a beginning of what was written.
+    /// Writes bytes as they are; where they fit on the page nothing is given to the sink. `Failed` where a push fails; the sink
+    /// then has a beginning of what was written.
     #[inline]
     pub fn put<S: Sink>(&mut self, sink: &mut S, text: &[u8]) -> Result<(), Failed>
         requires works { S.has_failed sink.old ≡ false }
+        ensures fits { length self.old + length text.now ≤ 8192 → self.new ≡ self.old ++ text.now }
+        ensures kept { length self.old + length text.now ≤ 8192 → sink.new ≡ sink.old }
         ensures written { OnOk result (Written (S.taken sink.old) self.old (S.taken sink.new) self.new text.now) }
         ensures well { OnOk result (S.has_failed sink.new ≡ false) }
         ensures stopped { OnErr result (Stopped (S.taken sink.old) self.old (S.taken sink.new) text.now) }
@@ -203,7 +207,7 @@ impl Page {
         Ok(())
     }
 
-    // Writes a field between quotes.
+    // Writes a field between quotes. Out of line: few names are quoted, and each writer of a field would take it in.
     #[inline(never)]
     fn put_quoted<S: Sink>(&mut self, sink: &mut S, field: &[u8]) -> Result<(), Failed>
         requires works { S.has_failed sink.old ≡ false }
