@@ -66,7 +66,8 @@ pub(crate) fn add_records(
     Ok(())
 }
 
-// Adds the entry of a step that was posted, whatever its tract.
+// Adds the entry of a step that was posted, whatever its tract. Inline in both callers, each of which calls it once for each
+// place, so that an entry is made where the list has it and isn't handed on.
 #[inline(always)]
 fn add_posted(
     alloc: Global,

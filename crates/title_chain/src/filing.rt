@@ -128,7 +128,8 @@ fn put_in_order(places: &mut Vec<Place>)
 }
 
 // Puts places in order, each once, where they are more than so many. The result is how many may be there before that is
-// done again: twice as many as are left, so that no more memory is taken than for these.
+// done again: as many as before, or twice as many as are left. So there are never more than twice the places that were found,
+// or `FEW`, and beyond these what one node of a cover adds.
 fn thin_out(places: &mut Vec<Place>, most: usize) -> usize
     ensures same { (p : Place) → is_listed p places.new.items ≡ is_listed p places.old.items }
 {
@@ -314,19 +315,20 @@ impl Filing {
         Ok(found)
     }
 
-    /// Adds the entries of records that were all read to the chain of a tract.
+    /// Adds the entries of records that were all read to the chain of a tract, and gives the places where they were found.
     pub(crate) fn add_entries(
         &self,
         alloc: Global,
         entries: &mut Vec<Entry>,
         records: &[Record],
         tract: &Tract,
-    ) -> Result<(), AllocError>
+    ) -> Result<Vec<Place>, AllocError>
         requires filed { IsFiled depth self.now (record_posts (reverse records.now)) }
         ensures added { OnOk result (entries.new.items ≡ entries.old.items ++ record_entries tract.now (reverse records.now)) }
     {
         let found = self.find(alloc, tract.cover())?;
-        add_entries_at(alloc, entries, records, &found)
+        add_entries_at(alloc, entries, records, &found)?;
+        Ok(found)
     }
 
     /// Adds the entries of an open transaction's steps that were all read to the chain of a tract, each with place 0.

@@ -86,7 +86,9 @@ impl TractIndex {
     {
         self.filing.read_on(self.alloc, &self.records)?;
         let mut entries = Vec::new(self.alloc);
-        self.filing
+        // The places are let go last, so that the chain's own memory isn't taken from theirs, which then serves the next chain's.
+        let _places = self
+            .filing
             .add_entries(self.alloc, &mut entries, &self.records, tract)?;
         own.add_entries(self.alloc, &mut entries, tract)?;
         Entries::new(entries)

@@ -2,7 +2,6 @@
 use Rattle.std.proofs.Common.{◌≡◌, ◌++◌, List, reverse, ap, subst, ◌∙◌}
 use Rattle.title_land.specs.Depth.{depth}
 use Rattle.std.specs.List.{list_any}
-use Rattle.std.specs.Prelude.{OnOk}
 use Rattle.title_land.specs.declared.node.Node.{Node}
 use Rattle.title_land.specs.Lands.{IsLand}
 use Rattle.title_chain.specs.declared.ask.Entry.{Entry}
@@ -19,13 +18,11 @@ returns c =
     let records = c.args.records.now in
     let land = c.args.tract.now in
     let sized : IsLand depth land = c.cover.ensures.sized in record {
-      added = subst (λ (es : List Entry). OnOk c.add_entries_at.result
-          (c.add_entries_at.new.entries.items ≡ c.args.entries.now.items ++ es))
+      added = subst (λ (es : List Entry). c.add_entries_at.new.entries.items ≡ c.args.entries.now.items ++ es)
           (place_entries records land c.in_ok-found.found.items c.in_ok-found.ensures.ordered
           (λ p. c.in_ok-found.ensures.found p
           ∙ ap (λ (cover : List Node). list_any (is_near f p) cover) c.cover.ensures.cover
           ∙ near_meets f (record_posts (reverse records)) c.requires.filed land sized p))
-          (subst (λ (places : List Place). OnOk c.add_entries_at.result
-          (c.add_entries_at.new.entries.items ≡ c.args.entries.now.items ++ entries_at (entry_at records) places)) c.deref.ensures.value
-          c.add_entries_at.ensures.added);
+          (subst (λ (places : List Place). c.add_entries_at.new.entries.items ≡ c.args.entries.now.items ++ entries_at (entry_at records) places)
+          c.deref.ensures.value c.in_ok-add_entries_at.ensures.added);
     }
