@@ -145,7 +145,7 @@ impl Plan {
         ensures within { OnOk result (n ≤ most_rows) }
         ensures err { IfErr result (λ e. (e ≡ fault.Memory) ⊎ (after_row schedule n (asked_in self.old) (fields_of raw) ≡ Err e)) }
     {
-        let mut readings = Readings::new(self.alloc);
+        let mut readings = Readings::none(self.alloc);
         self.take_record(&mut readings, schedule, n, raw)?;
         Ok(())
     }

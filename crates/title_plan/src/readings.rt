@@ -38,23 +38,35 @@ fn copied(alloc: Global, said: &Result<Tract, DescFault>) -> Option<Result<Tract
     }
 }
 
-/// Descriptions that were read, each under the hash of its text, so that one that comes again isn't read again. Where two
-/// have one hash, the later is kept.
+/// Descriptions that were read, at most so many, each under the hash of its text, so that one that comes again isn't read
+/// again. Where two have one hash, the later is kept.
 #[derive(Drop)]
 pub(crate) struct Readings {
     alloc: Global,
     hashers: BuildHasherDefault<FoldHasher>,
+    most: usize,
     kept: BTreeMap<u64, Reading>,
 }
 
 impl Readings {
-    /// None yet. Takes no memory.
-    pub(crate) fn new(alloc: Global) -> Readings {
+    // None yet, of which so many are to be kept.
+    fn keeping(alloc: Global, most: usize) -> Readings {
         Readings {
             alloc,
             hashers: BuildHasherDefault::new(),
+            most,
             kept: BTreeMap::new(alloc),
         }
+    }
+
+    /// None yet. Takes no memory.
+    pub(crate) fn new(alloc: Global) -> Readings {
+        Readings::keeping(alloc, MOST_KEPT)
+    }
+
+    /// None, and none will be kept: each description is read as it comes. Takes no memory.
+    pub(crate) fn none(alloc: Global) -> Readings {
+        Readings::keeping(alloc, 0)
     }
 
     // What a description with this hash says, where it is kept.
@@ -72,7 +84,7 @@ impl Readings {
     fn keep(&mut self, hash: u64, text: &str, said: &Result<Tract, DescFault>)
         requires said { said.now ≡ land_in text.now }
     {
-        if self.kept.len() >= MOST_KEPT {
+        if self.kept.len() >= self.most {
             return;
         }
         let Some(said) = copied(self.alloc, said) else {
@@ -88,7 +100,7 @@ impl Readings {
     pub(crate) fn read(&mut self, text: &str) -> Result<Result<Tract, DescFault>, AllocError>
         ensures said { IfOk result (λ said. said ≡ land_in text.now) }
     {
-        if text.len() > LONGEST_KEPT {
+        if self.most == 0 || text.len() > LONGEST_KEPT {
             return read_tract(self.alloc, text);
         }
         let hash = self.hashers.hash_one(text);

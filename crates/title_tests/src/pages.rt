@@ -1,6 +1,7 @@
-//! Where the pages of a report go to the sink.
+//! Where the pages of a report go to the sink. The pushes that are wanted are those of a program that wrote each of these rows
+//! field by field, before any was put together from texts at hand.
 
-use crate::places::square;
+use crate::places::{square, township};
 use indexmap::IndexSet;
 use std::alloc::{AllocError, Global};
 use std::process::Abort;
@@ -10,16 +11,19 @@ use title_device::{Failed, Sink};
 use title_instrument::{Estate, Estates, Instrument, Release};
 use title_land::{Node, Quarter, Tract};
 use title_page::Page;
-use title_report::{ReportField, Roster, put_reply, put_reply_with, put_row};
+use title_report::{Roster, put_reply, put_reply_with};
 use title_store::SheetRow;
 use title_trace::Reply;
 
-// How many rows, of how many parties, a report has.
+// How many rows, of how many parties, a long report has.
 const ROWS: u64 = 3_000;
 
 const PARTIES: u64 = 97;
 
 const EXAMINER: u32 = 7;
+
+// The bytes of a page.
+const PAGE: usize = 8_192;
 
 /// A sink that keeps how many pushes it got, and the value of a polynomial that has their lengths as coefficients.
 #[derive(Debug, Clone, Copy, PartialEq, Eq, Drop)]
@@ -75,57 +79,110 @@ fn node_of(rt: &impl Abort, i: u64) -> Node {
         Quarter::Northwest,
         Quarter::Southeast,
     ];
-    match i / 3 % 6 {
+    match i / 3 % 7 {
         5 => Node::Everything,
+        6 => Node::Township(township(rt, 12)),
         depth => square(rt, (i % 36) as u8 + 1, &quarters[..depth as usize]),
     }
 }
 
-fn name_bytes(names: &IndexSet<String>, party: u32) -> &[u8] {
-    match names.get_index(party as usize) {
-        Some(name) => name.as_bytes(),
-        None => b"",
+// A row of a sheet, of the node and the estate with this number.
+fn line_of(rt: &impl Abort, i: u64, party: u32, units: u64) -> SheetRow {
+    SheetRow {
+        node: node_of(rt, i),
+        estate: if i % 7 < 3 { Estate::S } else { Estate::M },
+        party,
+        units,
     }
 }
 
-fn sheet(rt: &impl Abort, alloc: Global) -> Result<SheetRows, AllocError> {
+// A row of a chain.
+fn entry_of(rt: &impl Abort, place: u64, doc: u64, from: u32, to: u32) -> Entry {
+    let instrument = Instrument::Release(Release {
+        from,
+        to,
+        estates: Estates {
+            s: place % 3 == 0,
+            o: place % 2 == 0,
+            m: doc % 2 == 0,
+        },
+    });
+    Entry {
+        place,
+        posting: Posting {
+            doc,
+            tract: Tract::of(node_of(rt, 0)),
+            instrument,
+        },
+    }
+}
+
+fn long_sheet(rt: &impl Abort, alloc: Global) -> Result<SheetRows, AllocError> {
     let mut rows = Vec::new(alloc);
     for i in 0..ROWS {
-        rows.push(SheetRow {
-            node: node_of(rt, i),
-            estate: if i % 7 < 3 { Estate::S } else { Estate::M },
-            party: (i * 31 % PARTIES) as u32,
-            units: (i + 1) << (i % 20),
-        })?;
+        let party = (i * 31 % PARTIES) as u32;
+        rows.push(line_of(rt, i, party, (4_294_967_295 - i) >> (i % 33)))?;
     }
     SheetRows::new(rows)
 }
 
-fn chain(rt: &impl Abort, alloc: Global) -> Result<Entries, AllocError> {
+fn long_chain(rt: &impl Abort, alloc: Global) -> Result<Entries, AllocError> {
     let mut entries = Vec::new(alloc);
     for i in 0..ROWS {
-        let instrument = Instrument::Release(Release {
-            from: (i * 31 % PARTIES) as u32,
-            to: (i * 17 % PARTIES) as u32,
-            estates: Estates {
-                s: true,
-                o: i % 2 == 0,
-                m: false,
-            },
-        });
-        entries.push(Entry {
-            place: i,
-            posting: Posting {
-                doc: i * i,
-                tract: Tract::of(node_of(rt, i)),
-                instrument,
-            },
-        })?;
+        let (from, to) = ((i * 31 % PARTIES) as u32, (i * 17 % PARTIES) as u32);
+        entries.push(entry_of(rt, i, i * i, from, to))?;
     }
     Entries::new(entries)
 }
 
-// The pushes of a reply's rows.
+// The rows of a sheet: the numbers of their nodes, their parties and units. Party 12 has a plain name, 20 one with commas, 21
+// one with quotes, 0 an empty one, and 97 none. Behind a name stand 4 bytes, 23 (no share has more), or 33 (no number has more).
+const LINES: [(u64, u32, u64); 9] = [
+    (6, 12, 4_294_967_296),
+    (6, 20, 4_294_967_295),
+    (6, 21, 4_294_967_295),
+    (12, 12, u64::MAX),
+    (13, 20, 2_147_483_647),
+    (1, 0, 4_294_967_295),
+    (1, 97, 3),
+    (18, 12, 4_294_967_295),
+    (15, 21, 4_294_967_295),
+];
+
+fn sheet_of(
+    rt: &impl Abort,
+    alloc: Global,
+    lines: &[(u64, u32, u64)],
+) -> Result<SheetRows, AllocError> {
+    let mut rows = Vec::new(alloc);
+    for &(i, party, units) in lines {
+        rows.push(line_of(rt, i, party, units))?;
+    }
+    SheetRows::new(rows)
+}
+
+// The entries of a chain: their places, documents and parties. They are in no estate, in M, in S and O, and in all.
+const ENTRIES: [(u64, u64, u32, u32); 5] = [
+    (1, 999_999_999_999, 12, 20),
+    (5, 20, 20, 21),
+    (12, 1, 21, 12),
+    (600, 400, 0, 97),
+    (u64::MAX, u64::MAX, 21, 21),
+];
+
+fn chain_of(
+    rt: &impl Abort,
+    alloc: Global,
+    chain: &[(u64, u64, u32, u32)],
+) -> Result<Entries, AllocError> {
+    let mut entries = Vec::new(alloc);
+    for &(place, doc, from, to) in chain {
+        entries.push(entry_of(rt, place, doc, from, to))?;
+    }
+    Entries::new(entries)
+}
+
+// The pushes of a reply's rows, written from the beginning of a page.
 fn pushes_of(names: &IndexSet<String>, reply: &Reply) -> Result<Pushes, Failed> {
     let (mut page, mut pushes) = (Page::new(), Pushes { count: 0, sum: 0 });
     put_reply(&mut page, &mut pushes, names, EXAMINER, reply)?;
@@ -141,118 +198,110 @@ fn pushes_with(roster: &Roster, reply: &Reply) -> Result<Pushes, Failed> {
     Ok(pushes)
 }
 
-fn put_count(
-    page: &mut Page,
-    pushes: &mut Pushes,
-    word: &[u8],
-    count: usize,
-) -> Result<(), Failed> {
-    let fields = [
-        ReportField::Number(u64::from(EXAMINER)),
-        ReportField::Text(word),
-        ReportField::Number(count as u64),
-    ];
-    put_row(page, pushes, &fields)
-}
-
-fn put_sheet_row(
-    page: &mut Page,
-    pushes: &mut Pushes,
-    names: &IndexSet<String>,
-    row: &SheetRow,
-) -> Result<(), Failed> {
-    let fields = [
-        ReportField::Number(u64::from(EXAMINER)),
-        ReportField::Text(b"row"),
-        ReportField::Node(row.node),
-        ReportField::Text(row.estate.letter().as_bytes()),
-        ReportField::Text(name_bytes(names, row.party)),
-        ReportField::Share(row.units),
-    ];
-    put_row(page, pushes, &fields)
-}
-
-// The pushes of a sheet whose rows are written field by field.
-fn pushes_of_rows(names: &IndexSet<String>, rows: &[SheetRow]) -> Result<Pushes, Failed> {
-    let (mut page, mut pushes) = (Page::new(), Pushes { count: 0, sum: 0 });
-    put_count(&mut page, &mut pushes, b"sheet", rows.len())?;
-    for row in rows {
-        put_sheet_row(&mut page, &mut pushes, names, row)?;
+// A page that has room for so many bytes.
+fn page_with_room(pushes: &mut Pushes, room: usize) -> Result<Page, Failed> {
+    let mut page = Page::new();
+    for _ in room..PAGE {
+        page.put(pushes, b"N")?;
     }
-    page.pass(&mut pushes)?;
+    Ok(page)
+}
+
+// The pushes of a reply's rows where the page has room for no byte before them, for one, and so on: it ends at each byte of them.
+fn pushes_at_each_byte(
+    names: &IndexSet<String>,
+    reply: &Reply,
+    bytes: usize,
+) -> Result<Pushes, Failed> {
+    let mut pushes = Pushes { count: 0, sum: 0 };
+    for room in 0..bytes {
+        let mut page = page_with_room(&mut pushes, room)?;
+        put_reply(&mut page, &mut pushes, names, EXAMINER, reply)?;
+        page.pass(&mut pushes)?;
+    }
     Ok(pushes)
 }
 
-fn put_entry(
-    page: &mut Page,
-    pushes: &mut Pushes,
-    names: &IndexSet<String>,
-    entry: &Entry,
-) -> Result<(), Failed> {
-    let instrument = entry.posting.instrument;
-    let fields = [
-        ReportField::Number(u64::from(EXAMINER)),
-        ReportField::Text(b"entry"),
-        ReportField::Number(entry.place),
-        ReportField::Number(entry.posting.doc),
-        ReportField::Text(b"release"),
-        ReportField::Text(name_bytes(names, instrument.grantor())),
-        ReportField::Text(name_bytes(names, instrument.grantee())),
-        ReportField::Text(instrument.estates().letters().as_bytes()),
-    ];
-    put_row(page, pushes, &fields)
-}
-
-// The pushes of a chain whose rows are written field by field.
-fn pushes_of_entries(names: &IndexSet<String>, entries: &[Entry]) -> Result<Pushes, Failed> {
-    let (mut page, mut pushes) = (Page::new(), Pushes { count: 0, sum: 0 });
-    put_count(&mut page, &mut pushes, b"chain", entries.len())?;
-    for entry in entries {
-        put_entry(&mut page, &mut pushes, names, entry)?;
+// The same with a roster.
+fn pushes_at_each_byte_with(
+    roster: &Roster,
+    reply: &Reply,
+    bytes: usize,
+) -> Result<Pushes, Failed> {
+    let mut pushes = Pushes { count: 0, sum: 0 };
+    for room in 0..bytes {
+        let mut page = page_with_room(&mut pushes, room)?;
+        put_reply_with(&mut page, &mut pushes, roster, EXAMINER, reply)?;
+        page.pass(&mut pushes)?;
     }
-    page.pass(&mut pushes)?;
     Ok(pushes)
 }
 
-/// The pages of a sheet go to the sink where they do when each of its rows is written field by field.
+fn assert_pushes(rt: &impl Abort, names: &IndexSet<String>, reply: &Reply, wanted: Pushes) {
+    assert!(rt; pushes_of(names, reply) == Ok(wanted));
+    assert!(rt; pushes_with(&Roster::judged(names), reply) == Ok(wanted));
+}
+
+fn assert_pushes_at_each_byte(
+    rt: &impl Abort,
+    names: &IndexSet<String>,
+    reply: &Reply,
+    bytes: usize,
+    wanted: Pushes,
+) {
+    assert!(rt; pushes_at_each_byte(names, reply, bytes) == Ok(wanted));
+    assert!(rt; pushes_at_each_byte_with(&Roster::judged(names), reply, bytes) == Ok(wanted));
+}
+
+/// The pages of a long sheet go to the sink where they do when each of its rows is written field by field.
 #[test]
 fn a_sheets_pages_end_where_its_fields_end(rt: HostRuntime) -> Result<(), Fail> {
     let names = names(rt.alloc())?;
-    let rows = sheet(&rt, rt.alloc())?;
-    let Ok(wanted) = pushes_of_rows(&names, rows.as_slice()) else {
-        panic!(&rt; "no push fails");
+    let reply = Reply::Answered(Answer::Rows(long_sheet(&rt, rt.alloc())?));
+    let wanted = Pushes {
+        count: 37,
+        sum: 4_312_156_846_721_211_190,
     };
-    let reply = Reply::Answered(Answer::Rows(rows));
-    let Ok(pushes) = pushes_of(&names, &reply) else {
-        panic!(&rt; "no push fails");
-    };
-    let Ok(judged) = pushes_with(&Roster::judged(&names), &reply) else {
-        panic!(&rt; "no push fails");
-    };
-    assert!(rt; pushes.count > 20);
-    assert_eq!(rt; pushes, wanted);
-    assert_eq!(rt; judged, wanted);
+    assert_pushes(&rt, &names, &reply, wanted);
     Ok(())
 }
 
-/// So do those of a chain.
+/// So do those of a long chain.
 #[test]
 fn a_chains_pages_end_where_its_fields_end(rt: HostRuntime) -> Result<(), Fail> {
     let names = names(rt.alloc())?;
-    let entries = chain(&rt, rt.alloc())?;
-    let Ok(wanted) = pushes_of_entries(&names, entries.as_slice()) else {
-        panic!(&rt; "no push fails");
+    let reply = Reply::Answered(Answer::Entries(long_chain(&rt, rt.alloc())?));
+    let wanted = Pushes {
+        count: 50,
+        sum: 12_850_102_222_058_813_462,
     };
-    let reply = Reply::Answered(Answer::Entries(entries));
-    let Ok(pushes) = pushes_of(&names, &reply) else {
-        panic!(&rt; "no push fails");
+    assert_pushes(&rt, &names, &reply, wanted);
+    Ok(())
+}
+
+/// So do those of a sheet wherever a page ends in its rows: at each of their bytes once.
+#[test]
+fn a_page_may_end_anywhere_in_a_sheet(rt: HostRuntime) -> Result<(), Fail> {
+    let names = names(rt.alloc())?;
+    let reply = Reply::Answered(Answer::Rows(sheet_of(&rt, rt.alloc(), &LINES)?));
+    let wanted = Pushes {
+        count: 1_207,
+        sum: 10_557_119_631_474_872_540,
     };
-    let Ok(judged) = pushes_with(&Roster::judged(&names), &reply) else {
-        panic!(&rt; "no push fails");
+    assert_pushes_at_each_byte(&rt, &names, &reply, 604, wanted);
+    Ok(())
+}
+
+/// And in a chain.
+#[test]
+fn a_page_may_end_anywhere_in_a_chain(rt: HostRuntime) -> Result<(), Fail> {
+    let names = names(rt.alloc())?;
+    let reply = Reply::Answered(Answer::Entries(chain_of(&rt, rt.alloc(), &ENTRIES)?));
+    let wanted = Pushes {
+        count: 735,
+        sum: 5_094_558_452_989_074_574,
     };
-    assert!(rt; pushes.count > 20);
-    assert_eq!(rt; pushes, wanted);
-    assert_eq!(rt; judged, wanted);
+    assert_pushes_at_each_byte(&rt, &names, &reply, 368, wanted);
     Ok(())
 }
 
@@ -275,25 +324,13 @@ fn names_are_quoted_on_both_sides_of_the_last_judged(rt: HostRuntime) -> Result<
     let names = many_names(rt.alloc())?;
     let mut rows = Vec::new(rt.alloc());
     for party in 4_090..4_105 {
-        rows.push(SheetRow {
-            node: Node::Everything,
-            estate: Estate::O,
-            party,
-            units: 1,
-        })?;
+        rows.push(line_of(&rt, 6, party, 1))?;
     }
-    let rows = SheetRows::new(rows)?;
-    let Ok(wanted) = pushes_of_rows(&names, rows.as_slice()) else {
-        panic!(&rt; "no push fails");
+    let reply = Reply::Answered(Answer::Rows(SheetRows::new(rows)?));
+    let wanted = Pushes {
+        count: 1_643,
+        sum: 11_654_988_466_466_547_429,
     };
-    let reply = Reply::Answered(Answer::Rows(rows));
-    let Ok(pushes) = pushes_of(&names, &reply) else {
-        panic!(&rt; "no push fails");
-    };
-    let Ok(judged) = pushes_with(&Roster::judged(&names), &reply) else {
-        panic!(&rt; "no push fails");
-    };
-    assert_eq!(rt; pushes, wanted);
-    assert_eq!(rt; judged, wanted);
+    assert_pushes_at_each_byte(&rt, &names, &reply, 822, wanted);
     Ok(())
 }
