@@ -1,4 +1,5 @@
-//! Tests of the crates through their public calls: the worked rows, many calls with ample memory, and what no contract says.
+//! Tests of shares, land, instruments, descriptions, locks, chains, desks and reports' pages, through their public calls: the
+//! worked rows, many calls with ample memory, and what no contract says.
 #![tactic(auto)]
 
 #[cfg(test)]
@@ -6,13 +7,7 @@ mod aliquot;
 #[cfg(test)]
 mod chain;
 #[cfg(test)]
-mod command;
-#[cfg(test)]
 mod desk;
-#[cfg(test)]
-mod device;
-#[cfg(test)]
-mod fake;
 #[cfg(test)]
 mod instrument;
 #[cfg(test)]
@@ -23,9 +18,5 @@ mod lock;
 mod pages;
 #[cfg(test)]
 mod places;
-#[cfg(test)]
-mod row;
-#[cfg(test)]
-mod scripts;
 #[cfg(test)]
 mod share;
