@@ -37,7 +37,8 @@ pub above_join : (b : Bool) (m : Mode) (r : Option Mode) (p c k : Node) → Some
     bound (bound r (cond (b && is_shelf_above k c) (Some m) None)) (cond (b && same_node k c) (Some m) None)
     ≡ bound r (cond (b && is_shelf_above k p) (Some m) None)
 above_join b m r p c k h =
-    above_cases r b (same_node k c) (is_shelf_above k c) m ∙ ap (λ (z : List Node). bound r (cond (b && list_any (same_node k) z) (Some m) None))
+    above_cases r b (same_node k c) (is_shelf_above k c) m ∙ ap
+    (λ (z : List Node). bound r (cond (b && list_any (same_node k) z) (Some m) None))
     (sym (shelf_above_of p c h))
 
 for_cases : (r : Option Mode) (b s a : Bool) (own above : Mode) → (s ≡ true → a ≡ false) →

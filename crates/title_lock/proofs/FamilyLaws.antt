@@ -149,7 +149,8 @@ module _ {t u : Placed} {e : ℕ} (k : Node) where
       ∙ and_none (is_idle t e n)
 
   pub more_known : IdleMore t u e (λ n. same_node n k) → IdleMore t u e (λ n. is_shelf_asked n k)
-  more_known h = more_wider t u e (λ n. same_node n k) (λ n. is_shelf_asked n k) (λ n same. ap (λ (b : Bool). b || is_shelf_above n k) same) h
+  more_known h = more_wider t u e (λ n. same_node n k) (λ n. is_shelf_asked n k)
+      (λ n same. ap (λ (b : Bool). b || is_shelf_above n k) same) h
 
   -- after a node's raise it is raised above
   pub raised_after : (p : Bool) (c : Node) → same_family (family (node_number k)) (family (node_number c)) ≡ true

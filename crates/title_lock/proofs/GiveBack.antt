@@ -109,7 +109,8 @@ left_none false a r h = refl
 
 -- the table without what an examiner's entries ask for is that of the others' entries
 pub table_fewer : (depth : ℕ) (e : ℕ) (es : List Entry) (table fewer : Table) → TableIs depth es (placed table) →
-    ((f : ℕ) (n : Node) → table_mode (placed fewer) f n ≡ cond (eqb f e && list_any (is_asked_by depth e n) es) None (table_mode (placed table) f n))
+    ((f : ℕ) (n : Node) → table_mode (placed fewer) f n ≡ cond (eqb f e && list_any (is_asked_by depth e n) es) None
+    (table_mode (placed table) f n))
     → TableIs depth (without e es) (placed fewer)
 table_fewer depth e es table fewer are left =
     record {

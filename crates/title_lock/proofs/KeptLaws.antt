@@ -14,7 +14,8 @@ use Rattle.title_lock.specs.Tables.{TableIs, TableUsed}
 use Rattle.title_lock.specs.Locks.{granted, waiting, IsReady, AreKept, IsLean}
 
 -- the table tells the modes of the entries, whether or not an access is prepared
-pub kept_table : (depth : ℕ) (p : Option ℕ) (book : List Entry) (t : Table) → AreKept depth p book t → TableIs depth (granted p book) (placed t)
+pub kept_table : (depth : ℕ) (p : Option ℕ) (book : List Entry) (t : Table) → AreKept depth p book t
+    → TableIs depth (granted p book) (placed t)
 kept_table depth None book t h = h
 kept_table depth (Some e) [] t h = absurd cc
 kept_table depth (Some e) (x ∷ es) t h = h.0
@@ -127,7 +128,8 @@ waits_no_more false a h e = true≢false (sym e)
 
 -- an access that waits no more leaves nobody idle
 pub lean_done : (depth : ℕ) (x : Entry) (t u : Table) → IsLean depth (Some x) t
-    → IdleLess (placed t) (placed u) x.examiner (λ n. list_any (is_asked n) (cover_of depth x.tract)) → (TableUsed t → TableUsed u) → IsLean depth None u
+    → IdleLess (placed t) (placed u) x.examiner (λ n. list_any (is_asked n) (cover_of depth x.tract)) → (TableUsed t → TableUsed u)
+    → IsLean depth None u
 lean_done depth x t u lean less used = record {
   idle = λ f n idle. absurd (waits_no_more (is_idle (placed t) f n) (is_asked_by depth f n x) (lean.idle f n) (sym (less.less f n) ∙ idle));
   used = used lean.used;
@@ -135,7 +137,8 @@ lean_done depth x t u lean less used = record {
 
 -- an access that is to wait makes its examiner idle where it asks
 pub lean_more : (depth : ℕ) (x : Entry) (t u : Table) → IsLean depth None t
-    → IdleMore (placed t) (placed u) x.examiner (λ n. list_any (is_asked n) (cover_of depth x.tract)) → (TableUsed t → TableUsed u) → IsLean depth (Some x) u
+    → IdleMore (placed t) (placed u) x.examiner (λ n. list_any (is_asked n) (cover_of depth x.tract)) → (TableUsed t → TableUsed u)
+    → IsLean depth (Some x) u
 lean_more depth x t u lean more used = record {
   idle = λ f n idle. elim (or_cases (is_idle (placed t) f n) (is_asked_by depth f n x) (more.more f n idle)) [
     | inl old ↦ absurd (true≢false (sym (lean.idle f n old)))
@@ -145,6 +148,7 @@ lean_more depth x t u lean more used = record {
 }
 
 -- where nobody more is idle it is as it was
-pub lean_same : (depth : ℕ) (w : Option Entry) (t u : Table) → IsLean depth w t → NoMoreIdle (placed t) (placed u) → (TableUsed t → TableUsed u)
+pub lean_same : (depth : ℕ) (w : Option Entry) (t u : Table) → IsLean depth w t → NoMoreIdle (placed t) (placed u)
+    → (TableUsed t → TableUsed u)
     → IsLean depth w u
 lean_same depth w t u lean same used = record { idle = λ f n idle. lean.idle f n (same.same f n idle); used = used lean.used }

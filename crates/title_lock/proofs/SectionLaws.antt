@@ -17,7 +17,8 @@ use Rattle.title_land.specs.Nodes.{same_node, above_in, is_above}
 use Rattle.title_lock.specs.declared.shelf.Shelf.{Shelf}
 use Rattle.title_lock.specs.Asking.{own_mode, above_mode, asked_for}
 use Rattle.title_lock.specs.Holders.{Modes}
-use Rattle.title_lock.specs.Tables.{Placed, on_shelf, on_some, is_bare, is_square, is_asked, shelf_asked_for, is_shelf_above, is_shelf_asked}
+use Rattle.title_lock.specs.Tables.{Placed, on_shelf, on_some, is_bare}
+use Rattle.title_lock.specs.Tables.{is_square, is_asked, shelf_asked_for, is_shelf_above, is_shelf_asked}
 use Rattle.title_lock.specs.Tables.{place_at, table_room, IsStocked}
 use Rattle.title_lock.proofs.NodeLaws.{same_true, shelf_of_above}
 
@@ -66,7 +67,8 @@ found_stocked s k h is = false_from_ne_true (is_bare s) (λ bare. none_some (sym
     none_some : None ≡ Some h → ⊥
     none_some e = cc
 
-room_found : (e : ℕ) (s : Shelf) (o : Option Modes) (n : Node) → place_at s.places n ≡ o → table_room (on_shelf s) e n ≡ true → is_bare s ≡ false
+room_found : (e : ℕ) (s : Shelf) (o : Option Modes) (n : Node) → place_at s.places n ≡ o → table_room (on_shelf s) e n ≡ true
+    → is_bare s ≡ false
 room_found e s None n is room = absurd (true≢false (sym room ∙ ap (λ (z : Option Modes). Rattle.title_lock.specs.Tables.room_in e z) is))
 room_found e s (Some h) n is room = found_stocked s (node_number n) h is
 
@@ -95,10 +97,12 @@ upper_asked n h s w =
     ∙ ap (λ (b : Bool). b || list_any (same_node n) (node.Township s.township ∷ node.Everything ∷ [])) (no_square n h s w)
 
 -- and of squares those of its shelf
-pub part_above : (u s : Section) (v w : List Quarter) → is_above (node.Part u v) (node.Part s w) ≡ is_shelf_above (node.Part u v) (node.Part s w)
+pub part_above : (u s : Section) (v w : List Quarter) → is_above (node.Part u v) (node.Part s w)
+    ≡ is_shelf_above (node.Part u v) (node.Part s w)
 part_above u s v w = shelf_of_above (node.Part u v) s w ∙ or_none (is_shelf_above (node.Part u v) (node.Part s w))
 
-pub part_asked : (u s : Section) (v w : List Quarter) → is_asked (node.Part u v) (node.Part s w) ≡ is_shelf_asked (node.Part u v) (node.Part s w)
+pub part_asked : (u s : Section) (v w : List Quarter) → is_asked (node.Part u v) (node.Part s w)
+    ≡ is_shelf_asked (node.Part u v) (node.Part s w)
 part_asked u s v w = ap (λ (b : Bool). same_node (node.Part u v) (node.Part s w) || b) (part_above u s v w)
 
 pub part_asked_for : (p : Bool) (u s : Section) (v w : List Quarter)
@@ -107,7 +111,8 @@ part_asked_for p u s v w = ap (λ (b : Bool). cond (same_node (node.Part u v) (n
     (cond b (Some (above_mode p)) None)) (sym (part_above u s v w))
 
 -- squares of another section are none of these
-same_section_number : (u s : Section) (v w : List Quarter) → same_node (node.Part u v) (node.Part s w) ≡ true → section_number u ≡ section_number s
+same_section_number : (u s : Section) (v w : List Quarter) → same_node (node.Part u v) (node.Part s w) ≡ true
+    → section_number u ≡ section_number s
 same_section_number u s v w h = ap section_of (same_true (node.Part u v) (node.Part s w) h)
   where
     section_of : Node → ℕ
@@ -118,13 +123,15 @@ same_section_number u s v w h = ap section_of (same_true (node.Part u v) (node.P
 not_same : (u s : Section) (v w : List Quarter) → section_number u ≢ section_number s → same_node (node.Part u v) (node.Part s w) ≡ false
 not_same u s v w other = false_from_ne_true (same_node (node.Part u v) (node.Part s w)) (λ h. other (same_section_number u s v w h))
 
-not_above : (u s : Section) (v w : List Quarter) → section_number u ≢ section_number s → is_shelf_above (node.Part u v) (node.Part s w) ≡ false
+not_above : (u s : Section) (v w : List Quarter) → section_number u ≢ section_number s
+    → is_shelf_above (node.Part u v) (node.Part s w) ≡ false
 not_above u s v [] other = refl
 not_above u s v (q ∷ w) other =
     or_from (same_node (node.Part u v) (node.Part s w)) (list_any (same_node (node.Part u v)) (above_in s w))
     (not_same u s v w other) (not_above u s v w other)
 
-pub other_asked : (u s : Section) (v w : List Quarter) → section_number u ≢ section_number s → is_asked (node.Part u v) (node.Part s w) ≡ false
+pub other_asked : (u s : Section) (v w : List Quarter) → section_number u ≢ section_number s
+    → is_asked (node.Part u v) (node.Part s w) ≡ false
 other_asked u s v w other = or_from (same_node (node.Part u v) (node.Part s w)) (is_above (node.Part u v) (node.Part s w))
     (not_same u s v w other) (part_above u s v w ∙ not_above u s v w other)
 

@@ -180,10 +180,12 @@ is_found v o h = subst (λ (z : Option Modes). IsSome z) h refl
 -- ---- room at many nodes
 
 -- room above a node is room at its parent and above that
-pub room_above_parent : (t : Placed) (e : ℕ) (p c : Node) → Some c ≡ shelf_parent p → table_room t e c ≡ true → HasRoom t e (λ n. is_shelf_above n c)
+pub room_above_parent : (t : Placed) (e : ℕ) (p c : Node) → Some c ≡ shelf_parent p → table_room t e c ≡ true
+    → HasRoom t e (λ n. is_shelf_above n c)
     → HasRoom t e (λ n. is_shelf_above n p)
 room_above_parent t e p c h here above_it n up =
-    elim (or_cases (same_node n c) (is_shelf_above n c) (ap (λ (z : List Node). list_any (same_node n) z) (sym (shelf_above_of p c h)) ∙ up)) [
+    elim (or_cases (same_node n c) (is_shelf_above n c) (ap (λ (z : List Node). list_any (same_node n) z) (sym (shelf_above_of p c h))
+    ∙ up)) [
       | inl same ↦ subst (λ (z : Node). table_room t e z ≡ true) (sym (same_true n c same)) here
       | inr more ↦ above_it n more
     ]
@@ -204,7 +206,8 @@ none_above_whole (node.Part s []) n h up = cc
 none_above_whole (node.Part s (q ∷ w)) n h up = cc
 
 -- room for what is asked for one node is room at it and above it
-pub room_for : (t : Placed) (e : ℕ) (c : Node) → table_room t e c ≡ true → HasRoom t e (λ n. is_shelf_above n c) → HasRoom t e (λ n. is_shelf_asked n c)
+pub room_for : (t : Placed) (e : ℕ) (c : Node) → table_room t e c ≡ true → HasRoom t e (λ n. is_shelf_above n c)
+    → HasRoom t e (λ n. is_shelf_asked n c)
 room_for t e c here above_it n asks = elim (or_cases (same_node n c) (is_shelf_above n c) asks) [
   | inl same ↦ subst (λ (z : Node). table_room t e z ≡ true) (sym (same_true n c same)) here
   | inr more ↦ above_it n more

@@ -93,7 +93,8 @@ not_one (node.Part u v) h s w = absurd (true≢false h)
 -- ---- a square
 
 module _ (t v u : Table) (c : Node) (home : ℕ) (top : Node) (s : Section) (w : List Quarter) (is : c ≡ node.Part s w)
-    (here : home ≡ section_number s) (over : top ≡ node.Township s.township) (sections : v.sections ≡ t.sections) (upper : u.upper ≡ v.upper)
+    (here : home ≡ section_number s) (over : top ≡ node.Township s.township) (sections : v.sections ≡ t.sections)
+    (upper : u.upper ≡ v.upper)
     (others : (j : ℕ) → j ≢ home → get nat_cmp u.sections j ≡ get nat_cmp v.sections j) where
   -- what holds of each place before and after, where it holds on both shelves, and of places that stay
   pub lifted : (Q : Option Modes → Option Modes → Node → Type 0)
@@ -102,7 +103,8 @@ module _ (t v u : Table) (c : Node) (home : ℕ) (top : Node) (s : Section) (w :
       → ((a : Section) (x : List Quarter) → section_number a ≢ section_number s → (o : Option Modes) → Q o o (node.Part a x))
       → (n : Node) → Q (placed t n) (placed u n) n
   lifted Q up own rest node.Everything =
-      subst (λ (z : Shelf). Q (on_shelf t.upper node.Everything) (on_shelf z node.Everything) node.Everything) (sym upper) (up node.Everything refl)
+      subst (λ (z : Shelf). Q (on_shelf t.upper node.Everything) (on_shelf z node.Everything) node.Everything) (sym upper)
+      (up node.Everything refl)
   lifted Q up own rest (node.Township b) =
       subst (λ (z : Shelf). Q (on_shelf t.upper (node.Township b)) (on_shelf z (node.Township b)) (node.Township b)) (sym upper)
       (up (node.Township b) refl)
@@ -112,7 +114,8 @@ module _ (t v u : Table) (c : Node) (home : ℕ) (top : Node) (s : Section) (w :
       go true e =
           subst (λ (j : ℕ). Q (on_section t j (node.Part a x)) (on_section u j (node.Part a x)) (node.Part a x))
           (sym (eqb-true (section_number a) home e))
-          (subst (λ z. Q (on_some (get nat_cmp z home) (node.Part a x)) (on_section u home (node.Part a x)) (node.Part a x)) sections (own a x))
+          (subst (λ z. Q (on_some (get nat_cmp z home) (node.Part a x)) (on_section u home (node.Part a x)) (node.Part a x)) sections
+          (own a x))
       go false e =
           let apart : section_number a ≢ home = eqb-false (section_number a) home e in
           subst (λ (o : Option Shelf). Q (on_section t (section_number a) (node.Part a x)) (on_some o (node.Part a x)) (node.Part a x))
@@ -123,7 +126,8 @@ module _ (t v u : Table) (c : Node) (home : ℕ) (top : Node) (s : Section) (w :
   up_asked n h = ap (is_above n) is ∙ upper_asked n h s w ∙ ap (is_shelf_asked n) (sym over)
 
   pub up_all_asked : (n : Node) → is_square n ≡ false → is_asked n c ≡ is_shelf_asked n top
-  up_all_asked n h = ap (λ (z : Node). same_node n z || is_above n c) is ∙ ap (λ (b : Bool). b || is_above n c) (not_one n h s w) ∙ up_asked n h
+  up_all_asked n h = ap (λ (z : Node). same_node n z || is_above n c) is ∙ ap (λ (b : Bool). b || is_above n c) (not_one n h s w)
+      ∙ up_asked n h
 
   up_asked_for : (p : Bool) (n : Node) → is_square n ≡ false → asked_for p c n ≡ cond (is_shelf_asked n top) (Some (above_mode p)) None
   up_asked_for p n h =
@@ -153,7 +157,8 @@ module _ (t v u : Table) (c : Node) (home : ℕ) (top : Node) (s : Section) (w :
   pub all_same : ((f : ℕ) (n : Node) → table_mode (on_shelf v.upper) f n ≡ table_mode (on_shelf t.upper) f n)
       → ((f : ℕ) (n : Node) → table_mode (on_section u home) f n ≡ table_mode (on_section v home) f n)
       → (f : ℕ) (n : Node) → table_mode (placed u) f n ≡ table_mode (placed t) f n
-  all_same first then f = lifted (λ o q n. mode_in f q ≡ mode_in f o) (λ n h. first f n) (λ a x. then f (node.Part a x)) (λ a x apart o. refl)
+  all_same first then f = lifted (λ o q n. mode_in f q ≡ mode_in f o) (λ n h. first f n) (λ a x. then f (node.Part a x))
+      (λ a x apart o. refl)
 
   pub all_raised : (e : ℕ) (p known : Bool) → (known ≡ true → IsRaised (placed t) e (above_mode p) (λ n. is_above n c))
       → ((f : ℕ) (n : Node) → table_mode (on_shelf v.upper) f n
@@ -281,7 +286,8 @@ module _ (t v : Table) (c : Node) (home : ℕ) (top : Node) (s : Section) (w : L
 
   up_wide : (n : Node) → is_shelf_above n c ≡ true → is_above n c ≡ true
   up_wide n h = subst (λ (z : Node). is_above n z ≡ true) (sym is)
-      (shelf_of_above n s w ∙ or_left (is_shelf_above n (node.Part s w)) (list_any (same_node n) (node.Township s.township ∷ node.Everything ∷ []))
+      (shelf_of_above n s w ∙ or_left (is_shelf_above n (node.Part s w))
+      (list_any (same_node n) (node.Township s.township ∷ node.Everything ∷ []))
       (subst (λ (z : Node). is_shelf_above n z ≡ true) is h))
 
   wide : (n : Node) → is_shelf_asked n c ≡ true → is_asked n c ≡ true

@@ -12,7 +12,8 @@ use Rattle.title_lock.proofs.spread_locks.give_back_all.Given as goal
 abbrev pub invariant-loop-entry : goal.invariant-loop-entry
 invariant-loop-entry l = record {
   others : without l.examiner l.book ≡ without l.examiner l.initial.book;
-  modes : (f : ℕ) (n : Node) → cond (eqb f l.examiner && list_any (is_asked_by depth l.examiner n) l.book) None (table_mode (placed l.table) f n)
+  modes : (f : ℕ) (n : Node) → cond (eqb f l.examiner && list_any (is_asked_by depth l.examiner n) l.book) None
+      (table_mode (placed l.table) f n)
       ≡ cond (eqb f l.examiner && list_any (is_asked_by depth l.examiner n) l.initial.book) None (table_mode (placed l.initial.table) f n);
   idle : NoMoreIdle (placed l.initial.table) (placed l.table);
   used : TableUsed l.initial.table → TableUsed l.table;

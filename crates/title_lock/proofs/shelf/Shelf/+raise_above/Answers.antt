@@ -21,7 +21,8 @@ returns-in-Some-clause-modes t c f n =
     c.raise.ensures.modes f n
     ∙ ap (λ (r : Option Mode). bound r (cond (eqb f c.args.examiner && same_node n c.in-Some.parent.node) (Some c.args.mode) None))
     (c.raise_above.ensures.modes f n)
-    ∙ above_join (eqb f c.args.examiner) c.args.mode (table_mode (on_shelf c.args.self.now) f n) c.args.spot.now.node c.in-Some.parent.node n
+    ∙ above_join (eqb f c.args.examiner) c.args.mode (table_mode (on_shelf c.args.self.now) f n) c.args.spot.now.node
+    c.in-Some.parent.node n
     c.in-Some.ensures.parent
 
 pub raise_above-requires : goal.raise_above-requires

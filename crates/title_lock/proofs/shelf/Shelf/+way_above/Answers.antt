@@ -17,8 +17,10 @@ returns-in-Some t c =
     let table = on_shelf c.args.self.now in
     record {
       way = least_above_child table e m c.args.spot.now.node k c.least.result c.in-Some.ensures.parent
-          (subst (λ (w : Option ℕ). IsLeast (λ f. clashes m (table_mode table f k) || clashes_above m (λ n. table_mode table f n) (shelf_above k))
+          (subst (λ (w : Option ℕ). IsLeast (λ f. clashes m (table_mode table f k)
+          || clashes_above m (λ n. table_mode table f n) (shelf_above k))
           e w) (sym c.least.ensures.least)
-          (least_join (λ f. clashes m (table_mode table f k)) (λ f. clashes_above m (λ n. table_mode table f n) (shelf_above k)) e c.way_of.result
+          (least_join (λ f. clashes m (table_mode table f k))
+          (λ f. clashes_above m (λ n. table_mode table f n) (shelf_above k)) e c.way_of.result
           c.way_above.result c.way_of.ensures.way c.way_above.ensures.way));
     }

@@ -22,9 +22,11 @@ returns-clause-modes c f n =
     let p = is_post c.args.access in
     c.raise.ensures.modes f n
     ∙ ap (λ (z : Option Mode). bound z (cond (b && same_node n k) (Some c.own_mode.result) None)) (c.raise_above.ensures.modes f n)
-    ∙ ap (λ (m : Mode). bound (bound r (cond (b && is_shelf_above n k) (Some m) None)) (cond (b && same_node n k) (Some c.own_mode.result) None))
+    ∙ ap (λ (m : Mode). bound (bound r (cond (b && is_shelf_above n k) (Some m) None))
+    (cond (b && same_node n k) (Some c.own_mode.result) None))
     c.above_mode.ensures.above
-    ∙ ap (λ (m : Mode). bound (bound r (cond (b && is_shelf_above n k) (Some (above_mode p)) None)) (cond (b && same_node n k) (Some m) None))
+    ∙ ap (λ (m : Mode). bound (bound r (cond (b && is_shelf_above n k) (Some (above_mode p)) None))
+    (cond (b && same_node n k) (Some m) None))
     c.own_mode.ensures.own
     ∙ for_join b p r k n
 

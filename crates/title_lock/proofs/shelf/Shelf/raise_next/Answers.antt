@@ -13,7 +13,8 @@ use Rattle.title_lock.proofs.NodeLaws.{same_self}
 use Rattle.title_lock.proofs.shelf.Shelf.raise_next.Goals as goal
 
 pub returns-then-is_known-clause-modes : goal.returns-then-is_known-clause-modes
-returns-then-is_known-clause-modes c = raised_known (on_shelf c.args.self.now) (on_shelf c.raise.new.self) c.args.examiner c.args.spot.now.node
+returns-then-is_known-clause-modes c = raised_known (on_shelf c.args.self.now)
+    (on_shelf c.raise.new.self) c.args.examiner c.args.spot.now.node
     (is_post c.args.access) (c.requires.known c.if-is_known.true)
     (λ f n. c.raise.ensures.modes f n
     ∙ ap (λ (m : Mode). bound (table_mode (on_shelf c.args.self.now) f n) (cond (eqb f c.args.examiner && same_node n c.args.spot.now.node)

@@ -14,7 +14,8 @@ returns-then-is_known c =
     let k = c.args.spot.now.node in
     let table = on_shelf c.args.self.now in
     record {
-      way = subst (λ (b : Bool). IsLeast (λ f. shelf_clashes_next p b (λ n. table_mode table f n) k) e c.way_of.result) (sym c.if-is_known.true)
+      way = subst (λ (b : Bool). IsLeast (λ f. shelf_clashes_next p b (λ n. table_mode table f n) k) e c.way_of.result)
+          (sym c.if-is_known.true)
           (subst (λ (m : Mode). IsLeast (λ f. clashes m (table_mode table f k)) e c.way_of.result) c.own_mode.ensures.own
           c.way_of.ensures.way);
     }
@@ -26,6 +27,7 @@ returns c =
     let k = c.args.spot.now.node in
     let table = on_shelf c.args.self.now in
     record {
-      way = subst (λ (b : Bool). IsLeast (λ f. shelf_clashes_next p b (λ n. table_mode table f n) k) e c.way_for.result) (sym c.if-is_known.false)
+      way = subst (λ (b : Bool). IsLeast (λ f. shelf_clashes_next p b (λ n. table_mode table f n) k) e c.way_for.result)
+          (sym c.if-is_known.false)
           c.way_for.ensures.way;
     }

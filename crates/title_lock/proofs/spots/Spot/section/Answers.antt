@@ -12,5 +12,12 @@ returns c =
     let small : section_number s < 4194304 = omega (arith, township_below s.township, s.numbered.1) in
     let home : node_number (node.Part s w) % 4194304 ≡ section_number s = omega (arith, small) in
     record {
-      section = (s, w, c.in-Part.is, ap (λ n. n % 4194304) (c.args.self.now.numbered ∙ ap node_number c.in-Part.is) ∙ home, c.of.ensures.of);
+      section = (
+        s,
+        w,
+        c.in-Part.is,
+        ap (λ n. n % 4194304) (c.args.self.now.numbered ∙ ap node_number c.in-Part.is)
+            ∙ home,
+        c.of.ensures.of,
+      );
     }

@@ -28,8 +28,10 @@ invariant_of-self c =
           (Some e) book table kept));
       lean = lean_done depth x table c.take_out_all.new.self
           (subst (λ (w : Option Entry). IsLean depth w table) waits c.self.invariant.lean)
-          (subst (λ (f : ℕ). IdleLess (placed table) (placed c.take_out_all.new.self) f (λ n. list_any (is_asked n) (cover_of depth x.tract))) (sym own)
-          (subst (λ (t : List Node). IdleLess (placed table) (placed c.take_out_all.new.self) e (λ n. list_any (is_asked n) t)) c.cover.ensures.cover
+          (subst (λ (f : ℕ). IdleLess (placed table) (placed c.take_out_all.new.self) f
+          (λ n. list_any (is_asked n) (cover_of depth x.tract))) (sym own)
+          (subst (λ (t : List Node). IdleLess (placed table) (placed c.take_out_all.new.self) e (λ n. list_any (is_asked n) t))
+          c.cover.ensures.cover
           c.take_out_all.ensures.idle))
           c.take_out_all.ensures.used;
     }

@@ -39,7 +39,8 @@ invariant_of-self c =
       lean = lean_done depth x table c.raise_all.new.self
           (subst (λ (w : Option Entry). IsLean depth w table) (ap (λ (l : Locks). l.prepared) c.self.view_is ∙ c.requires.prepared)
           c.self.invariant.lean)
-          (subst (λ (t : List Node). IdleLess (placed table) (placed c.raise_all.new.self) x.examiner (λ n. list_any (is_asked n) t)) c.cover.ensures.cover
+          (subst (λ (t : List Node). IdleLess (placed table) (placed c.raise_all.new.self) x.examiner (λ n. list_any (is_asked n) t))
+          c.cover.ensures.cover
           c.raise_all.ensures.idle)
           c.raise_all.ensures.used;
     }

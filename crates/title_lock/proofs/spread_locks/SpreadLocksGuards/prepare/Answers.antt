@@ -58,6 +58,7 @@ invariant_of-self-2 c =
         },
       );
       lean = lean_more depth x t u (subst (λ (q : Option ℕ). IsLean depth (waiting q book) t) none c.self.invariant.lean)
-          (subst (λ (nodes : List Node). IdleMore (placed t) (placed u) e (λ n. list_any (is_asked n) nodes)) cover c.in-Ok-stage.ensures.idle)
+          (subst (λ (nodes : List Node). IdleMore (placed t) (placed u) e (λ n. list_any (is_asked n) nodes)) cover
+          c.in-Ok-stage.ensures.idle)
           c.stage.ensures.used;
     })

@@ -19,7 +19,8 @@ returns c =
     let p = is_post c.args.access in
     let table = c.self.inside.table in
     let wide = c.cover.ensures.sized in
-    let least = subst (λ (u : List Node). IsLeast (λ f. clashes_with p (λ n. table_mode (placed table) f n) u) e c.ways.result) c.cover.ensures.cover
+    let least = subst (λ (u : List Node). IsLeast (λ f. clashes_with p (λ n. table_mode (placed table) f n) u) e c.ways.result)
+    c.cover.ensures.cover
     c.ways.ensures.way in
     record {
       would = subst (λ (z : List Entry). Stands z e t p c.ways.result) (ap (λ (l : Locks). l.entries) c.self.view_is)

@@ -8,34 +8,41 @@ use Rattle.title_lock.proofs.TwoShelves.{upper_same, upper_stays, upper_used, wi
 use Rattle.title_lock.proofs.table.Table.make_room_next.Goals as goal
 
 pub returns-in_default-clause-modes : goal.returns-in_default-clause-modes
-returns-in_default-clause-modes c = upper_same c.args.self.now (with_upper c.args.self.now c.make_room_next.new.self) c.args.spot.now.node c.in_default.ensures.section refl c.make_room_next.ensures.modes
+returns-in_default-clause-modes c = upper_same c.args.self.now
+    (with_upper c.args.self.now c.make_room_next.new.self) c.args.spot.now.node c.in_default.ensures.section refl
+    c.make_room_next.ensures.modes
 
 pub returns-in_default-clause-stays : goal.returns-in_default-clause-stays
 returns-in_default-clause-stays c =
-    upper_stays c.args.self.now (with_upper c.args.self.now c.make_room_next.new.self) c.args.spot.now.node c.in_default.ensures.section refl c.make_room_next.ensures.stays
+    upper_stays c.args.self.now (with_upper c.args.self.now c.make_room_next.new.self) c.args.spot.now.node c.in_default.ensures.section
+    refl c.make_room_next.ensures.stays
 
 pub returns-in_default-clause-used : goal.returns-in_default-clause-used
 returns-in_default-clause-used c =
-    upper_used c.args.self.now (with_upper c.args.self.now c.make_room_next.new.self) c.args.spot.now.node c.in_default.ensures.section refl c.make_room_next.ensures.used
+    upper_used c.args.self.now (with_upper c.args.self.now c.make_room_next.new.self) c.args.spot.now.node c.in_default.ensures.section
+    refl c.make_room_next.ensures.used
 
 pub returns-in_err-make_room_upper-clause-modes : goal.returns-in_err-make_room_upper-clause-modes
 returns-in_err-make_room_upper-clause-modes c =
     let i = c.in-Some.ensures.section in
-    all_same c.args.self.now c.make_room_upper.new.self c.make_room_upper.new.self c.args.spot.now.node c.in-Some.home c.in-Some.township.node
+    all_same c.args.self.now c.make_room_upper.new.self c.make_room_upper.new.self c.args.spot.now.node c.in-Some.home
+    c.in-Some.township.node
     i.0 i.1 i.2 i.3 i.4 c.make_room_upper.ensures.sections refl (λ j other. refl)
     c.make_room_upper.ensures.modes (λ f n. refl)
 
 pub returns-in_err-make_room_upper-clause-stays : goal.returns-in_err-make_room_upper-clause-stays
 returns-in_err-make_room_upper-clause-stays c =
     let i = c.in-Some.ensures.section in
-    all_stays c.args.self.now c.make_room_upper.new.self c.make_room_upper.new.self c.args.spot.now.node c.in-Some.home c.in-Some.township.node
+    all_stays c.args.self.now c.make_room_upper.new.self c.make_room_upper.new.self c.args.spot.now.node c.in-Some.home
+    c.in-Some.township.node
     i.0 i.1 i.2 i.3 i.4 c.make_room_upper.ensures.sections refl (λ j other. refl)
     c.make_room_upper.ensures.stays (λ e n room. room)
 
 pub returns-in_err-make_room_upper-clause-idle : goal.returns-in_err-make_room_upper-clause-idle
 returns-in_err-make_room_upper-clause-idle c =
     let i = c.in-Some.ensures.section in
-    all_more c.args.self.now c.make_room_upper.new.self c.make_room_upper.new.self c.args.spot.now.node c.in-Some.home c.in-Some.township.node
+    all_more c.args.self.now c.make_room_upper.new.self c.make_room_upper.new.self c.args.spot.now.node c.in-Some.home
+    c.in-Some.township.node
     i.0 i.1 i.2 i.3 i.4 c.make_room_upper.ensures.sections refl (λ j other. refl)
     c.args.examiner c.args.is_known c.make_room_upper.ensures.idle
     (more_same (on_section c.make_room_upper.new.self c.in-Some.home) c.args.examiner (λ n. is_shelf_asked n c.args.spot.now.node))
@@ -43,7 +50,8 @@ returns-in_err-make_room_upper-clause-idle c =
 pub returns-in_err-make_room_upper-clause-used : goal.returns-in_err-make_room_upper-clause-used
 returns-in_err-make_room_upper-clause-used c =
     let i = c.in-Some.ensures.section in
-    all_used c.args.self.now c.make_room_upper.new.self c.make_room_upper.new.self c.args.spot.now.node c.in-Some.home c.in-Some.township.node
+    all_used c.args.self.now c.make_room_upper.new.self c.make_room_upper.new.self c.args.spot.now.node c.in-Some.home
+    c.in-Some.township.node
     i.0 i.1 i.2 i.3 i.4 c.make_room_upper.ensures.sections refl (λ j other. refl)
     c.make_room_upper.ensures.used (λ used. used) (λ stocked. stocked)
 
@@ -51,7 +59,8 @@ pub make_room_on-requires : goal.make_room_on-requires
 make_room_on-requires c =
     let i = c.in-Some.ensures.section in
     record {
-      known = λ known. room_above_here c.args.self.now c.make_room_upper.new.self c.args.spot.now.node c.in-Some.home c.in-Some.township.node
+      known = λ known. room_above_here c.args.self.now c.make_room_upper.new.self c.args.spot.now.node c.in-Some.home
+          c.in-Some.township.node
           i.0 i.1 i.2 i.3 i.4 c.make_room_upper.ensures.sections c.args.examiner (c.requires.known known);
     }
 

@@ -32,7 +32,8 @@ loop-node-preserved c =
         common_steps,
         rest_join,
         (subst (λ (z : Node). table_mode (placed c.raise_next.new.self) f n
-            ≡ bound (table_mode (placed c.loop-node.self) f n) (cond (eqb f e) (asked_for (is_post c.args.access) z n) None)) c.of-spot.ensures.of
+            ≡ bound (table_mode (placed c.loop-node.self) f n) (cond (eqb f e) (asked_for (is_post c.args.access) z n) None))
+            c.of-spot.ensures.of
             (c.raise_next.ensures.modes f n)),
         c.loop-node.invariant.modes f n,
       );
@@ -65,7 +66,8 @@ returns c = record {
       (cond (eqb f c.args.examiner) (asked (is_post c.args.access) nodes n) None))
       (sym (drop_all c.loop-node.node-index c.args.cover.now (omega arith)))
       ∙ c.loop-node.invariant.modes f n;
-  idle = subst (λ (nodes : List Node). IdleLess (placed c.args.self.now) (placed c.loop-node.self) c.args.examiner (λ n. list_any (is_asked n) nodes))
+  idle = subst (λ (nodes : List Node). IdleLess (placed c.args.self.now) (placed c.loop-node.self) c.args.examiner
+      (λ n. list_any (is_asked n) nodes))
       (take_all c.loop-node.node-index c.args.cover.now (omega arith)) c.loop-node.invariant.idle;
   used = c.loop-node.invariant.used;
 }

@@ -6,18 +6,22 @@ use Rattle.std.proofs.Common.{refl}
 use Rattle.title_lock.proofs.table.Table.raise_next.Goals as goal
 
 pub returns-in_default-clause-modes : goal.returns-in_default-clause-modes
-returns-in_default-clause-modes c = upper_raised c.args.self.now (with_upper c.args.self.now c.raise_next.new.self) c.args.spot.now.node c.in_default.ensures.section refl c.args.examiner
+returns-in_default-clause-modes c = upper_raised c.args.self.now
+    (with_upper c.args.self.now c.raise_next.new.self) c.args.spot.now.node c.in_default.ensures.section refl c.args.examiner
     (is_post c.args.access) c.raise_next.ensures.modes
 
 pub returns-in_default-clause-stays : goal.returns-in_default-clause-stays
-returns-in_default-clause-stays c = upper_stays c.args.self.now (with_upper c.args.self.now c.raise_next.new.self) c.args.spot.now.node c.in_default.ensures.section refl c.raise_next.ensures.stays
+returns-in_default-clause-stays c = upper_stays c.args.self.now
+    (with_upper c.args.self.now c.raise_next.new.self) c.args.spot.now.node c.in_default.ensures.section refl c.raise_next.ensures.stays
 
 pub returns-in_default-clause-idle : goal.returns-in_default-clause-idle
 returns-in_default-clause-idle c =
-    upper_less c.args.self.now (with_upper c.args.self.now c.raise_next.new.self) c.args.spot.now.node c.in_default.ensures.section refl c.args.examiner c.raise_next.ensures.idle
+    upper_less c.args.self.now (with_upper c.args.self.now c.raise_next.new.self) c.args.spot.now.node c.in_default.ensures.section refl
+    c.args.examiner c.raise_next.ensures.idle
 
 pub returns-in_default-clause-used : goal.returns-in_default-clause-used
-returns-in_default-clause-used c = upper_used c.args.self.now (with_upper c.args.self.now c.raise_next.new.self) c.args.spot.now.node c.in_default.ensures.section refl c.raise_next.ensures.used
+returns-in_default-clause-used c = upper_used c.args.self.now
+    (with_upper c.args.self.now c.raise_next.new.self) c.args.spot.now.node c.in_default.ensures.section refl c.raise_next.ensures.used
 
 pub raise_on-requires-clause-room : goal.raise_on-requires-clause-room
 raise_on-requires-clause-room c =

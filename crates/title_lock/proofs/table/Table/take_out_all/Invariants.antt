@@ -14,7 +14,8 @@ use Rattle.title_lock.proofs.table.Table.take_out_all.Given as goal
 abbrev pub invariant-loop-node : goal.invariant-loop-node
 invariant-loop-node l = record {
   modes : (f : ℕ) (n : Node) → table_mode (placed l.self) f n
-      ≡ cond (is_mode l.taken && eqb f l.examiner && list_any (is_asked n) (take l.node-index l.cover)) None (table_mode (placed l.fn.self) f n);
+      ≡ cond (is_mode l.taken && eqb f l.examiner && list_any (is_asked n) (take l.node-index l.cover)) None
+      (table_mode (placed l.fn.self) f n);
   idle : IdleLess (placed l.fn.self) (placed l.self) l.examiner (λ n. list_any (is_asked n) (take l.node-index l.cover));
   known : (n : Node) → same_family l.last (family (node_number n)) ≡ true
       → IsTakenOut (placed l.self) l.examiner (is_mode l.taken) (λ m. is_above m n);

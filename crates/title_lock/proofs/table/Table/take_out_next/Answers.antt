@@ -6,16 +6,19 @@ use Rattle.title_lock.proofs.TwoShelves.{upper_all_gone, upper_less, upper_used,
 use Rattle.title_lock.proofs.table.Table.take_out_next.Goals as goal
 
 pub returns-in_default-clause-modes : goal.returns-in_default-clause-modes
-returns-in_default-clause-modes c = upper_all_gone c.args.self.now (with_upper c.args.self.now c.take_out_next.new.self) c.args.spot.now.node c.in_default.ensures.section refl c.args.examiner
+returns-in_default-clause-modes c = upper_all_gone c.args.self.now
+    (with_upper c.args.self.now c.take_out_next.new.self) c.args.spot.now.node c.in_default.ensures.section refl c.args.examiner
     (is_mode c.args.taken) c.take_out_next.ensures.modes
 
 pub returns-in_default-clause-idle : goal.returns-in_default-clause-idle
 returns-in_default-clause-idle c =
-    upper_less c.args.self.now (with_upper c.args.self.now c.take_out_next.new.self) c.args.spot.now.node c.in_default.ensures.section refl c.args.examiner c.take_out_next.ensures.idle
+    upper_less c.args.self.now (with_upper c.args.self.now c.take_out_next.new.self) c.args.spot.now.node c.in_default.ensures.section
+    refl c.args.examiner c.take_out_next.ensures.idle
 
 pub returns-in_default-clause-used : goal.returns-in_default-clause-used
 returns-in_default-clause-used c =
-    upper_used c.args.self.now (with_upper c.args.self.now c.take_out_next.new.self) c.args.spot.now.node c.in_default.ensures.section refl c.take_out_next.ensures.used
+    upper_used c.args.self.now (with_upper c.args.self.now c.take_out_next.new.self) c.args.spot.now.node c.in_default.ensures.section
+    refl c.take_out_next.ensures.used
 
 pub take_out_on-requires : goal.take_out_on-requires
 take_out_on-requires c =

@@ -11,7 +11,8 @@ use Rattle.title_lock.proofs.table.Table.way_on.Goals as goal
 pub returns-in-Some : goal.returns-in-Some
 returns-in-Some c = record {
   way = subst (λ (o : Option Shelf). IsLeast (λ f. shelf_clashes_next (is_post c.args.access) c.args.is_known
-      (λ n. table_mode (on_some o) f n) c.args.spot.now.node) c.args.examiner c.way_next.result) c.in-Some.ensures.value c.way_next.ensures.way;
+      (λ n. table_mode (on_some o) f n) c.args.spot.now.node) c.args.examiner c.way_next.result) c.in-Some.ensures.value
+      c.way_next.ensures.way;
 }
 
 none_above : (m : Mode) (f : ℕ) (nodes : List Node) → clashes_above m (λ n. table_mode nowhere f n) nodes ≡ false
@@ -27,6 +28,7 @@ pub returns-in-None : goal.returns-in-None
 returns-in-None c = record {
   way = λ f other. subst (λ (o : Option Shelf). shelf_clashes_next (is_post c.args.access) c.args.is_known
       (λ n. table_mode (on_some o) f n) c.args.spot.now.node ≡ false) c.in-None.ensures.value
-      (nobody c.args.is_known (clashes_above (above_mode (is_post c.args.access)) (λ n. table_mode nowhere f n) (shelf_above c.args.spot.now.node))
+      (nobody c.args.is_known (clashes_above (above_mode (is_post c.args.access)) (λ n. table_mode nowhere f n)
+      (shelf_above c.args.spot.now.node))
       (none_above (above_mode (is_post c.args.access)) f (shelf_above c.args.spot.now.node)));
 }

@@ -55,7 +55,8 @@ loop-node-preserved c =
 
 pub returns : goal.returns
 returns c = record {
-  way = subst (λ (nodes : List Node). IsLeast (λ f. clashes_with (is_post c.args.access) (λ n. table_mode (placed c.args.self.now) f n) nodes)
+  way = subst (λ (nodes : List Node). IsLeast (λ f. clashes_with (is_post c.args.access)
+      (λ n. table_mode (placed c.args.self.now) f n) nodes)
       c.args.examiner c.loop-node.way)
       (take_all c.loop-node.node-index c.args.cover.now (omega arith)) c.loop-node.invariant.way;
 }
