@@ -13,7 +13,7 @@ use std::marker::Model;
 /// The examiners that have room at a node, with the mode of each that holds it. Most nodes have one, which takes no memory.
 #[derive(Drop)]
 pub(crate) struct Places {
-    // Who came when nobody stood here; it isn't among the others.
+    // Whoever came when there was no first; others may have stood here then. It isn't among them.
     first: Option<(u32, Option<Mode>)>,
     others: BTreeMap<u32, Option<Mode>>,
 }

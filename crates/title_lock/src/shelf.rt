@@ -9,8 +9,9 @@ ghost use Rattle.title_lock.specs.Asking.{own_mode, above_mode};
 ghost use Rattle.title_lock.specs.declared.modes.Mode.TheVariants.{Is, Ix, S, Six, X};
 ghost use Rattle.title_lock.specs.Counts.{IsCount};
 ghost use Rattle.title_lock.specs.Holders.{clashes, is_mode};
-ghost use Rattle.title_lock.specs.Tables.{on_shelf, table_mode, table_room, clashes_above, clashes_from, shelf_clashes_for, shelf_clashes_next};
-ghost use Rattle.title_lock.specs.Tables.{KeepsRoom, HasRoom, is_shelf_above, is_shelf_asked, shelf_above, shelf_asked_for, is_idle, is_unused};
+ghost use Rattle.title_lock.specs.Tables.{on_shelf, table_mode, table_room, clashes_above, clashes_from};
+ghost use Rattle.title_lock.specs.Tables.{shelf_clashes_for, shelf_clashes_next, shelf_above, shelf_asked_for};
+ghost use Rattle.title_lock.specs.Tables.{KeepsRoom, HasRoom, is_shelf_above, is_shelf_asked, is_idle, is_unused};
 ghost use Rattle.title_lock.specs.Tables.{IdleMore, IdleLess, AllUsed, IsRaised, IsTakenOut, is_bare};
 
 use crate::guards::Access;
@@ -104,9 +105,10 @@ impl Shelf {
         }
     }
 
-    // The least other examiner that a mode can't stand beside at some node above.
+    // The least other examiner that a mode can't stand beside at some node above on the shelf.
     fn way_above(&self, examiner: u32, spot: &Spot, mode: Mode) -> Option<u32>
-        ensures way { IsLeast (λ f. clashes_above mode (λ n. table_mode (on_shelf self.now) f n) (shelf_above spot.now.node)) examiner result }
+        ensures way { IsLeast (λ f. clashes_above mode (λ n. table_mode (on_shelf self.now) f n) (shelf_above spot.now.node))
+            examiner result }
     {
         match spot.shelf_parent() {
             None => None,
@@ -117,9 +119,10 @@ impl Shelf {
         }
     }
 
-    // The least other examiner in the way of an access at a node of the cover or above it.
+    // The least other examiner in the way of an access at a node of the cover or above it on the shelf.
     fn way_for(&self, examiner: u32, spot: &Spot, access: Access) -> Option<u32>
-        ensures way { IsLeast (λ f. shelf_clashes_for (is_post access) (λ n. table_mode (on_shelf self.now) f n) spot.now.node) examiner result }
+        ensures way { IsLeast (λ f. shelf_clashes_for (is_post access) (λ n. table_mode (on_shelf self.now) f n) spot.now.node)
+            examiner result }
     {
         let above = above_mode(access);
         let own = own_mode(access);
@@ -146,7 +149,7 @@ impl Shelf {
         self.way_for(examiner, spot, access)
     }
 
-    /// The least other examiner that a mode can't stand beside at a node or above it.
+    /// The least other examiner that a mode can't stand beside at a node or above it on the shelf.
     pub(crate) fn way_from(&self, examiner: u32, spot: &Spot, mode: Mode) -> Option<u32>
         ensures way { IsLeast (λ f. clashes_from mode (λ n. table_mode (on_shelf self.now) f n) spot.now.node) examiner result }
     {
@@ -174,7 +177,7 @@ impl Shelf {
         Ok(())
     }
 
-    // Makes room at all nodes above.
+    // Makes room at all nodes above on the shelf, the topmost first.
     fn make_room_above(&mut self, examiner: u32, spot: &Spot) -> Result<(), AllocError>
         ensures modes { (f : ℕ) → (n : Node) → table_mode (on_shelf self.new) f n ≡ table_mode (on_shelf self.old) f n }
         ensures room { OnOk result (HasRoom (on_shelf self.new) examiner (λ n. is_shelf_above n spot.now.node)) }
@@ -190,7 +193,7 @@ impl Shelf {
         Ok(())
     }
 
-    // Makes room at a node of the cover and at all above it.
+    // Makes room at a node of the cover and at all above it on the shelf.
     pub(crate) fn make_room_for(&mut self, examiner: u32, spot: &Spot) -> Result<(), AllocError>
         ensures modes { (f : ℕ) → (n : Node) → table_mode (on_shelf self.new) f n ≡ table_mode (on_shelf self.old) f n }
         ensures room { OnOk result (HasRoom (on_shelf self.new) examiner (λ n. is_shelf_asked n spot.now.node)) }
@@ -240,7 +243,7 @@ impl Shelf {
         }
     }
 
-    // Gives an examiner a mode at all nodes above, from the whole plant on.
+    // Gives an examiner a mode at all nodes above on the shelf, the topmost first.
     fn raise_above(&mut self, examiner: u32, spot: &Spot, mode: Mode)
         requires room { HasRoom (on_shelf self.old) examiner (λ n. is_shelf_above n spot.now.node) }
         ensures modes { (f : ℕ) → (n : Node) → table_mode (on_shelf self.new) f n
@@ -255,7 +258,7 @@ impl Shelf {
         }
     }
 
-    /// Gives an examiner a mode at a node and at all above it.
+    /// Gives an examiner a mode at a node and at all above it on the shelf.
     pub(crate) fn raise_from(&mut self, examiner: u32, spot: &Spot, mode: Mode)
         requires room { HasRoom (on_shelf self.old) examiner (λ n. is_shelf_asked n spot.now.node) }
         ensures modes { (f : ℕ) → (n : Node) → table_mode (on_shelf self.new) f n
@@ -268,11 +271,11 @@ impl Shelf {
         self.raise(examiner, spot, mode);
     }
 
-    // Gives an examiner what an access asks for at one node of the cover.
+    // Gives an examiner what an access asks on the shelf for one node of the cover.
     fn raise_for(&mut self, examiner: u32, spot: &Spot, access: Access)
         requires room { HasRoom (on_shelf self.old) examiner (λ n. is_shelf_asked n spot.now.node) }
-        ensures modes { (f : ℕ) → (n : Node) → table_mode (on_shelf self.new) f n
-            ≡ bound (table_mode (on_shelf self.old) f n) (if f == examiner then shelf_asked_for (is_post access) spot.now.node n else None) }
+        ensures modes { (f : ℕ) → (n : Node) → table_mode (on_shelf self.new) f n ≡ bound (table_mode (on_shelf self.old) f n)
+            (if f == examiner then shelf_asked_for (is_post access) spot.now.node n else None) }
         ensures stays { KeepsRoom (on_shelf self.old) (on_shelf self.new) }
         ensures idle { IdleLess (on_shelf self.old) (on_shelf self.new) examiner (λ n. is_shelf_asked n spot.now.node) }
         ensures used { AllUsed (on_shelf self.old) → AllUsed (on_shelf self.new) }
@@ -286,8 +289,8 @@ impl Shelf {
         requires room { HasRoom (on_shelf self.old) examiner (λ n. is_shelf_asked n spot.now.node) }
         requires known { is_known ≡ true
             → IsRaised (on_shelf self.old) examiner (above_mode (is_post access)) (λ n. is_shelf_above n spot.now.node) }
-        ensures modes { (f : ℕ) → (n : Node) → table_mode (on_shelf self.new) f n
-            ≡ bound (table_mode (on_shelf self.old) f n) (if f == examiner then shelf_asked_for (is_post access) spot.now.node n else None) }
+        ensures modes { (f : ℕ) → (n : Node) → table_mode (on_shelf self.new) f n ≡ bound (table_mode (on_shelf self.old) f n)
+            (if f == examiner then shelf_asked_for (is_post access) spot.now.node n else None) }
         ensures stays { KeepsRoom (on_shelf self.old) (on_shelf self.new) }
         ensures idle { IdleLess (on_shelf self.old) (on_shelf self.new) examiner (λ n. is_shelf_asked n spot.now.node) }
         ensures used { AllUsed (on_shelf self.old) → AllUsed (on_shelf self.new) }
@@ -315,7 +318,7 @@ impl Shelf {
         }
     }
 
-    // The same at all nodes above.
+    // The same at all nodes above on the shelf.
     fn take_out_above(&mut self, examiner: u32, spot: &Spot, taken: Taken)
         ensures modes { (f : ℕ) → (n : Node) → table_mode (on_shelf self.new) f n
             ≡ (if is_mode taken && f == examiner && is_shelf_above n spot.now.node then None else table_mode (on_shelf self.old) f n) }
@@ -328,7 +331,7 @@ impl Shelf {
         }
     }
 
-    // The same at a node of the cover and at all above it.
+    // The same at a node of the cover and at all above it on the shelf.
     pub(crate) fn take_out_for(&mut self, examiner: u32, spot: &Spot, taken: Taken)
         ensures modes { (f : ℕ) → (n : Node) → table_mode (on_shelf self.new) f n
             ≡ (if is_mode taken && f == examiner && is_shelf_asked n spot.now.node then None else table_mode (on_shelf self.old) f n) }

@@ -8,6 +8,13 @@ ghost use Rattle.title_lock.specs.Tables.{is_square, shelf_parent, StandsIn};
 
 use title_land::{Node, number_above};
 
+// Where the numbers of sections begin. A square's number is its path's, which is 1 for the section itself, times this, and its
+// section's own, which is below this.
+const FIRST_SECTION: u64 = 4_194_304;
+
+// Where the numbers of a section's quarters, and of their parts, begin.
+const FIRST_QUARTER: u64 = 16_777_216;
+
 /// A node with its number.
 #[derive(Clone, Copy)]
 pub(crate) struct Spot {
@@ -42,7 +49,7 @@ impl Spot {
     pub(crate) fn shelf_parent(&self) -> Option<Spot>
         ensures parent { MatchOption result (None ≡ shelf_parent self.now.node) (λ p. Some p.node ≡ shelf_parent self.now.node) }
     {
-        if self.number >= 4_194_304 && self.number < 16_777_216 {
+        if self.number >= FIRST_SECTION && self.number < FIRST_QUARTER {
             return None;
         }
         self.parent()
@@ -56,14 +63,14 @@ impl Spot {
             return None;
         };
         let township = Node::Township(section.township);
-        Some((self.number % 4_194_304, Spot::of(&township)))
+        Some((self.number % FIRST_SECTION, Spot::of(&township)))
     }
 
     /// The number of the node above a square; `None` for the plant and a township.
     pub(crate) fn family(&self) -> Option<u64>
         ensures family { result ≡ family self.now.number }
     {
-        if self.number < 4_194_304 {
+        if self.number < FIRST_SECTION {
             return None;
         }
         Some(number_above(self.number))

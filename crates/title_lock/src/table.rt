@@ -12,9 +12,11 @@ ghost use Rattle.title_lock.specs.Asking.{above_mode, asked_for, asked};
 ghost use Rattle.title_lock.specs.declared.modes.Mode.TheVariants.{Is, Ix, S, Six, X};
 ghost use Rattle.title_lock.specs.Counts.{IsCount};
 ghost use Rattle.title_lock.specs.Holders.{is_mode};
-ghost use Rattle.title_lock.specs.Tables.{on_shelf, on_section, placed, table_mode, clashes_from, clashes_next, clashes_with, shelf_clashes_next};
-ghost use Rattle.title_lock.specs.Tables.{KeepsRoom, HasRoom, asks_upper, is_asked, is_idle, IdleMore, IdleLess, AllUsed, IsRaised, IsTakenOut};
-ghost use Rattle.title_lock.specs.Tables.{is_shelf_above, is_shelf_asked, shelf_asked_for, IsStocked, TableUsed};
+ghost use Rattle.title_lock.specs.Tables.{on_shelf, on_section, placed, table_mode};
+ghost use Rattle.title_lock.specs.Tables.{clashes_from, clashes_next, clashes_with, shelf_clashes_next};
+ghost use Rattle.title_lock.specs.Tables.{KeepsRoom, HasRoom, asks_upper, is_asked, is_idle, IdleMore, IdleLess};
+ghost use Rattle.title_lock.specs.Tables.{is_shelf_above, is_shelf_asked, shelf_asked_for, IsRaised, IsTakenOut};
+ghost use Rattle.title_lock.specs.Tables.{AllUsed, IsStocked, TableUsed};
 
 use crate::guards::Access;
 use crate::holders::Taken;
@@ -26,7 +28,8 @@ use std::alloc::{AllocError, Global};
 use std::collections::BTreeMap;
 use title_land::Node;
 
-/// The holders of each node in use. What an access asks of a section's squares is on one shelf, which is sought once.
+/// The holders of each node in use. What an access asks of a section's squares is on one shelf, which is sought once for each
+/// node of the cover.
 #[derive(Drop)]
 pub(crate) struct Table {
     alloc: Global,
@@ -251,7 +254,8 @@ impl Table {
     // Gives an examiner what an access asks for on a section's shelf, where it may have it above already.
     fn raise_on(&mut self, home: u64, examiner: u32, spot: &Spot, access: Access, is_known: bool)
         requires room { HasRoom (on_section self.old home) examiner (λ n. is_shelf_asked n spot.now.node) }
-        requires known { is_known ≡ true → IsRaised (on_section self.old home) examiner (above_mode (is_post access)) (λ n. is_shelf_above n spot.now.node) }
+        requires known { is_known ≡ true
+            → IsRaised (on_section self.old home) examiner (above_mode (is_post access)) (λ n. is_shelf_above n spot.now.node) }
         ensures upper { self.new.upper ≡ self.old.upper }
         ensures others { (k : ℕ) → k ≢ home → get nat_cmp self.new.sections k ≡ get nat_cmp self.old.sections k }
         ensures modes { (f : ℕ) → (n : Node) → table_mode (on_section self.new home) f n ≡ bound (table_mode (on_section self.old home) f n)
@@ -320,11 +324,13 @@ impl Table {
 
     // Takes an examiner out of the holders on a section's shelf, and the shelf where it is bare then.
     fn take_out_on(&mut self, home: u64, examiner: u32, spot: &Spot, taken: Taken, is_known: bool)
-        requires known { is_known ≡ true → IsTakenOut (on_section self.old home) examiner (is_mode taken) (λ n. is_shelf_above n spot.now.node) }
+        requires known { is_known ≡ true
+            → IsTakenOut (on_section self.old home) examiner (is_mode taken) (λ n. is_shelf_above n spot.now.node) }
         ensures upper { self.new.upper ≡ self.old.upper }
         ensures others { (k : ℕ) → k ≢ home → get nat_cmp self.new.sections k ≡ get nat_cmp self.old.sections k }
         ensures modes { (f : ℕ) → (n : Node) → table_mode (on_section self.new home) f n
-            ≡ (if is_mode taken && f == examiner && is_shelf_asked n spot.now.node then None else table_mode (on_section self.old home) f n) }
+            ≡ (if is_mode taken && f == examiner && is_shelf_asked n spot.now.node then None
+            else table_mode (on_section self.old home) f n) }
         ensures idle { IdleLess (on_section self.old home) (on_section self.new home) examiner (λ n. is_shelf_asked n spot.now.node) }
         ensures used { AllUsed (on_section self.old home) → AllUsed (on_section self.new home) }
         ensures stocked { IsStocked (get nat_cmp self.new.sections home) }

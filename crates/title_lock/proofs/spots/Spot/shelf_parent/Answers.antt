@@ -14,8 +14,8 @@ own_square (node.Township t) k is low high = absurd (omega (arith, township_belo
 own_square (node.Part s []) k is low high = refl
 own_square (node.Part s (q ∷ w)) k is low high = absurd (omega (arith, path_positive w, is, high))
 
-pub returns-then-self-lt16777216 : goal.returns-then-self-lt16777216
-returns-then-self-lt16777216 c = record {
-  parent = own_square c.args.self.now.node c.args.self.now.number c.args.self.now.numbered (omega (arith, c.if-self-ge4194304.true))
-      (omega (arith, c.if-self-lt16777216.true));
+pub returns-then-self-lt-FIRST_QUARTER : goal.returns-then-self-lt-FIRST_QUARTER
+returns-then-self-lt-FIRST_QUARTER c = record {
+  parent = own_square c.args.self.now.node c.args.self.now.number c.args.self.now.numbered (omega (arith, c.if-self-ge-FIRST_SECTION.true))
+      (omega (arith, c.if-self-lt-FIRST_QUARTER.true));
 }
