@@ -4,6 +4,7 @@ pub mod Overlap
 pub mod AccessLaws
 pub mod TableLaws
 pub mod SectionLaws
+pub mod HomeLaws
 pub mod TwoShelves
 pub mod IdleLaws
 pub mod FamilyLaws

@@ -2,11 +2,10 @@
 use Rattle.std.proofs.Common.{◌≡◌, ◌≢◌, ℕ, Bool, true, false, cond, ◌||◌, List, [], ◌∷◌, length, Option, Some, None, eqb, refl, sym, ap}
 use Rattle.std.proofs.Common.{subst, ◌∙◌, arith, true≢false}
 use Rattle.std.proofs.lemmas.Bool.{ne_eqb, false_from_ne_true, or_from}
-use Rattle.std.proofs.lemmas.Bool.Decides.{nat_tests}
 use Rattle.std.specs.List.{list_any}
 use Rattle.std.specs.Map.{lookup}
 use Rattle.std.specs.Ordering.{nat_cmp}
-use Rattle.std.specs.BTreeMap.{BTreeMap, get, is_at}
+use Rattle.std.specs.BTreeMap.{get, is_at}
 use Rattle.std.specs.Prelude.{IsSome}
 use Rattle.title_land.specs.declared.place.Section.{Section}
 use Rattle.title_land.specs.declared.rectangle.Quarter.{Quarter}
@@ -21,26 +20,6 @@ use Rattle.title_lock.specs.Tables.{Placed, on_shelf, on_some, is_bare}
 use Rattle.title_lock.specs.Tables.{is_square, is_asked, shelf_asked_for, is_shelf_above, is_shelf_asked}
 use Rattle.title_lock.specs.Tables.{place_at, table_room, IsStocked}
 use Rattle.title_lock.proofs.NodeLaws.{same_true, shelf_of_above}
-
-abbrev pub Sections : Type 0
-Sections = BTreeMap ℕ Shelf
-
-hit : (k : ℕ) → is_at (nat_cmp k) k ≡ true
-hit k = grind (arith, nat_tests)
-
-miss : (k j : ℕ) → j ≢ k → is_at (nat_cmp k) j ≡ false
-miss k j other = grind (arith, nat_tests)
-
--- the other shelves after a write at one
-pub others_stay : (m n : Sections) (k : ℕ) (w : Option Shelf) → ((q : ℕ) → get nat_cmp n q ≡ cond (is_at (nat_cmp k) q) w (get nat_cmp m q))
-    → (j : ℕ) → j ≢ k → get nat_cmp n j ≡ get nat_cmp m j
-others_stay m n k w h j other = h j ∙ ap (λ (b : Bool). cond b w (get nat_cmp m j)) (miss k j other)
-
--- what holds of a shelf before and after holds where it stands
-pub carried : (Q : Placed → Placed → Type 0) (old new : Option Shelf) (s w : Shelf) → Some s ≡ old → Some w ≡ new
-    → Q (on_shelf s) (on_shelf w) → Q (on_some old) (on_some new)
-carried Q old new s w had now fact =
-    subst (λ (o : Option Shelf). Q (on_some o) (on_some new)) had (subst (λ (o : Option Shelf). Q (on_shelf s) (on_some o)) now fact)
 
 -- what holds of a shelf holds where it stands
 pub carried_one : (Q : Placed → Type 0) (old : Option Shelf) (s : Shelf) → Some s ≡ old → Q (on_some old) → Q (on_shelf s)

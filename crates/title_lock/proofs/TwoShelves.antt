@@ -21,10 +21,12 @@ use Rattle.title_lock.specs.Holders.{Modes, clashes}
 use Rattle.title_lock.specs.Tables.{on_shelf, on_some, on_section, placed, mode_in, room_in, idle_in, table_mode, is_idle}
 use Rattle.title_lock.specs.Tables.{is_square, is_asked, asks_upper, shelf_asked_for, is_shelf_above, is_shelf_asked}
 use Rattle.title_lock.specs.Tables.{KeepsRoom, HasRoom, IdleMore, IdleLess, AllUsed, IsRaised, IsTakenOut, IsStocked, TableUsed}
+use Rattle.title_lock.specs.Tables.{home_of, AreAtHome, IsAtHome}
 use Rattle.title_lock.specs.Tables.{clashes_above, clashes_from, clashes_next, shelf_clashes_next}
 use Rattle.title_lock.proofs.ModeLaws.{bound_none}
 use Rattle.title_lock.proofs.AccessLaws.{rest_none}
 use Rattle.title_lock.proofs.NodeLaws.{same_true, shelf_of_above}
+use Rattle.title_lock.proofs.HomeLaws.{home_upper}
 use Rattle.title_lock.proofs.SectionLaws.{upper_asked, part_asked, part_asked_for, other_asked, other_asked_for}
 use Rattle.title_lock.proofs.SectionLaws.{asked_same, asked_for_same, square_not_asked, square_asked_none}
 
@@ -243,13 +245,32 @@ module _ (t v u : Table) (c : Node) (home : ℕ) (top : Node) (s : Section) (w :
       of_known false k n h x = first n (upper_room known (is_shelf_asked n top) k x)
 
   pub all_used : (AllUsed (on_shelf t.upper) → AllUsed (on_shelf v.upper)) → (AllUsed (on_section v home) → AllUsed (on_section u home))
-      → (IsStocked (get nat_cmp v.sections home) → IsStocked (get nat_cmp u.sections home)) → TableUsed t → TableUsed u
-  all_used first then stocked used = record {
+      → (IsStocked (get nat_cmp v.sections home) → IsStocked (get nat_cmp u.sections home))
+      → (AreAtHome (home_of top) t.upper → AreAtHome (home_of top) v.upper)
+      → (IsAtHome (home_of c) (get nat_cmp v.sections home) → IsAtHome (home_of c) (get nat_cmp u.sections home))
+      → TableUsed t → TableUsed u
+  all_used first then stocked over_home own_home used = record {
     upper = subst (λ (z : Shelf). AllUsed (on_shelf z)) (sym upper) (first used.upper);
     sections = λ k. one k (eqb k home) refl;
     stocked = λ k. full k (eqb k home) refl;
+    upper_home = subst (λ (z : Shelf). AreAtHome None z) (sym upper)
+        (subst (λ (n : Node). AreAtHome (home_of n) t.upper → AreAtHome (home_of n) v.upper) over over_home used.upper_home);
+    section_homes = λ k. homes k (eqb k home) refl;
   }
     where
+      own : home_of c ≡ Some home
+      own = ap home_of is ∙ ap (λ (z : ℕ). Some z) (sym here)
+
+      at_home : IsAtHome (Some home) (get nat_cmp u.sections home)
+      at_home = subst (λ (h : Option ℕ). IsAtHome h (get nat_cmp u.sections home)) own
+          (own_home (subst (λ (h : Option ℕ). IsAtHome h (get nat_cmp v.sections home)) (sym own)
+          (subst (λ z. IsAtHome (Some home) (get nat_cmp z home)) (sym sections) (used.section_homes home))))
+
+      homes : (k : ℕ) (b : Bool) → eqb k home ≡ b → IsAtHome (Some k) (get nat_cmp u.sections k)
+      homes k true e = subst (λ (j : ℕ). IsAtHome (Some j) (get nat_cmp u.sections j)) (sym (eqb-true k home e)) at_home
+      homes k false e = subst (λ (o : Option Shelf). IsAtHome (Some k) o)
+          (sym (others k (eqb-false k home e) ∙ ap (λ z. get nat_cmp z k) sections)) (used.section_homes k)
+
       one : (k : ℕ) (b : Bool) → eqb k home ≡ b → AllUsed (on_section u k)
       one k true e = subst (λ (j : ℕ). AllUsed (on_section u j)) (sym (eqb-true k home e))
           (then (subst (λ z. AllUsed (on_some (get nat_cmp z home))) (sym sections) (used.sections home)))
@@ -429,9 +450,13 @@ module _ (t u : Table) (c : Node) (is : is_square c ≡ false) (sections : u.sec
         (λ a x o idle. or_left (idle_in f o) (eqb f e && is_asked (node.Part a x) c) idle);
   }
 
-  pub upper_used : (AllUsed (on_shelf t.upper) → AllUsed (on_shelf u.upper)) → TableUsed t → TableUsed u
-  upper_used first used = record {
+  pub upper_used : (AllUsed (on_shelf t.upper) → AllUsed (on_shelf u.upper))
+      → (AreAtHome (home_of c) t.upper → AreAtHome (home_of c) u.upper) → TableUsed t → TableUsed u
+  upper_used first home used = record {
     upper = first used.upper;
     sections = λ k. subst (λ z. AllUsed (on_some (get nat_cmp z k))) (sym sections) (used.sections k);
     stocked = λ k. subst (λ z. IsStocked (get nat_cmp z k)) (sym sections) (used.stocked k);
+    upper_home = subst (λ (h : Option ℕ). AreAtHome h u.upper) (home_upper c is)
+        (home (subst (λ (h : Option ℕ). AreAtHome h t.upper) (sym (home_upper c is)) used.upper_home));
+    section_homes = λ k. subst (λ z. IsAtHome (Some k) (get nat_cmp z k)) (sym sections) (used.section_homes k);
   }

@@ -1,6 +1,6 @@
 -- What a table of locks says: who holds each node, and who is in the way of an access by these modes.
 use Rattle.std.specs.Prelude.{ℕ, ◌≡◌, ◌≢◌, ◌==◌, Bool, true, false, ◌&&◌, ◌||◌, not, List, [], ◌∷◌, length, if◌then◌else◌}
-use Rattle.std.specs.Prelude.{Option, Some, None, IfSome}
+use Rattle.std.specs.Prelude.{Option, Some, None, is_some, IfSome}
 use Rattle.std.specs.List.{list_any}
 use Rattle.std.specs.Ordering.{nat_cmp}
 use Rattle.std.specs.BTreeMap.{BTreeMap, get}
@@ -196,11 +196,36 @@ is_bare s = length s.places.entries == 0
 abbrev pub IsStocked : Option Shelf → Type 0
 IsStocked shelf = IfSome shelf (λ s. is_bare s ≡ false)
 
--- each place of a table is one that somebody holds or has room at, and no section's shelf is bare
+-- the shelf on which a node stands: that of the section with this number, or else the upper one
+abbrev pub home_of : Node → Option ℕ
+home_of node.Everything = None
+home_of (node.Township t) = None
+home_of (node.Part s w) = Some (section_number s)
+
+-- this is the number of a node that stands on a shelf
+abbrev pub IsNumberOn : Option ℕ → ℕ → Type 0
+IsNumberOn home k = (n : Node) × (home_of n ≡ home) × (k ≡ node_number n)
+
+-- a shelf has a place under this number
+abbrev pub has_place : Shelf → ℕ → Bool
+has_place s k = is_some (get nat_cmp s.places k)
+
+-- each place of a shelf is that of a node which stands there
+pub record AreAtHome (home : Option ℕ) (s : Shelf) : Type 0 where
+  pub each : (k : ℕ) → has_place s k ≡ true → IsNumberOn home k
+
+-- each place of a section's shelf is that of a node which stands there, where there is one
+abbrev pub IsAtHome : Option ℕ → Option Shelf → Type 0
+IsAtHome home shelf = IfSome shelf (AreAtHome home)
+
+-- each place of a table is one that somebody holds or has room at, no section's shelf is bare, and each place is that of a node
+-- which stands on its shelf
 pub record TableUsed (t : Table) : Type 0 where
   pub upper : AllUsed (on_shelf t.upper)
   pub sections : (k : ℕ) → AllUsed (on_section t k)
   pub stocked : (k : ℕ) → IsStocked (get nat_cmp t.sections k)
+  pub upper_home : AreAtHome None t.upper
+  pub section_homes : (k : ℕ) → IsAtHome (Some k) (get nat_cmp t.sections k)
 
 -- ---- what is held
 

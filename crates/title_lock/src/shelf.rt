@@ -1,6 +1,6 @@
 //! A shelf of a table of locks: the holders of nodes that stand together.
 
-ghost use Rattle.std.specs.Prelude.{◌≡◌, ℕ, true, false, None, Some, ◌&&◌, ◌==◌, if◌then◌else◌, OnOk, slice_index};
+ghost use Rattle.std.specs.Prelude.{◌≡◌, ℕ, true, false, None, Some, ◌&&◌, ◌==◌, if◌then◌else◌, Option, OnOk, slice_index};
 ghost use Rattle.title_land.specs.declared.node.Node.{Node};
 ghost use Rattle.title_land.specs.Nodes.{same_node};
 ghost use Rattle.title_lock.specs.Modes.{bound};
@@ -12,7 +12,7 @@ ghost use Rattle.title_lock.specs.Holders.{clashes, is_mode};
 ghost use Rattle.title_lock.specs.Tables.{on_shelf, table_mode, table_room, clashes_above, clashes_from};
 ghost use Rattle.title_lock.specs.Tables.{shelf_clashes_for, shelf_clashes_next, shelf_above, shelf_asked_for};
 ghost use Rattle.title_lock.specs.Tables.{KeepsRoom, HasRoom, is_shelf_above, is_shelf_asked, is_idle, is_unused};
-ghost use Rattle.title_lock.specs.Tables.{IdleMore, IdleLess, AllUsed, IsRaised, IsTakenOut, is_bare};
+ghost use Rattle.title_lock.specs.Tables.{IdleMore, IdleLess, AllUsed, IsRaised, IsTakenOut, is_bare, home_of, AreAtHome};
 
 use crate::guards::Access;
 use crate::holders::{Holders, Taken};
@@ -57,6 +57,7 @@ impl Shelf {
         ensures free { (e : ℕ) → (n : Node) → table_mode (on_shelf result) e n ≡ None }
         ensures idle { (e : ℕ) → (n : Node) → is_idle (on_shelf result) e n ≡ false }
         ensures used { AllUsed (on_shelf result) }
+        ensures homes { (h : Option ℕ) → AreAtHome h result }
     {
         Shelf {
             alloc,
@@ -166,6 +167,7 @@ impl Shelf {
         ensures stays { KeepsRoom (on_shelf self.old) (on_shelf self.new) }
         ensures idle { IdleMore (on_shelf self.old) (on_shelf self.new) examiner (λ n. same_node n spot.now.node) }
         ensures used { AllUsed (on_shelf self.old) → AllUsed (on_shelf self.new) }
+        ensures homes { AreAtHome (home_of spot.now.node) self.old → AreAtHome (home_of spot.now.node) self.new }
         ensures kept { is_bare self.old ≡ false → is_bare self.new ≡ false }
     {
         if let Some(place) = self.places.get_mut(&spot.number) {
@@ -184,6 +186,7 @@ impl Shelf {
         ensures stays { KeepsRoom (on_shelf self.old) (on_shelf self.new) }
         ensures idle { IdleMore (on_shelf self.old) (on_shelf self.new) examiner (λ n. is_shelf_above n spot.now.node) }
         ensures used { AllUsed (on_shelf self.old) → AllUsed (on_shelf self.new) }
+        ensures homes { AreAtHome (home_of spot.now.node) self.old → AreAtHome (home_of spot.now.node) self.new }
         ensures kept { is_bare self.old ≡ false → is_bare self.new ≡ false }
     {
         if let Some(parent) = spot.shelf_parent() {
@@ -200,6 +203,7 @@ impl Shelf {
         ensures stays { KeepsRoom (on_shelf self.old) (on_shelf self.new) }
         ensures idle { IdleMore (on_shelf self.old) (on_shelf self.new) examiner (λ n. is_shelf_asked n spot.now.node) }
         ensures used { AllUsed (on_shelf self.old) → AllUsed (on_shelf self.new) }
+        ensures homes { AreAtHome (home_of spot.now.node) self.old → AreAtHome (home_of spot.now.node) self.new }
         ensures kept { is_bare self.old ≡ false → is_bare self.new ≡ false }
     {
         self.make_room_above(examiner, spot)?;
@@ -220,6 +224,7 @@ impl Shelf {
         ensures stays { KeepsRoom (on_shelf self.old) (on_shelf self.new) }
         ensures idle { IdleMore (on_shelf self.old) (on_shelf self.new) examiner (λ n. is_shelf_asked n spot.now.node) }
         ensures used { AllUsed (on_shelf self.old) → AllUsed (on_shelf self.new) }
+        ensures homes { AreAtHome (home_of spot.now.node) self.old → AreAtHome (home_of spot.now.node) self.new }
         ensures kept { is_bare self.old ≡ false → is_bare self.new ≡ false }
     {
         if is_known {
@@ -237,6 +242,7 @@ impl Shelf {
         ensures stays { KeepsRoom (on_shelf self.old) (on_shelf self.new) }
         ensures idle { IdleLess (on_shelf self.old) (on_shelf self.new) examiner (λ n. same_node n spot.now.node) }
         ensures used { AllUsed (on_shelf self.old) → AllUsed (on_shelf self.new) }
+        ensures homes { (h : Option ℕ) → AreAtHome h self.old → AreAtHome h self.new }
     {
         if let Some(place) = self.places.get_mut(&spot.number) {
             place.raise(examiner, mode);
@@ -251,6 +257,7 @@ impl Shelf {
         ensures stays { KeepsRoom (on_shelf self.old) (on_shelf self.new) }
         ensures idle { IdleLess (on_shelf self.old) (on_shelf self.new) examiner (λ n. is_shelf_above n spot.now.node) }
         ensures used { AllUsed (on_shelf self.old) → AllUsed (on_shelf self.new) }
+        ensures homes { (h : Option ℕ) → AreAtHome h self.old → AreAtHome h self.new }
     {
         if let Some(parent) = spot.shelf_parent() {
             self.raise_above(examiner, &parent, mode);
@@ -266,6 +273,7 @@ impl Shelf {
         ensures stays { KeepsRoom (on_shelf self.old) (on_shelf self.new) }
         ensures idle { IdleLess (on_shelf self.old) (on_shelf self.new) examiner (λ n. is_shelf_asked n spot.now.node) }
         ensures used { AllUsed (on_shelf self.old) → AllUsed (on_shelf self.new) }
+        ensures homes { (h : Option ℕ) → AreAtHome h self.old → AreAtHome h self.new }
     {
         self.raise_above(examiner, spot, mode);
         self.raise(examiner, spot, mode);
@@ -279,6 +287,7 @@ impl Shelf {
         ensures stays { KeepsRoom (on_shelf self.old) (on_shelf self.new) }
         ensures idle { IdleLess (on_shelf self.old) (on_shelf self.new) examiner (λ n. is_shelf_asked n spot.now.node) }
         ensures used { AllUsed (on_shelf self.old) → AllUsed (on_shelf self.new) }
+        ensures homes { (h : Option ℕ) → AreAtHome h self.old → AreAtHome h self.new }
     {
         self.raise_above(examiner, spot, above_mode(access));
         self.raise(examiner, spot, own_mode(access));
@@ -294,6 +303,7 @@ impl Shelf {
         ensures stays { KeepsRoom (on_shelf self.old) (on_shelf self.new) }
         ensures idle { IdleLess (on_shelf self.old) (on_shelf self.new) examiner (λ n. is_shelf_asked n spot.now.node) }
         ensures used { AllUsed (on_shelf self.old) → AllUsed (on_shelf self.new) }
+        ensures homes { (h : Option ℕ) → AreAtHome h self.old → AreAtHome h self.new }
     {
         if is_known {
             self.raise(examiner, spot, own_mode(access));
@@ -309,6 +319,7 @@ impl Shelf {
         ensures idle { IdleLess (on_shelf self.old) (on_shelf self.new) examiner (λ n. same_node n spot.now.node) }
         ensures dropped { is_unused (on_shelf self.new) spot.now.node ≡ false }
         ensures used { AllUsed (on_shelf self.old) → AllUsed (on_shelf self.new) }
+        ensures homes { (h : Option ℕ) → AreAtHome h self.old → AreAtHome h self.new }
     {
         let Some(place) = self.places.get_mut(&spot.number) else {
             return;
@@ -324,6 +335,7 @@ impl Shelf {
             ≡ (if is_mode taken && f == examiner && is_shelf_above n spot.now.node then None else table_mode (on_shelf self.old) f n) }
         ensures idle { IdleLess (on_shelf self.old) (on_shelf self.new) examiner (λ n. is_shelf_above n spot.now.node) }
         ensures used { AllUsed (on_shelf self.old) → AllUsed (on_shelf self.new) }
+        ensures homes { (h : Option ℕ) → AreAtHome h self.old → AreAtHome h self.new }
     {
         if let Some(parent) = spot.shelf_parent() {
             self.take_out(examiner, &parent, taken);
@@ -337,6 +349,7 @@ impl Shelf {
             ≡ (if is_mode taken && f == examiner && is_shelf_asked n spot.now.node then None else table_mode (on_shelf self.old) f n) }
         ensures idle { IdleLess (on_shelf self.old) (on_shelf self.new) examiner (λ n. is_shelf_asked n spot.now.node) }
         ensures used { AllUsed (on_shelf self.old) → AllUsed (on_shelf self.new) }
+        ensures homes { (h : Option ℕ) → AreAtHome h self.old → AreAtHome h self.new }
     {
         self.take_out(examiner, spot, taken);
         self.take_out_above(examiner, spot, taken);
@@ -349,6 +362,7 @@ impl Shelf {
             ≡ (if is_mode taken && f == examiner && is_shelf_asked n spot.now.node then None else table_mode (on_shelf self.old) f n) }
         ensures idle { IdleLess (on_shelf self.old) (on_shelf self.new) examiner (λ n. is_shelf_asked n spot.now.node) }
         ensures used { AllUsed (on_shelf self.old) → AllUsed (on_shelf self.new) }
+        ensures homes { (h : Option ℕ) → AreAtHome h self.old → AreAtHome h self.new }
     {
         if is_known {
             self.take_out(examiner, spot, taken);

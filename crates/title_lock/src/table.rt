@@ -1,6 +1,6 @@
 //! A table of locks: the holders of each node.
 
-ghost use Rattle.std.specs.Prelude.{◌≡◌, ◌≢◌, ℕ, true, false, not, Some, None, ◌&&◌, ◌==◌, if◌then◌else◌, OnOk, slice_index};
+ghost use Rattle.std.specs.Prelude.{◌≡◌, ◌≢◌, ℕ, true, false, not, Option, Some, None, ◌&&◌, ◌==◌, if◌then◌else◌, OnOk, slice_index};
 ghost use Rattle.std.specs.BTreeMap.{get};
 ghost use Rattle.std.specs.List.{list_any};
 ghost use Rattle.std.specs.Ordering.{nat_cmp};
@@ -16,7 +16,7 @@ ghost use Rattle.title_lock.specs.Tables.{on_shelf, on_section, placed, table_mo
 ghost use Rattle.title_lock.specs.Tables.{clashes_from, clashes_next, clashes_with, shelf_clashes_next};
 ghost use Rattle.title_lock.specs.Tables.{KeepsRoom, HasRoom, asks_upper, is_asked, is_idle, IdleMore, IdleLess};
 ghost use Rattle.title_lock.specs.Tables.{is_shelf_above, is_shelf_asked, shelf_asked_for, IsRaised, IsTakenOut};
-ghost use Rattle.title_lock.specs.Tables.{AllUsed, IsStocked, TableUsed};
+ghost use Rattle.title_lock.specs.Tables.{AllUsed, IsStocked, TableUsed, home_of, AreAtHome, IsAtHome};
 
 use crate::guards::Access;
 use crate::holders::Taken;
@@ -161,6 +161,7 @@ impl Table {
         ensures stays { KeepsRoom (on_shelf self.old.upper) (on_shelf self.new.upper) }
         ensures idle { IdleMore (on_shelf self.old.upper) (on_shelf self.new.upper) examiner (asks_upper is_known township.now.node) }
         ensures used { AllUsed (on_shelf self.old.upper) → AllUsed (on_shelf self.new.upper) }
+        ensures homes { AreAtHome (home_of township.now.node) self.old.upper → AreAtHome (home_of township.now.node) self.new.upper }
     {
         if is_known {
             return Ok(());
@@ -185,6 +186,8 @@ impl Table {
         ensures idle { IdleMore (on_section self.old home) (on_section self.new home) examiner (λ n. is_shelf_asked n spot.now.node) }
         ensures used { AllUsed (on_section self.old home) → AllUsed (on_section self.new home) }
         ensures stocked { IsStocked (get nat_cmp self.old.sections home) → IsStocked (get nat_cmp self.new.sections home) }
+        ensures homes { IsAtHome (home_of spot.now.node) (get nat_cmp self.old.sections home)
+            → IsAtHome (home_of spot.now.node) (get nat_cmp self.new.sections home) }
     {
         if let Some(shelf) = self.sections.get_mut(&home) {
             return shelf.make_room_next(examiner, spot, is_known);
@@ -243,6 +246,7 @@ impl Table {
         ensures stays { KeepsRoom (on_shelf self.old.upper) (on_shelf self.new.upper) }
         ensures idle { IdleLess (on_shelf self.old.upper) (on_shelf self.new.upper) examiner (asks_upper is_known township.now.node) }
         ensures used { AllUsed (on_shelf self.old.upper) → AllUsed (on_shelf self.new.upper) }
+        ensures homes { (h : Option ℕ) → AreAtHome h self.old.upper → AreAtHome h self.new.upper }
     {
         if is_known {
             return;
@@ -264,6 +268,7 @@ impl Table {
         ensures idle { IdleLess (on_section self.old home) (on_section self.new home) examiner (λ n. is_shelf_asked n spot.now.node) }
         ensures used { AllUsed (on_section self.old home) → AllUsed (on_section self.new home) }
         ensures stocked { IsStocked (get nat_cmp self.new.sections home) }
+        ensures homes { (h : Option ℕ) → IsAtHome h (get nat_cmp self.old.sections home) → IsAtHome h (get nat_cmp self.new.sections home) }
     {
         if let Some(shelf) = self.sections.get_mut(&home) {
             shelf.raise_next(examiner, spot, access, is_known);
@@ -315,6 +320,7 @@ impl Table {
             else table_mode (on_shelf self.old.upper) f n) }
         ensures idle { IdleLess (on_shelf self.old.upper) (on_shelf self.new.upper) examiner (asks_upper is_known township.now.node) }
         ensures used { AllUsed (on_shelf self.old.upper) → AllUsed (on_shelf self.new.upper) }
+        ensures homes { (h : Option ℕ) → AreAtHome h self.old.upper → AreAtHome h self.new.upper }
     {
         if is_known {
             return;
@@ -334,6 +340,7 @@ impl Table {
         ensures idle { IdleLess (on_section self.old home) (on_section self.new home) examiner (λ n. is_shelf_asked n spot.now.node) }
         ensures used { AllUsed (on_section self.old home) → AllUsed (on_section self.new home) }
         ensures stocked { IsStocked (get nat_cmp self.new.sections home) }
+        ensures homes { (h : Option ℕ) → IsAtHome h (get nat_cmp self.old.sections home) → IsAtHome h (get nat_cmp self.new.sections home) }
     {
         let Some(shelf) = self.sections.get_mut(&home) else {
             return;

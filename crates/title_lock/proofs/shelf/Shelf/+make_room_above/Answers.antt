@@ -1,8 +1,10 @@
--- Room at the parent and at all above it; above the whole plant there is no node.
-use Rattle.title_lock.specs.Tables.{on_shelf}
+-- Room at the parent and at all above it, which stand on the same shelf; above the whole plant there is no node.
+use Rattle.std.proofs.Common.{subst, ℕ, Option}
+use Rattle.title_lock.specs.Tables.{on_shelf, AreAtHome}
 use Rattle.title_lock.proofs.TableLaws.{room_above_parent, none_above_whole}
 use Rattle.title_lock.specs.Tables.{is_shelf_above}
 use Rattle.title_lock.proofs.IdleLaws.{more_same, more_above, more_above_at}
+use Rattle.title_lock.proofs.HomeLaws.{home_above}
 use Rattle.title_lock.proofs.shelf.Shelf.+make_room_above.Goals as goal
 
 pub returns-in_ok-make_room-clause-room : goal.returns-in_ok-make_room-clause-room
@@ -30,3 +32,20 @@ returns-in_ok-make_room-clause-idle t c =
 
 pub returns-in_default-clause-idle : goal.returns-in_default-clause-idle
 returns-in_default-clause-idle t c = more_same (on_shelf c.args.self.now) c.args.examiner (λ n. is_shelf_above n c.args.spot.now.node)
+
+pub returns-in_ok-make_room-clause-homes : goal.returns-in_ok-make_room-clause-homes
+returns-in_ok-make_room-clause-homes t c =
+    let same = home_above c.args.spot.now.node c.in-Some.parent.node c.in-Some.ensures.parent in
+    subst (λ (h : Option ℕ). AreAtHome h c.args.self.now → AreAtHome h c.make_room.new.self) same
+    (λ homes. c.make_room.ensures.homes (c.make_room_above.ensures.homes homes))
+
+pub returns-in_err-make_room-clause-homes : goal.returns-in_err-make_room-clause-homes
+returns-in_err-make_room-clause-homes t c =
+    let same = home_above c.args.spot.now.node c.in-Some.parent.node c.in-Some.ensures.parent in
+    subst (λ (h : Option ℕ). AreAtHome h c.args.self.now → AreAtHome h c.make_room.new.self) same
+    (λ homes. c.make_room.ensures.homes (c.make_room_above.ensures.homes homes))
+
+pub returns-in_err-make_room_above-clause-homes : goal.returns-in_err-make_room_above-clause-homes
+returns-in_err-make_room_above-clause-homes t c =
+    let same = home_above c.args.spot.now.node c.in-Some.parent.node c.in-Some.ensures.parent in
+    subst (λ (h : Option ℕ). AreAtHome h c.args.self.now → AreAtHome h c.make_room_above.new.self) same c.make_room_above.ensures.homes

@@ -20,6 +20,7 @@ returns-in-Some t c = record {
   idle = less_at_above c.args.spot.now.node c.in-Some.parent.node c.in-Some.ensures.parent c.take_out.ensures.idle
       c.take_out_above.ensures.idle;
   used = λ used. c.take_out_above.ensures.used (c.take_out.ensures.used used);
+  homes = λ h homes. c.take_out_above.ensures.homes h (c.take_out.ensures.homes h homes);
 }
 
 pub returns-in_default-clause-idle : goal.returns-in_default-clause-idle

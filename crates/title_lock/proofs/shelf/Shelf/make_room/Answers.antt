@@ -1,13 +1,15 @@
 -- A place gets room, and a new place holds nobody and has room for one.
-use Rattle.std.proofs.Common.{◌≡◌, ◌∙◌, ap, sym, subst, ℕ, List, Some, None, cond, eqb, ◌||◌, true≢false}
+use Rattle.std.proofs.Common.{◌≡◌, ◌∙◌, ap, sym, subst, refl, ℕ, List, Some, None, cond, eqb, ◌||◌, true≢false}
+use Rattle.std.specs.Prelude.{is_some}
 use Rattle.std.specs.Ordering.{nat_cmp}
 use Rattle.std.specs.BTreeMap.{get, is_at}
 use Rattle.std.specs.Map.{lookup}
 use Rattle.title_land.specs.NodeNumbers.{node_number}
 use Rattle.title_lock.specs.Holders.{Modes}
-use Rattle.title_lock.specs.Tables.{place_at, mode_in, room_in, idle_in, unused_in}
+use Rattle.title_lock.specs.Tables.{place_at, mode_in, room_in, idle_in, unused_in, home_of}
 use Rattle.title_lock.proofs.TableLaws.{Places, node_writes, node_finds, is_found, same_everywhere, room_stays, idle_more, used_after}
 use Rattle.title_lock.proofs.IdleLaws.{idles_more, idles_first, rooms_used, room_used}
+use Rattle.title_lock.proofs.HomeLaws.{home_after}
 use Rattle.title_lock.proofs.shelf.Shelf.make_room.Goals as goal
 
 pub returns-in-Some-clause-modes : goal.returns-in-Some-clause-modes
@@ -135,4 +137,37 @@ returns-in_err-insert-clause-used c used = record {
       ap (λ (es : List (ℕ × Modes)). unused_in (lookup (is_at (nat_cmp (node_number n))) es))
       (c.in_err-insert.ensures.err ∙ ap (λ (m : Places). m.entries) c.get_mut.follows.holds-at-none)
       ∙ used.each n;
+}
+
+pub returns-in-Some-clause-homes : goal.returns-in-Some-clause-homes
+returns-in-Some-clause-homes c homes =
+    let w = c.make_room.new.self in
+    let k = c.args.spot.now.node in
+    record {
+      each = home_after (home_of k) c.args.self.now.places (c.get_mut.follows.lender w) c.args.spot.now.number (Some w)
+          ((c.get_mut.follows.holds w).3 (is_found _ _ c.in-Some.ensures.value)).0 (λ some. (k, refl, c.args.spot.now.numbered)) homes.each;
+    }
+
+pub returns-clause-homes : goal.returns-clause-homes
+returns-clause-homes c homes =
+    let v = c.make_room-2.new.self in
+    let k = c.args.spot.now.node in
+    record {
+      each = home_after (home_of k) c.args.self.now.places c.insert.new.self c.args.spot.now.number (Some v)
+          (subst (λ (m : Places). (q : ℕ) → get nat_cmp c.insert.new.self q
+          ≡ cond (is_at (nat_cmp c.args.spot.now.number) q) (Some v) (get nat_cmp m q))
+          c.get_mut.follows.holds-at-none c.in_ok-insert.ensures.updates.0)
+          (λ some. (k, refl, c.args.spot.now.numbered)) homes.each;
+    }
+
+pub returns-in_err-make_room-clause-homes : goal.returns-in_err-make_room-clause-homes
+returns-in_err-make_room-clause-homes c homes = record {
+  each = λ q has. homes.each q (sym (ap (λ (m : Places). is_some (get nat_cmp m q)) c.get_mut.follows.holds-at-none) ∙ has);
+}
+
+pub returns-in_err-insert-clause-homes : goal.returns-in_err-insert-clause-homes
+returns-in_err-insert-clause-homes c homes = record {
+  each = λ q has. homes.each q
+      (sym (ap (λ (es : List (ℕ × Modes)). is_some (lookup (is_at (nat_cmp q)) es))
+      (c.in_err-insert.ensures.err ∙ ap (λ (m : Places). m.entries) c.get_mut.follows.holds-at-none)) ∙ has);
 }

@@ -5,6 +5,7 @@ use Rattle.title_lock.specs.Modes.{bound}
 use Rattle.title_lock.specs.Tables.{mode_in, room_in, idle_in, unused_in}
 use Rattle.title_lock.proofs.TableLaws.{node_writes, node_finds, is_found, raised, room_stays, idle_less, used_after}
 use Rattle.title_lock.proofs.IdleLaws.{idles_raised, rooms_used}
+use Rattle.title_lock.proofs.HomeLaws.{home_after, found_some}
 use Rattle.title_lock.proofs.shelf.Shelf.raise.Goals as goal
 
 pub returns-in-Some-clause-modes : goal.returns-in-Some-clause-modes
@@ -61,4 +62,14 @@ returns-in-Some-clause-used c used =
       each = used_after c.args.self.now.places (c.get_mut.follows.lender w) c.args.spot.now.node (Some w)
           writes
           (λ here. rooms_used c.in-Some.place.now w (λ f room. c.raise.ensures.rooms f ∙ room) (ap unused_in had ∙ here)) used.each;
+    }
+
+pub returns-in-Some-clause-homes : goal.returns-in-Some-clause-homes
+returns-in-Some-clause-homes c h homes =
+    let w = c.raise.new.self in
+    let k = c.args.spot.now.number in
+    let found = c.in-Some.ensures.value in
+    record {
+      each = home_after h c.args.self.now.places (c.get_mut.follows.lender w) k (Some w)
+          ((c.get_mut.follows.holds w).3 (is_found _ _ found)).0 (λ some. homes.each k (found_some _ _ found)) homes.each;
     }

@@ -1,5 +1,8 @@
 -- One place loses an examiner, and is dropped where nobody is left.
-use Rattle.std.proofs.Common.{◌≡◌, ◌∙◌, refl, ap, sym, subst, true, false, Some, None, cond, ◌&&◌, not, eqb, Option}
+use Rattle.std.proofs.Common.{◌≡◌, ◌∙◌, refl, ap, sym, subst, true, false, true≢false, Some, None, cond, ◌&&◌, not, eqb, Option}
+use Rattle.std.specs.Prelude.{is_some}
+use Rattle.std.specs.Ordering.{nat_cmp}
+use Rattle.std.specs.BTreeMap.{get}
 use Rattle.title_land.specs.Nodes.{same_node}
 use Rattle.title_lock.specs.Holders.{Modes, is_mode, is_free}
 use Rattle.title_lock.specs.Tables.{place_at, mode_in, idle_in, unused_in}
@@ -7,6 +10,7 @@ use Rattle.title_lock.proofs.TableLaws.{Places, Writes, node_writes, node_finds,
 use Rattle.title_lock.proofs.TableLaws.{none_released, free_none}
 use Rattle.title_lock.proofs.TableLaws.{idle_less, none_idle, used_after, rewritten}
 use Rattle.title_lock.proofs.IdleLaws.{idles_taken, free_idles}
+use Rattle.title_lock.proofs.HomeLaws.{home_after, found_some}
 use Rattle.title_lock.proofs.shelf.Shelf.take_out.Goals as goal
 
 pub returns-in_default : goal.returns-in_default
@@ -25,6 +29,7 @@ returns-in_default c =
       };
       dropped = ap (λ (z : Places). unused_in (place_at z k)) now ∙ ap unused_in none;
       used = λ used. record { each = λ n. ap (λ (z : Places). unused_in (place_at z n)) now ∙ used.each n };
+      homes = λ h homes. record { each = λ q has. homes.each q (sym (ap (λ (z : Places). is_some (get nat_cmp z q)) now) ∙ has) };
     }
 
 pub returns-then-take_out : goal.returns-then-take_out
@@ -60,6 +65,12 @@ returns-then-take_out c =
       };
       dropped = ap unused_in (sym gone);
       used = λ used. record { each = used_after m c.remove.new.self k None both (λ here. refl) used.each };
+      homes = λ h homes. record {
+        each = home_after h mid c.remove.new.self c.args.spot.now.number None c.remove.ensures.updates.0
+            (λ some. absurd (true≢false (sym some)))
+            (home_after h m mid c.args.spot.now.number (Some w) changes.0
+            (λ some. homes.each c.args.spot.now.number (found_some _ _ found)) homes.each);
+      };
     }
 
 pub returns-else-take_out : goal.returns-else-take_out
@@ -87,4 +98,8 @@ returns-else-take_out c =
       };
       dropped = ap unused_in (sym left) ∙ kept;
       used = λ used. record { each = used_after m mid k (Some w) writes (λ here. kept) used.each };
+      homes = λ h homes. record {
+        each = home_after h m mid c.args.spot.now.number (Some w) changes.0
+            (λ some. homes.each c.args.spot.now.number (found_some _ _ found)) homes.each;
+      };
     }

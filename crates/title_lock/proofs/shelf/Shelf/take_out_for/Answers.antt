@@ -20,4 +20,5 @@ returns c = record {
       (table_mode (on_shelf c.args.self.now) f n);
   idle = less_at_asked c.args.spot.now.node c.take_out.ensures.idle c.take_out_above.ensures.idle;
   used = λ used. c.take_out_above.ensures.used (c.take_out.ensures.used used);
+  homes = λ h homes. c.take_out_above.ensures.homes h (c.take_out.ensures.homes h homes);
 }

@@ -20,7 +20,7 @@ returns-in_default-clause-stays c =
 pub returns-in_default-clause-used : goal.returns-in_default-clause-used
 returns-in_default-clause-used c =
     upper_used c.args.self.now (with_upper c.args.self.now c.make_room_next.new.self) c.args.spot.now.node c.in_default.ensures.section
-    refl c.make_room_next.ensures.used
+    refl c.make_room_next.ensures.used c.make_room_next.ensures.homes
 
 pub returns-in_err-make_room_upper-clause-modes : goal.returns-in_err-make_room_upper-clause-modes
 returns-in_err-make_room_upper-clause-modes c =
@@ -53,7 +53,7 @@ returns-in_err-make_room_upper-clause-used c =
     all_used c.args.self.now c.make_room_upper.new.self c.make_room_upper.new.self c.args.spot.now.node c.in-Some.home
     c.in-Some.township.node
     i.0 i.1 i.2 i.3 i.4 c.make_room_upper.ensures.sections refl (λ j other. refl)
-    c.make_room_upper.ensures.used (λ used. used) (λ stocked. stocked)
+    c.make_room_upper.ensures.used (λ used. used) (λ stocked. stocked) c.make_room_upper.ensures.homes (λ homes. homes)
 
 pub make_room_on-requires : goal.make_room_on-requires
 make_room_on-requires c =
@@ -100,3 +100,4 @@ returns-clause-used c =
     all_used c.args.self.now c.make_room_upper.new.self c.make_room_on.new.self c.args.spot.now.node c.in-Some.home c.in-Some.township.node
     i.0 i.1 i.2 i.3 i.4 c.make_room_upper.ensures.sections c.make_room_on.ensures.upper c.make_room_on.ensures.others
     c.make_room_upper.ensures.used c.make_room_on.ensures.used c.make_room_on.ensures.stocked
+    c.make_room_upper.ensures.homes c.make_room_on.ensures.homes

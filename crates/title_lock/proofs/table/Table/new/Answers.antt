@@ -18,4 +18,6 @@ returns-clause-used c = record {
   upper = c.new.ensures.used;
   sections = λ k. record { each = λ n. rw c.new-2.ensures.empty refl };
   stocked = λ k. rw c.new-2.ensures.empty tt;
+  upper_home = c.new.ensures.homes _;
+  section_homes = λ k. rw c.new-2.ensures.empty tt;
 }

@@ -22,6 +22,7 @@ returns-in_default-clause-idle c =
 pub returns-in_default-clause-used : goal.returns-in_default-clause-used
 returns-in_default-clause-used c = upper_used c.args.self.now
     (with_upper c.args.self.now c.raise_next.new.self) c.args.spot.now.node c.in_default.ensures.section refl c.raise_next.ensures.used
+    (c.raise_next.ensures.homes _)
 
 pub raise_on-requires-clause-room : goal.raise_on-requires-clause-room
 raise_on-requires-clause-room c =
@@ -62,3 +63,4 @@ returns-clause-used c =
     all_used c.args.self.now c.raise_upper.new.self c.raise_on.new.self c.args.spot.now.node c.in-Some.home c.in-Some.township.node
     i.0 i.1 i.2 i.3 i.4 c.raise_upper.ensures.sections c.raise_on.ensures.upper c.raise_on.ensures.others
     c.raise_upper.ensures.used c.raise_on.ensures.used (λ old. c.raise_on.ensures.stocked)
+    (c.raise_upper.ensures.homes _) (c.raise_on.ensures.homes _)

@@ -18,7 +18,7 @@ returns-in_default-clause-idle c =
 pub returns-in_default-clause-used : goal.returns-in_default-clause-used
 returns-in_default-clause-used c =
     upper_used c.args.self.now (with_upper c.args.self.now c.take_out_next.new.self) c.args.spot.now.node c.in_default.ensures.section
-    refl c.take_out_next.ensures.used
+    refl c.take_out_next.ensures.used (c.take_out_next.ensures.homes _)
 
 pub take_out_on-requires : goal.take_out_on-requires
 take_out_on-requires c =
@@ -48,3 +48,4 @@ returns-clause-used c =
     all_used c.args.self.now c.take_out_upper.new.self c.take_out_on.new.self c.args.spot.now.node c.in-Some.home c.in-Some.township.node
     i.0 i.1 i.2 i.3 i.4 c.take_out_upper.ensures.sections c.take_out_on.ensures.upper c.take_out_on.ensures.others
     c.take_out_upper.ensures.used c.take_out_on.ensures.used (λ old. c.take_out_on.ensures.stocked)
+    (c.take_out_upper.ensures.homes _) (c.take_out_on.ensures.homes _)

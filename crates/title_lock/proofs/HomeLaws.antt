@@ -1,0 +1,56 @@
+-- Shelves each of whose places is that of a node which stands there.
+use Rattle.std.proofs.Common.{◌≡◌, ◌≢◌, ◌∙◌, ℕ, Bool, true, false, cond, [], ◌∷◌, Option, Some, None, eqb, refl, sym, ap, subst}
+use Rattle.std.proofs.Common.{true≢false, arith}
+use Rattle.std.proofs.lemmas.Bool.{eqb-true, eqb-false}
+use Rattle.std.proofs.lemmas.Bool.Decides.{nat_tests}
+use Rattle.std.specs.Prelude.{is_some}
+use Rattle.std.specs.Ordering.{nat_cmp}
+use Rattle.std.specs.BTreeMap.{get, is_at}
+use Rattle.title_land.specs.declared.node.Node.{Node}
+use Rattle.title_land.specs.declared.node.Node.TheVariants as node
+use Rattle.title_lock.specs.Holders.{Modes}
+use Rattle.title_lock.specs.Tables.{is_square, shelf_parent, home_of, IsNumberOn}
+use Rattle.title_lock.proofs.TableLaws.{Places}
+
+miss : (k j : ℕ) → j ≢ k → is_at (nat_cmp k) j ≡ false
+miss k j other = grind (arith, nat_tests)
+
+hit_is : (k q : ℕ) → is_at (nat_cmp k) q ≡ true → k ≡ q
+hit_is k q h = go (eqb q k) refl
+  where
+    go : (b : Bool) → eqb q k ≡ b → k ≡ q
+    go true e = sym (eqb-true q k e)
+    go false e = absurd (true≢false (sym h ∙ miss k q (eqb-false q k e)))
+
+-- what is read after a write, by whether it was written there
+read_after : (m n : Places) (k q : ℕ) (w : Option Modes) → get nat_cmp n q ≡ cond (is_at (nat_cmp k) q) w (get nat_cmp m q)
+    → (b : Bool) → is_at (nat_cmp k) q ≡ b → is_some (get nat_cmp n q) ≡ true → is_some (cond b w (get nat_cmp m q)) ≡ true
+read_after m n k q w is b e has =
+    sym (ap (λ (o : Option Modes). is_some o) (is ∙ ap (λ (z : Bool). cond z w (get nat_cmp m q)) e)) ∙ has
+
+-- after a write under a number, each place is that of a node which stands there, where that number is one's or the place is gone
+pub home_after : (h : Option ℕ) (m n : Places) (k : ℕ) (w : Option Modes)
+    → ((q : ℕ) → get nat_cmp n q ≡ cond (is_at (nat_cmp k) q) w (get nat_cmp m q)) → (is_some w ≡ true → IsNumberOn h k)
+    → ((q : ℕ) → is_some (get nat_cmp m q) ≡ true → IsNumberOn h q) → (q : ℕ) → is_some (get nat_cmp n q) ≡ true → IsNumberOn h q
+home_after h m n k w writes here old q has = go (is_at (nat_cmp k) q) refl
+  where
+    go : (b : Bool) → is_at (nat_cmp k) q ≡ b → IsNumberOn h q
+    go true e = subst (λ (z : ℕ). IsNumberOn h z) (hit_is k q e) (here (read_after m n k q w (writes q) true e has))
+    go false e = old q (read_after m n k q w (writes q) false e has)
+
+-- a place that was found
+pub found_some : (v : Modes) (o : Option Modes) → Some v ≡ o → is_some o ≡ true
+found_some v o h = sym (ap (λ (z : Option Modes). is_some z) h)
+
+-- the node above stands on the same shelf
+pub home_above : (p c : Node) → Some c ≡ shelf_parent p → home_of c ≡ home_of p
+home_above node.Everything c h = absurd cc
+home_above (node.Township t) c h = let same : c ≡ node.Everything = cc in ap home_of same
+home_above (node.Part s []) c h = absurd cc
+home_above (node.Part s (q ∷ w)) c h = let same : c ≡ node.Part s w = cc in ap home_of same
+
+-- a node that isn't a square stands on the upper shelf
+pub home_upper : (n : Node) → is_square n ≡ false → home_of n ≡ None
+home_upper node.Everything h = refl
+home_upper (node.Township t) h = refl
+home_upper (node.Part s w) h = absurd (true≢false h)
