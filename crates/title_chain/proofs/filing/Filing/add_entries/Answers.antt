@@ -23,6 +23,7 @@ returns c =
           (λ p. c.in_ok-found.ensures.found p
           ∙ ap (λ (cover : List Node). list_any (is_near f p) cover) c.cover.ensures.cover
           ∙ near_meets f (record_posts (reverse records)) c.requires.filed land sized p))
-          (subst (λ (places : List Place). c.add_entries_at.new.entries.items ≡ c.args.entries.now.items ++ entries_at (entry_at records) places)
+          (subst (λ (places : List Place).
+          c.add_entries_at.new.entries.items ≡ c.args.entries.now.items ++ entries_at (entry_at records) places)
           c.deref.ensures.value c.in_ok-add_entries_at.ensures.added);
     }
