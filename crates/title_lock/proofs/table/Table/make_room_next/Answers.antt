@@ -64,6 +64,14 @@ make_room_on-requires c =
           i.0 i.1 i.2 i.3 i.4 c.make_room_upper.ensures.sections c.args.examiner (c.requires.known known);
     }
 
+pub returns-clause-used : goal.returns-clause-used
+returns-clause-used c =
+    let i = c.in-Some.ensures.section in
+    all_used c.args.self.now c.make_room_upper.new.self c.make_room_on.new.self c.args.spot.now.node c.in-Some.home c.in-Some.township.node
+    i.0 i.1 i.2 i.3 i.4 c.make_room_upper.ensures.sections c.make_room_on.ensures.upper c.make_room_on.ensures.others
+    c.make_room_upper.ensures.used c.make_room_on.ensures.used c.make_room_on.ensures.stocked
+    c.make_room_upper.ensures.homes c.make_room_on.ensures.homes
+
 pub returns-clause-modes : goal.returns-clause-modes
 returns-clause-modes c =
     let i = c.in-Some.ensures.section in
@@ -93,11 +101,3 @@ returns-clause-idle c =
     all_more c.args.self.now c.make_room_upper.new.self c.make_room_on.new.self c.args.spot.now.node c.in-Some.home c.in-Some.township.node
     i.0 i.1 i.2 i.3 i.4 c.make_room_upper.ensures.sections c.make_room_on.ensures.upper c.make_room_on.ensures.others
     c.args.examiner c.args.is_known c.make_room_upper.ensures.idle c.make_room_on.ensures.idle
-
-pub returns-clause-used : goal.returns-clause-used
-returns-clause-used c =
-    let i = c.in-Some.ensures.section in
-    all_used c.args.self.now c.make_room_upper.new.self c.make_room_on.new.self c.args.spot.now.node c.in-Some.home c.in-Some.township.node
-    i.0 i.1 i.2 i.3 i.4 c.make_room_upper.ensures.sections c.make_room_on.ensures.upper c.make_room_on.ensures.others
-    c.make_room_upper.ensures.used c.make_room_on.ensures.used c.make_room_on.ensures.stocked
-    c.make_room_upper.ensures.homes c.make_room_on.ensures.homes
