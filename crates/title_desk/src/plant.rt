@@ -1,13 +1,13 @@
 //! The plant of a desk: a store, with the sheets that were made of it last.
 
-ghost use Rattle.std.specs.Prelude.{◌≡◌, List, true, map, IfOk, IfSome, OnOk, OnErr};
+ghost use Rattle.std.specs.Prelude.{◌≡◌, List, true, filter, IfOk, IfSome};
 ghost use Rattle.std.specs.List.{All};
 ghost use Rattle.title_land.specs.Depth.{depth};
 ghost use Rattle.title_land.specs.Lands.{is_in_plant};
 ghost use Rattle.title_land.specs.declared.place.Township.{Township};
 ghost use Rattle.title_store.specs.Plants.{Plant as Content};
 ghost use Rattle.title_store.specs.Sheets.{sheet_of};
-ghost use Rattle.title_desk.specs.Shown.{IsShown, left_by};
+ghost use Rattle.title_desk.specs.Shown.{IsShown, IsSheetOf, is_left};
 
 use std::alloc::{AllocError, Global};
 use std::marker::Model;
@@ -19,20 +19,20 @@ use title_store::{Put, SheetRow, Store};
 // How many sheets are kept at most.
 const MOST_SHOWN: usize = 16;
 
-/// The sheet of a tract; no rows where something was posted there since.
+/// A sheet that is kept, or that may be: its tract and its rows.
 #[derive(Drop)]
 pub(crate) struct Shown {
     tract: Tract,
-    rows: Option<SheetRows>,
+    rows: SheetRows,
 }
 
-/// A store, with the sheets that were made of it last and that still are its sheets. A contract sees the store.
+/// A store, with sheets that were made of it and that still are its sheets. A contract sees the store.
 #[derive(Drop)]
 pub struct Plant<S: Store + Drop> {
     store: S,
     shown: Vec<Shown>,
-    // The place of the sheet that goes when another is to be kept.
-    oldest: usize,
+    // The place whose sheet goes where there are as many as may be and another is to be kept: the places take turns.
+    turn: usize,
 }
 
 impl<S: Store + Drop> Model for Plant<S> {
@@ -47,17 +47,26 @@ impl<S: Store + Drop> Model for Plant<S> {
 }
 
 impl Shown {
-    // Its rows, where it has any and they are of this tract.
+    // Its rows, where they are of this tract.
     fn rows_for(&self, tract: &Tract) -> Option<SheetRows>
         ensures rows { (townships : List Township) (content : Content) → IsShown townships content self.now →
             IfSome result (λ rows. rows ≡ sheet_of depth townships content tract.now) }
     {
-        let is_its = self.tract.meets(tract) && same_tract(&self.tract, tract);
-        match &self.rows {
-            Some(rows) if is_its => rows.copy().ok(),
-            _ => None,
+        if self.tract.meets(tract) && same_tract(&self.tract, tract) {
+            return self.rows.copy().ok();
         }
+        None
     }
+}
+
+// A sheet to keep, which shares what the tract and the rows have; none where they can't be shared once more.
+fn shown_of(alloc: Global, tract: &Tract, rows: &SheetRows) -> Option<Shown>
+    ensures shown { IfSome result (IsSheetOf tract.now rows.now) }
+{
+    let (Ok(tract), Ok(rows)) = (tract.copy(alloc), rows.copy()) else {
+        return None;
+    };
+    Some(Shown { tract, rows })
 }
 
 // The rows that are kept of a tract.
@@ -73,23 +82,11 @@ fn rows_of(shown: &[Shown], tract: &Tract) -> Option<SheetRows>
     None
 }
 
-// Lets the rows of tracts go that share a cell with this one.
-fn let_each_go(shown: &mut [Shown], tract: &Tract)
-    ensures left { shown.new ≡ map (left_by tract.now) shown.old }
-{
-    if let Some((first, rest)) = shown.split_first_mut() {
-        if first.tract.meets(tract) {
-            first.rows = None;
-        }
-        let_each_go(rest, tract);
-    }
-}
-
-// The same of a list that may grow.
+// Lets the sheets of tracts go that share a cell with this one.
 fn let_go(shown: &mut Vec<Shown>, tract: &Tract)
-    ensures left { shown.new.items ≡ map (left_by tract.now) shown.old.items }
+    ensures left { shown.new.items ≡ filter (is_left tract.now) shown.old.items }
 {
-    let_each_go(shown, tract);
+    shown.retain(|one| !one.tract.meets(tract));
 }
 
 impl<S: Store + Drop> Plant<S> {
@@ -100,38 +97,42 @@ impl<S: Store + Drop> Plant<S> {
         &self.store
     }
 
-    // Keeps a sheet, in the place of the oldest where there are enough; where memory is refused it isn't kept.
-    fn keep(&mut self, alloc: Global, tract: &Tract, rows: &SheetRows)
-        requires sheet { rows.now ≡ sheet_of depth (S.declared self.old) (S.content self.old) tract.now }
+    /// The rows of a tract's sheet: those that are kept of it, or else made anew. These come with the sheet to keep once the
+    /// answer stands.
+    pub(crate) fn rows(
+        &self,
+        alloc: Global,
+        tract: &Tract,
+    ) -> Result<(SheetRows, Option<Shown>), AllocError>
+        requires within { is_in_plant (S.declared self.now) tract.now ≡ true }
+        ensures rows { IfOk result (λ made. made.0 ≡ sheet_of depth (S.declared self.now) (S.content self.now) tract.now) }
+        ensures fresh { IfOk result (λ made. IfSome made.1 (IsSheetOf tract.now made.0)) }
+    {
+        if let Some(rows) = rows_of(&self.shown, tract) {
+            return Ok((rows, None));
+        }
+        let rows = SheetRows::new(self.store.sheet(alloc, tract)?)?;
+        let fresh = shown_of(alloc, tract, &rows);
+        Ok((rows, fresh))
+    }
+
+    /// Keeps a sheet that was made anew, where there is one; where memory is refused it isn't kept.
+    pub(crate) fn keep(&mut self, fresh: Option<Shown>)
+        requires sheet { IfSome fresh (IsShown (S.declared self.old) (S.content self.old)) }
         ensures same { self.new ≡ self.old }
     {
-        let (Ok(tract), Ok(rows)) = (tract.copy(alloc), rows.copy()) else {
+        let Some(shown) = fresh else {
             return;
         };
-        let rows = Some(rows);
-        let shown = Shown { tract, rows };
         if self.shown.len() < MOST_SHOWN {
             let _ = self.shown.push(shown);
             return;
         }
-        self.oldest = (self.oldest % MOST_SHOWN + 1) % MOST_SHOWN;
-        if let Some(place) = self.shown.get_mut(self.oldest) {
-            *place = shown;
+        let place = self.turn % MOST_SHOWN;
+        self.turn = place + 1;
+        if let Some(old) = self.shown.get_mut(place) {
+            *old = shown;
         }
-    }
-
-    /// The rows of a tract's sheet: those that are kept of it, or else made anew, and kept.
-    pub(crate) fn rows(&mut self, alloc: Global, tract: &Tract) -> Result<SheetRows, AllocError>
-        requires within { is_in_plant (S.declared self.old) tract.now ≡ true }
-        ensures same { self.new ≡ self.old }
-        ensures rows { IfOk result (λ rows. rows ≡ sheet_of depth (S.declared self.old) (S.content self.old) tract.now) }
-    {
-        if let Some(rows) = rows_of(&self.shown, tract) {
-            return Ok(rows);
-        }
-        let rows = SheetRows::new(self.store.sheet(alloc, tract)?)?;
-        self.keep(alloc, tract, &rows);
-        Ok(rows)
     }
 }
 
@@ -150,7 +151,7 @@ impl<S: Store + Drop> Store for Plant<S> {
         Ok(Plant {
             store: S::open(alloc, townships)?,
             shown: Vec::new(alloc),
-            oldest: 0,
+            turn: 0,
         })
     }
 

@@ -280,10 +280,14 @@ impl<S: Store + Drop, G: Guards + Drop> Desk<S, G> {
         requires prepared { self.old.prepared ≡ Some (entry_of examiner (Sheet tract)) }
         ensures told { Told self.old (Step examiner (Sheet tract)) result self.new }
     {
-        let Ok(rows) = self.store.rows(self.alloc, &tract) else {
+        let Ok((rows, fresh)) = self.store.rows(self.alloc, &tract) else {
             return Reply::Memory;
         };
-        self.add_answer(examiner, Ask::Sheet(tract), Answer::Rows(rows))
+        let reply = self.add_answer(examiner, Ask::Sheet(tract), Answer::Rows(rows));
+        if let Reply::Answered(_) = &reply {
+            self.store.keep(fresh);
+        }
+        reply
     }
 
     fn chain(&mut self, examiner: u32, tract: Tract) -> Reply

@@ -136,10 +136,14 @@ impl<S: Store + Drop, G: Guards + Drop> Desk<S, G> {
         ensures told { ToldSingle self.old examiner (Sheet tract) result self.new }
     {
         idle_have_no_steps();
-        let Ok(rows) = self.store.rows(self.alloc, &tract) else {
+        let Ok((rows, fresh)) = self.store.rows(self.alloc, &tract) else {
             return Reply::Memory;
         };
-        self.answer_alone(examiner, Ask::Sheet(tract), Answer::Rows(rows))
+        let reply = self.answer_alone(examiner, Ask::Sheet(tract), Answer::Rows(rows));
+        if let Reply::Answered(_) = &reply {
+            self.store.keep(fresh);
+        }
+        reply
     }
 
     fn chain_alone(&mut self, examiner: u32, tract: Tract) -> Reply
