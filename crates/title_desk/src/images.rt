@@ -1,6 +1,7 @@
 //! The before-images of a transaction that ends.
 
 ghost use Rattle.std.specs.Prelude.{◌≡◌, ℕ, None, [], map, reverse};
+ghost use Rattle.title_store.specs.Loans.{IsFirst, IsOut, without};
 ghost use Rattle.title_store.specs.Plants.{SameContent};
 ghost use Rattle.title_desk.specs.Slots.{found};
 ghost use Rattle.title_desk.specs.Images.{IsRestored, without_all, Restorable, Forgettable};
@@ -45,4 +46,17 @@ pub(crate) fn tidy_up<S: Store, I>(store: &mut S, slots: &BTreeMap<u32, Slot<I>>
     if slots.is_empty() {
         store.tidy();
     }
+}
+
+/// Lets the only image go that is out, and tidies the store up: what its post did stands.
+pub(crate) fn settle<S: Store>(store: &mut S, image: S::Image)
+    requires out { IsOut (S.number image) (S.out store.old) }
+    requires first { IsFirst (S.number image) (S.out store.old) }
+    requires only { without (S.number image) (S.out store.old) ≡ [] }
+    ensures content { SameContent (S.content store.old) (S.content store.new) }
+    ensures declared { S.declared store.new ≡ S.declared store.old }
+    ensures out { S.out store.new ≡ [] }
+{
+    store.forget(image);
+    store.tidy();
 }

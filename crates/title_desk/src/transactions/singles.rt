@@ -11,6 +11,7 @@ ghost use Rattle.title_desk.specs.Images.{is_posted};
 ghost use Rattle.title_desk.specs.Singles.{Bars, IsIdle, Stands, ToldSingle};
 
 use crate::asks::{cause_in, tract_in};
+use crate::images::settle;
 use crate::refusal::Refusal;
 use crate::transactions::Desk;
 use std::alloc::{AllocError, Global};
@@ -188,8 +189,7 @@ impl<S: Store + Drop, G: Guards + Drop> Desk<S, G> {
             }
             Put::Done(image) => image,
         };
-        self.store.forget(image);
-        self.store.tidy();
+        settle(&mut self.store, image);
         self.records.push_reserved(Record { examiner, steps });
         let place = self.records.len() as u64;
         add_calls(

@@ -38,20 +38,20 @@ answer_alone-requires-clause-alone g c =
     rw c.reserve.ensures.items (post_due c.args.examiner c.args.posting _ c.self.invariant.0
     (nobody_in_the_way (reverse c.self.inside.trace.items) c.args.examiner (Post c.args.posting) none) h.0)
 
-pub forget-requires-clause-out : goal.forget-requires-clause-out
-forget-requires-clause-out g c = let h = rw c.in-Done.is at c.in-Ok-put.ensures.put in image_out _ _ _ _ _ _ h.1
+pub settle-requires-clause-out : goal.settle-requires-clause-out
+settle-requires-clause-out g c = let h = rw c.in-Done.is at c.in-Ok-put.ensures.put in image_out _ _ _ _ _ _ h.1
 
-pub forget-requires-clause-first : goal.forget-requires-clause-first
-forget-requires-clause-first g c =
+pub settle-requires-clause-first : goal.settle-requires-clause-first
+settle-requires-clause-first g c =
     let h = rw c.in-Done.is at c.in-Ok-put.ensures.put in
     let idle = subst (λ (b : Books). IsIdle b.trace) (sym c.self.view_is) c.requires.idle in
     image_first _ _ _ _ _ _ (nothing_out idle c.self.invariant.0) h.1
 
-pub tidy-requires : goal.tidy-requires
-tidy-requires g c =
+pub settle-requires-clause-only : goal.settle-requires-clause-only
+settle-requires-clause-only g c =
     let h = rw c.in-Done.is at c.in-Ok-put.ensures.put in
     let idle = subst (λ (b : Books). IsIdle b.trace) (sym c.self.view_is) c.requires.idle in
-    record { none = c.forget.ensures.out ∙ taken_out _ _ _ _ _ _ h.1 ∙ nothing_out idle c.self.invariant.0 }
+    taken_out _ _ _ _ _ _ h.1 ∙ nothing_out idle c.self.invariant.0
 
 pub invariant_of-self-2 : goal.invariant_of-self-2
 invariant_of-self-2 g c =
@@ -69,8 +69,8 @@ invariant_of-self-2 g c =
     place_is k _ c.len-place.result more c.len-place.ensures.len in (
       rw (c.add_calls.ensures.calls, c.reserve.ensures.items, place)
           (keeps_deed law idle k c.args.examiner c.args.posting stands (post_due c.args.examiner c.args.posting None k free h.0)
-          (c.tidy.ensures.declared ∙ c.forget.ensures.declared ∙ c.put.ensures.declared) c.tidy.ensures.out more
-          (λ d. c.tidy.ensures.content d ∙ c.forget.ensures.content d ∙ c.in-Ok-put.ensures.content d)),
+          (c.settle.ensures.declared ∙ c.put.ensures.declared) c.settle.ensures.out more
+          (λ d. c.settle.ensures.content d ∙ c.in-Ok-put.ensures.content d)),
       grind (arith, common_steps, c.self.invariant.1, c.add_calls.ensures.len, c.add_calls.ensures.capacity),
     )
 

@@ -5,7 +5,6 @@ use Rattle.title_store.specs.Sheets.{sheet_of}
 use Rattle.title_chain.specs.declared.ask.Ask.TheVariants.{Sheet}
 use Rattle.title_chain.specs.declared.ask.Answer.TheVariants.{Rows}
 use Rattle.title_chain.specs.Alone.{alone}
-use Rattle.title_trace.specs.declared.call.Call.{Call}
 use Rattle.title_trace.specs.declared.call.Request.TheVariants.{Step}
 use Rattle.title_trace.specs.declared.call.Reply.TheVariants.{Answered}
 use Rattle.title_trace.specs.Trace.{committed, open_steps}
