@@ -36,7 +36,8 @@ not_true : (b : Bool) → not b ≡ true → b ≡ false
 not_true true h = cc
 not_true false h = refl
 
-left_all : (ts : List Township) (land : Land) (p q : Plant) (xs : List Shown) → ((c : Cell) → is_cell_of depth ts land c ≡ false → q c ≡ p c)
+left_all : (ts : List Township) (land : Land) (p q : Plant) (xs : List Shown)
+    → ((c : Cell) → is_cell_of depth ts land c ≡ false → q c ≡ p c)
     → All (IsShown ts p) xs → All (IsShown ts q) (filter (is_left land) xs)
 left_all ts land p q xs outside all k d below =
     let x = get_or (filter (is_left land) xs) k d in

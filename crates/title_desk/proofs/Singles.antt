@@ -286,12 +286,14 @@ unfolding effect
 sheet_leaves ts done e t given = refl
 
 -- so what was given is still the sheet of what the store holds
-pub single_stands : {I : Type 0} {number : I → ℕ} {setting setting' : Setting} {content content' : Plant} {declared declared' : List Township}
-    {out out' : List Loan} {locks locks' : List Entry} {trace trace' : List Call} {records records' : List Record}
-    {slots slots' : ℕ → Option (Slot I)} → IdleHaveNoSteps depth → IsIdle trace → (e : ℕ) (t : Land) (given : Answer)
+pub single_stands : {I : Type 0} {number : I → ℕ} {setting setting' : Setting} {content content' : Plant}
+    {declared declared' : List Township} {out out' : List Loan} {locks locks' : List Entry} {trace trace' : List Call}
+    {records records' : List Record} {slots slots' : ℕ → Option (Slot I)}
+    → IdleHaveNoSteps depth → IsIdle trace → (e : ℕ) (t : Land) (given : Answer)
     → Keeps number setting content declared out locks trace records slots
     → Keeps number setting' content' declared' out' locks' trace' records' slots' → setting' ≡ setting
-    → trace' ≡ after_single trace e (ask.Sheet t) (reply.Answered given) → sheet_of depth declared content t ≡ sheet_of depth declared' content' t
+    → trace' ≡ after_single trace e (ask.Sheet t) (reply.Answered given)
+    → sheet_of depth declared content t ≡ sheet_of depth declared' content' t
 single_stands {setting = setting} {setting' = setting'} {content = content} {content' = content'} {declared = declared} {trace = trace}
     {trace' = trace'} law idle e t given k k' same told =
     let idle' : IsIdle trace' = subst IsIdle (sym told) (shut_single trace e (ask.Sheet t) given idle) in

@@ -134,9 +134,9 @@ way_again trace e t given way f other =
     ≡ false) f e (λ same. absurd (other same)) (λ _. way f other)
 
 -- the sheet that an examiner was given is still that of what the store holds
-pub sheet_stands : {I : Type 0} {number : I → ℕ} {setting setting' : Setting} {content content' : Plant} {declared declared' : List Township}
-    {out out' : List Loan} {locks locks' : List Entry} {trace trace' : List Call} {records records' : List Record}
-    {slots slots' : ℕ → Option (Slot I)} → (e : ℕ) (t : Land) (given : Answer)
+pub sheet_stands : {I : Type 0} {number : I → ℕ} {setting setting' : Setting} {content content' : Plant}
+    {declared declared' : List Township} {out out' : List Loan} {locks locks' : List Entry} {trace trace' : List Call}
+    {records records' : List Record} {slots slots' : ℕ → Option (Slot I)} → (e : ℕ) (t : Land) (given : Answer)
     → Keeps number setting content declared out locks trace records slots
     → Keeps number setting' content' declared' out' locks' trace' records' slots' → InTheWay trace e (ask.Sheet t) None
     → setting' ≡ setting → trace' ≡ sheet_told e t given trace → sheet_of depth declared content t ≡ sheet_of depth declared' content' t

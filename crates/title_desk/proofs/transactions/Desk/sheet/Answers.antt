@@ -31,8 +31,8 @@ keep-requires g c =
     let told = rw c.in-Answered.is at c.add_answer-reply.ensures.told in
     let same = ap (λ (b : Books). b.setting) c.self-2.view_is ∙ told.0 ∙ sym (ap (λ (b : Books). b.setting) c.self.view_is) in
     let longer = ap (λ (b : Books). b.trace) c.self-2.view_is ∙ told.1
-    ∙ sym (ap (λ (b : Books). record { request = Step c.args.examiner (Sheet c.args.tract); reply = Answered c.in-Answered.field-0 } ∷ b.trace)
-    c.self.view_is) in
+    ∙ sym (ap (λ (b : Books). record { request = Step c.args.examiner (Sheet c.args.tract); reply = Answered c.in-Answered.field-0 }
+    ∷ b.trace) c.self.view_is) in
     record {
       sheet = shown_made (g.S.Store.declared c.self-2.inside.store) (g.S.Store.content c.self-2.inside.store) c.args.tract c.in-Ok.rows
           c.in-Ok.fresh c.in-Ok.ensures.fresh (c.in-Ok.ensures.rows
