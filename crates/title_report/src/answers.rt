@@ -99,8 +99,8 @@ fn put_row_from<S: Sink>(
     put_tail(page, sink, units)
 }
 
-// Writes a row of a sheet, from the beginning that it shares with the row before where these are one. Where the page has no
-// room for that, field by field, so that it goes to the sink where it would if all rows were written so.
+// Writes a row of a sheet, from the beginning that it shares with the row before where these are one. Where none is made of its
+// node, or the page has no room for it, field by field, so that the page goes to the sink where it would if all rows were written so.
 fn put_sheet_line<S: Sink>(
     page: &mut Page,
     sink: &mut S,
@@ -239,7 +239,8 @@ fn put_entries_by_fields<S: Sink>(
     Ok(())
 }
 
-// Writes a row of a chain, from the text with which all its rows begin; field by field where the page has no room for it.
+// Writes a row of a chain, of which the text up to the first name is made from that with which all its rows begin; field by field
+// where no line holds that text, or the page has no room for it.
 fn put_entry_line<S: Sink>(
     page: &mut Page,
     sink: &mut S,

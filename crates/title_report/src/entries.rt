@@ -42,7 +42,7 @@ pub(crate) fn estates_end(estates: Estates) -> &'static [u8]
     }
 }
 
-// Makes the text with which all rows of a chain begin.
+// Makes the text with which all rows of a chain begin. `None` where the line has no room for it.
 pub(crate) fn make_start(line: &mut Line, examiner: u32) -> Option<()>
     ensures made { OnSome result (line.new ≡ entry_start examiner) }
 {
@@ -51,7 +51,7 @@ pub(crate) fn make_start(line: &mut Line, examiner: u32) -> Option<()>
     line.add(b",entry,")
 }
 
-// Makes the text of a chain's row up to the first name.
+// Makes the text of a chain's row up to the first name. `None` where the line has no room for it.
 pub(crate) fn make_entry(
     line: &mut Line,
     start: &[u8],

@@ -144,7 +144,7 @@ impl Front {
         }
     }
 
-    // Makes the head that of this section.
+    // Makes the head that of this section. `None` where a line has no room for it.
     fn head_for(&mut self, examiner: u32, section: Section) -> Option<()>
         requires front { IsFront examiner self.old }
         ensures front { IsFront examiner self.new }
@@ -159,7 +159,7 @@ impl Front {
         Some(())
     }
 
-    // Makes the beginning that of a row, where its node is a square of a section. `None` where it isn't made.
+    // Makes the beginning that of a row. `None` where its node isn't a square of a section, or a line has no room for it.
     pub(crate) fn text_for(&mut self, examiner: u32, line: &SheetRow) -> Option<()>
         requires front { IsFront examiner self.old }
         ensures front { IsFront examiner self.new }

@@ -80,7 +80,7 @@ fn ask_at_once<S: Store + Drop, G: Guards + Drop>(
     }
 }
 
-// Asks for a transaction of this one step; the step's reply.
+// Asks for a transaction of this one step: by one call where nobody is open, else by its three requests; the step's reply.
 fn ask_alone<S: Store + Drop, G: Guards + Drop>(
     desk: &mut Desk<S, G>,
     examiner: u32,
