@@ -23,7 +23,8 @@ loop-name-preserved c =
     ∙ sym (get_or-map string_bytes c.args.names.now c.loop-name.name-index c.name-item.result name c.loop-name-test.true)
     ∙ ap (λ (i : ℕ). get_or names i name) (sym c.loop-name.invariant.1) in
     let pushed : c.try_push.new.self.items ≡ judged ++ needs_quotes row_writer name ∷ [] = c.in-Ok.ensures.ok
-    ∙ ap (λ (b : Bool). judged ++ b ∷ []) (c.is_quoted.ensures.quoted ∙ ap (λ (z : List ℕ). needs_quotes row_writer z) c.as_bytes.ensures.value) in (
+    ∙ ap (λ (b : Bool). judged ++ b ∷ [])
+    (c.is_quoted.ensures.quoted ∙ ap (λ (z : List ℕ). needs_quotes row_writer z) c.as_bytes.ensures.value) in (
       subst (λ (bs : List Bool). AreJudged names bs) (sym pushed)
           (one_more_judged names judged name c.loop-name.invariant.0 few is),
       c.in-Ok.ensures.len ∙ ap (λ (n : ℕ). n + 1) c.loop-name.invariant.1,
