@@ -48,15 +48,15 @@ pub(crate) fn tidy_up<S: Store, I>(store: &mut S, slots: &BTreeMap<u32, Slot<I>>
     }
 }
 
-/// Lets the only image go that is out, and tidies the store up: what its post did stands.
-pub(crate) fn settle<S: Store>(store: &mut S, image: S::Image)
-    requires out { IsOut (S.number image) (S.out store.old) }
-    requires first { IsFirst (S.number image) (S.out store.old) }
-    requires only { without (S.number image) (S.out store.old) ≡ [] }
+/// Lets the last image go that is out, and tidies the store up: what its post did stands.
+pub(crate) fn settle<S: Store>(store: &mut S, last: S::Image)
+    requires out { IsOut (S.number last) (S.out store.old) }
+    requires first { IsFirst (S.number last) (S.out store.old) }
+    requires only { without (S.number last) (S.out store.old) ≡ [] }
     ensures content { SameContent (S.content store.old) (S.content store.new) }
     ensures declared { S.declared store.new ≡ S.declared store.old }
     ensures out { S.out store.new ≡ [] }
 {
-    store.forget(image);
+    store.forget(last);
     store.tidy();
 }
