@@ -1,19 +1,22 @@
 //! What the tests ask of an office: deeds of the surface of sections of T3N R2W.
 
-ghost use Rattle.std.specs.Prelude.{◌≡◌, ◌≤◌, IfOk};
+ghost use Rattle.std.specs.Prelude.{◌≡◌, ◌≤◌};
 ghost use Rattle.title_office.specs.Offices.{most_seats, opening_seats};
 ghost use Rattle.title_views.specs.Views.{most_viewers};
 
-use std::alloc::{AllocError, Global};
+use std::alloc::Global;
 use std::process::Abort;
 use std::sync::Wait;
-use std::test::Fail;
 use title_chain::Posting;
 use title_desk::may_open;
-use title_instrument::{Deed, Estates, Instrument, Quantum};
+use title_instrument::{Deed, Estate, Estates, Instrument, Quantum};
 use title_land::{Land, Node, Section, Township, Tract, Within};
-use title_office::{Done, Ledger, Office, Opened, Outcome, Room, Seat, Slip};
+use title_office::{
+    Done, Ledger, Office, Opened, Outcome, Room, Seat, Settled, Slip, Unseen, Unsettled, Viewer,
+};
 use title_share::Share;
+use title_store::SheetRow;
+use title_trace::Reply;
 
 /// All of an estate in a cell, in units.
 pub const WHOLE: u64 = 4_294_967_296;
@@ -24,9 +27,10 @@ pub fn township(rt: &impl Abort) -> Township {
 }
 
 /// The section of T3N R2W with this number.
-pub fn section(rt: &impl Abort, alloc: Global, number: u8) -> Result<Tract, AllocError> {
+pub fn section(rt: &impl Abort, alloc: Global, number: u8) -> Tract {
     let section = Section::new(township(rt), number).expect(rt, "the number is in range");
-    Tract::new(alloc, Land::of(Node::Part(section, Within::section())))
+    let land = Land::of(Node::Part(section, Within::section()));
+    Tract::new(alloc, land).expect(rt, "there is memory")
 }
 
 /// A deed of so many units of the surface from party 0 to party 1.
@@ -60,17 +64,62 @@ pub fn open<B: Room, R: Wait + Abort>(
     townships: &[Township],
     examiners: u32,
     viewers: u32,
-) -> Result<Opened<B>, Fail>
+) -> Opened<B>
     requires book { ledger ≡ B.book }
     requires setting { B.setting ≡ record { parties = 2; townships = townships.now } }
     requires seats { examiners ≤ most_seats }
     requires viewers { viewers ≤ most_viewers }
-    ensures seats { IfOk result (λ opened. opened.seats.items ≡ opening_seats 7 examiners) }
+    ensures seats { result.seats.items ≡ opening_seats 7 examiners }
 {
     assert!(rt; may_open(2, townships));
-    match Office::<B>::open(rt, alloc, ledger, 7, 2, townships, examiners, viewers) {
-        Ok(opened) => Ok(opened),
-        Err(_) => Err(Fail::new("the office opens")),
+    let opened = Office::<B>::open(rt, alloc, ledger, 7, 2, townships, examiners, viewers);
+    opened.expect(rt, "the office opens")
+}
+
+/// An office of one examiner, and the seat.
+pub fn one_seat<B: Room>(rt: &impl Abort, opened: Opened<B>) -> (Office<B>, Seat<B>) {
+    let Opened {
+        office,
+        mut seats,
+        viewers: _,
+    } = opened;
+    let seat = seats.pop().expect(rt, "one seat");
+    (office, seat)
+}
+
+/// An office of two examiners, and their seats, in order.
+pub fn two_seats<B: Room>(rt: &impl Abort, opened: Opened<B>) -> (Office<B>, Seat<B>, Seat<B>) {
+    let Opened {
+        office,
+        mut seats,
+        viewers: _,
+    } = opened;
+    let second = seats.pop().expect(rt, "two seats");
+    let first = seats.pop().expect(rt, "two seats");
+    (office, first, second)
+}
+
+/// An office of one examiner and two viewers, the seat and the viewers.
+pub fn two_viewers<B: Room>(
+    rt: &impl Abort,
+    opened: Opened<B>,
+) -> (Office<B>, Seat<B>, Viewer<B>, Viewer<B>) {
+    let Opened {
+        office,
+        mut seats,
+        mut viewers,
+    } = opened;
+    let seat = seats.pop().expect(rt, "one seat");
+    let first = viewers.pop().expect(rt, "two viewers");
+    let second = viewers.pop().expect(rt, "two viewers");
+    (office, seat, first, second)
+}
+
+/// A seat's transaction.
+pub fn begin<B: Room, R: Wait + Abort>(rt: &R, office: &Office<B>, seat: Seat<B>) -> Slip<B> {
+    match office.begin(rt, seat) {
+        Ok(slip) => slip,
+        Err(_) => panic!(rt; "the seat begins"),
     }
 }
 
@@ -82,26 +131,20 @@ pub fn begin_with_deed<B: Room, R: Wait + Abort>(
     seat: Seat<B>,
     number: u8,
     units: u64,
-) -> Result<Slip<B>, Fail> {
-    let posting = deed(rt, section(rt, alloc, number)?, units);
-    let Ok(mut slip) = office.begin(rt, seat) else {
-        return Err(Fail::new("the seat begins"));
-    };
-    match office.post(rt, &mut slip, posting) {
-        Ok(()) => Ok(slip),
-        Err(_) => Err(Fail::new("the post is answered")),
-    }
+) -> Slip<B> {
+    let posting = deed(rt, section(rt, alloc, number), units);
+    let mut slip = begin(rt, office, seat);
+    office
+        .post(rt, &mut slip, posting)
+        .expect(rt, "the post is answered");
+    slip
 }
 
 /// A slip's commit.
-pub fn commit<B: Room, R: Wait + Abort>(
-    rt: &R,
-    office: &Office<B>,
-    slip: Slip<B>,
-) -> Result<Done<B>, Fail> {
+pub fn commit<B: Room, R: Wait + Abort>(rt: &R, office: &Office<B>, slip: Slip<B>) -> Done<B> {
     match office.commit(rt, slip) {
-        Ok(done) => Ok(done),
-        Err(_) => Err(Fail::new("the slip commits")),
+        Ok(done) => done,
+        Err(_) => panic!(rt; "the slip commits"),
     }
 }
 
@@ -114,4 +157,87 @@ pub fn outcome_of<B: Room>(done: Done<B>) -> (Outcome, Seat<B>) {
         ..
     } = done;
     (Outcome { place, rec }, seat)
+}
+
+// A deed of all of this section's surface is committed: its outcome, and the seat.
+fn sell_section<B: Room, R: Wait + Abort>(
+    rt: &R,
+    alloc: Global,
+    office: &Office<B>,
+    seat: Seat<B>,
+    number: u8,
+) -> (Outcome, Seat<B>) {
+    let slip = begin_with_deed(rt, alloc, office, seat, number, WHOLE);
+    outcome_of(commit(rt, office, slip))
+}
+
+/// The commits of two examiners, each of a deed of a section of its own, and the second one's seat.
+pub fn commit_two<B: Room, R: Wait + Abort>(
+    rt: &R,
+    alloc: Global,
+    office: &Office<B>,
+    first: Seat<B>,
+    second: Seat<B>,
+) -> ((Outcome, Outcome), Seat<B>) {
+    let (one, _) = sell_section(rt, alloc, office, first, 5);
+    let (two, seat) = sell_section(rt, alloc, office, second, 6);
+    ((one, two), seat)
+}
+
+// Sweeps an examiner: whether it had a transaction open.
+fn sweep<B: Room, R: Wait + Abort>(rt: &R, office: &Office<B>, examiner: u32) -> bool {
+    match office.sweep(rt, examiner) {
+        Reply::Aborted => true,
+        Reply::NotOpen => false,
+        _ => panic!(rt; "a sweep aborts, or finds nothing open"),
+    }
+}
+
+/// Sweeps these examiners, one after another: whether each has a transaction open is told.
+pub fn assert_swept<B: Room, R: Wait + Abort>(rt: &R, office: &Office<B>, wanted: &[(u32, bool)]) {
+    for (examiner, is_open) in wanted {
+        let was_open = sweep(rt, office, *examiner);
+        assert!(rt; was_open == *is_open, "of examiner {examiner}");
+    }
+}
+
+/// The office, once it is settled with these outcomes.
+pub fn settle<B: Room, R: Wait + Abort>(
+    rt: &R,
+    office: Office<B>,
+    outcomes: Vec<Outcome>,
+) -> Settled<B> {
+    match office.settle(outcomes) {
+        Ok(settled) => settled,
+        Err(_) => panic!(rt; "the office is settled"),
+    }
+}
+
+/// An office that can't be settled with these outcomes: it comes back, with the outcomes and the reason.
+pub fn not_settled<B: Room, R: Wait + Abort>(
+    rt: &R,
+    office: Office<B>,
+    outcomes: Vec<Outcome>,
+) -> (Office<B>, Vec<Outcome>, Unsettled) {
+    match office.settle(outcomes) {
+        Ok(_) => panic!(rt; "the office isn't settled"),
+        Err(back) => back,
+    }
+}
+
+/// These rows are the sheet of a section whose surface party 1 has.
+pub fn assert_sold(rt: &impl Abort, rows: &[SheetRow]) {
+    assert!(rt; rows.len() == 3);
+    let sold = [(Estate::S, 1), (Estate::O, 0), (Estate::M, 0)];
+    for index in 0..3 {
+        let row = rows[index];
+        let (estate, party) = sold[index];
+        assert!(rt; row.estate == estate && row.party == party && row.units == WHOLE);
+    }
+}
+
+/// A viewer of a closed office shows nothing.
+pub fn assert_closed<B: Room>(rt: &impl Abort, tract: &Tract, viewer: &mut Viewer<B>) {
+    assert!(rt; matches!(viewer.sheet(tract), Err(Unseen::Closed)));
+    assert!(rt; matches!(viewer.record(1), Err(Unseen::Closed)));
 }

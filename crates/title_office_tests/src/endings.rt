@@ -2,62 +2,42 @@
 
 ghost use Rattle.std.specs.Prelude.{◌≡◌};
 
-use crate::days::{WHOLE, begin_with_deed, open, section, township};
+use crate::days::{
+    WHOLE, assert_closed, begin, begin_with_deed, one_seat, open, section, settle, township,
+};
 use crate::slips::abort;
 use std::alloc::Global;
 use std::marker::Brand;
 use std::process::Abort;
 use std::sync::Wait;
-use std::test::Fail;
-use title_land::{Township, Tract};
-use title_office::{Ledger, Office, Opened, Room, Seat, Unseen, Viewer};
+use title_land::Township;
+use title_office::{Ledger, Office, Opened, Room, Seat, Viewer};
 
 // A seat posts and aborts, begins again and aborts.
-fn abort_twice<B: Room, R: Wait + Abort>(
-    rt: &R,
-    alloc: Global,
-    office: &Office<B>,
-    seat: Seat<B>,
-) -> Result<(), Fail> {
-    let slip = begin_with_deed(rt, alloc, office, seat, 5, WHOLE)?;
-    let seat = abort(rt, office, slip, true)?;
-    let Ok(slip) = office.begin(rt, seat) else {
-        return Err(Fail::new("the seat begins again"));
-    };
-    abort(rt, office, slip, true)?;
-    Ok(())
+fn abort_twice<B: Room, R: Wait + Abort>(rt: &R, alloc: Global, office: &Office<B>, seat: Seat<B>) {
+    let slip = begin_with_deed(rt, alloc, office, seat, 5, WHOLE);
+    let seat = abort(rt, office, slip, true);
+    let slip = begin(rt, office, seat);
+    abort(rt, office, slip, true);
 }
 
 // The office is settled with no outcome, and has no record.
-fn assert_nothing<B: Room, R: Wait + Abort>(
+fn assert_nothing<B: Room, R: Wait + Abort>(rt: &R, alloc: Global, office: Office<B>) {
+    let settled = settle(rt, office, Vec::new(alloc));
+    assert!(rt; settled.close(rt).as_slice().is_empty());
+}
+
+// A viewer shows a sheet, until the office is closed.
+fn close_shown<B: Room, R: Wait + Abort>(
     rt: &R,
     alloc: Global,
     office: Office<B>,
-) -> Result<(), Fail> {
-    match office.settle(Vec::new(alloc)) {
-        Ok(settled) => {
-            assert!(rt; settled.close(rt).as_slice().is_empty());
-            Ok(())
-        }
-        Err((office, _, _)) => {
-            office.close(rt);
-            Err(Fail::new("the office is settled"))
-        }
-    }
-}
-
-// A viewer shows that nothing was sold, until the office is closed.
-fn assert_closed<B: Room, R: Wait + Abort>(
-    rt: &R,
-    office: Office<B>,
-    tract: &Tract,
     mut viewer: Viewer<B>,
 ) {
-    let before = viewer.sheet(tract).is_ok();
+    let tract = section(rt, alloc, 5);
+    assert!(rt; viewer.sheet(&tract).is_ok());
     office.close(rt);
-    assert!(rt; before);
-    assert!(rt; matches!(viewer.sheet(tract), Err(Unseen::Closed)));
-    assert!(rt; matches!(viewer.record(1), Err(Unseen::Closed)));
+    assert_closed(rt, &tract, &mut viewer);
 }
 
 // An office of one examiner, which is settled.
@@ -66,27 +46,14 @@ fn settled_day<B: Room, R: Wait + Abort>(
     alloc: Global,
     ledger: Ledger,
     townships: &[Township],
-) -> Result<(), Fail>
+)
     requires book { ledger ≡ B.book }
     requires setting { B.setting ≡ record { parties = 2; townships = townships.now } }
 {
-    let opened = open::<B, R>(rt, alloc, ledger, townships, 1, 0)?;
-    let Opened {
-        office,
-        mut seats,
-        viewers: _,
-    } = opened;
-    let aborted = match seats.pop() {
-        Some(seat) => abort_twice(rt, alloc, &office, seat),
-        None => Err(Fail::new("one seat")),
-    };
-    match aborted {
-        Ok(()) => assert_nothing(rt, alloc, office),
-        Err(fail) => {
-            office.close(rt);
-            Err(fail)
-        }
-    }
+    let opened = open::<B, R>(rt, alloc, ledger, townships, 1, 0);
+    let (office, seat) = one_seat(rt, opened);
+    abort_twice(rt, alloc, &office, seat);
+    assert_nothing(rt, alloc, office);
 }
 
 // An office of one viewer, which is closed and was never settled.
@@ -95,33 +62,28 @@ fn closed_day<B: Room, R: Wait + Abort>(
     alloc: Global,
     ledger: Ledger,
     townships: &[Township],
-) -> Result<(), Fail>
+)
     requires book { ledger ≡ B.book }
     requires setting { B.setting ≡ record { parties = 2; townships = townships.now } }
 {
-    let tract = section(rt, alloc, 5)?;
-    let opened = open::<B, R>(rt, alloc, ledger, townships, 1, 1)?;
+    let opened = open::<B, R>(rt, alloc, ledger, townships, 1, 1);
     let Opened {
         office,
         seats: _,
         mut viewers,
     } = opened;
-    let Some(viewer) = viewers.pop() else {
-        office.close(rt);
-        return Err(Fail::new("a viewer"));
-    };
-    assert_closed(rt, office, &tract, viewer);
-    Ok(())
+    let viewer = viewers.pop().expect(rt, "a viewer");
+    close_shown(rt, alloc, office, viewer);
 }
 
 #[test]
-fn nothing_is_settled(rt: HostRuntime) -> Result<(), Fail> {
+fn nothing_is_settled(rt: HostRuntime) {
     let townships = [township(&rt)];
-    settled_day::<Brand, _>(&rt, rt.alloc(), Ledger::new(), &townships)
+    settled_day::<Brand, _>(&rt, rt.alloc(), Ledger::new(), &townships);
 }
 
 #[test]
-fn a_closed_office_shows_nothing(rt: HostRuntime) -> Result<(), Fail> {
+fn a_closed_office_shows_nothing(rt: HostRuntime) {
     let townships = [township(&rt)];
-    closed_day::<Brand, _>(&rt, rt.alloc(), Ledger::new(), &townships)
+    closed_day::<Brand, _>(&rt, rt.alloc(), Ledger::new(), &townships);
 }

@@ -1,15 +1,14 @@
 //! Workers run beside each other: each waits, between its begin and its next call, until the other has begun too.
 
-ghost use Rattle.std.specs.Prelude.{◌≡◌, IfOk};
+ghost use Rattle.std.specs.Prelude.{◌≡◌};
 ghost use Rattle.title_office.specs.Offices.{opening_seats};
 
 use crate::days::{WHOLE, deed, open, section, township};
-use std::alloc::{AllocError, Global};
+use std::alloc::Global;
 use std::marker::Brand;
 use std::process::Abort;
 use std::sync::Wait;
 use std::sync::atomic::{AtomicBool, Ordering};
-use std::test::Fail;
 use std::thread::{Threads, yield_now};
 use title_chain::Ask;
 use title_land::Township;
@@ -57,29 +56,31 @@ impl Gate for TwoFlags {
 }
 
 // A script of one transaction with one post in this section.
-fn script(rt: &impl Abort, alloc: Global, examiner: u32, number: u8) -> Result<Script, AllocError>
-    ensures examiner { IfOk result (λ s. s.examiner ≡ examiner) }
+fn script(rt: &impl Abort, alloc: Global, examiner: u32, number: u8) -> Script
+    ensures examiner { result.examiner ≡ examiner }
 {
+    let posting = deed(rt, section(rt, alloc, number), WHOLE);
     let mut asks = Vec::new(alloc);
-    asks.push(Ask::Post(deed(rt, section(rt, alloc, number)?, WHOLE)))?;
+    asks.push(Ask::Post(posting)).expect(rt, "there is memory");
     let mut transactions = Vec::new(alloc);
-    transactions.push(Transaction {
-        asks,
-        commits: true,
-    })?;
-    Ok(Script {
+    transactions
+        .push(Transaction {
+            asks,
+            commits: true,
+        })
+        .expect(rt, "there is memory");
+    Script {
         examiner,
         transactions,
-    })
+    }
 }
 
 // Each of the workers has committed its transaction.
 fn assert_done<B: Room>(rt: &impl Abort, worked: &[Worked<B>]) {
-    assert_eq!(rt; worked.len(), 2);
+    assert!(rt; worked.len() == 2);
     for each in worked {
         assert!(rt; each.fault.is_none() && each.seat.is_some());
-        assert_eq!(rt; each.outcomes.len(), 1);
-        assert_eq!(rt; (each.aborted, each.given_up), (0, 0));
+        assert!(rt; each.outcomes.len() == 1 && each.aborted == 0 && each.given_up == 0);
     }
 }
 
@@ -89,12 +90,16 @@ fn work_beside<B: Room + Send + Sync, R: Threads + Wait + Abort + Sync>(
     alloc: Global,
     office: &Office<B>,
     seats: Vec<Seat<B>>,
-) -> Result<(), Fail>
+)
     requires seats { seats.items ≡ opening_seats 7 2 }
 {
     let mut scripts = Vec::new(alloc);
-    scripts.push(script(rt, alloc, 1, 5)?)?;
-    scripts.push(script(rt, alloc, 2, 6)?)?;
+    scripts
+        .push(script(rt, alloc, 1, 5))
+        .expect(rt, "there is memory");
+    scripts
+        .push(script(rt, alloc, 2, 6))
+        .expect(rt, "there is memory");
     let gate = TwoFlags {
         first: AtomicBool::new(false),
         second: AtomicBool::new(false),
@@ -102,10 +107,9 @@ fn work_beside<B: Room + Send + Sync, R: Threads + Wait + Abort + Sync>(
     };
     match work(rt, alloc, office, seats, scripts, 1, &gate) {
         Ok(worked) => assert_done(rt, &worked),
-        Err(_) => return Err(Fail::new("there is memory")),
+        Err(_) => panic!(rt; "there is memory"),
     }
     assert!(rt; !gate.in_vain.load(Ordering::SeqCst));
-    Ok(())
 }
 
 fn turns_day<B: Room + Send + Sync, R: Threads + Wait + Abort + Sync>(
@@ -113,23 +117,22 @@ fn turns_day<B: Room + Send + Sync, R: Threads + Wait + Abort + Sync>(
     alloc: Global,
     ledger: Ledger,
     townships: &[Township],
-) -> Result<(), Fail>
+)
     requires book { ledger ≡ B.book }
     requires setting { B.setting ≡ record { parties = 2; townships = townships.now } }
 {
-    let opened = open::<B, R>(rt, alloc, ledger, townships, 2, 0)?;
+    let opened = open::<B, R>(rt, alloc, ledger, townships, 2, 0);
     let Opened {
         office,
         seats,
         viewers: _,
     } = opened;
-    let answer = work_beside(rt, alloc, &office, seats);
+    work_beside(rt, alloc, &office, seats);
     office.close(rt);
-    answer
 }
 
 #[test]
-fn workers_overlap(rt: HostRuntime) -> Result<(), Fail> {
+fn workers_overlap(rt: HostRuntime) {
     let townships = [township(&rt)];
-    turns_day::<Brand, _>(&rt, rt.alloc(), Ledger::new(), &townships)
+    turns_day::<Brand, _>(&rt, rt.alloc(), Ledger::new(), &townships);
 }

@@ -2,16 +2,16 @@
 
 ghost use Rattle.std.specs.Prelude.{◌≡◌};
 
-use crate::days::{WHOLE, begin_with_deed, commit, open, section, township};
+use crate::days::{WHOLE, begin_with_deed, commit, open, section, township, two_viewers};
 use std::alloc::Global;
 use std::marker::Brand;
 use std::process::Abort;
 use std::sync::Wait;
-use std::test::Fail;
 use std::thread::{Threads, join};
 use title_instrument::Estate;
 use title_land::{Township, Tract};
-use title_office::{Done, Ledger, Office, Opened, Receipt, Room, Seat, Seen, Viewer};
+use title_office::{Done, Ledger, Office, Receipt, Room, Seat, Seen, Viewer};
+use title_store::SheetRow;
 
 /// How many deeds are committed.
 const DEEDS: u64 = 100;
@@ -28,10 +28,10 @@ fn sell<B: Room, R: Wait + Abort>(
     alloc: Global,
     office: &Office<B>,
     seat: Seat<B>,
-) -> Result<(Receipt<B>, Seat<B>), Fail> {
-    let slip = begin_with_deed(rt, alloc, office, seat, 5, UNITS)?;
-    let Done { receipt, seat, .. } = commit(rt, office, slip)?;
-    Ok((receipt, seat))
+) -> (Receipt<B>, Seat<B>) {
+    let slip = begin_with_deed(rt, alloc, office, seat, 5, UNITS);
+    let Done { receipt, seat, .. } = commit(rt, office, slip);
+    (receipt, seat)
 }
 
 // All deeds are committed: the receipt of the last.
@@ -40,14 +40,14 @@ fn sell_all<B: Room, R: Wait + Abort>(
     alloc: Global,
     office: &Office<B>,
     seat: Seat<B>,
-) -> Result<Receipt<B>, Fail> {
-    let (mut receipt, mut seat) = sell(rt, alloc, office, seat)?;
+) -> Receipt<B> {
+    let (mut receipt, mut seat) = sell(rt, alloc, office, seat);
     for _ in 1..DEEDS {
-        let (later, back) = sell(rt, alloc, office, seat)?;
+        let (later, back) = sell(rt, alloc, office, seat);
         receipt = later;
         seat = back;
     }
-    Ok(receipt)
+    receipt
 }
 
 // What party 0 has left of the surface after so many deeds.
@@ -78,23 +78,28 @@ fn watch<B: Room>(tract: &Tract, mut viewer: Viewer<B>) -> bool {
     true
 }
 
+// These rows are the sheet of a section after all deeds: what each of the two parties has of the surface, and two rows more.
+fn assert_all_sold(rt: &impl Abort, rows: &[SheetRow]) {
+    assert!(rt; rows.len() == 4);
+    assert!(rt; rows[0].party == 0 && rows[0].units == 3_875_536_896);
+    assert!(rt; rows[1].party == 1 && rows[1].units == 419_430_400);
+}
+
 // Once it has learnt of the last deed a viewer shows all of them.
 fn assert_all_shown<B: Room>(
     rt: &impl Abort,
     tract: &Tract,
     mut viewer: Viewer<B>,
     receipt: &Receipt<B>,
-) -> Result<(), Fail> {
-    assert!(rt; viewer.learn(receipt).is_ok());
-    let Ok(seen) = viewer.sheet(tract) else {
-        return Err(Fail::new("the viewer shows the last sheet"));
-    };
-    assert_eq!(rt; seen.front, 100);
-    let rows = seen.rows.as_slice();
-    assert_eq!(rt; rows.len(), 4);
-    assert_eq!(rt; (rows[0].party, rows[0].units), (0, 3_875_536_896));
-    assert_eq!(rt; (rows[1].party, rows[1].units), (1, 419_430_400));
-    Ok(())
+) {
+    viewer
+        .learn(receipt)
+        .expect(rt, "the viewer learns of the last deed");
+    let seen = viewer
+        .sheet(tract)
+        .expect(rt, "the viewer shows the last sheet");
+    assert!(rt; seen.front == 100);
+    assert_all_sold(rt, seen.rows.as_slice());
 }
 
 // One thread sells, the other watches by one viewer; then another viewer learns of the last deed.
@@ -105,17 +110,16 @@ fn sell_and_watch<B: Room + Send + Sync, R: Threads + Wait + Abort + Sync>(
     seat: Seat<B>,
     watching: Viewer<B>,
     learning: Viewer<B>,
-) -> Result<(), Fail> {
-    let tract = section(rt, alloc, 5)?;
+) {
+    let tract = section(rt, alloc, 5);
     let place = &tract;
-    let (is_right, sold) = join(
+    let (is_right, receipt) = join(
         rt,
         || watch(place, watching),
         || sell_all(rt, alloc, office, seat),
     );
-    let receipt = sold?;
     assert!(rt; is_right);
-    assert_all_shown(rt, &tract, learning, &receipt)
+    assert_all_shown(rt, &tract, learning, &receipt);
 }
 
 // An office of one examiner and two viewers.
@@ -124,28 +128,18 @@ fn watching_day<B: Room + Send + Sync, R: Threads + Wait + Abort + Sync>(
     alloc: Global,
     ledger: Ledger,
     townships: &[Township],
-) -> Result<(), Fail>
+)
     requires book { ledger ≡ B.book }
     requires setting { B.setting ≡ record { parties = 2; townships = townships.now } }
 {
-    let opened = open::<B, R>(rt, alloc, ledger, townships, 1, 2)?;
-    let Opened {
-        office,
-        mut seats,
-        mut viewers,
-    } = opened;
-    let answer = match (seats.pop(), viewers.pop(), viewers.pop()) {
-        (Some(seat), Some(learning), Some(watching)) => {
-            sell_and_watch(rt, alloc, &office, seat, watching, learning)
-        }
-        _ => Err(Fail::new("a seat and two viewers")),
-    };
+    let opened = open::<B, R>(rt, alloc, ledger, townships, 1, 2);
+    let (office, seat, learning, watching) = two_viewers(rt, opened);
+    sell_and_watch(rt, alloc, &office, seat, watching, learning);
     office.close(rt);
-    answer
 }
 
 #[test]
-fn viewers_watch_a_hundred_deeds(rt: HostRuntime) -> Result<(), Fail> {
+fn viewers_watch_a_hundred_deeds(rt: HostRuntime) {
     let townships = [township(&rt)];
-    watching_day::<Brand, _>(&rt, rt.alloc(), Ledger::new(), &townships)
+    watching_day::<Brand, _>(&rt, rt.alloc(), Ledger::new(), &townships);
 }
