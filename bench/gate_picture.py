@@ -62,7 +62,9 @@ def dearest(seen, count=25):
             spent.setdefault(name, []).append((first, seconds))
     found = []
     for name, checks_of in spent.items():
-        edits = sorted(it for it in os.listdir(f"crates/{name}/must-fail") if it.endswith(".edit"))
+        folder = f"crates/{name}/must-fail"
+        # (a check of a crate with no such folder here is another checkout's)
+        edits = sorted(it for it in os.listdir(folder) if it.endswith(".edit")) if os.path.isdir(folder) else []
         found += [(seconds, f"{name}/{it}") for it, (_, seconds) in zip(edits, sorted(checks_of))][1:]
     print("\nThe dearest edits:", file=sys.stderr)
     for seconds, it in sorted(found, reverse=True)[:count]:
