@@ -1,0 +1,9 @@
+//! A file as a disk keeps it: what a read returns, and what a crash at any moment may leave. A trait says
+//! what a disk does, and a disk in memory meets it, keeps each call, and can be torn.
+#![tactic(auto)]
+
+mod disk;
+mod fault;
+
+pub use disk::Disk;
+pub use fault::{DiskFailed, DiskFault};

@@ -1,0 +1,5 @@
+mod Standing
+mod Crash
+mod Repairing
+mod Splitting
+mod Outcomes

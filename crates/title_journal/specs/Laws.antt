@@ -1,0 +1,2 @@
+-- The laws of blocks, each with its proof.
+pub mod Reading
