@@ -1,2 +1,3 @@
 -- The laws that the crates above cite, each with its proof.
 pub mod Moments
+pub mod KeptCalls

@@ -1,2 +1,4 @@
 pub mod Crashes
+pub mod Kept
+pub mod TornDisks
 pub mod Laws

@@ -2,8 +2,12 @@
 //! what a disk does, and a disk in memory meets it, keeps each call, and can be torn.
 #![tactic(auto)]
 
+mod call;
 mod disk;
 mod fault;
+mod torn_disk;
 
+pub use call::{DiskCall, KeptCall};
 pub use disk::Disk;
 pub use fault::{DiskFailed, DiskFault};
+pub use torn_disk::TornDisk;
