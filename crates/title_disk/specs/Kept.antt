@@ -23,6 +23,11 @@ LeftSince now [] number content = content ≡ now
 LeftSince now (kept ∷ earlier) number content =
     MayLeave now (kept ∷ earlier) content ⊎ ((number ≤ length earlier) × LeftSince kept.before.items earlier number content)
 
+-- what a read returned between two calls: before the first of the later ones, the oldest of them first, or now
+abbrev pub content_between : List ℕ → List KeptCall → List ℕ
+content_between now [] = now
+content_between now (kept ∷ later) = kept.before.items
+
 -- to the old calls, the oldest first, comes this one more, before which a read returned these bytes
 pub record Notes (asked : DiskCall) (bytes : List ℕ) (old new : List KeptCall) : Type 0 where
   pub kept : KeptCall

@@ -1,5 +1,5 @@
 -- What a disk in memory shows of itself.
-use Rattle.std.specs.Prelude.{ℕ, Bool, List, reverse, length}
+use Rattle.std.specs.Prelude.{ℕ, Bool, List, reverse}
 use Rattle.title_disk.specs.Kept.{MayLeave, LeftSince}
 use Rattle.title_disk.specs.declared.call.KeptCall.{KeptCall}
 use Rattle.title_disk.specs.declared.torn_disk.TornDisk.{TornDisk}
@@ -19,3 +19,7 @@ torn_may_leave disk = MayLeave (bytes_of disk) (calls_of disk)
 -- what a crash since a call might have left
 abbrev pub torn_left_since : TornDisk → ℕ → List ℕ → Type 0
 torn_left_since disk = LeftSince (bytes_of disk) (calls_of disk)
+
+-- whether a call has failed
+abbrev pub torn_has_failed : TornDisk → Bool
+torn_has_failed disk = disk.failed

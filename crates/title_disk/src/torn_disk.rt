@@ -1,10 +1,10 @@
 //! A disk in memory, for tests: it keeps each call, tells what a crash might have left, and can refuse a call.
 
-ghost use Rattle.std.specs.Prelude.{◌≡◌, ◌≤◌, ◌<◌, ◌^◌, false, length, reverse, take, IfOk, OnOk, OnErr};
+ghost use Rattle.std.specs.Prelude.{◌≡◌, ◌⊎◌, ◌≤◌, ◌<◌, ◌^◌, false, length, reverse, take, drop, IfOk, OnOk, OnErr};
 ghost use Rattle.title_disk.specs.Crashes.{Holds, Torn, Cut, Follows, Only, Elapses};
-ghost use Rattle.title_disk.specs.Kept.{MayLeave, LeftSince, Notes};
+ghost use Rattle.title_disk.specs.Kept.{MayLeave, LeftSince, Leaves, Notes, content_between};
 ghost use Rattle.title_disk.specs.Laws.KeptCalls.{counts_now, only_now};
-ghost use Rattle.title_disk.specs.TornDisks.{bytes_of, calls_of, torn_may_leave, torn_left_since};
+ghost use Rattle.title_disk.specs.TornDisks.{bytes_of, calls_of, torn_may_leave, torn_left_since, torn_has_failed};
 
 use crate::call::{DiskCall, KeptCall};
 use crate::disk::Disk;
@@ -27,7 +27,7 @@ impl TornDisk {
     pub fn new(alloc: Global, bytes: Vec<u8>, refused: Option<usize>) -> TornDisk
         ensures bytes { bytes_of result ≡ bytes.items }
         ensures durable { Only bytes.items (torn_may_leave result) }
-        ensures works { result.failed ≡ false }
+        ensures works { torn_has_failed result ≡ false }
     {
         TornDisk {
             alloc,
@@ -45,11 +45,40 @@ impl TornDisk {
         &self.bytes
     }
 
-    /// How many calls were kept.
-    pub fn calls(&self) -> usize
-        ensures calls { result ≡ length (calls_of self.now) }
+    /// The calls, the oldest first. A refused read or sync isn't one of them.
+    pub fn calls(&self) -> &[KeptCall]
+        ensures calls { reverse result.now ≡ calls_of self.now }
     {
-        self.calls.len()
+        &self.calls
+    }
+
+    /// A content that a crash after the first `calls` calls might have left: of what the call of the number `torn` wrote, the disk
+    /// has `garbage` in place of it, as much as there is room for; of the calls behind it, all where `later` says so, or none. What
+    /// a sync has seen stays.
+    pub fn image(
+        &self,
+        alloc: Global,
+        calls: usize,
+        torn: usize,
+        garbage: &[u8],
+        later: bool,
+    ) -> Result<Vec<u8>, AllocError>
+        requires { calls ≤ length (calls_of self.now) }
+        ensures left { IfOk result (λ image. torn_left_since self.now calls image.items) }
+    {
+        let mut image = content_at(&self.bytes, &self.calls, 0).to_vec(alloc)?;
+        for number in 0..calls {
+            let fate = if number < torn || number > torn && later {
+                Fate::Done
+            } else if number > torn {
+                Fate::Lost
+            } else {
+                Fate::Torn(garbage)
+            };
+            let after = content_at(&self.bytes, &self.calls, number + 1);
+            image = after_call(alloc, &self.calls[number].call, image, fate, after)?;
+        }
+        Ok(image)
     }
 
     fn refuses_next(&self) -> bool {
@@ -69,7 +98,7 @@ impl Disk for TornDisk {
 
     ghost left_since = { torn_left_since };
 
-    ghost has_failed = { λ disk. disk.failed };
+    ghost has_failed = { torn_has_failed };
 
     ghost counts_now = { λ disk t c le may. counts_now (bytes_of disk) (calls_of disk) t c may };
 
@@ -193,4 +222,83 @@ fn overwritten(
         next.extend_from_slice(&content[at + bytes.len()..])?;
     }
     Ok(next)
+}
+
+// What becomes of a call until the next sync.
+#[derive(Clone, Copy)]
+enum Fate<'a> {
+    Done,
+    Lost,
+    Torn(&'a [u8]),
+}
+
+// What a read returned before the call of a number, or returns now.
+fn content_at<'a>(bytes: &'a [u8], calls: &'a [KeptCall], number: usize) -> &'a [u8]
+    ensures { result.now ≡ content_between bytes.now (drop number calls.now) }
+{
+    if number < calls.len() {
+        &calls[number].before
+    } else {
+        bytes
+    }
+}
+
+// What a call makes of a content, or what is there after it.
+fn after_call(
+    alloc: Global,
+    asked: &DiskCall,
+    image: Vec<u8>,
+    fate: Fate,
+    after: &[u8],
+) -> Result<Vec<u8>, AllocError>
+    ensures leaves { IfOk result (λ next. (next.items ≡ after.now) ⊎ Leaves asked.now image.items next.items) }
+{
+    match asked {
+        DiskCall::Read => Ok(image),
+        DiskCall::Write(at, bytes) => torn_write(alloc, image, *at, bytes, fate),
+        DiskCall::Cut(len) => Ok(torn_cut(image, *len, fate)),
+        DiskCall::Sync => after.to_vec(alloc),
+    }
+}
+
+fn torn_write(
+    alloc: Global,
+    image: Vec<u8>,
+    at: usize,
+    bytes: &[u8],
+    fate: Fate,
+) -> Result<Vec<u8>, AllocError>
+    ensures torn { IfOk result (λ next. Torn at (length bytes.now) image.items next.items) }
+{
+    if at <= image.len() {
+        overwritten(alloc, &image, at, part(bytes, fate))
+    } else {
+        Ok(image)
+    }
+}
+
+fn torn_cut(mut image: Vec<u8>, len: usize, fate: Fate) -> Vec<u8>
+    ensures cut { Cut len image.items result.items }
+{
+    if matches!(fate, Fate::Done) {
+        image.truncate(len);
+    }
+    image
+}
+
+// The bytes that come to stand where these were written: no more than these.
+fn part<'a>(bytes: &'a [u8], fate: Fate<'a>) -> &'a [u8]
+    ensures less { length result.now ≤ length bytes.now }
+{
+    match fate {
+        Fate::Done => bytes,
+        Fate::Lost => &[],
+        Fate::Torn(garbage) => {
+            if garbage.len() <= bytes.len() {
+                garbage
+            } else {
+                &garbage[..bytes.len()]
+            }
+        }
+    }
 }

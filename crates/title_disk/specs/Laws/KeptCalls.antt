@@ -1,9 +1,9 @@
 -- How what a crash may leave goes on with each call that is kept.
-use Rattle.std.specs.Prelude.{◌≡◌, ◌⊎◌, ℕ, ◌+◌, ◌-◌, ◌≤◌, min, max, List, [], ◌∷◌, ◌++◌, length, take, drop, reverse}
-use Rattle.std.proofs.Common.{inl, inr, ⊎_elim, refl, sym, ◌∙◌, ap, subst, arith, length-append, length-take, length-drop}
-use Rattle.std.proofs.lemmas.List.{reverse-append, take_at, drop_at, take_all, take_min, append_assoc, length-take-le}
+use Rattle.std.specs.Prelude.{◌≡◌, ◌⊎◌, ℕ, ◌+◌, ◌-◌, ◌<◌, ◌≤◌, min, max, List, [], ◌∷◌, ◌++◌, length, get_or, take, drop, reverse}
+use Rattle.std.proofs.Common.{inl, inr, ⊎_elim, refl, sym, ◌∙◌, ap, subst, arith, get_or, take-append-drop, length-append, length-take, length-drop}
+use Rattle.std.proofs.lemmas.List.{reverse-append, length-reverse, take_at, drop_at, take_all, take_min, take_more, drop_more, drop-drop, append_assoc, length-take-le}
 use Rattle.title_disk.specs.Crashes.{Holds, Torn, Cut, Follows, Only, Elapses}
-use Rattle.title_disk.specs.Kept.{Leaves, MayLeave, LeftSince, Notes}
+use Rattle.title_disk.specs.Kept.{Leaves, MayLeave, LeftSince, Notes, content_between}
 use Rattle.title_disk.specs.declared.call.DiskCall.{DiskCall}
 use Rattle.title_disk.specs.declared.call.DiskCall.TheVariants as call
 use Rattle.title_disk.specs.declared.call.KeptCall.{KeptCall}
@@ -40,6 +40,20 @@ torn_from_Holds old at bytes new within holds =
       after = ap (λ (l : List ℕ). drop (at + n) l) holds ∙ drop_at (first ++ bytes) rest (at + n) both_len;
       no_shorter = omega (arith, new_len);
       no_longer = omega (arith, new_len);
+    }
+
+-- a write of which less is done
+pub torn_from_part : (old : List ℕ) (at n : ℕ) (bytes new : List ℕ) → at ≤ length old → length bytes ≤ n → Holds old at bytes new → Torn at n old new
+torn_from_part old at n bytes new within less holds =
+    let torn = torn_from_Holds old at bytes new within holds in
+    let m = n - length bytes in
+    let far : at + length bytes + m ≡ at + n = omega arith in
+    record {
+      before = torn.before;
+      after = ap (λ (k : ℕ). drop k new) (sym far) ∙ sym (drop-drop m (at + length bytes) new) ∙ ap (λ (l : List ℕ). drop m l) torn.after
+          ∙ drop-drop m (at + length bytes) old ∙ ap (λ (k : ℕ). drop k old) far;
+      no_shorter = torn.no_shorter;
+      no_longer = omega (arith, torn.no_longer);
     }
 
 pub cut_by_itself : (len : ℕ) (file : List ℕ) → Cut len file file
@@ -96,3 +110,45 @@ time_goes_on asked was now old new notes =
 
 pub time_stays : (now : List ℕ) (calls : List KeptCall) → Elapses (length calls) (length calls) (LeftSince now calls) (LeftSince now calls) (MayLeave now calls)
 time_stays now calls = record { later = omega arith; nothing_else = λ t c le left. inl left; keeps = λ t c le left. left }
+
+-- ---- what a crash after some of the calls might have left
+
+abbrev content_before : List ℕ → List KeptCall → List ℕ
+content_before now [] = now
+content_before now (kept ∷ newer) = content_before kept.before.items newer
+
+left_then : (now : List ℕ) (newer earlier : List KeptCall) (c : List ℕ) → MayLeave (content_before now newer) earlier c → LeftSince now (newer ++ earlier) (length earlier) c
+left_then now [] earlier c may = counts_now now earlier (length earlier) c may
+left_then now (kept ∷ newer) earlier c may = inr (omega (arith, length-append newer earlier), left_then kept.before.items newer earlier c may)
+
+before_the_oldest : (now : List ℕ) (newer : List KeptCall) (kept : KeptCall) → content_before now (newer ++ kept ∷ []) ≡ kept.before.items
+before_the_oldest now [] kept = refl
+before_the_oldest now (first ∷ newer) kept = before_the_oldest first.before.items newer kept
+
+same_content : (now : List ℕ) (later : List KeptCall) → content_between now later ≡ content_before now (reverse later)
+same_content now [] = refl
+same_content now (kept ∷ later) = sym (ap (content_before now) (reverse-append (kept ∷ []) later) ∙ before_the_oldest now (reverse later) kept)
+
+pub left_after : (now : List ℕ) (calls : List KeptCall) (number : ℕ) (c : List ℕ) → number ≤ length calls
+    → MayLeave (content_between now (drop number calls)) (reverse (take number calls)) c → LeftSince now (reverse calls) number c
+left_after now calls number c within may =
+    let earlier = reverse (take number calls) in
+    let newer = reverse (drop number calls) in
+    let all : newer ++ earlier ≡ reverse calls = sym (reverse-append (take number calls) (drop number calls)) ∙ ap reverse (take-append-drop number calls) in
+    let long : length earlier ≡ number = length-reverse (take number calls) ∙ length-take-le number calls within in
+    subst (λ (n : ℕ). LeftSince now (reverse calls) n c) long (subst (λ (k : List KeptCall). LeftSince now k (length earlier) c) all
+    (left_then now newer earlier c (subst (λ (b : List ℕ). MayLeave b earlier c) (same_content now (drop number calls)) may)))
+
+-- a call more: what is there after it, or what it makes of what might have been left
+pub one_call_more : (now : List ℕ) (calls : List KeptCall) (number : ℕ) (kept : KeptCall) (old new : List ℕ) → number < length calls → kept ≡ get_or calls number kept
+    → MayLeave (content_between now (drop number calls)) (reverse (take number calls)) old → (new ≡ content_between now (drop (number + 1) calls)) ⊎ Leaves kept.call old new
+    → MayLeave (content_between now (drop (number + 1) calls)) (reverse (take (number + 1) calls)) new
+one_call_more now calls number kept old new within is may next =
+    let after = content_between now (drop (number + 1) calls) in
+    let earlier = reverse (take number calls) in
+    let calls_are : kept ∷ earlier ≡ reverse (take (number + 1) calls) =
+    sym (ap reverse (take_more calls number kept within ∙ ap (λ (k : KeptCall). take number calls ++ k ∷ []) (sym is)) ∙ reverse-append (take number calls) (kept ∷ [])) in
+    let before_is : content_between now (drop number calls) ≡ kept.before.items =
+    ap (content_between now) (drop_more calls number kept within) ∙ ap (λ (k : KeptCall). k.before.items) (sym is) in
+    subst (λ (k : List KeptCall). MayLeave after k new) calls_are
+    (⊎_elim (λ here. inl here) (λ leaves. inr (old, subst (λ (b : List ℕ). MayLeave b earlier old) before_is may, leaves)) next)

@@ -1,0 +1,35 @@
+//! Where plants' files are kept.
+
+ghost use Rattle.std.specs.Prelude.{◌≡◌, false, IfOk};
+ghost use Rattle.title_disk.specs.Crashes.{Only};
+
+use crate::disk::Disk;
+use std::alloc::Global;
+use thiserror::Error;
+
+/// Why a file isn't opened.
+#[derive(Clone, Copy, Debug, PartialEq, Eq, Error)]
+pub enum OpenFault {
+    /// There is no such file and none can be made, or it can't be read or synced.
+    #[error("the file can't be opened")]
+    Unopened,
+    /// Another has it open.
+    #[error("the file is in use")]
+    InUse,
+    /// Memory ran out.
+    #[error("out of memory")]
+    Memory,
+}
+
+/// Files that have names, each open once.
+pub trait Cabinet {
+    type File: Disk + Drop;
+
+    /// Opens a file for reading and writing; all of it is on the disk then.
+    fn open(&mut self, alloc: Global, path: &str) -> Result<Self::File, OpenFault>
+        ensures durable { IfOk result (λ file. Only (Self.File.seen file) (Self.File.may_leave file)) }
+        ensures works { IfOk result (λ file. Self.File.has_failed file ≡ false) };
+
+    /// The bytes of a file, which another may have open.
+    fn look(&mut self, alloc: Global, path: &str) -> Result<Vec<u8>, OpenFault>;
+}
