@@ -3,3 +3,5 @@ mod Crash
 mod Repairing
 mod Splitting
 mod Outcomes
+mod Inverting
+mod Beginning

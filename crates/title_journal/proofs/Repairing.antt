@@ -8,14 +8,14 @@ use Rattle.title_journal.specs.Rest.{IsTail, at_rest, StandsAlike}
 use Rattle.title_journal.proofs.Standing.{stands, short_tail}
 
 -- a beginning of a tail is one
-front_of_tail : (n : ℕ) (tail : List ℕ) → IsTail tail → IsTail (take n tail)
+pub front_of_tail : (n : ℕ) (tail : List ℕ) → IsTail tail → IsTail (take n tail)
 front_of_tail zero tail is = tt
 front_of_tail (suc n) [] is = tt
 front_of_tail (suc zero) (byte ∷ bytes) is = tt
 front_of_tail (suc (suc n)) (byte ∷ []) is = tt
 front_of_tail (suc (suc n)) (gate ∷ byte ∷ bytes) is = is
 
-take_past : (xs ys : List ℕ) (m n : ℕ) → m ≡ length xs + n → take m (xs ++ ys) ≡ xs ++ take n ys
+pub take_past : (xs ys : List ℕ) (m n : ℕ) → m ≡ length xs + n → take m (xs ++ ys) ≡ xs ++ take n ys
 take_past [] ys m n is = let same : m ≡ n = omega arith in ap (λ (k : ℕ). take k ys) same
 take_past (x ∷ xs) ys zero n is = absurd (omega arith)
 take_past (x ∷ xs) ys (suc m) n is = ap (λ (l : List ℕ). x ∷ l) (take_past xs ys m n (omega arith))

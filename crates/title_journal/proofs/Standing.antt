@@ -9,7 +9,7 @@ use Rattle.title_journal.specs.Rest.{IsTail, IsBeforeOrAfter, with_block}
 use Rattle.title_journal.specs.Laws.Reading.{all_before, front_and_rest}
 
 -- a tail stands for nothing
-tail_is_nothing : (number : ℕ) (tail : List ℕ) → IsTail tail → blocks_from number AtGate tail ≡ Ok []
+pub tail_is_nothing : (number : ℕ) (tail : List ℕ) → IsTail tail → blocks_from number AtGate tail ≡ Ok []
 tail_is_nothing number [] is = refl
 tail_is_nothing number (byte ∷ []) is = refl
 tail_is_nothing number (gate ∷ byte ∷ bytes) is = cond-false (gate == open_gate) _ _ (ne_eqb gate open_gate is)

@@ -1,3 +1,4 @@
 pub mod Blocks
 pub mod Rest
+pub mod Beginnings
 pub mod Laws

@@ -5,6 +5,7 @@
 mod blocks;
 mod fault;
 mod journal;
+pub mod laws;
 mod split;
 mod through;
 
