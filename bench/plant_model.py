@@ -3,14 +3,14 @@
 
     python3 bench/plant_model.py [--times]
 
-The first part is exhaustive. It has the format with one letter for a row, so that all bytes that a torn write may leave can be tried: H is the
-head, + and - are an open and a closed gate, n is the line feed behind an open gate, a b c are transactions, e is the last row of a block. Every
-content that a crash can leave is visited, from each of them the file is opened again with a crash at each moment, and so on until there is no
-new one. What stands has to be what stood before, or that with the block, and what was acknowledged has to stand. Then forms that are simpler
-than the protocol are tried, and for each a content is found that breaks this.
+The first part is exhaustive. It has the format with one letter for a row, so that all bytes that a torn write may leave can be tried:
+H is the head, + and - are an open and a closed gate, n is the line feed behind an open gate, a b c are transactions, e is the last row
+of a block. Every content that a crash can leave is visited, from each of them the file is opened again with a crash at each moment,
+and so on until there is no new one. What stands has to be what stood before, or that with the block, and what was acknowledged has to
+stand. Then forms that are simpler than the protocol are tried, and for each a content is found that breaks this.
 
-The second part has the rows' real format, in which the torn bytes are each beginning of what was written, each byte changed, and garbage
-that was made to deceive. The last line of the first part that begins with `BAD`, and any exception, ends the program with a status other than 0.
+The second part has the rows' real format, in which the torn bytes are each beginning of what was written, each byte changed, and
+garbage that was made to deceive. A line that begins with `BAD`, and any exception, ends the program with a status other than 0.
 """
 import itertools
 import random
@@ -349,8 +349,9 @@ def mark_of_two_bytes():
                   history=("a",))
 
 
-SIMPLER = [mark_with_the_block, no_sync_before_the_mark, told_before_the_last_sync, no_gate_behind, cut_not_synced, nothing_cut, written_anew,
-           opened_without_a_sync, last_row_in_the_same_write, last_row_in_a_write_of_its_own, block_ends_at_the_next_gate, mark_of_two_bytes]
+SIMPLER = [mark_with_the_block, no_sync_before_the_mark, told_before_the_last_sync, no_gate_behind, cut_not_synced, nothing_cut,
+           written_anew, opened_without_a_sync, last_row_in_the_same_write, last_row_in_a_write_of_its_own,
+           block_ends_at_the_next_gate, mark_of_two_bytes]
 
 
 # ---- the real format
@@ -416,8 +417,9 @@ def deceits(room, standing):
     """Garbage of at most so many bytes that was made to deceive."""
     fake = staged_text(standing, [], [("7", (deed("7", 666, "UNITED STATES", "ADAMS"),))])
     seeds = ["", "\n", "\n\n", "\r\n", "+", "+\n", "-", "-\n", '"', '"\n', "\ufeff", "\0" * room, "1,commit\n", "2,commit\nend,1\n-",
-             f"\nend,{standing}\n-", fake, fake[:-1] + "+", fake[1:], "+" + fake, fake[:-1] + "+" + staged_text(standing + 1, [], [("7", ())]),
-             fake * 3, f"\nparty,EVE\nend,{standing}\n+", f"\n7,begin\n7,commit\nend,{standing + 1}\n+", HEAD, HEAD + "-"]
+             f"\nend,{standing}\n-", fake, fake[:-1] + "+", fake[1:], "+" + fake,
+             fake[:-1] + "+" + staged_text(standing + 1, [], [("7", ())]), fake * 3,
+             f"\nparty,EVE\nend,{standing}\n+", f"\n7,begin\n7,commit\nend,{standing + 1}\n+", HEAD, HEAD + "-"]
     for seed in seeds:
         for text in {seed, seed * (room // max(1, len(seed)) + 1)}:
             for length in {0, 1, 2, len(text) // 2, len(text) - 1, len(text), room - 1, room}:

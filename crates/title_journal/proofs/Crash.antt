@@ -1,11 +1,11 @@
 -- What a crash leaves while a block is put.
-use Rattle.std.proofs.Common.{◌≡◌, ℕ, ◌+◌, ◌≤◌, ◌<◌, List, [], ◌∷◌, ◌++◌, length, get_or, take, drop, Ok, refl, sym, ◌∙◌, ap, subst, arith, append_assoc, length-append, take-append-drop}
+use Rattle.std.proofs.Common.{◌≡◌, ℕ, ◌+◌, ◌≤◌, List, [], ◌∷◌, ◌++◌, length, get_or, take, drop, Ok, refl, sym, ◌∙◌, ap, subst, arith, append_assoc, length-append, take-append-drop}
 use Rattle.std.specs.List.{AllByRecursion}
 use Rattle.std.proofs.lemmas.List.{take_at, drop_at, drop_more, take-take, take_all}
-use Rattle.title_disk.specs.Crashes.{Holds, Torn, Follows, Only}
-use Rattle.title_journal.specs.Blocks.{blocks_in, front, counted, open_gate, closed_gate, line_feed, IsBlock}
-use Rattle.title_journal.specs.Rest.{at_rest, IsBeforeOrAfter, StandsAlike, with_block}
-use Rattle.title_journal.proofs.Standing.{stands, closed_tail, front_more, all_and_one, behind_any_gate}
+use Rattle.title_disk.specs.Crashes.{Holds, Torn, Follows}
+use Rattle.title_journal.specs.Blocks.{blocks_in, front, open_gate, closed_gate, line_feed, IsBlock}
+use Rattle.title_journal.specs.Rest.{at_rest, IsBeforeOrAfter, StandsAlike}
+use Rattle.title_journal.proofs.Standing.{stands, closed_tail, front_more, behind_any_gate}
 
 -- a file begins with what stood
 abbrev pub Begins : List ℕ → List ℕ → Type 0

@@ -1,5 +1,5 @@
 -- How what a crash may leave goes on with each call that is kept.
-use Rattle.std.specs.Prelude.{◌≡◌, ◌⊎◌, ℕ, ◌+◌, ◌-◌, ◌<◌, ◌≤◌, min, max, List, [], ◌∷◌, ◌++◌, length, get_or, take, drop, reverse}
+use Rattle.std.specs.Prelude.{◌≡◌, ◌⊎◌, ℕ, ◌+◌, ◌-◌, ◌<◌, ◌≤◌, List, [], ◌∷◌, ◌++◌, length, get_or, take, drop, reverse}
 use Rattle.std.proofs.Common.{inl, inr, ⊎_elim, refl, sym, ◌∙◌, ap, subst, arith, get_or, take-append-drop, length-append, length-take, length-drop}
 use Rattle.std.proofs.lemmas.List.{reverse-append, length-reverse, take_at, drop_at, take_all, take_min, take_more, drop_more, drop-drop, append_assoc, length-take-le}
 use Rattle.title_disk.specs.Crashes.{Holds, Torn, Cut, Follows, Only, Elapses}

@@ -1,12 +1,11 @@
 -- A file of blocks that count is read as those blocks and whatever the rest stands for.
-use Rattle.std.specs.Prelude.{◌≡◌, ◌≢◌, ◌⊎◌, ℕ, suc, ◌+◌, Bool, true, false, List, [], ◌∷◌, ◌++◌, length, drop, take, Result, Ok, Err, if◌then◌else◌, ◌==◌, nat_eq, codes, count_by}
-use Rattle.std.specs.List.{starts_with, flat_map, AllByRecursion}
-use Rattle.std.proofs.Common.{inl, inr, ⊎_elim, refl, sym, ◌∙◌, ap, subst, arith, append_assoc, length-append, add_assoc, zero-add, cond}
+use Rattle.std.specs.Prelude.{◌≡◌, ℕ, ◌+◌, true, false, List, [], ◌∷◌, ◌++◌, Result, Ok, Err, ◌==◌}
+use Rattle.std.specs.List.{flat_map, AllByRecursion}
+use Rattle.std.proofs.Common.{refl, sym, ◌∙◌, ap, arith, append_assoc, zero-add, cond}
 use Rattle.std.proofs.lemmas.List.{append-nil}
 use Rattle.std.proofs.lemmas.List.Sums.{sum_by-append}
-use Rattle.std.proofs.lemmas.Grind.{flat_map-append, common_steps}
-use Rattle.std.proofs.lemmas.Bool.{cases_eq, cases_Bool, eq-eqb, ne_eqb, cond-true, cond-false, eqb-true, eqb-false}
-use Rattle.title_journal.specs.Blocks.{Place, AtGate, InRow, blocks_from, blocks_in, before_others, front, counted, head, lines, IsRow, IsBlock, IsUnfinished, ends_block, rows_in, line_feed, open_gate}
+use Rattle.std.proofs.lemmas.Bool.{ne_eqb, cond-true, cond-false}
+use Rattle.title_journal.specs.Blocks.{AtGate, InRow, blocks_from, blocks_in, before_others, front, counted, head, lines, IsRow, IsBlock, IsUnfinished, ends_block, rows_in, line_feed, open_gate}
 
 -- rows are counted part by part
 pub rows_in-append : (xs ys : List ℕ) → rows_in (xs ++ ys) ≡ rows_in xs + rows_in ys

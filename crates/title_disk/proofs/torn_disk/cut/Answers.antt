@@ -1,5 +1,5 @@
 -- A cut that was kept may be undone.
-use Rattle.std.proofs.Common.{◌≡◌, List, ℕ, take, subst, sym}
+use Rattle.std.proofs.Common.{List, ℕ, subst, sym}
 use Rattle.title_disk.specs.Crashes.{Cut}
 use Rattle.title_disk.specs.Kept.{Notes}
 use Rattle.title_disk.specs.Laws.KeptCalls.{crash_goes_on, cut_done}

@@ -1,11 +1,10 @@
 -- The tail is cut off, and a closed gate takes its place.
-use Rattle.std.proofs.Common.{◌≡◌, ℕ, List, [], ◌∷◌, length, take, drop, Result, Ok, Err, OnOk, false, ◌∙◌, ap, subst, sym, refl}
-use Rattle.std.specs.Result.{is_err}
+use Rattle.std.proofs.Common.{◌≡◌, ℕ, List, [], ◌∷◌, take, ◌∙◌, ap, subst, sym}
 use Rattle.std.proofs.lemmas.Result.{on_ok_weaker}
-use Rattle.title_disk.specs.Crashes.{Cut, Torn, Holds, Only}
+use Rattle.title_disk.specs.Crashes.{Cut, Torn, Holds}
 use Rattle.title_disk.specs.Laws.Moments.{joined, weakened}
 use Rattle.title_journal.specs.Blocks.{front, blocks_in, closed_gate}
-use Rattle.title_journal.specs.Rest.{IsAtRest, StandsAlike, texts_of, at_rest}
+use Rattle.title_journal.specs.Rest.{StandsAlike, texts_of, at_rest}
 use Rattle.title_journal.proofs.Standing.{stands}
 use Rattle.title_journal.proofs.Outcomes.{leaves}
 use Rattle.title_journal.proofs.Repairing.{cut_alike, cut_done, torn_alike, written_rest}

@@ -1,8 +1,8 @@
 -- The block is staged behind its gate, and the gate is opened.
-use Rattle.std.proofs.Common.{◌≡◌, ℕ, ◌+◌, List, [], ◌∷◌, ◌++◌, length, inl, ◌∙◌, ap, subst, sym, arith}
+use Rattle.std.proofs.Common.{◌≡◌, ℕ, List, [], ◌∷◌, ◌++◌, inl, ◌∙◌, ap, subst, sym, arith}
 use Rattle.title_disk.specs.Crashes.{Torn, Holds}
 use Rattle.title_disk.specs.Laws.Moments.{joined, weakened}
-use Rattle.title_journal.specs.Blocks.{blocks_in, front, open_gate, closed_gate}
+use Rattle.title_journal.specs.Blocks.{blocks_in, open_gate, closed_gate}
 use Rattle.title_journal.specs.Rest.{StandsAlike, IsBeforeOrAfter, at_rest, with_block}
 use Rattle.title_journal.proofs.Standing.{stands, all_and_one, length-front_more}
 use Rattle.title_journal.proofs.Crash.{gated, staged_is, torn_gate, opened}

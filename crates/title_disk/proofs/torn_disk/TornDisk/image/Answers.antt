@@ -1,4 +1,4 @@
-use Rattle.std.proofs.Common.{◌≡◌, ℕ, length, take, drop, subst, arith}
+use Rattle.std.proofs.Common.{◌≡◌, ℕ, take, drop, subst, arith}
 use Rattle.std.specs.Prelude.{reverse}
 use Rattle.std.proofs.lemmas.List.{length-reverse}
 use Rattle.title_disk.specs.Kept.{MayLeave, content_between}

@@ -1,5 +1,5 @@
 -- A sync that was kept leaves nothing else.
-use Rattle.std.proofs.Common.{◌≡◌, List, ℕ, subst}
+use Rattle.std.proofs.Common.{List, ℕ, subst}
 use Rattle.title_disk.specs.Kept.{Notes}
 use Rattle.title_disk.specs.Laws.KeptCalls.{crash_stays}
 use Rattle.title_disk.specs.declared.call.DiskCall.TheVariants as call
