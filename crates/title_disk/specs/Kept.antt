@@ -15,7 +15,8 @@ Leaves call.Sync old new = ⊥
 -- what a crash may leave: what is there, or what the newest call makes of what a crash before it might have left
 abbrev pub MayLeave : List ℕ → List KeptCall → List ℕ → Type 0
 MayLeave now [] content = content ≡ now
-MayLeave now (kept ∷ earlier) content = (content ≡ now) ⊎ ((old : List ℕ) × MayLeave kept.before.items earlier old × Leaves kept.call old content)
+MayLeave now (kept ∷ earlier) content = (content ≡ now)
+    ⊎ ((old : List ℕ) × MayLeave kept.before.items earlier old × Leaves kept.call old content)
 
 -- what a crash since the call of this number might have left
 abbrev pub LeftSince : List ℕ → List KeptCall → ℕ → List ℕ → Type 0

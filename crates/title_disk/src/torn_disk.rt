@@ -179,9 +179,11 @@ fn write(
     requires { at ≤ length bytes.old.items }
     ensures written { OnOk result (Holds bytes.old.items at written.now bytes.new.items) }
     ensures fits { OnOk result (length bytes.new.items < 2 ^ 63) }
-    ensures crash { Follows (Torn at (length written.now)) (MayLeave bytes.old.items (reverse calls.old.items)) (MayLeave bytes.new.items (reverse calls.new.items)) }
+    ensures crash { Follows (Torn at (length written.now)) (MayLeave bytes.old.items (reverse calls.old.items))
+        (MayLeave bytes.new.items (reverse calls.new.items)) }
     ensures time { Elapses (length (reverse calls.old.items)) (length (reverse calls.new.items))
-        (LeftSince bytes.old.items (reverse calls.old.items)) (LeftSince bytes.new.items (reverse calls.new.items)) (MayLeave bytes.new.items (reverse calls.new.items)) }
+        (LeftSince bytes.old.items (reverse calls.old.items)) (LeftSince bytes.new.items (reverse calls.new.items))
+        (MayLeave bytes.new.items (reverse calls.new.items)) }
 {
     let next = overwritten(alloc, bytes, at, written)?;
     let copy = written.to_vec(alloc)?;
@@ -197,9 +199,11 @@ fn cut(
     len: usize,
 ) -> Result<(), AllocError>
     ensures cut { OnOk result (bytes.new.items ≡ take len bytes.old.items) }
-    ensures crash { Follows (Cut len) (MayLeave bytes.old.items (reverse calls.old.items)) (MayLeave bytes.new.items (reverse calls.new.items)) }
+    ensures crash { Follows (Cut len) (MayLeave bytes.old.items (reverse calls.old.items))
+        (MayLeave bytes.new.items (reverse calls.new.items)) }
     ensures time { Elapses (length (reverse calls.old.items)) (length (reverse calls.new.items))
-        (LeftSince bytes.old.items (reverse calls.old.items)) (LeftSince bytes.new.items (reverse calls.new.items)) (MayLeave bytes.new.items (reverse calls.new.items)) }
+        (LeftSince bytes.old.items (reverse calls.old.items)) (LeftSince bytes.new.items (reverse calls.new.items))
+        (MayLeave bytes.new.items (reverse calls.new.items)) }
 {
     note(alloc, bytes, calls, DiskCall::Cut(len))?;
     bytes.truncate(len);

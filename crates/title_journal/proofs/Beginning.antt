@@ -1,12 +1,14 @@
 -- What the first bytes of a file stand for.
-use Rattle.std.proofs.Common.{◌≡◌, ◌⊎◌, inl, inr, ⊎_elim, ℕ, zero, suc, ◌+◌, ◌-◌, ◌≤◌, ◌<◌, false, List, [], ◌∷◌, ◌++◌, length, take, drop, Result, Ok, Err, refl, sym, ◌∙◌, ap, subst, arith, append_assoc, length-append, length-take}
+use Rattle.std.proofs.Common.{◌≡◌, ◌⊎◌, inl, inr, ⊎_elim, ℕ, zero, suc, ◌+◌, ◌-◌, ◌≤◌, ◌<◌, false, List, [], ◌∷◌, ◌++◌, length, take}
+use Rattle.std.proofs.Common.{drop, Result, Ok, Err, refl, sym, ◌∙◌, ap, subst, arith, append_assoc, length-append, length-take}
 use Rattle.std.specs.Prelude.{IsErr, nat_eq}
 use Rattle.std.specs.List.{AllByRecursion, flat_map, starts_with}
 use Rattle.std.proofs.lemmas.List.{take-append-le}
 use Rattle.std.proofs.lemmas.Bool.{cases_lt, cases_Bool, cond-false}
 use Rattle.std.proofs.lemmas.Bool.Decides.{Decides-eqb}
 use Rattle.std.proofs.lemmas.Slice.Eq.{starts_is}
-use Rattle.title_journal.specs.Blocks.{AtGate, InRow, blocks_from, blocks_in, before_others, counted, head, lines, rows_in, ends_block, line_feed, IsRow, IsBlock, IsUnfinished}
+use Rattle.title_journal.specs.Blocks.{AtGate, InRow, blocks_from, blocks_in, before_others, counted, head, lines, rows_in, ends_block}
+use Rattle.title_journal.specs.Blocks.{line_feed, IsRow, IsBlock, IsUnfinished}
 use Rattle.title_journal.specs.Rest.{IsTail, Stands}
 use Rattle.title_journal.specs.Beginnings.{BeginsAs}
 use Rattle.title_journal.specs.Laws.Reading.{one_block, unfinished_block}
@@ -38,7 +40,8 @@ cut_rows (row ∷ rows) last n each is short =
       | inl inside ↦ record {
         rows = [];
         start = take n row;
-        text_is = taken ∙ take-append-le n line rest (omega arith) ∙ take-append-le n row (line_feed ∷ []) (omega (arith, length-append row (line_feed ∷ [])));
+        text_is = taken ∙ take-append-le n line rest (omega arith)
+            ∙ take-append-le n row (line_feed ∷ []) (omega (arith, length-append row (line_feed ∷ [])));
         each = tt;
         start_row = front_of_row n row each.0.0;
       }
@@ -48,7 +51,8 @@ cut_rows (row ∷ rows) last n each is short =
           record {
             rows = row ∷ more.rows;
             start = more.start;
-            text_is = taken ∙ take_past line rest n m (omega arith) ∙ ap (λ (l : List ℕ). line ++ l) more.text_is ∙ sym (append_assoc line (lines more.rows) more.start);
+            text_is = taken ∙ take_past line rest n m (omega arith) ∙ ap (λ (l : List ℕ). line ++ l) more.text_is
+                ∙ sym (append_assoc line (lines more.rows) more.start);
             each = (each.0, more.each);
             start_row = more.start_row;
           }
@@ -57,7 +61,8 @@ cut_rows (row ∷ rows) last n each is short =
 cut_block : (block : List ℕ) (n : ℕ) → IsBlock block → n < length block → IsUnfinished (take n block)
 cut_block block n is short =
     let text = lines is.rows ++ (is.last ++ line_feed ∷ []) in
-    subst (λ (b : List ℕ). IsUnfinished (take n b)) (sym is.text_is) (cut_rows is.rows is.last n is.each is.last_row (omega (arith, ap length is.text_is)))
+    subst (λ (b : List ℕ). IsUnfinished (take n b)) (sym is.text_is)
+    (cut_rows is.rows is.last n is.each is.last_row (omega (arith, ap length is.text_is)))
 
 -- ---- blocks of which a beginning is there
 
@@ -77,19 +82,29 @@ refused_before : (block : List ℕ) (r : Result (List (List ℕ)) ℕ) → IsErr
 refused_before block (Ok blocks) is = is
 refused_before block (Err row) is = is
 
-size_more : (block : List ℕ) (blocks : List (List ℕ)) (number : ℕ) → size (block ∷ blocks) (suc number) ≡ length block + 2 + size blocks number
+size_more : (block : List ℕ) (blocks : List (List ℕ)) (number : ℕ)
+    → size (block ∷ blocks) (suc number) ≡ length block + 2 + size blocks number
 size_more block blocks number = omega (arith, length-append (counted block) (flat_map counted (take number blocks)))
 
 -- a block in front
-block_before : (block : List ℕ) (blocks : List (List ℕ)) (n m : ℕ) (stands : Result (List (List ℕ)) ℕ) → n ≡ length block + 2 + m → PartBegins blocks m stands
+block_before : (block : List ℕ) (blocks : List (List ℕ)) (n m : ℕ) (stands : Result (List (List ℕ)) ℕ) → n ≡ length block + 2 + m
+    → PartBegins blocks m stands
     → PartBegins (block ∷ blocks) n (before_others block stands)
 block_before block blocks n m stands far part = record {
   number = suc part.number;
   within = omega (arith, part.within);
   reached = omega (arith, part.reached, size_more block blocks part.number);
   whole_or_refused = ⊎_elim
-      (λ is. inl (ap (before_others block) is.0, ⊎_elim (λ near. inl (omega (arith, near, size_more block blocks part.number))) (λ all. inr (omega (arith, all))) is.1))
-      (λ is. inr (refused_before block stands is.0, omega (arith, is.1), omega (arith, is.2, size_more block blocks part.number), omega (arith, is.3, size_more block blocks (suc part.number))))
+      (λ is. inl (
+        ap (before_others block) is.0,
+        ⊎_elim (λ near. inl (omega (arith, near, size_more block blocks part.number))) (λ all. inr (omega (arith, all))) is.1,
+      ))
+      (λ is. inr (
+        refused_before block stands is.0,
+        omega (arith, is.1),
+        omega (arith, is.2, size_more block blocks part.number),
+        omega (arith, is.3, size_more block blocks (suc part.number)),
+      ))
       part.whole_or_refused;
 }
 
@@ -99,9 +114,17 @@ is_refused r row is = subst (λ (s : Result (List (List ℕ)) ℕ). IsErr s) (sy
 part_begins : (row : ℕ) (blocks : List (List ℕ)) (tail : List ℕ) (n : ℕ) → AllByRecursion IsBlock blocks → IsTail tail
     → PartBegins blocks n (blocks_from row AtGate (take n (flat_map counted blocks ++ tail)))
 part_begins row [] tail n whole ends =
-    record { number = 0; within = omega arith; reached = omega arith; whole_or_refused = inl (tail_is_nothing row (take n tail) (front_of_tail n tail ends), inr refl) }
-part_begins row (block ∷ blocks) tail zero whole ends = record { number = 0; within = omega arith; reached = omega arith; whole_or_refused = inl (refl, inl (omega arith)) }
-part_begins row (block ∷ blocks) tail (suc zero) whole ends = record { number = 0; within = omega arith; reached = omega arith; whole_or_refused = inl (refl, inl (omega arith)) }
+    record {
+      number = 0;
+      within = omega arith;
+      reached = omega arith;
+      whole_or_refused =
+          inl (tail_is_nothing row (take n tail) (front_of_tail n tail ends), inr refl);
+    }
+part_begins row (block ∷ blocks) tail zero whole ends =
+    record { number = 0; within = omega arith; reached = omega arith; whole_or_refused = inl (refl, inl (omega arith)) }
+part_begins row (block ∷ blocks) tail (suc zero) whole ends =
+    record { number = 0; within = omega arith; reached = omega arith; whole_or_refused = inl (refl, inl (omega arith)) }
 part_begins row (block ∷ blocks) tail (suc (suc n)) whole ends =
     let more = flat_map counted blocks ++ tail in
     let rest = block ++ flat_map counted blocks ++ tail in
@@ -115,7 +138,12 @@ part_begins row (block ∷ blocks) tail (suc (suc n)) whole ends =
             number = 0;
             within = omega arith;
             reached = omega arith;
-            whole_or_refused = inr (is_refused (read (take n rest)) _ stops, omega arith, omega arith, omega (arith, size_more block blocks 0));
+            whole_or_refused = inr (
+              is_refused (read (take n rest)) _ stops,
+              omega arith,
+              omega arith,
+              omega (arith, size_more block blocks 0),
+            );
           }
       | inr behind ↦
           let m = n - length block in
@@ -127,7 +155,8 @@ part_begins row (block ∷ blocks) tail (suc (suc n)) whole ends =
 
 -- ---- files
 
-pub begins : (file : List ℕ) (blocks : List (List ℕ)) (n : ℕ) → Stands file blocks → length head ≤ n → BeginsAs blocks n (blocks_in (take n file))
+pub begins : (file : List ℕ) (blocks : List (List ℕ)) (n : ℕ) → Stands file blocks → length head ≤ n
+    → BeginsAs blocks n (blocks_in (take n file))
 begins file blocks n is long =
     let more = flat_map counted blocks ++ is.tail in
     let m = n - length head in
@@ -152,7 +181,8 @@ too_short file n short =
     let read = blocks_from 2 AtGate (drop (length head) front) in
     elim (cases_Bool (starts_with nat_eq front head)) [
       | inl starts ↦
-          let is : front ≡ head ++ drop (length head) front = (starts_is Decides-eqb front head (starts_with nat_eq front head) refl).0 starts in
+          let is : front ≡ head ++ drop (length head) front =
+          (starts_is Decides-eqb front head (starts_with nat_eq front head) refl).0 starts in
           absurd (omega (arith, ap length is, length-append head (drop (length head) front), length-take n file))
       | inr other ↦ cond-false (starts_with nat_eq front head) read (Err 1) other
     ]

@@ -1,5 +1,6 @@
 -- How a file is split, row by row and block by block.
-use Rattle.std.proofs.Common.{◌≡◌, ℕ, ◌+◌, ◌≤◌, ◌<◌, List, [], ◌∷◌, ◌++◌, length, get_or, length-drop, take, drop, map, Vec, true, false, Err, refl, sym, ◌∙◌, ap, subst, arith, length-append, take-append-drop}
+use Rattle.std.proofs.Common.{◌≡◌, ℕ, ◌+◌, ◌≤◌, ◌<◌, List, [], ◌∷◌, ◌++◌, length, get_or, length-drop, take, drop, map, Vec, true, false}
+use Rattle.std.proofs.Common.{Err, refl, sym, ◌∙◌, ap, subst, arith, length-append, take-append-drop}
 use Rattle.std.specs.List.{AllByRecursion}
 use Rattle.std.specs.declared.alloc.Global.{Global}
 use Rattle.std.specs.Prelude.{◌==◌, nat_eq}
@@ -9,7 +10,8 @@ use Rattle.std.proofs.lemmas.Grind.{flat_map-append}
 use Rattle.std.proofs.lemmas.Slice.Eq.{starts_is}
 use Rattle.std.proofs.lemmas.Bool.{cond-false, ne_eqb}
 use Rattle.std.proofs.lemmas.Bool.Decides.{Decides-eqb}
-use Rattle.title_journal.specs.Blocks.{AtGate, blocks_from, blocks_in, rows_in, head, front, lines, ends_block, line_feed, open_gate, IsRow, IsBlock, IsUnfinished}
+use Rattle.title_journal.specs.Blocks.{AtGate, blocks_from, blocks_in, rows_in, head, front, lines, ends_block, line_feed, open_gate}
+use Rattle.title_journal.specs.Blocks.{IsRow, IsBlock, IsUnfinished}
 use Rattle.title_journal.specs.Rest.{IsTail}
 use Rattle.title_journal.specs.Laws.Reading.{all_before, front_and_rest, unfinished_block, rows_in-append}
 use Rattle.title_journal.proofs.Standing.{short_tail, front_more, length-front_more, all_and_one}
@@ -27,7 +29,8 @@ pub record SomeRows (text : List ℕ) : Type 0 where
 pub no_rows : SomeRows []
 no_rows = record { rows = []; text_is = refl; each = tt }
 
-each_and_one : (rows : List (List ℕ)) (row : List ℕ) → AllByRecursion (λ row. IsRow row × (ends_block row ≡ false)) rows → IsRow row → ends_block row ≡ false
+each_and_one : (rows : List (List ℕ)) (row : List ℕ) → AllByRecursion (λ row. IsRow row × (ends_block row ≡ false)) rows → IsRow row
+    → ends_block row ≡ false
     → AllByRecursion (λ row. IsRow row × (ends_block row ≡ false)) (rows ++ row ∷ [])
 each_and_one [] row each is goes_on = ((is, goes_on), tt)
 each_and_one (first ∷ rows) row each is goes_on = (each.0, each_and_one rows row each.1 is goes_on)
@@ -35,7 +38,8 @@ each_and_one (first ∷ rows) row each is goes_on = (each.0, each_and_one rows r
 pub one_row_more : (text row : List ℕ) → SomeRows text → IsRow row → ends_block row ≡ false → SomeRows (text ++ (row ++ line_feed ∷ []))
 one_row_more text row some is goes_on = record {
   rows = some.rows ++ row ∷ [];
-  text_is = ap (λ (l : List ℕ). l ++ (row ++ line_feed ∷ [])) some.text_is ∙ ap (λ (l : List ℕ). lines some.rows ++ l) (sym (append-nil (row ++ line_feed ∷ [])))
+  text_is = ap (λ (l : List ℕ). l ++ (row ++ line_feed ∷ [])) some.text_is
+      ∙ ap (λ (l : List ℕ). lines some.rows ++ l) (sym (append-nil (row ++ line_feed ∷ [])))
       ∙ sym (flat_map-append (λ (r : List ℕ). r ++ line_feed ∷ []) some.rows (row ∷ []));
   each = each_and_one some.rows row some.each is goes_on;
 }
@@ -66,7 +70,8 @@ row_taken bytes at len within feed =
     let both = take (at + (len + 1)) bytes in
     sym (take-append-drop at both)
     ∙ ap (λ (l : List ℕ). l ++ drop at both) (take-take at (at + (len + 1)) bytes (omega arith))
-    ∙ ap (λ (l : List ℕ). take at bytes ++ l) (drop-take at (len + 1) bytes ∙ take_more (drop at bytes) len 0 within ∙ ap (λ (b : ℕ). take len (drop at bytes) ++ b ∷ []) feed)
+    ∙ ap (λ (l : List ℕ). take at bytes ++ l) (drop-take at (len + 1) bytes ∙ take_more (drop at bytes) len 0 within
+    ∙ ap (λ (b : ℕ). take len (drop at bytes) ++ b ∷ []) feed)
 
 -- ---- blocks
 
@@ -80,7 +85,13 @@ pub record IsSplit (file : List ℕ) (blocks : List (List ℕ)) (place : ℕ) : 
 pub split_begun : (file : List ℕ) → starts_with nat_eq file head ≡ true → IsSplit file [] (length head)
 split_begun file starts =
     let is : file ≡ head ++ drop (length head) file = (starts_is Decides-eqb file head (starts_with nat_eq file head) refl).0 starts in
-    record { within = omega (arith, ap length is, length-append head (drop (length head) file)); place_is = refl; front_is = is; whole = tt }
+    record {
+      within = omega (arith, ap length is, length-append head (drop (length head) file));
+      place_is = refl;
+      front_is = is;
+      whole =
+          tt;
+    }
 
 module _ (file : List ℕ) (blocks : List (List ℕ)) (place : ℕ) (split : IsSplit file blocks place) where
   taken : take place file ≡ front blocks
@@ -91,7 +102,9 @@ module _ (file : List ℕ) (blocks : List (List ℕ)) (place : ℕ) (split : IsS
 
   two_bytes : place + 1 < length file → drop place file ≡ get_or file place 0 ∷ get_or file (place + 1) 0 ∷ drop (place + 2) file
   two_bytes within =
-      drop_more file place 0 (omega arith) ∙ ap (λ (l : List ℕ). get_or file place 0 ∷ l) (drop_more file (place + 1) 0 within ∙ ap (λ (n : ℕ). get_or file (place + 1) 0 ∷ drop n file) (omega arith))
+      drop_more file place 0 (omega arith)
+      ∙ ap (λ (l : List ℕ). get_or file place 0 ∷ l) (drop_more file (place + 1) 0 within
+      ∙ ap (λ (n : ℕ). get_or file (place + 1) 0 ∷ drop n file) (omega arith))
 
   -- a gate that isn't open, or is the last byte
   pub shut : place + 1 < length file → (get_or file place 0 ≡ open_gate → ⊥) → IsTail (drop place file)
@@ -105,20 +118,28 @@ module _ (file : List ℕ) (blocks : List (List ℕ)) (place : ℕ) (split : IsS
     no_line_feed is_not =
         let feed = get_or file (place + 1) 0 in
         stands_so_far
-        ∙ ap (λ (l : List ℕ). all_before blocks (blocks_from (1 + rows_in (front blocks)) AtGate l)) (two_bytes within ∙ ap (λ (g : ℕ). g ∷ feed ∷ drop (place + 2) file) gate)
+        ∙ ap (λ (l : List ℕ). all_before blocks (blocks_from (1 + rows_in (front blocks)) AtGate l)) (two_bytes within
+        ∙ ap (λ (g : ℕ). g ∷ feed ∷ drop (place + 2) file) gate)
         ∙ ap (all_before blocks) (cond-false (feed == line_feed) _ _ (ne_eqb feed line_feed is_not))
         ∙ ap (λ (l : List ℕ). Err (1 + rows_in l)) (sym taken)
 
     module _ (feed : get_or file (place + 1) 0 ≡ line_feed) where
       gate_and_feed : drop place file ≡ open_gate ∷ line_feed ∷ drop (place + 2) file
-      gate_and_feed = two_bytes within ∙ ap (λ (g : ℕ). g ∷ get_or file (place + 1) 0 ∷ drop (place + 2) file) gate ∙ ap (λ (b : ℕ). open_gate ∷ b ∷ drop (place + 2) file) feed
+      gate_and_feed = two_bytes within ∙ ap (λ (g : ℕ). g ∷ get_or file (place + 1) 0 ∷ drop (place + 2) file) gate
+          ∙ ap (λ (b : ℕ). open_gate ∷ b ∷ drop (place + 2) file) feed
 
       pub breaks_off : IsUnfinished (drop (place + 2) file) → blocks_in file ≡ Err (1 + rows_in file)
       breaks_off unfinished =
           let rest = drop (place + 2) file in
           let first = 1 + rows_in (front blocks) in
           let counts : first + 1 + rows_in rest ≡ 1 + rows_in file =
-          omega (arith, ap rows_in split.front_is, rows_in-append (front blocks) (drop place file), ap rows_in gate_and_feed, rows_in-append (open_gate ∷ line_feed ∷ []) rest) in
+          omega (
+            arith,
+            ap rows_in split.front_is,
+            rows_in-append (front blocks) (drop place file),
+            ap rows_in gate_and_feed,
+            rows_in-append (open_gate ∷ line_feed ∷ []) rest,
+          ) in
           stands_so_far
           ∙ ap (λ (l : List ℕ). all_before blocks (blocks_from first AtGate l)) gate_and_feed
           ∙ ap (all_before blocks) (unfinished_block (first + 1) rest unfinished)
@@ -135,7 +156,8 @@ module _ (file : List ℕ) (blocks : List (List ℕ)) (place : ℕ) (split : IsS
             place_is = omega (arith, length-front_more blocks block, block_len, split.place_is);
             front_is =
                 split.front_is
-                ∙ ap (λ (l : List ℕ). front blocks ++ l) (gate_and_feed ∙ ap (λ (l : List ℕ). open_gate ∷ line_feed ∷ l) (sym (take-append-drop len rest)))
+                ∙ ap (λ (l : List ℕ). front blocks ++ l) (gate_and_feed
+                ∙ ap (λ (l : List ℕ). open_gate ∷ line_feed ∷ l) (sym (take-append-drop len rest)))
                 ∙ front_more blocks block (drop len rest)
                 ∙ ap (λ (l : List ℕ). front (blocks ++ block ∷ []) ++ l) (drop-drop len (place + 2) file);
             whole = all_and_one blocks block split.whole is;

@@ -1,5 +1,6 @@
 -- A plant's file at rest, what stands there, and what a block more makes of it.
-use Rattle.std.specs.Prelude.{◌≡◌, ◌≢◌, ◌⊎◌, ◌<◌, ◌^◌, ℕ, List, [], ◌∷◌, ◌++◌, length, drop, map, Bool, false, Result, Ok, Err, if◌then◌else◌}
+use Rattle.std.specs.Prelude.{◌≡◌, ◌≢◌, ◌⊎◌, ◌<◌, ◌^◌, ℕ, List, [], ◌∷◌, ◌++◌, length, drop, map, Bool, false, Result, Ok, Err}
+use Rattle.std.specs.Prelude.{if◌then◌else◌}
 use Rattle.std.specs.List.{AllByRecursion}
 use Rattle.std.specs.Str.{bytes_eq}
 use Rattle.title_disk.specs.Crashes.{Only}
@@ -26,7 +27,8 @@ abbrev pub at_rest : List (List ℕ) → List ℕ
 at_rest blocks = front blocks ++ closed_gate ∷ []
 
 -- The file is at rest, and on the disk: the blocks that stand there, and a closed gate at this place.
-pub record IsAtRest {D : Type 0} (seen : D → List ℕ) (may_leave : D → List ℕ → Type 0) (has_failed : D → Bool) (disk : D) (gate : ℕ) : Type 0 where
+pub record IsAtRest {D : Type 0} (seen : D → List ℕ) (may_leave : D → List ℕ → Type 0) (has_failed : D
+    → Bool) (disk : D) (gate : ℕ) : Type 0 where
   pub blocks : List (List ℕ)
   pub stand : blocks_in (seen disk) ≡ Ok blocks
   pub whole : AllByRecursion IsBlock blocks

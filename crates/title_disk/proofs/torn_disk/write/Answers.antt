@@ -14,7 +14,8 @@ returns-clause-crash c =
     let copied = ap length (c.in_ok-copy.ensures.items_if_clones_equal (λ x y e. e)) in
     let asked = call.Write at c.in_ok-copy.copy in
     let notes = subst (λ (b : List ℕ). Notes asked b calls c.note.new.calls.items) c.deref-2.ensures.value c.in_ok-note.ensures.ok in
-    let holds = subst (λ (b : List ℕ). Holds b at c.args.written.now c.in_ok-next.next.items) c.deref.ensures.value c.in_ok-next.ensures.holds in
+    let holds = subst (λ (b : List ℕ). Holds b at c.args.written.now c.in_ok-next.next.items) c.deref.ensures.value
+    c.in_ok-next.ensures.holds in
     let done = torn_from_Holds bytes at c.args.written.now c.in_ok-next.next.items c.requires holds in
     crash_goes_on (Torn at (length c.args.written.now)) asked bytes c.in_ok-next.next.items calls c.note.new.calls.items notes done
     (λ d e torn. subst (λ (n : ℕ). Torn at n d e) copied torn)

@@ -11,5 +11,6 @@ returns c =
     let calls = c.args.self.now.calls.items in
     let image = c.loop-number.image.items in
     let all : c.loop-number.number ≡ c.args.calls = omega arith in
-    let may = subst (λ (n : ℕ). MayLeave (content_between bytes (drop n calls)) (reverse (take n calls)) image) all c.loop-number.invariant in
+    let may = subst (λ (n : ℕ). MayLeave (content_between bytes (drop n calls))
+    (reverse (take n calls)) image) all c.loop-number.invariant in
     record { left = left_after bytes calls c.args.calls image (omega (arith, c.requires, length-reverse calls)) may }

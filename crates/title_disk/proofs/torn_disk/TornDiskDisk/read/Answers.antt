@@ -8,5 +8,6 @@ use Rattle.title_disk.proofs.torn_disk.TornDiskDisk.read.Goals as goal
 pub returns-clause-crash : goal.returns-clause-crash
 returns-clause-crash c =
     let disk = c.args.self.now in
-    let notes = subst (λ (b : List ℕ). Notes call.Read b disk.calls.items c.note.new.calls.items) c.deref-2.ensures.value c.in_ok-note.ensures.ok in
+    let notes = subst (λ (b : List ℕ). Notes call.Read b disk.calls.items c.note.new.calls.items) c.deref-2.ensures.value
+    c.in_ok-note.ensures.ok in
     crash_stays call.Read disk.bytes.items disk.calls.items c.note.new.calls.items notes (λ d e same. same)

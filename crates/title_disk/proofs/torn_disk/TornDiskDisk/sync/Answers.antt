@@ -8,5 +8,6 @@ use Rattle.title_disk.proofs.torn_disk.TornDiskDisk.sync.Goals as goal
 pub returns-in-Ok-clause-crash : goal.returns-in-Ok-clause-crash
 returns-in-Ok-clause-crash c =
     let disk = c.args.self.now in
-    let notes = subst (λ (b : List ℕ). Notes call.Sync b disk.calls.items c.note.new.calls.items) c.deref.ensures.value c.in-Ok.ensures.ok in
+    let notes = subst (λ (b : List ℕ). Notes call.Sync b disk.calls.items c.note.new.calls.items) c.deref.ensures.value c.in-Ok.ensures.ok
+    in
     crash_stays call.Sync disk.bytes.items disk.calls.items c.note.new.calls.items notes (λ d e none. absurd none)
