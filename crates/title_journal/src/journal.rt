@@ -46,6 +46,7 @@ pub fn repair<D: Disk>(disk: &mut D, found: &Blocks) -> Result<(), DiskFailed>
     ensures rest { OnOk result (IsAtRest D.seen D.may_leave D.has_failed disk.new found.now.gate.place) }
     ensures alike { OnOk result (StandsAlike (D.seen disk.old) (D.seen disk.new)) }
     ensures any_moment { LeavesOnly D.moment D.left_since disk.old disk.new (StandsAlike (D.seen disk.old)) }
+    ensures untouched { found.now.tail ≡ Tail.Closed → disk.new ≡ disk.old }
     ensures failed { D.has_failed disk.new ≡ is_err result }
 {
     match found.tail {
