@@ -46,5 +46,5 @@ pub fn count(alloc: Global) -> Result<String> {
     clerk.post_alone(release(0, 1, SURFACE, cell.tract()?))?;
     rows(alloc, cell, 1, UNITS * 2)?.are(&clerk.sheet(cell.tract()?)?)?;
     let calls = clerk.calls();
-    Ok(format!(in alloc; "{PARTIES} owners: {calls} calls")?)
+    Ok(format!(in alloc; "{PARTIES} owners, {calls} calls")?)
 }

@@ -129,5 +129,5 @@ fn together(alloc: Global) -> Result<usize> {
 /// The sheet, the chain and the trees after all.
 pub fn count(alloc: Global) -> Result<String> {
     let (alone, together) = (alone(alloc)?, together(alloc)?);
-    Ok(format!(in alloc; "{DEEDS} deeds: {alone} calls alone, {together} together")?)
+    Ok(format!(in alloc; "{DEEDS}, {alone} calls alone, {together} together")?)
 }

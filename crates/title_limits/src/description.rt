@@ -238,5 +238,5 @@ pub fn count(alloc: Global) -> Result<String> {
         bail!("the description has {bytes} bytes");
     }
     let tried = alone(alloc, text.as_str())?.and(interleaved(alloc, text.as_str())?);
-    Ok(format!(in alloc; "{SQUARES} squares in {bytes} bytes: {tried}")?)
+    Ok(format!(in alloc; "{SQUARES} squares in {bytes} bytes, {tried}")?)
 }

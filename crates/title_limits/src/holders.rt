@@ -65,5 +65,5 @@ fn interleaved(alloc: Global) -> Result<Tried> {
 pub fn count(alloc: Global) -> Result<String> {
     try_locks(alloc)?;
     let tried = interleaved(alloc)?;
-    Ok(format!(in alloc; "{EXAMINERS} holders: {tried}")?)
+    Ok(format!(in alloc; "{EXAMINERS}, {tried}")?)
 }

@@ -127,5 +127,5 @@ pub fn count(alloc: Global) -> Result<String> {
     try_posts::<NodeLocks>(alloc)?;
     try_posts::<RowLocks>(alloc)?;
     let tried = interleaved(alloc)?;
-    Ok(format!(in alloc; "{NODES} nodes: {tried}")?)
+    Ok(format!(in alloc; "{NODES}, {tried}")?)
 }

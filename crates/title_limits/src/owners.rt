@@ -86,5 +86,5 @@ pub fn count(alloc: Global) -> Result<String> {
     add_sheet(&mut case, &names)?;
     let tried = case.run(Schedule::Serial)?;
     let owners = OWNERS + 1;
-    Ok(format!(in alloc; "{owners} owners: {tried}")?)
+    Ok(format!(in alloc; "{owners}, {tried}")?)
 }

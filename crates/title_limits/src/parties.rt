@@ -197,5 +197,5 @@ fn try_quotes(alloc: Global) -> Result<Tried> {
 pub fn count(alloc: Global) -> Result<String> {
     let (many, quotes) = (try_many(alloc)?, try_quotes(alloc)?);
     let tried = many.and(quotes);
-    Ok(format!(in alloc; "{PARTIES} parties, and {QUOTED} of quotes: {tried}")?)
+    Ok(format!(in alloc; "{PARTIES}, and {QUOTED} of quotes, {tried}")?)
 }

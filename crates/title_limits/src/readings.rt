@@ -83,5 +83,5 @@ fn in_turn(alloc: Global) -> Result<Tried> {
 /// The sheets of all.
 pub fn count(alloc: Global) -> Result<String> {
     let tried = once(alloc)?.and(in_turn(alloc)?);
-    Ok(format!(in alloc; "{ONCE} descriptions, and {IN_TURN} in turn: {tried}")?)
+    Ok(format!(in alloc; "{ONCE} once and {IN_TURN} in turn, {tried}")?)
 }

@@ -138,5 +138,5 @@ pub fn count(alloc: Global) -> Result<String> {
     try_each(&mut clerk)?;
     try_sheets(alloc, &mut clerk)?;
     let calls = clerk.calls();
-    Ok(format!(in alloc; "{SHEETS} sheets in turn: {tried}, {calls} calls")?)
+    Ok(format!(in alloc; "{SHEETS} sheets in turn, {tried}, {calls} calls")?)
 }

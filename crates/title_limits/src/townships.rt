@@ -156,5 +156,5 @@ fn interleaved(alloc: Global) -> Result<Tried> {
 /// Deeds and releases of everything and of townships, with their sheets, their chain and their locks.
 pub fn count(alloc: Global) -> Result<String> {
     let tried = alone(alloc)?.and(interleaved(alloc)?);
-    Ok(format!(in alloc; "{TOWNSHIPS} townships: {tried}")?)
+    Ok(format!(in alloc; "{TOWNSHIPS}, {tried}")?)
 }

@@ -164,5 +164,5 @@ pub fn count(alloc: Global) -> Result<String> {
     try_locks::<NodeLocks>(alloc, &tract)?;
     try_locks::<RowLocks>(alloc, &tract)?;
     let calls = clerk.calls();
-    Ok(format!(in alloc; "{SQUARES} squares: {calls} calls")?)
+    Ok(format!(in alloc; "{SQUARES} squares, {calls} calls")?)
 }

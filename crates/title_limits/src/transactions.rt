@@ -136,5 +136,5 @@ pub fn count(alloc: Global) -> Result<String> {
     case.step(2, "begin", "began")?;
     add_sheet(&mut case, 2, 0)?;
     let tried = case.run(Schedule::Interleaved)?;
-    Ok(format!(in alloc; "{STEPS} steps, twice: {tried}")?)
+    Ok(format!(in alloc; "{STEPS} steps twice, {tried}")?)
 }
