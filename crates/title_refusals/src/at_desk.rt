@@ -17,7 +17,7 @@ use title_tree_store::TreeStore;
 // UNITED STATES, ADAMS and BELL.
 const PARTIES: u32 = 3;
 
-type Plant = Desk<TreeStore, NodeLocks>;
+pub type Plant = Desk<TreeStore, NodeLocks>;
 
 /// How both transactions end.
 #[derive(Clone, Copy)]
@@ -155,8 +155,13 @@ fn abort(rt: &impl Print, desk: &mut Plant, alloc: Global, wanted: &mut Wanted) 
     Ok(())
 }
 
-// What is left: the length of the trace, the records, and the sheet of all land.
-fn tell_end(rt: &impl Print, desk: &mut Plant, alloc: Global, wanted: &mut Wanted) -> Result<()> {
+/// What is left: the length of the trace, the records, and the sheet of all land.
+pub fn tell_end(
+    rt: &impl Print,
+    desk: &mut Plant,
+    alloc: Global,
+    wanted: &mut Wanted,
+) -> Result<()> {
     println!(rt; "trace: {}", desk.trace().len())?;
     tell_records(rt, desk.records())?;
     let turns = [begins(3), reads(3, Place::Everything), aborts(3)];
@@ -176,8 +181,8 @@ fn open(alloc: Global, townships: &[Township], wanted: &mut Wanted) -> Result<Pl
     Plant::open(alloc, PARTIES, townships)
 }
 
-/// Two examiners overlap, and then both commit, or both abort.
-pub fn tell<R: Print>(rt: &R, alloc: Global, ending: Ending, wanted: &mut Wanted) -> Result<()> {
+/// A desk of the plant with no call yet.
+pub fn open_plant(alloc: Global, wanted: &mut Wanted) -> Result<Plant> {
     let Some(township) = township() else {
         bail!("there is no such township");
     };
@@ -185,7 +190,12 @@ pub fn tell<R: Print>(rt: &R, alloc: Global, ending: Ending, wanted: &mut Wanted
     if !may_open(PARTIES, &townships) {
         bail!("a desk can't be opened for these");
     }
-    let mut desk = open(alloc, &townships, wanted)?;
+    Ok(open(alloc, &townships, wanted)?)
+}
+
+/// Two examiners overlap, and then both commit, or both abort.
+pub fn tell<R: Print>(rt: &R, alloc: Global, ending: Ending, wanted: &mut Wanted) -> Result<()> {
+    let mut desk = open_plant(alloc, wanted)?;
     overlap(rt, &mut desk, alloc, wanted)?;
     match ending {
         Ending::Commits => commit(rt, &mut desk, alloc, wanted)?,

@@ -3,12 +3,14 @@
 //! list; without a word all are run.
 //!
 //! - `desk`, `desk_aborts`: two examiners overlap at a desk, and then both commit, or both abort.
+//! - `desk_alone`: an examiner's asks at a desk, each a transaction of its own.
 //! - `office`, `office_aborts`: an examiner of an office commits and the write is read back, or aborts and is swept.
 //! - `views`: a viewer of an office is asked for all that it shows, after each of two commits.
 //! - `work`: two scripts are run by threads, of which one may end for want of memory.
 //! - `run`: a script is run from its bytes to those of its report, or nothing is written.
 #![tactic(auto)]
 
+mod alone;
 mod asker;
 mod at_desk;
 mod at_office;
@@ -32,16 +34,18 @@ use wanted::Wanted;
 #[derive(Clone, Copy)]
 enum List {
     Desk(Ending),
+    DeskAlone,
     Office(Day),
     Work,
     Run,
 }
 
 impl List {
-    fn all() -> [List; 7] {
+    fn all() -> [List; 8] {
         [
             List::Desk(Ending::Commits),
             List::Desk(Ending::Aborts),
+            List::DeskAlone,
             List::Office(Day::ReadsBack),
             List::Office(Day::Aborts),
             List::Office(Day::Views),
@@ -54,6 +58,7 @@ impl List {
         match self {
             List::Desk(Ending::Commits) => "desk",
             List::Desk(Ending::Aborts) => "desk_aborts",
+            List::DeskAlone => "desk_alone",
             List::Office(Day::ReadsBack) => "office",
             List::Office(Day::Aborts) => "office_aborts",
             List::Office(Day::Views) => "views",
@@ -100,6 +105,7 @@ fn tell<R: Threads + Wait + Sync + Print + AllocGlobal>(
     println!(rt; "{}:", list.word())?;
     match list {
         List::Desk(ending) => at_desk::tell(rt, rt.alloc(), ending, wanted),
+        List::DeskAlone => alone::tell(rt, rt.alloc(), wanted),
         List::Office(day) => at_office::tell(rt, rt.alloc(), day, wanted),
         List::Work => crew::tell(rt, rt.alloc(), wanted),
         List::Run => script::tell(rt, rt.alloc(), wanted),

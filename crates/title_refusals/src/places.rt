@@ -14,6 +14,7 @@ pub enum Place {
     Quarter,
     Corner,
     BesideCorner,
+    AroundCorner,
     TwoNodes,
     Undeclared,
 }
@@ -32,6 +33,9 @@ impl Place {
             Place::Quarter => "T3N R2W sec 5 NE1/4",
             Place::Corner => "T3N R2W sec 5 NE1/4NE1/4NE1/4",
             Place::BesideCorner => "T3N R2W sec 5 SE1/4NE1/4NE1/4",
+            Place::AroundCorner => {
+                "T3N R2W sec 5 NW1/4NE1/4NE1/4, SW1/4NE1/4NE1/4, SE1/4NE1/4NE1/4"
+            }
             Place::TwoNodes => "T3N R2W sec 5 SE1/4, NW1/4NE1/4",
             Place::Undeclared => "T4N R2W sec 5",
         }

@@ -4,12 +4,13 @@
 //! - `counts`: how many examiners hold a node in each mode, IS to X, in a worked case.
 //! - `soak`: a million calls of one table of locks, after which nobody holds anything.
 //! - `stores`: the two stores, `CellStore` and `TreeStore`, each behind a desk, by their replies and their sheets; and
-//!   that trees have the fewest nodes once nobody has a transaction open.
+//!   that trees have the fewest nodes once nobody has a transaction open, and after each ask that is a transaction of its own.
 //!
 //! With the word `growths` it makes ten short lists of each alone. A call that wants memory is made again, so it prints the same
 //! whichever growth is refused, and tells on standard error how many calls wanted memory (`bench/refuse_growths.py`).
 #![tactic(auto)]
 
+mod alone;
 mod calls;
 mod counts;
 mod locks;
@@ -33,6 +34,7 @@ const LOCKS: locks::Extent = locks::Extent {
 const STORES: stores::Extent = stores::Extent {
     lists: 200,
     requests: 100,
+    alone: 12,
     examiners: 8,
     tracts: 100,
     reach: Reach::Plant,
@@ -41,6 +43,7 @@ const STORES: stores::Extent = stores::Extent {
 const LONG: stores::Extent = stores::Extent {
     lists: 1,
     requests: 1_000,
+    alone: 100,
     examiners: 8,
     tracts: 100,
     reach: Reach::Plant,
@@ -56,6 +59,7 @@ const FEW_LOCKS: locks::Extent = locks::Extent {
 const FEW_STORES: stores::Extent = stores::Extent {
     lists: 9,
     requests: 16,
+    alone: 4,
     examiners: 2,
     tracts: 20,
     reach: Reach::Section,
@@ -64,6 +68,7 @@ const FEW_STORES: stores::Extent = stores::Extent {
 const ONE_MORE: stores::Extent = stores::Extent {
     lists: 1,
     requests: 40,
+    alone: 12,
     examiners: 3,
     tracts: 20,
     reach: Reach::Section,
@@ -121,7 +126,7 @@ fn tell_stores<R: Print + AllocGlobal>(
     last: stores::Extent,
 ) -> Result<u32> {
     let compared = stores::compare(rt.alloc(), extent, last)?;
-    let (differ, tally) = (compared.differ, compared.tally);
+    let (differ, tally, alone) = (compared.differ, compared.tally, compared.alone);
     println!(rt;
         "stores: {} lists of {} requests and one of {}, {differ} differ or stay untidy",
         extent.lists, extent.requests, last.requests
@@ -134,7 +139,11 @@ fn tell_stores<R: Print + AllocGlobal>(
         "stores: {} conflicts, {} commits, {} aborts, {} others",
         tally.conflicts, tally.committed, tally.aborted, tally.others
     )?;
-    Ok(tally.wanted)
+    println!(rt;
+        "stores: alone {} posted, {} refused, {} sheets and chains, {} others",
+        alone.posted, alone.refused, alone.sheets, alone.others
+    )?;
+    Ok(tally.wanted.saturating_add(alone.wanted))
 }
 
 // Whether the first word is `growths`.

@@ -1,5 +1,6 @@
 //! The two stores, each behind a desk, asked alike.
 
+use crate::alone::Alone;
 use crate::replies::{Tally, are_one};
 use std::alloc::{AllocError, Global};
 use title_chain::Record;
@@ -11,21 +12,24 @@ use title_store::{CellStore, Store};
 use title_trace::{Reply, Request};
 use title_tree_store::TreeStore;
 
-/// How many lists are made, how many requests each has, by how many examiners, and in how many tracts of sections of what land.
+/// How many lists are made, how many requests each has and how many asks alone follow them, by how many examiners, and in how many
+/// tracts of sections of what land.
 #[derive(Clone, Copy)]
 pub struct Extent {
     pub lists: u32,
     pub requests: u64,
+    pub alone: u64,
     pub examiners: u32,
     pub tracts: u32,
     pub reach: Reach,
 }
 
-/// How many lists differ, and what was replied.
+/// How many lists differ, what was replied to requests, and what to asks alone.
 #[derive(Clone, Copy)]
 pub struct Compared {
     pub differ: u32,
     pub tally: Tally,
+    pub alone: Tally,
 }
 
 // An examiner's wish, with the number of the document that a post makes.
@@ -144,8 +148,8 @@ impl Desks {
             && self.cells.trace().len() == self.trees.trace().len()
     }
 
-    // Commits all, after which the trees have no node too many, and reads the whole land.
-    fn are_ends_one(
+    // Commits all, after which the trees have no node too many.
+    fn are_commits_one(
         &mut self,
         ground: &Ground,
         examiners: u32,
@@ -155,8 +159,45 @@ impl Desks {
         for examiner in 1..=examiners {
             is_one &= self.are_one(ground, self.turn(examiner, Wish::Commit, 0), tally)?;
         }
-        is_one &= self.trees.store().is_tidy();
-        is_one &= self.are_one(ground, self.turn(1, Wish::Begin, 0), tally)?;
+        Ok(is_one && self.trees.store().is_tidy())
+    }
+
+    // Whether both serve an ask alone alike, after which the trees have no node too many.
+    fn is_alone_one(
+        &mut self,
+        ground: &Ground,
+        alone: Alone,
+        tally: &mut Tally,
+    ) -> Result<bool, AllocError> {
+        let Some(reply) = alone.serve(&mut self.cells, ground, tally)? else {
+            return Ok(false);
+        };
+        tally.count(&reply);
+        let Some(other) = alone.serve(&mut self.trees, ground, tally)? else {
+            return Ok(false);
+        };
+        Ok(are_one(reply, other) && self.trees.store().is_tidy())
+    }
+
+    // Makes the asks alone of a list, from a copy of the generator: the lists that follow stay what they are.
+    fn are_alone_one(
+        &mut self,
+        mut chance: Chance,
+        ground: &Ground,
+        extent: Extent,
+        tally: &mut Tally,
+    ) -> Result<bool, AllocError> {
+        let mut is_one = true;
+        for doc in 0..extent.alone {
+            let alone = Alone::any(self.alloc, &mut chance, ground, extent.examiners, doc);
+            is_one &= self.is_alone_one(ground, alone, tally)?;
+        }
+        Ok(is_one)
+    }
+
+    // Reads the whole land.
+    fn are_ends_one(&mut self, ground: &Ground, tally: &mut Tally) -> Result<bool, AllocError> {
+        let mut is_one = self.are_one(ground, self.turn(1, Wish::Begin, 0), tally)?;
         is_one &= self.are_one(
             ground,
             self.turn(1, Wish::Step(StepWish::Sheet(u32::MAX)), 0),
@@ -166,20 +207,23 @@ impl Desks {
         Ok(is_one)
     }
 
-    // Whether all requests of a list are served alike, and what they leave is one.
+    // Whether all requests of a list are served alike, then all asks alone, and what they leave is one.
     fn is_list_one(
         &mut self,
         chance: &mut Chance,
         ground: &Ground,
         extent: Extent,
         tally: &mut Tally,
+        alone: &mut Tally,
     ) -> Result<bool, AllocError> {
         let examiners = extent.examiners;
         let mut is_one = true;
         for doc in 0..extent.requests {
             is_one &= self.are_one(ground, self.any_turn(chance, ground, examiners, doc), tally)?;
         }
-        is_one &= self.are_ends_one(ground, examiners, tally)?;
+        is_one &= self.are_commits_one(ground, examiners, tally)?;
+        is_one &= self.are_alone_one(*chance, ground, extent, alone)?;
+        is_one &= self.are_ends_one(ground, tally)?;
         Ok(is_one)
     }
 }
@@ -209,6 +253,7 @@ fn count_differing(
     chance: &mut Chance,
     extent: Extent,
     tally: &mut Tally,
+    alone: &mut Tally,
 ) -> Result<u32, AllocError> {
     let townships = townships_again(alloc, tally)?;
     let (tracts, reach) = (extent.tracts, extent.reach);
@@ -216,7 +261,7 @@ fn count_differing(
     let mut differ = 0u32;
     for _ in 0..extent.lists {
         let is_one = match open_again(alloc, townships.as_slice(), tally)? {
-            Some(mut desks) => desks.is_list_one(chance, &ground, extent, tally)?,
+            Some(mut desks) => desks.is_list_one(chance, &ground, extent, tally, alone)?,
             None => false,
         };
         if !is_one {
@@ -229,9 +274,13 @@ fn count_differing(
 /// Asks two desks alike, by lists of two extents. A list differs also where its trees stay untidy.
 pub fn compare(alloc: Global, first: Extent, second: Extent) -> Result<Compared, AllocError> {
     let mut chance = Chance::new(3);
-    let mut tally = Tally::new();
-    let of_first = count_differing(alloc, &mut chance, first, &mut tally)?;
-    let of_second = count_differing(alloc, &mut chance, second, &mut tally)?;
+    let (mut tally, mut alone) = (Tally::new(), Tally::new());
+    let of_first = count_differing(alloc, &mut chance, first, &mut tally, &mut alone)?;
+    let of_second = count_differing(alloc, &mut chance, second, &mut tally, &mut alone)?;
     let differ = of_first.saturating_add(of_second);
-    Ok(Compared { differ, tally })
+    Ok(Compared {
+        differ,
+        tally,
+        alone,
+    })
 }

@@ -1,0 +1,73 @@
+//! An examiner's asks at a desk, each a transaction of its own.
+
+use crate::at_desk::{Plant, open_plant, tell_end};
+use crate::deeds::{HALF, Sale, WHOLE, Wish};
+use crate::places::Place;
+use crate::telling::tell_reply;
+use crate::wanted::Wanted;
+use anyhow::{Result, bail};
+use std::alloc::Global;
+use title_chain::Ask;
+use title_trace::Reply;
+
+const EXAMINER: u32 = 1;
+
+fn sells(doc: u64, grantee: u32, units: u64, place: Place) -> Wish {
+    Wish::Post(Sale {
+        doc,
+        grantee,
+        units,
+        place,
+    })
+}
+
+fn serve_once(desk: &mut Plant, ask: Ask) -> Result<Reply> {
+    match desk.first_open() {
+        None => Ok(desk.serve_alone(EXAMINER, ask)),
+        Some(_) => bail!("somebody is open"),
+    }
+}
+
+// Serves an ask, and once more where it wanted memory.
+fn serve(desk: &mut Plant, alloc: Global, wish: Wish, wanted: &mut Wanted) -> Result<Reply> {
+    let reply = serve_once(desk, wish.ask(alloc, wanted)?)?;
+    if let Reply::Memory = &reply {
+        wanted.count();
+        return serve_once(desk, wish.ask(alloc, wanted)?);
+    }
+    Ok(reply)
+}
+
+// Serves asks, and tells each reply and whether the trees have no node too many.
+fn serve_all(
+    rt: &impl Print,
+    desk: &mut Plant,
+    alloc: Global,
+    wishes: &[Wish],
+    wanted: &mut Wanted,
+) -> Result<()> {
+    for wish in wishes {
+        let reply = serve(desk, alloc, *wish, wanted)?;
+        tell_reply(rt, EXAMINER, &reply)?;
+        println!(rt; "trees are tidy: {}", desk.store().is_tidy())?;
+    }
+    Ok(())
+}
+
+/// An examiner reads a quarter, posts in its corner and, by the same deed, around that, reads again, and is refused a post that the
+/// grantor's title is too short for, one to nobody, and a sheet outside the plant.
+pub fn tell<R: Print>(rt: &R, alloc: Global, wanted: &mut Wanted) -> Result<()> {
+    let wishes = [
+        Wish::Sheet(Place::Quarter),
+        sells(201, 1, HALF, Place::Corner),
+        sells(202, 2, WHOLE, Place::Quarter),
+        sells(201, 1, HALF, Place::AroundCorner),
+        Wish::Sheet(Place::Quarter),
+        Wish::Chain(Place::Quarter),
+        sells(203, 3, HALF, Place::Quarter),
+        Wish::Sheet(Place::Undeclared),
+    ];
+    let mut desk = open_plant(alloc, wanted)?;
+    serve_all(rt, &mut desk, alloc, &wishes, wanted)?;
+    tell_end(rt, &mut desk, alloc, wanted)
+}
