@@ -29,6 +29,7 @@ IN_GATE, BESIDE = "must-fail", "refused"
 EDIT = re.compile(r"[A-Za-z0-9_-][A-Za-z0-9_.-]*\.edit")
 TOLD = re.compile(r"rt: must-fail ([\w-]+)/(\S+\.edit): (.*)")
 ENDED = re.compile(r"rt: [\w-]+(: its tests are)? (proved|NOT PROVED.*)")
+SUMMARY = re.compile(r"\d+ passed, \d+ failed")
 REFUSED = "refused, as it must be"
 
 
@@ -69,12 +70,15 @@ def lay_out(copy, tried):
 
 def lines_of_gate(copy, names):
     """The lines that the gate over these crates of the copy says, as they come."""
-    how = {"stdin": subprocess.DEVNULL, "stdout": subprocess.PIPE, "stderr": subprocess.STDOUT, "errors": "replace"}
+    streams = {"stdin": subprocess.DEVNULL, "stdout": subprocess.PIPE, "stderr": subprocess.STDOUT, "errors": "replace"}
     # (in a session of its own, since it ends at once by a signal of ours, and at Ctrl-C only with the checks that run)
-    gate = subprocess.Popen(["rt", "ci", *names], cwd=str(copy), start_new_session=True, **how)
+    gate = subprocess.Popen(["rt", "ci", *names], cwd=str(copy), start_new_session=True, **streams)
     try:
         for line in gate.stdout:
             yield line.rstrip("\n")
+        if gate.wait() not in (0, 1):
+            how = f"with status {gate.returncode}" if gate.returncode > 0 else f"by signal {-gate.returncode}"
+            print(f"edits.py: rt ci was ended {how}, so edits may be untried: call this again", file=sys.stderr)
     finally:
         if gate.poll() is None:
             gate.terminate()
@@ -98,11 +102,11 @@ def outcomes(lines):
             if ENDED.fullmatch(line):
                 print(*(section if "NOT PROVED" in line else [line]), sep="\n", file=sys.stderr, flush=True)
                 section = None
-        elif line.startswith("rt: "):
+        elif told and not line.startswith("rt: ") and not SUMMARY.match(line):
+            found[told] += f"\n    {line}"
+        elif not SUMMARY.match(line):
             told = None
             print(line, file=sys.stderr, flush=True)
-        elif told and not re.match(r"\d+ passed, ", line):
-            found[told] += f"\n    {line}"
     return found
 
 
@@ -161,7 +165,8 @@ def main():
             if not is_refused(outcome):
                 print(f"{file.relative_to(TOP)}: {outcome}")
         if len(told) < len(files) and not asked.list:
-            print(f"crates/{crate}: NOT TRIED: {len(files) - len(told)} of its edits: it isn't proved, or rt has stopped, as told above")
+            lost = len(files) - len(told)
+            print(f"crates/{crate}: NOT TRIED: {lost} of its edits: it isn't proved, or rt has ended before, as told above")
         is_well = is_well and refused == len(files)
         rows.append((crate, len(in_gate[crate][0]), len(beside[crate][0]), len(files), refused))
     table(rows, not asked.list)
