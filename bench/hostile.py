@@ -705,7 +705,7 @@ TRIALS = {"devices": devices, "bytes": bytes_exchanged, "cuts": cuts, "mutated":
 
 def main():
     options = argparse.ArgumentParser(description="Tries the built program on bad devices and on scripts that are cut or spoilt.")
-    options.add_argument("--program", default=str(BUILT), help="the built program (default: the one that bin/titleplant builds)")
+    options.add_argument("--program", default=str(BUILT), help="the built program (default: the one that bin/prove builds)")
     options.add_argument("--count", type=int, default=100_000, help="of mutated scripts and of descriptions (default 100000)")
     options.add_argument("--seed", type=int, default=1)
     options.add_argument("--jobs", type=int, default=1, help="so many runs side by side (default 1)")
@@ -718,7 +718,7 @@ def main():
         sys.stdout.buffer.write(script)
         return 0
     if not os.access(asked.program, os.X_OK):
-        sys.exit(f"hostile.py: {asked.program} isn't there; bin/titleplant --help builds it")
+        sys.exit(f"hostile.py: {asked.program} isn't there; bin/prove builds it")
     unknown = [trial for trial in asked.trials if trial not in TRIALS]
     if unknown:
         options.error(f"no trial named {unknown[0]}")

@@ -208,11 +208,11 @@ def run(program, name, command, script, fault):
 
 def main():
     options = argparse.ArgumentParser(description="Runs the built program on the greatest scripts that its limits allow.")
-    options.add_argument("--program", default=str(BUILT), help="the built program (default: the one that bin/titleplant builds)")
+    options.add_argument("--program", default=str(BUILT), help="the built program (default: the one that bin/prove builds)")
     options.add_argument("loads", nargs="*", metavar="LOAD", help="; ".join([*LOADS, *MEASURED]))
     asked = options.parse_args()
     if not os.access(asked.program, os.X_OK):
-        sys.exit(f"loads.py: {asked.program} isn't there; bin/titleplant --help builds it")
+        sys.exit(f"loads.py: {asked.program} isn't there; bin/prove builds it")
     known = dict(LOADS)
     for kind in MEASURED:
         command = "alone" if MEASURED.index(kind) < MEASURED.index("interleaved") else "run"

@@ -4,14 +4,14 @@
 # Prints for each kind and each number of rows the wall time (the best of three runs, or of those that were begun within
 # ten seconds), the processor time of that run, the steps served a second, the peak memory, and how the wall time has grown
 # since the size before, beside how the steps have.
-# PROGRAM is the built program, or else the one that bin/titleplant builds; ROWS are 10000 30000 100000.
+# PROGRAM is the built program, or else the one that bin/prove builds; ROWS are 10000 30000 100000.
 set -eu
 here=$(dirname "$(readlink -f "$0")")
 program=${1:-$here/../crates/titleplant/out/titleplant}
 [ $# -gt 0 ] && shift
 [ $# -gt 0 ] || set -- 10000 30000 100000
 if [ ! -x "$program" ]; then
-    echo "measure.sh: $program isn't there; bin/titleplant --help builds it" >&2
+    echo "measure.sh: $program isn't there; bin/prove builds it" >&2
     exit 1
 fi
 work=$(mktemp -d)

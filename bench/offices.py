@@ -1,5 +1,5 @@
 #!/usr/bin/env python3
-"""Measures offices: offices.py [PROGRAM] [ROWS], by default the program that bin/titleplant builds, and 30000 rows.
+"""Measures offices: offices.py [PROGRAM] [ROWS], by default the program that bin/prove builds, and 30000 rows.
 
 For 1, 2, 4 and 8 examiners, each in townships of its own and all in one section, prints the wall time (the best of three runs),
 the processor time of that run, the steps served a second, and how many transactions were committed and given up.

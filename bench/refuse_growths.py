@@ -342,7 +342,7 @@ def trials(asked):
 
 def main():
     options = argparse.ArgumentParser(description="Refuses each allocation of a built program's runs in turn.")
-    options.add_argument("--program", default=str(BUILT), help="the built program (default: the one that bin/titleplant builds)")
+    options.add_argument("--program", default=str(BUILT), help="the built program (default: the one that bin/prove builds)")
     options.add_argument("--first", type=int, default=1, help="the first allocation that is refused (default 1)", metavar="N")
     options.add_argument("--every", type=int, default=1, help="refuse every Kth allocation alone", metavar="K")
     options.add_argument("--most", type=int, default=0, help="refuse about N of a run's allocations (default: all)", metavar="N")
@@ -354,7 +354,7 @@ def main():
     options.add_argument("words", nargs="*", metavar="SCRIPT")
     asked = options.parse_args()
     if not os.access(asked.program, os.X_OK):
-        sys.exit(f"refuse_growths.py: {asked.program} isn't there; bin/titleplant --help builds it")
+        sys.exit(f"refuse_growths.py: {asked.program} isn't there; bin/prove builds it")
     start = time.monotonic()
     counts, faults = collections.Counter(), []
     with tempfile.TemporaryDirectory() as work:
