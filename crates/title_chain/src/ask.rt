@@ -4,15 +4,32 @@ ghost use Rattle.std.specs.Prelude.{◌≡◌, IfOk};
 
 use crate::lists::{Entries, SheetRows};
 use std::alloc::{AllocError, Global};
+use std::marker::Model;
+use std::sync::Arc;
 use title_instrument::{Estate, Instrument, Rule};
 use title_land::{Node, Tract};
 
-/// An instrument as it is posted: its document number, its tract and what it does.
+/// The terms of a posting: its document number, its tract and what it does.
 #[derive(Debug, Drop)]
-pub struct Posting {
+pub struct Terms {
     pub doc: u64,
     pub tract: Tract,
     pub instrument: Instrument,
+}
+
+/// An instrument as it is posted. A contract sees it as its terms. Copies share them.
+#[derive(Debug, Drop)]
+pub struct Posting {
+    shared: Arc<Terms>,
+}
+
+impl Model for Posting {
+    ghost use Rattle.std.specs.Arc.{arc_value};
+    ghost use Rattle.title_chain.specs.declared.ask.Terms.{Terms};
+
+    ghost Value = { Terms };
+
+    ghost view = { λ p. arc_value p.shared };
 }
 
 /// One step of a transaction: the sheet of a tract, the chain of a tract, or a post.
@@ -48,15 +65,27 @@ pub struct Step {
 }
 
 impl Posting {
-    /// An equal posting.
-    pub fn copy(&self, alloc: Global) -> Result<Posting, AllocError>
+    /// The posting with these terms.
+    pub fn new(alloc: Global, terms: Terms) -> Result<Posting, AllocError>
+        ensures new { IfOk result (λ posting. posting ≡ terms) }
+    {
+        let shared = Arc::new(alloc, terms)?;
+        Ok(Posting { shared })
+    }
+
+    /// Its terms.
+    pub fn terms(&self) -> &Terms
+        ensures terms { result.now ≡ self.now }
+    {
+        &self.shared
+    }
+
+    /// An equal posting, which shares its terms. Takes no memory; refused only where 2^63 - 1 copies live.
+    pub fn copy(&self, _alloc: Global) -> Result<Posting, AllocError>
         ensures copy { IfOk result (λ posting. posting ≡ self.now) }
     {
-        Ok(Posting {
-            doc: self.doc,
-            tract: self.tract.copy(alloc)?,
-            instrument: self.instrument,
-        })
+        let shared = self.shared.clone()?;
+        Ok(Posting { shared })
     }
 }
 

@@ -25,7 +25,7 @@ fn add_entry(
     let (Ask::Post(posting), Answer::Posted) = (&step.ask, &step.answer) else {
         return Ok(());
     };
-    if !tract.meets(&posting.tract) {
+    if !tract.meets(&posting.terms().tract) {
         return Ok(());
     }
     let posting = posting.copy(alloc)?;

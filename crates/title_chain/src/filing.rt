@@ -192,7 +192,7 @@ impl Filing {
         let (Ask::Post(posting), Answer::Posted) = (&step.ask, &step.answer) else {
             return Ok(());
         };
-        self.file_post(alloc, place, &posting.tract)
+        self.file_post(alloc, place, &posting.terms().tract)
     }
 
     // Files the steps of the record at an index.

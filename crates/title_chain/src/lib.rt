@@ -14,7 +14,7 @@ pub mod same;
 mod same_parts;
 pub mod tract_index;
 
-pub use ask::{Answer, Ask, Entry, Posting, Step};
+pub use ask::{Answer, Ask, Entry, Posting, Step, Terms};
 pub use chains::chain;
 pub use lists::{Entries, Records, SheetRows, Steps};
 pub use own_steps::OwnSteps;

@@ -28,7 +28,8 @@ fn post_again<S: Store>(store: &mut S, step: &Step) -> Result<(), AllocError>
     let (Ask::Post(posting), Answer::Posted) = (&step.ask, &step.answer) else {
         return Ok(());
     };
-    if let Put::Done(image) = store.put(&posting.tract, &posting.instrument)? {
+    let terms = posting.terms();
+    if let Put::Done(image) = store.put(&terms.tract, &terms.instrument)? {
         store.forget(image);
     }
     Ok(())

@@ -2,17 +2,25 @@
 
 ghost use Rattle.std.specs.Prelude.{◌≡◌, ◌↔◌, true};
 
-use crate::ask::{Answer, Ask, Entry, Posting, Step};
+use crate::ask::{Answer, Ask, Entry, Posting, Step, Terms};
 use crate::record::Record;
 use crate::same_parts::{same_estate, same_node, same_rows, same_rule, same_tract};
 
-impl Posting {
-    fn same(&self, other: &Posting) -> bool
+impl Terms {
+    fn same(&self, other: &Terms) -> bool
         ensures same { (result ≡ true) ↔ (self.now ≡ other.now) }
     {
         self.doc == other.doc
             && same_tract(&self.tract, &other.tract)
             && self.instrument.is(&other.instrument)
+    }
+}
+
+impl Posting {
+    fn same(&self, other: &Posting) -> bool
+        ensures same { (result ≡ true) ↔ (self.now ≡ other.now) }
+    {
+        self.terms().same(other.terms())
     }
 }
 

@@ -3,7 +3,7 @@
 use crate::chance::Chance;
 use crate::ground::Ground;
 use std::alloc::{AllocError, Global};
-use title_chain::{Ask, Posting};
+use title_chain::{Ask, Posting, Terms};
 use title_instrument::{Deed, Estates, Instrument, Quantum, Release};
 use title_land::Tract;
 use title_share::Share;
@@ -94,11 +94,12 @@ fn instrument(seed: u32) -> Instrument {
 }
 
 fn post(alloc: Global, tract: &Tract, seed: u32, doc: u64) -> Result<Ask, AllocError> {
-    Ok(Ask::Post(Posting {
+    let terms = Terms {
         doc,
         tract: tract.copy(alloc)?,
         instrument: instrument(seed),
-    }))
+    };
+    Ok(Ask::Post(Posting::new(alloc, terms)?))
 }
 
 impl StepWish {

@@ -27,7 +27,7 @@ pub(crate) fn tract_in(ask: &Ask) -> &Tract
     match ask {
         Ask::Sheet(tract) => tract,
         Ask::Chain(tract) => tract,
-        Ask::Post(posting) => &posting.tract,
+        Ask::Post(posting) => &posting.terms().tract,
     }
 }
 
@@ -50,7 +50,7 @@ pub(crate) fn cause_in(ask: &Ask, parties: u32) -> Option<Cause>
     match ask {
         Ask::Sheet(_) => None,
         Ask::Chain(_) => None,
-        Ask::Post(posting) => posting.instrument.check(parties).err(),
+        Ask::Post(posting) => posting.terms().instrument.check(parties).err(),
     }
 }
 

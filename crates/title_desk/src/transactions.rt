@@ -314,7 +314,8 @@ impl<S: Store + Drop, G: Guards + Drop> Desk<S, G> {
         if self.trace.reserve(self.slots.len() + 1).is_err() {
             return Reply::Memory;
         }
-        let Ok(put) = self.store.put(&posting.tract, &posting.instrument) else {
+        let terms = posting.terms();
+        let Ok(put) = self.store.put(&terms.tract, &terms.instrument) else {
             return Reply::Memory;
         };
         let image = match put {

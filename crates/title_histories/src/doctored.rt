@@ -2,7 +2,7 @@
 
 use crate::plain::{Disagreement, Plain};
 use std::alloc::{AllocError, Global};
-use title_chain::{Ask, Posting, Record};
+use title_chain::{Ask, Posting, Record, Terms};
 use title_chance::township;
 use title_instrument::{Estates, Instrument, Release};
 use title_land::{Node, Section, Township, Tract, Within};
@@ -26,13 +26,13 @@ fn whole(section: Section) -> Tract {
 }
 
 // A release of the surface from party 0 to party 1.
-fn deed_of(section: Section) -> Ask {
+fn deed_of(alloc: Global, section: Section) -> Result<Ask, AllocError> {
     let estates = Estates {
         s: true,
         o: false,
         m: false,
     };
-    Ask::Post(Posting {
+    let terms = Terms {
         doc: 1,
         tract: whole(section),
         instrument: Instrument::Release(Release {
@@ -40,7 +40,8 @@ fn deed_of(section: Section) -> Ask {
             to: 1,
             estates,
         }),
-    })
+    };
+    Ok(Ask::Post(Posting::new(alloc, terms)?))
 }
 
 fn sheet_of(section: Section) -> Ask {
@@ -83,7 +84,8 @@ fn sold(
     let Some(mut machine) = Plain::new(alloc, &[township])? else {
         return Ok(None);
     };
-    let Some(deed) = commit(alloc, &mut machine, 1, deed_of(section))? else {
+    let ask = deed_of(alloc, section)?;
+    let Some(deed) = commit(alloc, &mut machine, 1, ask)? else {
         return Ok(None);
     };
     let Some(sheet) = commit(alloc, &mut machine, 2, sheet_of(section))? else {

@@ -17,7 +17,7 @@ use title_office::{Done, Ledger, Office, Room, Seat, Slip};
 fn assert_chain(rt: &impl Abort, entries: &[Entry], place: u64) {
     assert!(rt; entries.len() == 1);
     let entry = &entries[0];
-    assert!(rt; entry.place == place && entry.posting.doc == 101);
+    assert!(rt; entry.place == place && entry.posting.terms().doc == 101);
 }
 
 // The last answer is the sheet of the sold section.

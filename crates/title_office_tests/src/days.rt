@@ -7,7 +7,7 @@ ghost use Rattle.title_views.specs.Views.{most_viewers};
 use std::alloc::Global;
 use std::process::Abort;
 use std::sync::Wait;
-use title_chain::Posting;
+use title_chain::{Posting, Terms};
 use title_desk::may_open;
 use title_instrument::{Deed, Estate, Estates, Instrument, Quantum};
 use title_land::{Land, Node, Section, Township, Tract, Within};
@@ -34,7 +34,7 @@ pub fn section(rt: &impl Abort, alloc: Global, number: u8) -> Tract {
 }
 
 /// A deed of so many units of the surface from party 0 to party 1.
-pub fn deed(rt: &impl Abort, tract: Tract, units: u64) -> Posting {
+pub fn deed(rt: &impl Abort, alloc: Global, tract: Tract, units: u64) -> Posting {
     let share = Share::new(units).expect(rt, "the units are in range");
     let estates = Estates {
         s: true,
@@ -49,11 +49,12 @@ pub fn deed(rt: &impl Abort, tract: Tract, units: u64) -> Posting {
         quantum: Quantum::Whole(share),
         reserve: [None, None, None],
     });
-    Posting {
+    let terms = Terms {
         doc: 101,
         tract,
         instrument,
-    }
+    };
+    Posting::new(alloc, terms).expect(rt, "there is memory")
 }
 
 /// Office 7, of two parties.
@@ -132,7 +133,7 @@ pub fn begin_with_deed<B: Room, R: Wait + Abort>(
     number: u8,
     units: u64,
 ) -> Slip<B> {
-    let posting = deed(rt, section(rt, alloc, number), units);
+    let posting = deed(rt, alloc, section(rt, alloc, number), units);
     let mut slip = begin(rt, office, seat);
     office
         .post(rt, &mut slip, posting)

@@ -20,7 +20,7 @@ fn post<B: Room, R: Wait + Abort>(
     office: &Office<B>,
     slip: &mut Slip<B>,
 ) -> Result<(), Fault> {
-    let posting = deed(rt, section(rt, alloc, 5), WHOLE);
+    let posting = deed(rt, alloc, section(rt, alloc, 5), WHOLE);
     office.post(rt, slip, posting)
 }
 

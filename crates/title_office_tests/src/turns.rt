@@ -59,7 +59,7 @@ impl Gate for TwoFlags {
 fn script(rt: &impl Abort, alloc: Global, examiner: u32, number: u8) -> Script
     ensures examiner { result.examiner ≡ examiner }
 {
-    let posting = deed(rt, section(rt, alloc, number), WHOLE);
+    let posting = deed(rt, alloc, section(rt, alloc, number), WHOLE);
     let mut asks = Vec::new(alloc);
     asks.push(Ask::Post(posting)).expect(rt, "there is memory");
     let mut transactions = Vec::new(alloc);

@@ -4,7 +4,7 @@ use crate::places::Place;
 use crate::wanted::Wanted;
 use anyhow::{Result, bail};
 use std::alloc::Global;
-use title_chain::{Ask, Posting};
+use title_chain::{Ask, Posting, Terms};
 use title_instrument::{Deed, Estates, Instrument, Quantum};
 use title_share::Share;
 
@@ -53,11 +53,17 @@ impl Sale {
         let Some(share) = Share::new(self.units) else {
             bail!("a deed passes some units, and not more than all");
         };
-        Ok(Posting {
-            doc: self.doc,
-            tract: self.place.tract(alloc, wanted)?,
-            instrument: self.instrument(share),
-        })
+        let tract = self.place.tract(alloc, wanted)?;
+        let (doc, instrument) = (self.doc, self.instrument(share));
+        Ok(wanted.again(|| {
+            let tract = tract.copy(alloc)?;
+            let terms = Terms {
+                doc,
+                tract,
+                instrument,
+            };
+            Posting::new(alloc, terms)
+        })?)
     }
 }
 

@@ -36,8 +36,8 @@ pub fn tell_rows(rt: &impl Print, examiner: u32, rows: &[SheetRow]) -> io::Resul
 }
 
 fn tell_entry(rt: &impl Print, examiner: u32, entry: &Entry) -> io::Result<()> {
-    let (place, doc) = (entry.place, entry.posting.doc);
-    let instrument = &entry.posting.instrument;
+    let (place, terms) = (entry.place, entry.posting.terms());
+    let (doc, instrument) = (terms.doc, terms.instrument);
     let (kind, estates) = (instrument.kind(), instrument.estates());
     let (from, to) = (party(instrument.grantor()), party(instrument.grantee()));
     println!(rt; "{examiner},entry,{place},{doc},{kind},{from},{to},{estates}")
@@ -97,7 +97,7 @@ fn tell_step(rt: &impl Print, examiner: u32, step: &Step) -> io::Result<()> {
     match &step.ask {
         Ask::Sheet(tract) => tell_asked(rt, examiner, "sheet", tract)?,
         Ask::Chain(tract) => tell_asked(rt, examiner, "chain", tract)?,
-        Ask::Post(posting) => tell_asked(rt, examiner, "post", &posting.tract)?,
+        Ask::Post(posting) => tell_asked(rt, examiner, "post", &posting.terms().tract)?,
     }
     tell_answer(rt, examiner, &step.answer)
 }

@@ -201,14 +201,15 @@ fn put_entry<S: Sink>(
         (rows_text (entry_row roster.now examiner entry.now ∷ []))) }
     ensures failed { OnErr result (S.has_failed sink.new ≡ true) }
 {
-    let instrument = entry.posting.instrument;
+    let terms = entry.posting.terms();
+    let instrument = terms.instrument;
     let from = roster.bytes(instrument.grantor());
     let to = roster.bytes(instrument.grantee());
     let fields = [
         ReportField::Number(u64::from(examiner)),
         ReportField::Text(b"entry"),
         ReportField::Number(entry.place),
-        ReportField::Number(entry.posting.doc),
+        ReportField::Number(terms.doc),
         ReportField::Text(kind_bytes(instrument.kind())),
         ReportField::Text(from),
         ReportField::Text(to),
@@ -259,23 +260,16 @@ fn put_entry_line<S: Sink>(
         (rows_text (entry_row roster.now examiner entry.now ∷ []))) }
     ensures failed { OnErr result (S.has_failed sink.new ≡ true) }
 {
-    let instrument = entry.posting.instrument;
-    if make_entry(
-        line,
-        start,
-        entry.place,
-        entry.posting.doc,
-        instrument.kind(),
-    )
-    .is_none()
-    {
+    let terms = entry.posting.terms();
+    let instrument = terms.instrument;
+    if make_entry(line, start, entry.place, terms.doc, instrument.kind()).is_none() {
         return put_entry(page, sink, roster, examiner, entry);
     }
     if !page.has_room(line.as_bytes().len()) {
         return put_entry(page, sink, roster, examiner, entry);
     }
     number_is_plain(entry.place);
-    number_is_plain(entry.posting.doc);
+    number_is_plain(terms.doc);
     let giver = roster.name(instrument.grantor());
     let taker = roster.name(instrument.grantee());
     let end = estates_end(instrument.estates());

@@ -5,7 +5,7 @@ use std::alloc::{AllocError, Global};
 use std::process::Abort;
 use std::test::Fail;
 use title_chain::{
-    Answer, Ask, Entries, Entry, OwnSteps, Posting, Record, Records, SheetRows, Step, Steps,
+    Answer, Ask, Entries, Entry, OwnSteps, Posting, Record, Records, SheetRows, Step, Steps, Terms,
     TractIndex, chain, sheet_by_chain,
 };
 use title_instrument::{Estate, Estates, Instrument, Release, Rule};
@@ -42,15 +42,25 @@ fn record(examiner: u32, steps: Vec<Step>) -> Record {
     }
 }
 
-fn posted(doc: u64, tract: Tract, instrument: Instrument) -> Step {
-    Step {
-        ask: Ask::Post(Posting {
-            doc,
-            tract,
-            instrument,
-        }),
+fn posting(
+    alloc: Global,
+    doc: u64,
+    node: Node,
+    instrument: Instrument,
+) -> Result<Posting, AllocError> {
+    let terms = Terms {
+        doc,
+        tract: Tract::of(node),
+        instrument,
+    };
+    Posting::new(alloc, terms)
+}
+
+fn posted(alloc: Global, doc: u64, node: Node, instrument: Instrument) -> Result<Step, AllocError> {
+    Ok(Step {
+        ask: Ask::Post(posting(alloc, doc, node, instrument)?),
         answer: Answer::Posted,
-    }
+    })
 }
 
 /// Whether the entries have these places and document numbers.
@@ -60,7 +70,7 @@ fn are_entries(entries: &Entries, want: &[(u64, u64)]) -> bool {
         let Some((entry, rest)) = left.split_first() else {
             return false;
         };
-        if entry.place != *place || entry.posting.doc != *doc {
+        if entry.place != *place || entry.posting.terms().doc != *doc {
             return false;
         }
         left = rest;
@@ -85,11 +95,7 @@ fn sheet_step(alloc: Global) -> Result<Step, AllocError> {
 
 // A chain of everything that had one entry.
 fn chain_step(alloc: Global) -> Result<Step, AllocError> {
-    let posting = Posting {
-        doc: 7,
-        tract: Tract::of(Node::Everything),
-        instrument: release(ADAMS, BELL),
-    };
+    let posting = posting(alloc, 7, Node::Everything, release(ADAMS, BELL))?;
     let entry = Entry { place: 1, posting }.copy(alloc)?;
     let entries = Entries::new(vec![in alloc; entry]?)?;
     Ok(Step {
@@ -101,9 +107,9 @@ fn chain_step(alloc: Global) -> Result<Step, AllocError> {
 // A record with a step of each kind; the last is posted, the one before it is refused.
 fn record_of_each(alloc: Global) -> Result<Record, AllocError> {
     let (sheet, chain) = (sheet_step(alloc)?, chain_step(alloc)?);
-    let mut refused = posted(8, Tract::of(Node::Everything), release(BELL, ADAMS));
+    let mut refused = posted(alloc, 8, Node::Everything, release(BELL, ADAMS))?;
     refused.answer = Answer::Refused(Rule::ShortTitle, Estate::S, Node::Everything);
-    let done = posted(9, Tract::of(Node::Everything), release(BELL, ADAMS));
+    let done = posted(alloc, 9, Node::Everything, release(BELL, ADAMS))?;
     Ok(record(1, vec![in alloc; sheet, chain, refused, done]?))
 }
 
@@ -148,7 +154,7 @@ fn a_sheet_by_the_chain_of_no_records(rt: HostRuntime) -> Result<(), Fail> {
 fn own_post(alloc: Global, doc: u64, node: Node) -> Result<OwnSteps, AllocError> {
     let mut own = OwnSteps::new(alloc);
     own.reserve()?;
-    own.push_reserved(posted(doc, Tract::of(node), release(ADAMS, BELL)));
+    own.push_reserved(posted(alloc, doc, node, release(ADAMS, BELL))?);
     Ok(own)
 }
 

@@ -4,7 +4,7 @@ use crate::places::{square, township};
 use std::alloc::{AllocError, Global};
 use std::process::Abort;
 use std::test::Fail;
-use title_chain::{Answer, Ask, Posting};
+use title_chain::{Answer, Ask, Posting, Terms};
 use title_desk::{Desk, may_open};
 use title_instrument::{Deed, Estates, Instrument, Quantum, Release};
 use title_land::{Land, Node, Quarter, Township, Tract};
@@ -39,7 +39,7 @@ fn open(alloc: Global, rt: &impl Abort) -> Result<TestDesk, AllocError> {
     open_for(alloc, rt, 3)
 }
 
-fn posting(doc: u64, tract: Tract) -> Posting {
+fn posting(alloc: Global, doc: u64, tract: Tract) -> Result<Posting, AllocError> {
     let estates = Estates {
         s: true,
         o: false,
@@ -50,11 +50,12 @@ fn posting(doc: u64, tract: Tract) -> Posting {
         to: 1,
         estates,
     });
-    Posting {
+    let terms = Terms {
         doc,
         tract,
         instrument,
-    }
+    };
+    Posting::new(alloc, terms)
 }
 
 fn request(alloc: Global, land: Land, examiner: u32, act: Act) -> Result<Request, AllocError> {
@@ -63,7 +64,7 @@ fn request(alloc: Global, land: Land, examiner: u32, act: Act) -> Result<Request
         Act::Sheet => Request::Step(examiner, Ask::Sheet(Tract::new(alloc, land)?)),
         Act::Chain => Request::Step(examiner, Ask::Chain(Tract::new(alloc, land)?)),
         Act::Post(doc) => {
-            let posting = posting(doc, Tract::new(alloc, land)?);
+            let posting = posting(alloc, doc, Tract::new(alloc, land)?)?;
             Request::Step(examiner, Ask::Post(posting))
         }
         Act::Commit => Request::Commit(examiner),
@@ -201,7 +202,7 @@ fn a_desk_opens_within_its_limits(rt: HostRuntime) -> Result<(), Fail> {
 }
 
 /// A deed of a part of each estate of a tract from party 0.
-fn part_to(grantee: u32, part: Share, tract: Tract) -> Posting {
+fn part_to(alloc: Global, grantee: u32, part: Share, tract: Tract) -> Result<Posting, AllocError> {
     let estates = Estates {
         s: true,
         o: true,
@@ -215,19 +216,21 @@ fn part_to(grantee: u32, part: Share, tract: Tract) -> Posting {
         reserve: [None; 3],
         warranty: false,
     };
-    Posting {
+    let terms = Terms {
         doc: 1,
         tract,
         instrument: Instrument::Deed(deed),
-    }
+    };
+    Posting::new(alloc, terms)
 }
 
 /// Each of a thousand deeds of a cell is posted.
-fn post_a_thousand(rt: &impl Abort, desk: &mut TestDesk, cell: &Node) {
+fn post_a_thousand(alloc: Global, rt: &impl Abort, desk: &mut TestDesk, cell: &Node) {
     let part = Share::parse("1/4096").expect(rt, "it is a share");
     assert!(rt; matches!(desk.serve(Request::Begin(1)), Reply::Began));
     for grantee in 1..1_001 {
-        let ask = Ask::Post(part_to(grantee, part, Tract::of(*cell)));
+        let posting = part_to(alloc, grantee, part, Tract::of(*cell)).expect(rt, "there is memory");
+        let ask = Ask::Post(posting);
         let reply = desk.serve(Request::Step(1, ask));
         assert!(rt;
             matches!(reply, Reply::Answered(Answer::Posted)),
@@ -250,7 +253,7 @@ fn rows_of(rt: &impl Abort, desk: &mut TestDesk, cell: &Node) -> usize {
 fn a_sheet_of_three_thousand_rows(rt: HostRuntime) -> Result<(), Fail> {
     let cell = square(&rt, 5, &[Quarter::Northeast; 4]);
     let mut desk = open_for(rt.alloc(), &rt, 1_001)?;
-    post_a_thousand(&rt, &mut desk, &cell);
+    post_a_thousand(rt.alloc(), &rt, &mut desk, &cell);
     assert_eq!(rt; rows_of(&rt, &mut desk, &cell), 3_003);
     Ok(())
 }

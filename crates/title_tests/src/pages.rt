@@ -6,7 +6,7 @@ use indexmap::IndexSet;
 use std::alloc::{AllocError, Global};
 use std::process::Abort;
 use std::test::Fail;
-use title_chain::{Answer, Entries, Entry, Posting, SheetRows};
+use title_chain::{Answer, Entries, Entry, Posting, SheetRows, Terms};
 use title_device::{Failed, Sink};
 use title_instrument::{Estate, Estates, Instrument, Release};
 use title_land::{Node, Quarter, Tract};
@@ -97,7 +97,14 @@ fn line_of(rt: &impl Abort, i: u64, party: u32, units: u64) -> SheetRow {
 }
 
 // A row of a chain.
-fn entry_of(rt: &impl Abort, place: u64, doc: u64, from: u32, to: u32) -> Entry {
+fn entry_of(
+    rt: &impl Abort,
+    alloc: Global,
+    place: u64,
+    doc: u64,
+    from: u32,
+    to: u32,
+) -> Result<Entry, AllocError> {
     let instrument = Instrument::Release(Release {
         from,
         to,
@@ -107,14 +114,15 @@ fn entry_of(rt: &impl Abort, place: u64, doc: u64, from: u32, to: u32) -> Entry 
             m: doc % 2 == 0,
         },
     });
-    Entry {
+    let terms = Terms {
+        doc,
+        tract: Tract::of(node_of(rt, 0)),
+        instrument,
+    };
+    Ok(Entry {
         place,
-        posting: Posting {
-            doc,
-            tract: Tract::of(node_of(rt, 0)),
-            instrument,
-        },
-    }
+        posting: Posting::new(alloc, terms)?,
+    })
 }
 
 fn long_sheet(rt: &impl Abort, alloc: Global) -> Result<SheetRows, AllocError> {
@@ -130,7 +138,7 @@ fn long_chain(rt: &impl Abort, alloc: Global) -> Result<Entries, AllocError> {
     let mut entries = Vec::new(alloc);
     for i in 0..ROWS {
         let (from, to) = ((i * 31 % PARTIES) as u32, (i * 17 % PARTIES) as u32);
-        entries.push(entry_of(rt, i, i * i, from, to))?;
+        entries.push(entry_of(rt, alloc, i, i * i, from, to)?)?;
     }
     Entries::new(entries)
 }
@@ -177,7 +185,7 @@ fn chain_of(
 ) -> Result<Entries, AllocError> {
     let mut entries = Vec::new(alloc);
     for &(place, doc, from, to) in chain {
-        entries.push(entry_of(rt, place, doc, from, to))?;
+        entries.push(entry_of(rt, alloc, place, doc, from, to)?)?;
     }
     Entries::new(entries)
 }

@@ -2,7 +2,7 @@
 
 use std::alloc::{AllocError, Global};
 use std::sync::Wait;
-use title_chain::Posting;
+use title_chain::{Posting, Terms};
 use title_instrument::{Estates, Instrument, Release};
 use title_land::{Land, Node, Section, Township, Tract, Within};
 use title_office::{Done, Office, Room, Seat};
@@ -42,11 +42,12 @@ fn posting(alloc: Global, number: u32) -> Result<Posting, AllocError> {
         to: 1u32.saturating_sub(round),
         estates,
     });
-    Ok(Posting {
+    let terms = Terms {
         doc: u64::from(number),
         tract: section(alloc, place.saturating_add(1))?,
         instrument,
-    })
+    };
+    Posting::new(alloc, terms)
 }
 
 // Makes a sale: the seat, where it was committed.

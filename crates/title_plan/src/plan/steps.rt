@@ -1,11 +1,12 @@
 //! Rows of steps.
 
-ghost use Rattle.std.specs.Prelude.{◌≡◌, ◌⊎◌, Ok, Err, IfErr, OnOk};
+ghost use Rattle.std.specs.Prelude.{◌≡◌, ◌⊎◌, Ok, Err, IfErr, IfOk, OnOk};
 ghost use Rattle.title_plan.specs.declared.fault.ScriptFault.TheVariants as fault;
 ghost use Rattle.title_trace.specs.declared.call.Request.TheVariants as request;
 ghost use Rattle.title_plan.specs.declared.line.Line.TheVariants as line;
 ghost use Rattle.title_plan.specs.Asked.{asked_in};
-ghost use Rattle.title_plan.specs.Plans.{after_act, after_asked, line_of, number_of, numbered, with_begun, with_ended, with_line};
+ghost use Rattle.title_plan.specs.Plans.{after_act, after_asked, asked_of, line_of, number_of, numbered, post};
+ghost use Rattle.title_plan.specs.Plans.{with_begun, with_ended, with_line};
 ghost use Rattle.title_plan.specs.Rows.{done, named};
 
 use crate::fault::ScriptFault;
@@ -14,10 +15,11 @@ use crate::plan::Plan;
 use crate::plan::turns::{begin, end};
 use crate::readings::Readings;
 use crate::row::Act;
-use std::alloc::AllocError;
+use std::alloc::{AllocError, Global};
 use title_aliquot::DescFault;
-use title_chain::{Ask, Posting};
+use title_chain::{Ask, Posting, Terms};
 use title_instrument::Instrument;
+use title_land::Tract;
 use title_trace::Request;
 
 // The step of an examiner: it asks, alone or not, or its description has a fault.
@@ -28,6 +30,28 @@ fn line(alone: bool, examiner: u32, asked: Result<Ask, DescFault>) -> Line
         Ok(ask) if alone => Line::Alone(examiner, ask),
         Ok(ask) => Line::Asks(Request::Step(examiner, ask)),
         Err(why) => Line::Described(examiner, why),
+    }
+}
+
+// The post of an instrument in a tract, or why there is no tract.
+fn posted(
+    alloc: Global,
+    doc: u64,
+    tract: Result<Tract, DescFault>,
+    instrument: Instrument,
+) -> Result<Result<Ask, DescFault>, AllocError>
+    ensures posted { IfOk result (λ r. r ≡ asked_of (post doc instrument) tract) }
+{
+    match tract {
+        Ok(tract) => {
+            let terms = Terms {
+                doc,
+                tract,
+                instrument,
+            };
+            Ok(Ok(Ask::Post(Posting::new(alloc, terms)?)))
+        }
+        Err(why) => Ok(Err(why)),
     }
 }
 
@@ -126,11 +150,7 @@ impl Plan {
                     return Err(ScriptFault::Party(n));
                 };
                 let tract = readings.read(text)?;
-                let asked = tract.map(|tract| Ask::Post(Posting {
-                    doc,
-                    tract,
-                    instrument,
-                }));
+                let asked = posted(self.alloc, doc, tract, instrument)?;
                 self.take_asked(schedule, n, examiner, asked)
             }
         }

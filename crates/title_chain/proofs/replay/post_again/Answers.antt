@@ -9,8 +9,11 @@ forget-requires-clause-out g c =
     taken_out _ _ _ _ _ _ h.1 c.requires.none
 
 pub returns-in-Done-clause-content : goal.returns-in-Done-clause-content
-returns-in-Done-clause-content g c = λ d. c.forget.ensures.content d
-    ∙ post_done _ _ _ _ _ _ c.in-Post-Posted.is-0 c.in_ok-image.ensures.content d
+returns-in-Done-clause-content g c = λ d.
+    let put = rw c.terms-terms.ensures.terms at c.in_ok-image.ensures.content in
+    c.forget.ensures.content d ∙ post_done _ _ _ _ _ _ c.in-Post-Posted.is-0 put d
 
 pub returns-in_default-2-clause-content : goal.returns-in_default-2-clause-content
-returns-in_default-2-clause-content g c = post_done _ _ _ _ _ _ c.in-Post-Posted.is-0 c.in_ok-image.ensures.content
+returns-in_default-2-clause-content g c =
+    let put = rw c.terms-terms.ensures.terms at c.in_ok-image.ensures.content in
+    post_done _ _ _ _ _ _ c.in-Post-Posted.is-0 put

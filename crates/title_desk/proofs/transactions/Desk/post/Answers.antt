@@ -22,9 +22,10 @@ use Rattle.title_desk.proofs.transactions.Desk.post.Goals as goal
 
 pub invariant_of-self-in-Refused : goal.invariant_of-self-in-Refused
 invariant_of-self-in-Refused g c =
-    let h = rw c.in-Refused.is at c.in-Ok-put.ensures.put in (
+    let told = rw c.terms-terms.ensures.terms at c.in-Ok-put.ensures.put in
+    let h = rw c.in-Refused.is at told in (
       rw c.reserve.ensures.items
-          (keeps_same c.self.invariant.0 (λ d. c.in-Ok-put.ensures.content d
+          (keeps_same c.self.invariant.0 (λ d. (rw c.terms-terms.ensures.terms at c.in-Ok-put.ensures.content) d
           ∙ store.effect_refused depth (g.S.Store.declared c.self.inside.store) c.args.posting.instrument c.args.posting.tract
           (g.S.Store.content c.self.inside.store) d _ h.0)
           c.in-Ok-put.ensures.declared h.1),
@@ -33,20 +34,26 @@ invariant_of-self-in-Refused g c =
 
 pub add_answer-requires-clause-alone : goal.add_answer-requires-clause-alone
 add_answer-requires-clause-alone g c =
-    let h = rw c.in-Refused.is at c.in-Ok-put.ensures.put in
+    let told = rw c.terms-terms.ensures.terms at c.in-Ok-put.ensures.put in
+    let h = rw c.in-Refused.is at told in
     let free = subst (λ (b : Books). InTheWay b.trace c.args.examiner (Post c.args.posting) None) (sym c.self.view_is) c.requires.passes.4
     in
     rw c.reserve.ensures.items (post_due c.args.examiner c.args.posting _ c.self.invariant.0 free h.0)
 
 pub keep_post-requires-clause-out : goal.keep_post-requires-clause-out
-keep_post-requires-clause-out g c = let h = rw c.in-Done.is at c.in-Ok-put.ensures.put in image_out _ _ _ _ _ _ h.1
+keep_post-requires-clause-out g c =
+    let told = rw c.terms-terms.ensures.terms at c.in-Ok-put.ensures.put in
+    let h = rw c.in-Done.is at told in image_out _ _ _ _ _ _ h.1
 
 pub keep_post-requires-clause-last : goal.keep_post-requires-clause-last
-keep_post-requires-clause-last g c = let h = rw c.in-Done.is at c.in-Ok-put.ensures.put in image_last _ _ _ _ _ _ h.1
+keep_post-requires-clause-last g c =
+    let told = rw c.terms-terms.ensures.terms at c.in-Ok-put.ensures.put in
+    let h = rw c.in-Done.is at told in image_last _ _ _ _ _ _ h.1
 
 pub invariant_of-self-then-is_err-2 : goal.invariant_of-self-then-is_err-2
 invariant_of-self-then-is_err-2 g c =
-    let h = rw c.in-Done.is at c.in-Ok-put.ensures.put in
+    let told = rw c.terms-terms.ensures.terms at c.in-Ok-put.ensures.put in
+    let h = rw c.in-Done.is at told in
     let failed = sym c.is_err-2.ensures.value ∙ c.if-is_err-2.true in
     let locks = on_bad c.keep_post.result _ failed c.keep_post.ensures.err_locked in
     let back = on_bad c.keep_post.result _ failed c.keep_post.ensures.err_content in
@@ -55,7 +62,7 @@ invariant_of-self-then-is_err-2 g c =
     let after = g.S.Store.content c.keep_post.new.store in
     let same : SameContent (g.S.Store.content c.self.inside.store) after =
     taken_back _ (g.S.Store.declared c.self.inside.store) c.args.posting.instrument c.args.posting.tract _ mid after _ _ h.1
-    c.in-Ok-put.ensures.content
+    (rw c.terms-terms.ensures.terms at c.in-Ok-put.ensures.content)
     (λ b lent. subst (λ ts. SameContent (put_back ts b mid) after) c.in-Ok-put.ensures.declared (back b lent)) in (
       rw (c.reserve.ensures.items, locks)
           (keeps_same (keeps_back _ (on_bad c.keep_post.result _ failed c.keep_post.ensures.err) c.self.invariant.0)
@@ -65,7 +72,8 @@ invariant_of-self-then-is_err-2 g c =
 
 pub invariant_of-self-2 : goal.invariant_of-self-2
 invariant_of-self-2 g c =
-    let h = rw c.in-Done.is at c.in-Ok-put.ensures.put in
+    let told = rw c.terms-terms.ensures.terms at c.in-Ok-put.ensures.put in
+    let h = rw c.in-Done.is at told in
     let done = sym c.is_err-2.ensures.value ∙ c.if-is_err-2.false in
     let added = on_good c.keep_post.result _ done c.keep_post.ensures.steps in
     let images = on_good c.keep_post.result _ done c.keep_post.ensures.images in
@@ -84,13 +92,14 @@ invariant_of-self-2 g c =
           (c.keep_post.ensures.declared ∙ c.in-Ok-put.ensures.declared)
           (subst (λ o. IsTaken (g.S.Store.number c.in-Done.image) (g.S.Store.declared c.self.inside.store) c.args.posting.tract
           (g.S.Store.content c.self.inside.store) (g.S.Store.out c.self.inside.store) o) (sym out) h.1)
-          (λ d. kept d ∙ c.in-Ok-put.ensures.content d) free due),
+          (λ d. kept d ∙ (rw c.terms-terms.ensures.terms at c.in-Ok-put.ensures.content) d) free due),
       grind (arith, common_steps, c.self.invariant.1, c.keep_post.ensures.len),
     )
 
 pub returns : goal.returns
 returns g c =
-    let h = rw c.in-Done.is at c.in-Ok-put.ensures.put in
+    let told = rw c.terms-terms.ensures.terms at c.in-Ok-put.ensures.put in
+    let h = rw c.in-Done.is at told in
     let free = subst (λ (b : Books). InTheWay b.trace c.args.examiner (Post c.args.posting) None) (sym c.self.view_is) c.requires.passes.4
     in
     let is = subst (λ (b : Books). Posted ≡ alone depth b.setting.townships (committed b.trace) (open_steps b.trace c.args.examiner)

@@ -17,9 +17,10 @@ use Rattle.title_desk.proofs.transactions.Desk.post_alone.Goals as goal
 
 pub invariant_of-self-in-Refused : goal.invariant_of-self-in-Refused
 invariant_of-self-in-Refused g c =
-    let h = rw c.in-Refused.is at c.in-Ok-put.ensures.put in (
+    let told = rw c.terms-terms.ensures.terms at c.in-Ok-put.ensures.put in
+    let h = rw c.in-Refused.is at told in (
       rw (c.reserve.ensures.items, c.reserve-2.ensures.records)
-          (keeps_same c.self.invariant.0 (λ d. c.in-Ok-put.ensures.content d
+          (keeps_same c.self.invariant.0 (λ d. (rw c.terms-terms.ensures.terms at c.in-Ok-put.ensures.content) d
           ∙ store.effect_refused depth (g.S.Store.declared c.self.inside.store) c.args.posting.instrument c.args.posting.tract
           (g.S.Store.content c.self.inside.store) d _ h.0)
           c.put.ensures.declared h.1),
@@ -32,30 +33,36 @@ answer_alone-requires-clause-idle g c =
 
 pub answer_alone-requires-clause-alone : goal.answer_alone-requires-clause-alone
 answer_alone-requires-clause-alone g c =
-    let h = rw c.in-Refused.is at c.in-Ok-put.ensures.put in
+    let told = rw c.terms-terms.ensures.terms at c.in-Ok-put.ensures.put in
+    let h = rw c.in-Refused.is at told in
     let idle = subst (λ (b : Books). IsIdle b.trace) (sym c.self.view_is) c.requires.idle in
     let none = no_steps c.idle_have_no_steps.ensures.none idle c.self.invariant.0 in
     rw c.reserve.ensures.items (post_due c.args.examiner c.args.posting _ c.self.invariant.0
     (nobody_in_the_way (reverse c.self.inside.trace.items) c.args.examiner (Post c.args.posting) none) h.0)
 
 pub settle-requires-clause-out : goal.settle-requires-clause-out
-settle-requires-clause-out g c = let h = rw c.in-Done.is at c.in-Ok-put.ensures.put in image_out _ _ _ _ _ _ h.1
+settle-requires-clause-out g c =
+    let told = rw c.terms-terms.ensures.terms at c.in-Ok-put.ensures.put in
+    let h = rw c.in-Done.is at told in image_out _ _ _ _ _ _ h.1
 
 pub settle-requires-clause-first : goal.settle-requires-clause-first
 settle-requires-clause-first g c =
-    let h = rw c.in-Done.is at c.in-Ok-put.ensures.put in
+    let told = rw c.terms-terms.ensures.terms at c.in-Ok-put.ensures.put in
+    let h = rw c.in-Done.is at told in
     let idle = subst (λ (b : Books). IsIdle b.trace) (sym c.self.view_is) c.requires.idle in
     image_first _ _ _ _ _ _ (nothing_out idle c.self.invariant.0) h.1
 
 pub settle-requires-clause-only : goal.settle-requires-clause-only
 settle-requires-clause-only g c =
-    let h = rw c.in-Done.is at c.in-Ok-put.ensures.put in
+    let told = rw c.terms-terms.ensures.terms at c.in-Ok-put.ensures.put in
+    let h = rw c.in-Done.is at told in
     let idle = subst (λ (b : Books). IsIdle b.trace) (sym c.self.view_is) c.requires.idle in
     taken_out _ _ _ _ _ _ h.1 ∙ nothing_out idle c.self.invariant.0
 
 pub invariant_of-self-2 : goal.invariant_of-self-2
 invariant_of-self-2 g c =
-    let h = rw c.in-Done.is at c.in-Ok-put.ensures.put in
+    let told = rw c.terms-terms.ensures.terms at c.in-Ok-put.ensures.put in
+    let h = rw c.in-Done.is at told in
     let law = c.idle_have_no_steps.ensures.none in
     let k = c.self.invariant.0 in
     let idle = subst (λ (b : Books). IsIdle b.trace) (sym c.self.view_is) c.requires.idle in
@@ -70,13 +77,14 @@ invariant_of-self-2 g c =
       rw (c.add_calls.ensures.calls, c.reserve.ensures.items, place)
           (keeps_deed law idle k c.args.examiner c.args.posting stands (post_due c.args.examiner c.args.posting None k free h.0)
           (c.settle.ensures.declared ∙ c.put.ensures.declared) c.settle.ensures.out more
-          (λ d. c.settle.ensures.content d ∙ c.in-Ok-put.ensures.content d)),
+          (λ d. c.settle.ensures.content d ∙ (rw c.terms-terms.ensures.terms at c.in-Ok-put.ensures.content) d)),
       grind (arith, common_steps, c.self.invariant.1, c.add_calls.ensures.len, c.add_calls.ensures.capacity),
     )
 
 pub returns : goal.returns
 returns g c =
-    let h = rw c.in-Done.is at c.in-Ok-put.ensures.put in
+    let told = rw c.terms-terms.ensures.terms at c.in-Ok-put.ensures.put in
+    let h = rw c.in-Done.is at told in
     let law = c.idle_have_no_steps.ensures.none in
     let k = c.self.invariant.0 in
     let idle = subst (λ (b : Books). IsIdle b.trace) (sym c.self.view_is) c.requires.idle in
