@@ -6,3 +6,4 @@ pub mod Lists
 pub mod Runs
 pub mod Ends
 pub mod Crossing
+pub mod Faults
