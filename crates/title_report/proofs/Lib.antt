@@ -1,3 +1,4 @@
+pub mod Escapes
 pub mod Halvings
 pub mod Judged
 pub mod Lines

@@ -1,6 +1,6 @@
 -- A sheet's row in the parts in which it is written.
 use Rattle.std.proofs.Common.{◌≡◌, ◌∙◌, ◌++◌, ◌∷◌, [], ◌<◌, ◌^◌, ℕ, List, Option, None, Some}
-use Rattle.std.proofs.Common.{OnSome, Bool, true, false, refl, codes, append_assoc}
+use Rattle.std.proofs.Common.{OnSome, Bool, true, false, refl, sym, ap, subst, codes, append_assoc}
 use Rattle.std.specs.Option.{is_some}
 use Rattle.std.proofs.lemmas.List.{append-nil}
 use Rattle.std.specs.Fmt.{decimal}
@@ -18,6 +18,8 @@ use Rattle.title_instrument.specs.Parties.{estates_of, grantee_of, grantor_of}
 use Rattle.title_chain.specs.declared.ask.Entry.{Entry}
 use Rattle.title_store.specs.declared.sheet_row.SheetRow.{SheetRow}
 use Rattle.title_page.specs.Rows.{row, row_writer, rows_text}
+use Rattle.title_report.specs.declared.entry_line.EntryKey.{EntryKey}
+use Rattle.title_report.specs.EntryTexts.{entry_text, key_of}
 use Rattle.title_report.specs.Fronts.{entry_start, front_text, names_text, tail_text}
 use Rattle.title_report.specs.Replies.{entry_row, name_of, sheet_row}
 use Rattle.title_report.proofs.Plain.{node_field, plain_field, plain_number}
@@ -129,3 +131,25 @@ pub entry_from : (start front giver taker end : List ℕ) (kind : Kind) (g t : �
     → rows_text (entry_row names e x ∷ []) ≡ front ++ (names_text giver taker ++ end)
 entry_from start front giver taker end kind g t of names e x s f k gn gi tn ti z o small place doc =
     rw (f, s, k, gn, gi, tn, ti, z, o) (entry_parts names e x small place doc)
+
+-- the same parts with all but the examiner's text in one
+behind : (s p q k f t z : List ℕ) → (s ++ p ++ codes "," ++ q ++ k) ++ ((f ++ 44 ∷ t) ++ z)
+    ≡ s ++ (p ++ codes "," ++ q ++ k ++ f ++ codes "," ++ t ++ z)
+behind s p q k f t z = simp (append_assoc) refl
+
+-- a row of a chain from the examiner's text and that of its key
+pub entry_by_key : (start text : List ℕ) (key : EntryKey) (names : List (List ℕ)) (e : ℕ) (x : Entry) → start ≡ entry_start e
+    → text ≡ entry_text names key → key ≡ key_of x → e < 2 ^ 64 → field_text row_writer (decimal key.place) ≡ decimal key.place
+    → field_text row_writer (decimal key.doc) ≡ decimal key.doc → rows_text (entry_row names e x ∷ []) ≡ start ++ text
+entry_by_key start text key names e x s t k small place doc =
+    let at_place : field_text row_writer (decimal x.place) ≡ decimal x.place =
+    subst (λ (y : EntryKey). field_text row_writer (decimal y.place) ≡ decimal y.place) k place in
+    let at_doc : field_text row_writer (decimal x.posting.doc) ≡ decimal x.posting.doc =
+    subst (λ (y : EntryKey). field_text row_writer (decimal y.doc) ≡ decimal y.doc) k doc in
+    entry_parts names e x small at_place at_doc
+    ∙ behind (entry_start e) (decimal x.place) (decimal x.posting.doc) (44 ∷ (kind_word (kind_of x.posting.instrument) ++ 44 ∷ []))
+    (field_text row_writer (name_of names (grantor_of x.posting.instrument)))
+    (field_text row_writer (name_of names (grantee_of x.posting.instrument)))
+    (44 ∷ (estates_text (estates_of x.posting.instrument) ++ 10 ∷ []))
+    ∙ ap (λ (y : EntryKey). entry_start e ++ entry_text names y) (sym k)
+    ∙ ap (λ (y : List ℕ). y ++ entry_text names key) (sym s) ∙ ap (λ (y : List ℕ). start ++ y) (sym t)

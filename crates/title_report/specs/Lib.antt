@@ -1,3 +1,4 @@
+pub mod EntryTexts
 pub mod Fields
 pub mod Fronts
 pub mod Replies

@@ -1,15 +1,18 @@
 //! The rows of answers.
 
-ghost use Rattle.std.specs.Prelude.{◌≡◌, ◌∷◌, ◌++◌, [], true, false, OnOk, OnErr, codes, length, map};
+ghost use Rattle.std.specs.Prelude.{◌≡◌, ◌∷◌, ◌++◌, [], true, false, All, OnOk, OnErr, codes, length, map};
 ghost use Rattle.std.specs.String.{string_bytes};
 ghost use Rattle.csv.specs.Writing.{field_text};
 ghost use Rattle.title_instrument.specs.Kinds.{kind_word};
 ghost use Rattle.title_page.specs.Pages.{Stopped, Written};
 ghost use Rattle.title_page.specs.Rows.{row_writer, rows_text};
+ghost use Rattle.title_report.specs.EntryTexts.{IsMade};
 ghost use Rattle.title_report.specs.Fronts.{entry_start, tail_text, IsFront};
 ghost use Rattle.title_report.specs.Replies.{answer_rows, entry_row, name_of, number_row, refused_row, sheet_row};
 
 use crate::entries::{estates_end, make_entry, make_start, put_entry_from};
+use crate::entry_line::{EntryLine, key_of};
+use crate::entry_lines::line_of;
 use crate::field::ReportField;
 use crate::front::Front;
 use crate::nodes::number_is_plain;
@@ -276,17 +279,111 @@ fn put_entry_line<S: Sink>(
     put_entry_from(page, sink, line.as_bytes(), &giver, &taker, end)
 }
 
+// Writes two texts as they are.
+fn put_both<S: Sink>(
+    page: &mut Page,
+    sink: &mut S,
+    first: &[u8],
+    second: &[u8],
+) -> Result<(), Failed>
+    requires works { S.has_failed sink.old ≡ false }
+    ensures written { OnOk result (Written (S.taken sink.old) page.old (S.taken sink.new) page.new (first.now ++ second.now)) }
+    ensures well { OnOk result (S.has_failed sink.new ≡ false) }
+    ensures stopped { OnErr result (Stopped (S.taken sink.old) page.old (S.taken sink.new) (first.now ++ second.now)) }
+    ensures failed { OnErr result (S.has_failed sink.new ≡ true) }
+{
+    page.put(sink, first)?;
+    page.put(sink, second)
+}
+
+// Writes a row of a chain from a line: its text behind the examiner is made once, and is then used for all rows of its entry.
+// Where no line holds that text, or the page has no room for the row, it is made from its parts, so that the page goes to the
+// sink where it would if all rows were written so.
+fn put_kept_entry<S: Sink>(
+    page: &mut Page,
+    sink: &mut S,
+    roster: &Roster,
+    kept: &mut EntryLine,
+    examiner: u32,
+    start: &[u8],
+    line: &mut Line,
+    entry: &Entry,
+) -> Result<(), Failed>
+    requires start { start.now ≡ entry_start examiner }
+    requires kept { IsMade roster.now kept.old }
+    requires works { S.has_failed sink.old ≡ false }
+    ensures kept { IsMade roster.now kept.new }
+    ensures written { OnOk result (Written (S.taken sink.old) page.old (S.taken sink.new) page.new
+        (rows_text (entry_row roster.now examiner entry.now ∷ []))) }
+    ensures well { OnOk result (S.has_failed sink.new ≡ false) }
+    ensures stopped { OnErr result (Stopped (S.taken sink.old) page.old (S.taken sink.new)
+        (rows_text (entry_row roster.now examiner entry.now ∷ []))) }
+    ensures failed { OnErr result (S.has_failed sink.new ≡ true) }
+{
+    let key = key_of(entry);
+    if kept.text_for(roster, &key).is_none() {
+        return put_entry_line(page, sink, roster, examiner, start, line, entry);
+    }
+    if !page.has_room(start.len() + kept.text.len()) {
+        return put_entry_line(page, sink, roster, examiner, start, line, entry);
+    }
+    number_is_plain(key.place);
+    number_is_plain(key.doc);
+    put_both(page, sink, start, kept.text.as_slice())
+}
+
+// Writes a row of a chain: from the line of its entry, where there is one.
+fn put_each_entry<S: Sink>(
+    page: &mut Page,
+    sink: &mut S,
+    roster: &Roster,
+    lines: &mut [EntryLine],
+    examiner: u32,
+    start: &[u8],
+    line: &mut Line,
+    entry: &Entry,
+) -> Result<(), Failed>
+    requires start { start.now ≡ entry_start examiner }
+    requires lines { All (IsMade roster.now) lines.old }
+    requires works { S.has_failed sink.old ≡ false }
+    ensures lines { All (IsMade roster.now) lines.new }
+    ensures written { OnOk result (Written (S.taken sink.old) page.old (S.taken sink.new) page.new
+        (rows_text (entry_row roster.now examiner entry.now ∷ []))) }
+    ensures well { OnOk result (S.has_failed sink.new ≡ false) }
+    ensures stopped { OnErr result (Stopped (S.taken sink.old) page.old (S.taken sink.new)
+        (rows_text (entry_row roster.now examiner entry.now ∷ []))) }
+    ensures failed { OnErr result (S.has_failed sink.new ≡ true) }
+{
+    let number = line_of(entry.place);
+    if number < lines.len() {
+        return put_kept_entry(
+            page,
+            sink,
+            roster,
+            &mut lines[number],
+            examiner,
+            start,
+            line,
+            entry,
+        );
+    }
+    put_entry_line(page, sink, roster, examiner, start, line, entry)
+}
+
 // Writes the entries of a chain, each from the text with which they begin.
 fn put_entries_from<S: Sink>(
     page: &mut Page,
     sink: &mut S,
     roster: &Roster,
+    lines: &mut [EntryLine],
     examiner: u32,
     start: &[u8],
     entries: &[Entry],
 ) -> Result<(), Failed>
     requires start { start.now ≡ entry_start examiner }
+    requires lines { All (IsMade roster.now) lines.old }
     requires works { S.has_failed sink.old ≡ false }
+    ensures lines { All (IsMade roster.now) lines.new }
     ensures written { OnOk result (Written (S.taken sink.old) page.old (S.taken sink.new) page.new
         (rows_text (map (entry_row roster.now examiner) entries.now))) }
     ensures well { OnOk result (S.has_failed sink.new ≡ false) }
@@ -296,7 +393,7 @@ fn put_entries_from<S: Sink>(
 {
     let mut line = Line::new();
     for entry in entries {
-        put_entry_line(page, sink, roster, examiner, start, &mut line, entry)?;
+        put_each_entry(page, sink, roster, lines, examiner, start, &mut line, entry)?;
     }
     Ok(())
 }
@@ -306,10 +403,13 @@ fn put_entries<S: Sink>(
     page: &mut Page,
     sink: &mut S,
     roster: &Roster,
+    lines: &mut [EntryLine],
     examiner: u32,
     entries: &[Entry],
 ) -> Result<(), Failed>
+    requires lines { All (IsMade roster.now) lines.old }
     requires works { S.has_failed sink.old ≡ false }
+    ensures lines { All (IsMade roster.now) lines.new }
     ensures written { OnOk result (Written (S.taken sink.old) page.old (S.taken sink.new) page.new
         (rows_text (map (entry_row roster.now examiner) entries.now))) }
     ensures well { OnOk result (S.has_failed sink.new ≡ false) }
@@ -321,7 +421,15 @@ fn put_entries<S: Sink>(
     if make_start(&mut start, examiner).is_none() {
         return put_entries_by_fields(page, sink, roster, examiner, entries);
     }
-    put_entries_from(page, sink, roster, examiner, start.as_bytes(), entries)
+    put_entries_from(
+        page,
+        sink,
+        roster,
+        lines,
+        examiner,
+        start.as_bytes(),
+        entries,
+    )
 }
 
 // Writes a chain: the row that counts its entries, and these.
@@ -329,10 +437,13 @@ fn put_chain<S: Sink>(
     page: &mut Page,
     sink: &mut S,
     roster: &Roster,
+    lines: &mut [EntryLine],
     examiner: u32,
     entries: &[Entry],
 ) -> Result<(), Failed>
+    requires lines { All (IsMade roster.now) lines.old }
     requires works { S.has_failed sink.old ≡ false }
+    ensures lines { All (IsMade roster.now) lines.new }
     ensures written { OnOk result (Written (S.taken sink.old) page.old (S.taken sink.new) page.new
         (rows_text (number_row examiner (codes "chain") (length entries.now)
         ∷ map (entry_row roster.now examiner) entries.now))) }
@@ -343,7 +454,7 @@ fn put_chain<S: Sink>(
     ensures failed { OnErr result (S.has_failed sink.new ≡ true) }
 {
     put_number_row(page, sink, examiner, b"chain", entries.len() as u64)?;
-    put_entries(page, sink, roster, examiner, entries)
+    put_entries(page, sink, roster, lines, examiner, entries)
 }
 
 // Writes the rows of an answer.
@@ -351,10 +462,13 @@ pub(crate) fn put_answer<S: Sink>(
     page: &mut Page,
     sink: &mut S,
     roster: &Roster,
+    lines: &mut [EntryLine],
     examiner: u32,
     answer: &Answer,
 ) -> Result<(), Failed>
+    requires lines { All (IsMade roster.now) lines.old }
     requires works { S.has_failed sink.old ≡ false }
+    ensures lines { All (IsMade roster.now) lines.new }
     ensures written { OnOk result (Written (S.taken sink.old) page.old (S.taken sink.new) page.new
         (rows_text (answer_rows roster.now examiner answer.now))) }
     ensures well { OnOk result (S.has_failed sink.new ≡ false) }
@@ -364,7 +478,14 @@ pub(crate) fn put_answer<S: Sink>(
 {
     match answer {
         Answer::Rows(rows) => put_sheet(page, sink, roster, examiner, rows.as_slice()),
-        Answer::Entries(entries) => put_chain(page, sink, roster, examiner, entries.as_slice()),
+        Answer::Entries(entries) => put_chain(
+            page,
+            sink,
+            roster,
+            lines,
+            examiner,
+            entries.as_slice(),
+        ),
         Answer::Posted => put_word_row(page, sink, examiner, b"posted"),
         Answer::Refused(rule, estate, node) => {
             put_refused(page, sink, examiner, *rule, *estate, *node)

@@ -16,7 +16,7 @@ use title_instrument::{Estates, Kind};
 use title_page::{Line, Page};
 
 // A kind's word between two commas.
-fn kind_between(kind: Kind) -> &'static [u8]
+pub(crate) fn kind_between(kind: Kind) -> &'static [u8]
     ensures word { result.now ≡ 44 ∷ (kind_word kind ++ 44 ∷ []) }
 {
     match kind {

@@ -1,13 +1,16 @@
 //! The rows of replies.
 
-ghost use Rattle.std.specs.Prelude.{◌≡◌, ◌<◌, ◌∷◌, [], true, false, OnOk, OnErr, length, map};
+ghost use Rattle.std.specs.Prelude.{◌≡◌, ◌<◌, ◌∷◌, [], true, false, All, OnOk, OnErr, length, map};
 ghost use Rattle.std.specs.String.{string_bytes};
 ghost use Rattle.title_page.specs.Pages.{Stopped, Written};
 ghost use Rattle.title_page.specs.Rows.{rows_text};
+ghost use Rattle.title_report.specs.EntryTexts.{IsMade};
 ghost use Rattle.title_report.specs.Fields.{text_of};
 ghost use Rattle.title_report.specs.Replies.{described_row, end_row, number_row, reply_rows, word_row};
 
 use crate::answers::put_answer;
+use crate::entry_line::EntryLine;
+use crate::entry_lines::EntryLines;
 use crate::field::ReportField;
 use crate::roster::Roster;
 use indexmap::IndexSet;
@@ -83,6 +86,44 @@ pub(crate) fn put_number_row<S: Sink>(
     put_row(page, sink, &fields)
 }
 
+// Writes the rows of a reply, those of chains by the lines of their entries.
+fn put_reply_by<S: Sink>(
+    page: &mut Page,
+    sink: &mut S,
+    roster: &Roster,
+    lines: &mut [EntryLine],
+    examiner: u32,
+    reply: &Reply,
+) -> Result<(), Failed>
+    requires lines { All (IsMade roster.now) lines.old }
+    requires works { S.has_failed sink.old ≡ false }
+    ensures lines { All (IsMade roster.now) lines.new }
+    ensures written { OnOk result (Written (S.taken sink.old) page.old (S.taken sink.new) page.new
+        (rows_text (reply_rows roster.now examiner reply.now))) }
+    ensures well { OnOk result (S.has_failed sink.new ≡ false) }
+    ensures stopped { OnErr result (Stopped (S.taken sink.old) page.old (S.taken sink.new)
+        (rows_text (reply_rows roster.now examiner reply.now))) }
+    ensures failed { OnErr result (S.has_failed sink.new ≡ true) }
+{
+    match reply {
+        Reply::Began => put_word_row(page, sink, examiner, b"began"),
+        Reply::Answered(answer) => put_answer(page, sink, roster, lines, examiner, answer),
+        Reply::Committed(place) => put_number_row(page, sink, examiner, b"committed", *place),
+        Reply::Aborted => put_word_row(page, sink, examiner, b"aborted"),
+        Reply::NotOpen => put_word_row(page, sink, examiner, b"notopen"),
+        Reply::AlreadyOpen => put_word_row(page, sink, examiner, b"alreadyopen"),
+        Reply::NoSuchTownship => put_word_row(page, sink, examiner, b"notownship"),
+        Reply::Invalid(cause) => {
+            put_number_row(page, sink, examiner, b"invalid", u64::from(cause.number()))
+        }
+        Reply::TooLong => put_word_row(page, sink, examiner, b"toolong"),
+        Reply::Conflict(other) => {
+            put_number_row(page, sink, examiner, b"conflict", u64::from(*other))
+        }
+        Reply::Memory => Ok(()),
+    }
+}
+
 /// Writes the rows of a reply to an examiner, the names having the parties' numbers as places; a Memory reply has none.
 /// `Failed` where a push fails; the sink then has a beginning of what was written.
 pub fn put_reply<S: Sink>(
@@ -119,23 +160,34 @@ pub fn put_reply_with<S: Sink>(
         (rows_text (reply_rows roster.now examiner reply.now))) }
     ensures failed { OnErr result (S.has_failed sink.new ≡ true) }
 {
-    match reply {
-        Reply::Began => put_word_row(page, sink, examiner, b"began"),
-        Reply::Answered(answer) => put_answer(page, sink, roster, examiner, answer),
-        Reply::Committed(place) => put_number_row(page, sink, examiner, b"committed", *place),
-        Reply::Aborted => put_word_row(page, sink, examiner, b"aborted"),
-        Reply::NotOpen => put_word_row(page, sink, examiner, b"notopen"),
-        Reply::AlreadyOpen => put_word_row(page, sink, examiner, b"alreadyopen"),
-        Reply::NoSuchTownship => put_word_row(page, sink, examiner, b"notownship"),
-        Reply::Invalid(cause) => {
-            put_number_row(page, sink, examiner, b"invalid", u64::from(cause.number()))
-        }
-        Reply::TooLong => put_word_row(page, sink, examiner, b"toolong"),
-        Reply::Conflict(other) => {
-            put_number_row(page, sink, examiner, b"conflict", u64::from(*other))
-        }
-        Reply::Memory => Ok(()),
-    }
+    put_reply_by(page, sink, roster, &mut [], examiner, reply)
+}
+
+/// The same with the lines of entries, which spare the making of rows that were shown before. `Failed` as with `put_reply`.
+pub fn put_reply_from<S: Sink>(
+    page: &mut Page,
+    sink: &mut S,
+    lines: &mut EntryLines,
+    examiner: u32,
+    reply: &Reply,
+) -> Result<(), Failed>
+    requires works { S.has_failed sink.old ≡ false }
+    ensures names { lines.new ≡ lines.old }
+    ensures written { OnOk result (Written (S.taken sink.old) page.old (S.taken sink.new) page.new
+        (rows_text (reply_rows lines.old examiner reply.now))) }
+    ensures well { OnOk result (S.has_failed sink.new ≡ false) }
+    ensures stopped { OnErr result (Stopped (S.taken sink.old) page.old (S.taken sink.new)
+        (rows_text (reply_rows lines.old examiner reply.now))) }
+    ensures failed { OnErr result (S.has_failed sink.new ≡ true) }
+{
+    put_reply_by(
+        page,
+        sink,
+        &lines.roster,
+        lines.lines.as_mut_slice(),
+        examiner,
+        reply,
+    )
 }
 
 // Writes the row of a description that is none at this byte.

@@ -1,6 +1,6 @@
 //! The names of a report's parties.
 
-ghost use Rattle.std.specs.Prelude.{◌≡◌, false, map, OnErr, OnOk, true};
+ghost use Rattle.std.specs.Prelude.{◌≡◌, ◌++◌, false, map, OnErr, OnOk, OnSome, true};
 ghost use Rattle.std.specs.String.{string_bytes};
 ghost use Rattle.csv.specs.Writing.{field_text, needs_quotes};
 ghost use Rattle.title_page.specs.Pages.{Stopped, Written};
@@ -9,6 +9,7 @@ ghost use Rattle.title_report.specs.Replies.{name_of};
 ghost use Rattle.title_report.specs.Rosters.{AreJudged, where_known};
 
 use crate::replies::Names;
+use crate::row_text::{RowText, add_field};
 use arrayvec::ArrayVec;
 use std::marker::Model;
 use title_device::{Failed, Sink};
@@ -67,6 +68,16 @@ impl<'a> Name<'a> {
         match self.in_quotes {
             Some(in_quotes) => page.judged_field(sink, self.bytes, in_quotes),
             None => page.field(sink, self.bytes),
+        }
+    }
+
+    /// Adds it to a text as a field. `None` where there is no room for it.
+    pub(crate) fn add_to(&self, text: &mut RowText) -> Option<()>
+        ensures added { OnSome result (text.new.items ≡ text.old.items ++ field_text row_writer self.now) }
+    {
+        match self.in_quotes {
+            Some(in_quotes) => add_field(text, self.bytes, in_quotes),
+            None => add_field(text, self.bytes, is_quoted(self.bytes)),
         }
     }
 }

@@ -54,7 +54,7 @@ pub fn run_by<R: Source, W: Sink, V: Watch>(
 {
     let script = read_all(alloc, source)?;
     let served = serve_script(alloc, schedule, script, watch)?;
-    write_served(sink, &served)?;
+    write_served(alloc, sink, &served)?;
     Ok(())
 }
 

@@ -8,27 +8,29 @@ ghost use Rattle.title_page.specs.Rows.{rows_text};
 ghost use Rattle.title_script.specs.Told.{served_text, told_rows};
 
 use crate::told::{Served, Told};
+use std::alloc::Global;
 use title_device::{Failed, Sink};
 use title_page::Page;
-use title_report::{Roster, put_described, put_end, put_reply_with};
+use title_report::{EntryLines, Roster, put_described, put_end, put_reply_from};
 
 // Writes the rows of what came of a step row.
 fn put_told<S: Sink>(
     page: &mut Page,
     sink: &mut S,
-    roster: &Roster,
+    lines: &mut EntryLines,
     told: &Told,
 ) -> Result<(), Failed>
     requires works { S.has_failed sink.old ≡ false }
+    ensures names { lines.new ≡ lines.old }
     ensures written { OnOk result (Written (S.taken sink.old) page.old (S.taken sink.new) page.new
-        (rows_text (told_rows roster.now told.now))) }
+        (rows_text (told_rows lines.old told.now))) }
     ensures well { OnOk result (S.has_failed sink.new ≡ false) }
     ensures stopped { OnErr result (Stopped (S.taken sink.old) page.old (S.taken sink.new)
-        (rows_text (told_rows roster.now told.now))) }
+        (rows_text (told_rows lines.old told.now))) }
     ensures failed { OnErr result (S.has_failed sink.new ≡ true) }
 {
     match told {
-        Told::Replied(examiner, reply) => { put_reply_with(page, sink, roster, *examiner, reply) },
+        Told::Replied(examiner, reply) => { put_reply_from(page, sink, lines, *examiner, reply) },
         Told::Described(examiner, why) => put_described(page, sink, *examiner, *why),
     }
 }
@@ -37,26 +39,32 @@ fn put_told<S: Sink>(
 fn put_all_told<S: Sink>(
     page: &mut Page,
     sink: &mut S,
-    roster: &Roster,
+    lines: &mut EntryLines,
     told: &[Told],
 ) -> Result<(), Failed>
     requires works { S.has_failed sink.old ≡ false }
+    ensures names { lines.new ≡ lines.old }
     ensures written { OnOk result (Written (S.taken sink.old) page.old (S.taken sink.new) page.new
-        (rows_text (flat_map (told_rows roster.now) told.now))) }
+        (rows_text (flat_map (told_rows lines.old) told.now))) }
     ensures well { OnOk result (S.has_failed sink.new ≡ false) }
     ensures stopped { OnErr result (Stopped (S.taken sink.old) page.old (S.taken sink.new)
-        (rows_text (flat_map (told_rows roster.now) told.now))) }
+        (rows_text (flat_map (told_rows lines.old) told.now))) }
     ensures failed { OnErr result (S.has_failed sink.new ≡ true) }
 {
     for one in told {
-        put_told(page, sink, roster, one)?;
+        put_told(page, sink, lines, one)?;
     }
     Ok(())
 }
 
-/// Writes the report of a script whose steps have been served. It takes no memory. `Failed` where a push fails; the sink
+/// Writes the report of a script whose steps have been served. It wants no memory: lines for the entries of chains are made
+/// before the first byte, and where these are refused the report is written without them. `Failed` where a push fails; the sink
 /// has then taken a beginning of the report.
-pub(crate) fn write_served<S: Sink>(sink: &mut S, served: &Served) -> Result<(), Failed>
+pub(crate) fn write_served<S: Sink>(
+    alloc: Global,
+    sink: &mut S,
+    served: &Served,
+) -> Result<(), Failed>
     requires works { S.has_failed sink.old ≡ false }
     ensures bytes { OnOk result (Appends (S.taken sink.old) (S.taken sink.new) (served_text served.now)) }
     ensures well { OnOk result (S.has_failed sink.new ≡ false) }
@@ -65,7 +73,8 @@ pub(crate) fn write_served<S: Sink>(sink: &mut S, served: &Served) -> Result<(),
 {
     let mut page = Page::new();
     let roster = Roster::judged(&served.plan.parties);
-    put_all_told(&mut page, sink, &roster, served.told.as_slice())?;
+    let mut lines = EntryLines::new(alloc, roster, served.told.len());
+    put_all_told(&mut page, sink, &mut lines, served.told.as_slice())?;
     put_end(&mut page, sink, served.steps)?;
     page.pass(sink)?;
     Ok(())

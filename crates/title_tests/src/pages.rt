@@ -11,7 +11,7 @@ use title_device::{Failed, Sink};
 use title_instrument::{Estate, Estates, Instrument, Release};
 use title_land::{Node, Quarter, Tract};
 use title_page::Page;
-use title_report::{Roster, put_reply, put_reply_with};
+use title_report::{EntryLines, Roster, put_reply, put_reply_from, put_reply_with};
 use title_store::SheetRow;
 use title_trace::Reply;
 
@@ -24,6 +24,9 @@ const EXAMINER: u32 = 7;
 
 // The bytes of a page.
 const PAGE: usize = 8_192;
+
+// The lines of entries: the long chain has more.
+const ENTRY_LINES: usize = 1_000;
 
 /// A sink that keeps how many pushes it got, and the value of a polynomial that has their lengths as coefficients.
 #[derive(Debug, Clone, Copy, PartialEq, Eq, Drop)]
@@ -206,6 +209,14 @@ fn pushes_with(roster: &Roster, reply: &Reply) -> Result<Pushes, Failed> {
     Ok(pushes)
 }
 
+// The same with lines of entries.
+fn pushes_from(lines: &mut EntryLines, reply: &Reply) -> Result<Pushes, Failed> {
+    let (mut page, mut pushes) = (Page::new(), Pushes { count: 0, sum: 0 });
+    put_reply_from(&mut page, &mut pushes, lines, EXAMINER, reply)?;
+    page.pass(&mut pushes)?;
+    Ok(pushes)
+}
+
 // A page that has room for so many bytes.
 fn page_with_room(pushes: &mut Pushes, room: usize) -> Result<Page, Failed> {
     let mut page = Page::new();
@@ -245,13 +256,43 @@ fn pushes_at_each_byte_with(
     Ok(pushes)
 }
 
-fn assert_pushes(rt: &impl Abort, names: &IndexSet<String>, reply: &Reply, wanted: Pushes) {
+// The same with lines of entries, which are made at the first turn and used from then on.
+fn pushes_at_each_byte_from(
+    lines: &mut EntryLines,
+    reply: &Reply,
+    bytes: usize,
+) -> Result<Pushes, Failed> {
+    let mut pushes = Pushes { count: 0, sum: 0 };
+    for room in 0..bytes {
+        let mut page = page_with_room(&mut pushes, room)?;
+        put_reply_from(&mut page, &mut pushes, lines, EXAMINER, reply)?;
+        page.pass(&mut pushes)?;
+    }
+    Ok(pushes)
+}
+
+// The second time the lines have the texts of entries.
+fn assert_pushes_from(rt: &impl Abort, lines: &mut EntryLines, reply: &Reply, wanted: Pushes) {
+    assert!(rt; pushes_from(lines, reply) == Ok(wanted));
+    assert!(rt; pushes_from(lines, reply) == Ok(wanted));
+}
+
+fn assert_pushes(
+    rt: &impl Abort,
+    alloc: Global,
+    names: &IndexSet<String>,
+    reply: &Reply,
+    wanted: Pushes,
+) {
     assert!(rt; pushes_of(names, reply) == Ok(wanted));
     assert!(rt; pushes_with(&Roster::judged(names), reply) == Ok(wanted));
+    let mut lines = EntryLines::new(alloc, Roster::judged(names), ENTRY_LINES);
+    assert_pushes_from(rt, &mut lines, reply, wanted);
 }
 
 fn assert_pushes_at_each_byte(
     rt: &impl Abort,
+    alloc: Global,
     names: &IndexSet<String>,
     reply: &Reply,
     bytes: usize,
@@ -259,6 +300,8 @@ fn assert_pushes_at_each_byte(
 ) {
     assert!(rt; pushes_at_each_byte(names, reply, bytes) == Ok(wanted));
     assert!(rt; pushes_at_each_byte_with(&Roster::judged(names), reply, bytes) == Ok(wanted));
+    let mut lines = EntryLines::new(alloc, Roster::judged(names), ENTRY_LINES);
+    assert!(rt; pushes_at_each_byte_from(&mut lines, reply, bytes) == Ok(wanted));
 }
 
 /// The pages of a long sheet go to the sink where they do when each of its rows is written field by field.
@@ -270,7 +313,7 @@ fn a_sheets_pages_end_where_its_fields_end(rt: HostRuntime) -> Result<(), Fail> 
         count: 37,
         sum: 4_312_156_846_721_211_190,
     };
-    assert_pushes(&rt, &names, &reply, wanted);
+    assert_pushes(&rt, rt.alloc(), &names, &reply, wanted);
     Ok(())
 }
 
@@ -283,7 +326,7 @@ fn a_chains_pages_end_where_its_fields_end(rt: HostRuntime) -> Result<(), Fail> 
         count: 50,
         sum: 12_850_102_222_058_813_462,
     };
-    assert_pushes(&rt, &names, &reply, wanted);
+    assert_pushes(&rt, rt.alloc(), &names, &reply, wanted);
     Ok(())
 }
 
@@ -296,7 +339,7 @@ fn a_page_may_end_anywhere_in_a_sheet(rt: HostRuntime) -> Result<(), Fail> {
         count: 1_207,
         sum: 10_557_119_631_474_872_540,
     };
-    assert_pushes_at_each_byte(&rt, &names, &reply, 604, wanted);
+    assert_pushes_at_each_byte(&rt, rt.alloc(), &names, &reply, 604, wanted);
     Ok(())
 }
 
@@ -309,7 +352,7 @@ fn a_page_may_end_anywhere_in_a_chain(rt: HostRuntime) -> Result<(), Fail> {
         count: 735,
         sum: 5_094_558_452_989_074_574,
     };
-    assert_pushes_at_each_byte(&rt, &names, &reply, 368, wanted);
+    assert_pushes_at_each_byte(&rt, rt.alloc(), &names, &reply, 368, wanted);
     Ok(())
 }
 
@@ -339,6 +382,6 @@ fn names_are_quoted_on_both_sides_of_the_last_judged(rt: HostRuntime) -> Result<
         count: 1_643,
         sum: 11_654_988_466_466_547_429,
     };
-    assert_pushes_at_each_byte(&rt, &names, &reply, 822, wanted);
+    assert_pushes_at_each_byte(&rt, rt.alloc(), &names, &reply, 822, wanted);
     Ok(())
 }

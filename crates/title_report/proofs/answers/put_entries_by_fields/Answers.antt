@@ -1,5 +1,4 @@
 -- One row more, behind those before it.
-use Rattle.std.proofs.Common.{map}
 use Rattle.title_page.specs.Laws.InTurn.{on_err}
 use Rattle.title_page.specs.Laws.Rows.{one_row_more, stopped_at_a_row}
 use Rattle.title_report.specs.Replies.{entry_row}

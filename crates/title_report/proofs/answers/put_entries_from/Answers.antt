@@ -1,5 +1,4 @@
 -- One row more, behind those before it.
-use Rattle.std.proofs.Common.{map}
 use Rattle.title_page.specs.Laws.InTurn.{on_err}
 use Rattle.title_page.specs.Laws.Rows.{one_row_more, stopped_at_a_row}
 use Rattle.title_report.specs.Replies.{entry_row}
@@ -9,12 +8,13 @@ pub loop-entry-preserved : goal.loop-entry-preserved
 loop-entry-preserved g c = (
   one_row_more (entry_row c.args.roster.now c.args.examiner) c.args.entries.now
       c.loop-entry.entry-index c.entry-item.result
-      c.loop-entry-test.true c.entry-item.is c.loop-entry.invariant.0 c.in_ok-put_entry_line.ensures.written,
-  c.in_ok-put_entry_line.ensures.well,
+      c.loop-entry-test.true c.entry-item.is c.loop-entry.invariant.0 c.in_ok-put_each_entry.ensures.written,
+  c.in_ok-put_each_entry.ensures.well,
+  c.in_ok-put_each_entry.ensures.lines,
 )
 
-pub returns-in_err-put_entry_line-clause-stopped : goal.returns-in_err-put_entry_line-clause-stopped
-returns-in_err-put_entry_line-clause-stopped g c =
+pub returns-in_err-put_each_entry-clause-stopped : goal.returns-in_err-put_each_entry-clause-stopped
+returns-in_err-put_each_entry-clause-stopped g c =
     on_err c.from_residual.result (stopped_at_a_row (entry_row c.args.roster.now c.args.examiner)
     c.args.entries.now c.loop-entry.entry-index c.entry-item.result c.loop-entry-test.true c.entry-item.is
-    c.loop-entry.invariant.0 c.in_err-put_entry_line.ensures.stopped)
+    c.loop-entry.invariant.0 c.in_err-put_each_entry.ensures.stopped)

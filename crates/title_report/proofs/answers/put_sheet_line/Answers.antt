@@ -1,5 +1,5 @@
 -- The row in its parts.
-use Rattle.std.proofs.Common.{◌∙◌, ◌<◌, ◌^◌, map, arith}
+use Rattle.std.proofs.Common.{◌∙◌, ◌<◌, ◌^◌, arith}
 use Rattle.std.proofs.lemmas.Result.{on_ok_weaker, on_err_weaker}
 use Rattle.title_page.specs.Laws.InTurn.{stopped_as, written_as}
 use Rattle.title_report.proofs.Lines.{line_parts, of_some}
