@@ -7,5 +7,6 @@ pub mod Moves
 pub mod Steps
 pub mod Posts
 pub mod Admitted
+pub mod Homes
 pub mod Shows
 pub mod Singles

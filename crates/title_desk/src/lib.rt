@@ -4,6 +4,7 @@
 mod asks;
 pub mod headline;
 mod images;
+mod kept_sheets;
 mod plant;
 mod refusal;
 mod slots;

@@ -1,0 +1,311 @@
+-- What stands under the numbers of homes, and what is left there after a post.
+use Rattle.std.proofs.Common.{◌≡◌, ◌≢◌, ◌⊎◌, ◌<◌, ◌+◌, ◌*◌, ℕ, Bool, true, false, not, ◌||◌, cond, eqb, List, [], ◌∷◌, Option, Some, get_or}
+use Rattle.std.proofs.Common.{Result, Ok, Err, OnOk, OnErr, inl, inr, arith, refl, sym, ap, subst, ◌∙◌}
+use Rattle.std.specs.List.{All, filter}
+use Rattle.std.specs.Ordering.{nat_cmp}
+use Rattle.std.specs.BTreeMap.{BTreeMap, get, is_at, Updates, IsUnchanged}
+use Rattle.std.specs.Map.{lookup}
+use Rattle.std.specs.Cmp.{unsigned_tied}
+use Rattle.std.proofs.lemmas.Bool.{false_from_ne_true, both_ways, and_parts, or_parts, eqb-true, eqb-false, eq-eqb, cases_eq}
+use Rattle.std.proofs.lemmas.List.Elements.{All-nil, All-cons, All-same, All-weaker, All-filter, filter_passes}
+use Rattle.title_land.specs.Depth.{depth}
+use Rattle.title_land.specs.Lands.{meets}
+use Rattle.title_land.specs.Grids.{has_some, grids_meet}
+use Rattle.title_land.specs.NodeNumbers.{node_number, township_number}
+use Rattle.title_land.specs.Places.{same_township, same_section}
+use Rattle.title_land.specs.Laws.NodeNumbers.{number_at}
+use Rattle.title_land.specs.Laws.SameLand.{same_township-is, same_township-self, same_section-is}
+use Rattle.title_land.specs.Laws.SameNode.{same_node-is}
+use Rattle.title_land.specs.Nodes.{same_node, is_above, are_related}
+use Rattle.title_land.specs.declared.node.Node.{Node}
+use Rattle.title_land.specs.declared.node.Node.TheVariants as node
+use Rattle.title_land.specs.declared.place.Section.{Section}
+use Rattle.title_land.specs.declared.place.Township.{Township}
+use Rattle.title_land.specs.declared.tract.Land.{Land}
+use Rattle.title_land.specs.declared.tract.Land.TheVariants as land
+use Rattle.title_store.specs.Plants.{Plant}
+use Rattle.title_store.specs.Laws.SheetLaws.{sheet_same}
+use Rattle.title_chain.specs.Laws.AskLaws.{cell_meets}
+use Rattle.title_desk.specs.declared.kept_sheets.Shown.{Shown}
+use Rattle.title_desk.specs.declared.kept_sheets.Home.{Home}
+use Rattle.title_desk.specs.declared.kept_sheets.KeptSheets.{KeptSheets}
+use Rattle.title_desk.specs.Shown.{IsShown, is_left, home_of, sheets_in, sheets_under, IsSetUnder, IsKept, AreKept, SameOutside, AreLeft}
+use Rattle.title_desk.specs.Shown.{OthersStay, ApartStay}
+
+-- ---- what stands under a number
+
+-- where there is no home, there is no sheet
+pub none_kept : (ts : List Township) (p : Plant) (kept : KeptSheets) → kept.homes.entries ≡ [] → AreKept ts p kept
+none_kept ts p kept none = record {
+  each = λ k. All-same (IsKept ts p k) (sheets_under kept k) []
+      (ap (λ (es : List (ℕ × Home)). sheets_in (lookup (is_at (nat_cmp k)) es)) none) (All-nil (IsKept ts p k));
+}
+
+-- the sheets that a home was found with
+pub found_sheets : (P : Shown → Type 0) (home : Home) (o : Option Home) → Some home ≡ o → All P (sheets_in o) → All P home.shown.items
+found_sheets P home o found all = subst (λ (z : Option Home). All P (sheets_in z)) (sym found) all
+
+sheets_cond : (b : Bool) (x y : Option Home) → sheets_in (cond b x y) ≡ cond b (sheets_in x) (sheets_in y)
+sheets_cond true x y = refl
+sheets_cond false x y = refl
+
+-- homes by their numbers
+abbrev pub Homes : Type 0
+Homes = BTreeMap ℕ Home
+
+-- sheets after the map of homes was written at a number
+pub set_under : (k : ℕ) (o : Option Home) (old new : Homes)
+    → ((j : ℕ) → get nat_cmp new j ≡ cond (is_at (nat_cmp k) j) o (get nat_cmp old j))
+    → (j : ℕ) → sheets_in (get nat_cmp new j) ≡ cond (eqb k j) (sheets_in o) (sheets_in (get nat_cmp old j))
+set_under k o old new writes j =
+    ap sheets_in (writes j ∙ ap (λ (b : Bool). cond b o (get nat_cmp old j)) (unsigned_tied k j))
+    ∙ sheets_cond (eqb k j) o (get nat_cmp old j)
+
+kept_at : (ts : List Township) (p : Plant) (k j : ℕ) (xs ys : List Shown) (b : Bool) → eqb k j ≡ b → All (IsKept ts p k) xs
+    → All (IsKept ts p j) ys → All (IsKept ts p j) (cond b xs ys)
+kept_at ts p k j xs ys true e here there = subst (λ (n : ℕ). All (IsKept ts p n) xs) (eqb-true k j e) here
+kept_at ts p k j xs ys false e here there = there
+
+-- the sheets under one number were changed, and are the plant's
+pub kept_set : (ts : List Township) (p : Plant) (k : ℕ) (xs : List Shown) (old new : KeptSheets) → IsSetUnder k xs old new
+    → All (IsKept ts p k) xs → AreKept ts p old → AreKept ts p new
+kept_set ts p k xs old new set here are = record {
+  each = λ j. All-same (IsKept ts p j) (sheets_under new j) _ (set j)
+      (kept_at ts p k j xs (sheets_under old j) (eqb k j) refl here (are.each j));
+}
+
+-- a sheet that stands alone
+pub sole_kept : (ts : List Township) (p : Plant) (k : ℕ) (x : Shown) (xs : List Shown) → xs ≡ x ∷ [] → IsKept ts p k x
+    → All (IsKept ts p k) xs
+sole_kept ts p k x xs sole is = All-same (IsKept ts p k) xs (x ∷ []) sole (All-cons (IsKept ts p k) x [] is (All-nil (IsKept ts p k)))
+
+-- the same homes have the same sheets
+pub kept_unchanged : (ts : List Township) (p : Plant) (old new : KeptSheets) → IsUnchanged old.homes new.homes → AreKept ts p old
+    → AreKept ts p new
+kept_unchanged ts p old new same are = record {
+  each = λ k. All-same (IsKept ts p k) (sheets_under new k) (sheets_under old k)
+      (ap (λ (es : List (ℕ × Home)). sheets_in (lookup (is_at (nat_cmp k)) es)) same) (are.each k);
+}
+
+-- a home was put in under a number, or all stayed as it was
+pub kept_put : {T E : Type 0} (r : Result T E) (ts : List Township) (p : Plant) (k : ℕ) (home : Home) (old new : KeptSheets)
+    → OnOk r (Updates nat_cmp old.homes new.homes k (Some home)) → OnErr r (IsUnchanged old.homes new.homes)
+    → All (IsKept ts p k) home.shown.items → AreKept ts p old → AreKept ts p new
+kept_put (Ok x) ts p k home old new updates same here are =
+    kept_set ts p k home.shown.items old new (set_under k (Some home) old.homes new.homes updates.0) here are
+kept_put (Err x) ts p k home old new updates same here are = kept_unchanged ts p old new same are
+
+-- ---- after a post
+
+not_true : (b : Bool) → not b ≡ true → b ≡ false
+not_true true h = cc
+not_true false h = refl
+
+-- a sheet that shares no cell with the land of a post
+apart : (ts : List Township) (land : Land) (p q : Plant) (x : Shown) → meets x.tract land ≡ false → SameOutside ts land p q
+    → IsShown ts p x → IsShown ts q x
+apart ts land p q x away outside shown =
+    shown ∙ sheet_same depth ts x.tract p q (λ c inside. sym (outside c
+    (false_from_ne_true _ (λ k. both_ways _ away (cell_meets depth ts x.tract land c inside k)))))
+
+-- the sheets of a home none of whose tracts shares a cell with the land
+away_stay : (ts : List Township) (land : Land) (p q : Plant) (k : ℕ) (xs : List Shown) → SameOutside ts land p q
+    → ((x : Land) → node_number (home_of x) ≡ k → meets x land ≡ false) → All (IsKept ts p k) xs → All (IsKept ts q k) xs
+away_stay ts land p q k xs outside away =
+    All-weaker (IsKept ts p k) (IsKept ts q k) (λ x h. (apart ts land p q x (away x.tract h.1) outside h.0, h.1)) xs
+
+-- the sheets of a home whose tracts share no cell with the land
+filtered_stay : (ts : List Township) (land : Land) (p q : Plant) (k : ℕ) (xs : List Shown) → SameOutside ts land p q
+    → All (IsKept ts p k) xs → All (IsKept ts q k) (filter (is_left land) xs)
+filtered_stay ts land p q k xs outside all i d below =
+    let x = get_or (filter (is_left land) xs) i d in
+    let h = All-filter (is_left land) (IsKept ts p k) xs all i d below in (
+      apart ts land p q x (not_true (meets x.tract land) (filter_passes (is_left land) xs i d below)) outside h.0,
+      h.1,
+    )
+
+-- ---- lands at different homes of which neither lies above the other share no cell
+
+-- the numbers of homes
+abbrev pub section_home : Section → ℕ
+section_home s = node_number (node.Part s [])
+
+abbrev pub township_home : Township → ℕ
+township_home t = node_number (node.Township t)
+
+abbrev pub plant_home : ℕ
+plant_home = node_number node.Everything
+
+-- a home that isn't the section's own, nor above it
+section_away : (s : Section) (land : Land) (k : ℕ) → home_of land ≡ node.Part s [] → section_home s ≢ k → township_home s.township ≢ k
+    → plant_home ≢ k → (x : Land) → node_number (home_of x) ≡ k → meets x land ≡ false
+unfolding meets
+section_away s land.Everything k is own above top x home = absurd cc
+section_away s (land.Township t) k is own above top x home = absurd cc
+section_away s (land.Part u g) k is own above top land.Everything home = absurd (top home)
+section_away s (land.Part u g) k is own above top (land.Township t) home =
+    let same : u ≡ s = cc in
+    false_from_ne_true _ (λ m. above (ap (λ (z : Section). township_home z.township) (sym same)
+    ∙ ap township_home (sym (same_township-is t u.township (and_parts (same_township t u.township) (has_some g) m).0)) ∙ home))
+section_away s (land.Part u g) k is own above top (land.Part t f) home =
+    let same : u ≡ s = cc in
+    false_from_ne_true _ (λ m. own (ap section_home (sym same)
+    ∙ ap section_home (sym (same_section-is t u (and_parts (same_section t u) (grids_meet f g) m).0)) ∙ home))
+
+-- a home that isn't the township's own, nor above or below it
+township_away : (t : Township) (k : ℕ) → ((s : Section) → s.township ≡ t → section_home s ≢ k) → township_home t ≢ k → plant_home ≢ k
+    → (x : Land) → node_number (home_of x) ≡ k → meets x (land.Township t) ≡ false
+unfolding meets
+township_away t k below own top land.Everything home = absurd (top home)
+township_away t k below own top (land.Township u) home =
+    false_from_ne_true _ (λ m. own (ap township_home (sym (same_township-is u t m)) ∙ home))
+township_away t k below own top (land.Part s g) home =
+    false_from_ne_true _ (λ m. below s (same_township-is s.township t (and_parts (same_township s.township t) (has_some g) m).0) home)
+
+-- ---- what is left after a post in a section
+
+left_by_section : (s : Section) (land : Land) (ts : List Township) (p q : Plant) (old : KeptSheets) → home_of land ≡ node.Part s []
+    → SameOutside ts land p q → AreKept ts p old → (k : ℕ) (x y z : Bool) → eqb plant_home k ≡ x → eqb (township_home s.township) k ≡ y
+    → eqb (section_home s) k ≡ z → All (IsKept ts q k)
+    (cond x [] (cond y [] (cond z (filter (is_left land) (sheets_under old (section_home s))) (sheets_under old k))))
+left_by_section s land ts p q old home outside are k true y z e f h = All-nil (IsKept ts q k)
+left_by_section s land ts p q old home outside are k false true z e f h = All-nil (IsKept ts q k)
+left_by_section s land ts p q old home outside are k false false true e f h =
+    let xs = sheets_under old (section_home s) in
+    subst (λ (j : ℕ). All (IsKept ts q j) (filter (is_left land) xs)) (eqb-true (section_home s) k h)
+    (filtered_stay ts land p q (section_home s) xs outside (are.each (section_home s)))
+left_by_section s land ts p q old home outside are k false false false e f h =
+    away_stay ts land p q k (sheets_under old k) outside
+    (section_away s land k home (eqb-false _ k h) (eqb-false _ k f) (eqb-false _ k e)) (are.each k)
+
+pub section_left : (s : Section) (land : Land) (old a b new : KeptSheets) → home_of land ≡ node.Part s []
+    → IsSetUnder (section_home s) (filter (is_left land) (sheets_under old (section_home s))) old a
+    → IsSetUnder (township_home s.township) [] a b → IsSetUnder plant_home [] b new → AreLeft land old new
+section_left s land old a b new home own above top ts p q outside are = record {
+  each = λ k. All-same (IsKept ts q k) (sheets_under new k) _
+      (top k ∙ ap (λ (xs : List Shown). cond (eqb plant_home k) [] xs)
+      (above k ∙ ap (λ (xs : List Shown). cond (eqb (township_home s.township) k) [] xs) (own k)))
+      (left_by_section s land ts p q old home outside are k _ _ _ refl refl refl);
+}
+
+-- ---- what is left after a post of a township
+
+-- under each number stands no sheet any more, or those of before, and it is that of no section of the township before this one
+abbrev pub AreSwept : Township → ℕ → KeptSheets → KeptSheets → Type 0
+AreSwept t next old new = (k : ℕ) → (sheets_under new k ≡ [])
+    ⊎ ((sheets_under new k ≡ sheets_under old k) × ((s : Section) → s.township ≡ t → s.number < next → section_home s ≢ k))
+
+-- there is no section before the first
+pub none_swept : (t : Township) (kept : KeptSheets) → AreSwept t 1 kept kept
+none_swept t kept k = inr (refl, λ s of low is. absurd (omega (arith, s.numbered.0)))
+
+same_number : (s u : Section) → s.township ≡ u.township → s.number ≡ u.number → section_home s ≡ section_home u
+same_number s u a b = λ i. 1 * 4194304 + (township_number (a i) * 64 + b i)
+
+-- a section before the next one has another number, where those before this one and this one have
+other_number : (s u : Section) (k : ℕ) → u.township ≡ s.township → section_home s ≢ k → (u.number < s.number → section_home u ≢ k)
+    → u.number < s.number + 1 → section_home u ≢ k
+other_number s u k of other earlier low is = elim (cases_eq u.number s.number) [
+  | inl one ↦ other (sym (same_number u s of one) ∙ is)
+  | inr differ ↦ let less : u.number < s.number = omega arith in earlier less is
+]
+
+swept_at : (s : Section) (old mid new : KeptSheets) (k : ℕ) (b : Bool) → eqb (section_home s) k ≡ b
+    → sheets_under new k ≡ cond b [] (sheets_under mid k) → (sheets_under mid k ≡ [])
+    ⊎ ((sheets_under mid k ≡ sheets_under old k)
+    × ((u : Section) → u.township ≡ s.township → u.number < s.number → section_home u ≢ k)) → (sheets_under new k ≡ [])
+    ⊎ ((sheets_under new k ≡ sheets_under old k)
+    × ((u : Section) → u.township ≡ s.township → u.number < s.number + 1 → section_home u ≢ k))
+swept_at s old mid new k true e set swept = inl set
+swept_at s old mid new k false e set (inl none) = inl (set ∙ none)
+swept_at s old mid new k false e set (inr kept) =
+    inr (set ∙ kept.0, λ u of low. other_number s u k of (eqb-false (section_home s) k e) (kept.1 u of) low)
+
+-- one section more
+pub swept_more : (s : Section) (old mid new : KeptSheets) → AreSwept s.township s.number old mid
+    → IsSetUnder (section_home s) [] mid new → AreSwept s.township (s.number + 1) old new
+swept_more s old mid new swept set k = swept_at s old mid new k (eqb (section_home s) k) refl (set k) (swept k)
+
+-- no sheet stays that meets the township, where all its sections were swept
+left_by_sweep : (t : Township) (ts : List Township) (p q : Plant) (old a : KeptSheets) → SameOutside ts (land.Township t) p q
+    → AreKept ts p old → AreSwept t 37 old a → (k : ℕ) → plant_home ≢ k → township_home t ≢ k → All (IsKept ts q k) (sheets_under a k)
+left_by_sweep t ts p q old a outside are swept k top own = elim (swept k) [
+  | inl none ↦ All-same (IsKept ts q k) (sheets_under a k) [] none (All-nil (IsKept ts q k))
+  | inr kept ↦
+      All-same (IsKept ts q k) (sheets_under a k) (sheets_under old k) kept.0
+      (away_stay ts (land.Township t) p q k (sheets_under old k) outside
+      (township_away t k (λ s of. kept.1 s of (omega (arith, s.numbered.1))) own top) (are.each k))
+]
+
+left_by_township : (t : Township) (ts : List Township) (q : Plant) (a : KeptSheets) (k : ℕ)
+    → (plant_home ≢ k → township_home t ≢ k → All (IsKept ts q k) (sheets_under a k))
+    → (x y : Bool) → eqb plant_home k ≡ x → eqb (township_home t) k ≡ y → All (IsKept ts q k) (cond x [] (cond y [] (sheets_under a k)))
+left_by_township t ts q a k left true y e f = All-nil (IsKept ts q k)
+left_by_township t ts q a k left false true e f = All-nil (IsKept ts q k)
+left_by_township t ts q a k left false false e f = left (eqb-false plant_home k e) (eqb-false (township_home t) k f)
+
+pub township_left : (t : Township) (old a b new : KeptSheets) → AreSwept t 37 old a → IsSetUnder (township_home t) [] a b
+    → IsSetUnder plant_home [] b new → AreLeft (land.Township t) old new
+township_left t old a b new swept own top ts p q outside are = record {
+  each = λ k. All-same (IsKept ts q k) (sheets_under new k) _
+      (top k ∙ ap (λ (xs : List Shown). cond (eqb plant_home k) [] xs) (own k))
+      (left_by_township t ts q a k (left_by_sweep t ts p q old a outside are swept k) _ _ refl refl);
+}
+
+-- ---- what stays after a post
+
+-- under the number of another node nothing changes
+set_elsewhere : (a n : Node) (xs : List Shown) (old new : KeptSheets) → IsSetUnder (node_number a) xs old new → same_node n a ≡ false
+    → sheets_under new (node_number n) ≡ sheets_under old (node_number n)
+set_elsewhere a n xs old new set other =
+    set (node_number n) ∙ ap (λ (b : Bool). cond b xs (sheets_under old (node_number n))) (number_at a n ∙ other)
+
+-- the sheets stay that stand at no home near the section's
+pub section_others : (s : Section) (land : Land) (xs : List Shown) (old a b new : KeptSheets) → home_of land ≡ node.Part s []
+    → IsSetUnder (section_home s) xs old a → IsSetUnder (township_home s.township) [] a b → IsSetUnder plant_home [] b new
+    → OthersStay land old new
+section_others s land xs old a b new home own above top n far =
+    let apart = subst (λ (h : Node). are_related n h ≡ false) home far in
+    let parts = or_parts (same_node n (node.Part s [])) _ apart in
+    let higher = (or_parts (is_above n (node.Part s [])) (is_above (node.Part s []) n) parts.1).0 in
+    let rest = or_parts (same_node n (node.Township s.township)) _ higher in
+    let last = or_parts (same_node n node.Everything) false rest.1 in
+    set_elsewhere node.Everything n [] b new top last.0 ∙ set_elsewhere (node.Township s.township) n [] a b above rest.0
+    ∙ set_elsewhere (node.Part s []) n xs old a own parts.0
+
+-- the sheets of the section stay that share no cell with the land
+pub section_apart : (s : Section) (land : Land) (old a b new : KeptSheets) → home_of land ≡ node.Part s []
+    → IsSetUnder (section_home s) (filter (is_left land) (sheets_under old (section_home s))) old a
+    → IsSetUnder (township_home s.township) [] a b → IsSetUnder plant_home [] b new → ApartStay land old new
+section_apart s land old a b new home own above top u same =
+    let left = filter (is_left land) (sheets_under old (section_home s)) in
+    let one : node.Part s [] ≡ node.Part u [] = sym home ∙ same in
+    subst (λ (n : Node). sheets_under new (node_number n) ≡ filter (is_left land) (sheets_under old (node_number n))) one
+    (set_elsewhere node.Everything (node.Part s []) [] b new top refl
+    ∙ set_elsewhere (node.Township s.township) (node.Part s []) [] a b above refl ∙ own (section_home s)
+    ∙ ap (λ (x : Bool). cond x left (sheets_under old (section_home s))) (eq-eqb (section_home s) (section_home s) refl))
+
+-- no sheet went but of the township's sections
+abbrev pub OutsideStay : Township → KeptSheets → KeptSheets → Type 0
+OutsideStay t old new = (n : Node) → is_above (node.Township t) n ≡ false
+    → sheets_under new (node_number n) ≡ sheets_under old (node_number n)
+
+above_section : (s : Section) → is_above (node.Township s.township) (node.Part s []) ≡ true
+above_section s = ap (λ (b : Bool). b || false) (same_township-self s.township)
+
+-- one section more
+pub outside_more : (s : Section) (old mid new : KeptSheets) → OutsideStay s.township old mid → IsSetUnder (section_home s) [] mid new
+    → OutsideStay s.township old new
+outside_more s old mid new stay set n far =
+    set_elsewhere (node.Part s []) n [] mid new set
+    (false_from_ne_true _ (λ same. both_ways _ far
+    (ap (is_above (node.Township s.township)) ((same_node-is n (node.Part s [])).0 same) ∙ above_section s))) ∙ stay n far
+
+-- the sheets stay that stand at no home near the township's
+pub township_others : (t : Township) (old a b new : KeptSheets) → OutsideStay t old a → IsSetUnder (township_home t) [] a b
+    → IsSetUnder plant_home [] b new → OthersStay (land.Township t) old new
+township_others t old a b new stay own top n far =
+    let parts = or_parts (same_node n (node.Township t)) _ far in
+    let sides = or_parts (is_above n (node.Township t)) (is_above (node.Township t) n) parts.1 in
+    let last = or_parts (same_node n node.Everything) false sides.0 in
+    set_elsewhere node.Everything n [] b new top last.0 ∙ set_elsewhere (node.Township t) n [] a b own parts.0 ∙ stay n sides.1
