@@ -15,6 +15,8 @@ plats        sheets of whole townships, after a few deeds                       
 plants       sheets of everything, after a few deeds                                       (for `alone`)
 bargains     transactions of eight deeds in a section, each with the section's sheet       (for `alone`)
 owners       sheets of eight sections, or of N, in which many parties own                  (for `alone`)
+many         sheets of 36 sections, or of N, after a twentieth of the steps are deeds there (for `alone`)
+turns        the same, sheets and deeds by turns                                           (for `alone`)
 histories    deeds in 64 sections and chains of them, of tens of entries                   (for `alone`)
 interleaved  eight examiners at work at once, in transactions of up to 20 steps            (for `run`)
 fifty        the same by fifty examiners                                                   (for `run`)
@@ -159,6 +161,24 @@ def owners(chance, count):
         yield f"1,sheet,{one_of(chance, chance.sections)}"
 
 
+def many(chance, count):
+    """Deeds of parts of some sections, a twentieth of the steps, and then sheets of these sections."""
+    posted = count // 20
+    for document in range(1, posted + 1):
+        yield f"1,{instrument(chance, document, part_of(chance, chance.sections))}"
+    for _ in range(count - posted):
+        yield f"1,sheet,{one_of(chance, chance.sections)}"
+
+
+def turns(chance, count):
+    """Of twenty steps one is a deed of a part of some sections, and the others are sheets of these sections."""
+    for document in range(1, count + 1):
+        if document % 20 == 0:
+            yield f"1,{instrument(chance, document, part_of(chance, chance.sections))}"
+        else:
+            yield f"1,sheet,{one_of(chance, chance.sections)}"
+
+
 def histories(chance, count):
     """Deeds of parts of 64 sections, a twentieth of the steps and at most 2,000, and then chains of these sections."""
     posted = min(count // 20, 2_000)
@@ -287,6 +307,8 @@ KINDS = {
     "plants": sheets_of(lambda chance: "everything"),
     "bargains": bargains,
     "owners": owners,
+    "many": many,
+    "turns": turns,
     "histories": histories,
     "interleaved": interleaved_by(EXAMINERS),
     "fifty": interleaved_by(50),
@@ -308,10 +330,11 @@ def main():
     options.add_argument("--examiners", type=int, choices=range(1, 65), default=8, metavar="N", help="of an office (default 8)")
     options.add_argument("--townships", type=int, choices=range(1, 65), default=64, metavar="N", help="declared (default 64)")
     options.add_argument("--parties", type=int, choices=range(2, 201), default=200, metavar="N", help="declared (default 200)")
-    options.add_argument("--sections", type=int, choices=range(1, 2_305), default=8, metavar="N", help="that owners go by (default 8)")
+    options.add_argument("--sections", type=int, choices=range(1, 2_305), metavar="N", help="of owners (default 8), many and turns (36)")
     options.add_argument("--side", type=int, choices=sorted(QUARTERINGS), default=16, help="cells of a section's side (default 16)")
     asked = options.parse_args()
     chance = random.Random(asked.seed)
+    asked.sections = asked.sections or (36 if asked.kind in ("many", "turns") else 8)
     chance.townships, chance.parties = TOWNSHIPS[:asked.townships], PARTIES[:asked.parties]
     declared = [f"township,{name}" for name in chance.townships] + [f"party,{name}" for name in chance.parties]
     if not len(declared) + 36 <= asked.rows <= 100_000:
