@@ -1,0 +1,204 @@
+//! Scripts, each beside the report that the rules give for it.
+
+use crate::place::Place;
+use crate::portion::{ALL, Portion};
+use anyhow::{Result, bail};
+use std::alloc::{AllocError, Global};
+use std::fmt::{self, Display};
+use title_device::Device;
+use title_script::{RunFault, Schedule, Unwatched, run_by};
+
+/// Party 0, which owns all at first.
+pub const GOVERNMENT: &str = "UNITED STATES";
+
+/// The letters of the estates, in order.
+pub const ESTATES: [&str; 3] = ["S", "O", "M"];
+
+/// Those of minerals.
+pub const MINERALS: [&str; 2] = ["O", "M"];
+
+/// A script as it is made, row by row, and the report that it has to have.
+#[derive(Drop)]
+pub struct Case {
+    alloc: Global,
+    script: String,
+    report: String,
+    tried: Tried,
+}
+
+/// How many steps scripts had that were tried, and how many rows their reports.
+#[derive(Clone, Copy, Default)]
+pub struct Tried {
+    steps: u32,
+    rows: u32,
+}
+
+fn add_line(text: &mut String, line: impl Display + Drop) -> Result<(), AllocError> {
+    write!(text, "{line}\n")
+}
+
+// What a run of a script writes.
+fn written(alloc: Global, schedule: Schedule, script: &str) -> Result<Vec<u8>, RunFault> {
+    let mut source = Device::new(script.as_bytes());
+    let mut sink = Device::new(Vec::new(alloc));
+    run_by(alloc, schedule, &mut source, &mut sink, &mut Unwatched)?;
+    Ok(sink.into_inner())
+}
+
+// Tells the first line at which a report isn't as it has to be.
+fn tell_difference(came: &str, wanted: &str) -> Result<()> {
+    let mut number = 0u32;
+    let mut wanted = wanted.lines();
+    for line in came.lines() {
+        number = number.saturating_add(1);
+        let wanted = wanted.next().unwrap_or("");
+        if line != wanted {
+            bail!("line {number} is {line:?}, and not {wanted:?}");
+        }
+    }
+    bail!("the report ends behind line {number}");
+}
+
+impl Tried {
+    /// With those of another script.
+    pub fn and(self, other: Tried) -> Tried {
+        Tried {
+            steps: self.steps.saturating_add(other.steps),
+            rows: self.rows.saturating_add(other.rows),
+        }
+    }
+}
+
+impl fmt::Display for Tried {
+    fn fmt<W: fmt::Write>(&self, f: &mut fmt::Formatter<W>) -> fmt::Result {
+        let (steps, rows) = (self.steps, self.rows);
+        write!(f, "{steps} steps, {rows} rows")
+    }
+}
+
+impl Case {
+    /// A script with no row.
+    pub fn new(alloc: Global) -> Case {
+        Case {
+            alloc,
+            script: String::new(alloc),
+            report: String::new(alloc),
+            tried: Tried::default(),
+        }
+    }
+
+    /// Adds a row that declares something.
+    pub fn declare(&mut self, row: impl Display + Drop) -> Result<(), AllocError> {
+        add_line(&mut self.script, row)
+    }
+
+    /// Adds a step.
+    pub fn ask(&mut self, row: impl Display + Drop) -> Result<(), AllocError> {
+        self.tried.steps = self.tried.steps.saturating_add(1);
+        add_line(&mut self.script, row)
+    }
+
+    /// Adds a row that comes next in the report.
+    pub fn want(&mut self, row: impl Display + Drop) -> Result<(), AllocError> {
+        self.tried.rows = self.tried.rows.saturating_add(1);
+        add_line(&mut self.report, row)
+    }
+
+    /// Adds a step of an examiner that is answered in one row.
+    pub fn step(
+        &mut self,
+        examiner: u32,
+        step: impl Display + Drop,
+        reply: impl Display + Drop,
+    ) -> Result<(), AllocError> {
+        self.ask(format_args!("{examiner},{step}"))?;
+        self.want(format_args!("{examiner},{reply}"))
+    }
+
+    /// Declares the first so many townships.
+    pub fn declare_townships(&mut self, count: u32) -> Result<(), AllocError> {
+        for number in 0..count {
+            let township = Place::Township(number);
+            self.declare(format_args!("township,{township}"))?;
+        }
+        Ok(())
+    }
+
+    /// Declares the first so many townships, ADAMS and BELL.
+    pub fn declare_plant(&mut self, townships: u32) -> Result<(), AllocError> {
+        self.declare_townships(townships)?;
+        self.declare("party,ADAMS")?;
+        self.declare("party,BELL")
+    }
+
+    /// Declares parties by their names, as rows have them.
+    pub fn declare_parties(&mut self, names: &[String]) -> Result<(), AllocError> {
+        for name in names {
+            let name = name.as_str();
+            self.declare(format_args!("party,{name}"))?;
+        }
+        Ok(())
+    }
+
+    /// Adds a row of a sheet: who owns how much of an estate where.
+    pub fn want_owner(
+        &mut self,
+        examiner: u32,
+        place: Place,
+        estate: &str,
+        name: &str,
+        portion: Portion,
+    ) -> Result<(), AllocError> {
+        self.want(format_args!("{examiner},row,{place},{estate},{name},{portion}"))
+    }
+
+    /// Adds the rows of some estates in a place that UNITED STATES owns.
+    pub fn want_unsold(
+        &mut self,
+        examiner: u32,
+        place: Place,
+        estates: &[&'static str],
+    ) -> Result<(), AllocError> {
+        for estate in estates {
+            self.want_owner(examiner, place, *estate, GOVERNMENT, ALL)?;
+        }
+        Ok(())
+    }
+
+    /// Adds a sheet of a place, of so many rows; they come next.
+    pub fn sheet(&mut self, examiner: u32, place: Place, rows: u32) -> Result<(), AllocError> {
+        self.step(
+            examiner,
+            format_args!("sheet,{place}"),
+            format_args!("sheet,{rows}"),
+        )
+    }
+
+    /// Adds a chain of a place, of so many entries; they come next.
+    pub fn chain(&mut self, examiner: u32, place: Place, entries: u32) -> Result<(), AllocError> {
+        self.step(
+            examiner,
+            format_args!("chain,{place}"),
+            format_args!("chain,{entries}"),
+        )
+    }
+
+    /// Adds a sheet of a place that UNITED STATES owns in all estates.
+    pub fn sheet_unsold(&mut self, examiner: u32, place: Place) -> Result<(), AllocError> {
+        self.sheet(examiner, place, 3)?;
+        self.want_unsold(examiner, place, &ESTATES)
+    }
+
+    /// Runs the script; how much there was of it. An error tells where its report isn't the one that it has to have.
+    pub fn run(mut self, schedule: Schedule) -> Result<Tried> {
+        let (tried, steps) = (self.tried, self.tried.steps);
+        self.want(format_args!("end,{steps}"))?;
+        let came = written(self.alloc, schedule, self.script.as_str())?;
+        let wanted = self.report.as_str();
+        if came.as_slice() != wanted.as_bytes() {
+            let came = String::from_utf8_lossy(self.alloc, came.as_slice())?;
+            tell_difference(came.as_str(), wanted)?;
+        }
+        Ok(tried)
+    }
+}

@@ -1,0 +1,61 @@
+//! A cell that as many parties own as there may be, and one less, at a desk.
+
+use crate::clerk::{Clerk, MINERALS, Rows, SURFACE, Sale, release};
+use crate::place::Place;
+use crate::portion::WHOLE;
+use anyhow::Result;
+use std::alloc::Global;
+use title_instrument::Estate;
+
+// As many as a plant may have, party 0 among them.
+const PARTIES: u32 = 65_536;
+
+// What each of them gets of the surface, and party 0 keeps.
+const UNITS: u64 = WHOLE / 65_536;
+
+fn sell(alloc: Global, clerk: &mut Clerk, cell: Place) -> Result<()> {
+    for grantee in 1..PARTIES {
+        let sale = Sale {
+            document: u64::from(grantee),
+            grantor: 0,
+            grantee,
+            units: UNITS,
+        };
+        clerk.post_alone(sale.ask(alloc, cell.tract()?)?)?;
+    }
+    Ok(())
+}
+
+// The rows of the cell's sheet when a party has so much of the surface, and each one behind it its part.
+fn rows(alloc: Global, cell: Place, first: u32, units: u64) -> Result<Rows> {
+    let mut rows = Rows::new(alloc);
+    rows.add(cell, Estate::S, first, units)?;
+    for party in first.saturating_add(1)..PARTIES {
+        rows.add(cell, Estate::S, party, UNITS)?;
+    }
+    rows.add_unsold(cell, &MINERALS)?;
+    Ok(rows)
+}
+
+// The sheet of the cell has to be this when a party has so much of the surface, and each one behind it its part.
+fn is_shown(alloc: Global, clerk: &mut Clerk, cell: Place, first: u32, units: u64) -> Result<()> {
+    let rows = rows(alloc, cell, first, units)?;
+    rows.are(&clerk.sheet(cell.tract()?)?)
+}
+
+// Party 0 releases its part to the next.
+fn release_first(alloc: Global, clerk: &mut Clerk, cell: Place) -> Result<()> {
+    clerk.post_alone(release(alloc, 0, 1, SURFACE, cell.tract()?)?)
+}
+
+/// The sheet of the cell when all own the same, and when party 0 has released its part to the next.
+pub fn count(alloc: Global) -> Result<String> {
+    let cell = Place::cell(0);
+    let mut clerk = Clerk::open(alloc, PARTIES, 1)?;
+    sell(alloc, &mut clerk, cell)?;
+    is_shown(alloc, &mut clerk, cell, 0, UNITS)?;
+    release_first(alloc, &mut clerk, cell)?;
+    is_shown(alloc, &mut clerk, cell, 1, UNITS * 2)?;
+    let calls = clerk.calls();
+    Ok(format!(in alloc; "{PARTIES} owners, {calls} calls")?)
+}

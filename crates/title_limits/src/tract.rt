@@ -1,0 +1,174 @@
+//! The tract of most squares that there can be: of each square of ten acres three cells.
+
+use crate::clerk::{Clerk, Rows, Sale};
+use crate::held::{is_answer, is_mode};
+use crate::place::{CELLS, Place, Square, section};
+use crate::portion::WHOLE;
+use anyhow::{Result, bail};
+use std::alloc::Global;
+use title_chain::Ask;
+use title_instrument::Estate;
+use title_land::{Grid, Land, Node, Tract};
+use title_lock::{Access, Guards, LockFault, Mode, NodeLocks, RowLocks};
+use title_trace::Request;
+
+// The squares of the tract: 64 times 3.
+const SQUARES: u32 = 192;
+
+// Their acres, in half acres: 5 for each.
+const HALF_ACRES: u32 = 960;
+
+// The deeds that are posted in it, each of 1/16.
+const DEEDS: u64 = 4;
+
+// Whether a cell lies in the tract.
+fn is_in(cell: u32) -> bool {
+    cell % 4 != 3
+}
+
+fn grid() -> Option<Grid> {
+    let mut grid = Grid::empty();
+    for cell in 0..CELLS {
+        if is_in(cell) {
+            grid = grid.with(Square::cell(cell).within()?.square());
+        }
+    }
+    Some(grid)
+}
+
+fn tract(alloc: Global) -> Result<Tract> {
+    let (Some(section), Some(grid)) = (section(0, 1), grid()) else {
+        bail!("there is no such tract");
+    };
+    Ok(Tract::new(alloc, Land::Part(section, grid))?)
+}
+
+// Adds the cells of the tract, in order.
+fn add_cells(nodes: &mut Vec<Node>) -> Result<()> {
+    for cell in 0..CELLS {
+        if is_in(cell) {
+            nodes.push(Place::cell(cell).node()?)?;
+        }
+    }
+    Ok(())
+}
+
+// The tract lists its cells in order, and has as many acres.
+fn is_covered(alloc: Global, tract: &Tract) -> Result<()> {
+    let mut nodes = Vec::new(alloc);
+    add_cells(&mut nodes)?;
+    if tract.cover() != nodes.as_slice() || tract.half_acres() != Some(HALF_ACRES) {
+        bail!("the tract has another cover");
+    }
+    Ok(())
+}
+
+// Adds the rows of an estate in the tract that party 0 owns.
+fn add_unsold(rows: &mut Rows, estate: Estate) -> Result<()> {
+    for cell in 0..CELLS {
+        if is_in(cell) {
+            rows.add(Place::cell(cell), estate, 0, WHOLE)?;
+        }
+    }
+    Ok(())
+}
+
+// Adds the rows of the surface of the tract after the deeds.
+fn add_sold(rows: &mut Rows) -> Result<()> {
+    for cell in 0..CELLS {
+        if is_in(cell) {
+            rows.add(Place::cell(cell), Estate::S, 0, WHOLE / 4 * 3)?;
+            rows.add(Place::cell(cell), Estate::S, 1, WHOLE / 4)?;
+        }
+    }
+    Ok(())
+}
+
+// The rows of the sheet before the deeds, or after them.
+fn rows(alloc: Global, is_sold: bool) -> Result<Rows> {
+    let mut rows = Rows::new(alloc);
+    if is_sold {
+        add_sold(&mut rows)?;
+    } else {
+        add_unsold(&mut rows, Estate::S)?;
+    }
+    add_unsold(&mut rows, Estate::O)?;
+    add_unsold(&mut rows, Estate::M)?;
+    Ok(rows)
+}
+
+// Posts the deeds of party 0 alone, and one of party 2, which has nothing.
+fn sell(alloc: Global, clerk: &mut Clerk, tract: &Tract) -> Result<()> {
+    for document in 1..=DEEDS {
+        let sale = Sale {
+            document,
+            grantor: 0,
+            grantee: 1,
+            units: WHOLE / 16,
+        };
+        clerk.post_alone(sale.ask(alloc, tract.copy(alloc)?)?)?;
+    }
+    let sale = Sale {
+        document: 9,
+        grantor: 2,
+        grantee: 1,
+        units: WHOLE,
+    };
+    let refused = "refused,11,S,T1N R1W sec 1 NE1/4NE1/4NE1/4NE1/4";
+    clerk.alone(sale.ask(alloc, tract.copy(alloc)?)?, refused)
+}
+
+// Sheets, deeds and a chain, each a transaction of its own.
+fn try_alone(alloc: Global, clerk: &mut Clerk, tract: &Tract) -> Result<()> {
+    rows(alloc, false)?.are(&clerk.sheet(tract.copy(alloc)?)?)?;
+    sell(alloc, clerk, tract)?;
+    rows(alloc, true)?.are(&clerk.sheet(tract.copy(alloc)?)?)?;
+    clerk.alone(Ask::Chain(tract.copy(alloc)?), "chain,4")
+}
+
+// Examiner 1 posts in the tract, and is in the way of examiner 2 there until it aborts.
+fn try_together(alloc: Global, clerk: &mut Clerk, tract: &Tract) -> Result<()> {
+    let sale = Sale {
+        document: 10,
+        grantor: 0,
+        grantee: 2,
+        units: WHOLE / 2,
+    };
+    let sheet = Ask::Sheet(tract.copy(alloc)?);
+    clerk.serve(Request::Begin(1), "began")?;
+    clerk.serve(Request::Begin(2), "began")?;
+    clerk.post(1, sale.ask(alloc, tract.copy(alloc)?)?)?;
+    clerk.serve(Request::Step(2, sheet.copy(alloc)?), "conflict,1")?;
+    clerk.serve(Request::Abort(1), "aborted")?;
+    clerk.serve(Request::Step(2, sheet), "sheet,768")?;
+    clerk.serve(Request::Commit(2), "committed,9")
+}
+
+// A post of examiner 1 in the tract, and reads of examiner 2 there, beside it, and there again when examiner 1 is gone.
+fn try_locks<G: Guards + Drop>(alloc: Global, tract: &Tract) -> Result<()> {
+    let mut locks = G::new(alloc);
+    let beside = Place::cell(3).tract()?;
+    let conflict = Err(LockFault::Conflict(1));
+    is_answer(locks.ask(1, tract, Access::Post), Ok(()))?;
+    is_answer(locks.ask(2, tract, Access::Read), conflict)?;
+    is_answer(locks.ask(2, &beside, Access::Read), Ok(()))?;
+    is_mode(&locks, 1, Place::section(1), Mode::Ix)?;
+    is_mode(&locks, 1, Place::cell(254), Mode::X)?;
+    is_mode(&locks, 2, Place::section(1), Mode::Is)?;
+    locks.give_back(1);
+    is_answer(locks.ask(2, tract, Access::Read), Ok(()))?;
+    is_mode(&locks, 2, Place::cell(254), Mode::S)
+}
+
+/// Its cover, its sheets, its deeds, its chain and its locks.
+pub fn count(alloc: Global) -> Result<String> {
+    let tract = tract(alloc)?;
+    is_covered(alloc, &tract)?;
+    let mut clerk = Clerk::open(alloc, 3, 1)?;
+    try_alone(alloc, &mut clerk, &tract)?;
+    try_together(alloc, &mut clerk, &tract)?;
+    try_locks::<NodeLocks>(alloc, &tract)?;
+    try_locks::<RowLocks>(alloc, &tract)?;
+    let calls = clerk.calls();
+    Ok(format!(in alloc; "{SQUARES} squares, {calls} calls")?)
+}
