@@ -1,0 +1,5 @@
+mod KeptRecords
+mod Recalled
+mod Again
+mod ShortRecords
+mod AnotherDay
