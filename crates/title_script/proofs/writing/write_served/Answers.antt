@@ -35,6 +35,7 @@ pub returns-clause-bytes : goal.returns-clause-bytes
 returns-clause-bytes g c =
     let s = c.args.served.now in
     let rows = flat_map (told_rows (map string_bytes s.plan.parties.keys)) s.told.items in
-    whole_given rows (end_row s.steps) c.new-page.ensures.empty (rw (c.as_slice.ensures.value, c.new-lines.ensures.names, c.judged-roster.ensures.names) at
-    c.in_ok-put_all_told.ensures.written) c.in_ok-put_end.ensures.written
+    whole_given rows (end_row s.steps) c.new-page.ensures.empty
+    (rw (c.as_slice.ensures.value, c.new-lines.ensures.names, c.judged-roster.ensures.names) at c.in_ok-put_all_told.ensures.written)
+    c.in_ok-put_end.ensures.written
     c.in_ok-pass.ensures.written c.in_ok-pass.ensures.empty
