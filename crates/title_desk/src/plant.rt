@@ -1,4 +1,4 @@
-//! The plant of a desk: a store, with the sheets that were made of it last.
+//! The plant of a desk: a store, with sheets that were made of it.
 
 ghost use Rattle.std.specs.Prelude.{◌≡◌, true, IfOk, IfSome};
 ghost use Rattle.title_land.specs.Depth.{depth};
