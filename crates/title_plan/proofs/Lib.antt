@@ -3,4 +3,7 @@ mod TextsRead
 mod Names
 mod ReadOn
 mod Understood
-mod Declared
+mod Declarations
+mod Alone
+mod Begins
+mod Behind

@@ -5,4 +5,5 @@ pub mod Fields
 pub mod Rows
 pub mod Asked
 pub mod Plans
+pub mod Onto
 pub mod Faults

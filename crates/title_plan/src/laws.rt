@@ -3,6 +3,7 @@
 ghost use Rattle.std.specs.Prelude.{◌≡◌};
 ghost use Rattle.title_plan.specs.Lands.{FaultsAreRead, LandsAreRead};
 ghost use Rattle.title_plan.specs.Limits.{last_document, last_examiner, longest_name, most_rows};
+ghost use Rattle.title_plan.specs.Onto.{OntoNothing, ScriptsBegin};
 ghost use Rattle.title_plan.specs.declared.fields.TheConstants.{DOCUMENTS, EXAMINERS, NAME_LIMIT};
 ghost use Rattle.title_plan.specs.declared.plan.TheConstants.{ROWS};
 
@@ -18,4 +19,14 @@ pub fn limits_are_said()
     ensures names { NAME_LIMIT ≡ longest_name }
     ensures examiners { EXAMINERS ≡ last_examiner }
     ensures documents { DOCUMENTS ≡ last_document }
+{}
+
+/// On top of nothing a script asks for what it asks for alone.
+pub fn onto_nothing()
+    ensures alone { OntoNothing }
+{}
+
+/// What stands before a script keeps its places, and what the script declares comes behind it.
+pub fn scripts_begin()
+    ensures begins { ScriptsBegin }
 {}

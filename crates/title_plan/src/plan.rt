@@ -12,6 +12,7 @@ ghost use Rattle.title_plan.specs.Townships.{each_once};
 
 use crate::fault::ScriptFault;
 use crate::line::{Line, Schedule};
+use crate::onto::{Declared, Stood};
 use crate::readings::Readings;
 use crate::row::{Act, Row, read_row};
 use csv::{ByteRecord, StringRecord};
@@ -28,9 +29,6 @@ use turns::is_beyond;
 
 /// The most rows of a script.
 pub const ROWS: u64 = 100_000;
-
-/// The name of party 0.
-const FIRST_PARTY: &str = "UNITED STATES";
 
 /// What the rows of a script declare and ask for. The parties have their numbers as places, UNITED STATES being 0; the
 /// steps stand in order; `inside` are the examiners whose transactions are open, none where these are interleaved.
@@ -49,22 +47,28 @@ pub struct Plan {
 
 impl Plan {
     ghost use Rattle.title_plan.specs.Asked.{asked_in, nothing_asked};
-    ghost use Rattle.title_plan.specs.Plans.{after_row, after_said, after_step_row};
+    ghost use Rattle.title_plan.specs.Onto.{after_row_onto, after_said_onto, asked_on, before_in, first_of};
+    ghost use Rattle.title_plan.specs.Plans.{after_row, after_step_row};
+
+    /// What is declared, and no step. Takes no memory.
+    pub(crate) fn onto(alloc: Global, declared: Declared) -> Plan
+        ensures asked { asked_in result ≡ asked_on (before_in declared) }
+    {
+        let Declared { townships, parties } = declared;
+        Plan {
+            alloc,
+            parties,
+            townships,
+            lines: VecDeque::new(alloc),
+            inside: Vec::new(alloc),
+        }
+    }
 
     /// Nothing but UNITED STATES as party 0.
     pub fn new(alloc: Global) -> Result<Plan, AllocError>
         ensures nothing { IfOk result (λ plan. asked_in plan ≡ nothing_asked) }
     {
-        let mut parties = IndexSet::new(alloc);
-        let name = String::from_str(alloc, FIRST_PARTY)?;
-        parties.insert(name)?;
-        Ok(Plan {
-            alloc,
-            parties,
-            townships: Vec::new(alloc),
-            lines: VecDeque::new(alloc),
-            inside: Vec::new(alloc),
-        })
+        Ok(Plan::onto(alloc, Declared::nothing(alloc)?))
     }
 
     // Takes a step of an examiner in the n-th row, where the office has that examiner and the step is in its turn.
@@ -89,35 +93,44 @@ impl Plan {
         self.take_act(readings, schedule, n, examiner, act)
     }
 
-    // Takes what the n-th row says.
+    // Takes what the n-th row says, on top of what stood before the script.
     fn take_said(
         &mut self,
+        stood: Stood,
         readings: &mut Readings,
         schedule: Schedule,
         n: u64,
         row: &Row<&str>,
     ) -> Result<(), ScriptFault>
-        ensures ok { OnOk result (after_said schedule n (asked_in self.old) (said row.now) ≡ Ok (asked_in self.new)) }
-        ensures err { IfErr result (λ e. (e ≡ fault.Memory) ⊎ (after_said schedule n (asked_in self.old) (said row.now) ≡ Err e)) }
+        requires stands { stood.townships ≤ length self.old.townships.items }
+        ensures ok { OnOk result (after_said_onto schedule (first_of stood (asked_in self.old)) n (asked_in self.old) (said row.now)
+            ≡ Ok (asked_in self.new)) }
+        ensures err { IfErr result (λ e. (e ≡ fault.Memory)
+            ⊎ (after_said_onto schedule (first_of stood (asked_in self.old)) n (asked_in self.old) (said row.now) ≡ Err e)) }
     {
         match *row {
-            Row::Township(text) => self.take_township(n, text),
-            Row::Party(name) => self.take_party(n, name),
+            Row::Township(text) => self.take_township(stood, n, text),
+            Row::Party(name) => self.take_party(stood, n, name),
             Row::Step(examiner, ref act) => self.take_step(readings, schedule, n, examiner, act),
         }
     }
 
-    // Takes the n-th row, as `take_row` does, with the descriptions that were read before it. Gives the record back.
+    // Takes the n-th row, as `take_row` does, on top of what stood before the script and with the descriptions that were read
+    // before the row. Gives the record back.
     pub(crate) fn take_record(
         &mut self,
+        stood: Stood,
         readings: &mut Readings,
         schedule: Schedule,
         n: u64,
         raw: ByteRecord,
     ) -> Result<ByteRecord, ScriptFault>
-        ensures ok { OnOk result (after_row schedule n (asked_in self.old) (fields_of raw) ≡ Ok (asked_in self.new)) }
+        requires stands { stood.townships ≤ length self.old.townships.items }
+        ensures ok { OnOk result (after_row_onto schedule (first_of stood (asked_in self.old)) n (asked_in self.old) (fields_of raw)
+            ≡ Ok (asked_in self.new)) }
         ensures within { OnOk result (n ≤ most_rows) }
-        ensures err { IfErr result (λ e. (e ≡ fault.Memory) ⊎ (after_row schedule n (asked_in self.old) (fields_of raw) ≡ Err e)) }
+        ensures err { IfErr result (λ e. (e ≡ fault.Memory)
+            ⊎ (after_row_onto schedule (first_of stood (asked_in self.old)) n (asked_in self.old) (fields_of raw) ≡ Err e)) }
     {
         if n > ROWS {
             return Err(ScriptFault::Row(n));
@@ -128,7 +141,7 @@ impl Plan {
         let Some(said) = read_row(&row) else {
             return Err(ScriptFault::Row(n));
         };
-        self.take_said(readings, schedule, n, &said)?;
+        self.take_said(stood, readings, schedule, n, &said)?;
         Ok(row.into_byte_record())
     }
 
@@ -146,7 +159,7 @@ impl Plan {
         ensures err { IfErr result (λ e. (e ≡ fault.Memory) ⊎ (after_row schedule n (asked_in self.old) (fields_of raw) ≡ Err e)) }
     {
         let mut readings = Readings::none(self.alloc);
-        self.take_record(&mut readings, schedule, n, raw)?;
+        self.take_record(Stood::NONE, &mut readings, schedule, n, raw)?;
         Ok(())
     }
 }

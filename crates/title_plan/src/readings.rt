@@ -11,8 +11,8 @@ use std::hash::{BuildHasher, BuildHasherDefault, FoldHasher};
 use title_aliquot::DescFault;
 use title_land::Tract;
 
-// The most descriptions that are kept.
-const MOST_KEPT: usize = 4_096;
+// The slots of descriptions, each for one.
+const SLOTS: u64 = 4_096;
 
 // The most bytes of one that is kept; a longer text is none, which is seen at once.
 const LONGEST_KEPT: usize = 1_000;
@@ -38,77 +38,76 @@ fn copied(alloc: Global, said: &Result<Tract, DescFault>) -> Option<Result<Tract
     }
 }
 
-/// Descriptions that were read, at most so many, each under the hash of its text, so that one that comes again isn't read
-/// again. Where two have one hash, the later is kept.
+/// Descriptions that were read, and what each says, so that one that comes again isn't read again. The hash of a text is its
+/// slot's, of which there are 4,096: a description takes its slot, and the one that stood there goes. Texts of more than 1,000
+/// bytes are read as they come.
 #[derive(Drop)]
-pub(crate) struct Readings {
+pub struct Readings {
     alloc: Global,
     hashers: BuildHasherDefault<FoldHasher>,
-    most: usize,
+    slots: u64,
     kept: BTreeMap<u64, Reading>,
 }
 
 impl Readings {
-    // None yet, of which so many are to be kept.
-    fn keeping(alloc: Global, most: usize) -> Readings {
+    // None yet, with so many slots.
+    fn with_slots(alloc: Global, slots: u64) -> Readings {
         Readings {
             alloc,
             hashers: BuildHasherDefault::new(),
-            most,
+            slots,
             kept: BTreeMap::new(alloc),
         }
     }
 
     /// None yet. Takes no memory.
-    pub(crate) fn new(alloc: Global) -> Readings {
-        Readings::keeping(alloc, MOST_KEPT)
+    pub fn new(alloc: Global) -> Readings {
+        Readings::with_slots(alloc, SLOTS)
     }
 
     /// None, and none will be kept: each description is read as it comes. Takes no memory.
     pub(crate) fn none(alloc: Global) -> Readings {
-        Readings::keeping(alloc, 0)
+        Readings::with_slots(alloc, 0)
     }
 
-    // What a description with this hash says, where it is kept.
-    fn recall(&self, hash: u64, text: &str) -> Option<Result<Tract, DescFault>>
+    // What a description says, where it stands in this slot.
+    fn recall(&self, slot: u64, text: &str) -> Option<Result<Tract, DescFault>>
         ensures said { IfSome result (λ said. said ≡ land_in text.now) }
     {
-        let reading = self.kept.get(&hash)?;
+        let reading = self.kept.get(&slot)?;
         if reading.text.as_str() != text {
             return None;
         }
         copied(self.alloc, &reading.said)
     }
 
-    // Keeps a description with this hash, and what it says; not where as many are kept as may be, or where memory is refused.
-    fn keep(&mut self, hash: u64, text: &str, said: &Result<Tract, DescFault>)
+    // Keeps a description, and what it says, in this slot in place of the one that stands there; not where memory is refused.
+    fn keep(&mut self, slot: u64, text: &str, said: &Result<Tract, DescFault>)
         requires said { said.now ≡ land_in text.now }
     {
-        if self.kept.len() >= self.most {
-            return;
-        }
         let Some(said) = copied(self.alloc, said) else {
             return;
         };
         let Ok(text) = String::from_str(self.alloc, text) else {
             return;
         };
-        let _ = self.kept.insert(hash, Reading { text, said });
+        let _ = self.kept.insert(slot, Reading { text, said });
     }
 
-    /// The tract that a text describes, or the text's fault, as `read_tract` gives it. `Err` is Memory.
-    pub(crate) fn read(&mut self, text: &str) -> Result<Result<Tract, DescFault>, AllocError>
+    /// The tract that a text describes, or the text's fault, as `read_tract` gives it, and the same where it is recalled. What
+    /// is kept may want memory in vain: then it isn't kept. `Err` is Memory.
+    pub fn read(&mut self, text: &str) -> Result<Result<Tract, DescFault>, AllocError>
         ensures said { IfOk result (λ said. said ≡ land_in text.now) }
     {
-        if self.most == 0 || text.len() > LONGEST_KEPT {
+        if self.slots == 0 || text.len() > LONGEST_KEPT {
             return read_tract(self.alloc, text);
         }
-        let hash = self.hashers.hash_one(text);
-        if let Some(said) = self.recall(hash, text) {
+        let slot = self.hashers.hash_one(text) % self.slots;
+        if let Some(said) = self.recall(slot, text) {
             return Ok(said);
         }
         let said = read_tract(self.alloc, text)?;
-        self.keep(hash, text, &said);
+        self.keep(slot, text, &said);
         Ok(said)
     }
 }

@@ -1,15 +1,21 @@
 //! A script, from its bytes.
 
-ghost use Rattle.std.specs.Prelude.{◌≡◌, ◌⊎◌, Ok, Err, IfErr, IfOk, length};
+ghost use Rattle.std.specs.Prelude.{◌≡◌, ◌≤◌, ◌⊎◌, Ok, Err, IfErr, IfOk, OnOk, length};
 ghost use Rattle.title_trace.specs.Due.{MayOpen};
 ghost use Rattle.title_plan.specs.Asked.{asked_in};
 ghost use Rattle.csv.specs.Reading.{error_kind};
+ghost use Rattle.csv.specs.Records.{fields_of};
+ghost use Rattle.indexmap.specs.IndexSet.{index_set_len};
 ghost use Rattle.title_plan.specs.Faults.{IsWant};
+ghost use Rattle.title_plan.specs.Limits.{most_rows};
+ghost use Rattle.title_plan.specs.Onto.{after_row_onto, asked_on, before_in, first_of, script_onto};
 ghost use Rattle.title_plan.specs.Plans.{script_of};
 ghost use Rattle.title_plan.specs.declared.fault.ScriptFault.TheVariants as fault;
 
 use crate::fault::ScriptFault;
+use crate::laws::onto_nothing;
 use crate::line::Schedule;
+use crate::onto::{Declared, Stood};
 use crate::plan::Plan;
 use crate::readings::Readings;
 use csv::{ByteRecord, Error, ErrorKind, ReaderBuilder};
@@ -30,6 +36,89 @@ fn fault_of(error: Error) -> ScriptFault
     }
 }
 
+// A script of which rows were taken: its plan, what stood before it, the descriptions that were read, and a row's record.
+#[derive(Drop)]
+struct Taken {
+    plan: Plan,
+    stood: Stood,
+    readings: Readings,
+    raw: ByteRecord,
+    ghost townships: { stood.townships ≤ length plan.townships.items },
+    ghost parties: { stood.parties ≤ index_set_len plan.parties },
+}
+
+impl Taken {
+    // No row yet, on top of what is declared.
+    fn none(alloc: Global, declared: Declared) -> Taken
+        ensures asked { asked_in result.plan ≡ asked_on (before_in declared) }
+        ensures before { first_of result.stood (asked_in result.plan) ≡ before_in declared }
+    {
+        let stood = Stood::all(&declared);
+        Taken {
+            plan: Plan::onto(alloc, declared),
+            stood,
+            readings: Readings::new(alloc),
+            raw: ByteRecord::new(alloc),
+        }
+    }
+
+    // Takes the n-th row, which is in the record.
+    fn row(self, schedule: Schedule, n: u64) -> Result<Taken, ScriptFault>
+        ensures ok { IfOk result (λ taken. after_row_onto schedule (first_of self.stood (asked_in self.plan)) n (asked_in self.plan)
+            (fields_of self.raw) ≡ Ok (asked_in taken.plan)) }
+        ensures before { IfOk result (λ taken. first_of taken.stood (asked_in taken.plan) ≡ first_of self.stood (asked_in self.plan)) }
+        ensures within { OnOk result (n ≤ most_rows) }
+        ensures err { IfErr result (λ e. (e ≡ fault.Memory) ⊎ (after_row_onto schedule (first_of self.stood (asked_in self.plan)) n
+            (asked_in self.plan) (fields_of self.raw) ≡ Err e)) }
+    {
+        let Taken {
+            mut plan,
+            stood,
+            mut readings,
+            raw,
+        } = self;
+        let raw = plan.take_record(stood, &mut readings, schedule, n, raw)?;
+        Ok(Taken {
+            plan,
+            stood,
+            readings,
+            raw,
+        })
+    }
+}
+
+/// What a script declares and asks for on top of what is declared, or the fault of its first row at fault, as `read_script`
+/// gives it. Before the first step a row that declares a township which stands there, or a party which stands there behind
+/// UNITED STATES, is passed over.
+pub fn read_script_onto(
+    alloc: Global,
+    schedule: Schedule,
+    declared: Declared,
+    text: &[u8],
+) -> Result<Plan, ScriptFault>
+    ensures script { IfOk result (λ plan. script_onto schedule (before_in declared) text.now ≡ Ok (asked_in plan)) }
+    ensures opens { IfOk result (λ plan. MayOpen (length plan.parties.keys) plan.townships.items) }
+    ensures why { IfErr result (λ e. (e ≡ fault.Memory) ⊎ (script_onto schedule (before_in declared) text.now ≡ Err e)) }
+{
+    let mut reader = ReaderBuilder::new()
+        .has_headers(false)
+        .flexible(true)
+        .from_reader(alloc, text);
+    let mut taken = Taken::none(alloc, declared);
+    let mut n = 0;
+    'rows: loop {
+        let found = match reader.read_byte_record(&mut taken.raw) {
+            Ok(found) => found,
+            Err(error) => return Err(fault_of(error)),
+        };
+        if !found {
+            return Ok(taken.plan);
+        }
+        n += 1;
+        taken = taken.row(schedule, n)?;
+    }
+}
+
 /// What a script declares and asks for, or the fault of its first row at fault: Row, Order or Party with the row's number
 /// from 1; or Memory. With what it declares a plant can be opened.
 pub fn read_script(alloc: Global, schedule: Schedule, text: &[u8]) -> Result<Plan, ScriptFault>
@@ -37,23 +126,7 @@ pub fn read_script(alloc: Global, schedule: Schedule, text: &[u8]) -> Result<Pla
     ensures opens { IfOk result (λ plan. MayOpen (length plan.parties.keys) plan.townships.items) }
     ensures why { IfErr result (λ e. (e ≡ fault.Memory) ⊎ (script_of schedule text.now ≡ Err e)) }
 {
-    let mut reader = ReaderBuilder::new()
-        .has_headers(false)
-        .flexible(true)
-        .from_reader(alloc, text);
-    let mut plan = Plan::new(alloc)?;
-    let mut readings = Readings::new(alloc);
-    let mut raw = ByteRecord::new(alloc);
-    let mut n = 0;
-    'rows: loop {
-        let found = match reader.read_byte_record(&mut raw) {
-            Ok(found) => found,
-            Err(error) => return Err(fault_of(error)),
-        };
-        if !found {
-            return Ok(plan);
-        }
-        n += 1;
-        raw = plan.take_record(&mut readings, schedule, n, raw)?;
-    }
+    onto_nothing();
+    let declared = Declared::nothing(alloc)?;
+    read_script_onto(alloc, schedule, declared, text)
 }

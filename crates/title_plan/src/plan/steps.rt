@@ -5,12 +5,13 @@ ghost use Rattle.title_plan.specs.declared.fault.ScriptFault.TheVariants as faul
 ghost use Rattle.title_trace.specs.declared.call.Request.TheVariants as request;
 ghost use Rattle.title_plan.specs.declared.line.Line.TheVariants as line;
 ghost use Rattle.title_plan.specs.Asked.{asked_in};
-ghost use Rattle.title_plan.specs.Plans.{after_act, after_asked, asked_of, line_of, number_of, numbered, post};
+ghost use Rattle.title_plan.specs.Plans.{after_act, after_asked, asked_of, line_of, post};
 ghost use Rattle.title_plan.specs.Plans.{with_begun, with_ended, with_line};
-ghost use Rattle.title_plan.specs.Rows.{done, named};
+ghost use Rattle.title_plan.specs.Rows.{done};
 
 use crate::fault::ScriptFault;
 use crate::line::{Line, Schedule};
+use crate::numbers::numbered;
 use crate::plan::Plan;
 use crate::plan::turns::{begin, end};
 use crate::readings::Readings;
@@ -56,25 +57,6 @@ fn posted(
 }
 
 impl Plan {
-    // The number of a party.
-    fn number(&self, name: &str) -> Option<u32>
-        ensures number { result ≡ number_of (asked_in self.now).names name.now }
-    {
-        match self.parties.get_index_of(name) {
-            Some(index) => Some(index as u32),
-            None => None,
-        }
-    }
-
-    // An instrument between the numbers of its parties.
-    fn numbered(&self, instrument: &Instrument<&str>) -> Option<Instrument>
-        ensures numbered { result ≡ numbered (asked_in self.now).names (named instrument.now) }
-    {
-        let grantor = self.number(instrument.grantor())?;
-        let grantee = self.number(instrument.grantee())?;
-        Some(instrument.between(grantor, grantee))
-    }
-
     // An examiner's transaction begins.
     fn begin(&mut self, schedule: Schedule, examiner: u32) -> Result<(), AllocError>
         ensures begun { OnOk result (asked_in self.new ≡ with_line (asked_in self.old) (line.Asks (request.Begin examiner))
@@ -146,7 +128,7 @@ impl Plan {
                 self.take_asked(schedule, n, examiner, asked)
             }
             Act::Post(doc, ref instrument, text) => {
-                let Some(instrument) = self.numbered(instrument) else {
+                let Some(instrument) = numbered(&self.parties, instrument) else {
                     return Err(ScriptFault::Party(n));
                 };
                 let tract = readings.read(text)?;

@@ -3,9 +3,9 @@ use Rattle.csv.specs.Reading.{Ready, default_config, is_flexible, records_from, 
 use Rattle.csv.specs.declared.reader.Trim.TheVariants as trim
 use Rattle.title_plan.specs.Limits.{most_rows}
 use Rattle.title_plan.specs.Asked.{asked_in}
-use Rattle.title_plan.specs.Plans.{after_rows, script_of}
+use Rattle.title_plan.specs.Onto.{after_rows_onto, before_in, first_of, script_onto}
 use Rattle.title_plan.proofs.ReadOn.{IsCounted}
-use Rattle.title_plan.proofs.script.read_script.Given as goal
+use Rattle.title_plan.proofs.script.read_script_onto.Given as goal
 
 -- from what the plan holds, the records that are left come to what the script does
 abbrev pub invariant-rows : goal.invariant-rows
@@ -19,8 +19,9 @@ invariant-rows l = record {
   source : source_of (λ s. Some s.now) l.reader ≡ Some rest;
   count : ℕ;
   counted : IsCounted count l.reader.state rest;
-  after : after_rows l.schedule (l.n + 1) (asked_in l.plan) (records_from default_config count l.reader.state rest)
-      ≡ script_of l.schedule l.fn.text;
+  before : first_of l.taken.stood (asked_in l.taken.plan) ≡ before_in l.fn.declared;
+  after : after_rows_onto l.schedule (before_in l.fn.declared) (l.n + 1) (asked_in l.taken.plan)
+      (records_from default_config count l.reader.state rest) ≡ script_onto l.schedule (before_in l.fn.declared) l.fn.text;
 }
 
 abbrev pub decreases-rows : goal.decreases-rows

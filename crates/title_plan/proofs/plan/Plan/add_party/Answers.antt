@@ -4,8 +4,8 @@ use Rattle.std.specs.String.{string_bytes}
 use Rattle.std.proofs.lemmas.List.{length-map}
 use Rattle.title_plan.specs.Asked.{asked_in}
 use Rattle.title_plan.proofs.Names.{any_map, insert_name}
-use Rattle.title_plan.proofs.Declared.{party_few}
-use Rattle.title_plan.proofs.plan.Plan.take_party.Goals as goal
+use Rattle.title_plan.proofs.Declarations.{party_few}
+use Rattle.title_plan.proofs.plan.Plan.add_party.Goals as goal
 
 pub returns-then-contains-clause-err : goal.returns-then-contains-clause-err
 returns-then-contains-clause-err c =

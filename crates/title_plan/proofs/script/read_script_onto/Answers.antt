@@ -6,9 +6,10 @@ use Rattle.csv.specs.declared.reader.ReaderBuilder.{ReaderBuilder}
 use Rattle.csv.specs.Records.{fields_of}
 use Rattle.csv.proofs.ReadFacts.{rows-end, rows-more}
 use Rattle.title_plan.specs.Asked.{asked_in}
-use Rattle.title_plan.proofs.Declared.{once_said}
+use Rattle.title_plan.specs.Onto.{before_in}
+use Rattle.title_plan.proofs.Declarations.{once_said}
 use Rattle.title_plan.proofs.ReadOn.{none_read, one_read}
-use Rattle.title_plan.proofs.script.read_script.Goals as goal
+use Rattle.title_plan.proofs.script.read_script_onto.Goals as goal
 
 pub rows-init : goal.rows-init
 rows-init c =
@@ -24,7 +25,8 @@ rows-init c =
       source = reader.source;
       count = length (strip_bom c.args.text.now) + 1;
       counted = inl (omega arith);
-      after = rw (reader.state, c.in_ok-plan.ensures.nothing) refl;
+      before = c.none-taken.ensures.before;
+      after = rw (reader.state, c.none-taken.ensures.asked) refl;
     }
 
 pub rows-preserved : goal.rows-preserved
@@ -35,18 +37,19 @@ rows-preserved c =
     let fields = fields_of c.read_byte_record.new.row in
     let m = rows-more (λ (s : Bor (List ℕ)). Some s.now) c.rows.reader c.read_byte_record.new.self fields
     default_config c.rows.reader.state inv.rest inv.rest [] inv.config inv.source (refl, refl) read in
-    let on = one_read c.args.schedule (c.rows.n + 1) inv.count (asked_in c.rows.plan) fields _ _ _ _ _ inv.counted m.2 inv.after in
+    let on = one_read c.args.schedule (before_in c.args.declared) (c.rows.n + 1) inv.count (asked_in c.rows.taken.plan) fields _ _ _ _ _ inv.counted m.2 inv.after in
     record {
       trims = read.3 ∙ inv.trims;
       ready = inl (c.in-Ok.ensures.ready inv.trims);
       config = read.2 ∙ inv.config;
       flexible = c.in-Ok.ensures.flexible ∙ inv.flexible;
-      few = c.in_ok-raw.ensures.within;
+      few = c.in_ok-taken.ensures.within;
       rest = m.0;
       source = m.1;
       count = on.count;
       counted = on.counted;
-      after = rw c.in_ok-raw.ensures.ok at on.comes_to;
+      before = c.in_ok-taken.ensures.before ∙ inv.before;
+      after = rw (rw inv.before at c.in_ok-taken.ensures.ok) at on.comes_to;
     }
 
 pub returns-then-not-found-clause-script : goal.returns-then-not-found-clause-script
@@ -59,19 +62,19 @@ returns-then-not-found-clause-script c =
 
 pub returns-then-not-found-clause-opens : goal.returns-then-not-found-clause-opens
 returns-then-not-found-clause-opens c =
-    let plan = c.rows.plan in (plan.some, plan.few, plan.few_townships, once_said plan.townships.items plan.once)
+    let plan = c.rows.taken.plan in (plan.some, plan.few, plan.few_townships, once_said plan.townships.items plan.once)
 
-pub returns-in_err-raw-clause-why : goal.returns-in_err-raw-clause-why
+pub returns-in_err-taken-clause-why : goal.returns-in_err-taken-clause-why
 unfolding Reached
-returns-in_err-raw-clause-why c =
+returns-in_err-taken-clause-why c =
     let inv = c.rows.invariant in
     let read = rw c.if-not-found.false at (c.in-Ok.ensures.reads inv.trims inv.ready) in
     let fields = fields_of c.read_byte_record.new.row in
     let m = rows-more (λ (s : Bor (List ℕ)). Some s.now) c.rows.reader c.read_byte_record.new.self fields
     default_config c.rows.reader.state inv.rest inv.rest [] inv.config inv.source (refl, refl) read in
-    let on = one_read c.args.schedule (c.rows.n + 1) inv.count (asked_in c.rows.plan) fields _ _ _ _ _ inv.counted m.2 inv.after in
-    let out = err_from_is_err_and c.from_residual-in_err-raw.result c.from_residual-in_err-raw.ensures.1 in
-    rw (out.1, out.2) (elim c.in_err-raw.ensures.err [
+    let on = one_read c.args.schedule (before_in c.args.declared) (c.rows.n + 1) inv.count (asked_in c.rows.taken.plan) fields _ _ _ _ _ inv.counted m.2 inv.after in
+    let out = err_from_is_err_and c.from_residual.result c.from_residual.ensures.1 in
+    rw (out.1, out.2) (elim c.in_err-taken.ensures.err [
       | inl memory ↦ inl memory
-      | inr due ↦ inr (sym (rw due at on.comes_to))
+      | inr due ↦ inr (sym (rw (rw inv.before at due) at on.comes_to))
     ])
