@@ -1,5 +1,5 @@
 -- On top of nothing rows do what they do alone.
-use Rattle.std.proofs.Common.{◌≡◌, ◌+◌, ◌∙◌, refl, ap, ℕ, List, [], ◌∷◌, Bool, false, Option, Some, None, Result, Ok, Err, length, drop, eqb}
+use Rattle.std.proofs.Common.{◌≡◌, ◌+◌, ◌∙◌, refl, ap, ℕ, List, [], ◌∷◌, false, Option, Some, None, Result, Ok, Err, length, drop, eqb}
 use Rattle.std.proofs.lemmas.Bool.{and_right}
 use Rattle.title_land.specs.declared.tract.Land.{Land}
 use Rattle.title_land.specs.declared.tract.Land.TheVariants as land

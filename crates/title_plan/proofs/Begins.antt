@@ -17,7 +17,6 @@ use Rattle.title_instrument.specs.declared.instrument.Instrument.{Instrument}
 use Rattle.title_trace.specs.Due.{most_townships}
 use Rattle.title_plan.specs.declared.fault.ScriptFault.{ScriptFault}
 use Rattle.title_plan.specs.declared.fault.ScriptFault.TheVariants as fault
-use Rattle.title_plan.specs.declared.line.Line.{Line}
 use Rattle.title_plan.specs.declared.line.Schedule.{Schedule}
 use Rattle.title_plan.specs.declared.line.Schedule.TheVariants as schedule
 use Rattle.title_plan.specs.declared.onto.Stood.{Stood}
@@ -30,7 +29,7 @@ use Rattle.title_plan.specs.Lands.{land_in}
 use Rattle.title_plan.specs.Onto.{Before, ScriptsBegin, after_row_onto, after_rows_onto, after_understood_onto, asked_on, first_of}
 use Rattle.title_plan.specs.Onto.{is_party_of, is_township_of, party_onto, township_onto}
 use Rattle.title_plan.specs.Plans.{after_act, after_asked, after_post, after_step_row, after_township, asked_of, going_on, numbered, post}
-use Rattle.title_plan.specs.Plans.{is_beyond, is_out_of_turn, rows_in, understood, with_line, with_party, with_township}
+use Rattle.title_plan.specs.Plans.{is_beyond, is_out_of_turn, rows_in, understood, with_party, with_township}
 
 -- the townships and the names begin with those of before
 abbrev pub Grows : Asked → Asked → Type 0

@@ -1,5 +1,5 @@
 -- Which names stand behind the first of those that stood, by their numbers.
-use Rattle.std.proofs.Common.{◌≡◌, ◌∙◌, ◌+◌, ◌&&◌, cond, refl, sym, ℕ, zero, suc, List, [], ◌∷◌, Bool, true, false, Some, None, map, drop, take, length}
+use Rattle.std.proofs.Common.{◌≡◌, ◌∙◌, ◌+◌, ◌&&◌, cond, refl, ℕ, zero, suc, List, [], ◌∷◌, Bool, true, false, Some, None, map, drop, take, length}
 use Rattle.std.proofs.Common.{nat_lt, arith, inl, inr}
 use Rattle.std.specs.List.{AllByRecursion, IsDistinct, list_any, position, position_or_len}
 use Rattle.std.specs.Str.{bytes_eq}

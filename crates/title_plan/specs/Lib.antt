@@ -7,3 +7,4 @@ pub mod Asked
 pub mod Plans
 pub mod Onto
 pub mod Faults
+pub mod Readers

@@ -3,13 +3,14 @@
 ghost use Rattle.std.specs.Prelude.{◌≡◌, ◌≤◌, ◌⊎◌, Ok, Err, IfErr, IfOk, OnOk, length};
 ghost use Rattle.title_trace.specs.Due.{MayOpen};
 ghost use Rattle.title_plan.specs.Asked.{asked_in};
-ghost use Rattle.csv.specs.Reading.{error_kind};
+ghost use Rattle.csv.specs.Reading.{default_config, error_kind, records, strip_bom};
 ghost use Rattle.csv.specs.Records.{fields_of};
 ghost use Rattle.indexmap.specs.IndexSet.{index_set_len};
 ghost use Rattle.title_plan.specs.Faults.{IsWant};
 ghost use Rattle.title_plan.specs.Limits.{most_rows};
-ghost use Rattle.title_plan.specs.Onto.{after_row_onto, asked_on, before_in, first_of, script_onto};
+ghost use Rattle.title_plan.specs.Onto.{after_row_onto, after_rows_onto, asked_on, before_in, first_of, script_onto};
 ghost use Rattle.title_plan.specs.Plans.{script_of};
+ghost use Rattle.title_plan.specs.Readers.{IsAtFirst, left_of};
 ghost use Rattle.title_plan.specs.declared.fault.ScriptFault.TheVariants as fault;
 
 use crate::fault::ScriptFault;
@@ -18,7 +19,7 @@ use crate::line::Schedule;
 use crate::onto::{Declared, Stood};
 use crate::plan::Plan;
 use crate::readings::Readings;
-use csv::{ByteRecord, Error, ErrorKind, ReaderBuilder};
+use csv::{ByteRecord, Error, ErrorKind, Reader, ReaderBuilder};
 use std::alloc::Global;
 
 // Splitting a text in memory into rows ends early for want of memory only: rows may have any lengths, and their bytes are
@@ -62,6 +63,12 @@ impl Taken {
         }
     }
 
+    fn into_plan(self) -> Plan
+        ensures plan { result ≡ self.plan }
+    {
+        self.plan
+    }
+
     // Takes the n-th row, which is in the record.
     fn row(self, schedule: Schedule, n: u64) -> Result<Taken, ScriptFault>
         ensures ok { IfOk result (λ taken. after_row_onto schedule (first_of self.stood (asked_in self.plan)) n (asked_in self.plan)
@@ -87,6 +94,42 @@ impl Taken {
     }
 }
 
+// A reader of a script's rows, at the first.
+fn open_rows(alloc: Global, text: &[u8]) -> Reader<&[u8]>
+    ensures first { IsAtFirst (strip_bom text.now) result }
+{
+    ReaderBuilder::new()
+        .has_headers(false)
+        .flexible(true)
+        .from_reader(alloc, text)
+}
+
+// Takes all rows of a reader. The reader is another's, so that no way out lets it go.
+fn take_rows(
+    reader: &mut Reader<&[u8]>,
+    schedule: Schedule,
+    mut taken: Taken,
+) -> Result<Plan, ScriptFault>
+    requires first { IsAtFirst (left_of reader.old) reader.old }
+    ensures script { IfOk result (λ plan. after_rows_onto schedule (first_of taken.stood (asked_in taken.plan)) 1
+        (asked_in taken.plan) (records default_config (left_of reader.old)) ≡ Ok (asked_in plan)) }
+    ensures why { IfErr result (λ e. (e ≡ fault.Memory) ⊎ (after_rows_onto schedule (first_of taken.stood (asked_in taken.plan)) 1
+        (asked_in taken.plan) (records default_config (left_of reader.old)) ≡ Err e)) }
+{
+    let mut n = 0;
+    'rows: loop {
+        let found = match reader.read_byte_record(&mut taken.raw) {
+            Ok(found) => found,
+            Err(error) => return Err(fault_of(error)),
+        };
+        if !found {
+            return Ok(taken.into_plan());
+        }
+        n += 1;
+        taken = taken.row(schedule, n)?;
+    }
+}
+
 /// What a script declares and asks for on top of what is declared, or the fault of its first row at fault, as `read_script`
 /// gives it. Before the first step a row that declares a township which stands there, or a party which stands there behind
 /// UNITED STATES, is passed over.
@@ -100,23 +143,9 @@ pub fn read_script_onto(
     ensures opens { IfOk result (λ plan. MayOpen (length plan.parties.keys) plan.townships.items) }
     ensures why { IfErr result (λ e. (e ≡ fault.Memory) ⊎ (script_onto schedule (before_in declared) text.now ≡ Err e)) }
 {
-    let mut reader = ReaderBuilder::new()
-        .has_headers(false)
-        .flexible(true)
-        .from_reader(alloc, text);
-    let mut taken = Taken::none(alloc, declared);
-    let mut n = 0;
-    'rows: loop {
-        let found = match reader.read_byte_record(&mut taken.raw) {
-            Ok(found) => found,
-            Err(error) => return Err(fault_of(error)),
-        };
-        if !found {
-            return Ok(taken.plan);
-        }
-        n += 1;
-        taken = taken.row(schedule, n)?;
-    }
+    let mut reader = open_rows(alloc, text);
+    let taken = Taken::none(alloc, declared);
+    take_rows(&mut reader, schedule, taken)
 }
 
 /// What a script declares and asks for, or the fault of its first row at fault: Row, Order or Party with the row's number

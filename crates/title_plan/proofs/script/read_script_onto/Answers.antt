@@ -1,80 +1,14 @@
-use Rattle.std.proofs.Common.{Bor, List, ℕ, ◌+◌, ◌∙◌, sym, refl, ap, arith, inl, inr, true, Some, []}
-use Rattle.std.proofs.Common.{length}
-use Rattle.std.proofs.lemmas.Result.{err_from_is_err_and}
-use Rattle.csv.specs.Reading.{Reached, default_config, strip_bom, with_flexible}
-use Rattle.csv.specs.declared.reader.ReaderBuilder.{ReaderBuilder}
-use Rattle.csv.specs.Records.{fields_of}
-use Rattle.csv.proofs.ReadFacts.{rows-end, rows-more}
-use Rattle.title_plan.specs.Asked.{asked_in}
-use Rattle.title_plan.specs.Onto.{before_in}
+-- With what any plan declares a plant can be opened.
+use Rattle.std.proofs.Common.{IfOk, Result, Ok, Err, length}
+use Rattle.title_trace.specs.Due.{MayOpen}
+use Rattle.title_plan.specs.declared.fault.ScriptFault.{ScriptFault}
+use Rattle.title_plan.specs.declared.plan.Plan.{Plan}
 use Rattle.title_plan.proofs.Declarations.{once_said}
-use Rattle.title_plan.proofs.ReadOn.{none_read, one_read}
 use Rattle.title_plan.proofs.script.read_script_onto.Goals as goal
 
-pub rows-init : goal.rows-init
-rows-init c =
-    let reader = c.from_reader-reader.ensures in
-    let builder = c.flexible.ensures ∙ ap (λ (b : ReaderBuilder). with_flexible b true) c.has_headers.ensures in
-    record {
-      trims = rw builder at reader.trim ∙ c.new.ensures.trim;
-      ready = inr (inr (rw builder at reader.has_headers, reader.headers));
-      config = rw builder at reader.config ∙ c.new.ensures.config;
-      flexible = rw builder at reader.flexible;
-      few = omega arith;
-      rest = strip_bom c.args.text.now;
-      source = reader.source;
-      count = length (strip_bom c.args.text.now) + 1;
-      counted = inl (omega arith);
-      before = c.none-taken.ensures.before;
-      after = rw (reader.state, c.none-taken.ensures.asked) refl;
-    }
+opens : (r : Result Plan ScriptFault) → IfOk r (λ plan. MayOpen (length plan.parties.keys) plan.townships.items)
+opens (Ok plan) = (plan.some, plan.few, plan.few_townships, once_said plan.townships.items plan.once)
+opens (Err e) = tt
 
-pub rows-preserved : goal.rows-preserved
-unfolding Reached
-rows-preserved c =
-    let inv = c.rows.invariant in
-    let read = rw c.if-not-found.false at (c.in-Ok.ensures.reads inv.trims inv.ready) in
-    let fields = fields_of c.read_byte_record.new.row in
-    let m = rows-more (λ (s : Bor (List ℕ)). Some s.now) c.rows.reader c.read_byte_record.new.self fields
-    default_config c.rows.reader.state inv.rest inv.rest [] inv.config inv.source (refl, refl) read in
-    let on = one_read c.args.schedule (before_in c.args.declared) (c.rows.n + 1) inv.count (asked_in c.rows.taken.plan) fields _ _ _ _ _ inv.counted m.2 inv.after in
-    record {
-      trims = read.3 ∙ inv.trims;
-      ready = inl (c.in-Ok.ensures.ready inv.trims);
-      config = read.2 ∙ inv.config;
-      flexible = c.in-Ok.ensures.flexible ∙ inv.flexible;
-      few = c.in_ok-taken.ensures.within;
-      rest = m.0;
-      source = m.1;
-      count = on.count;
-      counted = on.counted;
-      before = c.in_ok-taken.ensures.before ∙ inv.before;
-      after = rw (rw inv.before at c.in_ok-taken.ensures.ok) at on.comes_to;
-    }
-
-pub returns-then-not-found-clause-script : goal.returns-then-not-found-clause-script
-returns-then-not-found-clause-script c =
-    let inv = c.rows.invariant in
-    let read = rw c.if-not-found.true at (c.in-Ok.ensures.reads inv.trims inv.ready) in
-    let none = rows-end (λ (s : Bor (List ℕ)). Some s.now) c.rows.reader c.read_byte_record.new.self
-    (fields_of c.read_byte_record.new.row) default_config inv.rest inv.config inv.source read in
-    sym (rw (none_read inv.count c.rows.reader.state inv.rest none) at inv.after)
-
-pub returns-then-not-found-clause-opens : goal.returns-then-not-found-clause-opens
-returns-then-not-found-clause-opens c =
-    let plan = c.rows.taken.plan in (plan.some, plan.few, plan.few_townships, once_said plan.townships.items plan.once)
-
-pub returns-in_err-taken-clause-why : goal.returns-in_err-taken-clause-why
-unfolding Reached
-returns-in_err-taken-clause-why c =
-    let inv = c.rows.invariant in
-    let read = rw c.if-not-found.false at (c.in-Ok.ensures.reads inv.trims inv.ready) in
-    let fields = fields_of c.read_byte_record.new.row in
-    let m = rows-more (λ (s : Bor (List ℕ)). Some s.now) c.rows.reader c.read_byte_record.new.self fields
-    default_config c.rows.reader.state inv.rest inv.rest [] inv.config inv.source (refl, refl) read in
-    let on = one_read c.args.schedule (before_in c.args.declared) (c.rows.n + 1) inv.count (asked_in c.rows.taken.plan) fields _ _ _ _ _ inv.counted m.2 inv.after in
-    let out = err_from_is_err_and c.from_residual.result c.from_residual.ensures.1 in
-    rw (out.1, out.2) (elim c.in_err-taken.ensures.err [
-      | inl memory ↦ inl memory
-      | inr due ↦ inr (sym (rw (rw inv.before at due) at on.comes_to))
-    ])
+pub returns-clause-opens : goal.returns-clause-opens
+returns-clause-opens c = opens c.take_rows.result
