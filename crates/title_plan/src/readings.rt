@@ -17,14 +17,6 @@ const SLOTS: u64 = 4_096;
 // The most bytes of one that is kept; a longer text is none, which is seen at once.
 const LONGEST_KEPT: usize = 1_000;
 
-// A description and what it says.
-#[derive(Drop)]
-struct Reading {
-    text: String,
-    said: Result<Tract, DescFault>,
-    ghost read: { said ≡ land_in (string_bytes text) },
-}
-
 // What a description says, once more, which shares the tract; `None` where it may not be shared.
 fn copied(alloc: Global, said: &Result<Tract, DescFault>) -> Option<Result<Tract, DescFault>>
     ensures copied { IfSome result (λ copy. copy ≡ said.now) }
@@ -35,6 +27,37 @@ fn copied(alloc: Global, said: &Result<Tract, DescFault>) -> Option<Result<Tract
             Err(_) => None,
         },
         Err(why) => Some(Err(*why)),
+    }
+}
+
+// A description and what it says.
+#[derive(Drop)]
+struct Reading {
+    text: String,
+    said: Result<Tract, DescFault>,
+    ghost read: { said ≡ land_in (string_bytes text) },
+}
+
+impl Reading {
+    // What a text says; `None` where memory is refused.
+    fn new(alloc: Global, text: &str, said: &Result<Tract, DescFault>) -> Option<Reading>
+        requires said { said.now ≡ land_in text.now }
+    {
+        let said = copied(alloc, said)?;
+        match String::from_str(alloc, text) {
+            Ok(text) => Some(Reading { text, said }),
+            Err(_) => None,
+        }
+    }
+
+    // What a text says, where it is this one.
+    fn recall(&self, alloc: Global, text: &str) -> Option<Result<Tract, DescFault>>
+        ensures said { IfSome result (λ said. said ≡ land_in text.now) }
+    {
+        if self.text.as_str() != text {
+            return None;
+        }
+        copied(alloc, &self.said)
     }
 }
 
@@ -70,32 +93,8 @@ impl Readings {
         Readings::with_slots(alloc, 0)
     }
 
-    // What a description says, where it stands in this slot.
-    fn recall(&self, slot: u64, text: &str) -> Option<Result<Tract, DescFault>>
-        ensures said { IfSome result (λ said. said ≡ land_in text.now) }
-    {
-        let reading = self.kept.get(&slot)?;
-        if reading.text.as_str() != text {
-            return None;
-        }
-        copied(self.alloc, &reading.said)
-    }
-
-    // Keeps a description, and what it says, in this slot in place of the one that stands there; not where memory is refused.
-    fn keep(&mut self, slot: u64, text: &str, said: &Result<Tract, DescFault>)
-        requires said { said.now ≡ land_in text.now }
-    {
-        let Some(said) = copied(self.alloc, said) else {
-            return;
-        };
-        let Ok(text) = String::from_str(self.alloc, text) else {
-            return;
-        };
-        let _ = self.kept.insert(slot, Reading { text, said });
-    }
-
-    /// The tract that a text describes, or the text's fault, as `read_tract` gives it, and the same where it is recalled. What
-    /// is kept may want memory in vain: then it isn't kept. `Err` is Memory.
+    /// The tract that a text describes, or the text's fault, as `read_tract` gives it. `Err` is Memory, where it is wanted to
+    /// read the text; where it is wanted to keep the text, that isn't kept.
     pub fn read(&mut self, text: &str) -> Result<Result<Tract, DescFault>, AllocError>
         ensures said { IfOk result (λ said. said ≡ land_in text.now) }
     {
@@ -103,11 +102,20 @@ impl Readings {
             return read_tract(self.alloc, text);
         }
         let slot = self.hashers.hash_one(text) % self.slots;
-        if let Some(said) = self.recall(slot, text) {
+        let Some(place) = self.kept.get_mut(&slot) else {
+            let said = read_tract(self.alloc, text)?;
+            if let Some(reading) = Reading::new(self.alloc, text, &said) {
+                let _ = self.kept.insert(slot, reading);
+            }
+            return Ok(said);
+        };
+        if let Some(said) = place.recall(self.alloc, text) {
             return Ok(said);
         }
         let said = read_tract(self.alloc, text)?;
-        self.keep(slot, text, &said);
+        if let Some(reading) = Reading::new(self.alloc, text, &said) {
+            *place = reading;
+        }
         Ok(said)
     }
 }
