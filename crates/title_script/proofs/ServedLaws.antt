@@ -2,9 +2,9 @@
 use Rattle.std.proofs.Common.{◌≡◌, ◌∙◌, ℕ, List, [], ◌∷◌, ◌++◌, length, refl, sym, ap, ap₂, subst}
 use Rattle.std.proofs.lemmas.List.{append-nil, append_assoc}
 use Rattle.std.specs.List.{flat_map}
-use Rattle.title_land.specs.declared.place.Township.{Township}
 use Rattle.title_trace.specs.declared.call.Call.{Call}
 use Rattle.title_trace.specs.Due.{Setting}
+use Rattle.title_plan.specs.Asked.{Asked}
 use Rattle.title_plan.specs.declared.line.Line.{Line}
 use Rattle.title_plan.specs.declared.line.Line.TheVariants as line
 use Rattle.title_script.specs.declared.told.Told.{Told}
@@ -13,6 +13,7 @@ use Rattle.title_report.specs.Replies.{end_row}
 use Rattle.title_script.specs.Served.{after_line, due_rows, line_rows}
 use Rattle.title_script.specs.Told.{all_due_told, due_told, told_rows}
 use Rattle.title_script.specs.ReportLaws.{after_lines}
+use Rattle.title_script.specs.Reports.{report_on, report_onto, setting_of}
 
 pub rows_in_order : (setting : Setting) (names : List (List ℕ)) (before : List Call) (lines more : List Line) →
     due_rows setting names before (lines ++ more)
@@ -54,15 +55,17 @@ all_told setting names before (l ∷ lines) =
     ap₂ (λ (rows more : List (List (List ℕ))). rows ++ more) (line_told setting names before l)
     (all_told setting names (after_line setting before l) lines)
 
--- so the text of what came of a script's steps is its report
-pub served_on : (names : List (List ℕ)) (townships : List Township) (lines : List Line) (setting : Setting) (before : List Call)
-    (told : List Told) (steps : ℕ) → setting ≡ record { parties = length names; townships = townships } → before ≡ [] →
-    told ≡ all_due_told setting before lines → steps ≡ length lines →
+-- so the text of what came of a script's steps on top of a trace is its report there
+pub served_onto : (names : List (List ℕ)) (lines : List Line) (setting : Setting) (before : List Call)
+    (told : List Told) (steps : ℕ) → told ≡ all_due_told setting before lines → steps ≡ length lines →
     rows_text (flat_map (told_rows names) told) ++ row (end_row steps)
-    ≡ rows_text (due_rows (record { parties = length names; townships = townships }) names [] lines) ++ row (end_row (length lines))
-served_on names townships lines setting before told steps same none all count =
+    ≡ rows_text (due_rows setting names before lines) ++ row (end_row (length lines))
+served_onto names lines setting before told steps all count =
     ap₂ (λ (rows : List (List (List ℕ))) (n : ℕ). rows_text rows ++ row (end_row n))
-    (ap (λ (ts : List Told). flat_map (told_rows names) ts)
-    (all ∙ ap₂ (λ (s : Setting) (b : List Call). all_due_told s b lines) same none)
-    ∙ all_told (record { parties = length names; townships = townships }) names [] lines)
+    (ap (λ (ts : List Told). flat_map (told_rows names) ts) all ∙ all_told setting names before lines)
     count
+
+-- and on an empty trace, at the desk that it asks, that is the report of the script
+pub reports_alike : (asked : Asked) (setting : Setting) (before : List Call) → setting ≡ setting_of asked → before ≡ [] →
+    report_onto setting before asked ≡ report_on asked
+reports_alike asked setting before same none = ap₂ (λ (s : Setting) (b : List Call). report_onto s b asked) same none

@@ -1,5 +1,6 @@
 -- The report of a script.
 use Rattle.std.specs.Prelude.{ℕ, List, [], ◌++◌, length, Result, Ok, Err}
+use Rattle.title_trace.specs.declared.call.Call.{Call}
 use Rattle.title_trace.specs.Due.{Setting}
 use Rattle.title_plan.specs.declared.fault.ScriptFault.{ScriptFault}
 use Rattle.title_plan.specs.declared.line.Schedule.{Schedule}
@@ -16,6 +17,11 @@ setting_of asked = record { parties = length asked.names; townships = asked.town
 -- the report of what a script asks for: the rows of its steps from an empty trace, and the last row, which counts them
 abbrev pub report_on : Asked → List ℕ
 report_on asked = rows_text (due_rows (setting_of asked) asked.names [] asked.lines) ++ row (end_row (length asked.lines))
+
+-- the report of what a script asks for on top of what stands: the rows of its steps from that trace, and the last row
+abbrev pub report_onto : Setting → List Call → Asked → List ℕ
+report_onto setting before asked =
+    rows_text (due_rows setting asked.names before asked.lines) ++ row (end_row (length asked.lines))
 
 -- the report of what is asked for, or the fault in place of it
 abbrev pub report_or_fault : Result Asked ScriptFault → Result (List ℕ) ScriptFault

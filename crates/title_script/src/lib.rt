@@ -11,8 +11,11 @@ mod writing;
 
 pub use fault::RunFault;
 pub use runs::{run, run_alone, run_by};
+pub use serving::serve_onto;
 pub use title_device::{
     Device, Failed, ReadFault, SCRIPT_LIMIT, Sink, Source, read_all, write_all,
 };
 pub use title_plan::{Schedule, ScriptFault};
+pub use told::{Served, Told};
 pub use watch::{Unwatched, Watch};
+pub use writing::write_served;

@@ -6,8 +6,9 @@ ghost use Rattle.title_trace.specs.Due.{MayOpen};
 ghost use Rattle.title_desk.specs.Singles.{IsIdle};
 ghost use Rattle.title_plan.specs.Asked.{asked_in};
 ghost use Rattle.title_script.specs.Served.{after_alone, after_call, after_line, ending, reply_to};
+ghost use Rattle.title_script.specs.ReportLaws.{after_lines};
+ghost use Rattle.title_script.specs.Reports.{report_on, report_onto, setting_of};
 ghost use Rattle.title_script.specs.Told.{all_due_told, due_told, served_text};
-ghost use Rattle.title_script.specs.Reports.{report_on, setting_of};
 
 use crate::told::{Served, Told};
 use crate::watch::Watch;
@@ -132,17 +133,19 @@ fn add_told(all: &mut Vec<Told>, told: Told) -> Result<(), AllocError>
 #[tactic(auto, using(crate::proofs::ServedLaws::rest_served))]
 fn serve_lines<S: Store + Drop, G: Guards + Drop, V: Watch>(
     alloc: Global,
-    mut desk: Desk<S, G>,
+    desk: &mut Desk<S, G>,
     lines: &mut VecDeque<Line>,
     watch: &mut V,
 ) -> Result<Vec<Told>, AllocError>
-    ensures told { IfOk result (λ v. v.items ≡ all_due_told desk.setting desk.trace lines.old.items) }
+    ensures setting { desk.new.setting ≡ desk.old.setting }
+    ensures trace { OnOk result (desk.new.trace ≡ after_lines desk.old.setting desk.old.trace lines.old.items) }
+    ensures told { IfOk result (λ v. v.items ≡ all_due_told desk.old.setting desk.old.trace lines.old.items) }
 {
     let steps = lines.len();
     let mut all = Vec::new(alloc);
     all.reserve(steps)?;
     while let Some(line) = lines.pop_front() {
-        let told = serve_line(&mut desk, line)?;
+        let told = serve_line(desk, line)?;
         add_told(&mut all, told)?;
         watch.served(steps.saturating_sub(lines.len()), steps);
     }
@@ -162,17 +165,32 @@ fn open_desk<S: Store + Drop, G: Guards + Drop>(
     Desk::open(alloc, parties, plan.townships.as_slice())
 }
 
+/// Serves what a plan asks for at a desk, on top of what stands there; the plan's parties have the numbers that they have there.
+/// Who watches is told after each step. `Err` is Memory, and then only some are served.
+pub fn serve_onto<S: Store + Drop, G: Guards + Drop, V: Watch>(
+    alloc: Global,
+    desk: &mut Desk<S, G>,
+    mut plan: Plan,
+    watch: &mut V,
+) -> Result<Served, AllocError>
+    ensures setting { desk.new.setting ≡ desk.old.setting }
+    ensures trace { OnOk result (desk.new.trace ≡ after_lines desk.old.setting desk.old.trace plan.lines.items) }
+    ensures report { IfOk result (λ s. served_text s ≡ report_onto desk.old.setting desk.old.trace (asked_in plan)) }
+{
+    let steps = plan.lines.len();
+    let told = serve_lines(alloc, desk, &mut plan.lines, watch)?;
+    Ok(Served { plan, told, steps })
+}
+
 /// Serves what a plan asks for, over a store and guards of any kinds.
 pub(crate) fn serve_plan<S: Store + Drop, G: Guards + Drop, V: Watch>(
     alloc: Global,
-    mut plan: Plan,
+    plan: Plan,
     watch: &mut V,
 ) -> Result<Served, AllocError>
     requires opens { MayOpen (length plan.parties.keys) plan.townships.items }
     ensures report { IfOk result (λ s. served_text s ≡ report_on (asked_in plan)) }
 {
-    let steps = plan.lines.len();
-    let desk = open_desk::<S, G>(alloc, &plan)?;
-    let told = serve_lines(alloc, desk, &mut plan.lines, watch)?;
-    Ok(Served { plan, told, steps })
+    let mut desk = open_desk::<S, G>(alloc, &plan)?;
+    serve_onto(alloc, &mut desk, plan, watch)
 }

@@ -60,11 +60,7 @@ fn put_all_told<S: Sink>(
 /// Writes the report of a script whose steps have been served. It wants no memory: lines for the entries of chains are made
 /// before the first byte, and where these are refused the report is written without them. `Failed` where a push fails; the sink
 /// has then taken a beginning of the report.
-pub(crate) fn write_served<S: Sink>(
-    alloc: Global,
-    sink: &mut S,
-    served: &Served,
-) -> Result<(), Failed>
+pub fn write_served<S: Sink>(alloc: Global, sink: &mut S, served: &Served) -> Result<(), Failed>
     requires works { S.has_failed sink.old ≡ false }
     ensures bytes { OnOk result (Appends (S.taken sink.old) (S.taken sink.new) (served_text served.now)) }
     ensures well { OnOk result (S.has_failed sink.new ≡ false) }

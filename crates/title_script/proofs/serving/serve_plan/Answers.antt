@@ -1,14 +1,12 @@
--- What came of the steps has the rows that are due.
-use Rattle.std.proofs.Common.{◌∙◌, map}
-use Rattle.std.specs.String.{string_bytes}
-use Rattle.title_script.proofs.ServedLaws.{served_on}
+-- The desk is the one that the plan asks, and nothing stands there.
+use Rattle.std.proofs.Common.{◌≡◌, ℕ, List, IfOk, subst}
+use Rattle.title_plan.specs.Asked.{asked_in}
+use Rattle.title_script.specs.Told.{served_text}
+use Rattle.title_script.proofs.ServedLaws.{reports_alike}
 use Rattle.title_script.proofs.serving.serve_plan.Goals as goal
 
 pub returns : goal.returns
 returns g c =
-    let p = c.args.plan in
-    record {
-      report = served_on (map string_bytes p.parties.keys) p.townships.items p.lines.items c.in_ok-desk.desk.setting
-          c.in_ok-desk.desk.trace c.in_ok-told.told.items c.len-steps.result c.in_ok-desk.ensures.setting c.in_ok-desk.ensures.trace
-          c.in_ok-told.ensures.told (c.len-steps.ensures ∙ p.lines.ok.0);
-    }
+    let d = c.in_ok-desk in
+    let same = reports_alike (asked_in c.args.plan) d.desk.setting d.desk.trace d.ensures.setting d.ensures.trace in
+    record { report = subst (λ (text : List ℕ). IfOk c.serve_onto.result (λ s. served_text s ≡ text)) same c.serve_onto.ensures.report }
