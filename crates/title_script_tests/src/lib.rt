@@ -1,4 +1,4 @@
-//! Tests of devices, rows, words of the command line and whole scripts, through public calls: limits from both sides, failing
+//! Tests of devices, rows and whole scripts, through public calls: limits that take long scripts from both sides, failing
 //! devices, cut scripts.
 #![tactic(auto)]
 

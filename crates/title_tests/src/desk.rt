@@ -1,4 +1,5 @@
-//! The desk over a store of trees and a table of locks: each of its calls.
+//! The desk over a store of trees and a table of locks: its calls, books and limits. Replies in their order, and a sheet of three
+//! thousand rows, stand with the vectors.
 
 use crate::places::{square, township};
 use std::alloc::{AllocError, Global};
@@ -6,10 +7,9 @@ use std::process::Abort;
 use std::test::Fail;
 use title_chain::{Answer, Ask, Posting, Terms};
 use title_desk::{Desk, may_open};
-use title_instrument::{Deed, Estates, Instrument, Quantum, Release};
+use title_instrument::{Estates, Instrument, Release};
 use title_land::{Land, Node, Quarter, Township, Tract};
 use title_lock::NodeLocks;
-use title_share::Share;
 use title_store::Store;
 use title_trace::{Call, Reply, Request};
 use title_tree_store::TreeStore;
@@ -23,20 +23,13 @@ enum Act {
     Sheet,
     Chain,
     Post(u64),
-    Commit,
-    Abort,
-}
-
-/// A desk of so many parties and one township.
-fn open_for(alloc: Global, rt: &impl Abort, parties: u32) -> Result<TestDesk, AllocError> {
-    let townships = [township(rt, 3)];
-    assert!(rt; may_open(parties, &townships));
-    Desk::open(alloc, parties, &townships)
 }
 
 /// A desk of three parties and one township.
 fn open(alloc: Global, rt: &impl Abort) -> Result<TestDesk, AllocError> {
-    open_for(alloc, rt, 3)
+    let townships = [township(rt, 3)];
+    assert!(rt; may_open(3, &townships));
+    Desk::open(alloc, 3, &townships)
 }
 
 fn posting(alloc: Global, doc: u64, tract: Tract) -> Result<Posting, AllocError> {
@@ -67,8 +60,6 @@ fn request(alloc: Global, land: Land, examiner: u32, act: Act) -> Result<Request
             let posting = posting(alloc, doc, Tract::new(alloc, land)?)?;
             Request::Step(examiner, Ask::Post(posting))
         }
-        Act::Commit => Request::Commit(examiner),
-        Act::Abort => Request::Abort(examiner),
     })
 }
 
@@ -81,9 +72,6 @@ fn word(reply: &Reply) -> &'static str {
         Reply::Answered(Answer::Posted) => "posted",
         Reply::Committed(_) => "committed",
         Reply::Aborted => "aborted",
-        Reply::NotOpen => "not open",
-        Reply::AlreadyOpen => "already open",
-        Reply::Conflict(_) => "conflict",
         Reply::Memory => "memory",
         _ => "another",
     }
@@ -102,26 +90,6 @@ fn assert_replies(
         assert_eq!(rt; word(&reply), *wanted, "to {examiner}");
     }
     Ok(())
-}
-
-const LINES: [(u32, Act, &str); 11] = [
-    (1, Act::Begin, "began"),
-    (1, Act::Begin, "already open"),
-    (1, Act::Sheet, "rows"),
-    (1, Act::Post(7), "posted"),
-    (1, Act::Chain, "entries"),
-    (2, Act::Begin, "began"),
-    (2, Act::Sheet, "conflict"),
-    (1, Act::Commit, "committed"),
-    (2, Act::Sheet, "rows"),
-    (2, Act::Abort, "aborted"),
-    (2, Act::Chain, "not open"),
-];
-
-#[test]
-fn each_act_has_its_reply(rt: HostRuntime) -> Result<(), Fail> {
-    let mut desk = open(rt.alloc(), &rt)?;
-    Ok(assert_replies(rt.alloc(), &rt, &mut desk, &LINES)?)
 }
 
 /// The books after a commit and a sweep: one record of one step, and a trace of all calls.
@@ -198,63 +166,6 @@ fn a_desk_opens_within_its_limits(rt: HostRuntime) -> Result<(), Fail> {
     assert!(rt; may_open(1, &[]) && may_open(65_536, most.as_slice()));
     assert!(rt; !may_open(0, &[]) && !may_open(65_537, &[]));
     assert!(rt; !may_open(1, too_many.as_slice()) && !may_open(1, &twice));
-    Ok(())
-}
-
-/// A deed of a part of each estate of a tract from party 0.
-fn part_to(alloc: Global, grantee: u32, part: Share, tract: Tract) -> Result<Posting, AllocError> {
-    let estates = Estates {
-        s: true,
-        o: true,
-        m: true,
-    };
-    let deed = Deed {
-        grantor: 0,
-        grantee,
-        estates,
-        quantum: Quantum::Whole(part),
-        reserve: [None; 3],
-        warranty: false,
-    };
-    let terms = Terms {
-        doc: 1,
-        tract,
-        instrument: Instrument::Deed(deed),
-    };
-    Posting::new(alloc, terms)
-}
-
-/// Each of a thousand deeds of a cell is posted.
-fn post_a_thousand(alloc: Global, rt: &impl Abort, desk: &mut TestDesk, cell: &Node) {
-    let part = Share::parse("1/4096").expect(rt, "it is a share");
-    assert!(rt; matches!(desk.serve(Request::Begin(1)), Reply::Began));
-    for grantee in 1..1_001 {
-        let posting = part_to(alloc, grantee, part, Tract::of(*cell)).expect(rt, "there is memory");
-        let ask = Ask::Post(posting);
-        let reply = desk.serve(Request::Step(1, ask));
-        assert!(rt;
-            matches!(reply, Reply::Answered(Answer::Posted)),
-            "{grantee}"
-        );
-    }
-}
-
-/// How many rows the sheet of a cell has.
-fn rows_of(rt: &impl Abort, desk: &mut TestDesk, cell: &Node) -> usize {
-    let sheet = Ask::Sheet(Tract::of(*cell));
-    let Reply::Answered(Answer::Rows(rows)) = desk.serve(Request::Step(1, sheet)) else {
-        panic!(rt; "a sheet");
-    };
-    rows.as_slice().len()
-}
-
-/// With ample memory a sheet has a row for each of 1,001 owners of each estate.
-#[test]
-fn a_sheet_of_three_thousand_rows(rt: HostRuntime) -> Result<(), Fail> {
-    let cell = square(&rt, 5, &[Quarter::Northeast; 4]);
-    let mut desk = open_for(rt.alloc(), &rt, 1_001)?;
-    post_a_thousand(rt.alloc(), &rt, &mut desk, &cell);
-    assert_eq!(rt; rows_of(&rt, &mut desk, &cell), 3_003);
     Ok(())
 }
 

@@ -1,5 +1,5 @@
-//! Tests of shares, land, instruments, descriptions, locks, chains, desks and reports' pages, through their public calls: the
-//! worked rows, many calls with ample memory, and what no contract says.
+//! Tests of shares, land, instruments, locks, chains, desks and reports' pages, through their public calls: what no report shows,
+//! many calls with ample memory, and where pages end. What a script shows stands with the vectors.
 #![tactic(auto)]
 
 #[cfg(test)]

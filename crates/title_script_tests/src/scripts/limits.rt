@@ -1,4 +1,5 @@
-// Scripts at each side of each limit: a line that stands many times, and how the report ends.
+// Scripts at each side of limits that take long scripts: a line that stands many times, and how the report ends. Short ones stand with
+// the vectors.
 
 use super::{is_told, report_of};
 use std::alloc::Global;
@@ -23,7 +24,7 @@ pub struct Limit {
     pub wanted: Result<&'static str, &'static str>,
 }
 
-pub const LIMITS: [Limit; 20] = [
+pub const LIMITS: [Limit; 10] = [
     Limit {
         name: "ten thousand steps",
         head: "township,T3N R2W\n1,begin\n",
@@ -73,22 +74,6 @@ pub const LIMITS: [Limit; 20] = [
         wanted: Err("fault,31,100001"),
     },
     Limit {
-        name: "sixty-four townships",
-        head: "",
-        lines: Lines::Numbered("township,T", "N R2W\n"),
-        times: 64,
-        tail: "1,begin\n1,chain,T64N R2W\n1,chain,T65N R2W\n",
-        wanted: Ok("1,began\n1,chain,0\n1,notownship\nend,3\n"),
-    },
-    Limit {
-        name: "a township more",
-        head: "",
-        lines: Lines::Numbered("township,T", "N R2W\n"),
-        times: 65,
-        tail: "",
-        wanted: Err("fault,31,65"),
-    },
-    Limit {
         name: "65,535 names",
         head: "township,T3N R2W\n",
         lines: Lines::Numbered("party,P", "\n"),
@@ -105,54 +90,6 @@ pub const LIMITS: [Limit; 20] = [
         wanted: Err("fault,31,65537"),
     },
     Limit {
-        name: "a name of 60 bytes",
-        head: "township,T3N R2W\nparty,",
-        lines: Lines::Same("ABCDEFGHIJ"),
-        times: 6,
-        tail: "\n",
-        wanted: Ok("end,0\n"),
-    },
-    Limit {
-        name: "a name of 61 bytes",
-        head: "township,T3N R2W\nparty,",
-        lines: Lines::Same("ABCDEFGHIJ"),
-        times: 6,
-        tail: "K\n",
-        wanted: Err("fault,31,2"),
-    },
-    Limit {
-        name: "examiner 9,999",
-        head: "",
-        lines: Lines::Same(""),
-        times: 1,
-        tail: "9999,begin\n",
-        wanted: Ok("9999,began\nend,1\n"),
-    },
-    Limit {
-        name: "examiner 10,000",
-        head: "",
-        lines: Lines::Same(""),
-        times: 1,
-        tail: "10000,begin\n",
-        wanted: Err("fault,31,1"),
-    },
-    Limit {
-        name: "document 999,999,999,999",
-        head: "township,T3N R2W\nparty,ADAMS\n1,begin\n",
-        lines: Lines::Same(""),
-        times: 1,
-        tail: "1,release,999999999999,ADAMS,UNITED STATES,S,T3N R2W\n",
-        wanted: Ok("1,posted\nend,2\n"),
-    },
-    Limit {
-        name: "document 1,000,000,000,000",
-        head: "township,T3N R2W\nparty,ADAMS\n1,begin\n",
-        lines: Lines::Same(""),
-        times: 1,
-        tail: "1,release,1000000000000,ADAMS,UNITED STATES,S,T3N R2W\n",
-        wanted: Err("fault,31,4"),
-    },
-    Limit {
         name: "16,777,216 bytes",
         head: "1,begin\n1,abort\n",
         lines: Lines::Same("\n\n\n\n\n\n\n\n\n\n\n\n\n\n\n\n"),
@@ -167,22 +104,6 @@ pub const LIMITS: [Limit; 20] = [
         times: 1_048_575,
         tail: "\n",
         wanted: Err("fault,32"),
-    },
-    Limit {
-        name: "a description of 1,000 bytes",
-        head: "township,T3N R2W\n1,begin\n1,chain,T3N R2W",
-        lines: Lines::Same("  "),
-        times: 496,
-        tail: ".\n",
-        wanted: Ok("1,began\n1,chain,0\nend,2\n"),
-    },
-    Limit {
-        name: "a description of 1,001 bytes",
-        head: "township,T3N R2W\n1,begin\n1,chain,T3N R2W",
-        lines: Lines::Same("  "),
-        times: 497,
-        tail: "\n",
-        wanted: Ok("1,description,21,1000\nend,2\n"),
     },
 ];
 
