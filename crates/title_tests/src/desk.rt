@@ -72,6 +72,9 @@ fn word(reply: &Reply) -> &'static str {
         Reply::Answered(Answer::Posted) => "posted",
         Reply::Committed(_) => "committed",
         Reply::Aborted => "aborted",
+        Reply::NotOpen => "not open",
+        Reply::AlreadyOpen => "already open",
+        Reply::Conflict(_) => "conflict",
         Reply::Memory => "memory",
         _ => "another",
     }

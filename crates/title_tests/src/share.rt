@@ -37,8 +37,8 @@ fn of_units(rt: HostRuntime) -> Result<(), Fail> {
     assert!(rt; share.fraction() == (3, 8));
     assert!(rt; Share::parse("6/16") == Some(share));
     assert!(rt; Share::parse("1/1") == Share::new(WHOLE));
-    let shown = format!(in rt.alloc(); "{share:?}")?;
-    assert!(rt; shown.as_str() == "Share { units: 1610612736 }");
+    let shown = format!(in rt.alloc(); "{share:?} {share}")?;
+    assert!(rt; shown.as_str() == "Share { units: 1610612736 } 3/8");
     Ok(())
 }
 
