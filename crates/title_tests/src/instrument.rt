@@ -1,10 +1,10 @@
-//! What instruments do to a cell, and the numbers and sizes of their parts. Their words and letters stand with the vectors.
+//! What instruments do to a cell, and the numbers, words and sizes of their parts.
 
 use std::alloc::{AllocError, Global};
 use std::mem::size_of;
 use std::process::Abort;
 use std::test::Fail;
-use title_instrument::{Deed, Effect, Estate, Estates, Instrument, Owners, Quantum, Release};
+use title_instrument::{Deed, Effect, Estate, Estates, Instrument, Kind, Owners, Quantum, Release};
 use title_share::Share;
 
 const UNITED_STATES: u32 = 0;
@@ -17,6 +17,18 @@ const OIL: Estates = Estates {
     s: false,
     o: true,
     m: false,
+};
+
+const ALL: Estates = Estates {
+    s: true,
+    o: true,
+    m: true,
+};
+
+const MINERALS: Estates = Estates {
+    s: false,
+    o: true,
+    m: true,
 };
 
 const NO_ESTATE: Estates = Estates {
@@ -106,6 +118,16 @@ fn causes_in_their_order(rt: HostRuntime) {
         (stray, 3, 4),
     ];
     assert_checked(&rt, &rows);
+}
+
+#[test]
+fn words_and_letters(rt: HostRuntime) -> Result<(), Fail> {
+    let kind = release(ADAMS, BELL, OIL).kind();
+    let text = format!(in rt.alloc(); "{kind} {} {ALL} {MINERALS} {}", Kind::Warranty, Estate::S)?;
+    assert!(rt; text.as_str() == "release warranty SOM OM S");
+    assert!(rt; Kind::of_word("Deed").is_none());
+    assert!(rt; Kind::of_word("warranty") == Some(Kind::Warranty));
+    Ok(())
 }
 
 /// An instrument between ADAMS and BELL comes back from between their names.
