@@ -1,0 +1,30 @@
+//! Laws of a plant's file. Each function does nothing: its clause is the law, proved.
+
+ghost use Rattle.title_spelling.specs.Laws.{CellsAreNoDescription, DescriptionsStay, SpellingsReadBack};
+
+use title_aliquot::laws::reads_back;
+use title_plan::laws::texts_are_read;
+
+/// A land is spelled as a text that says it.
+pub fn spellings_read_back()
+    ensures law { SpellingsReadBack }
+{
+    reads_back();
+    texts_are_read();
+}
+
+/// The cells form is no description of a script.
+pub fn cells_are_no_description()
+    ensures law { CellsAreNoDescription }
+{
+    reads_back();
+    texts_are_read();
+}
+
+/// What a text describes in a script, it says in a plant's file too.
+pub fn descriptions_stay()
+    ensures law { DescriptionsStay }
+{
+    reads_back();
+    texts_are_read();
+}
