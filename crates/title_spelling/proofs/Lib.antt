@@ -6,3 +6,7 @@ pub mod CellsRead
 pub mod Spelled
 pub mod CellsTexts
 pub mod Marked
+pub mod RowTexts
+pub mod PostsRead
+pub mod NamesRead
+pub mod RowsSaid

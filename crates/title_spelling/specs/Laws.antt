@@ -1,14 +1,27 @@
 -- Laws of what is spelled.
-use Rattle.std.specs.Prelude.{◌≡◌, ℕ, true, List, Ok, Err}
+use Rattle.std.specs.Prelude.{◌≡◌, ℕ, true, List, Some, Ok, Err}
+use Rattle.title_instrument.specs.declared.instrument.Instrument.{Instrument}
+use Rattle.title_instrument.specs.Parties.{between, grantee_of, grantor_of}
 use Rattle.title_land.specs.declared.grid.Grid.{Grid}
 use Rattle.title_land.specs.declared.place.Section.{Section}
+use Rattle.title_land.specs.declared.place.Township.{Township}
 use Rattle.title_land.specs.declared.tract.Land.{Land}
+use Rattle.title_land.specs.declared.tract.Land.TheVariants as land
 use Rattle.title_land.specs.Depth.{depth}
 use Rattle.title_land.specs.Lands.{IsLand}
+use Rattle.title_land.specs.Texts.{township_text}
 use Rattle.title_aliquot.specs.declared.fault.DescFault.{DescFault}
+use Rattle.title_chain.specs.declared.ask.Terms.{Terms}
+use Rattle.title_plan.specs.declared.row.Act.TheVariants as act
+use Rattle.title_plan.specs.declared.row.Row.TheVariants as row
+use Rattle.title_plan.specs.Fields.{is_name}
 use Rattle.title_plan.specs.Lands.{land_in}
+use Rattle.title_plan.specs.Plans.{numbered}
+use Rattle.title_plan.specs.Rows.{row_in}
 use Rattle.title_spelling.specs.Cells.{spelled_cells}
 use Rattle.title_spelling.specs.Lands.{has_a_cell, kept_land_in, spelling}
+use Rattle.title_spelling.specs.Posts.{name_of, post_fields, IsExaminer, IsPost}
+use Rattle.title_spelling.specs.Rows.{are_names, begin_fields, commit_fields, party_fields, township_fields}
 
 -- a land that has a cell, and whose set is as large as the grid, is spelled as a text that says it
 abbrev pub SpellingsReadBack : Type 0
@@ -21,3 +34,28 @@ CellsAreNoDescription = (s : Section) (g : Grid) → (f : DescFault) × (land_in
 -- a text that describes a land in a script says the same land in a plant's file
 abbrev pub DescriptionsStay : Type 0
 DescriptionsStay = (text : List ℕ) (l : Land) → land_in text ≡ Ok l → kept_land_in text ≡ Ok l
+
+-- ---- what rows say
+
+-- an instrument between parties by their names
+abbrev pub among : List (List ℕ) → Instrument ℕ → Instrument (List ℕ)
+among names instrument = between instrument (name_of names (grantor_of instrument)) (name_of names (grantee_of instrument))
+
+-- the fields of a post are read as what its examiner posts: the document, the instrument and the land
+pub record IsReadBack (names : List (List ℕ)) (e : ℕ) (post : Terms) : Type 0 where
+  pub said :
+      row_in (post_fields names e post) ≡ Some (row.Step e (act.Post post.doc (among names post.instrument) (spelling post.tract)))
+  pub numbers : numbered names (among names post.instrument) ≡ Some post.instrument
+  pub land : kept_land_in (spelling post.tract) ≡ Ok post.tract
+
+-- among parties whose names are names, each of one party, the fields of a post that may stand in a plant's file are read back
+abbrev pub PostsReadBack : Type 0
+PostsReadBack = (names : List (List ℕ)) (e : ℕ) (post : Terms) → are_names names ≡ true → IsPost names e post → IsReadBack names e post
+
+-- the fields of declarations, of begins and of commits are read back
+pub record MarksReadBack : Type 0 where
+  pub township : (t : Township)
+      → (row_in (township_fields t) ≡ Some (row.Township (township_text t))) × (land_in (township_text t) ≡ Ok (land.Township t))
+  pub party : (name : List ℕ) → is_name name ≡ true → row_in (party_fields name) ≡ Some (row.Party name)
+  pub begin : (e : ℕ) → IsExaminer e → row_in (begin_fields e) ≡ Some (row.Step e act.Begin)
+  pub commit : (e : ℕ) → IsExaminer e → row_in (commit_fields e) ≡ Some (row.Step e act.Commit)

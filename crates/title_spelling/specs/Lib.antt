@@ -1,3 +1,5 @@
 pub mod Cells
 pub mod Lands
+pub mod Posts
+pub mod Rows
 pub mod Laws

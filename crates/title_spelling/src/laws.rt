@@ -1,6 +1,6 @@
 //! Laws of a plant's file. Each function does nothing: its clause is the law, proved.
 
-ghost use Rattle.title_spelling.specs.Laws.{CellsAreNoDescription, DescriptionsStay, SpellingsReadBack};
+ghost use Rattle.title_spelling.specs.Laws.{CellsAreNoDescription, DescriptionsStay, MarksReadBack, PostsReadBack, SpellingsReadBack};
 
 use title_aliquot::laws::reads_back;
 use title_plan::laws::texts_are_read;
@@ -24,6 +24,22 @@ pub fn cells_are_no_description()
 /// What a text describes in a script, it says in a plant's file too.
 pub fn descriptions_stay()
     ensures law { DescriptionsStay }
+{
+    reads_back();
+    texts_are_read();
+}
+
+/// A post's fields are read as its examiner, document, instrument and land.
+pub fn posts_read_back()
+    ensures law { PostsReadBack }
+{
+    reads_back();
+    texts_are_read();
+}
+
+/// The fields of declarations, of begins and of commits are read back.
+pub fn marks_read_back()
+    ensures law { MarksReadBack }
 {
     reads_back();
     texts_are_read();
