@@ -10,3 +10,6 @@ pub mod RowTexts
 pub mod PostsRead
 pub mod NamesRead
 pub mod RowsSaid
+pub mod RowsRead
+pub mod Shown
+pub mod Lines

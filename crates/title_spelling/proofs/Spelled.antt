@@ -16,6 +16,7 @@ use Rattle.title_land.specs.Lands.{cover_of, land_of, IsLand}
 use Rattle.title_land.specs.Places.{same_flag, same_section}
 use Rattle.title_land.specs.Texts.{node_text}
 use Rattle.title_land.specs.Laws.LandSharing.{equal_tests}
+use Rattle.title_land.specs.Laws.NodeLands.{is_grid-grid_of}
 use Rattle.title_land.specs.Laws.SameLand.{same_section-is}
 use Rattle.title_aliquot.specs.declared.fault.DescFault.{DescFault}
 use Rattle.title_aliquot.specs.TextLaws.{ReadsBack}
@@ -23,7 +24,7 @@ use Rattle.title_plan.specs.Lands.{land_in, LandsAreRead}
 use Rattle.title_spelling.specs.Cells.{cells_in, if_spelled, marked_in, spelled_cells}
 use Rattle.title_spelling.specs.Lands.{is_part, kept_land_in, kept_or, longest_union, part_spelling, same_cells, same_row}
 use Rattle.title_spelling.specs.Lands.{union_or_cells, union_text}
-use Rattle.title_spelling.specs.Laws.{CellsAreNoDescription, DescriptionsStay, SpellingsReadBack}
+use Rattle.title_spelling.specs.Laws.{CellsAreNoDescription, CellsAreRead, CellsArePartsAlone, DescriptionsStay, SpellingsReadBack}
 use Rattle.title_spelling.proofs.CellsRead.{cells_read, cells_unsaid, node_read}
 use Rattle.title_spelling.proofs.SoleNodes.{sole_in_tree, sole_node}
 
@@ -80,26 +81,66 @@ part_is s g (Err f) h = absurd cc
 
 -- ---- texts in the cells form
 
+-- what a text is read as in the cells form
+record Form (text : List ℕ) (l : Land) : Type 0 where
+  section : Section
+  cells : Grid
+  land_is : l ≡ land.Part section cells
+  sized : IsGrid depth cells
+  some : has_some cells ≡ true
+  text_is : text ≡ spelled_cells section cells
+
+same_land : (l m : Land) → Some m ≡ Some l → l ≡ m
+same_land l m e = cc
+
+form_by : (text : List ℕ) (s : Option Section) (g : Grid) (l : Land) → IsGrid depth g → if_spelled text s g ≡ Some l → Form text l
+form_by text None g l sized e = absurd cc
+form_by text (Some s) g l sized e = elim (cases_Bool (has_some g && bytes_eq text (spelled_cells s g))) [
+  | inl h ↦
+      let parts = and_parts (has_some g) (bytes_eq text (spelled_cells s g)) h in
+      record {
+        section = s;
+        cells = g;
+        land_is = same_land l (land.Part s g)
+            (sym (cond-true (has_some g && bytes_eq text (spelled_cells s g)) (Some (land.Part s g)) None h) ∙ e);
+        sized = sized;
+        some = parts.0;
+        text_is = (bytes_eq-Decides text (spelled_cells s g)).0 parts.1;
+      }
+  | inr h ↦ let none = sym (cond-false (has_some g && bytes_eq text (spelled_cells s g)) (Some (land.Part s g)) None h) ∙ e in absurd cc
+]
+
+form_of : (text : List ℕ) (l : Land) → cells_in text ≡ Some l → Form text l
+unfolding cells_in
+form_of text l e = form_by text _ (marked_in text) l (is_grid-grid_of depth _) e
+
 -- a text is the cells form of a part
 pub record IsCellsForm (text : List ℕ) : Type 0 where
   pub section : Section
   pub cells : Grid
   pub text_is : text ≡ spelled_cells section cells
 
-if_spelled_is : (text : List ℕ) (s : Option Section) (g : Grid) (l : Land) → if_spelled text s g ≡ Some l → IsCellsForm text
-if_spelled_is text None g l e = absurd cc
-if_spelled_is text (Some s) g l e = elim (cases_Bool (has_some g && bytes_eq text (spelled_cells s g))) [
-  | inl h ↦ record {
-    section = s;
-    cells = g;
-    text_is = (bytes_eq-Decides text (spelled_cells s g)).0 (and_parts (has_some g) (bytes_eq text (spelled_cells s g)) h).1;
-  }
-  | inr h ↦ let none = sym (cond-false (has_some g && bytes_eq text (spelled_cells s g)) (Some (land.Part s g)) None h) ∙ e in absurd cc
-]
-
 cells_form : (text : List ℕ) (l : Land) → cells_in text ≡ Some l → IsCellsForm text
-unfolding cells_in
-cells_form text l e = if_spelled_is text _ (marked_in text) l e
+cells_form text l e = let form = form_of text l e in record { section = form.section; cells = form.cells; text_is = form.text_is }
+
+-- it is read as a part of a section alone
+pub parts_alone : CellsArePartsAlone
+parts_alone text l e = let form = form_of text l e in (form.section, form.cells, form.land_is)
+
+part_parts : (s u : Section) (g h : Grid) → land.Part s g ≡ land.Part u h → (s ≡ u) × (g ≡ h)
+part_parts s u g h e = (cc, cc)
+
+abbrev Facts : List ℕ → Section → Grid → Type 0
+Facts text s g = IsGrid depth g × (has_some g ≡ true) × (text ≡ spelled_cells s g)
+
+of_same : (text : List ℕ) (s u : Section) (g h : Grid) → s ≡ u → g ≡ h → Facts text u h → Facts text s g
+of_same text s u g h a b f = rw (a, b) f
+
+read_form : (text : List ℕ) (s : Section) (g : Grid) → cells_in text ≡ Some (land.Part s g) → Facts text s g
+read_form text s g e =
+    let form = form_of text (land.Part s g) e in
+    let same = part_parts s form.section g form.cells form.land_is in
+    of_same text s form.section g form.cells same.0 same.1 (form.sized, form.some, form.text_is)
 
 none_by : (found : Option Land) → ((l : Land) → found ≡ Some l → ⊥) → None ≡ found
 none_by None f = refl
@@ -110,6 +151,10 @@ pub no_form : (text : List ℕ) → (IsCellsForm text → ⊥) → None ≡ cell
 no_form text f = none_by (cells_in text) (λ l e. f (cells_form text l e))
 
 module _ (back : ReadsBack depth) (read : LandsAreRead) where
+  -- a text is read in the cells form exactly where it is that of a part
+  pub cells_exact : CellsAreRead
+  cells_exact text s g = (read_form text s g, λ h. rw h.2 (cells_read back read s g h.0 h.1))
+
   -- a text that describes a land says the same
   pub descriptions_stay : DescriptionsStay
   descriptions_stay text l e =

@@ -1,6 +1,8 @@
 //! Laws of a plant's file. Each function does nothing: its clause is the law, proved.
 
-ghost use Rattle.title_spelling.specs.Laws.{CellsAreNoDescription, DescriptionsStay, MarksReadBack, PostsReadBack, SpellingsReadBack};
+ghost use Rattle.title_spelling.specs.Laws.{CellsAreNoDescription, CellsAreRead, CellsArePartsAlone};
+ghost use Rattle.title_spelling.specs.Laws.{DescriptionsStay, MarksReadBack, OnlyEndsEnd, PostsReadBack};
+ghost use Rattle.title_spelling.specs.Laws.{RowsAreLines, RowsReadBack, SpellingsReadBack};
 
 use title_aliquot::laws::reads_back;
 use title_plan::laws::texts_are_read;
@@ -8,6 +10,15 @@ use title_plan::laws::texts_are_read;
 /// A land is spelled as a text that says it.
 pub fn spellings_read_back()
     ensures law { SpellingsReadBack }
+{
+    reads_back();
+    texts_are_read();
+}
+
+/// A text is read in the cells form exactly where it is the cells form of a part of a section that has a cell.
+pub fn cells_are_read()
+    ensures read { CellsAreRead }
+    ensures alone { CellsArePartsAlone }
 {
     reads_back();
     texts_are_read();
@@ -44,3 +55,18 @@ pub fn marks_read_back()
     reads_back();
     texts_are_read();
 }
+
+/// The texts of rows are read as their fields, by the reader of scripts.
+pub fn rows_read_back()
+    ensures law { RowsReadBack }
+{}
+
+/// Each row is one line, and none begins with `+` or `-`.
+pub fn rows_are_lines()
+    ensures law { RowsAreLines }
+{}
+
+/// Only the row of an end begins with `end,`.
+pub fn only_ends_end()
+    ensures law { OnlyEndsEnd }
+{}
