@@ -4,7 +4,6 @@ ghost use Rattle.std.specs.Prelude.{◌≡◌, ◌≤◌, ◌<◌, ◌++◌, ◌
 ghost use Rattle.std.specs.String.{string_bytes};
 ghost use Rattle.title_land.specs.Depth.{depth};
 ghost use Rattle.title_land.specs.Grids.{grid_has, grid_of};
-ghost use Rattle.title_land.specs.Places.{side};
 ghost use Rattle.title_plan.specs.Lands.{land_in};
 ghost use Rattle.title_spelling.specs.Cells.{cells_in, digit_at, if_spelled, is_marked, row_text, section_of, spelled_cells, value_of};
 

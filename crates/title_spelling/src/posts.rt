@@ -2,12 +2,21 @@
 
 ghost use Rattle.std.specs.Prelude.{◌≡◌, ◌++◌, IfOk, OnOk};
 ghost use Rattle.std.specs.String.{string_bytes};
+ghost use Rattle.title_instrument.specs.Kinds.{kind_of, kind_word};
 ghost use Rattle.title_spelling.specs.Posts.{and_item, quantum_text, reserve_text};
 
 use std::alloc::{AllocError, Global};
 use std::fmt::Write;
-use title_instrument::{Estate, Quantum};
+use title_instrument::{Estate, Instrument, Quantum};
 use title_share::Share;
+
+/// The word of an instrument's kind.
+pub(crate) fn spell_kind(alloc: Global, instrument: &Instrument) -> Result<String, AllocError>
+    ensures word { IfOk result (λ word. string_bytes word ≡ kind_word (kind_of instrument.now)) }
+{
+    let kind = instrument.kind();
+    format!(in alloc; "{kind}")
+}
 
 /// A quantum as a row has it: `W` or `I` and the share in lowest terms.
 pub(crate) fn spell_quantum(alloc: Global, quantum: &Quantum) -> Result<String, AllocError>
