@@ -1,5 +1,6 @@
 -- The rows of a set in the cells form mark the cells of the set.
-use Rattle.std.proofs.Common.{◌≡◌, ◌∙◌, ℕ, suc, zero, ◌+◌, ◌*◌, ◌-◌, ◌/◌, ◌%◌, ◌<◌, ◌==◌, Bool, true, false, List, [], ◌∷◌, ◌++◌, length, get_or}
+use Rattle.std.proofs.Common.{◌≡◌, ◌∙◌, ℕ, suc, zero, ◌+◌, ◌*◌, ◌-◌, ◌/◌, ◌%◌, ◌<◌, ◌==◌, Bool, true, false, List, [], ◌∷◌, ◌++◌, length}
+use Rattle.std.proofs.Common.{get_or}
 use Rattle.std.proofs.Common.{◌≤◌, append_assoc, take, length-take, refl, sym, ap, arith, length-append}
 use Rattle.std.specs.List.{flat_map, range_with_len}
 use Rattle.std.specs.Char.{digit_char}
@@ -56,15 +57,24 @@ marked_row has row (suc (suc (suc (suc zero)))) h = (digit_marks (has row 4) (ha
 marked_row has row (suc (suc (suc (suc (suc zero))))) h = (digit_marks (has row 4) (has row 5) (has row 6) (has row 7)).second
 marked_row has row (suc (suc (suc (suc (suc (suc zero)))))) h = (digit_marks (has row 4) (has row 5) (has row 6) (has row 7)).third
 marked_row has row (suc (suc (suc (suc (suc (suc (suc zero))))))) h = (digit_marks (has row 4) (has row 5) (has row 6) (has row 7)).fourth
-marked_row has row (suc (suc (suc (suc (suc (suc (suc (suc zero)))))))) h = (digit_marks (has row 8) (has row 9) (has row 10) (has row 11)).first
-marked_row has row (suc (suc (suc (suc (suc (suc (suc (suc (suc zero))))))))) h = (digit_marks (has row 8) (has row 9) (has row 10) (has row 11)).second
-marked_row has row (suc (suc (suc (suc (suc (suc (suc (suc (suc (suc zero)))))))))) h = (digit_marks (has row 8) (has row 9) (has row 10) (has row 11)).third
-marked_row has row (suc (suc (suc (suc (suc (suc (suc (suc (suc (suc (suc zero))))))))))) h = (digit_marks (has row 8) (has row 9) (has row 10) (has row 11)).fourth
-marked_row has row (suc (suc (suc (suc (suc (suc (suc (suc (suc (suc (suc (suc zero)))))))))))) h = (digit_marks (has row 12) (has row 13) (has row 14) (has row 15)).first
-marked_row has row (suc (suc (suc (suc (suc (suc (suc (suc (suc (suc (suc (suc (suc zero))))))))))))) h = (digit_marks (has row 12) (has row 13) (has row 14) (has row 15)).second
-marked_row has row (suc (suc (suc (suc (suc (suc (suc (suc (suc (suc (suc (suc (suc (suc zero)))))))))))))) h = (digit_marks (has row 12) (has row 13) (has row 14) (has row 15)).third
-marked_row has row (suc (suc (suc (suc (suc (suc (suc (suc (suc (suc (suc (suc (suc (suc (suc zero))))))))))))))) h = (digit_marks (has row 12) (has row 13) (has row 14) (has row 15)).fourth
-marked_row has row (suc (suc (suc (suc (suc (suc (suc (suc (suc (suc (suc (suc (suc (suc (suc (suc k)))))))))))))))) h = absurd (omega arith)
+marked_row has row (suc (suc (suc (suc (suc (suc (suc (suc zero)))))))) h =
+    (digit_marks (has row 8) (has row 9) (has row 10) (has row 11)).first
+marked_row has row (suc (suc (suc (suc (suc (suc (suc (suc (suc zero))))))))) h =
+    (digit_marks (has row 8) (has row 9) (has row 10) (has row 11)).second
+marked_row has row (suc (suc (suc (suc (suc (suc (suc (suc (suc (suc zero)))))))))) h =
+    (digit_marks (has row 8) (has row 9) (has row 10) (has row 11)).third
+marked_row has row (suc (suc (suc (suc (suc (suc (suc (suc (suc (suc (suc zero))))))))))) h =
+    (digit_marks (has row 8) (has row 9) (has row 10) (has row 11)).fourth
+marked_row has row (suc (suc (suc (suc (suc (suc (suc (suc (suc (suc (suc (suc zero)))))))))))) h =
+    (digit_marks (has row 12) (has row 13) (has row 14) (has row 15)).first
+marked_row has row (suc (suc (suc (suc (suc (suc (suc (suc (suc (suc (suc (suc (suc zero))))))))))))) h =
+    (digit_marks (has row 12) (has row 13) (has row 14) (has row 15)).second
+marked_row has row (suc (suc (suc (suc (suc (suc (suc (suc (suc (suc (suc (suc (suc (suc zero)))))))))))))) h =
+    (digit_marks (has row 12) (has row 13) (has row 14) (has row 15)).third
+marked_row has row (suc (suc (suc (suc (suc (suc (suc (suc (suc (suc (suc (suc (suc (suc (suc zero))))))))))))))) h =
+    (digit_marks (has row 12) (has row 13) (has row 14) (has row 15)).fourth
+marked_row has row (suc (suc (suc (suc (suc (suc (suc (suc (suc (suc (suc (suc (suc (suc (suc (suc k)))))))))))))))) h =
+    absurd (omega arith)
 
 -- ---- all rows
 

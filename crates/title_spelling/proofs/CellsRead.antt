@@ -41,7 +41,7 @@ sized_of Everything l e = subst (λ (m : Land). IsLand depth m) (sym e) tt
 sized_of (InPlace p) l e = sized_in e.0 p.section l e.2
 
 -- a land that a text describes is as large as the grid
-described_sized : (text : List ℕ) (l : Land) → Describes depth text l → IsLand depth l
+pub described_sized : (text : List ℕ) (l : Land) → Describes depth text l → IsLand depth l
 described_sized text l h = let stands = h.2 in sized_of h.0 l stands.land_is
 
 -- ---- bytes of a text in the cells form

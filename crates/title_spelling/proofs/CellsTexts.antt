@@ -56,7 +56,8 @@ pub not_cut : (text : List ℕ) → (IsCharBoundary text (length text - 86) → 
 not_cut text h = no_form text (λ form. let s = seam text form in h (omega arith, λ lt high. omega (arith, s, high)))
 
 -- nor one whose last bytes begin with another word
-pub other_word : (text tail : List ℕ) → tail ≡ drop (length text - 86) text → false ≡ starts_with eqb tail (codes " cells") → None ≡ cells_in text
+pub other_word : (text tail : List ℕ) → tail ≡ drop (length text - 86) text → false ≡ starts_with eqb tail (codes " cells")
+    → None ≡ cells_in text
 other_word text tail tail_is h = no_form text (λ form.
     let e = h ∙ ap (λ (t : List ℕ). starts_with eqb t (codes " cells")) (tail_is ∙ last_bytes text form) in absurd (cc e))
 

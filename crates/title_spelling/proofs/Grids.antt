@@ -24,6 +24,7 @@ pub grid_is : (d : ℕ) (g : Grid) (test : ℕ → ℕ → Bool) → IsGrid d g
 unfolding grid_of
 grid_is d g test sized same =
     fill_by_all (λ row. map (λ column. test row column) (places d)) g (side d) [] sized.0 (λ row r.
-    let long : length (get_or g row []) ≡ side d = All-get_or (λ (cells : List Bool). length cells ≡ side d) g row [] (omega (arith, sized.0)) sized.1 in
+    let long : length (get_or g row []) ≡ side d =
+    All-get_or (λ (cells : List Bool). length cells ≡ side d) g row [] (omega (arith, sized.0)) sized.1 in
     fill_by_all (λ column. test row column) (get_or g row []) (side d) false long (λ column c.
     sym (cell_read g row column (omega (arith, sized.0)) (omega (arith, long))) ∙ same row column r c))

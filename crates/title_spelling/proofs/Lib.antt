@@ -4,6 +4,7 @@ pub mod SectionTexts
 pub mod CellsForm
 pub mod CellsRead
 pub mod Spelled
+pub mod SomeCells
 pub mod CellsTexts
 pub mod Marked
 pub mod RowTexts

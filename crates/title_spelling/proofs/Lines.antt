@@ -17,7 +17,8 @@ use Rattle.title_spelling.specs.Posts.{terms_fields, HasShares}
 use Rattle.title_spelling.specs.Rows.{are_names, fields_of, Begin, Commit, End, IsPlantRow, Party, PlantRow, Post, Township}
 use Rattle.title_spelling.proofs.NamesRead.{named}
 use Rattle.title_spelling.proofs.RowsRead.{first_byte, is_digit, number_digits, row_begins, row_ends, several}
-use Rattle.title_spelling.proofs.Shown.{both, estates, kind_shown, land_shown, more, name, number, quantum_shown, reserve, township, word, Shown}
+use Rattle.title_spelling.proofs.Shown.{both, estates, kind_shown, land_shown, more, name, number, quantum_shown, reserve, township, word}
+use Rattle.title_spelling.proofs.Shown.{Shown}
 
 -- ---- fields in rows
 

@@ -16,7 +16,8 @@ use Rattle.title_spelling.proofs.Grids.{grid_is}
 -- the set has those of the first cells, row by row, at which a test holds
 abbrev pub HasFirst : (ℕ → ℕ → Bool) → ℕ → Grid → Type 0
 HasFirst test place g =
-    (row column : ℕ) → row < side depth → column < side depth → grid_has g row column ≡ (nat_lt (row * 16 + column) place && test row column)
+    (row column : ℕ) → row < side depth → column < side depth →
+    grid_has g row column ≡ (nat_lt (row * 16 + column) place && test row column)
 
 lesser : (a b : ℕ) → a < b → nat_lt a b ≡ true
 lesser a b h = grind (arith, nat_tests)

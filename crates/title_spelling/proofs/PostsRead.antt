@@ -22,7 +22,8 @@ use Rattle.title_instrument.specs.declared.parts.Quantum.{Quantum}
 use Rattle.title_instrument.specs.declared.parts.Quantum.TheVariants as quantum
 use Rattle.title_instrument.specs.Estates.{estates_text, letter_of, names_none}
 use Rattle.title_instrument.specs.Kinds.{deed_kind, kind_in, kind_word}
-use Rattle.title_plan.specs.Fields.{document_in, estates_in, examiner_in, given, is_name, is_semicolon, name_in, nothing_reserved, number_up_to}
+use Rattle.title_plan.specs.Fields.{document_in, estates_in, examiner_in, given, is_name, is_semicolon, name_in, nothing_reserved}
+use Rattle.title_plan.specs.Fields.{number_up_to}
 use Rattle.title_plan.specs.Fields.{quantum_in, reserve_in, reserving, with_item, with_items}
 use Rattle.title_plan.specs.Rows.{warranty_of}
 use Rattle.title_spelling.specs.Posts.{item_text, quantum_text, reserve_text, IsExaminer, IsQuantum, IsReserve, IsReserved, IsShare}
@@ -37,7 +38,8 @@ printed_number n some low =
 
 number_read : (greatest n : ℕ) → 0 < n → n ≤ greatest → greatest < 2 ^ 64 → number_up_to greatest (decimal n) ≡ Some n
 number_read greatest n some most fits =
-    rw ((numbers_read (decimal n) n).1 (printed_number n some (omega arith))) (cond-true (nat_le n greatest) (Some n) None (le-leb n greatest most))
+    rw ((numbers_read (decimal n) n).1 (printed_number n some (omega arith)))
+    (cond-true (nat_le n greatest) (Some n) None (le-leb n greatest most))
 
 pub examiner_read : (e : ℕ) → IsExaminer e → examiner_in (decimal e) ≡ Some e
 examiner_read e h = number_read 9999 e h.0 h.1 (omega arith)
@@ -111,7 +113,8 @@ item_unsplit e units h =
     All-cons unsplit (letter_of e) (share_text units) (letter_unsplit e) share
 
 -- an item is read
-item_read : (reserve : List (Option ℕ)) (e : Estate) (units : ℕ) → IsShare units → with_item reserve (item_text e units) ≡ reserving reserve e units
+item_read : (reserve : List (Option ℕ)) (e : Estate) (units : ℕ) → IsShare units
+    → with_item reserve (item_text e units) ≡ reserving reserve e units
 item_read reserve S units h = rw (share_read units h) refl
 item_read reserve O units h = rw (share_read units h) refl
 item_read reserve M units h = rw (share_read units h) refl
@@ -139,7 +142,8 @@ more_items e a rest items h split =
 abbrev of_three : Option ℕ → Option ℕ → Option ℕ → List (Option ℕ)
 of_three s o m = s ∷ o ∷ m ∷ []
 
-three_read : (s o m : Option ℕ) → IsReserved s → IsReserved o → IsReserved m → reserve_in (reserve_text (of_three s o m)) ≡ Some (of_three s o m)
+three_read : (s o m : Option ℕ) → IsReserved s → IsReserved o → IsReserved m
+    → reserve_in (reserve_text (of_three s o m)) ≡ Some (of_three s o m)
 three_read None None None hs ho hm = refl
 three_read (Some a) None None hs ho hm =
     some_text 83 (share_text a) (item_text S a ∷ [])
@@ -180,8 +184,8 @@ three_read None (Some b) (Some c) hs ho hm =
 three_read (Some a) (Some b) (Some c) hs ho hm =
     ap reserve_in (append_assoc (item_text S a) (59 ∷ item_text O b) (59 ∷ item_text M c))
     ∙ some_text 83 (share_text a ++ 59 ∷ (item_text O b ++ 59 ∷ item_text M c)) (item_text S a ∷ item_text O b ∷ item_text M c ∷ [])
-    (more_items S a (item_text O b ++ 59 ∷ item_text M c) (item_text O b ∷ item_text M c ∷ []) hs (more_items O b (item_text M c) (item_text M c ∷ []) ho
-    (one_item M c hm)))
+    (more_items S a (item_text O b ++ 59 ∷ item_text M c) (item_text O b ∷ item_text M c ∷ []) hs
+    (more_items O b (item_text M c) (item_text M c ∷ []) ho (one_item M c hm)))
     ∙ items_read nothing_reserved (of_three (Some a) None None) (item_text S a) (item_text O b ∷ item_text M c ∷ [])
     (item_read nothing_reserved S a hs)
     ∙ items_read (of_three (Some a) None None) (of_three (Some a) (Some b) None) (item_text O b) (item_text M c ∷ [])

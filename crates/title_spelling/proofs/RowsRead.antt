@@ -1,5 +1,6 @@
 -- The texts of rows are read as their fields.
-use Rattle.std.proofs.Common.{◌≡◌, ◌∙◌, ℕ, zero, suc, ◌+◌, ◌<◌, ◌≤◌, ◌&&◌, Bool, true, false, List, [], ◌∷◌, ◌++◌, length, map, refl, sym, ap, subst, arith}
+use Rattle.std.proofs.Common.{◌≡◌, ◌∙◌, ℕ, zero, suc, ◌+◌, ◌<◌, ◌≤◌, ◌&&◌, Bool, true, false, List, [], ◌∷◌, ◌++◌, length, map, refl, sym}
+use Rattle.std.proofs.Common.{ap, subst, arith}
 use Rattle.std.proofs.Common.{◌^◌, append_assoc, length-append, Some}
 use Rattle.std.specs.List.{list_all, list_any, All}
 use Rattle.std.specs.Fmt.{decimal}
@@ -62,7 +63,8 @@ one_read fields more s =
     (ap (λ (t : List ℕ). next_record default_config st.StartRecord [] [] (t ++ more)) (row_same s.first s.second s.rest)
     ∙ read-write-many s.first s.second s.rest more)
 
-pub row_ends : (x y : List ℕ) (rest : List (List ℕ)) → row (x ∷ y ∷ rest) ≡ (field_text row_writer x ++ fields_text row_writer (y ∷ rest)) ++ 10 ∷ []
+pub row_ends : (x y : List ℕ) (rest : List (List ℕ)) → row (x ∷ y ∷ rest)
+    ≡ (field_text row_writer x ++ fields_text row_writer (y ∷ rest)) ++ 10 ∷ []
 unfolding row is_blank
 row_ends x y rest = refl
 
@@ -118,7 +120,8 @@ all_digits (c ∷ cs) h =
     let range = digit_at (c ∷ cs) 0 h (omega arith) in
     let low : 48 ≤ c = range.0 in
     let high : c ≤ 57 = range.1 in
-    and_from (is_digit c) (list_all is_digit cs) (and_from (nat_le 48 c) (nat_le c 57) (le-leb 48 c low) (le-leb c 57 high)) (all_digits cs h.1)
+    and_from (is_digit c) (list_all is_digit cs) (and_from (nat_le 48 c) (nat_le c 57) (le-leb 48 c low) (le-leb c 57 high))
+    (all_digits cs h.1)
 
 -- a number in decimal
 pub number_digits : (n : ℕ) → n < 2 ^ 64 → list_all is_digit (decimal n) ≡ true

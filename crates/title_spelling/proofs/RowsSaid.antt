@@ -31,7 +31,8 @@ use Rattle.title_spelling.specs.Lands.{spelling}
 use Rattle.title_spelling.specs.Rows.{are_names, begin_fields, commit_fields, party_fields, township_fields}
 use Rattle.title_spelling.proofs.CellsRead.{node_read}
 use Rattle.title_spelling.proofs.NamesRead.{named, numbered_as}
-use Rattle.title_spelling.proofs.PostsRead.{document_read, estates_read, examiner_read, kind_read, name_read, quantum_read, reserve_read, warranty_read}
+use Rattle.title_spelling.proofs.PostsRead.{document_read, estates_read, examiner_read, kind_read, name_read, quantum_read, reserve_read}
+use Rattle.title_spelling.proofs.PostsRead.{warranty_read}
 use Rattle.title_spelling.proofs.Spelled.{spellings_back}
 
 -- ---- rows of posts, by their fields
@@ -61,7 +62,8 @@ module _ (names : List (List ℕ)) (are : are_names names ≡ true) (e doc : ℕ
     (some : 0 < doc) (most : doc ≤ 999999999999) where
   instrument_said : (t : Instrument ℕ) (l : Land) → spelling l ≡ text → grantor_of t < length names → grantee_of t < length names
       → names_none (estates_of t) ≡ false → HasShares t
-      → row_in (post_fields names e (record { doc = doc; tract = l; instrument = t })) ≡ Some (row.Step e (act.Post doc (among names t) text))
+      → row_in (post_fields names e (record { doc = doc; tract = l; instrument = t }))
+      ≡ Some (row.Step e (act.Post doc (among names t) text))
   instrument_said (i.Deed d) l same giver taker es shares =
       subst (λ (s : List ℕ). row_in (post_fields names e (record { doc = doc; tract = l; instrument = i.Deed d }))
       ≡ Some (row.Step e (act.Post doc (among names (i.Deed d)) s))) same

@@ -84,7 +84,8 @@ no_more v w p rest h k =
     let all = rw (append-nil (p ++ 99 ∷ rest)) at (description_exact.complete w (p ++ 99 ∷ rest) [] k refl) in
     got_all v w 99 rest (sym one ∙ all)
 
-pub no_cells : (s : Section) (rows : List ℕ) (v w : Syntax) → Says (section_text s) v → Says (section_text s ++ (codes " cells" ++ rows)) w → ⊥
+pub no_cells : (s : Section) (rows : List ℕ) (v w : Syntax) → Says (section_text s) v
+    → Says (section_text s ++ (codes " cells" ++ rows)) w → ⊥
 no_cells s rows v w h k =
     let back = cells_letters rows in
     let split = ap letters (chars-append (section_text s) (codes " cells" ++ rows) (IsUtf8-from_ascii (section_text s) (section_ascii s)))

@@ -4,6 +4,7 @@ use Rattle.std.proofs.lemmas.Bool.{and_from, lt-ltb}
 use Rattle.std.proofs.Math.Bool.{or-false}
 use Rattle.std.proofs.lemmas.List.Elements.{All-head}
 use Rattle.std.specs.Prelude.{nat_lt}
+use Rattle.std.specs.List.{All}
 use Rattle.title_land.specs.declared.grid.Grid.{Grid}
 use Rattle.title_land.specs.declared.node.Node.{Node}
 use Rattle.title_land.specs.declared.node.Node.TheVariants as node
@@ -70,4 +71,4 @@ sole_node (land.Part s g) n sized e = sole_by s g n (cover_below depth (grid_has
 -- the node of a cover is one of the tree
 pub sole_in_tree : (l : Land) (n : Node) → cover_of depth l ≡ n ∷ [] → IsNode depth n
 sole_in_tree l n e =
-    All-head (IsNode depth) n [] (subst (λ (nodes : List Node). Rattle.std.specs.List.All (IsNode depth) nodes) e (cover_is_cover depth l).in_tree)
+    All-head (IsNode depth) n [] (subst (λ (nodes : List Node). All (IsNode depth) nodes) e (cover_is_cover depth l).in_tree)

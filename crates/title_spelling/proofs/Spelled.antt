@@ -1,5 +1,6 @@
 -- What is spelled is read back.
-use Rattle.std.proofs.Common.{◌≡◌, ◌∙◌, ℕ, ◌&&◌, Bool, true, false, List, [], ◌∷◌, length, refl, sym, ap, subst, inl, inr, Option, Some, None}
+use Rattle.std.proofs.Common.{◌≡◌, ◌∙◌, ℕ, ◌&&◌, Bool, true, false, List, [], ◌∷◌, length, refl, sym, ap, subst, inl, inr, Option, Some}
+use Rattle.std.proofs.Common.{None}
 use Rattle.std.specs.Prelude.{nat_le, Result, Ok, Err}
 use Rattle.std.specs.Str.{bytes_eq}
 use Rattle.std.proofs.lemmas.Bool.{and_parts, and_from, cases_Bool, cond-true, cond-false}
@@ -82,13 +83,13 @@ part_is s g (Err f) h = absurd cc
 -- ---- texts in the cells form
 
 -- what a text is read as in the cells form
-record Form (text : List ℕ) (l : Land) : Type 0 where
-  section : Section
-  cells : Grid
-  land_is : l ≡ land.Part section cells
-  sized : IsGrid depth cells
-  some : has_some cells ≡ true
-  text_is : text ≡ spelled_cells section cells
+pub record Form (text : List ℕ) (l : Land) : Type 0 where
+  pub section : Section
+  pub cells : Grid
+  pub land_is : l ≡ land.Part section cells
+  pub sized : IsGrid depth cells
+  pub some : has_some cells ≡ true
+  pub text_is : text ≡ spelled_cells section cells
 
 same_land : (l m : Land) → Some m ≡ Some l → l ≡ m
 same_land l m e = cc
@@ -110,7 +111,7 @@ form_by text (Some s) g l sized e = elim (cases_Bool (has_some g && bytes_eq tex
   | inr h ↦ let none = sym (cond-false (has_some g && bytes_eq text (spelled_cells s g)) (Some (land.Part s g)) None h) ∙ e in absurd cc
 ]
 
-form_of : (text : List ℕ) (l : Land) → cells_in text ≡ Some l → Form text l
+pub form_of : (text : List ℕ) (l : Land) → cells_in text ≡ Some l → Form text l
 unfolding cells_in
 form_of text l e = form_by text _ (marked_in text) l (is_grid-grid_of depth _) e
 

@@ -24,7 +24,8 @@ use Rattle.title_plan.specs.Rows.{row_in}
 use Rattle.title_spelling.specs.Cells.{cells_in, spelled_cells}
 use Rattle.title_spelling.specs.Lands.{has_a_cell, kept_land_in, spelling}
 use Rattle.title_spelling.specs.Posts.{name_of, post_fields, IsExaminer, IsPost}
-use Rattle.title_spelling.specs.Rows.{are_names, begin_fields, commit_fields, fields_of, party_fields, township_fields, End, IsPlantRow, PlantRow}
+use Rattle.title_spelling.specs.Rows.{are_names, begin_fields, commit_fields, fields_of, party_fields, township_fields, End, IsPlantRow}
+use Rattle.title_spelling.specs.Rows.{PlantRow}
 
 -- a land that has a cell, and whose set is as large as the grid, is spelled as a text that says it
 abbrev pub SpellingsReadBack : Type 0
@@ -46,6 +47,10 @@ CellsAreNoDescription = (s : Section) (g : Grid) → (f : DescFault) × (land_in
 -- a text that describes a land in a script says the same land in a plant's file
 abbrev pub DescriptionsStay : Type 0
 DescriptionsStay = (text : List ℕ) (l : Land) → land_in text ≡ Ok l → kept_land_in text ≡ Ok l
+
+-- a land that a text of a plant's file says has a cell, and its set is as large as the grid: so it can be spelled again
+abbrev pub LandsHaveCells : Type 0
+LandsHaveCells = (text : List ℕ) (l : Land) → kept_land_in text ≡ Ok l → IsLand depth l × (has_a_cell l ≡ true)
 
 -- ---- what rows say
 

@@ -1,7 +1,7 @@
 //! Laws of a plant's file. Each function does nothing: its clause is the law, proved.
 
 ghost use Rattle.title_spelling.specs.Laws.{CellsAreNoDescription, CellsAreRead, CellsArePartsAlone};
-ghost use Rattle.title_spelling.specs.Laws.{DescriptionsStay, MarksReadBack, OnlyEndsEnd, PostsReadBack};
+ghost use Rattle.title_spelling.specs.Laws.{DescriptionsStay, LandsHaveCells, MarksReadBack, OnlyEndsEnd, PostsReadBack};
 ghost use Rattle.title_spelling.specs.Laws.{RowsAreLines, RowsReadBack, SpellingsReadBack};
 
 use title_aliquot::laws::reads_back;
@@ -37,6 +37,13 @@ pub fn descriptions_stay()
     ensures law { DescriptionsStay }
 {
     reads_back();
+    texts_are_read();
+}
+
+/// A land that a text says has a cell, so that it can be spelled again.
+pub fn lands_have_cells()
+    ensures law { LandsHaveCells }
+{
     texts_are_read();
 }
 
