@@ -2,8 +2,8 @@
 """Shows which proofs a check took longest over: bench/slow_proofs.py [--least S] [CRATE ..], by default all crates.
 
 `rt check` keeps each module that it has checked under out/incremental, as it goes. So the time between two of these files is what the
-later one took, by the clock, where one check ran in the crate: of a function F in a module m, m.F.Lts is the borrow checker's part, .Tie and
-.Kinds the parts on types, and .Proof the answers. The first file of a crate has the reading of all that it stands on in it. Standard
+later one took, by the clock, where one check ran in the crate: of a function F in a module m, m.F.Lts is the borrow checker's part, .Tie
+and .Kinds the parts on types, and .Proof the answers. The first file of a crate has the reading of all that it stands on in it. Standard
 output gets a line for each that took at least S seconds (default 10), the longest first.
 """
 import argparse
