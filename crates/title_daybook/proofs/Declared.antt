@@ -1,0 +1,42 @@
+-- What a declaration does, and that no township stands twice.
+use Rattle.std.proofs.Common.{◌≡◌, ◌<◌, ◌≤◌, ◌+◌, ℕ, List, [], ◌∷◌, ◌++◌, Bool, true, false, ◌||◌, ◌∙◌, Result, Ok, Err}
+use Rattle.std.proofs.Common.{MatchResult, length, nat_le, refl, arith}
+use Rattle.std.specs.List.{list_any}
+use Rattle.std.proofs.lemmas.Bool.{and_parts, not-true, or_parts, or_from}
+use Rattle.std.proofs.lemmas.Bool.Decides.{nat_tests}
+use Rattle.std.proofs.lemmas.List.Folds.{list_any-append}
+use Rattle.title_land.specs.declared.place.Township.{Township}
+use Rattle.title_land.specs.Places.{same_township}
+use Rattle.title_plan.specs.Townships.{each_once}
+use Rattle.title_chain.specs.Alone.{most_parties}
+use Rattle.title_trace.specs.Due.{most_townships}
+
+-- one township more, where that is not too many
+pub township_few : (townships : List Township) (t : Township)
+    → (nat_le most_townships (length townships) || list_any (λ other. same_township other t) townships) ≡ false
+    → length townships + 1 ≤ most_townships
+township_few townships t h = let few = (or_parts (nat_le most_townships (length townships)) _ h).0 in grind (arith, nat_tests)
+
+-- room for one party more
+pub party_few : (names : ℕ) → names < most_parties → nat_le most_parties names ≡ false
+party_few names h = grind (arith, nat_tests)
+
+-- what holds of townships with and without one more holds where it may have been pushed
+pub pushed : {R E : Type 0} (P : List Township → Type 0) {old more new : List Township} (r : Result R E)
+    → MatchResult r (λ _. new ≡ more) (λ _. new ≡ old) → P more → P old → P new
+pushed P (Ok x) h with without = rw h with
+pushed P (Err e) h with without = rw h without
+
+any_push : (p : Township → Bool) (townships : List Township) (t : Township) → list_any p townships ≡ false → p t ≡ false
+    → list_any p (townships ++ t ∷ []) ≡ false
+any_push p townships t h k = list_any-append p townships (t ∷ []) ∙ or_from _ _ h (rw k refl)
+
+-- a township that isn't in the list comes to its end
+pub once_push : (townships : List Township) (t : Township) → each_once townships ≡ true
+    → list_any (λ other. same_township other t) townships ≡ false
+    → each_once (townships ++ t ∷ []) ≡ true
+once_push [] t h k = refl
+once_push (o ∷ townships) t h k =
+    let apart = or_parts (same_township o t) (list_any (λ other. same_township other t) townships) k in
+    let parts = and_parts _ _ h in
+    rw (any_push (same_township o) townships t (not-true _ parts.0) apart.0, once_push townships t parts.1 apart.1) refl

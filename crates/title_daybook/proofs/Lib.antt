@@ -1,0 +1,12 @@
+mod RowFields
+mod FirstLines
+mod Blocks
+mod Marks
+mod Names
+mod Declared
+mod WrittenRows
+mod RowLines
+mod Utf8Fields
+mod Taking
+mod Adding
+mod Lasting
