@@ -1,5 +1,6 @@
 -- A block that adds is one, and stands for what it was written from.
-use Rattle.std.proofs.Common.{◌≡◌, ◌∙◌, ◌≤◌, ◌<◌, ◌+◌, ◌-◌, ◌^◌, ℕ, zero, suc, Bool, true, false, cond, List, [], ◌∷◌, ◌++◌, length, length-append, map, reverse, take, drop}
+use Rattle.std.proofs.Common.{◌≡◌, ◌∙◌, ◌≤◌, ◌<◌, ◌+◌, ◌-◌, ◌^◌, ℕ, zero, suc, Bool, true, false, cond, List, [], ◌∷◌, ◌++◌, length}
+use Rattle.std.proofs.Common.{length-append, map, reverse, take, drop}
 use Rattle.std.proofs.Common.{Option, Some, None, Result, Ok, Err, refl, sym, ap, subst, arith, inl, inr, append_assoc}
 use Rattle.std.specs.Prelude.{◌==◌, ◌&&◌, codes, is_none, nat_eq}
 use Rattle.std.specs.Fmt.{decimal}
@@ -38,7 +39,8 @@ same_front (x ∷ xs) (y ∷ ys) a e =
 same_bytes : (xs : List ℕ) → bytes_eq xs xs ≡ true
 same_bytes xs = (bytes_eq-Decides xs xs).1 refl
 
-module _ (are_lines : RowsAreLines) (marks : MarksReadBack) (posts_read : PostsReadBack) (names : List (List ℕ)) (are : are_names names ≡ true)
+module _ (are_lines : RowsAreLines) (marks : MarksReadBack) (posts_read : PostsReadBack) (names : List (List ℕ)) (are : are_names
+    names ≡ true)
     (texts : list_all is_utf8 names ≡ true) where
   -- ---- rows
 
@@ -120,7 +122,8 @@ module _ (are_lines : RowsAreLines) (marks : MarksReadBack) (posts_read : PostsR
         let more = parts xs h.0 q h.4 in
         record {
           rows = line.body ∷ more.rows;
-          text_is = ap (λ (t : List ℕ). t ++ text_of names xs) line.whole ∙ ap (λ (t : List ℕ). (line.body ++ line_feed ∷ []) ++ t) more.text_is;
+          text_is = ap (λ (t : List ℕ). t ++ text_of names xs) line.whole
+              ∙ ap (λ (t : List ℕ). (line.body ++ line_feed ∷ []) ++ t) more.text_is;
           each = ((line.is_row, goes_on x h.1 h.2), more.each);
         }
 

@@ -49,12 +49,14 @@ module _ (first : ℕ) (text : List ℕ) (start : Progress) (n at : ℕ) (p : Pr
       behind = line.lines ∙ ap (λ (l : List ℕ). take len (drop at text) ∷ lines_of l) (drop-drop (len + 1) at text)
 
       pub a_row : (o : Option Progress) → after_kept_row p (take len (drop at text)) ≡ o
-          → after_rows first start (lines_of text) ≡ going_on n o (λ after. after_rows (n + 1) after (lines_of (drop (at + (len + 1)) text)))
+          → after_rows first start (lines_of text) ≡ going_on n o (λ after. after_rows (n + 1) after (lines_of (drop (at + (len +
+          1)) text)))
       a_row o e =
           let next = some_line (drop (at + (len + 1)) text) (omega (arith, length-drop (at + (len + 1)) text)) in
           let rest = λ (after : Progress). after_rows (n + 1) after (lines_of (drop (at + (len + 1)) text)) in
           read.rows ∙ ap (after_rows n p) (behind ∙ ap (λ (l : List (List ℕ)). take len (drop at text) ∷ l) next.2)
-          ∙ ap (λ (l : List (List ℕ)). going_on n (after_kept_row p (take len (drop at text))) (λ after. after_rows (n + 1) after l)) (sym next.2)
+          ∙ ap (λ (l : List (List ℕ)). going_on n (after_kept_row p (take len (drop at text))) (λ after. after_rows (n + 1) after
+          l)) (sym next.2)
           ∙ ap (λ (a : Option Progress). going_on n a rest) e
 
       pub one_more : (after : Progress) → after_kept_row p (take len (drop at text)) ≡ Some after
@@ -94,7 +96,8 @@ none_read texts p e fits = record {
   few = omega (arith, length-append head (flat_map counted (contents texts)));
 }
 
-module _ (texts : List (Vec ℕ Global)) (n i : ℕ) (p : Progress) (read : AreUpTo texts n i p) (d : Vec ℕ Global) (within : i < length texts) where
+module _ (texts : List (Vec ℕ Global)) (n i : ℕ) (p : Progress) (read : AreUpTo texts n i p) (d : Vec ℕ Global) (within : i <
+    length texts) where
   next_block : contents (drop i texts) ≡ (get_or texts i d).items ∷ contents (drop (i + 1) texts)
   next_block = ap contents (drop_more texts i d within)
 

@@ -1,5 +1,6 @@
 -- The rows of a text, one after another.
-use Rattle.std.proofs.Common.{◌≡◌, ◌<◌, ◌≤◌, ◌+◌, ℕ, zero, suc, List, [], ◌∷◌, ◌++◌, Bool, true, false, Option, Some, None, length, take, drop}
+use Rattle.std.proofs.Common.{◌≡◌, ◌<◌, ◌≤◌, ◌+◌, ℕ, zero, suc, List, [], ◌∷◌, ◌++◌, Bool, true, false, Option, Some, None, length}
+use Rattle.std.proofs.Common.{take, drop}
 use Rattle.std.proofs.Common.{get_or, refl, sym, ap, ◌∙◌, subst, arith, append_assoc, take-append-drop, inl, inr, add-one}
 use Rattle.std.specs.Prelude.{◌==◌, ◌||◌, nat_lt, cond}
 use Rattle.std.specs.List.{list_any, position, position_or_len}
@@ -83,7 +84,8 @@ none_left bytes e = elim (cases_Bool (nat_lt (position_or_len (λ b. b == line_f
   | inr past ↦
       let far : length bytes ≤ position_or_len (λ b. b == line_feed) bytes = grind (arith, nat_tests) in
       let all = clear bytes (length bytes)
-      (λ k less. fails_before_first (λ b. b == line_feed) bytes k 0 (let before : k < position_or_len (λ b. b == line_feed) bytes = omega arith in before)) in
+      (λ k less. fails_before_first (λ b. b == line_feed) bytes k 0 (let before : k < position_or_len (λ b. b == line_feed) bytes =
+      omega arith in before)) in
       rw (take_all (length bytes) bytes (omega arith)) at all
 ]
 
@@ -120,4 +122,5 @@ pub spoilt_there : (fields : List (List ℕ)) (i : ℕ) (found : Option (List �
 unfolding field_at
 spoilt_there [] i found e spoilt = let never : false ≡ true = ap is_spoilt (sym e) ∙ spoilt in cc never
 spoilt_there (f ∷ fields) zero found e spoilt = let first = ap is_spoilt (sym e) ∙ spoilt in rw first refl
-spoilt_there (f ∷ fields) (suc i) found e spoilt = let more = spoilt_there fields i found e spoilt in or_right (has_line_feed f) (list_any has_line_feed fields) more
+spoilt_there (f ∷ fields) (suc i) found e spoilt = let more = spoilt_there fields i found e spoilt in or_right (has_line_feed f)
+    (list_any has_line_feed fields) more

@@ -1,5 +1,6 @@
 -- With a block that adds behind them, the blocks that stand for the old stand for the new.
-use Rattle.std.proofs.Common.{◌≡◌, ◌∙◌, ◌≤◌, ◌<◌, ◌+◌, ◌-◌, ◌^◌, ℕ, true, List, [], ◌∷◌, ◌++◌, length, length-append, map, reverse, take, drop}
+use Rattle.std.proofs.Common.{◌≡◌, ◌∙◌, ◌≤◌, ◌<◌, ◌+◌, ◌-◌, ◌^◌, ℕ, true, List, [], ◌∷◌, ◌++◌, length, length-append, map, reverse}
+use Rattle.std.proofs.Common.{take, drop}
 use Rattle.std.proofs.Common.{None, Result, Ok, Err, refl, sym, ap, subst, arith, append_assoc}
 use Rattle.std.specs.List.{flat_map, AllByRecursion}
 use Rattle.std.proofs.lemmas.List.{reverse-append, reverse-reverse, take_at}
@@ -30,7 +31,8 @@ all_and_one P (x ∷ xs) y h k = (h.0, all_and_one P xs y h.1 k)
 
 all_turned : {X : Type 0} (P : X → Type 0) (xs : List X) → AllByRecursion P xs → AllByRecursion P (reverse xs)
 all_turned P [] h = tt
-all_turned P (x ∷ xs) h = subst (AllByRecursion P) (sym (reverse-append (x ∷ []) xs)) (all_and_one P (reverse xs) x (all_turned P xs h.1) h.0)
+all_turned P (x ∷ xs) h = subst (AllByRecursion P) (sym (reverse-append (x ∷ []) xs)) (all_and_one P (reverse xs) x (all_turned P
+    xs h.1) h.0)
 
 module _ (are_lines : RowsAreLines) (only_ends : OnlyEndsEnd) (marks : MarksReadBack) (posts_read : PostsReadBack)
     (old new : Standing) (on : IsOn old new) (can : CanBeWritten new) where
@@ -43,7 +45,8 @@ module _ (are_lines : RowsAreLines) (only_ends : OnlyEndsEnd) (marks : MarksRead
   rows_are =
       let ts : drop (length old.townships) new.townships ≡ on.townships =
       ap (drop (length old.townships)) on.townships_are ∙ drop-append_seam old.townships on.townships in
-      let ns : drop (length old.names) new.names ≡ on.names = ap (drop (length old.names)) on.names_are ∙ drop-append_seam old.names on.names in
+      let ns : drop (length old.names) new.names ≡ on.names = ap (drop (length old.names)) on.names_are
+      ∙ drop-append_seam old.names on.names in
       let size : length on.records ≡ length new.records - length old.records =
       let whole = ap length on.records_are ∙ length-append on.records old.records in omega (arith, whole) in
       let rs : take (length new.records - length old.records) new.records ≡ on.records =
@@ -70,7 +73,8 @@ module _ (are_lines : RowsAreLines) (only_ends : OnlyEndsEnd) (marks : MarksRead
       (all_front (IsKept new.names) on.records old.records (subst (AllByRecursion (IsKept new.names)) on.records_are can.records)) in
       let turned : reverse (reverse on.records) ++ old.records ≡ new.records =
       ap (λ (l : List Record). l ++ old.records) (reverse-reverse on.records) ∙ sym on.records_are in
-      let third = subst (λ (l : List Record). Takes marks posts_read new.names can.names can.texts (flat_map record_rows (reverse on.records))
+      let third = subst (λ (l : List Record). Takes marks posts_read new.names can.names can.texts (flat_map record_rows (reverse
+      on.records))
       (between after_names) (between (record { townships = new.townships; names = new.names; records = l }))) turned
       (records marks posts_read new.names can.names can.texts (reverse on.records) after_names refl kept) in
       takes_both marks posts_read new.names can.names can.texts (map Township on.townships ++ map Party on.names)

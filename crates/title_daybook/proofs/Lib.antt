@@ -10,3 +10,4 @@ mod Utf8Fields
 mod Taking
 mod Adding
 mod Lasting
+mod OfRecords

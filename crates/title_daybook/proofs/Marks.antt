@@ -149,6 +149,7 @@ at_first n p line (next ∷ others) = rw (not_said line) refl
 pub marked_block : (n : ℕ) (p : Progress) (text : List ℕ) → starts_with nat_eq text byte_order_mark ≡ true
     → after_rows n p (lines_of text) ≡ Err n
 marked_block n p text h =
-    let is : text ≡ byte_order_mark ++ drop 3 text = (starts_is Decides-eqb text byte_order_mark (starts_with nat_eq text byte_order_mark) refl).0 h in
+    let is : text ≡ byte_order_mark ++ drop 3 text = (starts_is Decides-eqb text byte_order_mark (starts_with nat_eq text
+    byte_order_mark) refl).0 h in
     let line = first_line [] (187 ∷ 191 ∷ drop 3 text) in
     ap (λ (t : List ℕ). after_rows n p (lines_of t)) is ∙ ap (after_rows n p) line.2 ∙ at_first n p line.0 line.1

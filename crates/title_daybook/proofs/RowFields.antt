@@ -1,5 +1,6 @@
 -- What a reader of a whole block takes from where a row begins, and the fields of the row.
-use Rattle.std.proofs.Common.{◌≡◌, ◌∙◌, refl, sym, ap, ℕ, zero, suc, ◌+◌, List, [], ◌∷◌, ◌++◌, Bool, true, false, cond, Option, Some, None, length}
+use Rattle.std.proofs.Common.{◌≡◌, ◌∙◌, refl, sym, ap, ℕ, zero, suc, ◌+◌, List, [], ◌∷◌, ◌++◌, Bool, true, false, cond, Option}
+use Rattle.std.proofs.Common.{Some, None, length}
 use Rattle.std.proofs.Common.{Bor, subst, ◌⊎◌, inl, inr, append_assoc, add-one, arith}
 use Rattle.std.proofs.lemmas.Bool.Decides.{nat_tests}
 use Rattle.std.specs.Prelude.{◌==◌, ◌||◌}
@@ -91,7 +92,8 @@ pub record Led (s : State) (fields : List (List ℕ)) (field line : List ℕ) : 
   pub field2 : List ℕ
   pub inside : IsInside state
   pub clean : IsClean fields2 field2
-  pub reads : (rest : List ℕ) → next_record default_config s fields field (line ++ rest) ≡ next_record default_config state fields2 field2 rest
+  pub reads : (rest : List ℕ) → next_record default_config s fields field (line ++ rest)
+      ≡ next_record default_config state fields2 field2 rest
 
 -- the bytes of a line end none
 abbrev pub IsLine : List ℕ → Type 0
@@ -114,7 +116,8 @@ led s fields field (c ∷ line) inside clean h =
     let parts = first_inner c line h in
     let goes = goes_on s c inside parts.0 in
     let more = led (step default_config s c).0 (fields_after (step default_config s c).1 fields field)
-    (field_after (step default_config s c).1 c field) line goes.1 (clean_stays (step default_config s c).1 c fields field parts.0.1 clean) parts.1 in
+    (field_after (step default_config s c).1 c field) line goes.1 (clean_stays (step default_config s c).1 c fields field parts.0.1
+    clean) parts.1 in
     record {
       state = more.state;
       fields2 = more.fields2;
@@ -199,7 +202,8 @@ unfolding records_from next_record
 nothing_more zero = refl
 nothing_more (suc n) = refl
 
-only_record : (xs : List ℕ) (fields : List (List ℕ)) → next_record default_config st.StartRecord [] [] xs ≡ Some (fields, st.StartRecord, [])
+only_record : (xs : List ℕ) (fields : List (List ℕ)) → next_record default_config st.StartRecord [] [] xs
+    ≡ Some (fields, st.StartRecord, [])
     → records default_config xs ≡ fields ∷ []
 unfolding records_from
 only_record xs fields e = rw (add-one (length xs)) (rw e (ap (λ (rows : List (List (List ℕ))). fields ∷ rows) (nothing_more (length xs))))
@@ -249,7 +253,8 @@ quoted_end fields field = refl
 closed_none : (fields : List (List ℕ)) → list_any has_line_feed fields ≡ true → closed fields ≡ None
 closed_none fields e = rw e refl
 
-whole_row : (line rest : List ℕ) → has_return line ≡ false → (l : Led st.StartRecord [] [] line) → (l.state ≡ st.InQuoted → ⊥) → Taken line rest
+whole_row : (line rest : List ℕ) → has_return line ≡ false → (l : Led st.StartRecord [] [] line) → (l.state ≡ st.InQuoted → ⊥)
+    → Taken line rest
 whole_row line rest own l out =
     let fields = l.fields2 ++ l.field2 ∷ [] in
     whole fields (l.reads (line_feed ∷ rest) ∙ ended l.state l.fields2 l.field2 rest l.inside out)
@@ -299,10 +304,12 @@ some_row (c ∷ line) rest some own row = taken c line rest own row
 
 module _ (line rest : List ℕ) (fields : List (List ℕ)) (reader : Reader (Bor (List ℕ))) where
   none_by : Taken line rest → next_record default_config st.StartRecord [] [] (line ++ line_feed ∷ rest) ≡ None → fields_in line ≡ None
-  none_by (whole given_fields e is) none = absurd (let no_record : None ≡ Some (given_fields, st.StartRecord, rest) = sym none ∙ e in cc no_record)
+  none_by (whole given_fields e is) none = absurd (let no_record : None ≡ Some (given_fields, st.StartRecord, rest) = sym none
+      ∙ e in cc no_record)
   none_by (over spoilt is) none = is
 
-  spoilt_by : Taken line rest → Took (line ++ line_feed ∷ rest) fields reader true → list_any has_line_feed fields ≡ true → fields_in line ≡ None
+  spoilt_by : Taken line rest → Took (line ++ line_feed ∷ rest) fields reader true → list_any has_line_feed fields ≡ true
+      → fields_in line ≡ None
   spoilt_by (whole given_fields e is) took spoilt =
       let same : (given_fields, st.StartRecord, rest) ≡ took.0 = cc (sym e ∙ took.1) in
       let are : fields ≡ given_fields = took.2 ∙ ap (λ (p : Read). p.0) (sym same) in
@@ -366,7 +373,8 @@ written line fields own all l = elim (in_quotes l.state) [
       let ends = ended l.state l.fields2 l.field2 [] l.inside out in
       let same : (l.fields2 ++ l.field2 ∷ [], st.StartRecord, []) ≡ (fields, st.StartRecord, []) =
       cc (sym (l.reads (line_feed ∷ []) ∙ ends) ∙ all []) in
-      row_fields line own l (l.fields2 ++ l.field2 ∷ []) ends ∙ rw (clean_pushed l.fields2 l.field2 l.clean) (ap (λ (p : Read). Some p.0) same)
+      row_fields line own l (l.fields2 ++ l.field2 ∷ []) ends
+      ∙ rw (clean_pushed l.fields2 l.field2 l.clean) (ap (λ (p : Read). Some p.0) same)
 ]
 
 pub fields_by : (line : List ℕ) (fields : List (List ℕ)) → has_return line ≡ false → has_line_feed line ≡ false

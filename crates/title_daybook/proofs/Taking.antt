@@ -1,5 +1,6 @@
 -- The rows of a block, taken one after another, make what they were written from.
-use Rattle.std.proofs.Common.{◌≡◌, ◌∙◌, ◌≤◌, ◌<◌, ◌+◌, ◌-◌, ◌^◌, ℕ, zero, suc, Bool, true, false, not, cond, List, [], ◌∷◌, ◌++◌, length, length-append, map, reverse, take, drop}
+use Rattle.std.proofs.Common.{◌≡◌, ◌∙◌, ◌≤◌, ◌<◌, ◌+◌, ◌-◌, ◌^◌, ℕ, zero, suc, Bool, true, false, not, cond, List, [], ◌∷◌, ◌++◌}
+use Rattle.std.proofs.Common.{length, length-append, map, reverse, take, drop}
 use Rattle.std.proofs.Common.{Option, Some, None, Ok, refl, sym, ap, subst, arith, inl, inr, append_assoc}
 use Rattle.std.specs.Prelude.{◌==◌, ◌&&◌, ◌||◌, codes, is_none, nat_le, nat_lt}
 use Rattle.std.specs.Fmt.{decimal}
@@ -100,7 +101,8 @@ module _ (marks : MarksReadBack) (posts_read : PostsReadBack) (names : List (Lis
   unfoldable pub Takes : List PlantRow → Progress → Progress → Type 0
   Takes [] p q = p ≡ q
   Takes (x ∷ xs) p q =
-      (after : Progress) × IsPlantRow names x × IsInner x × (given (said_by (fields_of names x)) (after_said p) ≡ Some after) × Takes xs after q
+      (after : Progress) × IsPlantRow names x × IsInner x × (given (said_by (fields_of names x)) (after_said p) ≡ Some after)
+      × Takes xs after q
 
   pub takes_both : (xs ys : List PlantRow) (p q r : Progress) → Takes xs p q → Takes ys q r → Takes (xs ++ ys) p r
   unfolding Takes
@@ -122,11 +124,13 @@ module _ (marks : MarksReadBack) (posts_read : PostsReadBack) (names : List (Lis
       says (Township t) (said.Township (township_text t)) (between s) (fields_text names (Township t) texts tt tt) back.0
       ∙ rw (back.1, not_full (length s.townships) most_townships few, apart) refl
 
-  pub townships : (ts : List TownshipPlace) (s : Standing) → length (s.townships ++ ts) ≤ most_townships → each_once (s.townships ++ ts) ≡ true
+  pub townships : (ts : List TownshipPlace) (s : Standing) → length (s.townships ++ ts) ≤ most_townships
+      → each_once (s.townships ++ ts) ≡ true
       → Takes (map Township ts) (between s) (between (record { townships = s.townships ++ ts; names = s.names; records = s.records }))
   unfolding Takes
   townships [] s few once =
-      ap (λ (ts : List TownshipPlace). between (record { townships = ts; names = s.names; records = s.records })) (sym (append-nil s.townships))
+      ap (λ (ts : List TownshipPlace). between (record { townships = ts; names = s.names; records = s.records })) (sym (append-nil
+      s.townships))
   townships (t ∷ ts) s few once =
       let next : Standing = record { townships = s.townships ++ t ∷ []; names = s.names; records = s.records } in
       let same = append_assoc s.townships (t ∷ []) ts in
@@ -143,7 +147,8 @@ module _ (marks : MarksReadBack) (posts_read : PostsReadBack) (names : List (Lis
 
   -- ---- parties
 
-  one_party : (s : Standing) (name : List ℕ) → length s.names < most_parties → list_any (bytes_eq name) s.names ≡ false → is_name name ≡ true
+  one_party : (s : Standing) (name : List ℕ) → length s.names < most_parties → list_any (bytes_eq name) s.names ≡ false
+      → is_name name ≡ true
       → is_utf8 name ≡ true
       → given (said_by (fields_of names (Party name))) (after_said (between s))
       ≡ Some (between (record { townships = s.townships; names = s.names ++ name ∷ []; records = s.records }))
@@ -155,7 +160,8 @@ module _ (marks : MarksReadBack) (posts_read : PostsReadBack) (names : List (Lis
       → Takes (map Party more) (between s) (between (record { townships = s.townships; names = names; records = s.records }))
   unfolding Takes
   parties [] s whole few =
-      ap (λ (ns : List (List ℕ)). between (record { townships = s.townships; names = ns; records = s.records })) (sym (append-nil s.names) ∙ whole)
+      ap (λ (ns : List (List ℕ)). between (record { townships = s.townships; names = ns; records = s.records })) (sym (append-nil
+      s.names) ∙ whole)
   parties (name ∷ more) s whole few =
       let next : Standing = record { townships = s.townships; names = s.names ++ name ∷ []; records = s.records } in
       let sized = sym (length-append s.names (name ∷ more)) ∙ ap length whole in
@@ -183,11 +189,13 @@ module _ (marks : MarksReadBack) (posts_read : PostsReadBack) (names : List (Lis
         ∙ rw (same, back.numbers, back.land) refl
 
     one_inside : (e : ℕ) (done : List Step) (post : Terms) → length done < most_steps → IsPost names e post
-        → given (said_by (fields_of names (Post e post))) (after_said (inside_of s e done)) ≡ Some (inside_of s e (done ++ posted_step post ∷ []))
+        → given (said_by (fields_of names (Post e post))) (after_said (inside_of s e done))
+        ≡ Some (inside_of s e (done ++ posted_step post ∷ []))
     one_inside e done post few h =
         says_post (inside_of s e done) e post all h ∙ rw (same_number e, less (length done) most_steps few) refl
 
-    posts_inside : (e : ℕ) (done : List Step) (more : List Terms) → length done + length more ≤ most_steps → AllByRecursion (IsPost names e) more
+    posts_inside : (e : ℕ) (done : List Step) (more : List Terms) → length done + length more ≤ most_steps
+        → AllByRecursion (IsPost names e) more
         → Takes (post_rows e more) (inside_of s e done) (inside_of s e (done ++ map posted_step more))
     unfolding Takes
     posts_inside e done [] few h = ap (inside_of s e) (sym (append-nil done))
@@ -208,7 +216,8 @@ module _ (marks : MarksReadBack) (posts_read : PostsReadBack) (names : List (Lis
         (with_record s (record { examiner = e; steps = map posted_step posts }))
     unfolding Takes
     whole e posts examiner few h =
-        let begins = says (Begin e) (said.Step e act.Begin) (between s) (fields_text names (Begin e) texts tt examiner) (marks.begin e examiner) in
+        let begins = says (Begin e) (said.Step e act.Begin) (between s) (fields_text names (Begin e) texts tt examiner)
+        (marks.begin e examiner) in
         let ends = says (Commit e) (said.Step e act.Commit) (inside_of s e (map posted_step posts))
         (fields_text names (Commit e) texts tt examiner) (marks.commit e examiner) ∙ rw (same_number e) refl in
         let closes : Takes (Commit e ∷ []) (inside_of s e (map posted_step posts))

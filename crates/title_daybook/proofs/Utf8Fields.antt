@@ -41,7 +41,8 @@ use Rattle.title_land.specs.Lands.{cover_of}
 use Rattle.title_land.specs.Texts.{node_text, path_text, quarter_text, quarters_text, section_text, township_text}
 use Rattle.title_spelling.specs.Cells.{digit_at, number_of, row_text, spelled_cells}
 use Rattle.title_spelling.specs.Lands.{part_spelling, path_of, spelling}
-use Rattle.title_spelling.specs.Posts.{and_item, item_text, name_of, quantum_text, reserve_text, terms_fields, HasShares, IsQuantum, IsReserve, IsReserved, IsShare}
+use Rattle.title_spelling.specs.Posts.{and_item, item_text, name_of, quantum_text, reserve_text, terms_fields, HasShares, IsQuantum}
+use Rattle.title_spelling.specs.Posts.{IsReserve, IsReserved, IsShare}
 
 -- a text
 pub record IsText (text : List ℕ) : Type 0 where

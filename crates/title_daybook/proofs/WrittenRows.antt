@@ -1,5 +1,6 @@
 -- Rows are written one behind the other.
-use Rattle.std.proofs.Common.{◌≡◌, ◌∙◌, ◌≤◌, ◌<◌, ◌+◌, ℕ, List, [], ◌∷◌, ◌++◌, Option, Some, None, cond, length, map, take, drop, get_or, length-take, append_assoc, refl, sym, ap, arith}
+use Rattle.std.proofs.Common.{◌≡◌, ◌∙◌, ◌≤◌, ◌<◌, ◌+◌, ℕ, List, [], ◌∷◌, ◌++◌, Option, Some, None, cond, length, map, take, drop}
+use Rattle.std.proofs.Common.{get_or, length-take, append_assoc, refl, sym, ap, arith}
 use Rattle.std.proofs.lemmas.Bool.{ne_eqb}
 use Rattle.std.specs.List.{flat_map}
 use Rattle.std.proofs.lemmas.Grind.{flat_map-append}
@@ -41,7 +42,8 @@ module _ {X : Type 0} (rows : List X → List PlantRow) (adds : (xs : List X) (x
 
 -- ---- posts
 
-pub posts_add : (e : ℕ) (steps : List Step) (s : Step) → post_rows e (posts_of (steps ++ s ∷ [])) ≡ post_rows e (posts_of steps) ++ post_rows e (posts_of (s ∷ []))
+pub posts_add : (e : ℕ) (steps : List Step) (s : Step) → post_rows e (posts_of (steps ++ s ∷ []))
+    ≡ post_rows e (posts_of steps) ++ post_rows e (posts_of (s ∷ []))
 posts_add e steps s =
     ap (post_rows e) (flat_map-append (λ (t : Step). at_most_one (posted t.ask t.answer)) steps (s ∷ []))
     ∙ map-append (plant.Post e) (posts_of steps) (posts_of (s ∷ []))
@@ -49,7 +51,8 @@ posts_add e steps s =
 pub counts_more : (steps : List Step) (i : ℕ) (s : Step) → i < length steps → s ≡ get_or steps i s
     → length (posts_of (take (i + 1) steps)) ≡ length (posts_of (take i steps)) + length (posts_of (s ∷ []))
 counts_more steps i s within is =
-    let longer : take (i + 1) steps ≡ take i steps ++ s ∷ [] = take_more steps i s within ∙ ap (λ (t : Step). take i steps ++ t ∷ []) (sym is) in
+    let longer : take (i + 1) steps ≡ take i steps ++ s ∷ [] = take_more steps i s within
+    ∙ ap (λ (t : Step). take i steps ++ t ∷ []) (sym is) in
     ap (λ (l : List Step). length (posts_of l)) longer
     ∙ ap (λ (l : List Terms). length l) (flat_map-append (λ (t : Step). at_most_one (posted t.ask t.answer)) (take i steps) (s ∷ []))
     ∙ length-append (posts_of (take i steps)) (posts_of (s ∷ []))

@@ -1,5 +1,5 @@
 -- The law of blocks that add: with one behind the blocks that stand for the old, they stand for the new.
-use Rattle.std.specs.Prelude.{◌≡◌, ◌≤◌, ◌<◌, ◌^◌, ℕ, true, List, [], ◌∷◌, ◌++◌, length, map, Ok}
+use Rattle.std.specs.Prelude.{◌≡◌, ◌≤◌, ◌<◌, ◌+◌, ◌^◌, ℕ, true, List, [], ◌∷◌, ◌++◌, drop, length, map, reverse, Ok}
 use Rattle.std.specs.List.{list_all, AllByRecursion}
 use Rattle.std.specs.Str.{is_utf8}
 use Rattle.title_chain.specs.declared.ask.Terms.{Terms}
@@ -10,8 +10,9 @@ use Rattle.title_plan.specs.Townships.{each_once}
 use Rattle.title_spelling.specs.Posts.{IsExaminer, IsPost}
 use Rattle.title_spelling.specs.Rows.{are_names}
 use Rattle.title_standing.specs.Records.{posted_step}
+use Rattle.title_standing.specs.Standing.{kept}
 use Rattle.title_trace.specs.Due.{most_steps, most_townships}
-use Rattle.title_daybook.specs.Added.{added_block, IsOn}
+use Rattle.title_daybook.specs.Added.{added_block, rows_of, text_of, IsOn}
 use Rattle.title_daybook.specs.Files.{standing_after}
 use Rattle.title_daybook.specs.Standing.{Standing}
 
@@ -37,3 +38,9 @@ pub record CanBeWritten (s : Standing) : Type 0 where
 abbrev pub AddedReadsBack : Type 0
 AddedReadsBack = (blocks : List (List ℕ)) (old new : Standing) → standing_after (Ok blocks) ≡ Ok old → IsOn old new → CanBeWritten new
     → IsBlock (added_block old new) × (standing_after (Ok (blocks ++ added_block old new ∷ [])) ≡ Ok new)
+
+-- of records a block has what is kept of them: written for records that a desk has committed, the oldest first, it adds what is kept
+abbrev pub KeptAreWritten : Type 0
+KeptAreWritten = (old new : Standing) (records : List Record) → new.records ≡ map kept (reverse records) ++ old.records
+    → text_of new.names (rows_of (drop (length old.townships) new.townships) (drop (length old.names) new.names) records
+    (length old.records + length records)) ≡ added_block old new

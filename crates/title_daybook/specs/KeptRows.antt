@@ -73,7 +73,11 @@ commits s (Some r) e = cond (r.examiner == e) (Some (with_record s r)) None
 -- an examiner posts: outside a transaction that is a record of its own; inside one it is its examiner, whose posts aren't too many
 abbrev pub inside : Record → ℕ → Step → Option Record
 inside r e step =
-    cond (r.examiner == e && nat_lt (length r.steps) most_steps) (Some (record { examiner = r.examiner; steps = r.steps ++ step ∷ [] })) None
+    cond (r.examiner == e && nat_lt (length r.steps) most_steps) (Some (record {
+      examiner = r.examiner;
+      steps = r.steps ++ step ∷
+          [];
+    })) None
 
 abbrev pub posts : Standing → Option Record → ℕ → Step → Option Progress
 posts s None e step = Some (with_record s (record { examiner = e; steps = step ∷ [] }))

@@ -32,5 +32,6 @@ returns c = record {
   added = λ names.
       let keys = map string_bytes c.args.parties.now.keys in
       c.loop-party.invariant names
-      ∙ ap (λ (l : List (List ℕ)). c.args.out.now.items ++ text_of names (map plant.Party (drop c.args.from l))) (take_all c.loop-party.party keys (rw length-map (omega arith)));
+      ∙ ap (λ (l : List (List ℕ)). c.args.out.now.items ++ text_of names (map plant.Party (drop c.args.from l))) (take_all
+      c.loop-party.party keys (rw length-map (omega arith)));
 }

@@ -16,7 +16,8 @@ returns-then-post_count-eq1 c =
     let steps_are = c.as_slice-steps.ensures.slice in
     let counted : length (posts_of r.steps) ≡ 1 =
     ap (λ (s : List Step). length (posts_of s)) (sym steps_are) ∙ sym c.post_count.ensures.count ∙ c.if-post_count-eq1.true in
-    let rows_are = ap (λ (s : List Step). post_rows r.examiner (posts_of s)) steps_are ∙ sym (single r.examiner (posts_of r.steps) counted) in
+    let rows_are = ap (λ (s : List Step). post_rows r.examiner (posts_of s)) steps_are
+    ∙ sym (single r.examiner (posts_of r.steps) counted) in
     record {
       added = on_ok_weaker c.add_steps.result
           (λ e. e ∙ ap (λ (rows : List PlantRow). c.args.out.now.items ++ text_of names rows) rows_are) c.add_steps.ensures.added;
@@ -31,7 +32,8 @@ returns c =
     let not_one = λ (one : length (posts_of r.steps) ≡ 1).
     c.if-post_count-eq1.false (c.post_count.ensures.count ∙ ap (λ (s : List Step). length (posts_of s)) steps_are ∙ one) in
     let rows = post_rows r.examiner (posts_of c.as_slice-steps.result.now) in
-    let rows_are = ap (λ (s : List Step). plant.Begin r.examiner ∷ (post_rows r.examiner (posts_of s) ++ plant.Commit r.examiner ∷ [])) steps_are
+    let rows_are = ap (λ (s : List Step). plant.Begin r.examiner ∷ (post_rows r.examiner (posts_of s) ++ plant.Commit r.examiner ∷
+    [])) steps_are
     ∙ sym (several r.examiner (posts_of r.steps) not_one) in
     let first = c.in_ok-begin_row.ensures.added ∙ ap (λ (t : List ℕ). out ++ t) (sym (text_one names (plant.Begin r.examiner))) in
     let second = behind names (plant.Begin r.examiner ∷ []) rows out _ _ first c.in_ok-add_steps.ensures.added in

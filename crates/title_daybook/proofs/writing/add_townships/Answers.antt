@@ -18,5 +18,6 @@ loop-township-preserved c = λ names.
 pub returns : goal.returns
 returns c = record {
   added = λ names. all_written (map plant.Township) (λ ts u. map-append plant.Township ts (u ∷ [])) names c.args.townships.now
-      c.loop-township.township-index c.args.out.now.items c.loop-township.out.items c.loop-township-test.false (c.loop-township.invariant names);
+      c.loop-township.township-index c.args.out.now.items c.loop-township.out.items c.loop-township-test.false
+      (c.loop-township.invariant names);
 }

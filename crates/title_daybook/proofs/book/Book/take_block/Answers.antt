@@ -1,5 +1,6 @@
 -- Each row comes to what it does by its fields, and the last one by its text.
-use Rattle.std.proofs.Common.{◌≡◌, ◌≤◌, ◌<◌, ◌+◌, ◌-◌, ◌++◌, ◌∷◌, ℕ, List, None, Some, length, length-drop, take, drop, refl, sym, ap, ◌∙◌, subst, inl, inr, arith}
+use Rattle.std.proofs.Common.{◌≡◌, ◌≤◌, ◌<◌, ◌+◌, ◌-◌, ◌++◌, ◌∷◌, ℕ, List, None, Some, length, length-drop, take, drop, refl, sym}
+use Rattle.std.proofs.Common.{ap, ◌∙◌, subst, inl, inr, arith}
 use Rattle.std.proofs.lemmas.List.{drop-drop, take_rest}
 use Rattle.std.proofs.lemmas.Result.{err_from_is_err_and}
 use Rattle.csv.specs.Records.{fields_of}
@@ -39,7 +40,12 @@ returns-in_err-take_last-clause-err c =
       | inl memory ↦ inl memory
       | inr due ↦
           let refused = subst (λ (l : List ℕ). after_last_row p l ≡ None) (same_line text at len) due.1 in
-          inr (c.rows.n, due.0, last_row c.args.first text (progress_of c.args.self.now) c.rows.n at p c.rows.invariant.read len first past None refused)
+          inr (
+            c.rows.n,
+            due.0,
+            last_row c.args.first text (progress_of c.args.self.now) c.rows.n at p c.rows.invariant.read len
+                first past None refused,
+          )
     ])
 
 pub returns-then-at-len-clause-ok : goal.returns-then-at-len-clause-ok
@@ -65,7 +71,8 @@ returns-in_err-read_line-clause-err c =
     let rest = drop (len + 1) (drop at text) in
     let first = subst (λ (l : List ℕ). IsFirstLine l len) (take_rest text at) c.line_len-len.ensures.first in
     let more : at + len + 1 < length text = omega arith in
-    let stands = first.feed (omega (arith, length-drop at text)) ∙ ap (λ (l : List ℕ). l ++ line_feed ∷ rest) (sym (same_line text at len)) in
+    let stands = first.feed (omega (arith, length-drop at text))
+    ∙ ap (λ (l : List ℕ). l ++ line_feed ∷ rest) (sym (same_line text at len)) in
     let front = subst (IsAt c.rows.reader) stands c.rows.invariant.front in
     let out = err_from_is_err_and c.from_residual-in_err-read_line.result c.from_residual-in_err-read_line.ensures.1 in
     rw (out.1, out.2) (elim (c.in_err-read_line.ensures.err rest front) [
@@ -89,7 +96,8 @@ returns-in_err-raw-clause-err c =
     let rest = drop (len + 1) (drop at text) in
     let first = subst (λ (l : List ℕ). IsFirstLine l len) (take_rest text at) c.line_len-len.ensures.first in
     let more : at + len + 1 < length text = omega arith in
-    let stands = first.feed (omega (arith, length-drop at text)) ∙ ap (λ (l : List ℕ). l ++ line_feed ∷ rest) (sym (same_line text at len)) in
+    let stands = first.feed (omega (arith, length-drop at text))
+    ∙ ap (λ (l : List ℕ). l ++ line_feed ∷ rest) (sym (same_line text at len)) in
     let front = subst (IsAt c.rows.reader) stands c.rows.invariant.front in
     let fields = fields_of c.read_line.new.raw in
     let read = subst (λ (l : List ℕ). fields_in l ≡ Some fields) (same_line text at len) (c.in_ok-read_line.ensures.fields rest front).0 in
@@ -113,7 +121,8 @@ rows-preserved c =
     let rest = drop (len + 1) (drop at text) in
     let first = subst (λ (l : List ℕ). IsFirstLine l len) (take_rest text at) c.line_len-len.ensures.first in
     let more : at + len + 1 < length text = omega arith in
-    let stands = first.feed (omega (arith, length-drop at text)) ∙ ap (λ (l : List ℕ). l ++ line_feed ∷ rest) (sym (same_line text at len)) in
+    let stands = first.feed (omega (arith, length-drop at text))
+    ∙ ap (λ (l : List ℕ). l ++ line_feed ∷ rest) (sym (same_line text at len)) in
     let front = subst (IsAt c.rows.reader) stands c.rows.invariant.front in
     let fields = fields_of c.read_line.new.raw in
     let got = c.in_ok-read_line.ensures.fields rest front in
