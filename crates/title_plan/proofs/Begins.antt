@@ -1,5 +1,6 @@
 -- What stands keeps its places, row by row.
-use Rattle.std.proofs.Common.{◌≡◌, ◌≤◌, ◌+◌, ◌∙◌, refl, ap, sym, ℕ, List, [], ◌∷◌, ◌++◌, ◌==◌, ◌&&◌, Bool, true, false, cond, Option, Some, None, Result, Ok, Err, IfOk, subst}
+use Rattle.std.proofs.Common.{◌≡◌, ◌≤◌, ◌+◌, ◌∙◌, refl, ap, sym, ℕ, List, [], ◌∷◌, ◌++◌, ◌==◌, ◌&&◌, Bool, true, false, cond, Option, Some}
+use Rattle.std.proofs.Common.{None, Result, Ok, Err, IfOk, subst}
 use Rattle.std.proofs.Common.{append_assoc, length, nat_le, take, ◌||◌, arith}
 use Rattle.std.proofs.lemmas.List.{append-nil, length-append, take-append-le}
 use Rattle.std.specs.List.{list_any}

@@ -1,5 +1,6 @@
 -- Which names stand behind the first of those that stood, by their numbers.
-use Rattle.std.proofs.Common.{◌≡◌, ◌∙◌, ◌+◌, ◌&&◌, cond, refl, ℕ, zero, suc, List, [], ◌∷◌, Bool, true, false, Some, None, map, drop, take, length}
+use Rattle.std.proofs.Common.{◌≡◌, ◌∙◌, ◌+◌, ◌&&◌, cond, refl, ℕ, zero, suc, List, [], ◌∷◌, Bool, true, false, Some, None, map}
+use Rattle.std.proofs.Common.{drop, take, length}
 use Rattle.std.proofs.Common.{nat_lt, arith, inl, inr}
 use Rattle.std.specs.List.{AllByRecursion, IsDistinct, list_any, position, position_or_len}
 use Rattle.std.specs.Str.{bytes_eq}
@@ -15,7 +16,8 @@ IsFirstAlone test [] = Unit {0}
 IsFirstAlone test (x ∷ xs) = test x ≡ true → list_any test xs ≡ false
 
 no_other : {Y : Type 0} (name : List ℕ) (keys : List (String Y)) (ks : List ℕ) → bytes_eq name ks ≡ true
-    → AllByRecursion (λ (k : String Y). bytes_eq ks (string_bytes k) ≡ false) keys → list_any (bytes_eq name) (map string_bytes keys) ≡ false
+    → AllByRecursion (λ (k : String Y). bytes_eq ks (string_bytes k) ≡ false) keys
+    → list_any (bytes_eq name) (map string_bytes keys) ≡ false
 no_other name [] ks same apart = refl
 no_other name (k ∷ keys) ks same apart =
     let is : name ≡ ks = (bytes_eq-Decides name ks).0 same in

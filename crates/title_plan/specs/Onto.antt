@@ -1,5 +1,5 @@
 -- What a script asks for on top of what stands before it: what stands may be declared once more.
-use Rattle.std.specs.Prelude.{◌≡◌, ℕ, ◌+◌, ◌==◌, ◌&&◌, cond, Bool, false, List, [], ◌∷◌, codes, drop, length, map, take}
+use Rattle.std.specs.Prelude.{◌≡◌, ◌≤◌, ℕ, ◌+◌, ◌==◌, ◌&&◌, cond, Bool, false, List, [], ◌∷◌, codes, drop, length, map, take}
 use Rattle.std.specs.Prelude.{Option, Some, None, Result, Ok, Err}
 use Rattle.std.specs.List.{list_any}
 use Rattle.std.specs.Str.{bytes_eq}
@@ -38,6 +38,10 @@ before_in d = record { townships = d.townships.items; names = map string_bytes d
 -- the first townships and parties of those that rows have declared
 abbrev pub first_of : Stood → Asked → Before
 first_of stood asked = record { townships = take stood.townships asked.townships; names = take stood.parties asked.names }
+
+-- so many have been declared
+abbrev pub StandIn : Stood → Asked → Type 0
+StandIn stood asked = (stood.townships ≤ length asked.townships) × (stood.parties ≤ length asked.names)
 
 -- before the first row: no step, and no transaction is open
 abbrev pub asked_on : Before → Asked

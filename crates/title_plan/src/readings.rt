@@ -11,8 +11,13 @@ use std::hash::{BuildHasher, BuildHasherDefault, FoldHasher};
 use title_aliquot::DescFault;
 use title_land::Tract;
 
-// The slots of descriptions, each for one.
-const SLOTS: u64 = 4_096;
+// The slots of readings, and the places of each.
+const SLOTS: u64 = 512;
+
+const PLACES: usize = 8;
+
+// The places of hashes that were seen.
+const SEEN: u64 = 4_096;
 
 // The most bytes of one that is kept; a longer text is none, which is seen at once.
 const LONGEST_KEPT: usize = 1_000;
@@ -33,6 +38,7 @@ fn copied(alloc: Global, said: &Result<Tract, DescFault>) -> Option<Result<Tract
 // A description and what it says.
 #[derive(Drop)]
 struct Reading {
+    hash: u64,
     text: String,
     said: Result<Tract, DescFault>,
     ghost read: { said ≡ land_in (string_bytes text) },
@@ -40,57 +46,154 @@ struct Reading {
 
 impl Reading {
     // What a text says; `None` where memory is refused.
-    fn new(alloc: Global, text: &str, said: &Result<Tract, DescFault>) -> Option<Reading>
+    fn new(alloc: Global, hash: u64, text: &str, said: &Result<Tract, DescFault>) -> Option<Reading>
         requires said { said.now ≡ land_in text.now }
     {
         let said = copied(alloc, said)?;
         match String::from_str(alloc, text) {
-            Ok(text) => Some(Reading { text, said }),
+            Ok(text) => Some(Reading { hash, text, said }),
             Err(_) => None,
         }
     }
 
     // What a text says, where it is this one.
-    fn recall(&self, alloc: Global, text: &str) -> Option<Result<Tract, DescFault>>
+    fn recall(&self, alloc: Global, hash: u64, text: &str) -> Option<Result<Tract, DescFault>>
         ensures said { IfSome result (λ said. said ≡ land_in text.now) }
     {
-        if self.text.as_str() != text {
+        if self.hash != hash || self.text.as_str() != text {
             return None;
         }
         copied(alloc, &self.said)
     }
 }
 
+// The readings of a slot, the oldest being the next to go.
+#[derive(Drop)]
+struct Slot {
+    readings: Vec<Reading>,
+    next: usize,
+}
+
+impl Slot {
+    fn new(alloc: Global) -> Slot {
+        Slot {
+            readings: Vec::new(alloc),
+            next: 0,
+        }
+    }
+
+    fn has_room(&self) -> bool {
+        self.readings.len() < PLACES
+    }
+
+    // What a text says, where one of these readings is its.
+    fn recall(&self, alloc: Global, hash: u64, text: &str) -> Option<Result<Tract, DescFault>>
+        ensures said { IfSome result (λ said. said ≡ land_in text.now) }
+    {
+        for reading in &self.readings {
+            if let Some(said) = reading.recall(alloc, hash, text) {
+                return Some(said);
+            }
+        }
+        None
+    }
+
+    // Takes a reading; in a full slot the oldest goes. It isn't taken where memory is refused.
+    fn take(&mut self, reading: Reading) {
+        if self.readings.len() < PLACES {
+            let _ = self.readings.push(reading);
+            return;
+        }
+        let Some(oldest) = self.readings.get_mut(self.next) else {
+            return;
+        };
+        *oldest = reading;
+        self.next = (self.next + 1) % PLACES;
+    }
+}
+
 /// Descriptions that were read, and what each says, so that one that comes again isn't read again. The hash of a text is its
-/// slot's, of which there are 4,096: a description takes its slot, and the one that stood there goes. Texts of more than 1,000
-/// bytes are read as they come.
+/// slot's, of which there are 512 with eight places each: a text takes a free place at once, and that of the oldest when it comes a
+/// second time. Texts of more than 1,000 bytes are read as they come.
 #[derive(Drop)]
 pub struct Readings {
     alloc: Global,
     hashers: BuildHasherDefault<FoldHasher>,
-    slots: u64,
-    kept: BTreeMap<u64, Reading>,
+    keeps: bool,
+    slots: BTreeMap<u64, Slot>,
+    // The last hash of those that fall together, of texts that came once and found no free place.
+    seen: BTreeMap<u64, u64>,
 }
 
 impl Readings {
-    // None yet, with so many slots.
-    fn with_slots(alloc: Global, slots: u64) -> Readings {
+    // None yet, of which some are to be kept, or none.
+    fn keeping(alloc: Global, keeps: bool) -> Readings {
         Readings {
             alloc,
             hashers: BuildHasherDefault::new(),
-            slots,
-            kept: BTreeMap::new(alloc),
+            keeps,
+            slots: BTreeMap::new(alloc),
+            seen: BTreeMap::new(alloc),
         }
     }
 
     /// None yet. Takes no memory.
     pub fn new(alloc: Global) -> Readings {
-        Readings::with_slots(alloc, SLOTS)
+        Readings::keeping(alloc, true)
     }
 
     /// None, and none will be kept: each description is read as it comes. Takes no memory.
     pub(crate) fn none(alloc: Global) -> Readings {
-        Readings::with_slots(alloc, 0)
+        Readings::keeping(alloc, false)
+    }
+
+    // What a text with this hash says, where it is kept.
+    fn recall(&self, hash: u64, text: &str) -> Option<Result<Tract, DescFault>>
+        ensures said { IfSome result (λ said. said ≡ land_in text.now) }
+    {
+        self.slots
+            .get(&(hash % SLOTS))?
+            .recall(self.alloc, hash, text)
+    }
+
+    // Whether a text with this hash was seen not long ago; from now on it was.
+    fn is_seen(&mut self, hash: u64) -> bool {
+        let place = (hash >> 32) % SEEN;
+        if let Some(last) = self.seen.get_mut(&place) {
+            let is_seen = *last == hash;
+            *last = hash;
+            return is_seen;
+        }
+        let _ = self.seen.insert(place, hash);
+        false
+    }
+
+    // Whether a text with this hash is to be kept: there is room for it, or it comes a second time.
+    fn is_wanted(&mut self, hash: u64) -> bool {
+        match self.slots.get(&(hash % SLOTS)) {
+            Some(slot) if !slot.has_room() => self.is_seen(hash),
+            _ => true,
+        }
+    }
+
+    // Keeps what a text with this hash says; not where memory is refused.
+    fn keep(&mut self, hash: u64, text: &str, said: &Result<Tract, DescFault>)
+        requires said { said.now ≡ land_in text.now }
+    {
+        if !self.is_wanted(hash) {
+            return;
+        }
+        let Some(reading) = Reading::new(self.alloc, hash, text, said) else {
+            return;
+        };
+        let place = hash % SLOTS;
+        if let Some(slot) = self.slots.get_mut(&place) {
+            slot.take(reading);
+            return;
+        }
+        let mut slot = Slot::new(self.alloc);
+        slot.take(reading);
+        let _ = self.slots.insert(place, slot);
     }
 
     /// The tract that a text describes, or the text's fault, as `read_tract` gives it. `Err` is Memory, where it is wanted to
@@ -98,24 +201,15 @@ impl Readings {
     pub fn read(&mut self, text: &str) -> Result<Result<Tract, DescFault>, AllocError>
         ensures said { IfOk result (λ said. said ≡ land_in text.now) }
     {
-        if self.slots == 0 || text.len() > LONGEST_KEPT {
+        if !self.keeps || text.len() > LONGEST_KEPT {
             return read_tract(self.alloc, text);
         }
-        let slot = self.hashers.hash_one(text) % self.slots;
-        let Some(place) = self.kept.get_mut(&slot) else {
-            let said = read_tract(self.alloc, text)?;
-            if let Some(reading) = Reading::new(self.alloc, text, &said) {
-                let _ = self.kept.insert(slot, reading);
-            }
-            return Ok(said);
-        };
-        if let Some(said) = place.recall(self.alloc, text) {
+        let hash = self.hashers.hash_one(text);
+        if let Some(said) = self.recall(hash, text) {
             return Ok(said);
         }
         let said = read_tract(self.alloc, text)?;
-        if let Some(reading) = Reading::new(self.alloc, text, &said) {
-            *place = reading;
-        }
+        self.keep(hash, text, &said);
         Ok(said)
     }
 }

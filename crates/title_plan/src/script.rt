@@ -5,10 +5,9 @@ ghost use Rattle.title_trace.specs.Due.{MayOpen};
 ghost use Rattle.title_plan.specs.Asked.{asked_in};
 ghost use Rattle.csv.specs.Reading.{default_config, error_kind, records, strip_bom};
 ghost use Rattle.csv.specs.Records.{fields_of};
-ghost use Rattle.indexmap.specs.IndexSet.{index_set_len};
 ghost use Rattle.title_plan.specs.Faults.{IsWant};
 ghost use Rattle.title_plan.specs.Limits.{most_rows};
-ghost use Rattle.title_plan.specs.Onto.{after_row_onto, after_rows_onto, asked_on, before_in, first_of, script_onto};
+ghost use Rattle.title_plan.specs.Onto.{StandIn, after_row_onto, after_rows_onto, asked_on, before_in, first_of, script_onto};
 ghost use Rattle.title_plan.specs.Plans.{script_of};
 ghost use Rattle.title_plan.specs.Readers.{IsAtFirst, left_of};
 ghost use Rattle.title_plan.specs.declared.fault.ScriptFault.TheVariants as fault;
@@ -21,6 +20,7 @@ use crate::plan::Plan;
 use crate::readings::Readings;
 use csv::{ByteRecord, Error, ErrorKind, Reader, ReaderBuilder};
 use std::alloc::Global;
+use std::mem::replace;
 
 // Splitting a text in memory into rows ends early for want of memory only: rows may have any lengths, and their bytes are
 // not looked at.
@@ -40,12 +40,11 @@ fn fault_of(error: Error) -> ScriptFault
 // A script of which rows were taken: its plan, what stood before it, the descriptions that were read, and a row's record.
 #[derive(Drop)]
 struct Taken {
+    alloc: Global,
     plan: Plan,
     stood: Stood,
     readings: Readings,
     raw: ByteRecord,
-    ghost townships: { stood.townships ≤ length plan.townships.items },
-    ghost parties: { stood.parties ≤ index_set_len plan.parties },
 }
 
 impl Taken {
@@ -53,9 +52,11 @@ impl Taken {
     fn none(alloc: Global, declared: Declared) -> Taken
         ensures asked { asked_in result.plan ≡ asked_on (before_in declared) }
         ensures before { first_of result.stood (asked_in result.plan) ≡ before_in declared }
+        ensures stands { StandIn result.stood (asked_in result.plan) }
     {
         let stood = Stood::all(&declared);
         Taken {
+            alloc,
             plan: Plan::onto(alloc, declared),
             stood,
             readings: Readings::new(alloc),
@@ -63,34 +64,23 @@ impl Taken {
         }
     }
 
-    fn into_plan(self) -> Plan
-        ensures plan { result ≡ self.plan }
-    {
-        self.plan
-    }
-
     // Takes the n-th row, which is in the record.
-    fn row(self, schedule: Schedule, n: u64) -> Result<Taken, ScriptFault>
-        ensures ok { IfOk result (λ taken. after_row_onto schedule (first_of self.stood (asked_in self.plan)) n (asked_in self.plan)
-            (fields_of self.raw) ≡ Ok (asked_in taken.plan)) }
-        ensures before { IfOk result (λ taken. first_of taken.stood (asked_in taken.plan) ≡ first_of self.stood (asked_in self.plan)) }
+    fn row(&mut self, schedule: Schedule, n: u64) -> Result<(), ScriptFault>
+        requires stands { StandIn self.old.stood (asked_in self.old.plan) }
+        ensures ok { OnOk result (after_row_onto schedule (first_of self.old.stood (asked_in self.old.plan)) n (asked_in self.old.plan)
+            (fields_of self.old.raw) ≡ Ok (asked_in self.new.plan)) }
+        ensures before { OnOk result (first_of self.new.stood (asked_in self.new.plan)
+            ≡ first_of self.old.stood (asked_in self.old.plan)) }
+        ensures stands { OnOk result (StandIn self.new.stood (asked_in self.new.plan)) }
         ensures within { OnOk result (n ≤ most_rows) }
-        ensures err { IfErr result (λ e. (e ≡ fault.Memory) ⊎ (after_row_onto schedule (first_of self.stood (asked_in self.plan)) n
-            (asked_in self.plan) (fields_of self.raw) ≡ Err e)) }
+        ensures err { IfErr result (λ e. (e ≡ fault.Memory) ⊎ (after_row_onto schedule
+            (first_of self.old.stood (asked_in self.old.plan)) n (asked_in self.old.plan) (fields_of self.old.raw) ≡ Err e)) }
     {
-        let Taken {
-            mut plan,
-            stood,
-            mut readings,
-            raw,
-        } = self;
-        let raw = plan.take_record(stood, &mut readings, schedule, n, raw)?;
-        Ok(Taken {
-            plan,
-            stood,
-            readings,
-            raw,
-        })
+        let raw = replace(&mut self.raw, ByteRecord::new(self.alloc));
+        self.raw = self
+            .plan
+            .take_record(self.stood, &mut self.readings, schedule, n, raw)?;
+        Ok(())
     }
 }
 
@@ -104,17 +94,19 @@ fn open_rows(alloc: Global, text: &[u8]) -> Reader<&[u8]>
         .from_reader(alloc, text)
 }
 
-// Takes all rows of a reader. The reader is another's, so that no way out lets it go.
+// Takes all rows of a reader. All that it takes them with is another's, so no way out lets anything go.
 fn take_rows(
     reader: &mut Reader<&[u8]>,
     schedule: Schedule,
-    mut taken: Taken,
-) -> Result<Plan, ScriptFault>
+    taken: &mut Taken,
+) -> Result<(), ScriptFault>
     requires first { IsAtFirst (left_of reader.old) reader.old }
-    ensures script { IfOk result (λ plan. after_rows_onto schedule (first_of taken.stood (asked_in taken.plan)) 1
-        (asked_in taken.plan) (records default_config (left_of reader.old)) ≡ Ok (asked_in plan)) }
-    ensures why { IfErr result (λ e. (e ≡ fault.Memory) ⊎ (after_rows_onto schedule (first_of taken.stood (asked_in taken.plan)) 1
-        (asked_in taken.plan) (records default_config (left_of reader.old)) ≡ Err e)) }
+    requires stands { StandIn taken.old.stood (asked_in taken.old.plan) }
+    ensures script { OnOk result (after_rows_onto schedule (first_of taken.old.stood (asked_in taken.old.plan)) 1
+        (asked_in taken.old.plan) (records default_config (left_of reader.old)) ≡ Ok (asked_in taken.new.plan)) }
+    ensures why { IfErr result (λ e. (e ≡ fault.Memory) ⊎ (after_rows_onto schedule
+        (first_of taken.old.stood (asked_in taken.old.plan)) 1 (asked_in taken.old.plan)
+        (records default_config (left_of reader.old)) ≡ Err e)) }
 {
     let mut n = 0;
     'rows: loop {
@@ -123,10 +115,10 @@ fn take_rows(
             Err(error) => return Err(fault_of(error)),
         };
         if !found {
-            return Ok(taken.into_plan());
+            return Ok(());
         }
         n += 1;
-        taken = taken.row(schedule, n)?;
+        taken.row(schedule, n)?;
     }
 }
 
@@ -144,8 +136,9 @@ pub fn read_script_onto(
     ensures why { IfErr result (λ e. (e ≡ fault.Memory) ⊎ (script_onto schedule (before_in declared) text.now ≡ Err e)) }
 {
     let mut reader = open_rows(alloc, text);
-    let taken = Taken::none(alloc, declared);
-    take_rows(&mut reader, schedule, taken)
+    let mut taken = Taken::none(alloc, declared);
+    take_rows(&mut reader, schedule, &mut taken)?;
+    Ok(taken.plan)
 }
 
 /// What a script declares and asks for, or the fault of its first row at fault: Row, Order or Party with the row's number

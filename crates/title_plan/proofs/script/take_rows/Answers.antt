@@ -24,6 +24,7 @@ rows-init c =
       count = length (left_of c.args.reader.now) + 1;
       counted = inl (omega arith);
       before = refl;
+      stands = c.requires.stands;
       after = rw first.state refl;
     }
 
@@ -35,19 +36,21 @@ rows-preserved c =
     let fields = fields_of c.read_byte_record.new.row in
     let m = rows-more (λ (s : Bor (List ℕ)). Some s.now) c.rows.reader c.read_byte_record.new.self fields
     default_config c.rows.reader.state inv.rest inv.rest [] inv.config inv.source (refl, refl) read in
-    let on = one_read c.args.schedule (first_of c.args.taken.stood (asked_in c.args.taken.plan)) (c.rows.n + 1) inv.count (asked_in c.rows.taken.plan) fields _ _ _ _ _ inv.counted m.2 inv.after in
+    let on = one_read c.args.schedule (first_of c.args.taken.now.stood (asked_in c.args.taken.now.plan)) (c.rows.n + 1) inv.count
+    (asked_in c.rows.taken.plan) fields _ _ _ _ _ inv.counted m.2 inv.after in
     record {
       trims = read.3 ∙ inv.trims;
       ready = inl (c.in-Ok.ensures.ready inv.trims);
       config = read.2 ∙ inv.config;
       flexible = c.in-Ok.ensures.flexible ∙ inv.flexible;
-      few = c.in_ok-taken.ensures.within;
+      few = c.in_ok-row.ensures.within;
       rest = m.0;
       source = m.1;
       count = on.count;
       counted = on.counted;
-      before = c.in_ok-taken.ensures.before ∙ inv.before;
-      after = rw (rw inv.before at c.in_ok-taken.ensures.ok) at on.comes_to;
+      before = c.in_ok-row.ensures.before ∙ inv.before;
+      stands = c.in_ok-row.ensures.stands;
+      after = rw (rw inv.before at c.in_ok-row.ensures.ok) at on.comes_to;
     }
 
 pub returns-then-not-found-clause-script : goal.returns-then-not-found-clause-script
@@ -56,19 +59,20 @@ returns-then-not-found-clause-script c =
     let read = rw c.if-not-found.true at (c.in-Ok.ensures.reads inv.trims inv.ready) in
     let none = rows-end (λ (s : Bor (List ℕ)). Some s.now) c.rows.reader c.read_byte_record.new.self
     (fields_of c.read_byte_record.new.row) default_config inv.rest inv.config inv.source read in
-    rw c.into_plan.ensures.plan (sym (rw (none_read inv.count c.rows.reader.state inv.rest none) at inv.after))
+    sym (rw (none_read inv.count c.rows.reader.state inv.rest none) at inv.after)
 
-pub returns-in_err-taken-clause-why : goal.returns-in_err-taken-clause-why
+pub returns-in_err-row-clause-why : goal.returns-in_err-row-clause-why
 unfolding Reached
-returns-in_err-taken-clause-why c =
+returns-in_err-row-clause-why c =
     let inv = c.rows.invariant in
     let read = rw c.if-not-found.false at (c.in-Ok.ensures.reads inv.trims inv.ready) in
     let fields = fields_of c.read_byte_record.new.row in
     let m = rows-more (λ (s : Bor (List ℕ)). Some s.now) c.rows.reader c.read_byte_record.new.self fields
     default_config c.rows.reader.state inv.rest inv.rest [] inv.config inv.source (refl, refl) read in
-    let on = one_read c.args.schedule (first_of c.args.taken.stood (asked_in c.args.taken.plan)) (c.rows.n + 1) inv.count (asked_in c.rows.taken.plan) fields _ _ _ _ _ inv.counted m.2 inv.after in
+    let on = one_read c.args.schedule (first_of c.args.taken.now.stood (asked_in c.args.taken.now.plan)) (c.rows.n + 1) inv.count
+    (asked_in c.rows.taken.plan) fields _ _ _ _ _ inv.counted m.2 inv.after in
     let out = err_from_is_err_and c.from_residual.result c.from_residual.ensures.1 in
-    rw (out.1, out.2) (elim c.in_err-taken.ensures.err [
+    rw (out.1, out.2) (elim c.in_err-row.ensures.err [
       | inl memory ↦ inl memory
       | inr due ↦ inr (sym (rw (rw inv.before at due) at on.comes_to))
     ])

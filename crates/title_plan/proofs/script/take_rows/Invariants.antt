@@ -3,7 +3,7 @@ use Rattle.csv.specs.Reading.{Ready, default_config, is_flexible, records, recor
 use Rattle.csv.specs.declared.reader.Trim.TheVariants as trim
 use Rattle.title_plan.specs.Limits.{most_rows}
 use Rattle.title_plan.specs.Asked.{asked_in}
-use Rattle.title_plan.specs.Onto.{after_rows_onto, first_of}
+use Rattle.title_plan.specs.Onto.{StandIn, after_rows_onto, first_of}
 use Rattle.title_plan.specs.Readers.{left_of}
 use Rattle.title_plan.proofs.ReadOn.{IsCounted}
 use Rattle.title_plan.proofs.script.take_rows.Given as goal
@@ -21,6 +21,7 @@ invariant-rows l = record {
   count : ℕ;
   counted : IsCounted count l.reader.state rest;
   before : first_of l.taken.stood (asked_in l.taken.plan) ≡ first_of l.fn.taken.stood (asked_in l.fn.taken.plan);
+  stands : StandIn l.taken.stood (asked_in l.taken.plan);
   after : after_rows_onto l.schedule (first_of l.fn.taken.stood (asked_in l.fn.taken.plan)) (l.n + 1) (asked_in l.taken.plan)
       (records_from default_config count l.reader.state rest)
       ≡ after_rows_onto l.schedule (first_of l.fn.taken.stood (asked_in l.fn.taken.plan)) 1 (asked_in l.fn.taken.plan)

@@ -1,32 +1,23 @@
-use Rattle.std.proofs.Common.{◌≤◌, length}
-use Rattle.std.proofs.lemmas.List.{length-map}
 use Rattle.csv.specs.Records.{fields_of}
 use Rattle.title_plan.specs.Asked.{asked_in}
 use Rattle.title_plan.specs.Onto.{first_of}
 use Rattle.title_plan.proofs.Begins.{first_stays, length_grown, row_grows}
 use Rattle.title_plan.proofs.script.Taken.row.Goals as goal
 
-pub invariant_of-result-clause-townships : goal.invariant_of-result-clause-townships
-invariant_of-result-clause-townships c =
-    let old = asked_in c.args.self.plan in
-    let new = asked_in c.take_record.new.self in
-    let grown = row_grows c.args.schedule (first_of c.args.self.stood old) c.args.n old new (fields_of c.args.self.raw)
-    c.in_ok-raw.ensures.ok in
-    length_grown c.args.self.stood.townships old.townships new.townships grown.0 c.args.self.townships
-
-pub invariant_of-result-clause-parties : goal.invariant_of-result-clause-parties
-invariant_of-result-clause-parties c =
-    let old = asked_in c.args.self.plan in
-    let new = asked_in c.take_record.new.self in
-    let grown = row_grows c.args.schedule (first_of c.args.self.stood old) c.args.n old new (fields_of c.args.self.raw)
-    c.in_ok-raw.ensures.ok in
-    let few : c.args.self.stood.parties ≤ length old.names = rw length-map c.args.self.parties in
-    rw length-map at (length_grown c.args.self.stood.parties old.names new.names grown.1 few)
-
 pub returns-clause-before : goal.returns-clause-before
 returns-clause-before c =
-    let old = asked_in c.args.self.plan in
+    let stood = c.args.self.now.stood in
+    let old = asked_in c.args.self.now.plan in
     let new = asked_in c.take_record.new.self in
-    let grown = row_grows c.args.schedule (first_of c.args.self.stood old) c.args.n old new (fields_of c.args.self.raw)
-    c.in_ok-raw.ensures.ok in
-    first_stays c.args.self.stood old new grown c.args.self.townships (rw length-map c.args.self.parties)
+    let grown = row_grows c.args.schedule (first_of stood old) c.args.n old new (fields_of c.replace-raw.result) c.in_ok-self.ensures.ok in
+    first_stays stood old new grown c.requires.stands.0 c.requires.stands.1
+
+pub returns-clause-stands : goal.returns-clause-stands
+returns-clause-stands c =
+    let stood = c.args.self.now.stood in
+    let old = asked_in c.args.self.now.plan in
+    let new = asked_in c.take_record.new.self in
+    let grown = row_grows c.args.schedule (first_of stood old) c.args.n old new (fields_of c.replace-raw.result) c.in_ok-self.ensures.ok in (
+      length_grown stood.townships old.townships new.townships grown.0 c.requires.stands.0,
+      length_grown stood.parties old.names new.names grown.1 c.requires.stands.1,
+    )
