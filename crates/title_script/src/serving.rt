@@ -176,6 +176,7 @@ pub fn serve_onto<S: Store + Drop, G: Guards + Drop, V: Watch>(
     ensures setting { desk.new.setting ≡ desk.old.setting }
     ensures trace { OnOk result (desk.new.trace ≡ after_lines desk.old.setting desk.old.trace plan.lines.items) }
     ensures report { IfOk result (λ s. served_text s ≡ report_onto desk.old.setting desk.old.trace (asked_in plan)) }
+    ensures declared { IfOk result (λ s. (s.plan.parties ≡ plan.parties) × (s.plan.townships ≡ plan.townships)) }
 {
     let steps = plan.lines.len();
     let told = serve_lines(alloc, desk, &mut plan.lines, watch)?;

@@ -1,5 +1,5 @@
 -- What came of the steps has the rows that are due.
-use Rattle.std.proofs.Common.{◌∙◌, map}
+use Rattle.std.proofs.Common.{◌∙◌, map, refl}
 use Rattle.std.specs.String.{string_bytes}
 use Rattle.title_script.proofs.ServedLaws.{served_onto}
 use Rattle.title_script.proofs.serving.serve_onto.Goals as goal
@@ -13,4 +13,5 @@ returns g c =
       trace = c.in_ok-told.ensures.trace;
       report = served_onto (map string_bytes p.parties.keys) p.lines.items was.setting was.trace c.in_ok-told.told.items
           c.len-steps.result c.in_ok-told.ensures.told (c.len-steps.ensures ∙ p.lines.ok.0);
+      declared = (refl, refl);
     }
