@@ -1,10 +1,10 @@
 -- A block that adds is one, and stands for what it was written from.
-use Rattle.std.proofs.Common.{◌≡◌, ◌∙◌, ◌≤◌, ◌<◌, ◌+◌, ◌-◌, ◌^◌, ℕ, zero, suc, Bool, true, false, cond, List, [], ◌∷◌, ◌++◌, length}
-use Rattle.std.proofs.Common.{length-append, map, reverse, take, drop}
-use Rattle.std.proofs.Common.{Option, Some, None, Result, Ok, Err, refl, sym, ap, subst, arith, inl, inr, append_assoc}
-use Rattle.std.specs.Prelude.{◌==◌, ◌&&◌, codes, is_none, nat_eq}
+use Rattle.std.proofs.Common.{◌≡◌, ◌∙◌, ◌<◌, ◌+◌, ◌^◌, ℕ, Bool, true, false, cond, List, [], ◌∷◌, ◌++◌, length}
+use Rattle.std.proofs.Common.{drop}
+use Rattle.std.proofs.Common.{Option, Some, None, Result, Ok, Err, refl, sym, ap, subst, inl, inr, append_assoc}
+use Rattle.std.specs.Prelude.{codes, is_none}
 use Rattle.std.specs.Fmt.{decimal}
-use Rattle.std.specs.List.{flat_map, list_all, list_any, starts_with, AllByRecursion}
+use Rattle.std.specs.List.{list_all, AllByRecursion}
 use Rattle.std.specs.Str.{bytes_eq, is_utf8}
 use Rattle.std.proofs.lemmas.Bool.{and_parts, cases_Bool}
 use Rattle.std.proofs.lemmas.Bool.Decides.{Decides-eqb}
@@ -15,13 +15,13 @@ use Rattle.title_journal.specs.Blocks.{ends_block, line_feed, lines, IsBlock, Is
 use Rattle.title_page.specs.Rows.{row}
 use Rattle.title_plan.specs.Fields.{given}
 use Rattle.title_spelling.specs.Laws.{MarksReadBack, OnlyEndsEnd, PostsReadBack, RowsAreLines}
-use Rattle.title_spelling.specs.Rows.{are_names, end_fields, fields_of, Begin, Commit, End, IsPlantRow, Party, PlantRow, Post, Township}
+use Rattle.title_spelling.specs.Rows.{are_names, fields_of, End, IsPlantRow, PlantRow}
 use Rattle.title_daybook.specs.Added.{text_of}
 use Rattle.title_daybook.specs.Files.{after_blocks, and_then}
 use Rattle.title_daybook.specs.KeptRows.{after_kept_row, after_last_row, after_rows, after_said, going_on, is_end, Progress}
-use Rattle.title_daybook.specs.Lines.{lines_from, lines_of, said_by}
+use Rattle.title_daybook.specs.Lines.{lines_of, said_by}
 use Rattle.title_daybook.proofs.FirstLines.{lines_at}
-use Rattle.title_daybook.proofs.RowLines.{end_line, line_of, IsLineOf}
+use Rattle.title_daybook.proofs.RowLines.{end_line, line_of}
 use Rattle.title_daybook.proofs.Taking.{IsInner, Takes}
 
 -- the same line feed is taken off both ends

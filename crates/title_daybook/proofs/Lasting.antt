@@ -1,7 +1,7 @@
 -- With a block that adds behind them, the blocks that stand for the old stand for the new.
-use Rattle.std.proofs.Common.{◌≡◌, ◌∙◌, ◌≤◌, ◌<◌, ◌+◌, ◌-◌, ◌^◌, ℕ, true, List, [], ◌∷◌, ◌++◌, length, length-append, map, reverse}
+use Rattle.std.proofs.Common.{◌≡◌, ◌∙◌, ◌≤◌, ◌+◌, ◌-◌, ℕ, true, List, [], ◌∷◌, ◌++◌, length, length-append, map, reverse}
 use Rattle.std.proofs.Common.{take, drop}
-use Rattle.std.proofs.Common.{None, Result, Ok, Err, refl, sym, ap, subst, arith, append_assoc}
+use Rattle.std.proofs.Common.{Result, Ok, Err, refl, sym, ap, subst, arith}
 use Rattle.std.specs.List.{flat_map, AllByRecursion}
 use Rattle.std.proofs.lemmas.List.{reverse-append, reverse-reverse, take_at}
 use Rattle.std.proofs.Math.Seq.{drop-append_seam}

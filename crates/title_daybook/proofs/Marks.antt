@@ -1,5 +1,5 @@
 -- A block that begins with a byte order mark is at fault in its first row.
-use Rattle.std.proofs.Common.{◌≡◌, ◌∙◌, refl, sym, ap, subst, ℕ, List, [], ◌∷◌, ◌++◌, Bool, true, false, Option, Some, None, Err, inl, inr}
+use Rattle.std.proofs.Common.{◌≡◌, ◌∙◌, refl, ap, ℕ, List, [], ◌∷◌, ◌++◌, Bool, true, false, Option, Some, None, Err, inl, inr}
 use Rattle.std.proofs.Common.{length, drop, suc, cond, add-one}
 use Rattle.title_plan.specs.declared.row.Row.{Row}
 use Rattle.std.specs.Prelude.{◌==◌, ◌&&◌, is_none, nat_eq}
@@ -17,7 +17,7 @@ use Rattle.csv.specs.declared.parser.State.TheVariants as st
 use Rattle.title_journal.specs.Blocks.{line_feed}
 use Rattle.title_plan.specs.Rows.{row_in}
 use Rattle.title_plan.specs.Fields.{given}
-use Rattle.title_daybook.specs.KeptRows.{after_kept_row, after_last_row, after_rows, going_on, Progress}
+use Rattle.title_daybook.specs.KeptRows.{after_last_row, after_rows, Progress}
 use Rattle.title_daybook.specs.Lines.{closed, has_line_feed, has_return, lines_from, lines_of, only, row_said, said_by}
 use Rattle.title_daybook.specs.Readers.{byte_order_mark}
 

@@ -1,7 +1,7 @@
 -- Of records a block has what is kept of them.
-use Rattle.std.proofs.Common.{◌≡◌, ◌∙◌, ◌+◌, ◌-◌, ℕ, Bool, true, false, List, [], ◌∷◌, ◌++◌, drop, filter, length, length-append}
+use Rattle.std.proofs.Common.{◌≡◌, ◌∙◌, ◌+◌, ◌-◌, ℕ, false, List, [], ◌∷◌, ◌++◌, drop, filter, length, length-append}
 use Rattle.std.proofs.Common.{map, reverse, take}
-use Rattle.std.proofs.Common.{Option, Some, None, refl, sym, ap, arith, inl, inr}
+use Rattle.std.proofs.Common.{None, refl, sym, ap, arith, inl, inr}
 use Rattle.std.specs.List.{flat_map}
 use Rattle.std.proofs.lemmas.Bool.{cases_Bool}
 use Rattle.std.proofs.lemmas.List.{length-map, length-reverse, map-append, reverse-append, reverse-reverse, take_at}

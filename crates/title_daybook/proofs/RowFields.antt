@@ -1,8 +1,7 @@
 -- What a reader of a whole block takes from where a row begins, and the fields of the row.
-use Rattle.std.proofs.Common.{◌≡◌, ◌∙◌, refl, sym, ap, ℕ, zero, suc, ◌+◌, List, [], ◌∷◌, ◌++◌, Bool, true, false, cond, Option}
+use Rattle.std.proofs.Common.{◌≡◌, ◌∙◌, refl, sym, ap, ℕ, zero, suc, List, [], ◌∷◌, ◌++◌, Bool, true, false, Option}
 use Rattle.std.proofs.Common.{Some, None, length}
-use Rattle.std.proofs.Common.{Bor, subst, ◌⊎◌, inl, inr, append_assoc, add-one, arith}
-use Rattle.std.proofs.lemmas.Bool.Decides.{nat_tests}
+use Rattle.std.proofs.Common.{Bor, subst, ◌⊎◌, inl, inr, add-one}
 use Rattle.std.specs.Prelude.{◌==◌, ◌||◌}
 use Rattle.std.specs.List.{list_any}
 use Rattle.std.proofs.lemmas.Bool.{cases_Bool, ne_eqb, or_left, or_right}
@@ -17,7 +16,7 @@ use Rattle.csv.specs.declared.parser.State.{State}
 use Rattle.csv.specs.declared.parser.State.TheVariants as st
 use Rattle.title_journal.specs.Blocks.{line_feed}
 use Rattle.title_daybook.specs.Readers.{IsAt, Took}
-use Rattle.title_daybook.specs.Lines.{carriage_return, closed, fields_in, has_line_feed, has_return, only}
+use Rattle.title_daybook.specs.Lines.{closed, fields_in, has_line_feed, has_return, only}
 
 -- ---- within a row
 

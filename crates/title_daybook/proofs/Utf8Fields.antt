@@ -1,5 +1,5 @@
 -- The fields of rows are UTF-8.
-use Rattle.std.proofs.Common.{◌≡◌, ◌∙◌, ℕ, ◌<◌, ◌^◌, Bool, true, false, List, [], ◌∷◌, ◌++◌, cond, refl, arith}
+use Rattle.std.proofs.Common.{◌≡◌, ℕ, ◌<◌, ◌^◌, Bool, true, false, List, [], ◌∷◌, ◌++◌, cond, refl, arith}
 use Rattle.std.proofs.Common.{Option, Some, None, zero, suc, length}
 use Rattle.std.proofs.lemmas.Bool.{and_parts}
 use Rattle.title_instrument.specs.declared.instrument.Instrument.{Instrument}

@@ -4,6 +4,7 @@ use Rattle.std.specs.Prelude.{◌≡◌, ℕ, ◌+◌, List, [], ◌∷◌, leng
 use Rattle.title_land.specs.Depth.{depth}
 use Rattle.title_chain.specs.Alone.{IsSerial}
 use Rattle.title_journal.specs.Blocks.{blocks_in}
+use Rattle.title_daybook.specs.Ends.{at_head, past_blocks, stays_at}
 use Rattle.title_daybook.specs.KeptRows.{Progress, after_rows, between}
 use Rattle.title_daybook.specs.Lines.{lines_of}
 use Rattle.title_daybook.specs.Standing.{Standing, nothing_standing}
@@ -36,3 +37,14 @@ standing_in file = standing_after (blocks_in file)
 -- a file is a plant of what stands in it, where its records are serial
 abbrev pub IsPlant : List ℕ → Standing → Type 0
 IsPlant file s = (standing_in file ≡ Ok s) × IsSerial depth s.townships s.records
+
+-- ---- where a transaction ends
+
+abbrev pub row_among : Result (List (List ℕ)) ℕ → ℕ → ℕ
+row_among (Ok blocks) place = stays_at (past_blocks (at_head place) blocks)
+row_among (Err row) place = 0
+
+-- the row of a file in which the transaction of this place ends: its `commit`, or a post outside of `begin` and `commit`. It is 1, the
+-- head's, for place 0, and 0 where fewer transactions end
+abbrev pub row_of : List ℕ → ℕ → ℕ
+row_of file place = row_among (blocks_in file) place

@@ -2,6 +2,7 @@ pub mod Standing
 pub mod Lines
 pub mod KeptRows
 pub mod Readers
+pub mod Ends
 pub mod Files
 pub mod Books
 pub mod Added

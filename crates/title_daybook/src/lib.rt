@@ -3,6 +3,7 @@
 #![tactic(auto)]
 
 mod book;
+mod ending;
 mod fault;
 pub mod laws;
 mod lines;
@@ -10,6 +11,7 @@ mod reading;
 mod standing;
 mod writing;
 
+pub use ending::row_of;
 pub use fault::PlantFault;
 pub use reading::read_standing;
 pub use standing::Standing;

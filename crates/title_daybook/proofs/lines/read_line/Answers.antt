@@ -1,5 +1,5 @@
 -- A row is read where the reader's record ends in it.
-use Rattle.std.proofs.Common.{◌≡◌, ◌∙◌, ◌++◌, ◌∷◌, [], List, ℕ, true, false, refl, inr, sym}
+use Rattle.std.proofs.Common.{◌∙◌, ◌++◌, ◌∷◌, refl, inr, sym}
 use Rattle.csv.specs.Records.{fields_of}
 use Rattle.title_journal.specs.Blocks.{line_feed}
 use Rattle.title_daybook.proofs.RowFields.{blank_row, returned, no_record, not_blank, one_record, over_record}

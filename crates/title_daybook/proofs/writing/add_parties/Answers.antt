@@ -1,4 +1,4 @@
-use Rattle.std.proofs.Common.{◌≡◌, ◌≤◌, ◌<◌, List, ℕ, ◌++◌, ◌∷◌, [], ◌∙◌, ap, drop, length, map, sym, take, arith}
+use Rattle.std.proofs.Common.{◌<◌, List, ℕ, ◌++◌, ◌∷◌, [], ◌∙◌, ap, drop, length, map, sym, take, arith}
 use Rattle.std.specs.String.{string_bytes}
 use Rattle.std.proofs.lemmas.List.{append-nil, drop_all, length-map, length-take, map-append, take_all}
 use Rattle.title_spelling.specs.Posts.{name_of}

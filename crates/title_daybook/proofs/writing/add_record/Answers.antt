@@ -5,7 +5,7 @@ use Rattle.std.proofs.lemmas.Result.{on_ok_weaker}
 use Rattle.title_chain.specs.declared.ask.Step.{Step}
 use Rattle.title_spelling.specs.Rows.{PlantRow}
 use Rattle.title_spelling.specs.Rows as plant
-use Rattle.title_daybook.specs.Added.{post_rows, posts_of, record_rows, text_of}
+use Rattle.title_daybook.specs.Added.{post_rows, posts_of, text_of}
 use Rattle.title_daybook.proofs.WrittenRows.{behind, several, single, text_one}
 use Rattle.title_daybook.proofs.writing.add_record.Goals as goal
 

@@ -1,9 +1,8 @@
-use Rattle.std.proofs.Common.{List, ℕ, ◌++◌, ◌∷◌, [], ◌∙◌, ap, map, sym, arith}
+use Rattle.std.proofs.Common.{List, ◌++◌, ◌∷◌, [], ◌∙◌, ap, map, sym}
 use Rattle.std.specs.List.{flat_map}
 use Rattle.std.specs.String.{string_bytes}
 use Rattle.std.proofs.lemmas.Grind.{flat_map-append}
 use Rattle.std.proofs.lemmas.List.{append-nil}
-use Rattle.title_chain.specs.declared.record.Record.{Record}
 use Rattle.title_spelling.specs.Rows.{PlantRow}
 use Rattle.title_daybook.specs.Added.{record_rows, text_of}
 use Rattle.title_daybook.proofs.WrittenRows.{all_written, one_more}

@@ -1,4 +1,4 @@
-use Rattle.std.proofs.Common.{List, map, sym, arith}
+use Rattle.std.proofs.Common.{List, map, sym}
 use Rattle.std.specs.String.{string_bytes}
 use Rattle.std.proofs.lemmas.List.{append-nil}
 use Rattle.title_chain.specs.declared.ask.Step.{Step}

@@ -1,4 +1,4 @@
-use Rattle.std.proofs.Common.{List, ◌∙◌, ap, length, sym, arith}
+use Rattle.std.proofs.Common.{List, ◌∙◌, ap, length, arith}
 use Rattle.std.proofs.lemmas.List.{take_all}
 use Rattle.title_chain.specs.declared.ask.Step.{Step}
 use Rattle.title_daybook.specs.Added.{posts_of}

@@ -9,7 +9,7 @@ use Rattle.title_daybook.specs.Books.{progress_of}
 use Rattle.title_daybook.specs.KeptRows.{after_last_row}
 use Rattle.title_daybook.specs.Lines.{fields_in, IsFirstLine}
 use Rattle.title_daybook.specs.Readers.{IsAt}
-use Rattle.title_daybook.proofs.Blocks.{a_row, at_front, counts_last, last_row, no_fields, one_more, row_is}
+use Rattle.title_daybook.proofs.Blocks.{a_row, counts_last, last_row, no_fields, one_more, row_is}
 use Rattle.title_daybook.proofs.Marks.{marked_block}
 use Rattle.title_daybook.proofs.book.Book.take_block.Goals as goal
 

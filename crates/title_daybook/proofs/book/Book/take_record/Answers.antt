@@ -3,7 +3,6 @@ use Rattle.std.proofs.Common.{◌≡◌, refl, sym, inl, inr, List, ℕ, true, O
 use Rattle.std.specs.List.{list_all}
 use Rattle.std.specs.Str.{is_utf8}
 use Rattle.std.proofs.lemmas.Bool.{cases_Bool, false≢true}
-use Rattle.std.proofs.lemmas.Result.{err_from_is_err_and}
 use Rattle.csv.specs.Records.{AllText, fields_of}
 use Rattle.title_plan.specs.Rows.{row_in}
 use Rattle.title_plan.specs.declared.row.Row.{Row}

@@ -1,0 +1,244 @@
+//! Files of plants that were written by hand.
+
+ghost use Rattle.std.specs.Prelude.{◌<◌, ◌^◌, length};
+ghost use Rattle.title_journal.specs.Blocks.{front};
+ghost use Rattle.title_journal.specs.Rest.{texts_of};
+
+use indexmap::IndexSet;
+use std::alloc::{AllocError, Global};
+use std::fmt::Write;
+use std::process::Abort;
+use title_chain::{Answer, Ask, Posting, Record, Step, Steps};
+use title_daybook::{PlantFault, Standing, Stood, block, read_standing, row_of};
+use title_disk::TornDisk;
+use title_journal::{Blocks, read};
+use title_standing::Deeds;
+
+// A party whose name has a comma and quotes, and a transaction of one post.
+const FIRST: &str = "township,T3N R2W\n\
+    party,\"ADAMS, J. \"\"JACK\"\"\"\n\
+    party,BELL\n\
+    1,deed,7,UNITED STATES,\"ADAMS, J. \"\"JACK\"\"\",S,W1/2,,T3N R2W sec 5 NE1/4\n\
+    end,1\n";
+
+// A party named as a gate is, a transaction of nothing, one of two posts, and one of a post in cells that no description says.
+const SECOND: &str = "township,T4N R2W\n\
+    party,+\n\
+    4,begin\n\
+    4,commit\n\
+    2,begin\n\
+    2,warranty,8,UNITED STATES,BELL,SO,W1/1,S1/4;O1/2,\"T3N R2W sec 5 NW1/4, SE1/4SW1/4\"\n\
+    2,release,9,BELL,+,SOM,T4N R2W\n\
+    2,commit\n\
+    9999,deed,999999999999,BELL,+,OM,I3/4,,T3N R2W sec 6 cells \
+    aaaa aaaa aaaa aaaa aaaa aaaa aaaa aaaa 0000 0000 0000 0000 0000 0000 0000 0000\n\
+    end,4\n";
+
+// What stands behind them: townships, names, and transactions by their examiners, each with its posts: the document, the instrument
+// between parties by their numbers, and the nodes of the tract, how many and the first.
+const STANDS: &str = "T3N R2W\n\
+    T4N R2W\n\
+    UNITED STATES\n\
+    ADAMS, J. \"JACK\"\n\
+    BELL\n\
+    +\n\
+    examiner 1\n\
+    7 Deed(Deed { grantor: 0, grantee: 1, estates: Estates { s: true, o: false, m: false }, warranty: false, \
+    quantum: Whole(Share { units: 2147483648 }), reserve: [None, None, None] }) 1 T3N R2W sec 5 NE1/4\n\
+    examiner 4\n\
+    examiner 2\n\
+    8 Deed(Deed { grantor: 0, grantee: 2, estates: Estates { s: true, o: true, m: false }, warranty: true, \
+    quantum: Whole(Share { units: 4294967296 }), \
+    reserve: [Some(Share { units: 1073741824 }), Some(Share { units: 2147483648 }), None] }) 2 T3N R2W sec 5 NW1/4\n\
+    9 Release(Release { from: 2, to: 3, estates: Estates { s: true, o: true, m: true } }) 1 T4N R2W\n\
+    examiner 9999\n\
+    999999999999 Deed(Deed { grantor: 2, grantee: 3, estates: Estates { s: false, o: true, m: true }, warranty: false, \
+    quantum: Interest(Share { units: 3221225472 }), reserve: [None, None, None] }) 64 T3N R2W sec 6 NW1/4NE1/4NE1/4NE1/4\n";
+
+// ---- reading
+
+fn add_text(rt: &impl Abort, file: &mut Vec<u8>, text: &str) {
+    file.extend_from_slice(text.as_bytes())
+        .expect(rt, "there is memory");
+}
+
+// A file at rest with these blocks.
+fn file_of(rt: &impl Abort, alloc: Global, blocks: &[&str]) -> Vec<u8> {
+    let mut file = Vec::new(alloc);
+    add_text(rt, &mut file, "titleplant plant 1\n");
+    for text in blocks {
+        add_text(rt, &mut file, "+\n");
+        add_text(rt, &mut file, text);
+    }
+    add_text(rt, &mut file, "-");
+    file
+}
+
+// The blocks that are read from it.
+fn read_blocks(rt: &impl Abort, alloc: Global, blocks: &[&str]) -> Blocks
+    ensures fits { length (front (texts_of result)) < 2 ^ 63 }
+{
+    let mut disk = TornDisk::new(alloc, file_of(rt, alloc, blocks), None);
+    match read(alloc, &mut disk) {
+        Ok(found) => found,
+        Err(_) => panic!(rt; "the file is no plant"),
+    }
+}
+
+// What stands in a file with these blocks.
+fn standing_in(rt: &impl Abort, alloc: Global, blocks: &[&str]) -> Standing {
+    let found = read_blocks(rt, alloc, blocks);
+    read_standing(alloc, &found).expect(rt, "the rows stand")
+}
+
+fn tell_post(posting: &Posting, told: &mut String) -> Result<(), AllocError> {
+    let terms = posting.terms();
+    let cover = terms.tract.cover();
+    write!(told, "{} {:?} {}", terms.doc, terms.instrument, cover.len())?;
+    if let Some(node) = cover.first() {
+        write!(told, " {node}")?;
+    }
+    told.push('\n')
+}
+
+fn tell_deeds(deeds: &Deeds, told: &mut String) -> Result<(), AllocError> {
+    writeln!(told, "examiner {}", deeds.examiner)?;
+    for posting in &deeds.posts {
+        tell_post(posting, told)?;
+    }
+    Ok(())
+}
+
+fn tell_names(parties: &IndexSet<String>, told: &mut String) -> Result<(), AllocError> {
+    for party in 0..parties.len() {
+        if let Some(name) = parties.get_index(party) {
+            writeln!(told, "{name}")?;
+        }
+    }
+    Ok(())
+}
+
+fn tell(alloc: Global, stands: &Standing) -> Result<String, AllocError> {
+    let mut told = String::new(alloc);
+    for township in &stands.townships {
+        writeln!(told, "{township}")?;
+    }
+    tell_names(&stands.parties, &mut told)?;
+    for deeds in &stands.deeds {
+        tell_deeds(deeds, &mut told)?;
+    }
+    Ok(told)
+}
+
+#[test]
+fn a_file_stands_for_its_rows(rt: HostRuntime) {
+    let stands = standing_in(&rt, rt.alloc(), &[FIRST, SECOND]);
+    let told = tell(rt.alloc(), &stands).expect(&rt, "there is memory");
+    assert!(rt; told.as_str() == STANDS, "{told}");
+}
+
+// ---- rows
+
+// The row at fault of a file with this block; 0 where there is none.
+fn row_at_fault(rt: &impl Abort, alloc: Global, text: &str) -> usize {
+    let found = read_blocks(rt, alloc, &[text]);
+    match read_standing(alloc, &found) {
+        Ok(_) => 0,
+        Err(PlantFault::Row(n)) => n,
+        Err(PlantFault::Memory) => panic!(rt; "there is memory"),
+    }
+}
+
+fn assert_at_fault(rt: &impl Abort, alloc: Global, blocks: &[(&str, usize)]) {
+    for (text, row) in blocks {
+        assert!(rt; row_at_fault(rt, alloc, text) == *row, "at {text}");
+    }
+}
+
+// Blocks, and the rows at fault: the head is row 1, and the gate row 2.
+const BLOCKS: [(&str, usize); 14] = [
+    ("end,0\n", 0),
+    ("party,\"end,1\"\n1,begin\n1,commit\nend,1\n", 0),
+    ("end,1\n", 3),
+    (
+        "1,deed,7,UNITED STATES,ADAMS,S,W1/1,,everything\nend,1\n",
+        3,
+    ),
+    ("1,sheet,everything\nend,1\n", 3),
+    ("party,\"ADAMS\nend,0\n", 3),
+    ("party,ADAMS\r\nend,0\n", 3),
+    ("\nend,0\n", 3),
+    ("party,ADAMS\nparty,ADAMS\nend,0\n", 4),
+    ("township,T3N R2W\ntownship,T.3N. R.2W.\nend,0\n", 4),
+    ("1,begin\nend,1\n", 4),
+    ("1,begin\n2,commit\nend,1\n", 4),
+    ("1,begin\nparty,ADAMS\n1,commit\nend,1\n", 4),
+    ("1,begin\n1,commit\nend,2\n", 5),
+];
+
+#[test]
+fn a_row_at_fault_has_its_number(rt: HostRuntime) {
+    assert_at_fault(&rt, rt.alloc(), &BLOCKS);
+}
+
+fn assert_rows(rt: &impl Abort, found: &Blocks, places: &[(u64, usize)]) {
+    for (place, row) in places {
+        assert!(rt; row_of(found, *place) == *row, "at {place}");
+    }
+}
+
+// Places, and the rows in which their transactions end.
+const PLACES: [(u64, usize); 6] = [(0, 1), (1, 6), (2, 12), (3, 16), (4, 17), (5, 0)];
+
+#[test]
+fn a_transaction_ends_in_its_row(rt: HostRuntime) {
+    let found = read_blocks(&rt, rt.alloc(), &[FIRST, SECOND]);
+    assert_rows(&rt, &found, &PLACES);
+}
+
+// ---- writing
+
+// The steps that posted these.
+fn steps_of(rt: &impl Abort, alloc: Global, posts: &[Posting]) -> Steps {
+    let mut steps = Vec::new(alloc);
+    for posting in posts {
+        let step = Step {
+            ask: Ask::Post(posting.copy(alloc).expect(rt, "there is memory")),
+            answer: Answer::Posted,
+        };
+        steps.push(step).expect(rt, "there is memory");
+    }
+    Steps::new(steps)
+}
+
+fn records_of(rt: &impl Abort, alloc: Global, deeds: &[Deeds]) -> Vec<Record> {
+    let mut records = Vec::new(alloc);
+    for kept in deeds {
+        let record = Record {
+            examiner: kept.examiner,
+            steps: steps_of(rt, alloc, &kept.posts),
+        };
+        records.push(record).expect(rt, "there is memory");
+    }
+    records
+}
+
+#[test]
+fn a_block_is_written_for_what_is_new(rt: HostRuntime) {
+    let alloc = rt.alloc();
+    let stands = standing_in(&rt, alloc, &[FIRST, SECOND]);
+    assert!(rt;
+        stands.townships.len() == 2 && stands.parties.len() == 4 && stands.deeds.len() == 4
+    );
+    let records = records_of(&rt, alloc, &stands.deeds[1..]);
+    let stood = Stood {
+        townships: 1,
+        parties: 3,
+        records: 1,
+    };
+    let text = block(alloc, stood, &stands.townships, &stands.parties, &records).expect(
+        &rt,
+        "there is memory",
+    );
+    assert!(rt; text.as_slice() == SECOND.as_bytes());
+}
