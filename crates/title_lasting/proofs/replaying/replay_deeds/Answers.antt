@@ -1,0 +1,13 @@
+-- The replay stopped at the first record that can't stand.
+use Rattle.std.proofs.Common.{map}
+use Rattle.title_standing.specs.Records.{record_of}
+use Rattle.title_lasting.proofs.Refused.{refused_at}
+use Rattle.title_lasting.proofs.replaying.replay_deeds.Goals as goal
+
+pub returns-in-Some : goal.returns-in-Some
+returns-in-Some c = record {
+  replayed = refused_at c.replayed_records_are_committed.ensures.law c.kept_records_are_served_again.ensures.serial
+      c.args.townships.now (map record_of c.args.deeds.now) c.in_ok-refused.refused c.in-Some.place c.in_ok-desk.desk c.replay.new.desk
+      c.in_ok-desk.ensures.setting c.replay.ensures.setting c.in_ok-refused.ensures.told c.in-Some.is
+      c.is_serial.ensures.committed_records c.requires.short;
+}

@@ -1,0 +1,11 @@
+pub mod Refusals
+pub mod Openings
+pub mod Days
+pub mod DayLaws
+pub mod Lastings
+pub mod Faults
+pub mod Replays
+pub mod Opened
+pub mod Made
+pub mod Kept
+pub mod Tells
