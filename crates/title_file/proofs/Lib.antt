@@ -1,0 +1,4 @@
+mod BlockRows
+mod Doubts
+mod Walking
+mod Walks

@@ -1,0 +1,147 @@
+-- How a file's gates are found, block by block.
+use Rattle.std.proofs.Common.{◌≡◌, ℕ, ◌+◌, ◌≤◌, ◌<◌, List, [], ◌∷◌, ◌++◌, length, get_or, length-drop, take, drop, true, Ok}
+use Rattle.std.proofs.Common.{refl, sym, ◌∙◌, ap, subst, arith, length-append, take-append-drop, append_assoc, Option, None, Some}
+use Rattle.std.specs.List.{AllByRecursion, starts_with, flat_map}
+use Rattle.std.specs.Prelude.{◌==◌, nat_eq, IfSome, IfNone, IsErr}
+use Rattle.std.proofs.lemmas.List.{append-nil, drop_more, drop-drop, length-take-le, flat_map_more}
+use Rattle.std.proofs.lemmas.Slice.Eq.{starts_is}
+use Rattle.std.proofs.lemmas.Bool.{cond-true, cond-false, ne_eqb}
+use Rattle.std.proofs.lemmas.Bool.Decides.{Decides-eqb}
+use Rattle.title_journal.specs.Blocks.{AtGate, blocks_from, rows_in, counted, line_feed, open_gate, IsBlock, IsUnfinished}
+use Rattle.title_journal.specs.Rest.{IsTail}
+use Rattle.title_journal.specs.Laws.Reading.{all_before, some_blocks, unfinished_block}
+use Rattle.title_file.specs.Fronts.{AreGates, blocks_behind, front_of}
+
+-- the gate that was opened last is that of the last block
+abbrev pub IsLast : List ℕ → List (List ℕ) → Option ℕ → Type 0
+IsLast head blocks opened =
+    IfSome opened (λ place. (earlier : List (List ℕ)) × (last : List ℕ)
+    × (blocks ≡ earlier ++ last ∷ []) × (place ≡ length (front_of head earlier)))
+    × IfNone opened (blocks ≡ [])
+
+-- a file was walked up to a place
+pub record IsWalked (head file : List ℕ) (opened : Option ℕ) (place : ℕ) : Type 0 where
+  pub blocks : List (List ℕ)
+  pub starts : starts_with nat_eq file head ≡ true
+  pub within : place ≤ length file
+  pub place_is : place ≡ length (front_of head blocks)
+  pub behind : drop (length head) file ≡ flat_map counted blocks ++ drop place file
+  pub whole : AllByRecursion IsBlock blocks
+  pub last : IsLast head blocks opened
+
+pub walk_begun : (head file : List ℕ) → starts_with nat_eq file head ≡ true → IsWalked head file None (length head)
+walk_begun head file starts =
+    let is : file ≡ head ++ drop (length head) file = (starts_is Decides-eqb file head (starts_with nat_eq file head) refl).0 starts in
+    record {
+      blocks = [];
+      starts = starts;
+      within = omega (arith, ap length is, length-append head (drop (length head) file));
+      place_is = ap length (sym (append-nil head));
+      behind = refl;
+      whole = tt;
+      last = (tt, refl);
+    }
+
+-- a tail stands for nothing
+pub tail_is_nothing : (number : ℕ) (tail : List ℕ) → IsTail tail → blocks_from number AtGate tail ≡ Ok []
+tail_is_nothing number [] is = refl
+tail_is_nothing number (byte ∷ []) is = refl
+tail_is_nothing number (gate ∷ byte ∷ bytes) is = cond-false (gate == open_gate) _ _ (ne_eqb gate open_gate is)
+
+pub short_tail : (bytes : List ℕ) → length bytes ≤ 1 → IsTail bytes
+short_tail [] short = tt
+short_tail (byte ∷ []) short = tt
+short_tail (byte ∷ other ∷ bytes) short = absurd (omega arith)
+
+pub all_and_one : (blocks : List (List ℕ)) (block : List ℕ) → AllByRecursion IsBlock blocks → IsBlock block
+    → AllByRecursion IsBlock (blocks ++ block ∷ [])
+all_and_one [] block whole is = (is, tt)
+all_and_one (first ∷ blocks) block whole is = (whole.0, all_and_one blocks block whole.1 is)
+
+module _ (head file : List ℕ) (opened : Option ℕ) (place : ℕ) (walked : IsWalked head file opened place) where
+  abbrev number : ℕ
+  number = 2 + rows_in (flat_map counted walked.blocks)
+
+  stands_so_far : blocks_behind head file ≡ all_before walked.blocks (blocks_from number AtGate (drop place file))
+  stands_so_far = cond-true (starts_with nat_eq file head) _ _ walked.starts ∙ ap (blocks_from 2 AtGate) walked.behind
+      ∙ some_blocks 2 walked.blocks (drop place file) walked.whole
+
+  two_bytes : place + 1 < length file → drop place file ≡ get_or file place 0 ∷ get_or file (place + 1) 0 ∷ drop (place + 2) file
+  two_bytes within =
+      drop_more file place 0 (omega arith)
+      ∙ ap (λ (l : List ℕ). get_or file place 0 ∷ l) (drop_more file (place + 1) 0 within
+      ∙ ap (λ (n : ℕ). get_or file (place + 1) 0 ∷ drop n file) (omega arith))
+
+  -- what follows is a tail
+  ended : IsTail (drop place file) → AreGates head file (record { opened = opened; end = place })
+  ended ends = record {
+    blocks = walked.blocks;
+    stand = stands_so_far ∙ ap (all_before walked.blocks) (tail_is_nothing number (drop place file) ends)
+        ∙ ap Ok (append-nil walked.blocks);
+    opened = walked.last.0;
+    unopened = walked.last.1;
+    end = walked.place_is;
+    within = walked.within;
+  }
+
+  -- a gate that isn't open
+  pub shut : place + 1 < length file → (get_or file place 0 ≡ open_gate → ⊥)
+      → AreGates head file (record { opened = opened; end = place })
+  shut within is_not = ended (subst IsTail (sym (two_bytes within)) is_not)
+
+  -- a gate that is the last byte, or none
+  pub at_the_end : length file ≤ place + 1 → AreGates head file (record { opened = opened; end = place })
+  at_the_end short = ended (short_tail (drop place file) (omega (arith, length-drop place file)))
+
+  module _ (within : place + 1 < length file) (gate : get_or file place 0 ≡ open_gate) where
+    pub no_line_feed : (get_or file (place + 1) 0 ≡ line_feed → ⊥) → IsErr (blocks_behind head file)
+    no_line_feed is_not =
+        let feed = get_or file (place + 1) 0 in
+        subst IsErr (sym (stands_so_far
+        ∙ ap (λ (l : List ℕ). all_before walked.blocks (blocks_from number AtGate l)) (two_bytes within
+        ∙ ap (λ (g : ℕ). g ∷ feed ∷ drop (place + 2) file) gate)
+        ∙ ap (all_before walked.blocks) (cond-false (feed == line_feed) _ _ (ne_eqb feed line_feed is_not)))) refl
+
+    module _ (feed : get_or file (place + 1) 0 ≡ line_feed) where
+      gate_and_feed : drop place file ≡ open_gate ∷ line_feed ∷ drop (place + 2) file
+      gate_and_feed = two_bytes within ∙ ap (λ (g : ℕ). g ∷ get_or file (place + 1) 0 ∷ drop (place + 2) file) gate
+          ∙ ap (λ (b : ℕ). open_gate ∷ b ∷ drop (place + 2) file) feed
+
+      pub breaks_off : IsUnfinished (drop (place + 2) file) → IsErr (blocks_behind head file)
+      breaks_off unfinished =
+          subst IsErr (sym (stands_so_far
+          ∙ ap (λ (l : List ℕ). all_before walked.blocks (blocks_from number AtGate l)) gate_and_feed
+          ∙ ap (all_before walked.blocks) (unfinished_block (number + 1) (drop (place + 2) file) unfinished))) refl
+
+      pub one_block_more : (len : ℕ) → len ≤ length (drop (place + 2) file) → IsBlock (take len (drop (place + 2) file))
+          → IsWalked head file (Some place) (place + 2 + len)
+      one_block_more len fits is =
+          let rest = drop (place + 2) file in
+          let block = take len rest in
+          let more = walked.blocks ++ block ∷ [] in
+          let front_is : flat_map counted walked.blocks ++ counted block ≡ flat_map counted more =
+          flat_map_more counted [] walked.blocks block in
+          record {
+            blocks = more;
+            starts = walked.starts;
+            within = omega (arith, length-drop (place + 2) file);
+            place_is =
+                omega (
+                  arith,
+                  length-take-le len rest fits,
+                  walked.place_is,
+                  length-append head (flat_map counted walked.blocks),
+                  length-append head (flat_map counted more),
+                  length-append (flat_map counted walked.blocks) (counted block),
+                  ap length front_is,
+                );
+            behind =
+                walked.behind
+                ∙ ap (λ (l : List ℕ). flat_map counted walked.blocks ++ l) (gate_and_feed
+                ∙ ap (λ (l : List ℕ). open_gate ∷ line_feed ∷ l) (sym (take-append-drop len rest)))
+                ∙ sym (append_assoc (flat_map counted walked.blocks) (counted block) (drop len rest))
+                ∙ ap (λ (l : List ℕ). l ++ drop len rest) front_is
+                ∙ ap (λ (l : List ℕ). flat_map counted more ++ l) (drop-drop len (place + 2) file);
+            whole = all_and_one walked.blocks block walked.whole is;
+            last = ((walked.blocks, block, refl, walked.place_is), tt);
+          }

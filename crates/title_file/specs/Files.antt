@@ -1,0 +1,24 @@
+-- What a plant's file shows of itself.
+use Rattle.std.specs.Prelude.{ℕ, Bool, List}
+use Rattle.title_file.specs.Calls.{Call, seen, MayLeave, LeftSince, has_failed}
+use Rattle.title_file.specs.declared.plant_file.PlantFile.{PlantFile}
+
+-- the calls on it, the newest first
+abbrev pub calls_of : PlantFile → List Call
+calls_of file = file.record.calls
+
+-- the bytes that a read returns
+abbrev pub file_seen : PlantFile → List ℕ
+file_seen file = seen (calls_of file)
+
+-- what a crash may leave after all of its calls
+abbrev pub file_may_leave : PlantFile → List ℕ → Type 0
+file_may_leave file = MayLeave (calls_of file)
+
+-- what a crash since a call might have left
+abbrev pub file_left_since : PlantFile → ℕ → List ℕ → Type 0
+file_left_since file = LeftSince (calls_of file)
+
+-- whether a call has failed
+abbrev pub file_has_failed : PlantFile → Bool
+file_has_failed file = has_failed (calls_of file)

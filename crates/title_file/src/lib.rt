@@ -1,0 +1,13 @@
+//! Plants' files of the operating system: a cabinet whose files are disks, by a record of the calls that were made on each.
+#![tactic(auto)]
+
+mod drawer;
+mod gates;
+pub mod laws;
+mod plant_file;
+mod record;
+#[cfg(test)]
+mod tests;
+
+pub use drawer::Drawer;
+pub use plant_file::PlantFile;

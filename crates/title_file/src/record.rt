@@ -1,0 +1,50 @@
+//! The calls on a file, which only clauses read.
+
+ghost use Rattle.std.specs.Prelude.{◌≡◌, List, [], ◌∷◌};
+ghost use Rattle.std.specs.Borrow.{ftrue};
+ghost use Rattle.title_file.specs.Calls.{Call};
+ghost use Rattle.title_file.specs.Codes.{calls_code};
+
+use std::marker::Model;
+
+/// A call on a file, and whether the system has answered that it is done.
+#[derive(Clone, Copy)]
+pub(crate) enum Note<'a> {
+    /// The file was opened with these bytes, all of them on the disk.
+    Opened(&'a [u8]),
+    /// These bytes were written at this place.
+    Written(usize, &'a [u8], bool),
+    /// The file was cut to this length.
+    Cut(usize, bool),
+    /// The file was synced.
+    Synced(bool),
+    /// A read wasn't answered.
+    Unread,
+}
+
+/// The calls on a file, the newest first. It takes no memory.
+#[derive(Drop)]
+pub struct Record {
+    pub ghost calls: { List Call } by { calls_code },
+}
+
+impl Model for Record {
+    ghost also_owns = { λ _. ftrue };
+}
+
+impl Record {
+    ghost use Rattle.title_file.specs.Noted.{call_of};
+
+    pub(crate) fn new() -> Record
+        ensures { result.calls ≡ [] }
+    {
+        Record {}
+    }
+
+    /// The record with one call more.
+    pub(crate) fn then(&self, _note: &Note<'_>) -> Record
+        ensures { result.calls ≡ call_of _note.now ∷ self.now.calls }
+    {
+        Record {}
+    }
+}

@@ -1,0 +1,200 @@
+use crate::Drawer;
+use std::fs;
+use std::os::unix::fs::{MetadataExt, PermissionsExt, symlink};
+use std::time::UNIX_EPOCH;
+use title_disk::{Cabinet, Disk, DiskFault, OpenFault};
+
+const FRESH: &[u8] = b"fresh\n-";
+
+// An empty folder of this name.
+fn empty(rt: &HostRuntime, name: &str) -> bool {
+    let _ = fs::remove_dir_all(rt, name);
+    fs::create_dir(rt, name).is_ok()
+}
+
+// Whether the file of this name has these bytes.
+fn has(rt: &HostRuntime, path: &str, bytes: &[u8]) -> bool {
+    match fs::read(rt, path) {
+        Ok(found) => found.as_slice() == bytes,
+        Err(_) => false,
+    }
+}
+
+// How many names a folder has.
+fn count(rt: &HostRuntime, name: &str) -> usize {
+    match fs::read_dir(rt, name) {
+        Ok(names) => names.count(),
+        Err(_) => 0,
+    }
+}
+
+// Why a file isn't opened.
+fn refused(rt: &HostRuntime, path: &str) -> Option<OpenFault> {
+    match Drawer::new(rt, FRESH).open(rt.alloc(), path) {
+        Ok(_) => None,
+        Err(fault) => Some(fault),
+    }
+}
+
+// Whether a look at a file shows these bytes.
+fn shows(rt: &HostRuntime, path: &str, bytes: &[u8]) -> bool {
+    match Drawer::new(rt, FRESH).look(rt.alloc(), path) {
+        Ok(found) => found.as_slice() == bytes,
+        Err(_) => false,
+    }
+}
+
+// Whether a file with these bytes is written to when it is opened; none where it isn't opened, or has others then.
+fn writes_again(rt: &HostRuntime, path: &str, bytes: &[u8]) -> Option<bool> {
+    fs::write(rt, path, bytes).ok()?;
+    let file = fs::OpenOptions::new().write(true).open(rt, path).ok()?;
+    file.set_modified(UNIX_EPOCH).ok()?;
+    drop(file);
+    if refused(rt, path).is_some() || !has(rt, path, bytes) {
+        return None;
+    }
+    Some(fs::metadata(rt, path).ok()?.mtime() != 0)
+}
+
+#[test]
+fn a_file_is_made_and_in_use(rt: HostRuntime) {
+    assert!(rt; empty(&rt, "title_file_made"));
+    let mut file = Drawer::new(&rt, FRESH)
+        .open(rt.alloc(), "title_file_made/a.plant")
+        .expect(&rt, "the file is made");
+    assert!(rt; has(&rt, "title_file_made/a.plant", FRESH));
+    assert!(rt; count(&rt, "title_file_made") == 1);
+    assert!(rt; refused(&rt, "title_file_made/a.plant") == Some(OpenFault::InUse));
+    assert!(rt; shows(&rt, "title_file_made/a.plant", FRESH));
+    let bytes = file.read(rt.alloc()).expect(&rt, "the file is read");
+    assert!(rt; bytes.as_slice() == FRESH);
+    drop(file);
+    assert!(rt; refused(&rt, "title_file_made/a.plant") == None);
+    assert!(rt; fs::remove_dir_all(&rt, "title_file_made").is_ok());
+}
+
+#[test]
+fn what_is_written_stands_in_the_file(rt: HostRuntime) {
+    assert!(rt; empty(&rt, "title_file_written"));
+    assert!(rt; fs::write(&rt, "title_file_written/a.plant", b"0123456789".as_slice()).is_ok());
+    let mut file = Drawer::new(&rt, FRESH)
+        .open(rt.alloc(), "title_file_written/a.plant")
+        .expect(&rt, "the file is opened");
+    let bytes = file.read(rt.alloc()).expect(&rt, "the file is read");
+    assert!(rt; bytes.as_slice() == b"0123456789".as_slice());
+    file.cut(bytes.len() / 2).expect(&rt, "the file is cut");
+    file.sync().expect(&rt, "the file is synced");
+    assert!(rt; has(&rt, "title_file_written/a.plant", b"01234"));
+    file.write_at(0, b"ABC").expect(&rt, "the file is written");
+    assert!(rt; has(&rt, "title_file_written/a.plant", b"ABC34"));
+    file.write_at(0, b"abcdefgh")
+        .expect(&rt, "the file is written");
+    file.sync().expect(&rt, "the file is synced");
+    assert!(rt; has(&rt, "title_file_written/a.plant", b"abcdefgh"));
+    assert!(rt; matches!(file.read(rt.alloc()), Err(DiskFault::Failed)));
+    drop(file);
+    assert!(rt; shows(&rt, "title_file_written/a.plant", b"abcdefgh"));
+    assert!(rt; fs::remove_dir_all(&rt, "title_file_written").is_ok());
+}
+
+#[test]
+fn what_is_no_file_is_refused(rt: HostRuntime) {
+    assert!(rt; empty(&rt, "title_file_none"));
+    assert!(rt; fs::create_dir(&rt, "title_file_none/folder").is_ok());
+    assert!(rt; symlink(&rt, "nowhere", "title_file_none/loose").is_ok());
+    for path in [
+        "",
+        "title_file_none/folder",
+        "title_file_none/missing/a.plant",
+        "title_file_none/loose",
+        "/dev/null",
+    ] {
+        assert!(rt; refused(&rt, path) == Some(OpenFault::Unopened), "{path}");
+        assert!(rt; !shows(&rt, path, b""), "{path}");
+    }
+    assert!(rt; count(&rt, "title_file_none") == 2);
+    assert!(rt; fs::remove_dir_all(&rt, "title_file_none").is_ok());
+}
+
+#[test]
+fn a_file_is_no_ones_without_permission(rt: HostRuntime) {
+    assert!(rt; empty(&rt, "title_file_shut"));
+    assert!(rt; fs::write(&rt, "title_file_shut/a.plant", FRESH).is_ok());
+    let shut = fs::Permissions::from_mode(0o400);
+    assert!(rt; fs::set_permissions(&rt, "title_file_shut/a.plant", shut).is_ok());
+    // A superuser writes to it all the same.
+    let may_write = fs::OpenOptions::new()
+        .write(true)
+        .open(&rt, "title_file_shut/a.plant")
+        .is_ok();
+    let fault = if may_write {
+        None
+    } else {
+        Some(OpenFault::Unopened)
+    };
+    assert!(rt; refused(&rt, "title_file_shut/a.plant") == fault);
+    assert!(rt; shows(&rt, "title_file_shut/a.plant", FRESH));
+    assert!(rt; fs::remove_dir_all(&rt, "title_file_shut").is_ok());
+}
+
+#[test]
+fn a_link_leads_to_its_file(rt: HostRuntime) {
+    assert!(rt; empty(&rt, "title_file_link"));
+    assert!(rt; fs::write(&rt, "title_file_link/a.plant", b"here".as_slice()).is_ok());
+    assert!(rt; symlink(&rt, "a.plant", "title_file_link/b.plant").is_ok());
+    let mut file = Drawer::new(&rt, FRESH)
+        .open(rt.alloc(), "title_file_link/b.plant")
+        .expect(&rt, "the link is followed");
+    assert!(rt; refused(&rt, "title_file_link/a.plant") == Some(OpenFault::InUse));
+    file.write_at(0, b"HE").expect(&rt, "the file is written");
+    assert!(rt; has(&rt, "title_file_link/a.plant", b"HEre"));
+    drop(file);
+    assert!(rt; fs::remove_dir_all(&rt, "title_file_link").is_ok());
+}
+
+#[test]
+fn a_plant_is_written_as_it_was_read(rt: HostRuntime) {
+    assert!(rt; empty(&rt, "title_file_again"));
+    for bytes in [
+        FRESH,
+        b"fresh\n",
+        b"fresh\n+",
+        b"fresh\n?torn",
+        b"fresh\n+\nrow\nend,1\n-",
+        b"fresh\n+\nend,1\n",
+        b"fresh\n+\nrow\nend,1\n+\nend,2\n-\nrow\nen",
+    ] {
+        assert!(rt; writes_again(&rt, "title_file_again/a.plant", bytes) == Some(true));
+    }
+    for bytes in [
+        b"".as_slice(),
+        b"fresh",
+        b"other\n-",
+        b"fresh\n+row\nend,1\n-",
+        b"fresh\n+\nrow\nen",
+        b"fresh\n+\nend,1\n+\nrow\n-",
+    ] {
+        assert!(rt; writes_again(&rt, "title_file_again/a.plant", bytes) == Some(false));
+    }
+    assert!(rt; fs::remove_dir_all(&rt, "title_file_again").is_ok());
+}
+
+#[test]
+fn what_is_kept_comes_behind_what_was(rt: HostRuntime) {
+    assert!(rt; empty(&rt, "title_file_kept"));
+    let mut drawer = Drawer::new(&rt, FRESH);
+    for bytes in [b"torn".as_slice(), b" and torn again"] {
+        assert!(rt;
+            drawer
+                .keep(rt.alloc(), "title_file_kept/a.plant", bytes)
+                .is_ok()
+        );
+    }
+    assert!(rt; has(&rt, "title_file_kept/a.plant.cut", b"torn and torn again"));
+    assert!(rt;
+        drawer
+            .keep(rt.alloc(), "title_file_kept/missing/a.plant", b"torn")
+            .is_err()
+    );
+    assert!(rt; fs::remove_dir_all(&rt, "title_file_kept").is_ok());
+}
