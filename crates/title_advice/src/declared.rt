@@ -55,6 +55,12 @@ fn refused_township(script: &Script<'_>, n: u64, quoted: Quoted<'_>) -> Result<S
     if declared.count >= MOST_TOWNSHIPS as u64 {
         return format!(in script.alloc; "a plant has at most {MOST_TOWNSHIPS} townships");
     }
+    if script.is_kept {
+        return format!(in script.alloc;
+            "the township {quoted} is declared above already, \
+            or the plant has {MOST_TOWNSHIPS} with those above"
+        );
+    }
     format!(in script.alloc; "the township {quoted} is declared above already")
 }
 

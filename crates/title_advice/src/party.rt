@@ -31,7 +31,20 @@ fn is_declared(script: &Script<'_>, n: u64, name: &str) -> Result<bool, AllocErr
 // What is wrong with a step that names a party which no row declares.
 fn missing_advice(script: &Script<'_>, name: &str) -> Result<String, AllocError> {
     let quoted = Quoted(name);
+    if script.is_kept {
+        return format!(in script.alloc;
+            "no party named {quoted} is declared above or in the plant"
+        );
+    }
     format!(in script.alloc; "no party named {quoted} is declared above")
+}
+
+// What is wrong with a step whose parties no row declares, where the plant may declare one of them.
+fn either_advice(script: &Script<'_>, grantor: &str, grantee: &str) -> Result<String, AllocError> {
+    let (grantor, grantee) = (Quoted(grantor), Quoted(grantee));
+    format!(in script.alloc;
+        "a party named {grantor} or one named {grantee} is declared neither above nor in the plant"
+    )
 }
 
 // What is wrong with the n-th row, which has a party at fault.
@@ -45,9 +58,12 @@ pub(crate) fn party_advice(script: &Script<'_>, n: u64) -> Result<String, AllocE
     if field(&row, 0) == "party" {
         return again_advice(script, n, field(&row, 1));
     }
-    let grantor = field(&row, 3);
+    let (grantor, grantee) = (field(&row, 3), field(&row, 4));
     if is_declared(script, n, grantor)? {
-        return missing_advice(script, field(&row, 4));
+        return missing_advice(script, grantee);
+    }
+    if script.is_kept && !is_declared(script, n, grantee)? {
+        return either_advice(script, grantor, grantee);
     }
     missing_advice(script, grantor)
 }

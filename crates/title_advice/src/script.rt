@@ -7,11 +7,12 @@ use csv::{ByteRecord, ByteRecordsIntoIter, ReaderBuilder, StringRecord};
 use std::alloc::{AllocError, Global};
 use title_plan::{Schedule, ScriptFault};
 
-/// The bytes of a script, and how its transactions come.
+/// The bytes of a script, how its transactions come, and whether it goes on from what stands in a plant's file.
 #[derive(Clone, Copy)]
 pub struct Script<'a> {
     pub alloc: Global,
     pub schedule: Schedule,
+    pub is_kept: bool,
     pub bytes: &'a [u8],
 }
 

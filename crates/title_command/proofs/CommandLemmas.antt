@@ -12,10 +12,10 @@ use Rattle.std.proofs.lemmas.Slice.Eq.{bytes_eq-Decides}
 use Rattle.clap.specs.Walk.{Row, Text, answers_to, first_of, has_row, nothing_held, rows_after, rows_of, stop_after, walk_from}
 use Rattle.clap.specs.Simple.{Shape, argument_words, built, entered, label_of, names_of, rows_at, subcommand_of, subcommand_rows}
 use Rattle.clap.specs.Simple.{subcommand_rows_of}
-use Rattle.clap.specs.Kinds.{HasKind, IsAmong, Kinds, value_kinds}
+use Rattle.clap.specs.Kinds.{HasKind, IsAmong, value_kinds}
 use Rattle.clap.specs.Takes.{is_given}
 use Rattle.clap.specs.Faults.{check_fault, entered_fault, fault_of, level_fault, walk_fault}
-use Rattle.clap.specs.Values.{IsUnsignedIn, kind_of, refused_kind}
+use Rattle.clap.specs.Values.{IsUnsignedIn, bool_text, kind_of, refused_kind}
 use Rattle.clap.specs.ValueTests.{accepts}
 use Rattle.clap.proofs.WalkLemmas.{one_text-rows}
 use Rattle.clap.proofs.ValueTestLemmas.{accepts-Accepts}
@@ -30,10 +30,16 @@ use Rattle.clap.specs.declared.parser.matches.SubCommand.{SubCommand}
 use Rattle.clap.specs.declared.parser.matches.ArgMatches.TheViews.{out-ArgMatches, out-SubCommand}
 use Rattle.title_command.specs.declared.choice.LineFault.{LineFault}
 use Rattle.title_command.specs.declared.choice.LineFault.TheVariants.{Help, Bad, Memory}
-use Rattle.title_command.specs.CommandLine.{Explains, HasNumber, IsFaultFor, IsNumberOf, IsReadable, command, default_examiners}
-use Rattle.title_command.specs.CommandLine.{default_tries, most_examiners, most_tries, tract}
-use Rattle.title_command.proofs.ReadRows.{first_read, level_gives}
+use Rattle.title_command.specs.CommandLine.{Explains, HasFlag, HasNumber, IsAfter, IsFaultFor, IsNumberOf, IsReadable, MayHavePlace}
+use Rattle.title_command.specs.CommandLine.{command, default_examiners, default_tries, most_examiners, most_place, most_tries, tract}
+use Rattle.title_command.proofs.ReadRows.{first_read, level_gives, maybe_read}
 use Rattle.title_command.proofs.ValueRows.{Each, Fit, KeepsValues, found_has, level_keeps, no_fault}
+
+-- ---- names
+
+-- two names that a test tells apart differ
+pub differ : (a b : Text) → false ≡ bytes_eq a b → a ≡ b → ⊥
+differ a b e same = true≢false (sym ((bytes_eq-Decides a b).1 same) ∙ sym e)
 
 -- ---- each subcommand has the values that its line takes from it
 
@@ -64,10 +70,10 @@ any id text = Unit {0}
 tract_level : Level (at 3)
 tract_level words e =
     let rows = rows_after (at 3).rules [] words in
-    let kept = level_keeps any (at 3) words (inl (refl, le_refl 1, refl, (λ v ok. tt), tt), (inr (refl, refl), tt)) e in
+    let kept = level_keeps any (at 3) words (inl (refl, le_refl 1, refl, (λ v ok. tt), tt), (inr (inr (refl, refl)), tt)) e in
     let has = given_row (codes "TEXT") rows (given rows (is_given (codes "TEXT") rows) refl kept.1) in
     let read = first_read any (codes "TEXT") rows has kept.0 in
-    inr (inr (inr (refl, rw read.1 refl)))
+    inr (inr (inr (inl (refl, rw read.1 refl))))
   where
     given : (rows : List Row) (b : Bool) → is_given (codes "TEXT") rows ≡ b → check_fault (at 3) rows false ≡ []
         → is_given (codes "TEXT") rows ≡ true
@@ -102,7 +108,7 @@ office_level words e =
     let rows = rows_after (at 2).rules [] words in
     let rules : Each (KeepsValues numbers) (at 2).rules = (
       inl (refl, le_refl 1, refl, examiners_pass, (examiners_pass default_examiners refl, tt)),
-      (inl (refl, le_refl 1, refl, tries_pass, (tries_pass default_tries refl, tt)), (inr (refl, refl), tt)),
+      (inl (refl, le_refl 1, refl, tries_pass, (tries_pass default_tries refl, tt)), (inr (inr (refl, refl)), tt)),
     ) in
     let kept = level_keeps numbers (at 2) words rules e in
     let gives = level_gives (at 2).rules words in
@@ -114,9 +120,69 @@ office_level words e =
       (tries.0, tries.1, tries.2, tries.3.1 refl),
     )))
 
+-- a number of 64 bits fits the expected place
+abbrev places : Fit
+places id text = id ≡ codes "after" → IsUnsignedIn 0 most_place text
+
+-- a command that serves a script, without a fault, has its place, if it has one
+place_rows : (s : Shape) → Each (KeepsValues places) s.rules → (words : List Text)
+    → level_fault s [] nothing_held words false [] ≡ [] → MayHavePlace (rows_after s.rules [] words)
+place_rows s rules words e =
+    let kept = level_keeps places s words rules e in
+    elim (maybe_read places (codes "after") (rows_after s.rules [] words) kept.0) [
+      | inl none ↦ inl none
+      | inr read ↦ inr (read.0, read.1, read.2, read.3 refl)
+    ]
+
+place_rules : Each (KeepsValues places) (at 0).rules
+place_rules = (
+  inl (refl, le_refl 1, refl, (λ v ok same. absurd (differ (codes "plant") (codes "after") refl same)), tt),
+  (inl (refl, le_refl 1, refl, (λ v ok same. passes 0 most_place v ok), tt), (inr (inr (refl, refl)), tt)),
+)
+
+run_level : Level (at 0)
+run_level words e = inl (refl, place_rows (at 0) place_rules words e)
+
+alone_level : Level (at 1)
+alone_level words e = inr (inl (refl, place_rows (at 1) place_rules words e))
+
+-- the text of true or of false fits the flag
+abbrev flags : Fit
+flags id text = id ≡ codes "script" → (b : Bool) × (text ≡ bool_text b)
+
+-- `check` without a fault has its file and its flag
+check_level : Level (at 4)
+check_level words e =
+    let rows = rows_after (at 4).rules [] words in
+    let rules : Each (KeepsValues flags) (at 4).rules = (
+      inl (refl, le_refl 1, refl, (λ v ok same. absurd (differ (codes "FILE") (codes "script") refl same)), tt),
+      (
+        inr (inl (refl, (refl, refl), refl, (le_refl 1, ((λ same. (true, refl)), tt)), ((λ same. (false, refl)), tt))),
+        (inr (inr (refl, refl)), tt),
+      ),
+    ) in
+    let kept = level_keeps flags (at 4) words rules e in
+    let gives = level_gives (at 4).rules words in
+    let has = given_row (codes "FILE") rows (given rows (is_given (codes "FILE") rows) refl kept.1) in
+    let file = first_read flags (codes "FILE") rows has kept.0 in
+    let script = first_read flags (codes "script") rows (gives.1.0 (le_refl 1)) kept.0 in
+    let flag = script.3 refl in
+    inr (inr (inr (inr (
+      refl,
+      rw file.1 refl,
+      (flag.0, script.1 ∙ ap (λ (t : Text). Some t) flag.1, script.2 ∙ ap (λ (t : Text). Some t) flag.1),
+    ))))
+  where
+    given : (rows : List Row) (b : Bool) → is_given (codes "FILE") rows ≡ b → check_fault (at 4) rows false ≡ []
+        → is_given (codes "FILE") rows ≡ true
+    given rows true is ok = is
+    given rows false is ok =
+        let bad = rw is at ok in
+        absurd (cc)
+
 -- each subcommand without a fault is readable
 levels : Each Level (built command).subs
-levels = ((λ words e. inl refl), ((λ words e. inr (inl refl)), (office_level, (tract_level, tt))))
+levels = (run_level, (alone_level, (office_level, (tract_level, (check_level, tt)))))
 
 -- the subcommand that was entered is one of these
 entered_reads : (p : Text × List Text) (o : Option Shape) → ((s : Shape) → o ≡ Some s → Level s)
@@ -170,43 +236,73 @@ met_is m name rows e f = go (subcommand_rows_of m) (e ∙ name_is (out-ArgMatche
 
 -- ---- the dispatch on a name
 
--- the other names are not `office`
-pub run_is_not : codes "run" ≡ codes "office" → ⊥
-run_is_not e = cc
+-- so one that is found to be the first isn't the second
+clash : (name a b : Text) → true ≡ bytes_eq name a → bytes_eq a b ≡ false → name ≡ b → ⊥
+clash name a b is other same =
+    true≢false (sym ((bytes_eq-Decides a b).1 (sym ((bytes_eq-Decides name a).0 (sym is)) ∙ same)) ∙ other)
 
-pub alone_is_not : codes "alone" ≡ codes "office" → ⊥
-alone_is_not e = cc
+-- the values of a name that is `run`
+pub run_reads : (name : Text) (rows : List Row) → true ≡ bytes_eq name (codes "run") → IsReadable name rows
+    → (name ≡ codes "run") × MayHavePlace rows
+run_reads name rows is (inl run) = run
+run_reads name rows is (inr (inl other)) =
+    absurd (clash name (codes "run") (codes "alone") is refl other.0)
+run_reads name rows is (inr (inr (inl other))) =
+    absurd (clash name (codes "run") (codes "office") is refl other.0)
+run_reads name rows is (inr (inr (inr (inl other)))) =
+    absurd (clash name (codes "run") (codes "tract") is refl other.0)
+run_reads name rows is (inr (inr (inr (inr other)))) =
+    absurd (clash name (codes "run") (codes "check") is refl other.0)
 
-pub tract_is_not : codes "tract" ≡ codes "office" → ⊥
-tract_is_not e = cc
+-- and of one that is `alone`
+pub alone_reads : (name : Text) (rows : List Row) → true ≡ bytes_eq name (codes "alone") → IsReadable name rows
+    → (name ≡ codes "alone") × MayHavePlace rows
+alone_reads name rows is (inl other) =
+    absurd (clash name (codes "alone") (codes "run") is refl other.0)
+alone_reads name rows is (inr (inl alone)) = alone
+alone_reads name rows is (inr (inr (inl other))) =
+    absurd (clash name (codes "alone") (codes "office") is refl other.0)
+alone_reads name rows is (inr (inr (inr (inl other)))) =
+    absurd (clash name (codes "alone") (codes "tract") is refl other.0)
+alone_reads name rows is (inr (inr (inr (inr other)))) =
+    absurd (clash name (codes "alone") (codes "check") is refl other.0)
 
--- two names that a test tells apart differ
-differ : (a b : Text) → false ≡ bytes_eq a b → a ≡ b → ⊥
-differ a b e same = true≢false (sym ((bytes_eq-Decides a b).1 same) ∙ sym e)
-
--- the values of a name that is `office`
+-- and of one that is `office`
 pub office_reads : (name : Text) (rows : List Row) → true ≡ bytes_eq name (codes "office") → IsReadable name rows
     → (name ≡ codes "office") × HasNumber (codes "examiners") most_examiners rows × HasNumber (codes "tries") most_tries rows
-office_reads name rows is readable = go readable
-  where
-    same : name ≡ codes "office"
-    same = (bytes_eq-Decides name (codes "office")).0 (sym is)
+office_reads name rows is (inl other) =
+    absurd (clash name (codes "office") (codes "run") is refl other.0)
+office_reads name rows is (inr (inl other)) =
+    absurd (clash name (codes "office") (codes "alone") is refl other.0)
+office_reads name rows is (inr (inr (inl office))) = office
+office_reads name rows is (inr (inr (inr (inl other)))) =
+    absurd (clash name (codes "office") (codes "tract") is refl other.0)
+office_reads name rows is (inr (inr (inr (inr other)))) =
+    absurd (clash name (codes "office") (codes "check") is refl other.0)
 
-    go : IsReadable name rows
-        → (name ≡ codes "office") × HasNumber (codes "examiners") most_examiners rows × HasNumber (codes "tries") most_tries rows
-    go (inl other) = absurd (run_is_not (sym other ∙ same))
-    go (inr (inl other)) = absurd (alone_is_not (sym other ∙ same))
-    go (inr (inr (inl office))) = office
-    go (inr (inr (inr other))) = absurd (tract_is_not (sym other.0 ∙ same))
+-- and of one that is `check`
+pub check_reads : (name : Text) (rows : List Row) → true ≡ bytes_eq name (codes "check") → IsReadable name rows
+    → (name ≡ codes "check") × (is_some (first_of (codes "FILE") rows) ≡ true) × HasFlag (codes "script") rows
+check_reads name rows is (inl other) =
+    absurd (clash name (codes "check") (codes "run") is refl other.0)
+check_reads name rows is (inr (inl other)) =
+    absurd (clash name (codes "check") (codes "alone") is refl other.0)
+check_reads name rows is (inr (inr (inl other))) =
+    absurd (clash name (codes "check") (codes "office") is refl other.0)
+check_reads name rows is (inr (inr (inr (inl other)))) =
+    absurd (clash name (codes "check") (codes "tract") is refl other.0)
+check_reads name rows is (inr (inr (inr (inr check)))) = check
 
--- a name that is none of the first three is that of `tract`
+-- a name that is none of these is that of `tract`
 pub tract_reads : (name : Text) (rows : List Row) → false ≡ bytes_eq name (codes "run") → false ≡ bytes_eq name (codes "alone")
-    → false ≡ bytes_eq name (codes "office") → IsReadable name rows
+    → false ≡ bytes_eq name (codes "office") → false ≡ bytes_eq name (codes "check") → IsReadable name rows
     → (name ≡ codes "tract") × (is_some (first_of (codes "TEXT") rows) ≡ true)
-tract_reads name rows not_run not_alone not_office (inl is) = absurd (differ name (codes "run") not_run is)
-tract_reads name rows not_run not_alone not_office (inr (inl is)) = absurd (differ name (codes "alone") not_alone is)
-tract_reads name rows not_run not_alone not_office (inr (inr (inl is))) = absurd (differ name (codes "office") not_office is.0)
-tract_reads name rows not_run not_alone not_office (inr (inr (inr is))) = is
+tract_reads name rows not_run not_alone not_office not_check (inl is) = absurd (differ name (codes "run") not_run is.0)
+tract_reads name rows not_run not_alone not_office not_check (inr (inl is)) = absurd (differ name (codes "alone") not_alone is.0)
+tract_reads name rows not_run not_alone not_office not_check (inr (inr (inl is))) = absurd (differ name (codes "office") not_office is.0)
+tract_reads name rows not_run not_alone not_office not_check (inr (inr (inr (inl is)))) = is
+tract_reads name rows not_run not_alone not_office not_check (inr (inr (inr (inr is)))) =
+    absurd (differ name (codes "check") not_check is.0)
 
 -- ---- a number that is read
 
@@ -214,13 +310,13 @@ tract_reads name rows not_run not_alone not_office (inr (inr (inr is))) = is
 abbrev pub IsRead : Text → ℕ → List Row → ℕ → Type 0
 IsRead id most rows n = IsNumberOf id rows n × ((1 ≤ n) × (n ≤ most))
 
--- how a number of 32 bits is read from a text
-abbrev Gives : Text → Result ℕ ParseIntError → Type 0
-Gives t r = ParsesUnsigned 32 10 t r × ExplainsUnsignedError 10 t r × HasUnsignedDigitsIfOk t r
+-- how a number of so many bits is read from a text
+abbrev Gives : ℕ → Text → Result ℕ ParseIntError → Type 0
+Gives bits t r = ParsesUnsigned bits 10 t r × ExplainsUnsignedError 10 t r × HasUnsignedDigitsIfOk t r
 
 -- a text that is a number in its range is read as that number, where the range fits 32 bits
 number_read : (id : Text) (most : ℕ) (rows : List Row) (got : Option ℕ) → most < 2 ^ 32
-    → (given : HasNumber id most rows) → ReadsOne Gives given.0 got
+    → (given : HasNumber id most rows) → ReadsOne (Gives 32) given.0 got
     → (n : ℕ) × (got ≡ Some n) × IsRead id most rows n
 number_read id most rows (Some n) fits (text, first, one, (numeral, wide, low, high)) (is, why, digits) =
     (n, refl, ((text, first, numeral, is.1), (rw is.1 low, rw is.1 high)))
@@ -229,7 +325,7 @@ number_read id most rows None fits (text, first, one, (numeral, wide, low, high)
 
 -- so is the number of an option
 pub option_read : (id : Text) (most : ℕ) (found : Found) (got : Option ℕ) → most < 2 ^ 32 → HasNumber id most (rows_of found)
-    → ((t : Text) → one_text found id ≡ Some t → ReadsOne Gives t got)
+    → ((t : Text) → one_text found id ≡ Some t → ReadsOne (Gives 32) t got)
     → (n : ℕ) × (got ≡ Some n) × IsRead id most (rows_of found) n
 option_read id most found got fits given reads =
     number_read id most (rows_of found) got fits given (reads given.0 (one_text-rows found id ∙ given.2))
@@ -240,6 +336,37 @@ pub number_got : (id : Text) (most : ℕ) (rows : List Row) (got : Option ℕ) (
 number_got id most rows got m (n, some, read) same =
     subst (λ (k : ℕ). IsRead id most rows k) (ap (λ (o : Option ℕ). unwrap_or o 0) (sym some ∙ same)) read
 
+-- ---- the place that is expected
+
+-- the place is read as the number that the words say, if they say one
+pub place_read : (found : Found) (got : Option ℕ) → MayHavePlace (rows_of found)
+    → (one_text found (codes "after") ≡ None → got ≡ None)
+    → ((t : Text) → one_text found (codes "after") ≡ Some t → ReadsOne (Gives 64) t got) → IsAfter (rows_of found) got
+place_read found got (inl none) unsaid reads =
+    subst (λ (o : Option ℕ). IsAfter (rows_of found) o) (sym (unsaid (one_text-rows found (codes "after") ∙ none.1))) none.0
+place_read found got (inr (text, first, one, (numeral, wide, low, high))) unsaid reads =
+    go got (reads text (one_text-rows found (codes "after") ∙ one))
+  where
+    go : (o : Option ℕ) → ReadsOne (Gives 64) text o → IsAfter (rows_of found) o
+    go (Some n) (is, why, digits) = (text, first, numeral, is.1)
+    go None (error, (is, why, digits)) = absurd (is (numeral, wide))
+
+-- a place is expected where one is read
+pub place_said : (rows : List Row) (n : ℕ) → IsAfter rows (Some n) → is_some (first_of (codes "after") rows) ≡ true
+place_said rows n (text, first, numeral, is) = ap is_some first
+
+-- ---- the flag
+
+-- the flag is read as the words say
+pub flag_read : (found : Found) (got : Bool) → HasFlag (codes "script") (rows_of found)
+    → (one_text found (codes "script") ≡ Some (codes "true") → got ≡ true)
+    → (one_text found (codes "script") ≡ Some (codes "false") → got ≡ false)
+    → first_of (codes "script") (rows_of found) ≡ Some (bool_text got)
+flag_read found got (true, first, one) is isnt =
+    first ∙ ap (λ (b : Bool). Some (bool_text b)) (sym (is (one_text-rows found (codes "script") ∙ one)))
+flag_read found got (false, first, one) is isnt =
+    first ∙ ap (λ (b : Bool). Some (bool_text b)) (sym (isnt (one_text-rows found (codes "script") ∙ one)))
+
 -- ---- the fault that stands for an error
 
 -- memory is the fault of one kind of error alone
@@ -249,10 +376,10 @@ memory_is kind (Bad error) is memory = absurd (is.1 memory)
 memory_is kind Memory is memory = refl
 
 -- an error of a kind that clap may give for the words explains its fault
-pub explains : (kinds : Kinds) (error : Error) (fault : LineFault) → HasKind kinds error → IsFaultFor (kind_of error) fault
-    → Explains kinds fault
-explains kinds error Memory among is = tt
-explains kinds error (Help shown) (inl memory) is = absurd (cc)
-explains kinds error (Help shown) (inr among) is = subst (λ (kind : ErrorKind). IsAmong kind kinds) is among
-explains kinds error (Bad shown) (inl memory) is = absurd (is.1 memory)
-explains kinds error (Bad shown) (inr among) is = (kind_of error, is.0, among)
+pub explains : (words : List Text) (error : Error) (fault : LineFault) → HasKind (fault_of command words) error
+    → IsFaultFor (kind_of error) fault → Explains words fault
+explains words error Memory among is = tt
+explains words error (Help shown) (inl memory) is = absurd (cc)
+explains words error (Help shown) (inr among) is = subst (λ (kind : ErrorKind). IsAmong kind (fault_of command words)) is among
+explains words error (Bad shown) (inl memory) is = absurd (is.1 memory)
+explains words error (Bad shown) (inr among) is = inl (kind_of error, is.0, among)

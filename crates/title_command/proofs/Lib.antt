@@ -2,3 +2,4 @@ mod ValueRows
 mod ReadRows
 mod CommandLemmas
 mod OfficeWords
+mod KeptWords

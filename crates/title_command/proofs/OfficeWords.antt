@@ -6,16 +6,17 @@ use Rattle.clap.proofs.OnLiterals.{clap_on_literals}
 use Rattle.clap.specs.Walk.{Row, Text, first_of, rows_after}
 use Rattle.clap.specs.declared.error.kind.ErrorKind.TheVariants.{ArgumentConflict, UnknownArgument, ValueValidation}
 use Rattle.title_command.specs.declared.choice.Line.{Line}
-use Rattle.title_command.specs.declared.choice.Line.TheVariants.{Run, Alone, Office, Tract}
+use Rattle.title_command.specs.declared.choice.Line.TheVariants.{Run, Alone, Office, Tract, Kept, Check}
+use Rattle.title_command.specs.declared.choice.Work.TheVariants as work
 use Rattle.title_command.specs.CommandLine.{IsLine, IsNumberOf, OfficeAtMost, OfficeByDefault, Refuses}
-use Rattle.title_command.proofs.CommandLemmas.{at, run_is_not, alone_is_not, tract_is_not}
+use Rattle.title_command.proofs.CommandLemmas.{at, differ}
 
 -- the number that a text writes
-abbrev number : Text → ℕ
+abbrev pub number : Text → ℕ
 number text = digits_value 10 (without_leading_plus text)
 
 -- the number of an argument is that of its text
-number_is : (id : Text) (rows : List Row) (text : Text) (n : ℕ) → first_of id rows ≡ Some text → IsNumberOf id rows n → n ≡ number text
+pub number_is : (id : Text) (rows : List Row) (text : Text) (n : ℕ) → first_of id rows ≡ Some text → IsNumberOf id rows n → n ≡ number text
 number_is id rows text n first (other, same, numeral, is) =
     is ∙ ap (λ (o : Option Text). number (unwrap_or o [])) (sym same ∙ first)
 
@@ -23,11 +24,14 @@ number_is id rows text n first (other, same, numeral, is) =
 office_is : (rows : List Row) (examiners tries : Text) → first_of (codes "examiners") rows ≡ Some examiners
     → first_of (codes "tries") rows ≡ Some tries → (line : Line) → IsLine (codes "office") rows line
     → line ≡ Office (number examiners) (number tries)
-office_is rows examiners tries first second Run is = absurd (run_is_not (sym is))
-office_is rows examiners tries first second Alone is = absurd (alone_is_not (sym is))
+office_is rows examiners tries first second Run is = absurd (differ (codes "office") (codes "run") refl is.0)
+office_is rows examiners tries first second Alone is = absurd (differ (codes "office") (codes "alone") refl is.0)
 office_is rows examiners tries first second (Office e t) is =
     ap₂ Office (number_is (codes "examiners") rows examiners e first is.1) (number_is (codes "tries") rows tries t second is.2)
-office_is rows examiners tries first second (Tract text) is = absurd (tract_is_not (sym is.0))
+office_is rows examiners tries first second (Tract text) is = absurd (differ (codes "office") (codes "tract") refl is.0)
+office_is rows examiners tries first second (Kept plant after work.Run) is = absurd (differ (codes "office") (codes "run") refl is.0)
+office_is rows examiners tries first second (Kept plant after work.Alone) is = absurd (differ (codes "office") (codes "alone") refl is.0)
+office_is rows examiners tries first second (Check file as_script) is = absurd (differ (codes "office") (codes "check") refl is.0)
 
 -- `office` alone
 pub by_default : OfficeByDefault

@@ -1,6 +1,6 @@
 -- The rows at the end of a level of clap's parse: an argument with a default has one, and a getter reads a value of it that fits.
 use Rattle.std.proofs.Common.{◌≡◌, ◌<◌, ◌||◌, subst, true, false, true≢false, refl, sym, ap, arith, List, [], ◌∷◌, ◌++◌, Bool, length}
-use Rattle.std.proofs.Common.{Option, Some}
+use Rattle.std.proofs.Common.{◌⊎◌, inl, inr, Option, Some, None}
 use Rattle.std.specs.Prelude.{if◌then◌else◌, find, fold, option_and_then, option_map, slice_get}
 use Rattle.std.specs.Str.{bytes_eq}
 use Rattle.std.proofs.lemmas.Slice.Eq.{bytes_eq-Decides}
@@ -106,3 +106,28 @@ first_read P id (r ∷ rs) e h = go (bytes_eq r.id id) refl (first_read P id rs)
     go false is rest =
         let there : has_row id rs ≡ true = rw is at e in
         rw is (rest there h.1)
+
+-- an argument that has no row has no value
+none_read : (id : Text) (rows : List Row) → has_row id rows ≡ false → (first_of id rows ≡ None) × (one_of id rows ≡ None)
+none_read id [] e = (refl, refl)
+none_read id (r ∷ rs) e = go (bytes_eq r.id id) refl (none_read id rs) e
+  where
+    Unread : Option Row → Type 0
+    Unread o =
+        (option_and_then (λ (x : Row). slice_get x.values 0) o ≡ None) × (option_and_then row_text o ≡ None)
+
+    go : (b : Bool) → bytes_eq r.id id ≡ b → (has_row id rs ≡ false → (first_of id rs ≡ None) × (one_of id rs ≡ None))
+        → (b || has_row id rs) ≡ false → Unread (find (λ (x : Row). bytes_eq x.id id) (r ∷ rs))
+    go true is rest none = absurd (true≢false none)
+    go false is rest none = rw is (rest none)
+
+-- an argument has no value, or its first value is as it is written, and it fits
+pub maybe_read : (P : Fit) (id : Text) (rows : List Row) → HasValues P rows
+    → ((first_of id rows ≡ None) × (one_of id rows ≡ None))
+    ⊎ ((text : Text) × (first_of id rows ≡ Some text) × (one_of id rows ≡ Some text) × P id text)
+maybe_read P id rows h = go (has_row id rows) refl
+  where
+    go : (b : Bool) → has_row id rows ≡ b → ((first_of id rows ≡ None) × (one_of id rows ≡ None))
+        ⊎ ((text : Text) × (first_of id rows ≡ Some text) × (one_of id rows ≡ Some text) × P id text)
+    go true is = inr (first_read P id rows is h)
+    go false is = inl (none_read id rows is)

@@ -1,10 +1,11 @@
 -- The rows of a level of clap's parse without a fault: each has a value that fits its argument, so a getter reads one.
-use Rattle.std.proofs.Common.{◌≡◌, ◌<◌, ◌≤◌, ◌&&◌, ◌⊎◌, inl, inr, is_some, subst, ℕ, true, false, zero, suc, refl, sym, arith, List, []}
+use Rattle.std.proofs.Common.{◌==◌, ◌≡◌, ◌<◌, ◌≤◌, ◌&&◌, ◌⊎◌, inl, inr, is_some, subst, ℕ, true}
+use Rattle.std.proofs.Common.{false, zero, suc, refl, sym, arith, List, []}
 use Rattle.std.proofs.Common.{◌∷◌, ◌++◌, Bool, length, drop, Option, Some, None, length-append}
 use Rattle.std.specs.Prelude.{if◌then◌else◌, nat_lt, find, fold, slice_get, encode_utf8}
 use Rattle.std.specs.Option.{option_map_or}
 use Rattle.std.specs.Str.{bytes_eq, chars}
-use Rattle.std.proofs.lemmas.Bool.{ltb-false}
+use Rattle.std.proofs.lemmas.Bool.{eqb-true, ltb-false}
 use Rattle.std.proofs.lemmas.Slice.Eq.{bytes_eq-Decides}
 use Rattle.clap.specs.Lexer.{long_of, short_of}
 use Rattle.clap.specs.Facts.{parser_of_value, unwrap_or_range}
@@ -22,8 +23,8 @@ use Rattle.clap.specs.Faults.{level_fault, long_fault, option_fault, other_fault
 use Rattle.clap.specs.Faults.{settle_fault, short_fault, step_fault, stray_fault, turn_fault, use_fault, walk_fault, word_fault}
 use Rattle.clap.specs.Simple.{Shape}
 use Rattle.clap.specs.declared.builder.action.ArgAction.{ArgAction}
-use Rattle.clap.specs.declared.builder.action.ArgAction.TheVariants.{Set, Help}
-use Rattle.clap.specs.declared.error.kind.ErrorKind.TheVariants.{TooManyValues}
+use Rattle.clap.specs.declared.builder.action.ArgAction.TheVariants.{Set, SetTrue, Help}
+use Rattle.clap.specs.declared.error.kind.ErrorKind.TheVariants.{TooManyValues, WrongNumberOfValues}
 use Rattle.clap.specs.declared.builder.value_parser.Reading.{Reading}
 use Rattle.clap.specs.declared.builder.value_parser.Reading.TheVariants.{AsWritten}
 use Rattle.clap.specs.declared.parser.matches.ValueSource.{ValueSource}
@@ -77,9 +78,17 @@ SetsValues P a = (action_of a ≡ Set)
     × ((v : Text) → value_kinds a.ignore_case (parser_of_value a.parser) v ≡ [] → P a.id v)
     × Each (P a.id) a.defaults
 
+-- a use of the argument is a flag: it has no value, and sets one that fits in its place
+abbrev pub SetsFlag : Fit → Rule → Type 0
+SetsFlag P a = (action_of a ≡ SetTrue)
+    × (((unwrap_or_range a.range).start_inclusive ≡ 0) × (most_values a ≡ 0))
+    × (reading_by a ≡ AsWritten)
+    × ((0 < length a.missing) × Each (P a.id) a.missing)
+    × Each (P a.id) a.defaults
+
 -- a use of the argument does so, or asks for help
 abbrev pub KeepsValues : Fit → Rule → Type 0
-KeepsValues P a = SetsValues P a ⊎ ((action_of a ≡ Help) × (a.defaults ≡ []))
+KeepsValues P a = SetsValues P a ⊎ SetsFlag P a ⊎ ((action_of a ≡ Help) × (a.defaults ≡ []))
 
 -- where there is no first fault and then no second, there is neither
 pub no_fault : (a b : Kinds) → or_else a b ≡ [] → (a ≡ []) × (b ≡ [])
@@ -131,6 +140,14 @@ some_values least most [] one e = go (nat_lt 0 least) refl
         absurd (omega arith)
 some_values least most (v ∷ vs) one e = omega arith
 
+-- a flag that has a value is at fault
+no_value : (vs : List Text) → range_kinds 0 0 (length vs) ≡ [] → length vs ≡ 0
+no_value vs e = go (0 == length vs) refl e
+  where
+    go : (b : Bool) → (0 == length vs) ≡ b → (if b then [] else WrongNumberOfValues ∷ []) ≡ [] → length vs ≡ 0
+    go true is ok = sym (eqb-true 0 (length vs) is)
+    go false is ok = absurd (cc)
+
 -- values that the parser of an argument lets through fit it
 fitting : (P : Fit) (a : Rule) (vs : List Text)
     → ((v : Text) → value_kinds a.ignore_case (parser_of_value a.parser) v ≡ [] → P a.id v)
@@ -158,7 +175,20 @@ used_keeps P a again values rows (inl set) e h =
         subst (λ (x : ArgAction). HasValues P (used_as x a.id (reading_by a) (v ∷ vs) rows)) (sym set.0)
         (with_values_keeps P a.id (reading_by a) CommandLine (v ∷ vs) (without a.id rows) some set.2
         (fitting P a (v ∷ vs) set.3 passes) (without_keeps P a.id rows h))
-used_keeps P a again values rows (inr help) e h =
+used_keeps P a again values rows (inr (inl flag)) e h =
+    let both = no_fault (range_kinds (unwrap_or_range a.range).start_inclusive (most_values a) (length values)) _ e in
+    go values both.0
+  where
+    go : (vs : List Text) → range_kinds (unwrap_or_range a.range).start_inclusive (most_values a) (length vs) ≡ []
+        → HasValues P (used a vs rows)
+    go (v ∷ vs) ok =
+        let none = no_value (v ∷ vs) (subst (λ (n : ℕ). range_kinds 0 n (length (v ∷ vs)) ≡ []) flag.1.1
+        (subst (λ (n : ℕ). range_kinds n (most_values a) (length (v ∷ vs)) ≡ []) flag.1.0 ok)) in
+        absurd (omega arith)
+    go [] ok = subst (λ (x : ArgAction). HasValues P (used_as x a.id (reading_by a) a.missing rows)) (sym flag.0)
+        (with_values_keeps P a.id (reading_by a) CommandLine a.missing (without a.id rows) flag.3.0 flag.2 flag.3.1
+        (without_keeps P a.id rows h))
+used_keeps P a again values rows (inr (inr help)) e h =
     subst (λ (x : ArgAction). HasValues P (used_as x a.id (reading_by a) (values_or_missing a values) rows)) (sym help.0) h
 
 -- ---- the walk over the words
@@ -366,13 +396,14 @@ walk_keeps P s names rules w (word ∷ rest) e fit =
 with_default_keeps : (P : Fit) (a : Rule) (rows : List Row) → KeepsValues P a → HasValues P rows → HasValues P (with_default rows a)
 with_default_keeps P a rows rule h = go (has_row a.id rows)
   where
-    some : SetsValues P a → (vs : List Text) → Each (P a.id) vs → HasValues P (default_rows a.id (reading_by a) vs rows)
-    some set [] fit = h
-    some set (v ∷ vs) fit = with_values_keeps P a.id (reading_by a) DefaultValue (v ∷ vs) rows (omega arith) set.2 fit h
+    some : reading_by a ≡ AsWritten → (vs : List Text) → Each (P a.id) vs → HasValues P (default_rows a.id (reading_by a) vs rows)
+    some plainly [] fit = h
+    some plainly (v ∷ vs) fit = with_values_keeps P a.id (reading_by a) DefaultValue (v ∷ vs) rows (omega arith) plainly fit h
 
     given : KeepsValues P a → HasValues P (default_rows a.id (reading_by a) a.defaults rows)
-    given (inl set) = some set a.defaults set.4
-    given (inr help) = subst (λ (vs : List Text). HasValues P (default_rows a.id (reading_by a) vs rows)) (sym help.1) h
+    given (inl set) = some set.2 a.defaults set.4
+    given (inr (inl flag)) = some flag.2 a.defaults flag.4
+    given (inr (inr help)) = subst (λ (vs : List Text). HasValues P (default_rows a.id (reading_by a) vs rows)) (sym help.1) h
 
     go : (b : Bool) → HasValues P (if b then rows else default_rows a.id (reading_by a) a.defaults rows)
     go true = h

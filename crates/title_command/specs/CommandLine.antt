@@ -1,30 +1,51 @@
 -- The program's command line, as clap sees it, what its matches mean, and why words are refused.
-use Rattle.std.specs.Prelude.{◌≡◌, ◌≢◌, ◌⊎◌, ◌∷◌, ◌≤◌, ℕ, List, [], Option, Some, None, ⊤, codes, is_some, true, false}
+use Rattle.std.specs.Prelude.{◌≡◌, ◌≢◌, ◌⊎◌, ◌∷◌, ◌≤◌, ℕ, List, [], Bool, Option, Some, None, ⊤, codes, is_some, true, false}
 use Rattle.std.specs.Str.Parse.{IsNumeral, digits_value, without_leading_plus}
 use Rattle.clap.specs.Kinds.{IsAmong, Kinds}
 use Rattle.clap.specs.Faults.{fault_of}
 use Rattle.clap.specs.Simple.{App, Shape, new_rule, new_shape, subcommand_of}
 use Rattle.clap.specs.Takes.{takes}
-use Rattle.clap.specs.Values.{IsUnsignedIn}
+use Rattle.clap.specs.Values.{IsUnsignedIn, bool_text}
 use Rattle.clap.specs.Walk.{Row, Rule, Text, first_of, one_of}
-use Rattle.clap.specs.declared.builder.action.ArgAction.TheVariants.{Set}
+use Rattle.clap.specs.declared.builder.action.ArgAction.TheVariants.{Set, SetTrue}
 use Rattle.clap.specs.declared.builder.value_parser.ValueParser.TheVariants.{Unsigned}
 use Rattle.clap.specs.declared.error.kind.ErrorKind.{ErrorKind}
 use Rattle.clap.specs.declared.error.kind.ErrorKind.TheVariants.{DisplayHelp, OutOfMemory}
 use Rattle.title_command.specs.declared.choice.Line.{Line}
-use Rattle.title_command.specs.declared.choice.Line.TheVariants.{Run, Alone, Office, Tract}
+use Rattle.title_command.specs.declared.choice.Line.TheVariants.{Run, Alone, Office, Tract, Kept, Check}
+use Rattle.title_command.specs.declared.choice.Work.{Work}
+use Rattle.title_command.specs.declared.choice.Work.TheVariants as work
 use Rattle.title_command.specs.declared.choice.LineFault.{LineFault}
 use Rattle.title_command.specs.declared.choice.LineFault.TheVariants.{Help, Bad, Memory}
 
 -- ---- the command
 
--- nothing follows `run`
-abbrev pub run : Shape
-run = new_shape (codes "run")
+-- the greatest place that may be expected
+abbrev pub most_place : ℕ
+most_place = 18446744073709551615
 
--- nothing follows `alone`
+-- the file in which a script is kept
+abbrev pub plant_rule : Rule
+plant_rule = record (new_rule (codes "plant")) { long = Some (codes "plant"); action = Some Set; value_names = 1 }
+
+-- the last place that is expected there
+abbrev pub after_rule : Rule
+after_rule = record (new_rule (codes "after")) {
+  long = Some (codes "after");
+  action = Some Set;
+  parser = Some (Unsigned 0 most_place);
+  value_names = 1;
+}
+
+-- these two options may follow a command that serves a script
+abbrev pub serving : Text → Shape
+serving name = record (new_shape name) { rules = plant_rule ∷ after_rule ∷ [] }
+
+abbrev pub run : Shape
+run = serving (codes "run")
+
 abbrev pub alone : Shape
-alone = new_shape (codes "alone")
+alone = serving (codes "alone")
 
 -- at most so many examiners are at work at once, and a transaction is begun at most so many times
 abbrev pub most_examiners : ℕ
@@ -70,6 +91,18 @@ text_rule = record (new_rule (codes "TEXT")) { required = true; action = Some Se
 abbrev pub tract : Shape
 tract = record (new_shape (codes "tract")) { rules = text_rule ∷ [] }
 
+-- a plant's file, which has to be given
+abbrev pub file_rule : Rule
+file_rule = record (new_rule (codes "FILE")) { required = true; action = Some Set }
+
+-- whether what stands there is told as a script
+abbrev pub script_rule : Rule
+script_rule = record (new_rule (codes "script")) { long = Some (codes "script"); action = Some SetTrue }
+
+-- `check` is followed by a file, and the flag may stand before it or behind it
+abbrev pub check : Shape
+check = record (new_shape (codes "check")) { rules = file_rule ∷ script_rule ∷ [] }
+
 -- the words of the program begin with a subcommand, and there is no subcommand `help`
 abbrev pub titleplant : Shape
 titleplant = record (new_shape (codes "titleplant")) {
@@ -81,7 +114,7 @@ titleplant = record (new_shape (codes "titleplant")) {
 
 -- the program's command
 abbrev pub command : App
-command = record { top = titleplant; subs = run ∷ alone ∷ office ∷ tract ∷ [] }
+command = record { top = titleplant; subs = run ∷ alone ∷ office ∷ tract ∷ check ∷ [] }
 
 -- ---- what the matches mean
 
@@ -90,26 +123,55 @@ abbrev pub HasNumber : Text → ℕ → List Row → Type 0
 HasNumber id most rows =
     (text : Text) × (first_of id rows ≡ Some text) × (one_of id rows ≡ Some text) × IsUnsignedIn 1 most text
 
+-- the expected place, where the words say one, is a text that the getters read and a number of 64 bits
+abbrev pub MayHavePlace : List Row → Type 0
+MayHavePlace rows = ((first_of (codes "after") rows ≡ None) × (one_of (codes "after") rows ≡ None))
+    ⊎ ((text : Text) × (first_of (codes "after") rows ≡ Some text) × (one_of (codes "after") rows ≡ Some text)
+    × IsUnsignedIn 0 most_place text)
+
+-- the flag is a text of true or false that the getters read
+abbrev pub HasFlag : Text → List Row → Type 0
+HasFlag id rows = (b : Bool) × (first_of id rows ≡ Some (bool_text b)) × (one_of id rows ≡ Some (bool_text b))
+
 -- the subcommand has the values that its line takes from it
 abbrev pub IsReadable : Text → List Row → Type 0
-IsReadable name rows = (name ≡ codes "run")
-    ⊎ (name ≡ codes "alone")
+IsReadable name rows = ((name ≡ codes "run") × MayHavePlace rows)
+    ⊎ ((name ≡ codes "alone") × MayHavePlace rows)
     ⊎ ((name ≡ codes "office") × HasNumber (codes "examiners") most_examiners rows × HasNumber (codes "tries") most_tries rows)
     ⊎ ((name ≡ codes "tract") × (is_some (first_of (codes "TEXT") rows) ≡ true))
+    ⊎ ((name ≡ codes "check") × (is_some (first_of (codes "FILE") rows) ≡ true) × HasFlag (codes "script") rows)
 
 -- the argument's text, or the default in its place, is a numeral of decimal digits, and n is its number
 abbrev pub IsNumberOf : Text → List Row → ℕ → Type 0
 IsNumberOf id rows n = (text : Text) × (first_of id rows ≡ Some text)
     × IsNumeral 10 (without_leading_plus text) × (n ≡ digits_value 10 (without_leading_plus text))
 
+-- no plant is named, and so no place is expected
+abbrev pub IsPlantless : List Row → Type 0
+IsPlantless rows = (first_of (codes "plant") rows ≡ None) × (first_of (codes "after") rows ≡ None)
+
+-- the expected place is the number that the words say, if they say one
+abbrev pub IsAfter : List Row → Option ℕ → Type 0
+IsAfter rows None = first_of (codes "after") rows ≡ None
+IsAfter rows (Some place) = IsNumberOf (codes "after") rows place
+
+-- the name of the command that serves a script so
+abbrev pub name_of : Work → Text
+name_of work.Run = codes "run"
+name_of work.Alone = codes "alone"
+
 -- the line is the subcommand of this name with its values
 abbrev pub IsLine : Text → List Row → Line → Type 0
-IsLine name rows Run = name ≡ codes "run"
-IsLine name rows Alone = name ≡ codes "alone"
+IsLine name rows Run = (name ≡ codes "run") × IsPlantless rows
+IsLine name rows Alone = (name ≡ codes "alone") × IsPlantless rows
 IsLine name rows (Office examiners tries) =
     (name ≡ codes "office") × IsNumberOf (codes "examiners") rows examiners × IsNumberOf (codes "tries") rows tries
 IsLine name rows (Tract text) =
     (name ≡ codes "tract") × (first_of (codes "TEXT") rows ≡ Some text.now)
+IsLine name rows (Kept plant after how) =
+    (name ≡ name_of how) × (first_of (codes "plant") rows ≡ Some plant.now) × IsAfter rows after
+IsLine name rows (Check file as_script) =
+    (name ≡ codes "check") × (first_of (codes "FILE") rows ≡ Some file.now) × (first_of (codes "script") rows ≡ Some (bool_text as_script))
 
 -- the line is the subcommand that was met
 abbrev pub IsLineOf : Option (Text × List Row) → Line → Type 0
@@ -129,12 +191,25 @@ IsFaultFor kind (Help error) = kind ≡ DisplayHelp
 IsFaultFor kind (Bad error) = (kind ≢ DisplayHelp) × (kind ≢ OutOfMemory)
 IsFaultFor kind Memory = kind ≡ OutOfMemory
 
+-- a place is expected and no plant is named
+abbrev pub LacksPlant : Option (Text × List Row) → Type 0
+LacksPlant None = ⊥
+LacksPlant (Some met) = (is_some (first_of (codes "after") met.1) ≡ true) × (first_of (codes "plant") met.1 ≡ None)
+
+-- clap takes the words, and where they expect a place they name a plant
+abbrev pub IsTaken : List Text → Type 0
+IsTaken words = (takes command words ≡ true) × (LacksPlant (subcommand_of command words) → ⊥)
+
+-- there is an error of a kind that isn't help
+abbrev pub HasError : Kinds → Type 0
+HasError kinds = (kind : ErrorKind) × (kind ≢ DisplayHelp) × IsAmong kind kinds
+
 -- Help comes where clap shows help for the words, and Bad where it has an error of another kind for
--- them; memory may run out at any words
-abbrev pub Explains : Kinds → LineFault → Type 0
-Explains kinds (Help error) = IsAmong DisplayHelp kinds
-Explains kinds (Bad error) = (kind : ErrorKind) × (kind ≢ DisplayHelp) × IsAmong kind kinds
-Explains kinds Memory = Unit {0}
+-- them or they lack a plant; memory may run out at any words
+abbrev pub Explains : List Text → LineFault → Type 0
+Explains words (Help error) = IsAmong DisplayHelp (fault_of command words)
+Explains words (Bad error) = HasError (fault_of command words) ⊎ LacksPlant (subcommand_of command words)
+Explains words Memory = Unit {0}
 
 -- ---- what some words say
 
@@ -151,6 +226,27 @@ abbrev pub OfficeAtMost : Type 0
 OfficeAtMost = Says
     (codes "office" ∷ codes "--examiners" ∷ codes "64" ∷ codes "--tries" ∷ codes "10000" ∷ [])
     (Office most_examiners most_tries)
+
+-- the line keeps a script in the file of this name, so
+abbrev pub IsKept : Text → Option ℕ → Work → Line → Type 0
+IsKept plant after how (Kept named expected by) = (named.now ≡ plant) × (expected ≡ after) × (by ≡ how)
+IsKept plant after how line = ⊥
+
+-- the words are taken, and keep a script so
+abbrev pub SaysKept : List Text → Text → Option ℕ → Work → Type 0
+SaysKept words plant after how =
+    IsTaken words × ((line : Line) → IsLineOf (subcommand_of command words) line → IsKept plant after how line)
+
+-- `alone` with a plant's file keeps a script in it, and may expect the greatest of all places there
+abbrev pub KeptByWords : Type 0
+KeptByWords =
+    SaysKept (codes "alone" ∷ codes "--plant" ∷ codes "county.plant" ∷ []) (codes "county.plant") None work.Alone
+    × SaysKept (codes "run" ∷ codes "--after=18446744073709551615" ∷ codes "--plant=county.plant" ∷ []) (codes "county.plant")
+    (Some most_place) work.Run
+
+-- a place that is expected in no plant
+abbrev pub PlaceAlone : Type 0
+PlaceAlone = LacksPlant (subcommand_of command (codes "run" ∷ codes "--after" ∷ codes "3" ∷ []))
 
 -- the words that follow `office` are refused for this kind of error
 abbrev pub Refuses : List Text → ErrorKind → Type 0

@@ -16,6 +16,31 @@ pub enum Line<'a> {
     },
     /// List the parts of the land that this description names.
     Tract(&'a str),
+    /// Serve a script on top of what stands in a plant's file, and put into the file what the script declares and commits.
+    Kept {
+        /// The file's name.
+        plant: &'a str,
+        /// The last place that is expected there, where one is.
+        after: Option<u64>,
+        /// How the script's transactions come.
+        work: Work,
+    },
+    /// Tell what stands in a plant's file.
+    Check {
+        /// The file's name.
+        file: &'a str,
+        /// Whether as a script, and not in numbers.
+        as_script: bool,
+    },
+}
+
+/// How the transactions of a script come that is kept in a plant's file.
+#[derive(Clone, Copy, Debug, PartialEq, Eq)]
+pub enum Work {
+    /// Interleaved, as for `run`.
+    Run,
+    /// One after another, as for `alone`.
+    Alone,
 }
 
 /// Why the words give no command. The text of `Help` and `Bad`, by `Display`, is for the user.

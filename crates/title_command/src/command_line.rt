@@ -1,12 +1,14 @@
 //! The words of a command line, read by `clap`.
 
-ghost use Rattle.std.specs.Prelude.{◌≡◌, IfErr, IfOk, OnOk, map, true, []};
+ghost use Rattle.std.specs.Prelude.{◌≡◌, IfErr, IfOk, IfSome, List, None, OnOk, Some, map, true, []};
 ghost use Rattle.clap.specs.Faults.{fault_of};
-ghost use Rattle.clap.specs.Words.{found_of, is_simple_and_free, kind_of, rows_of, subcommand_of, takes};
-ghost use Rattle.title_command.specs.CommandLine.{Explains, IsFaultFor, IsInRange, IsLine, IsLineOf, IsReadable, command};
+ghost use Rattle.clap.specs.Walk.{Row, Text};
+ghost use Rattle.clap.specs.Words.{found_of, is_simple_and_free, kind_of, rows_of, subcommand_of};
+ghost use Rattle.title_command.specs.CommandLine.{Explains, IsFaultFor, IsInRange, IsLine, IsLineOf, IsPlantless, IsReadable, IsTaken};
+ghost use Rattle.title_command.specs.CommandLine.{LacksPlant, MayHavePlace, command, name_of};
 
-use crate::choice::{Line, LineFault};
-use crate::program::program;
+use crate::choice::{Line, LineFault, Work};
+use crate::program::{no_plant, program};
 use clap::error::ErrorKind;
 use clap::{ArgMatches, Error};
 use std::alloc::Global;
@@ -21,38 +23,81 @@ fn fault_for(error: Error) -> LineFault
     }
 }
 
-// The line that a subcommand and its matches say.
-fn read_line<'a>(name: &'a str, values: &ArgMatches<'a>) -> Line<'a>
-    requires readable { IsReadable name.now (rows_of (found_of values.now)) }
-    ensures line { IsLine name.entry.now (rows_of (found_of values.now)) result }
+// The line of a command that serves a script: one that keeps it where a plant is named. None where a place is expected and no plant is
+// named.
+fn read_work<'a>(work: Work, values: &ArgMatches<'a>) -> Option<Line<'a>>
+    requires place { MayHavePlace (rows_of (found_of values.now)) }
+    ensures line { IfSome result (IsLine (name_of work) (rows_of (found_of values.now))) }
+    ensures lacks { result ≡ None → LacksPlant (Some (name_of work, rows_of (found_of values.now))) }
+    ensures ranges { IfSome result IsInRange }
+{
+    let after = values.get_one::<u64>("after");
+    match (values.get_str("plant"), after) {
+        (Some(plant), after) => Some(Line::Kept { plant, after, work }),
+        (None, None) => Some(unkept(work)),
+        (None, Some(_)) => None,
+    }
+}
+
+// The line of a command whose script isn't kept.
+fn unkept<'a>(work: Work) -> Line<'a>
+    ensures line { (rows : List Row) → IsPlantless rows → IsLine (name_of work) rows result }
     ensures ranges { IsInRange result }
 {
+    match work {
+        Work::Run => Line::Run,
+        Work::Alone => Line::Alone,
+    }
+}
+
+// The line that a subcommand and its matches say; None where a place is expected and no plant is named.
+fn read_line<'a>(name: &'a str, values: &ArgMatches<'a>) -> Option<Line<'a>>
+    requires readable { IsReadable name.now (rows_of (found_of values.now)) }
+    ensures line { IfSome result (IsLine name.entry.now (rows_of (found_of values.now))) }
+    ensures lacks { result ≡ None → LacksPlant (Some (name.entry.now, rows_of (found_of values.now))) }
+    ensures ranges { IfSome result IsInRange }
+{
     if name == "run" {
-        return Line::Run;
+        return read_work(Work::Run, values);
     }
     if name == "alone" {
-        return Line::Alone;
+        return read_work(Work::Alone, values);
     }
     if name == "office" {
         let examiners = values.get_one::<u32>("examiners").unwrap();
         let tries = values.get_one::<u32>("tries").unwrap();
-        return Line::Office { examiners, tries };
+        return Some(Line::Office { examiners, tries });
+    }
+    if name == "check" {
+        let file = values.get_str("FILE").unwrap();
+        let as_script = values.get_flag("script");
+        return Some(Line::Check { file, as_script });
     }
     let text = values.get_str("TEXT").unwrap();
-    Line::Tract(text)
+    Some(Line::Tract(text))
+}
+
+// The fault of words that expect a place and name no plant.
+fn lacking_plant(alloc: Global) -> LineFault
+    ensures fault { (words : List Text) → LacksPlant (subcommand_of command words) → Explains words result }
+{
+    match no_plant(alloc) {
+        Ok(error) => LineFault::Bad(error),
+        Err(_) => LineFault::Memory,
+    }
 }
 
 /// What the words after the program's name ask for. `Help` where they ask for help, `Bad` where they
 /// aren't understood (a word that `clap` doesn't expect, one that is missing, an option that is repeated,
-/// or a number that is none or out of its range), and `Memory` only where memory ran out.
+/// a number that is none or out of its range, or a place that is expected in no plant), and `Memory` only
+/// where memory ran out.
 pub fn line<'a>(alloc: Global, words: &'a [&'a str]) -> Result<Line<'a>, LineFault>
     ensures line { IfOk result (IsLineOf (subcommand_of command (map (λ w. w.now) words.entry.now))) }
     ensures ranges { IfOk result IsInRange }
     ensures understood { OnOk result (fault_of command (map (λ w. w.now) words.entry.now) ≡ []) }
     ensures simple { is_simple_and_free command ≡ true }
-    ensures taken { IfErr result (λ e.
-        takes command (map (λ w. w.now) words.entry.now) ≡ true → e ≡ LineFault.Memory) }
-    ensures why { IfErr result (Explains (fault_of command (map (λ w. w.now) words.entry.now))) }
+    ensures taken { IfErr result (λ e. IsTaken (map (λ w. w.now) words.entry.now) → e ≡ LineFault.Memory) }
+    ensures why { IfErr result (Explains (map (λ w. w.now) words.entry.now)) }
 {
     let Ok(command) = program(alloc) else {
         return Err(LineFault::Memory);
@@ -60,7 +105,10 @@ pub fn line<'a>(alloc: Global, words: &'a [&'a str]) -> Result<Line<'a>, LineFau
     match command.try_get_matches_from(words) {
         Ok(matches) => {
             let (name, values) = matches.subcommand().unwrap();
-            Ok(read_line(name, values))
+            match read_line(name, values) {
+                Some(line) => Ok(line),
+                None => Err(lacking_plant(alloc)),
+            }
         }
         Err(error) => Err(fault_for(error)),
     }

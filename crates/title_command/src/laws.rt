@@ -1,7 +1,7 @@
 //! Laws of the command line. Each function does nothing: its clause is the law, proved.
 
 ghost use Rattle.std.specs.Prelude.{◌∷◌, [], codes};
-ghost use Rattle.title_command.specs.CommandLine.{OfficeAtMost, OfficeByDefault, Refuses};
+ghost use Rattle.title_command.specs.CommandLine.{KeptByWords, OfficeAtMost, OfficeByDefault, PlaceAlone, Refuses};
 
 use clap::error::ErrorKind;
 
@@ -18,4 +18,10 @@ pub fn other_words_are_refused()
     ensures no_number { Refuses (codes "--tries" ∷ codes "ten" ∷ []) ErrorKind.ValueValidation }
     ensures twice { Refuses (codes "--tries=1" ∷ codes "--tries=2" ∷ []) ErrorKind.ArgumentConflict }
     ensures unknown { Refuses (codes "soon" ∷ []) ErrorKind.UnknownArgument }
+{}
+
+/// A script is kept in the file that `--plant` names, with the place that `--after` says; a place that is expected in no plant is refused.
+pub fn kept_words_are_said()
+    ensures kept { KeptByWords }
+    ensures alone { PlaceAlone }
 {}

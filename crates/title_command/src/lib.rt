@@ -6,5 +6,5 @@ mod command_line;
 pub mod laws;
 mod program;
 
-pub use choice::{Line, LineFault};
+pub use choice::{Line, LineFault, Work};
 pub use command_line::line;

@@ -3,10 +3,12 @@
 ghost use Rattle.std.specs.Prelude.{◌≡◌, ◌∷◌, IfOk, false, true, []};
 ghost use Rattle.clap.specs.Words.{app_of, new_app, rule_of};
 ghost use Rattle.clap.specs.declared.builder.command.Command.TheViews.{out-Command};
-ghost use Rattle.title_command.specs.CommandLine.{alone, command, number_rule, office, run, text_rule, titleplant, tract};
+ghost use Rattle.title_command.specs.CommandLine.{after_rule, alone, check, command, file_rule, number_rule, office, plant_rule, run};
+ghost use Rattle.title_command.specs.CommandLine.{script_rule, serving, text_rule, titleplant, tract};
 
 use clap::builder::ValueParser;
-use clap::{Arg, ArgAction, Command};
+use clap::error::ErrorKind;
+use clap::{Arg, ArgAction, Command, Error};
 use std::alloc::{AllocError, Global};
 
 /// What the help of a command says: what it is for in a line and in full, its usage and an example.
@@ -26,13 +28,16 @@ instruments that touch a tract, and works out who owns which share of the surfac
 oil and gas, and of the other minerals in it.
 
 Land is described by township, range, section and parts of a section. A script of work is
-read from standard input as CSV, and its report is written to standard output as CSV.",
+read from standard input as CSV, and its report is written to standard output as CSV. With
+--plant FILE what a script commits is kept in a file, on which the next script goes on.",
     usage: "titleplant <COMMAND>",
     example: "\
 Examples:
   titleplant run < script.csv
   titleplant alone < script.csv
   titleplant office --examiners 3 < script.csv
+  titleplant alone --plant county.plant < script.csv
+  titleplant check county.plant
   titleplant tract \"T3N R2W sec 5 NE1/4\"",
 };
 
@@ -94,9 +99,26 @@ Faults, in place of the report:
   fault,32              the script can't be read, or has above 16777216 bytes
   fault,6               out of memory
 
+With --plant FILE the script goes on from what stands in that file; where there is none it
+is made. Places, chains and sheets go on. What FILE declares may be left out, or declared
+again before the first step. What the script declares and commits counts in FILE whole or
+not at all, and the report is written once it is on the disk. After any fault but 40 the
+script doesn't count.
+With --after N it is served only where the last place in FILE is N. A script whose report
+was lost is sent again with its N: if it was in, nothing is done but to answer fault,47.
+
+Faults with --plant, besides:
+  fault,36              FILE can't be opened, made, read or synced, or is no regular file
+  fault,37              FILE is in use
+  fault,38,ROW          FILE is no plant, by this row of it; it is left as it is
+  fault,39              the disk failed, or is full; what stood in FILE stands
+  fault,40              the disk failed at the end: the script counts, or it doesn't
+  fault,46,PLACE        the transaction of this place can't stand in a township that joins
+  fault,47,LAST         the last place in FILE is this one, and not N
+
 The exit status is 0 for a report, 1 for a fault, 2 for words that aren't understood. The
 whole format stands in docs/FORMATS.md.",
-    usage: "titleplant run",
+    usage: "titleplant run [--plant <FILE> [--after <N>]]",
     example: "\
 Example: titleplant run < script.csv, where script.csv has
   township,T3N R2W
@@ -120,8 +142,11 @@ Reads a CSV script from standard input and writes a CSV report to standard outpu
 
 A script is as for the command run, but each transaction ends before the next one begins. A
 step outside a transaction is a transaction of its own and is committed at once, so a script
-may be a plain list of deeds and questions.",
-    usage: "titleplant alone",
+may be a plain list of deeds and questions.
+
+With --plant FILE the script goes on from what stands in that file, and counts there whole or
+not at all; see titleplant run --help, also for --after and for the faults.",
+    usage: "titleplant alone [--plant <FILE> [--after <N>]]",
     example: "\
 Example: titleplant alone < script.csv, where script.csv has
   township,T3N R2W
@@ -206,6 +231,34 @@ Faults, in place of the rows, with status 1:
     example: "Example: titleplant tract \"T3N R2W sec 5 NE1/4\"",
 };
 
+const CHECK: Help<'static> = Help {
+    about: "Tell what stands in a plant's file: CSV on standard output",
+    long_about: "\
+Reads the plant in FILE, and nothing from standard input. Writes to standard output, as CSV:
+  townships,N           how many townships are declared
+  parties,N             how many parties there are, UNITED STATES among them
+  transactions,N        how many transactions are committed: the last place
+  posts,N               how many deeds and releases they posted
+  tail,BYTES            bytes at the end of FILE that don't count, as a power failure may leave
+                        some; the next script that is served with --plant cuts them off
+FILE isn't changed, and it may be in use.
+
+With --script it writes a script for the command alone in place of this, which commits the
+same transactions, in the same places, on an empty plant.
+
+Faults, in place of the rows, with status 1:
+  fault,36              FILE can't be read, or is no regular file
+  fault,38,ROW          FILE is no plant, by this row of it
+  fault,48,ROW          no script says what stands, by this row of it: it would be one row or
+                        one byte too many, or its land has no description
+  fault,6               out of memory",
+    usage: "titleplant check <FILE> [--script]",
+    example: "\
+Examples:
+  titleplant check county.plant
+  titleplant check county.plant --script > county.csv",
+};
+
 // A command with its name and its help, and nothing that follows it.
 fn named<'a>(alloc: Global, name: &'a str, help: Help<'a>) -> Command<'a>
     ensures app { app_of result ≡ new_app name.entry.now }
@@ -226,6 +279,49 @@ fn text_argument<'a>(alloc: Global) -> Arg<'a>
         .required(true)
         .action(ArgAction::Set)
         .help("The description of land, in quotes; after -- where it begins with a dash")
+}
+
+fn file_argument<'a>(alloc: Global) -> Arg<'a>
+    ensures rule { rule_of result ≡ file_rule }
+    ensures local { result.global ≡ false }
+{
+    Arg::new(alloc, "FILE")
+        .required(true)
+        .action(ArgAction::Set)
+        .help("The plant's file; after -- where its name begins with a dash")
+}
+
+fn script_option<'a>(alloc: Global) -> Arg<'a>
+    ensures rule { rule_of result ≡ script_rule }
+    ensures local { result.global ≡ false }
+{
+    Arg::new(alloc, "script")
+        .long("script")
+        .action(ArgAction::SetTrue)
+        .help("Write it as a script for the command alone")
+}
+
+fn plant_option<'a>(alloc: Global) -> Arg<'a>
+    ensures rule { rule_of result ≡ plant_rule }
+    ensures local { result.global ≡ false }
+{
+    Arg::new(alloc, "plant")
+        .long("plant")
+        .action(ArgAction::Set)
+        .value_name("FILE")
+        .help("Go on from what stands in this file, and keep there what is committed")
+}
+
+fn after_option<'a>(alloc: Global) -> Arg<'a>
+    ensures rule { rule_of result ≡ after_rule }
+    ensures local { result.global ≡ false }
+{
+    Arg::new(alloc, "after")
+        .long("after")
+        .action(ArgAction::Set)
+        .value_parser(ValueParser::unsigned(0, u64::MAX))
+        .value_name("N")
+        .help("With --plant: only where the last place there is N")
 }
 
 fn number_option<'a>(alloc: Global, option: NumberOption<'a>) -> Arg<'a>
@@ -252,6 +348,29 @@ fn office_command<'a>(alloc: Global) -> Result<Command<'a>, AllocError>
     Ok(with_tries)
 }
 
+// A command that a script may be kept by.
+fn work_command<'a>(alloc: Global, name: &'a str, help: Help<'a>) -> Result<Command<'a>, AllocError>
+    ensures app { IfOk result (λ c. app_of c ≡ record { top = serving name.entry.now; subs = [] }) }
+    ensures local { IfOk result (λ c. (out-Command c).has_globals ≡ false) }
+{
+    let plant = plant_option(alloc);
+    let after = after_option(alloc);
+    let with_plant = named(alloc, name, help).arg(plant)?;
+    let with_after = with_plant.arg(after)?;
+    Ok(with_after)
+}
+
+fn check_command<'a>(alloc: Global) -> Result<Command<'a>, AllocError>
+    ensures app { IfOk result (λ c. app_of c ≡ record { top = check; subs = [] }) }
+    ensures local { IfOk result (λ c. (out-Command c).has_globals ≡ false) }
+{
+    let file = file_argument(alloc);
+    let script = script_option(alloc);
+    let with_file = named(alloc, "check", CHECK).arg(file)?;
+    let with_script = with_file.arg(script)?;
+    Ok(with_script)
+}
+
 fn tract_command<'a>(alloc: Global) -> Result<Command<'a>, AllocError>
     ensures app { IfOk result (λ c. app_of c ≡ record { top = tract; subs = [] }) }
     ensures local { IfOk result (λ c. (out-Command c).has_globals ≡ false) }
@@ -270,24 +389,37 @@ fn top<'a>(alloc: Global) -> Command<'a>
         .disable_help_subcommand(true)
 }
 
-// The program's command with the subcommands that nothing follows.
-fn bare_commands<'a>(alloc: Global) -> Result<Command<'a>, AllocError>
-    ensures app { IfOk result (λ c. app_of c ≡ record { top = titleplant; subs = run ∷ alone ∷ [] }) }
+// The program's command with the subcommands that serve a script.
+fn work_commands<'a>(alloc: Global) -> Result<Command<'a>, AllocError>
+    ensures app { IfOk result (λ c. app_of c ≡ record { top = titleplant; subs = run ∷ alone ∷ office ∷ [] }) }
     ensures local { IfOk result (λ c. (out-Command c).has_globals ≡ false) }
 {
-    let with_run = top(alloc).subcommand(named(alloc, "run", RUN))?;
-    let with_alone = with_run.subcommand(named(alloc, "alone", ALONE))?;
-    Ok(with_alone)
+    let run = work_command(alloc, "run", RUN)?;
+    let alone = work_command(alloc, "alone", ALONE)?;
+    let office = office_command(alloc)?;
+    let with_run = top(alloc).subcommand(run)?;
+    let with_alone = with_run.subcommand(alone)?;
+    let with_office = with_alone.subcommand(office)?;
+    Ok(with_office)
 }
 
 /// The command of the program `titleplant`, with each of its subcommands.
 pub fn program<'a>(alloc: Global) -> Result<Command<'a>, AllocError>
     ensures app { IfOk result (λ c. app_of c ≡ command) }
 {
-    let office = office_command(alloc)?;
+    let check = check_command(alloc)?;
     let tract = tract_command(alloc)?;
-    let bare = bare_commands(alloc)?;
-    let with_office = bare.subcommand(office)?;
-    let with_tract = with_office.subcommand(tract)?;
-    Ok(with_tract)
+    let with_work = work_commands(alloc)?;
+    let with_tract = with_work.subcommand(tract)?;
+    let with_check = with_tract.subcommand(check)?;
+    Ok(with_check)
+}
+
+/// The error of words that expect a last place and name no plant.
+pub fn no_plant(alloc: Global) -> Result<Error, AllocError> {
+    let mut command = named(alloc, "titleplant", TITLEPLANT);
+    command.error(
+        ErrorKind::MissingRequiredArgument,
+        "--after <N> is for a plant's file: --plant <FILE> is wanted too",
+    )
 }

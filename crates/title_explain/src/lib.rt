@@ -5,10 +5,15 @@ ghost use Rattle.std.specs.Prelude.{◌≡◌, ℕ, List, None};
 ghost use Rattle.std.specs.Io.KnownBytes.{Appends};
 
 use std::alloc::{AllocError, Global};
-use title_advice::{Heard, Script, pointed_out, script_advice};
+use title_advice::{
+    Heard, Script, cut_advice, lasting_advice, looking_advice, opening_advice, pointed_out,
+    script_advice, telling_advice,
+};
 use title_aliquot::DescFault;
 use title_day::OfficeFault;
 use title_device::{SCRIPT_LIMIT, Sink, write_all};
+use title_disk::OpenFault;
+use title_lasting::LastingFault;
 use title_plan::{Schedule, ScriptFault};
 use title_program::{Ending, Why};
 use title_script::RunFault;
@@ -19,6 +24,7 @@ const OUT_OF_MEMORY: &str = "error: out of memory\n";
 fn row_advice(
     alloc: Global,
     schedule: Schedule,
+    is_kept: bool,
     fault: ScriptFault,
     kept: Option<&[u8]>,
 ) -> Result<String, AllocError> {
@@ -28,6 +34,7 @@ fn row_advice(
     let script = Script {
         alloc,
         schedule,
+        is_kept,
         bytes,
     };
     let said = script_advice(&script, fault)?;
@@ -52,9 +59,9 @@ fn run_advice(
     kept: Option<&[u8]>,
 ) -> Result<String, AllocError> {
     match fault {
-        RunFault::Row(n) => row_advice(alloc, schedule, ScriptFault::Row(n), kept),
-        RunFault::Order(n) => row_advice(alloc, schedule, ScriptFault::Order(n), kept),
-        RunFault::Party(n) => row_advice(alloc, schedule, ScriptFault::Party(n), kept),
+        RunFault::Row(n) => row_advice(alloc, schedule, false, ScriptFault::Row(n), kept),
+        RunFault::Order(n) => row_advice(alloc, schedule, false, ScriptFault::Order(n), kept),
+        RunFault::Party(n) => row_advice(alloc, schedule, false, ScriptFault::Party(n), kept),
         RunFault::Read => read_advice(alloc, kept),
         RunFault::Write => Ok(String::new(alloc)),
         RunFault::Memory => String::from_str(alloc, OUT_OF_MEMORY),
@@ -78,14 +85,70 @@ fn office_advice(
     }
 }
 
-// The word that follows the command, where it isn't the mark that ends options.
+// What is wrong with a script on top of a plant's file, or with the file.
+fn kept_advice(
+    alloc: Global,
+    schedule: Schedule,
+    path: &str,
+    fault: LastingFault,
+    kept: Option<&[u8]>,
+) -> Result<String, AllocError> {
+    match fault {
+        LastingFault::Row(n) => row_advice(alloc, schedule, true, ScriptFault::Row(n), kept),
+        LastingFault::Order(n) => row_advice(alloc, schedule, true, ScriptFault::Order(n), kept),
+        LastingFault::Party(n) => row_advice(alloc, schedule, true, ScriptFault::Party(n), kept),
+        LastingFault::Read => read_advice(alloc, kept),
+        _ => lasting_advice(alloc, path, fault),
+    }
+}
+
+// The word that follows the command `tract` or `check`: the first that is no flag, or that stands behind the mark which ends options.
 fn text_in(words: &[String]) -> &str {
+    let mut has_mark = false;
     for word in words.iter().skip(1) {
-        if word.as_str() != "--" {
+        let is_mark = word.as_str() == "--";
+        if has_mark || !is_mark && word.as_str() != "--script" {
             return word.as_str();
         }
+        has_mark = has_mark || is_mark;
     }
     ""
+}
+
+// Whether the command is `check`.
+fn is_check(words: &[String]) -> bool {
+    match words.first() {
+        Some(word) => word.as_str() == "check",
+        None => false,
+    }
+}
+
+// The name of the plant's file that `--plant` names.
+fn plant_in(words: &[String]) -> &str {
+    let mut is_next = false;
+    for word in words {
+        if is_next {
+            return word.as_str();
+        }
+        if let Some(path) = word.strip_prefix("--plant=") {
+            return path;
+        }
+        is_next = word.as_str() == "--plant";
+    }
+    ""
+}
+
+// Why a plant's file isn't opened, or isn't looked at.
+fn unopened_advice(
+    alloc: Global,
+    words: &[String],
+    fault: OpenFault,
+) -> Result<String, AllocError> {
+    if is_check(words) {
+        looking_advice(alloc, text_in(words), fault)
+    } else {
+        opening_advice(alloc, plant_in(words), fault)
+    }
 }
 
 // What is wrong, in lines for a person.
@@ -96,6 +159,9 @@ fn advice(
     kept: Option<&[u8]>,
 ) -> Result<String, AllocError> {
     match why {
+        Why::Unopened(fault) => unopened_advice(alloc, words, fault),
+        Why::Kept(schedule, fault) => kept_advice(alloc, schedule, plant_in(words), fault, kept),
+        Why::Untold(fault) => telling_advice(alloc, text_in(words), fault),
         Why::Run(schedule, fault) => run_advice(alloc, schedule, fault, kept),
         Why::Office(examiners, fault) => office_advice(alloc, examiners, fault, kept),
         Why::Description(DescFault::Memory) | Why::Memory => String::from_str(alloc, OUT_OF_MEMORY),
@@ -111,8 +177,21 @@ fn tell<E: Sink>(errors: &mut E, text: &str)
     }
 }
 
-/// Tells on the errors, in plain words, why a command failed: by the words of the command line and by what was read. Nothing
-/// where it didn't fail.
+// Tells on the errors that bytes were cut off, where some were.
+fn tell_cut<E: Sink>(alloc: Global, words: &[String], cut: usize, errors: &mut E)
+    ensures quiet { cut ≡ 0 → errors.new ≡ errors.old }
+    ensures told { (told : List ℕ) × Appends (E.taken errors.old) (E.taken errors.new) told }
+{
+    if cut > 0 {
+        match cut_advice(alloc, plant_in(words), cut) {
+            Ok(text) => tell(errors, text.as_str()),
+            Err(_) => tell(errors, OUT_OF_MEMORY),
+        }
+    }
+}
+
+/// Tells on the errors, in plain words, why a command failed: by the words of the command line and by what was read; and how many
+/// bytes at the end of a plant's file were cut off. Nothing where it didn't fail and none were.
 pub fn explain<R, E: Sink>(
     alloc: Global,
     words: &[String],
@@ -120,9 +199,10 @@ pub fn explain<R, E: Sink>(
     source: &Heard<R>,
     errors: &mut E,
 )
-    ensures quiet { ending.why ≡ None → errors.new ≡ errors.old }
+    ensures quiet { ending.why ≡ None → ending.cut ≡ 0 → errors.new ≡ errors.old }
     ensures told { (told : List ℕ) × Appends (E.taken errors.old) (E.taken errors.new) told }
 {
+    tell_cut(alloc, words, ending.cut, errors);
     let Some(why) = ending.why else {
         return;
     };

@@ -1,3 +1,4 @@
 mod OfficeTold
 mod Printed
+mod KeptTold
 mod Told

@@ -9,6 +9,12 @@ use Rattle.title_settle.specs.declared.outcome.Unsettled.{Unsettled}
 use Rattle.title_settle.specs.declared.outcome.Unsettled.TheVariants as unsettled
 use Rattle.title_office.specs.declared.fault.Fault.{Fault as WorkerFault}
 use Rattle.title_office.specs.declared.fault.Fault.TheVariants as worker
+use Rattle.title_disk.specs.declared.cabinet.OpenFault.{OpenFault}
+use Rattle.title_disk.specs.declared.cabinet.OpenFault.TheVariants as opening
+use Rattle.title_lasting.specs.declared.checking.TellFault.{TellFault}
+use Rattle.title_lasting.specs.declared.checking.TellFault.TheVariants as telling
+use Rattle.title_lasting.specs.declared.fault.LastingFault.{LastingFault}
+use Rattle.title_lasting.specs.declared.fault.LastingFault.TheVariants as lasting
 use Rattle.title_script.specs.declared.fault.RunFault.{RunFault}
 use Rattle.title_script.specs.declared.fault.RunFault.TheVariants as run
 use Rattle.title_day.specs.declared.office_fault.OfficeFault.{OfficeFault}
@@ -84,3 +90,31 @@ abbrev pub of_office : OfficeFault → Fault
 of_office (office.Run why) = of_run why
 of_office (office.Worker why) = of_worker why
 of_office (office.Unsettled why) = of_unsettled why
+
+-- a plant's file isn't opened
+abbrev pub of_open : OpenFault → Fault
+of_open opening.Unopened = record { number = 36; place = None }
+of_open opening.InUse = record { number = 37; place = None }
+of_open opening.Memory = memory
+
+-- a script isn't served on top of a plant's file: 38 stands at a row of the file, 46 and 47 at the place of a transaction there
+abbrev pub of_lasting : LastingFault → Fault
+of_lasting (lasting.Row row) = record { number = 31; place = Some row }
+of_lasting lasting.Read = record { number = 32; place = None }
+of_lasting lasting.Write = record { number = 33; place = None }
+of_lasting (lasting.Party row) = record { number = 34; place = Some row }
+of_lasting (lasting.Order row) = record { number = 35; place = Some row }
+of_lasting (lasting.NotAPlant row) = record { number = 38; place = Some row }
+of_lasting lasting.Disk = record { number = 39; place = None }
+of_lasting lasting.Unsure = record { number = 40; place = None }
+of_lasting (lasting.Joins place) = record { number = 46; place = Some place }
+of_lasting (lasting.After last) = record { number = 47; place = Some last }
+of_lasting lasting.Memory = memory
+
+-- what stands in a plant's file isn't told: 48 stands at a row of the script that would tell it
+abbrev pub of_telling : TellFault → Fault
+of_telling telling.Write = record { number = 33; place = None }
+of_telling telling.Disk = record { number = 36; place = None }
+of_telling (telling.NotAPlant row) = record { number = 38; place = Some row }
+of_telling (telling.NoScript row) = record { number = 48; place = Some row }
+of_telling telling.Memory = memory

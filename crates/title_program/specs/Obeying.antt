@@ -2,22 +2,23 @@
 use Rattle.std.specs.Prelude.{◌≡◌, ◌⊎◌, ℕ, List, [], Bool, true, false, Option, Result, Ok, Err, codes, take}
 use Rattle.std.specs.Io.KnownBytes.{Appends, IsAtEnd, Keeps}
 use Rattle.clap.specs.Faults.{fault_of}
-use Rattle.clap.specs.Words.{subcommand_of, takes}
+use Rattle.clap.specs.Words.{subcommand_of}
 use Rattle.title_land.specs.Depth.{depth}
 use Rattle.title_plan.specs.Lands.{land_in}
 use Rattle.title_plan.specs.declared.line.Schedule.TheVariants as schedule
 use Rattle.title_command.specs.declared.choice.Line.{Line}
-use Rattle.title_command.specs.declared.choice.Line.TheVariants.{Run, Alone, Office, Tract}
+use Rattle.title_command.specs.declared.choice.Line.TheVariants.{Run, Alone, Office, Tract, Kept, Check}
 use Rattle.title_command.specs.declared.choice.LineFault.{LineFault}
 use Rattle.title_command.specs.declared.choice.LineFault.TheVariants.{Help, Bad, Memory}
-use Rattle.title_command.specs.CommandLine.{Explains, IsLineOf, command}
+use Rattle.title_command.specs.CommandLine.{Explains, IsLineOf, IsTaken, command}
+use Rattle.title_disk.specs.declared.cabinet.OpenFault.TheVariants as opening
 use Rattle.title_program.specs.declared.words.WordsFault.{WordsFault}
 use Rattle.title_program.specs.declared.words.WordsFault.TheVariants as untaken
 use Rattle.title_program.specs.declared.status.Status.{Status}
 use Rattle.title_program.specs.declared.status.Status.TheVariants.{Success, Failure, Misunderstood}
-use Rattle.title_program.specs.Faults.{fault_line, memory}
+use Rattle.title_program.specs.Faults.{fault_line, memory, of_open}
 use Rattle.title_program.specs.OfficeServing.{IsOfficeServed}
-use Rattle.title_program.specs.Printing.{Prints}
+use Rattle.title_program.specs.Printing.{Prints, TellsFault}
 use Rattle.title_program.specs.Serving.{IsServed}
 use Rattle.title_program.specs.Tracts.{tract_status, tract_text}
 
@@ -29,7 +30,7 @@ PrintsTract text before after sink_failed status =
     Prints (tract_text depth (land_in text)) (tract_status (land_in text)) before after sink_failed status
     ⊎ Prints (fault_line memory) Failure before after sink_failed status
 
--- the command was carried out
+-- the command was carried out; where there is no cabinet, no plant's file is opened
 abbrev pub IsObeyed : Line → Option (List ℕ) → (source_failed sink_failed : Bool) → (before after : Option (List ℕ)) → Status → Type 0
 IsObeyed Run known source_failed sink_failed before after status =
     IsServed schedule.Interleaved known source_failed sink_failed before after status
@@ -38,13 +39,19 @@ IsObeyed Alone known source_failed sink_failed before after status =
 IsObeyed (Office examiners tries) known source_failed sink_failed before after status =
     IsOfficeServed examiners known source_failed sink_failed before after status
 IsObeyed (Tract text) known source_failed sink_failed before after status = PrintsTract text.now before after sink_failed status
+IsObeyed (Kept plant place how) known source_failed sink_failed before after status =
+    TellsFault (of_open opening.Unopened) before after sink_failed status
+IsObeyed (Check file as_script) known source_failed sink_failed before after status =
+    TellsFault (of_open opening.Unopened) before after sink_failed status
 
--- a script whose report was written has been read to its end; `tract` reads nothing
+-- a script whose report was written has been read to its end; `tract` reads nothing, and so does a command whose file isn't opened
 abbrev pub ReadsFor : Line → (left left_after : Option (List ℕ)) → Status → Type 0
 ReadsFor Run left left_after status = status ≡ Success → IsAtEnd left_after
 ReadsFor Alone left left_after status = status ≡ Success → IsAtEnd left_after
 ReadsFor (Office examiners tries) left left_after status = status ≡ Success → IsAtEnd left_after
 ReadsFor (Tract text) left left_after status = left_after ≡ left
+ReadsFor (Kept plant place how) left left_after status = left_after ≡ left
+ReadsFor (Check file as_script) left left_after status = left_after ≡ left
 
 -- what is told on the errors where the output has failed
 abbrev pub unwritten : List ℕ
@@ -93,7 +100,7 @@ WarnsUntaken untaken.Memory sink_failed before after = Complains sink_failed bef
 -- what the words ask for, or why they are none, as the command line's reader tells it
 abbrev pub IsAsked : List (List ℕ) → Result Line LineFault → Type 0
 IsAsked words (Ok line) = IsLineOf (subcommand_of command words) line × (fault_of command words ≡ [])
-IsAsked words (Err why) = Explains (fault_of command words) why × (takes command words ≡ true → why ≡ Memory)
+IsAsked words (Err why) = Explains words why × (IsTaken words → why ≡ Memory)
 
 -- what was asked for was done, or refused
 abbrev pub IsAnswered : Result Line LineFault → Option (List ℕ) → (source_failed sink_failed : Bool)

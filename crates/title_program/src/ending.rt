@@ -6,23 +6,30 @@ ghost use Rattle.title_program.specs.declared.status.Status.TheVariants as statu
 use crate::status::Status;
 use title_aliquot::DescFault;
 use title_day::OfficeFault;
+use title_disk::OpenFault;
+use title_lasting::{LastingFault, TellFault};
 use title_script::{RunFault, Schedule};
 
-/// Why a command failed: a script by its schedule, an office's script by the number of its examiners, a description, or want of
-/// memory.
+/// Why a command failed: a script by its schedule, an office's script by the number of its examiners, a description, a plant's file
+/// that isn't opened, a script on top of one by its schedule, what stands in one, or want of memory.
 #[derive(Clone, Copy, Debug)]
 pub enum Why {
     Run(Schedule, RunFault),
     Office(u32, OfficeFault),
     Description(DescFault),
+    Unopened(OpenFault),
+    Kept(Schedule, LastingFault),
+    Untold(TellFault),
     Memory,
 }
 
-/// The status of the program after a command, and why this failed, if it did.
+/// The status of the program after a command, and why this failed, if it did; and how many bytes at the end of a plant's file didn't
+/// count and were cut off.
 #[derive(Clone, Copy, Debug)]
 pub struct Ending {
     pub status: Status,
     pub why: Option<Why>,
+    pub cut: usize,
 }
 
 impl Ending {
@@ -30,10 +37,30 @@ impl Ending {
     pub fn success() -> Ending
         ensures status { result.status ≡ status.Success }
         ensures why { result.why ≡ None }
+        ensures uncut { result.cut ≡ 0 }
     {
         Ending {
             status: Status::Success,
             why: None,
+            cut: 0,
         }
+    }
+
+    /// The end of a command with this status, which failed for this reason, if for any.
+    pub fn told(status: Status, why: Option<Why>) -> Ending
+        ensures status { result.status ≡ status }
+        ensures why { result.why ≡ why }
+        ensures uncut { result.cut ≡ 0 }
+    {
+        Ending {
+            status,
+            why,
+            cut: 0,
+        }
+    }
+
+    /// Whether a script counts of which not all of the report was written.
+    pub fn counts_untold(self) -> bool {
+        matches!(self.why, Some(Why::Kept(_, LastingFault::Write)))
     }
 }

@@ -8,6 +8,8 @@ use std::alloc::{AllocError, Global};
 use std::fmt;
 use title_aliquot::DescFault;
 use title_day::OfficeFault;
+use title_disk::OpenFault;
+use title_lasting::{LastingFault, TellFault};
 use title_office::{Fault as WorkerFault, Unsettled};
 use title_script::RunFault;
 
@@ -84,6 +86,64 @@ impl From<RunFault> for Fault {
             RunFault::Party(row) => (34, Some(row)),
             RunFault::Order(row) => (35, Some(row)),
             RunFault::Memory => (6, None),
+        };
+        Fault { number, place }
+    }
+}
+
+impl From<OpenFault> for Fault {
+    ghost use Rattle.title_program.specs.Faults.{of_open};
+
+    ghost from_gives = { λ fault told. told ≡ of_open fault };
+
+    fn from(fault: OpenFault) -> Fault {
+        let number = match fault {
+            OpenFault::Unopened => 36,
+            OpenFault::InUse => 37,
+            OpenFault::Memory => 6,
+        };
+        Fault {
+            number,
+            place: None,
+        }
+    }
+}
+
+impl From<LastingFault> for Fault {
+    ghost use Rattle.title_program.specs.Faults.{of_lasting};
+
+    ghost from_gives = { λ fault told. told ≡ of_lasting fault };
+
+    fn from(fault: LastingFault) -> Fault {
+        let (number, place) = match fault {
+            LastingFault::Row(row) => (31, Some(row)),
+            LastingFault::Read => (32, None),
+            LastingFault::Write => (33, None),
+            LastingFault::Party(row) => (34, Some(row)),
+            LastingFault::Order(row) => (35, Some(row)),
+            LastingFault::NotAPlant(row) => (38, Some(row as u64)),
+            LastingFault::Disk => (39, None),
+            LastingFault::Unsure => (40, None),
+            LastingFault::Joins(place) => (46, Some(place)),
+            LastingFault::After(last) => (47, Some(last)),
+            LastingFault::Memory => (6, None),
+        };
+        Fault { number, place }
+    }
+}
+
+impl From<TellFault> for Fault {
+    ghost use Rattle.title_program.specs.Faults.{of_telling};
+
+    ghost from_gives = { λ fault told. told ≡ of_telling fault };
+
+    fn from(fault: TellFault) -> Fault {
+        let (number, place) = match fault {
+            TellFault::Write => (33, None),
+            TellFault::Disk => (36, None),
+            TellFault::NotAPlant(row) => (38, Some(row as u64)),
+            TellFault::NoScript(row) => (48, Some(row)),
+            TellFault::Memory => (6, None),
         };
         Fault { number, place }
     }

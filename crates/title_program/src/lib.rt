@@ -1,9 +1,12 @@
 //! What the program does for each command line: the bytes that it writes, and the status with which it ends.
 #![tactic(auto)]
 
+mod checking;
 mod commands;
 mod ending;
 mod fault;
+mod keeping;
+mod looked;
 mod office_serving;
 mod printing;
 mod refusal;
@@ -12,9 +15,11 @@ mod status;
 mod tract;
 mod words;
 
-pub use commands::{obey, obey_words, print_tract};
+pub use checking::check;
+pub use commands::{obey, obey_onto, obey_words, obey_words_onto, print_tract};
 pub use ending::{Ending, Why};
 pub use fault::Fault;
+pub use keeping::serve_kept;
 pub use office_serving::serve_office;
 pub use refusal::refuse;
 pub use serving::serve;

@@ -50,6 +50,7 @@ pub fn serve_office<T: Threads + Wait + Sync, R: Source, W: Sink>(
         (W.taken sink.old) (W.taken sink.new) result.status }
     ensures all { result.status ≡ status.Success → IsAtEnd (R.left source.new) }
     ensures quiet { IsQuiet result }
+    ensures uncut { result.cut ≡ 0 }
     ensures turns { IsReadWithin (R.turns source.old) (R.turns source.new) }
 {
     match run_office(rt, alloc, examiners, tries, source, sink) {
@@ -57,6 +58,7 @@ pub fn serve_office<T: Threads + Wait + Sync, R: Source, W: Sink>(
         Err(why) => Ending {
             status: tell_office(alloc, why, sink),
             why: Some(Why::Office(examiners, why)),
+            cut: 0,
         },
     }
 }

@@ -49,28 +49,23 @@ pub fn refuse<W: Sink, E: Sink>(
 ) -> Ending
     ensures refused { IsRefused why (W.taken sink.old) (W.taken sink.new) (W.has_failed sink.new) result.status }
     ensures quiet { IsQuiet result }
+    ensures uncut { result.cut ≡ 0 }
     ensures told { Warns why (W.has_failed sink.new) (E.taken errors.old) (E.taken errors.new) }
 {
     match why {
         LineFault::Help(error) => {
             let status = print_help(alloc, &error, sink);
             complain(sink, errors);
-            Ending { status, why: None }
+            Ending::told(status, None)
         }
         LineFault::Bad(error) => {
             explain(alloc, &error, errors);
-            Ending {
-                status: Status::Misunderstood,
-                why: None,
-            }
+            Ending::told(Status::Misunderstood, None)
         }
         LineFault::Memory => {
             let status = tell_memory(sink);
             complain(sink, errors);
-            Ending {
-                status,
-                why: Some(Why::Memory),
-            }
+            Ending::told(status, Some(Why::Memory))
         }
     }
 }

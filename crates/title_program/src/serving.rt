@@ -45,6 +45,7 @@ pub fn serve<R: Source, W: Sink, V: Watch>(
         (W.taken sink.old) (W.taken sink.new) result.status }
     ensures all { result.status ≡ status.Success → IsAtEnd (R.left source.new) }
     ensures quiet { IsQuiet result }
+    ensures uncut { result.cut ≡ 0 }
     ensures turns { IsReadWithin (R.turns source.old) (R.turns source.new) }
 {
     match run_by(alloc, schedule, source, sink, watch) {
@@ -52,6 +53,7 @@ pub fn serve<R: Source, W: Sink, V: Watch>(
         Err(why) => Ending {
             status: tell_run(alloc, why, sink),
             why: Some(Why::Run(schedule, why)),
+            cut: 0,
         },
     }
 }

@@ -47,18 +47,12 @@ pub fn refuse_untaken<W: Sink, E: Sink>(why: WordsFault, sink: &mut W, errors: &
         WordsFault::NotText => {
             let text = b"error: a word of the command line isn't UTF-8\n";
             print(errors, text, Status::Misunderstood);
-            Ending {
-                status: Status::Misunderstood,
-                why: None,
-            }
+            Ending::told(Status::Misunderstood, None)
         }
         WordsFault::Memory => {
             let status = tell_memory(sink);
             complain(sink, errors);
-            Ending {
-                status,
-                why: Some(Why::Memory),
-            }
+            Ending::told(status, Some(Why::Memory))
         }
     }
 }

@@ -8,7 +8,11 @@ use std::{env, io};
 use title_advice::{Heard, Progress};
 use title_device::{Device, Sink};
 use title_explain::explain;
-use title_program::{WordsFault, obey_words, refuse_untaken};
+use title_file::Drawer;
+use title_program::{WordsFault, obey_words_onto, refuse_untaken};
+
+/// What stands in a plant's file that is made: its head line, and a closed gate.
+const NEW_PLANT: &[u8] = b"titleplant plant 1\n-";
 
 fn words(rt: &HostRuntime) -> Result<Vec<String>, WordsFault> {
     let words = env::args(rt)?.skip(1).collect(rt.alloc())?;
@@ -24,7 +28,8 @@ fn main(rt: HostRuntime) -> ExitCode {
     let status = match words(&rt) {
         Ok(words) => {
             let words = words.as_slice();
-            let ending = obey_words(
+            let mut drawer = Drawer::new(&rt, NEW_PLANT);
+            let ending = obey_words_onto(
                 &rt,
                 rt.alloc(),
                 words,
@@ -32,10 +37,11 @@ fn main(rt: HostRuntime) -> ExitCode {
                 &mut sink,
                 &mut errors,
                 &mut progress,
+                &mut drawer,
             );
             progress.wipe();
-            // (That the output has failed is told already, in one line.)
-            if !sink.failed() {
+            // (That the output has failed is told already, in one line. A script may count all the same.)
+            if !sink.failed() || ending.counts_untold() {
                 explain(rt.alloc(), words, ending, &source, &mut errors);
             }
             ending.status

@@ -1,0 +1,49 @@
+-- What each command line makes the program do where there is a cabinet of plants' files.
+use Rattle.std.specs.Prelude.{◌≡◌, ◌⊎◌, ℕ, List, Bool, Option, Result, Ok, Err}
+use Rattle.title_plan.specs.declared.line.Schedule.{Schedule}
+use Rattle.title_plan.specs.declared.line.Schedule.TheVariants as schedule
+use Rattle.title_command.specs.declared.choice.Line.{Line}
+use Rattle.title_command.specs.declared.choice.Line.TheVariants.{Kept, Check}
+use Rattle.title_command.specs.declared.choice.LineFault.{LineFault}
+use Rattle.title_command.specs.declared.choice.Work.{Work}
+use Rattle.title_command.specs.declared.choice.Work.TheVariants as work
+use Rattle.title_program.specs.declared.status.Status.{Status}
+use Rattle.title_program.specs.Checking.{IsSeen, IsUnseen}
+use Rattle.title_program.specs.Keeping.{IsDayServed, IsUnopened}
+use Rattle.title_program.specs.Obeying.{IsObeyed, IsRefused, ReadsFor}
+
+-- how the transactions of a script come that is kept
+abbrev pub schedule_of : Work → Schedule
+schedule_of work.Run = schedule.Interleaved
+schedule_of work.Alone = schedule.Serial
+
+-- A file of the cabinet is seen by its bytes, by what a crash may leave of it, by its moment, by what a crash since one might have left,
+-- and by whether it has failed.
+module _ {D : Type 0} (seen : D → List ℕ) (may_leave : D → List ℕ → Type 0) (moment : D → ℕ) (left_since : D → ℕ → List ℕ → Type 0)
+    (has_failed : D → Bool) where
+  -- a script that is kept was served on top of its file, or the file wasn't opened
+  abbrev pub IsKeptServed : Schedule → Option ℕ → (left left_after : Option (List ℕ)) → (turns turns_after : ℕ)
+      → (taken taken_after : Option (List ℕ)) → (source_failed sink_failed : Bool) → (cut : ℕ) → Status → Type 0
+  IsKeptServed sched after left left_after turns turns_after taken taken_after source_failed sink_failed cut status =
+      IsUnopened left left_after taken taken_after sink_failed cut status
+      ⊎ IsDayServed seen may_leave moment left_since has_failed sched after left left_after turns turns_after taken taken_after
+      source_failed sink_failed cut status
+
+  -- the command was carried out, and so much of the source was read; only a script that is kept cuts bytes off
+  abbrev pub IsObeyedOnto : Line → (left left_after : Option (List ℕ)) → (turns turns_after : ℕ) → (taken taken_after : Option (List ℕ))
+      → (source_failed sink_failed : Bool) → (cut : ℕ) → Status → Type 0
+  IsObeyedOnto (Kept plant after how) left left_after turns turns_after taken taken_after source_failed sink_failed cut status =
+      IsKeptServed (schedule_of how) after left left_after turns turns_after taken taken_after source_failed sink_failed cut status
+  IsObeyedOnto (Check file as_script) left left_after turns turns_after taken taken_after source_failed sink_failed cut status =
+      (IsUnseen taken taken_after sink_failed status ⊎ IsSeen as_script taken taken_after sink_failed status)
+      × (left_after ≡ left) × (cut ≡ 0)
+  IsObeyedOnto line left left_after turns turns_after taken taken_after source_failed sink_failed cut status =
+      IsObeyed line left source_failed sink_failed taken taken_after status × ReadsFor line left left_after status × (cut ≡ 0)
+
+  -- what was asked for was done, or refused
+  abbrev pub IsAnsweredOnto : Result Line LineFault → (left left_after : Option (List ℕ)) → (turns turns_after : ℕ)
+      → (taken taken_after : Option (List ℕ)) → (source_failed sink_failed : Bool) → (cut : ℕ) → Status → Type 0
+  IsAnsweredOnto (Ok line) left left_after turns turns_after taken taken_after source_failed sink_failed cut status =
+      IsObeyedOnto line left left_after turns turns_after taken taken_after source_failed sink_failed cut status
+  IsAnsweredOnto (Err why) left left_after turns turns_after taken taken_after source_failed sink_failed cut status =
+      IsRefused why taken taken_after sink_failed status × (left_after ≡ left) × (cut ≡ 0)
