@@ -18,6 +18,7 @@ owners       sheets of eight sections, or of N, in which many parties own       
 many         sheets of 36 sections, or of N, after a twentieth of the steps are deeds there (for `alone`)
 turns        the same, sheets and deeds by turns                                           (for `alone`)
 histories    deeds in 64 sections and chains of them, of tens of entries                   (for `alone`)
+unions       deeds and releases of half a hundred squares of ten acres of a section each   (for `alone`)
 interleaved  eight examiners at work at once, in transactions of up to 20 steps            (for `run`)
 fifty        the same by fifty examiners                                                   (for `run`)
 short        the same in transactions of two deeds of single cells                         (for `run`)
@@ -189,6 +190,12 @@ def histories(chance, count):
         yield f"1,chain,{chance.choice(places)}"
 
 
+def union(chance):
+    """Fifty of the squares of ten acres of a section, in 919 bytes at most."""
+    squares = [f"{first}{second}{third}" for first in QUARTERS for second in QUARTERS for third in QUARTERS]
+    return f'"{section(chance)} {", ".join(chance.sample(squares, 50))}"'
+
+
 def interleaved_by(examiners):
     """Each turn is that of an examiner by chance; a transaction has up to 20 steps, and one of ten is aborted."""
 
@@ -310,6 +317,7 @@ KINDS = {
     "many": many,
     "turns": turns,
     "histories": histories,
+    "unions": deeds_of(union),
     "interleaved": interleaved_by(EXAMINERS),
     "fifty": interleaved_by(50),
     "short": short,

@@ -1,0 +1,229 @@
+#!/usr/bin/env python3
+"""Kills the built program at random moments of days on a plant's file, and lets several have one file at once.
+
+    kills.py [--program PROGRAM] [--count N] [--seed N] [--folder FOLDER] [TRIAL..]
+
+kills     N times (1,000 where nothing is said) a day of plant_days.py is served and killed by signal 9 at a random moment. What stands
+          then is what stood before, or that and all of the day, and where a byte of the report came, that: by another reader of the file
+          and by `check`. Where it stood before, the day is served again, with `--after`, and may be killed again; else the next day is
+second    one that reads its script has the file: a second is told so, and changes nothing; the first is killed, and the next is served
+crowd     sixteen at once on a file that isn't there, each with one transaction: as many stand as were told of theirs, and the others were
+          told that the file is in use
+
+With no trial named, all of them. What is wrong is named, and the status is 1 then.
+"""
+
+import argparse
+import collections
+import os
+import pathlib
+import random
+import signal
+import subprocess
+import sys
+import tempfile
+import time
+
+from crashes import all_days
+from endings import BUILT
+from plant_days import HEAD, Fault, read_plant, tail_of
+
+
+class Trial:
+    """What was tried, and what was wrong."""
+
+    def __init__(self, options, folder):
+        self.program, self.path, self.chance = str(options.program), folder / "plant", random.Random(options.seed)
+        self.count, self.counts, self.wrong = options.count, collections.Counter(), []
+
+    def fail(self, what, *seen):
+        self.counts["wrong"] += 1
+        if len(self.wrong) < 20:
+            self.wrong.append(f"{what}: " + ", ".join(repr(it)[:300] for it in seen))
+
+    def begin(self, words, script=subprocess.PIPE):
+        return subprocess.Popen([self.program, *words], stdin=script, stdout=subprocess.PIPE, stderr=subprocess.PIPE, env={})
+
+    def run(self, words, script=b""):
+        """One run: status, output and errors."""
+        child = self.begin(words)
+        output, errors = child.communicate(script)
+        return child.returncode, output, errors
+
+    def content(self):
+        return self.path.read_bytes() if self.path.exists() else HEAD + b"-"
+
+    def clear(self):
+        for path in self.path.parent.iterdir():
+            path.unlink()
+
+    def numbers(self, where):
+        """What stands, by another reader and by `check`; None where they differ."""
+        content = self.content()
+        try:
+            found, gate = read_plant(content)
+        except Fault as fault:
+            self.fail(f"{where}: no plant, row {fault}", content[-200:])
+            return None
+        wanted = found.numbers() + b"tail,%d\n" % tail_of(content, gate)
+        self.counts["torn"] += content[gate:] != b"-"
+        if self.path.exists():
+            status, output, errors = self.run(["check", str(self.path)])
+            if (status, output, errors) != (0, wanted, b""):
+                self.fail(f"{where}: check", status, output, errors, wanted)
+                return None
+        return found.numbers()
+
+
+def killed(trial, day, script, words, seconds):
+    """A run that is killed at a random moment: what it wrote, and whether it had ended."""
+    with open(script, "rb") as source:
+        child = trial.begin(words, source)
+    delay = trial.chance.uniform(0, seconds)
+    until = time.perf_counter() + delay
+    while time.perf_counter() < until:
+        pass
+    child.send_signal(signal.SIGKILL)
+    output, _ = child.communicate()
+    return output, child.returncode
+
+
+def kills(trial):
+    days, script = all_days(), trial.path.parent.parent / "script"
+    trial.clear()
+    # How long a day takes.
+    took = {}
+    for day in days:
+        start = time.perf_counter()
+        status, output, errors = trial.run([day.command, "--plant", str(trial.path)], day.script)
+        took[day.name] = time.perf_counter() - start
+        if status != 0 or output != day.report or trial.content() != day.after:
+            return trial.fail(f"{day.name}: the day", status, output, errors)
+    trial.clear()
+    place = 0
+    for number in range(trial.count):
+        day = days[place]
+        script.write_bytes(day.script)
+        words = [day.command, "--plant", str(trial.path), "--after", str(day.last)]
+        output, status = killed(trial, day, script, words, took[day.name] * 1.3)
+        trial.counts["killed" if status == -9 else "ended before"] += 1
+        trial.counts["with a byte of the report"] += bool(output)
+        where = f"kill {number}, {day.name}"
+        found = trial.numbers(where)
+        content = trial.content()
+        is_after = found == day.standing and content.startswith(day.after[:-1])
+        is_before = found == day.was and content.startswith(day.before[:-1])
+        if status == 0 and output != day.report or output and not day.report.startswith(output):
+            trial.fail(f"{where}: the report", status, output)
+        if not is_after and (output or not is_before):
+            trial.fail(f"{where}: neither before nor after, or told and not there", found, output, content[-200:])
+            trial.clear()
+            place = 0
+            continue
+        trial.counts["after" if is_after else "before"] += 1
+        if is_after:
+            place += 1
+        if place == len(days):
+            place = 0
+            trial.clear()
+    return None
+
+
+def is_locked_by(process):
+    """Waits until a process has locked a file."""
+    for _ in range(10_000):
+        rows = pathlib.Path("/proc/locks").read_text(encoding="utf-8").splitlines()
+        if any(row.split()[1] == "FLOCK" and row.split()[4] == str(process) for row in rows):
+            return True
+        time.sleep(0.001)
+    return False
+
+
+def second(trial):
+    """A second run on a file that one has."""
+    day, later = all_days()[:2]
+    for number in range(20):
+        # A new file is there, which none has to make under another name first.
+        trial.clear()
+        trial.path.write_bytes(HEAD + b"-")
+        words = [day.command, "--plant", str(trial.path)]
+        first = trial.begin(words)
+        first.stdin.write(day.script[:100])
+        first.stdin.flush()
+        if not is_locked_by(first.pid):
+            trial.fail(f"second {number}: the first doesn't begin")
+        status, output, errors = trial.run(words, day.script)
+        if (status, output, errors.count(b"\n")) != (1, b"fault,37\n", 1):
+            trial.fail(f"second {number}", status, output, errors)
+        if trial.content() != HEAD + b"-":
+            trial.fail(f"second {number}: the file", trial.content())
+        if number % 2:
+            first.kill()
+            first.communicate()
+            status, output, _ = trial.run(words, day.script)
+        else:
+            output, _ = first.communicate(day.script[100:])
+            status = first.returncode
+        if status != 0 or output != day.report or trial.content() != day.after:
+            trial.fail(f"second {number}: the next", status, output)
+        status, output, _ = trial.run([later.command, "--plant", str(trial.path)], later.script)
+        if status != 0 or output != later.report or trial.content() != later.after:
+            trial.fail(f"second {number}: the day after", status, output)
+        trial.counts["seconds"] += 1
+
+
+def crowd(trial):
+    """Several runs at once, on a file that isn't there."""
+    script = trial.path.parent.parent / "script"
+    script.write_bytes(b"1,begin\n1,commit\n")
+    for number in range(50):
+        trial.clear()
+        children = []
+        for _ in range(16):
+            with open(script, "rb") as source:
+                children.append(trial.begin(["alone", "--plant", str(trial.path)], source))
+        served = 0
+        for child in children:
+            output, errors = child.communicate()
+            if child.returncode == 0 and output.startswith(b"1,began\n1,committed,"):
+                served += 1
+            elif (child.returncode, output) != (1, b"fault,37\n"):
+                trial.fail(f"crowd {number}", child.returncode, output, errors)
+        found = trial.numbers(f"crowd {number}")
+        wanted = b"townships,0\nparties,1\ntransactions,%d\nposts,0\n" % served
+        if found != wanted or served == 0 or len(list(trial.path.parent.iterdir())) != 1:
+            trial.fail(f"crowd {number}: what stands", found, wanted, sorted(os.listdir(trial.path.parent)))
+        trial.counts["served"] += served
+        trial.counts["told that it is in use"] += len(children) - served
+
+
+TRIALS = {"kills": kills, "second": second, "crowd": crowd}
+
+
+def main():
+    parser = argparse.ArgumentParser(description=__doc__, formatter_class=argparse.RawDescriptionHelpFormatter)
+    parser.add_argument("--program", type=pathlib.Path, default=BUILT)
+    parser.add_argument("--count", type=int, default=1000)
+    parser.add_argument("--seed", type=int, default=1)
+    parser.add_argument("--folder", help="where the plants lie; a folder of the disk, else a temporary one")
+    parser.add_argument("trials", nargs="*", metavar="TRIAL")
+    options = parser.parse_args()
+    options.program = options.program.resolve()
+    wrong = 0
+    for name in options.trials or TRIALS:
+        start = time.monotonic()
+        with tempfile.TemporaryDirectory(prefix="kills-", dir=options.folder) as top:
+            folder = pathlib.Path(top) / "plants"
+            folder.mkdir()
+            trial = Trial(options, folder)
+            TRIALS[name](trial)
+        words = ", ".join(f"{count} {what}" for what, count in sorted(trial.counts.items()))
+        print(f"{name}: {words}; {trial.counts['wrong']} wrong; {time.monotonic() - start:.0f} s", flush=True)
+        for line in trial.wrong:
+            print(f"  WRONG {line}")
+        wrong += trial.counts["wrong"]
+    sys.exit(1 if wrong else 0)
+
+
+if __name__ == "__main__":
+    main()

@@ -1,0 +1,87 @@
+//! A plant's file on a disk that is torn and refuses calls: 200 transactions in eight days, and files written by hand. What stands
+//! is held against what the scripts put in, and against a second reading that shares no code with the first.
+//!
+//! By the word `memory` it only serves a few scripts, each call that wants memory being made once more: what it tells is the same
+//! whichever growth is refused, and standard error tells how many calls there were. `bench/refuse_growths.py` refuses each growth.
+#![tactic(auto)]
+
+mod day;
+mod days;
+mod devices;
+mod faults;
+mod files;
+mod lies;
+mod memory;
+mod second;
+mod served;
+mod split;
+mod tally;
+mod tearing;
+mod told;
+mod trial;
+
+use anyhow::Result;
+use day::{Day, Plant};
+use days::try_day;
+use faults::try_faults;
+use files::{try_beginnings, try_files};
+use memory::Wanted;
+use std::env;
+use std::rt::Files;
+use tearing::Depth;
+use title_lasting::Schedule;
+use told::try_script;
+
+// The days, one on top of the other: the last file.
+fn try_days<R: Files + Print + AllocGlobal>(rt: &R) -> Result<Plant> {
+    let days = [
+        ("monday", Schedule::Serial, Depth::Beginnings),
+        ("tuesday", Schedule::Interleaved, Depth::Bytes),
+        ("wednesday", Schedule::Serial, Depth::Beginnings),
+        ("thursday", Schedule::Serial, Depth::Beginnings),
+        ("friday", Schedule::Serial, Depth::Bytes),
+        ("saturday", Schedule::Serial, Depth::Beginnings),
+        ("sunday", Schedule::Interleaved, Depth::Beginnings),
+        ("later", Schedule::Serial, Depth::Beginnings),
+    ];
+    let mut plant = Plant::new(rt.alloc())?;
+    for (name, schedule, depth) in days {
+        let day = Day::read(rt, name, schedule)?;
+        plant = try_day(rt, plant, &day, depth)?;
+        try_script(rt, &day, &plant)?;
+    }
+    Ok(plant)
+}
+
+fn try_all<R: Files + Print + AllocGlobal>(rt: &R) -> Result<()> {
+    let plant = try_days(rt)?;
+    try_beginnings(rt, plant.file.as_slice())?;
+    let day = Day::read(rt, "monday", Schedule::Serial)?;
+    try_files(rt, &day)?;
+    try_faults(rt)
+}
+
+// Whether the first word asks for the calls that are made again where memory is refused.
+fn asks_for_memory(rt: &HostRuntime) -> Result<bool> {
+    for word in env::args(rt)?.skip(1) {
+        return Ok(word.as_str() == "memory");
+    }
+    Ok(false)
+}
+
+fn main(rt: HostRuntime) -> Result<()> {
+    let mut wanted = Wanted::new();
+    let is_of_memory = match asks_for_memory(&rt) {
+        Ok(asked) => asked,
+        Err(_) => {
+            wanted.count();
+            asks_for_memory(&rt)?
+        }
+    };
+    if !is_of_memory {
+        try_all(&rt)?;
+    }
+    memory::tell(&rt, rt.alloc(), &mut wanted)?;
+    eprintln!(rt; "growths: {} wanted memory", wanted.calls())?;
+    Ok(())
+}
