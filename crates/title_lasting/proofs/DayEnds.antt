@@ -1,10 +1,7 @@
 -- How a run on a plant's file ends: the file isn't opened, another place was expected, or a day was tried on it.
-use Rattle.std.proofs.Common.{◌≡◌, ◌∙◌, ◌≢◌, ◌≤◌, ◌+◌, ℕ, List, ◌++◌, Bool, Option, Some, None, IfSome, Result, Ok, Err, IfErr, OnOk}
-use Rattle.std.proofs.Common.{refl, sym, ap, subst, map, reverse, length, arith}
-use Rattle.std.proofs.lemmas.List.{length-map, length-reverse}
+use Rattle.std.proofs.Common.{◌≡◌, ◌∙◌, ◌≢◌, ℕ, List, Bool, Option, Some, None, IfSome, Result, Ok, Err, sym, ap, subst, length, arith}
 use Rattle.title_disk.specs.Crashes.{LeavesOnly, Only}
 use Rattle.title_disk.specs.Laws.Moments.{joined, weakened}
-use Rattle.title_journal.specs.Blocks.{blocks_in}
 use Rattle.title_journal.specs.Rest.{IsAtRest, StandsAlike}
 use Rattle.title_plan.specs.declared.line.Schedule.{Schedule}
 use Rattle.title_daybook.specs.Files.{IsPlant, standing_after, standing_in}

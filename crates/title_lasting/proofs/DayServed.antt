@@ -1,6 +1,6 @@
 -- A script that is served at a desk which has served what stood: what comes of it is the day's.
-use Rattle.std.proofs.Common.{◌≡◌, ◌∙◌, ◌≤◌, ◌<◌, ◌+◌, ◌^◌, ℕ, true, List, ◌++◌, length, map, take, drop, reverse}
-use Rattle.std.proofs.Common.{Option, Some, None, Result, Ok, refl, sym, ap, ap₂, subst, arith}
+use Rattle.std.proofs.Common.{◌≡◌, ◌∙◌, ◌≤◌, ◌<◌, ◌^◌, ℕ, true, List, length, map, take, drop, reverse}
+use Rattle.std.proofs.Common.{Option, Some, None, Result, Ok, refl, sym, ap, subst, arith}
 use Rattle.std.proofs.lemmas.List.{length-append, length-map, length-reverse, reverse-reverse, take_at}
 use mathlib.Core.List.{IsPrefix}
 use Rattle.title_land.specs.Depth.{depth}

@@ -7,7 +7,7 @@ use Rattle.std.proofs.lemmas.Slice.Eq.{bytes_eq-Decides}
 use Rattle.std.proofs.lemmas.List.Quantifiers.{position-Some}
 use Rattle.std.proofs.lemmas.Nat.{mul-le}
 use Rattle.std.proofs.lemmas.Str.{IsUtf8-from_ascii, IsUtf8-nil, is_utf8-from_IsUtf8}
-use Rattle.std.specs.List.{AllByRecursion, find, list_all, list_any, position, slice_split}
+use Rattle.std.specs.List.{AllByRecursion, find, list_all, list_any, slice_split}
 use Rattle.std.specs.Prelude.{◌==◌, codes, length, nat_le, nat_lt, option_map, slice_set}
 use Rattle.std.specs.Str.{IsAscii, bytes_eq, is_utf8}
 use Rattle.title_land.specs.Depth.{depth}

@@ -155,9 +155,13 @@ fn assert_at_fault(rt: &impl Abort, alloc: Global, blocks: &[(&str, usize)]) {
     }
 }
 
+// Quotes that needn't be there.
+const QUOTED: &str = "\"party\",ADAMS\n\"4\",\"begin\"\n4,\"commit\"\nend,1\n";
+
 // Blocks, and the rows at fault: the head is row 1, and the gate row 2.
-const BLOCKS: [(&str, usize); 14] = [
+const BLOCKS: [(&str, usize); 15] = [
     ("end,0\n", 0),
+    (QUOTED, 0),
     ("party,\"end,1\"\n1,begin\n1,commit\nend,1\n", 0),
     ("end,1\n", 3),
     (
@@ -194,6 +198,8 @@ const PLACES: [(u64, usize); 6] = [(0, 1), (1, 6), (2, 12), (3, 16), (4, 17), (5
 fn a_transaction_ends_in_its_row(rt: HostRuntime) {
     let found = read_blocks(&rt, rt.alloc(), &[FIRST, SECOND]);
     assert_rows(&rt, &found, &PLACES);
+    let quoted = read_blocks(&rt, rt.alloc(), &[QUOTED]);
+    assert!(rt; row_of(&quoted, 1) == 5);
 }
 
 // ---- writing

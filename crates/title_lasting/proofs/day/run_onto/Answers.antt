@@ -6,6 +6,13 @@ use Rattle.title_daybook.specs.Books.{standing_of}
 use Rattle.title_lasting.proofs.DayEnds.{alike_stands, at_rest_rests, expected_is, lasts_there, unexpected_ends, unopened_ends}
 use Rattle.title_lasting.proofs.day.run_onto.Goals as goal
 
+pub returns-in-Err-clause-day : goal.returns-in-Err-clause-day
+returns-in-Err-clause-day g c =
+    unopened_ends g.D.Disk.seen g.D.Disk.may_leave g.D.Disk.moment g.D.Disk.left_since c.args.schedule c.args.after
+    (g.R.Source.left c.args.source.now) (g.W.Sink.taken c.args.sink.now) (g.R.Source.turns c.args.source.now) c.args.disk.now
+    c.open.new.disk (g.D.Disk.has_failed c.open.new.disk) (g.R.Source.has_failed c.args.source.now)
+    (g.W.Sink.has_failed c.args.sink.now) c.open.ensures.any_moment c.in-Err.fault c.in-Err.ensures.why c.in-Err.ensures.left
+
 pub returns-then-is_unexpected-clause-day : goal.returns-then-is_unexpected-clause-day
 returns-then-is_unexpected-clause-day g c =
     let deeds = c.in-Ok.opened.stands.deeds in

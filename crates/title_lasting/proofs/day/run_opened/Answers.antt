@@ -1,15 +1,26 @@
 -- No day is made of what stood, the block isn't put into the file, or the report isn't written; or all is done.
-use Rattle.std.proofs.Common.{Err, ap}
+use Rattle.std.proofs.Common.{ℕ, Err, None, Option, Some, IfSome, ap}
+use Rattle.std.specs.Global.{Vec}
 use Rattle.std.proofs.lemmas.Result.{err_from_is_err_and}
 use Rattle.title_disk.specs.Crashes.{LeavesOnly}
 use Rattle.title_disk.specs.Laws.Moments.{weakened}
+use Rattle.title_journal.specs.Blocks.{IsBlock}
 use Rattle.title_journal.specs.Rest.{StandsAlike}
 use Rattle.title_daybook.specs.Books.{standing_of}
+use Rattle.title_daybook.specs.Standing.{Standing}
+use Rattle.title_lasting.specs.Kept.{text_in}
+use Rattle.title_lasting.specs.Made.{Adds}
 use Rattle.title_lasting.specs.Openings.{StandsAs}
 use Rattle.title_lasting.proofs.DayEnds.{alike_stands}
 use Rattle.title_lasting.proofs.Endings.{ends_told, ends_unmade, ends_unput, ends_untold}
 use Rattle.title_lasting.proofs.FileOpened.{untouched}
 use Rattle.title_lasting.proofs.day.run_opened.Goals as goal
+
+-- what a day adds is a block
+block_is : (block : Option (Vec ℕ)) (before after : Standing) → Adds (text_in block) before after
+    → IfSome block (λ text. IsBlock text.items)
+block_is None before after adds = tt
+block_is (Some text) before after adds = adds.0
 
 pub returns-in_err-made : goal.returns-in_err-made
 returns-in_err-made g c =
@@ -27,6 +38,9 @@ returns-in_err-made g c =
           (LeavesOnly g.D.Disk.moment g.D.Disk.left_since disk disk) (weakened g.D.Disk.moment g.D.Disk.left_since disk disk)
           c.in_err-made.field-0.0 (g.D.Disk.may_leave disk) c.in_err-made.ensures.why c.requires.rest.durable same);
     }
+
+pub put_block-requires-clause-block : goal.put_block-requires-clause-block
+put_block-requires-clause-block g c = block_is c.in_ok-made.made.block _ _ c.in_ok-made.ensures.made.adds
 
 pub returns-in_err-put_block : goal.returns-in_err-put_block
 returns-in_err-put_block g c =

@@ -1,5 +1,5 @@
 -- What stood was served, its script is read on top of it, and what comes of that is the day's.
-use Rattle.std.proofs.Common.{◌≡◌, ◌∙◌, ◌≤◌, ℕ, List, length, refl, subst, sym, take}
+use Rattle.std.proofs.Common.{◌∙◌, ◌≤◌, ℕ, List, length, refl, subst, sym, take}
 use Rattle.std.proofs.lemmas.List.{length-map}
 use Rattle.std.specs.String.{string_bytes}
 use Rattle.title_land.specs.declared.place.Township.{Township}

@@ -17,7 +17,8 @@ returns-clause-stands c =
     let stood = c.args.self.now.stood in
     let old = asked_in c.args.self.now.plan in
     let new = asked_in c.take_record.new.self in
-    let grown = row_grows c.args.schedule (first_of stood old) c.args.n old new (fields_of c.replace-raw.result) c.in_ok-self.ensures.ok in (
+    let ok = c.in_ok-self.ensures.ok in
+    let grown = row_grows c.args.schedule (first_of stood old) c.args.n old new (fields_of c.replace-raw.result) ok in (
       length_grown stood.townships old.townships new.townships grown.0 c.requires.stands.0,
       length_grown stood.parties old.names new.names grown.1 c.requires.stands.1,
     )
