@@ -17,24 +17,26 @@ pub const ESTATES: [&str; 3] = ["S", "O", "M"];
 /// Those of minerals.
 pub const MINERALS: [&str; 2] = ["O", "M"];
 
-/// A script as it is made, row by row, and the report that it has to have.
+/// A script as it is made, row by row, and the report that it has to have. Once a row finds no memory, the script isn't run.
 #[derive(Drop)]
 pub struct Case {
     alloc: Global,
     script: String,
     report: String,
     tried: Tried,
+    is_short: bool,
 }
 
 /// How many steps scripts had that were tried, and how many rows their reports.
-#[derive(Clone, Copy, Default)]
+#[derive(Clone, Copy)]
 pub struct Tried {
     steps: u32,
     rows: u32,
 }
 
-fn add_line(text: &mut String, line: impl Display + Drop) -> Result<(), AllocError> {
-    write!(text, "{line}\n")
+// Adds a line; false where there is no memory for it.
+fn is_added(text: &mut String, line: impl Display + Drop) -> bool {
+    write!(text, "{line}\n").is_ok()
 }
 
 // What a run of a script writes.
@@ -43,6 +45,15 @@ fn written(alloc: Global, schedule: Schedule, script: &str) -> Result<Vec<u8>, R
     let mut sink = Device::new(Vec::new(alloc));
     run_by(alloc, schedule, &mut source, &mut sink, &mut Unwatched)?;
     Ok(sink.into_inner())
+}
+
+// A report has to be this.
+fn is_report(alloc: Global, came: &[u8], wanted: &str) -> Result<()> {
+    if came == wanted.as_bytes() {
+        return Ok(());
+    }
+    let came = String::from_utf8_lossy(alloc, came)?;
+    tell_difference(came.as_str(), wanted)
 }
 
 // Tells the first line at which a report isn't as it has to be.
@@ -83,61 +94,62 @@ impl Case {
             alloc,
             script: String::new(alloc),
             report: String::new(alloc),
-            tried: Tried::default(),
+            tried: Tried { steps: 0, rows: 0 },
+            is_short: false,
         }
     }
 
     /// Adds a row that declares something.
-    pub fn declare(&mut self, row: impl Display + Drop) -> Result<(), AllocError> {
-        add_line(&mut self.script, row)
+    pub fn declare(&mut self, row: impl Display + Drop) {
+        self.is_short |= !is_added(&mut self.script, row);
     }
 
     /// Adds a step.
-    pub fn ask(&mut self, row: impl Display + Drop) -> Result<(), AllocError> {
+    pub fn ask(&mut self, row: impl Display + Drop) {
         self.tried.steps = self.tried.steps.saturating_add(1);
-        add_line(&mut self.script, row)
+        self.is_short |= !is_added(&mut self.script, row);
     }
 
     /// Adds a row that comes next in the report.
-    pub fn want(&mut self, row: impl Display + Drop) -> Result<(), AllocError> {
+    pub fn want(&mut self, row: impl Display + Drop) {
         self.tried.rows = self.tried.rows.saturating_add(1);
-        add_line(&mut self.report, row)
+        self.is_short |= !is_added(&mut self.report, row);
+    }
+
+    /// Adds rows that come next in the report.
+    pub fn want_all(&mut self, rows: &[&'static str]) {
+        for row in rows {
+            self.want(*row);
+        }
     }
 
     /// Adds a step of an examiner that is answered in one row.
-    pub fn step(
-        &mut self,
-        examiner: u32,
-        step: impl Display + Drop,
-        reply: impl Display + Drop,
-    ) -> Result<(), AllocError> {
-        self.ask(format_args!("{examiner},{step}"))?;
-        self.want(format_args!("{examiner},{reply}"))
+    pub fn step(&mut self, examiner: u32, step: impl Display + Drop, reply: impl Display + Drop) {
+        self.ask(format_args!("{examiner},{step}"));
+        self.want(format_args!("{examiner},{reply}"));
+    }
+
+    /// Adds steps that are answered in one row each, as script and report have them.
+    pub fn steps(&mut self, steps: &[(&'static str, &'static str)]) {
+        for (step, reply) in steps {
+            self.ask(*step);
+            self.want(*reply);
+        }
     }
 
     /// Declares the first so many townships.
-    pub fn declare_townships(&mut self, count: u32) -> Result<(), AllocError> {
+    pub fn declare_townships(&mut self, count: u32) {
         for number in 0..count {
             let township = Place::Township(number);
-            self.declare(format_args!("township,{township}"))?;
+            self.declare(format_args!("township,{township}"));
         }
-        Ok(())
     }
 
     /// Declares the first so many townships, ADAMS and BELL.
-    pub fn declare_plant(&mut self, townships: u32) -> Result<(), AllocError> {
-        self.declare_townships(townships)?;
-        self.declare("party,ADAMS")?;
-        self.declare("party,BELL")
-    }
-
-    /// Declares parties by their names, as rows have them.
-    pub fn declare_parties(&mut self, names: &[String]) -> Result<(), AllocError> {
-        for name in names {
-            let name = name.as_str();
-            self.declare(format_args!("party,{name}"))?;
-        }
-        Ok(())
+    pub fn declare_plant(&mut self, townships: u32) {
+        self.declare_townships(townships);
+        self.declare("party,ADAMS");
+        self.declare("party,BELL");
     }
 
     /// Adds a row of a sheet: who owns how much of an estate where.
@@ -146,59 +158,46 @@ impl Case {
         examiner: u32,
         place: Place,
         estate: &str,
-        name: &str,
+        name: impl Display + Drop,
         portion: Portion,
-    ) -> Result<(), AllocError> {
-        self.want(format_args!("{examiner},row,{place},{estate},{name},{portion}"))
+    ) {
+        self.want(format_args!("{examiner},row,{place},{estate},{name},{portion}"));
     }
 
     /// Adds the rows of some estates in a place that UNITED STATES owns.
-    pub fn want_unsold(
-        &mut self,
-        examiner: u32,
-        place: Place,
-        estates: &[&'static str],
-    ) -> Result<(), AllocError> {
+    pub fn want_unsold(&mut self, examiner: u32, place: Place, estates: &[&'static str]) {
         for estate in estates {
-            self.want_owner(examiner, place, *estate, GOVERNMENT, ALL)?;
+            self.want_owner(examiner, place, *estate, GOVERNMENT, ALL);
         }
-        Ok(())
     }
 
     /// Adds a sheet of a place, of so many rows; they come next.
-    pub fn sheet(&mut self, examiner: u32, place: Place, rows: u32) -> Result<(), AllocError> {
-        self.step(
-            examiner,
-            format_args!("sheet,{place}"),
-            format_args!("sheet,{rows}"),
-        )
+    pub fn sheet(&mut self, examiner: u32, place: Place, rows: u32) {
+        let sheet = format_args!("sheet,{place}");
+        self.step(examiner, sheet, format_args!("sheet,{rows}"));
     }
 
     /// Adds a chain of a place, of so many entries; they come next.
-    pub fn chain(&mut self, examiner: u32, place: Place, entries: u32) -> Result<(), AllocError> {
-        self.step(
-            examiner,
-            format_args!("chain,{place}"),
-            format_args!("chain,{entries}"),
-        )
+    pub fn chain(&mut self, examiner: u32, place: Place, entries: u32) {
+        let chain = format_args!("chain,{place}");
+        self.step(examiner, chain, format_args!("chain,{entries}"));
     }
 
     /// Adds a sheet of a place that UNITED STATES owns in all estates.
-    pub fn sheet_unsold(&mut self, examiner: u32, place: Place) -> Result<(), AllocError> {
-        self.sheet(examiner, place, 3)?;
-        self.want_unsold(examiner, place, &ESTATES)
+    pub fn sheet_unsold(&mut self, examiner: u32, place: Place) {
+        self.sheet(examiner, place, 3);
+        self.want_unsold(examiner, place, &ESTATES);
     }
 
     /// Runs the script; how much there was of it. An error tells where its report isn't the one that it has to have.
     pub fn run(mut self, schedule: Schedule) -> Result<Tried> {
         let (tried, steps) = (self.tried, self.tried.steps);
-        self.want(format_args!("end,{steps}"))?;
-        let came = written(self.alloc, schedule, self.script.as_str())?;
-        let wanted = self.report.as_str();
-        if came.as_slice() != wanted.as_bytes() {
-            let came = String::from_utf8_lossy(self.alloc, came.as_slice())?;
-            tell_difference(came.as_str(), wanted)?;
+        self.want(format_args!("end,{steps}"));
+        if self.is_short {
+            bail!("a script of {steps} steps finds no memory");
         }
+        let came = written(self.alloc, schedule, self.script.as_str())?;
+        is_report(self.alloc, came.as_slice(), self.report.as_str())?;
         Ok(tried)
     }
 }

@@ -2,13 +2,13 @@
 
 use crate::place::{Place, township};
 use crate::portion::WHOLE;
-use anyhow::{Result, bail};
+use anyhow::{Error, Result, anyhow, bail};
 use std::alloc::{AllocError, Global};
 use std::fmt;
 use title_chain::{Answer, Ask, Entries, Posting, SheetRows, Terms};
 use title_desk::{Desk, may_open};
 use title_instrument::{Deed, Estate, Estates, Instrument, Quantum, Release};
-use title_land::{Township, Tract};
+use title_land::{Node, Township, Tract};
 use title_lock::NodeLocks;
 use title_share::Share;
 use title_store::SheetRow;
@@ -40,17 +40,34 @@ pub const ESTATES: [Estate; 3] = [Estate::S, Estate::O, Estate::M];
 /// Those of minerals.
 pub const MINERALS: [Estate; 2] = [Estate::O, Estate::M];
 
-/// Rows of a sheet, as they have to be.
+/// What is asked in a tract.
+#[derive(Clone, Copy)]
+pub enum Wish {
+    Sheet,
+    Chain,
+    Sell(Sale),
+    Release(Release),
+}
+
+/// Rows of a sheet, as they have to be. Once a row finds no memory, no sheet has them.
 #[derive(Drop)]
 pub struct Rows {
     rows: Vec<SheetRow>,
+    is_short: bool,
 }
 
 /// Who asks a desk over trees and locks by node, as scripts do.
-#[derive(Drop)]
 pub struct Clerk {
     alloc: Global,
     desk: Desk<TreeStore, NodeLocks>,
+}
+
+// By hand, so that whoever lets one go sees one call.
+impl Drop for Clerk {
+    fn drop(self) {
+        let Clerk { alloc: _, desk } = self;
+        drop(desk);
+    }
 }
 
 /// A reply in the words of a report, but for the rows of a list.
@@ -90,13 +107,21 @@ impl fmt::Display for Told<'_> {
     }
 }
 
+fn words_of(alloc: Global, reply: &Reply) -> Result<String, AllocError> {
+    format!(in alloc; "{}", Told(reply))
+}
+
 // A reply has to be told so.
 fn is_told(alloc: Global, reply: &Reply, wanted: &str) -> Result<()> {
-    let told = format!(in alloc; "{}", Told(reply))?;
-    if told.as_str() != wanted {
-        bail!("{told} was replied, and not {wanted}");
+    let told = words_of(alloc, reply)?;
+    if told.as_str() == wanted {
+        return Ok(());
     }
-    Ok(())
+    bail!("{told} was replied, and not {wanted}");
+}
+
+fn no_list(reply: &Reply) -> Error {
+    anyhow!("{} was replied, and no list", Told(reply))
 }
 
 // The first so many townships.
@@ -119,18 +144,6 @@ fn post(alloc: Global, doc: u64, tract: Tract, instrument: Instrument) -> Result
     Ok(Ask::Post(Posting::new(alloc, terms)?))
 }
 
-/// The ask to post a release in a tract.
-pub fn release(
-    alloc: Global,
-    from: u32,
-    to: u32,
-    estates: Estates,
-    tract: Tract,
-) -> Result<Ask, AllocError> {
-    let instrument = Instrument::Release(Release { from, to, estates });
-    post(alloc, 1, tract, instrument)
-}
-
 impl Sale {
     fn instrument(self, share: Share) -> Instrument {
         Instrument::Deed(Deed {
@@ -143,12 +156,23 @@ impl Sale {
         })
     }
 
-    /// The ask to post it in a tract.
-    pub fn ask(self, alloc: Global, tract: Tract) -> Result<Ask> {
-        let Some(share) = Share::new(self.units) else {
-            bail!("{} units are no share", self.units);
-        };
-        Ok(post(alloc, self.document, tract, self.instrument(share))?)
+    fn ask(self, alloc: Global, tract: Tract) -> Result<Ask> {
+        match Share::new(self.units) {
+            Some(share) => Ok(post(alloc, self.document, tract, self.instrument(share))?),
+            None => bail!("{} units are no share", self.units),
+        }
+    }
+}
+
+impl Wish {
+    fn ask(self, alloc: Global, tract: &Tract) -> Result<Ask> {
+        let tract = tract.copy(alloc)?;
+        match self {
+            Wish::Sheet => Ok(Ask::Sheet(tract)),
+            Wish::Chain => Ok(Ask::Chain(tract)),
+            Wish::Sell(sale) => sale.ask(alloc, tract),
+            Wish::Release(release) => Ok(post(alloc, 1, tract, Instrument::Release(release))?),
+        }
     }
 }
 
@@ -157,20 +181,25 @@ impl Rows {
     pub fn new(alloc: Global) -> Rows {
         Rows {
             rows: Vec::new(alloc),
+            is_short: false,
         }
     }
 
     /// Adds rows: party 0 owns these estates in a place.
-    pub fn add_unsold(&mut self, place: Place, estates: &[Estate]) -> Result<()> {
+    pub fn add_unsold(&mut self, place: Place, estates: &[Estate]) {
         for estate in estates {
-            self.add(place, *estate, 0, WHOLE)?;
+            self.add(place, *estate, 0, WHOLE);
         }
-        Ok(())
     }
 
-    /// Adds a row: a party owns so many units of an estate in a place.
-    pub fn add(&mut self, place: Place, estate: Estate, party: u32, units: u64) -> Result<()> {
-        let node = place.node()?;
+    // Adds a row in a node.
+    fn add_in(
+        &mut self,
+        node: Node,
+        estate: Estate,
+        party: u32,
+        units: u64,
+    ) -> Result<(), AllocError> {
         self.rows.push(SheetRow {
             node,
             estate,
@@ -180,10 +209,19 @@ impl Rows {
         Ok(())
     }
 
+    /// Adds a row: a party owns so many units of an estate in a place.
+    pub fn add(&mut self, place: Place, estate: Estate, party: u32, units: u64) {
+        let is_added = match place.found() {
+            Some(node) => self.add_in(node, estate, party, units).is_ok(),
+            None => false,
+        };
+        self.is_short |= !is_added;
+    }
+
     /// The rows of a sheet have to be these.
     pub fn are(&self, sheet: &SheetRows) -> Result<()> {
         let (came, wanted) = (sheet.as_slice().len(), self.rows.len());
-        if came != wanted {
+        if self.is_short || came != wanted {
             bail!("a sheet has {came} rows, and not {wanted}");
         }
         for (row, wanted) in sheet.as_slice().iter().zip(&self.rows) {
@@ -195,14 +233,23 @@ impl Rows {
     }
 }
 
+// Opens a desk for these townships.
+fn open_for(
+    alloc: Global,
+    parties: u32,
+    townships: &[Township],
+) -> Result<Desk<TreeStore, NodeLocks>> {
+    if !may_open(parties, townships) {
+        bail!("no desk is opened for {parties} parties");
+    }
+    Ok(Desk::open(alloc, parties, townships)?)
+}
+
 impl Clerk {
     /// Opens a desk for so many parties, numbered from 0, and the first so many townships.
     pub fn open(alloc: Global, parties: u32, count: u32) -> Result<Clerk> {
         let townships = townships(alloc, count)?;
-        if !may_open(parties, townships.as_slice()) {
-            bail!("no desk is opened for {parties} parties and {count} townships");
-        }
-        let desk = Desk::open(alloc, parties, townships.as_slice())?;
+        let desk = open_for(alloc, parties, townships.as_slice())?;
         Ok(Clerk { alloc, desk })
     }
 
@@ -222,49 +269,56 @@ impl Clerk {
         is_told(self.alloc, &reply, wanted)
     }
 
-    // The reply to an ask as a transaction of its own.
-    fn reply_alone(&mut self, ask: Ask) -> Result<Reply> {
+    // The reply to an ask as a transaction of its own; whoever has one open is in the way.
+    fn reply_alone(&mut self, ask: Ask) -> Reply {
         match self.desk.first_open() {
-            None => Ok(self.desk.serve_alone(EXAMINER, ask)),
-            Some(examiner) => bail!("examiner {examiner} has a transaction open"),
+            None => self.desk.serve_alone(EXAMINER, ask),
+            Some(examiner) => Reply::Conflict(examiner),
         }
     }
 
-    /// Serves an ask as a transaction of its own, to which this has to be the reply.
-    pub fn alone(&mut self, ask: Ask, wanted: &str) -> Result<()> {
-        let reply = self.reply_alone(ask)?;
+    /// Serves a step in a tract as a transaction of its own, to which this has to be the reply.
+    pub fn alone(&mut self, wish: Wish, tract: &Tract, wanted: &str) -> Result<()> {
+        let ask = wish.ask(self.alloc, tract)?;
+        let reply = self.reply_alone(ask);
         is_told(self.alloc, &reply, wanted)
     }
 
-    /// Serves a post as a transaction of its own, which has to be done.
-    pub fn post_alone(&mut self, ask: Ask) -> Result<()> {
-        match self.reply_alone(ask)? {
-            Reply::Answered(Answer::Posted) => Ok(()),
-            reply => is_told(self.alloc, &reply, "posted"),
+    /// The same in a place.
+    pub fn alone_at(&mut self, wish: Wish, place: Place, wanted: &str) -> Result<()> {
+        self.alone(wish, &place.tract()?, wanted)
+    }
+
+    /// Serves a step in a tract, of an open transaction, to which this has to be the reply.
+    pub fn step(&mut self, examiner: u32, wish: Wish, tract: &Tract, wanted: &str) -> Result<()> {
+        let ask = wish.ask(self.alloc, tract)?;
+        self.serve(Request::Step(examiner, ask), wanted)
+    }
+
+    /// The same in a place.
+    pub fn step_at(&mut self, examiner: u32, wish: Wish, place: Place, wanted: &str) -> Result<()> {
+        self.step(examiner, wish, &place.tract()?, wanted)
+    }
+
+    /// The sheet of a tract, asked for alone, has to have these rows.
+    pub fn shows(&mut self, tract: &Tract, rows: &Rows) -> Result<()> {
+        let ask = Ask::Sheet(tract.copy(self.alloc)?);
+        match self.reply_alone(ask) {
+            Reply::Answered(Answer::Rows(sheet)) => rows.are(&sheet),
+            reply => Err(no_list(&reply)),
         }
     }
 
-    /// Serves a post of an open transaction, which has to be done.
-    pub fn post(&mut self, examiner: u32, ask: Ask) -> Result<()> {
-        match self.desk.serve(Request::Step(examiner, ask)) {
-            Reply::Answered(Answer::Posted) => Ok(()),
-            reply => is_told(self.alloc, &reply, "posted"),
-        }
+    /// The same in a place.
+    pub fn shows_at(&mut self, place: Place, rows: &Rows) -> Result<()> {
+        self.shows(&place.tract()?, rows)
     }
 
-    /// The sheet of a tract, asked for alone.
-    pub fn sheet(&mut self, tract: Tract) -> Result<SheetRows> {
-        match self.reply_alone(Ask::Sheet(tract))? {
-            Reply::Answered(Answer::Rows(rows)) => Ok(rows),
-            reply => bail!("{} was replied, and no sheet", Told(&reply)),
-        }
-    }
-
-    /// The chain of a tract, asked for alone.
-    pub fn chain(&mut self, tract: Tract) -> Result<Entries> {
-        match self.reply_alone(Ask::Chain(tract))? {
+    /// The chain of a place, asked for alone.
+    pub fn chain_at(&mut self, place: Place) -> Result<Entries> {
+        match self.reply_alone(Ask::Chain(place.tract()?)) {
             Reply::Answered(Answer::Entries(entries)) => Ok(entries),
-            reply => bail!("{} was replied, and no chain", Told(&reply)),
+            reply => Err(no_list(&reply)),
         }
     }
 }

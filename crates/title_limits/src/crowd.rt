@@ -1,11 +1,11 @@
 //! A cell that as many parties own as there may be, and one less, at a desk.
 
-use crate::clerk::{Clerk, MINERALS, Rows, SURFACE, Sale, release};
+use crate::clerk::{Clerk, MINERALS, Rows, SURFACE, Sale, Wish};
 use crate::place::Place;
 use crate::portion::WHOLE;
 use anyhow::Result;
 use std::alloc::Global;
-use title_instrument::Estate;
+use title_instrument::{Estate, Release};
 
 // As many as a plant may have, party 0 among them.
 const PARTIES: u32 = 65_536;
@@ -13,7 +13,7 @@ const PARTIES: u32 = 65_536;
 // What each of them gets of the surface, and party 0 keeps.
 const UNITS: u64 = WHOLE / 65_536;
 
-fn sell(alloc: Global, clerk: &mut Clerk, cell: Place) -> Result<()> {
+fn sell(clerk: &mut Clerk, cell: Place) -> Result<()> {
     for grantee in 1..PARTIES {
         let sale = Sale {
             document: u64::from(grantee),
@@ -21,41 +21,50 @@ fn sell(alloc: Global, clerk: &mut Clerk, cell: Place) -> Result<()> {
             grantee,
             units: UNITS,
         };
-        clerk.post_alone(sale.ask(alloc, cell.tract()?)?)?;
+        clerk.alone_at(Wish::Sell(sale), cell, "posted")?;
     }
     Ok(())
 }
 
 // The rows of the cell's sheet when a party has so much of the surface, and each one behind it its part.
-fn rows(alloc: Global, cell: Place, first: u32, units: u64) -> Result<Rows> {
+fn rows(alloc: Global, cell: Place, first: u32, units: u64) -> Rows {
     let mut rows = Rows::new(alloc);
-    rows.add(cell, Estate::S, first, units)?;
+    rows.add(cell, Estate::S, first, units);
     for party in first.saturating_add(1)..PARTIES {
-        rows.add(cell, Estate::S, party, UNITS)?;
+        rows.add(cell, Estate::S, party, UNITS);
     }
-    rows.add_unsold(cell, &MINERALS)?;
-    Ok(rows)
+    rows.add_unsold(cell, &MINERALS);
+    rows
 }
 
 // The sheet of the cell has to be this when a party has so much of the surface, and each one behind it its part.
 fn is_shown(alloc: Global, clerk: &mut Clerk, cell: Place, first: u32, units: u64) -> Result<()> {
-    let rows = rows(alloc, cell, first, units)?;
-    rows.are(&clerk.sheet(cell.tract()?)?)
+    clerk.shows_at(cell, &rows(alloc, cell, first, units))
 }
 
 // Party 0 releases its part to the next.
-fn release_first(alloc: Global, clerk: &mut Clerk, cell: Place) -> Result<()> {
-    clerk.post_alone(release(alloc, 0, 1, SURFACE, cell.tract()?)?)
+const RELEASE: Release = Release {
+    from: 0,
+    to: 1,
+    estates: SURFACE,
+};
+
+// How many calls there were.
+fn try_all(alloc: Global, clerk: &mut Clerk) -> Result<usize> {
+    let cell = Place::cell(0);
+    sell(clerk, cell)?;
+    is_shown(alloc, clerk, cell, 0, UNITS)?;
+    clerk.alone_at(Wish::Release(RELEASE), cell, "posted")?;
+    is_shown(alloc, clerk, cell, 1, UNITS * 2)?;
+    Ok(clerk.calls())
+}
+
+fn calls(alloc: Global) -> Result<usize> {
+    try_all(alloc, &mut Clerk::open(alloc, PARTIES, 1)?)
 }
 
 /// The sheet of the cell when all own the same, and when party 0 has released its part to the next.
 pub fn count(alloc: Global) -> Result<String> {
-    let cell = Place::cell(0);
-    let mut clerk = Clerk::open(alloc, PARTIES, 1)?;
-    sell(alloc, &mut clerk, cell)?;
-    is_shown(alloc, &mut clerk, cell, 0, UNITS)?;
-    release_first(alloc, &mut clerk, cell)?;
-    is_shown(alloc, &mut clerk, cell, 1, UNITS * 2)?;
-    let calls = clerk.calls();
+    let calls = calls(alloc)?;
     Ok(format!(in alloc; "{PARTIES} owners, {calls} calls")?)
 }

@@ -1,6 +1,6 @@
 //! As many deeds as a script has rows, each a transaction of its own or many in one.
 
-use crate::clerk::{Clerk, MINERALS, Rows, Sale};
+use crate::clerk::{Clerk, MINERALS, Rows, Sale, Wish};
 use crate::place::{CELLS, Place};
 use crate::portion::WHOLE;
 use anyhow::{Result, bail};
@@ -27,13 +27,13 @@ const ONE_MORE: [(u32, u32); 4] = [(1, 0), (1, 1), (2, 8), (2, 9)];
 
 const OTHERS: [(u32, u32); 3] = [(2, 10), (2, 11), (1, 3)];
 
-fn sale(document: u32) -> Sale {
-    Sale {
+fn sale(document: u32) -> Wish {
+    Wish::Sell(Sale {
         document: u64::from(document),
         grantor: 0,
         grantee: 1,
         units: UNITS,
-    }
+    })
 }
 
 fn cell(document: u32) -> Place {
@@ -48,24 +48,28 @@ fn is_tidy(clerk: &Clerk, document: u32) -> Result<()> {
 }
 
 // Adds the rows of squares in which so many deeds were posted.
-fn add_rows(rows: &mut Rows, squares: &[(u32, u32)], deeds: u64) -> Result<()> {
+fn add_rows(rows: &mut Rows, squares: &[(u32, u32)], deeds: u64) {
     let sold = UNITS.saturating_mul(deeds);
     for (level, number) in squares {
         let place = Place::square(*level, *number);
-        rows.add(place, Estate::S, 0, WHOLE.saturating_sub(sold))?;
-        rows.add(place, Estate::S, 1, sold)?;
+        rows.add(place, Estate::S, 0, WHOLE.saturating_sub(sold));
+        rows.add(place, Estate::S, 1, sold);
     }
-    Ok(())
 }
 
-// The closing sheet of the section has to be this, and the trees tidy.
+// The closing sheet of a section.
+fn closing_rows(alloc: Global, section: Place) -> Rows {
+    let mut rows = Rows::new(alloc);
+    add_rows(&mut rows, &ONE_MORE, 391);
+    add_rows(&mut rows, &OTHERS, 390);
+    rows.add_unsold(section, &MINERALS);
+    rows
+}
+
+// The closing sheet has to be this, and the trees tidy.
 fn is_closed(alloc: Global, clerk: &mut Clerk) -> Result<()> {
     let section = Place::section(1);
-    let mut rows = Rows::new(alloc);
-    add_rows(&mut rows, &ONE_MORE, 391)?;
-    add_rows(&mut rows, &OTHERS, 390)?;
-    rows.add_unsold(section, &MINERALS)?;
-    rows.are(&clerk.sheet(section.tract()?)?)?;
+    clerk.shows_at(section, &closing_rows(alloc, section))?;
     is_tidy(clerk, DEEDS)
 }
 
@@ -77,10 +81,9 @@ fn is_entry(entry: Option<&Entry>, place: u32, document: u32) -> Result<()> {
     Ok(())
 }
 
-// The chain of the section has all deeds, so many of them in each record.
-fn is_chained(clerk: &mut Clerk, in_one: u32) -> Result<()> {
-    let chain = clerk.chain(Place::section(1).tract()?)?;
-    let mut entries = chain.as_slice().iter();
+// A chain has all deeds, so many of them in each record.
+fn is_chain(chain: &[Entry], in_one: u32) -> Result<()> {
+    let mut entries = chain.iter();
     for deed in 0..DEEDS {
         let record = deed.checked_div(in_one).unwrap_or(0);
         is_entry(entries.next(), record.saturating_add(1), deed + 1)?;
@@ -91,53 +94,71 @@ fn is_chained(clerk: &mut Clerk, in_one: u32) -> Result<()> {
     Ok(())
 }
 
+// The chain of the section has all deeds, so many of them in each record.
+fn is_chained(clerk: &mut Clerk, in_one: u32) -> Result<()> {
+    let chain = clerk.chain_at(Place::section(1))?;
+    is_chain(chain.as_slice(), in_one)
+}
+
+// The sheet, the trees and the chain after all; how many calls there were.
+fn is_done(alloc: Global, clerk: &mut Clerk, in_one: u32) -> Result<usize> {
+    is_closed(alloc, clerk)?;
+    is_chained(clerk, in_one)?;
+    Ok(clerk.calls())
+}
+
 // Posts a deed as a transaction of its own, and looks at the trees from time to time.
-fn post_one(alloc: Global, clerk: &mut Clerk, document: u32) -> Result<()> {
-    clerk.post_alone(sale(document).ask(alloc, cell(document).tract()?)?)?;
+fn post_one(clerk: &mut Clerk, document: u32) -> Result<()> {
+    clerk.alone_at(sale(document), cell(document), "posted")?;
     if document % LOOK == 0 {
         return is_tidy(clerk, document);
     }
     Ok(())
 }
 
-// Each deed a transaction of its own.
-fn alone(alloc: Global) -> Result<usize> {
-    let mut clerk = Clerk::open(alloc, 2, 1)?;
+// Each deed a transaction of its own; how many calls there were.
+fn post_each(alloc: Global, clerk: &mut Clerk) -> Result<usize> {
     for document in 1..=DEEDS {
-        post_one(alloc, &mut clerk, document)?;
+        post_one(clerk, document)?;
     }
-    is_closed(alloc, &mut clerk)?;
-    is_chained(&mut clerk, 1)?;
-    Ok(clerk.calls())
+    is_done(alloc, clerk, 1)
+}
+
+fn alone(alloc: Global) -> Result<usize> {
+    post_each(alloc, &mut Clerk::open(alloc, 2, 1)?)
 }
 
 // Posts so many deeds in a transaction, behind those posted before.
-fn post_some(alloc: Global, clerk: &mut Clerk, before: u32) -> Result<()> {
+fn post_some(clerk: &mut Clerk, before: u32) -> Result<()> {
     for deed in 1..=IN_ONE {
         let document = before.saturating_add(deed);
-        clerk.post(1, sale(document).ask(alloc, cell(document).tract()?)?)?;
+        clerk.step_at(1, sale(document), cell(document), "posted")?;
     }
     Ok(())
+}
+
+fn commit(alloc: Global, clerk: &mut Clerk, place: u32) -> Result<()> {
+    let committed = format!(in alloc; "committed,{place}")?;
+    clerk.serve(Request::Commit(1), committed.as_str())
 }
 
 // A transaction of many deeds, behind so many others.
 fn commit_some(alloc: Global, clerk: &mut Clerk, before: u32) -> Result<()> {
     clerk.serve(Request::Begin(1), "began")?;
-    post_some(alloc, clerk, before.saturating_mul(IN_ONE))?;
-    let place = before.saturating_add(1);
-    let committed = format!(in alloc; "committed,{place}")?;
-    clerk.serve(Request::Commit(1), committed.as_str())
+    post_some(clerk, before.saturating_mul(IN_ONE))?;
+    commit(alloc, clerk, before.saturating_add(1))
 }
 
 // The same deeds by ten transactions.
-fn together(alloc: Global) -> Result<usize> {
-    let mut clerk = Clerk::open(alloc, 2, 1)?;
+fn commit_each(alloc: Global, clerk: &mut Clerk) -> Result<usize> {
     for before in 0..TRANSACTIONS {
-        commit_some(alloc, &mut clerk, before)?;
+        commit_some(alloc, clerk, before)?;
     }
-    is_closed(alloc, &mut clerk)?;
-    is_chained(&mut clerk, IN_ONE)?;
-    Ok(clerk.calls())
+    is_done(alloc, clerk, IN_ONE)
+}
+
+fn together(alloc: Global) -> Result<usize> {
+    commit_each(alloc, &mut Clerk::open(alloc, 2, 1)?)
 }
 
 /// The sheet, the chain and the trees after all.

@@ -2,14 +2,37 @@
 
 use crate::place::Place;
 use anyhow::{Result, bail};
-use title_lock::{Guards, LockFault, Mode, NodeLocks};
+use title_land::Tract;
+use title_lock::{Access, Guards, LockFault, Mode, NodeLocks};
 
-/// What is answered to an access.
-pub fn is_answer(answer: Result<(), LockFault>, wanted: Result<(), LockFault>) -> Result<()> {
+// What is answered to an access.
+fn is_answer(answer: Result<(), LockFault>, wanted: Result<(), LockFault>) -> Result<()> {
     if answer != wanted {
         bail!("an access is answered {answer:?}, and not {wanted:?}");
     }
     Ok(())
+}
+
+/// An examiner asks for an access in a tract, to which this has to be the answer.
+pub fn asks_in<G: Guards>(
+    locks: &mut G,
+    examiner: u32,
+    tract: &Tract,
+    access: Access,
+    wanted: Result<(), LockFault>,
+) -> Result<()> {
+    is_answer(locks.ask(examiner, tract, access), wanted)
+}
+
+/// The same in a place.
+pub fn asks<G: Guards>(
+    locks: &mut G,
+    examiner: u32,
+    place: Place,
+    access: Access,
+    wanted: Result<(), LockFault>,
+) -> Result<()> {
+    asks_in(locks, examiner, &place.tract()?, access, wanted)
 }
 
 /// The mode of an examiner in a place.

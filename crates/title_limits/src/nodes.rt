@@ -1,10 +1,10 @@
 //! Locks on all nodes of a section at once: the section, its squares of 160, 40 and 10 acres, and its cells.
 
-use crate::case::{Case, GOVERNMENT, Tried};
-use crate::held::{is_answer, is_counted};
+use crate::case::{Case, Tried};
+use crate::held::{asks, is_counted};
 use crate::place::Place;
 use anyhow::{Result, bail};
-use std::alloc::{AllocError, Global};
+use std::alloc::Global;
 use title_lock::{Access, Guards, LockFault, NodeLocks, RowLocks};
 use title_script::Schedule;
 
@@ -26,8 +26,7 @@ fn node(number: u32) -> (Place, u64) {
 // Each examiner asks for the node before its number.
 fn ask_all<G: Guards>(locks: &mut G, access: Access) -> Result<()> {
     for number in 0..NODES {
-        let tract = node(number).0.tract()?;
-        is_answer(locks.ask(number + 1, &tract, access), Ok(()))?;
+        asks(locks, number + 1, node(number).0, access, Ok(()))?;
     }
     Ok(())
 }
@@ -41,91 +40,111 @@ fn is_in_the_way<G: Guards>(locks: &G, place: Place, wanted: Option<u32>) -> Res
     Ok(())
 }
 
-// All read. In the way in the last cell are the readers of all that it lies in, of whom one after another gives back: those of
-// the section, of its southeast quarter, of the southeast quarter of that and so on, and of the cell.
-fn try_readers<G: Guards + Drop>(alloc: Global) -> Result<()> {
-    let mut locks = G::new(alloc);
+// In the way in the last cell are the readers of all that it lies in, of whom one after another gives back: those of the section,
+// of its southeast quarter, of the southeast quarter of that and so on, and of the cell.
+fn are_in_the_way<G: Guards>(locks: &mut G) -> Result<()> {
     let last = Place::cell(255);
-    ask_all(&mut locks, Access::Read)?;
     for examiner in [1, 5, 21, 85, 341] {
-        is_in_the_way(&locks, last, Some(examiner))?;
+        is_in_the_way(locks, last, Some(examiner))?;
         locks.give_back(examiner);
     }
-    is_in_the_way(&locks, last, None)?;
-    is_in_the_way(&locks, Place::section(1), Some(2))
+    is_in_the_way(locks, last, None)?;
+    is_in_the_way(locks, Place::section(1), Some(2))
+}
+
+// All read.
+fn try_readers<G: Guards>(locks: &mut G) -> Result<()> {
+    ask_all(locks, Access::Read)?;
+    are_in_the_way(locks)
 }
 
 // All read: at each node one has S, and those who read below it have IS.
-fn try_counts(alloc: Global) -> Result<()> {
-    let mut locks = NodeLocks::new(alloc);
-    ask_all(&mut locks, Access::Read)?;
+fn are_counted(locks: &NodeLocks) -> Result<()> {
     for number in 0..NODES {
         let (place, below) = node(number);
-        is_counted(&locks, place, [below, 0, 1, 0, 0])?;
+        is_counted(locks, place, [below, 0, 1, 0, 0])?;
     }
-    is_counted(&locks, Place::Township(0), [341, 0, 0, 0, 0])?;
-    is_counted(&locks, Place::Everything, [341, 0, 0, 0, 0])?;
+    is_counted(locks, Place::Township(0), [341, 0, 0, 0, 0])?;
+    is_counted(locks, Place::Everything, [341, 0, 0, 0, 0])
+}
+
+fn try_counts(locks: &mut NodeLocks) -> Result<()> {
+    ask_all(locks, Access::Read)?;
+    are_counted(locks)?;
     for examiner in 1..=NODES {
         locks.give_back(examiner);
     }
-    is_counted(&locks, Place::section(1), [0; 5])
+    is_counted(locks, Place::section(1), [0; 5])
 }
 
-// An examiner posts in each cell, and the last reads the section as soon as it is alone.
-fn try_posts<G: Guards + Drop>(alloc: Global) -> Result<()> {
-    let mut locks = G::new(alloc);
+// An examiner posts in each cell.
+fn post_all<G: Guards>(locks: &mut G) -> Result<()> {
     for cell in 0..256u32 {
-        let tract = Place::cell(cell).tract()?;
-        is_answer(locks.ask(cell + 1, &tract, Access::Post), Ok(()))?;
-    }
-    let section = Place::section(1).tract()?;
-    let conflict = Err(LockFault::Conflict(1));
-    is_answer(locks.ask(256, &section, Access::Read), conflict)?;
-    for examiner in 1..256u32 {
-        locks.give_back(examiner);
-    }
-    is_answer(locks.ask(256, &section, Access::Read), Ok(()))
-}
-
-// Each examiner of a script reads a node.
-fn add_readers(case: &mut Case) -> Result<(), AllocError> {
-    case.declare_plant(1)?;
-    for number in 0..NODES {
-        let (place, examiner) = (node(number).0, number + 1);
-        case.step(examiner, "begin", "began")?;
-        case.sheet_unsold(examiner, place)?;
+        asks(locks, cell + 1, Place::cell(cell), Access::Post, Ok(()))?;
     }
     Ok(())
 }
 
+// All post, and the last reads the section as soon as it is alone.
+fn try_posts<G: Guards>(locks: &mut G) -> Result<()> {
+    let (section, conflict) = (Place::section(1), Err(LockFault::Conflict(1)));
+    post_all(locks)?;
+    asks(locks, 256, section, Access::Read, conflict)?;
+    for examiner in 1..256u32 {
+        locks.give_back(examiner);
+    }
+    asks(locks, 256, section, Access::Read, Ok(()))
+}
+
+// Each examiner of a script reads a node.
+fn add_readers(case: &mut Case) {
+    for number in 0..NODES {
+        let (place, examiner) = (node(number).0, number + 1);
+        case.step(examiner, "begin", "began");
+        case.sheet_unsold(examiner, place);
+    }
+}
+
 // Examiner 1 posts in the section as soon as the others are done; until then the least of them is in the way.
-fn add_ends(case: &mut Case) -> Result<(), AllocError> {
-    let section = Place::section(1);
+fn add_ends(case: &mut Case) {
+    let deed = "deed,1,UNITED STATES,ADAMS,S,W1/1,,T1N R1W sec 1";
     for place in 1..NODES {
         let examiner = place + 1;
-        let deed = format_args!("deed,1,{GOVERNMENT},ADAMS,S,W1/1,,{section}");
-        case.step(1, deed, format_args!("conflict,{examiner}"))?;
-        case.step(examiner, "commit", format_args!("committed,{place}"))?;
+        case.step(1, deed, format_args!("conflict,{examiner}"));
+        case.step(examiner, "commit", format_args!("committed,{place}"));
     }
-    let deed = format_args!("deed,1,{GOVERNMENT},ADAMS,S,W1/1,,{section}");
-    case.step(1, deed, "posted")?;
-    case.step(1, "commit", format_args!("committed,{NODES}"))
+    case.step(1, deed, "posted");
+    case.step(1, "commit", format_args!("committed,{NODES}"));
 }
 
 fn interleaved(alloc: Global) -> Result<Tried> {
     let mut case = Case::new(alloc);
-    add_readers(&mut case)?;
-    add_ends(&mut case)?;
+    case.declare_plant(1);
+    add_readers(&mut case);
+    add_ends(&mut case);
     case.run(Schedule::Interleaved)
+}
+
+// Nodes' locks, and rows'.
+fn try_nodes(alloc: Global) -> Result<()> {
+    try_readers(&mut NodeLocks::new(alloc))?;
+    try_counts(&mut NodeLocks::new(alloc))?;
+    try_posts(&mut NodeLocks::new(alloc))
+}
+
+fn try_rows(alloc: Global) -> Result<()> {
+    try_readers(&mut RowLocks::new(alloc))?;
+    try_posts(&mut RowLocks::new(alloc))
+}
+
+fn tried(alloc: Global) -> Result<Tried> {
+    try_nodes(alloc)?;
+    try_rows(alloc)?;
+    interleaved(alloc)
 }
 
 /// Readers of all nodes and posts in all cells, by both tables of locks and by a script.
 pub fn count(alloc: Global) -> Result<String> {
-    try_readers::<NodeLocks>(alloc)?;
-    try_readers::<RowLocks>(alloc)?;
-    try_counts(alloc)?;
-    try_posts::<NodeLocks>(alloc)?;
-    try_posts::<RowLocks>(alloc)?;
-    let tried = interleaved(alloc)?;
+    let tried = tried(alloc)?;
     Ok(format!(in alloc; "{NODES}, {tried}")?)
 }

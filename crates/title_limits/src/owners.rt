@@ -1,10 +1,11 @@
 //! A cell with more than 4,096 owners, by a script.
 
-use crate::case::{Case, GOVERNMENT, MINERALS};
+use crate::case::{Case, GOVERNMENT, MINERALS, Tried};
 use crate::place::Place;
 use crate::portion::Portion;
 use anyhow::Result;
-use std::alloc::{AllocError, Global};
+use std::alloc::Global;
+use std::fmt;
 use title_script::Schedule;
 
 // The owners beside UNITED STATES, each of one unit. This has what is left: 2^32 - 4,096 units.
@@ -17,74 +18,77 @@ const LEFT: Portion = Portion(1_048_575, 1_048_576);
 // The share of which each party is given one unit by one deed.
 const QUANTUM: &str = "W1/4294967296";
 
-// A party's name, as a row has it: one of eight has a comma, and is in quotes.
-fn name(alloc: Global, number: u32) -> Result<String, AllocError> {
-    if number % 8 == 0 {
-        format!(in alloc; "\"OWNER, {number}\"")
-    } else {
-        format!(in alloc; "OWNER {number}")
+// An owner by its number; in text its name, as a row has it: one of eight has a comma, and is in quotes.
+#[derive(Clone, Copy)]
+struct Owner(u32);
+
+impl fmt::Display for Owner {
+    fn fmt<W: fmt::Write>(&self, f: &mut fmt::Formatter<W>) -> fmt::Result {
+        let number = self.0;
+        if number % 8 == 0 {
+            write!(f, "\"OWNER, {number}\"")
+        } else {
+            write!(f, "OWNER {number}")
+        }
     }
 }
 
-fn names(alloc: Global) -> Result<Vec<String>, AllocError> {
-    let mut names = Vec::new(alloc);
+fn declare_owners(case: &mut Case) {
     for number in 1..=OWNERS {
-        names.push(name(alloc, number)?)?;
+        let owner = Owner(number);
+        case.declare(format_args!("party,{owner}"));
     }
-    Ok(names)
 }
 
-fn add_deeds(case: &mut Case, names: &[String]) -> Result<(), AllocError> {
+fn add_deeds(case: &mut Case) {
     let cell = Place::cell(0);
-    for name in names {
-        let name = name.as_str();
-        let deed = format_args!("deed,1,{GOVERNMENT},{name},S,{QUANTUM},,{cell}");
-        case.step(1, deed, "posted")?;
+    for number in 1..=OWNERS {
+        let owner = Owner(number);
+        let deed = format_args!("deed,1,{GOVERNMENT},{owner},S,{QUANTUM},,{cell}");
+        case.step(1, deed, "posted");
     }
-    Ok(())
 }
 
-// Wants the rows of the surface in a place: all owners, in the order of their numbers.
-fn want_surface(case: &mut Case, place: Place, names: &[String]) -> Result<(), AllocError> {
-    case.want_owner(1, place, "S", GOVERNMENT, LEFT)?;
-    for name in names {
-        case.want_owner(1, place, "S", name.as_str(), UNIT)?;
-    }
-    Ok(())
-}
-
-// The sheet of the cell: a row for each owner, and two.
-fn add_sheet(case: &mut Case, names: &[String]) -> Result<(), AllocError> {
+// The sheet of the cell: a row for each owner, in the order of their numbers, and two.
+fn add_sheet(case: &mut Case) {
     let cell = Place::cell(0);
-    let rows = OWNERS + 3;
-    case.sheet(1, cell, rows)?;
-    want_surface(case, cell, names)?;
-    case.want_unsold(1, cell, &MINERALS)
+    case.sheet(1, cell, OWNERS + 3);
+    case.want_owner(1, cell, "S", GOVERNMENT, LEFT);
+    for number in 1..=OWNERS {
+        case.want_owner(1, cell, "S", Owner(number), UNIT);
+    }
+    case.want_unsold(1, cell, &MINERALS);
 }
 
 // Deeds that pass nothing, or are refused: of all that is left less all of it, of the whole, of half of a unit.
-fn add_more(case: &mut Case, names: &[String]) -> Result<(), AllocError> {
-    let cell = Place::cell(0);
-    let second = names.get(1).map_or("", |name| name.as_str());
-    let nothing = format_args!("deed,2,{GOVERNMENT},{second},S,W1/2,S1/2,{cell}");
-    case.step(1, nothing, "posted")?;
-    let whole = format_args!("deed,3,{GOVERNMENT},{second},S,W1/1,,{cell}");
-    case.step(1, whole, format_args!("refused,11,S,{cell}"))?;
-    let half = format_args!("deed,4,{second},{GOVERNMENT},S,I1/2,,{cell}");
-    case.step(1, half, format_args!("refused,12,S,{cell}"))
+const MORE: [(&str, &str); 3] = [
+    (
+        "1,deed,2,UNITED STATES,OWNER 2,S,W1/2,S1/2,T1N R1W sec 1 NE1/4NE1/4NE1/4NE1/4",
+        "1,posted",
+    ),
+    (
+        "1,deed,3,UNITED STATES,OWNER 2,S,W1/1,,T1N R1W sec 1 NE1/4NE1/4NE1/4NE1/4",
+        "1,refused,11,S,T1N R1W sec 1 NE1/4NE1/4NE1/4NE1/4",
+    ),
+    (
+        "1,deed,4,OWNER 2,UNITED STATES,S,I1/2,,T1N R1W sec 1 NE1/4NE1/4NE1/4NE1/4",
+        "1,refused,12,S,T1N R1W sec 1 NE1/4NE1/4NE1/4NE1/4",
+    ),
+];
+
+fn by_script(alloc: Global) -> Result<Tried> {
+    let mut case = Case::new(alloc);
+    case.declare_townships(1);
+    declare_owners(&mut case);
+    add_deeds(&mut case);
+    add_sheet(&mut case);
+    case.steps(&MORE);
+    add_sheet(&mut case);
+    case.run(Schedule::Serial)
 }
 
 /// The sheet of the cell, before and after deeds that pass nothing.
 pub fn count(alloc: Global) -> Result<String> {
-    let names = names(alloc)?;
-    let mut case = Case::new(alloc);
-    case.declare_townships(1)?;
-    case.declare_parties(&names)?;
-    add_deeds(&mut case, &names)?;
-    add_sheet(&mut case, &names)?;
-    add_more(&mut case, &names)?;
-    add_sheet(&mut case, &names)?;
-    let tried = case.run(Schedule::Serial)?;
-    let owners = OWNERS + 1;
+    let (tried, owners) = (by_script(alloc)?, OWNERS + 1);
     Ok(format!(in alloc; "{owners}, {tried}")?)
 }

@@ -134,7 +134,8 @@ impl Place {
         Place::square(4, number)
     }
 
-    fn found(self) -> Option<Node> {
+    /// The node as the crate of land has it.
+    pub fn found(self) -> Option<Node> {
         match self {
             Place::Everything => Some(Node::Everything),
             Place::Township(number) => Some(Node::Township(township(number)?)),
@@ -146,7 +147,7 @@ impl Place {
         }
     }
 
-    /// The node as the crate of land has it.
+    /// The same; an error where there is no such place.
     pub fn node(self) -> Result<Node> {
         match self.found() {
             Some(node) => Ok(node),

@@ -4,7 +4,7 @@
 use crate::case::{Case, Tried};
 use crate::place::{Place, Square};
 use anyhow::Result;
-use std::alloc::{AllocError, Global};
+use std::alloc::Global;
 use title_script::Schedule;
 
 // Descriptions that come once.
@@ -49,7 +49,7 @@ fn place(number: u32) -> Place {
 }
 
 // The sheet of a place, where it has no fault.
-fn add_sheet(case: &mut Case, place: Place) -> Result<(), AllocError> {
+fn add_sheet(case: &mut Case, place: Place) {
     match place {
         Place::Part {
             section: SECTIONS,
@@ -62,19 +62,19 @@ fn add_sheet(case: &mut Case, place: Place) -> Result<(), AllocError> {
 // The descriptions that come once: 336 of each of 37 sections in three townships are 37,296.
 fn once(alloc: Global) -> Result<Tried> {
     let mut case = Case::new(alloc);
-    case.declare_townships(TOWNSHIPS)?;
+    case.declare_townships(TOWNSHIPS);
     for number in 0..ONCE {
-        add_sheet(&mut case, place(number))?;
+        add_sheet(&mut case, place(number));
     }
     case.run(Schedule::Serial)
 }
 
 fn in_turn(alloc: Global) -> Result<Tried> {
     let mut case = Case::new(alloc);
-    case.declare_townships(TOWNSHIPS)?;
+    case.declare_townships(TOWNSHIPS);
     for _ in 0..TURNS {
         for number in 0..IN_TURN {
-            add_sheet(&mut case, place(number))?;
+            add_sheet(&mut case, place(number));
         }
     }
     case.run(Schedule::Serial)

@@ -1,14 +1,13 @@
 //! Steps that are transactions of their own, of each kind and with each reply; more sheets of one section than are kept, which is
 //! 16, and sheets of other sections.
 
-use crate::case::{Case, GOVERNMENT, Tried};
-use crate::clerk::{Clerk, ESTATES, Rows, SURFACE, Sale, release};
+use crate::case::{Case, Tried};
+use crate::clerk::{Clerk, ESTATES, Rows, SURFACE, Sale, Wish};
 use crate::place::{Place, Square};
-use crate::portion::{ALL, Portion, WHOLE};
+use crate::portion::WHOLE;
 use anyhow::Result;
-use std::alloc::{AllocError, Global};
-use title_chain::Ask;
-use title_instrument::Estates;
+use std::alloc::Global;
+use title_instrument::{Estates, Release};
 use title_script::Schedule;
 
 // Squares of a section, and sections, whose sheets are asked for in turn, and how often.
@@ -31,74 +30,81 @@ fn place(number: u32) -> Place {
 }
 
 // Steps of a script that post, and are refused, each alone.
-fn add_posts(case: &mut Case) -> Result<(), AllocError> {
-    let quarter = Place::square(1, 0);
-    let half = format_args!("deed,1,{GOVERNMENT},ADAMS,SM,W1/2,,{quarter}");
-    case.step(1, half, "posted")?;
-    let short = format_args!("deed,2,{GOVERNMENT},ADAMS,SO,W3/4,,{quarter}");
-    case.step(1, short, format_args!("refused,11,S,{quarter}"))?;
-    let fine = format_args!("deed,3,ADAMS,BELL,M,I1/4294967296,,{quarter}");
-    case.step(1, fine, format_args!("refused,12,M,{quarter}"))?;
-    let reserved = format_args!("deed,4,{GOVERNMENT},BELL,O,W1/8,O1/4,{quarter}");
-    case.step(1, reserved, format_args!("refused,13,O,{quarter}"))?;
-    let warranty = format_args!("warranty,5,ADAMS,BELL,S,W1/1,S1/2,{quarter}");
-    case.step(1, warranty, "posted")
-}
+const POSTS: [(&str, &str); 5] = [
+    (
+        "1,deed,1,UNITED STATES,ADAMS,SM,W1/2,,T1N R1W sec 1 NE1/4",
+        "1,posted",
+    ),
+    (
+        "1,deed,2,UNITED STATES,ADAMS,SO,W3/4,,T1N R1W sec 1 NE1/4",
+        "1,refused,11,S,T1N R1W sec 1 NE1/4",
+    ),
+    (
+        "1,deed,3,ADAMS,BELL,M,I1/4294967296,,T1N R1W sec 1 NE1/4",
+        "1,refused,12,M,T1N R1W sec 1 NE1/4",
+    ),
+    (
+        "1,deed,4,UNITED STATES,BELL,O,W1/8,O1/4,T1N R1W sec 1 NE1/4",
+        "1,refused,13,O,T1N R1W sec 1 NE1/4",
+    ),
+    (
+        "1,warranty,5,ADAMS,BELL,S,W1/1,S1/2,T1N R1W sec 1 NE1/4",
+        "1,posted",
+    ),
+];
 
 // Steps that are refused before the plant is asked, or aren't asked at all.
-fn add_refused(case: &mut Case) -> Result<(), AllocError> {
-    let (quarter, elsewhere) = (Place::square(1, 0), Place::Township(1));
-    let same = format_args!("deed,6,ADAMS,ADAMS,S,W1/2,,{quarter}");
-    case.step(1, same, "invalid,2")?;
-    let stray = format_args!("deed,7,ADAMS,BELL,S,W1/2,M1/2,{quarter}");
-    case.step(1, stray, "invalid,4")?;
-    case.step(1, format_args!("sheet,{elsewhere}"), "notownship")?;
-    case.step(1, format_args!("chain,{elsewhere}"), "notownship")?;
-    let outside = format_args!("release,8,ADAMS,BELL,S,{elsewhere}");
-    case.step(1, outside, "notownship")?;
-    case.step(1, "sheet,T1N R1W sec 37", "description,22")?;
-    case.step(1, "sheet,T1N R1W sec 1 N", "description,21,15")
-}
+const REFUSED: [(&str, &str); 7] = [
+    (
+        "1,deed,6,ADAMS,ADAMS,S,W1/2,,T1N R1W sec 1 NE1/4",
+        "1,invalid,2",
+    ),
+    (
+        "1,deed,7,ADAMS,BELL,S,W1/2,M1/2,T1N R1W sec 1 NE1/4",
+        "1,invalid,4",
+    ),
+    ("1,sheet,T1N R2W", "1,notownship"),
+    ("1,chain,T1N R2W", "1,notownship"),
+    ("1,release,8,ADAMS,BELL,S,T1N R2W", "1,notownship"),
+    ("1,sheet,T1N R1W sec 37", "1,description,22"),
+    ("1,sheet,T1N R1W sec 1 N", "1,description,21,15"),
+];
 
 // The sheet of the quarter after them: BELL has ADAMS' half of the surface.
-fn add_sheet(case: &mut Case) -> Result<(), AllocError> {
-    let quarter = Place::square(1, 0);
-    let half = Portion(1, 2);
-    case.sheet(1, quarter, 5)?;
-    case.want_owner(1, quarter, "S", GOVERNMENT, half)?;
-    case.want_owner(1, quarter, "S", "BELL", half)?;
-    case.want_owner(1, quarter, "O", GOVERNMENT, ALL)?;
-    case.want_owner(1, quarter, "M", GOVERNMENT, half)?;
-    case.want_owner(1, quarter, "M", "ADAMS", half)
-}
+const SHEET: [&str; 5] = [
+    "1,row,T1N R1W sec 1 NE1/4,S,UNITED STATES,1/2",
+    "1,row,T1N R1W sec 1 NE1/4,S,BELL,1/2",
+    "1,row,T1N R1W sec 1 NE1/4,O,UNITED STATES,1/1",
+    "1,row,T1N R1W sec 1 NE1/4,M,UNITED STATES,1/2",
+    "1,row,T1N R1W sec 1 NE1/4,M,ADAMS,1/2",
+];
 
 // The chain of the quarter: the first and the fifth step were posted.
-fn add_chain(case: &mut Case) -> Result<(), AllocError> {
-    let quarter = Place::square(1, 0);
-    case.chain(1, quarter, 2)?;
-    case.want(format_args!("1,entry,2,1,deed,{GOVERNMENT},ADAMS,SM"))?;
-    case.want("1,entry,6,5,warranty,ADAMS,BELL,S")
-}
+const CHAIN: [&str; 2] = [
+    "1,entry,2,1,deed,UNITED STATES,ADAMS,SM",
+    "1,entry,6,5,warranty,ADAMS,BELL,S",
+];
 
 // Sheets of these places in turn.
-fn add_sheets(case: &mut Case) -> Result<(), AllocError> {
+fn add_sheets(case: &mut Case) {
     for _ in 0..TURNS {
         for number in 0..SHEETS {
-            case.sheet_unsold(1, place(number))?;
+            case.sheet_unsold(1, place(number));
         }
     }
-    Ok(())
 }
 
 fn by_script(alloc: Global) -> Result<Tried> {
-    let mut case = Case::new(alloc);
-    case.declare_plant(1)?;
-    case.sheet_unsold(1, Place::section(1))?;
-    add_posts(&mut case)?;
-    add_refused(&mut case)?;
-    add_sheet(&mut case)?;
-    add_chain(&mut case)?;
-    add_sheets(&mut case)?;
+    let (mut case, quarter) = (Case::new(alloc), Place::square(1, 0));
+    case.declare_plant(1);
+    case.sheet_unsold(1, Place::section(1));
+    case.steps(&POSTS);
+    case.steps(&REFUSED);
+    case.sheet(1, quarter, 5);
+    case.want_all(&SHEET);
+    case.chain(1, quarter, 2);
+    case.want_all(&CHAIN);
+    add_sheets(&mut case);
     case.run(Schedule::Serial)
 }
 
@@ -108,29 +114,50 @@ const NONE: Estates = Estates {
     m: false,
 };
 
-fn sale(alloc: Global, grantor: u32, grantee: u32, units: u64) -> Result<Ask> {
-    let sale = Sale {
+fn sells(grantor: u32, grantee: u32, units: u64) -> Wish {
+    Wish::Sell(Sale {
         document: 1,
         grantor,
         grantee,
         units,
-    };
-    sale.ask(alloc, Place::section(1).tract()?)
+    })
+}
+
+fn releases(estates: Estates) -> Wish {
+    let (from, to) = (1, 2);
+    Wish::Release(Release { from, to, estates })
+}
+
+// Steps alone with their replies.
+fn try_all(clerk: &mut Clerk, steps: &[(Wish, Place, &'static str)]) -> Result<()> {
+    for (wish, place, reply) in steps {
+        clerk.alone_at(*wish, *place, *reply)?;
+    }
+    Ok(())
 }
 
 // A sheet, a chain, posts, and posts that a cause or the plant refuses.
-fn try_each(alloc: Global, clerk: &mut Clerk) -> Result<()> {
+fn try_each(clerk: &mut Clerk) -> Result<()> {
     let (here, elsewhere) = (Place::section(1), Place::Township(1));
-    clerk.alone(Ask::Sheet(here.tract()?), "sheet,3")?;
-    clerk.alone(Ask::Chain(here.tract()?), "chain,0")?;
-    clerk.alone(sale(alloc, 0, 1, WHOLE)?, "posted")?;
-    clerk.alone(sale(alloc, 0, 2, 1)?, "refused,11,S,T1N R1W sec 1")?;
-    clerk.alone(release(alloc, 1, 2, SURFACE, here.tract()?)?, "posted")?;
-    clerk.alone(sale(alloc, 3, 1, 1)?, "invalid,1")?;
-    clerk.alone(sale(alloc, 1, 1, 1)?, "invalid,2")?;
-    clerk.alone(release(alloc, 1, 2, NONE, here.tract()?)?, "invalid,3")?;
-    clerk.alone(Ask::Sheet(elsewhere.tract()?), "notownship")?;
-    clerk.alone(Ask::Chain(here.tract()?), "chain,2")
+    let steps = [
+        (Wish::Sheet, here, "sheet,3"),
+        (Wish::Chain, here, "chain,0"),
+        (sells(0, 1, WHOLE), here, "posted"),
+        (sells(0, 2, 1), here, "refused,11,S,T1N R1W sec 1"),
+        (releases(SURFACE), here, "posted"),
+        (sells(3, 1, 1), here, "invalid,1"),
+        (sells(1, 1, 1), here, "invalid,2"),
+        (releases(NONE), here, "invalid,3"),
+        (Wish::Sheet, elsewhere, "notownship"),
+        (Wish::Chain, here, "chain,2"),
+    ];
+    try_all(clerk, &steps)
+}
+
+fn unsold(alloc: Global, place: Place) -> Rows {
+    let mut rows = Rows::new(alloc);
+    rows.add_unsold(place, &ESTATES);
+    rows
 }
 
 // The sheets of these places in turn.
@@ -138,20 +165,25 @@ fn try_sheets(alloc: Global, clerk: &mut Clerk) -> Result<()> {
     for _ in 0..TURNS {
         for number in 0..SHEETS {
             let place = place(number);
-            let mut rows = Rows::new(alloc);
-            rows.add_unsold(place, &ESTATES)?;
-            rows.are(&clerk.sheet(place.tract()?)?)?;
+            clerk.shows_at(place, &unsold(alloc, place))?;
         }
     }
     Ok(())
 }
 
+// How many calls there were.
+fn try_desk(alloc: Global, clerk: &mut Clerk) -> Result<usize> {
+    try_each(clerk)?;
+    try_sheets(alloc, clerk)?;
+    Ok(clerk.calls())
+}
+
+fn at_desk(alloc: Global) -> Result<usize> {
+    try_desk(alloc, &mut Clerk::open(alloc, 3, 1)?)
+}
+
 /// Each kind of step, by a script and at a desk.
 pub fn count(alloc: Global) -> Result<String> {
-    let tried = by_script(alloc)?;
-    let mut clerk = Clerk::open(alloc, 3, 1)?;
-    try_each(alloc, &mut clerk)?;
-    try_sheets(alloc, &mut clerk)?;
-    let calls = clerk.calls();
+    let (tried, calls) = (by_script(alloc)?, at_desk(alloc)?);
     Ok(format!(in alloc; "{SHEETS} sheets in turn, {tried}, {calls} calls")?)
 }

@@ -1,12 +1,11 @@
 //! The tract of most squares that there can be: of each square of ten acres three cells.
 
-use crate::clerk::{Clerk, Rows, Sale};
-use crate::held::{is_answer, is_mode};
+use crate::clerk::{Clerk, Rows, Sale, Wish};
+use crate::held::{asks, asks_in, is_mode};
 use crate::place::{CELLS, Place, Square, section};
 use crate::portion::WHOLE;
 use anyhow::{Result, bail};
 use std::alloc::Global;
-use title_chain::Ask;
 use title_instrument::Estate;
 use title_land::{Grid, Land, Node, Tract};
 use title_lock::{Access, Guards, LockFault, Mode, NodeLocks, RowLocks};
@@ -64,111 +63,136 @@ fn is_covered(alloc: Global, tract: &Tract) -> Result<()> {
 }
 
 // Adds the rows of an estate in the tract that party 0 owns.
-fn add_unsold(rows: &mut Rows, estate: Estate) -> Result<()> {
+fn add_unsold(rows: &mut Rows, estate: Estate) {
     for cell in 0..CELLS {
         if is_in(cell) {
-            rows.add(Place::cell(cell), estate, 0, WHOLE)?;
+            rows.add(Place::cell(cell), estate, 0, WHOLE);
         }
     }
-    Ok(())
 }
 
 // Adds the rows of the surface of the tract after the deeds.
-fn add_sold(rows: &mut Rows) -> Result<()> {
+fn add_sold(rows: &mut Rows) {
     for cell in 0..CELLS {
         if is_in(cell) {
-            rows.add(Place::cell(cell), Estate::S, 0, WHOLE / 4 * 3)?;
-            rows.add(Place::cell(cell), Estate::S, 1, WHOLE / 4)?;
+            rows.add(Place::cell(cell), Estate::S, 0, WHOLE / 4 * 3);
+            rows.add(Place::cell(cell), Estate::S, 1, WHOLE / 4);
         }
     }
-    Ok(())
 }
 
 // The rows of the sheet before the deeds, or after them.
-fn rows(alloc: Global, is_sold: bool) -> Result<Rows> {
+fn rows(alloc: Global, is_sold: bool) -> Rows {
     let mut rows = Rows::new(alloc);
     if is_sold {
-        add_sold(&mut rows)?;
+        add_sold(&mut rows);
     } else {
-        add_unsold(&mut rows, Estate::S)?;
+        add_unsold(&mut rows, Estate::S);
     }
-    add_unsold(&mut rows, Estate::O)?;
-    add_unsold(&mut rows, Estate::M)?;
-    Ok(rows)
+    add_unsold(&mut rows, Estate::O);
+    add_unsold(&mut rows, Estate::M);
+    rows
 }
 
-// Posts the deeds of party 0 alone, and one of party 2, which has nothing.
-fn sell(alloc: Global, clerk: &mut Clerk, tract: &Tract) -> Result<()> {
-    for document in 1..=DEEDS {
-        let sale = Sale {
-            document,
-            grantor: 0,
-            grantee: 1,
-            units: WHOLE / 16,
-        };
-        clerk.post_alone(sale.ask(alloc, tract.copy(alloc)?)?)?;
-    }
-    let sale = Sale {
-        document: 9,
-        grantor: 2,
+// A deed of party 0 alone.
+fn sale(document: u64) -> Wish {
+    Wish::Sell(Sale {
+        document,
+        grantor: 0,
         grantee: 1,
-        units: WHOLE,
-    };
+        units: WHOLE / 16,
+    })
+}
+
+// A deed of party 2, which has nothing.
+const STRANGE: Sale = Sale {
+    document: 9,
+    grantor: 2,
+    grantee: 1,
+    units: WHOLE,
+};
+
+// Posts the deeds of party 0, and the one of party 2.
+fn sell(clerk: &mut Clerk, tract: &Tract) -> Result<()> {
+    for document in 1..=DEEDS {
+        clerk.alone(sale(document), tract, "posted")?;
+    }
     let refused = "refused,11,S,T1N R1W sec 1 NE1/4NE1/4NE1/4NE1/4";
-    clerk.alone(sale.ask(alloc, tract.copy(alloc)?)?, refused)
+    clerk.alone(Wish::Sell(STRANGE), tract, refused)
 }
 
 // Sheets, deeds and a chain, each a transaction of its own.
 fn try_alone(alloc: Global, clerk: &mut Clerk, tract: &Tract) -> Result<()> {
-    rows(alloc, false)?.are(&clerk.sheet(tract.copy(alloc)?)?)?;
-    sell(alloc, clerk, tract)?;
-    rows(alloc, true)?.are(&clerk.sheet(tract.copy(alloc)?)?)?;
-    clerk.alone(Ask::Chain(tract.copy(alloc)?), "chain,4")
+    clerk.shows(tract, &rows(alloc, false))?;
+    sell(clerk, tract)?;
+    clerk.shows(tract, &rows(alloc, true))?;
+    clerk.alone(Wish::Chain, tract, "chain,4")
 }
 
+// A deed of half of the surface.
+const HALF: Sale = Sale {
+    document: 10,
+    grantor: 0,
+    grantee: 2,
+    units: WHOLE / 2,
+};
+
 // Examiner 1 posts in the tract, and is in the way of examiner 2 there until it aborts.
-fn try_together(alloc: Global, clerk: &mut Clerk, tract: &Tract) -> Result<()> {
-    let sale = Sale {
-        document: 10,
-        grantor: 0,
-        grantee: 2,
-        units: WHOLE / 2,
-    };
-    let sheet = Ask::Sheet(tract.copy(alloc)?);
+fn try_together(clerk: &mut Clerk, tract: &Tract) -> Result<()> {
     clerk.serve(Request::Begin(1), "began")?;
     clerk.serve(Request::Begin(2), "began")?;
-    clerk.post(1, sale.ask(alloc, tract.copy(alloc)?)?)?;
-    clerk.serve(Request::Step(2, sheet.copy(alloc)?), "conflict,1")?;
+    clerk.step(1, Wish::Sell(HALF), tract, "posted")?;
+    clerk.step(2, Wish::Sheet, tract, "conflict,1")?;
     clerk.serve(Request::Abort(1), "aborted")?;
-    clerk.serve(Request::Step(2, sheet), "sheet,768")?;
+    clerk.step(2, Wish::Sheet, tract, "sheet,768")?;
     clerk.serve(Request::Commit(2), "committed,9")
 }
 
-// A post of examiner 1 in the tract, and reads of examiner 2 there, beside it, and there again when examiner 1 is gone.
-fn try_locks<G: Guards + Drop>(alloc: Global, tract: &Tract) -> Result<()> {
-    let mut locks = G::new(alloc);
-    let beside = Place::cell(3).tract()?;
+// By a desk; how many calls there were.
+fn try_desk(alloc: Global, clerk: &mut Clerk, tract: &Tract) -> Result<usize> {
+    try_alone(alloc, clerk, tract)?;
+    try_together(clerk, tract)?;
+    Ok(clerk.calls())
+}
+
+fn calls(alloc: Global, tract: &Tract) -> Result<usize> {
+    try_desk(alloc, &mut Clerk::open(alloc, 3, 1)?, tract)
+}
+
+// A post of examiner 1 in the tract, and reads of examiner 2 there and beside it.
+fn try_accesses<G: Guards>(locks: &mut G, tract: &Tract) -> Result<()> {
+    asks_in(locks, 1, tract, Access::Post, Ok(()))?;
     let conflict = Err(LockFault::Conflict(1));
-    is_answer(locks.ask(1, tract, Access::Post), Ok(()))?;
-    is_answer(locks.ask(2, tract, Access::Read), conflict)?;
-    is_answer(locks.ask(2, &beside, Access::Read), Ok(()))?;
-    is_mode(&locks, 1, Place::section(1), Mode::Ix)?;
-    is_mode(&locks, 1, Place::cell(254), Mode::X)?;
-    is_mode(&locks, 2, Place::section(1), Mode::Is)?;
+    asks_in(locks, 2, tract, Access::Read, conflict)?;
+    asks(locks, 2, Place::cell(3), Access::Read, Ok(()))
+}
+
+// The same, and a read there again when examiner 1 is gone.
+fn try_table<G: Guards>(locks: &mut G, tract: &Tract) -> Result<()> {
+    try_accesses(locks, tract)?;
+    is_mode(locks, 1, Place::section(1), Mode::Ix)?;
+    is_mode(locks, 1, Place::cell(254), Mode::X)?;
+    is_mode(locks, 2, Place::section(1), Mode::Is)?;
     locks.give_back(1);
-    is_answer(locks.ask(2, tract, Access::Read), Ok(()))?;
-    is_mode(&locks, 2, Place::cell(254), Mode::S)
+    asks_in(locks, 2, tract, Access::Read, Ok(()))?;
+    is_mode(locks, 2, Place::cell(254), Mode::S)
+}
+
+// By both tables of locks.
+fn try_locks(alloc: Global, tract: &Tract) -> Result<()> {
+    try_table(&mut NodeLocks::new(alloc), tract)?;
+    try_table(&mut RowLocks::new(alloc), tract)
+}
+
+// The tract's cover and its locks, and how many calls of a desk there were.
+fn tried(alloc: Global, tract: &Tract) -> Result<usize> {
+    is_covered(alloc, tract)?;
+    try_locks(alloc, tract)?;
+    calls(alloc, tract)
 }
 
 /// Its cover, its sheets, its deeds, its chain and its locks.
 pub fn count(alloc: Global) -> Result<String> {
-    let tract = tract(alloc)?;
-    is_covered(alloc, &tract)?;
-    let mut clerk = Clerk::open(alloc, 3, 1)?;
-    try_alone(alloc, &mut clerk, &tract)?;
-    try_together(alloc, &mut clerk, &tract)?;
-    try_locks::<NodeLocks>(alloc, &tract)?;
-    try_locks::<RowLocks>(alloc, &tract)?;
-    let calls = clerk.calls();
+    let calls = tried(alloc, &tract(alloc)?)?;
     Ok(format!(in alloc; "{SQUARES} squares, {calls} calls")?)
 }
