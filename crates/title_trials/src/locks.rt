@@ -24,10 +24,18 @@ pub struct Compared {
     pub tally: Tally,
 }
 
-#[derive(Drop)]
 struct Tables {
     nodes: NodeLocks,
     rows: RowLocks,
+}
+
+// By hand, so that whoever lets them go sees one call.
+impl Drop for Tables {
+    fn drop(self) {
+        let Tables { nodes, rows } = self;
+        drop(nodes);
+        drop(rows);
+    }
 }
 
 impl Tables {

@@ -10,19 +10,19 @@
 //! whichever growth is refused, and tells on standard error how many calls wanted memory (`bench/refuse_growths.py`).
 #![tactic(auto)]
 
-mod alone;
 mod calls;
 mod counts;
 mod locks;
 mod replies;
 mod soak;
 mod stores;
+mod turns;
 
 use anyhow::Result;
 use counts::{Case, Counts};
 use std::env;
 use title_chance::Reach;
-use title_lock::{Guards, NodeLocks};
+use title_lock::{Guards, LockFault, NodeLocks};
 
 // The lists of each run.
 const LOCKS: locks::Extent = locks::Extent {
@@ -95,14 +95,20 @@ fn tell_counts<R: Print>(rt: &R, counts: &Counts) -> Result<()> {
     Ok(())
 }
 
-fn tell_case<R: Print + AllocGlobal>(rt: &R) -> Result<()> {
-    let case = Case::new();
-    let mut locks = NodeLocks::new(rt.alloc());
+// The counts of the case in a table of locks, and those when examiner 1 has given back.
+fn count_case<R: AllocGlobal>(rt: &R) -> Result<(Counts, Counts), LockFault> {
+    let (case, mut locks) = (Case::new(), NodeLocks::new(rt.alloc()));
     case.ask(&mut locks)?;
-    tell_counts(rt, &case.counts(&locks))?;
-    println!(rt; "counts: 1 gives back")?;
+    let before = case.counts(&locks);
     locks.give_back(1);
-    tell_counts(rt, &case.counts(&locks))
+    Ok((before, case.counts(&locks)))
+}
+
+fn tell_case<R: Print + AllocGlobal>(rt: &R) -> Result<()> {
+    let (before, after) = count_case(rt)?;
+    tell_counts(rt, &before)?;
+    println!(rt; "counts: 1 gives back")?;
+    tell_counts(rt, &after)
 }
 
 fn tell_soak<R: Print + AllocGlobal>(rt: &R) -> Result<()> {

@@ -1,7 +1,7 @@
 //! The two stores, each behind a desk, asked alike.
 
-use crate::alone::Alone;
 use crate::replies::{Tally, are_one};
+use crate::turns::Turn;
 use std::alloc::{AllocError, Global};
 use title_chain::Record;
 use title_chance::{Chance, Ground, PARTIES, Reach, StepWish, TOWNSHIPS, Wish, township};
@@ -9,7 +9,6 @@ use title_desk::{Desk, may_open};
 use title_land::Township;
 use title_lock::NodeLocks;
 use title_store::{CellStore, Store};
-use title_trace::{Reply, Request};
 use title_tree_store::TreeStore;
 
 /// How many lists are made, how many requests each has and how many asks alone follow them, by how many examiners, and in how many
@@ -32,20 +31,23 @@ pub struct Compared {
     pub alone: Tally,
 }
 
-// An examiner's wish, with the number of the document that a post makes.
-#[derive(Clone, Copy)]
-struct Turn {
-    alloc: Global,
-    examiner: u32,
-    wish: Wish,
-    doc: u64,
-}
-
-#[derive(Drop)]
 struct Desks {
     alloc: Global,
     cells: Desk<CellStore, NodeLocks>,
     trees: Desk<TreeStore, NodeLocks>,
+}
+
+// By hand, so that whoever lets them go sees one call.
+impl Drop for Desks {
+    fn drop(self) {
+        let Desks {
+            alloc: _,
+            cells,
+            trees,
+        } = self;
+        drop(cells);
+        drop(trees);
+    }
 }
 
 fn open(alloc: Global, townships: &[Township]) -> Result<Option<Desks>, AllocError> {
@@ -65,26 +67,13 @@ fn open_again(
     townships: &[Township],
     tally: &mut Tally,
 ) -> Result<Option<Desks>, AllocError> {
-    if let Ok(desks) = open(alloc, townships) {
-        return Ok(desks);
+    match open(alloc, townships) {
+        Err(_) => {
+            tally.want();
+            open(alloc, townships)
+        }
+        desks => desks,
     }
-    tally.want();
-    open(alloc, townships)
-}
-
-// Serves what an examiner wishes for, and once more where a growth was refused.
-fn serve<S: Store + Drop>(
-    desk: &mut Desk<S, NodeLocks>,
-    ground: &Ground,
-    turn: Turn,
-    tally: &mut Tally,
-) -> Result<Reply, AllocError> {
-    let reply = desk.serve(turn.request_again(ground, tally)?);
-    if let Reply::Memory = &reply {
-        tally.want();
-        return Ok(desk.serve(turn.request_again(ground, tally)?));
-    }
-    Ok(reply)
 }
 
 // Whether two lists have the same records, in order.
@@ -96,43 +85,16 @@ fn same_records(records: &[Record], others: &[Record]) -> bool {
     are_same
 }
 
-impl Turn {
-    fn request(self, ground: &Ground) -> Result<Request, AllocError> {
-        self.wish
-            .request(self.alloc, ground, self.examiner, self.doc)
-    }
-
-    // The request, made once more where a growth was refused.
-    fn request_again(self, ground: &Ground, tally: &mut Tally) -> Result<Request, AllocError> {
-        if let Ok(request) = self.request(ground) {
-            return Ok(request);
-        }
-        tally.want();
-        self.request(ground)
-    }
-}
-
 impl Desks {
-    // Whether both serve an examiner's wish alike.
-    fn are_one(
-        &mut self,
-        ground: &Ground,
-        turn: Turn,
-        tally: &mut Tally,
-    ) -> Result<bool, AllocError> {
-        let reply = serve(&mut self.cells, ground, turn, tally)?;
+    // Whether both serve an examiner alike.
+    fn are_one(&mut self, ground: &Ground, turn: Turn, tally: &mut Tally) -> bool {
+        let reply = turn.serve(&mut self.cells, ground, tally);
         tally.count(&reply);
-        let other = serve(&mut self.trees, ground, turn, tally)?;
-        Ok(are_one(reply, other))
+        are_one(reply, turn.serve(&mut self.trees, ground, tally))
     }
 
     fn turn(&self, examiner: u32, wish: Wish, doc: u64) -> Turn {
-        Turn {
-            alloc: self.alloc,
-            examiner,
-            wish,
-            doc,
-        }
+        Turn::new(self.alloc, examiner, wish, doc)
     }
 
     // The same for any examiner's wish.
@@ -148,63 +110,43 @@ impl Desks {
             && self.cells.trace().len() == self.trees.trace().len()
     }
 
+    fn are_trees_tidy(&self) -> bool {
+        self.trees.store().is_tidy()
+    }
+
     // Commits all, after which the trees have no node too many.
-    fn are_commits_one(
-        &mut self,
-        ground: &Ground,
-        examiners: u32,
-        tally: &mut Tally,
-    ) -> Result<bool, AllocError> {
+    fn are_commits_one(&mut self, ground: &Ground, examiners: u32, tally: &mut Tally) -> bool {
         let mut is_one = true;
         for examiner in 1..=examiners {
-            is_one &= self.are_one(ground, self.turn(examiner, Wish::Commit, 0), tally)?;
+            is_one &= self.are_one(ground, self.turn(examiner, Wish::Commit, 0), tally);
         }
-        Ok(is_one && self.trees.store().is_tidy())
+        is_one & self.are_trees_tidy()
     }
 
-    // Whether both serve an ask alone alike, after which the trees have no node too many.
-    fn is_alone_one(
-        &mut self,
-        ground: &Ground,
-        alone: Alone,
-        tally: &mut Tally,
-    ) -> Result<bool, AllocError> {
-        let Some(reply) = alone.serve(&mut self.cells, ground, tally)? else {
-            return Ok(false);
-        };
-        tally.count(&reply);
-        let Some(other) = alone.serve(&mut self.trees, ground, tally)? else {
-            return Ok(false);
-        };
-        Ok(are_one(reply, other) && self.trees.store().is_tidy())
-    }
-
-    // Makes the asks alone of a list, from a copy of the generator: the lists that follow stay what they are.
+    // Makes the asks alone of a list, from a copy of the generator: the lists that follow stay what they are. After each the trees
+    // have no node too many.
     fn are_alone_one(
         &mut self,
         mut chance: Chance,
         ground: &Ground,
         extent: Extent,
         tally: &mut Tally,
-    ) -> Result<bool, AllocError> {
+    ) -> bool {
         let mut is_one = true;
         for doc in 0..extent.alone {
-            let alone = Alone::any(self.alloc, &mut chance, ground, extent.examiners, doc);
-            is_one &= self.is_alone_one(ground, alone, tally)?;
+            let turn = Turn::any_alone(self.alloc, &mut chance, ground, extent.examiners, doc);
+            is_one &= self.are_one(ground, turn, tally);
+            is_one &= self.are_trees_tidy();
         }
-        Ok(is_one)
+        is_one
     }
 
     // Reads the whole land.
-    fn are_ends_one(&mut self, ground: &Ground, tally: &mut Tally) -> Result<bool, AllocError> {
-        let mut is_one = self.are_one(ground, self.turn(1, Wish::Begin, 0), tally)?;
-        is_one &= self.are_one(
-            ground,
-            self.turn(1, Wish::Step(StepWish::Sheet(u32::MAX)), 0),
-            tally,
-        )?;
-        is_one &= self.are_records_one();
-        Ok(is_one)
+    fn are_ends_one(&mut self, ground: &Ground, tally: &mut Tally) -> bool {
+        let sheet = Wish::Step(StepWish::Sheet(u32::MAX));
+        let mut is_one = self.are_one(ground, self.turn(1, Wish::Begin, 0), tally);
+        is_one &= self.are_one(ground, self.turn(1, sheet, 0), tally);
+        is_one & self.are_records_one()
     }
 
     // Whether all requests of a list are served alike, then all asks alone, and what they leave is one.
@@ -215,16 +157,15 @@ impl Desks {
         extent: Extent,
         tally: &mut Tally,
         alone: &mut Tally,
-    ) -> Result<bool, AllocError> {
-        let examiners = extent.examiners;
+    ) -> bool {
         let mut is_one = true;
         for doc in 0..extent.requests {
-            is_one &= self.are_one(ground, self.any_turn(chance, ground, examiners, doc), tally)?;
+            let turn = self.any_turn(chance, ground, extent.examiners, doc);
+            is_one &= self.are_one(ground, turn, tally);
         }
-        is_one &= self.are_commits_one(ground, examiners, tally)?;
-        is_one &= self.are_alone_one(*chance, ground, extent, alone)?;
-        is_one &= self.are_ends_one(ground, tally)?;
-        Ok(is_one)
+        is_one &= self.are_commits_one(ground, extent.examiners, tally);
+        is_one &= self.are_alone_one(*chance, ground, extent, alone);
+        is_one & self.are_ends_one(ground, tally)
     }
 }
 
@@ -247,37 +188,77 @@ fn townships_again(alloc: Global, tally: &mut Tally) -> Result<Vec<Township>, Al
     townships(alloc)
 }
 
+// Whether a list is one at new desks; false where none opens.
+fn is_new_list_one(
+    desks: Option<Desks>,
+    chance: &mut Chance,
+    ground: &Ground,
+    extent: Extent,
+    tally: &mut Tally,
+    alone: &mut Tally,
+) -> bool {
+    match desks {
+        Some(mut desks) => desks.is_list_one(chance, ground, extent, tally, alone),
+        None => false,
+    }
+}
+
 // How many of a number of lists differ, each at new desks. One for which no desk opens counts with them.
-fn count_differing(
+fn count_lists(
     alloc: Global,
+    townships: &[Township],
+    ground: &Ground,
     chance: &mut Chance,
     extent: Extent,
     tally: &mut Tally,
     alone: &mut Tally,
 ) -> Result<u32, AllocError> {
-    let townships = townships_again(alloc, tally)?;
-    let (tracts, reach) = (extent.tracts, extent.reach);
-    let ground = Ground::again(alloc, chance, tracts, reach, &mut tally.wanted)?;
     let mut differ = 0u32;
     for _ in 0..extent.lists {
-        let is_one = match open_again(alloc, townships.as_slice(), tally)? {
-            Some(mut desks) => desks.is_list_one(chance, &ground, extent, tally, alone)?,
-            None => false,
-        };
-        if !is_one {
+        let desks = open_again(alloc, townships, tally)?;
+        if !is_new_list_one(desks, chance, ground, extent, tally, alone) {
             differ = differ.saturating_add(1);
         }
     }
     Ok(differ)
 }
 
+// The same on new ground.
+fn count_differing(
+    alloc: Global,
+    townships: &[Township],
+    chance: &mut Chance,
+    extent: Extent,
+    tally: &mut Tally,
+    alone: &mut Tally,
+) -> Result<u32, AllocError> {
+    let (tracts, reach) = (extent.tracts, extent.reach);
+    let ground = Ground::again(alloc, chance, tracts, reach, &mut tally.wanted)?;
+    count_lists(alloc, townships, &ground, chance, extent, tally, alone)
+}
+
+// Both extents, the first one first; how many lists differ.
+fn count_both(
+    alloc: Global,
+    townships: &[Township],
+    extents: [Extent; 2],
+    tally: &mut Tally,
+    alone: &mut Tally,
+) -> Result<u32, AllocError> {
+    let (mut chance, mut differ) = (Chance::new(3), 0u32);
+    for extent in extents {
+        let more = count_differing(alloc, townships, &mut chance, extent, tally, alone)?;
+        differ = differ.saturating_add(more);
+    }
+    Ok(differ)
+}
+
 /// Asks two desks alike, by lists of two extents. A list differs also where its trees stay untidy.
 pub fn compare(alloc: Global, first: Extent, second: Extent) -> Result<Compared, AllocError> {
-    let mut chance = Chance::new(3);
     let (mut tally, mut alone) = (Tally::new(), Tally::new());
-    let of_first = count_differing(alloc, &mut chance, first, &mut tally, &mut alone)?;
-    let of_second = count_differing(alloc, &mut chance, second, &mut tally, &mut alone)?;
-    let differ = of_first.saturating_add(of_second);
+    let townships = townships_again(alloc, &mut tally)?;
+    let extents = [first, second];
+    let differ = count_both(alloc, townships.as_slice(), extents, &mut tally, &mut alone)?;
     Ok(Compared {
         differ,
         tally,
