@@ -1,16 +1,18 @@
 //! The desk over a store of trees and a table of locks: its calls, books and limits. Replies in their order, and a sheet of three
 //! thousand rows, stand with the vectors.
 
+ghost use Rattle.std.specs.Prelude.{◌≡◌};
+
+use crate::checks::must;
 use crate::places::{square, township};
-use std::alloc::{AllocError, Global};
+use std::alloc::Global;
 use std::process::Abort;
-use std::test::Fail;
-use title_chain::{Answer, Ask, Posting, Terms};
+use title_chain::{Answer, Ask, Posting, Record, Terms};
 use title_desk::{Desk, may_open};
 use title_instrument::{Estates, Instrument, Release};
 use title_land::{Land, Node, Quarter, Township, Tract};
 use title_lock::NodeLocks;
-use title_store::Store;
+use title_store::{SheetRow, Store};
 use title_trace::{Call, Reply, Request};
 use title_tree_store::TreeStore;
 
@@ -18,49 +20,66 @@ type TestDesk = Desk<TreeStore, NodeLocks>;
 
 /// What an examiner asks of the northeast quarter of section 5. A post releases the surface from party 0 to party 1.
 #[derive(Clone, Copy)]
-enum Act {
-    Begin,
+enum Step {
     Sheet,
     Chain,
     Post(u64),
 }
 
-/// A desk of three parties and one township.
-fn open(alloc: Global, rt: &impl Abort) -> Result<TestDesk, AllocError> {
-    let townships = [township(rt, 3)];
-    assert!(rt; may_open(3, &townships));
-    Desk::open(alloc, 3, &townships)
+#[derive(Clone, Copy)]
+enum Act {
+    Begin,
+    Step(Step),
 }
 
-fn posting(alloc: Global, doc: u64, tract: Tract) -> Result<Posting, AllocError> {
+/// A desk of three parties over these townships.
+fn open(rt: &impl Abort, alloc: Global, townships: &[Township]) -> TestDesk
+    ensures setting { result.setting ≡ record { parties = 3; townships = townships.now } }
+{
+    assert!(rt; may_open(3, townships));
+    Desk::open(alloc, 3, townships).expect(rt, "there is memory")
+}
+
+fn surface_release() -> Instrument {
     let estates = Estates {
         s: true,
         o: false,
         m: false,
     };
-    let instrument = Instrument::Release(Release {
+    Instrument::Release(Release {
         from: 0,
         to: 1,
         estates,
-    });
+    })
+}
+
+fn posting(rt: &impl Abort, alloc: Global, doc: u64, tract: Tract) -> Posting {
     let terms = Terms {
         doc,
         tract,
-        instrument,
+        instrument: surface_release(),
     };
-    Posting::new(alloc, terms)
+    Posting::new(alloc, terms).expect(rt, "there is memory")
 }
 
-fn request(alloc: Global, land: Land, examiner: u32, act: Act) -> Result<Request, AllocError> {
-    Ok(match act {
+fn tract(rt: &impl Abort, alloc: Global) -> Tract {
+    let land = Land::of(square(rt, 5, &[Quarter::Northeast]));
+    Tract::new(alloc, land).expect(rt, "there is memory")
+}
+
+fn ask(rt: &impl Abort, alloc: Global, step: Step) -> Ask {
+    match step {
+        Step::Sheet => Ask::Sheet(tract(rt, alloc)),
+        Step::Chain => Ask::Chain(tract(rt, alloc)),
+        Step::Post(doc) => Ask::Post(posting(rt, alloc, doc, tract(rt, alloc))),
+    }
+}
+
+fn request(rt: &impl Abort, alloc: Global, examiner: u32, act: Act) -> Request {
+    match act {
         Act::Begin => Request::Begin(examiner),
-        Act::Sheet => Request::Step(examiner, Ask::Sheet(Tract::new(alloc, land)?)),
-        Act::Chain => Request::Step(examiner, Ask::Chain(Tract::new(alloc, land)?)),
-        Act::Post(doc) => {
-            let posting = posting(alloc, doc, Tract::new(alloc, land)?)?;
-            Request::Step(examiner, Ask::Post(posting))
-        }
-    })
+        Act::Step(step) => Request::Step(examiner, ask(rt, alloc, step)),
+    }
 }
 
 /// A reply in a word.
@@ -80,139 +99,154 @@ fn word(reply: &Reply) -> &'static str {
     }
 }
 
-/// Each examiner's act is replied to by this word.
-fn assert_replies(
-    alloc: Global,
+/// The reply to an examiner's act, in a word.
+fn replied(
     rt: &impl Abort,
+    alloc: Global,
     desk: &mut TestDesk,
-    lines: &[(u32, Act, &str)],
-) -> Result<(), AllocError> {
-    let land = Land::of(square(rt, 5, &[Quarter::Northeast]));
+    examiner: u32,
+    act: Act,
+) -> &'static str {
+    word(&desk.serve(request(rt, alloc, examiner, act)))
+}
+
+/// Each examiner's act is replied to by this word.
+fn assert_replies(rt: &impl Abort, alloc: Global, desk: &mut TestDesk, lines: &[(u32, Act, &str)]) {
     for (examiner, act, wanted) in lines {
-        let reply = desk.serve(request(alloc, land, *examiner, *act)?);
-        assert_eq!(rt; word(&reply), *wanted, "to {examiner}");
+        let word = replied(rt, alloc, desk, *examiner, *act);
+        must(rt, word == *wanted, wanted);
     }
-    Ok(())
+}
+
+/// The one record is examiner 1's, of one step.
+fn assert_record(rt: &impl Abort, records: &[Record]) {
+    let [record] = records else {
+        panic!(rt; "one record");
+    };
+    let steps = record.steps.as_slice().len();
+    must(rt, record.examiner == 1 && steps == 1, "the one record");
+}
+
+/// A trace of five calls, from a begin to a sweep.
+fn assert_trace(rt: &impl Abort, calls: &[Call]) {
+    must(rt, calls.len() == 5, "five calls");
+    let [first, .., last] = calls else {
+        panic!(rt; "two calls");
+    };
+    must(rt, word(&first.reply) == "began", "the first call");
+    must(rt, word(&last.reply) == "aborted", "the last call");
 }
 
 /// The books after a commit and a sweep: one record of one step, and a trace of all calls.
 fn assert_books(rt: &impl Abort, desk: &TestDesk) {
-    assert!(rt; !desk.is_open(1) && !desk.is_open(2));
-    let [record] = desk.records() else {
-        panic!(rt; "one record");
-    };
-    assert_eq!(rt; record.examiner, 1);
-    assert_eq!(rt; record.steps.as_slice().len(), 1);
-    let [first, .., last] = desk.trace() else {
-        panic!(rt; "two calls");
-    };
-    assert_eq!(rt; word(&first.reply), "began");
-    assert_eq!(rt; word(&last.reply), "aborted");
-    assert_eq!(rt; desk.trace().len(), 5);
+    must(rt, !desk.is_open(1) && !desk.is_open(2), "nobody is open");
+    assert_record(rt, desk.records());
+    assert_trace(rt, desk.trace());
 }
+
+fn is_committed(reply: &Reply, place: u64) -> bool {
+    matches!(reply, Reply::Committed(number) if *number == place)
+}
+
+fn assert_committed(rt: &impl Abort, desk: &mut TestDesk, place: u64) {
+    let is_so = is_committed(&desk.serve(Request::Commit(1)), place);
+    must(rt, is_so, "committed at its place");
+}
+
+const OPEN: [(u32, Act, &str); 3] = [
+    (1, Act::Begin, "began"),
+    (2, Act::Begin, "began"),
+    (1, Act::Step(Step::Post(1)), "posted"),
+];
 
 /// Examiner 1 commits a post in the room that was made for it, and examiner 2 is swept away.
-fn fill_books(alloc: Global, rt: &impl Abort, desk: &mut TestDesk) -> Result<(), AllocError> {
-    let lines = [
-        (1, Act::Begin, "began"),
-        (2, Act::Begin, "began"),
-        (1, Act::Post(1), "posted"),
-    ];
-    assert_replies(alloc, rt, desk, &lines)?;
-    assert!(rt; desk.is_open(1) && desk.is_open(2));
-    desk.make_room(1)?;
-    assert!(rt; matches!(desk.serve(Request::Commit(1)), Reply::Committed(1)));
-    assert!(rt; matches!(desk.sweep(2), Reply::Aborted));
-    Ok(())
+fn fill_books(rt: &impl Abort, alloc: Global, desk: &mut TestDesk) {
+    assert_replies(rt, alloc, desk, &OPEN);
+    must(rt, desk.is_open(1) && desk.is_open(2), "both are open");
+    desk.make_room(1).expect(rt, "there is memory");
+    assert_committed(rt, desk, 1);
+    must(rt, word(&desk.sweep(2)) == "aborted", "swept");
 }
 
-#[test]
-fn a_desk_shows_its_books(rt: HostRuntime) -> Result<(), Fail> {
-    let mut desk = open(rt.alloc(), &rt)?;
-    fill_books(rt.alloc(), &rt, &mut desk)?;
-    assert_books(&rt, &desk);
+fn assert_filled(rt: &impl Abort, alloc: Global, desk: &mut TestDesk) {
+    fill_books(rt, alloc, desk);
+    assert_books(rt, desk);
     desk.is_serial();
-    Ok(())
+}
+
+/// Three rows, each of which has the whole as the United States'.
+fn assert_opening(rt: &impl Abort, rows: &[SheetRow]) {
+    must(rt, rows.len() == 3, "three rows");
+    for row in rows {
+        let is_whole = row.party == 0 && row.units == 4_294_967_296;
+        must(rt, is_whole, "the United States' whole");
+    }
 }
 
 /// Everything is the United States': a sheet of a row for each estate.
-#[test]
-fn a_new_desk_has_an_opening_plant(rt: HostRuntime) -> Result<(), Fail> {
-    let townships = [township(&rt, 3)];
-    assert!(rt; may_open(3, &townships));
-    let desk: TestDesk = Desk::open(rt.alloc(), 3, &townships)?;
+fn assert_new(rt: &impl Abort, alloc: Global, desk: &TestDesk, townships: &[Township])
+    requires setting { desk.now.setting ≡ record { parties = 3; townships = townships.now } }
+{
     let plant = Tract::of(Node::Everything);
-    assert!(rt; plant.is_in(&townships));
-    let rows = desk.store().sheet(rt.alloc(), &plant)?;
-    assert_eq!(rt; rows.len(), 3);
-    for row in &rows {
-        assert_eq!(rt; (row.party, row.units), (0, 4_294_967_296));
-    }
-    Ok(())
+    assert!(rt; plant.is_in(townships));
+    let rows = desk.store().sheet(alloc, &plant);
+    assert_opening(rt, rows.expect(rt, "there is memory").as_slice());
 }
 
 /// The townships of ranges 2 west from 1 north to so many north.
-fn townships_to(alloc: Global, rt: &impl Abort, last: u8) -> Result<Vec<Township>, AllocError> {
+fn townships_to(rt: &impl Abort, alloc: Global, last: u8) -> Vec<Township> {
     let mut townships = Vec::new(alloc);
     for number in 1..=last {
-        townships.push(township(rt, number))?;
+        townships
+            .push(township(rt, number))
+            .expect(rt, "there is memory");
     }
-    Ok(townships)
+    townships
 }
 
 /// A desk has 1 to 65,536 parties and at most 64 townships, none of them twice.
+fn assert_limits(rt: &impl Abort, most: &[Township], too_many: &[Township], twice: &[Township]) {
+    must(rt, may_open(1, &[]), "a party, no township");
+    must(rt, may_open(65_536, most), "the most of both");
+    must(rt, !may_open(0, &[]), "no party");
+    must(rt, !may_open(65_537, &[]), "a party too many");
+    must(rt, !may_open(1, too_many), "a township too many");
+    must(rt, !may_open(1, twice), "a township twice");
+}
+
 #[test]
-fn a_desk_opens_within_its_limits(rt: HostRuntime) -> Result<(), Fail> {
-    let most = townships_to(rt.alloc(), &rt, 64)?;
-    let too_many = townships_to(rt.alloc(), &rt, 65)?;
+fn a_desk_opens_within_its_limits(rt: HostRuntime) {
+    let most = townships_to(&rt, rt.alloc(), 64);
+    let too_many = townships_to(&rt, rt.alloc(), 65);
     let twice = [township(&rt, 3), township(&rt, 4), township(&rt, 3)];
-    assert!(rt; may_open(1, &[]) && may_open(65_536, most.as_slice()));
-    assert!(rt; !may_open(0, &[]) && !may_open(65_537, &[]));
-    assert!(rt; !may_open(1, too_many.as_slice()) && !may_open(1, &twice));
-    Ok(())
+    assert_limits(&rt, most.as_slice(), too_many.as_slice(), &twice);
 }
 
 /// Each of a hundred thousand transactions is committed.
 fn commit_a_hundred_thousand(rt: &impl Abort, desk: &mut TestDesk) {
     for place in 1..100_001 {
-        assert!(rt;
-            matches!(desk.serve(Request::Begin(1)), Reply::Began),
-            "{place}"
-        );
-        let reply = desk.serve(Request::Commit(1));
-        assert!(rt;
-            matches!(reply, Reply::Committed(number) if number == place),
-            "{place}"
-        );
+        must(rt, word(&desk.serve(Request::Begin(1))) == "began", "began");
+        assert_committed(rt, desk, place);
     }
 }
 
-#[test]
-fn a_hundred_thousand_records(rt: HostRuntime) -> Result<(), Fail> {
-    let mut desk = open(rt.alloc(), &rt)?;
-    commit_a_hundred_thousand(&rt, &mut desk);
-    assert_eq!(rt; desk.records().len(), 100_000);
-    Ok(())
+fn assert_a_hundred_thousand(rt: &impl Abort, desk: &mut TestDesk) {
+    commit_a_hundred_thousand(rt, desk);
+    must(rt, desk.records().len() == 100_000, "all records");
 }
 
-/// An examiner's act as a transaction of its own is replied to by this word.
-fn assert_alone(
-    alloc: Global,
-    rt: &impl Abort,
-    desk: &mut TestDesk,
-    act: Act,
-    wanted: &str,
-) -> Result<(), AllocError> {
-    let land = Land::of(square(rt, 5, &[Quarter::Northeast]));
-    let Request::Step(examiner, ask) = request(alloc, land, 1, act)? else {
-        panic!(rt; "a step");
-    };
+/// The reply to an examiner's step as a transaction of its own, in a word.
+fn replied_alone(rt: &impl Abort, desk: &mut TestDesk, ask: Ask) -> &'static str {
     let None = desk.first_open() else {
         panic!(rt; "nobody is open");
     };
-    let reply = desk.serve_alone(examiner, ask);
-    assert_eq!(rt; word(&reply), wanted);
-    Ok(())
+    word(&desk.serve_alone(1, ask))
+}
+
+/// Such a step is replied to by this word.
+fn assert_alone(rt: &impl Abort, alloc: Global, desk: &mut TestDesk, step: Step, wanted: &str) {
+    let word = replied_alone(rt, desk, ask(rt, alloc, step));
+    must(rt, word == wanted, wanted);
 }
 
 /// The calls have these replies.
@@ -222,10 +256,10 @@ fn assert_calls(rt: &impl Abort, calls: &[Call], wanted: &[&str]) {
         let [first, more @ ..] = rest else {
             panic!(rt; "a call with {one}");
         };
-        assert_eq!(rt; word(&first.reply), *one);
+        must(rt, word(&first.reply) == *one, one);
         rest = more;
     }
-    assert!(rt; rest.is_empty());
+    must(rt, rest.is_empty(), "no other call");
 }
 
 const ALONE: [&str; 9] = [
@@ -241,25 +275,77 @@ const ALONE: [&str; 9] = [
 ];
 
 /// A transaction of one step in one call has the trace of its three requests.
-#[test]
-fn a_step_alone_is_begun_and_committed(rt: HostRuntime) -> Result<(), Fail> {
-    let mut desk = open(rt.alloc(), &rt)?;
-    assert_alone(rt.alloc(), &rt, &mut desk, Act::Sheet, "rows")?;
-    assert_alone(rt.alloc(), &rt, &mut desk, Act::Post(7), "posted")?;
-    assert_alone(rt.alloc(), &rt, &mut desk, Act::Chain, "entries")?;
-    assert_calls(&rt, desk.trace(), &ALONE);
-    assert_eq!(rt; desk.records().len(), 3);
-    Ok(())
+fn assert_committed_alone(rt: &impl Abort, alloc: Global, desk: &mut TestDesk) {
+    assert_alone(rt, alloc, desk, Step::Sheet, "rows");
+    assert_alone(rt, alloc, desk, Step::Post(7), "posted");
+    assert_alone(rt, alloc, desk, Step::Chain, "entries");
+    assert_calls(rt, desk.trace(), &ALONE);
+    must(rt, desk.records().len() == 3, "three records");
 }
 
 /// One whose township isn't declared is begun and aborted.
+fn assert_aborted_alone(rt: &impl Abort, alloc: Global, desk: &mut TestDesk) {
+    assert_alone(rt, alloc, desk, Step::Post(7), "another");
+    assert_calls(rt, desk.trace(), &["began", "another", "aborted"]);
+    must(rt, desk.records().is_empty(), "no record");
+}
+
+/// What is tried of a desk.
+#[derive(Clone, Copy)]
+enum Trial {
+    Books,
+    New,
+    AHundredThousand,
+    CommittedAlone,
+    AbortedAlone,
+}
+
+fn try_all(
+    rt: &impl Abort,
+    alloc: Global,
+    desk: &mut TestDesk,
+    townships: &[Township],
+    trial: Trial,
+)
+    requires setting { desk.old.setting ≡ record { parties = 3; townships = townships.now } }
+{
+    match trial {
+        Trial::Books => assert_filled(rt, alloc, desk),
+        Trial::New => assert_new(rt, alloc, desk, townships),
+        Trial::AHundredThousand => assert_a_hundred_thousand(rt, desk),
+        Trial::CommittedAlone => assert_committed_alone(rt, alloc, desk),
+        Trial::AbortedAlone => assert_aborted_alone(rt, alloc, desk),
+    }
+}
+
+/// The only function that owns a desk: each step of such a function costs its proof much.
+fn try_desk(rt: &impl Abort, alloc: Global, number: u8, trial: Trial) {
+    let townships = [township(rt, number)];
+    let mut desk = open(rt, alloc, &townships);
+    try_all(rt, alloc, &mut desk, &townships, trial);
+}
+
 #[test]
-fn a_step_alone_is_begun_and_aborted(rt: HostRuntime) -> Result<(), Fail> {
-    let townships = [township(&rt, 4)];
-    assert!(rt; may_open(3, &townships));
-    let mut desk: TestDesk = Desk::open(rt.alloc(), 3, &townships)?;
-    assert_alone(rt.alloc(), &rt, &mut desk, Act::Post(7), "another")?;
-    assert_calls(&rt, desk.trace(), &["began", "another", "aborted"]);
-    assert!(rt; desk.records().is_empty());
-    Ok(())
+fn a_desk_shows_its_books(rt: HostRuntime) {
+    try_desk(&rt, rt.alloc(), 3, Trial::Books);
+}
+
+#[test]
+fn a_new_desk_has_an_opening_plant(rt: HostRuntime) {
+    try_desk(&rt, rt.alloc(), 3, Trial::New);
+}
+
+#[test]
+fn a_hundred_thousand_records(rt: HostRuntime) {
+    try_desk(&rt, rt.alloc(), 3, Trial::AHundredThousand);
+}
+
+#[test]
+fn a_step_alone_is_begun_and_committed(rt: HostRuntime) {
+    try_desk(&rt, rt.alloc(), 3, Trial::CommittedAlone);
+}
+
+#[test]
+fn a_step_alone_is_begun_and_aborted(rt: HostRuntime) {
+    try_desk(&rt, rt.alloc(), 4, Trial::AbortedAlone);
 }

@@ -1,9 +1,9 @@
 //! What instruments do to a cell, and the numbers, words and sizes of their parts.
 
-use std::alloc::{AllocError, Global};
+use crate::checks::must;
+use std::alloc::Global;
 use std::mem::size_of;
 use std::process::Abort;
-use std::test::Fail;
 use title_instrument::{Deed, Effect, Estate, Estates, Instrument, Kind, Owners, Quantum, Release};
 use title_share::Share;
 
@@ -57,29 +57,44 @@ fn release(from: u32, to: u32, estates: Estates) -> Instrument {
     Instrument::Release(Release { from, to, estates })
 }
 
-/// Whether a copy of the opening owners is the same.
-fn copy_is_same(alloc: Global) -> Result<bool, AllocError> {
-    let owners = Owners::opening(alloc)?;
-    let copy = owners.copy(alloc)?;
-    Ok(copy.same(&owners))
+fn opening(rt: &impl Abort, alloc: Global) -> Owners {
+    Owners::opening(alloc).expect(rt, "there is memory")
 }
 
-/// The units of the oil that BELL has after an instrument on the opening owners; none where it is refused.
-fn bell_after(alloc: Global, instrument: &Instrument) -> Result<u64, AllocError> {
-    let owners = Owners::opening(alloc)?;
-    match instrument.apply_cell(alloc, &owners)? {
-        Effect::Done(after) => Ok(after.of(Estate::O).units(BELL)),
-        Effect::Refused(..) => Ok(0),
+fn copy_of(rt: &impl Abort, alloc: Global, owners: &Owners) -> Owners {
+    owners.copy(alloc).expect(rt, "there is memory")
+}
+
+fn copy_is_same(rt: &impl Abort, alloc: Global, owners: &Owners) -> bool {
+    copy_of(rt, alloc, owners).same(owners)
+}
+
+/// The units of the oil that BELL has where an instrument was applied; none where it was refused.
+fn oil_of_bell(effect: Effect) -> u64 {
+    match effect {
+        Effect::Done(after) => after.of(Estate::O).units(BELL),
+        Effect::Refused(..) => 0,
     }
 }
 
+fn effect(rt: &impl Abort, alloc: Global, instrument: &Instrument, owners: &Owners) -> Effect {
+    let effect = instrument.apply_cell(alloc, owners);
+    effect.expect(rt, "there is memory")
+}
+
+/// The same after an instrument on the opening owners.
+fn bell_after(rt: &impl Abort, alloc: Global, instrument: &Instrument) -> u64 {
+    oil_of_bell(effect(rt, alloc, instrument, &opening(rt, alloc)))
+}
+
 #[test]
-fn owners_of_a_cell(rt: HostRuntime) -> Result<(), Fail> {
-    assert!(rt; copy_is_same(rt.alloc())?);
+fn owners_of_a_cell(rt: HostRuntime) {
+    let is_same = copy_is_same(&rt, rt.alloc(), &opening(&rt, rt.alloc()));
+    must(&rt, is_same, "a copy is the same");
     let part = Quantum::Whole(share(&rt, "3/8"));
     let patent = deed(UNITED_STATES, part, [None; 3], false);
-    assert!(rt; bell_after(rt.alloc(), &patent)? == 1_610_612_736);
-    Ok(())
+    let units = bell_after(&rt, rt.alloc(), &patent);
+    must(&rt, units == 1_610_612_736, "three eighths of the oil");
 }
 
 /// The number of the first cause why an instrument can't stand among so many parties, 0 where it can.
@@ -92,7 +107,11 @@ fn cause_number(instrument: &Instrument, parties: u32) -> u32 {
 
 fn assert_checked(rt: &impl Abort, rows: &[(Instrument, u32, u32)]) {
     for (instrument, parties, number) in rows {
-        assert!(rt; cause_number(instrument, *parties) == *number);
+        must(
+            rt,
+            cause_number(instrument, *parties) == *number,
+            "the cause",
+        );
     }
 }
 
@@ -120,25 +139,37 @@ fn causes_in_their_order(rt: HostRuntime) {
     assert_checked(&rt, &rows);
 }
 
-#[test]
-fn words_and_letters(rt: HostRuntime) -> Result<(), Fail> {
-    let kind = release(ADAMS, BELL, OIL).kind();
-    let text = format!(in rt.alloc(); "{kind} {} {ALL} {MINERALS} {}", Kind::Warranty, Estate::S)?;
-    assert!(rt; text.as_str() == "release warranty SOM OM S");
-    assert!(rt; Kind::of_word("Deed").is_none());
-    assert!(rt; Kind::of_word("warranty") == Some(Kind::Warranty));
-    Ok(())
+fn words(rt: &impl Abort, alloc: Global, kind: Kind) -> String {
+    let text = format!(in alloc; "{kind} {} {ALL} {MINERALS} {}", Kind::Warranty, Estate::S);
+    text.expect(rt, "there is memory")
 }
 
-/// An instrument between ADAMS and BELL comes back from between their names.
+#[test]
+fn words_and_letters(rt: HostRuntime) {
+    let kind = release(ADAMS, BELL, OIL).kind();
+    let text = words(&rt, rt.alloc(), kind);
+    must(
+        &rt,
+        text.as_str() == "release warranty SOM OM S",
+        "the words",
+    );
+    must(&rt, Kind::of_word("Deed").is_none(), "no kind");
+    let kind = Kind::of_word("warranty");
+    must(&rt, kind == Some(Kind::Warranty), "a kind");
+}
+
+/// Whether an instrument between ADAMS and BELL comes back from between their names.
+fn comes_back(numbered: &Instrument, named: &Instrument<&str>) -> bool {
+    let back = named.between(ADAMS, BELL);
+    back == *numbered && back.is(numbered) && !named.between(BELL, ADAMS).is(numbered)
+}
+
+/// An instrument between ADAMS and BELL is between their names.
 fn assert_named(rt: &impl Abort, numbered: &Instrument) {
     let named = numbered.between("ADAMS", "BELL");
-    assert!(rt; named.grantor() == "ADAMS");
-    assert!(rt; named.grantee() == "BELL");
-    assert!(rt; named.between(ADAMS, BELL) == *numbered);
-    assert!(rt;
-        named.between(ADAMS, BELL).is(numbered) && !named.between(BELL, ADAMS).is(numbered)
-    );
+    must(rt, named.grantor() == "ADAMS", "the grantor");
+    must(rt, named.grantee() == "BELL", "the grantee");
+    must(rt, comes_back(numbered, &named), "the same between numbers");
 }
 
 #[test]
@@ -151,7 +182,7 @@ fn between_other_parties(rt: HostRuntime) {
 
 #[test]
 fn an_instrument_takes_48_bytes(rt: HostRuntime) {
-    assert_eq!(rt; size_of::<Deed>(), 44);
-    assert_eq!(rt; size_of::<Release>(), 12);
-    assert_eq!(rt; size_of::<Instrument>(), 48);
+    must(&rt, size_of::<Deed>() == 44, "a deed");
+    must(&rt, size_of::<Release>() == 12, "a release");
+    must(&rt, size_of::<Instrument>() == 48, "an instrument");
 }

@@ -1,10 +1,10 @@
 //! Tracts, their nodes and their cells.
 
+use crate::checks::must;
 use crate::places::{section, square, township};
 use std::alloc::{AllocError, Global};
 use std::fmt::Write;
 use std::process::Abort;
-use std::test::Fail;
 use title_land::{
     Cell, Grid, Half, Land, Node, Quarter, Rectangle, Section, Township, Tract, Within, cells_of,
     children_of, node_cells, number_above,
@@ -17,9 +17,9 @@ const SOUTHWEST: Quarter = Quarter::Southwest;
 const SOUTHEAST: Quarter = Quarter::Southeast;
 
 /// The south half of section 5, which is no square.
-fn south_half(rt: &impl Abort, alloc: Global) -> Result<Tract, AllocError> {
+fn south_half(rt: &impl Abort, alloc: Global) -> Tract {
     let cells = Grid::of(Rectangle::section().half(Half::South));
-    Tract::new(alloc, Land::Part(section(rt, 5), cells))
+    Tract::new(alloc, Land::Part(section(rt, 5), cells)).expect(rt, "there is memory")
 }
 
 fn add_node(lines: &mut String, node: &Node) -> Result<(), AllocError> {
@@ -48,37 +48,60 @@ fn add_cells(lines: &mut String, cells: &[Cell], places: &[usize]) -> Result<(),
     Ok(())
 }
 
+fn assert_numbers(rt: &impl Abort, rows: &[(Node, u64)]) {
+    for (node, number) in rows {
+        must(rt, node.number() == *number, "a node's number");
+    }
+}
+
+fn assert_above(rt: &impl Abort, rows: &[(u64, u64)]) {
+    for (number, above) in rows {
+        must(rt, number_above(*number) == *above, "the number above");
+    }
+}
+
+const ABOVE: [(u64, u64); 3] = [(25_280_773, 4_309_253), (4_309_253, 114_944), (114_944, 0)];
+
 /// A number for each node: T3N R2W is (3 · 2 + 1) · 128 + 2, twice, times 64.
 #[test]
 fn a_node_has_a_number(rt: HostRuntime) {
-    assert_eq!(rt; Node::Everything.number(), 0);
-    assert_eq!(rt; Node::Township(township(&rt, 3)).number(), 114_944);
-    assert_eq!(rt; square(&rt, 5, &[]).number(), 4_309_253);
-    assert_eq!(rt; square(&rt, 5, &[SOUTHWEST]).number(), 25_280_773);
-    assert_eq!(rt; number_above(25_280_773), 4_309_253);
-    assert_eq!(rt; number_above(4_309_253), 114_944);
-    assert_eq!(rt; number_above(114_944), 0);
+    let rows = [
+        (Node::Everything, 0),
+        (Node::Township(township(&rt, 3)), 114_944),
+        (square(&rt, 5, &[]), 4_309_253),
+        (square(&rt, 5, &[SOUTHWEST]), 25_280_773),
+    ];
+    assert_numbers(&rt, &rows);
+    assert_above(&rt, &ABOVE);
 }
+
+fn add_above(lines: &mut String, cell: Node) -> Result<(), AllocError> {
+    for node in cell.ancestors() {
+        add_node(lines, &node)?;
+    }
+    Ok(())
+}
+
+fn lines_above(rt: &impl Abort, alloc: Global, cell: Node) -> String {
+    let mut lines = String::new(alloc);
+    add_above(&mut lines, cell).expect(rt, "there is memory");
+    lines
+}
+
+const ABOVE_A_CELL: &str = "T3N R2W sec 5 SW1/4SE1/4NE1/4\n\
+    T3N R2W sec 5 SE1/4NE1/4\n\
+    T3N R2W sec 5 NE1/4\n\
+    T3N R2W sec 5\n\
+    T3N R2W\n\
+    everything\n";
 
 /// The nodes above a cell, the nearest first.
 #[test]
-fn a_cell_lies_below_six_nodes(rt: HostRuntime) -> Result<(), Fail> {
+fn a_cell_lies_below_six_nodes(rt: HostRuntime) {
     let cell = square(&rt, 5, &[NORTHEAST, SOUTHWEST, SOUTHEAST, NORTHEAST]);
-    let mut lines = String::new(rt.alloc());
-    for node in cell.ancestors() {
-        add_node(&mut lines, &node)?;
-    }
-    assert_eq!(rt;
-        lines.as_str(),
-        "T3N R2W sec 5 SW1/4SE1/4NE1/4\n\
-            T3N R2W sec 5 SE1/4NE1/4\n\
-            T3N R2W sec 5 NE1/4\n\
-            T3N R2W sec 5\n\
-            T3N R2W\n\
-            everything\n"
-    );
-    assert!(rt; Within::named(&[NORTHEAST; 5]).is_none());
-    Ok(())
+    let lines = lines_above(&rt, rt.alloc(), cell);
+    must(&rt, lines.as_str() == ABOVE_A_CELL, "the nodes above");
+    must(&rt, Within::named(&[NORTHEAST; 5]).is_none(), "no cell");
 }
 
 /// Places in lists of cells: the last is past the end of the plant's.
@@ -117,24 +140,52 @@ const LISTED: &str = "T4N R2W\n\
     T3N R2W sec 5 row 1 column 15\n\
     T3N R2W sec 5 row 0 column 15\n";
 
-/// What lies right below each node, and its cells at these places, a line each.
-fn listed(
+/// Adds what lies right below a node.
+fn add_children(
     alloc: Global,
+    lines: &mut String,
+    townships: &[Township],
+    node: Node,
+) -> Result<(), AllocError> {
+    let children = children_of(alloc, townships, node)?;
+    add_nodes(lines, &children)
+}
+
+/// Adds a node's cells at these places.
+fn add_cells_in(
+    alloc: Global,
+    lines: &mut String,
+    townships: &[Township],
+    node: Node,
+    places: &[usize],
+) -> Result<(), AllocError> {
+    let cells = node_cells(alloc, townships, node)?;
+    add_cells(lines, &cells, places)
+}
+
+/// Adds what lies right below each node, and its cells at some places, a line each.
+fn add_listed(
+    alloc: Global,
+    lines: &mut String,
     townships: &[Township],
     nodes: &[Node],
-    places: &[usize],
-) -> Result<String, AllocError> {
-    let mut lines = String::new(alloc);
+) -> Result<(), AllocError> {
     for node in nodes {
-        add_nodes(&mut lines, &children_of(alloc, townships, *node)?)?;
-        add_cells(&mut lines, &node_cells(alloc, townships, *node)?, places)?;
+        add_children(alloc, lines, townships, *node)?;
+        add_cells_in(alloc, lines, townships, *node, &PLACES)?;
     }
-    Ok(lines)
+    Ok(())
+}
+
+fn listed(rt: &impl Abort, alloc: Global, townships: &[Township], nodes: &[Node]) -> String {
+    let mut lines = String::new(alloc);
+    add_listed(alloc, &mut lines, townships, nodes).expect(rt, "there is memory");
+    lines
 }
 
 /// Townships come as declared, sections by their numbers and quarters as they are listed.
 #[test]
-fn nodes_and_cells_are_listed(rt: HostRuntime) -> Result<(), Fail> {
+fn nodes_and_cells_are_listed(rt: HostRuntime) {
     let nodes = [
         Node::Everything,
         Node::Township(township(&rt, 3)),
@@ -142,9 +193,8 @@ fn nodes_and_cells_are_listed(rt: HostRuntime) -> Result<(), Fail> {
         square(&rt, 5, &[NORTHEAST; 4]),
     ];
     let townships = [township(&rt, 4), township(&rt, 3)];
-    let lines = listed(rt.alloc(), &townships, &nodes, &PLACES)?;
-    assert_eq!(rt; lines.as_str(), LISTED);
-    Ok(())
+    let lines = listed(&rt, rt.alloc(), &townships, &nodes);
+    must(&rt, lines.as_str() == LISTED, "what is listed");
 }
 
 /// Adds the node of a tract that has a cell, where one has.
@@ -175,54 +225,95 @@ fn add_nodes_of(
     Ok(())
 }
 
-/// The cover of a half of section 5, its cells at some places, and the nodes of cells in sections 5 and 6.
-fn lines_of(rt: &impl Abort, alloc: Global, half: &Tract) -> Result<String, AllocError> {
-    let mut lines = String::new(alloc);
-    add_nodes(&mut lines, half.cover())?;
-    let cells = cells_of(alloc, &[township(rt, 3)], half)?;
-    add_cells(&mut lines, &cells, &[0, 63, 64, 127, 128])?;
-    let places = [(7, 7), (8, 7), (15, 0), (15, 8), (8, 16)];
-    add_nodes_of(&mut lines, half, section(rt, 5), &places)?;
-    add_nodes_of(&mut lines, half, section(rt, 6), &[(8, 7)])?;
-    Ok(lines)
+/// Adds the cells at some places of a tract's, in a township.
+fn add_cells_of(
+    alloc: Global,
+    lines: &mut String,
+    tract: &Tract,
+    township: Township,
+) -> Result<(), AllocError> {
+    let cells = cells_of(alloc, &[township], tract)?;
+    add_cells(lines, &cells, &[0, 63, 64, 127, 128])
 }
 
-/// A copy of a half has its cover and its cells, none of them in another township.
+/// Adds the cover of a half of section 5, its cells at some places, and the nodes of cells in sections 5 and 6.
+fn add_half(
+    rt: &impl Abort,
+    alloc: Global,
+    lines: &mut String,
+    half: &Tract,
+) -> Result<(), AllocError> {
+    add_nodes(lines, half.cover())?;
+    add_cells_of(alloc, lines, half, township(rt, 3))?;
+    let places = [(7, 7), (8, 7), (15, 0), (15, 8), (8, 16)];
+    add_nodes_of(lines, half, section(rt, 5), &places)?;
+    add_nodes_of(lines, half, section(rt, 6), &[(8, 7)])
+}
+
+fn lines_of(rt: &impl Abort, alloc: Global, half: &Tract) -> String {
+    let mut lines = String::new(alloc);
+    add_half(rt, alloc, &mut lines, half).expect(rt, "there is memory");
+    lines
+}
+
+fn cells_in(rt: &impl Abort, alloc: Global, townships: &[Township], tract: &Tract) -> usize {
+    let cells = cells_of(alloc, townships, tract);
+    cells.expect(rt, "there is memory").len()
+}
+
+/// A half of a section meets everything, and has no cell in another township.
+fn assert_in_its_township(rt: &impl Abort, alloc: Global, half: &Tract) {
+    let elsewhere = [township(rt, 4)];
+    must(rt, half.meets(&Tract::of(Node::Everything)), "it meets all");
+    must(rt, !half.is_in(&elsewhere), "it isn't in another township");
+    let cells = cells_in(rt, alloc, &elsewhere, half);
+    must(rt, cells == 0, "no cell in another township");
+}
+
+const HALF: &str = "T3N R2W sec 5 SW1/4\n\
+    T3N R2W sec 5 SE1/4\n\
+    T3N R2W sec 5 row 8 column 7\n\
+    T3N R2W sec 5 row 15 column 7\n\
+    T3N R2W sec 5 row 8 column 15\n\
+    T3N R2W sec 5 row 15 column 15\n\
+    false none\n\
+    true T3N R2W sec 5 SW1/4\n\
+    true T3N R2W sec 5 SW1/4\n\
+    true T3N R2W sec 5 SE1/4\n\
+    false none\n\
+    false none\n";
+
+fn copy_of(rt: &impl Abort, alloc: Global, tract: &Tract) -> Tract {
+    tract.copy(alloc).expect(rt, "there is memory")
+}
+
+/// A half has its cover and its cells, none of them in another township.
+fn assert_half(rt: &impl Abort, alloc: Global, half: &Tract) {
+    let lines = lines_of(rt, alloc, half);
+    must(rt, lines.as_str() == HALF, "a half's nodes and cells");
+    assert_in_its_township(rt, alloc, half);
+}
+
+/// So has a copy of it.
 #[test]
-fn a_half_is_two_nodes(rt: HostRuntime) -> Result<(), Fail> {
-    let half = south_half(&rt, rt.alloc())?.copy(rt.alloc())?;
-    let lines = lines_of(&rt, rt.alloc(), &half)?;
-    assert_eq!(rt;
-        lines.as_str(),
-        "T3N R2W sec 5 SW1/4\n\
-            T3N R2W sec 5 SE1/4\n\
-            T3N R2W sec 5 row 8 column 7\n\
-            T3N R2W sec 5 row 15 column 7\n\
-            T3N R2W sec 5 row 8 column 15\n\
-            T3N R2W sec 5 row 15 column 15\n\
-            false none\n\
-            true T3N R2W sec 5 SW1/4\n\
-            true T3N R2W sec 5 SW1/4\n\
-            true T3N R2W sec 5 SE1/4\n\
-            false none\n\
-            false none\n"
-    );
-    let elsewhere = [township(&rt, 4)];
-    assert!(rt; half.meets(&Tract::of(Node::Everything)));
-    assert!(rt; !half.is_in(&elsewhere));
-    assert!(rt; cells_of(rt.alloc(), &elsewhere, &half)?.is_empty());
-    Ok(())
+fn a_half_is_two_nodes(rt: HostRuntime) {
+    let copy = copy_of(&rt, rt.alloc(), &south_half(&rt, rt.alloc()));
+    assert_half(&rt, rt.alloc(), &copy);
 }
 
 /// Whether a tract shares a cell with each node.
 fn assert_meets(rt: &impl Abort, tract: &Tract, others: &[(Node, bool)]) {
     for (other, wanted) in others {
-        assert_eq!(rt; tract.meets(&Tract::of(*other)), *wanted);
+        must(
+            rt,
+            tract.meets(&Tract::of(*other)) == *wanted,
+            "cells shared",
+        );
     }
 }
 
 #[test]
-fn tracts_share_cells(rt: HostRuntime) -> Result<(), Fail> {
+fn tracts_share_cells(rt: HostRuntime) {
     let others = [
         (Node::Everything, true),
         (Node::Township(township(&rt, 3)), true),
@@ -232,5 +323,4 @@ fn tracts_share_cells(rt: HostRuntime) -> Result<(), Fail> {
         (square(&rt, 5, &[SOUTHWEST, NORTHEAST]), true),
     ];
     assert_meets(&rt, &Tract::of(square(&rt, 5, &[NORTHEAST])), &others);
-    Ok(())
 }

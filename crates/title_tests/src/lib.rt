@@ -7,6 +7,8 @@ mod aliquot;
 #[cfg(test)]
 mod chain;
 #[cfg(test)]
+mod checks;
+#[cfg(test)]
 mod desk;
 #[cfg(test)]
 mod instrument;

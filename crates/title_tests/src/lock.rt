@@ -1,8 +1,9 @@
 //! Locks in section 5 of T3N R2W, call by call.
 
+use crate::checks::must;
 use crate::places::square;
+use std::alloc::Global;
 use std::process::Abort;
-use std::test::Fail;
 use title_land::{Node, Quarter, Tract};
 use title_lock::{Access, Guards, LockFault, Mode, RowLocks, compat, sup};
 
@@ -57,33 +58,36 @@ const ACTS: [(u32, Act); 17] = [
     (4, Act::Asks(&[NORTHEAST], POST, None)),
 ];
 
-/// Asks for a square, for which this examiner is in the way. An error, also for memory, changes no mode.
+/// An examiner's modes at a node and at the whole plant.
+fn modes(locks: &RowLocks, examiner: u32, node: &Node) -> (Option<Mode>, Option<Mode>) {
+    (
+        locks.mode(examiner, node),
+        locks.mode(examiner, &Node::Everything),
+    )
+}
+
+/// Asks for a square: who is in the way. An error, also for memory, changes no mode.
 fn ask(
     rt: &impl Abort,
     locks: &mut RowLocks,
     examiner: u32,
-    node: Node,
+    node: &Node,
     access: Access,
-    way: Option<u32>,
-) -> Result<(), LockFault> {
-    let tract = Tract::of(node);
-    let modes = (
-        locks.mode(examiner, &node),
-        locks.mode(examiner, &Node::Everything),
-    );
-    assert!(rt; locks.would(examiner, &tract, access) == way);
-    let asked = locks.ask(examiner, &tract, access);
+) -> Option<u32> {
+    let before = modes(locks, examiner, node);
+    let asked = locks.ask(examiner, &Tract::of(*node), access);
     if asked.is_ok() {
-        assert!(rt; way.is_none());
-        return asked;
+        return None;
     }
-    assert!(rt; locks.mode(examiner, &node) == modes.0);
-    assert!(rt; locks.mode(examiner, &Node::Everything) == modes.1);
-    let Err(LockFault::Conflict(other)) = asked else {
-        return asked;
-    };
-    assert!(rt; way == Some(other));
-    Ok(())
+    must(
+        rt,
+        modes(locks, examiner, node) == before,
+        "unchanged modes",
+    );
+    match asked {
+        Err(LockFault::Conflict(other)) => Some(other),
+        _ => panic!(rt; "there is memory"),
+    }
 }
 
 fn assert_modes(
@@ -96,17 +100,38 @@ fn assert_modes(
     let mut left = Some(node);
     for mode in modes {
         let node = left.expect(rt, "as many nodes as modes");
-        assert!(rt; locks.mode(examiner, &node) == *mode);
+        must(rt, locks.mode(examiner, &node) == *mode, "a mode");
         left = node.parent();
     }
-    assert!(rt; left.is_none());
+    must(rt, left.is_none(), "as many modes as nodes");
 }
 
-fn act_all(rt: &impl Abort, locks: &mut RowLocks, acts: &[(u32, Act)]) -> Result<(), LockFault> {
+fn assert_asked(
+    rt: &impl Abort,
+    locks: &mut RowLocks,
+    examiner: u32,
+    node: &Node,
+    access: Access,
+    way: Option<u32>,
+) {
+    let would = locks.would(examiner, &Tract::of(*node), access);
+    must(rt, would == way, "who would be in the way");
+    let is = ask(rt, locks, examiner, node, access);
+    must(rt, is == way, "who is in the way");
+}
+
+fn act_all(rt: &impl Abort, locks: &mut RowLocks, acts: &[(u32, Act)]) {
     for (examiner, act) in acts {
         match act {
             Act::Asks(quarters, access, way) => {
-                ask(rt, locks, *examiner, square(rt, 5, quarters), *access, *way)?;
+                assert_asked(
+                    rt,
+                    locks,
+                    *examiner,
+                    &square(rt, 5, quarters),
+                    *access,
+                    *way,
+                );
             }
             Act::GivesBack => locks.give_back(*examiner),
             Act::Has(quarters, modes) => {
@@ -114,22 +139,27 @@ fn act_all(rt: &impl Abort, locks: &mut RowLocks, acts: &[(u32, Act)]) -> Result
             }
         }
     }
-    Ok(())
 }
 
 #[test]
-fn locks_are_asked_and_given_back(rt: HostRuntime) -> Result<(), Fail> {
+fn locks_are_asked_and_given_back(rt: HostRuntime) {
     let mut locks = RowLocks::new(rt.alloc());
-    act_all(&rt, &mut locks, &ACTS)?;
-    Ok(())
+    act_all(&rt, &mut locks, &ACTS);
+}
+
+fn told(rt: &impl Abort, alloc: Global, conflict: LockFault, memory: LockFault) -> String {
+    format!(in alloc; "{conflict}, {memory}").expect(rt, "there is memory")
 }
 
 #[test]
-fn faults_and_tables(rt: HostRuntime) -> Result<(), Fail> {
-    let (conflict, memory) = (LockFault::Conflict(7), LockFault::Memory);
-    let text = format!(in rt.alloc(); "{conflict}, {memory}")?;
-    assert_eq!(rt; text.as_str(), "examiner 7 is in the way, out of memory");
-    assert!(rt; compat(Mode::Is, Mode::Six));
-    assert!(rt; sup(Mode::S, Mode::Ix) == Mode::Six);
-    Ok(())
+fn faults_and_tables(rt: HostRuntime) {
+    let text = told(&rt, rt.alloc(), LockFault::Conflict(7), LockFault::Memory);
+    let is_told = text.as_str() == "examiner 7 is in the way, out of memory";
+    must(&rt, is_told, "the faults' texts");
+    must(&rt, compat(Mode::Is, Mode::Six), "compatible");
+    must(
+        &rt,
+        sup(Mode::S, Mode::Ix) == Mode::Six,
+        "the least above both",
+    );
 }

@@ -1,11 +1,11 @@
 //! Where the pages of a report go to the sink. The pushes that are wanted are those of a program that wrote each of these rows
 //! field by field, before any was put together from texts at hand.
 
+use crate::checks::must;
 use crate::places::{square, township};
 use indexmap::IndexSet;
 use std::alloc::{AllocError, Global};
 use std::process::Abort;
-use std::test::Fail;
 use title_chain::{Answer, Entries, Entry, Posting, SheetRows, Terms};
 use title_device::{Failed, Sink};
 use title_instrument::{Estate, Estates, Instrument, Release};
@@ -29,11 +29,13 @@ const PAGE: usize = 8_192;
 const ENTRY_LINES: usize = 1_000;
 
 /// A sink that keeps how many pushes it got, and the value of a polynomial that has their lengths as coefficients.
-#[derive(Debug, Clone, Copy, PartialEq, Eq, Drop)]
+#[derive(Clone, Copy, Drop)]
 struct Pushes {
     count: u64,
     sum: u64,
 }
+
+const NO_PUSHES: Pushes = Pushes { count: 0, sum: 0 };
 
 impl Sink for Pushes {
     ghost use Rattle.std.specs.Prelude.{false};
@@ -66,12 +68,13 @@ fn name_of(alloc: Global, party: u64) -> Result<String, AllocError> {
     Ok(name)
 }
 
-fn names(alloc: Global) -> Result<IndexSet<String>, AllocError> {
+fn names(rt: &impl Abort, alloc: Global) -> IndexSet<String> {
     let mut names = IndexSet::new(alloc);
     for party in 0..PARTIES {
-        names.insert(name_of(alloc, party)?)?;
+        let name = name_of(alloc, party).expect(rt, "there is memory");
+        names.insert(name).expect(rt, "there is memory");
     }
-    Ok(names)
+    names
 }
 
 // One of several nodes, from the whole plant down to a cell.
@@ -100,14 +103,7 @@ fn line_of(rt: &impl Abort, i: u64, party: u32, units: u64) -> SheetRow {
 }
 
 // A row of a chain.
-fn entry_of(
-    rt: &impl Abort,
-    alloc: Global,
-    place: u64,
-    doc: u64,
-    from: u32,
-    to: u32,
-) -> Result<Entry, AllocError> {
+fn entry_of(rt: &impl Abort, alloc: Global, place: u64, doc: u64, from: u32, to: u32) -> Entry {
     let instrument = Instrument::Release(Release {
         from,
         to,
@@ -122,28 +118,45 @@ fn entry_of(
         tract: Tract::of(node_of(rt, 0)),
         instrument,
     };
-    Ok(Entry {
-        place,
-        posting: Posting::new(alloc, terms)?,
-    })
+    let posting = Posting::new(alloc, terms).expect(rt, "there is memory");
+    Entry { place, posting }
 }
 
-fn long_sheet(rt: &impl Abort, alloc: Global) -> Result<SheetRows, AllocError> {
+fn add_row(rt: &impl Abort, rows: &mut Vec<SheetRow>, row: SheetRow) {
+    rows.push(row).expect(rt, "there is memory");
+}
+
+fn add_entry(rt: &impl Abort, entries: &mut Vec<Entry>, entry: Entry) {
+    entries.push(entry).expect(rt, "there is memory");
+}
+
+fn sheet_reply(rt: &impl Abort, rows: Vec<SheetRow>) -> Reply {
+    let rows = SheetRows::new(rows).expect(rt, "there is memory");
+    Reply::Answered(Answer::Rows(rows))
+}
+
+fn chain_reply(rt: &impl Abort, entries: Vec<Entry>) -> Reply {
+    let entries = Entries::new(entries).expect(rt, "there is memory");
+    Reply::Answered(Answer::Entries(entries))
+}
+
+fn long_sheet(rt: &impl Abort, alloc: Global) -> Vec<SheetRow> {
     let mut rows = Vec::new(alloc);
     for i in 0..ROWS {
         let party = (i * 31 % PARTIES) as u32;
-        rows.push(line_of(rt, i, party, (4_294_967_295 - i) >> (i % 33)))?;
+        let row = line_of(rt, i, party, (4_294_967_295 - i) >> (i % 33));
+        add_row(rt, &mut rows, row);
     }
-    SheetRows::new(rows)
+    rows
 }
 
-fn long_chain(rt: &impl Abort, alloc: Global) -> Result<Entries, AllocError> {
+fn long_chain(rt: &impl Abort, alloc: Global) -> Vec<Entry> {
     let mut entries = Vec::new(alloc);
     for i in 0..ROWS {
         let (from, to) = ((i * 31 % PARTIES) as u32, (i * 17 % PARTIES) as u32);
-        entries.push(entry_of(rt, alloc, i, i * i, from, to)?)?;
+        add_entry(rt, &mut entries, entry_of(rt, alloc, i, i * i, from, to));
     }
-    Entries::new(entries)
+    entries
 }
 
 // The rows of a sheet: the numbers of their nodes, their parties and units. Party 12 has a plain name, 20 one with commas, 21
@@ -160,16 +173,12 @@ const LINES: [(u64, u32, u64); 9] = [
     (15, 21, 4_294_967_295),
 ];
 
-fn sheet_of(
-    rt: &impl Abort,
-    alloc: Global,
-    lines: &[(u64, u32, u64)],
-) -> Result<SheetRows, AllocError> {
+fn sheet_of(rt: &impl Abort, alloc: Global, lines: &[(u64, u32, u64)]) -> Vec<SheetRow> {
     let mut rows = Vec::new(alloc);
     for &(i, party, units) in lines {
-        rows.push(line_of(rt, i, party, units))?;
+        add_row(rt, &mut rows, line_of(rt, i, party, units));
     }
-    SheetRows::new(rows)
+    rows
 }
 
 // The entries of a chain: their places, documents and parties. They are in no estate, in M, in S and O, and in all.
@@ -181,40 +190,12 @@ const ENTRIES: [(u64, u64, u32, u32); 5] = [
     (u64::MAX, u64::MAX, 21, 21),
 ];
 
-fn chain_of(
-    rt: &impl Abort,
-    alloc: Global,
-    chain: &[(u64, u64, u32, u32)],
-) -> Result<Entries, AllocError> {
+fn chain_of(rt: &impl Abort, alloc: Global, chain: &[(u64, u64, u32, u32)]) -> Vec<Entry> {
     let mut entries = Vec::new(alloc);
     for &(place, doc, from, to) in chain {
-        entries.push(entry_of(rt, alloc, place, doc, from, to)?)?;
+        add_entry(rt, &mut entries, entry_of(rt, alloc, place, doc, from, to));
     }
-    Entries::new(entries)
-}
-
-// The pushes of a reply's rows, written from the beginning of a page.
-fn pushes_of(names: &IndexSet<String>, reply: &Reply) -> Result<Pushes, Failed> {
-    let (mut page, mut pushes) = (Page::new(), Pushes { count: 0, sum: 0 });
-    put_reply(&mut page, &mut pushes, names, EXAMINER, reply)?;
-    page.pass(&mut pushes)?;
-    Ok(pushes)
-}
-
-// The same with a roster.
-fn pushes_with(roster: &Roster, reply: &Reply) -> Result<Pushes, Failed> {
-    let (mut page, mut pushes) = (Page::new(), Pushes { count: 0, sum: 0 });
-    put_reply_with(&mut page, &mut pushes, roster, EXAMINER, reply)?;
-    page.pass(&mut pushes)?;
-    Ok(pushes)
-}
-
-// The same with lines of entries.
-fn pushes_from(lines: &mut EntryLines, reply: &Reply) -> Result<Pushes, Failed> {
-    let (mut page, mut pushes) = (Page::new(), Pushes { count: 0, sum: 0 });
-    put_reply_from(&mut page, &mut pushes, lines, EXAMINER, reply)?;
-    page.pass(&mut pushes)?;
-    Ok(pushes)
+    entries
 }
 
 // A page that has room for so many bytes.
@@ -226,14 +207,24 @@ fn page_with_room(pushes: &mut Pushes, room: usize) -> Result<Page, Failed> {
     Ok(page)
 }
 
-// The pushes of a reply's rows where the page has room for no byte before them, for one, and so on: it ends at each byte of them.
-fn pushes_at_each_byte(
-    names: &IndexSet<String>,
-    reply: &Reply,
-    bytes: usize,
-) -> Result<Pushes, Failed> {
-    let mut pushes = Pushes { count: 0, sum: 0 };
-    for room in 0..bytes {
+// How much room a page has before a reply's rows: from so many bytes to so many, the last not among them. It ends at each byte of
+// the rows where it has room for no byte, for one, and so on.
+#[derive(Clone, Copy)]
+struct Rooms {
+    from: usize,
+    to: usize,
+}
+
+// The rows are written from the beginning of a page.
+const A_PAGE: Rooms = Rooms {
+    from: PAGE,
+    to: PAGE + 1,
+};
+
+// The pushes of a reply's rows.
+fn by_names(names: &IndexSet<String>, reply: &Reply, rooms: Rooms) -> Result<Pushes, Failed> {
+    let mut pushes = NO_PUSHES;
+    for room in rooms.from..rooms.to {
         let mut page = page_with_room(&mut pushes, room)?;
         put_reply(&mut page, &mut pushes, names, EXAMINER, reply)?;
         page.pass(&mut pushes)?;
@@ -242,13 +233,9 @@ fn pushes_at_each_byte(
 }
 
 // The same with a roster.
-fn pushes_at_each_byte_with(
-    roster: &Roster,
-    reply: &Reply,
-    bytes: usize,
-) -> Result<Pushes, Failed> {
-    let mut pushes = Pushes { count: 0, sum: 0 };
-    for room in 0..bytes {
+fn by_roster(roster: &Roster, reply: &Reply, rooms: Rooms) -> Result<Pushes, Failed> {
+    let mut pushes = NO_PUSHES;
+    for room in rooms.from..rooms.to {
         let mut page = page_with_room(&mut pushes, room)?;
         put_reply_with(&mut page, &mut pushes, roster, EXAMINER, reply)?;
         page.pass(&mut pushes)?;
@@ -257,13 +244,9 @@ fn pushes_at_each_byte_with(
 }
 
 // The same with lines of entries, which are made at the first turn and used from then on.
-fn pushes_at_each_byte_from(
-    lines: &mut EntryLines,
-    reply: &Reply,
-    bytes: usize,
-) -> Result<Pushes, Failed> {
-    let mut pushes = Pushes { count: 0, sum: 0 };
-    for room in 0..bytes {
+fn by_lines(lines: &mut EntryLines, reply: &Reply, rooms: Rooms) -> Result<Pushes, Failed> {
+    let mut pushes = NO_PUSHES;
+    for room in rooms.from..rooms.to {
         let mut page = page_with_room(&mut pushes, room)?;
         put_reply_from(&mut page, &mut pushes, lines, EXAMINER, reply)?;
         page.pass(&mut pushes)?;
@@ -271,10 +254,22 @@ fn pushes_at_each_byte_from(
     Ok(pushes)
 }
 
-// The second time the lines have the texts of entries.
-fn assert_pushes_from(rt: &impl Abort, lines: &mut EntryLines, reply: &Reply, wanted: Pushes) {
-    assert!(rt; pushes_from(lines, reply) == Ok(wanted));
-    assert!(rt; pushes_from(lines, reply) == Ok(wanted));
+fn assert_same(rt: &impl Abort, pushes: Result<Pushes, Failed>, wanted: Pushes) {
+    let pushes = pushes.expect(rt, "the sink takes all");
+    must(rt, pushes.count == wanted.count, "as many pushes");
+    must(rt, pushes.sum == wanted.sum, "pushes as long");
+}
+
+// By the second time the lines have the texts of entries.
+fn assert_pushes_by_lines(
+    rt: &impl Abort,
+    lines: &mut EntryLines,
+    reply: &Reply,
+    rooms: Rooms,
+    wanted: Pushes,
+) {
+    assert_same(rt, by_lines(lines, reply, rooms), wanted);
+    assert_same(rt, by_lines(lines, reply, rooms), wanted);
 }
 
 fn assert_pushes(
@@ -282,106 +277,102 @@ fn assert_pushes(
     alloc: Global,
     names: &IndexSet<String>,
     reply: &Reply,
+    rooms: Rooms,
     wanted: Pushes,
 ) {
-    assert!(rt; pushes_of(names, reply) == Ok(wanted));
-    assert!(rt; pushes_with(&Roster::judged(names), reply) == Ok(wanted));
+    assert_same(rt, by_names(names, reply, rooms), wanted);
+    assert_same(rt, by_roster(&Roster::judged(names), reply, rooms), wanted);
     let mut lines = EntryLines::new(alloc, Roster::judged(names), ENTRY_LINES);
-    assert_pushes_from(rt, &mut lines, reply, wanted);
+    assert_pushes_by_lines(rt, &mut lines, reply, rooms, wanted);
 }
 
-fn assert_pushes_at_each_byte(
-    rt: &impl Abort,
-    alloc: Global,
-    names: &IndexSet<String>,
-    reply: &Reply,
-    bytes: usize,
-    wanted: Pushes,
-) {
-    assert!(rt; pushes_at_each_byte(names, reply, bytes) == Ok(wanted));
-    assert!(rt; pushes_at_each_byte_with(&Roster::judged(names), reply, bytes) == Ok(wanted));
-    let mut lines = EntryLines::new(alloc, Roster::judged(names), ENTRY_LINES);
-    assert!(rt; pushes_at_each_byte_from(&mut lines, reply, bytes) == Ok(wanted));
+// The same with the names of the long reports.
+fn assert_ends(rt: &impl Abort, alloc: Global, reply: &Reply, rooms: Rooms, wanted: Pushes) {
+    assert_pushes(rt, alloc, &names(rt, alloc), reply, rooms, wanted);
 }
 
 /// The pages of a long sheet go to the sink where they do when each of its rows is written field by field.
 #[test]
-fn a_sheets_pages_end_where_its_fields_end(rt: HostRuntime) -> Result<(), Fail> {
-    let names = names(rt.alloc())?;
-    let reply = Reply::Answered(Answer::Rows(long_sheet(&rt, rt.alloc())?));
+fn a_sheets_pages_end_where_its_fields_end(rt: HostRuntime) {
     let wanted = Pushes {
         count: 37,
         sum: 4_312_156_846_721_211_190,
     };
-    assert_pushes(&rt, rt.alloc(), &names, &reply, wanted);
-    Ok(())
+    let reply = sheet_reply(&rt, long_sheet(&rt, rt.alloc()));
+    assert_ends(&rt, rt.alloc(), &reply, A_PAGE, wanted);
 }
 
 /// So do those of a long chain.
 #[test]
-fn a_chains_pages_end_where_its_fields_end(rt: HostRuntime) -> Result<(), Fail> {
-    let names = names(rt.alloc())?;
-    let reply = Reply::Answered(Answer::Entries(long_chain(&rt, rt.alloc())?));
+fn a_chains_pages_end_where_its_fields_end(rt: HostRuntime) {
     let wanted = Pushes {
         count: 50,
         sum: 12_850_102_222_058_813_462,
     };
-    assert_pushes(&rt, rt.alloc(), &names, &reply, wanted);
-    Ok(())
+    let reply = chain_reply(&rt, long_chain(&rt, rt.alloc()));
+    assert_ends(&rt, rt.alloc(), &reply, A_PAGE, wanted);
 }
 
 /// So do those of a sheet wherever a page ends in its rows: at each of their bytes once.
 #[test]
-fn a_page_may_end_anywhere_in_a_sheet(rt: HostRuntime) -> Result<(), Fail> {
-    let names = names(rt.alloc())?;
-    let reply = Reply::Answered(Answer::Rows(sheet_of(&rt, rt.alloc(), &LINES)?));
+fn a_page_may_end_anywhere_in_a_sheet(rt: HostRuntime) {
     let wanted = Pushes {
         count: 1_207,
         sum: 10_557_119_631_474_872_540,
     };
-    assert_pushes_at_each_byte(&rt, rt.alloc(), &names, &reply, 604, wanted);
-    Ok(())
+    let reply = sheet_reply(&rt, sheet_of(&rt, rt.alloc(), &LINES));
+    let rooms = Rooms { from: 0, to: 604 };
+    assert_ends(&rt, rt.alloc(), &reply, rooms, wanted);
 }
 
 /// And in a chain.
 #[test]
-fn a_page_may_end_anywhere_in_a_chain(rt: HostRuntime) -> Result<(), Fail> {
-    let names = names(rt.alloc())?;
-    let reply = Reply::Answered(Answer::Entries(chain_of(&rt, rt.alloc(), &ENTRIES)?));
+fn a_page_may_end_anywhere_in_a_chain(rt: HostRuntime) {
     let wanted = Pushes {
         count: 735,
         sum: 5_094_558_452_989_074_574,
     };
-    assert_pushes_at_each_byte(&rt, rt.alloc(), &names, &reply, 368, wanted);
-    Ok(())
+    let reply = chain_reply(&rt, chain_of(&rt, rt.alloc(), &ENTRIES));
+    let rooms = Rooms { from: 0, to: 368 };
+    assert_ends(&rt, rt.alloc(), &reply, rooms, wanted);
 }
 
-// More names than a roster judges once; every other has a comma.
-fn many_names(alloc: Global) -> Result<IndexSet<String>, AllocError> {
+// One of more names than a roster judges once; every other has a comma.
+fn one_of_many(rt: &impl Abort, alloc: Global, party: u32) -> String {
+    let name = if party % 2 == 0 {
+        format!(in alloc; "NAME {party}")
+    } else {
+        format!(in alloc; "NAME, {party}")
+    };
+    name.expect(rt, "there is memory")
+}
+
+fn many_names(rt: &impl Abort, alloc: Global) -> IndexSet<String> {
     let mut names = IndexSet::new(alloc);
     for party in 0..4_100 {
-        names.insert(if party % 2 == 0 {
-            format!(in alloc; "NAME {party}")?
-        } else {
-            format!(in alloc; "NAME, {party}")?
-        })?;
+        let name = one_of_many(rt, alloc, party);
+        names.insert(name).expect(rt, "there is memory");
     }
-    Ok(names)
+    names
+}
+
+fn last_of_many(rt: &impl Abort, alloc: Global) -> Vec<SheetRow> {
+    let mut rows = Vec::new(alloc);
+    for party in 4_090..4_105 {
+        add_row(rt, &mut rows, line_of(rt, 6, party, 1));
+    }
+    rows
 }
 
 /// The last names that a roster judges once, those behind them, and parties that have none are written alike.
 #[test]
-fn names_are_quoted_on_both_sides_of_the_last_judged(rt: HostRuntime) -> Result<(), Fail> {
-    let names = many_names(rt.alloc())?;
-    let mut rows = Vec::new(rt.alloc());
-    for party in 4_090..4_105 {
-        rows.push(line_of(&rt, 6, party, 1))?;
-    }
-    let reply = Reply::Answered(Answer::Rows(SheetRows::new(rows)?));
+fn names_are_quoted_on_both_sides_of_the_last_judged(rt: HostRuntime) {
     let wanted = Pushes {
         count: 1_643,
         sum: 11_654_988_466_466_547_429,
     };
-    assert_pushes_at_each_byte(&rt, rt.alloc(), &names, &reply, 822, wanted);
-    Ok(())
+    let names = many_names(&rt, rt.alloc());
+    let reply = sheet_reply(&rt, last_of_many(&rt, rt.alloc()));
+    let rooms = Rooms { from: 0, to: 822 };
+    assert_pushes(&rt, rt.alloc(), &names, &reply, rooms, wanted);
 }
