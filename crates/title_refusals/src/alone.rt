@@ -38,7 +38,7 @@ fn serve(desk: &mut Plant, alloc: Global, wish: Wish, wanted: &mut Wanted) -> Re
     Ok(reply)
 }
 
-// Serves asks, and tells each reply and whether the trees have no node too many.
+// Serves asks, and tells each reply and whether the trees have no node too many; and what is left.
 fn serve_all(
     rt: &impl Print,
     desk: &mut Plant,
@@ -51,7 +51,7 @@ fn serve_all(
         tell_reply(rt, EXAMINER, &reply)?;
         println!(rt; "trees are tidy: {}", desk.store().is_tidy())?;
     }
-    Ok(())
+    tell_end(rt, desk, alloc, wanted)
 }
 
 /// An examiner reads a quarter, posts in its corner and, by the same deed, around that, reads again, and is refused a post that the
@@ -68,6 +68,5 @@ pub fn tell<R: Print>(rt: &R, alloc: Global, wanted: &mut Wanted) -> Result<()> 
         Wish::Sheet(Place::Undeclared),
     ];
     let mut desk = open_plant(alloc, wanted)?;
-    serve_all(rt, &mut desk, alloc, &wishes, wanted)?;
-    tell_end(rt, &mut desk, alloc, wanted)
+    serve_all(rt, &mut desk, alloc, &wishes, wanted)
 }

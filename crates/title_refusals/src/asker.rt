@@ -107,12 +107,59 @@ impl<B: Room, R: Wait + Print> Asker<'_, B, R> {
         Ok(())
     }
 
+    /// Takes steps, and tells their answers.
+    pub fn steps_told(
+        &self,
+        slip: &mut Slip<B>,
+        wishes: &[Wish],
+        wanted: &mut Wanted,
+    ) -> Result<()> {
+        for wish in wishes {
+            self.step_told(slip, *wish, wanted)?;
+        }
+        Ok(())
+    }
+
     fn tell_before(&self, before: Before) -> Result<()> {
         println!(self.rt;
             "before the commit: front {}, the slip as it was: {}",
             before.front, before.is_as_it_was
         )?;
         Ok(())
+    }
+
+    // Commits a slip whose record is this, told what shows that it isn't committed yet; its growths may be refused no more.
+    fn commit_again(
+        &self,
+        slip: Slip<B>,
+        kept: &Record,
+        viewer: &mut Viewer<B>,
+        wanted: &mut Wanted,
+    ) -> Result<Done<B>> {
+        self.tell_before(look(&slip, kept, viewer, self.alloc, wanted)?)?;
+        Ok(committed(self.office.commit(self.rt, slip))?)
+    }
+
+    // Commits a slip whose record is this, and tells what showed before that it wasn't committed yet.
+    fn commit_kept(
+        &self,
+        slip: Slip<B>,
+        kept: &Record,
+        viewer: &mut Viewer<B>,
+        wanted: &mut Wanted,
+    ) -> Result<Done<B>> {
+        let before = look(&slip, kept, viewer, self.alloc, wanted)?;
+        match self.office.commit(self.rt, slip) {
+            Ok(done) => {
+                self.tell_before(before)?;
+                Ok(done)
+            }
+            Err((slip, Fault::Memory)) => {
+                wanted.count();
+                self.commit_again(slip, kept, viewer, wanted)
+            }
+            Err((_, why)) => bail!(why),
+        }
     }
 
     // Commits; before the commit that is taken a viewer shows the records of others alone, and the slip has its steps.
@@ -123,21 +170,7 @@ impl<B: Room, R: Wait + Print> Asker<'_, B, R> {
         wanted: &mut Wanted,
     ) -> Result<Done<B>> {
         let kept = wanted.again(|| slip.record().copy(self.alloc))?;
-        let before = look(&slip, &kept, viewer, self.alloc, wanted)?;
-        let (slip, why) = match self.office.commit(self.rt, slip) {
-            Ok(done) => {
-                self.tell_before(before)?;
-                return Ok(done);
-            }
-            Err(back) => back,
-        };
-        let Fault::Memory = why else {
-            bail!(why);
-        };
-        wanted.count();
-        let before = look(&slip, &kept, viewer, self.alloc, wanted)?;
-        self.tell_before(before)?;
-        Ok(committed(self.office.commit(self.rt, slip))?)
+        self.commit_kept(slip, &kept, viewer, wanted)
     }
 
     /// Begins, posts a deed and commits.
@@ -236,15 +269,4 @@ pub fn outcomes(alloc: Global, wanted: &mut Wanted) -> Result<Vec<Outcome>, Allo
 pub fn add_outcome(outcomes: &mut Vec<Outcome>, outcome: Outcome) -> Result<(), AllocError> {
     outcomes.push(outcome)?;
     Ok(())
-}
-
-/// A list with one outcome, and room for another.
-pub fn one_outcome(
-    alloc: Global,
-    outcome: Outcome,
-    wanted: &mut Wanted,
-) -> Result<Vec<Outcome>, AllocError> {
-    let mut outcomes = outcomes(alloc, wanted)?;
-    add_outcome(&mut outcomes, outcome)?;
-    Ok(outcomes)
 }

@@ -193,13 +193,23 @@ pub fn open_plant(alloc: Global, wanted: &mut Wanted) -> Result<Plant> {
     Ok(open(alloc, &townships, wanted)?)
 }
 
+// The turns, up to what is left.
+fn tell_turns(
+    rt: &impl Print,
+    desk: &mut Plant,
+    alloc: Global,
+    ending: Ending,
+    wanted: &mut Wanted,
+) -> Result<()> {
+    overlap(rt, desk, alloc, wanted)?;
+    match ending {
+        Ending::Commits => commit(rt, desk, alloc, wanted)?,
+        Ending::Aborts => abort(rt, desk, alloc, wanted)?,
+    }
+    tell_end(rt, desk, alloc, wanted)
+}
+
 /// Two examiners overlap, and then both commit, or both abort.
 pub fn tell<R: Print>(rt: &R, alloc: Global, ending: Ending, wanted: &mut Wanted) -> Result<()> {
-    let mut desk = open_plant(alloc, wanted)?;
-    overlap(rt, &mut desk, alloc, wanted)?;
-    match ending {
-        Ending::Commits => commit(rt, &mut desk, alloc, wanted)?,
-        Ending::Aborts => abort(rt, &mut desk, alloc, wanted)?,
-    }
-    tell_end(rt, &mut desk, alloc, wanted)
+    tell_turns(rt, &mut open_plant(alloc, wanted)?, alloc, ending, wanted)
 }

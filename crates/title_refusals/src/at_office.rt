@@ -3,7 +3,7 @@
 ghost use Rattle.std.specs.Prelude.{◌≡◌};
 ghost use Rattle.title_trace.specs.Due.{MayOpen};
 
-use crate::asker::{Asker, add_outcome, one_outcome, outcomes, settle};
+use crate::asker::{Asker, add_outcome, outcomes, settle};
 use crate::deeds::{Sale, WHOLE, Wish};
 use crate::places::{Place, township};
 use crate::telling::tell_records;
@@ -16,7 +16,7 @@ use std::sync::Wait;
 use title_desk::may_open;
 use title_land::Township;
 use title_ledger::{Ledger, Room};
-use title_office::{Done, Office, Opened, Outcome, Receipt, Seat, Viewer};
+use title_office::{Done, Office, Opened, Outcome, Receipt, Seat, Slip, Viewer};
 
 /// The office's number.
 pub const OFFICE: u64 = 7;
@@ -50,16 +50,26 @@ pub enum Day {
     Views,
 }
 
+// A seat's examiner takes steps in a transaction that is then aborted: the seat.
+fn take_back<B: Room, R: Wait + Print>(
+    asker: &Asker<'_, B, R>,
+    seat: Seat<B>,
+    wishes: &[Wish],
+    wanted: &mut Wanted,
+) -> Result<Seat<B>> {
+    let mut slip = asker.begin(seat, wanted)?;
+    asker.steps_told(&mut slip, wishes, wanted)?;
+    asker.abort(slip)
+}
+
 // A seat's examiner reads all land and a chain in a transaction that is then aborted.
 fn look_round<B: Room, R: Wait + Print>(
     asker: &Asker<'_, B, R>,
     seat: Seat<B>,
     wanted: &mut Wanted,
 ) -> Result<()> {
-    let mut slip = asker.begin(seat, wanted)?;
-    asker.step_told(&mut slip, Wish::Sheet(Place::Everything), wanted)?;
-    asker.step_told(&mut slip, Wish::Chain(Place::Section), wanted)?;
-    asker.abort(slip)?;
+    let wishes = [Wish::Sheet(Place::Everything), Wish::Chain(Place::Section)];
+    take_back(asker, seat, &wishes, wanted)?;
     Ok(())
 }
 
@@ -92,35 +102,47 @@ fn taken<B: Room>(done: Done<B>) -> (Outcome, Seat<B>) {
     (Outcome { place, rec }, seat)
 }
 
-// A commit is read back.
+// A viewer learns of a commit, and shows its section; the other one has learnt of nothing.
+fn view_back<B: Room, R: Wait + Print>(
+    asker: &Asker<'_, B, R>,
+    receipt: &Receipt<B>,
+    viewer: &mut Viewer<B>,
+    other: &mut Viewer<B>,
+    wanted: &mut Wanted,
+) -> Result<()> {
+    learn(asker.rt, viewer, receipt)?;
+    tell_sheet(asker.rt, viewer, asker.alloc, Place::Section, wanted)?;
+    tell_other(asker, other, wanted)
+}
+
+// A commit is read back: its outcome is added.
 fn read_back<B: Room, R: Wait + Print>(
     asker: &Asker<'_, B, R>,
     seat: Seat<B>,
     viewer: &mut Viewer<B>,
     other: &mut Viewer<B>,
+    outcomes: &mut Vec<Outcome>,
     wanted: &mut Wanted,
-) -> Result<Vec<Outcome>> {
+) -> Result<()> {
     let done = asker.sell(seat, FIRST_SALE, other, wanted)?;
-    learn(asker.rt, viewer, &done.receipt)?;
-    tell_sheet(asker.rt, viewer, asker.alloc, Place::Section, wanted)?;
-    tell_other(asker, other, wanted)?;
+    view_back(asker, &done.receipt, viewer, other, wanted)?;
     let (outcome, seat) = taken(done);
-    look_round(asker, seat, wanted)?;
-    Ok(one_outcome(asker.alloc, outcome, wanted)?)
+    add_outcome(outcomes, outcome)?;
+    look_round(asker, seat, wanted)
 }
 
-// Aborts a deed: the seat.
-fn abort_sale<B: Room, R: Wait + Print>(
+// An examiner posts a deed and is swept.
+fn post_and_sweep<B: Room, R: Wait + Print>(
     asker: &Asker<'_, B, R>,
-    seat: Seat<B>,
+    slip: &mut Slip<B>,
+    examiner: u32,
     wanted: &mut Wanted,
-) -> Result<Seat<B>> {
-    let mut slip = asker.begin(seat, wanted)?;
-    asker.step_told(&mut slip, Wish::Post(FIRST_SALE), wanted)?;
-    asker.abort(slip)
+) -> Result<()> {
+    asker.step_told(slip, Wish::Post(FIRST_SALE), wanted)?;
+    asker.sweep_twice(examiner, wanted)
 }
 
-// Posts a deed and is swept: the seat.
+// The same, and then isn't committed, but aborted: the seat.
 fn sweep_sale<B: Room, R: Wait + Print>(
     asker: &Asker<'_, B, R>,
     seat: Seat<B>,
@@ -128,10 +150,21 @@ fn sweep_sale<B: Room, R: Wait + Print>(
 ) -> Result<Seat<B>> {
     let examiner = seat.examiner();
     let mut slip = asker.begin(seat, wanted)?;
-    asker.step_told(&mut slip, Wish::Post(FIRST_SALE), wanted)?;
-    asker.sweep_twice(examiner, wanted)?;
+    post_and_sweep(asker, &mut slip, examiner, wanted)?;
     let slip = asker.tell_swept(slip, wanted)?;
     asker.abort(slip)
+}
+
+// A deed is aborted, of which nothing is to be seen then: the seat.
+fn abort_sale<B: Room, R: Wait + Print>(
+    asker: &Asker<'_, B, R>,
+    seat: Seat<B>,
+    viewer: &mut Viewer<B>,
+    wanted: &mut Wanted,
+) -> Result<Seat<B>> {
+    let seat = take_back(asker, seat, &[Wish::Post(FIRST_SALE)], wanted)?;
+    tell_sheet(asker.rt, viewer, asker.alloc, Place::Section, wanted)?;
+    Ok(seat)
 }
 
 // A deed is aborted, and another is swept; nothing is to be seen of them.
@@ -141,13 +174,11 @@ fn abort_all<B: Room, R: Wait + Print>(
     viewer: &mut Viewer<B>,
     other: &mut Viewer<B>,
     wanted: &mut Wanted,
-) -> Result<Vec<Outcome>> {
-    let seat = abort_sale(asker, seat, wanted)?;
-    tell_sheet(asker.rt, viewer, asker.alloc, Place::Section, wanted)?;
+) -> Result<()> {
+    let seat = abort_sale(asker, seat, viewer, wanted)?;
     let seat = sweep_sale(asker, seat, wanted)?;
     tell_other(asker, other, wanted)?;
-    look_round(asker, seat, wanted)?;
-    Ok(outcomes(asker.alloc, wanted)?)
+    look_round(asker, seat, wanted)
 }
 
 // Tells all that a viewer shows: sheets, one of them of land outside the plant, and records.
@@ -157,29 +188,40 @@ fn tell_views<B: Room, R: Wait + Print>(
     wanted: &mut Wanted,
 ) -> Result<()> {
     let (rt, alloc) = (asker.rt, asker.alloc);
-    tell_sheet(rt, viewer, alloc, Place::Section, wanted)?;
-    tell_sheet(rt, viewer, alloc, Place::Undeclared, wanted)?;
-    tell_sheet(rt, viewer, alloc, Place::TwoNodes, wanted)?;
+    for place in [Place::Section, Place::Undeclared, Place::TwoNodes] {
+        tell_sheet(rt, viewer, alloc, place, wanted)?;
+    }
     for place in 0..3 {
         tell_record_at(rt, viewer, place, wanted)?;
     }
     tell_sheet(rt, viewer, alloc, Place::Everything, wanted)
 }
 
-// An examiner commits a deed, and a viewer that has learnt of it is asked for all that it shows.
+// A viewer learns of a commit, and is asked for all that it shows.
+fn learn_and_view<B: Room, R: Wait + Print>(
+    asker: &Asker<'_, B, R>,
+    receipt: &Receipt<B>,
+    viewer: &mut Viewer<B>,
+    wanted: &mut Wanted,
+) -> Result<()> {
+    learn(asker.rt, viewer, receipt)?;
+    tell_views(asker, viewer, wanted)
+}
+
+// An examiner commits a deed, and a viewer that has learnt of it is asked for all that it shows: its outcome is added.
 fn sell_and_view<B: Room, R: Wait + Print>(
     asker: &Asker<'_, B, R>,
-    seat: Seat<B>,
-    sale: Sale,
+    sold: (Seat<B>, Sale),
     viewer: &mut Viewer<B>,
     other: &mut Viewer<B>,
+    outcomes: &mut Vec<Outcome>,
     wanted: &mut Wanted,
-) -> Result<Outcome> {
+) -> Result<()> {
+    let (seat, sale) = sold;
     let done = asker.sell(seat, sale, other, wanted)?;
-    learn(asker.rt, viewer, &done.receipt)?;
-    tell_views(asker, viewer, wanted)?;
+    learn_and_view(asker, &done.receipt, viewer, wanted)?;
     let (outcome, _) = taken(done);
-    Ok(outcome)
+    Ok(add_outcome(outcomes, outcome)?)
 }
 
 // Each of two examiners commits, one after the other.
@@ -188,14 +230,13 @@ fn view_all<B: Room, R: Wait + Print>(
     seats: (Seat<B>, Seat<B>),
     viewer: &mut Viewer<B>,
     other: &mut Viewer<B>,
+    outcomes: &mut Vec<Outcome>,
     wanted: &mut Wanted,
-) -> Result<Vec<Outcome>> {
+) -> Result<()> {
     let (first, second) = seats;
-    let one = sell_and_view(asker, first, FIRST_SALE, viewer, other, wanted)?;
-    let two = sell_and_view(asker, second, SECOND_SALE, viewer, other, wanted)?;
-    let mut outcomes = one_outcome(asker.alloc, one, wanted)?;
-    add_outcome(&mut outcomes, two)?;
-    Ok(outcomes)
+    let (first, second) = ((first, FIRST_SALE), (second, SECOND_SALE));
+    sell_and_view(asker, first, viewer, other, outcomes, wanted)?;
+    sell_and_view(asker, second, viewer, other, outcomes, wanted)
 }
 
 // The two seats of an office.
@@ -207,43 +248,91 @@ fn two_seats<B: Room>(seats: Vec<Seat<B>>) -> Option<(Seat<B>, Seat<B>)> {
     }
 }
 
-// What is committed in a day.
-fn outcomes_of<B: Room, R: Wait + Print>(
+// Its two viewers.
+fn two_viewers<B: Room>(viewers: Vec<Viewer<B>>) -> Option<(Viewer<B>, Viewer<B>)> {
+    let mut viewers = viewers;
+    match (viewers.pop(), viewers.pop()) {
+        (Some(second), Some(first)) => Some((first, second)),
+        _ => None,
+    }
+}
+
+// What is done in a day: the outcomes are added.
+fn run_day<B: Room, R: Wait + Print>(
     asker: &Asker<'_, B, R>,
     day: Day,
     seats: (Seat<B>, Seat<B>),
     viewer: &mut Viewer<B>,
     other: &mut Viewer<B>,
+    outcomes: &mut Vec<Outcome>,
     wanted: &mut Wanted,
-) -> Result<Vec<Outcome>> {
+) -> Result<()> {
     match day {
-        Day::ReadsBack => read_back(asker, seats.0, viewer, other, wanted),
+        Day::ReadsBack => read_back(asker, seats.0, viewer, other, outcomes, wanted),
         Day::Aborts => abort_all(asker, seats.0, viewer, other, wanted),
-        Day::Views => view_all(asker, seats, viewer, other, wanted),
+        Day::Views => view_all(asker, seats, viewer, other, outcomes, wanted),
     }
 }
 
 // The same, with the viewers of an office.
-fn watched<B: Room, R: Wait + Print>(
+fn run_watched<B: Room, R: Wait + Print>(
     asker: &Asker<'_, B, R>,
     day: Day,
     seats: Vec<Seat<B>>,
     viewers: Vec<Viewer<B>>,
+    outcomes: &mut Vec<Outcome>,
     wanted: &mut Wanted,
-) -> Result<Vec<Outcome>> {
-    let Some(seats) = two_seats(seats) else {
-        bail!("there are not two seats");
+) -> Result<()> {
+    let Some((mut viewer, mut other)) = two_viewers(viewers) else {
+        bail!("there are not two viewers");
     };
-    let mut viewers = viewers;
-    match (viewers.pop(), viewers.pop()) {
-        (Some(mut other), Some(mut viewer)) => {
-            outcomes_of(asker, day, seats, &mut viewer, &mut other, wanted)
-        }
-        _ => bail!("there are not two viewers"),
+    match two_seats(seats) {
+        Some(seats) => run_day(asker, day, seats, &mut viewer, &mut other, outcomes, wanted),
+        None => bail!("there are not two seats"),
     }
 }
 
-// Runs a day in an office, and settles it; false where it wasn't opened for want of memory.
+// Settles an office, and tells its records.
+fn tell_settled<B: Room, R: Wait + Print>(
+    rt: &R,
+    office: Office<B>,
+    outcomes: Vec<Outcome>,
+    wanted: &mut Wanted,
+) -> Result<()> {
+    let records = settle(rt, office, outcomes, wanted)?;
+    Ok(tell_records(rt, records.as_slice())?)
+}
+
+// Runs a day in an office, and settles it.
+fn run_opened<B: Room, R: Wait + Print>(
+    rt: &R,
+    alloc: Global,
+    opened: Opened<B>,
+    day: Day,
+    outcomes: Vec<Outcome>,
+    wanted: &mut Wanted,
+) -> Result<()> {
+    let Opened {
+        office,
+        seats,
+        viewers,
+    } = opened;
+    let mut outcomes = outcomes;
+    let asker = Asker {
+        rt,
+        alloc,
+        office: &office,
+    };
+    match run_watched(&asker, day, seats, viewers, &mut outcomes, wanted) {
+        Ok(()) => tell_settled(rt, office, outcomes, wanted),
+        Err(why) => {
+            office.close(rt);
+            Err(why)
+        }
+    }
+}
+
+// The same in an office that is opened; false where it wasn't for want of memory.
 fn run_in_office<B: Room, R: Wait + Print>(
     rt: &R,
     alloc: Global,
@@ -257,30 +346,13 @@ fn run_in_office<B: Room, R: Wait + Print>(
     requires setting { B.setting ≡ record { parties = parties; townships = townships.now } }
     requires may_open { MayOpen parties townships.now }
 {
-    let opened = Office::<B>::open(rt, alloc, ledger, OFFICE, parties, townships, 2, 2);
-    let Ok(opened) = opened else {
-        return Ok(false);
-    };
-    let Opened {
-        office,
-        seats,
-        viewers,
-    } = opened;
-    let asker = Asker {
-        rt,
-        alloc,
-        office: &office,
-    };
-    match watched(&asker, day, seats, viewers, wanted) {
-        Ok(outcomes) => {
-            let records = settle(rt, office, outcomes, wanted)?;
-            tell_records(rt, records.as_slice())?;
+    let outcomes = outcomes(alloc, wanted)?;
+    match Office::<B>::open(rt, alloc, ledger, OFFICE, parties, townships, 2, 2) {
+        Ok(opened) => {
+            run_opened(rt, alloc, opened, day, outcomes, wanted)?;
             Ok(true)
         }
-        Err(why) => {
-            office.close(rt);
-            Err(why)
-        }
+        Err(_) => Ok(false),
     }
 }
 
@@ -298,7 +370,27 @@ fn run_once<R: Wait + Print>(
     run_in_office::<Brand, _>(rt, alloc, Ledger::new(), parties, townships, day, wanted)
 }
 
-/// Runs a day in an office, which is opened once more where a growth was refused.
+// Runs a day in an office for these townships, which is opened once more where a growth was refused.
+fn run_again<R: Wait + Print>(
+    rt: &R,
+    alloc: Global,
+    townships: &[Township],
+    day: Day,
+    wanted: &mut Wanted,
+) -> Result<()>
+    requires may_open { MayOpen PARTIES townships.now }
+{
+    if run_once(rt, alloc, PARTIES, townships, day, wanted)? {
+        return Ok(());
+    }
+    wanted.count();
+    if run_once(rt, alloc, PARTIES, townships, day, wanted)? {
+        return Ok(());
+    }
+    bail!("memory was refused twice");
+}
+
+/// Runs a day in an office of the plant.
 pub fn tell<R: Wait + Print>(rt: &R, alloc: Global, day: Day, wanted: &mut Wanted) -> Result<()> {
     let Some(township) = township() else {
         bail!("there is no such township");
@@ -307,12 +399,5 @@ pub fn tell<R: Wait + Print>(rt: &R, alloc: Global, day: Day, wanted: &mut Wante
     if !may_open(PARTIES, &townships) {
         bail!("an office can't be opened for these");
     }
-    if run_once(rt, alloc, PARTIES, &townships, day, wanted)? {
-        return Ok(());
-    }
-    wanted.count();
-    if !run_once(rt, alloc, PARTIES, &townships, day, wanted)? {
-        bail!("memory was refused twice");
-    }
-    Ok(())
+    run_again(rt, alloc, &townships, day, wanted)
 }

@@ -29,15 +29,6 @@ const PARTIES: u32 = 3;
 
 const TRIES: u32 = 100;
 
-// What came of the scripts: an outcome for each transaction that was committed, a seat that a worker gave back, and whether each
-// worker has done what it had to.
-#[derive(Drop)]
-struct Came<B: Room> {
-    outcomes: Vec<Outcome>,
-    seat: Option<Seat<B>>,
-    is_due: bool,
-}
-
 // Which of the two deeds were committed.
 #[derive(Clone, Copy)]
 struct Sold {
@@ -172,6 +163,20 @@ fn add_outcomes(outcomes: &mut Vec<Outcome>, more: Vec<Outcome>) -> Result<(), A
     Ok(())
 }
 
+// Adds a worker's outcomes: the seat that it gave back.
+fn take<B: Room>(
+    worked: Worked<B>,
+    outcomes: &mut Vec<Outcome>,
+) -> Result<Option<Seat<B>>, AllocError> {
+    let Worked {
+        seat,
+        outcomes: more,
+        ..
+    } = worked;
+    add_outcomes(outcomes, more)?;
+    Ok(seat)
+}
+
 // The one of two seats that is there.
 fn either_seat<B: Room>(first: Option<Seat<B>>, second: Option<Seat<B>>) -> Option<Seat<B>> {
     match first {
@@ -180,34 +185,21 @@ fn either_seat<B: Room>(first: Option<Seat<B>>, second: Option<Seat<B>>) -> Opti
     }
 }
 
-// What came of two workers, of which one alone may have been refused.
-fn came_of<B: Room>(
-    alloc: Global,
+// Adds the outcomes of two workers: a seat that one of them gave back.
+fn take_both<B: Room>(
     first: Worked<B>,
     second: Worked<B>,
-    wanted: &mut Wanted,
-) -> Result<Came<B>> {
-    let is_one_done = is_done(&first) || is_done(&second);
-    let is_first_due = is_due(&first, wanted);
-    let is_second_due = is_due(&second, wanted);
-    let Worked {
-        seat: first_seat,
-        outcomes: of_first,
-        ..
-    } = first;
-    let Worked {
-        seat: second_seat,
-        outcomes: of_second,
-        ..
-    } = second;
-    let mut outcomes = outcomes(alloc, wanted)?;
-    add_outcomes(&mut outcomes, of_first)?;
-    add_outcomes(&mut outcomes, of_second)?;
-    Ok(Came {
-        outcomes,
-        seat: either_seat(first_seat, second_seat),
-        is_due: is_first_due && is_second_due && is_one_done,
-    })
+    outcomes: &mut Vec<Outcome>,
+) -> Result<Option<Seat<B>>, AllocError> {
+    let first = take(first, outcomes)?;
+    Ok(either_seat(first, take(second, outcomes)?))
+}
+
+// Whether each of two workers has done what it had to; one alone may have been refused.
+fn are_due<B: Room>(first: &Worked<B>, second: &Worked<B>, wanted: &mut Wanted) -> bool {
+    let is_one_done = is_done(first) || is_done(second);
+    let is_first_due = is_due(first, wanted);
+    is_due(second, wanted) && is_first_due && is_one_done
 }
 
 impl Sold {
@@ -279,29 +271,80 @@ fn is_plant_due<B: Room, R: Wait + Print>(
     Ok(is_due && asker.office.abort(asker.rt, slip).is_ok())
 }
 
-// Runs the scripts, and looks at what came of them: the outcomes.
+// Tells what came of two workers, and adds their outcomes.
+fn tell_workers<B: Room, R: Wait + Print>(
+    asker: &Asker<'_, B, R>,
+    first: Worked<B>,
+    second: Worked<B>,
+    outcomes: &mut Vec<Outcome>,
+    wanted: &mut Wanted,
+) -> Result<()> {
+    let are_due = are_due(&first, &second, wanted);
+    let seat = take_both(first, second, outcomes)?;
+    let sold = Sold::of(outcomes.as_slice());
+    let is_plant_due = is_plant_due(asker, seat, sold, wanted)?;
+    println!(asker.rt; "each worker is done, or one alone was refused: {are_due}")?;
+    println!(asker.rt; "the plant is that after what was committed: {is_plant_due}")?;
+    Ok(())
+}
+
+// Runs the scripts, and looks at what came of them: the outcomes are added.
 fn run_scripts<B: Room + Send + Sync, R: Threads + Wait + Sync + Print>(
     asker: &Asker<'_, B, R>,
     seats: Vec<Seat<B>>,
+    outcomes: &mut Vec<Outcome>,
     wanted: &mut Wanted,
-) -> Result<Vec<Outcome>> {
+) -> Result<()> {
     let mut worked = work_again(asker.rt, asker.alloc, asker.office, seats, wanted)?;
-    let (Some(second), Some(first)) = (worked.pop(), worked.pop()) else {
-        bail!("there are not two workers");
-    };
-    let Came {
-        outcomes,
-        seat,
-        is_due,
-    } = came_of(asker.alloc, first, second, wanted)?;
-    println!(asker.rt; "each worker is done, or one alone was refused: {is_due}")?;
-    let sold = Sold::of(outcomes.as_slice());
-    let is_plant_due = is_plant_due(asker, seat, sold, wanted)?;
-    println!(asker.rt; "the plant is that after what was committed: {is_plant_due}")?;
-    Ok(outcomes)
+    match (worked.pop(), worked.pop()) {
+        (Some(second), Some(first)) => tell_workers(asker, first, second, outcomes, wanted),
+        _ => bail!("there are not two workers"),
+    }
 }
 
-// The same in an office, which is then settled; false where it wasn't opened for want of memory.
+// Settles an office, and tells whether its records are as many as the outcomes.
+fn tell_settled<B: Room, R: Wait + Print>(
+    rt: &R,
+    office: Office<B>,
+    outcomes: Vec<Outcome>,
+    wanted: &mut Wanted,
+) -> Result<()> {
+    let committed = outcomes.len();
+    let records = settle(rt, office, outcomes, wanted)?;
+    let are_all = records.as_slice().len() == committed;
+    println!(rt; "settled with each outcome: {are_all}")?;
+    Ok(())
+}
+
+// Runs the scripts in an office, which is then settled.
+fn run_opened<B: Room + Send + Sync, R: Threads + Wait + Sync + Print>(
+    rt: &R,
+    alloc: Global,
+    opened: Opened<B>,
+    outcomes: Vec<Outcome>,
+    wanted: &mut Wanted,
+) -> Result<()> {
+    let Opened {
+        office,
+        seats,
+        viewers: _,
+    } = opened;
+    let mut outcomes = outcomes;
+    let asker = Asker {
+        rt,
+        alloc,
+        office: &office,
+    };
+    match run_scripts(&asker, seats, &mut outcomes, wanted) {
+        Ok(()) => tell_settled(rt, office, outcomes, wanted),
+        Err(why) => {
+            office.close(rt);
+            Err(why)
+        }
+    }
+}
+
+// The same in an office that is opened; false where it wasn't for want of memory.
 fn run_in_office<B: Room + Send + Sync, R: Threads + Wait + Sync + Print>(
     rt: &R,
     alloc: Global,
@@ -314,32 +357,13 @@ fn run_in_office<B: Room + Send + Sync, R: Threads + Wait + Sync + Print>(
     requires setting { B.setting ≡ record { parties = parties; townships = townships.now } }
     requires may_open { MayOpen parties townships.now }
 {
-    let opened = Office::<B>::open(rt, alloc, ledger, OFFICE, parties, townships, 2, 0);
-    let Ok(opened) = opened else {
-        return Ok(false);
-    };
-    let Opened {
-        office,
-        seats,
-        viewers: _,
-    } = opened;
-    let asker = Asker {
-        rt,
-        alloc,
-        office: &office,
-    };
-    match run_scripts(&asker, seats, wanted) {
-        Ok(outcomes) => {
-            let committed = outcomes.len();
-            let records = settle(rt, office, outcomes, wanted)?;
-            let are_all = records.as_slice().len() == committed;
-            println!(rt; "settled with each outcome: {are_all}")?;
+    let outcomes = outcomes(alloc, wanted)?;
+    match Office::<B>::open(rt, alloc, ledger, OFFICE, parties, townships, 2, 0) {
+        Ok(opened) => {
+            run_opened(rt, alloc, opened, outcomes, wanted)?;
             Ok(true)
         }
-        Err(why) => {
-            office.close(rt);
-            Err(why)
-        }
+        Err(_) => Ok(false),
     }
 }
 
@@ -356,7 +380,26 @@ fn run_once<R: Threads + Wait + Sync + Print>(
     run_in_office::<Brand, _>(rt, alloc, Ledger::new(), parties, townships, wanted)
 }
 
-/// Runs two scripts by threads in an office, which is opened once more where a growth was refused.
+// Runs two scripts by threads in an office for these townships, which is opened once more where a growth was refused.
+fn run_again<R: Threads + Wait + Sync + Print>(
+    rt: &R,
+    alloc: Global,
+    townships: &[Township],
+    wanted: &mut Wanted,
+) -> Result<()>
+    requires may_open { MayOpen PARTIES townships.now }
+{
+    if run_once(rt, alloc, PARTIES, townships, wanted)? {
+        return Ok(());
+    }
+    wanted.count();
+    if run_once(rt, alloc, PARTIES, townships, wanted)? {
+        return Ok(());
+    }
+    bail!("memory was refused twice");
+}
+
+/// Runs two scripts by threads in an office of the plant.
 pub fn tell<R: Threads + Wait + Sync + Print>(
     rt: &R,
     alloc: Global,
@@ -369,12 +412,5 @@ pub fn tell<R: Threads + Wait + Sync + Print>(
     if !may_open(PARTIES, &townships) {
         bail!("an office can't be opened for these");
     }
-    if run_once(rt, alloc, PARTIES, &townships, wanted)? {
-        return Ok(());
-    }
-    wanted.count();
-    if !run_once(rt, alloc, PARTIES, &townships, wanted)? {
-        bail!("memory was refused twice");
-    }
-    Ok(())
+    run_again(rt, alloc, &townships, wanted)
 }

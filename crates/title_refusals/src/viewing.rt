@@ -5,6 +5,7 @@ use crate::telling::{tell_record, tell_rows};
 use crate::wanted::Wanted;
 use anyhow::Result;
 use std::alloc::Global;
+use std::io;
 use title_chain::Record;
 use title_land::Tract;
 use title_ledger::Room;
@@ -44,6 +45,11 @@ pub fn front<B: Room>(viewer: &mut Viewer<B>, alloc: Global, wanted: &mut Wanted
     Ok(sheet(viewer, &tract, wanted)?.front)
 }
 
+fn tell_seen(rt: &impl Print, seen: &Seen) -> io::Result<()> {
+    println!(rt; "viewer: front {}", seen.front)?;
+    tell_rows(rt, 0, seen.rows.as_slice())
+}
+
 /// Tells what a viewer shows of a place.
 pub fn tell_sheet<B: Room>(
     rt: &impl Print,
@@ -54,13 +60,9 @@ pub fn tell_sheet<B: Room>(
 ) -> Result<()> {
     let tract = place.tract(alloc, wanted)?;
     match sheet(viewer, &tract, wanted) {
-        Ok(seen) => {
-            println!(rt; "viewer: front {}", seen.front)?;
-            tell_rows(rt, 0, seen.rows.as_slice())?;
-        }
-        Err(why) => println!(rt; "viewer: {why}")?,
+        Ok(seen) => Ok(tell_seen(rt, &seen)?),
+        Err(why) => Ok(println!(rt; "viewer: {why}")?),
     }
-    Ok(())
 }
 
 /// Tells the record that a viewer shows at a place, from 1.
@@ -71,8 +73,7 @@ pub fn tell_record_at<B: Room>(
     wanted: &mut Wanted,
 ) -> Result<()> {
     match record(viewer, place, wanted)? {
-        Some(found) => tell_record(rt, place, &found)?,
-        None => println!(rt; "no record {place}")?,
+        Some(found) => Ok(tell_record(rt, place, &found)?),
+        None => Ok(println!(rt; "no record {place}")?),
     }
-    Ok(())
 }
