@@ -98,8 +98,25 @@ pub fn telling_advice(alloc: Global, path: &str, fault: TellFault) -> Result<Str
     }
 }
 
-/// That bytes at the end of a plant's file didn't count, in a line.
-pub fn cut_advice(alloc: Global, path: &str, bytes: usize) -> Result<String, AllocError> {
-    let path = Quoted(path);
-    format!(in alloc; "{bytes} bytes at the end of {path} didn't count, and were cut off\n")
+/// That bytes at the end of a plant's file didn't count, and whether they are kept in one beside, in a line.
+pub fn cut_advice(
+    alloc: Global,
+    path: &str,
+    bytes: usize,
+    is_kept: bool,
+) -> Result<String, AllocError> {
+    let name = match path.rsplit_once('/') {
+        Some((_, name)) => name,
+        None => path,
+    };
+    let beside = format!(in alloc; "{name}.cut")?;
+    let (path, beside) = (Quoted(path), Quoted(beside.as_str()));
+    let became = if is_kept {
+        "they are kept beside it in"
+    } else {
+        "they couldn't be kept beside it in"
+    };
+    format!(in alloc;
+        "{bytes} bytes at the end of {path} didn't count, and were cut off; {became} {beside}\n"
+    )
 }

@@ -177,21 +177,22 @@ fn tell<E: Sink>(errors: &mut E, text: &str)
     }
 }
 
-// Tells on the errors that bytes were cut off, where some were.
-fn tell_cut<E: Sink>(alloc: Global, words: &[String], cut: usize, errors: &mut E)
+/// Tells on the errors how many bytes at the end of a plant's file were cut off, and whether they are kept beside. Nothing where none
+/// were.
+pub fn tell_cut<E: Sink>(alloc: Global, words: &[String], cut: usize, is_kept: bool, errors: &mut E)
     ensures quiet { cut ≡ 0 → errors.new ≡ errors.old }
     ensures told { (told : List ℕ) × Appends (E.taken errors.old) (E.taken errors.new) told }
 {
     if cut > 0 {
-        match cut_advice(alloc, plant_in(words), cut) {
+        match cut_advice(alloc, plant_in(words), cut, is_kept) {
             Ok(text) => tell(errors, text.as_str()),
             Err(_) => tell(errors, OUT_OF_MEMORY),
         }
     }
 }
 
-/// Tells on the errors, in plain words, why a command failed: by the words of the command line and by what was read; and how many
-/// bytes at the end of a plant's file were cut off. Nothing where it didn't fail and none were.
+/// Tells on the errors, in plain words, why a command failed: by the words of the command line and by what was read. Nothing where it
+/// didn't fail.
 pub fn explain<R, E: Sink>(
     alloc: Global,
     words: &[String],
@@ -199,10 +200,9 @@ pub fn explain<R, E: Sink>(
     source: &Heard<R>,
     errors: &mut E,
 )
-    ensures quiet { ending.why ≡ None → ending.cut ≡ 0 → errors.new ≡ errors.old }
+    ensures quiet { ending.why ≡ None → errors.new ≡ errors.old }
     ensures told { (told : List ℕ) × Appends (E.taken errors.old) (E.taken errors.new) told }
 {
-    tell_cut(alloc, words, ending.cut, errors);
     let Some(why) = ending.why else {
         return;
     };

@@ -11,6 +11,8 @@ pub data Call : Type 0 where
   -- to this length
   cut : ℕ → Bool → Call
   synced : Bool → Call
+  -- these bytes were put into a file beside
+  kept : List ℕ → Bool → Call
   -- a read that wasn't answered
   unread : Call
 
@@ -22,6 +24,7 @@ after (written at bytes false) old = old
 after (cut len true) old = take len old
 after (cut len false) old = old
 after (synced done) old = old
+after (kept bytes done) old = old
 after unread old = old
 
 -- what a read returns after these calls
@@ -36,6 +39,7 @@ Leaves (written at bytes done) old new = Torn at (length bytes) old new
 Leaves (cut len done) old new = Cut len old new
 Leaves (synced true) old new = ⊥
 Leaves (synced false) old new = new ≡ old
+Leaves (kept bytes done) old new = new ≡ old
 Leaves unread old new = new ≡ old
 
 -- what a crash may leave: what is there, or what the newest call makes of what a crash before it might have left
@@ -56,6 +60,7 @@ fails (opened bytes) = false
 fails (written at bytes done) = not done
 fails (cut len done) = not done
 fails (synced done) = not done
+fails (kept bytes done) = false
 fails unread = true
 
 -- whether the newest of these calls has failed

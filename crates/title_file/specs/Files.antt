@@ -1,6 +1,7 @@
 -- What a plant's file shows of itself.
-use Rattle.std.specs.Prelude.{ℕ, Bool, List}
+use Rattle.std.specs.Prelude.{ℕ, ◌-◌, Bool, List, length, take}
 use Rattle.title_file.specs.Calls.{Call, seen, MayLeave, LeftSince, has_failed}
+use Rattle.title_file.specs.declared.drawer.Drawer.{Drawer}
 use Rattle.title_file.specs.declared.plant_file.PlantFile.{PlantFile}
 
 -- the calls on it, the newest first
@@ -22,3 +23,13 @@ file_left_since file = LeftSince (calls_of file)
 -- whether a call has failed
 abbrev pub file_has_failed : PlantFile → Bool
 file_has_failed file = has_failed (calls_of file)
+
+-- ---- where it lies
+
+-- the first row of new files, with its line feed
+abbrev pub first_row_of : Drawer → List ℕ
+first_row_of drawer = take (length drawer.fresh.now - 1) drawer.fresh.now
+
+-- whether the file that was opened last had bytes that are kept beside
+abbrev pub keeps_of : Drawer → Bool
+keeps_of drawer = drawer.has_kept

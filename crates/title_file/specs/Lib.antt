@@ -4,4 +4,5 @@ pub mod Noted
 pub mod Files
 pub mod Fronts
 pub mod InDoubt
+pub mod Openings
 pub mod Laws

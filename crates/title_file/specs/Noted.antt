@@ -1,5 +1,5 @@
 -- What a note says.
-use Rattle.title_file.specs.Calls.{Call, opened, written, cut, synced, unread}
+use Rattle.title_file.specs.Calls.{Call, opened, written, cut, synced, kept, unread}
 use Rattle.title_file.specs.declared.record.Note.{Note}
 use Rattle.title_file.specs.declared.record.Note.TheVariants as note
 
@@ -8,4 +8,5 @@ call_of (note.Opened bytes) = opened bytes.now
 call_of (note.Written at bytes done) = written at bytes.now done
 call_of (note.Cut len done) = cut len done
 call_of (note.Synced done) = synced done
+call_of (note.Kept bytes done) = kept bytes.now done
 call_of note.Unread = unread

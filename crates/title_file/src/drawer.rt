@@ -1,18 +1,20 @@
 //! Where plants' files lie: the file system.
 
-ghost use Rattle.std.specs.Prelude.{◌≡◌, ◌<◌, ◌-◌, ◌^◌, false, length, take, IfOk};
+ghost use Rattle.std.specs.Prelude.{◌≡◌, ◌≤◌, ◌<◌, ◌-◌, ◌^◌, false, length, take, drop, IfOk, OnOk};
 ghost use Rattle.std.specs.IoError.{error_kind};
 ghost use Rattle.title_disk.specs.Crashes.{Only};
 ghost use Rattle.title_disk.specs.declared.cabinet.OpenFault.TheVariants as fault;
-ghost use Rattle.title_file.specs.Files.{file_seen, file_may_leave, file_has_failed};
+ghost use Rattle.title_file.specs.Files.{calls_of, file_seen, file_may_leave, file_has_failed};
+ghost use Rattle.title_file.specs.Openings.{IsOpening, IsSecured, again_calls, gate_calls, loose_of, tail_calls};
 
-use crate::gates::find_gates;
+use crate::gates::{Gates, find_gates};
+use crate::keeping::{keep_tail, lock, sync_folder};
 use crate::plant_file::PlantFile;
+use crate::record::{Note, Record};
 use std::alloc::Global;
-use std::fs::{self, File, OpenOptions};
+use std::fs::{self, File, Metadata, OpenOptions};
 use std::hash::{BuildHasher, RandomState};
-use std::io::{self, ErrorKind, Read, Write};
-use std::os::fd::AsRawFd;
+use std::io::{self, ErrorKind, Read};
 use std::os::unix::fs::{FileExt, MetadataExt};
 use title_disk::{Cabinet, OpenFault};
 
@@ -21,31 +23,50 @@ use title_disk::{Cabinet, OpenFault};
 pub struct Drawer {
     rt: HostRuntime,
     fresh: &'static [u8],
+    has_kept: bool,
 }
 
 impl Drawer {
+    ghost use Rattle.title_file.specs.Files.{keeps_of};
+
     /// A drawer whose new files are these bytes: their first row, and a closed gate.
     pub fn new(rt: &HostRuntime, fresh: &'static [u8]) -> Drawer {
-        Drawer { rt: *rt, fresh }
+        Drawer {
+            rt: *rt,
+            fresh,
+            has_kept: false,
+        }
     }
 
-    /// Puts bytes behind those of the file whose name is this path's and `.cut`, for what is cut off a torn file: they are on the
-    /// disk then. The file is made where there is none.
-    pub fn keep(&mut self, alloc: Global, path: &str, bytes: &[u8]) -> Result<(), OpenFault> {
-        match keep(&self.rt, alloc, path, bytes) {
-            Ok(()) => Ok(()),
-            Err(error) => Err(fault_of(&error)),
-        }
+    /// Whether the file that was opened last had bytes behind its blocks that don't count, and they were put into a file beside.
+    pub fn has_kept(&self) -> bool
+        ensures kept { result ≡ keeps_of self.now }
+    {
+        self.has_kept
     }
 }
 
 impl Cabinet for Drawer {
+    ghost use Rattle.title_file.specs.Files.{first_row_of, keeps_of};
+
     type File = PlantFile;
 
-    fn open(&mut self, alloc: Global, path: &str) -> Result<PlantFile, OpenFault> {
+    /// Before anything of a file is written again, what lies behind its blocks is put behind the bytes of the file whose name has
+    /// `.cut` more, but for a closed gate alone. Where that fails, the file is opened all the same.
+    fn open(&mut self, alloc: Global, path: &str) -> Result<PlantFile, OpenFault>
+        ensures durable { IfOk result (λ file. Only (file_seen file) (file_may_leave file)) }
+        ensures works { IfOk result (λ file. file_has_failed file ≡ false) }
+        ensures kept { IfOk result (λ file. IsOpening (first_row_of self.old) (keeps_of self.new) (calls_of file)) }
+    {
         match open(&self.rt, alloc, path, self.fresh) {
-            Ok(file) => Ok(file),
-            Err(error) => Err(fault_of(&error)),
+            Ok(opened) => {
+                self.has_kept = opened.is_kept;
+                Ok(opened.file)
+            }
+            Err(error) => {
+                self.has_kept = false;
+                Err(fault_of(&error))
+            }
         }
     }
 
@@ -56,6 +77,20 @@ impl Cabinet for Drawer {
             Err(error) => Err(fault_of(&error)),
         }
     }
+}
+
+// A file that is open, and whether what lies behind its blocks is kept.
+#[derive(Drop)]
+struct Opened {
+    file: PlantFile,
+    is_kept: bool,
+}
+
+// The calls on a file that may be opened, and whether what lies behind its blocks is kept.
+#[derive(Drop)]
+struct Secured {
+    record: Record,
+    is_kept: bool,
 }
 
 // Only a lock that another holds answers `WouldBlock`.
@@ -70,9 +105,10 @@ fn fault_of(error: &io::Error) -> OpenFault
     }
 }
 
-fn open(rt: &HostRuntime, alloc: Global, path: &str, fresh: &[u8]) -> io::Result<PlantFile>
-    ensures durable { IfOk result (λ file. Only (file_seen file) (file_may_leave file)) }
-    ensures works { IfOk result (λ file. file_has_failed file ≡ false) }
+fn open(rt: &HostRuntime, alloc: Global, path: &str, fresh: &[u8]) -> io::Result<Opened>
+    ensures durable { IfOk result (λ opened. Only (file_seen opened.file) (file_may_leave opened.file)) }
+    ensures works { IfOk result (λ opened. file_has_failed opened.file ≡ false) }
+    ensures kept { IfOk result (λ opened. IsOpening (take (length fresh.now - 1) fresh.now) opened.is_kept (calls_of opened.file)) }
 {
     let file = match take(rt, path) {
         Err(error) if error.kind() == ErrorKind::NotFound => make(rt, alloc, path, fresh)?,
@@ -87,15 +123,6 @@ fn take(rt: &HostRuntime, path: &str) -> io::Result<File> {
         return Err(ErrorKind::Unsupported.into());
     }
     lock(OpenOptions::new().read(true).write(true).open(rt, path)?)
-}
-
-// What is meant for a standard stream that was closed must not land in the file: its descriptor is above theirs.
-fn lock(mut file: File) -> io::Result<File> {
-    if file.as_raw_fd() <= 2 {
-        file = file.try_clone()?;
-    }
-    file.try_lock()?;
-    Ok(file)
 }
 
 // Makes and locks a file of this name. It has the name once its bytes are on the disk, and until then one with digits behind it. Of
@@ -138,47 +165,99 @@ fn head_of(fresh: &[u8]) -> &[u8]
     &fresh[..fresh.len().saturating_sub(1)]
 }
 
-// Sees that the name still means this file, reads it, and brings it onto the disk as it was read.
+// Sees that the name still means this file, reads it, and brings it onto the disk as it was read, once its tail is kept.
 fn settle(
     rt: &HostRuntime,
     alloc: Global,
     path: &str,
     mut file: File,
     head: &[u8],
-) -> io::Result<PlantFile>
-    ensures durable { IfOk result (λ file. Only (file_seen file) (file_may_leave file)) }
-    ensures works { IfOk result (λ file. file_has_failed file ≡ false) }
+) -> io::Result<Opened>
+    ensures durable { IfOk result (λ opened. Only (file_seen opened.file) (file_may_leave opened.file)) }
+    ensures works { IfOk result (λ opened. file_has_failed opened.file ≡ false) }
+    ensures kept { IfOk result (λ opened. IsOpening head.now opened.is_kept (calls_of opened.file)) }
 {
-    let mut folder = fs::canonicalize(rt, path)?;
-    let (found, named) = (file.metadata()?, fs::symlink_metadata(rt, folder.as_str())?);
+    let place = fs::canonicalize(rt, path)?;
+    let (found, named) = (file.metadata()?, fs::symlink_metadata(rt, place.as_str())?);
     if !found.is_file() || found.dev() != named.dev() || found.ino() != named.ino() {
         return Err(ErrorKind::Unsupported.into());
     }
     let bytes = read_all(alloc, &mut file)?;
-    write_again(&file, head, &bytes)?;
+    let Secured { record, is_kept } = secure(rt, alloc, path, &file, &found, head, &bytes)?;
     file.sync_all()?;
-    folder.pop();
-    File::open(rt, folder.as_str())?.sync_all()?;
-    Ok(PlantFile::opened(file, bytes))
+    sync_folder(rt, place)?;
+    let record = record.then(&Note::Synced(true));
+    Ok(Opened {
+        file: PlantFile::opened(file, bytes, &record),
+        is_kept,
+    })
+}
+
+// Keeps what will be cut off, and then writes again what may be other on the disk. What is no plant isn't written to.
+fn secure(
+    rt: &HostRuntime,
+    alloc: Global,
+    path: &str,
+    file: &File,
+    found: &Metadata,
+    head: &[u8],
+    bytes: &[u8],
+) -> io::Result<Secured>
+    requires fits { length bytes.now < 2 ^ 63 }
+    ensures secured { IfOk result (λ secured. IsSecured head.now bytes.now secured.is_kept secured.record.calls) }
+{
+    let mut record = Record::new();
+    let Some(gates) = find_gates(head, bytes) else {
+        return Ok(Secured {
+            record,
+            is_kept: false,
+        });
+    };
+    let is_kept = keep_tail(rt, alloc, path, found, loose(gates, bytes), &mut record);
+    write_again(file, gates, bytes, &mut record)?;
+    Ok(Secured { record, is_kept })
+}
+
+// What lies behind the blocks, but for a closed gate alone, which a file at rest has there.
+fn loose(gates: Gates, bytes: &[u8]) -> &[u8]
+    requires within { gates.end ≤ length bytes.now }
+    ensures loose { result.now ≡ loose_of (drop gates.end bytes.now) }
+{
+    let tail = &bytes[gates.end..];
+    if tail == b"-".as_slice() { &[] } else { tail }
 }
 
 // Writes again, as it was read, what a sync that failed may have left other on the disk than the system shows it: the gate that was
-// opened last, what lies behind the blocks, and the length. What is no plant isn't written to.
-fn write_again(file: &File, head: &[u8], bytes: &[u8]) -> io::Result<()>
-    requires fits { length bytes.now < 2 ^ 63 }
+// opened last, and what lies behind the blocks, or else the length.
+fn write_again(file: &File, gates: Gates, bytes: &[u8], record: &mut Record) -> io::Result<()>
+    requires within { gates.end ≤ length bytes.now }
+    ensures again { OnOk result (record.new.calls ≡ again_calls gates bytes.now record.old.calls) }
 {
-    let Some(gates) = find_gates(head, bytes) else {
-        return Ok(());
-    };
-    if let Some(place) = gates.opened {
+    gate_again(file, gates.opened, record)?;
+    tail_again(file, gates.end, &bytes[gates.end..], record)
+}
+
+fn gate_again(file: &File, opened: Option<usize>, record: &mut Record) -> io::Result<()>
+    ensures again { OnOk result (record.new.calls ≡ gate_calls opened record.old.calls) }
+{
+    if let Some(place) = opened {
         file.write_all_at(b"+", place as u64)?;
+        *record = record.then(&Note::Written(place, b"+", true));
     }
-    let tail = &bytes[gates.end..];
+    Ok(())
+}
+
+fn tail_again(file: &File, end: usize, tail: &[u8], record: &mut Record) -> io::Result<()>
+    ensures again { OnOk result (record.new.calls ≡ tail_calls end tail.now record.old.calls) }
+{
     if tail.is_empty() {
-        file.set_len(gates.end as u64)
+        file.set_len(end as u64)?;
+        *record = record.then(&Note::Cut(end, true));
     } else {
-        file.write_all_at(tail, gates.end as u64)
+        file.write_all_at(tail, end as u64)?;
+        *record = record.then(&Note::Written(end, tail, true));
     }
+    Ok(())
 }
 
 // Room for the whole file is taken at once, so that it doesn't grow on the way; its end is found in the byte behind.
@@ -195,19 +274,4 @@ fn look(rt: &HostRuntime, alloc: Global, path: &str) -> io::Result<Vec<u8>> {
     }
     let mut file = File::open(rt, path)?;
     read_all(alloc, &mut file)
-}
-
-// A file that is open for reading too doesn't block at its opening, whatever it is.
-fn keep(rt: &HostRuntime, alloc: Global, path: &str, bytes: &[u8]) -> io::Result<()> {
-    let kept = format!(in alloc; "{path}.cut")?;
-    let mut file = OpenOptions::new()
-        .read(true)
-        .append(true)
-        .create(true)
-        .open(rt, kept.as_str())?;
-    if !file.metadata()?.is_file() {
-        return Err(ErrorKind::Unsupported.into());
-    }
-    file.write_all(bytes)?;
-    file.sync_all()
 }

@@ -3,6 +3,7 @@
 
 mod drawer;
 mod gates;
+mod keeping;
 pub mod laws;
 mod plant_file;
 mod record;

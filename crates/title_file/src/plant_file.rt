@@ -1,6 +1,6 @@
 //! A plant's file of the operating system, as a disk.
 
-ghost use Rattle.std.specs.Prelude.{◌≡◌, ◌+◌, ◌<◌, ◌^◌, false, length, IfSome, IsTrue};
+ghost use Rattle.std.specs.Prelude.{◌≡◌, ◌+◌, ◌<◌, ◌^◌, ◌∷◌, false, length, IfSome, IsTrue};
 ghost use Rattle.std.proofs.Props.{props};
 ghost use Rattle.title_file.specs.Calls.{seen};
 
@@ -26,15 +26,17 @@ pub struct PlantFile {
 
 impl PlantFile {
     ghost use Rattle.title_disk.specs.Crashes.{Only};
-    ghost use Rattle.title_file.specs.Files.{file_seen, file_may_leave, file_has_failed};
+    ghost use Rattle.title_file.specs.Calls.{opened};
+    ghost use Rattle.title_file.specs.Files.{calls_of, file_seen, file_may_leave, file_has_failed};
 
-    /// A file that was read and synced.
-    pub(crate) fn opened(file: File, bytes: Vec<u8>) -> PlantFile
+    /// A file that was read, and then synced, by these calls.
+    pub(crate) fn opened(file: File, bytes: Vec<u8>, earlier: &Record) -> PlantFile
+        ensures calls { calls_of result ≡ opened bytes.items ∷ earlier.now.calls }
         ensures bytes { file_seen result ≡ bytes.items }
         ensures durable { Only (file_seen result) (file_may_leave result) }
         ensures works { file_has_failed result ≡ false }
     {
-        let record = Record::new().then(&Note::Opened(&bytes));
+        let record = earlier.then(&Note::Opened(&bytes));
         PlantFile {
             file,
             bytes: Some(bytes),

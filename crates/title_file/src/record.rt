@@ -18,6 +18,8 @@ pub(crate) enum Note<'a> {
     Cut(usize, bool),
     /// The file was synced.
     Synced(bool),
+    /// These bytes were put into a file beside.
+    Kept(&'a [u8], bool),
     /// A read wasn't answered.
     Unread,
 }

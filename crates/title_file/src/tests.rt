@@ -179,22 +179,68 @@ fn a_plant_is_written_as_it_was_read(rt: HostRuntime) {
     assert!(rt; fs::remove_dir_all(&rt, "title_file_again").is_ok());
 }
 
-#[test]
-fn what_is_kept_comes_behind_what_was(rt: HostRuntime) {
-    assert!(rt; empty(&rt, "title_file_kept"));
-    let mut drawer = Drawer::new(&rt, FRESH);
-    for bytes in [b"torn".as_slice(), b" and torn again"] {
-        assert!(rt;
-            drawer
-                .keep(rt.alloc(), "title_file_kept/a.plant", bytes)
-                .is_ok()
-        );
+// Whether a file is opened with its bytes as they are, and whether what will be cut off is kept then; none where it isn't opened, or
+// has others.
+fn keeps(rt: &HostRuntime, path: &str, bytes: &[u8]) -> Option<bool> {
+    fs::write(rt, path, bytes).ok()?;
+    let mut drawer = Drawer::new(rt, FRESH);
+    let mut file = drawer.open(rt.alloc(), path).ok()?;
+    let read = file.read(rt.alloc()).ok()?;
+    if read.as_slice() != bytes || !has(rt, path, bytes) {
+        return None;
     }
-    assert!(rt; has(&rt, "title_file_kept/a.plant.cut", b"torn and torn again"));
-    assert!(rt;
-        drawer
-            .keep(rt.alloc(), "title_file_kept/missing/a.plant", b"torn")
-            .is_err()
-    );
+    Some(drawer.has_kept())
+}
+
+#[test]
+fn what_will_be_cut_off_is_kept(rt: HostRuntime) {
+    assert!(rt; empty(&rt, "title_file_kept"));
+    for bytes in [
+        b"fresh\n-".as_slice(),
+        b"fresh\n",
+        b"fresh",
+        b"other\n-torn",
+    ] {
+        assert!(rt; keeps(&rt, "title_file_kept/a.plant", bytes) == Some(false));
+    }
+    assert!(rt; count(&rt, "title_file_kept") == 1);
+    // The second is what an opening that was broken off has left.
+    for (bytes, kept) in [
+        (b"fresh\n-\ntorn".as_slice(), b"-\ntorn".as_slice()),
+        (b"fresh\n-\ntorn", b"-\ntorn"),
+        (b"fresh\n+\nend,1\n+", b"-\ntorn+"),
+        (b"fresh\n+\nend,1\n--", b"-\ntorn+--"),
+        (b"fresh\n+\nend,1\n-", b"-\ntorn+--"),
+    ] {
+        let is_torn = !bytes.ends_with(b"\n-");
+        assert!(rt; keeps(&rt, "title_file_kept/a.plant", bytes) == Some(is_torn));
+        assert!(rt; has(&rt, "title_file_kept/a.plant.cut", kept));
+    }
+    assert!(rt; count(&rt, "title_file_kept") == 2);
     assert!(rt; fs::remove_dir_all(&rt, "title_file_kept").is_ok());
+}
+
+#[test]
+fn what_cant_be_kept_is_told(rt: HostRuntime) {
+    assert!(rt; empty(&rt, "title_file_unkept"));
+    assert!(rt; fs::create_dir(&rt, "title_file_unkept/a.plant.cut").is_ok());
+    assert!(rt; keeps(&rt, "title_file_unkept/a.plant", b"fresh\n-torn") == Some(false));
+    // A file that is to be kept beside itself.
+    assert!(rt; symlink(&rt, "b.plant", "title_file_unkept/b.plant.cut").is_ok());
+    assert!(rt; keeps(&rt, "title_file_unkept/b.plant", b"fresh\n-torn") == Some(false));
+    assert!(rt; symlink(&rt, "/dev/full", "title_file_unkept/c.plant.cut").is_ok());
+    assert!(rt; keeps(&rt, "title_file_unkept/c.plant", b"fresh\n-torn") == Some(false));
+    assert!(rt; fs::remove_dir_all(&rt, "title_file_unkept").is_ok());
+}
+
+#[test]
+fn what_is_kept_is_for_those_who_may_read_the_file(rt: HostRuntime) {
+    assert!(rt; empty(&rt, "title_file_own"));
+    assert!(rt; fs::write(&rt, "title_file_own/a.plant", FRESH).is_ok());
+    let own = fs::Permissions::from_mode(0o600);
+    assert!(rt; fs::set_permissions(&rt, "title_file_own/a.plant", own).is_ok());
+    assert!(rt; keeps(&rt, "title_file_own/a.plant", b"fresh\n-torn") == Some(true));
+    let kept = fs::metadata(&rt, "title_file_own/a.plant.cut").expect(&rt, "it is kept");
+    assert!(rt; kept.mode() & 0o777 == 0o600);
+    assert!(rt; fs::remove_dir_all(&rt, "title_file_own").is_ok());
 }

@@ -7,7 +7,7 @@ use std::process::ExitCode;
 use std::{env, io};
 use title_advice::{Heard, Progress};
 use title_device::{Device, Sink};
-use title_explain::explain;
+use title_explain::{explain, tell_cut};
 use title_file::Drawer;
 use title_program::{WordsFault, obey_words_onto, refuse_untaken};
 
@@ -42,6 +42,13 @@ fn main(rt: HostRuntime) -> ExitCode {
             progress.wipe();
             // (That the output has failed is told already, in one line. A script may count all the same.)
             if !sink.failed() || ending.counts_untold() {
+                tell_cut(
+                    rt.alloc(),
+                    words,
+                    ending.cut,
+                    drawer.has_kept(),
+                    &mut errors,
+                );
                 explain(rt.alloc(), words, ending, &source, &mut errors);
             }
             ending.status
