@@ -10,7 +10,8 @@ bytes may stand in the range, and it may be longer or not; a cut may not have ha
 synced. A missing sync shows here, and in no kill, since what the system holds outlives a process. Each content is opened with the
 program: `check` has to tell what another reader reads (bench/plant_days.py), which has to be what stood before the day, or that and all
 of the day, and where a byte of the report was written, that. On one of K contents (4 where nothing is said) the day is then served again
-with `--after` the last place of before: the file has to come to rest with the day in it once.
+with `--after` the last place of before: the file has to come to rest with the day in it once. Once a crash may leave the file without a
+tail that it had, it has to leave that tail in the file beside (`.cut`), and whatever an opening cuts off has to come behind what is there.
 
 rest      the days of plant_days.py, each on what the days before have left
 tails     each day on a file that a crash has left: torn in each of six ways, and torn again while the program repairs it
@@ -20,6 +21,8 @@ refused   each call of these refused, with EIO and with ENOSPC: the fault's line
           refused is done by half or not at all
 memory    each allocation refused
 devices   standard streams that are closed; a file that can't grow above each size; what is no file, or may not be read or written to
+full      a file system with room for each number of pages more, where one may be mounted: a new file, a block, a tail to be kept
+faults    each fault of a plant's file once, by a case of its own
 large     a file of 1,000,000 rows and 65,535 parties
 
 With no trial named, all of them. What is wrong is named, and the status is 1 then.
@@ -28,10 +31,12 @@ With no trial named, all of them. What is wrong is named, and the status is 1 th
 import argparse
 import collections
 import errno
+import fcntl
 import itertools
 import multiprocessing
 import os
 import pathlib
+import re
 import resource
 import shutil
 import struct
@@ -263,6 +268,7 @@ NOTE = struct.Struct("<IIQqQ")
 # or p (standard output).
 Note = collections.namedtuple("Note", "kind refused file place data")
 NAME = "plant"
+BESIDE = NAME + ".cut"
 FOREVER = 10 ** 9
 
 
@@ -333,6 +339,11 @@ class Disk:
                 self.maybe[name].add(self.names.get(name))
         elif note.kind != "p":
             self.files.setdefault(note.file, Kept()).add(note)
+
+    def content(self, name):
+        """What a read shows of a file, None where there is none of this name."""
+        number = self.names.get(name)
+        return None if number is None else self.files[number].seen
 
     def files_named(self, name):
         """The files that a crash may leave under a name, None for no file."""
@@ -406,15 +417,20 @@ class Place:
     def close(self):
         shutil.rmtree(self.folder)
 
-    def lay(self, content):
-        """Puts a plant with this content into the empty folder; None for no file."""
+    def lay(self, content, beside=None):
+        """Puts a plant with this content, and what was kept beside it, into the empty folder; None for no file."""
         for path in self.folder.iterdir():
             path.unlink()
-        if content is not None:
-            self.path.write_bytes(content)
+        for path, text in ((self.path, content), (self.folder / BESIDE, beside)):
+            if text is not None:
+                path.write_bytes(text)
 
     def content(self):
         return self.path.read_bytes() if self.path.exists() else None
+
+    def beside(self):
+        path = self.folder / BESIDE
+        return path.read_bytes() if path.exists() else None
 
     def run(self, words, script=b""):
         self.plain.feed(script)
@@ -435,14 +451,37 @@ class Place:
             environment |= {"CRASHES_REFUSED": str(refused), "CRASHES_ERRNO": str(number)} | ({"CRASHES_HALF": "1"} if half else {})
         runner = Runner(self.options.program, environment)
         runner.feed(day.script)
-        start = Disk()
-        if self.path.exists():
-            file = self.path.stat().st_ino
-            start = Disk({NAME: file}, {file: Kept(self.path.read_bytes())})
+        paths = [path for path in (self.path, self.folder / BESIDE) if path.exists()]
+        start = Disk({path.name: path.stat().st_ino for path in paths}, {path.stat().st_ino: Kept(path.read_bytes()) for path in paths})
         ending = runner.run([day.command, "--plant", str(self.path)])
         text = os.pread(notes, os.fstat(notes).st_size, 0)
         os.close(notes)
         return ending, start, notes_in(text)
+
+
+def loose_in(content):
+    """What an opening cuts off a file and keeps: what lies behind its blocks, but for a closed gate alone."""
+    if content is None:
+        return b""
+    _, gate = read_plant(content)
+    return content[gate:] if tail_of(content, gate) else b""
+
+
+def kept_with(beside, tail):
+    """What is kept once a tail was cut off; an opening that was broken off may have kept it before."""
+    if not tail:
+        return beside
+    return (beside or b"") if (beside or b"").endswith(tail) else (beside or b"") + tail
+
+
+TOLD_CUT = re.compile(rb"""([0-9]+) bytes at the end of "[^"\n]*" didn't count, and were cut off; """
+                      rb"""they (are|couldn't be) kept beside it in "plant\.cut"\n""")
+
+
+def told_cut(errors):
+    """The number of bytes that errors tell to be cut off, whether they are kept, and what is told beside that."""
+    found = TOLD_CUT.match(errors)
+    return (int(found[1]), found[2] == b"are", errors[found.end():]) if found else (0, False, errors)
 
 
 class Day:
@@ -486,14 +525,14 @@ class Trial:
         if len(self.wrong) < 20:
             self.wrong.append(f"{what}: " + ", ".join(repr(it)[:300] for it in seen))
 
-    def look(self, day, content, is_told, where):
-        """Opens a content that a crash may leave."""
-        self.place.lay(content)
+    def look(self, day, content, is_told, where, beside=None):
+        """Opens a content that a crash may leave, with what may be kept beside."""
+        self.place.lay(content, beside)
         if content is None:
             if is_told or day.before != HEAD + b"-":
                 self.fail(f"{where}: there is no file")
             self.counts["no file"] += 1
-            return self.serve_again(day, content, where)
+            return self.serve_again(day, content, where, beside)
         ending = self.place.check()
         try:
             found, gate = read_plant(content)
@@ -503,19 +542,24 @@ class Trial:
         wanted = numbers + b"tail,%d\n" % tail_of(content, gate)
         if ending.status != 0 or ending.output != wanted or ending.errors:
             self.fail(f"{where}: check", ending.status, ending.output, ending.errors, wanted, content[-200:])
-        if self.place.content() != content:
-            self.fail(f"{where}: check changed the file")
+        if self.place.content() != content or self.place.beside() != beside:
+            self.fail(f"{where}: check changed the file, or kept something")
         is_after = numbers == day.standing and content.startswith(day.after[:-1])
         is_before = numbers == day.was and content.startswith(day.before[:-1]) and not is_told
         if not is_after and not is_before:
             return self.fail(f"{where}: neither before nor after", numbers, day.was, day.standing, content[-200:])
         self.counts["after" if is_after else "before"] += 1
-        if self.counts["after"] + self.counts["before"] * 7 % self.every == 0 or not day.block:
-            self.serve_again(day, content, where)
+        if (self.counts["after"] + self.counts["before"] * 7) % self.every == 0 or not day.block:
+            self.serve_again(day, content, where, beside)
 
-    def serve_again(self, day, content, where):
+    def serve_again(self, day, content, where, beside=None):
         """Serves the day, where it doesn't count yet."""
+        tail = loose_in(content)
         ending = self.place.serve(day, "--after", str(day.last))
+        told, kept = told_cut(ending.errors)[:2], self.place.beside()
+        if told != (len(tail), bool(tail)) or kept != kept_with(beside, tail):
+            self.fail(f"{where}: what is kept", ending.errors, tail, beside, kept)
+        self.counts["tails kept"] += bool(tail)
         found = self.place.content()
         is_refused = ending.status == 1 and ending.output == b"fault,47,%d\n" % day.next and day.next != day.last
         if found != day.after or not (is_refused or ending.status == 0 and ending.output == day.report):
@@ -524,16 +568,31 @@ class Trial:
 
     def crash(self, day, start, notes, where, first=-1):
         """Opens what a crash may leave after each of the calls, from one on."""
-        disk, is_told, seen = start, False, set()
+        disk, is_told, seen, besides = start, False, set(), set()
+        whole, beside = disk.content(NAME), disk.content(BESIDE)
+        tail = loose_in(whole)
         for number in range(-1, len(notes)):
             if number >= 0:
                 disk.add(notes[number])
                 is_told = is_told or notes[number].kind == "p" and b"fault" not in notes[number].data
-            for kept in disk.files_named(NAME) if number >= first else []:
-                for content in [None] if kept is None else contents(kept, day.last):
-                    if (content, is_told) not in seen:
-                        seen.add((content, is_told))
-                        self.look(day, content, is_told, f"{where}, call {number}")
+            if number < first:
+                continue
+            found = set()
+            for kept in disk.files_named(NAME):
+                found.update([None] if kept is None else contents(kept, day.last))
+            for content in sorted(found, key=lambda it: it or b""):
+                if (content, is_told) not in seen:
+                    seen.add((content, is_told))
+                    self.look(day, content, is_told, f"{where}, call {number}", disk.content(BESIDE))
+            for kept in disk.files_named(BESIDE) if tail else []:
+                for left in [None] if kept is None else contents(kept, day.last):
+                    # Where the file may have lost its tail, that is kept; else the file as it was is opened beside what is left.
+                    if any(not content.startswith(whole) for content in found):
+                        if left != kept_with(beside, tail):
+                            self.fail(f"{where}, call {number}: a tail is lost", left, tail)
+                    elif left not in besides:
+                        besides.add(left)
+                        self.look(day, whole, False, f"{where}, call {number}, beside", left)
 
     def rest(self, day, content, where):
         """The day on a content, torn at each call."""
@@ -541,10 +600,10 @@ class Trial:
         ending, start, notes = self.place.noted(day)
         if ending.status != 0 or ending.output != day.report or self.place.content() != day.after:
             self.fail(f"{where}: the day", ending.status, ending.output[:300], ending.errors[:300])
-        # A tail that is cut off is told by a sentence, and nothing else is.
-        is_torn = content is not None and tail_of(content, len(day.before) - 1) > 0
-        if ending.errors.count(b"\n") != is_torn:
-            self.fail(f"{where}: what is told of the tail", ending.errors)
+        # A tail that is cut off is told by a sentence, and nothing else is; it is kept.
+        tail = loose_in(content)
+        if told_cut(ending.errors) != (len(tail), bool(tail), b"") or self.place.beside() != kept_with(None, tail):
+            self.fail(f"{where}: what is told of the tail, or kept", ending.errors, self.place.beside())
         ending = self.place.run(["check", "--script", str(self.place.path)])
         described, cells, _ = day.told.partition(b" cells ")
         wanted = (1, b"fault,48,%d\n" % (1 + described.count(b"\n"))) if cells else (0, day.told)
@@ -558,23 +617,36 @@ class Trial:
         """The day on a content with each call refused."""
         self.place.lay(content)
         _, _, notes = self.place.noted(day)
-        lines = lines_wanted(day, self.place.path.stat().st_ino, [note for note in notes if note.kind in "wcsdl"])
+        notes = [note for note in notes if note.kind in "wcsdl"]
+        plant, tail = self.place.path.stat().st_ino, loose_in(content)
+        lines = lines_wanted(day, plant, notes)
         for half, number, (call, line) in itertools.product((False, True), (errno.EIO, errno.ENOSPC), enumerate(lines)):
             self.place.lay(content)
-            ending, start, notes = self.place.noted(day, call, number, half)
+            is_kept = bool(tail) and not keeps_at(notes, call, plant)
+            ending, start, notes_then = self.place.noted(day, call, number, half)
             name = f"{where}, call {call} refused ({errno.errorcode[number]}{', half' if half else ''})"
             self.counts["refused"] += 1
-            if sum(note.refused for note in notes) != 1:
-                self.fail(f"{name}: not refused once", notes)
+            if sum(note.refused for note in notes_then) != 1:
+                self.fail(f"{name}: not refused once", notes_then)
             status, output = (0, day.report) if line is None else (1, line)
-            if ending.status != status or ending.output != output or ending.errors.count(b"\n") > 1 + (content is not None):
+            if ending.status != status or ending.output != output or told_cut(ending.errors)[2].count(b"\n") != (line is not None):
                 self.fail(name, ending.status, ending.output, ending.errors, line)
             self.counts[(line or b"the day all the same").decode().strip()] += 1
-            for note in notes:
+            # The tail is kept, or told to be lost where the file has it no more.
+            beside, told = self.place.beside(), told_cut(ending.errors)[:2]
+            if is_kept and beside != tail or told not in {(len(tail), is_kept)} | ({(0, False)} if line else set()):
+                self.fail(f"{name}: what is kept", ending.errors, beside, tail)
+            self.counts["told that it isn't kept"] += told == (len(tail), False) and bool(tail)
+            for note in notes_then:
                 start.add(note)
             for kept in start.files_named(NAME):
                 for left in [None] if kept is None else contents(kept, day.last)[::5]:
-                    self.look(day, left, ending.status == 0, name)
+                    self.look(day, left, ending.status == 0, name, beside)
+
+
+def keeps_at(notes, at, plant):
+    """Whether a call is one of those that keep a tail: of the file beside, or of the folder behind these."""
+    return notes[at].kind in "wcs" and notes[at].file != plant or notes[at].kind == "d" and notes[at - 1].file != plant
 
 
 def lines_wanted(day, plant, notes):
@@ -582,7 +654,7 @@ def lines_wanted(day, plant, notes):
     opened = max(at for at, note in enumerate(notes) if note.kind == "d")
     lines = []
     for at, note in enumerate(notes):
-        if note.kind in "wcs" and note.file != plant:
+        if keeps_at(notes, at, plant):
             lines.append(None)
         elif at <= opened:
             lines.append(b"fault,36\n")
@@ -622,15 +694,17 @@ def try_syncs(trial, day):
         trial.place.lay(content)
         file = trial.place.path.stat().st_ino
         _, _, notes = trial.place.noted(day)
-        notes = [note for note in notes if note.file == file or note.kind in "pd"]
-        syncs = [at for at, note in enumerate(notes) if note.kind == "s" and day.block][-needed:]
-        for left_out in syncs:
-            asked = notes[:left_out] + notes[left_out + 1:]
+        syncs = [at for at, note in enumerate(notes) if note.kind == "s" and note.file == file and day.block][-needed:]
+        besides = [at for at, note in enumerate(notes) if note.kind == "s" and note.file != file]
+        folders = [at for at, note in enumerate(notes) if note.kind == "d" and besides]
+        # The folder of both is one: it is synced twice, and the name that is made is missing where neither is done.
+        for left_out in [*([at] for at in [*syncs, *besides]), *([folders] if folders else [])]:
+            asked = [note for at, note in enumerate(notes) if at not in left_out]
             probe = Trial(trial.place, FOREVER, stops=True)
             trial.counts["left out"] += 1
             try:
-                probe.crash(day, Disk({NAME: file}, {file: Kept(content)}), asked, "a probe", left_out)
-                trial.fail(f"{day.name}: that a sync is missing isn't seen", left_out, notes[left_out])
+                probe.crash(day, Disk({NAME: file}, {file: Kept(content)}), asked, "a probe", left_out[0])
+                trial.fail(f"{day.name}: that a sync is missing isn't seen", left_out, notes[left_out[0]])
             except Seen:
                 trial.counts["seen"] += 1
 
@@ -652,17 +726,19 @@ def expect(trial, where, ending, status, output, content):
 
 def try_streams(trial, day):
     """Standard streams that are closed: what is meant for them isn't in the file."""
-    for closed in itertools.product((False, True), repeat=3):
+    for content, closed in itertools.product((day.before, day.before[:-1] + b"-\nparty,"), itertools.product((False, True), repeat=3)):
         source, output, errors = (-1 if it else None for it in closed)
-        trial.place.lay(day.before)
+        trial.place.lay(content)
         trial.place.plain.feed(day.script)
         ending = trial.place.plain.run([day.command, "--plant", str(trial.place.path)], source, output, errors)
         status = 1 if source or output else 0
         told = b"" if output else b"fault,32\n" if source else day.report
         expect(trial, f"{day.name}, closed {closed}", ending, status, told, day.before if source else day.after)
+        if trial.place.beside() != kept_with(None, loose_in(content)):
+            trial.fail(f"{day.name}, closed {closed}: what is kept", trial.place.beside())
 
 
-def try_full(trial, day):
+def try_limited(trial, day):
     """A file that can't grow above each size."""
     plain = resource.getrlimit(resource.RLIMIT_FSIZE)
     before, after = len(day.before), len(day.after)
@@ -717,7 +793,29 @@ def try_paths(trial, day):
     expect(trial, "a new file in a folder that nobody may write to", ending, 1, b"fault,36\n", day.before)
     if sorted(os.listdir(place.folder)) != names:
         trial.fail("a file is left", sorted(os.listdir(place.folder)))
+    # A tail that can't be kept, since nobody may make a file there, or one is there that nobody may write to.
+    for beside in (None, b"kept"):
+        place.lay(day.before[:-1] + b"torn", beside)
+        os.chmod(place.path, 0o666)
+        ending = as_nobody(trial.place.options.program, [*words, str(place.path)], day.script)
+        expect(trial, f"torn, beside {beside}", ending, 0, day.report, day.after)
+        if told_cut(ending.errors) != (4, False, b"") or place.beside() != beside:
+            trial.fail(f"torn, beside {beside}: what is told", ending.errors, place.beside())
     return None
+
+
+def try_permitted(trial, day):
+    """What is kept is for those who may read the file."""
+    for mode in (0o600, 0o640, 0o666):
+        trial.place.lay(day.before[:-1] + b"torn")
+        os.chmod(trial.place.path, mode)
+        mask = os.umask(0)
+        ending = trial.place.serve(day)
+        os.umask(mask)
+        expect(trial, f"torn, mode {mode:o}", ending, 0, day.report, day.after)
+        found = (trial.place.folder / BESIDE).stat().st_mode & 0o777
+        if found != mode:
+            trial.fail(f"torn, mode {mode:o}: what is kept", f"{found:o}")
 
 
 def try_memory(trial, day):
@@ -739,6 +837,11 @@ def refuse_from(trial, day, content):
         if Tally(*TALLY.unpack(tally.read_bytes())).refused == 0:
             return
         where = f"{day.name}, allocation {number} refused"
+        told, beside, tail = told_cut(ending.errors)[:2], trial.place.beside(), loose_in(content)
+        is_lost = beside != kept_with(None, tail) and trial.place.content() != content
+        if told[1] and beside != tail or is_lost and told != (len(tail), False):
+            trial.fail(f"{where}: what is kept", ending.errors, beside, tail)
+        trial.counts["told that it isn't kept"] += told == (len(tail), False) and bool(tail)
         if ending.status == 1 and ending.output == b"fault,6\n" and ending.errors.count(b"\n") <= 2:
             trial.counts["fault,6"] += 1
             # Nothing of the block was written: the file is as it was, or it was repaired.
@@ -753,8 +856,134 @@ def refuse_from(trial, day, content):
 
 def try_devices(trial, day):
     try_streams(trial, day)
-    try_full(trial, day)
+    try_limited(trial, day)
     try_paths(trial, day)
+    try_permitted(trial, day)
+
+
+PAGE = resource.getpagesize()
+
+
+def pages(content):
+    return -(-len(content or b"") // PAGE)
+
+
+def try_full(trial, day):
+    """A small file system, in which so many pages are free, or so many names."""
+    point = tempfile.mkdtemp(dir=trial.place.options.folder)
+    os.chmod(point, 0o755)
+    made = subprocess.run(["mount", "-t", "tmpfs", "-o", "size=256k,nr_inodes=40", "tmpfs", point], capture_output=True, check=False)
+    if made.returncode != 0:
+        trial.counts["days not tried, since nothing may be mounted here"] += 1
+        return
+    try:
+        small = Place(argparse.Namespace(**{**vars(trial.place.options), "folder": point}), trial.place.library)
+        inside = Trial(small, 1)
+        inside.counts, inside.wrong = trial.counts, trial.wrong
+        torn = day.before[:-1] + b"-\n" + b"x" * 2 * PAGE
+        for content, beside in ((day.before, None), (torn, None), (torn, b"k" * (PAGE - 3)), *([(None, None)] if day.last == 0 else [])):
+            for free in range(pages(day.after) + pages(torn) + 2):
+                fill(inside, day, content, beside, free)
+            for names in range(3):
+                fill_names(inside, day, content, beside, names)
+    finally:
+        subprocess.run(["umount", point], check=True)
+
+
+def fill(trial, day, content, beside, free):
+    """A day on a content where so many pages are free."""
+    place, tail = trial.place, loose_in(content)
+    place.lay(content, beside)
+    filler = place.folder.parent / "filler"
+    filler.write_bytes(bytes((os.statvfs(place.folder).f_bavail - free) * PAGE))
+    ending = place.serve(day)
+    filler.unlink()
+    # A tail is kept first; then what it had is free.
+    wanted = pages(kept_with(beside, tail)) - pages(beside)
+    is_kept = bool(tail) and wanted <= free
+    has_room = pages(day.after) <= free + pages(content) - (wanted if is_kept else 0)
+    line = b"fault,36\n" if content is None and free == 0 else None if has_room or not day.block else b"fault,39\n"
+    judge(trial, day, f"{day.name}, {free} pages free", ending, line, content, beside, is_kept)
+
+
+def fill_names(trial, day, content, beside, free):
+    """A day on a content where so many names may be made: a new file takes two on its way."""
+    place = trial.place
+    place.lay(content, beside)
+    fillers = [place.folder.parent / f"filler{number}" for number in range(os.statvfs(place.folder).f_favail - free)]
+    for filler in fillers:
+        filler.touch()
+    ending = place.serve(day)
+    for filler in fillers:
+        filler.unlink()
+    is_kept = bool(loose_in(content)) and (beside is not None or free > 0)
+    line = b"fault,36\n" if content is None and free < 2 else None
+    judge(trial, day, f"{day.name}, {free} names free", ending, line, content, beside, is_kept)
+
+
+def judge(trial, day, where, ending, line, content, beside, is_kept):
+    """Sees that a day ended by this fault, or by none, that its tail was kept or not, and what stands then."""
+    place, tail = trial.place, loose_in(content)
+    found, kept = place.content(), place.beside()
+    trial.counts[(line or b"the day").decode().strip()] += 1
+    if (ending.status, ending.output) != ((0, day.report) if line is None else (1, line)) or line is None and found != day.after:
+        trial.fail(where, ending.status, ending.output, ending.errors, line)
+    trial.counts["tails not kept for want of room"] += bool(tail) and not is_kept
+    if told_cut(ending.errors)[:2] != (len(tail), is_kept) or (kept or b"") != (kept_with(beside, tail) if is_kept else beside or b""):
+        trial.fail(f"{where}: what is kept", ending.errors, kept and kept[-100:])
+    if content is None and line == b"fault,36\n" and any(place.folder.iterdir()):
+        trial.fail(f"{where}: a file is left", os.listdir(place.folder))
+    if line is not None:
+        trial.look(day, found, False, where, kept)
+        trial.serve_again(day, place.content(), f"{where}, and then room", place.beside())
+
+
+def try_faults(trial, day):
+    """Each fault of a plant's file by a case of its own; the file stays."""
+    if day.last != 0:
+        return
+    place = trial.place
+
+    def end(content, words, line, script=b""):
+        place.lay(content)
+        expect(trial, line.decode(), place.run([*words, str(place.path)], script), 1, line, content)
+
+    served = ["alone", "--plant"]
+    place.lay(day.after)
+    expect(trial, "fault,36", place.run([*served, str(place.folder)], day.script), 1, b"fault,36\n", day.after)
+    with open(place.path, "rb") as other:
+        fcntl.flock(other, fcntl.LOCK_EX)
+        expect(trial, "fault,37", place.run([*served, str(place.path)], day.script), 1, b"fault,37\n", day.after)
+        expect(trial, "a look meanwhile", place.check(), 0, day.standing + b"tail,0\n", day.after)
+    end(day.after[1:], served, b"fault,38,1\n", day.script)
+    end(day.after.replace(b"commit\nend,", b"abort\nend,"), served, b"fault,38,%d\n" % (day.after.count(b"\n") - 1), day.script)
+    for call, line in ((-4, b"fault,39\n"), (-1, b"fault,40\n")):
+        place.lay(day.before)
+        _, _, notes = place.noted(day)
+        place.lay(day.before)
+        ending, _, _ = place.noted(day, call + sum(note.kind in "wcsdl" for note in notes))
+        trial.counts["ends"] += 1
+        if (ending.status, ending.output) != (1, line):
+            trial.fail(line.decode(), ending.status, ending.output)
+        trial.look(day, place.content(), False, line.decode())
+    # BELL has all that ADAMS had, who has nothing of a township that joins.
+    sold = (b"township,T3N R2W\nparty,ADAMS\nparty,BELL\n1,deed,1,UNITED STATES,ADAMS,S,W1/1,,T3N R2W\n"
+            b"1,deed,2,ADAMS,BELL,S,W1/1,,everything\n")
+    end(HEAD + b"+\n" + sold + b"end,2\n-", served, b"fault,46,2\n", b"township,T4N R2W\n")
+    end(day.after, [*served[:1], "--after", "7", *served[1:]], b"fault,47,%d\n" % day.next, day.script)
+    cells = b"1,deed,1,UNITED STATES,ADAMS,S,W1/1,,T3N R2W sec 5 cells" + b" aaaa" * 16 + b"\n"
+    end(HEAD + b"+\ntownship,T3N R2W\nparty,ADAMS\n" + cells + b"end,1\n-", ["check", "--script"], b"fault,48,3\n")
+    # A script has at most 100,000 rows and 16 MB.
+    for name, count in (("B", 99_998), ('"' * 60, 99_000)):
+        quoted = '"' + name.replace('"', '""') + '"' if '"' in name else name
+        rows = ["township,T3N R2W\n", f"party,{quoted}\n"]
+        sides = ("UNITED STATES", quoted)
+        rows += [f"1,deed,{at + 1},{sides[at // 144 % 2]},{sides[1 - at // 144 % 2]},S,W1/1,,T3N R2W sec {1 + at % 36} "
+                 f"{('NE', 'NW', 'SW', 'SE')[at // 36 % 4]}1/4\n" for at in range(count + 1)]
+        sums = list(itertools.accumulate(map(len, rows)))
+        first = next(at for at in range(len(rows)) if at == 100_000 or sums[at] > 1 << 24)
+        content = HEAD + b"+\n" + "".join(rows).encode() + b"end,%d\n-" % (count + 1)
+        end(content, ["check", "--script"], b"fault,48,%d\n" % (first + 1))
 
 
 def try_large(trial, day):
@@ -776,6 +1005,9 @@ def try_large(trial, day):
     if ending.status != 0 or ending.output != wanted:
         trial.fail("large, check", ending.status, ending.output, ending.errors)
     trial.counts[f"{len(rows)} rows checked in {ending.seconds:.1f} s and {ending.megabytes:.0f} MB"] += 1
+    ending = trial.place.run(["check", "--script", str(trial.place.path)])
+    if (ending.status, ending.output) != (1, b"fault,48,100001\n"):
+        trial.fail("large, as a script", ending.status, ending.output[:300], ending.errors)
     script = b"1,deed,1,UNITED STATES,P65535,S,W1/2,,T3N R2W sec 5\n"
     trial.place.plain.feed(script)
     ending = trial.place.plain.run(["alone", "--plant", str(trial.place.path)])
@@ -790,7 +1022,7 @@ def try_large(trial, day):
 
 
 TRIALS = {"rest": try_rest, "tails": try_tails, "new": try_new, "syncs": try_syncs, "refused": try_refused,
-          "memory": try_memory, "devices": try_devices, "large": try_large}
+          "memory": try_memory, "devices": try_devices, "full": try_full, "faults": try_faults, "large": try_large}
 
 
 def one(task):
