@@ -757,6 +757,7 @@ def try_limited(trial, day):
         if (ending.status, ending.output) != (1, b"fault,39\n") or len(content) > most:
             trial.fail(f"{day.name}, at most {most} bytes", ending.status, ending.output)
         trial.look(day, content, False, f"{day.name}, at most {most} bytes")
+        trial.place.lay(content)
         trial.serve_again(day, content, f"{day.name}, at most {most} bytes")
 
 
@@ -1006,7 +1007,7 @@ def try_large(trial, day):
         trial.fail("large, check", ending.status, ending.output, ending.errors)
     trial.counts[f"{len(rows)} rows checked in {ending.seconds:.1f} s and {ending.megabytes:.0f} MB"] += 1
     ending = trial.place.run(["check", "--script", str(trial.place.path)])
-    if (ending.status, ending.output) != (1, b"fault,48,100001\n"):
+    if (ending.status, ending.output) != (1, b"fault,48,%d\n" % (1 + "".join(rows)[:1 << 24].count("\n"))):
         trial.fail("large, as a script", ending.status, ending.output[:300], ending.errors)
     script = b"1,deed,1,UNITED STATES,P65535,S,W1/2,,T3N R2W sec 5\n"
     trial.place.plain.feed(script)

@@ -5,7 +5,8 @@
 
 kills     N times (1,000 where nothing is said) a day of plant_days.py is served and killed by signal 9 at a random moment. What stands
           then is what stood before, or that and all of the day, and where a byte of the report came, that: by another reader of the file
-          and by `check`. Where it stood before, the day is served again, with `--after`, and may be killed again; else the next day is
+          and by `check`. Where it stood before, the day is served again, with `--after`, and may be killed again; else the next day is.
+          A tail that the file has no more is kept beside it, behind those of before
 second    one that reads its script has the file: a second is told so, and changes nothing; the first is killed, and the next is served
 crowd     sixteen at once on a file that isn't there, each with one transaction: as many stand as were told of theirs, and the others were
           told that the file is in use
@@ -24,7 +25,7 @@ import sys
 import tempfile
 import time
 
-from crashes import all_days
+from crashes import BESIDE, all_days, kept_with, loose_in, told_cut
 from endings import BUILT
 from plant_days import HEAD, Fault, read_plant, tail_of
 
@@ -53,6 +54,10 @@ class Trial:
     def content(self):
         return self.path.read_bytes() if self.path.exists() else HEAD + b"-"
 
+    def beside(self):
+        path = self.path.parent / BESIDE
+        return path.read_bytes() if path.exists() else b""
+
     def clear(self):
         for path in self.path.parent.iterdir():
             path.unlink()
@@ -75,8 +80,8 @@ class Trial:
         return found.numbers()
 
 
-def killed(trial, day, script, words, seconds):
-    """A run that is killed at a random moment: what it wrote, and whether it had ended."""
+def killed(trial, script, words, seconds):
+    """A run that is killed at a random moment: what it wrote, also on the errors, and whether it had ended."""
     with open(script, "rb") as source:
         child = trial.begin(words, source)
     delay = trial.chance.uniform(0, seconds)
@@ -84,8 +89,8 @@ def killed(trial, day, script, words, seconds):
     while time.perf_counter() < until:
         pass
     child.send_signal(signal.SIGKILL)
-    output, _ = child.communicate()
-    return output, child.returncode
+    output, errors = child.communicate()
+    return output, errors, child.returncode
 
 
 def kills(trial):
@@ -105,12 +110,18 @@ def kills(trial):
         day = days[place]
         script.write_bytes(day.script)
         words = [day.command, "--plant", str(trial.path), "--after", str(day.last)]
-        output, status = killed(trial, day, script, words, took[day.name] * 1.3)
+        began, beside, tail = trial.content(), trial.beside(), loose_in(trial.content())
+        output, errors, status = killed(trial, script, words, took[day.name] * 1.3)
         trial.counts["killed" if status == -9 else "ended before"] += 1
         trial.counts["with a byte of the report"] += bool(output)
         where = f"kill {number}, {day.name}"
         found = trial.numbers(where)
-        content = trial.content()
+        content, kept, wanted = trial.content(), trial.beside(), kept_with(beside, tail)
+        is_lost = not content.startswith(began)
+        is_part = kept.startswith(beside) and (beside + tail).startswith(kept)
+        if kept != wanted and (is_lost or not is_part) or status == 0 and told_cut(errors) != (len(tail), bool(tail), b""):
+            trial.fail(f"{where}: what is kept", errors, kept[-200:], beside[-200:], tail)
+        trial.counts["tails cut off"] += bool(tail) and is_lost
         is_after = found == day.standing and content.startswith(day.after[:-1])
         is_before = found == day.was and content.startswith(day.before[:-1])
         if status == 0 and output != day.report or output and not day.report.startswith(output):
