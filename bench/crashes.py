@@ -869,8 +869,27 @@ def pages(content):
     return -(-len(content or b"") // PAGE)
 
 
+def resold(count, names):
+    """The rows of deeds by which the quarters of a township go from the first name to the second and back."""
+    for at in range(count):
+        grantor, grantee = names if at // 144 % 2 == 0 else names[::-1]
+        where = f"T3N R2W sec {1 + at % 36} {('NE', 'NW', 'SW', 'SE')[at // 36 % 4]}1/4"
+        yield f"1,deed,{at + 1},{grantor},{grantee},S,W1/1,,{where}\n"
+
+
+def long_day():
+    """A day whose block has many pages."""
+    count = 1000
+    script = "".join(["township,T3N R2W\n", "party,ADAMS\n", *resold(count, ("UNITED STATES", "ADAMS"))]).encode()
+    standing = b"townships,1\nparties,2\ntransactions,%d\nposts,%d\n" % (count, count)
+    report = b"1,posted\n" * count + b"end,%d\n" % count
+    return Day(("long", "alone", script, script + b"end,%d\n" % count, report, standing, script), HEAD + b"-")
+
+
 def try_full(trial, day):
     """A small file system, in which so many pages are free, or so many names."""
+    if day.last == 0 and day.name != "long":
+        try_full(trial, long_day())
     point = tempfile.mkdtemp(dir=trial.place.options.folder)
     os.chmod(point, 0o755)
     made = subprocess.run(["mount", "-t", "tmpfs", "-o", "size=256k,nr_inodes=40", "tmpfs", point], capture_output=True, check=False)
@@ -977,10 +996,7 @@ def try_faults(trial, day):
     # A script has at most 100,000 rows and 16 MB.
     for name, count in (("B", 99_998), ('"' * 60, 99_000)):
         quoted = '"' + name.replace('"', '""') + '"' if '"' in name else name
-        rows = ["township,T3N R2W\n", f"party,{quoted}\n"]
-        sides = ("UNITED STATES", quoted)
-        rows += [f"1,deed,{at + 1},{sides[at // 144 % 2]},{sides[1 - at // 144 % 2]},S,W1/1,,T3N R2W sec {1 + at % 36} "
-                 f"{('NE', 'NW', 'SW', 'SE')[at // 36 % 4]}1/4\n" for at in range(count + 1)]
+        rows = ["township,T3N R2W\n", f"party,{quoted}\n", *resold(count + 1, ("UNITED STATES", quoted))]
         sums = list(itertools.accumulate(map(len, rows)))
         first = next(at for at in range(len(rows)) if at == 100_000 or sums[at] > 1 << 24)
         content = HEAD + b"+\n" + "".join(rows).encode() + b"end,%d\n-" % (count + 1)
