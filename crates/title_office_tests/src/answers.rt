@@ -2,6 +2,7 @@
 
 ghost use Rattle.std.specs.Prelude.{◌≡◌};
 
+use crate::checks::must;
 use crate::days::{
     WHOLE, assert_sold, begin, begin_with_deed, commit, one_seat, open, section, township,
 };
@@ -15,12 +16,29 @@ use title_office::{Done, Ledger, Office, Room, Seat, Slip};
 
 // These entries are one deed, with the place of its record.
 fn assert_chain(rt: &impl Abort, entries: &[Entry], place: u64) {
-    assert!(rt; entries.len() == 1);
-    let entry = &entries[0];
-    assert!(rt; entry.place == place && entry.posting.terms().doc == 101);
+    let [entry] = entries else {
+        panic!(rt; "one entry");
+    };
+    let doc = entry.posting.terms().doc;
+    must(rt, entry.place == place && doc == 101, "the deed");
 }
 
-// The last answer is the sheet of the sold section.
+// This answer is the sheet of the sold section.
+fn assert_is_sheet(rt: &impl Abort, answer: Option<&Answer>) {
+    match answer {
+        Some(Answer::Rows(rows)) => assert_sold(rt, rows.as_slice()),
+        _ => panic!(rt; "the last answer is a sheet"),
+    }
+}
+
+// This answer is the chain of the sold section: the deed, with the place of its record.
+fn assert_is_chain(rt: &impl Abort, answer: Option<&Answer>, place: u64) {
+    match answer {
+        Some(Answer::Entries(entries)) => assert_chain(rt, entries.as_slice(), place),
+        _ => panic!(rt; "the last answer is a chain"),
+    }
+}
+
 fn ask_sheet<B: Room, R: Wait + Abort>(
     rt: &R,
     alloc: Global,
@@ -30,13 +48,9 @@ fn ask_sheet<B: Room, R: Wait + Abort>(
     office
         .sheet(rt, slip, section(rt, alloc, 5))
         .expect(rt, "the sheet is answered");
-    match slip.last() {
-        Some(Answer::Rows(rows)) => assert_sold(rt, rows.as_slice()),
-        _ => panic!(rt; "the last answer is a sheet"),
-    }
+    assert_is_sheet(rt, slip.last());
 }
 
-// The last answer is the chain of the sold section: the deed, with the place of its record.
 fn ask_chain<B: Room, R: Wait + Abort>(
     rt: &R,
     alloc: Global,
@@ -47,10 +61,19 @@ fn ask_chain<B: Room, R: Wait + Abort>(
     office
         .chain(rt, slip, section(rt, alloc, 5))
         .expect(rt, "the chain is answered");
-    match slip.last() {
-        Some(Answer::Entries(entries)) => assert_chain(rt, entries.as_slice(), place),
-        _ => panic!(rt; "the last answer is a chain"),
-    }
+    assert_is_chain(rt, slip.last(), place);
+}
+
+// The last answers are the sheet and the chain of the sold section.
+fn ask_both<B: Room, R: Wait + Abort>(
+    rt: &R,
+    alloc: Global,
+    office: &Office<B>,
+    slip: &mut Slip<B>,
+    place: u64,
+) {
+    ask_sheet(rt, alloc, office, slip);
+    ask_chain(rt, alloc, office, slip, place);
 }
 
 // A slip is committed as the record with this place, of so many steps; its seat.
@@ -61,22 +84,39 @@ fn commit_steps<B: Room, R: Wait + Abort>(
     place: u64,
     steps: usize,
 ) -> Seat<B> {
-    let done = commit(rt, office, slip);
-    assert!(rt; done.place == place && done.rec.steps.as_slice().len() == steps);
-    let Done { seat, .. } = done;
+    let Done {
+        place: told,
+        rec,
+        seat,
+        ..
+    } = commit(rt, office, slip);
+    let len = rec.steps.as_slice().len();
+    must(rt, told == place && len == steps, "the record");
     seat
 }
 
-// A deed is shown by its own transaction, and by the next one once it is committed.
-fn ask_twice<B: Room, R: Wait + Abort>(rt: &R, alloc: Global, office: &Office<B>, seat: Seat<B>) {
+// A deed is shown by its own transaction.
+fn ask_own<B: Room, R: Wait + Abort>(
+    rt: &R,
+    alloc: Global,
+    office: &Office<B>,
+    seat: Seat<B>,
+) -> Seat<B> {
     let mut slip = begin_with_deed(rt, alloc, office, seat, 5, WHOLE);
-    ask_sheet(rt, alloc, office, &mut slip);
-    ask_chain(rt, alloc, office, &mut slip, 0);
-    let seat = commit_steps(rt, office, slip, 1, 3);
+    ask_both(rt, alloc, office, &mut slip, 0);
+    commit_steps(rt, office, slip, 1, 3)
+}
+
+// And by the next one once it is committed.
+fn ask_next<B: Room, R: Wait + Abort>(rt: &R, alloc: Global, office: &Office<B>, seat: Seat<B>) {
     let mut slip = begin(rt, office, seat);
-    ask_sheet(rt, alloc, office, &mut slip);
-    ask_chain(rt, alloc, office, &mut slip, 1);
+    ask_both(rt, alloc, office, &mut slip, 1);
     commit_steps(rt, office, slip, 2, 2);
+}
+
+fn ask_twice<B: Room, R: Wait + Abort>(rt: &R, alloc: Global, office: &Office<B>, seat: Seat<B>) {
+    let seat = ask_own(rt, alloc, office, seat);
+    ask_next(rt, alloc, office, seat);
 }
 
 fn answers_day<B: Room, R: Wait + Abort>(

@@ -4,6 +4,7 @@ ghost use Rattle.std.specs.Prelude.{◌≡◌, ◌≤◌};
 ghost use Rattle.title_office.specs.Offices.{most_seats, opening_seats};
 ghost use Rattle.title_views.specs.Views.{most_viewers};
 
+use crate::checks::must;
 use std::alloc::Global;
 use std::process::Abort;
 use std::sync::Wait;
@@ -33,26 +34,29 @@ pub fn section(rt: &impl Abort, alloc: Global, number: u8) -> Tract {
     Tract::new(alloc, land).expect(rt, "there is memory")
 }
 
-/// A deed of so many units of the surface from party 0 to party 1.
-pub fn deed(rt: &impl Abort, alloc: Global, tract: Tract, units: u64) -> Posting {
-    let share = Share::new(units).expect(rt, "the units are in range");
+fn surface_deed(share: Share) -> Instrument {
     let estates = Estates {
         s: true,
         o: false,
         m: false,
     };
-    let instrument = Instrument::Deed(Deed {
+    Instrument::Deed(Deed {
         grantor: 0,
         grantee: 1,
         estates,
         warranty: false,
         quantum: Quantum::Whole(share),
         reserve: [None, None, None],
-    });
+    })
+}
+
+/// A deed of so many units of the surface from party 0 to party 1.
+pub fn deed(rt: &impl Abort, alloc: Global, tract: Tract, units: u64) -> Posting {
+    let share = Share::new(units).expect(rt, "the units are in range");
     let terms = Terms {
         doc: 101,
         tract,
-        instrument,
+        instrument: surface_deed(share),
     };
     Posting::new(alloc, terms).expect(rt, "there is memory")
 }
@@ -77,6 +81,16 @@ pub fn open<B: Room, R: Wait + Abort>(
     opened.expect(rt, "the office opens")
 }
 
+/// The last of these seats.
+fn last_seat<B: Room>(rt: &impl Abort, seats: &mut Vec<Seat<B>>) -> Seat<B> {
+    seats.pop().expect(rt, "a seat")
+}
+
+/// The last of these viewers.
+pub fn last_viewer<B: Room>(rt: &impl Abort, viewers: &mut Vec<Viewer<B>>) -> Viewer<B> {
+    viewers.pop().expect(rt, "a viewer")
+}
+
 /// An office of one examiner, and the seat.
 pub fn one_seat<B: Room>(rt: &impl Abort, opened: Opened<B>) -> (Office<B>, Seat<B>) {
     let Opened {
@@ -84,7 +98,7 @@ pub fn one_seat<B: Room>(rt: &impl Abort, opened: Opened<B>) -> (Office<B>, Seat
         mut seats,
         viewers: _,
     } = opened;
-    let seat = seats.pop().expect(rt, "one seat");
+    let seat = last_seat(rt, &mut seats);
     (office, seat)
 }
 
@@ -95,8 +109,8 @@ pub fn two_seats<B: Room>(rt: &impl Abort, opened: Opened<B>) -> (Office<B>, Sea
         mut seats,
         viewers: _,
     } = opened;
-    let second = seats.pop().expect(rt, "two seats");
-    let first = seats.pop().expect(rt, "two seats");
+    let second = last_seat(rt, &mut seats);
+    let first = last_seat(rt, &mut seats);
     (office, first, second)
 }
 
@@ -110,9 +124,9 @@ pub fn two_viewers<B: Room>(
         mut seats,
         mut viewers,
     } = opened;
-    let seat = seats.pop().expect(rt, "one seat");
-    let first = viewers.pop().expect(rt, "two viewers");
-    let second = viewers.pop().expect(rt, "two viewers");
+    let seat = last_seat(rt, &mut seats);
+    let first = last_viewer(rt, &mut viewers);
+    let second = last_viewer(rt, &mut viewers);
     (office, seat, first, second)
 }
 
@@ -198,7 +212,7 @@ fn sweep<B: Room, R: Wait + Abort>(rt: &R, office: &Office<B>, examiner: u32) ->
 pub fn assert_swept<B: Room, R: Wait + Abort>(rt: &R, office: &Office<B>, wanted: &[(u32, bool)]) {
     for (examiner, is_open) in wanted {
         let was_open = sweep(rt, office, *examiner);
-        assert!(rt; was_open == *is_open, "of examiner {examiner}");
+        must(rt, was_open == *is_open, "whether it was open");
     }
 }
 
@@ -226,19 +240,30 @@ pub fn not_settled<B: Room, R: Wait + Abort>(
     }
 }
 
+fn is_whole(row: &SheetRow, estate: Estate, party: u32) -> bool {
+    row.estate == estate && row.party == party && row.units == WHOLE
+}
+
 /// These rows are the sheet of a section whose surface party 1 has.
 pub fn assert_sold(rt: &impl Abort, rows: &[SheetRow]) {
-    assert!(rt; rows.len() == 3);
-    let sold = [(Estate::S, 1), (Estate::O, 0), (Estate::M, 0)];
-    for index in 0..3 {
-        let row = rows[index];
-        let (estate, party) = sold[index];
-        assert!(rt; row.estate == estate && row.party == party && row.units == WHOLE);
-    }
+    let [first, second, third] = rows else {
+        panic!(rt; "three rows");
+    };
+    must(rt, is_whole(first, Estate::S, 1), "the surface");
+    must(rt, is_whole(second, Estate::O, 0), "the oil");
+    must(rt, is_whole(third, Estate::M, 0), "the minerals");
+}
+
+fn shows_no_sheet<B: Room>(tract: &Tract, viewer: &mut Viewer<B>) -> bool {
+    matches!(viewer.sheet(tract), Err(Unseen::Closed))
+}
+
+fn shows_no_record<B: Room>(viewer: &mut Viewer<B>) -> bool {
+    matches!(viewer.record(1), Err(Unseen::Closed))
 }
 
 /// A viewer of a closed office shows nothing.
 pub fn assert_closed<B: Room>(rt: &impl Abort, tract: &Tract, viewer: &mut Viewer<B>) {
-    assert!(rt; matches!(viewer.sheet(tract), Err(Unseen::Closed)));
-    assert!(rt; matches!(viewer.record(1), Err(Unseen::Closed)));
+    must(rt, shows_no_sheet(tract, viewer), "no sheet");
+    must(rt, shows_no_record(viewer), "no record");
 }

@@ -2,15 +2,17 @@
 
 ghost use Rattle.std.specs.Prelude.{◌≡◌};
 
+use crate::checks::must;
 use crate::days::{
-    WHOLE, assert_closed, begin, begin_with_deed, one_seat, open, section, settle, township,
+    WHOLE, assert_closed, begin, begin_with_deed, last_viewer, one_seat, open, section, settle,
+    township,
 };
 use crate::slips::abort;
 use std::alloc::Global;
 use std::marker::Brand;
 use std::process::Abort;
 use std::sync::Wait;
-use title_land::Township;
+use title_land::{Township, Tract};
 use title_office::{Ledger, Office, Opened, Room, Seat, Viewer};
 
 // A seat posts and aborts, begins again and aborts.
@@ -24,20 +26,20 @@ fn abort_twice<B: Room, R: Wait + Abort>(rt: &R, alloc: Global, office: &Office<
 // The office is settled with no outcome, and has no record.
 fn assert_nothing<B: Room, R: Wait + Abort>(rt: &R, alloc: Global, office: Office<B>) {
     let settled = settle(rt, office, Vec::new(alloc));
-    assert!(rt; settled.close(rt).as_slice().is_empty());
+    let records = settled.close(rt);
+    must(rt, records.as_slice().is_empty(), "no record");
 }
 
 // A viewer shows a sheet, until the office is closed.
 fn close_shown<B: Room, R: Wait + Abort>(
     rt: &R,
-    alloc: Global,
+    tract: &Tract,
     office: Office<B>,
-    mut viewer: Viewer<B>,
+    viewer: &mut Viewer<B>,
 ) {
-    let tract = section(rt, alloc, 5);
-    assert!(rt; viewer.sheet(&tract).is_ok());
+    must(rt, viewer.sheet(tract).is_ok(), "a sheet");
     office.close(rt);
-    assert_closed(rt, &tract, &mut viewer);
+    assert_closed(rt, tract, viewer);
 }
 
 // An office of one examiner, which is settled.
@@ -72,8 +74,8 @@ fn closed_day<B: Room, R: Wait + Abort>(
         seats: _,
         mut viewers,
     } = opened;
-    let viewer = viewers.pop().expect(rt, "a viewer");
-    close_shown(rt, alloc, office, viewer);
+    let mut viewer = last_viewer(rt, &mut viewers);
+    close_shown(rt, &section(rt, alloc, 5), office, &mut viewer);
 }
 
 #[test]

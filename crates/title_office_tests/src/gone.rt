@@ -2,6 +2,7 @@
 
 ghost use Rattle.std.specs.Prelude.{◌≡◌};
 
+use crate::checks::must;
 use crate::days::{
     WHOLE, assert_swept, begin, begin_with_deed, commit, deed, open, section, township, two_seats,
 };
@@ -31,7 +32,9 @@ fn assert_in_the_way<B: Room, R: Wait + Abort>(
     office: &Office<B>,
     slip: &mut Slip<B>,
 ) {
-    assert!(rt; matches!(post(rt, alloc, office, slip), Err(Fault::Conflict(1))));
+    let posted = post(rt, alloc, office, slip);
+    let is_refused = matches!(posted, Err(Fault::Conflict(1)));
+    must(rt, is_refused, "the first examiner is in the way");
 }
 
 // Nobody is in the way of a deed of section 5.
@@ -42,7 +45,27 @@ fn assert_posted<B: Room, R: Wait + Abort>(
     slip: &mut Slip<B>,
 ) {
     post(rt, alloc, office, slip).expect(rt, "the post is answered");
-    assert!(rt; matches!(slip.last(), Some(Answer::Posted)));
+    let is_posted = matches!(slip.last(), Some(Answer::Posted));
+    must(rt, is_posted, "posted");
+}
+
+// The first examiner's deed is in the way of the second's, until the first is swept.
+fn assert_swept_away<B: Room, R: Wait + Abort>(
+    rt: &R,
+    alloc: Global,
+    office: &Office<B>,
+    slip: &mut Slip<B>,
+) {
+    assert_swept(rt, office, &[(9, false)]);
+    assert_in_the_way(rt, alloc, office, slip);
+    assert_swept(rt, office, &[(1, true), (1, false), (9, false)]);
+    assert_posted(rt, alloc, office, slip);
+}
+
+// A slip is committed at the first place.
+fn assert_first<B: Room, R: Wait + Abort>(rt: &R, office: &Office<B>, slip: Slip<B>) {
+    let done = commit(rt, office, slip);
+    must(rt, done.place == 1, "the first place");
 }
 
 // The first examiner's slip is dropped; only a sweep of that examiner takes its deed out of the way.
@@ -55,12 +78,8 @@ fn sweep_the_first<B: Room, R: Wait + Abort>(
 ) {
     drop(begin_with_deed(rt, alloc, office, first, 5, WHOLE));
     let mut slip = begin(rt, office, second);
-    assert_swept(rt, office, &[(9, false)]);
-    assert_in_the_way(rt, alloc, office, &mut slip);
-    assert_swept(rt, office, &[(1, true), (1, false), (9, false)]);
-    assert_posted(rt, alloc, office, &mut slip);
-    let done = commit(rt, office, slip);
-    assert!(rt; done.place == 1);
+    assert_swept_away(rt, alloc, office, &mut slip);
+    assert_first(rt, office, slip);
 }
 
 fn gone_day<B: Room, R: Wait + Abort>(rt: &R, alloc: Global, ledger: Ledger, townships: &[Township])

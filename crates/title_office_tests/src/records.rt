@@ -2,6 +2,7 @@
 
 ghost use Rattle.std.specs.Prelude.{◌≡◌};
 
+use crate::checks::must;
 use crate::days::{commit_two, not_settled, open, settle, township, two_seats};
 use std::alloc::Global;
 use std::marker::Brand;
@@ -17,6 +18,11 @@ fn mixed(rt: &impl Abort, alloc: Global, examiner: u32, steps_of: &Outcome) -> R
     Record { examiner, steps }
 }
 
+fn add(rt: &impl Abort, outcomes: &mut Vec<Outcome>, place: u64, rec: Record) {
+    let added = outcomes.push(Outcome { place, rec });
+    added.expect(rt, "there is memory");
+}
+
 // The second outcome, and before or behind it a record at the first place.
 fn outcomes(
     rt: &impl Abort,
@@ -25,18 +31,15 @@ fn outcomes(
     second: &Outcome,
     is_first: bool,
 ) -> Vec<Outcome> {
-    let other = mixed(rt, alloc, second.rec.examiner, second);
     let mut outcomes = Vec::new(alloc);
-    outcomes
-        .push(Outcome {
-            place: 2,
-            rec: other,
-        })
-        .expect(rt, "there is memory");
-    outcomes
-        .push(Outcome { place: 1, rec })
-        .expect(rt, "there is memory");
-    if is_first {
+    add(rt, &mut outcomes, 1, rec);
+    add(
+        rt,
+        &mut outcomes,
+        2,
+        mixed(rt, alloc, second.rec.examiner, second),
+    );
+    if !is_first {
         outcomes.as_mut_slice().reverse();
     }
     outcomes
@@ -53,8 +56,17 @@ fn assert_different<B: Room, R: Wait + Abort>(
 ) -> Office<B> {
     let rec = mixed(rt, alloc, examiner, steps_of);
     let (office, _, why) = not_settled(rt, office, outcomes(rt, alloc, rec, &commits.1, true));
-    assert!(rt; why == Unsettled::Different(1));
+    must(rt, why == Unsettled::Different(1), "different");
     office
+}
+
+// These are the records of the first examiner and of the second.
+fn assert_examiners(rt: &impl Abort, records: &[Record]) {
+    let [first, second] = records else {
+        panic!(rt; "two records");
+    };
+    must(rt, first.examiner == 1, "the first record");
+    must(rt, second.examiner == 2, "the second record");
 }
 
 // The records of the settled office stand in the order of their commits, whatever the order of the outcomes.
@@ -66,10 +78,7 @@ fn assert_in_order<B: Room, R: Wait + Abort>(
 ) {
     let rec = mixed(rt, alloc, 1, &commits.0);
     let settled = settle(rt, office, outcomes(rt, alloc, rec, &commits.1, false));
-    let records = settled.close(rt);
-    let records = records.as_slice();
-    assert!(rt; records.len() == 2);
-    assert!(rt; records[0].examiner == 1 && records[1].examiner == 2);
+    assert_examiners(rt, settled.close(rt).as_slice());
 }
 
 // First with the second one's steps, then with the second examiner, then as it is.

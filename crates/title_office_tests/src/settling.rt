@@ -2,6 +2,7 @@
 
 ghost use Rattle.std.specs.Prelude.{◌≡◌};
 
+use crate::checks::must;
 use crate::days::{
     WHOLE, begin_with_deed, commit_two, not_settled, open, settle, township, two_seats,
 };
@@ -19,6 +20,14 @@ fn placed(rt: &impl Abort, alloc: Global, outcome: &Outcome, place: u64) -> Outc
     Outcome { place, rec }
 }
 
+fn add(rt: &impl Abort, outcomes: &mut Vec<Outcome>, outcome: Outcome) {
+    outcomes.push(outcome).expect(rt, "there is memory");
+}
+
+fn commit_of(commits: &(Outcome, Outcome), is_first: bool) -> &Outcome {
+    if is_first { &commits.0 } else { &commits.1 }
+}
+
 // The outcomes with these places, each the first or the second commit's.
 fn outcomes(
     rt: &impl Abort,
@@ -27,11 +36,9 @@ fn outcomes(
     wanted: &[(bool, u64)],
 ) -> Vec<Outcome> {
     let mut outcomes = Vec::new(alloc);
-    for (first, place) in wanted {
-        let outcome = if *first { &commits.0 } else { &commits.1 };
-        outcomes
-            .push(placed(rt, alloc, outcome, *place))
-            .expect(rt, "there is memory");
+    for (is_first, place) in wanted {
+        let outcome = placed(rt, alloc, commit_of(commits, *is_first), *place);
+        add(rt, &mut outcomes, outcome);
     }
     outcomes
 }
@@ -46,7 +53,8 @@ fn assert_unsettled<B: Room, R: Wait + Abort>(
     reason: Unsettled,
 ) -> Office<B> {
     let (office, back, why) = not_settled(rt, office, outcomes(rt, alloc, commits, wanted));
-    assert!(rt; why == reason && back.len() == wanted.len());
+    must(rt, why == reason, "the reason");
+    must(rt, back.len() == wanted.len(), "the outcomes come back");
     office
 }
 
@@ -59,7 +67,8 @@ fn assert_settled<B: Room, R: Wait + Abort>(
     wanted: &[(bool, u64)],
 ) {
     let settled = settle(rt, office, outcomes(rt, alloc, commits, wanted));
-    assert!(rt; settled.close(rt).as_slice().len() == 2);
+    let records = settled.close(rt);
+    must(rt, records.as_slice().len() == 2, "two records");
 }
 
 const FIRST_ALONE: [(bool, u64); 1] = [(true, 1)];
@@ -74,23 +83,37 @@ const SWAPPED: [(bool, u64); 2] = [(true, 2), (false, 1)];
 
 const AS_THEY_ARE: [(bool, u64); 2] = [(false, 2), (true, 1)];
 
-// Each wrong list of outcomes, and then the right one, in another order.
+const REASONS: [(&[(bool, u64)], Unsettled); 5] = [
+    (&FIRST_ALONE, Unsettled::Missing(2)),
+    (&FIRST_TWICE, Unsettled::Doubled(1)),
+    (&FIRST_AT_THREE, Unsettled::Unknown(3)),
+    (&AT_NOUGHT, Unsettled::Unknown(0)),
+    (&SWAPPED, Unsettled::Different(1)),
+];
+
+// Each wrong list of outcomes.
 fn assert_reasons<B: Room, R: Wait + Abort>(
     rt: &R,
     alloc: Global,
     office: Office<B>,
     commits: &(Outcome, Outcome),
+    reasons: &[(&[(bool, u64)], Unsettled)],
+) -> Office<B> {
+    let mut office = office;
+    for (wanted, reason) in reasons {
+        office = assert_unsettled(rt, alloc, office, commits, wanted, *reason);
+    }
+    office
+}
+
+// Each wrong list of outcomes, and then the right one, in another order.
+fn settle_with_each<B: Room, R: Wait + Abort>(
+    rt: &R,
+    alloc: Global,
+    office: Office<B>,
+    commits: &(Outcome, Outcome),
 ) {
-    let missing = Unsettled::Missing(2);
-    let office = assert_unsettled(rt, alloc, office, commits, &FIRST_ALONE, missing);
-    let doubled = Unsettled::Doubled(1);
-    let office = assert_unsettled(rt, alloc, office, commits, &FIRST_TWICE, doubled);
-    let unknown = Unsettled::Unknown(3);
-    let office = assert_unsettled(rt, alloc, office, commits, &FIRST_AT_THREE, unknown);
-    let nought = Unsettled::Unknown(0);
-    let office = assert_unsettled(rt, alloc, office, commits, &AT_NOUGHT, nought);
-    let different = Unsettled::Different(1);
-    let office = assert_unsettled(rt, alloc, office, commits, &SWAPPED, different);
+    let office = assert_reasons(rt, alloc, office, commits, &REASONS);
     assert_settled(rt, alloc, office, commits, &AS_THEY_ARE);
 }
 
@@ -105,7 +128,7 @@ fn settle_at_last<B: Room, R: Wait + Abort>(
     let open = Unsettled::Open(2);
     let office = assert_unsettled(rt, alloc, office, commits, &AS_THEY_ARE, open);
     abort(rt, &office, slip, true);
-    assert_reasons(rt, alloc, office, commits);
+    settle_with_each(rt, alloc, office, commits);
 }
 
 // An office of two examiners, of whom the second begins again after the two commits.

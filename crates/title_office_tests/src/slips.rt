@@ -2,6 +2,7 @@
 
 ghost use Rattle.std.specs.Prelude.{◌≡◌};
 
+use crate::checks::must;
 use crate::days::{WHOLE, assert_swept, begin_with_deed, commit, one_seat, open, township};
 use std::alloc::Global;
 use std::marker::Brand;
@@ -20,7 +21,7 @@ pub fn abort<B: Room, R: Wait + Abort>(
     let Ok((seat, was_open)) = office.abort(rt, slip) else {
         panic!(rt; "the office takes the slip");
     };
-    assert!(rt; was_open == is_open);
+    must(rt, was_open == is_open, "whether it was open");
     seat
 }
 
@@ -34,7 +35,7 @@ fn assert_refused<B: Room, R: Wait + Abort>(
     match office.commit(rt, slip) {
         Ok(_) => panic!(rt; "the slip isn't committed"),
         Err((slip, why)) => {
-            assert!(rt; word(&why) == wanted);
+            must(rt, word(&why) == wanted, wanted);
             slip
         }
     }
@@ -56,6 +57,40 @@ fn sweep_and_abort<B: Room, R: Wait + Abort>(rt: &R, office: &Office<B>, slip: S
     abort(rt, office, slip, false)
 }
 
+// A slip with a deed is aborted.
+fn abort_one<B: Room, R: Wait + Abort>(
+    rt: &R,
+    alloc: Global,
+    office: &Office<B>,
+    seat: Seat<B>,
+) -> Seat<B> {
+    let slip = begin_with_deed(rt, alloc, office, seat, 5, WHOLE);
+    abort(rt, office, slip, true)
+}
+
+// A slip with a deed is swept.
+fn sweep_one<B: Room, R: Wait + Abort>(
+    rt: &R,
+    alloc: Global,
+    office: &Office<B>,
+    seat: Seat<B>,
+) -> Seat<B> {
+    let slip = begin_with_deed(rt, alloc, office, seat, 5, WHOLE);
+    sweep_and_abort(rt, office, slip)
+}
+
+// A slip with a deed is committed.
+fn commit_one<B: Room, R: Wait + Abort>(rt: &R, alloc: Global, office: &Office<B>, seat: Seat<B>) {
+    let slip = begin_with_deed(rt, alloc, office, seat, 5, WHOLE);
+    let done = commit(rt, office, slip);
+    must(rt, done.place == 1, "the first place");
+    must(
+        rt,
+        done.receipt.place() == 1,
+        "the receipt of the first place",
+    );
+}
+
 // A slip is aborted, and its seat begins again; the next slip is swept, isn't committed, and gives the seat back.
 fn abort_and_sweep<B: Room, R: Wait + Abort>(
     rt: &R,
@@ -63,13 +98,9 @@ fn abort_and_sweep<B: Room, R: Wait + Abort>(
     office: &Office<B>,
     seat: Seat<B>,
 ) {
-    let slip = begin_with_deed(rt, alloc, office, seat, 5, WHOLE);
-    let seat = abort(rt, office, slip, true);
-    let slip = begin_with_deed(rt, alloc, office, seat, 5, WHOLE);
-    let seat = sweep_and_abort(rt, office, slip);
-    let slip = begin_with_deed(rt, alloc, office, seat, 5, WHOLE);
-    let done = commit(rt, office, slip);
-    assert!(rt; done.place == 1 && done.receipt.place() == 1);
+    let seat = abort_one(rt, alloc, office, seat);
+    let seat = sweep_one(rt, alloc, office, seat);
+    commit_one(rt, alloc, office, seat);
 }
 
 fn abort_day<B: Room, R: Wait + Abort>(

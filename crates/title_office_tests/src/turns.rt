@@ -3,6 +3,7 @@
 ghost use Rattle.std.specs.Prelude.{◌≡◌};
 ghost use Rattle.title_office.specs.Offices.{opening_seats};
 
+use crate::checks::must;
 use crate::days::{WHOLE, deed, open, section, township};
 use std::alloc::Global;
 use std::marker::Brand;
@@ -55,20 +56,30 @@ impl Gate for TwoFlags {
     }
 }
 
+// A post in this section.
+fn asks(rt: &impl Abort, alloc: Global, number: u8) -> Vec<Ask> {
+    let mut asks = Vec::new(alloc);
+    let posting = deed(rt, alloc, section(rt, alloc, number), WHOLE);
+    asks.push(Ask::Post(posting)).expect(rt, "there is memory");
+    asks
+}
+
+fn transactions(rt: &impl Abort, alloc: Global, asks: Vec<Ask>) -> Vec<Transaction> {
+    let mut transactions = Vec::new(alloc);
+    let added = transactions.push(Transaction {
+        asks,
+        commits: true,
+    });
+    added.expect(rt, "there is memory");
+    transactions
+}
+
 // A script of one transaction with one post in this section.
 fn script(rt: &impl Abort, alloc: Global, examiner: u32, number: u8) -> Script
     ensures examiner { result.examiner ≡ examiner }
 {
-    let posting = deed(rt, alloc, section(rt, alloc, number), WHOLE);
-    let mut asks = Vec::new(alloc);
-    asks.push(Ask::Post(posting)).expect(rt, "there is memory");
-    let mut transactions = Vec::new(alloc);
-    transactions
-        .push(Transaction {
-            asks,
-            commits: true,
-        })
-        .expect(rt, "there is memory");
+    let asks = asks(rt, alloc, number);
+    let transactions = transactions(rt, alloc, asks);
     Script {
         examiner,
         transactions,
@@ -77,19 +88,22 @@ fn script(rt: &impl Abort, alloc: Global, examiner: u32, number: u8) -> Script
 
 // Each of the workers has committed its transaction.
 fn assert_done<B: Room>(rt: &impl Abort, worked: &[Worked<B>]) {
-    assert!(rt; worked.len() == 2);
+    must(rt, worked.len() == 2, "two workers");
     for each in worked {
-        assert!(rt; each.fault.is_none() && each.seat.is_some());
-        assert!(rt; each.outcomes.len() == 1 && each.aborted == 0 && each.given_up == 0);
+        must(rt, each.fault.is_none(), "no fault");
+        must(rt, each.seat.is_some(), "the seat comes back");
+        must(rt, each.outcomes.len() == 1, "one outcome");
+        must(rt, each.aborted == 0 && each.given_up == 0, "no other end");
     }
 }
 
 // Two workers, each with a script of its own, in an office of two seats.
-fn work_beside<B: Room + Send + Sync, R: Threads + Wait + Abort + Sync>(
+fn work_at<B: Room + Send + Sync, R: Threads + Wait + Abort + Sync>(
     rt: &R,
     alloc: Global,
     office: &Office<B>,
     seats: Vec<Seat<B>>,
+    gate: &TwoFlags,
 )
     requires seats { seats.items ≡ opening_seats 7 2 }
 {
@@ -100,16 +114,29 @@ fn work_beside<B: Room + Send + Sync, R: Threads + Wait + Abort + Sync>(
     scripts
         .push(script(rt, alloc, 2, 6))
         .expect(rt, "there is memory");
+    match work(rt, alloc, office, seats, scripts, 1, gate) {
+        Ok(worked) => assert_done(rt, &worked),
+        Err(_) => panic!(rt; "there is memory"),
+    }
+}
+
+// Neither waits in vain.
+fn work_beside<B: Room + Send + Sync, R: Threads + Wait + Abort + Sync>(
+    rt: &R,
+    alloc: Global,
+    office: &Office<B>,
+    seats: Vec<Seat<B>>,
+)
+    requires seats { seats.items ≡ opening_seats 7 2 }
+{
     let gate = TwoFlags {
         first: AtomicBool::new(false),
         second: AtomicBool::new(false),
         in_vain: AtomicBool::new(false),
     };
-    match work(rt, alloc, office, seats, scripts, 1, &gate) {
-        Ok(worked) => assert_done(rt, &worked),
-        Err(_) => panic!(rt; "there is memory"),
-    }
-    assert!(rt; !gate.in_vain.load(Ordering::SeqCst));
+    work_at(rt, alloc, office, seats, &gate);
+    let is_in_vain = gate.in_vain.load(Ordering::SeqCst);
+    must(rt, !is_in_vain, "none waits in vain");
 }
 
 fn turns_day<B: Room + Send + Sync, R: Threads + Wait + Abort + Sync>(

@@ -2,6 +2,7 @@
 
 ghost use Rattle.std.specs.Prelude.{◌≡◌};
 
+use crate::checks::must;
 use crate::days::{WHOLE, begin_with_deed, commit, open, section, township, two_viewers};
 use std::alloc::Global;
 use std::marker::Brand;
@@ -63,43 +64,69 @@ fn is_right(seen: &Seen) -> bool {
     first.estate == Estate::S && first.party == 0 && first.units == units_left(seen.front)
 }
 
+// How many records a sheet tells, where it's right and none older than the one before.
+fn front_after(seen: &Seen, front: u64) -> Option<u64> {
+    if seen.front < front || !is_right(seen) {
+        None
+    } else {
+        Some(seen.front)
+    }
+}
+
+// The same of the next sheet that the viewer shows.
+fn next_front<B: Room>(tract: &Tract, viewer: &mut Viewer<B>, front: u64) -> Option<u64> {
+    match viewer.sheet(tract) {
+        Ok(seen) => front_after(&seen, front),
+        Err(_) => None,
+    }
+}
+
 // Asks the viewer over and over: whether each sheet is right, and none older than the one before.
-fn watch<B: Room>(tract: &Tract, mut viewer: Viewer<B>) -> bool {
+fn watch_all<B: Room>(tract: &Tract, viewer: &mut Viewer<B>) -> bool {
     let mut front = 0;
     for _ in 0..VIEWS {
-        let Ok(seen) = viewer.sheet(tract) else {
+        let Some(next) = next_front(tract, viewer, front) else {
             return false;
         };
-        if seen.front < front || !is_right(&seen) {
-            return false;
-        }
-        front = seen.front;
+        front = next;
     }
     true
 }
 
+fn watch<B: Room>(tract: &Tract, mut viewer: Viewer<B>) -> bool {
+    watch_all(tract, &mut viewer)
+}
+
+fn is_row(row: &SheetRow, party: u32, units: u64) -> bool {
+    row.party == party && row.units == units
+}
+
 // These rows are the sheet of a section after all deeds: what each of the two parties has of the surface, and two rows more.
 fn assert_all_sold(rt: &impl Abort, rows: &[SheetRow]) {
-    assert!(rt; rows.len() == 4);
-    assert!(rt; rows[0].party == 0 && rows[0].units == 3_875_536_896);
-    assert!(rt; rows[1].party == 1 && rows[1].units == 419_430_400);
+    let [first, second, _, _] = rows else {
+        panic!(rt; "four rows");
+    };
+    must(rt, is_row(first, 0, 3_875_536_896), "what is left");
+    must(rt, is_row(second, 1, 419_430_400), "what is sold");
+}
+
+fn assert_all_seen(rt: &impl Abort, seen: &Seen) {
+    must(rt, seen.front == 100, "all records");
+    assert_all_sold(rt, seen.rows.as_slice());
 }
 
 // Once it has learnt of the last deed a viewer shows all of them.
 fn assert_all_shown<B: Room>(
     rt: &impl Abort,
     tract: &Tract,
-    mut viewer: Viewer<B>,
+    viewer: &mut Viewer<B>,
     receipt: &Receipt<B>,
 ) {
     viewer
         .learn(receipt)
         .expect(rt, "the viewer learns of the last deed");
-    let seen = viewer
-        .sheet(tract)
-        .expect(rt, "the viewer shows the last sheet");
-    assert!(rt; seen.front == 100);
-    assert_all_sold(rt, seen.rows.as_slice());
+    let seen = viewer.sheet(tract);
+    assert_all_seen(rt, &seen.expect(rt, "the viewer shows the last sheet"));
 }
 
 // One thread sells, the other watches by one viewer; then another viewer learns of the last deed.
@@ -109,7 +136,7 @@ fn sell_and_watch<B: Room + Send + Sync, R: Threads + Wait + Abort + Sync>(
     office: &Office<B>,
     seat: Seat<B>,
     watching: Viewer<B>,
-    learning: Viewer<B>,
+    mut learning: Viewer<B>,
 ) {
     let tract = section(rt, alloc, 5);
     let place = &tract;
@@ -118,8 +145,8 @@ fn sell_and_watch<B: Room + Send + Sync, R: Threads + Wait + Abort + Sync>(
         || watch(place, watching),
         || sell_all(rt, alloc, office, seat),
     );
-    assert!(rt; is_right);
-    assert_all_shown(rt, &tract, learning, &receipt);
+    must(rt, is_right, "each sheet is right, none older");
+    assert_all_shown(rt, &tract, &mut learning, &receipt);
 }
 
 // An office of one examiner and two viewers.
