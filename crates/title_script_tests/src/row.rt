@@ -1,32 +1,40 @@
 //! Rows that are read and taken. Those that say nothing, and those that make a script faulty, stand with the vectors.
 
+use crate::checks::must;
 use csv::StringRecord;
 use std::alloc::{AllocError, Global};
 use std::process::Abort;
-use std::test::Fail;
 use title_plan::{Plan, Schedule, read_row};
 
-// A row whose fields a line has with | between them.
-fn row_of(alloc: Global, line: &str) -> Result<StringRecord, AllocError> {
-    let mut row = StringRecord::new(alloc);
+fn add_fields(row: &mut StringRecord, line: &str) -> Result<(), AllocError> {
     for field in line.split('|') {
         row.push_field(field)?;
     }
-    Ok(row)
+    Ok(())
+}
+
+// A row whose fields a line has with | between them.
+fn row_of(rt: &impl Abort, alloc: Global, line: &str) -> StringRecord {
+    let mut row = StringRecord::new(alloc);
+    add_fields(&mut row, line).expect(rt, "there is memory");
+    row
 }
 
 // What a row says, as text.
-fn said(alloc: Global, line: &str) -> Result<String, AllocError> {
-    let row = row_of(alloc, line)?;
-    let read = read_row(&row);
-    format!(in alloc; "{read:?}")
+fn said(rt: &impl Abort, alloc: Global, row: &StringRecord) -> String {
+    let read = read_row(row);
+    format!(in alloc; "{read:?}").expect(rt, "there is memory")
 }
 
-fn assert_said(alloc: Global, rt: &impl Abort, rows: &[(&str, &str)]) -> Result<(), AllocError> {
+fn says(rt: &impl Abort, alloc: Global, row: &StringRecord, wanted: &str) -> bool {
+    said(rt, alloc, row).as_str() == wanted
+}
+
+fn assert_said(rt: &impl Abort, alloc: Global, rows: &[(&str, &str)]) {
     for (line, wanted) in rows {
-        assert!(rt; said(alloc, line)?.as_str() == *wanted, "at {line}");
+        let is_said = says(rt, alloc, &row_of(rt, alloc, line), wanted);
+        must(rt, is_said, line);
     }
-    Ok(())
 }
 
 const ROWS: [(&str, &str); 10] = [
@@ -60,19 +68,25 @@ const ROWS: [(&str, &str); 10] = [
 ];
 
 #[test]
-fn rows_say_something(rt: HostRuntime) -> Result<(), Fail> {
-    assert_said(rt.alloc(), &rt, &ROWS)?;
-    Ok(())
+fn rows_say_something(rt: HostRuntime) {
+    assert_said(&rt, rt.alloc(), &ROWS);
+}
+
+fn take(rt: &impl Abort, plan: &mut Plan, n: u64, row: StringRecord) {
+    let taken = plan.take_row(Schedule::Interleaved, n, row.into_byte_record());
+    taken.expect(rt, "the row is taken");
+}
+
+fn take_all(rt: &impl Abort, alloc: Global, plan: &mut Plan, rows: &[(u64, &str)]) {
+    for &(n, line) in rows {
+        take(rt, plan, n, row_of(rt, alloc, line));
+    }
 }
 
 // The numbers of parties, townships and steps of a script of these rows, taken one after another.
 fn taken(rt: &impl Abort, alloc: Global, rows: &[(u64, &str)]) -> (usize, usize, usize) {
     let mut plan = Plan::new(alloc).expect(rt, "there is memory");
-    for &(n, line) in rows {
-        let row = row_of(alloc, line).expect(rt, "there is memory");
-        plan.take_row(Schedule::Interleaved, n, row.into_byte_record())
-            .expect(rt, "the row is taken");
-    }
+    take_all(rt, alloc, &mut plan, rows);
     (plan.parties.len(), plan.townships.len(), plan.lines.len())
 }
 
@@ -87,5 +101,11 @@ const SCRIPT: [(u64, &str); 5] = [
 #[test]
 fn rows_are_taken_one_by_one(rt: HostRuntime) {
     // UNITED STATES is a party of each script.
-    assert!(rt; taken(&rt, rt.alloc(), &SCRIPT) == (3, 1, 2));
+    let (parties, townships, lines) = taken(&rt, rt.alloc(), &SCRIPT);
+    must(&rt, parties == 3, "three parties");
+    must(
+        &rt,
+        townships == 1 && lines == 2,
+        "a township and two steps",
+    );
 }

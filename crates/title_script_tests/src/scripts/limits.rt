@@ -2,9 +2,9 @@
 // the vectors.
 
 use super::{is_told, report_of};
-use std::alloc::Global;
+use crate::checks::must;
+use std::alloc::{AllocError, Global};
 use std::process::Abort;
-use std::test::Fail;
 
 /// The lines that a script has many times: the same each time, or with their number, from 1, between two texts.
 #[derive(Clone, Copy)]
@@ -107,32 +107,46 @@ pub const LIMITS: [Limit; 10] = [
     },
 ];
 
-/// The script of a limit.
-fn script_of(alloc: Global, limit: &Limit) -> Result<String, Fail> {
-    let mut script = format!(in alloc; "{}", limit.head)?;
+fn add_line(script: &mut String, lines: Lines, number: u32) -> Result<(), AllocError> {
+    match lines {
+        Lines::Same(text) => script.push_str(text),
+        Lines::Numbered(before, after) => write!(script, "{before}{number}{after}"),
+    }
+}
+
+fn add_script(script: &mut String, limit: &Limit) -> Result<(), AllocError> {
+    script.push_str(limit.head)?;
     for number in 1..=limit.times {
-        match limit.lines {
-            Lines::Same(text) => write!(script, "{text}")?,
-            Lines::Numbered(before, after) => write!(script, "{before}{number}{after}")?,
-        }
+        add_line(script, limit.lines, number)?;
     }
-    write!(script, "{}", limit.tail)?;
-    Ok(script)
+    script.push_str(limit.tail)
 }
 
-/// Whether a limit's script gives what is wanted.
-fn ends_so(alloc: Global, limit: &Limit) -> Result<bool, Fail> {
-    let script = script_of(alloc, limit)?;
-    match (report_of(alloc, script.as_bytes()), limit.wanted) {
-        (Ok(report), Ok(end)) => Ok(report.ends_with(end.as_bytes())),
-        (Err(fault), Err(line)) => Ok(is_told(alloc, fault, line)?),
-        _ => Ok(false),
+/// The script of a limit.
+fn script_of(rt: &impl Abort, alloc: Global, limit: &Limit) -> String {
+    let mut script = String::new(alloc);
+    add_script(&mut script, limit).expect(rt, "there is memory");
+    script
+}
+
+/// Whether a script gives what is wanted.
+fn ends_so(rt: &impl Abort, alloc: Global, script: &str, wanted: Result<&str, &str>) -> bool {
+    match (report_of(alloc, script.as_bytes()), wanted) {
+        (Ok(report), Ok(end)) => report.ends_with(end.as_bytes()),
+        (Err(fault), Err(line)) => is_told(rt, alloc, fault, line),
+        _ => false,
     }
 }
 
-pub fn are_kept(rt: &impl Abort, alloc: Global, limits: &[Limit]) -> Result<(), Fail> {
+/// A limit's script gives what is wanted.
+fn assert_kept(rt: &impl Abort, alloc: Global, limit: &Limit) {
+    let script = script_of(rt, alloc, limit);
+    let is_so = ends_so(rt, alloc, script.as_str(), limit.wanted);
+    must(rt, is_so, limit.name);
+}
+
+pub fn assert_all_kept(rt: &impl Abort, alloc: Global, limits: &[Limit]) {
     for limit in limits {
-        assert!(rt; ends_so(alloc, limit)?, "{}", limit.name);
+        assert_kept(rt, alloc, limit);
     }
-    Ok(())
 }
