@@ -36,7 +36,7 @@ pub const REPORT: &[u8] = b"1,began\n\
     3,entry,2,11,deed,UNITED STATES,ADAMS,S\n\
     end,9\n";
 
-pub const CUTS: [Cut; 68] = [
+pub static CUTS: [Cut; 68] = [
     Cut {
         from: 0,
         to: 1,

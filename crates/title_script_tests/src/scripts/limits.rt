@@ -24,7 +24,7 @@ pub struct Limit {
     pub wanted: Result<&'static str, &'static str>,
 }
 
-pub const LIMITS: [Limit; 10] = [
+pub static LIMITS: [Limit; 10] = [
     Limit {
         name: "ten thousand steps",
         head: "township,T3N R2W\n1,begin\n",
