@@ -9,15 +9,17 @@ use title_land::{Node, Section, Township, Tract, Within};
 use title_settle::Outcome;
 use title_trace::{Reply, Request};
 
-/// What two examiners did to a section: a deed of the first, the sheet that the second was answered after it, and the
-/// sheet where there was no deed.
+/// Where a history and the plain machine disagree first, if they do.
+pub type Found = Result<Option<Disagreement>, AllocError>;
+
+/// What two examiners did to a section: a deed of the first, and the sheet that the second was answered after it; and, by a machine
+/// of its own, the sheet where there was no deed.
 #[derive(Drop)]
 pub struct Doctored {
     alloc: Global,
     township: Township,
-    deed: Record,
-    sheet: Record,
-    stale: Record,
+    sold: Plain,
+    unsold: Plain,
 }
 
 // All of a section.
@@ -26,146 +28,180 @@ fn whole(section: Section) -> Tract {
 }
 
 // A release of the surface from party 0 to party 1.
-fn deed_of(alloc: Global, section: Section) -> Result<Ask, AllocError> {
+fn surface_release() -> Instrument {
     let estates = Estates {
         s: true,
         o: false,
         m: false,
     };
+    Instrument::Release(Release {
+        from: 0,
+        to: 1,
+        estates,
+    })
+}
+
+fn deed_of(alloc: Global, section: Section) -> Result<Ask, AllocError> {
     let terms = Terms {
         doc: 1,
         tract: whole(section),
-        instrument: Instrument::Release(Release {
-            from: 0,
-            to: 1,
-            estates,
-        }),
+        instrument: surface_release(),
     };
     Ok(Ask::Post(Posting::new(alloc, terms)?))
 }
 
-fn sheet_of(section: Section) -> Ask {
-    Ask::Sheet(whole(section))
+// That a reply isn't for want of memory.
+fn had_memory(reply: Reply) -> Result<(), AllocError> {
+    match reply {
+        Reply::Memory => Err(AllocError),
+        _ => Ok(()),
+    }
 }
 
-// The record of an examiner's transaction of one ask, as the machine commits it.
-fn commit(
-    alloc: Global,
-    machine: &mut Plain,
-    examiner: u32,
-    ask: Ask,
-) -> Result<Option<Record>, AllocError> {
+// An examiner's transaction of one ask.
+fn commit(machine: &mut Plain, examiner: u32, ask: Ask) -> Result<(), AllocError> {
     machine.serve(Request::Begin(examiner));
-    if let Reply::Memory = machine.serve(Request::Step(examiner, ask)) {
-        return Err(AllocError);
-    }
-    if let Reply::Memory = machine.serve(Request::Commit(examiner)) {
-        return Err(AllocError);
-    }
-    match machine.records().last() {
-        Some(record) => Ok(Some(record.copy(alloc)?)),
-        None => Ok(None),
-    }
+    had_memory(machine.serve(Request::Step(examiner, ask)))?;
+    had_memory(machine.serve(Request::Commit(examiner)))
 }
 
-fn outcome(alloc: Global, place: u64, record: &Record) -> Result<Outcome, AllocError> {
-    Ok(Outcome {
-        place,
-        rec: record.copy(alloc)?,
-    })
+// The second examiner's sheet.
+fn show(machine: &mut Plain, section: Section) -> Result<(), AllocError> {
+    commit(machine, 2, Ask::Sheet(whole(section)))
 }
 
-// The deed, and the sheet after it.
-fn sold(
+// The first examiner's deed.
+fn sell(alloc: Global, machine: &mut Plain, section: Section) -> Result<(), AllocError> {
+    let deed = deed_of(alloc, section)?;
+    commit(machine, 1, deed)
+}
+
+// Adds a record to a history, where there is one.
+fn add(
+    alloc: Global,
+    history: &mut Vec<Outcome>,
+    place: u64,
+    record: Option<&Record>,
+) -> Result<(), AllocError> {
+    if let Some(record) = record {
+        let rec = record.copy(alloc)?;
+        history.push(Outcome { place, rec })?;
+    }
+    Ok(())
+}
+
+// What a new machine finds wrong with a history.
+fn check(
     alloc: Global,
     township: Township,
-    section: Section,
-) -> Result<Option<(Record, Record)>, AllocError> {
-    let Some(mut machine) = Plain::new(alloc, &[township])? else {
-        return Ok(None);
-    };
-    let ask = deed_of(alloc, section)?;
-    let Some(deed) = commit(alloc, &mut machine, 1, ask)? else {
-        return Ok(None);
-    };
-    let Some(sheet) = commit(alloc, &mut machine, 2, sheet_of(section))? else {
-        return Ok(None);
-    };
-    Ok(Some((deed, sheet)))
-}
-
-// The sheet where there was no deed.
-fn unsold(
-    alloc: Global,
-    township: Township,
-    section: Section,
-) -> Result<Option<Record>, AllocError> {
-    let Some(mut machine) = Plain::new(alloc, &[township])? else {
-        return Ok(None);
-    };
-    commit(alloc, &mut machine, 2, sheet_of(section))
+    history: &[Outcome],
+) -> Result<Option<Disagreement>, AllocError> {
+    match Plain::new(alloc, &[township])? {
+        Some(mut machine) => machine.check(history),
+        None => Err(AllocError),
+    }
 }
 
 impl Doctored {
+    // The transactions of two plain machines, these.
+    fn run(
+        alloc: Global,
+        township: Township,
+        section: Section,
+        sold: Plain,
+        unsold: Plain,
+    ) -> Result<Doctored, AllocError> {
+        let mut doctored = Doctored {
+            alloc,
+            township,
+            sold,
+            unsold,
+        };
+        doctored.fill(section)?;
+        Ok(doctored)
+    }
+
+    fn open(
+        alloc: Global,
+        township: Township,
+        section: Section,
+    ) -> Result<Option<Doctored>, AllocError> {
+        let Some(sold) = Plain::new(alloc, &[township])? else {
+            return Ok(None);
+        };
+        let Some(unsold) = Plain::new(alloc, &[township])? else {
+            return Ok(None);
+        };
+        Ok(Some(Doctored::run(alloc, township, section, sold, unsold)?))
+    }
+
+    fn fill(&mut self, section: Section) -> Result<(), AllocError> {
+        sell(self.alloc, &mut self.sold, section)?;
+        show(&mut self.sold, section)?;
+        show(&mut self.unsold, section)
+    }
+
     /// The records, as plain machines make them; `None` where none opens.
     pub fn new(alloc: Global) -> Result<Option<Doctored>, AllocError> {
         let Some(township) = township(1) else {
             return Ok(None);
         };
-        let Some(section) = Section::new(township, 1) else {
-            return Ok(None);
-        };
-        let Some((deed, sheet)) = sold(alloc, township, section)? else {
-            return Ok(None);
-        };
-        let Some(stale) = unsold(alloc, township, section)? else {
-            return Ok(None);
-        };
-        Ok(Some(Doctored {
-            alloc,
-            township,
-            deed,
-            sheet,
-            stale,
-        }))
-    }
-
-    // What a new machine finds wrong with a history.
-    fn check(&self, history: &[Outcome]) -> Result<Option<Disagreement>, AllocError> {
-        match Plain::new(self.alloc, &[self.township])? {
-            Some(mut machine) => machine.check(history),
-            None => Err(AllocError),
+        match Section::new(township, 1) {
+            Some(section) => Doctored::open(alloc, township, section),
+            None => Ok(None),
         }
     }
 
+    fn deed(&self) -> Option<&Record> {
+        self.sold.records().first()
+    }
+
+    fn sheet(&self) -> Option<&Record> {
+        self.sold.records().get(1)
+    }
+
+    fn stale(&self) -> Option<&Record> {
+        self.unsold.records().first()
+    }
+
+    // What a new machine finds wrong with a history of one transaction.
+    fn check_one(&self, place: u64, record: Option<&Record>) -> Found {
+        let mut history = Vec::new(self.alloc);
+        add(self.alloc, &mut history, place, record)?;
+        check(self.alloc, self.township, history.as_slice())
+    }
+
+    // The same of two.
     fn check_two(
         &self,
-        first: (u64, &Record),
-        second: (u64, &Record),
-    ) -> Result<Option<Disagreement>, AllocError> {
-        self.check(&[
-            outcome(self.alloc, first.0, first.1)?,
-            outcome(self.alloc, second.0, second.1)?,
-        ])
+        first: u64,
+        record: Option<&Record>,
+        second: u64,
+        other: Option<&Record>,
+    ) -> Found {
+        let mut history = Vec::new(self.alloc);
+        add(self.alloc, &mut history, first, record)?;
+        add(self.alloc, &mut history, second, other)?;
+        check(self.alloc, self.township, history.as_slice())
     }
 
     /// The deed, and the sheet after it.
-    pub fn as_it_was(&self) -> Result<Option<Disagreement>, AllocError> {
-        self.check_two((1, &self.deed), (2, &self.sheet))
+    pub fn as_it_was(&self) -> Found {
+        self.check_two(1, self.deed(), 2, self.sheet())
     }
 
     /// The sheet at the place of the deed, and the deed at that of the sheet.
-    pub fn places_exchanged(&self) -> Result<Option<Disagreement>, AllocError> {
-        self.check_two((2, &self.deed), (1, &self.sheet))
+    pub fn places_exchanged(&self) -> Found {
+        self.check_two(2, self.deed(), 1, self.sheet())
     }
 
     /// The deed, and a sheet after it that doesn't show it.
-    pub fn stale_sheet(&self) -> Result<Option<Disagreement>, AllocError> {
-        self.check_two((1, &self.deed), (2, &self.stale))
+    pub fn stale_sheet(&self) -> Found {
+        self.check_two(1, self.deed(), 2, self.stale())
     }
 
     /// The sheet that shows the deed, where the deed was aborted.
-    pub fn aborted_deed_that_shows(&self) -> Result<Option<Disagreement>, AllocError> {
-        self.check(&[outcome(self.alloc, 1, &self.sheet)?])
+    pub fn aborted_deed_that_shows(&self) -> Found {
+        self.check_one(1, self.sheet())
     }
 }

@@ -42,19 +42,19 @@ fn tell_found<R: Print>(rt: &R, which: &str, found: Option<Disagreement>) -> Res
     Ok(())
 }
 
-fn tell_doctored<R: Print + AllocGlobal>(rt: &R) -> Result<()> {
-    let Some(doctored) = Doctored::new(rt.alloc())? else {
-        println!(rt; "no plain machine opens")?;
-        return Ok(());
-    };
+fn tell_each<R: Print>(rt: &R, doctored: &Doctored) -> Result<()> {
     tell_found(rt, "as it was", doctored.as_it_was()?)?;
     tell_found(rt, "two places exchanged", doctored.places_exchanged()?)?;
     tell_found(rt, "a stale sheet", doctored.stale_sheet()?)?;
-    tell_found(
-        rt,
-        "an aborted deed that shows",
-        doctored.aborted_deed_that_shows()?,
-    )?;
+    let found = doctored.aborted_deed_that_shows()?;
+    tell_found(rt, "an aborted deed that shows", found)
+}
+
+fn tell_doctored<R: Print + AllocGlobal>(rt: &R) -> Result<()> {
+    match Doctored::new(rt.alloc())? {
+        Some(doctored) => tell_each(rt, &doctored)?,
+        None => println!(rt; "no plain machine opens")?,
+    }
     Ok(())
 }
 

@@ -2,7 +2,7 @@
 
 use std::alloc::{AllocError, Global};
 use std::fmt::{Display, Error, Formatter, Write};
-use title_chain::{Record, Step};
+use title_chain::{Answer, Ask, Record, Step};
 use title_chance::PARTIES;
 use title_desk::{Desk, may_open};
 use title_land::Township;
@@ -35,6 +35,12 @@ impl Display for Disagreement {
     }
 }
 
+// Whether a step was answered so.
+fn is_same(alloc: Global, step: &Step, answer: Answer) -> Result<bool, AllocError> {
+    let ask = step.ask.copy(alloc)?;
+    Ok(Step { ask, answer }.same(step))
+}
+
 impl Plain {
     /// A machine that has run nothing; `None` where no desk opens for these townships.
     pub fn new(alloc: Global, townships: &[Township]) -> Result<Option<Plain>, AllocError> {
@@ -55,14 +61,15 @@ impl Plain {
         self.desk.records()
     }
 
+    fn reply_to(&mut self, examiner: u32, ask: &Ask) -> Result<Reply, AllocError> {
+        let ask = ask.copy(self.alloc)?;
+        Ok(self.desk.serve(Request::Step(examiner, ask)))
+    }
+
     // Whether it answers a step alike.
     fn agrees(&mut self, examiner: u32, step: &Step) -> Result<bool, AllocError> {
-        let ask = step.ask.copy(self.alloc)?;
-        let reply = self
-            .desk
-            .serve(Request::Step(examiner, step.ask.copy(self.alloc)?));
-        match reply {
-            Reply::Answered(answer) => Ok(Step { ask, answer }.same(step)),
+        match self.reply_to(examiner, &step.ask)? {
+            Reply::Answered(answer) => is_same(self.alloc, step, answer),
             Reply::Memory => Err(AllocError),
             _ => Ok(false),
         }
@@ -80,16 +87,21 @@ impl Plain {
         Ok(None)
     }
 
-    // Runs the transaction at a place.
-    fn run(&mut self, place: u64, record: &Record) -> Result<Option<Disagreement>, AllocError> {
-        self.desk.serve(Request::Begin(record.examiner));
-        if let Some(step) = self.first_step(record)? {
-            return Ok(Some(Disagreement::Step(place, step)));
-        }
-        match self.desk.serve(Request::Commit(record.examiner)) {
+    // Commits the transaction at a place.
+    fn commit(&mut self, place: u64, examiner: u32) -> Result<Option<Disagreement>, AllocError> {
+        match self.desk.serve(Request::Commit(examiner)) {
             Reply::Committed(told) if told == place => Ok(None),
             Reply::Memory => Err(AllocError),
             _ => Ok(Some(Disagreement::Place(place))),
+        }
+    }
+
+    // Runs the transaction at a place.
+    fn run(&mut self, place: u64, record: &Record) -> Result<Option<Disagreement>, AllocError> {
+        self.desk.serve(Request::Begin(record.examiner));
+        match self.first_step(record)? {
+            Some(step) => Ok(Some(Disagreement::Step(place, step))),
+            None => self.commit(place, record.examiner),
         }
     }
 

@@ -107,13 +107,18 @@ fn add_outcomes(history: &mut Vec<Outcome>, outcomes: Vec<Outcome>) -> Result<()
     Ok(())
 }
 
+fn add_all<B: Room>(history: &mut Vec<Outcome>, worked: Vec<Worked<B>>) -> Result<(), AllocError> {
+    for each in worked {
+        let Worked { outcomes, .. } = each;
+        add_outcomes(history, outcomes)?;
+    }
+    Ok(())
+}
+
 // The committed transactions of all workers.
 fn history_of<B: Room>(alloc: Global, worked: Vec<Worked<B>>) -> Result<Vec<Outcome>, AllocError> {
     let mut history = Vec::new(alloc);
-    for each in worked {
-        let Worked { outcomes, .. } = each;
-        add_outcomes(&mut history, outcomes)?;
-    }
+    add_all(&mut history, worked)?;
     Ok(history)
 }
 
@@ -129,7 +134,51 @@ fn check(
     }
 }
 
-// Runs a script for each seat by threads, and checks their history.
+fn check_worked<B: Room>(
+    alloc: Global,
+    townships: &[Township],
+    worked: Vec<Worked<B>>,
+) -> Result<Option<Disagreement>, AllocError> {
+    let history = history_of(alloc, worked)?;
+    check(alloc, townships, history.as_slice())
+}
+
+// What came of a run.
+fn judge<B: Room>(
+    alloc: Global,
+    townships: &[Township],
+    worked: Vec<Worked<B>>,
+    is_contended: bool,
+) -> Result<Run, AllocError> {
+    let has_ended_early = has_ended_early(worked.as_slice());
+    let found = check_worked(alloc, townships, worked)?;
+    Ok(Run {
+        is_contended,
+        has_ended_early,
+        found,
+    })
+}
+
+// Runs scripts by threads, and checks their history.
+fn work_at<B: Room + Send + Sync, R: Threads + Wait + Sync>(
+    rt: &R,
+    alloc: Global,
+    townships: &[Township],
+    office: &Office<B>,
+    seats: Vec<Seat<B>>,
+    scripts: Vec<Script>,
+) -> Result<Run, AllocError>
+    requires fits { seat_examiners seats.items ≡ examiners_of scripts.items }
+{
+    let calls = count_calls(scripts.as_slice());
+    let gate = Yielding::new();
+    match work(rt, alloc, office, seats, scripts, TRIES, &gate) {
+        Ok(worked) => judge(alloc, townships, worked, gate.calls() > calls),
+        Err(_) => Err(AllocError),
+    }
+}
+
+// The same with a script for each seat.
 fn run_scripts<B: Room + Send + Sync, R: Threads + Wait + Sync>(
     rt: &R,
     subject: Subject<'_>,
@@ -138,20 +187,8 @@ fn run_scripts<B: Room + Send + Sync, R: Threads + Wait + Sync>(
     office: &Office<B>,
     seats: Vec<Seat<B>>,
 ) -> Result<Run, AllocError> {
-    let alloc = subject.alloc;
     let scripts = scripts_for(subject, chance, seats.as_slice())?;
-    let calls = count_calls(scripts.as_slice());
-    let gate = Yielding::new();
-    let Ok(worked) = work(rt, alloc, office, seats, scripts, TRIES, &gate) else {
-        return Err(AllocError);
-    };
-    let has_ended_early = has_ended_early(worked.as_slice());
-    let history = history_of(alloc, worked)?;
-    Ok(Run {
-        is_contended: gate.calls() > calls,
-        has_ended_early,
-        found: check(alloc, townships, history.as_slice())?,
-    })
+    work_at(rt, subject.alloc, townships, office, seats, scripts)
 }
 
 // The same for so many examiners in a new office.
@@ -229,14 +266,38 @@ fn count_runs<R: Threads + Wait + Sync>(
     Ok(told)
 }
 
-fn townships(alloc: Global) -> Result<Vec<Township>, AllocError> {
-    let mut townships = Vec::new(alloc);
+fn add_townships(townships: &mut Vec<Township>) -> Result<(), AllocError> {
     for number in 1..=TOWNSHIPS {
         if let Some(township) = township(number) {
             townships.push(township)?;
         }
     }
+    Ok(())
+}
+
+fn townships(alloc: Global) -> Result<Vec<Township>, AllocError> {
+    let mut townships = Vec::new(alloc);
+    add_townships(&mut townships)?;
     Ok(townships)
+}
+
+// Counts runs over these townships; none where no office opens.
+fn count_in<R: Threads + Wait + Sync>(
+    rt: &R,
+    alloc: Global,
+    chance: &mut Chance,
+    townships: &[Township],
+    wanted: (u32, u32),
+) -> Result<Told, AllocError> {
+    let ground = Ground::new(alloc, chance, TRACTS, Reach::Plant)?;
+    let subject = Subject {
+        alloc,
+        ground: &ground,
+    };
+    if !may_open(PARTIES, townships) {
+        return Ok(Told::new());
+    }
+    count_runs(rt, subject, chance, PARTIES, townships, wanted)
 }
 
 /// Runs scripts of two to eight examiners, each in an office of its own, until so many runs had transactions in each other's way,
@@ -249,21 +310,6 @@ pub fn run_all<R: Threads + Wait + Sync>(
 ) -> Result<Told, AllocError> {
     let mut chance = Chance::new(5);
     let townships = townships(alloc)?;
-    let ground = Ground::new(alloc, &mut chance, TRACTS, Reach::Plant)?;
-    let subject = Subject {
-        alloc,
-        ground: &ground,
-    };
-    if !may_open(PARTIES, townships.as_slice()) {
-        return Ok(Told::new());
-    }
     let wanted = (contended, most_runs);
-    count_runs(
-        rt,
-        subject,
-        &mut chance,
-        PARTIES,
-        townships.as_slice(),
-        wanted,
-    )
+    count_in(rt, alloc, &mut chance, townships.as_slice(), wanted)
 }

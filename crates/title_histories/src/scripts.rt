@@ -3,6 +3,7 @@
 ghost use Rattle.std.specs.Prelude.{◌≡◌, IfOk};
 
 use std::alloc::{AllocError, Global};
+use title_chain::Ask;
 use title_chance::{Chance, Ground, StepWish};
 use title_office::{Script, Transaction};
 
@@ -23,6 +24,33 @@ pub fn count_calls(scripts: &[Script]) -> u64 {
     calls
 }
 
+// Adds a step.
+fn add_ask(
+    alloc: Global,
+    chance: &mut Chance,
+    ground: &Ground,
+    asks: &mut Vec<Ask>,
+    doc: u64,
+) -> Result<(), AllocError> {
+    let ask = StepWish::any(chance, ground).ask(alloc, ground, doc)?;
+    asks.push(ask)?;
+    Ok(())
+}
+
+// Adds any steps.
+fn add_asks(
+    alloc: Global,
+    chance: &mut Chance,
+    ground: &Ground,
+    asks: &mut Vec<Ask>,
+    doc: u64,
+) -> Result<(), AllocError> {
+    for _ in 0..chance.up_to(MOST_STEPS) {
+        add_ask(alloc, chance, ground, asks, doc)?;
+    }
+    Ok(())
+}
+
 // A transaction of any steps, of which one of five is aborted at its end.
 fn transaction(
     alloc: Global,
@@ -31,11 +59,21 @@ fn transaction(
     doc: u64,
 ) -> Result<Transaction, AllocError> {
     let mut asks = Vec::new(alloc);
-    for _ in 0..chance.up_to(MOST_STEPS) {
-        asks.push(StepWish::any(chance, ground).ask(alloc, ground, doc)?)?;
-    }
+    add_asks(alloc, chance, ground, &mut asks, doc)?;
     let commits = chance.below(5) > 0;
     Ok(Transaction { asks, commits })
+}
+
+fn add_transactions(
+    alloc: Global,
+    chance: &mut Chance,
+    ground: &Ground,
+    transactions: &mut Vec<Transaction>,
+) -> Result<(), AllocError> {
+    for doc in 1..=TRANSACTIONS {
+        transactions.push(transaction(alloc, chance, ground, doc)?)?;
+    }
+    Ok(())
 }
 
 /// An examiner's script.
@@ -48,9 +86,7 @@ pub fn script(
     ensures examiner { IfOk result (λ s. s.examiner ≡ examiner) }
 {
     let mut transactions = Vec::new(alloc);
-    for doc in 1..=TRANSACTIONS {
-        transactions.push(transaction(alloc, chance, ground, doc)?)?;
-    }
+    add_transactions(alloc, chance, ground, &mut transactions)?;
     Ok(Script {
         examiner,
         transactions,

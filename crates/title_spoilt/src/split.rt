@@ -105,13 +105,15 @@ impl Splitter {
         }
     }
 
-    // A row that the script's end cuts off is a row.
-    fn into_rows(mut self) -> Result<Vec<Fields>, AllocError> {
-        if self.place != Place::RowStart {
-            self.end_row()?;
+    // Reads all of a text. A row that its end cuts off is a row.
+    fn read(&mut self, text: &[u8]) -> Result<(), AllocError> {
+        for byte in text {
+            self.read_byte(*byte)?;
         }
-        let Splitter { rows, .. } = self;
-        Ok(rows)
+        if self.place == Place::RowStart {
+            return Ok(());
+        }
+        self.end_row()
     }
 }
 
@@ -119,8 +121,7 @@ impl Splitter {
 pub fn rows_of(alloc: Global, script: &[u8]) -> Result<Vec<Fields>, AllocError> {
     let text = script.strip_prefix(b"\xEF\xBB\xBF").unwrap_or(script);
     let mut splitter = Splitter::new(alloc);
-    for byte in text {
-        splitter.read_byte(*byte)?;
-    }
-    splitter.into_rows()
+    splitter.read(text)?;
+    let Splitter { rows, .. } = splitter;
+    Ok(rows)
 }

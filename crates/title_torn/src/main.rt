@@ -10,6 +10,7 @@ mod days;
 mod devices;
 mod faults;
 mod files;
+mod large;
 mod lies;
 mod memory;
 mod second;
@@ -25,6 +26,7 @@ use day::{Day, Plant};
 use days::try_day;
 use faults::try_faults;
 use files::{try_beginnings, try_files};
+use large::try_large;
 use memory::Wanted;
 use std::env;
 use std::rt::Files;
@@ -58,7 +60,8 @@ fn try_all<R: Files + Print + AllocGlobal>(rt: &R) -> Result<()> {
     try_beginnings(rt, plant.file.as_slice())?;
     let day = Day::read(rt, "monday", Schedule::Serial)?;
     try_files(rt, &day)?;
-    try_faults(rt)
+    try_faults(rt)?;
+    try_large(rt)
 }
 
 // Whether the first word asks for the calls that are made again where memory is refused.

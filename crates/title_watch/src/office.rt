@@ -12,7 +12,7 @@ use std::marker::Brand;
 use std::sync::Wait;
 use std::thread::Threads;
 use title_desk::may_open;
-use title_land::Township;
+use title_land::{Township, Tract};
 use title_office::{Ledger, MOST_VIEWERS, Office, Opened, Room, Seat, Viewer};
 
 /// How many records were committed in all, and how many sheets were shown.
@@ -20,6 +20,47 @@ use title_office::{Ledger, MOST_VIEWERS, Office, Opened, Room, Seat, Viewer};
 pub struct Told {
     pub records: u32,
     pub sheets: u64,
+}
+
+// The seat of the one examiner, after the first sales.
+fn sell_first<B: Room, R: Wait>(
+    rt: &R,
+    alloc: Global,
+    office: &Office<B>,
+    seats: Vec<Seat<B>>,
+    records: u32,
+) -> Result<Seat<B>, AllocError> {
+    let mut seats = seats;
+    match seats.pop() {
+        Some(seat) => sell_all(rt, alloc, office, seat, 0, records),
+        None => Err(AllocError),
+    }
+}
+
+// Sells from this seat while the viewers ask.
+fn sell_beside<B: Room + Send + Sync, R: Threads + Wait + Sync>(
+    rt: &R,
+    alloc: Global,
+    office: &Office<B>,
+    seat: Seat<B>,
+    viewers: Vec<Viewer<B>>,
+    tract: &Tract,
+    job: Job,
+) -> Result<Told, AllocError> {
+    let records = job.records.saturating_add(job.sales);
+    let selling = Selling {
+        rt,
+        alloc,
+        office,
+        seat,
+        from: job.records,
+        to: records,
+    };
+    let (sheets, sold) = watch_all(tract, viewers, job.sheets, selling);
+    match sold {
+        Ok(_) => Ok(Told { records, sheets }),
+        Err(why) => Err(why),
+    }
 }
 
 // Sells while the viewers ask.
@@ -31,26 +72,9 @@ fn sell_and_watch<B: Room + Send + Sync, R: Threads + Wait + Sync>(
     viewers: Vec<Viewer<B>>,
     job: Job,
 ) -> Result<Told, AllocError> {
-    let mut seats = seats;
-    let Some(seat) = seats.pop() else {
-        return Err(AllocError);
-    };
-    let seat = sell_all(rt, alloc, office, seat, 0, job.records)?;
+    let seat = sell_first(rt, alloc, office, seats, job.records)?;
     let tract = first_section(alloc)?;
-    let records = job.records.saturating_add(job.sales);
-    let selling = Selling {
-        rt,
-        alloc,
-        office,
-        seat,
-        from: job.records,
-        to: records,
-    };
-    let (sheets, sold) = watch_all(&tract, viewers, job.sheets, selling);
-    match sold {
-        Ok(_) => Ok(Told { records, sheets }),
-        Err(why) => Err(why),
-    }
+    sell_beside(rt, alloc, office, seat, viewers, &tract, job)
 }
 
 fn run_in_office<B: Room + Send + Sync, R: Threads + Wait + Sync>(

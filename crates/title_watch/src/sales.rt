@@ -5,7 +5,7 @@ use std::sync::Wait;
 use title_chain::{Posting, Terms};
 use title_instrument::{Estates, Instrument, Release};
 use title_land::{Land, Node, Section, Township, Tract, Within};
-use title_office::{Done, Office, Room, Seat};
+use title_office::{Done, Office, Room, Seat, Slip};
 
 /// T3N R2W.
 pub fn township() -> Option<Township> {
@@ -28,26 +28,76 @@ pub fn first_section(alloc: Global) -> Result<Tract, AllocError> {
     section(alloc, 1)
 }
 
-// The sale with this number: a section's surface goes from one of two parties to the other, and back the next time round.
-fn posting(alloc: Global, number: u32) -> Result<Posting, AllocError> {
-    let place = u8::try_from(number % 36).unwrap_or(0);
-    let round = (number / 36) % 2;
+// A release of the surface from one of two parties to the other.
+fn surface_release(from: u32, to: u32) -> Instrument {
     let estates = Estates {
         s: true,
         o: false,
         m: false,
     };
-    let instrument = Instrument::Release(Release {
-        from: round,
-        to: 1u32.saturating_sub(round),
-        estates,
-    });
+    Instrument::Release(Release { from, to, estates })
+}
+
+// The sale with this number: a section's surface goes from one of two parties to the other, and back the next time round.
+fn posting(alloc: Global, number: u32) -> Result<Posting, AllocError> {
+    let place = u8::try_from(number % 36).unwrap_or(0);
+    let round = (number / 36) % 2;
+    let tract = section(alloc, place.saturating_add(1))?;
     let terms = Terms {
         doc: u64::from(number),
-        tract: section(alloc, place.saturating_add(1))?,
-        instrument,
+        tract,
+        instrument: surface_release(round, 1u32.saturating_sub(round)),
     };
     Posting::new(alloc, terms)
+}
+
+fn begin<B: Room, R: Wait>(
+    rt: &R,
+    office: &Office<B>,
+    seat: Seat<B>,
+) -> Result<Slip<B>, AllocError> {
+    match office.begin(rt, seat) {
+        Ok(slip) => Ok(slip),
+        Err(_) => Err(AllocError),
+    }
+}
+
+fn post<B: Room, R: Wait>(
+    rt: &R,
+    office: &Office<B>,
+    slip: &mut Slip<B>,
+    posting: Posting,
+) -> Result<(), AllocError> {
+    match office.post(rt, slip, posting) {
+        Ok(()) => Ok(()),
+        Err(_) => Err(AllocError),
+    }
+}
+
+fn commit<B: Room, R: Wait>(
+    rt: &R,
+    office: &Office<B>,
+    slip: Slip<B>,
+) -> Result<Seat<B>, AllocError> {
+    match office.commit(rt, slip) {
+        Ok(done) => {
+            let Done { seat, .. } = done;
+            Ok(seat)
+        }
+        Err(_) => Err(AllocError),
+    }
+}
+
+// A transaction of one post: the seat, where it was committed.
+fn commit_post<B: Room, R: Wait>(
+    rt: &R,
+    office: &Office<B>,
+    slip: Slip<B>,
+    posting: Posting,
+) -> Result<Seat<B>, AllocError> {
+    let mut slip = slip;
+    post(rt, office, &mut slip, posting)?;
+    commit(rt, office, slip)
 }
 
 // Makes a sale: the seat, where it was committed.
@@ -59,19 +109,8 @@ fn sell<B: Room, R: Wait>(
     number: u32,
 ) -> Result<Seat<B>, AllocError> {
     let posting = posting(alloc, number)?;
-    let Ok(mut slip) = office.begin(rt, seat) else {
-        return Err(AllocError);
-    };
-    let Ok(()) = office.post(rt, &mut slip, posting) else {
-        return Err(AllocError);
-    };
-    match office.commit(rt, slip) {
-        Ok(done) => {
-            let Done { seat, .. } = done;
-            Ok(seat)
-        }
-        Err(_) => Err(AllocError),
-    }
+    let slip = begin(rt, office, seat)?;
+    commit_post(rt, office, slip, posting)
 }
 
 /// An examiner at an office, and the numbers of the sales that it is to make.

@@ -87,6 +87,54 @@ fn beside_four<B: Room + Send + Sync, R: Threads + Wait + Sync>(
     (one.saturating_add(others), sold)
 }
 
+// Three viewers, and one of these.
+fn beside_more<B: Room + Send + Sync, R: Threads + Wait + Sync>(
+    tract: &Tract,
+    first: Viewer<B>,
+    second: Viewer<B>,
+    third: Viewer<B>,
+    viewers: Vec<Viewer<B>>,
+    sheets: u32,
+    selling: Selling<B, R>,
+) -> Came<B> {
+    let mut viewers = viewers;
+    match viewers.pop() {
+        Some(fourth) => beside_four(tract, first, second, third, fourth, sheets, selling),
+        None => beside_three(tract, first, second, third, sheets, selling),
+    }
+}
+
+// Two viewers, and two of these.
+fn beside_pair<B: Room + Send + Sync, R: Threads + Wait + Sync>(
+    tract: &Tract,
+    first: Viewer<B>,
+    second: Viewer<B>,
+    viewers: Vec<Viewer<B>>,
+    sheets: u32,
+    selling: Selling<B, R>,
+) -> Came<B> {
+    let mut viewers = viewers;
+    match viewers.pop() {
+        Some(third) => beside_more(tract, first, second, third, viewers, sheets, selling),
+        None => beside_two(tract, first, second, sheets, selling),
+    }
+}
+
+// A viewer, and three of these.
+fn beside_first<B: Room + Send + Sync, R: Threads + Wait + Sync>(
+    tract: &Tract,
+    first: Viewer<B>,
+    viewers: Vec<Viewer<B>>,
+    sheets: u32,
+    selling: Selling<B, R>,
+) -> Came<B> {
+    let mut viewers = viewers;
+    match viewers.pop() {
+        Some(second) => beside_pair(tract, first, second, viewers, sheets, selling),
+        None => beside_one(tract, first, sheets, selling),
+    }
+}
+
 /// Sells while these viewers, four at most, ask for so many sheets each. Others aren't asked.
 pub fn watch_all<B: Room + Send + Sync, R: Threads + Wait + Sync>(
     tract: &Tract,
@@ -95,15 +143,8 @@ pub fn watch_all<B: Room + Send + Sync, R: Threads + Wait + Sync>(
     selling: Selling<B, R>,
 ) -> Came<B> {
     let mut viewers = viewers;
-    match (viewers.pop(), viewers.pop(), viewers.pop(), viewers.pop()) {
-        (None, _, _, _) => (0, selling.sell()),
-        (Some(first), None, _, _) => beside_one(tract, first, sheets, selling),
-        (Some(first), Some(second), None, _) => beside_two(tract, first, second, sheets, selling),
-        (Some(first), Some(second), Some(third), None) => {
-            beside_three(tract, first, second, third, sheets, selling)
-        }
-        (Some(first), Some(second), Some(third), Some(fourth)) => {
-            beside_four(tract, first, second, third, fourth, sheets, selling)
-        }
+    match viewers.pop() {
+        Some(first) => beside_first(tract, first, viewers, sheets, selling),
+        None => (0, selling.sell()),
     }
 }
