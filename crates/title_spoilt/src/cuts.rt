@@ -17,21 +17,6 @@ fn whole_of<'a>(command: Command, beginning: &[u8], whole: &'a Came) -> Option<&
     }
 }
 
-fn try_beginnings<R: Print + AllocGlobal + Threads + Wait + Sync>(
-    rt: &R,
-    trial: &mut Trial,
-    command: Command,
-    script: &[u8],
-    whole: &Came,
-) -> Result<()> {
-    for end in 0..=script.len() {
-        let beginning = script.get(..end).unwrap_or(script);
-        let wanted = whole_of(command, beginning, whole);
-        trial.try_script(rt, beginning, wanted)?;
-    }
-    Ok(())
-}
-
 /// Tries each beginning of a script, cut at each byte, and tells what came of them. A report of whole rows has to begin the report
 /// of the whole script.
 pub fn try_cuts<R: Print + AllocGlobal + Threads + Wait + Sync>(
@@ -42,7 +27,11 @@ pub fn try_cuts<R: Print + AllocGlobal + Threads + Wait + Sync>(
 ) -> Result<()> {
     let mut trial = Trial::new(command);
     let whole = trial.came(rt, script)?;
-    try_beginnings(rt, &mut trial, command, script, &whole)?;
+    for end in 0..=script.len() {
+        let beginning = script.get(..end).unwrap_or(script);
+        let wanted = whole_of(command, beginning, &whole);
+        trial.try_script(rt, beginning, wanted)?;
+    }
     let tally = trial.tally();
     println!(rt; "beginnings of {name}, {command}: {tally}")?;
     Ok(())

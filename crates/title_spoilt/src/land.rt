@@ -83,24 +83,14 @@ impl<'a> Letters<'a> {
         if self.word(word) { Some(()) } else { None }
     }
 
-    fn sides(&mut self) -> Option<(u64, bool)> {
+    fn township(&mut self) -> Option<Township> {
+        self.must("t")?;
         let number = self.number_to(99)?;
         let is_north = self.side("n", "s")?;
-        Some((number, is_north))
-    }
-
-    fn range(&mut self) -> Option<(u64, bool)> {
+        self.side(",", "-");
         self.must("r")?;
         let range = self.number_to(99)?;
         let is_east = self.side("e", "w")?;
-        Some((range, is_east))
-    }
-
-    fn township(&mut self) -> Option<Township> {
-        self.must("t")?;
-        let (number, is_north) = self.sides()?;
-        self.side(",", "-");
-        let (range, is_east) = self.range()?;
         Some(Township {
             number,
             is_north,
@@ -116,19 +106,14 @@ impl<'a> Letters<'a> {
     }
 }
 
-fn add_letters(letters: &mut Vec<u8>, text: &str) -> Result<(), AllocError> {
+// The letters that count, in lower case.
+fn letters_of(alloc: Global, text: &str) -> Result<Vec<u8>, AllocError> {
+    let mut letters = Vec::new(alloc);
     for byte in text.bytes() {
         if byte != b' ' && byte != b'.' {
             letters.push(byte.to_ascii_lowercase())?;
         }
     }
-    Ok(())
-}
-
-// The letters that count, in lower case.
-fn letters_of(alloc: Global, text: &str) -> Result<Vec<u8>, AllocError> {
-    let mut letters = Vec::new(alloc);
-    add_letters(&mut letters, text)?;
     Ok(letters)
 }
 
@@ -155,23 +140,18 @@ fn within(
     }
 }
 
-// The land that letters describe.
-fn land_in(alloc: Global, text: &[u8]) -> Result<Option<Land>, AllocError> {
-    if text == b"everything".as_slice() {
-        return Ok(Some(Land::Everything));
-    }
-    let mut letters = Letters::new(text);
-    match letters.township() {
-        Some(township) => within(alloc, township, letters),
-        None => Ok(None),
-    }
-}
-
 /// The land that a text describes, if it does.
 pub fn land_of(alloc: Global, text: &str) -> Result<Option<Land>, AllocError> {
     if text.len() > 1_000 {
         return Ok(None);
     }
-    let letters = letters_of(alloc, text)?;
-    land_in(alloc, letters.as_slice())
+    let text = letters_of(alloc, text)?;
+    if text.as_slice() == b"everything".as_slice() {
+        return Ok(Some(Land::Everything));
+    }
+    let mut letters = Letters::new(text.as_slice());
+    match letters.township() {
+        Some(township) => within(alloc, township, letters),
+        None => Ok(None),
+    }
 }

@@ -42,57 +42,41 @@ impl Ending {
     }
 }
 
-// Adds a field between quotes.
-fn add_quoted(text: &mut Vec<u8>, field: &[u8]) -> Result<(), AllocError> {
-    text.extend_from_slice(b"\"")?;
-    text.extend_from_slice(field)?;
-    text.extend_from_slice(b"\"")
-}
-
+// A field between quotes.
 fn quoted(alloc: Global, field: &[u8]) -> Result<Vec<u8>, AllocError> {
     let mut text = Vec::new(alloc);
-    add_quoted(&mut text, field)?;
+    text.push(b'"')?;
+    text.extend_from_slice(field)?;
+    text.push(b'"')?;
     Ok(text)
 }
 
-fn add_field(alloc: Global, fields: &mut Vec<Vec<u8>>, field: &[u8]) -> Result<(), AllocError> {
-    fields.push(Vec::from_slice(alloc, field)?)?;
-    Ok(())
+fn copies(alloc: Global, fields: &[Vec<u8>]) -> Result<Vec<Vec<u8>>, AllocError> {
+    let mut copies = Vec::new(alloc);
+    for field in fields {
+        copies.push(Vec::from_slice(alloc, field.as_slice())?)?;
+    }
+    Ok(copies)
 }
 
 impl Line {
-    fn new(alloc: Global, ending: Ending) -> Line {
-        Line {
-            fields: Vec::new(alloc),
-            ending,
-        }
-    }
-
-    fn add_read(&mut self, alloc: Global, line: &[u8]) -> Result<(), AllocError> {
+    fn read(alloc: Global, line: &[u8]) -> Result<Line, AllocError> {
+        let mut fields = Vec::new(alloc);
         for field in line.split(|byte| *byte == b',') {
-            add_field(alloc, &mut self.fields, field)?;
+            fields.push(Vec::from_slice(alloc, field)?)?;
         }
-        Ok(())
-    }
-
-    fn read(alloc: Global, text: &[u8]) -> Result<Line, AllocError> {
-        let mut line = Line::new(alloc, Ending::Feed);
-        line.add_read(alloc, text)?;
-        Ok(line)
-    }
-
-    fn add_copied(&mut self, alloc: Global, other: &Line) -> Result<(), AllocError> {
-        for field in other.fields.as_slice() {
-            add_field(alloc, &mut self.fields, field.as_slice())?;
-        }
-        Ok(())
+        Ok(Line {
+            fields,
+            ending: Ending::Feed,
+        })
     }
 
     /// The same row.
     pub fn copy(&self, alloc: Global) -> Result<Line, AllocError> {
-        let mut copy = Line::new(alloc, self.ending);
-        copy.add_copied(alloc, self)?;
-        Ok(copy)
+        Ok(Line {
+            fields: copies(alloc, self.fields.as_slice())?,
+            ending: self.ending,
+        })
     }
 
     fn leave_out(&mut self, place: usize) {
@@ -101,19 +85,11 @@ impl Line {
         }
     }
 
-    fn copy_of(&self, alloc: Global, place: usize) -> Result<Vec<u8>, AllocError> {
-        match self.fields.get(place) {
-            Some(field) => Vec::from_slice(alloc, field.as_slice()),
-            None => Ok(Vec::new(alloc)),
-        }
-    }
-
     fn double(&mut self, alloc: Global, place: usize) -> Result<(), AllocError> {
-        if place >= self.fields.len() {
-            return Ok(());
+        if let Some(field) = self.fields.get(place) {
+            let copy = Vec::from_slice(alloc, field.as_slice())?;
+            self.fields.insert(place, copy)?;
         }
-        let copy = self.copy_of(alloc, place)?;
-        self.fields.insert(place, copy)?;
         Ok(())
     }
 
@@ -149,40 +125,33 @@ impl Line {
 
     // Adds the bytes of the row to a text.
     fn add_to(&self, text: &mut Vec<u8>) -> Result<(), AllocError> {
-        let mut comma: &[u8] = b"";
+        let mut is_first = true;
         for field in self.fields.as_slice() {
-            text.extend_from_slice(comma)?;
+            if !is_first {
+                text.push(b',')?;
+            }
+            is_first = false;
             text.extend_from_slice(field.as_slice())?;
-            comma = b",";
         }
         text.extend_from_slice(self.ending.bytes().as_bytes())
     }
 }
 
-fn add_line(alloc: Global, lines: &mut Vec<Line>, line: &[u8]) -> Result<(), AllocError> {
-    lines.push(Line::read(alloc, line)?)?;
-    Ok(())
-}
-
-/// Adds the rows of a script that has no quotes.
-pub fn add_lines(alloc: Global, lines: &mut Vec<Line>, script: &[u8]) -> Result<(), AllocError> {
+/// The rows of a script that has no quotes.
+pub fn lines_of(alloc: Global, script: &[u8]) -> Result<Vec<Line>, AllocError> {
     let script = script.strip_suffix(b"\n").unwrap_or(script);
+    let mut lines = Vec::new(alloc);
     for line in script.split(|byte| *byte == b'\n') {
-        add_line(alloc, lines, line)?;
+        lines.push(Line::read(alloc, line)?)?;
     }
-    Ok(())
-}
-
-fn add_text(text: &mut Vec<u8>, lines: &[Line]) -> Result<(), AllocError> {
-    for line in lines {
-        line.add_to(text)?;
-    }
-    Ok(())
+    Ok(lines)
 }
 
 /// The bytes of rows.
 pub fn text_of(alloc: Global, lines: &[Line]) -> Result<Vec<u8>, AllocError> {
     let mut text = Vec::new(alloc);
-    add_text(&mut text, lines)?;
+    for line in lines {
+        line.add_to(&mut text)?;
+    }
     Ok(text)
 }

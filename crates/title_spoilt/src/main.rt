@@ -52,8 +52,8 @@ fn try_subject<R: Files + Print + AllocGlobal + Threads + Wait + Sync>(
 
 fn try_small<R: Files + Print + AllocGlobal + Threads + Wait + Sync>(rt: &R) -> Result<()> {
     let name = "small";
-    let mut script = script(rt, name)?;
-    try_bytes(rt, name, Command::Run, &mut script)
+    let script = script(rt, name)?;
+    try_bytes(rt, name, Command::Run, script.as_slice())
 }
 
 fn main(rt: HostRuntime) -> Result<()> {

@@ -8,16 +8,6 @@ use std::sync::Wait;
 use std::thread::Threads;
 use title_chance::Chance;
 
-fn try_one<R: Print + AllocGlobal + Threads + Wait + Sync>(
-    rt: &R,
-    trial: &mut Trial,
-    chance: &mut Chance,
-    script: &[u8],
-) -> Result<()> {
-    let text = spoilt(rt.alloc(), chance, script)?;
-    trial.try_script(rt, text.as_slice(), None)
-}
-
 /// Tries so many scripts that chance makes of one, and tells what came of them.
 pub fn try_spoilt<R: Print + AllocGlobal + Threads + Wait + Sync>(
     rt: &R,
@@ -29,7 +19,8 @@ pub fn try_spoilt<R: Print + AllocGlobal + Threads + Wait + Sync>(
     let mut trial = Trial::new(command);
     let mut chance = Chance::new(u64::from(count));
     for _ in 0..count {
-        try_one(rt, &mut trial, &mut chance, script)?;
+        let text = spoilt(rt.alloc(), &mut chance, script)?;
+        trial.try_script(rt, text.as_slice(), None)?;
     }
     let tally = trial.tally();
     println!(rt; "{name} spoilt, {command}: {tally}")?;

@@ -139,21 +139,24 @@ fn next_step(letters: &mut Letters<'_>) -> Option<Step> {
     any_step(letters)
 }
 
-// Reads the steps of a part, as many as there are letters at most: whether a text is one.
-fn add_steps(steps: &mut Vec<Step>, text: &[u8]) -> Result<bool, AllocError> {
+// The steps of a part, if a text is one; it has fewer of these than letters.
+fn steps_of(alloc: Global, text: &[u8]) -> Result<Option<Vec<Step>>, AllocError> {
     let mut letters = Letters::new(text);
-    let mut next = any_step(&mut letters);
+    let mut steps = Vec::new(alloc);
+    let Some(first) = any_step(&mut letters) else {
+        return Ok(None);
+    };
+    steps.push(first)?;
     for _letter in text {
-        let Some(step) = next else {
-            return Ok(false);
+        if letters.are_read() {
+            return Ok(Some(steps));
+        }
+        let Some(step) = next_step(&mut letters) else {
+            return Ok(None);
         };
         steps.push(step)?;
-        if letters.are_read() {
-            return Ok(true);
-        }
-        next = next_step(&mut letters);
     }
-    Ok(false)
+    Ok(None)
 }
 
 // The rectangle that steps leave of the section, the last taken first.
@@ -169,37 +172,14 @@ fn rectangle_of(steps: &[Step]) -> Option<Rectangle> {
 }
 
 fn part(alloc: Global, text: &[u8]) -> Result<Option<Rectangle>, AllocError> {
-    let mut steps = Vec::new(alloc);
-    if add_steps(&mut steps, text)? {
-        Ok(rectangle_of(steps.as_slice()))
-    } else {
-        Ok(None)
+    match steps_of(alloc, text)? {
+        Some(steps) => Ok(rectangle_of(steps.as_slice())),
+        None => Ok(None),
     }
 }
 
 fn meets_any(found: &[Rectangle], part: Rectangle) -> bool {
     found.iter().any(|other| other.meets(part))
-}
-
-// Adds a part, where it's one that shares no cell with those found.
-fn add_part(alloc: Global, found: &mut Vec<Rectangle>, text: &[u8]) -> Result<bool, AllocError> {
-    let Some(rectangle) = part(alloc, text)? else {
-        return Ok(false);
-    };
-    if meets_any(found.as_slice(), rectangle) {
-        return Ok(false);
-    }
-    found.push(rectangle)?;
-    Ok(true)
-}
-
-fn add_parts(alloc: Global, found: &mut Vec<Rectangle>, text: &[u8]) -> Result<bool, AllocError> {
-    for piece in text.split(|byte| *byte == b',') {
-        if !add_part(alloc, found, piece)? {
-            return Ok(false);
-        }
-    }
-    Ok(true)
 }
 
 /// Whether a text names the whole section, or parts of it of which no two share a cell.
@@ -208,5 +188,14 @@ pub fn are_parts(alloc: Global, text: &[u8]) -> Result<bool, AllocError> {
         return Ok(true);
     }
     let mut found = Vec::new(alloc);
-    add_parts(alloc, &mut found, text)
+    for piece in text.split(|byte| *byte == b',') {
+        let Some(rectangle) = part(alloc, piece)? else {
+            return Ok(false);
+        };
+        if meets_any(found.as_slice(), rectangle) {
+            return Ok(false);
+        }
+        found.push(rectangle)?;
+    }
+    Ok(true)
 }

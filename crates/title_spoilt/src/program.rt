@@ -19,42 +19,31 @@ pub struct Came {
     pub status: u8,
 }
 
-// Which transactions a command has open at a time.
-fn schedule_of(command: Command) -> Schedule {
-    if command == Command::Alone {
-        Schedule::Serial
-    } else {
-        Schedule::Interleaved
-    }
-}
-
-// Runs a script by a command: the status, and what was written.
-fn serve_by<R: AllocGlobal + Threads + Wait + Sync>(
-    rt: &R,
-    command: Command,
-    script: &[u8],
-) -> (u8, Vec<u8>) {
-    let alloc = rt.alloc();
-    let mut source = Device::new(script);
-    let mut sink = Device::new(Vec::new(alloc));
-    let ending = if command == Command::Office {
-        serve_office(rt, alloc, EXAMINERS, TRIES, &mut source, &mut sink)
-    } else {
-        let schedule = schedule_of(command);
-        serve(alloc, schedule, &mut source, &mut sink, &mut Unwatched)
-    };
-    (ending.status.code(), sink.into_inner())
-}
-
 /// Does what a command asks for with a script, as the program does: the report, or the line of a fault.
 pub fn run<R: AllocGlobal + Threads + Wait + Sync>(
     rt: &R,
     command: Command,
     script: &[u8],
 ) -> Result<Came, AllocError> {
-    let (status, stdout) = serve_by(rt, command, script);
-    let stdout = String::from_utf8_lossy(rt.alloc(), stdout.as_slice())?;
-    Ok(Came { stdout, status })
+    let alloc = rt.alloc();
+    let mut source = Device::new(script);
+    let mut sink = Device::new(Vec::new(alloc));
+    let ending = match command {
+        Command::Run => {
+            let schedule = Schedule::Interleaved;
+            serve(alloc, schedule, &mut source, &mut sink, &mut Unwatched)
+        }
+        Command::Alone => {
+            let schedule = Schedule::Serial;
+            serve(alloc, schedule, &mut source, &mut sink, &mut Unwatched)
+        }
+        Command::Office => serve_office(rt, alloc, EXAMINERS, TRIES, &mut source, &mut sink),
+    };
+    let stdout = sink.into_inner();
+    Ok(Came {
+        stdout: String::from_utf8_lossy(alloc, stdout.as_slice())?,
+        status: ending.status.code(),
+    })
 }
 
 impl Came {

@@ -110,25 +110,18 @@ impl Book {
         }
     }
 
-    fn township_fault(&self, township: Township) -> Option<Kind> {
-        if self.townships.as_slice().contains(&township) || self.townships.len() >= 64 {
-            return Some(Kind::Row);
-        }
-        if !self.steps.is_empty() {
-            return Some(Kind::Order);
-        }
-        None
-    }
-
     fn add_township(&mut self, text: &str) -> Result<Option<Kind>, AllocError> {
         let Some(Land::Township(township)) = land_of(self.alloc, text)? else {
             return Ok(Some(Kind::Row));
         };
-        let fault = self.township_fault(township);
-        if fault.is_none() {
-            self.townships.push(township)?;
+        if self.townships.as_slice().contains(&township) || self.townships.len() >= 64 {
+            return Ok(Some(Kind::Row));
         }
-        Ok(fault)
+        if !self.steps.is_empty() {
+            return Ok(Some(Kind::Order));
+        }
+        self.townships.push(township)?;
+        Ok(None)
     }
 
     fn knows(&self, name: &str) -> bool {
@@ -136,24 +129,18 @@ impl Book {
         name == "UNITED STATES" || parties.iter().any(|party| party.as_str() == name)
     }
 
-    fn party_fault(&self, name: &str) -> Option<Kind> {
-        if !is_name(name) {
-            Some(Kind::Row)
-        } else if !self.steps.is_empty() {
-            Some(Kind::Order)
-        } else if self.knows(name) {
-            Some(Kind::Party)
-        } else {
-            None
-        }
-    }
-
     fn add_party(&mut self, name: &str) -> Result<Option<Kind>, AllocError> {
-        let fault = self.party_fault(name);
-        if fault.is_none() {
-            self.parties.push(String::from_str(self.alloc, name)?)?;
+        if !is_name(name) {
+            return Ok(Some(Kind::Row));
         }
-        Ok(fault)
+        if !self.steps.is_empty() {
+            return Ok(Some(Kind::Order));
+        }
+        if self.knows(name) {
+            return Ok(Some(Kind::Party));
+        }
+        self.parties.push(String::from_str(self.alloc, name)?)?;
+        Ok(None)
     }
 
     // Whether a step stands where its examiner can't make it.
@@ -225,39 +212,30 @@ impl Book {
         }
     }
 
-    // Reads rows, down to the first at fault.
-    fn read(&mut self, rows: &[Fields]) -> Result<Option<Fault>, AllocError> {
-        let mut row = 0usize;
-        for fields in rows {
-            row = row.saturating_add(1);
-            if let Some(kind) = self.add_row(fields)? {
-                return Ok(Some(Fault { kind, row }));
-            }
-        }
-        Ok(None)
-    }
-
-    fn into_verdict(self, fault: Option<Fault>) -> Verdict {
-        let has_townships = !self.townships.is_empty();
-        let Book { steps, .. } = self;
-        match fault {
-            Some(fault) => Verdict::Fault(fault),
-            None => Verdict::Good(Good {
-                steps,
-                has_townships,
-            }),
+    fn into_good(self) -> Good {
+        let Book {
+            steps,
+            townships,
+            ..
+        } = self;
+        let has_townships = !townships.is_empty();
+        Good {
+            steps,
+            has_townships,
         }
     }
-}
-
-fn read_rows(alloc: Global, command: Command, rows: &[Fields]) -> Result<Verdict, AllocError> {
-    let mut book = Book::new(alloc, command);
-    let fault = book.read(rows)?;
-    Ok(book.into_verdict(fault))
 }
 
 /// What a script is, run by a command: its first row at fault decides.
 pub fn read(alloc: Global, command: Command, script: &[u8]) -> Result<Verdict, AllocError> {
     let rows = rows_of(alloc, script)?;
-    read_rows(alloc, command, rows.as_slice())
+    let mut book = Book::new(alloc, command);
+    let mut row = 0usize;
+    for fields in rows.as_slice() {
+        row = row.saturating_add(1);
+        if let Some(kind) = book.add_row(fields)? {
+            return Ok(Verdict::Fault(Fault { kind, row }));
+        }
+    }
+    Ok(Verdict::Good(book.into_good()))
 }

@@ -105,15 +105,13 @@ impl Splitter {
         }
     }
 
-    // Reads all of a text. A row that its end cuts off is a row.
-    fn read(&mut self, text: &[u8]) -> Result<(), AllocError> {
-        for byte in text {
-            self.read_byte(*byte)?;
+    // A row that the script's end cuts off is a row.
+    fn into_rows(mut self) -> Result<Vec<Fields>, AllocError> {
+        if self.place != Place::RowStart {
+            self.end_row()?;
         }
-        if self.place == Place::RowStart {
-            return Ok(());
-        }
-        self.end_row()
+        let Splitter { rows, .. } = self;
+        Ok(rows)
     }
 }
 
@@ -121,7 +119,8 @@ impl Splitter {
 pub fn rows_of(alloc: Global, script: &[u8]) -> Result<Vec<Fields>, AllocError> {
     let text = script.strip_prefix(b"\xEF\xBB\xBF").unwrap_or(script);
     let mut splitter = Splitter::new(alloc);
-    splitter.read(text)?;
-    let Splitter { rows, .. } = splitter;
-    Ok(rows)
+    for byte in text {
+        splitter.read_byte(*byte)?;
+    }
+    splitter.into_rows()
 }

@@ -1,6 +1,6 @@
 //! Scripts spoilt by chance.
 
-use crate::line::{Line, add_lines, text_of};
+use crate::line::{Line, lines_of, text_of};
 use std::alloc::{AllocError, Global};
 use title_chance::Chance;
 
@@ -37,15 +37,6 @@ fn double(alloc: Global, chance: &mut Chance, lines: &mut Vec<Line>) -> Result<(
     Ok(())
 }
 
-// Spoils a row once.
-fn spoil_line(alloc: Global, chance: &mut Chance, lines: &mut Vec<Line>) -> Result<(), AllocError> {
-    let place = pick(chance, lines.len());
-    match lines.get_mut(place) {
-        Some(line) => line.spoil(alloc, chance),
-        None => Ok(()),
-    }
-}
-
 // Spoils the rows of a script once.
 fn spoil_lines(
     alloc: Global,
@@ -55,8 +46,13 @@ fn spoil_lines(
     match chance.below(9) {
         0 | 1 => exchange(chance, lines),
         2 => leave_out(chance, lines),
-        3 => return double(alloc, chance, lines),
-        _ => return spoil_line(alloc, chance, lines),
+        3 => double(alloc, chance, lines)?,
+        _ => {
+            let place = pick(chance, lines.len());
+            if let Some(line) = lines.get_mut(place) {
+                line.spoil(alloc, chance)?;
+            }
+        }
     }
     Ok(())
 }
@@ -88,33 +84,20 @@ fn spoil_bytes(chance: &mut Chance, text: &mut Vec<u8>) -> Result<(), AllocError
     Ok(())
 }
 
-// Spoils rows up to twice.
-fn spoil_rows(alloc: Global, chance: &mut Chance, lines: &mut Vec<Line>) -> Result<(), AllocError> {
-    for _ in 0..chance.below(3) {
-        spoil_lines(alloc, chance, lines)?;
-    }
-    Ok(())
-}
-
-// A script with its rows spoilt up to twice.
+// Spoils the rows of a script up to twice.
 fn spoilt_rows(alloc: Global, chance: &mut Chance, script: &[u8]) -> Result<Vec<u8>, AllocError> {
-    let mut lines = Vec::new(alloc);
-    add_lines(alloc, &mut lines, script)?;
-    spoil_rows(alloc, chance, &mut lines)?;
-    text_of(alloc, lines.as_slice())
-}
-
-// Spoils bytes up to twice.
-fn spoil_text(chance: &mut Chance, text: &mut Vec<u8>) -> Result<(), AllocError> {
+    let mut lines = lines_of(alloc, script)?;
     for _ in 0..chance.below(3) {
-        spoil_bytes(chance, text)?;
+        spoil_lines(alloc, chance, &mut lines)?;
     }
-    Ok(())
+    text_of(alloc, lines.as_slice())
 }
 
 /// A script with its rows spoilt up to twice, and its bytes up to twice.
 pub fn spoilt(alloc: Global, chance: &mut Chance, script: &[u8]) -> Result<Vec<u8>, AllocError> {
     let mut text = spoilt_rows(alloc, chance, script)?;
-    spoil_text(chance, &mut text)?;
+    for _ in 0..chance.below(3) {
+        spoil_bytes(chance, &mut text)?;
+    }
     Ok(text)
 }

@@ -1,7 +1,7 @@
 //! Scripts, given to the program and to the second reading.
 
 use crate::program::{Came, run};
-use crate::reading::{Command, Fault, Verdict, read};
+use crate::reading::{Command, Verdict, read};
 use crate::report::{begins, is_report_of};
 use crate::tally::Tally;
 use anyhow::Result;
@@ -16,12 +16,6 @@ pub struct Trial {
     tally: Tally,
 }
 
-// Whether the program tells this fault.
-fn tells_fault(alloc: Global, fault: Fault, came: &Came) -> Result<bool, AllocError> {
-    let line = format!(in alloc; "{fault}\n")?;
-    Ok(came.status == 1 && came.stdout.as_str() == line.as_str())
-}
-
 // Whether the program tells a fault, or a report of the steps, as the second reading has it.
 fn agrees(
     alloc: Global,
@@ -29,20 +23,14 @@ fn agrees(
     verdict: &Verdict,
     came: &Came,
 ) -> Result<bool, AllocError> {
+    let stdout = came.stdout.as_str();
     match verdict {
-        Verdict::Fault(fault) => tells_fault(alloc, *fault, came),
-        Verdict::Good(good) => {
-            Ok(came.is_report() && is_report_of(command, good, came.stdout.as_str()))
+        Verdict::Fault(fault) => {
+            let line = format!(in alloc; "{fault}\n")?;
+            Ok(came.status == 1 && stdout == line.as_str())
         }
+        Verdict::Good(good) => Ok(came.is_report() && is_report_of(command, good, stdout)),
     }
-}
-
-// Shows a script.
-fn show_script<R: Print + AllocGlobal>(rt: &R, script: &[u8]) -> Result<()> {
-    let script = String::from_utf8_lossy(rt.alloc(), script)?;
-    let script = script.as_str();
-    println!(rt; "differs: {script:?}")?;
-    Ok(())
 }
 
 // Shows a script with both verdicts.
@@ -52,7 +40,9 @@ fn show<R: Print + AllocGlobal>(
     verdict: &Verdict,
     came: &Came,
 ) -> Result<()> {
-    show_script(rt, script)?;
+    let script = String::from_utf8_lossy(rt.alloc(), script)?;
+    let script = script.as_str();
+    println!(rt; "differs: {script:?}")?;
     println!(rt; "  second reading: {verdict}")?;
     println!(rt; "  program: {came}")?;
     Ok(())
@@ -81,35 +71,6 @@ impl Trial {
         run(rt, self.command, script)
     }
 
-    // Counts what came of a script. The first that differs is shown.
-    fn count<R: Print + AllocGlobal>(
-        &mut self,
-        rt: &R,
-        script: &[u8],
-        verdict: &Verdict,
-        came: &Came,
-        is_begun: bool,
-    ) -> Result<()> {
-        let is_same = is_begun && agrees(rt.alloc(), self.command, verdict, came)?;
-        if !is_same && self.tally.is_clean() {
-            show(rt, script, verdict, came)?;
-        }
-        self.tally.count(came, is_same);
-        Ok(())
-    }
-
-    // Holds what came of a script against the second reading.
-    fn judge<R: Print + AllocGlobal>(
-        &mut self,
-        rt: &R,
-        script: &[u8],
-        came: &Came,
-        is_begun: bool,
-    ) -> Result<()> {
-        let verdict = read(rt.alloc(), self.command, script)?;
-        self.count(rt, script, &verdict, came, is_begun)
-    }
-
     /// Tries a script, and one that is a beginning of rows also against the report of the whole. The first that differs is shown.
     pub fn try_script<R: Print + AllocGlobal + Threads + Wait + Sync>(
         &mut self,
@@ -117,11 +78,17 @@ impl Trial {
         script: &[u8],
         whole: Option<&Came>,
     ) -> Result<()> {
+        let verdict = read(rt.alloc(), self.command, script)?;
         let came = self.came(rt, script)?;
         let is_begun = match whole {
             Some(whole) => begins(came.stdout.as_str(), whole.stdout.as_str()),
             None => true,
         };
-        self.judge(rt, script, &came, is_begun)
+        let is_same = is_begun && agrees(rt.alloc(), self.command, &verdict, &came)?;
+        if !is_same && self.tally.is_clean() {
+            show(rt, script, &verdict, &came)?;
+        }
+        self.tally.count(&came, is_same);
+        Ok(())
     }
 }
