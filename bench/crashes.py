@@ -474,14 +474,14 @@ def kept_with(beside, tail):
     return (beside or b"") if (beside or b"").endswith(tail) else (beside or b"") + tail
 
 
-TOLD_CUT = re.compile(rb"""([0-9]+) bytes at the end of "[^"\n]*" didn't count, and were cut off; """
-                      rb"""they (are|couldn't be) kept beside it in "plant\.cut"\n""")
+TOLD_CUT = re.compile(rb"""([0-9]+) bytes? at the end of "[^"\n]*" didn't count, and (?:was|were) cut off; """
+                      rb"""(?:it|they) (is|are|couldn't be) kept beside it in "plant\.cut"\n""")
 
 
 def told_cut(errors):
     """The number of bytes that errors tell to be cut off, whether they are kept, and what is told beside that."""
     found = TOLD_CUT.match(errors)
-    return (int(found[1]), found[2] == b"are", errors[found.end():]) if found else (0, False, errors)
+    return (int(found[1]), found[2] in (b"is", b"are"), errors[found.end():]) if found else (0, False, errors)
 
 
 class Day:

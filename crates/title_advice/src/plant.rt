@@ -111,12 +111,17 @@ pub fn cut_advice(
     };
     let beside = format!(in alloc; "{name}.cut")?;
     let (path, beside) = (Quoted(path), Quoted(beside.as_str()));
-    let became = if is_kept {
-        "they are kept beside it in"
+    let (unit, were, they, are) = if bytes == 1 {
+        ("byte", "was", "it", "is")
     } else {
-        "they couldn't be kept beside it in"
+        ("bytes", "were", "they", "are")
     };
-    format!(in alloc;
-        "{bytes} bytes at the end of {path} didn't count, and were cut off; {became} {beside}\n"
-    )
+    let cut = format!(in alloc;
+        "{bytes} {unit} at the end of {path} didn't count, and {were} cut off"
+    )?;
+    if is_kept {
+        format!(in alloc; "{cut}; {they} {are} kept beside it in {beside}\n")
+    } else {
+        format!(in alloc; "{cut}; {they} couldn't be kept beside it in {beside}\n")
+    }
 }

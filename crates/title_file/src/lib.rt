@@ -7,8 +7,6 @@ mod keeping;
 pub mod laws;
 mod plant_file;
 mod record;
-#[cfg(test)]
-mod tests;
 
 pub use drawer::Drawer;
 pub use plant_file::PlantFile;

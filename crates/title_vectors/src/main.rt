@@ -6,7 +6,7 @@ mod case;
 mod tables;
 mod tally;
 
-use advice::check_advice;
+use advice::{check_advice, check_cuts};
 use anyhow::Result;
 use std::process::ExitCode;
 use tables::{check_runs, check_tracts};
@@ -17,6 +17,7 @@ fn main(rt: HostRuntime) -> Result<ExitCode> {
     check_tracts(&rt, &mut tally)?;
     check_runs(&rt, &mut tally)?;
     check_advice(&rt, &mut tally)?;
+    check_cuts(&rt, &mut tally)?;
     println!(rt; "{tally}")?;
     Ok(tally.exit_code())
 }

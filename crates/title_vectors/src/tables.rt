@@ -15,10 +15,14 @@ pub fn field(row: &StringRecord, place: usize) -> Result<&str> {
     row.get(place).context("a row of a table is too short")
 }
 
-/// The fields after the first two.
-pub fn other_fields(alloc: Global, row: &StringRecord) -> Result<Vec<String>, AllocError> {
+/// The fields after so many.
+pub fn fields_after(
+    alloc: Global,
+    row: &StringRecord,
+    first: usize,
+) -> Result<Vec<String>, AllocError> {
     let mut fields = Vec::new(alloc);
-    for field in row.iter().skip(2) {
+    for field in row.iter().skip(first) {
         fields.push(String::from_str(alloc, field)?)?;
     }
     Ok(fields)
@@ -46,7 +50,7 @@ fn tract_words(alloc: Global, text: &str) -> Result<Vec<String>, AllocError> {
 // A text, the status, and the lines that `tract` prints for it.
 fn tract_case(alloc: Global, row: &StringRecord) -> Result<Case> {
     let text = field(row, 0)?;
-    let lines = other_fields(alloc, row)?;
+    let lines = fields_after(alloc, row, 2)?;
     Ok(Case {
         name: String::from_str(alloc, text)?,
         words: tract_words(alloc, text)?,
@@ -71,7 +75,7 @@ fn run_case<R: Files + AllocGlobal>(rt: &R, row: &StringRecord) -> Result<Case> 
     let stdout = file(rt, name, "report")?;
     Ok(Case {
         name: String::from_str(rt.alloc(), name)?,
-        words: other_fields(rt.alloc(), row)?,
+        words: fields_after(rt.alloc(), row, 2)?,
         stdin: file(rt, name, "csv")?,
         wanted: Ending { stdout, status },
     })

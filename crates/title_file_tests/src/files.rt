@@ -1,8 +1,8 @@
-use crate::Drawer;
 use std::fs;
 use std::os::unix::fs::{MetadataExt, PermissionsExt, symlink};
 use std::time::UNIX_EPOCH;
 use title_disk::{Cabinet, Disk, DiskFault, OpenFault};
+use title_file::Drawer;
 
 const FRESH: &[u8] = b"fresh\n-";
 
