@@ -5,3 +5,4 @@ pub mod PlacesInOrder
 pub mod Filings
 pub mod FoundLaws
 pub mod Nearness
+pub mod CoverTells

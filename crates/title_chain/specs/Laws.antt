@@ -2,3 +2,4 @@
 pub mod AskLaws
 pub mod Past
 pub mod PostsAgain
+pub mod PartsInTurn

@@ -9,4 +9,8 @@ pub mod Replays
 pub mod PostPlaces
 pub mod PlaceMaps
 pub mod TractIndexes
+pub mod SoleNodes
+pub mod SheetParts
+pub mod SquareRows
+pub mod KeptRows
 pub mod Laws

@@ -12,14 +12,17 @@ pub mod record;
 pub mod replay;
 pub mod same;
 mod same_parts;
+mod same_sheets;
+pub mod square_row;
 pub mod tract_index;
 
 pub use ask::{Answer, Ask, Entry, Posting, Step, Terms};
 pub use chains::chain;
-pub use lists::{Entries, Records, SheetRows, Steps};
+pub use lists::{Entries, Lines, Part, Parts, Records, Sheet, SheetRows, Steps};
 pub use own_steps::OwnSteps;
 pub use record::Record;
 pub use replay::{post_all_again, sheet_by_chain};
 pub use same::same_steps;
 pub use same_parts::same_tract;
+pub use square_row::SquareRow;
 pub use tract_index::TractIndex;

@@ -4,7 +4,8 @@ ghost use Rattle.std.specs.Prelude.{◌≡◌, ◌↔◌, true};
 
 use crate::ask::{Answer, Ask, Entry, Posting, Step, Terms};
 use crate::record::Record;
-use crate::same_parts::{same_estate, same_node, same_rows, same_rule, same_tract};
+use crate::same_parts::{same_estate, same_node, same_rule, same_tract};
+use crate::same_sheets::same_sheets;
 
 impl Terms {
     fn same(&self, other: &Terms) -> bool
@@ -64,7 +65,7 @@ impl Answer {
         ensures same { (result ≡ true) ↔ (self.now ≡ other.now) }
     {
         match (self, other) {
-            (Answer::Rows(a), Answer::Rows(b)) => same_rows(a.as_slice(), b.as_slice()),
+            (Answer::Rows(a), Answer::Rows(b)) => same_sheets(a, b),
             (Answer::Entries(a), Answer::Entries(b)) => same_entries(a.as_slice(), b.as_slice()),
             (Answer::Posted, Answer::Posted) => true,
             (Answer::Refused(rule, estate, node), Answer::Refused(other, part, place)) => {

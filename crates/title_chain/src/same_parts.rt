@@ -1,10 +1,14 @@
 //! Whether two values of the crates below are one.
 
-ghost use Rattle.std.specs.Prelude.{◌≡◌, ◌↔◌, true};
+ghost use Rattle.std.specs.Prelude.{◌≡◌, ◌↔◌, true, MatchOption};
+ghost use Rattle.title_land.specs.Depth.{depth};
+ghost use Rattle.title_land.specs.Lands.{IsLand};
+ghost use Rattle.title_chain.specs.SoleNodes.{HasNoSoleNode, HasSoleNode};
 
 use title_instrument::{Estate, Rule};
 use title_land::laws::same_nodes_are_equal;
 use title_land::{Land, Node, Section, Township, Tract, Within};
+use title_share::Share;
 use title_store::SheetRow;
 
 fn same_township(a: Township, b: Township) -> bool
@@ -14,15 +18,16 @@ fn same_township(a: Township, b: Township) -> bool
     a.is(b)
 }
 
-fn same_section(a: Section, b: Section) -> bool
+/// Whether two sections are one.
+pub(crate) fn same_section(a: Section, b: Section) -> bool
     ensures same { (result ≡ true) ↔ (a ≡ b) }
 {
     same_nodes_are_equal();
     a.is(b)
 }
 
-// Squares of a section are one exactly where their numbers are, which the derived comparison compares.
-fn same_within(a: Within, b: Within) -> bool
+/// Whether two squares of a section are one. They are exactly where their numbers are, which the derived comparison compares.
+pub(crate) fn same_within(a: Within, b: Within) -> bool
     ensures same { (result ≡ true) ↔ (a ≡ b) }
 {
     a == b
@@ -51,15 +56,35 @@ fn same_land(a: &Land, b: &Land) -> bool
     }
 }
 
+// The one node of a tract's cover, where it has one.
+fn sole_node(tract: &Tract) -> Option<Node>
+    ensures sole { MatchOption result (HasNoSoleNode tract.now) (HasSoleNode tract.now) }
+    ensures sized { IsLand depth tract.now }
+{
+    let (first, rest) = tract.cover().split_first()?;
+    if rest.is_empty() { Some(*first) } else { None }
+}
+
 /// Whether two tracts have the same land.
 pub fn same_tract(a: &Tract, b: &Tract) -> bool
     ensures same { (result ≡ true) ↔ (a.now ≡ b.now) }
 {
-    same_land(&a.land(), &b.land())
+    match (sole_node(a), sole_node(b)) {
+        (Some(node), Some(other)) => same_node(&node, &other),
+        (None, None) => same_land(&a.land(), &b.land()),
+        _ => false,
+    }
 }
 
 /// Whether two estates are one.
 pub(crate) fn same_estate(a: Estate, b: Estate) -> bool
+    ensures same { (result ≡ true) ↔ (a ≡ b) }
+{
+    a == b
+}
+
+/// Whether two shares are one.
+pub(crate) fn same_share(a: Share, b: Share) -> bool
     ensures same { (result ≡ true) ↔ (a ≡ b) }
 {
     a == b
@@ -72,7 +97,8 @@ pub(crate) fn same_rule(a: Rule, b: Rule) -> bool
     a == b
 }
 
-fn same_row(a: &SheetRow, b: &SheetRow) -> bool
+/// Whether two rows are one.
+pub(crate) fn same_row(a: &SheetRow, b: &SheetRow) -> bool
     ensures same { (result ≡ true) ↔ (a.now ≡ b.now) }
 {
     a.party == b.party
@@ -81,7 +107,7 @@ fn same_row(a: &SheetRow, b: &SheetRow) -> bool
         && same_node(&a.node, &b.node)
 }
 
-/// Whether two sheets have the same rows, in order.
+/// Whether two lists have the same rows, in order.
 pub(crate) fn same_rows(a: &[SheetRow], b: &[SheetRow]) -> bool
     ensures same { (result ≡ true) ↔ (a.now ≡ b.now) }
 {

@@ -1,13 +1,18 @@
 -- What stands under the numbers of homes, and what is left there after a post.
-use Rattle.std.proofs.Common.{◌≡◌, ◌≢◌, ◌⊎◌, ◌<◌, ◌+◌, ◌*◌, ℕ, Bool, true, false, not, ◌||◌, cond, eqb, List, [], ◌∷◌, Option, Some, get_or}
+use Rattle.std.proofs.Common.{◌≡◌, ◌≢◌, ◌⊎◌, ◌<◌, ◌+◌, ◌*◌, ℕ, Bool, true, false, not, ◌&&◌, ◌||◌, cond, eqb, List, [], ◌∷◌, ◌++◌, map}
+use Rattle.std.proofs.Common.{Option, Some, get_or}
 use Rattle.std.proofs.Common.{Result, Ok, Err, OnOk, OnErr, inl, inr, arith, refl, sym, ap, subst, ◌∙◌}
-use Rattle.std.specs.List.{All, filter}
+use Rattle.std.specs.List.{All, AllByRecursion, filter}
 use Rattle.std.specs.Ordering.{nat_cmp}
 use Rattle.std.specs.BTreeMap.{BTreeMap, get, is_at, Updates, IsUnchanged}
 use Rattle.std.specs.Map.{lookup}
 use Rattle.std.specs.Cmp.{unsigned_tied}
-use Rattle.std.proofs.lemmas.Bool.{false_from_ne_true, both_ways, and_parts, or_parts, eqb-true, eqb-false, eq-eqb, cases_eq}
-use Rattle.std.proofs.lemmas.List.Elements.{All-nil, All-cons, All-same, All-weaker, All-filter, filter_passes}
+use Rattle.std.proofs.lemmas.Bool.{false_from_ne_true, both_ways, and_parts, or_parts, eqb-true, eqb-false, eq-eqb, cases_eq, cases_Bool}
+use Rattle.std.proofs.lemmas.List.Elements.{All-nil, All-same, All-weaker, All-filter, All-append, All-map}
+use Rattle.std.proofs.lemmas.List.Elements.{All-from_recursion, recursion_from_All, filter_passes, filter-append}
+use Rattle.title_instrument.specs.declared.parts.Estates.{Estates}
+use Rattle.title_instrument.specs.Estates.{names}
+use Rattle.title_instrument.specs.Owners.{holding_of}
 use Rattle.title_land.specs.Depth.{depth}
 use Rattle.title_land.specs.Lands.{meets}
 use Rattle.title_land.specs.Grids.{has_some, grids_meet}
@@ -19,17 +24,23 @@ use Rattle.title_land.specs.Laws.SameNode.{same_node-is}
 use Rattle.title_land.specs.Nodes.{same_node, is_above, are_related}
 use Rattle.title_land.specs.declared.node.Node.{Node}
 use Rattle.title_land.specs.declared.node.Node.TheVariants as node
+use Rattle.title_land.specs.declared.place.Cell.{Cell}
 use Rattle.title_land.specs.declared.place.Section.{Section}
 use Rattle.title_land.specs.declared.place.Township.{Township}
 use Rattle.title_land.specs.declared.tract.Land.{Land}
 use Rattle.title_land.specs.declared.tract.Land.TheVariants as land
-use Rattle.title_store.specs.Plants.{Plant}
+use Rattle.title_store.specs.Plants.{Plant, is_cell_of}
 use Rattle.title_store.specs.Laws.SheetLaws.{sheet_same}
+use Rattle.title_store.specs.Laws.SheetParts.{part_same}
 use Rattle.title_chain.specs.Laws.AskLaws.{cell_meets}
-use Rattle.title_desk.specs.declared.kept_sheets.Shown.{Shown}
+use Rattle.title_desk.specs.declared.kept_sheets.Kept.{Kept}
+use Rattle.title_desk.specs.declared.kept_sheets.Kept.TheVariants as what
 use Rattle.title_desk.specs.declared.kept_sheets.Home.{Home}
+use Rattle.title_desk.specs.declared.kept_sheets.Quartered.{Quartered}
 use Rattle.title_desk.specs.declared.kept_sheets.KeptSheets.{KeptSheets}
-use Rattle.title_desk.specs.Shown.{IsShown, is_left, home_of, sheets_in, sheets_under, IsSetUnder, IsKept, AreKept, SameOutside, AreLeft}
+use Rattle.title_desk.specs.Shown.{IsQuarter, IsTrue, land_in, is_left, home_of, all_kept, kept_in, kept_under}
+use Rattle.title_desk.specs.Shown.{IsSetUnder, IsKept, AreKept}
+use Rattle.title_desk.specs.Shown.{SameOutside, SameBut, AreLeft}
 use Rattle.title_desk.specs.Shown.{OthersStay, ApartStay}
 
 -- ---- what stands under a number
@@ -37,17 +48,68 @@ use Rattle.title_desk.specs.Shown.{OthersStay, ApartStay}
 -- where there is no home, there is no sheet
 pub none_kept : (ts : List Township) (p : Plant) (kept : KeptSheets) → kept.homes.entries ≡ [] → AreKept ts p kept
 none_kept ts p kept none = record {
-  each = λ k. All-same (IsKept ts p k) (sheets_under kept k) []
-      (ap (λ (es : List (ℕ × Home)). sheets_in (lookup (is_at (nat_cmp k)) es)) none) (All-nil (IsKept ts p k));
+  each = λ k. All-same (IsKept ts p k) (kept_under kept k) []
+      (ap (λ (es : List (ℕ × Home)). kept_in (lookup (is_at (nat_cmp k)) es)) none) (All-nil (IsKept ts p k));
 }
 
--- the sheets that a home was found with
-pub found_sheets : (P : Shown → Type 0) (home : Home) (o : Option Home) → Some home ≡ o → All P (sheets_in o) → All P home.shown.items
-found_sheets P home o found all = subst (λ (z : Option Home). All P (sheets_in z)) (sym found) all
+-- what a home was found with
+pub found_home : (P : Kept → Type 0) (home : Home) (o : Option Home) → Some home ≡ o → All P (kept_in o) → All P (all_kept home)
+found_home P home o found all = subst (λ (z : Option Home). All P (kept_in z)) (sym found) all
 
-sheets_cond : (b : Bool) (x y : Option Home) → sheets_in (cond b x y) ≡ cond b (sheets_in x) (sheets_in y)
-sheets_cond true x y = refl
-sheets_cond false x y = refl
+-- of what is kept of a home, the sheets, and the quarters' parts
+front : {X : Type 0} (P : X → Type 0) (xs ys : List X) → AllByRecursion P (xs ++ ys) → AllByRecursion P xs
+front P [] ys h = tt
+front P (x ∷ xs) ys h = (h.0, front P xs ys h.1)
+
+back : {X : Type 0} (P : X → Type 0) (xs ys : List X) → AllByRecursion P (xs ++ ys) → AllByRecursion P ys
+back P [] ys h = h
+back P (x ∷ xs) ys h = back P xs ys h.1
+
+unmapped : {X Y : Type 0} (P : Y → Type 0) (f : X → Y) (xs : List X) → AllByRecursion P (map f xs) → AllByRecursion (λ x. P (f x)) xs
+unmapped P f [] h = tt
+unmapped P f (x ∷ xs) h = (h.0, unmapped P f xs h.1)
+
+pub sheets_of : (P : Kept → Type 0) (home : Home) → All P (all_kept home) → All (λ x. P (what.Sheet x)) home.shown.items
+unfolding all_kept
+sheets_of P home all =
+    All-from_recursion (λ x. P (what.Sheet x)) home.shown.items (unmapped P what.Sheet home.shown.items
+    (front P (map what.Sheet home.shown.items) (map what.Quarter home.quarters.items) (recursion_from_All P (all_kept home) all)))
+
+pub quarters_of : (P : Kept → Type 0) (home : Home) → All P (all_kept home) → All (λ x. P (what.Quarter x)) home.quarters.items
+unfolding all_kept
+quarters_of P home all =
+    All-from_recursion (λ x. P (what.Quarter x)) home.quarters.items (unmapped P what.Quarter home.quarters.items
+    (back P (map what.Sheet home.shown.items) (map what.Quarter home.quarters.items) (recursion_from_All P (all_kept home) all)))
+
+pub all_of : (P : Kept → Type 0) (home : Home) → All (λ x. P (what.Sheet x)) home.shown.items
+    → All (λ x. P (what.Quarter x)) home.quarters.items → All P (all_kept home)
+unfolding all_kept
+all_of P home sheets quarters =
+    All-append P (map what.Sheet home.shown.items) (map what.Quarter home.quarters.items)
+    (All-map P what.Sheet home.shown.items sheets) (All-map P what.Quarter home.quarters.items quarters)
+
+-- a filter of what is kept of a home
+filter_mapped : {X Y : Type 0} (f : X → Y) (p : Y → Bool) (xs : List X) → filter p (map f xs) ≡ map f (filter (λ x. p (f x)) xs)
+filter_mapped f p [] = refl
+filter_mapped f p (x ∷ xs) = go (p (f x)) (filter_mapped f p xs)
+  where
+    go : (b : Bool) → filter p (map f xs) ≡ map f (filter (λ y. p (f y)) xs)
+        → cond b (f x ∷ filter p (map f xs)) (filter p (map f xs))
+        ≡ map f (cond b (x ∷ filter (λ y. p (f y)) xs) (filter (λ y. p (f y)) xs))
+    go true rest = ap (λ ys. f x ∷ ys) rest
+    go false rest = rest
+
+pub filtered_home : (p : Kept → Bool) (old new : Home) → new.shown.items ≡ filter (λ x. p (what.Sheet x)) old.shown.items
+    → new.quarters.items ≡ filter (λ x. p (what.Quarter x)) old.quarters.items → all_kept new ≡ filter p (all_kept old)
+unfolding all_kept
+filtered_home p old new sheets quarters =
+    (λ i. map what.Sheet (sheets i) ++ map what.Quarter (quarters i))
+    ∙ (λ i. sym (filter_mapped what.Sheet p old.shown.items) i ++ sym (filter_mapped what.Quarter p old.quarters.items) i)
+    ∙ sym (filter-append p (map what.Sheet old.shown.items) (map what.Quarter old.quarters.items))
+
+kept_cond : (b : Bool) (x y : Option Home) → kept_in (cond b x y) ≡ cond b (kept_in x) (kept_in y)
+kept_cond true x y = refl
+kept_cond false x y = refl
 
 -- homes by their numbers
 abbrev pub Homes : Type 0
@@ -56,43 +118,38 @@ Homes = BTreeMap ℕ Home
 -- sheets after the map of homes was written at a number
 pub set_under : (k : ℕ) (o : Option Home) (old new : Homes)
     → ((j : ℕ) → get nat_cmp new j ≡ cond (is_at (nat_cmp k) j) o (get nat_cmp old j))
-    → (j : ℕ) → sheets_in (get nat_cmp new j) ≡ cond (eqb k j) (sheets_in o) (sheets_in (get nat_cmp old j))
+    → (j : ℕ) → kept_in (get nat_cmp new j) ≡ cond (eqb k j) (kept_in o) (kept_in (get nat_cmp old j))
 set_under k o old new writes j =
-    ap sheets_in (writes j ∙ ap (λ (b : Bool). cond b o (get nat_cmp old j)) (unsigned_tied k j))
-    ∙ sheets_cond (eqb k j) o (get nat_cmp old j)
+    ap kept_in (writes j ∙ ap (λ (b : Bool). cond b o (get nat_cmp old j)) (unsigned_tied k j))
+    ∙ kept_cond (eqb k j) o (get nat_cmp old j)
 
-kept_at : (ts : List Township) (p : Plant) (k j : ℕ) (xs ys : List Shown) (b : Bool) → eqb k j ≡ b → All (IsKept ts p k) xs
+kept_at : (ts : List Township) (p : Plant) (k j : ℕ) (xs ys : List Kept) (b : Bool) → eqb k j ≡ b → All (IsKept ts p k) xs
     → All (IsKept ts p j) ys → All (IsKept ts p j) (cond b xs ys)
 kept_at ts p k j xs ys true e here there = subst (λ (n : ℕ). All (IsKept ts p n) xs) (eqb-true k j e) here
 kept_at ts p k j xs ys false e here there = there
 
 -- the sheets under one number were changed, and are the plant's
-pub kept_set : (ts : List Township) (p : Plant) (k : ℕ) (xs : List Shown) (old new : KeptSheets) → IsSetUnder k xs old new
+pub kept_set : (ts : List Township) (p : Plant) (k : ℕ) (xs : List Kept) (old new : KeptSheets) → IsSetUnder k xs old new
     → All (IsKept ts p k) xs → AreKept ts p old → AreKept ts p new
 kept_set ts p k xs old new set here are = record {
-  each = λ j. All-same (IsKept ts p j) (sheets_under new j) _ (set j)
-      (kept_at ts p k j xs (sheets_under old j) (eqb k j) refl here (are.each j));
+  each = λ j. All-same (IsKept ts p j) (kept_under new j) _ (set j)
+      (kept_at ts p k j xs (kept_under old j) (eqb k j) refl here (are.each j));
 }
-
--- a sheet that stands alone
-pub sole_kept : (ts : List Township) (p : Plant) (k : ℕ) (x : Shown) (xs : List Shown) → xs ≡ x ∷ [] → IsKept ts p k x
-    → All (IsKept ts p k) xs
-sole_kept ts p k x xs sole is = All-same (IsKept ts p k) xs (x ∷ []) sole (All-cons (IsKept ts p k) x [] is (All-nil (IsKept ts p k)))
 
 -- the same homes have the same sheets
 pub kept_unchanged : (ts : List Township) (p : Plant) (old new : KeptSheets) → IsUnchanged old.homes new.homes → AreKept ts p old
     → AreKept ts p new
 kept_unchanged ts p old new same are = record {
-  each = λ k. All-same (IsKept ts p k) (sheets_under new k) (sheets_under old k)
-      (ap (λ (es : List (ℕ × Home)). sheets_in (lookup (is_at (nat_cmp k)) es)) same) (are.each k);
+  each = λ k. All-same (IsKept ts p k) (kept_under new k) (kept_under old k)
+      (ap (λ (es : List (ℕ × Home)). kept_in (lookup (is_at (nat_cmp k)) es)) same) (are.each k);
 }
 
 -- a home was put in under a number, or all stayed as it was
 pub kept_put : {T E : Type 0} (r : Result T E) (ts : List Township) (p : Plant) (k : ℕ) (home : Home) (old new : KeptSheets)
     → OnOk r (Updates nat_cmp old.homes new.homes k (Some home)) → OnErr r (IsUnchanged old.homes new.homes)
-    → All (IsKept ts p k) home.shown.items → AreKept ts p old → AreKept ts p new
+    → All (IsKept ts p k) (all_kept home) → AreKept ts p old → AreKept ts p new
 kept_put (Ok x) ts p k home old new updates same here are =
-    kept_set ts p k home.shown.items old new (set_under k (Some home) old.homes new.homes updates.0) here are
+    kept_set ts p k (all_kept home) old new (set_under k (Some home) old.homes new.homes updates.0) here are
 kept_put (Err x) ts p k home old new updates same here are = kept_unchanged ts p old new same are
 
 -- ---- after a post
@@ -101,26 +158,53 @@ not_true : (b : Bool) → not b ≡ true → b ≡ false
 not_true true h = cc
 not_true false h = refl
 
--- a sheet that shares no cell with the land of a post
-apart : (ts : List Township) (land : Land) (p q : Plant) (x : Shown) → meets x.tract land ≡ false → SameOutside ts land p q
-    → IsShown ts p x → IsShown ts q x
-apart ts land p q x away outside shown =
-    shown ∙ sheet_same depth ts x.tract p q (λ c inside. sym (outside c
-    (false_from_ne_true _ (λ k. both_ways _ away (cell_meets depth ts x.tract land c inside k)))))
+-- the cells of a tract that shares none with the land of a post
+untouched : (ts : List Township) (x land : Land) (p q : Plant) → meets x land ≡ false → SameOutside ts land p q
+    → (c : Cell) → is_cell_of depth ts x c ≡ true → p c ≡ q c
+untouched ts x land p q away outside c inside =
+    sym (outside c (false_from_ne_true _ (λ k. both_ways _ away (cell_meets depth ts x land c inside k))))
+
+-- what is kept of a tract that shares no cell with the land of a post
+apart : (ts : List Township) (land : Land) (p q : Plant) (x : Kept) → meets (land_in x) land ≡ false → SameOutside ts land p q
+    → IsTrue ts p x → IsTrue ts q x
+apart ts land p q (what.Sheet shown) away outside is =
+    is ∙ sheet_same depth ts shown.tract p q (untouched ts shown.tract land p q away outside)
+apart ts land p q (what.Quarter one) away outside is =
+    is ∙ part_same depth ts one.tract p q one.estate
+    (λ c inside. ap (holding_of one.estate) (untouched ts one.tract land p q away outside c inside))
+
+-- a part for an estate that a post doesn't name
+unnamed : (ts : List Township) (estates : Estates) (p q : Plant) (one : Quartered) → names estates one.estate ≡ false
+    → SameBut estates p q → IsQuarter ts p one → IsQuarter ts q one
+unnamed ts estates p q one none same is =
+    is ∙ part_same depth ts one.tract p q one.estate (λ c inside. sym (same c one.estate none))
+
+-- what is left after a post
+left_stays : (ts : List Township) (land : Land) (estates : Estates) (p q : Plant) (x : Kept) → is_left land estates x ≡ true
+    → SameOutside ts land p q → SameBut estates p q → IsTrue ts p x → IsTrue ts q x
+left_stays ts land estates p q (what.Sheet shown) left outside same is =
+    apart ts land p q (what.Sheet shown) (not_true (meets shown.tract land) left) outside is
+left_stays ts land estates p q (what.Quarter one) left outside same is = elim (cases_Bool (names estates one.estate)) [
+  | inl named ↦
+      let apart_or : (names estates one.estate && meets one.tract land) ≡ false = not_true _ left in
+      let away : meets one.tract land ≡ false = sym (ap (λ (b : Bool). b && meets one.tract land) named) ∙ apart_or in
+      apart ts land p q (what.Quarter one) away outside is
+  | inr none ↦ unnamed ts estates p q one none same is
+]
 
 -- the sheets of a home none of whose tracts shares a cell with the land
-away_stay : (ts : List Township) (land : Land) (p q : Plant) (k : ℕ) (xs : List Shown) → SameOutside ts land p q
+away_stay : (ts : List Township) (land : Land) (p q : Plant) (k : ℕ) (xs : List Kept) → SameOutside ts land p q
     → ((x : Land) → node_number (home_of x) ≡ k → meets x land ≡ false) → All (IsKept ts p k) xs → All (IsKept ts q k) xs
 away_stay ts land p q k xs outside away =
-    All-weaker (IsKept ts p k) (IsKept ts q k) (λ x h. (apart ts land p q x (away x.tract h.1) outside h.0, h.1)) xs
+    All-weaker (IsKept ts p k) (IsKept ts q k) (λ x h. (apart ts land p q x (away (land_in x) h.1) outside h.0, h.1)) xs
 
--- the sheets of a home whose tracts share no cell with the land
-filtered_stay : (ts : List Township) (land : Land) (p q : Plant) (k : ℕ) (xs : List Shown) → SameOutside ts land p q
-    → All (IsKept ts p k) xs → All (IsKept ts q k) (filter (is_left land) xs)
-filtered_stay ts land p q k xs outside all i d below =
-    let x = get_or (filter (is_left land) xs) i d in
-    let h = All-filter (is_left land) (IsKept ts p k) xs all i d below in (
-      apart ts land p q x (not_true (meets x.tract land) (filter_passes (is_left land) xs i d below)) outside h.0,
+-- what is left of a home
+filtered_stay : (ts : List Township) (land : Land) (estates : Estates) (p q : Plant) (k : ℕ) (xs : List Kept) → SameOutside ts land p q
+    → SameBut estates p q → All (IsKept ts p k) xs → All (IsKept ts q k) (filter (is_left land estates) xs)
+filtered_stay ts land estates p q k xs outside same all i d below =
+    let x = get_or (filter (is_left land estates) xs) i d in
+    let h = All-filter (is_left land estates) (IsKept ts p k) xs all i d below in (
+      left_stays ts land estates p q x (filter_passes (is_left land estates) xs i d below) outside same h.0,
       h.1,
     )
 
@@ -164,36 +248,37 @@ township_away t k below own top (land.Part s g) home =
 
 -- ---- what is left after a post in a section
 
-left_by_section : (s : Section) (land : Land) (ts : List Township) (p q : Plant) (old : KeptSheets) → home_of land ≡ node.Part s []
-    → SameOutside ts land p q → AreKept ts p old → (k : ℕ) (x y z : Bool) → eqb plant_home k ≡ x → eqb (township_home s.township) k ≡ y
+left_by_section : (s : Section) (land : Land) (estates : Estates) (ts : List Township) (p q : Plant) (old : KeptSheets)
+    → home_of land ≡ node.Part s [] → SameOutside ts land p q → SameBut estates p q → AreKept ts p old → (k : ℕ) (x y z : Bool)
+    → eqb plant_home k ≡ x → eqb (township_home s.township) k ≡ y
     → eqb (section_home s) k ≡ z → All (IsKept ts q k)
-    (cond x [] (cond y [] (cond z (filter (is_left land) (sheets_under old (section_home s))) (sheets_under old k))))
-left_by_section s land ts p q old home outside are k true y z e f h = All-nil (IsKept ts q k)
-left_by_section s land ts p q old home outside are k false true z e f h = All-nil (IsKept ts q k)
-left_by_section s land ts p q old home outside are k false false true e f h =
-    let xs = sheets_under old (section_home s) in
-    subst (λ (j : ℕ). All (IsKept ts q j) (filter (is_left land) xs)) (eqb-true (section_home s) k h)
-    (filtered_stay ts land p q (section_home s) xs outside (are.each (section_home s)))
-left_by_section s land ts p q old home outside are k false false false e f h =
-    away_stay ts land p q k (sheets_under old k) outside
+    (cond x [] (cond y [] (cond z (filter (is_left land estates) (kept_under old (section_home s))) (kept_under old k))))
+left_by_section s land estates ts p q old home outside same are k true y z e f h = All-nil (IsKept ts q k)
+left_by_section s land estates ts p q old home outside same are k false true z e f h = All-nil (IsKept ts q k)
+left_by_section s land estates ts p q old home outside same are k false false true e f h =
+    let xs = kept_under old (section_home s) in
+    subst (λ (j : ℕ). All (IsKept ts q j) (filter (is_left land estates) xs)) (eqb-true (section_home s) k h)
+    (filtered_stay ts land estates p q (section_home s) xs outside same (are.each (section_home s)))
+left_by_section s land estates ts p q old home outside same are k false false false e f h =
+    away_stay ts land p q k (kept_under old k) outside
     (section_away s land k home (eqb-false _ k h) (eqb-false _ k f) (eqb-false _ k e)) (are.each k)
 
-pub section_left : (s : Section) (land : Land) (old a b new : KeptSheets) → home_of land ≡ node.Part s []
-    → IsSetUnder (section_home s) (filter (is_left land) (sheets_under old (section_home s))) old a
-    → IsSetUnder (township_home s.township) [] a b → IsSetUnder plant_home [] b new → AreLeft land old new
-section_left s land old a b new home own above top ts p q outside are = record {
-  each = λ k. All-same (IsKept ts q k) (sheets_under new k) _
-      (top k ∙ ap (λ (xs : List Shown). cond (eqb plant_home k) [] xs)
-      (above k ∙ ap (λ (xs : List Shown). cond (eqb (township_home s.township) k) [] xs) (own k)))
-      (left_by_section s land ts p q old home outside are k _ _ _ refl refl refl);
+pub section_left : (s : Section) (land : Land) (estates : Estates) (old a b new : KeptSheets) → home_of land ≡ node.Part s []
+    → IsSetUnder (section_home s) (filter (is_left land estates) (kept_under old (section_home s))) old a
+    → IsSetUnder (township_home s.township) [] a b → IsSetUnder plant_home [] b new → AreLeft land estates old new
+section_left s land estates old a b new home own above top ts p q outside same are = record {
+  each = λ k. All-same (IsKept ts q k) (kept_under new k) _
+      (top k ∙ ap (λ (xs : List Kept). cond (eqb plant_home k) [] xs)
+      (above k ∙ ap (λ (xs : List Kept). cond (eqb (township_home s.township) k) [] xs) (own k)))
+      (left_by_section s land estates ts p q old home outside same are k _ _ _ refl refl refl);
 }
 
 -- ---- what is left after a post of a township
 
 -- under each number stands no sheet any more, or those of before, and it is that of no section of the township before this one
 abbrev pub AreSwept : Township → ℕ → KeptSheets → KeptSheets → Type 0
-AreSwept t next old new = (k : ℕ) → (sheets_under new k ≡ [])
-    ⊎ ((sheets_under new k ≡ sheets_under old k) × ((s : Section) → s.township ≡ t → s.number < next → section_home s ≢ k))
+AreSwept t next old new = (k : ℕ) → (kept_under new k ≡ [])
+    ⊎ ((kept_under new k ≡ kept_under old k) × ((s : Section) → s.township ≡ t → s.number < next → section_home s ≢ k))
 
 -- there is no section before the first
 pub none_swept : (t : Township) (kept : KeptSheets) → AreSwept t 1 kept kept
@@ -211,10 +296,10 @@ other_number s u k of other earlier low is = elim (cases_eq u.number s.number) [
 ]
 
 swept_at : (s : Section) (old mid new : KeptSheets) (k : ℕ) (b : Bool) → eqb (section_home s) k ≡ b
-    → sheets_under new k ≡ cond b [] (sheets_under mid k) → (sheets_under mid k ≡ [])
-    ⊎ ((sheets_under mid k ≡ sheets_under old k)
-    × ((u : Section) → u.township ≡ s.township → u.number < s.number → section_home u ≢ k)) → (sheets_under new k ≡ [])
-    ⊎ ((sheets_under new k ≡ sheets_under old k)
+    → kept_under new k ≡ cond b [] (kept_under mid k) → (kept_under mid k ≡ [])
+    ⊎ ((kept_under mid k ≡ kept_under old k)
+    × ((u : Section) → u.township ≡ s.township → u.number < s.number → section_home u ≢ k)) → (kept_under new k ≡ [])
+    ⊎ ((kept_under new k ≡ kept_under old k)
     × ((u : Section) → u.township ≡ s.township → u.number < s.number + 1 → section_home u ≢ k))
 swept_at s old mid new k true e set swept = inl set
 swept_at s old mid new k false e set (inl none) = inl (set ∙ none)
@@ -228,40 +313,40 @@ swept_more s old mid new swept set k = swept_at s old mid new k (eqb (section_ho
 
 -- no sheet stays that meets the township, where all its sections were swept
 left_by_sweep : (t : Township) (ts : List Township) (p q : Plant) (old a : KeptSheets) → SameOutside ts (land.Township t) p q
-    → AreKept ts p old → AreSwept t 37 old a → (k : ℕ) → plant_home ≢ k → township_home t ≢ k → All (IsKept ts q k) (sheets_under a k)
+    → AreKept ts p old → AreSwept t 37 old a → (k : ℕ) → plant_home ≢ k → township_home t ≢ k → All (IsKept ts q k) (kept_under a k)
 left_by_sweep t ts p q old a outside are swept k top own = elim (swept k) [
-  | inl none ↦ All-same (IsKept ts q k) (sheets_under a k) [] none (All-nil (IsKept ts q k))
+  | inl none ↦ All-same (IsKept ts q k) (kept_under a k) [] none (All-nil (IsKept ts q k))
   | inr kept ↦
-      All-same (IsKept ts q k) (sheets_under a k) (sheets_under old k) kept.0
-      (away_stay ts (land.Township t) p q k (sheets_under old k) outside
+      All-same (IsKept ts q k) (kept_under a k) (kept_under old k) kept.0
+      (away_stay ts (land.Township t) p q k (kept_under old k) outside
       (township_away t k (λ s of. kept.1 s of (omega (arith, s.numbered.1))) own top) (are.each k))
 ]
 
 left_by_township : (t : Township) (ts : List Township) (q : Plant) (a : KeptSheets) (k : ℕ)
-    → (plant_home ≢ k → township_home t ≢ k → All (IsKept ts q k) (sheets_under a k))
-    → (x y : Bool) → eqb plant_home k ≡ x → eqb (township_home t) k ≡ y → All (IsKept ts q k) (cond x [] (cond y [] (sheets_under a k)))
+    → (plant_home ≢ k → township_home t ≢ k → All (IsKept ts q k) (kept_under a k))
+    → (x y : Bool) → eqb plant_home k ≡ x → eqb (township_home t) k ≡ y → All (IsKept ts q k) (cond x [] (cond y [] (kept_under a k)))
 left_by_township t ts q a k left true y e f = All-nil (IsKept ts q k)
 left_by_township t ts q a k left false true e f = All-nil (IsKept ts q k)
 left_by_township t ts q a k left false false e f = left (eqb-false plant_home k e) (eqb-false (township_home t) k f)
 
 pub township_left : (t : Township) (old a b new : KeptSheets) → AreSwept t 37 old a → IsSetUnder (township_home t) [] a b
-    → IsSetUnder plant_home [] b new → AreLeft (land.Township t) old new
-township_left t old a b new swept own top ts p q outside are = record {
-  each = λ k. All-same (IsKept ts q k) (sheets_under new k) _
-      (top k ∙ ap (λ (xs : List Shown). cond (eqb plant_home k) [] xs) (own k))
+    → IsSetUnder plant_home [] b new → (estates : Estates) → AreLeft (land.Township t) estates old new
+township_left t old a b new swept own top estates ts p q outside same are = record {
+  each = λ k. All-same (IsKept ts q k) (kept_under new k) _
+      (top k ∙ ap (λ (xs : List Kept). cond (eqb plant_home k) [] xs) (own k))
       (left_by_township t ts q a k (left_by_sweep t ts p q old a outside are swept k) _ _ refl refl);
 }
 
 -- ---- what stays after a post
 
 -- under the number of another node nothing changes
-set_elsewhere : (a n : Node) (xs : List Shown) (old new : KeptSheets) → IsSetUnder (node_number a) xs old new → same_node n a ≡ false
-    → sheets_under new (node_number n) ≡ sheets_under old (node_number n)
+set_elsewhere : (a n : Node) (xs : List Kept) (old new : KeptSheets) → IsSetUnder (node_number a) xs old new → same_node n a ≡ false
+    → kept_under new (node_number n) ≡ kept_under old (node_number n)
 set_elsewhere a n xs old new set other =
-    set (node_number n) ∙ ap (λ (b : Bool). cond b xs (sheets_under old (node_number n))) (number_at a n ∙ other)
+    set (node_number n) ∙ ap (λ (b : Bool). cond b xs (kept_under old (node_number n))) (number_at a n ∙ other)
 
 -- the sheets stay that stand at no home near the section's
-pub section_others : (s : Section) (land : Land) (xs : List Shown) (old a b new : KeptSheets) → home_of land ≡ node.Part s []
+pub section_others : (s : Section) (land : Land) (xs : List Kept) (old a b new : KeptSheets) → home_of land ≡ node.Part s []
     → IsSetUnder (section_home s) xs old a → IsSetUnder (township_home s.township) [] a b → IsSetUnder plant_home [] b new
     → OthersStay land old new
 section_others s land xs old a b new home own above top n far =
@@ -274,21 +359,21 @@ section_others s land xs old a b new home own above top n far =
     ∙ set_elsewhere (node.Part s []) n xs old a own parts.0
 
 -- the sheets of the section stay that share no cell with the land
-pub section_apart : (s : Section) (land : Land) (old a b new : KeptSheets) → home_of land ≡ node.Part s []
-    → IsSetUnder (section_home s) (filter (is_left land) (sheets_under old (section_home s))) old a
-    → IsSetUnder (township_home s.township) [] a b → IsSetUnder plant_home [] b new → ApartStay land old new
-section_apart s land old a b new home own above top u same =
-    let left = filter (is_left land) (sheets_under old (section_home s)) in
+pub section_apart : (s : Section) (land : Land) (estates : Estates) (old a b new : KeptSheets) → home_of land ≡ node.Part s []
+    → IsSetUnder (section_home s) (filter (is_left land estates) (kept_under old (section_home s))) old a
+    → IsSetUnder (township_home s.township) [] a b → IsSetUnder plant_home [] b new → ApartStay land estates old new
+section_apart s land estates old a b new home own above top u same =
+    let left = filter (is_left land estates) (kept_under old (section_home s)) in
     let one : node.Part s [] ≡ node.Part u [] = sym home ∙ same in
-    subst (λ (n : Node). sheets_under new (node_number n) ≡ filter (is_left land) (sheets_under old (node_number n))) one
+    subst (λ (n : Node). kept_under new (node_number n) ≡ filter (is_left land estates) (kept_under old (node_number n))) one
     (set_elsewhere node.Everything (node.Part s []) [] b new top refl
     ∙ set_elsewhere (node.Township s.township) (node.Part s []) [] a b above refl ∙ own (section_home s)
-    ∙ ap (λ (x : Bool). cond x left (sheets_under old (section_home s))) (eq-eqb (section_home s) (section_home s) refl))
+    ∙ ap (λ (x : Bool). cond x left (kept_under old (section_home s))) (eq-eqb (section_home s) (section_home s) refl))
 
 -- no sheet went but of the township's sections
 abbrev pub OutsideStay : Township → KeptSheets → KeptSheets → Type 0
 OutsideStay t old new = (n : Node) → is_above (node.Township t) n ≡ false
-    → sheets_under new (node_number n) ≡ sheets_under old (node_number n)
+    → kept_under new (node_number n) ≡ kept_under old (node_number n)
 
 above_section : (s : Section) → is_above (node.Township s.township) (node.Part s []) ≡ true
 above_section s = ap (λ (b : Bool). b || false) (same_township-self s.township)

@@ -1,4 +1,5 @@
 pub mod Content
+pub mod OfSections
 pub mod Found
 pub mod Loaned
 pub mod Undo
@@ -7,6 +8,7 @@ pub mod Moves
 pub mod Steps
 pub mod Posts
 pub mod Admitted
+pub mod CoverHomes
 pub mod Homes
 pub mod Shows
 pub mod Singles

@@ -8,10 +8,8 @@ use Rattle.std.proofs.lemmas.Bool.{cond_both}
 use Rattle.std.proofs.lemmas.List.{reverse-append, length-reverse}
 use Rattle.title_land.specs.declared.place.Township.{Township}
 use Rattle.title_land.specs.declared.place.Cell.{Cell}
-use Rattle.title_land.specs.declared.tract.Land.{Land}
 use Rattle.title_store.specs.Plants.{Plant, SameContent, plant_effect}
 use Rattle.title_store.specs.Loans.{Loan}
-use Rattle.title_store.specs.Sheets.{sheet_of}
 use Rattle.title_chain.specs.declared.ask.Ask.{Ask}
 use Rattle.title_chain.specs.declared.ask.Ask.TheVariants as ask
 use Rattle.title_chain.specs.declared.ask.Answer.{Answer}
@@ -278,32 +276,6 @@ keeps_read {setting = setting} {trace = trace} law idle k e a given stands is un
     keeps_done law idle k e a given stands is refl (nothing_out idle k) more
     (λ c. ap (λ (p : Plant). p c) (holds_committed law idle k)
     ∙ sym (leaves setting.townships (committed trace) [] a given alone_is unposted c))
-
--- a sheet leaves the plant
-sheet_leaves : (ts : List Township) (done : List Record) (e : ℕ) (t : Land) (given : Answer) →
-    plant_after depth ts (record_of e (record { ask = ask.Sheet t; answer = given } ∷ []) ∷ done) ≡ plant_after depth ts done
-unfolding effect
-sheet_leaves ts done e t given = refl
-
--- so what was given is still the sheet of what the store holds
-pub single_stands : {I : Type 0} {number : I → ℕ} {setting setting' : Setting} {content content' : Plant}
-    {declared declared' : List Township} {out out' : List Loan} {locks locks' : List Entry} {trace trace' : List Call}
-    {records records' : List Record} {slots slots' : ℕ → Option (Slot I)}
-    → IdleHaveNoSteps depth → IsIdle trace → (e : ℕ) (t : Land) (given : Answer)
-    → Keeps number setting content declared out locks trace records slots
-    → Keeps number setting' content' declared' out' locks' trace' records' slots' → setting' ≡ setting
-    → trace' ≡ after_single trace e (ask.Sheet t) (reply.Answered given)
-    → sheet_of depth declared content t ≡ sheet_of depth declared' content' t
-single_stands {setting = setting} {setting' = setting'} {content = content} {content' = content'} {declared = declared} {trace = trace}
-    {trace' = trace'} law idle e t given k k' same told =
-    let idle' : IsIdle trace' = subst IsIdle (sym told) (shut_single trace e (ask.Sheet t) given idle) in
-    let places : setting.townships ≡ setting'.townships = ap (λ (s : Setting). s.townships) (sym same) in
-    let done : plant_after depth setting'.townships (committed trace') ≡ plant_after depth setting.townships (committed trace) =
-    ap (λ ts. plant_after depth ts (committed trace')) (sym places)
-    ∙ ap (plant_after depth setting.townships) (ap committed told ∙ committed_single trace e (ask.Sheet t) given)
-    ∙ sheet_leaves setting.townships (committed trace) e t given in
-    let holds : content ≡ content' = holds_committed law idle k ∙ sym done ∙ sym (holds_committed law idle' k') in
-    ap (λ p. sheet_of depth declared p t) holds ∙ ap (λ ts. sheet_of depth ts content' t) (k.declared_are ∙ places ∙ sym k'.declared_are)
 
 -- a post that is done
 pub keeps_deed : {I : Type 0} {number : I → ℕ} {setting : Setting} {content content' : Plant} {declared declared' : List Township}

@@ -19,7 +19,7 @@ use Rattle.title_chain.specs.declared.ask.Answer.TheVariants as answer
 use Rattle.title_chain.specs.declared.ask.Posting.{Posting}
 use Rattle.title_chain.specs.declared.ask.Step.{Step}
 use Rattle.title_chain.specs.declared.record.Record.{Record}
-use Rattle.title_chain.specs.Asks.{tract_of, is_post, cause_of, effect, answer_to, post_answer}
+use Rattle.title_chain.specs.Asks.{tract_of, is_post, cause_of, effect, post_answer}
 use Rattle.title_chain.specs.Chains.{chain_of}
 use Rattle.title_chain.specs.Alone.{after_steps, plant_after, alone}
 use Rattle.title_chain.specs.Overlaps.{overlaps}
@@ -115,51 +115,6 @@ sheet_due {setting = setting} {content = content} {trace = trace} e t k h =
     let listed = chain_of (committed trace) (open_steps trace e) t in
     sym (answer_sheet depth ts content listed t) ∙ answer_same depth ts content seen listed listed (ask.Sheet t)
     (content_is k.facts e (ask.Sheet t) h) refl
-
--- the trace after an examiner's sheet was answered
-abbrev sheet_told : ℕ → Land → Answer → List Call → List Call
-sheet_told e t given trace = record { request = request.Step e (ask.Sheet t); reply = reply.Answered given } ∷ trace
-
--- with one sheet more it sees the same
-sheet_again : (ts : List Township) (done : List Record) (own : List Step) (t : Land) (given : Answer) →
-    alone depth ts done (record { ask = ask.Sheet t; answer = given } ∷ own) (ask.Sheet t) ≡ alone depth ts done own (ask.Sheet t)
-unfolding effect answer_to
-sheet_again ts done own t given = refl
-
--- and those who stood in nobody's way don't
-way_again : (trace : List Call) (e : ℕ) (t : Land) (given : Answer) → InTheWay trace e (ask.Sheet t) None
-    → InTheWay (sheet_told e t given trace) e (ask.Sheet t) None
-way_again trace e t given way f other =
-    case_eqb (λ b. overlaps (ask.Sheet t) (cond b (record { ask = ask.Sheet t; answer = given } ∷ open_steps trace f) (open_steps trace f))
-    ≡ false) f e (λ same. absurd (other same)) (λ _. way f other)
-
--- the sheet that an examiner was given is still that of what the store holds
-pub sheet_stands : {I : Type 0} {number : I → ℕ} {setting setting' : Setting} {content content' : Plant}
-    {declared declared' : List Township} {out out' : List Loan} {locks locks' : List Entry} {trace trace' : List Call}
-    {records records' : List Record} {slots slots' : ℕ → Option (Slot I)} → (e : ℕ) (t : Land) (given : Answer)
-    → Keeps number setting content declared out locks trace records slots
-    → Keeps number setting' content' declared' out' locks' trace' records' slots' → InTheWay trace e (ask.Sheet t) None
-    → setting' ≡ setting → trace' ≡ sheet_told e t given trace → sheet_of depth declared content t ≡ sheet_of depth declared' content' t
-sheet_stands {setting = setting} {setting' = setting'} {content = content} {content' = content'} {trace = trace} {trace' = trace'} e t given
-    k k' way same told =
-    let ts = setting.townships in
-    let way' : InTheWay trace' e (ask.Sheet t) None =
-    subst (λ calls. InTheWay calls e (ask.Sheet t) None) (sym told) (way_again trace e t given way) in
-    let before : answer.Rows (sheet_of depth ts content t) ≡ alone depth ts (committed trace) (open_steps trace e) (ask.Sheet t) =
-    sheet_due e t k way in
-    let after : answer.Rows (sheet_of depth ts content' t) ≡ alone depth ts (committed trace') (open_steps trace' e) (ask.Sheet t) =
-    subst (λ (s : Setting). answer.Rows (sheet_of depth s.townships content' t)
-    ≡ alone depth s.townships (committed trace') (open_steps trace' e) (ask.Sheet t)) same (sheet_due e t k' way') in
-    let longer : alone depth ts (committed trace') (open_steps trace' e) (ask.Sheet t)
-    ≡ alone depth ts (committed trace) (open_steps trace e) (ask.Sheet t) =
-    ap (λ calls. alone depth ts (committed calls) (open_steps calls e) (ask.Sheet t)) told
-    ∙ case_eqb (λ b. alone depth ts (committed trace) (cond b (record { ask = ask.Sheet t; answer = given } ∷ open_steps trace e)
-    (open_steps trace e)) (ask.Sheet t) ≡ alone depth ts (committed trace) (open_steps trace e) (ask.Sheet t)) e e
-    (λ _. sheet_again ts (committed trace) (open_steps trace e) t given) (λ other. absurd (other refl)) in
-    let rows : sheet_of depth ts content t ≡ sheet_of depth ts content' t = cc (before, after, longer) in
-    ap (λ places. sheet_of depth places content t) k.declared_are ∙ rows
-    ∙ ap (λ (s : Setting). sheet_of depth s.townships content' t) (sym same)
-    ∙ ap (λ places. sheet_of depth places content' t) (sym k'.declared_are)
 
 post_leaves : (ts : List Township) (seen : Plant) (p : Posting) (refused : Option Refusal)
     → refused_in depth ts p.instrument seen p.tract ≡ refused → is_posted (ask.Post p) (post_answer refused) ≡ false → (c : Cell)

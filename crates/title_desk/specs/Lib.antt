@@ -1,4 +1,5 @@
 pub mod Told
+pub mod QuarterRows
 pub mod Shown
 pub mod Slots
 pub mod Images

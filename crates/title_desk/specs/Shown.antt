@@ -1,8 +1,12 @@
--- Sheets that are kept of a plant.
-use Rattle.std.specs.Prelude.{◌≡◌, ℕ, Bool, false, not, cond, eqb, List, [], Option, Some, None}
+-- Sheets that are kept of a plant, and parts of sheets.
+use Rattle.std.specs.Prelude.{◌≡◌, ℕ, Bool, false, not, ◌&&◌, cond, eqb, List, [], ◌++◌, map, Option, Some, None}
 use Rattle.std.specs.List.{All, filter}
 use Rattle.std.specs.Ordering.{nat_cmp}
 use Rattle.std.specs.BTreeMap.{get}
+use Rattle.title_instrument.specs.declared.parts.Estate.{Estate}
+use Rattle.title_instrument.specs.declared.parts.Estates.{Estates}
+use Rattle.title_instrument.specs.Estates.{names}
+use Rattle.title_instrument.specs.Owners.{holding_of}
 use Rattle.title_land.specs.Depth.{depth}
 use Rattle.title_land.specs.Lands.{meets}
 use Rattle.title_land.specs.NodeNumbers.{node_number}
@@ -14,10 +18,12 @@ use Rattle.title_land.specs.declared.place.Section.{Section}
 use Rattle.title_land.specs.declared.place.Township.{Township}
 use Rattle.title_land.specs.declared.tract.Land.{Land}
 use Rattle.title_land.specs.declared.tract.Land.TheVariants as land
-use Rattle.title_store.specs.declared.sheet_row.SheetRow.{SheetRow}
 use Rattle.title_store.specs.Plants.{Plant, is_cell_of}
-use Rattle.title_store.specs.Sheets.{sheet_of}
+use Rattle.title_store.specs.Sheets.{estate_sheet, sheet_of}
+use Rattle.title_desk.specs.declared.kept_sheets.Quartered.{Quartered}
 use Rattle.title_desk.specs.declared.kept_sheets.Shown.{Shown}
+use Rattle.title_desk.specs.declared.kept_sheets.Kept.{Kept}
+use Rattle.title_desk.specs.declared.kept_sheets.Kept.TheVariants as kept
 use Rattle.title_desk.specs.declared.kept_sheets.Home.{Home}
 use Rattle.title_desk.specs.declared.kept_sheets.KeptSheets.{KeptSheets}
 
@@ -25,13 +31,24 @@ use Rattle.title_desk.specs.declared.kept_sheets.KeptSheets.{KeptSheets}
 abbrev pub IsShown : List Township → Plant → Shown → Type 0
 IsShown townships content shown = shown.rows ≡ sheet_of depth townships content shown.tract
 
--- it has this tract and these rows
-abbrev pub IsSheetOf : Land → List SheetRow → Shown → Type 0
-IsSheetOf land rows shown = (shown.tract ≡ land) × (shown.rows ≡ rows)
+-- it is the part of its tract's sheet for its estate
+abbrev pub IsQuarter : List Township → Plant → Quartered → Type 0
+IsQuarter townships content quartered = quartered.part ≡ estate_sheet depth townships content quartered.tract quartered.estate
 
--- it is kept after a post in some land: its tract shares no cell with it
-abbrev pub is_left : Land → Shown → Bool
-is_left land shown = not (meets shown.tract land)
+-- the land of what is kept
+abbrev pub land_in : Kept → Land
+land_in (kept.Sheet shown) = shown.tract
+land_in (kept.Quarter quartered) = quartered.tract
+
+-- it is what the plant has of its tract: a sheet, or the part of one for an estate
+abbrev pub IsTrue : List Township → Plant → Kept → Type 0
+IsTrue townships content (kept.Sheet shown) = IsShown townships content shown
+IsTrue townships content (kept.Quarter quartered) = IsQuarter townships content quartered
+
+-- it is kept after a post of some estates in some land: its tract shares no cell with it, or it is of another estate
+abbrev pub is_left : Land → Estates → Kept → Bool
+is_left land estates (kept.Sheet shown) = not (meets shown.tract land)
+is_left land estates (kept.Quarter quartered) = not (names estates quartered.estate && meets quartered.tract land)
 
 -- the home of a tract, where its sheets stand: the section in which it lies, or else the township, or the whole plant
 abbrev pub home_of : Land → Node
@@ -39,43 +56,51 @@ home_of land.Everything = node.Everything
 home_of (land.Township t) = node.Township t
 home_of (land.Part s g) = node.Part s []
 
--- the sheets of a home, where there is one
-abbrev pub sheets_in : Option Home → List Shown
-sheets_in None = []
-sheets_in (Some home) = home.shown.items
+-- all that is kept of a home
+unfoldable pub all_kept : Home → List Kept
+all_kept home = map kept.Sheet home.shown.items ++ map kept.Quarter home.quarters.items
 
--- the sheets that stand under a number
-abbrev pub sheets_under : KeptSheets → ℕ → List Shown
-sheets_under kept k = sheets_in (get nat_cmp kept.homes k)
+abbrev pub kept_in : Option Home → List Kept
+kept_in None = []
+kept_in (Some home) = all_kept home
 
--- under this number stand these sheets now, and under each other those of before
-abbrev pub IsSetUnder : ℕ → List Shown → KeptSheets → KeptSheets → Type 0
-IsSetUnder k sheets old new = (j : ℕ) → sheets_under new j ≡ cond (eqb k j) sheets (sheets_under old j)
+-- what stands under a number
+abbrev pub kept_under : KeptSheets → ℕ → List Kept
+kept_under sheets k = kept_in (get nat_cmp sheets.homes k)
 
--- it is the plant's sheet of its tract, and this is the number of the tract's home
-abbrev pub IsKept : List Township → Plant → ℕ → Shown → Type 0
-IsKept townships content k shown = IsShown townships content shown × (node_number (home_of shown.tract) ≡ k)
+-- under this number stands this now, and under each other what stood there before
+abbrev pub IsSetUnder : ℕ → List Kept → KeptSheets → KeptSheets → Type 0
+IsSetUnder k xs old new = (j : ℕ) → kept_under new j ≡ cond (eqb k j) xs (kept_under old j)
 
--- each sheet that is kept is the plant's, and stands under the number of its tract's home
-pub record AreKept (townships : List Township) (content : Plant) (kept : KeptSheets) : Type 0 where
-  pub each : (k : ℕ) → All (IsKept townships content k) (sheets_under kept k)
+-- it is what the plant has of its tract, and this is the number of the tract's home
+abbrev pub IsKept : List Township → Plant → ℕ → Kept → Type 0
+IsKept townships content k one = IsTrue townships content one × (node_number (home_of (land_in one)) ≡ k)
+
+-- all that is kept is what the plant has, and stands under the number of its tract's home
+pub record AreKept (townships : List Township) (content : Plant) (sheets : KeptSheets) : Type 0 where
+  pub each : (k : ℕ) → All (IsKept townships content k) (kept_under sheets k)
 
 -- the owners are the same in each cell outside a land
 abbrev pub SameOutside : List Township → Land → Plant → Plant → Type 0
 SameOutside townships land old new = (c : Cell) → is_cell_of depth townships land c ≡ false → new c ≡ old c
 
--- the new sheets are what is left of the old ones after a post in a land: if the old ones are a plant's, the new ones are so of
--- each plant that is the same outside the land
-abbrev pub AreLeft : Land → KeptSheets → KeptSheets → Type 0
-AreLeft land old new = (townships : List Township) (before after : Plant) → SameOutside townships land before after
-    → AreKept townships before old → AreKept townships after new
+-- who holds an estate is the same in each cell, if the estate isn't one of these
+abbrev pub SameBut : Estates → Plant → Plant → Type 0
+SameBut estates old new = (c : Cell) (e : Estate) → names estates e ≡ false → holding_of e (new c) ≡ holding_of e (old c)
 
--- a post in a land lets no sheet go whose home is not the land's own, nor above or below it
+-- the new ones are what is left of the old ones after a post of some estates in a land: if the old ones are a plant's, the new ones
+-- are so of each plant that is the same outside the land and in the other estates
+abbrev pub AreLeft : Land → Estates → KeptSheets → KeptSheets → Type 0
+AreLeft land estates old new = (townships : List Township) (before after : Plant) → SameOutside townships land before after
+    → SameBut estates before after → AreKept townships before old → AreKept townships after new
+
+-- a post in a land lets nothing go whose home is not the land's own, nor above or below it
 abbrev pub OthersStay : Land → KeptSheets → KeptSheets → Type 0
 OthersStay land old new =
-    (n : Node) → are_related n (home_of land) ≡ false → sheets_under new (node_number n) ≡ sheets_under old (node_number n)
+    (n : Node) → are_related n (home_of land) ≡ false → kept_under new (node_number n) ≡ kept_under old (node_number n)
 
--- where the land lies in a section, those of the section's sheets stay whose tracts share no cell with it
-abbrev pub ApartStay : Land → KeptSheets → KeptSheets → Type 0
-ApartStay land old new = (s : Section) → home_of land ≡ node.Part s []
-    → sheets_under new (node_number (node.Part s [])) ≡ filter (is_left land) (sheets_under old (node_number (node.Part s [])))
+-- where the land lies in a section, what is kept of the section's tracts stays where they share no cell with it, and parts of other
+-- estates stay too
+abbrev pub ApartStay : Land → Estates → KeptSheets → KeptSheets → Type 0
+ApartStay land estates old new = (s : Section) → home_of land ≡ node.Part s []
+    → kept_under new (node_number (node.Part s [])) ≡ filter (is_left land estates) (kept_under old (node_number (node.Part s [])))

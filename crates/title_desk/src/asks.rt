@@ -1,6 +1,6 @@
 //! The parts of an ask, and what a step adds to a transaction.
 
-ghost use Rattle.std.specs.Prelude.{◌≡◌, ◌++◌, ◌∷◌, [], OnOk, OnErr, Some};
+ghost use Rattle.std.specs.Prelude.{◌≡◌, ◌++◌, ◌∷◌, [], IfOk, OnOk, OnErr, Some};
 ghost use Rattle.std.specs.BTreeMap.{btree_map_len};
 ghost use Rattle.title_lock.specs.declared.guards.Access.TheVariants.{Post};
 ghost use Rattle.title_lock.specs.Overlaps.{is_post as is_post_access};
@@ -12,9 +12,9 @@ ghost use Rattle.title_desk.specs.Admissions.{access_of};
 ghost use Rattle.title_chain.specs.Asks.{tract_of, is_post, cause_of};
 
 use crate::slots::Slot;
-use std::alloc::AllocError;
+use std::alloc::{AllocError, Global};
 use std::collections::BTreeMap;
-use title_chain::{Ask, Step};
+use title_chain::{Answer, Ask, Step};
 use title_instrument::Cause;
 use title_land::Tract;
 use title_lock::{Access, Guards};
@@ -52,6 +52,25 @@ pub(crate) fn cause_in(ask: &Ask, parties: u32) -> Option<Cause>
         Ask::Chain(_) => None,
         Ask::Post(posting) => posting.terms().instrument.check(parties).err(),
     }
+}
+
+/// Copies of an answered step and of its answer, beside those that are given away. Takes no memory.
+pub(crate) fn copies_of(
+    alloc: Global,
+    ask: &Ask,
+    answer: &Answer,
+) -> Result<(Step, Answer), AllocError>
+    ensures step { IfOk result (λ copies. copies.0 ≡ record { ask = ask.now; answer = answer.now }) }
+    ensures told { IfOk result (λ copies. copies.1 ≡ answer.now) }
+{
+    let told = answer.copy()?;
+    let kept = answer.copy()?;
+    let copied = ask.copy(alloc)?;
+    let step = Step {
+        ask: copied,
+        answer: kept,
+    };
+    Ok((step, told))
 }
 
 // Adds a step to an examiner's slot and its lock, which is prepared, to the guards, or leaves both as they were.

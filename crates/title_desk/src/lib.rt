@@ -7,6 +7,7 @@ mod images;
 mod kept_sheets;
 mod plant;
 mod refusal;
+mod sections;
 mod slots;
 pub mod transactions;
 

@@ -1,20 +1,24 @@
 //! The plant of a desk: a store, with sheets that were made of it.
 
-ghost use Rattle.std.specs.Prelude.{◌≡◌, true, IfOk, IfSome};
+ghost use Rattle.std.specs.Prelude.{◌≡◌, ◌++◌, ◌∷◌, [], true, IfOk, IfSome, OnOk};
 ghost use Rattle.title_land.specs.Depth.{depth};
-ghost use Rattle.title_land.specs.Lands.{is_in_plant};
-ghost use Rattle.title_store.specs.Sheets.{sheet_of};
-ghost use Rattle.title_desk.specs.Shown.{IsShown, IsSheetOf};
+ghost use Rattle.title_land.specs.Lands.{is_in_plant, land_of};
+ghost use Rattle.title_land.specs.declared.node.Node.TheVariants.{Part as Square};
+ghost use Rattle.title_land.specs.declared.rectangle.Quarter.TheVariants.{Northeast, Northwest, Southwest, Southeast};
+ghost use Rattle.title_store.specs.Sheets.{estate_sheet, sheet_of};
+ghost use Rattle.title_chain.specs.SheetParts.{all_rows};
+ghost use Rattle.title_desk.specs.QuarterRows.{quarter_rows};
 
-use crate::kept_sheets::{KeptSheets, Shown, shown_of};
+use crate::kept_sheets::{Kept, KeptSheets, MOST_PARTS, whole_section};
+use crate::sections::{add_part, quarter_tract, section_tract};
 use std::alloc::{AllocError, Global};
 use std::marker::Model;
-use title_chain::SheetRows;
-use title_instrument::Instrument;
-use title_land::{Township, Tract};
+use title_chain::{Part, SheetRows};
+use title_instrument::{Estate, Instrument};
+use title_land::{Node, Quarter, Section, Township, Tract};
 use title_store::{Put, SheetRow, Store};
 
-/// A store, with sheets that were made of it and that still are its sheets. A contract sees the store.
+/// A store, with sheets and parts of sheets that were made of it and that still are its own. A contract sees the store.
 #[derive(Drop)]
 pub struct Plant<S: Store + Drop> {
     store: S,
@@ -39,33 +43,167 @@ impl<S: Store + Drop> Plant<S> {
         &self.store
     }
 
-    /// The rows of a tract's sheet: those that are kept of it, or else made anew. These come with the sheet to keep once the
-    /// answer stands.
-    pub(crate) fn rows(
-        &self,
+    // The part of a section's quarter for an estate: that which is kept of it, or else made anew and kept.
+    fn part_of(
+        &mut self,
         alloc: Global,
-        tract: &Tract,
-    ) -> Result<(SheetRows, Option<Shown>), AllocError>
-        requires within { is_in_plant (S.declared self.now) tract.now ≡ true }
-        ensures rows { IfOk result (λ made. made.0 ≡ sheet_of depth (S.declared self.now) (S.content self.now) tract.now) }
-        ensures fresh { IfOk result (λ made. IfSome made.1 (IsSheetOf tract.now made.0)) }
+        section: Section,
+        quarter: Quarter,
+        estate: Estate,
+    ) -> Result<Part, AllocError>
+        requires within { is_in_plant (S.declared self.old) (land_of depth (Square section [])) ≡ true }
+        ensures same { self.new ≡ self.old }
+        ensures part { IfOk result (λ part. part ≡ quarter_rows (S.declared self.old) (S.content self.old) section quarter estate) }
     {
-        if let Some(rows) = self.kept.rows(tract) {
-            return Ok((rows, None));
+        let tract = quarter_tract(section, quarter);
+        if let Some(part) = self.kept.part(section, &tract, quarter, estate) {
+            return Ok(part);
         }
-        let rows = SheetRows::new(self.store.sheet(alloc, tract)?)?;
-        let fresh = shown_of(alloc, tract, &rows);
-        Ok((rows, fresh))
+        let part = Part::new(self.store.part(alloc, estate, &tract)?)?;
+        if let Some(kept) = Kept::quarter(tract, quarter, estate, &part) {
+            self.kept.keep(kept);
+        }
+        Ok(part)
     }
 
-    /// Keeps a sheet that was made anew, where there is one; where memory is refused it isn't kept.
-    pub(crate) fn keep(&mut self, fresh: Option<Shown>)
-        requires sheet { IfSome fresh (IsShown (S.declared self.old) (S.content self.old)) }
+    // Adds the part of a section's quarter for an estate.
+    fn add_quarter(
+        &mut self,
+        alloc: Global,
+        section: Section,
+        quarter: Quarter,
+        estate: Estate,
+        parts: &mut Vec<Part>,
+    ) -> Result<(), AllocError>
+        requires within { is_in_plant (S.declared self.old) (land_of depth (Square section [])) ≡ true }
+        ensures same { self.new ≡ self.old }
+        ensures rows { OnOk result (all_rows parts.new.items ≡ all_rows parts.old.items
+            ++ quarter_rows (S.declared self.old) (S.content self.old) section quarter estate) }
+    {
+        let part = self.part_of(alloc, section, quarter, estate)?;
+        add_part(parts, part)
+    }
+
+    // Adds the parts of a section's four quarters for an estate.
+    fn add_quarters(
+        &mut self,
+        alloc: Global,
+        section: Section,
+        estate: Estate,
+        parts: &mut Vec<Part>,
+    ) -> Result<(), AllocError>
+        requires within { is_in_plant (S.declared self.old) (land_of depth (Square section [])) ≡ true }
+        ensures same { self.new ≡ self.old }
+        ensures rows { OnOk result (all_rows parts.new.items ≡ all_rows parts.old.items
+            ++ quarter_rows (S.declared self.old) (S.content self.old) section Northeast estate
+            ++ quarter_rows (S.declared self.old) (S.content self.old) section Northwest estate
+            ++ quarter_rows (S.declared self.old) (S.content self.old) section Southwest estate
+            ++ quarter_rows (S.declared self.old) (S.content self.old) section Southeast estate) }
+    {
+        self.add_quarter(alloc, section, Quarter::Northeast, estate, parts)?;
+        self.add_quarter(alloc, section, Quarter::Northwest, estate, parts)?;
+        self.add_quarter(alloc, section, Quarter::Southwest, estate, parts)?;
+        self.add_quarter(alloc, section, Quarter::Southeast, estate, parts)
+    }
+
+    // Adds the part of a section that has one holding of an estate.
+    fn add_whole(
+        &self,
+        alloc: Global,
+        section: Section,
+        estate: Estate,
+        parts: &mut Vec<Part>,
+    ) -> Result<(), AllocError>
+        requires within { is_in_plant (S.declared self.now) (land_of depth (Square section [])) ≡ true }
+        ensures rows { OnOk result (all_rows parts.new.items ≡ all_rows parts.old.items
+            ++ estate_sheet depth (S.declared self.now) (S.content self.now) (land_of depth (Square section [])) estate) }
+    {
+        let tract = section_tract(section);
+        let part = Part::new(self.store.part(alloc, estate, &tract)?)?;
+        add_part(parts, part)
+    }
+
+    // Adds a section's parts for an estate: one where all its cells have one holding, else its quarters'.
+    fn add_estate(
+        &mut self,
+        alloc: Global,
+        section: Section,
+        estate: Estate,
+        parts: &mut Vec<Part>,
+    ) -> Result<(), AllocError>
+        requires within { is_in_plant (S.declared self.old) (land_of depth (Square section [])) ≡ true }
+        ensures same { self.new ≡ self.old }
+        ensures rows { OnOk result (all_rows parts.new.items ≡ all_rows parts.old.items
+            ++ estate_sheet depth (S.declared self.old) (S.content self.old) (land_of depth (Square section [])) estate) }
+    {
+        let is_one = self.store.is_one(alloc, estate, section)?;
+        if is_one {
+            return self.add_whole(alloc, section, estate, parts);
+        }
+        self.add_quarters(alloc, section, estate, parts)
+    }
+
+    // The sheet of a section, put together of parts.
+    #[tactic(auto, using(crate::proofs::OfSections::whole_sheet))]
+    fn section_rows(&mut self, alloc: Global, section: Section) -> Result<SheetRows, AllocError>
+        requires within { is_in_plant (S.declared self.old) (land_of depth (Square section [])) ≡ true }
+        ensures same { self.new ≡ self.old }
+        ensures rows { IfOk result (λ rows. rows
+            ≡ sheet_of depth (S.declared self.old) (S.content self.old) (land_of depth (Square section []))) }
+    {
+        let mut parts = Vec::with_capacity(alloc, MOST_PARTS)?;
+        self.add_estate(alloc, section, Estate::S, &mut parts)?;
+        self.add_estate(alloc, section, Estate::O, &mut parts)?;
+        self.add_estate(alloc, section, Estate::M, &mut parts)?;
+        let rows = SheetRows::of_parts(parts)?;
+        Ok(rows)
+    }
+
+    // The section whose quarters' parts make a tract's sheet: the tract is all of it, and its last sheet was long.
+    fn long_section(&self, tract: &Tract) -> Option<Section>
+        ensures section { IfSome result (λ section. tract.now ≡ land_of depth (Square section [])) }
+    {
+        let section = whole_section(tract)?;
+        if self.kept.is_long(section) {
+            Some(section)
+        } else {
+            None
+        }
+    }
+
+    // The rows of a tract's sheet, made anew but for what is kept of its quarters, if it is a section whose last sheet was long.
+    fn made(&mut self, alloc: Global, tract: &Tract) -> Result<SheetRows, AllocError>
+        requires within { is_in_plant (S.declared self.old) tract.now ≡ true }
+        ensures same { self.new ≡ self.old }
+        ensures rows { IfOk result (λ rows. rows ≡ sheet_of depth (S.declared self.old) (S.content self.old) tract.now) }
+    {
+        match self.long_section(tract) {
+            Some(section) => self.section_rows(alloc, section),
+            None => SheetRows::new(self.store.sheet(alloc, tract)?),
+        }
+    }
+
+    /// The rows of a tract's sheet: those that are kept of it, or else made anew and kept; where memory is refused they aren't kept.
+    pub(crate) fn rows(&mut self, alloc: Global, tract: &Tract) -> Result<SheetRows, AllocError>
+        requires within { is_in_plant (S.declared self.old) tract.now ≡ true }
+        ensures same { self.new ≡ self.old }
+        ensures rows { IfOk result (λ rows. rows ≡ sheet_of depth (S.declared self.old) (S.content self.old) tract.now) }
+    {
+        if let Some(rows) = self.kept.rows(tract) {
+            return Ok(rows);
+        }
+        let rows = self.made(alloc, tract)?;
+        if let Some(kept) = Kept::sheet(alloc, tract, &rows) {
+            self.kept.keep(kept);
+        }
+        Ok(rows)
+    }
+
+    /// Lets all go that is kept of a home's tracts. Takes no memory.
+    pub(crate) fn let_go(&mut self, home: Node)
         ensures same { self.new ≡ self.old }
     {
-        if let Some(shown) = fresh {
-            self.kept.keep(shown);
-        }
+        self.kept.drop_home(home);
     }
 }
 
@@ -90,7 +228,7 @@ impl<S: Store + Drop> Store for Plant<S> {
     fn put(&mut self, tract: &Tract, instrument: &Instrument) -> Result<Put<S::Image>, AllocError> {
         let put = self.store.put(tract, instrument)?;
         if let Put::Done(_) = put {
-            self.kept.let_go(tract);
+            self.kept.let_go(tract, instrument.estates());
         }
         Ok(put)
     }
@@ -106,6 +244,19 @@ impl<S: Store + Drop> Store for Plant<S> {
 
     fn sheet(&self, alloc: Global, tract: &Tract) -> Result<Vec<SheetRow>, AllocError> {
         self.store.sheet(alloc, tract)
+    }
+
+    fn part(
+        &self,
+        alloc: Global,
+        estate: Estate,
+        tract: &Tract,
+    ) -> Result<Vec<SheetRow>, AllocError> {
+        self.store.part(alloc, estate, tract)
+    }
+
+    fn is_one(&self, alloc: Global, estate: Estate, section: Section) -> Result<bool, AllocError> {
+        self.store.is_one(alloc, estate, section)
     }
 
     fn tidy(&mut self) {

@@ -1,6 +1,7 @@
 //! The desk.
 
-ghost use Rattle.std.specs.Prelude.{MatchOption, Some, ◌≡◌, ◌≢◌, ◌≤◌, ℕ, List, [], ◌∷◌, IfOk, OnOk, ◌↔◌, reverse, true, false};
+ghost use Rattle.std.specs.Prelude.{MatchOption, Some, ◌≡◌, ◌≢◌, ◌+◌, ◌≤◌, ℕ, List, [], ◌∷◌, IfOk, OnOk, ◌↔◌, reverse, true, false};
+ghost use Rattle.std.specs.Prelude.{vec_len, vec_capacity};
 ghost use Rattle.title_land.specs.Depth.{depth};
 ghost use Rattle.title_store.specs.Plants.{IsEachOnce};
 ghost use Rattle.title_land.specs.declared.place.Cell.{Cell};
@@ -16,8 +17,9 @@ ghost use Rattle.title_desk.specs.Images.{is_posted, posted_at};
 ghost use Rattle.title_desk.specs.Told.{Books, IsFirstOpen, Passes, Stays, Told};
 ghost use Rattle.title_desk.specs.Admissions.{Admits, IsFit, entry_of};
 
-use crate::asks::{access_in, add_step, cause_in, keep_post, tract_in};
+use crate::asks::{access_in, add_step, cause_in, copies_of, keep_post, tract_in};
 use crate::images::{forget_all, restore_all, tidy_up};
+use crate::kept_sheets::home_of;
 use crate::plant::Plant;
 use crate::refusal::{Admission, Refusal};
 use crate::slots::{Slot, add_slot, chain_for, count_steps, first_in, is_in, steps_of, take_slot};
@@ -54,6 +56,25 @@ pub fn may_open(parties: u32, townships: &[Township]) -> bool
         return false;
     }
     each_once(townships)
+}
+
+// What a step that is answered takes memory for: room for so many calls more, and copies of it and of its answer.
+fn prepare_step(
+    alloc: Global,
+    trace: &mut Vec<Call>,
+    calls: usize,
+    ask: &Ask,
+    answer: &Answer,
+) -> Result<(title_chain::Step, Answer), AllocError>
+    ensures items { trace.new.items ≡ trace.old.items }
+    ensures len { vec_len trace.new ≡ vec_len trace.old }
+    ensures capacity { vec_capacity trace.old ≤ vec_capacity trace.new }
+    ensures room { OnOk result (vec_len trace.new + calls ≤ vec_capacity trace.new) }
+    ensures step { IfOk result (λ copies. copies.0 ≡ record { ask = ask.now; answer = answer.now }) }
+    ensures told { IfOk result (λ copies. copies.1 ≡ answer.now) }
+{
+    trace.reserve(calls)?;
+    copies_of(alloc, ask, answer)
 }
 
 /// The transactions of any number of examiners over a store and guards. A contract sees its setting, its trace and
@@ -247,23 +268,12 @@ impl<S: Store + Drop, G: Guards + Drop> Desk<S, G> {
         requires unposted { is_posted ask answer ≡ false }
         ensures told { Told self.old (Step examiner ask) result self.new }
     {
-        let Ok(told) = answer.copy() else {
+        let calls = self.slots.len() + 1;
+        let Ok((step, told)) = prepare_step(self.alloc, &mut self.trace, calls, &ask, &answer)
+        else {
             return Reply::Memory;
         };
-        let Ok(kept) = answer.copy() else {
-            return Reply::Memory;
-        };
-        let Ok(copied) = ask.copy(self.alloc) else {
-            return Reply::Memory;
-        };
-        if self.trace.reserve(self.slots.len() + 1).is_err() {
-            return Reply::Memory;
-        }
-        let access = access_in(&copied);
-        let step = title_chain::Step {
-            ask: copied,
-            answer: kept,
-        };
+        let access = access_in(&ask);
         let (guards, slots) = (&mut self.guards, &mut self.slots);
         if add_step(guards, slots, examiner, access, step).is_err() {
             return Reply::Memory;
@@ -280,12 +290,14 @@ impl<S: Store + Drop, G: Guards + Drop> Desk<S, G> {
         requires prepared { self.old.prepared ≡ Some (entry_of examiner (Sheet tract)) }
         ensures told { Told self.old (Step examiner (Sheet tract)) result self.new }
     {
-        let Ok((rows, fresh)) = self.store.rows(self.alloc, &tract) else {
+        let home = home_of(&tract);
+        let Ok(rows) = self.store.rows(self.alloc, &tract) else {
+            self.store.let_go(home);
             return Reply::Memory;
         };
         let reply = self.add_answer(examiner, Ask::Sheet(tract), Answer::Rows(rows));
-        if let Reply::Answered(_) = &reply {
-            self.store.keep(fresh);
+        if let Reply::Memory = &reply {
+            self.store.let_go(home);
         }
         reply
     }

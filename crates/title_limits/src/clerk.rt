@@ -79,7 +79,7 @@ impl fmt::Display for Told<'_> {
         match self.0 {
             Reply::Began => write!(f, "began"),
             Reply::Answered(Answer::Rows(rows)) => {
-                let count = rows.as_slice().len();
+                let count = rows.len();
                 write!(f, "sheet,{count}")
             }
             Reply::Answered(Answer::Entries(entries)) => {
@@ -220,13 +220,14 @@ impl Rows {
 
     /// The rows of a sheet have to be these.
     pub fn are(&self, sheet: &SheetRows) -> Result<()> {
-        let (came, wanted) = (sheet.as_slice().len(), self.rows.len());
+        let (came, wanted) = (sheet.len(), self.rows.len());
         if self.is_short || came != wanted {
             bail!("a sheet has {came} rows, and not {wanted}");
         }
-        for (row, wanted) in sheet.as_slice().iter().zip(&self.rows) {
-            if row != wanted {
-                bail!("{row:?} is no row of the sheet");
+        for (place, wanted) in self.rows.iter().enumerate() {
+            match sheet.row(place) {
+                Some(row) if row == *wanted => {}
+                row => bail!("{row:?} is no row of the sheet"),
             }
         }
         Ok(())

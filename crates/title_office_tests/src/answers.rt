@@ -26,7 +26,7 @@ fn assert_chain(rt: &impl Abort, entries: &[Entry], place: u64) {
 // This answer is the sheet of the sold section.
 fn assert_is_sheet(rt: &impl Abort, answer: Option<&Answer>) {
     match answer {
-        Some(Answer::Rows(rows)) => assert_sold(rt, rows.as_slice()),
+        Some(Answer::Rows(rows)) => assert_sold(rt, rows),
         _ => panic!(rt; "the last answer is a sheet"),
     }
 }

@@ -8,7 +8,7 @@ use crate::checks::must;
 use std::alloc::Global;
 use std::process::Abort;
 use std::sync::Wait;
-use title_chain::{Posting, Terms};
+use title_chain::{Posting, SheetRows, Terms};
 use title_desk::may_open;
 use title_instrument::{Deed, Estate, Estates, Instrument, Quantum};
 use title_land::{Land, Node, Section, Township, Tract, Within};
@@ -16,7 +16,6 @@ use title_office::{
     Done, Ledger, Office, Opened, Outcome, Room, Seat, Settled, Slip, Unseen, Unsettled, Viewer,
 };
 use title_share::Share;
-use title_store::SheetRow;
 use title_trace::Reply;
 
 /// All of an estate in a cell, in units.
@@ -240,18 +239,19 @@ pub fn not_settled<B: Room, R: Wait + Abort>(
     }
 }
 
-fn is_whole(row: &SheetRow, estate: Estate, party: u32) -> bool {
-    row.estate == estate && row.party == party && row.units == WHOLE
+fn has_whole(sheet: &SheetRows, place: usize, estate: Estate, party: u32) -> bool {
+    match sheet.row(place) {
+        Some(row) => row.estate == estate && row.party == party && row.units == WHOLE,
+        None => false,
+    }
 }
 
 /// These rows are the sheet of a section whose surface party 1 has.
-pub fn assert_sold(rt: &impl Abort, rows: &[SheetRow]) {
-    let [first, second, third] = rows else {
-        panic!(rt; "three rows");
-    };
-    must(rt, is_whole(first, Estate::S, 1), "the surface");
-    must(rt, is_whole(second, Estate::O, 0), "the oil");
-    must(rt, is_whole(third, Estate::M, 0), "the minerals");
+pub fn assert_sold(rt: &impl Abort, sheet: &SheetRows) {
+    must(rt, sheet.len() == 3, "three rows");
+    must(rt, has_whole(sheet, 0, Estate::S, 1), "the surface");
+    must(rt, has_whole(sheet, 1, Estate::O, 0), "the oil");
+    must(rt, has_whole(sheet, 2, Estate::M, 0), "the minerals");
 }
 
 fn shows_no_sheet<B: Room>(tract: &Tract, viewer: &mut Viewer<B>) -> bool {

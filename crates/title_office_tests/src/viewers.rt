@@ -23,7 +23,7 @@ fn sheet_of<B: Room>(rt: &impl Abort, tract: &Tract, viewer: &mut Viewer<B>) -> 
 
 fn assert_seen_sold(rt: &impl Abort, seen: &Seen) {
     must(rt, seen.front == 1, "behind one record");
-    assert_sold(rt, seen.rows.as_slice());
+    assert_sold(rt, &seen.rows);
 }
 
 // A viewer shows the surface of a section of which party 1 has all, behind one record.

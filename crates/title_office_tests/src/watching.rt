@@ -9,10 +9,10 @@ use std::marker::Brand;
 use std::process::Abort;
 use std::sync::Wait;
 use std::thread::{Threads, join};
+use title_chain::SheetRows;
 use title_instrument::Estate;
 use title_land::{Township, Tract};
 use title_office::{Done, Ledger, Office, Receipt, Room, Seat, Seen, Viewer};
-use title_store::SheetRow;
 
 /// How many deeds are committed.
 const DEEDS: u64 = 100;
@@ -58,7 +58,7 @@ fn units_left(deeds: u64) -> u64 {
 
 // Whether a sheet is that after as many deeds as it tells.
 fn is_right(seen: &Seen) -> bool {
-    let Some(first) = seen.rows.as_slice().first() else {
+    let Some(first) = seen.rows.row(0) else {
         return false;
     };
     first.estate == Estate::S && first.party == 0 && first.units == units_left(seen.front)
@@ -97,22 +97,24 @@ fn watch<B: Room>(tract: &Tract, mut viewer: Viewer<B>) -> bool {
     watch_all(tract, &mut viewer)
 }
 
-fn is_row(row: &SheetRow, party: u32, units: u64) -> bool {
-    row.party == party && row.units == units
+// A party owns so many units by a row of a sheet.
+fn owns(sheet: &SheetRows, place: usize, party: u32, units: u64) -> bool {
+    match sheet.row(place) {
+        Some(row) => row.party == party && row.units == units,
+        None => false,
+    }
 }
 
 // These rows are the sheet of a section after all deeds: what each of the two parties has of the surface, and two rows more.
-fn assert_all_sold(rt: &impl Abort, rows: &[SheetRow]) {
-    let [first, second, _, _] = rows else {
-        panic!(rt; "four rows");
-    };
-    must(rt, is_row(first, 0, 3_875_536_896), "what is left");
-    must(rt, is_row(second, 1, 419_430_400), "what is sold");
+fn assert_all_sold(rt: &impl Abort, sheet: &SheetRows) {
+    must(rt, sheet.len() == 4, "four rows");
+    must(rt, owns(sheet, 0, 0, 3_875_536_896), "what is left");
+    must(rt, owns(sheet, 1, 1, 419_430_400), "what is sold");
 }
 
 fn assert_all_seen(rt: &impl Abort, seen: &Seen) {
     must(rt, seen.front == 100, "all records");
-    assert_all_sold(rt, seen.rows.as_slice());
+    assert_all_sold(rt, &seen.rows);
 }
 
 // Once it has learnt of the last deed a viewer shows all of them.

@@ -14,7 +14,7 @@ use std::alloc::{AllocError, Global};
 use std::marker::Brand;
 use std::sync::Wait;
 use std::thread::Threads;
-use title_chain::{Answer, Ask};
+use title_chain::{Answer, Ask, SheetRows};
 use title_desk::may_open;
 use title_instrument::Estate;
 use title_land::{Node, Township};
@@ -238,10 +238,13 @@ impl Sold {
     }
 
     // Whether these are the rows: one a section, and one for each of the other estates.
-    fn are_rows_due(self, rows: &[SheetRow]) -> bool {
+    fn are_rows_due(self, rows: &SheetRows) -> bool {
         let mut are_due = rows.len() == 38;
-        for row in rows {
-            are_due &= self.is_row_due(row);
+        for place in 0..rows.len() {
+            are_due &= match rows.row(place) {
+                Some(row) => self.is_row_due(&row),
+                None => false,
+            };
         }
         are_due
     }
@@ -250,7 +253,7 @@ impl Sold {
 // Whether the last answer of a slip is the sheet after these sales.
 fn is_sheet_due<B: Room>(slip: &Slip<B>, sold: Sold) -> bool {
     match slip.last() {
-        Some(Answer::Rows(rows)) => sold.are_rows_due(rows.as_slice()),
+        Some(Answer::Rows(rows)) => sold.are_rows_due(rows),
         _ => false,
     }
 }

@@ -1,7 +1,7 @@
 //! Replies, records and sheets in lines, in the words of a report.
 
 use std::io;
-use title_chain::{Answer, Ask, Entry, Record, Step};
+use title_chain::{Answer, Ask, Entry, Record, SheetRows, Step};
 use title_land::{Node, Tract};
 use title_share::Share;
 use title_store::SheetRow;
@@ -27,10 +27,12 @@ fn tell_row(rt: &impl Print, examiner: u32, row: &SheetRow) -> io::Result<()> {
 }
 
 /// Tells the rows of a sheet.
-pub fn tell_rows(rt: &impl Print, examiner: u32, rows: &[SheetRow]) -> io::Result<()> {
+pub fn tell_rows(rt: &impl Print, examiner: u32, rows: &SheetRows) -> io::Result<()> {
     println!(rt; "{examiner},sheet,{}", rows.len())?;
-    for row in rows {
-        tell_row(rt, examiner, row)?;
+    for place in 0..rows.len() {
+        if let Some(row) = rows.row(place) {
+            tell_row(rt, examiner, &row)?;
+        }
     }
     Ok(())
 }
@@ -54,7 +56,7 @@ fn tell_entries(rt: &impl Print, examiner: u32, entries: &[Entry]) -> io::Result
 /// Tells the answer to a step.
 pub fn tell_answer(rt: &impl Print, examiner: u32, answer: &Answer) -> io::Result<()> {
     match answer {
-        Answer::Rows(rows) => tell_rows(rt, examiner, rows.as_slice()),
+        Answer::Rows(rows) => tell_rows(rt, examiner, rows),
         Answer::Entries(entries) => tell_entries(rt, examiner, entries.as_slice()),
         Answer::Posted => println!(rt; "{examiner},posted"),
         Answer::Refused(rule, estate, node) => {

@@ -47,7 +47,7 @@ pub fn front<B: Room>(viewer: &mut Viewer<B>, alloc: Global, wanted: &mut Wanted
 
 fn tell_seen(rt: &impl Print, seen: &Seen) -> io::Result<()> {
     println!(rt; "viewer: front {}", seen.front)?;
-    tell_rows(rt, 0, seen.rows.as_slice())
+    tell_rows(rt, 0, &seen.rows)
 }
 
 /// Tells what a viewer shows of a place.

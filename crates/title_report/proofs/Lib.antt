@@ -4,3 +4,4 @@ pub mod Judged
 pub mod Lines
 pub mod Parts
 pub mod Plain
+pub mod SheetParts

@@ -4,6 +4,7 @@ use Rattle.std.specs.Fmt.{decimal}
 use Rattle.csv.specs.Writing.{field_text}
 use Rattle.title_share.specs.Share.{share_text}
 use Rattle.title_land.specs.declared.node.Node.{Node}
+use Rattle.title_land.specs.declared.node.Node.TheVariants as node
 use Rattle.title_land.specs.declared.place.Section.{Section}
 use Rattle.title_land.specs.Texts.{node_text, section_text}
 use Rattle.title_instrument.specs.declared.parts.Estate.{Estate}
@@ -34,4 +35,4 @@ names_text giver taker = field_text row_writer giver ++ 44 ∷ field_text row_wr
 -- what a front remembers are beginnings of the examiner's rows
 pub record IsFront (e : ℕ) (f : Front) : Type 0 where
   pub head : IfSome f.section (λ s. f.head ≡ head_text e s)
-  pub text : IfSome f.row (λ r. f.text ≡ front_text e r.node r.estate)
+  pub text : IfSome f.square (λ q. f.text ≡ front_text e (node.Part q.section q.within) q.estate)

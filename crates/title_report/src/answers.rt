@@ -1,8 +1,11 @@
 //! The rows of answers.
 
 ghost use Rattle.std.specs.Prelude.{◌≡◌, ◌∷◌, ◌++◌, [], true, false, All, OnOk, OnErr, codes, length, map};
+ghost use Rattle.std.specs.List.{flat_map};
 ghost use Rattle.std.specs.String.{string_bytes};
 ghost use Rattle.csv.specs.Writing.{field_text};
+ghost use Rattle.title_chain.specs.KeptRows.{rows_in, sheet_in};
+ghost use Rattle.title_chain.specs.SquareRows.{row_in};
 ghost use Rattle.title_instrument.specs.Kinds.{kind_word};
 ghost use Rattle.title_page.specs.Pages.{Stopped, Written};
 ghost use Rattle.title_page.specs.Rows.{row_writer, rows_text};
@@ -14,15 +17,15 @@ use crate::entries::{estates_end, make_entry, make_start, put_entry_from};
 use crate::entry_line::{EntryLine, key_of};
 use crate::entry_lines::line_of;
 use crate::field::ReportField;
-use crate::front::Front;
+use crate::front::{Front, Square};
 use crate::nodes::number_is_plain;
 use crate::replies::{put_number_row, put_row, put_word_row};
 use crate::roster::{Name, Roster};
 use crate::shares::put_tail;
-use title_chain::{Answer, Entry};
+use title_chain::{Answer, Entry, Lines, Part, Sheet, SheetRows, SquareRow};
 use title_device::{Failed, Sink};
 use title_instrument::{Estate, Kind, Rule};
-use title_land::Node;
+use title_land::{Node, Section};
 use title_page::{Line, Page};
 use title_store::SheetRow;
 
@@ -102,9 +105,72 @@ fn put_row_from<S: Sink>(
     put_tail(page, sink, units)
 }
 
-// Writes a row of a sheet, from the beginning that it shares with the row before where these are one. Where none is made of its
-// node, or the page has no room for it, field by field, so that the page goes to the sink where it would if all rows were written so.
-fn put_sheet_line<S: Sink>(
+// Writes a row of a square, from the beginning that it shares with the row before where these are one. Where none is made of the
+// square, or the page has no room for it, field by field, so that the page goes to the sink where it would if all rows were written so.
+fn put_square_row<S: Sink>(
+    page: &mut Page,
+    sink: &mut S,
+    roster: &Roster,
+    examiner: u32,
+    front: &mut Front,
+    section: Section,
+    estate: Estate,
+    row: &SquareRow,
+) -> Result<(), Failed>
+    requires works { S.has_failed sink.old ≡ false }
+    requires front { IsFront examiner front.old }
+    ensures front { IsFront examiner front.new }
+    ensures written { OnOk result (Written (S.taken sink.old) page.old (S.taken sink.new) page.new
+        (rows_text (sheet_row roster.now examiner (row_in section estate row.now) ∷ []))) }
+    ensures well { OnOk result (S.has_failed sink.new ≡ false) }
+    ensures stopped { OnErr result (Stopped (S.taken sink.old) page.old (S.taken sink.new)
+        (rows_text (sheet_row roster.now examiner (row_in section estate row.now) ∷ []))) }
+    ensures failed { OnErr result (S.has_failed sink.new ≡ true) }
+{
+    let square = Square {
+        section,
+        within: row.within,
+        estate,
+    };
+    if front.text_for(examiner, &square).is_none() {
+        return put_sheet_row(page, sink, roster, examiner, row.row(section, estate));
+    }
+    if !page.has_room(front.text.as_bytes().len()) {
+        return put_sheet_row(page, sink, roster, examiner, row.row(section, estate));
+    }
+    let name = roster.name(row.party);
+    put_row_from(page, sink, front.text.as_bytes(), &name, row.share.units())
+}
+
+// Writes rows of a sheet whose section and estate are known: the one loop that takes in how a row is written.
+fn put_square_rows<S: Sink>(
+    page: &mut Page,
+    sink: &mut S,
+    roster: &Roster,
+    examiner: u32,
+    front: &mut Front,
+    section: Section,
+    estate: Estate,
+    squares: &[SquareRow],
+) -> Result<(), Failed>
+    requires works { S.has_failed sink.old ≡ false }
+    requires front { IsFront examiner front.old }
+    ensures front { IsFront examiner front.new }
+    ensures written { OnOk result (Written (S.taken sink.old) page.old (S.taken sink.new) page.new
+        (rows_text (map (λ square. sheet_row roster.now examiner (row_in section estate square)) squares.now))) }
+    ensures well { OnOk result (S.has_failed sink.new ≡ false) }
+    ensures stopped { OnErr result (Stopped (S.taken sink.old) page.old (S.taken sink.new)
+        (rows_text (map (λ square. sheet_row roster.now examiner (row_in section estate square)) squares.now))) }
+    ensures failed { OnErr result (S.has_failed sink.new ≡ true) }
+{
+    for row in squares {
+        put_square_row(page, sink, roster, examiner, front, section, estate, row)?;
+    }
+    Ok(())
+}
+
+// Writes a row of a sheet that is kept as it is: as one of a square, or field by field where it is of a township or of everything.
+fn put_plain_row<S: Sink>(
     page: &mut Page,
     sink: &mut S,
     roster: &Roster,
@@ -122,25 +188,36 @@ fn put_sheet_line<S: Sink>(
         (rows_text (sheet_row roster.now examiner line.now ∷ []))) }
     ensures failed { OnErr result (S.has_failed sink.new ≡ true) }
 {
-    if front.text_for(examiner, line).is_none() {
+    let Node::Part(section, _) = line.node else {
         return put_sheet_row(page, sink, roster, examiner, *line);
-    }
-    if !page.has_room(front.text.as_bytes().len()) {
+    };
+    let Some(square) = SquareRow::of(section, line.estate, line) else {
         return put_sheet_row(page, sink, roster, examiner, *line);
-    }
-    let name = roster.name(line.party);
-    put_row_from(page, sink, front.text.as_bytes(), &name, line.units)
+    };
+    put_square_rows(
+        page,
+        sink,
+        roster,
+        examiner,
+        front,
+        section,
+        line.estate,
+        &[square],
+    )
 }
 
-// Writes the rows of a sheet.
+// Writes rows of a sheet that are kept as they are.
 fn put_sheet_rows<S: Sink>(
     page: &mut Page,
     sink: &mut S,
     roster: &Roster,
     examiner: u32,
+    front: &mut Front,
     lines: &[SheetRow],
 ) -> Result<(), Failed>
     requires works { S.has_failed sink.old ≡ false }
+    requires front { IsFront examiner front.old }
+    ensures front { IsFront examiner front.new }
     ensures written { OnOk result (Written (S.taken sink.old) page.old (S.taken sink.new) page.new
         (rows_text (map (sheet_row roster.now examiner) lines.now))) }
     ensures well { OnOk result (S.has_failed sink.new ≡ false) }
@@ -148,11 +225,94 @@ fn put_sheet_rows<S: Sink>(
         (rows_text (map (sheet_row roster.now examiner) lines.now))) }
     ensures failed { OnErr result (S.has_failed sink.new ≡ true) }
 {
-    let mut front = Front::new();
     for line in lines {
-        put_sheet_line(page, sink, roster, examiner, &mut front, line)?;
+        put_plain_row(page, sink, roster, examiner, front, line)?;
     }
     Ok(())
+}
+
+// Writes rows of a sheet, however they are kept.
+fn put_sheet_lines<S: Sink>(
+    page: &mut Page,
+    sink: &mut S,
+    roster: &Roster,
+    examiner: u32,
+    front: &mut Front,
+    lines: &Lines,
+) -> Result<(), Failed>
+    requires works { S.has_failed sink.old ≡ false }
+    requires front { IsFront examiner front.old }
+    ensures front { IsFront examiner front.new }
+    ensures written { OnOk result (Written (S.taken sink.old) page.old (S.taken sink.new) page.new
+        (rows_text (map (sheet_row roster.now examiner) (rows_in lines.now)))) }
+    ensures well { OnOk result (S.has_failed sink.new ≡ false) }
+    ensures stopped { OnErr result (Stopped (S.taken sink.old) page.old (S.taken sink.new)
+        (rows_text (map (sheet_row roster.now examiner) (rows_in lines.now)))) }
+    ensures failed { OnErr result (S.has_failed sink.new ≡ true) }
+{
+    match lines {
+        Lines::Plain(rows) => put_sheet_rows(page, sink, roster, examiner, front, rows),
+        Lines::Squares(section, estate, squares) => put_square_rows(
+            page, sink, roster, examiner, front, *section, *estate, squares,
+        ),
+    }
+}
+
+// Writes the rows of parts of a sheet, one part after another.
+fn put_sheet_parts<S: Sink>(
+    page: &mut Page,
+    sink: &mut S,
+    roster: &Roster,
+    examiner: u32,
+    front: &mut Front,
+    parts: &[Part],
+) -> Result<(), Failed>
+    requires works { S.has_failed sink.old ≡ false }
+    requires front { IsFront examiner front.old }
+    ensures front { IsFront examiner front.new }
+    ensures written { OnOk result (Written (S.taken sink.old) page.old (S.taken sink.new) page.new
+        (rows_text (flat_map (λ part. map (sheet_row roster.now examiner) part) parts.now))) }
+    ensures well { OnOk result (S.has_failed sink.new ≡ false) }
+    ensures stopped { OnErr result (Stopped (S.taken sink.old) page.old (S.taken sink.new)
+        (rows_text (flat_map (λ part. map (sheet_row roster.now examiner) part) parts.now))) }
+    ensures failed { OnErr result (S.has_failed sink.new ≡ true) }
+{
+    for part in parts {
+        put_sheet_lines(page, sink, roster, examiner, front, part.lines())?;
+    }
+    Ok(())
+}
+
+// Writes the rows of a sheet.
+fn put_kept_sheet<S: Sink>(
+    page: &mut Page,
+    sink: &mut S,
+    roster: &Roster,
+    examiner: u32,
+    front: &mut Front,
+    sheet: &Sheet,
+) -> Result<(), Failed>
+    requires works { S.has_failed sink.old ≡ false }
+    requires front { IsFront examiner front.old }
+    ensures front { IsFront examiner front.new }
+    ensures written { OnOk result (Written (S.taken sink.old) page.old (S.taken sink.new) page.new
+        (rows_text (map (sheet_row roster.now examiner) (sheet_in sheet.now)))) }
+    ensures well { OnOk result (S.has_failed sink.new ≡ false) }
+    ensures stopped { OnErr result (Stopped (S.taken sink.old) page.old (S.taken sink.new)
+        (rows_text (map (sheet_row roster.now examiner) (sheet_in sheet.now)))) }
+    ensures failed { OnErr result (S.has_failed sink.new ≡ true) }
+{
+    match sheet {
+        Sheet::Whole(lines) => put_sheet_lines(page, sink, roster, examiner, front, lines),
+        Sheet::Parted(parts) => put_sheet_parts(
+            page,
+            sink,
+            roster,
+            examiner,
+            front,
+            parts.as_slice(),
+        ),
+    }
 }
 
 // Writes a sheet: the row that counts its rows, and these.
@@ -161,20 +321,21 @@ fn put_sheet<S: Sink>(
     sink: &mut S,
     roster: &Roster,
     examiner: u32,
-    lines: &[SheetRow],
+    sheet: &SheetRows,
 ) -> Result<(), Failed>
     requires works { S.has_failed sink.old ≡ false }
     ensures written { OnOk result (Written (S.taken sink.old) page.old (S.taken sink.new) page.new
-        (rows_text (number_row examiner (codes "sheet") (length lines.now)
-        ∷ map (sheet_row roster.now examiner) lines.now))) }
+        (rows_text (number_row examiner (codes "sheet") (length sheet.now)
+        ∷ map (sheet_row roster.now examiner) sheet.now))) }
     ensures well { OnOk result (S.has_failed sink.new ≡ false) }
     ensures stopped { OnErr result (Stopped (S.taken sink.old) page.old (S.taken sink.new)
-        (rows_text (number_row examiner (codes "sheet") (length lines.now)
-        ∷ map (sheet_row roster.now examiner) lines.now))) }
+        (rows_text (number_row examiner (codes "sheet") (length sheet.now)
+        ∷ map (sheet_row roster.now examiner) sheet.now))) }
     ensures failed { OnErr result (S.has_failed sink.new ≡ true) }
 {
-    put_number_row(page, sink, examiner, b"sheet", lines.len() as u64)?;
-    put_sheet_rows(page, sink, roster, examiner, lines)
+    put_number_row(page, sink, examiner, b"sheet", sheet.len() as u64)?;
+    let mut front = Front::new();
+    put_kept_sheet(page, sink, roster, examiner, &mut front, sheet.sheet())
 }
 
 // The word of a kind of instrument.
@@ -477,7 +638,7 @@ pub(crate) fn put_answer<S: Sink>(
     ensures failed { OnErr result (S.has_failed sink.new ≡ true) }
 {
     match answer {
-        Answer::Rows(rows) => put_sheet(page, sink, roster, examiner, rows.as_slice()),
+        Answer::Rows(rows) => put_sheet(page, sink, roster, examiner, rows),
         Answer::Entries(entries) => put_chain(
             page,
             sink,

@@ -3,23 +3,31 @@
 ghost use Rattle.std.specs.Prelude.{◌≡◌, ◌++◌, ℕ, true, cond, codes, OnSome};
 ghost use Rattle.std.specs.Fmt.{decimal};
 ghost use Rattle.title_instrument.specs.Estates.{estate_text};
-ghost use Rattle.title_land.specs.Texts.{node_text, path_text, quarters_text, section_text, township_text};
+ghost use Rattle.title_land.specs.declared.node.Node.TheVariants as node;
+ghost use Rattle.title_land.specs.Texts.{path_text, quarters_text, section_text, township_text};
 ghost use Rattle.title_report.specs.Fronts.{front_text, head_text, IsFront};
 
 use crate::nodes::quarter_bytes;
-use crate::same::{same_node, same_section};
+use crate::same::{same_section, same_within};
 use itoa::Buffer;
 use title_instrument::Estate;
-use title_land::{Node, Section, Township, Within};
+use title_land::{Section, Township, Within};
 use title_page::Line;
-use title_store::SheetRow;
 
-// The last row whose beginning was made, with that beginning, and the part up to its section.
+// A square of a section, and an estate in it.
+#[derive(Clone, Copy)]
+pub(crate) struct Square {
+    pub(crate) section: Section,
+    pub(crate) within: Within,
+    pub(crate) estate: Estate,
+}
+
+// The last square of whose rows the beginning was made, with that beginning, and the part up to its section.
 #[derive(Drop)]
 pub(crate) struct Front {
     pub(crate) section: Option<Section>,
     pub(crate) head: Line,
-    pub(crate) row: Option<SheetRow>,
+    pub(crate) square: Option<Square>,
     pub(crate) text: Line,
 }
 
@@ -119,7 +127,7 @@ impl Front {
         Front {
             section: None,
             head: Line::new(),
-            row: None,
+            square: None,
             text: Line::new(),
         }
     }
@@ -134,12 +142,17 @@ impl Front {
         }
     }
 
-    // Whether a row begins as the last one did.
-    fn serves(&self, line: &SheetRow) -> bool
-        ensures serves { result ≡ true → (e : ℕ) → IsFront e self.now → self.now.text ≡ front_text e line.now.node line.now.estate }
+    // Whether rows of a square begin as the last ones did.
+    fn serves(&self, square: &Square) -> bool
+        ensures serves { result ≡ true → (e : ℕ) → IsFront e self.now
+            → self.now.text ≡ front_text e (node.Part square.now.section square.now.within) square.now.estate }
     {
-        match &self.row {
-            Some(last) => last.estate == line.estate && same_node(&last.node, &line.node),
+        match &self.square {
+            Some(last) => {
+                same_within(last.within, square.within)
+                    && last.estate == square.estate
+                    && same_section(last.section, square.section)
+            }
             None => false,
         }
     }
@@ -159,22 +172,35 @@ impl Front {
         Some(())
     }
 
-    // Makes the beginning that of a row. `None` where its node isn't a square of a section, or a line has no room for it.
-    pub(crate) fn text_for(&mut self, examiner: u32, line: &SheetRow) -> Option<()>
+    // Makes the beginning that of rows of a square, anew.
+    fn make_for(&mut self, examiner: u32, square: &Square) -> Option<()>
         requires front { IsFront examiner self.old }
         ensures front { IsFront examiner self.new }
-        ensures text { OnSome result (self.new.text ≡ front_text examiner line.now.node line.now.estate) }
+        ensures text { OnSome result
+            (self.new.text ≡ front_text examiner (node.Part square.now.section square.now.within) square.now.estate) }
     {
-        if self.serves(line) {
+        self.head_for(examiner, square.section)?;
+        self.square = None;
+        make_text(
+            &mut self.text,
+            self.head.as_bytes(),
+            square.within,
+            square.estate,
+        )?;
+        self.square = Some(*square);
+        Some(())
+    }
+
+    // Makes the beginning that of rows of a square. `None` where a line has no room for it.
+    pub(crate) fn text_for(&mut self, examiner: u32, square: &Square) -> Option<()>
+        requires front { IsFront examiner self.old }
+        ensures front { IsFront examiner self.new }
+        ensures text { OnSome result
+            (self.new.text ≡ front_text examiner (node.Part square.now.section square.now.within) square.now.estate) }
+    {
+        if self.serves(square) {
             return Some(());
         }
-        let Node::Part(section, within) = &line.node else {
-            return None;
-        };
-        self.head_for(examiner, *section)?;
-        self.row = None;
-        make_text(&mut self.text, self.head.as_bytes(), *within, line.estate)?;
-        self.row = Some(*line);
-        Some(())
+        self.make_for(examiner, square)
     }
 }

@@ -12,3 +12,4 @@ pub mod TractNodes
 pub mod Backing
 pub mod SheetNodes
 pub mod SheetSteps
+pub mod SheetParts

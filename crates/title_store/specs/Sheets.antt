@@ -50,6 +50,10 @@ sheet_below (suc levels) depth townships plant e node =
 abbrev pub estates : List Estate
 estates = S ∷ O ∷ M ∷ []
 
+-- the part of a tract's sheet for one estate: each node of the cover in order
+abbrev pub estate_sheet : ℕ → List Township → Plant → Land → Estate → List SheetRow
+estate_sheet depth townships plant land e = flat_map (sheet_below (depth + 2) depth townships plant e) (cover_of depth land)
+
 -- the sheet of a tract: for each estate in order and each node of the cover in order. Below the whole plant stand its
 -- townships, their sections and as many levels as a section is quartered.
 unfoldable pub sheet_of : ℕ → List Township → Plant → Land → List SheetRow

@@ -14,12 +14,12 @@ use crate::cell_map::CellMap;
 use crate::kept::Lent;
 use crate::posts::{Computed, compute};
 use crate::sheet_row::SheetRow;
-use crate::sheets::add_estate;
+use crate::sheets::{add_estate, is_one};
 use crate::store::{Put, Store};
 use std::alloc::{AllocError, Global};
 use std::collections::BTreeMap;
 use title_instrument::{Estate, Instrument};
-use title_land::{Cell, Node, Township, Tract, cells_of};
+use title_land::{Cell, Node, Section, Township, Tract, Within, cells_of};
 
 /// A before-image of a `CellStore`: its number. The store keeps what it holds.
 #[derive(Debug, Drop)]
@@ -106,6 +106,22 @@ impl Store for CellStore {
             add_estate(alloc, &self.map, &self.townships, estate, tract, &mut rows)?;
         }
         Ok(rows)
+    }
+
+    fn part(
+        &self,
+        alloc: Global,
+        estate: Estate,
+        tract: &Tract,
+    ) -> Result<Vec<SheetRow>, AllocError> {
+        let mut rows = Vec::new(alloc);
+        add_estate(alloc, &self.map, &self.townships, estate, tract, &mut rows)?;
+        Ok(rows)
+    }
+
+    fn is_one(&self, alloc: Global, estate: Estate, section: Section) -> Result<bool, AllocError> {
+        let node = Node::Part(section, Within::section());
+        is_one(alloc, &self.map, &self.townships, estate, node)
     }
 
     fn tidy(&mut self) {}

@@ -1,8 +1,9 @@
 //! Rows of sheets, made from a map of owners.
 
-ghost use Rattle.std.specs.Prelude.{◌≡◌, ◌+◌, ◌++◌, Some, None, IfOk, OnOk, MatchOption};
+ghost use Rattle.std.specs.Prelude.{◌≡◌, ◌+◌, ◌++◌, Some, None, IfOk, OnOk, MatchOption, is_some};
 ghost use Rattle.title_land.specs.Depth.{depth};
 ghost use Rattle.std.specs.List.{flat_map};
+ghost use Rattle.title_land.specs.CellLists.{node_cells};
 ghost use Rattle.title_land.specs.Lands.{cover_of};
 ghost use Rattle.title_store.specs.CellMaps.{content_of};
 ghost use Rattle.title_store.specs.Sheets.{one_holding, holding_rows, sheet_below};
@@ -38,6 +39,21 @@ fn one_holding<'a>(map: &'a CellMap, estate: Estate, cells: &[Cell]) -> Option<&
         }
     }
     Some(held)
+}
+
+/// Whether all cells of a node have one holding of an estate.
+pub(crate) fn is_one(
+    alloc: Global,
+    map: &CellMap,
+    townships: &[Township],
+    estate: Estate,
+    node: Node,
+) -> Result<bool, AllocError>
+    ensures one { IfOk result (λ one. one
+        ≡ is_some (one_holding estate (content_of map.now) (node_cells depth townships.now node))) }
+{
+    let cells = node_cells(alloc, townships, node)?;
+    Ok(one_holding(map, estate, &cells).is_some())
 }
 
 // Adds one row for each entry of a holding.

@@ -1,19 +1,21 @@
 //! What every store of a plant promises.
 
-ghost use Rattle.std.specs.Prelude.{◌≡◌, ℕ, IfOk, OnOk, OnErr, List, [], true, cond};
+ghost use Rattle.std.specs.Prelude.{◌≡◌, ℕ, IfOk, OnOk, OnErr, List, [], true, cond, is_some};
 ghost use Rattle.title_land.specs.Depth.{depth};
 ghost use Rattle.title_land.specs.declared.place.Cell.{Cell};
+ghost use Rattle.title_land.specs.declared.node.Node.TheVariants as node;
 ghost use Rattle.title_land.specs.declared.place.Township.{Township};
-ghost use Rattle.title_land.specs.Lands.{is_in_plant};
+ghost use Rattle.title_land.specs.CellLists.{node_cells};
+ghost use Rattle.title_land.specs.Lands.{is_in_plant, land_of};
 ghost use Rattle.title_instrument.specs.Owners.{opening_owners};
 ghost use Rattle.title_store.specs.Plants.{Plant, SameContent, IsEachOnce, is_cell_of, plant_effect, refused_in};
 ghost use Rattle.title_store.specs.Loans.{Loan, IsOut, IsLentAs, IsLast, IsFirst, IsTaken, PutBy, without};
-ghost use Rattle.title_store.specs.Sheets.{sheet_of};
+ghost use Rattle.title_store.specs.Sheets.{estate_sheet, one_holding, sheet_of};
 
 use crate::sheet_row::SheetRow;
 use std::alloc::{AllocError, Global};
 use title_instrument::{Estate, Instrument, Rule};
-use title_land::{Node, Township, Tract};
+use title_land::{Node, Section, Township, Tract};
 
 /// What came of a put: the before-image of the tract's cells, or the rule and the estate by which the first failing
 /// cell refused the instrument, and the node of the tract's cover in which that cell lies.
@@ -85,6 +87,23 @@ pub trait Store {
     fn sheet(&self, alloc: Global, tract: &Tract) -> Result<Vec<SheetRow>, AllocError>
         requires within { is_in_plant (declared self.now) tract.now ≡ true }
         ensures sheet { IfOk result (λ rows. rows.items ≡ sheet_of depth (declared self.now) (content self.now) tract.now) };
+
+    /// The part of a tract's sheet for one estate.
+    fn part(
+        &self,
+        alloc: Global,
+        estate: Estate,
+        tract: &Tract,
+    ) -> Result<Vec<SheetRow>, AllocError>
+        requires within { is_in_plant (declared self.now) tract.now ≡ true }
+        ensures part { IfOk result (λ rows. rows.items
+            ≡ estate_sheet depth (declared self.now) (content self.now) tract.now estate) };
+
+    /// Whether all cells of a section have one holding of an estate.
+    fn is_one(&self, alloc: Global, estate: Estate, section: Section) -> Result<bool, AllocError>
+        requires within { is_in_plant (declared self.now) (land_of depth (node.Part section [])) ≡ true }
+        ensures one { IfOk result (λ one. one
+            ≡ is_some (one_holding estate (content self.now) (node_cells depth (declared self.now) (node.Part section [])))) };
 
     /// Tidies up while no image is out. Takes no memory and changes nothing that a contract sees.
     fn tidy(&mut self)

@@ -231,7 +231,7 @@ fn a_sheet_by_the_chain_of_no_records(rt: HostRuntime) {
     let records = Records::new(Vec::new(rt.alloc()));
     let rows = sheet_by_chain::<TreeStore>(rt.alloc(), &records, &townships, &tract);
     let rows = rows.expect(&rt, "there is memory");
-    must(&rt, rows.as_slice().len() == 3, "three rows");
+    must(&rt, rows.len() == 3, "three rows");
 }
 
 // A step that releases this node.

@@ -2,12 +2,15 @@
 use Rattle.std.proofs.Common.{◌≡◌, ◌∙◌, ap, sym, refl, subst, ℕ, zero, suc, ◌+◌}
 use Rattle.std.proofs.Common.{◌-◌, ◌^◌, ◌≤◌, arith, Bool, true, false, ◌||◌, cond}
 use Rattle.std.proofs.Common.{inl, inr, List, [], ◌∷◌, ◌++◌, length, length-append, map, Option, Some, None}
-use Rattle.std.specs.Prelude.{nat_lt}
+use Rattle.std.specs.Prelude.{nat_lt, is_some}
+use Rattle.std.specs.Option.{option_map}
 use Rattle.std.specs.List.{flat_map}
 use Rattle.std.proofs.lemmas.Bool.{or_left, or_right, or_cases, cases_Bool, ltb-true}
+use Rattle.std.proofs.lemmas.List.{append-nil}
 use Rattle.title_share.specs.Division.{Division}
 use Rattle.title_land.specs.Depth.{depth}
 use Rattle.title_land.specs.declared.place.Township.{Township}
+use Rattle.title_land.specs.declared.place.Section.{Section}
 use Rattle.title_land.specs.declared.place.Cell.{Cell}
 use Rattle.title_land.specs.declared.rectangle.Quarter.{Quarter}
 use Rattle.title_land.specs.declared.node.Node.{Node}
@@ -25,7 +28,7 @@ use Rattle.title_instrument.specs.declared.parts.Estate.{Estate}
 use Rattle.title_instrument.specs.declared.parts.Estate.TheVariants.{S, O, M}
 use Rattle.title_instrument.specs.Owners.{holding_of, opening_owners}
 use Rattle.title_store.specs.declared.sheet_row.SheetRow.{SheetRow}
-use Rattle.title_store.specs.Sheets.{one_holding, rows_or, sheet_below, estates, sheet_of}
+use Rattle.title_store.specs.Sheets.{one_holding, rows_or, sheet_below, estate_sheet, estates, sheet_of}
 use Rattle.title_store.specs.Laws.SheetHoldings.{one_found, one_from, one_some, in_node, of_node}
 use Rattle.title_tree.specs.Paths.{begins, rest}
 use Rattle.title_tree.specs.Plots.{Plot, value_at, plot_at, uniform, same_division, fits}
@@ -36,7 +39,7 @@ use Rattle.title_tree.specs.Laws.Depths.{fits_plot_at}
 use Rattle.title_tree.specs.Laws.Grafts.{value_plot_at}
 use Rattle.title_tree.specs.Laws.SameDivisions.{same_is, same_self}
 use Rattle.title_tree.specs.Laws.Uniform.{uniform_is_held, uniform_is_found, corner, length-corner}
-use Rattle.title_tree_store.specs.Spots.{cell_path, spots}
+use Rattle.title_tree_store.specs.Spots.{cell_path, section_path, spots}
 use Rattle.title_tree_store.specs.Forests.{owners_at}
 use Rattle.title_tree_store.specs.Keeping.{height, content_of}
 use Rattle.title_tree_store.specs.TreeSheets.{tree_sheet}
@@ -233,6 +236,31 @@ tree_sheet_is (suc below) levels ts ps e n room fit of =
     (flat_same (tree_sheet below levels ts (ps e) e) (sheet_below below depth ts (content_of levels ts ps) e) (children_of depth ts n)
     (λ m i. tree_sheet_is below levels ts ps e m room fit (child_declared ts n m of i)))
 
+-- of a tract for one estate
+pub part_is : (levels : ℕ) (ts : List Township) (ps : Estate → Plot) (land : Land) (e : Estate) → length ts ≤ 4 ^ levels
+    → fits (height levels) (ps e) ≡ true → is_in_plant ts land ≡ true
+    → flat_map (tree_sheet (depth + 2) levels ts (ps e) e) (cover_of depth land) ≡ estate_sheet depth ts (content_of levels ts ps) land e
+part_is levels ts ps land e room fit of =
+    flat_same (tree_sheet (depth + 2) levels ts (ps e) e) (sheet_below (depth + 2) depth ts (content_of levels ts ps) e)
+    (cover_of depth land) (λ n i. tree_sheet_is (depth + 2) levels ts ps e n room fit (cover_declared ts land n of i))
+
+-- whether there is one holding in a section, by what stands there
+pub section_one : (levels : ℕ) (ts : List Township) (ps : Estate → Plot) (e : Estate) (s : Section) (x : Plot) → length ts ≤ 4 ^ levels
+    → fits (height levels) (ps e) ≡ true → IsOf ts s.township → x ≡ plot_at (section_path levels ts s) (ps e)
+    → uniform x ≡ one_holding e (content_of levels ts ps) (node_cells depth ts (node.Part s []))
+section_one levels ts ps e s x room fit of at =
+    ap uniform (at ∙ ap (λ (p : List Quarter). plot_at p (ps e)) (sym (append-nil (section_path levels ts s))))
+    ∙ sym (one_holding_is levels ts ps e (node.Part s []) room fit (of, omega arith))
+
+is_some_mapped : {A : Type 0} (f : A → Division) (o : Option A) → is_some (option_map f o) ≡ is_some o
+is_some_mapped f None = refl
+is_some_mapped f (Some x) = refl
+
+-- a test of it
+pub one_test : {A : Type 0} (f : A → Division) (o : Option A) (b : Bool) (one : Option Division) → b ≡ is_some o → option_map f o ≡ one
+    → b ≡ is_some one
+one_test f o b one test is = test ∙ sym (is_some_mapped f o) ∙ ap is_some is
+
 -- of a tract
 pub sheet_is : (levels : ℕ) (ts : List Township) (ps : Estate → Plot) (land : Land) → length ts ≤ 4 ^ levels
     → ((e : Estate) → fits (height levels) (ps e) ≡ true) → is_in_plant ts land ≡ true
@@ -246,8 +274,6 @@ sheet_is levels ts ps land room fit of = all estates
     all [] = refl
     all (e ∷ es) =
         ap (λ (z : List SheetRow). z ++ flat_map (λ x. flat_map (tree_sheet (depth + 2) levels ts (ps x) x) (cover_of depth land)) es)
-        (flat_same (tree_sheet (depth + 2) levels ts (ps e) e) (sheet_below (depth + 2) depth ts (content_of levels ts ps) e)
-        (cover_of depth land)
-        (λ n i. tree_sheet_is (depth + 2) levels ts ps e n room (fit e) (cover_declared ts land n of i)))
+        (part_is levels ts ps land e room (fit e) of)
         ∙ ap (λ (z : List SheetRow). flat_map (sheet_below (depth + 2) depth ts (content_of levels ts ps) e) (cover_of depth land) ++ z)
         (all es)

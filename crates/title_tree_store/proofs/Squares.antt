@@ -1,6 +1,6 @@
 -- Sheets by what stands in a square are those that are read off the whole tree.
 use Rattle.std.proofs.Common.{◌≡◌, ◌∙◌, ap, sym, refl, subst, ℕ, zero, suc, ◌+◌, ◌-◌, ◌≤◌, arith, false, inl, inr}
-use Rattle.std.proofs.Common.{List, [], ◌∷◌, ◌++◌, length, map, append_assoc, cond, Bool, Option, Some}
+use Rattle.std.proofs.Common.{List, [], ◌∷◌, ◌++◌, length, map, append_assoc, cond, Bool}
 use Rattle.std.specs.Prelude.{nat_lt}
 use Rattle.std.specs.List.{flat_map}
 use Rattle.std.proofs.lemmas.Bool.{cases_Bool}
@@ -21,8 +21,7 @@ use Rattle.title_land.specs.Laws.LandSharing.{part_found}
 use Rattle.title_land.specs.Laws.Members.{In}
 use Rattle.title_instrument.specs.declared.parts.Estate.{Estate}
 use Rattle.title_store.specs.declared.sheet_row.SheetRow.{SheetRow}
-use Rattle.title_share.specs.Division.{Division}
-use Rattle.title_store.specs.Sheets.{holding_rows, rows_or}
+use Rattle.title_store.specs.Sheets.{rows_or}
 use Rattle.title_tree.specs.Paths.{way, number_path}
 use Rattle.title_tree.specs.Plots.{Plot, Same, Four, plot_at, uniform}
 use Rattle.title_tree.specs.Pieces.{uniform_at, both_have}
@@ -188,12 +187,3 @@ pub stems_cover : (x : Land) (s : Section) (w : List Quarter) (rest : List Node)
 stems_cover x s w rest levels ts stem h k =
     ap (λ (p : List Quarter). flat_map (stem_spots p) (cover_of depth x)) k
     ∙ cover_same (stem_spots (section_path levels ts s)) (spots levels ts) x s w rest h (λ v. refl)
-
--- the rows of a square's one holding are its sheet
-pub one_square : (t : Plot) (e : Estate) (s : Section) (w : List Quarter) (held : Division) → Some held ≡ uniform t
-    → holding_rows (node.Part s w) e held ≡ square_sheet t e s w
-one_square (Same d) e s w held h = ap (λ (o : Option Division). rows_or (node.Part s w) e o []) h
-one_square (Four a b c d) e s w held h =
-    ap (λ (o : Option Division). rows_or (node.Part s w) e o
-    (cond (nat_lt (length w) depth) (square_sheet a e s (Northeast ∷ w) ++ square_sheet b e s (Northwest ∷ w)
-    ++ square_sheet c e s (Southwest ∷ w) ++ square_sheet d e s (Southeast ∷ w)) [])) h

@@ -1,15 +1,15 @@
 //! Rows of sheets, read off a tree.
 
-ghost use Rattle.std.specs.Prelude.{◌≡◌, ◌+◌, ◌++◌, OnOk, IfOk};
+ghost use Rattle.std.specs.Prelude.{◌≡◌, ◌+◌, ◌++◌, [], OnOk, IfOk};
 ghost use Rattle.std.specs.List.{flat_map};
 ghost use Rattle.std.specs.Option.{option_map};
 ghost use Rattle.title_land.specs.Depth.{depth};
 ghost use Rattle.title_land.specs.Lands.{cover_of};
 ghost use Rattle.title_tree.specs.Pieces.{uniform_at};
-ghost use Rattle.title_tree.specs.Plots.{same_division};
+ghost use Rattle.title_tree.specs.Plots.{agreed, same_division, uniform};
 ghost use Rattle.title_tree.specs.Trees.{plot};
 ghost use Rattle.title_land.specs.declared.node.Node.TheVariants as node;
-ghost use Rattle.title_store.specs.Sheets.{holding_rows};
+ghost use Rattle.title_store.specs.Sheets.{holding_rows, rows_or};
 ghost use Rattle.title_tree_store.specs.Spots.{blocks, spots};
 ghost use Rattle.title_tree_store.specs.SquareSheets.{part_sheet, plant_sheet, section_sheet, square_sheet, township_sheet};
 ghost use Rattle.title_tree_store.specs.TreeSheets.{tree_sheet};
@@ -83,34 +83,81 @@ fn add_entries(
     Ok(())
 }
 
-// Adds the sheet of a square of a section from what stands there: the rows of its one holding, where it has one, else its
-// quarters' sheets.
-fn add_square(
-    tree: &Tree,
+// The one holding of four quarters, where each has one and these are the same.
+fn agreed<'a>(
+    first: Option<&'a Holding>,
+    second: Option<&'a Holding>,
+    third: Option<&'a Holding>,
+    fourth: Option<&'a Holding>,
+) -> Option<&'a Holding>
+    ensures agreed { option_map (λ held. held.now) result
+        ≡ agreed (option_map (λ held. held.now) first.entry) (option_map (λ held. held.now) second.entry)
+        (option_map (λ held. held.now) third.entry) (option_map (λ held. held.now) fourth.entry) }
+{
+    let held = first?;
+    let second = second?;
+    let third = third?;
+    let fourth = fourth?;
+    if is_same(held, second) && is_same(held, third) && is_same(held, fourth) {
+        Some(held)
+    } else {
+        None
+    }
+}
+
+// Adds the rows of the one holding of a square that is a cell or a leaf, where it has one, and gives it.
+fn add_uniform<'a>(
+    tree: &'a Tree,
     section: Section,
     within: Within,
     estate: Estate,
     rows: &mut Vec<SheetRow>,
-) -> Result<(), AllocError>
+) -> Result<Option<&'a Holding>, AllocError>
+    requires last { square_sheet (plot tree.now) estate section within
+        ≡ rows_or (node.Part section within) estate (uniform (plot tree.now)) [] }
     ensures rows { OnOk result (rows.new.items ≡ rows.old.items ++ square_sheet (plot tree.now) estate section within) }
+    ensures held { IfOk result (λ some. option_map (λ held. held.now) some ≡ uniform (plot tree.now)) }
 {
-    if let Some(held) = tree.uniform() {
-        return add_entries(&Node::Part(section, within), estate, held, rows);
-    }
+    let Some(held) = tree.uniform() else {
+        return Ok(None);
+    };
+    add_entries(&Node::Part(section, within), estate, held, rows)?;
+    Ok(Some(held))
+}
+
+// Adds the sheet of a square of a section from what stands there, and gives the one holding of the square, where it has one. The
+// quarters' sheets are added first, and give way to the rows of the square's one holding.
+fn add_square<'a>(
+    tree: &'a Tree,
+    section: Section,
+    within: Within,
+    estate: Estate,
+    rows: &mut Vec<SheetRow>,
+) -> Result<Option<&'a Holding>, AllocError>
+    ensures rows { OnOk result (rows.new.items ≡ rows.old.items ++ square_sheet (plot tree.now) estate section within) }
+    ensures held { IfOk result (λ some. option_map (λ held. held.now) some ≡ uniform (plot tree.now)) }
+{
     let Tree::Quarters(northeast, northwest, southwest, southeast) = tree else {
-        return Ok(());
+        return add_uniform(tree, section, within, estate, rows);
     };
     if within.is_cell() {
-        return Ok(());
+        return add_uniform(tree, section, within, estate, rows);
     }
+    let count = rows.len();
     let inner = within.quarter(Quarter::Northeast);
-    add_square(northeast, section, inner, estate, rows)?;
+    let first = add_square(northeast, section, inner, estate, rows)?;
     let inner = within.quarter(Quarter::Northwest);
-    add_square(northwest, section, inner, estate, rows)?;
+    let second = add_square(northwest, section, inner, estate, rows)?;
     let inner = within.quarter(Quarter::Southwest);
-    add_square(southwest, section, inner, estate, rows)?;
+    let third = add_square(southwest, section, inner, estate, rows)?;
     let inner = within.quarter(Quarter::Southeast);
-    add_square(southeast, section, inner, estate, rows)
+    let fourth = add_square(southeast, section, inner, estate, rows)?;
+    let Some(held) = agreed(first, second, third, fourth) else {
+        return Ok(None);
+    };
+    rows.truncate(count);
+    add_entries(&Node::Part(section, within), estate, held, rows)?;
+    Ok(Some(held))
 }
 
 // Adds the sheet of a node of a section from what stands in the section.

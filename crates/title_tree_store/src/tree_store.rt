@@ -13,9 +13,10 @@ use crate::lent::Images;
 use crate::refusals::Search;
 use crate::sheets::add_estate;
 use crate::spots::tract_spots;
+use crate::walks::section_tree;
 use std::alloc::{AllocError, Global};
 use title_instrument::{Estate, Instrument};
-use title_land::{Cell, Node, Township, Tract};
+use title_land::{Cell, Node, Section, Township, Tract};
 use title_store::{Put, SheetRow, Store};
 use title_tree::Fault;
 
@@ -140,6 +141,32 @@ impl Store for TreeStore {
             )?;
         }
         Ok(rows)
+    }
+
+    fn part(
+        &self,
+        alloc: Global,
+        estate: Estate,
+        tract: &Tract,
+    ) -> Result<Vec<SheetRow>, AllocError> {
+        let mut rows = Vec::new(alloc);
+        let tree = self.forest.of(estate);
+        add_estate(
+            alloc,
+            tree,
+            self.levels,
+            &self.townships,
+            estate,
+            tract,
+            &mut rows,
+        )?;
+        Ok(rows)
+    }
+
+    fn is_one(&self, _alloc: Global, estate: Estate, section: Section) -> Result<bool, AllocError> {
+        let tree = self.forest.of(estate);
+        let stands = section_tree(tree, self.levels, &self.townships, section);
+        Ok(stands.uniform().is_some())
     }
 
     fn tidy(&mut self) {

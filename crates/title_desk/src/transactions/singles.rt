@@ -1,21 +1,26 @@
 //! Transactions of one step, where nobody is open: no slot, no lock and no before-image is kept for them.
 
-ghost use Rattle.std.specs.Prelude.{◌≡◌, ◌+◌, ◌≤◌, ◌∷◌, [], MatchOption, IfOk, false, reverse, vec_len, vec_capacity};
+ghost use Rattle.std.specs.Prelude.{◌≡◌, ◌+◌, ◌≤◌, ◌++◌, ◌∷◌, [], MatchOption, IfOk, OnOk, OnErr, true, false, length, reverse};
+ghost use Rattle.std.specs.Prelude.{vec_len, vec_capacity};
 ghost use Rattle.title_land.specs.Depth.{depth};
+ghost use Rattle.title_land.specs.Lands.{is_in_plant};
+ghost use Rattle.title_store.specs.Plants.{SameContent, plant_effect, refused_in};
 ghost use Rattle.title_chain.specs.declared.ask.Ask.TheVariants.{Chain, Post, Sheet};
 ghost use Rattle.title_chain.specs.Alone.{alone};
-ghost use Rattle.title_trace.specs.declared.call.Request.TheVariants.{Begin, Step};
-ghost use Rattle.title_trace.specs.declared.call.Reply.TheVariants.{Began};
+ghost use Rattle.title_chain.specs.declared.ask.Answer.TheVariants.{Posted};
+ghost use Rattle.title_trace.specs.declared.call.Request.TheVariants.{Begin, Commit, Step};
+ghost use Rattle.title_trace.specs.declared.call.Reply.TheVariants.{Answered, Began, Committed};
 ghost use Rattle.title_trace.specs.Trace.{committed, open_steps};
 ghost use Rattle.title_desk.specs.Images.{is_posted};
-ghost use Rattle.title_desk.specs.Singles.{Bars, IsIdle, Stands, ToldSingle};
+ghost use Rattle.title_desk.specs.Singles.{Bars, IsDeed, IsIdle, Stands, ToldSingle};
 
-use crate::asks::{cause_in, tract_in};
+use crate::asks::{cause_in, copies_of, tract_in};
 use crate::images::settle;
+use crate::kept_sheets::home_of;
 use crate::refusal::Refusal;
 use crate::transactions::Desk;
 use std::alloc::{AllocError, Global};
-use title_chain::{Answer, Ask, OwnSteps, Posting, Record, Steps};
+use title_chain::{Answer, Ask, OwnSteps, Posting, Record, Steps, TractIndex};
 use title_land::Tract;
 use title_lock::Guards;
 use title_store::{Put, Store};
@@ -23,12 +28,106 @@ use title_trace::laws::idle_have_no_steps;
 use title_trace::{Call, Reply, Request};
 
 // The list of one step.
-fn one_step(alloc: Global, ask: Ask, answer: Answer) -> Result<Steps, AllocError>
-    ensures steps { IfOk result (λ steps. steps ≡ record { ask = ask; answer = answer } ∷ []) }
+fn one_step(alloc: Global, step: title_chain::Step) -> Result<Steps, AllocError>
+    ensures steps { IfOk result (λ steps. steps ≡ step ∷ []) }
 {
     let mut steps = Vec::with_capacity(alloc, 1)?;
-    steps.push_reserved(title_chain::Step { ask, answer });
+    steps.push_reserved(step);
     Ok(Steps::new(steps))
+}
+
+// Makes room for so many calls more and for a record.
+fn make_room(
+    trace: &mut Vec<Call>,
+    records: &mut TractIndex,
+    calls: usize,
+) -> Result<(), AllocError>
+    ensures items { trace.new.items ≡ trace.old.items }
+    ensures len { vec_len trace.new ≡ vec_len trace.old }
+    ensures capacity { vec_capacity trace.old ≤ vec_capacity trace.new }
+    ensures records { records.new.records ≡ records.old.records }
+    ensures room { OnOk result (vec_len trace.new + calls ≤ vec_capacity trace.new) }
+    ensures record_room { OnOk result (records.new.has_room ≡ true) }
+{
+    trace.reserve(calls)?;
+    records.reserve()
+}
+
+// What a transaction of one answered step takes memory for: the list of its step and a copy of the answer, and room.
+fn prepare_answer(
+    alloc: Global,
+    trace: &mut Vec<Call>,
+    records: &mut TractIndex,
+    calls: usize,
+    ask: &Ask,
+    answer: &Answer,
+) -> Result<(Steps, Answer), AllocError>
+    ensures items { trace.new.items ≡ trace.old.items }
+    ensures len { vec_len trace.new ≡ vec_len trace.old }
+    ensures capacity { vec_capacity trace.old ≤ vec_capacity trace.new }
+    ensures records { records.new.records ≡ records.old.records }
+    ensures room { OnOk result (vec_len trace.new + calls ≤ vec_capacity trace.new) }
+    ensures record_room { OnOk result (records.new.has_room ≡ true) }
+    ensures steps { IfOk result (λ copies. copies.0 ≡ record { ask = ask.now; answer = answer.now } ∷ []) }
+    ensures told { IfOk result (λ copies. copies.1 ≡ answer.now) }
+{
+    let (step, told) = copies_of(alloc, ask, answer)?;
+    let steps = one_step(alloc, step)?;
+    make_room(trace, records, calls)?;
+    Ok((steps, told))
+}
+
+// What a transaction of one post that is done takes memory for: the list of its step, and room.
+fn prepare_post(
+    alloc: Global,
+    trace: &mut Vec<Call>,
+    records: &mut TractIndex,
+    calls: usize,
+    posting: &Posting,
+) -> Result<Steps, AllocError>
+    ensures items { trace.new.items ≡ trace.old.items }
+    ensures len { vec_len trace.new ≡ vec_len trace.old }
+    ensures capacity { vec_capacity trace.old ≤ vec_capacity trace.new }
+    ensures records { records.new.records ≡ records.old.records }
+    ensures room { OnOk result (vec_len trace.new + calls ≤ vec_capacity trace.new) }
+    ensures record_room { OnOk result (records.new.has_room ≡ true) }
+    ensures steps { IfOk result (λ steps. steps ≡ record { ask = Post posting.now; answer = Posted } ∷ []) }
+{
+    let copied = posting.copy(alloc)?;
+    let step = title_chain::Step {
+        ask: Ask::Post(copied),
+        answer: Answer::Posted,
+    };
+    let steps = one_step(alloc, step)?;
+    make_room(trace, records, calls)?;
+    Ok(steps)
+}
+
+// Posts in a store of which no image is out, and lets the image go; or gives the answer that says why it is refused.
+fn post_at_once<S: Store>(store: &mut S, posting: &Posting) -> Result<Option<Answer>, AllocError>
+    requires within { is_in_plant (S.declared store.old) posting.now.tract ≡ true }
+    requires none { S.out store.old ≡ [] }
+    ensures deed { IfOk result (λ refused. IsDeed refused
+        (refused_in depth (S.declared store.old) posting.now.instrument (S.content store.old) posting.now.tract)
+        (SameContent (plant_effect depth (S.declared store.old) posting.now.instrument (S.content store.old) posting.now.tract)
+        (S.content store.new))
+        (SameContent (S.content store.old) (S.content store.new))) }
+    ensures declared { S.declared store.new ≡ S.declared store.old }
+    ensures out { S.out store.new ≡ [] }
+    ensures err_content { OnErr result (SameContent (S.content store.old) (S.content store.new)) }
+{
+    let terms = posting.terms();
+    let Ok(put) = store.put(&terms.tract, &terms.instrument) else {
+        return Err(AllocError);
+    };
+    let image = match put {
+        Put::Refused(rule, estate, node) => {
+            return Ok(Some(Answer::Refused(rule, estate, node)));
+        }
+        Put::Done(image) => image,
+    };
+    settle(store, image);
+    Ok(None)
 }
 
 // Adds the calls of a transaction of one step, for which there is room: it is begun, asked, and ended.
@@ -59,6 +158,30 @@ fn add_calls(
         request: end,
         reply: ended,
     });
+}
+
+// Adds the record and the calls of a transaction whose step is answered, for which there is room.
+fn add_done(
+    trace: &mut Vec<Call>,
+    records: &mut TractIndex,
+    examiner: u32,
+    ask: Ask,
+    told: Answer,
+    steps: Steps,
+)
+    requires room { vec_len trace.old + 3 ≤ vec_capacity trace.old }
+    requires record_room { records.old.has_room ≡ true }
+    ensures records { records.new.records ≡ records.old.records ++ record { examiner = examiner; steps = steps } ∷ [] }
+    ensures calls { reverse trace.new.items ≡ record { request = Commit examiner; reply = Committed (length records.new.records) }
+        ∷ record { request = Step examiner ask; reply = Answered told } ∷ record { request = Begin examiner; reply = Began }
+        ∷ reverse trace.old.items }
+    ensures len { vec_len trace.new ≡ vec_len trace.old + 3 }
+    ensures capacity { vec_capacity trace.new ≡ vec_capacity trace.old }
+{
+    records.push_reserved(Record { examiner, steps });
+    let place = records.len() as u64;
+    let (told, end) = (Reply::Answered(told), Request::Commit(examiner));
+    add_calls(trace, examiner, ask, told, end, Reply::Committed(place));
 }
 
 impl<S: Store + Drop, G: Guards + Drop> Desk<S, G> {
@@ -100,33 +223,19 @@ impl<S: Store + Drop, G: Guards + Drop> Desk<S, G> {
         ensures told { ToldSingle self.old examiner ask result self.new }
     {
         idle_have_no_steps();
-        let Ok(told) = answer.copy() else {
+        let calls = self.slots.len() + 3;
+        let (trace, records) = (&mut self.trace, &mut self.records);
+        let Ok((steps, told)) = prepare_answer(self.alloc, trace, records, calls, &ask, &answer)
+        else {
             return Reply::Memory;
         };
-        let Ok(kept) = answer.copy() else {
-            return Reply::Memory;
-        };
-        let Ok(copied) = ask.copy(self.alloc) else {
-            return Reply::Memory;
-        };
-        let Ok(steps) = one_step(self.alloc, copied, kept) else {
-            return Reply::Memory;
-        };
-        if self.trace.reserve(self.slots.len() + 3).is_err() {
-            return Reply::Memory;
-        }
-        if self.records.reserve().is_err() {
-            return Reply::Memory;
-        }
-        self.records.push_reserved(Record { examiner, steps });
-        let place = self.records.len() as u64;
-        add_calls(
+        add_done(
             &mut self.trace,
+            &mut self.records,
             examiner,
             ask,
-            Reply::Answered(told),
-            Request::Commit(examiner),
-            Reply::Committed(place),
+            told,
+            steps,
         );
         Reply::Answered(answer)
     }
@@ -137,12 +246,14 @@ impl<S: Store + Drop, G: Guards + Drop> Desk<S, G> {
         ensures told { ToldSingle self.old examiner (Sheet tract) result self.new }
     {
         idle_have_no_steps();
-        let Ok((rows, fresh)) = self.store.rows(self.alloc, &tract) else {
+        let home = home_of(&tract);
+        let Ok(rows) = self.store.rows(self.alloc, &tract) else {
+            self.store.let_go(home);
             return Reply::Memory;
         };
         let reply = self.answer_alone(examiner, Ask::Sheet(tract), Answer::Rows(rows));
-        if let Reply::Answered(_) = &reply {
-            self.store.keep(fresh);
+        if let Reply::Memory = &reply {
+            self.store.let_go(home);
         }
         reply
     }
@@ -167,39 +278,26 @@ impl<S: Store + Drop, G: Guards + Drop> Desk<S, G> {
         ensures told { ToldSingle self.old examiner (Post posting) result self.new }
     {
         idle_have_no_steps();
-        let Ok(copied) = posting.copy(self.alloc) else {
+        let calls = self.slots.len() + 3;
+        let (trace, records) = (&mut self.trace, &mut self.records);
+        let Ok(steps) = prepare_post(self.alloc, trace, records, calls, &posting) else {
             return Reply::Memory;
         };
-        let Ok(steps) = one_step(self.alloc, Ask::Post(copied), Answer::Posted) else {
+        let Ok(refused) = post_at_once(&mut self.store, &posting) else {
             return Reply::Memory;
         };
-        if self.trace.reserve(self.slots.len() + 3).is_err() {
-            return Reply::Memory;
+        match refused {
+            Some(answer) => return self.answer_alone(examiner, Ask::Post(posting), answer),
+            None => {}
         }
-        if self.records.reserve().is_err() {
-            return Reply::Memory;
-        }
-        let terms = posting.terms();
-        let Ok(put) = self.store.put(&terms.tract, &terms.instrument) else {
-            return Reply::Memory;
-        };
-        let image = match put {
-            Put::Refused(rule, estate, node) => {
-                let answer = Answer::Refused(rule, estate, node);
-                return self.answer_alone(examiner, Ask::Post(posting), answer);
-            }
-            Put::Done(image) => image,
-        };
-        settle(&mut self.store, image);
-        self.records.push_reserved(Record { examiner, steps });
-        let place = self.records.len() as u64;
-        add_calls(
-            &mut self.trace,
+        let (trace, records) = (&mut self.trace, &mut self.records);
+        add_done(
+            trace,
+            records,
             examiner,
             Ask::Post(posting),
-            Reply::Answered(Answer::Posted),
-            Request::Commit(examiner),
-            Reply::Committed(place),
+            Answer::Posted,
+            steps,
         );
         Reply::Answered(Answer::Posted)
     }

@@ -4,7 +4,17 @@ use Rattle.std.specs.List.{AllByRecursion}
 use Rattle.title_land.specs.declared.place.Cell.{Cell}
 use Rattle.title_land.specs.CellLists.{cells_of}
 use Rattle.title_instrument.specs.declared.instrument.Instrument.{Instrument}
-use Rattle.title_instrument.specs.Effect.{cell_effect}
+use Rattle.title_instrument.specs.declared.owners.Effect.{Effect}
+use Rattle.title_instrument.specs.declared.owners.Effect.TheVariants.{Done, Refused}
+use Rattle.title_instrument.specs.declared.owners.Owners.{Owners}
+use Rattle.title_instrument.specs.declared.parts.Estate.{Estate}
+use Rattle.title_instrument.specs.Effect.{cell_effect, owners_after}
+use Rattle.title_instrument.specs.Estates.{names}
+use Rattle.title_instrument.specs.Owners.{holding_of}
+use Rattle.title_instrument.specs.Parties.{estates_of}
+use Rattle.title_instrument.specs.Laws.EffectLaws.{unnamed_in}
+use Rattle.title_land.specs.declared.place.Township.{Township}
+use Rattle.title_land.specs.declared.tract.Land.{Land}
 use Rattle.title_store.specs.Plants.{Plant, Refusal, is_cell_of, failing_or, first_failing, refusal_of, refused_in, done_or, plant_effect}
 use Rattle.title_store.specs.StoreLaws.{RefusedSame, EffectSame, EffectOutside, EffectRefused}
 use Rattle.title_store.specs.Laws.Each.{each_from}
@@ -41,3 +51,21 @@ pub effect_refused : EffectRefused
 unfolding plant_effect
 effect_refused d ts i land p c r refused = ap (λ (o : Option Refusal).
     cond (is_some o) (p c) (cond (is_cell_of d ts land c) (done_or (p c) (cell_effect i (p c))) (p c))) refused
+
+done_is : (w : Owners) (f : Effect) → done_or w f ≡ owners_after w f
+done_is w (Done after) = refl
+done_is w (Refused rule e) = refl
+
+-- a post changes no holding of an estate that its instrument doesn't name
+pub effect_unnamed : (d : ℕ) (ts : List Township) (i : Instrument ℕ) (land : Land) (p : Plant) (c : Cell) (e : Estate)
+    → names (estates_of i) e ≡ false → holding_of e (plant_effect d ts i p land c) ≡ holding_of e (p c)
+unfolding plant_effect
+effect_unnamed d ts i land p c e none = go (is_some (refused_in d ts i p land)) (is_cell_of d ts land c)
+  where
+    stays : holding_of e (done_or (p c) (cell_effect i (p c))) ≡ holding_of e (p c)
+    stays = ap (holding_of e) (done_is (p c) (cell_effect i (p c))) ∙ unnamed_in i (p c) (cell_effect i (p c)) refl e none
+
+    go : (a b : Bool) → holding_of e (cond a (p c) (cond b (done_or (p c) (cell_effect i (p c))) (p c))) ≡ holding_of e (p c)
+    go true b = refl
+    go false true = stays
+    go false false = refl

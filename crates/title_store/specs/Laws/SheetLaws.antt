@@ -20,28 +20,30 @@ use Rattle.title_store.specs.Laws.Each.{each_from, flat_map_same}
 use Rattle.title_store.specs.Laws.PlantCells.{node_each}
 use Rattle.title_store.specs.Laws.TractNodes.{cover_within, children_within}
 
-all_same : (e : Estate) (p q : Plant) (x y : Division) (cells : List Cell) → x ≡ y → AllByRecursion (λ c. p c ≡ q c) cells
+all_same : (e : Estate) (p q : Plant) (x y : Division) (cells : List Cell) → x ≡ y
+    → AllByRecursion (λ c. holding_of e (p c) ≡ holding_of e (q c)) cells
     → list_all (λ c. same_division (holding_of e (p c)) x) cells ≡ list_all (λ c. same_division (holding_of e (q c)) y) cells
 all_same e p q x y [] same h = refl
-all_same e p q x y (c ∷ cells) same h = λ i. same_division (holding_of e (h.0 i)) (same i) && all_same e p q x y cells same h.1 i
+all_same e p q x y (c ∷ cells) same h = λ i. same_division (h.0 i) (same i) && all_same e p q x y cells same h.1 i
 
-one_same : (e : Estate) (p q : Plant) (cells : List Cell) → AllByRecursion (λ c. p c ≡ q c) cells
+one_same : (e : Estate) (p q : Plant) (cells : List Cell) → AllByRecursion (λ c. holding_of e (p c) ≡ holding_of e (q c)) cells
     → one_holding e p cells ≡ one_holding e q cells
 one_same e p q [] h = refl
 one_same e p q (c ∷ cells) h = λ i.
-    cond (all_same e p q (holding_of e (p c)) (holding_of e (q c)) cells (ap (holding_of e) h.0) h.1 i) (Some (holding_of e (h.0 i))) None
+    cond (all_same e p q (holding_of e (p c)) (holding_of e (q c)) cells h.0 h.1 i) (Some (h.0 i)) None
 
--- the plants have the same owners in each of a node's cells
-abbrev SameIn : ℕ → List Township → Plant → Plant → Node → Type 0
-SameIn d ts p q n = (c : Cell) → node_has d n c ≡ true → is_plant_cell d ts c ≡ true → p c ≡ q c
+-- the plants have the same holding of an estate in each of a node's cells
+abbrev SameIn : ℕ → List Township → Estate → Plant → Plant → Node → Type 0
+SameIn d ts e p q n = (c : Cell) → node_has d n c ≡ true → is_plant_cell d ts c ≡ true → holding_of e (p c) ≡ holding_of e (q c)
 
-node_same : (d : ℕ) (ts : List Township) (e : Estate) (p q : Plant) (n : Node) → SameIn d ts p q n
+node_same : (d : ℕ) (ts : List Township) (e : Estate) (p q : Plant) (n : Node) → SameIn d ts e p q n
     → one_holding e p (node_cells d ts n) ≡ one_holding e q (node_cells d ts n)
 node_same d ts e p q n same =
     one_same e p q (node_cells d ts n)
-    (each_from (λ c. (node_has d n c ≡ true) × (is_plant_cell d ts c ≡ true)) (λ c. p c ≡ q c) _ (λ c h. same c h.0 h.1) (node_each d ts n))
+    (each_from (λ c. (node_has d n c ≡ true) × (is_plant_cell d ts c ≡ true)) (λ c. holding_of e (p c) ≡ holding_of e (q c)) _
+    (λ c h. same c h.0 h.1) (node_each d ts n))
 
-below_same : (levels d : ℕ) (ts : List Township) (e : Estate) (p q : Plant) (n : Node) → SameIn d ts p q n
+below_same : (levels d : ℕ) (ts : List Township) (e : Estate) (p q : Plant) (n : Node) → SameIn d ts e p q n
     → sheet_below levels d ts p e n ≡ sheet_below levels d ts q e n
 below_same zero d ts e p q n same = ap (λ (o : Option Division). rows_or n e o []) (node_same d ts e p q n same)
 below_same (suc levels) d ts e p q n same =
@@ -51,14 +53,20 @@ below_same (suc levels) d ts e p q n same =
     (λ m h. below_same levels d ts e p q m (λ c k. same c (h c k))) (children_within d ts n)) in
     λ i. rows_or n e (node_same d ts e p q n same i) (parts i)
 
-estate_same : (d : ℕ) (ts : List Township) (land : Land) (p q : Plant)
-    → ((c : Cell) → (has land c && is_plant_cell d ts c) ≡ true → p c ≡ q c) → (e : Estate)
+-- the part of a sheet for an estate depends on the holdings of that estate alone
+pub holding_same : (d : ℕ) (ts : List Township) (land : Land) (p q : Plant) (e : Estate)
+    → ((c : Cell) → (has land c && is_plant_cell d ts c) ≡ true → holding_of e (p c) ≡ holding_of e (q c))
     → flat_map (sheet_below (d + 2) d ts p e) (cover_of d land) ≡ flat_map (sheet_below (d + 2) d ts q e) (cover_of d land)
-estate_same d ts land p q same e =
+holding_same d ts land p q e same =
     flat_map_same (sheet_below (d + 2) d ts p e) (sheet_below (d + 2) d ts q e) (cover_of d land)
     (each_from (λ n. (c : Cell) → node_has d n c ≡ true → has land c ≡ true)
     (λ n. sheet_below (d + 2) d ts p e n ≡ sheet_below (d + 2) d ts q e n) _
     (λ n h. below_same (d + 2) d ts e p q n (λ c k l. same c (and_from (has land c) _ (h c k) l))) (cover_within d land))
+
+estate_same : (d : ℕ) (ts : List Township) (land : Land) (p q : Plant)
+    → ((c : Cell) → (has land c && is_plant_cell d ts c) ≡ true → p c ≡ q c) → (e : Estate)
+    → flat_map (sheet_below (d + 2) d ts p e) (cover_of d land) ≡ flat_map (sheet_below (d + 2) d ts q e) (cover_of d land)
+estate_same d ts land p q same e = holding_same d ts land p q e (λ c h. ap (holding_of e) (same c h))
 
 each_estate : (f g : Estate → List SheetRow) → ((e : Estate) → f e ≡ g e) → (es : List Estate) → flat_map f es ≡ flat_map g es
 each_estate f g h [] = refl

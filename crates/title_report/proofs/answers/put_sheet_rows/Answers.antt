@@ -8,13 +8,13 @@ pub loop-line-preserved : goal.loop-line-preserved
 loop-line-preserved g c = (
   one_row_more (sheet_row c.args.roster.now c.args.examiner) c.args.lines.now c.loop-line.line-index
       c.line-item.result
-      c.loop-line-test.true c.line-item.is c.loop-line.invariant.0 c.in_ok-put_sheet_line.ensures.written,
-  c.in_ok-put_sheet_line.ensures.well,
-  c.in_ok-put_sheet_line.ensures.front,
+      c.loop-line-test.true c.line-item.is c.loop-line.invariant.0 c.in_ok-put_plain_row.ensures.written,
+  c.in_ok-put_plain_row.ensures.well,
+  c.in_ok-put_plain_row.ensures.front,
 )
 
-pub returns-in_err-put_sheet_line-clause-stopped : goal.returns-in_err-put_sheet_line-clause-stopped
-returns-in_err-put_sheet_line-clause-stopped g c =
+pub returns-in_err-put_plain_row-clause-stopped : goal.returns-in_err-put_plain_row-clause-stopped
+returns-in_err-put_plain_row-clause-stopped g c =
     on_err c.from_residual.result (stopped_at_a_row (sheet_row c.args.roster.now c.args.examiner)
     c.args.lines.now c.loop-line.line-index c.line-item.result c.loop-line-test.true c.line-item.is c.loop-line.invariant.0
-    c.in_err-put_sheet_line.ensures.stopped)
+    c.in_err-put_plain_row.ensures.stopped)

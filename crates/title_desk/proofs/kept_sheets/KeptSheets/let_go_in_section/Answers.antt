@@ -3,20 +3,20 @@ use Rattle.std.proofs.Common.{subst}
 use Rattle.std.specs.List.{filter}
 use Rattle.title_land.specs.declared.node.Node.{Node}
 use Rattle.title_land.specs.NodeNumbers.{node_number}
-use Rattle.title_desk.specs.Shown.{is_left, sheets_under, IsSetUnder}
+use Rattle.title_desk.specs.Shown.{is_left, kept_under, IsSetUnder}
 use Rattle.title_desk.proofs.Homes.{section_left, section_others, section_apart}
 use Rattle.title_desk.proofs.kept_sheets.KeptSheets.let_go_in_section.Goals as goal
 
 pub returns : goal.returns
 returns c =
     let looked_through = subst (λ (n : Node). IsSetUnder (node_number n)
-    (filter (is_left c.args.tract.now) (sheets_under c.args.self.now (node_number n))) c.args.self.now c.let_go_at.new.self)
+    (filter (is_left c.args.tract.now c.args.estates) (kept_under c.args.self.now (node_number n))) c.args.self.now c.let_go_at.new.self)
     c.section_node.ensures.node c.let_go_at.ensures.left in
     record {
-      left = section_left c.args.section c.args.tract.now c.args.self.now c.let_go_at.new.self c.drop_home.new.self
+      left = section_left c.args.section c.args.tract.now c.args.estates c.args.self.now c.let_go_at.new.self c.drop_home.new.self
           c.drop_home-2.new.self c.requires.home looked_through c.drop_home.ensures.gone c.drop_home-2.ensures.gone;
       others = section_others c.args.section c.args.tract.now _ c.args.self.now c.let_go_at.new.self c.drop_home.new.self
           c.drop_home-2.new.self c.requires.home looked_through c.drop_home.ensures.gone c.drop_home-2.ensures.gone;
-      apart = section_apart c.args.section c.args.tract.now c.args.self.now c.let_go_at.new.self c.drop_home.new.self
+      apart = section_apart c.args.section c.args.tract.now c.args.estates c.args.self.now c.let_go_at.new.self c.drop_home.new.self
           c.drop_home-2.new.self c.requires.home looked_through c.drop_home.ensures.gone c.drop_home-2.ensures.gone;
     }

@@ -7,9 +7,10 @@ use Rattle.title_desk.proofs.plant.PlantStore.put.Goals as goal
 
 pub invariant_of-self-in-Done : goal.invariant_of-self-in-Done
 invariant_of-self-in-Done g c =
+    let left = rw c.estates.ensures.estates at c.let_go.ensures.left in
     kept_left (g.S.Store.declared c.self.inside.store) (g.S.Store.declared c.put.new.self) c.args.tract.now c.args.instrument.now
     (g.S.Store.content c.self.inside.store) (g.S.Store.content c.put.new.self) c.self.inside.kept c.let_go.new.self
-    c.put.ensures.declared c.in_ok-put.ensures.content c.let_go.ensures.left c.self.invariant
+    c.put.ensures.declared c.in_ok-put.ensures.content left c.self.invariant
 
 pub invariant_of-self-in_default : goal.invariant_of-self-in_default
 invariant_of-self-in_default g c =

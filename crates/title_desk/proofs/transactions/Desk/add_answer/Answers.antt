@@ -1,9 +1,8 @@
 -- A step that posted nothing is added, or all stays as it was.
-use Rattle.std.proofs.Common.{◌≡◌, refl, ap, ◌∙◌, sym, subst, arith}
+use Rattle.std.proofs.Common.{◌≡◌, ◌∙◌, sym, subst, arith}
 use Rattle.title_land.specs.Depth.{depth}
 use Rattle.std.proofs.lemmas.Grind.{common_steps}
 use Rattle.std.proofs.lemmas.List.{reverse-append}
-use Rattle.title_chain.specs.Asks.{is_post}
 use Rattle.title_chain.specs.Alone.{alone}
 use Rattle.title_trace.specs.declared.call.Request.TheVariants.{Step}
 use Rattle.title_trace.specs.declared.call.Reply.TheVariants.{Answered}
@@ -14,27 +13,27 @@ use Rattle.title_desk.proofs.Moves.{keeps_back}
 use Rattle.title_desk.proofs.Steps.{keeps_answered, due_alone, on_good, on_bad}
 use Rattle.title_desk.proofs.transactions.Desk.add_answer.Goals as goal
 
-pub invariant_of-self-then-is_err-2 : goal.invariant_of-self-then-is_err-2
-invariant_of-self-then-is_err-2 g c =
-    let failed = sym c.is_err-2.ensures.value ∙ c.if-is_err-2.true in
+pub invariant_of-self-then-is_err : goal.invariant_of-self-then-is_err
+invariant_of-self-then-is_err g c =
+    let failed = sym c.is_err.ensures.value ∙ c.if-is_err.true in
     let locks = on_bad c.add_step.result _ failed c.add_step.ensures.err_locked in (
-      rw (c.reserve.ensures.items, locks) (keeps_back _ (on_bad c.add_step.result _ failed c.add_step.ensures.err) c.self.invariant.0),
-      grind (arith, common_steps, c.self.invariant.1, c.add_step.ensures.len),
+      rw (c.prepare_step.ensures.items, locks)
+          (keeps_back _ (on_bad c.add_step.result _ failed c.add_step.ensures.err) c.self.invariant.0),
+      grind (arith, common_steps, c.self.invariant.1, c.prepare_step.ensures.len, c.prepare_step.ensures.capacity, c.add_step.ensures.len),
     )
 
 pub invariant_of-self-2 : goal.invariant_of-self-2
 invariant_of-self-2 g c =
-    let done = sym c.is_err-2.ensures.value ∙ c.if-is_err-2.false in
+    let done = sym c.is_err.ensures.value ∙ c.if-is_err.false in
     let added = on_good c.add_step.result _ done c.add_step.ensures.added in
     let locked = on_good c.add_step.result _ done c.add_step.ensures.locked in
     let due = subst (λ (b : Books). DueReply depth b.setting b.trace (Step c.args.examiner c.args.ask) (Answered c.args.answer))
     (sym c.self.view_is) (due_alone c.args.self.now c.args.examiner c.args.ask c.args.answer c.requires.passes c.requires.alone) in
     let is = subst (λ (b : Books). c.args.answer ≡ alone depth b.setting.townships (committed b.trace) (open_steps b.trace c.args.examiner)
     c.args.ask) (sym c.self.view_is) c.requires.alone in (
-      rw (c.push_reserved.ensures.items, c.reserve.ensures.items, reverse-append, c.in-Ok.ensures.copy)
+      rw (c.push_reserved.ensures.items, c.prepare_step.ensures.items, reverse-append, c.in-Ok.ensures.told)
           (keeps_answered _ c.args.examiner c.args.ask c.args.answer c.access_in-access.result c.self.invariant.0
-          (rw (c.in-Ok-copy-2.ensures.copy, c.in-Ok-copy.ensures.copy) at added) c.add_step.ensures.images
-          (locked ∙ rw c.in-Ok-copy-2.ensures.copy refl)
-          (c.access_in-access.ensures.access ∙ ap is_post c.in-Ok-copy-2.ensures.copy) c.requires.unposted is due),
-      grind (arith, common_steps, c.self.invariant.1, c.add_step.ensures.len),
+          (rw c.in-Ok.ensures.step at added) c.add_step.ensures.images (rw c.in-Ok.ensures.step at locked)
+          c.access_in-access.ensures.access c.requires.unposted is due),
+      grind (arith, common_steps, c.self.invariant.1, c.prepare_step.ensures.len, c.add_step.ensures.len),
     )

@@ -19,21 +19,15 @@ invariant_of-self-2 g c =
     let is = subst (λ (b : Books). c.args.answer ≡ alone depth b.setting.townships (committed b.trace) (open_steps b.trace c.args.examiner)
     c.args.ask) (sym c.self.view_is) c.requires.alone in
     let s : Step = record { ask = c.args.ask; answer = c.args.answer } in
-    let more : c.push_reserved.new.self.records
+    let more : c.add_done.new.records.records
     ≡ c.self.inside.records.records ++ record { examiner = c.args.examiner; steps = s ∷ [] } ∷ [] =
-    rw (
-      c.push_reserved.ensures.records,
-      c.reserve-2.ensures.records,
-      c.in-Ok-one_step.ensures.steps,
-      c.in-Ok-copy.ensures.copy,
-      c.in-Ok-copy-2.ensures.copy,
-    ) refl in
-    let place : c.len-place.result ≡ suc (length (committed (reverse c.self.inside.trace.items))) =
-    place_is c.self.invariant.0 _ c.len-place.result more c.len-place.ensures.len in (
-      rw (c.add_calls.ensures.calls, c.reserve.ensures.items, c.in-Ok.ensures.copy, place)
+    rw (c.add_done.ensures.records, c.prepare_answer.ensures.records, c.in-Ok.ensures.steps) refl in
+    let place : length c.add_done.new.records.records ≡ suc (length (committed (reverse c.self.inside.trace.items))) =
+    place_is c.self.invariant.0 _ (length c.add_done.new.records.records) more refl in (
+      rw (c.add_done.ensures.calls, c.prepare_answer.ensures.items, c.in-Ok.ensures.told, place)
           (keeps_read c.idle_have_no_steps.ensures.none idle c.self.invariant.0 c.args.examiner c.args.ask c.args.answer stands is
           c.requires.unposted more),
-      grind (arith, common_steps, c.self.invariant.1, c.add_calls.ensures.len, c.add_calls.ensures.capacity),
+      grind (arith, common_steps, c.self.invariant.1, c.add_done.ensures.len, c.add_done.ensures.capacity),
     )
 
 pub returns : goal.returns
@@ -43,21 +37,15 @@ returns g c =
     let is = subst (λ (b : Books). c.args.answer ≡ alone depth b.setting.townships (committed b.trace) (open_steps b.trace c.args.examiner)
     c.args.ask) (sym c.self.view_is) c.requires.alone in
     let s : Step = record { ask = c.args.ask; answer = c.args.answer } in
-    let more : c.push_reserved.new.self.records
+    let more : c.add_done.new.records.records
     ≡ c.self.inside.records.records ++ record { examiner = c.args.examiner; steps = s ∷ [] } ∷ [] =
-    rw (
-      c.push_reserved.ensures.records,
-      c.reserve-2.ensures.records,
-      c.in-Ok-one_step.ensures.steps,
-      c.in-Ok-copy.ensures.copy,
-      c.in-Ok-copy-2.ensures.copy,
-    ) refl in
-    let place : c.len-place.result ≡ suc (length (committed (reverse c.self.inside.trace.items))) =
-    place_is c.self.invariant.0 _ c.len-place.result more c.len-place.ensures.len in
+    rw (c.add_done.ensures.records, c.prepare_answer.ensures.records, c.in-Ok.ensures.steps) refl in
+    let place : length c.add_done.new.records.records ≡ suc (length (committed (reverse c.self.inside.trace.items))) =
+    place_is c.self.invariant.0 _ (length c.add_done.new.records.records) more refl in
     record {
       told = (
         ap (λ (b : Books). b.setting) c.self.view_is,
-        rw (c.add_calls.ensures.calls, c.reserve.ensures.items, c.in-Ok.ensures.copy, place)
+        rw (c.add_done.ensures.calls, c.prepare_answer.ensures.items, c.in-Ok.ensures.told, place)
             (ap (λ (b : Books). after_single b.trace c.args.examiner c.args.ask (Answered c.args.answer)) c.self.view_is),
         subst (λ (b : Books). IsDue depth b.setting (after_single b.trace c.args.examiner c.args.ask (Answered c.args.answer)))
             c.self.view_is

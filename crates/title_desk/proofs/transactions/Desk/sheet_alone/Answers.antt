@@ -1,16 +1,12 @@
--- The rows that the store gives are those that the ask gets alone, and they are still the sheet when they are kept.
-use Rattle.std.proofs.Common.{◌≡◌, ◌∙◌, ap, reverse, sym, subst}
+-- The rows that the store gives are those that the ask gets alone.
+use Rattle.std.proofs.Common.{◌∙◌, ap, reverse, sym, subst}
 use Rattle.title_land.specs.Depth.{depth}
 use Rattle.title_store.specs.Sheets.{sheet_of}
 use Rattle.title_chain.specs.declared.ask.Ask.TheVariants.{Sheet}
 use Rattle.title_chain.specs.declared.ask.Answer.TheVariants.{Rows}
-use Rattle.title_chain.specs.Alone.{alone}
-use Rattle.title_trace.specs.declared.call.Reply.TheVariants.{Answered}
-use Rattle.title_trace.specs.Trace.{committed, open_steps}
-use Rattle.title_desk.specs.Singles.{IsIdle, after_single}
+use Rattle.title_desk.specs.Singles.{IsIdle}
 use Rattle.title_desk.specs.Told.{Books}
-use Rattle.title_desk.proofs.Shows.{shown_made}
-use Rattle.title_desk.proofs.Singles.{no_steps, nobody_in_the_way, single_stands}
+use Rattle.title_desk.proofs.Singles.{no_steps, nobody_in_the_way}
 use Rattle.title_desk.proofs.Steps.{sheet_due}
 use Rattle.title_desk.proofs.transactions.Desk.sheet_alone.Goals as goal
 
@@ -18,25 +14,11 @@ pub answer_alone-reply-requires-clause-alone : goal.answer_alone-reply-requires-
 answer_alone-reply-requires-clause-alone g c =
     let k = c.self.invariant.0 in
     let idle = subst (λ (b : Books). IsIdle b.trace) (sym c.self.view_is) c.requires.idle in
-    subst (λ (b : Books). Rows c.in-Ok.rows ≡ alone depth b.setting.townships (committed b.trace) (open_steps b.trace c.args.examiner)
-    (Sheet c.args.tract)) c.self.view_is (
     ap Rows (c.in-Ok.ensures.rows
     ∙ ap (λ ts. sheet_of depth ts (g.S.Store.content c.self.inside.store) c.args.tract) k.declared_are)
     ∙ sheet_due c.args.examiner c.args.tract k
     (nobody_in_the_way (reverse c.self.inside.trace.items) c.args.examiner (Sheet c.args.tract)
     (no_steps c.idle_have_no_steps.ensures.none idle k))
-    )
 
-pub keep-requires : goal.keep-requires
-keep-requires g c =
-    let idle = subst (λ (b : Books). IsIdle b.trace) (sym c.self.view_is) c.requires.idle in
-    let told = rw c.in-Answered.is at c.answer_alone-reply.ensures.told in
-    let same = ap (λ (b : Books). b.setting) c.self-2.view_is ∙ told.0 ∙ sym (ap (λ (b : Books). b.setting) c.self.view_is) in
-    let longer = ap (λ (b : Books). b.trace) c.self-2.view_is ∙ told.1
-    ∙ sym (ap (λ (b : Books). after_single b.trace c.args.examiner (Sheet c.args.tract) (Answered c.in-Answered.field-0)) c.self.view_is) in
-    record {
-      sheet = shown_made (g.S.Store.declared c.self-2.inside.store) (g.S.Store.content c.self-2.inside.store) c.args.tract c.in-Ok.rows
-          c.in-Ok.fresh c.in-Ok.ensures.fresh (c.in-Ok.ensures.rows
-          ∙ single_stands c.idle_have_no_steps.ensures.none idle c.args.examiner c.args.tract c.in-Answered.field-0 c.self.invariant.0
-          c.self-2.invariant.0 same longer);
-    }
+pub answer_alone-reply-requires-clause-idle : goal.answer_alone-reply-requires-clause-idle
+answer_alone-reply-requires-clause-idle g c = subst (λ (b : Books). IsIdle b.trace) (sym c.self.view_is) c.requires.idle

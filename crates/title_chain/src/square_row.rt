@@ -1,0 +1,102 @@
+//! Rows of sheets whose section and estate are known.
+
+ghost use Rattle.std.specs.Prelude.{◌≡◌, IfOk, IfSome, map, true};
+ghost use Rattle.title_chain.specs.SquareRows.{row_in};
+
+use crate::same_parts::{same_estate, same_section, same_share, same_within};
+use std::alloc::{AllocError, Global};
+use title_instrument::Estate;
+use title_land::{Node, Section, Within};
+use title_share::Share;
+use title_store::SheetRow;
+
+/// A row of a sheet less its section and estate: in every cell of a square of the section a party owns this share.
+#[derive(Clone, Copy, Debug)]
+pub struct SquareRow {
+    pub within: Within,
+    pub party: u32,
+    pub share: Share,
+}
+
+impl SquareRow {
+    /// A row less its section and estate. `None` where it isn't a row of these.
+    pub fn of(section: Section, estate: Estate, row: &SheetRow) -> Option<SquareRow>
+        ensures of { IfSome result (λ square. row_in section estate square ≡ row.now) }
+    {
+        let Node::Part(other, within) = row.node else {
+            return None;
+        };
+        if !(same_section(section, other) && same_estate(estate, row.estate)) {
+            return None;
+        }
+        let share = Share::new(row.units)?;
+        Some(SquareRow {
+            within,
+            party: row.party,
+            share,
+        })
+    }
+
+    /// The row, with its section and estate.
+    pub fn row(&self, section: Section, estate: Estate) -> SheetRow
+        ensures row { result ≡ row_in section estate self.now }
+    {
+        SheetRow {
+            node: Node::Part(section, self.within),
+            estate,
+            party: self.party,
+            units: self.share.units(),
+        }
+    }
+
+    // Whether both are one.
+    fn same(&self, other: &SquareRow) -> bool
+        ensures same { result ≡ true → self.now ≡ other.now }
+    {
+        same_within(self.within, other.within)
+            && self.party == other.party
+            && same_share(self.share, other.share)
+    }
+}
+
+/// The section of a row, where it is one of a section.
+pub(crate) fn section_of(row: &SheetRow) -> Option<Section> {
+    match row.node {
+        Node::Part(section, _) => Some(section),
+        _ => None,
+    }
+}
+
+/// Rows less their section and estate. `None` where one isn't a row of these.
+pub(crate) fn squares_of(
+    alloc: Global,
+    section: Section,
+    estate: Estate,
+    rows: &[SheetRow],
+) -> Result<Option<Vec<SquareRow>>, AllocError>
+    ensures squares { IfOk result (λ some. IfSome some (λ squares. map (row_in section estate) squares.items ≡ rows.now)) }
+{
+    let mut squares = Vec::with_capacity(alloc, rows.len())?;
+    for row in rows {
+        let Some(square) = SquareRow::of(section, estate, row) else {
+            return Ok(None);
+        };
+        squares.push_reserved(square);
+    }
+    Ok(Some(squares))
+}
+
+/// Whether these are the same rows of one section and estate.
+pub(crate) fn same_squares(a: &[SquareRow], b: &[SquareRow]) -> bool
+    ensures same { result ≡ true → a.now ≡ b.now }
+{
+    if a.len() != b.len() {
+        return false;
+    }
+    for (row, other) in a.iter().zip(b) {
+        if !row.same(other) {
+            return false;
+        }
+    }
+    true
+}

@@ -1,0 +1,19 @@
+-- What stands in the section has one holding where its cells have.
+use Rattle.std.proofs.Common.{◌∙◌}
+use Rattle.title_tree.specs.Plots.{plot_at}
+use Rattle.title_tree.specs.Trees.{plot}
+use Rattle.title_tree_store.specs.Forests.{plots}
+use Rattle.title_tree_store.specs.Spots.{section_path}
+use Rattle.title_tree_store.proofs.Holdings.{section_one, one_test}
+use Rattle.title_tree_store.proofs.tree_store.TreeStoreStore.is_one.Goals as goal
+
+pub returns : goal.returns
+returns c =
+    let store = c.args.self.now in
+    record {
+      one = one_test (λ held. held.now) c.uniform.result c.is_some.result _ c.is_some.ensures (c.uniform.ensures.uniform
+          ∙ section_one store.levels store.townships.items (plots store.forest) c.args.estate c.args.section
+          (plot c.section_tree-stands.result.now) store.kept.room (store.kept.fit c.args.estate) c.requires.within
+          (c.section_tree-stands.ensures.stands
+          ∙ (λ i. plot_at (section_path store.levels (c.deref.ensures.value i) c.args.section) (c.of-tree.ensures.of i))));
+    }
