@@ -2,7 +2,6 @@
 
 ghost use Rattle.std.specs.Prelude.{◌≡◌, ◌∷◌, ◌++◌, [], true, false, All, OnOk, OnErr, codes, length, map};
 ghost use Rattle.std.specs.List.{flat_map};
-ghost use Rattle.std.specs.String.{string_bytes};
 ghost use Rattle.csv.specs.Writing.{field_text};
 ghost use Rattle.title_chain.specs.KeptRows.{rows_in, sheet_in};
 ghost use Rattle.title_chain.specs.SquareRows.{row_in};
@@ -11,7 +10,7 @@ ghost use Rattle.title_page.specs.Pages.{Stopped, Written};
 ghost use Rattle.title_page.specs.Rows.{row_writer, rows_text};
 ghost use Rattle.title_report.specs.EntryTexts.{IsMade};
 ghost use Rattle.title_report.specs.Fronts.{entry_start, tail_text, IsFront};
-ghost use Rattle.title_report.specs.Replies.{answer_rows, entry_row, name_of, number_row, refused_row, sheet_row};
+ghost use Rattle.title_report.specs.Replies.{answer_rows, entry_row, number_row, refused_row, sheet_row};
 
 use crate::entries::{estates_end, make_entry, make_start, put_entry_from};
 use crate::entry_line::{EntryLine, key_of};
@@ -56,8 +55,8 @@ fn put_refused<S: Sink>(
     put_row(page, sink, &fields)
 }
 
-// Writes a row of a sheet.
-fn put_sheet_row<S: Sink>(
+// Writes a row of a sheet field by field.
+fn put_sheet_row_by_fields<S: Sink>(
     page: &mut Page,
     sink: &mut S,
     roster: &Roster,
@@ -132,11 +131,8 @@ fn put_square_row<S: Sink>(
         within: row.within,
         estate,
     };
-    if front.text_for(examiner, &square).is_none() {
-        return put_sheet_row(page, sink, roster, examiner, row.row(section, estate));
-    }
-    if !page.has_room(front.text.as_bytes().len()) {
-        return put_sheet_row(page, sink, roster, examiner, row.row(section, estate));
+    if front.text_for(examiner, &square).is_none() || !page.has_room(front.text.as_bytes().len()) {
+        return put_sheet_row_by_fields(page, sink, roster, examiner, row.row(section, estate));
     }
     let name = roster.name(row.party);
     put_row_from(page, sink, front.text.as_bytes(), &name, row.share.units())
@@ -189,10 +185,10 @@ fn put_plain_row<S: Sink>(
     ensures failed { OnErr result (S.has_failed sink.new ≡ true) }
 {
     let Node::Part(section, _) = line.node else {
-        return put_sheet_row(page, sink, roster, examiner, *line);
+        return put_sheet_row_by_fields(page, sink, roster, examiner, *line);
     };
     let Some(square) = SquareRow::of(section, line.estate, line) else {
-        return put_sheet_row(page, sink, roster, examiner, *line);
+        return put_sheet_row_by_fields(page, sink, roster, examiner, *line);
     };
     put_square_rows(
         page,
@@ -349,8 +345,8 @@ fn kind_bytes(kind: Kind) -> &'static [u8]
     }
 }
 
-// Writes a row of a chain.
-fn put_entry<S: Sink>(
+// Writes a row of a chain field by field.
+fn put_entry_by_fields<S: Sink>(
     page: &mut Page,
     sink: &mut S,
     roster: &Roster,
@@ -382,31 +378,9 @@ fn put_entry<S: Sink>(
     put_row(page, sink, &fields)
 }
 
-// Writes the entries of a chain field by field.
-fn put_entries_by_fields<S: Sink>(
-    page: &mut Page,
-    sink: &mut S,
-    roster: &Roster,
-    examiner: u32,
-    entries: &[Entry],
-) -> Result<(), Failed>
-    requires works { S.has_failed sink.old ≡ false }
-    ensures written { OnOk result (Written (S.taken sink.old) page.old (S.taken sink.new) page.new
-        (rows_text (map (entry_row roster.now examiner) entries.now))) }
-    ensures well { OnOk result (S.has_failed sink.new ≡ false) }
-    ensures stopped { OnErr result (Stopped (S.taken sink.old) page.old (S.taken sink.new)
-        (rows_text (map (entry_row roster.now examiner) entries.now))) }
-    ensures failed { OnErr result (S.has_failed sink.new ≡ true) }
-{
-    for entry in entries {
-        put_entry(page, sink, roster, examiner, entry)?;
-    }
-    Ok(())
-}
-
 // Writes a row of a chain, of which the text up to the first name is made from that with which all its rows begin; field by field
 // where no line holds that text, or the page has no room for it.
-fn put_entry_line<S: Sink>(
+fn put_entry_in_parts<S: Sink>(
     page: &mut Page,
     sink: &mut S,
     roster: &Roster,
@@ -426,11 +400,10 @@ fn put_entry_line<S: Sink>(
 {
     let terms = entry.posting.terms();
     let instrument = terms.instrument;
-    if make_entry(line, start, entry.place, terms.doc, instrument.kind()).is_none() {
-        return put_entry(page, sink, roster, examiner, entry);
-    }
-    if !page.has_room(line.as_bytes().len()) {
-        return put_entry(page, sink, roster, examiner, entry);
+    if make_entry(line, start, entry.place, terms.doc, instrument.kind()).is_none()
+        || !page.has_room(line.as_bytes().len())
+    {
+        return put_entry_by_fields(page, sink, roster, examiner, entry);
     }
     number_is_plain(entry.place);
     number_is_plain(terms.doc);
@@ -482,11 +455,8 @@ fn put_kept_entry<S: Sink>(
     ensures failed { OnErr result (S.has_failed sink.new ≡ true) }
 {
     let key = key_of(entry);
-    if kept.text_for(roster, &key).is_none() {
-        return put_entry_line(page, sink, roster, examiner, start, line, entry);
-    }
-    if !page.has_room(start.len() + kept.text.len()) {
-        return put_entry_line(page, sink, roster, examiner, start, line, entry);
+    if kept.text_for(roster, &key).is_none() || !page.has_room(start.len() + kept.text.len()) {
+        return put_entry_in_parts(page, sink, roster, examiner, start, line, entry);
     }
     number_is_plain(key.place);
     number_is_plain(key.doc);
@@ -494,7 +464,7 @@ fn put_kept_entry<S: Sink>(
 }
 
 // Writes a row of a chain: from the line of its entry, where there is one.
-fn put_each_entry<S: Sink>(
+fn put_entry<S: Sink>(
     page: &mut Page,
     sink: &mut S,
     roster: &Roster,
@@ -528,38 +498,10 @@ fn put_each_entry<S: Sink>(
             entry,
         );
     }
-    put_entry_line(page, sink, roster, examiner, start, line, entry)
+    put_entry_in_parts(page, sink, roster, examiner, start, line, entry)
 }
 
 // Writes the entries of a chain, each from the text with which they begin.
-fn put_entries_from<S: Sink>(
-    page: &mut Page,
-    sink: &mut S,
-    roster: &Roster,
-    lines: &mut [EntryLine],
-    examiner: u32,
-    start: &[u8],
-    entries: &[Entry],
-) -> Result<(), Failed>
-    requires start { start.now ≡ entry_start examiner }
-    requires lines { All (IsMade roster.now) lines.old }
-    requires works { S.has_failed sink.old ≡ false }
-    ensures lines { All (IsMade roster.now) lines.new }
-    ensures written { OnOk result (Written (S.taken sink.old) page.old (S.taken sink.new) page.new
-        (rows_text (map (entry_row roster.now examiner) entries.now))) }
-    ensures well { OnOk result (S.has_failed sink.new ≡ false) }
-    ensures stopped { OnErr result (Stopped (S.taken sink.old) page.old (S.taken sink.new)
-        (rows_text (map (entry_row roster.now examiner) entries.now))) }
-    ensures failed { OnErr result (S.has_failed sink.new ≡ true) }
-{
-    let mut line = Line::new();
-    for entry in entries {
-        put_each_entry(page, sink, roster, lines, examiner, start, &mut line, entry)?;
-    }
-    Ok(())
-}
-
-// Writes the entries of a chain.
 fn put_entries<S: Sink>(
     page: &mut Page,
     sink: &mut S,
@@ -578,19 +520,13 @@ fn put_entries<S: Sink>(
         (rows_text (map (entry_row roster.now examiner) entries.now))) }
     ensures failed { OnErr result (S.has_failed sink.new ≡ true) }
 {
-    let mut start = Line::new();
-    if make_start(&mut start, examiner).is_none() {
-        return put_entries_by_fields(page, sink, roster, examiner, entries);
+    let start = make_start(examiner);
+    let start = start.as_bytes();
+    let mut line = Line::new();
+    for entry in entries {
+        put_entry(page, sink, roster, lines, examiner, start, &mut line, entry)?;
     }
-    put_entries_from(
-        page,
-        sink,
-        roster,
-        lines,
-        examiner,
-        start.as_bytes(),
-        entries,
-    )
+    Ok(())
 }
 
 // Writes a chain: the row that counts its entries, and these.

@@ -2,15 +2,14 @@
 
 ghost use Rattle.std.specs.Prelude.{◌≡◌, ◌∷◌, ◌++◌, [], true, false, codes, OnOk, OnErr, OnSome};
 ghost use Rattle.std.specs.Fmt.{decimal};
-ghost use Rattle.csv.specs.Writing.{field_text};
 ghost use Rattle.title_instrument.specs.Estates.{estates_text};
 ghost use Rattle.title_instrument.specs.Kinds.{kind_word};
 ghost use Rattle.title_page.specs.Pages.{Stopped, Written};
-ghost use Rattle.title_page.specs.Rows.{row_writer};
 ghost use Rattle.title_report.specs.Fronts.{entry_start, names_text};
 
 use crate::front::add_number;
 use crate::roster::Name;
+use itoa::Buffer;
 use title_device::{Failed, Sink};
 use title_instrument::{Estates, Kind};
 use title_page::{Line, Page};
@@ -42,13 +41,16 @@ pub(crate) fn estates_end(estates: Estates) -> &'static [u8]
     }
 }
 
-// Makes the text with which all rows of a chain begin. `None` where the line has no room for it.
-pub(crate) fn make_start(line: &mut Line, examiner: u32) -> Option<()>
-    ensures made { OnSome result (line.new ≡ entry_start examiner) }
+// The text with which all rows of a chain begin: of 17 bytes at most, so that a line has room for it.
+pub(crate) fn make_start(examiner: u32) -> Line
+    ensures made { result ≡ entry_start examiner }
 {
-    line.clear();
-    add_number(line, u64::from(examiner))?;
-    line.add(b",entry,")
+    let mut digits = Buffer::new();
+    let digits = digits.format(examiner);
+    let mut start = Line::new();
+    start.add(digits.as_bytes());
+    start.add(b",entry,");
+    start
 }
 
 // Makes the text of a chain's row up to the first name. `None` where the line has no room for it.
@@ -83,7 +85,7 @@ fn put_names<S: Sink>(page: &mut Page, sink: &mut S, from: &Name, to: &Name) -> 
 }
 
 // Writes the end of a chain's row: in its three parts where the page has no room for it.
-fn put_end<S: Sink>(page: &mut Page, sink: &mut S, end: &[u8]) -> Result<(), Failed>
+fn put_entry_end<S: Sink>(page: &mut Page, sink: &mut S, end: &[u8]) -> Result<(), Failed>
     requires works { S.has_failed sink.old ≡ false }
     ensures written { OnOk result (Written (S.taken sink.old) page.old (S.taken sink.new) page.new end.now) }
     ensures well { OnOk result (S.has_failed sink.new ≡ false) }
@@ -118,5 +120,5 @@ pub(crate) fn put_entry_from<S: Sink>(
 {
     page.put(sink, front)?;
     put_names(page, sink, from, to)?;
-    put_end(page, sink, end)
+    put_entry_end(page, sink, end)
 }

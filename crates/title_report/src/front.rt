@@ -1,15 +1,14 @@
 //! The text with which rows of a sheet begin, made once for all rows of a node and an estate.
 
-ghost use Rattle.std.specs.Prelude.{◌≡◌, ◌++◌, ℕ, true, cond, codes, OnSome};
-ghost use Rattle.std.specs.Fmt.{decimal};
+ghost use Rattle.std.specs.Prelude.{◌≡◌, ◌++◌, ℕ, true, codes, OnSome};
 ghost use Rattle.title_instrument.specs.Estates.{estate_text};
 ghost use Rattle.title_land.specs.declared.node.Node.TheVariants as node;
 ghost use Rattle.title_land.specs.Texts.{path_text, quarters_text, section_text, township_text};
 ghost use Rattle.title_report.specs.Fronts.{front_text, head_text, IsFront};
 
-use crate::nodes::quarter_bytes;
+use crate::nodes::{quarter_bytes, range_letter, side_letter};
 use crate::same::{same_section, same_within};
-use itoa::Buffer;
+use itoa::{Buffer, Integer};
 use title_instrument::Estate;
 use title_land::{Section, Township, Within};
 use title_page::Line;
@@ -32,26 +31,11 @@ pub(crate) struct Front {
 }
 
 // Adds a number in decimal.
-pub(crate) fn add_number(line: &mut Line, number: u64) -> Option<()>
-    ensures added { OnSome result (line.new ≡ line.old ++ decimal number) }
+pub(crate) fn add_number<I: Integer>(line: &mut Line, number: I) -> Option<()>
+    ensures added { OnSome result (line.new ≡ line.old ++ I.text number) }
 {
     let mut digits = Buffer::new();
     line.add(digits.format(number).as_bytes())
-}
-
-// Adds a small number in decimal.
-fn add_byte(line: &mut Line, number: u8) -> Option<()>
-    ensures added { OnSome result (line.new ≡ line.old ++ decimal number) }
-{
-    let mut digits = Buffer::new();
-    line.add(digits.format(number).as_bytes())
-}
-
-// Adds the letter of a side.
-fn add_side(line: &mut Line, first: bool, yes: &[u8], no: &[u8]) -> Option<()>
-    ensures added { OnSome result (line.new ≡ line.old ++ cond first yes.now no.now) }
-{
-    if first { line.add(yes) } else { line.add(no) }
 }
 
 // Adds a township.
@@ -59,11 +43,11 @@ fn add_township(line: &mut Line, township: Township) -> Option<()>
     ensures added { OnSome result (line.new ≡ line.old ++ township_text township) }
 {
     line.add(b"T")?;
-    add_byte(line, township.number)?;
-    add_side(line, township.north, b"N", b"S")?;
+    add_number(line, township.number)?;
+    line.add(side_letter(township))?;
     line.add(b" R")?;
-    add_byte(line, township.range)?;
-    add_side(line, township.east, b"E", b"W")
+    add_number(line, township.range)?;
+    line.add(range_letter(township))
 }
 
 // Adds a section.
@@ -72,7 +56,7 @@ fn add_section(line: &mut Line, section: Section) -> Option<()>
 {
     add_township(line, section.township)?;
     line.add(b" sec ")?;
-    add_byte(line, section.number)
+    add_number(line, section.number)
 }
 
 // Adds the quarters of a square, the innermost first.
@@ -102,7 +86,7 @@ fn make_head(line: &mut Line, examiner: u32, section: Section) -> Option<()>
     ensures made { OnSome result (line.new ≡ head_text examiner section) }
 {
     line.clear();
-    add_number(line, u64::from(examiner))?;
+    add_number(line, examiner)?;
     line.add(b",row,")?;
     add_section(line, section)
 }

@@ -68,36 +68,18 @@ fn put_numbered<S: Sink>(
     page.put_each(sink, &[before, digits.as_bytes(), after])
 }
 
-// Writes a township's number with its side.
-fn put_side<S: Sink>(page: &mut Page, sink: &mut S, township: Township) -> Result<(), Failed>
-    requires works { S.has_failed sink.old ≡ false }
-    ensures written { OnOk result (Written (S.taken sink.old) page.old (S.taken sink.new) page.new
-        (codes "T" ++ decimal township.number ++ cond township.north (codes "N") (codes "S"))) }
-    ensures well { OnOk result (S.has_failed sink.new ≡ false) }
-    ensures stopped { OnErr result (Stopped (S.taken sink.old) page.old (S.taken sink.new)
-        (codes "T" ++ decimal township.number ++ cond township.north (codes "N") (codes "S"))) }
-    ensures failed { OnErr result (S.has_failed sink.new ≡ true) }
+// The letter of the side of the base line that a township is on.
+pub(crate) fn side_letter(township: Township) -> &'static [u8]
+    ensures letter { result.now ≡ cond township.north (codes "N") (codes "S") }
 {
-    if township.north {
-        return put_numbered(page, sink, b"T", township.number, b"N");
-    }
-    put_numbered(page, sink, b"T", township.number, b"S")
+    if township.north { b"N" } else { b"S" }
 }
 
-// Writes a township's range number with its side.
-fn put_range<S: Sink>(page: &mut Page, sink: &mut S, township: Township) -> Result<(), Failed>
-    requires works { S.has_failed sink.old ≡ false }
-    ensures written { OnOk result (Written (S.taken sink.old) page.old (S.taken sink.new) page.new
-        (codes " R" ++ decimal township.range ++ cond township.east (codes "E") (codes "W"))) }
-    ensures well { OnOk result (S.has_failed sink.new ≡ false) }
-    ensures stopped { OnErr result (Stopped (S.taken sink.old) page.old (S.taken sink.new)
-        (codes " R" ++ decimal township.range ++ cond township.east (codes "E") (codes "W"))) }
-    ensures failed { OnErr result (S.has_failed sink.new ≡ true) }
+// The letter of the side of the meridian that its range is on.
+pub(crate) fn range_letter(township: Township) -> &'static [u8]
+    ensures letter { result.now ≡ cond township.east (codes "E") (codes "W") }
 {
-    if township.east {
-        return put_numbered(page, sink, b" R", township.range, b"E");
-    }
-    put_numbered(page, sink, b" R", township.range, b"W")
+    if township.east { b"E" } else { b"W" }
 }
 
 // Writes a township.
@@ -110,8 +92,9 @@ fn put_township<S: Sink>(page: &mut Page, sink: &mut S, township: Township) -> R
         (township_text township)) }
     ensures failed { OnErr result (S.has_failed sink.new ≡ true) }
 {
-    put_side(page, sink, township)?;
-    put_range(page, sink, township)
+    let (side, hand) = (side_letter(township), range_letter(township));
+    put_numbered(page, sink, b"T", township.number, side)?;
+    put_numbered(page, sink, b" R", township.range, hand)
 }
 
 // Writes a section.

@@ -6,7 +6,7 @@ ghost use Rattle.csv.specs.Writing.{field_text, needs_quotes};
 ghost use Rattle.title_page.specs.Pages.{Stopped, Written};
 ghost use Rattle.title_page.specs.Rows.{row_writer};
 ghost use Rattle.title_report.specs.Replies.{name_of};
-ghost use Rattle.title_report.specs.Rosters.{AreJudged, where_known};
+ghost use Rattle.title_report.specs.Rosters.{AreJudged};
 
 use crate::replies::Names;
 use crate::row_text::{RowText, add_field};
@@ -35,24 +35,23 @@ impl<'a> Model for Roster<'a> {
     ghost invariant = { λ r. AreJudged (map string_bytes r.names.now.keys) r.in_quotes.items };
 }
 
-/// A party's name, and whether it is quoted where that is known. A contract sees its bytes.
+/// A party's name, and whether it is quoted where it is written as a field. A contract sees its bytes.
 #[derive(Drop)]
 pub(crate) struct Name<'a> {
     bytes: &'a [u8],
-    in_quotes: Option<bool>,
+    in_quotes: bool,
 }
 
 impl<'a> Model for Name<'a> {
     ghost use Rattle.std.specs.Prelude.{◌≡◌, ℕ, List};
     ghost use Rattle.csv.specs.Writing.{needs_quotes};
     ghost use Rattle.title_page.specs.Rows.{row_writer};
-    ghost use Rattle.title_report.specs.Rosters.{where_known};
 
     ghost Value = { List ℕ };
 
     ghost view = { λ n. n.bytes.now };
 
-    ghost invariant = { λ n. n.in_quotes ≡ where_known n.in_quotes (needs_quotes row_writer n.bytes.now) };
+    ghost invariant = { λ n. n.in_quotes ≡ needs_quotes row_writer n.bytes.now };
 }
 
 impl<'a> Name<'a> {
@@ -65,20 +64,14 @@ impl<'a> Name<'a> {
         ensures stopped { OnErr result (Stopped (S.taken sink.old) page.old (S.taken sink.new) (field_text row_writer self.now)) }
         ensures failed { OnErr result (S.has_failed sink.new ≡ true) }
     {
-        match self.in_quotes {
-            Some(in_quotes) => page.judged_field(sink, self.bytes, in_quotes),
-            None => page.field(sink, self.bytes),
-        }
+        page.judged_field(sink, self.bytes, self.in_quotes)
     }
 
     /// Adds it to a text as a field. `None` where there is no room for it.
     pub(crate) fn add_to(&self, text: &mut RowText) -> Option<()>
         ensures added { OnSome result (text.new.items ≡ text.old.items ++ field_text row_writer self.now) }
     {
-        match self.in_quotes {
-            Some(in_quotes) => add_field(text, self.bytes, in_quotes),
-            None => add_field(text, self.bytes, is_quoted(self.bytes)),
-        }
+        add_field(text, self.bytes, self.in_quotes)
     }
 }
 
@@ -116,16 +109,17 @@ impl<'a> Roster<'a> {
         }
     }
 
-    // Whether the name of the party of this number is quoted, where that is known.
-    fn known(&self, party: u32) -> Option<bool>
-        ensures known { result ≡ where_known result (needs_quotes row_writer (name_of self.now party)) }
+    // Whether this name of the party of this number is quoted: as it was judged, or found out now.
+    fn is_quoted(&self, party: u32, name: &[u8]) -> bool
+        requires name { name.now ≡ name_of self.now party }
+        ensures quoted { result ≡ needs_quotes row_writer name.now }
     {
-        let known = self.in_quotes.as_slice();
+        let judged = self.in_quotes.as_slice();
         let at = party as usize;
-        if at < known.len() {
-            Some(known[at])
+        if at < judged.len() {
+            judged[at]
         } else {
-            None
+            is_quoted(name)
         }
     }
 
@@ -144,9 +138,8 @@ impl<'a> Roster<'a> {
     pub(crate) fn name(&self, party: u32) -> Name<'_>
         ensures name { result ≡ name_of self.now party }
     {
-        Name {
-            bytes: self.bytes(party),
-            in_quotes: self.known(party),
-        }
+        let bytes = self.bytes(party);
+        let in_quotes = self.is_quoted(party, bytes);
+        Name { bytes, in_quotes }
     }
 }

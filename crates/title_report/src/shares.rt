@@ -87,8 +87,8 @@ fn put_parts<S: Sink>(
     page.put(sink, bottom)
 }
 
-// Writes what stands behind the name in a row of a sheet, with the share as a field.
-fn put_tail_field<S: Sink>(page: &mut Page, sink: &mut S, units: u64) -> Result<(), Failed>
+// Writes what stands behind the name in a row of a sheet, field by field.
+fn put_tail_by_fields<S: Sink>(page: &mut Page, sink: &mut S, units: u64) -> Result<(), Failed>
     requires works { S.has_failed sink.old ≡ false }
     ensures written { OnOk result (Written (S.taken sink.old) page.old (S.taken sink.new) page.new (tail_text units)) }
     ensures well { OnOk result (S.has_failed sink.new ≡ false) }
@@ -113,11 +113,11 @@ pub(crate) fn put_tail<S: Sink>(page: &mut Page, sink: &mut S, units: u64) -> Re
     ensures failed { OnErr result (S.has_failed sink.new ≡ true) }
 {
     if !page.has_room(MOST_BEHIND) {
-        return put_tail_field(page, sink, units);
+        return put_tail_by_fields(page, sink, units);
     }
     let halved = halvings(units);
     let Some(bottom) = bottom_bytes(32 - halved) else {
-        return put_tail_field(page, sink, units);
+        return put_tail_by_fields(page, sink, units);
     };
     put_parts(page, sink, units >> halved, bottom)
 }

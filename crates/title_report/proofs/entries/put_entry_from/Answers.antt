@@ -16,13 +16,13 @@ returns-in_err-put_names-clause-stopped g c =
     (stopped_before (names_text c.args.«from».now c.args.to.now) c.args.end.now c.in_err-put_names.ensures.stopped))
 
 pub returns-clause-written : goal.returns-clause-written
-returns-clause-written g c = on_ok_weaker c.put_end.result
+returns-clause-written g c = on_ok_weaker c.put_entry_end.result
     (λ w. written_then c.args.front.now _ c.in_ok-put.ensures.written
     (written_then (names_text c.args.«from».now c.args.to.now) c.args.end.now c.in_ok-put_names.ensures.written w))
-    c.put_end.ensures.written
+    c.put_entry_end.ensures.written
 
 pub returns-clause-stopped : goal.returns-clause-stopped
-returns-clause-stopped g c = on_err_weaker c.put_end.result
+returns-clause-stopped g c = on_err_weaker c.put_entry_end.result
     (λ v. stopped_then c.args.front.now _ c.in_ok-put.ensures.written
     (stopped_then (names_text c.args.«from».now c.args.to.now) c.args.end.now c.in_ok-put_names.ensures.written v))
-    c.put_end.ensures.stopped
+    c.put_entry_end.ensures.stopped

@@ -5,7 +5,7 @@ use Rattle.csv.specs.Writing.{field_text}
 use Rattle.title_share.specs.Share.{share_text}
 use Rattle.title_page.specs.Rows.{row_writer}
 use Rattle.title_page.specs.Laws.InTurn.{on_err, stopped_before, stopped_then, written_then}
-use Rattle.title_report.proofs.shares.put_tail_field.Goals as goal
+use Rattle.title_report.proofs.shares.put_tail_by_fields.Goals as goal
 
 pub returns-in_err-put-clause-stopped : goal.returns-in_err-put-clause-stopped
 returns-in_err-put-clause-stopped g c =

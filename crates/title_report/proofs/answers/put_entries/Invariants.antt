@@ -5,7 +5,7 @@ use Rattle.title_page.specs.Pages.{Written}
 use Rattle.title_page.specs.Rows.{rows_text}
 use Rattle.title_report.specs.EntryTexts.{IsMade}
 use Rattle.title_report.specs.Replies.{entry_row}
-use Rattle.title_report.proofs.answers.put_entries_from.Given as goal
+use Rattle.title_report.proofs.answers.put_entries.Given as goal
 
 abbrev pub invariant-loop-entry : goal.invariant-loop-entry
 invariant-loop-entry g l =

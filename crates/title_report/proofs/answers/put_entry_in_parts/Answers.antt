@@ -3,7 +3,7 @@ use Rattle.std.proofs.Common.{◌∙◌, ◌<◌, ◌^◌, arith}
 use Rattle.std.proofs.lemmas.Result.{on_ok_weaker, on_err_weaker}
 use Rattle.title_page.specs.Laws.InTurn.{stopped_as, written_as}
 use Rattle.title_report.proofs.Lines.{entry_from, of_some}
-use Rattle.title_report.proofs.answers.put_entry_line.Goals as goal
+use Rattle.title_report.proofs.answers.put_entry_in_parts.Goals as goal
 
 pub returns-clause-written : goal.returns-clause-written
 returns-clause-written g c =

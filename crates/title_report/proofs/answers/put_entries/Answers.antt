@@ -2,7 +2,7 @@
 use Rattle.title_page.specs.Laws.InTurn.{on_err}
 use Rattle.title_page.specs.Laws.Rows.{one_row_more, stopped_at_a_row}
 use Rattle.title_report.specs.Replies.{entry_row}
-use Rattle.title_report.proofs.answers.put_entries_by_fields.Goals as goal
+use Rattle.title_report.proofs.answers.put_entries.Goals as goal
 
 pub loop-entry-preserved : goal.loop-entry-preserved
 loop-entry-preserved g c = (
@@ -10,6 +10,7 @@ loop-entry-preserved g c = (
       c.loop-entry.entry-index c.entry-item.result
       c.loop-entry-test.true c.entry-item.is c.loop-entry.invariant.0 c.in_ok-put_entry.ensures.written,
   c.in_ok-put_entry.ensures.well,
+  c.in_ok-put_entry.ensures.lines,
 )
 
 pub returns-in_err-put_entry-clause-stopped : goal.returns-in_err-put_entry-clause-stopped
