@@ -7,4 +7,4 @@ use Rattle.title_tree.specs.Plots.{Plot, Same, Four}
 -- what a tree holds, without where its nodes lie in memory
 abbrev pub plot : Tree → Plot
 plot (Leaf held) = Same (arc_value held)
-plot (Quarters' p a q b r c s d) = Four (plot a) (plot b) (plot c) (plot d)
+plot (Quarters' p a b c d) = Four (plot a) (plot b) (plot c) (plot d)

@@ -20,10 +20,21 @@ use title_share::Holding;
 
 /// Who holds an estate in a square: all cells have the holding of a leaf, or each quarter has a tree of its own, in the
 /// order of the quarters. A contract sees it as its plot.
+#[cycle(quarters)]
 #[derive(Drop)]
 pub enum Tree {
     Leaf(Arc<Holding>),
-    Quarters(Box<Tree>, Box<Tree>, Box<Tree>, Box<Tree>),
+    Quarters(Box<Block>),
+}
+
+/// The trees of a square's quarters.
+#[cycle(quarters)]
+#[derive(Drop)]
+pub struct Block {
+    pub northeast: Tree,
+    pub northwest: Tree,
+    pub southwest: Tree,
+    pub southeast: Tree,
 }
 
 // Whether the holdings are one.
@@ -31,6 +42,19 @@ pub(crate) fn is_same(held: &Holding, other: &Holding) -> bool
     ensures same { result ≡ same_division held.now other.now }
 {
     held.same(other)
+}
+
+// The first of four quarters.
+fn first_of(four: Box<Block>) -> Tree
+    ensures first { result ≡ four.value.northeast }
+{
+    let Block {
+        northeast,
+        northwest: _,
+        southwest: _,
+        southeast: _,
+    } = Box::into_inner(four);
+    northeast
 }
 
 impl Tree {
@@ -44,14 +68,14 @@ impl Tree {
             mem::swap(self, other);
             return;
         };
-        let Tree::Quarters(northeast, northwest, southwest, southeast) = self else {
-            unreachable!()
-        };
-        match *first {
-            Quarter::Northeast => northeast.exchange(rest, other),
-            Quarter::Northwest => northwest.exchange(rest, other),
-            Quarter::Southwest => southwest.exchange(rest, other),
-            Quarter::Southeast => southeast.exchange(rest, other),
+        match self {
+            Tree::Leaf(_) => unreachable!(),
+            Tree::Quarters(four) => match *first {
+                Quarter::Northeast => four.northeast.exchange(rest, other),
+                Quarter::Northwest => four.northwest.exchange(rest, other),
+                Quarter::Southwest => four.southwest.exchange(rest, other),
+                Quarter::Southeast => four.southeast.exchange(rest, other),
+            },
         }
     }
 
@@ -64,11 +88,11 @@ impl Tree {
         };
         match self {
             Tree::Leaf(_) => self,
-            Tree::Quarters(northeast, northwest, southwest, southeast) => match *first {
-                Quarter::Northeast => northeast.at(rest),
-                Quarter::Northwest => northwest.at(rest),
-                Quarter::Southwest => southwest.at(rest),
-                Quarter::Southeast => southeast.at(rest),
+            Tree::Quarters(four) => match *first {
+                Quarter::Northeast => four.northeast.at(rest),
+                Quarter::Northwest => four.northwest.at(rest),
+                Quarter::Southwest => four.southwest.at(rest),
+                Quarter::Southeast => four.southeast.at(rest),
             },
         }
     }
@@ -79,15 +103,15 @@ impl Tree {
     {
         match self {
             Tree::Leaf(held) => &**held,
-            Tree::Quarters(northeast, northwest, southwest, southeast) => {
+            Tree::Quarters(four) => {
                 let Some((first, rest)) = path.split_first() else {
-                    return northeast.holding(path);
+                    return four.northeast.holding(path);
                 };
                 match *first {
-                    Quarter::Northeast => northeast.holding(rest),
-                    Quarter::Northwest => northwest.holding(rest),
-                    Quarter::Southwest => southwest.holding(rest),
-                    Quarter::Southeast => southeast.holding(rest),
+                    Quarter::Northeast => four.northeast.holding(rest),
+                    Quarter::Northwest => four.northwest.holding(rest),
+                    Quarter::Southwest => four.southwest.holding(rest),
+                    Quarter::Southeast => four.southeast.holding(rest),
                 }
             }
         }
@@ -100,15 +124,15 @@ impl Tree {
         let Some((first, rest)) = path.split_first() else {
             return Ok(Tree::Leaf(held.clone()?));
         };
-        let inner = Box::new(alloc, Tree::split_leaf(alloc, held, rest)?)?;
-        let a = Box::new(alloc, Tree::Leaf(held.clone()?))?;
-        let b = Box::new(alloc, Tree::Leaf(held.clone()?))?;
-        let c = Box::new(alloc, Tree::Leaf(held.clone()?))?;
+        let inner = Tree::split_leaf(alloc, held, rest)?;
+        let a = Tree::Leaf(held.clone()?);
+        let b = Tree::Leaf(held.clone()?);
+        let c = Tree::Leaf(held.clone()?);
         match *first {
-            Quarter::Northeast => Ok(Tree::Quarters(inner, a, b, c)),
-            Quarter::Northwest => Ok(Tree::Quarters(a, inner, b, c)),
-            Quarter::Southwest => Ok(Tree::Quarters(a, b, inner, c)),
-            Quarter::Southeast => Ok(Tree::Quarters(a, b, c, inner)),
+            Quarter::Northeast => Tree::quarters(alloc, inner, a, b, c),
+            Quarter::Northwest => Tree::quarters(alloc, a, inner, b, c),
+            Quarter::Southwest => Tree::quarters(alloc, a, b, inner, c),
+            Quarter::Southeast => Tree::quarters(alloc, a, b, c, inner),
         }
     }
 
@@ -125,11 +149,11 @@ impl Tree {
                 *self = Tree::split_leaf(alloc, held, path)?;
                 Ok(())
             }
-            Tree::Quarters(northeast, northwest, southwest, southeast) => match *first {
-                Quarter::Northeast => northeast.split(alloc, rest),
-                Quarter::Northwest => northwest.split(alloc, rest),
-                Quarter::Southwest => southwest.split(alloc, rest),
-                Quarter::Southeast => southeast.split(alloc, rest),
+            Tree::Quarters(four) => match *first {
+                Quarter::Northeast => four.northeast.split(alloc, rest),
+                Quarter::Northwest => four.northwest.split(alloc, rest),
+                Quarter::Southwest => four.southwest.split(alloc, rest),
+                Quarter::Southeast => four.southeast.split(alloc, rest),
             },
         }
     }
@@ -148,11 +172,11 @@ impl Tree {
     {
         match self {
             Tree::Leaf(held) => Ok(Tree::Leaf(change.apply(alloc, held)?)),
-            Tree::Quarters(northeast, northwest, southwest, southeast) => {
-                let northeast = northeast.changed(alloc, change)?;
-                let northwest = northwest.changed(alloc, change)?;
-                let southwest = southwest.changed(alloc, change)?;
-                let southeast = southeast.changed(alloc, change)?;
+            Tree::Quarters(four) => {
+                let northeast = four.northeast.changed(alloc, change)?;
+                let northwest = four.northwest.changed(alloc, change)?;
+                let southwest = four.southwest.changed(alloc, change)?;
+                let southeast = four.southeast.changed(alloc, change)?;
                 Ok(Tree::quarters(alloc, northeast, northwest, southwest, southeast)?)
             }
         }
@@ -168,11 +192,16 @@ impl Tree {
     ) -> Result<Tree, AllocError>
         ensures quarters { IfOk result (λ t. plot t ≡ Four (plot northeast) (plot northwest) (plot southwest) (plot southeast)) }
     {
-        let northeast = Box::new(alloc, northeast)?;
-        let northwest = Box::new(alloc, northwest)?;
-        let southwest = Box::new(alloc, southwest)?;
-        let southeast = Box::new(alloc, southeast)?;
-        Ok(Tree::Quarters(northeast, northwest, southwest, southeast))
+        let four = Box::new(
+            alloc,
+            Block {
+                northeast,
+                northwest,
+                southwest,
+                southeast,
+            },
+        )?;
+        Ok(Tree::Quarters(four))
     }
 
     /// The one holding of a tree whose leaves all have the same; `None` where two differ.
@@ -181,11 +210,11 @@ impl Tree {
     {
         match self {
             Tree::Leaf(held) => Some(&**held),
-            Tree::Quarters(northeast, northwest, southwest, southeast) => {
-                let held = northeast.uniform()?;
-                let second = northwest.uniform()?;
-                let third = southwest.uniform()?;
-                let fourth = southeast.uniform()?;
+            Tree::Quarters(four) => {
+                let held = four.northeast.uniform()?;
+                let second = four.northwest.uniform()?;
+                let third = four.southwest.uniform()?;
+                let fourth = four.southeast.uniform()?;
                 if is_same(held, second) && is_same(held, third) && is_same(held, fourth) {
                     Some(held)
                 } else {
@@ -199,19 +228,19 @@ impl Tree {
     pub fn is_tidy(&self) -> bool
         ensures tidy { result ≡ is_tidy (plot self.now) }
     {
-        let Tree::Quarters(northeast, northwest, southwest, southeast) = self else {
+        let Tree::Quarters(four) = self else {
             return true;
         };
-        if !(northeast.is_tidy()
-            && northwest.is_tidy()
-            && southwest.is_tidy()
-            && southeast.is_tidy())
+        if !(four.northeast.is_tidy()
+            && four.northwest.is_tidy()
+            && four.southwest.is_tidy()
+            && four.southeast.is_tidy())
         {
             return false;
         }
-        !(northeast.is_same_leaf(northwest)
-            && northeast.is_same_leaf(southwest)
-            && northeast.is_same_leaf(southeast))
+        !(four.northeast.is_same_leaf(&four.northwest)
+            && four.northeast.is_same_leaf(&four.southwest)
+            && four.northeast.is_same_leaf(&four.southeast))
     }
 
     // Whether both are leaves that have the same holding.
@@ -230,14 +259,14 @@ impl Tree {
     {
         match self {
             Tree::Leaf(held) => Tree::Leaf(held),
-            Tree::Quarters(northeast, northwest, southwest, southeast) => {
-                if northeast.is_same_leaf(&northwest)
-                    && northeast.is_same_leaf(&southwest)
-                    && northeast.is_same_leaf(&southeast)
+            Tree::Quarters(four) => {
+                if four.northeast.is_same_leaf(&four.northwest)
+                    && four.northeast.is_same_leaf(&four.southwest)
+                    && four.northeast.is_same_leaf(&four.southeast)
                 {
-                    Box::into_inner(northeast)
+                    first_of(four)
                 } else {
-                    Tree::Quarters(northeast, northwest, southwest, southeast)
+                    Tree::Quarters(four)
                 }
             }
         }
@@ -249,10 +278,10 @@ impl Tree {
     {
         match self {
             Tree::Leaf(_) => false,
-            Tree::Quarters(northeast, northwest, southwest, southeast) => {
-                northeast.is_same_leaf(northwest)
-                    && northeast.is_same_leaf(southwest)
-                    && northeast.is_same_leaf(southeast)
+            Tree::Quarters(four) => {
+                four.northeast.is_same_leaf(&four.northwest)
+                    && four.northeast.is_same_leaf(&four.southwest)
+                    && four.northeast.is_same_leaf(&four.southeast)
             }
         }
     }
@@ -271,14 +300,15 @@ impl Tree {
     pub fn tidy(&mut self)
         ensures tidied { plot self.new ≡ tidied (plot self.old) }
     {
-        if let Tree::Quarters(northeast, northwest, southwest, southeast) = self {
-            northeast.tidy();
-            northwest.tidy();
-            southwest.tidy();
-            southeast.tidy();
+        if let Tree::Quarters(four) = self {
+            four.northeast.tidy();
+            four.northwest.tidy();
+            four.southwest.tidy();
+            four.southeast.tidy();
         }
         self.join();
     }
+
     /// Joins quarters below a path and then those above it; elsewhere nothing is looked at, so it costs what a walk of the
     /// path and of what stands there does. No cell's holding changes. Takes no memory.
     pub fn tidy_at(&mut self, path: &[Quarter])
@@ -288,15 +318,25 @@ impl Tree {
             self.tidy();
             return;
         };
-        let Tree::Quarters(northeast, northwest, southwest, southeast) = self else {
-            return;
-        };
-        match *first {
-            Quarter::Northeast => northeast.tidy_at(rest),
-            Quarter::Northwest => northwest.tidy_at(rest),
-            Quarter::Southwest => southwest.tidy_at(rest),
-            Quarter::Southeast => southeast.tidy_at(rest),
+        if let Tree::Quarters(four) = self {
+            match *first {
+                Quarter::Northeast => {
+                    four.northeast.tidy_at(rest);
+                    self.join();
+                }
+                Quarter::Northwest => {
+                    four.northwest.tidy_at(rest);
+                    self.join();
+                }
+                Quarter::Southwest => {
+                    four.southwest.tidy_at(rest);
+                    self.join();
+                }
+                Quarter::Southeast => {
+                    four.southeast.tidy_at(rest);
+                    self.join();
+                }
+            }
         }
-        self.join();
     }
 }

@@ -27,7 +27,7 @@ fn is_settled(tree: &Tree, instrument: &Instrument, estate: Estate) -> bool
 {
     match tree {
         Tree::Leaf(_) => true,
-        Tree::Quarters(_, _, _, _) => !names(instrument, estate),
+        Tree::Quarters(_) => !names(instrument, estate),
     }
 }
 

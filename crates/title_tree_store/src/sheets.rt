@@ -137,7 +137,7 @@ fn add_square<'a>(
     ensures rows { OnOk result (rows.new.items ≡ rows.old.items ++ square_sheet (plot tree.now) estate section within) }
     ensures held { IfOk result (λ some. option_map (λ held. held.now) some ≡ uniform (plot tree.now)) }
 {
-    let Tree::Quarters(northeast, northwest, southwest, southeast) = tree else {
+    let Tree::Quarters(four) = tree else {
         return add_uniform(tree, section, within, estate, rows);
     };
     if within.is_cell() {
@@ -145,13 +145,13 @@ fn add_square<'a>(
     }
     let count = rows.len();
     let inner = within.quarter(Quarter::Northeast);
-    let first = add_square(northeast, section, inner, estate, rows)?;
+    let first = add_square(&four.northeast, section, inner, estate, rows)?;
     let inner = within.quarter(Quarter::Northwest);
-    let second = add_square(northwest, section, inner, estate, rows)?;
+    let second = add_square(&four.northwest, section, inner, estate, rows)?;
     let inner = within.quarter(Quarter::Southwest);
-    let third = add_square(southwest, section, inner, estate, rows)?;
+    let third = add_square(&four.southwest, section, inner, estate, rows)?;
     let inner = within.quarter(Quarter::Southeast);
-    let fourth = add_square(southeast, section, inner, estate, rows)?;
+    let fourth = add_square(&four.southeast, section, inner, estate, rows)?;
     let Some(held) = agreed(first, second, third, fourth) else {
         return Ok(None);
     };
