@@ -12,3 +12,4 @@ pub mod CoverHomes
 pub mod Homes
 pub mod Shows
 pub mod Singles
+mod Walks

@@ -14,7 +14,7 @@ use Rattle.title_trace.specs.Due.{Setting, most_steps, InTheWay, DueReply}
 use Rattle.title_desk.specs.Slots.{IsFirst}
 
 -- a desk as its callers see it: what it was opened with, its trace, the newest call first, and whether it has room for
--- one call more and one record more; and the lock that is prepared, if one is
+-- one record more; and the lock that is prepared, if one is
 pub record Books : Type 0 where
   pub setting : Setting
   pub trace : List Call

@@ -54,23 +54,13 @@ pub(crate) fn cause_in(ask: &Ask, parties: u32) -> Option<Cause>
     }
 }
 
-/// Copies of an answered step and of its answer, beside those that are given away. Takes no memory.
-pub(crate) fn copies_of(
-    alloc: Global,
-    ask: &Ask,
-    answer: &Answer,
-) -> Result<(Step, Answer), AllocError>
-    ensures step { IfOk result (λ copies. copies.0 ≡ record { ask = ask.now; answer = answer.now }) }
-    ensures told { IfOk result (λ copies. copies.1 ≡ answer.now) }
+/// An answered step to keep, whose ask and answer are copies.
+pub(crate) fn step_of(alloc: Global, ask: &Ask, answer: &Answer) -> Result<Step, AllocError>
+    ensures step { IfOk result (λ step. step ≡ record { ask = ask.now; answer = answer.now }) }
 {
-    let told = answer.copy()?;
-    let kept = answer.copy()?;
-    let copied = ask.copy(alloc)?;
-    let step = Step {
-        ask: copied,
-        answer: kept,
-    };
-    Ok((step, told))
+    let answer = answer.copy()?;
+    let ask = ask.copy(alloc)?;
+    Ok(Step { ask, answer })
 }
 
 // Adds a step to an examiner's slot and its lock, which is prepared, to the guards, or leaves both as they were.

@@ -22,7 +22,7 @@ use title_instrument::{Estate, Estates};
 use title_land::{Land, Node, Quarter, Section, Township, Tract, Within};
 
 // How many sheets of one home are kept at most. Homes are at most 2,304 sections, 64 townships and the whole plant, so at most
-// 37,904 sheets are kept, of 24 bytes each besides their rows, which the trace has anyway.
+// 37,904 sheets are kept, of 24 bytes each besides their rows, which the steps that were answered by them share.
 const MOST_SHOWN: usize = 16;
 
 /// How many parts a section's sheet has at most, and how many of them are kept: those of four quarters for three estates. So at most

@@ -2,6 +2,7 @@
 #![tactic(auto)]
 
 mod asks;
+mod calls;
 pub mod headline;
 mod images;
 mod kept_sheets;

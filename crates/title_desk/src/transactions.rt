@@ -1,7 +1,6 @@
 //! The desk.
 
 ghost use Rattle.std.specs.Prelude.{MatchOption, Some, ◌≡◌, ◌≢◌, ◌+◌, ◌≤◌, ℕ, List, [], ◌∷◌, IfOk, OnOk, ◌↔◌, reverse, true, false};
-ghost use Rattle.std.specs.Prelude.{vec_len, vec_capacity};
 ghost use Rattle.title_land.specs.Depth.{depth};
 ghost use Rattle.title_store.specs.Plants.{IsEachOnce};
 ghost use Rattle.title_land.specs.declared.place.Cell.{Cell};
@@ -17,7 +16,8 @@ ghost use Rattle.title_desk.specs.Images.{is_posted, posted_at};
 ghost use Rattle.title_desk.specs.Told.{Books, IsFirstOpen, Passes, Stays, Told};
 ghost use Rattle.title_desk.specs.Admissions.{Admits, IsFit, entry_of};
 
-use crate::asks::{access_in, add_step, cause_in, copies_of, keep_post, tract_in};
+use crate::asks::{access_in, add_step, cause_in, keep_post, step_of, tract_in};
+use crate::calls::Calls;
 use crate::images::{forget_all, restore_all, tidy_up};
 use crate::kept_sheets::home_of;
 use crate::plant::Plant;
@@ -30,7 +30,7 @@ use title_chain::{Answer, Ask, Posting, Record, TractIndex};
 use title_land::{Township, Tract};
 use title_lock::{Guards, LockFault};
 use title_store::{Put, Store};
-use title_trace::{Call, MOST_PARTIES, MOST_STEPS, MOST_TOWNSHIPS, Reply, Request};
+use title_trace::{MOST_PARTIES, MOST_STEPS, MOST_TOWNSHIPS, Reply, Request};
 
 mod singles;
 
@@ -58,27 +58,8 @@ pub fn may_open(parties: u32, townships: &[Township]) -> bool
     each_once(townships)
 }
 
-// What a step that is answered takes memory for: room for so many calls more, and copies of it and of its answer.
-fn prepare_step(
-    alloc: Global,
-    trace: &mut Vec<Call>,
-    calls: usize,
-    ask: &Ask,
-    answer: &Answer,
-) -> Result<(title_chain::Step, Answer), AllocError>
-    ensures items { trace.new.items ≡ trace.old.items }
-    ensures len { vec_len trace.new ≡ vec_len trace.old }
-    ensures capacity { vec_capacity trace.old ≤ vec_capacity trace.new }
-    ensures room { OnOk result (vec_len trace.new + calls ≤ vec_capacity trace.new) }
-    ensures step { IfOk result (λ copies. copies.0 ≡ record { ask = ask.now; answer = answer.now }) }
-    ensures told { IfOk result (λ copies. copies.1 ≡ answer.now) }
-{
-    trace.reserve(calls)?;
-    copies_of(alloc, ask, answer)
-}
-
-/// The transactions of any number of examiners over a store and guards. A contract sees its setting, its trace and
-/// whether it has room for one call more.
+/// The transactions of any number of examiners over a store and guards. A contract sees its setting, its trace, which takes no
+/// memory, and whether it has room for one record more.
 #[derive(Drop)]
 pub struct Desk<S: Store + Drop, G: Guards + Drop> {
     alloc: Global,
@@ -86,15 +67,13 @@ pub struct Desk<S: Store + Drop, G: Guards + Drop> {
     townships: Vec<Township>,
     store: Plant<S>,
     guards: G,
-    trace: Vec<Call>,
+    calls: Calls,
     records: TractIndex,
     slots: BTreeMap<u32, Slot<S::Image>>,
 }
 
 impl<S: Store + Drop, G: Guards + Drop> Model for Desk<S, G> {
-    ghost use Rattle.std.specs.Prelude.{reverse, ◌+◌, ◌≤◌, ◌&&◌, nat_lt, vec_len, vec_capacity};
     ghost use Rattle.title_desk.specs.Told.{Books};
-    ghost use Rattle.std.specs.BTreeMap.{btree_map_len};
     ghost use Rattle.title_desk.specs.Slots.{found};
     ghost use Rattle.title_desk.specs.Keeps.{Keeps};
 
@@ -102,14 +81,13 @@ impl<S: Store + Drop, G: Guards + Drop> Model for Desk<S, G> {
 
     ghost view = { λ d. record {
       setting = record { parties = d.parties; townships = d.townships.items };
-      trace = reverse d.trace.items;
+      trace = d.calls.list;
       prepared = G.prepared d.guards;
-      is_ready = d.records.has_room && nat_lt (vec_len d.trace + btree_map_len d.slots) (vec_capacity d.trace);
+      is_ready = d.records.has_room;
     } };
 
     ghost invariant = { λ d. Keeps S.number (record { parties = d.parties; townships = d.townships.items }) (S.content d.store)
-        (S.declared d.store) (S.out d.store) (G.entries d.guards) (reverse d.trace.items) d.records.records (found d.slots)
-        × (vec_len d.trace + btree_map_len d.slots ≤ vec_capacity d.trace) };
+        (S.declared d.store) (S.out d.store) (G.entries d.guards) d.calls.list d.records.records (found d.slots) };
 }
 
 impl<S: Store + Drop, G: Guards + Drop> Desk<S, G> {
@@ -131,7 +109,7 @@ impl<S: Store + Drop, G: Guards + Drop> Desk<S, G> {
             townships,
             store,
             guards: G::new(alloc),
-            trace: Vec::new(alloc),
+            calls: Calls::new(),
             records: TractIndex::new(alloc),
             slots: BTreeMap::new(alloc),
         })
@@ -141,16 +119,11 @@ impl<S: Store + Drop, G: Guards + Drop> Desk<S, G> {
     fn refuse(&mut self, request: Request, refusal: Refusal) -> Reply
         requires due { DueReply depth self.old.setting self.old.trace request (reply_of refusal) }
         ensures told { Told self.old request result self.new }
-        ensures ready { self.old.is_ready ≡ true → result ≢ Memory }
+        ensures always { result ≢ Memory }
     {
-        if self.trace.reserve(self.slots.len() + 1).is_err() {
-            return Reply::Memory;
-        }
-        self.trace.push_reserved(Call {
-            request,
-            reply: refusal.reply(),
-        });
-        refusal.reply()
+        let reply = refusal.reply();
+        self.calls = self.calls.then(&request, &reply);
+        reply
     }
 
     fn begin(&mut self, examiner: u32) -> Reply
@@ -160,16 +133,10 @@ impl<S: Store + Drop, G: Guards + Drop> Desk<S, G> {
         if is_in(&self.slots, examiner) {
             return self.refuse(request, Refusal::AlreadyOpen);
         }
-        if self.trace.reserve(self.slots.len() + 2).is_err() {
-            return Reply::Memory;
-        }
         if add_slot(self.alloc, &mut self.slots, examiner).is_err() {
             return Reply::Memory;
         }
-        self.trace.push_reserved(Call {
-            request,
-            reply: Reply::Began,
-        });
+        self.calls = self.calls.then(&request, &Reply::Began);
         Reply::Began
     }
 
@@ -187,10 +154,7 @@ impl<S: Store + Drop, G: Guards + Drop> Desk<S, G> {
         restore_all(&mut self.store, slot.images);
         self.guards.give_back(examiner);
         tidy_up(&mut self.store, &self.slots);
-        self.trace.push_reserved(Call {
-            request,
-            reply: Reply::Aborted,
-        });
+        self.calls = self.calls.then(&request, &Reply::Aborted);
         Reply::Aborted
     }
 
@@ -215,12 +179,9 @@ impl<S: Store + Drop, G: Guards + Drop> Desk<S, G> {
             examiner,
             steps: slot.steps.into_steps(),
         });
-        let place = self.records.len() as u64;
-        self.trace.push_reserved(Call {
-            request,
-            reply: Reply::Committed(place),
-        });
-        Reply::Committed(place)
+        let reply = Reply::Committed(self.records.len() as u64);
+        self.calls = self.calls.then(&request, &reply);
+        reply
     }
 
     // Why a step is refused before its lock is asked for, in the order of refusals.
@@ -268,9 +229,7 @@ impl<S: Store + Drop, G: Guards + Drop> Desk<S, G> {
         requires unposted { is_posted ask answer ≡ false }
         ensures told { Told self.old (Step examiner ask) result self.new }
     {
-        let calls = self.slots.len() + 1;
-        let Ok((step, told)) = prepare_step(self.alloc, &mut self.trace, calls, &ask, &answer)
-        else {
+        let Ok(step) = step_of(self.alloc, &ask, &answer) else {
             return Reply::Memory;
         };
         let access = access_in(&ask);
@@ -278,11 +237,9 @@ impl<S: Store + Drop, G: Guards + Drop> Desk<S, G> {
         if add_step(guards, slots, examiner, access, step).is_err() {
             return Reply::Memory;
         }
-        self.trace.push_reserved(Call {
-            request: Request::Step(examiner, ask),
-            reply: Reply::Answered(told),
-        });
-        Reply::Answered(answer)
+        let (request, reply) = (Request::Step(examiner, ask), Reply::Answered(answer));
+        self.calls = self.calls.then(&request, &reply);
+        reply
     }
 
     fn sheet(&mut self, examiner: u32, tract: Tract) -> Reply
@@ -323,9 +280,6 @@ impl<S: Store + Drop, G: Guards + Drop> Desk<S, G> {
         let Ok(copied) = posting.copy(self.alloc) else {
             return Reply::Memory;
         };
-        if self.trace.reserve(self.slots.len() + 1).is_err() {
-            return Reply::Memory;
-        }
         let terms = posting.terms();
         let Ok(put) = self.store.put(&terms.tract, &terms.instrument) else {
             return Reply::Memory;
@@ -345,11 +299,10 @@ impl<S: Store + Drop, G: Guards + Drop> Desk<S, G> {
         if keep_post(store, guards, slots, examiner, image, step).is_err() {
             return Reply::Memory;
         }
-        self.trace.push_reserved(Call {
-            request: Request::Step(examiner, Ask::Post(posting)),
-            reply: Reply::Answered(Answer::Posted),
-        });
-        Reply::Answered(Answer::Posted)
+        let request = Request::Step(examiner, Ask::Post(posting));
+        let reply = Reply::Answered(Answer::Posted);
+        self.calls = self.calls.then(&request, &reply);
+        reply
     }
 
     fn pass(&mut self, examiner: u32, ask: Ask) -> Reply
@@ -403,15 +356,7 @@ impl<S: Store + Drop, G: Guards + Drop> Desk<S, G> {
         ensures trace { self.new.trace ≡ self.old.trace }
         ensures ready { OnOk result (self.new.is_ready ≡ true) }
     {
-        self.trace.reserve(self.slots.len() + 1)?;
         self.records.reserve()
-    }
-
-    /// The calls with their replies, the oldest first.
-    pub fn trace(&self) -> &[Call]
-        ensures trace { reverse result.now ≡ self.now.trace }
-    {
-        &self.trace
     }
 
     /// The committed transactions, in the order of their commits.
@@ -462,7 +407,7 @@ impl<S: Store + Drop, G: Guards + Drop> Desk<S, G> {
         ensures due { IsDue depth self.now.setting self.now.trace }
         ensures few { self.now.setting.parties ≤ most_parties }
     {
-        let _ = &self.trace;
+        let _ = &self.records;
     }
 
     /// The committed transactions are serial: run alone, in the order of their commits, they get their answers; and so
@@ -472,6 +417,6 @@ impl<S: Store + Drop, G: Guards + Drop> Desk<S, G> {
         ensures open_last { (e : ℕ) → IsSerial depth self.now.setting.townships
             (record_of e (open_steps self.now.trace e) ∷ committed self.now.trace) }
     {
-        let _ = &self.trace;
+        let _ = &self.records;
     }
 }

@@ -259,9 +259,9 @@ impl Clerk {
         self.desk.store().is_tidy()
     }
 
-    /// How many calls have been served.
-    pub fn calls(&self) -> usize {
-        self.desk.trace().len()
+    /// How many transactions are committed.
+    pub fn committed(&self) -> usize {
+        self.desk.records().len()
     }
 
     /// Serves a request, to which this has to be the reply.

@@ -49,22 +49,22 @@ const RELEASE: Release = Release {
     estates: SURFACE,
 };
 
-// How many calls there were.
+// How many transactions are committed.
 fn try_all(alloc: Global, clerk: &mut Clerk) -> Result<usize> {
     let cell = Place::cell(0);
     sell(clerk, cell)?;
     is_shown(alloc, clerk, cell, 0, UNITS)?;
     clerk.alone_at(Wish::Release(RELEASE), cell, "posted")?;
     is_shown(alloc, clerk, cell, 1, UNITS * 2)?;
-    Ok(clerk.calls())
+    Ok(clerk.committed())
 }
 
-fn calls(alloc: Global) -> Result<usize> {
+fn committed(alloc: Global) -> Result<usize> {
     try_all(alloc, &mut Clerk::open(alloc, PARTIES, 1)?)
 }
 
 /// The sheet of the cell when all own the same, and when party 0 has released its part to the next.
 pub fn count(alloc: Global) -> Result<String> {
-    let calls = calls(alloc)?;
-    Ok(format!(in alloc; "{PARTIES} owners, {calls} calls")?)
+    let committed = committed(alloc)?;
+    Ok(format!(in alloc; "{PARTIES} owners, {committed} transactions")?)
 }

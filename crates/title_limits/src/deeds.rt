@@ -100,11 +100,11 @@ fn is_chained(clerk: &mut Clerk, in_one: u32) -> Result<()> {
     is_chain(chain.as_slice(), in_one)
 }
 
-// The sheet, the trees and the chain after all; how many calls there were.
+// The sheet, the trees and the chain after all; how many transactions are committed.
 fn is_done(alloc: Global, clerk: &mut Clerk, in_one: u32) -> Result<usize> {
     is_closed(alloc, clerk)?;
     is_chained(clerk, in_one)?;
-    Ok(clerk.calls())
+    Ok(clerk.committed())
 }
 
 // Posts a deed as a transaction of its own, and looks at the trees from time to time.
@@ -116,7 +116,7 @@ fn post_one(clerk: &mut Clerk, document: u32) -> Result<()> {
     Ok(())
 }
 
-// Each deed a transaction of its own; how many calls there were.
+// Each deed a transaction of its own; how many transactions are committed.
 fn post_each(alloc: Global, clerk: &mut Clerk) -> Result<usize> {
     for document in 1..=DEEDS {
         post_one(clerk, document)?;
@@ -164,5 +164,5 @@ fn together(alloc: Global) -> Result<usize> {
 /// The sheet, the chain and the trees after all.
 pub fn count(alloc: Global) -> Result<String> {
     let (alone, together) = (alone(alloc)?, together(alloc)?);
-    Ok(format!(in alloc; "{DEEDS}, {alone} calls alone, {together} together")?)
+    Ok(format!(in alloc; "{DEEDS}, {alone} transactions alone, {together} together")?)
 }

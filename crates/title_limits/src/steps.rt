@@ -171,11 +171,11 @@ fn try_sheets(alloc: Global, clerk: &mut Clerk) -> Result<()> {
     Ok(())
 }
 
-// How many calls there were.
+// How many transactions are committed.
 fn try_desk(alloc: Global, clerk: &mut Clerk) -> Result<usize> {
     try_each(clerk)?;
     try_sheets(alloc, clerk)?;
-    Ok(clerk.calls())
+    Ok(clerk.committed())
 }
 
 fn at_desk(alloc: Global) -> Result<usize> {
@@ -184,6 +184,6 @@ fn at_desk(alloc: Global) -> Result<usize> {
 
 /// Each kind of step, by a script and at a desk.
 pub fn count(alloc: Global) -> Result<String> {
-    let (tried, calls) = (by_script(alloc)?, at_desk(alloc)?);
-    Ok(format!(in alloc; "{SHEETS} sheets in turn, {tried}, {calls} calls")?)
+    let (tried, committed) = (by_script(alloc)?, at_desk(alloc)?);
+    Ok(format!(in alloc; "{SHEETS} sheets in turn, {tried}, {committed} transactions")?)
 }

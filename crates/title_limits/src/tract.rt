@@ -148,14 +148,14 @@ fn try_together(clerk: &mut Clerk, tract: &Tract) -> Result<()> {
     clerk.serve(Request::Commit(2), "committed,9")
 }
 
-// By a desk; how many calls there were.
+// By a desk; how many transactions are committed.
 fn try_desk(alloc: Global, clerk: &mut Clerk, tract: &Tract) -> Result<usize> {
     try_alone(alloc, clerk, tract)?;
     try_together(clerk, tract)?;
-    Ok(clerk.calls())
+    Ok(clerk.committed())
 }
 
-fn calls(alloc: Global, tract: &Tract) -> Result<usize> {
+fn committed(alloc: Global, tract: &Tract) -> Result<usize> {
     try_desk(alloc, &mut Clerk::open(alloc, 3, 1)?, tract)
 }
 
@@ -184,15 +184,15 @@ fn try_locks(alloc: Global, tract: &Tract) -> Result<()> {
     try_table(&mut RowLocks::new(alloc), tract)
 }
 
-// The tract's cover and its locks, and how many calls of a desk there were.
+// The tract's cover and its locks, and how many transactions a desk has committed.
 fn tried(alloc: Global, tract: &Tract) -> Result<usize> {
     is_covered(alloc, tract)?;
     try_locks(alloc, tract)?;
-    calls(alloc, tract)
+    committed(alloc, tract)
 }
 
 /// Its cover, its sheets, its deeds, its chain and its locks.
 pub fn count(alloc: Global) -> Result<String> {
-    let calls = tried(alloc, &tract(alloc)?)?;
-    Ok(format!(in alloc; "{SQUARES} squares, {calls} calls")?)
+    let committed = tried(alloc, &tract(alloc)?)?;
+    Ok(format!(in alloc; "{SQUARES} squares, {committed} transactions")?)
 }

@@ -155,14 +155,13 @@ fn abort(rt: &impl Print, desk: &mut Plant, alloc: Global, wanted: &mut Wanted) 
     Ok(())
 }
 
-/// What is left: the length of the trace, the records, and the sheet of all land.
+/// What is left: the records, and the sheet of all land.
 pub fn tell_end(
     rt: &impl Print,
     desk: &mut Plant,
     alloc: Global,
     wanted: &mut Wanted,
 ) -> Result<()> {
-    println!(rt; "trace: {}", desk.trace().len())?;
     tell_records(rt, desk.records())?;
     let turns = [begins(3), reads(3, Place::Everything), aborts(3)];
     serve_all(rt, desk, alloc, &turns, wanted)?;

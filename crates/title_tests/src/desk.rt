@@ -13,7 +13,7 @@ use title_instrument::{Estates, Instrument, Release};
 use title_land::{Land, Node, Quarter, Township, Tract};
 use title_lock::NodeLocks;
 use title_store::{SheetRow, Store};
-use title_trace::{Call, Reply, Request};
+use title_trace::{Reply, Request};
 use title_tree_store::TreeStore;
 
 type TestDesk = Desk<TreeStore, NodeLocks>;
@@ -127,21 +127,10 @@ fn assert_record(rt: &impl Abort, records: &[Record]) {
     must(rt, record.examiner == 1 && steps == 1, "the one record");
 }
 
-/// A trace of five calls, from a begin to a sweep.
-fn assert_trace(rt: &impl Abort, calls: &[Call]) {
-    must(rt, calls.len() == 5, "five calls");
-    let [first, .., last] = calls else {
-        panic!(rt; "two calls");
-    };
-    must(rt, word(&first.reply) == "began", "the first call");
-    must(rt, word(&last.reply) == "aborted", "the last call");
-}
-
-/// The books after a commit and a sweep: one record of one step, and a trace of all calls.
+/// The books after a commit and a sweep: one record of one step.
 fn assert_books(rt: &impl Abort, desk: &TestDesk) {
     must(rt, !desk.is_open(1) && !desk.is_open(2), "nobody is open");
     assert_record(rt, desk.records());
-    assert_trace(rt, desk.trace());
 }
 
 fn is_committed(reply: &Reply, place: u64) -> bool {
@@ -249,44 +238,17 @@ fn assert_alone(rt: &impl Abort, alloc: Global, desk: &mut TestDesk, step: Step,
     must(rt, word == wanted, wanted);
 }
 
-/// The calls have these replies.
-fn assert_calls(rt: &impl Abort, calls: &[Call], wanted: &[&str]) {
-    let mut rest = calls;
-    for one in wanted {
-        let [first, more @ ..] = rest else {
-            panic!(rt; "a call with {one}");
-        };
-        must(rt, word(&first.reply) == *one, one);
-        rest = more;
-    }
-    must(rt, rest.is_empty(), "no other call");
-}
-
-const ALONE: [&str; 9] = [
-    "began",
-    "rows",
-    "committed",
-    "began",
-    "posted",
-    "committed",
-    "began",
-    "entries",
-    "committed",
-];
-
-/// A transaction of one step in one call has the trace of its three requests.
+/// Transactions of one step in one call are committed, each in its place.
 fn assert_committed_alone(rt: &impl Abort, alloc: Global, desk: &mut TestDesk) {
     assert_alone(rt, alloc, desk, Step::Sheet, "rows");
     assert_alone(rt, alloc, desk, Step::Post(7), "posted");
     assert_alone(rt, alloc, desk, Step::Chain, "entries");
-    assert_calls(rt, desk.trace(), &ALONE);
     must(rt, desk.records().len() == 3, "three records");
 }
 
-/// One whose township isn't declared is begun and aborted.
+/// One whose township isn't declared is aborted.
 fn assert_aborted_alone(rt: &impl Abort, alloc: Global, desk: &mut TestDesk) {
     assert_alone(rt, alloc, desk, Step::Post(7), "another");
-    assert_calls(rt, desk.trace(), &["began", "another", "aborted"]);
     must(rt, desk.records().is_empty(), "no record");
 }
 

@@ -104,10 +104,9 @@ impl Desks {
         self.turn(examiner, Wish::any(chance, ground, is_open), doc)
     }
 
-    // Whether both have the same records, and traces of one length.
+    // Whether both have the same records.
     fn are_records_one(&self) -> bool {
         same_records(self.cells.records(), self.trees.records())
-            && self.cells.trace().len() == self.trees.trace().len()
     }
 
     fn are_trees_tidy(&self) -> bool {

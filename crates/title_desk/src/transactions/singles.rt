@@ -1,7 +1,6 @@
 //! Transactions of one step, where nobody is open: no slot, no lock and no before-image is kept for them.
 
-ghost use Rattle.std.specs.Prelude.{◌≡◌, ◌+◌, ◌≤◌, ◌++◌, ◌∷◌, [], MatchOption, IfOk, OnOk, OnErr, true, false, length, reverse};
-ghost use Rattle.std.specs.Prelude.{vec_len, vec_capacity};
+ghost use Rattle.std.specs.Prelude.{◌≡◌, ◌++◌, ◌∷◌, [], MatchOption, IfOk, OnOk, OnErr, true, false, length};
 ghost use Rattle.title_land.specs.Depth.{depth};
 ghost use Rattle.title_land.specs.Lands.{is_in_plant};
 ghost use Rattle.title_store.specs.Plants.{SameContent, plant_effect, refused_in};
@@ -9,12 +8,13 @@ ghost use Rattle.title_chain.specs.declared.ask.Ask.TheVariants.{Chain, Post, Sh
 ghost use Rattle.title_chain.specs.Alone.{alone};
 ghost use Rattle.title_chain.specs.declared.ask.Answer.TheVariants.{Posted};
 ghost use Rattle.title_trace.specs.declared.call.Request.TheVariants.{Begin, Commit, Step};
-ghost use Rattle.title_trace.specs.declared.call.Reply.TheVariants.{Answered, Began, Committed};
+ghost use Rattle.title_trace.specs.declared.call.Reply.TheVariants.{Began, Committed};
 ghost use Rattle.title_trace.specs.Trace.{committed, open_steps};
 ghost use Rattle.title_desk.specs.Images.{is_posted};
 ghost use Rattle.title_desk.specs.Singles.{Bars, IsDeed, IsIdle, Stands, ToldSingle};
 
-use crate::asks::{cause_in, copies_of, tract_in};
+use crate::asks::{cause_in, step_of, tract_in};
+use crate::calls::Calls;
 use crate::images::settle;
 use crate::kept_sheets::home_of;
 use crate::refusal::Refusal;
@@ -25,7 +25,7 @@ use title_land::Tract;
 use title_lock::Guards;
 use title_store::{Put, Store};
 use title_trace::laws::idle_have_no_steps;
-use title_trace::{Call, Reply, Request};
+use title_trace::{Reply, Request};
 
 // The list of one step.
 fn one_step(alloc: Global, step: title_chain::Step) -> Result<Steps, AllocError>
@@ -36,61 +36,31 @@ fn one_step(alloc: Global, step: title_chain::Step) -> Result<Steps, AllocError>
     Ok(Steps::new(steps))
 }
 
-// Makes room for so many calls more and for a record.
-fn make_room(
-    trace: &mut Vec<Call>,
-    records: &mut TractIndex,
-    calls: usize,
-) -> Result<(), AllocError>
-    ensures items { trace.new.items ≡ trace.old.items }
-    ensures len { vec_len trace.new ≡ vec_len trace.old }
-    ensures capacity { vec_capacity trace.old ≤ vec_capacity trace.new }
-    ensures records { records.new.records ≡ records.old.records }
-    ensures room { OnOk result (vec_len trace.new + calls ≤ vec_capacity trace.new) }
-    ensures record_room { OnOk result (records.new.has_room ≡ true) }
-{
-    trace.reserve(calls)?;
-    records.reserve()
-}
-
-// What a transaction of one answered step takes memory for: the list of its step and a copy of the answer, and room.
+// What a transaction of one answered step takes memory for: the list of its step, and room for its record.
 fn prepare_answer(
     alloc: Global,
-    trace: &mut Vec<Call>,
     records: &mut TractIndex,
-    calls: usize,
     ask: &Ask,
     answer: &Answer,
-) -> Result<(Steps, Answer), AllocError>
-    ensures items { trace.new.items ≡ trace.old.items }
-    ensures len { vec_len trace.new ≡ vec_len trace.old }
-    ensures capacity { vec_capacity trace.old ≤ vec_capacity trace.new }
+) -> Result<Steps, AllocError>
     ensures records { records.new.records ≡ records.old.records }
-    ensures room { OnOk result (vec_len trace.new + calls ≤ vec_capacity trace.new) }
-    ensures record_room { OnOk result (records.new.has_room ≡ true) }
-    ensures steps { IfOk result (λ copies. copies.0 ≡ record { ask = ask.now; answer = answer.now } ∷ []) }
-    ensures told { IfOk result (λ copies. copies.1 ≡ answer.now) }
+    ensures room { OnOk result (records.new.has_room ≡ true) }
+    ensures steps { IfOk result (λ steps. steps ≡ record { ask = ask.now; answer = answer.now } ∷ []) }
 {
-    let (step, told) = copies_of(alloc, ask, answer)?;
+    let step = step_of(alloc, ask, answer)?;
     let steps = one_step(alloc, step)?;
-    make_room(trace, records, calls)?;
-    Ok((steps, told))
+    records.reserve()?;
+    Ok(steps)
 }
 
-// What a transaction of one post that is done takes memory for: the list of its step, and room.
+// What a transaction of one post that is done takes memory for: the list of its step, and room for its record.
 fn prepare_post(
     alloc: Global,
-    trace: &mut Vec<Call>,
     records: &mut TractIndex,
-    calls: usize,
     posting: &Posting,
 ) -> Result<Steps, AllocError>
-    ensures items { trace.new.items ≡ trace.old.items }
-    ensures len { vec_len trace.new ≡ vec_len trace.old }
-    ensures capacity { vec_capacity trace.old ≤ vec_capacity trace.new }
     ensures records { records.new.records ≡ records.old.records }
-    ensures room { OnOk result (vec_len trace.new + calls ≤ vec_capacity trace.new) }
-    ensures record_room { OnOk result (records.new.has_room ≡ true) }
+    ensures room { OnOk result (records.new.has_room ≡ true) }
     ensures steps { IfOk result (λ steps. steps ≡ record { ask = Post posting.now; answer = Posted } ∷ []) }
 {
     let copied = posting.copy(alloc)?;
@@ -99,7 +69,7 @@ fn prepare_post(
         answer: Answer::Posted,
     };
     let steps = one_step(alloc, step)?;
-    make_room(trace, records, calls)?;
+    records.reserve()?;
     Ok(steps)
 }
 
@@ -130,58 +100,46 @@ fn post_at_once<S: Store>(store: &mut S, posting: &Posting) -> Result<Option<Ans
     Ok(None)
 }
 
-// Adds the calls of a transaction of one step, for which there is room: it is begun, asked, and ended.
-fn add_calls(
-    trace: &mut Vec<Call>,
+// The calls with those of a transaction of one step: it is begun, asked, and ended.
+fn with_single(
+    calls: &Calls,
     examiner: u32,
     ask: Ask,
-    told: Reply,
-    end: Request,
-    ended: Reply,
-)
-    requires room { vec_len trace.old + 3 ≤ vec_capacity trace.old }
-    ensures calls { reverse trace.new.items ≡ record { request = end; reply = ended }
-        ∷ record { request = Step examiner ask; reply = told } ∷ record { request = Begin examiner; reply = Began }
-        ∷ reverse trace.old.items }
-    ensures len { vec_len trace.new ≡ vec_len trace.old + 3 }
-    ensures capacity { vec_capacity trace.new ≡ vec_capacity trace.old }
+    told: &Reply,
+    end: &Request,
+    ended: &Reply,
+) -> Calls
+    ensures calls { result.list ≡ record { request = end.now; reply = ended.now }
+        ∷ record { request = Step examiner ask; reply = told.now } ∷ record { request = Begin examiner; reply = Began }
+        ∷ calls.now.list }
 {
-    trace.push_reserved(Call {
-        request: Request::Begin(examiner),
-        reply: Reply::Began,
-    });
-    trace.push_reserved(Call {
-        request: Request::Step(examiner, ask),
-        reply: told,
-    });
-    trace.push_reserved(Call {
-        request: end,
-        reply: ended,
-    });
+    let (begin, step) = (Request::Begin(examiner), Request::Step(examiner, ask));
+    let begun = calls.then(&begin, &Reply::Began);
+    let asked = begun.then(&step, told);
+    asked.then(end, ended)
 }
 
-// Adds the record and the calls of a transaction whose step is answered, for which there is room.
+// Adds the record of a transaction whose step is answered, for which there is room; the calls with its own.
 fn add_done(
-    trace: &mut Vec<Call>,
+    calls: &Calls,
     records: &mut TractIndex,
     examiner: u32,
     ask: Ask,
-    told: Answer,
+    told: &Reply,
     steps: Steps,
-)
-    requires room { vec_len trace.old + 3 ≤ vec_capacity trace.old }
-    requires record_room { records.old.has_room ≡ true }
+) -> Calls
+    requires room { records.old.has_room ≡ true }
     ensures records { records.new.records ≡ records.old.records ++ record { examiner = examiner; steps = steps } ∷ [] }
-    ensures calls { reverse trace.new.items ≡ record { request = Commit examiner; reply = Committed (length records.new.records) }
-        ∷ record { request = Step examiner ask; reply = Answered told } ∷ record { request = Begin examiner; reply = Began }
-        ∷ reverse trace.old.items }
-    ensures len { vec_len trace.new ≡ vec_len trace.old + 3 }
-    ensures capacity { vec_capacity trace.new ≡ vec_capacity trace.old }
+    ensures calls { result.list ≡ record { request = Commit examiner; reply = Committed (length records.new.records) }
+        ∷ record { request = Step examiner ask; reply = told.now } ∷ record { request = Begin examiner; reply = Began }
+        ∷ calls.now.list }
 {
     records.push_reserved(Record { examiner, steps });
-    let place = records.len() as u64;
-    let (told, end) = (Reply::Answered(told), Request::Commit(examiner));
-    add_calls(trace, examiner, ask, told, end, Reply::Committed(place));
+    let (end, ended) = (
+        Request::Commit(examiner),
+        Reply::Committed(records.len() as u64),
+    );
+    with_single(calls, examiner, ask, told, &end, &ended)
 }
 
 impl<S: Store + Drop, G: Guards + Drop> Desk<S, G> {
@@ -205,12 +163,9 @@ impl<S: Store + Drop, G: Guards + Drop> Desk<S, G> {
         ensures told { ToldSingle self.old examiner ask result self.new }
     {
         idle_have_no_steps();
-        if self.trace.reserve(self.slots.len() + 3).is_err() {
-            return Reply::Memory;
-        }
         let (told, end) = (refusal.reply(), Request::Abort(examiner));
-        add_calls(&mut self.trace, examiner, ask, told, end, Reply::Aborted);
-        refusal.reply()
+        self.calls = with_single(&self.calls, examiner, ask, &told, &end, &Reply::Aborted);
+        told
     }
 
     // Adds a transaction whose step is answered and posts nothing.
@@ -223,21 +178,13 @@ impl<S: Store + Drop, G: Guards + Drop> Desk<S, G> {
         ensures told { ToldSingle self.old examiner ask result self.new }
     {
         idle_have_no_steps();
-        let calls = self.slots.len() + 3;
-        let (trace, records) = (&mut self.trace, &mut self.records);
-        let Ok((steps, told)) = prepare_answer(self.alloc, trace, records, calls, &ask, &answer)
-        else {
+        let Ok(steps) = prepare_answer(self.alloc, &mut self.records, &ask, &answer) else {
             return Reply::Memory;
         };
-        add_done(
-            &mut self.trace,
-            &mut self.records,
-            examiner,
-            ask,
-            told,
-            steps,
-        );
-        Reply::Answered(answer)
+        let told = Reply::Answered(answer);
+        let (calls, records) = (&self.calls, &mut self.records);
+        self.calls = add_done(calls, records, examiner, ask, &told, steps);
+        told
     }
 
     fn sheet_alone(&mut self, examiner: u32, tract: Tract) -> Reply
@@ -278,9 +225,7 @@ impl<S: Store + Drop, G: Guards + Drop> Desk<S, G> {
         ensures told { ToldSingle self.old examiner (Post posting) result self.new }
     {
         idle_have_no_steps();
-        let calls = self.slots.len() + 3;
-        let (trace, records) = (&mut self.trace, &mut self.records);
-        let Ok(steps) = prepare_post(self.alloc, trace, records, calls, &posting) else {
+        let Ok(steps) = prepare_post(self.alloc, &mut self.records, &posting) else {
             return Reply::Memory;
         };
         let Ok(refused) = post_at_once(&mut self.store, &posting) else {
@@ -290,16 +235,10 @@ impl<S: Store + Drop, G: Guards + Drop> Desk<S, G> {
             Some(answer) => return self.answer_alone(examiner, Ask::Post(posting), answer),
             None => {}
         }
-        let (trace, records) = (&mut self.trace, &mut self.records);
-        add_done(
-            trace,
-            records,
-            examiner,
-            Ask::Post(posting),
-            Answer::Posted,
-            steps,
-        );
-        Reply::Answered(Answer::Posted)
+        let (ask, told) = (Ask::Post(posting), Reply::Answered(Answer::Posted));
+        let (calls, records) = (&self.calls, &mut self.records);
+        self.calls = add_done(calls, records, examiner, ask, &told, steps);
+        told
     }
 
     /// Serves an examiner's ask as a transaction of its own where nobody is open: adds its three calls, begun, asked, and

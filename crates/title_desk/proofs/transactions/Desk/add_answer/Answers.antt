@@ -1,8 +1,6 @@
 -- A step that posted nothing is added, or all stays as it was.
-use Rattle.std.proofs.Common.{◌≡◌, ◌∙◌, sym, subst, arith}
+use Rattle.std.proofs.Common.{◌≡◌, ◌∙◌, sym, subst}
 use Rattle.title_land.specs.Depth.{depth}
-use Rattle.std.proofs.lemmas.Grind.{common_steps}
-use Rattle.std.proofs.lemmas.List.{reverse-append}
 use Rattle.title_chain.specs.Alone.{alone}
 use Rattle.title_trace.specs.declared.call.Request.TheVariants.{Step}
 use Rattle.title_trace.specs.declared.call.Reply.TheVariants.{Answered}
@@ -13,14 +11,12 @@ use Rattle.title_desk.proofs.Moves.{keeps_back}
 use Rattle.title_desk.proofs.Steps.{keeps_answered, due_alone, on_good, on_bad}
 use Rattle.title_desk.proofs.transactions.Desk.add_answer.Goals as goal
 
-pub invariant_of-self-then-is_err : goal.invariant_of-self-then-is_err
-invariant_of-self-then-is_err g c =
+pub invariant_of-self : goal.invariant_of-self
+invariant_of-self g c =
     let failed = sym c.is_err.ensures.value ∙ c.if-is_err.true in
-    let locks = on_bad c.add_step.result _ failed c.add_step.ensures.err_locked in (
-      rw (c.prepare_step.ensures.items, locks)
-          (keeps_back _ (on_bad c.add_step.result _ failed c.add_step.ensures.err) c.self.invariant.0),
-      grind (arith, common_steps, c.self.invariant.1, c.prepare_step.ensures.len, c.prepare_step.ensures.capacity, c.add_step.ensures.len),
-    )
+    let locks = on_bad c.add_step.result _ failed c.add_step.ensures.err_locked in
+    rw locks
+    (keeps_back _ (on_bad c.add_step.result _ failed c.add_step.ensures.err) c.self.invariant)
 
 pub invariant_of-self-2 : goal.invariant_of-self-2
 invariant_of-self-2 g c =
@@ -30,10 +26,8 @@ invariant_of-self-2 g c =
     let due = subst (λ (b : Books). DueReply depth b.setting b.trace (Step c.args.examiner c.args.ask) (Answered c.args.answer))
     (sym c.self.view_is) (due_alone c.args.self.now c.args.examiner c.args.ask c.args.answer c.requires.passes c.requires.alone) in
     let is = subst (λ (b : Books). c.args.answer ≡ alone depth b.setting.townships (committed b.trace) (open_steps b.trace c.args.examiner)
-    c.args.ask) (sym c.self.view_is) c.requires.alone in (
-      rw (c.push_reserved.ensures.items, c.prepare_step.ensures.items, reverse-append, c.in-Ok.ensures.told)
-          (keeps_answered _ c.args.examiner c.args.ask c.args.answer c.access_in-access.result c.self.invariant.0
-          (rw c.in-Ok.ensures.step at added) c.add_step.ensures.images (rw c.in-Ok.ensures.step at locked)
-          c.access_in-access.ensures.access c.requires.unposted is due),
-      grind (arith, common_steps, c.self.invariant.1, c.prepare_step.ensures.len, c.add_step.ensures.len),
-    )
+    c.args.ask) (sym c.self.view_is) c.requires.alone in
+    rw c.then-self-inside.ensures.then
+    (keeps_answered _ c.args.examiner c.args.ask c.args.answer c.access_in-access.result c.self.invariant
+    (rw c.in-Ok.ensures.step at added) c.add_step.ensures.images (rw c.in-Ok.ensures.step at locked)
+    c.access_in-access.ensures.access c.requires.unposted is due)

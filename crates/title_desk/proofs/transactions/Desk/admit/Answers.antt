@@ -1,5 +1,5 @@
 -- Who is in the way by the locks is in the way by the open steps.
-use Rattle.std.proofs.Common.{◌∙◌, ap, sym, subst, reverse, true, Some, None}
+use Rattle.std.proofs.Common.{◌∙◌, ap, sym, subst, true, Some, None}
 use Rattle.title_land.specs.declared.tract.Land.{Land}
 use Rattle.title_lock.specs.declared.guards.Access.{Access}
 use Rattle.title_lock.specs.declared.guards.LockFault.{LockFault}
@@ -17,7 +17,7 @@ returns-clause-admits g c =
     let a = c.args.ask.now in
     let p = is_post c.access_in-access.result in
     let locks = g.G.Guards.entries c.self.inside.guards in
-    let trace = reverse c.self.inside.trace.items in
+    let trace = c.self.inside.calls.list in
     let books : Books = record {
       setting = record { parties = c.self.inside.parties; townships = c.self.inside.townships.items };
       trace = trace;
@@ -32,7 +32,7 @@ returns-clause-admits g c =
           fit.1,
           fit.2,
           fit.3,
-          way_is locks trace e a p None c.access_in-access.ensures.access (c.self.invariant.0.facts.locks_are a)
+          way_is locks trace e a p None c.access_in-access.ensures.access (c.self.invariant.facts.locks_are a)
               (subst (λ (t : Land). Stands locks e t p None) c.tract_in.ensures.tract w.in-Ok.ensures.free),
         ),
         w.in-Ok.ensures.prepared
@@ -40,7 +40,7 @@ returns-clause-admits g c =
             ∙ ap (λ (x : Access). Some (record { examiner = e; tract = tract_of a; access = x })) c.access_in-access.ensures.is,
       )
       | in-Err-Conflict w ↦ rw w.result-is (conflict_due books e a w.in-Err-Conflict.other fit
-          (way_is locks trace e a p (Some w.in-Err-Conflict.other) c.access_in-access.ensures.access (c.self.invariant.0.facts.locks_are a)
+          (way_is locks trace e a p (Some w.in-Err-Conflict.other) c.access_in-access.ensures.access (c.self.invariant.facts.locks_are a)
           (subst (λ (t : Land). Stands locks e t p (Some w.in-Err-Conflict.other)) c.tract_in.ensures.tract
           (subst (λ (y : LockFault). RefusedBy locks e c.tract_in.result.now p y) w.in-Err-Conflict.field-0-is
           w.in-Err-Conflict.ensures.fault))))

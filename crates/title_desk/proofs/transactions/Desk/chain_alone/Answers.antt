@@ -13,7 +13,7 @@ answer_alone-requires-clause-idle g c = subst (λ (b : Books). IsIdle b.trace) (
 
 pub answer_alone-requires-clause-alone : goal.answer_alone-requires-clause-alone
 answer_alone-requires-clause-alone g c =
-    let k = c.self.invariant.0 in
+    let k = c.self.invariant in
     let idle = subst (λ (b : Books). IsIdle b.trace) (sym c.self.view_is) c.requires.idle in
     ap Entries (c.in-Ok.ensures.chain
     ∙ ap (λ own. chain_of (reverse c.self.inside.records.records) own c.args.tract)

@@ -8,7 +8,7 @@ use Rattle.title_desk.proofs.transactions.Desk.is_due.Goals as goal
 
 pub returns : goal.returns
 returns g c =
-    let k = c.self.invariant.0 in record {
+    let k = c.self.invariant in record {
       due = subst (λ (b : Books). IsDue depth b.setting b.trace) c.self.view_is k.due;
       few = subst (λ (b : Books). b.setting.parties ≤ most_parties) c.self.view_is k.few;
     }

@@ -9,5 +9,5 @@ pub returns : goal.returns
 returns g c = record {
   opened = c.is_in.ensures.found
       ∙ subst (λ (b : Books). is_some (found c.self.inside.slots c.args.examiner) ≡ is_open c.args.examiner b.trace) c.self.view_is
-      (c.self.invariant.0.slots_are.begun_are c.args.examiner);
+      (c.self.invariant.slots_are.begun_are c.args.examiner);
 }

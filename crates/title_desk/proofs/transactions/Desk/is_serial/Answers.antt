@@ -10,7 +10,7 @@ use Rattle.title_desk.proofs.transactions.Desk.is_serial.Goals as goal
 
 pub returns : goal.returns
 returns g c =
-    let k = c.self.invariant.0 in record {
+    let k = c.self.invariant in record {
       committed_records = subst (λ (b : Books). IsSerial depth b.setting.townships (committed b.trace)) c.self.view_is
           (committed_serial depth _ k.few _ k.due);
       open_last = λ e. subst (λ (b : Books). IsSerial depth b.setting.townships (record_of e (open_steps b.trace e) ∷ committed b.trace))

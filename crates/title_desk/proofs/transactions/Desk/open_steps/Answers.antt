@@ -9,5 +9,5 @@ pub returns : goal.returns
 returns g c = record {
   steps = c.steps_of.ensures.steps
       ∙ subst (λ (b : Books). steps_in (found c.self.inside.slots c.args.examiner) ≡ open_steps b.trace c.args.examiner) c.self.view_is
-      (c.self.invariant.0.slots_are.steps_are c.args.examiner);
+      (c.self.invariant.slots_are.steps_are c.args.examiner);
 }

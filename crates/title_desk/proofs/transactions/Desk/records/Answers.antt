@@ -7,5 +7,5 @@ use Rattle.title_desk.proofs.transactions.Desk.records.Goals as goal
 pub returns : goal.returns
 returns g c = record {
   records = ap reverse c.as_slice.ensures.slice ∙ subst (λ (b : Books). reverse c.self.inside.records.records ≡ committed b.trace)
-      c.self.view_is c.self.invariant.0.records_are;
+      c.self.view_is c.self.invariant.records_are;
 }

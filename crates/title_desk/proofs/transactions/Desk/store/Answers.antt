@@ -10,7 +10,7 @@ use Rattle.title_desk.proofs.transactions.Desk.store.Goals as goal
 
 pub returns : goal.returns
 returns g c =
-    let k = c.self.invariant.0 in
+    let k = c.self.invariant in
     let is : c.store.result.now ≡ c.self.inside.store = c.store.ensures.store in rw is record {
       declared = subst (λ (b : Books). g.S.Store.declared c.self.inside.store ≡ b.setting.townships) c.self.view_is k.declared_are;
       posted = subst (λ (b : Books). (e : ℕ) (d : Cell) → posted_at b.setting.townships d (open_steps b.trace e) ≡ true

@@ -1,0 +1,6 @@
+-- The calls own nothing, so they may go to another thread.
+use denote.Param.Send.{IsSend, owning_send}
+use Rattle.title_desk.specs.contracts.calls.Calls.{the_row, the_type}
+
+pub send : IsSend the_row
+send = owning_send the_type tt (λ d. tt) (λ k x w. tt)
