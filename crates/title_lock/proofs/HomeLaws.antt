@@ -1,15 +1,13 @@
 -- Shelves each of whose places is that of a node which stands there.
-use Rattle.std.proofs.Common.{◌≡◌, ◌≢◌, ◌∙◌, ℕ, Bool, true, false, cond, [], ◌∷◌, Option, Some, None, eqb, refl, sym, ap, subst}
+use Rattle.std.proofs.Common.{◌≡◌, ◌≢◌, ◌∙◌, ℕ, Bool, true, false, cond, Option, Some, eqb, refl, sym, ap, subst}
 use Rattle.std.proofs.Common.{true≢false, arith}
 use Rattle.std.proofs.lemmas.Bool.{eqb-true, eqb-false}
 use Rattle.std.proofs.lemmas.Bool.Decides.{nat_tests}
 use Rattle.std.specs.Prelude.{is_some}
 use Rattle.std.specs.Ordering.{nat_cmp}
 use Rattle.std.specs.BTreeMap.{get, is_at}
-use Rattle.title_land.specs.declared.node.Node.{Node}
-use Rattle.title_land.specs.declared.node.Node.TheVariants as node
 use Rattle.title_lock.specs.Holders.{Modes}
-use Rattle.title_lock.specs.Tables.{is_square, shelf_parent, home_of, IsNumberOn}
+use Rattle.title_lock.specs.Tables.{IsNumberOn}
 use Rattle.title_lock.proofs.TableLaws.{Places}
 
 miss : (k j : ℕ) → j ≢ k → is_at (nat_cmp k) j ≡ false
@@ -41,16 +39,3 @@ home_after h m n k w writes here old q has = go (is_at (nat_cmp k) q) refl
 -- a place that was found
 pub found_some : (v : Modes) (o : Option Modes) → Some v ≡ o → is_some o ≡ true
 found_some v o h = sym (ap (λ (z : Option Modes). is_some z) h)
-
--- the node above stands on the same shelf
-pub home_above : (p c : Node) → Some c ≡ shelf_parent p → home_of c ≡ home_of p
-home_above node.Everything c h = absurd cc
-home_above (node.Township t) c h = let same : c ≡ node.Everything = cc in ap home_of same
-home_above (node.Part s []) c h = absurd cc
-home_above (node.Part s (q ∷ w)) c h = let same : c ≡ node.Part s w = cc in ap home_of same
-
--- a node that isn't a square stands on the upper shelf
-pub home_upper : (n : Node) → is_square n ≡ false → home_of n ≡ None
-home_upper node.Everything h = refl
-home_upper (node.Township t) h = refl
-home_upper (node.Part s w) h = absurd (true≢false h)

@@ -1,22 +1,16 @@
 -- Who is idle at a node, and which places are used, after one change and after several.
-use Rattle.std.proofs.Common.{◌≡◌, ◌≢◌, ◌<◌, ◌+◌, ℕ, Bool, true, false, cond, not, ◌&&◌, ◌||◌, List, [], ◌∷◌, length, take, get_or, Option}
+use Rattle.std.proofs.Common.{◌≡◌, ◌≢◌, ℕ, Bool, true, false, cond, not, ◌&&◌, ◌||◌, [], ◌∷◌, length, Option}
 use Rattle.std.proofs.Common.{Some, None, is_some, eqb, refl, sym, ap, ◌∙◌, inl, inr, true≢false, arith}
 use Rattle.std.proofs.lemmas.Bool.{eqb-false, ne_eqb, or_cases, or_left, or_right}
 use Rattle.std.proofs.lemmas.Bool.Decides.{nat_tests}
-use Rattle.std.proofs.lemmas.List.Folds.{list_any_more}
-use Rattle.std.specs.List.{list_any}
 use Rattle.std.specs.Map.{lookup}
 use Rattle.std.specs.Ordering.{nat_cmp}
 use Rattle.std.specs.BTreeMap.{is_at}
 use Rattle.title_land.specs.declared.node.Node.{Node}
-use Rattle.title_land.specs.Nodes.{same_node}
 use Rattle.title_lock.specs.declared.modes.Mode.{Mode}
 use Rattle.title_lock.specs.Modes.{bound}
 use Rattle.title_lock.specs.Holders.{Modes, holder_mode, has_room, idles, is_free, mode_of_place}
-use Rattle.title_lock.specs.Tables.{Placed, is_asked, is_idle, IdleMore, IdleLess, NoMoreIdle}
-use Rattle.title_lock.specs.Tables.{shelf_parent, is_shelf_above, is_shelf_asked}
-use Rattle.title_lock.proofs.NodeLaws.{shelf_above_of}
-use Rattle.title_lock.proofs.TableLaws.{above_parent, asked_of_one}
+use Rattle.title_lock.specs.Tables.{Placed, is_idle, IdleMore, IdleLess, NoMoreIdle}
 
 -- ---- the holders of one node
 
@@ -113,30 +107,6 @@ pub free_idles : (h : Modes) → is_free h ≡ true → (e : ℕ) → idles h e 
 free_idles [] free e = refl
 free_idles (p ∷ h) free e = absurd (true≢false (sym free ∙ ne_eqb (length (p ∷ h)) 0 (λ none. omega arith)))
 
--- ---- what lies above a node, and what a cover asks for
-
-or_turned : (a b : Bool) → (a || b) ≡ (b || a)
-or_turned true true = refl
-or_turned true false = refl
-or_turned false true = refl
-or_turned false false = refl
-
--- above a node lie its parent and what lies above that
-pub above_parts : (p c n : Node) → Some c ≡ shelf_parent p → (same_node n c || is_shelf_above n c) ≡ is_shelf_above n p
-above_parts p c n h = sym (ap (λ (z : List Node). list_any (same_node n) z) (shelf_above_of p c h))
-
-pub parts_above : (p c n : Node) → Some c ≡ shelf_parent p → (is_shelf_above n c || same_node n c) ≡ is_shelf_above n p
-parts_above p c n h = or_turned (is_shelf_above n c) (same_node n c) ∙ above_parts p c n h
-
-pub asked_parts : (c n : Node) → (is_shelf_above n c || same_node n c) ≡ is_shelf_asked n c
-asked_parts c n = or_turned (is_shelf_above n c) (same_node n c)
-
--- what a list's first nodes ask for, and the next
-pub list_parts : (nodes : List Node) (i : ℕ) (c n : Node) → c ≡ get_or nodes i c → i < length nodes
-    → (list_any (is_asked n) (take i nodes) || is_asked n c) ≡ list_any (is_asked n) (take (i + 1) nodes)
-list_parts nodes i c n at_it low =
-    ap (λ (x : Node). list_any (is_asked n) (take i nodes) || is_asked n x) at_it ∙ sym (list_any_more (is_asked n) nodes i c low)
-
 -- ---- tables
 
 -- the same table has nobody more idle
@@ -214,63 +184,3 @@ pub more_undone : {t u v : Placed} {e : ℕ} {asks : Node → Bool} → IdleMore
 more_undone {t = t} {u = u} {v = v} {e = e} {asks = asks} first then = record {
   same = λ f n idle. one_undone (is_idle u f n) (is_idle t f n) (eqb f e && asks n) (first.more f n) (sym (then.less f n) ∙ idle);
 }
-
--- ---- along the ways of the table
-
-module _ {t u : Placed} {e : ℕ} (p c : Node) (parent : Some c ≡ shelf_parent p) where
-  -- what may be idle above the parent may be above the node
-  pub more_above : IdleMore t u e (λ n. is_shelf_above n c) → IdleMore t u e (λ n. is_shelf_above n p)
-  more_above first = more_wider t u e (λ n. is_shelf_above n c) (λ n. is_shelf_above n p) (λ n up. above_parent p c n parent up) first
-
-  -- and at the parent
-  pub more_above_at : {v : Placed} → IdleMore t u e (λ n. is_shelf_above n c) → IdleMore u v e (λ n. same_node n c)
-      → IdleMore t v e (λ n. is_shelf_above n p)
-  more_above_at {v = v} first then = more_join t u v e (λ n. same_node n c) (λ n. is_shelf_above n p)
-      (λ n same. sym (above_parts p c n parent) ∙ or_left (same_node n c) (is_shelf_above n c) same) (more_above first) then
-
-  -- who isn't idle above the parent and at it isn't above the node
-  pub less_above_at : {v : Placed} → IdleLess t u e (λ n. is_shelf_above n c) → IdleLess u v e (λ n. same_node n c)
-      → IdleLess t v e (λ n. is_shelf_above n p)
-  less_above_at {v = v} first then = less_join t u v e (λ n. is_shelf_above n c) (λ n. same_node n c) (λ n. is_shelf_above n p)
-      (λ n. parts_above p c n parent) first then
-
-  pub less_at_above : {v : Placed} → IdleLess t u e (λ n. same_node n c) → IdleLess u v e (λ n. is_shelf_above n c)
-      → IdleLess t v e (λ n. is_shelf_above n p)
-  less_at_above {v = v} first then = less_join t u v e (λ n. same_node n c) (λ n. is_shelf_above n c) (λ n. is_shelf_above n p)
-      (λ n. above_parts p c n parent) first then
-
-module _ {t u : Placed} {e : ℕ} (c : Node) where
-  -- what may be idle above a node may be where the node asks
-  pub more_asked : IdleMore t u e (λ n. is_shelf_above n c) → IdleMore t u e (λ n. is_shelf_asked n c)
-  more_asked first =
-      more_wider t u e (λ n. is_shelf_above n c) (λ n. is_shelf_asked n c) (λ n up. or_right (same_node n c) (is_shelf_above n c) up) first
-
-  -- and at the node
-  pub more_asked_at : {v : Placed} → IdleMore t u e (λ n. is_shelf_above n c) → IdleMore u v e (λ n. same_node n c)
-      → IdleMore t v e (λ n. is_shelf_asked n c)
-  more_asked_at {v = v} first then = more_join t u v e (λ n. same_node n c) (λ n. is_shelf_asked n c)
-      (λ n same. or_left (same_node n c) (is_shelf_above n c) same) (more_asked first) then
-
-  -- who isn't idle above a node and at it isn't where the node asks
-  pub less_asked_at : {v : Placed} → IdleLess t u e (λ n. is_shelf_above n c) → IdleLess u v e (λ n. same_node n c)
-      → IdleLess t v e (λ n. is_shelf_asked n c)
-  less_asked_at {v = v} first then = less_join t u v e (λ n. is_shelf_above n c) (λ n. same_node n c) (λ n. is_shelf_asked n c)
-      (λ n. asked_parts c n) first then
-
-  pub less_at_asked : {v : Placed} → IdleLess t u e (λ n. same_node n c) → IdleLess u v e (λ n. is_shelf_above n c)
-      → IdleLess t v e (λ n. is_shelf_asked n c)
-  less_at_asked {v = v} first then = less_join t u v e (λ n. same_node n c) (λ n. is_shelf_above n c) (λ n. is_shelf_asked n c)
-      (λ n. refl) first then
-
-module _ {t u v : Placed} {e : ℕ} (nodes : List Node) (i : ℕ) (c : Node) (at_it : c ≡ get_or nodes i c) (low : i < length nodes) where
-  -- one node of a cover more may be where its examiner is idle
-  pub more_all : IdleMore t u e (λ n. list_any (is_asked n) nodes) → IdleMore u v e (λ n. is_asked n c)
-      → IdleMore t v e (λ n. list_any (is_asked n) nodes)
-  more_all first then = more_join t u v e (λ n. is_asked n c) (λ n. list_any (is_asked n) nodes)
-      (λ n asks. asked_of_one n nodes i c at_it low asks) first then
-
-  -- one node of a cover more is where its examiner isn't idle
-  pub less_next : IdleLess t u e (λ n. list_any (is_asked n) (take i nodes)) → IdleLess u v e (λ n. is_asked n c)
-      → IdleLess t v e (λ n. list_any (is_asked n) (take (i + 1) nodes))
-  less_next first then = less_join t u v e (λ n. list_any (is_asked n) (take i nodes)) (λ n. is_asked n c)
-      (λ n. list_any (is_asked n) (take (i + 1) nodes)) (λ n. list_parts nodes i c n at_it low) first then

@@ -5,10 +5,13 @@ pub mod AccessLaws
 pub mod TableLaws
 pub mod SectionLaws
 pub mod HomeLaws
-pub mod TwoShelves
 pub mod IdleLaws
-pub mod FamilyLaws
+pub mod NumberLaws
+pub mod SpotLaws
 pub mod WayLaws
+pub mod WalkLaws
+pub mod DoneLaws
+pub mod Shelves
 pub mod BookLaws
 pub mod GiveBack
 pub mod Granted

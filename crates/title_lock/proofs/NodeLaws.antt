@@ -1,10 +1,9 @@
 -- Nodes: the test of sameness is equality, and what lies above a node is its parent and what lies above that.
-use Rattle.std.proofs.Common.{◌≡◌, ◌∙◌, ◌+◌, ◌<◌, ◌≤◌, ◌||◌, ℕ, suc, true, false, List}
+use Rattle.std.proofs.Common.{◌≡◌, ◌+◌, ◌<◌, ◌≤◌, ℕ, suc, true, false, List}
 use Rattle.std.proofs.Common.{[], ◌∷◌, ◌++◌, length, Some, refl, sym, ap, subst, arith, inl}
 use Rattle.std.proofs.Common.{inr}
 use Rattle.std.specs.List.{list_any}
-use Rattle.std.proofs.lemmas.Bool.{or_cases, or_parts, false_from_ne_true, both_ways}
-use Rattle.std.proofs.lemmas.List.Folds.{list_any-append}
+use Rattle.std.proofs.lemmas.Bool.{or_cases, false_from_ne_true, both_ways}
 use Rattle.title_land.specs.declared.place.Section.{Section}
 use Rattle.title_land.specs.declared.rectangle.Quarter.{Quarter}
 use Rattle.title_land.specs.declared.node.Node.{Node}
@@ -12,7 +11,6 @@ use Rattle.title_land.specs.declared.node.Node.TheVariants as node
 use Rattle.title_land.specs.Nodes.{same_node, parent_of, above_in, above, is_above}
 use Rattle.title_land.specs.Laws.SameNode.{same_node-is, same_node-self}
 use Rattle.title_land.specs.Laws.CoverSet.{above_by_parent}
-use Rattle.title_lock.specs.Tables.{shelf_above, shelf_parent, is_shelf_above}
 
 pub same_self : (n : Node) → same_node n n ≡ true
 same_self n = same_node-self n
@@ -72,25 +70,3 @@ above_apart n c h =
     false_from_ne_true (is_above n c)
     (λ up. let lt = higher_any (length (above c)) n (above c) (above_higher c) up in
     let e : length (above n) ≡ length (above c) = ap (λ (z : Node). length (above z)) (same_true n c h) in omega (arith, lt, e))
-
--- ---- on one shelf
-
--- above a node on its shelf lie its parent there and the nodes above that
-pub shelf_above_of : (p c : Node) → Some c ≡ shelf_parent p → shelf_above p ≡ c ∷ shelf_above c
-shelf_above_of node.Everything c h = absurd cc
-shelf_above_of (node.Township t) c h = let e : c ≡ node.Everything = cc in rw e refl
-shelf_above_of (node.Part s []) c h = absurd cc
-shelf_above_of (node.Part s (q ∷ w)) c h = let e : c ≡ node.Part s w = cc in rw e refl
-
--- what lies above a square on its shelf lies above it
-pub shelf_of_above : (n : Node) (s : Section) (w : List Quarter) → is_above n (node.Part s w)
-    ≡ (is_shelf_above n (node.Part s w) || list_any (same_node n) (node.Township s.township ∷ node.Everything ∷ []))
-shelf_of_above n s w = list_any-append (same_node n) (above_in s w) (node.Township s.township ∷ node.Everything ∷ [])
-
--- a node doesn't lie above itself there either
-pub shelf_above_apart : (n c : Node) → same_node n c ≡ true → is_shelf_above n c ≡ false
-shelf_above_apart n node.Everything h = refl
-shelf_above_apart n (node.Township t) h = above_apart n (node.Township t) h
-shelf_above_apart n (node.Part s w) h =
-    (or_parts (is_shelf_above n (node.Part s w)) (list_any (same_node n) (node.Township s.township ∷ node.Everything ∷ []))
-    (sym (shelf_of_above n s w) ∙ above_apart n (node.Part s w) h)).0

@@ -1,24 +1,20 @@
 -- Tables of locks, one place changed at a time.
-use Rattle.std.proofs.Common.{◌≡◌, ◌<◌, ◌+◌, ℕ, Bool, true, false, cond, ◌&&◌, List, [], ◌∷◌, Option, Some, None, length, get_or, not}
-use Rattle.std.proofs.Common.{take, suc, eqb, refl, sym, ap, subst, ◌∙◌}
-use Rattle.std.proofs.Common.{◌||◌, zero, inl, inr, arith, true≢false}
-use Rattle.std.proofs.lemmas.Bool.{eqb-true, or_cases, or_left, or_right}
-use Rattle.std.proofs.lemmas.List.Folds.{list_any_more}
+use Rattle.std.proofs.Common.{◌≡◌, ℕ, Bool, true, false, cond, ◌&&◌, [], Option, Some, None, length, not}
+use Rattle.std.proofs.Common.{eqb, refl, sym, ap, subst, ◌∙◌}
+use Rattle.std.proofs.Common.{◌||◌, true≢false}
+use Rattle.std.proofs.lemmas.Bool.{eqb-true, or_left}
 use Rattle.std.specs.Prelude.{IsSome}
-use Rattle.std.specs.List.{list_any}
 use Rattle.std.specs.Ordering.{nat_cmp}
 use Rattle.std.specs.BTreeMap.{BTreeMap, get, is_at}
 use Rattle.std.proofs.lemmas.List.{nil_from_length}
 use Rattle.title_land.specs.declared.node.Node.{Node}
-use Rattle.title_land.specs.declared.node.Node.TheVariants as node
 use Rattle.title_land.specs.Nodes.{same_node}
 use Rattle.title_lock.specs.declared.modes.Mode.{Mode}
 use Rattle.title_lock.specs.Modes.{bound}
 use Rattle.title_lock.specs.Holders.{Modes, holder_mode, is_free}
-use Rattle.title_lock.specs.Tables.{place_at, mode_in, room_in, idle_in, unused_in, Placed, table_room, HasRoom, is_asked}
-use Rattle.title_lock.specs.Tables.{shelf_parent, is_shelf_above, is_shelf_asked}
+use Rattle.title_lock.specs.Tables.{place_at, mode_in, room_in, idle_in, unused_in}
 use Rattle.title_lock.proofs.ModeLaws.{and_true, bound_none}
-use Rattle.title_lock.proofs.NodeLaws.{same_self, same_true, shelf_above_of}
+use Rattle.title_lock.proofs.NodeLaws.{same_true}
 use Rattle.title_land.specs.NodeNumbers.{node_number}
 use Rattle.title_land.specs.Laws.NodeNumbers.{numbered_at}
 use Rattle.title_lock.proofs.Overlap.{and_none}
@@ -176,60 +172,3 @@ free_none h free e = let none : h ≡ [] = nil_from_length h (eqb-true (length h
 -- what a borrowed place was found with
 pub is_found : (v : Modes) (o : Option Modes) → Some v ≡ o → IsSome o
 is_found v o h = subst (λ (z : Option Modes). IsSome z) h refl
-
--- ---- room at many nodes
-
--- room above a node is room at its parent and above that
-pub room_above_parent : (t : Placed) (e : ℕ) (p c : Node) → Some c ≡ shelf_parent p → table_room t e c ≡ true
-    → HasRoom t e (λ n. is_shelf_above n c)
-    → HasRoom t e (λ n. is_shelf_above n p)
-room_above_parent t e p c h here above_it n up =
-    elim (or_cases (same_node n c) (is_shelf_above n c) (ap (λ (z : List Node). list_any (same_node n) z) (sym (shelf_above_of p c h))
-    ∙ up)) [
-      | inl same ↦ subst (λ (z : Node). table_room t e z ≡ true) (sym (same_true n c same)) here
-      | inr more ↦ above_it n more
-    ]
-
--- the parent of a node lies above it
-pub parent_above : (p c : Node) → Some c ≡ shelf_parent p → is_shelf_above c p ≡ true
-parent_above p c h = ap (list_any (same_node c)) (shelf_above_of p c h) ∙ or_left (same_node c c) (is_shelf_above c c) (same_self c)
-
--- what lies above the parent lies above the node
-pub above_parent : (p c n : Node) → Some c ≡ shelf_parent p → is_shelf_above n c ≡ true → is_shelf_above n p ≡ true
-above_parent p c n h up = ap (list_any (same_node n)) (shelf_above_of p c h) ∙ or_right (same_node n c) (is_shelf_above n c) up
-
--- no node lies above the whole
-pub none_above_whole : (p n : Node) → None ≡ shelf_parent p → is_shelf_above n p ≡ true → ⊥
-none_above_whole node.Everything n h up = cc
-none_above_whole (node.Township t) n h up = cc
-none_above_whole (node.Part s []) n h up = cc
-none_above_whole (node.Part s (q ∷ w)) n h up = cc
-
--- room for what is asked for one node is room at it and above it
-pub room_for : (t : Placed) (e : ℕ) (c : Node) → table_room t e c ≡ true → HasRoom t e (λ n. is_shelf_above n c)
-    → HasRoom t e (λ n. is_shelf_asked n c)
-room_for t e c here above_it n asks = elim (or_cases (same_node n c) (is_shelf_above n c) asks) [
-  | inl same ↦ subst (λ (z : Node). table_room t e z ≡ true) (sym (same_true n c same)) here
-  | inr more ↦ above_it n more
-]
-
--- room for what is asked for a list's first nodes, and for the next
-pub room_more : (t : Placed) (e : ℕ) (nodes : List Node) (i : ℕ) (c : Node) → c ≡ get_or nodes i c → i < length nodes
-    → HasRoom t e (λ n. is_asked n c) → HasRoom t e (λ n. list_any (is_asked n) (take i nodes))
-    → HasRoom t e (λ n. list_any (is_asked n) (take (i + 1) nodes))
-room_more t e nodes i c at_it low here before n asks =
-    elim (or_cases (list_any (is_asked n) (take i nodes)) (is_asked n c)
-    (ap (λ (x : Node). list_any (is_asked n) (take i nodes) || is_asked n x) at_it ∙ sym (list_any_more
-    (is_asked n) nodes i c low) ∙ asks)) [
-      | inl less ↦ before n less
-      | inr one ↦ here n one
-    ]
-
--- what is asked for a node of a list is asked for the list
-pub asked_of_one : (n : Node) (nodes : List Node) (i : ℕ) (c : Node) → c ≡ get_or nodes i c → i < length nodes → is_asked n c ≡ true
-    → list_any (is_asked n) nodes ≡ true
-asked_of_one n [] i c at_it low h = absurd (let none : ⊥ = omega (arith, low) in none)
-asked_of_one n (x ∷ nodes) zero c at_it low h =
-    or_left (is_asked n x) (list_any (is_asked n) nodes) (ap (is_asked n) (sym at_it) ∙ h)
-asked_of_one n (x ∷ nodes) (suc i) c at_it low h =
-    or_right (is_asked n x) (list_any (is_asked n) nodes) (asked_of_one n nodes i c at_it (omega (arith, low)) h)

@@ -1,5 +1,5 @@
 -- What a table of locks says of who is in the way is what the entries say.
-use Rattle.std.proofs.Common.{◌≡◌, ℕ, Bool, true, false, cond, ◌||◌, List, [], ◌∷◌, Option, Some, None, refl, sym, ap, subst, ◌∙◌, inl, inr}
+use Rattle.std.proofs.Common.{◌≡◌, ℕ, Bool, true, false, cond, List, [], ◌∷◌, Option, Some, None, refl, sym, ap, subst, ◌∙◌, inl, inr}
 use Rattle.std.proofs.lemmas.Bool.{or_parts, or_cases, or_from, or_left, or_right, false_from_ne_true, both_ways, cond_both, not-false}
 use Rattle.std.proofs.lemmas.Bool.{not_from_true}
 use Rattle.std.specs.List.{list_any}
@@ -13,19 +13,10 @@ use Rattle.title_lock.specs.Modes.{allows}
 use Rattle.title_lock.specs.Overlaps.{IsLeast, against}
 use Rattle.title_lock.specs.Asking.{own_mode, above_mode, asked_for, asked}
 use Rattle.title_lock.specs.Holders.{clashes}
-use Rattle.title_lock.specs.Tables.{Placed, table_mode, clashes_above, clashes_for, clashes_with, shelf_parent, shelf_above, TableIs}
-use Rattle.title_lock.proofs.NodeLaws.{same_self, same_true, shelf_above_of, above_apart}
+use Rattle.title_lock.specs.Tables.{Placed, table_mode, clashes_above, clashes_for, clashes_with, TableIs}
+use Rattle.title_lock.proofs.NodeLaws.{same_self, same_true, above_apart}
 use Rattle.title_lock.proofs.LeastLaws.{least_same}
 use Rattle.title_lock.proofs.Overlap.{MeetByCovers, Allow, allow_bound, allow_parts, entries_fit, entries_clear}
-
--- ---- all nodes of an access
-
--- in the way at a node or above it is in the way above its child
-pub least_above_child : (table : Placed) (e : ℕ) (m : Mode) (p c : Node) (w : Option ℕ) → Some c ≡ shelf_parent p →
-    IsLeast (λ f. clashes m (table_mode table f c) || clashes_above m (λ n. table_mode table f n) (shelf_above c)) e w
-    → IsLeast (λ f. clashes_above m (λ n. table_mode table f n) (shelf_above p)) e w
-least_above_child table e m p c w h joined =
-    subst (λ (nodes : List Node). IsLeast (λ f. clashes_above m (λ n. table_mode table f n) nodes) e w) (sym (shelf_above_of p c h)) joined
 
 -- ---- in the way exactly where the modes don't stand beside each other
 
@@ -77,13 +68,13 @@ clear_for p held c fit =
     ∙ fit c))
 
 -- the same for a whole cover
-fits_all : (p : Bool) (held : Node → Option Mode) (t : List Node) → clashes_with p held t ≡ false → Allow (asked p t) held
+pub fits_all : (p : Bool) (held : Node → Option Mode) (t : List Node) → clashes_with p held t ≡ false → Allow (asked p t) held
 fits_all p held [] h = λ n. refl
 fits_all p held (c ∷ t) h =
     let k = or_parts (clashes_for p held c) (clashes_with p held t) h in
     allow_bound (asked_for p c) (asked p t) held (fits_for p held c k.0) (fits_all p held t k.1)
 
-clear_all : (p : Bool) (held : Node → Option Mode) (t : List Node) → Allow (asked p t) held → clashes_with p held t ≡ false
+pub clear_all : (p : Bool) (held : Node → Option Mode) (t : List Node) → Allow (asked p t) held → clashes_with p held t ≡ false
 clear_all p held [] fit = refl
 clear_all p held (c ∷ t) fit =
     let k = allow_parts (asked_for p c) (asked p t) held fit in
@@ -92,7 +83,7 @@ clear_all p held (c ∷ t) fit =
 -- ---- the table and entries
 
 -- two tests that fail together are one
-same_when_false : (a b : Bool) → (a ≡ false → b ≡ false) → (b ≡ false → a ≡ false) → a ≡ b
+pub same_when_false : (a b : Bool) → (a ≡ false → b ≡ false) → (b ≡ false → a ≡ false) → a ≡ b
 same_when_false true true h k = refl
 same_when_false true false h k = k refl
 same_when_false false true h k = sym (h refl)

@@ -4,7 +4,8 @@ pub mod Asking
 pub mod Standing
 pub mod Counts
 pub mod Holders
-pub mod Families
 pub mod Tables
+pub mod Spots
+pub mod Walks
 pub mod Books
 pub mod Locks

@@ -1,11 +1,9 @@
 -- What a table of locks says: who holds each node, and who is in the way of an access by these modes.
-use Rattle.std.specs.Prelude.{ℕ, ◌≡◌, ◌≢◌, ◌==◌, Bool, true, false, ◌&&◌, ◌||◌, not, List, [], ◌∷◌, length, if◌then◌else◌}
+use Rattle.std.specs.Prelude.{ℕ, ◌≡◌, ◌≢◌, ◌==◌, Bool, true, false, ◌&&◌, ◌||◌, not, List, [], ◌∷◌, length}
 use Rattle.std.specs.Prelude.{Option, Some, None, is_some, IfSome}
 use Rattle.std.specs.List.{list_any}
 use Rattle.std.specs.Ordering.{nat_cmp}
 use Rattle.std.specs.BTreeMap.{BTreeMap, get}
-use Rattle.title_land.specs.declared.place.Section.{Section}
-use Rattle.title_land.specs.declared.rectangle.Quarter.{Quarter}
 use Rattle.title_land.specs.declared.node.Node.{Node}
 use Rattle.title_land.specs.declared.node.Node.TheVariants as node
 use Rattle.title_land.specs.Nodes.{same_node, above, above_in, is_above}
@@ -15,7 +13,7 @@ use Rattle.title_lock.specs.declared.shelf.Shelf.{Shelf}
 use Rattle.title_lock.specs.declared.table.Table.{Table}
 use Rattle.title_lock.specs.declared.guards.Entry.{Entry}
 use Rattle.title_land.specs.NodeNumbers.{node_number, section_number}
-use Rattle.title_lock.specs.Modes.{allows, bound}
+use Rattle.title_lock.specs.Modes.{allows}
 use Rattle.title_lock.specs.Asking.{own_mode, above_mode, mode_at, AreSized}
 use Rattle.title_lock.specs.Holders.{Modes, holder_mode, has_room, idles, is_free, clashes}
 
@@ -66,10 +64,6 @@ clashes_above m held nodes = list_any (λ n. clashes m (held n)) nodes
 abbrev pub clashes_for : Bool → (Node → Option Mode) → Node → Bool
 clashes_for post held c = clashes_above (above_mode post) held (above c) || clashes (own_mode post) (held c)
 
--- the same, where what is asked above c is left out if it is known
-abbrev pub clashes_next : Bool → Bool → (Node → Option Mode) → Node → Bool
-clashes_next post known held c = (not known && clashes_above (above_mode post) held (above c)) || clashes (own_mode post) (held c)
-
 -- what an access asks for clashes somewhere
 abbrev pub clashes_with : Bool → (Node → Option Mode) → List Node → Bool
 clashes_with post held cover = list_any (clashes_for post held) cover
@@ -82,18 +76,11 @@ shelf_above node.Everything = []
 shelf_above (node.Township t) = node.Everything ∷ []
 shelf_above (node.Part s w) = above_in s w
 
-abbrev pub is_shelf_above : Node → Node → Bool
-is_shelf_above a b = list_any (same_node a) (shelf_above b)
-
--- a square of a section, on that section's shelf
-abbrev pub StandsIn : Node → ℕ → Node → Type 0
-StandsIn n home township =
-    (s : Section) × (w : List Quarter) × (n ≡ node.Part s w) × (home ≡ section_number s) × (township ≡ node.Township s.township)
-
-abbrev pub is_square : Node → Bool
-is_square node.Everything = false
-is_square (node.Township t) = false
-is_square (node.Part s w) = true
+-- the nodes above a node that don't stand on its shelf, the nearest first
+abbrev pub upper_above : Node → List Node
+upper_above node.Everything = []
+upper_above (node.Township t) = []
+upper_above (node.Part s w) = node.Township s.township ∷ node.Everything ∷ []
 
 -- the node above, where it stands on the same shelf
 abbrev pub shelf_parent : Node → Option Node
@@ -101,30 +88,6 @@ shelf_parent node.Everything = None
 shelf_parent (node.Township t) = Some node.Everything
 shelf_parent (node.Part s []) = None
 shelf_parent (node.Part s (q ∷ w)) = Some (node.Part s w)
-
--- what an access asks at n for the node c of its cover, where n is on its shelf
-abbrev pub shelf_asked_for : Bool → Node → Node → Option Mode
-shelf_asked_for post c n =
-    if same_node n c then Some (own_mode post) else (if is_shelf_above n c then Some (above_mode post) else None)
-
-abbrev pub is_shelf_asked : Node → Node → Bool
-is_shelf_asked n c = same_node n c || is_shelf_above n c
-
--- an access asks something at n of the upper shelf for a square of a section in township t, where that isn't known
-abbrev pub asks_upper : Bool → Node → Node → Bool
-asks_upper known t n = not known && is_shelf_asked n t
-
--- what an access asks for the node c of its cover clashes at c or above it on its shelf
-abbrev pub shelf_clashes_for : Bool → (Node → Option Mode) → Node → Bool
-shelf_clashes_for post held c = clashes_above (above_mode post) held (shelf_above c) || clashes (own_mode post) (held c)
-
-abbrev pub shelf_clashes_next : Bool → Bool → (Node → Option Mode) → Node → Bool
-shelf_clashes_next post known held c =
-    (not known && clashes_above (above_mode post) held (shelf_above c)) || clashes (own_mode post) (held c)
-
--- one mode clashes at c or above it on its shelf
-abbrev pub clashes_from : Mode → (Node → Option Mode) → Node → Bool
-clashes_from m held c = clashes m (held c) || clashes_above m held (shelf_above c)
 
 -- ---- room
 
@@ -161,16 +124,6 @@ pub record IdleMore (old : Placed) (new : Placed) (e : ℕ) (asks : Node → Boo
 -- exactly those are idle who were, but for examiner e at nodes that pass a test
 pub record IdleLess (old : Placed) (new : Placed) (e : ℕ) (asks : Node → Bool) : Type 0 where
   pub less : (f : ℕ) (n : Node) → is_idle new f n ≡ (is_idle old f n && not (f == e && asks n))
-
--- examiner e has mode m or more at each node that passes a test, and isn't idle there
-pub record IsRaised (t : Placed) (e : ℕ) (m : Mode) (asks : Node → Bool) : Type 0 where
-  pub more : (n : Node) → asks n ≡ true → bound (table_mode t e n) (Some m) ≡ table_mode t e n
-  pub busy : (n : Node) → asks n ≡ true → is_idle t e n ≡ false
-
--- examiner e isn't idle at any node that passes a test, and has no mode there where modes are taken out
-pub record IsTakenOut (t : Placed) (e : ℕ) (modes : Bool) (asks : Node → Bool) : Type 0 where
-  pub none : (n : Node) → asks n ≡ true → modes ≡ true → table_mode t e n ≡ None
-  pub busy : (n : Node) → asks n ≡ true → is_idle t e n ≡ false
 
 -- nobody is idle but who was
 pub record NoMoreIdle (old : Placed) (new : Placed) : Type 0 where

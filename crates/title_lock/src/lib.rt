@@ -16,6 +16,7 @@ mod shelf;
 mod spots;
 mod spread_locks;
 mod table;
+mod walks;
 
 pub use guards::{Access, Entry, Guards, LockFault};
 pub use modes::{Mode, compat, sup};

@@ -1,88 +1,94 @@
-//! Nodes with their numbers, by which a table of locks finds them.
+//! Nodes by their numbers, as a table of locks finds them.
 
-ghost use Rattle.std.specs.Prelude.{◌≡◌, false, Some, None, MatchOption};
-ghost use Rattle.title_land.specs.Nodes.{parent_of};
-ghost use Rattle.title_land.specs.NodeNumbers.{node_number};
-ghost use Rattle.title_lock.specs.Families.{family, same_family};
-ghost use Rattle.title_lock.specs.Tables.{is_square, shelf_parent, StandsIn};
+ghost use Rattle.std.specs.Prelude.{◌≡◌, [], ◌∷◌, Some, None, MatchOption};
+ghost use Rattle.title_land.specs.Nodes.{parent_of, is_above};
+ghost use Rattle.title_lock.specs.Spots.{IsNumber, number_prop, is_square};
+ghost use Rattle.title_lock.specs.Tables.{home_of, shelf_above, upper_above, shelf_parent};
 
 use title_land::{Node, number_above};
 
-// Where the numbers of sections begin. A square's number is its path's, which is 1 for the section itself, times this, and its
-// section's own, which is below this.
-const FIRST_SECTION: u64 = 4_194_304;
-
-// Where the numbers of a section's quarters, and of their parts, begin.
-const FIRST_QUARTER: u64 = 16_777_216;
-
-/// A node with its number.
+/// A node, by its number.
 #[derive(Clone, Copy)]
 pub(crate) struct Spot {
-    pub(crate) node: Node,
     pub(crate) number: u64,
-    ghost numbered: { number ≡ node_number node },
+    ghost is: { IsNumber number } by { number_prop number },
 }
 
 impl Spot {
-    /// A node, with its number.
-    pub(crate) fn of(node: &Node) -> Spot
-        ensures of { result.node ≡ node.now }
+    // The node with this number.
+    fn numbered(number: u64) -> Spot
+        requires number { IsNumber number }
+        ensures number { result.number ≡ number }
     {
-        Spot {
-            node: *node,
-            number: node.number(),
-        }
+        Spot { number }
     }
 
-    /// The node above, whose number comes from this one's; `None` for the whole plant alone.
-    pub(crate) fn parent(&self) -> Option<Spot>
-        ensures parent { MatchOption result (None ≡ parent_of self.now.node) (λ p. Some p.node ≡ parent_of self.now.node) }
+    /// A node, by its number.
+    pub(crate) fn of(node: &Node) -> Spot
+        ensures of { result.is.node ≡ node.now }
     {
-        let node = self.node.parent()?;
-        Some(Spot {
-            node,
-            number: number_above(self.number),
-        })
+        Spot::numbered(node.number())
+    }
+
+    /// The node above; `None` for the whole plant alone.
+    pub(crate) fn parent(&self) -> Option<Spot>
+        ensures parent { MatchOption result (None ≡ parent_of self.now.is.node) (λ p. Some p.is.node ≡ parent_of self.now.is.node) }
+    {
+        if self.number == 0 {
+            return None;
+        }
+        Some(Spot::numbered(number_above(self.number)))
+    }
+
+    // Whether it is a square of a section: by the layout of numbers, those begin at 4_194_304.
+    fn is_square(&self) -> bool
+        ensures square { result ≡ is_square self.now.is.node }
+    {
+        self.number >= 4_194_304
     }
 
     /// The node above, where it stands on the same shelf; `None` for the plant and for a section.
     pub(crate) fn shelf_parent(&self) -> Option<Spot>
-        ensures parent { MatchOption result (None ≡ shelf_parent self.now.node) (λ p. Some p.node ≡ shelf_parent self.now.node) }
+        ensures parent { MatchOption result (None ≡ shelf_parent self.now.is.node)
+            (λ p. Some p.is.node ≡ shelf_parent self.now.is.node) }
     {
-        if self.number >= FIRST_SECTION && self.number < FIRST_QUARTER {
+        let parent = self.parent()?;
+        if parent.is_square() != self.is_square() {
             return None;
         }
-        self.parent()
+        Some(parent)
     }
 
-    /// The number of a square's section, and its township; `None` for the plant and a township.
-    pub(crate) fn section(&self) -> Option<(u64, Spot)>
-        ensures section { MatchOption result (is_square self.now.node ≡ false) (λ p. StandsIn self.now.node p.0 p.1.node) }
+    /// The number of a square's section, its own without the square's part; `None` for the plant and a township.
+    pub(crate) fn home(&self) -> Option<u64>
+        ensures home { result ≡ home_of self.now.is.node }
     {
-        let Node::Part(section, _) = self.node else {
-            return None;
-        };
-        let township = Node::Township(section.township);
-        Some((self.number % FIRST_SECTION, Spot::of(&township)))
-    }
-
-    /// The number of the node above a square; `None` for the plant and a township.
-    pub(crate) fn family(&self) -> Option<u64>
-        ensures family { result ≡ family self.now.number }
-    {
-        if self.number < FIRST_SECTION {
+        if !self.is_square() {
             return None;
         }
-        Some(number_above(self.number))
+        Some(self.number % 4_194_304)
     }
-}
 
-/// Whether two nodes are squares with all nodes above them in common, by their families.
-pub(crate) fn is_same_family(last: Option<u64>, family: Option<u64>) -> bool
-    ensures same { result ≡ same_family last family }
-{
-    match (last, family) {
-        (Some(a), Some(b)) => a == b,
-        _ => false,
+    /// A square's township; `None` for the plant and a township.
+    pub(crate) fn township(&self) -> Option<Spot>
+        ensures township { MatchOption result (upper_above self.now.is.node ≡ [])
+            (λ t. upper_above self.now.is.node ≡ t.is.node ∷ shelf_above t.is.node) }
+    {
+        let home = self.home()?;
+        Some(Spot::numbered(home / 64 * 64))
+    }
+
+    /// Whether it lies above another node.
+    pub(crate) fn is_above(&self, other: &Spot) -> bool
+        ensures above { result ≡ is_above self.now.is.node other.now.is.node }
+    {
+        if other.number <= self.number {
+            return false;
+        }
+        let mut number = other.number;
+        while number > self.number {
+            number = number_above(number);
+        }
+        number == self.number
     }
 }

@@ -15,36 +15,36 @@ use Rattle.title_lock.proofs.shelf.Shelf.make_room.Goals as goal
 pub returns-in-Some-clause-modes : goal.returns-in-Some-clause-modes
 returns-in-Some-clause-modes c f =
     let w = c.make_room.new.self in
-    let code = c.args.spot.now.numbered in
+    let code = c.args.spot.now.is.numbered in
     let found = c.in-Some.ensures.value in
-    let had = node_finds c.args.self.now.places c.args.spot.now.number c.args.spot.now.node (Some c.in-Some.place.now) code found in
-    let writes = node_writes c.args.self.now.places (c.get_mut.follows.lender w) c.args.spot.now.number c.args.spot.now.node (Some w) code
-    ((c.get_mut.follows.holds w).3 (is_found _ _ found)).0 in
-    same_everywhere c.args.self.now.places (c.get_mut.follows.lender w) c.args.spot.now.node (Some w)
+    let had = node_finds c.args.self.now.places c.args.spot.now.number c.args.spot.now.is.node (Some c.in-Some.place.now) code found in
+    let writes = node_writes c.args.self.now.places (c.get_mut.follows.lender w) c.args.spot.now.number c.args.spot.now.is.node (Some w)
+    code ((c.get_mut.follows.holds w).3 (is_found _ _ found)).0 in
+    same_everywhere c.args.self.now.places (c.get_mut.follows.lender w) c.args.spot.now.is.node (Some w)
     writes (mode_in f) (c.make_room.ensures.modes f ∙ ap (mode_in f) had)
 
 pub returns-in-Some-clause-stays : goal.returns-in-Some-clause-stays
 returns-in-Some-clause-stays c e =
     let w = c.make_room.new.self in
-    let code = c.args.spot.now.numbered in
+    let code = c.args.spot.now.is.numbered in
     let found = c.in-Some.ensures.value in
-    let had = node_finds c.args.self.now.places c.args.spot.now.number c.args.spot.now.node (Some c.in-Some.place.now) code found in
-    let writes = node_writes c.args.self.now.places (c.get_mut.follows.lender w) c.args.spot.now.number c.args.spot.now.node (Some w) code
-    ((c.get_mut.follows.holds w).3 (is_found _ _ found)).0 in
-    room_stays c.args.self.now.places (c.get_mut.follows.lender w) c.args.spot.now.node (Some w)
+    let had = node_finds c.args.self.now.places c.args.spot.now.number c.args.spot.now.is.node (Some c.in-Some.place.now) code found in
+    let writes = node_writes c.args.self.now.places (c.get_mut.follows.lender w) c.args.spot.now.number c.args.spot.now.is.node (Some w)
+    code ((c.get_mut.follows.holds w).3 (is_found _ _ found)).0 in
+    room_stays c.args.self.now.places (c.get_mut.follows.lender w) c.args.spot.now.is.node (Some w)
     writes e
     (λ h. c.make_room.ensures.stays e (ap (room_in e) had ∙ h))
 
 pub returns-clause-modes : goal.returns-clause-modes
 returns-clause-modes c f =
     let v = c.make_room-2.new.self in
-    let code = c.args.spot.now.numbered in
-    let none = node_finds c.args.self.now.places c.args.spot.now.number c.args.spot.now.node None code c.in_default.ensures.value in
-    let writes = node_writes c.args.self.now.places c.insert.new.self c.args.spot.now.number c.args.spot.now.node (Some v) code
+    let code = c.args.spot.now.is.numbered in
+    let none = node_finds c.args.self.now.places c.args.spot.now.number c.args.spot.now.is.node None code c.in_default.ensures.value in
+    let writes = node_writes c.args.self.now.places c.insert.new.self c.args.spot.now.number c.args.spot.now.is.node (Some v) code
     (subst (λ (m : Places). (q : ℕ) → get nat_cmp c.insert.new.self q
     ≡ cond (is_at (nat_cmp c.args.spot.now.number) q) (Some v) (get nat_cmp m q))
     c.get_mut.follows.holds-at-none c.in_ok-insert.ensures.updates.0) in
-    same_everywhere c.args.self.now.places c.insert.new.self c.args.spot.now.node (Some v)
+    same_everywhere c.args.self.now.places c.insert.new.self c.args.spot.now.is.node (Some v)
     writes
     (mode_in f)
     (c.make_room-2.ensures.modes f ∙ c.new-place.ensures.free f ∙ ap (mode_in f) none)
@@ -52,13 +52,13 @@ returns-clause-modes c f =
 pub returns-clause-stays : goal.returns-clause-stays
 returns-clause-stays c e =
     let v = c.make_room-2.new.self in
-    let code = c.args.spot.now.numbered in
-    let none = node_finds c.args.self.now.places c.args.spot.now.number c.args.spot.now.node None code c.in_default.ensures.value in
-    let writes = node_writes c.args.self.now.places c.insert.new.self c.args.spot.now.number c.args.spot.now.node (Some v) code
+    let code = c.args.spot.now.is.numbered in
+    let none = node_finds c.args.self.now.places c.args.spot.now.number c.args.spot.now.is.node None code c.in_default.ensures.value in
+    let writes = node_writes c.args.self.now.places c.insert.new.self c.args.spot.now.number c.args.spot.now.is.node (Some v) code
     (subst (λ (m : Places). (q : ℕ) → get nat_cmp c.insert.new.self q
     ≡ cond (is_at (nat_cmp c.args.spot.now.number) q) (Some v) (get nat_cmp m q))
     c.get_mut.follows.holds-at-none c.in_ok-insert.ensures.updates.0) in
-    room_stays c.args.self.now.places c.insert.new.self c.args.spot.now.node (Some v)
+    room_stays c.args.self.now.places c.insert.new.self c.args.spot.now.is.node (Some v)
     writes e
     (λ h. absurd (true≢false (sym h ∙ ap (room_in e) (sym none))))
 
@@ -67,13 +67,13 @@ returns-in-Some-clause-idle c =
     let e = c.args.examiner in
     let h = c.in-Some.place.now in
     let w = c.make_room.new.self in
-    let code = c.args.spot.now.numbered in
+    let code = c.args.spot.now.is.numbered in
     let found = c.in-Some.ensures.value in
-    let had = node_finds c.args.self.now.places c.args.spot.now.number c.args.spot.now.node (Some c.in-Some.place.now) code found in
-    let writes = node_writes c.args.self.now.places (c.get_mut.follows.lender w) c.args.spot.now.number c.args.spot.now.node (Some w) code
-    ((c.get_mut.follows.holds w).3 (is_found _ _ found)).0 in
+    let had = node_finds c.args.self.now.places c.args.spot.now.number c.args.spot.now.is.node (Some c.in-Some.place.now) code found in
+    let writes = node_writes c.args.self.now.places (c.get_mut.follows.lender w) c.args.spot.now.number c.args.spot.now.is.node (Some w)
+    code ((c.get_mut.follows.holds w).3 (is_found _ _ found)).0 in
     record {
-      more = λ f. idle_more c.args.self.now.places (c.get_mut.follows.lender w) c.args.spot.now.node (Some w)
+      more = λ f. idle_more c.args.self.now.places (c.get_mut.follows.lender w) c.args.spot.now.is.node (Some w)
           writes (eqb f e) f
           (λ idle. ap (λ o. idle_in f o || eqb f e) (sym had)
           ∙ idles_more h w f e (c.make_room.ensures.modes f) (c.make_room.ensures.others f) idle);
@@ -82,13 +82,13 @@ returns-in-Some-clause-idle c =
 pub returns-in-Some-clause-used : goal.returns-in-Some-clause-used
 returns-in-Some-clause-used c used =
     let w = c.make_room.new.self in
-    let code = c.args.spot.now.numbered in
+    let code = c.args.spot.now.is.numbered in
     let found = c.in-Some.ensures.value in
-    let had = node_finds c.args.self.now.places c.args.spot.now.number c.args.spot.now.node (Some c.in-Some.place.now) code found in
-    let writes = node_writes c.args.self.now.places (c.get_mut.follows.lender w) c.args.spot.now.number c.args.spot.now.node (Some w) code
-    ((c.get_mut.follows.holds w).3 (is_found _ _ found)).0 in
+    let had = node_finds c.args.self.now.places c.args.spot.now.number c.args.spot.now.is.node (Some c.in-Some.place.now) code found in
+    let writes = node_writes c.args.self.now.places (c.get_mut.follows.lender w) c.args.spot.now.number c.args.spot.now.is.node (Some w)
+    code ((c.get_mut.follows.holds w).3 (is_found _ _ found)).0 in
     record {
-      each = used_after c.args.self.now.places (c.get_mut.follows.lender w) c.args.spot.now.node (Some w)
+      each = used_after c.args.self.now.places (c.get_mut.follows.lender w) c.args.spot.now.is.node (Some w)
           writes
           (λ here. rooms_used c.in-Some.place.now w c.make_room.ensures.stays (ap unused_in had ∙ here)) used.each;
     }
@@ -97,14 +97,14 @@ pub returns-clause-idle : goal.returns-clause-idle
 returns-clause-idle c =
     let e = c.args.examiner in
     let v = c.make_room-2.new.self in
-    let code = c.args.spot.now.numbered in
-    let none = node_finds c.args.self.now.places c.args.spot.now.number c.args.spot.now.node None code c.in_default.ensures.value in
-    let writes = node_writes c.args.self.now.places c.insert.new.self c.args.spot.now.number c.args.spot.now.node (Some v) code
+    let code = c.args.spot.now.is.numbered in
+    let none = node_finds c.args.self.now.places c.args.spot.now.number c.args.spot.now.is.node None code c.in_default.ensures.value in
+    let writes = node_writes c.args.self.now.places c.insert.new.self c.args.spot.now.number c.args.spot.now.is.node (Some v) code
     (subst (λ (m : Places). (q : ℕ) → get nat_cmp c.insert.new.self q
     ≡ cond (is_at (nat_cmp c.args.spot.now.number) q) (Some v) (get nat_cmp m q))
     c.get_mut.follows.holds-at-none c.in_ok-insert.ensures.updates.0) in
     record {
-      more = λ f. idle_more c.args.self.now.places c.insert.new.self c.args.spot.now.node (Some v)
+      more = λ f. idle_more c.args.self.now.places c.insert.new.self c.args.spot.now.is.node (Some v)
           writes (eqb f e) f
           (λ idle. ap (λ o. idle_in f o || eqb f e) (sym none)
           ∙ idles_first c.new-place.result v f e (c.new-place.ensures.rooms f) (c.make_room-2.ensures.modes f)
@@ -114,14 +114,14 @@ returns-clause-idle c =
 pub returns-clause-used : goal.returns-clause-used
 returns-clause-used c used =
     let v = c.make_room-2.new.self in
-    let code = c.args.spot.now.numbered in
-    let none = node_finds c.args.self.now.places c.args.spot.now.number c.args.spot.now.node None code c.in_default.ensures.value in
-    let writes = node_writes c.args.self.now.places c.insert.new.self c.args.spot.now.number c.args.spot.now.node (Some v) code
+    let code = c.args.spot.now.is.numbered in
+    let none = node_finds c.args.self.now.places c.args.spot.now.number c.args.spot.now.is.node None code c.in_default.ensures.value in
+    let writes = node_writes c.args.self.now.places c.insert.new.self c.args.spot.now.number c.args.spot.now.is.node (Some v) code
     (subst (λ (m : Places). (q : ℕ) → get nat_cmp c.insert.new.self q
     ≡ cond (is_at (nat_cmp c.args.spot.now.number) q) (Some v) (get nat_cmp m q))
     c.get_mut.follows.holds-at-none c.in_ok-insert.ensures.updates.0) in
     record {
-      each = used_after c.args.self.now.places c.insert.new.self c.args.spot.now.node (Some v)
+      each = used_after c.args.self.now.places c.insert.new.self c.args.spot.now.is.node (Some v)
           writes
           (λ here. room_used v c.args.examiner c.in_ok-make_room.ensures.room) used.each;
     }
@@ -142,22 +142,23 @@ returns-in_err-insert-clause-used c used = record {
 pub returns-in-Some-clause-homes : goal.returns-in-Some-clause-homes
 returns-in-Some-clause-homes c homes =
     let w = c.make_room.new.self in
-    let k = c.args.spot.now.node in
+    let k = c.args.spot.now.is.node in
     record {
       each = home_after (home_of k) c.args.self.now.places (c.get_mut.follows.lender w) c.args.spot.now.number (Some w)
-          ((c.get_mut.follows.holds w).3 (is_found _ _ c.in-Some.ensures.value)).0 (λ some. (k, refl, c.args.spot.now.numbered)) homes.each;
+          ((c.get_mut.follows.holds w).3 (is_found _ _ c.in-Some.ensures.value)).0 (λ some. (k, refl, c.args.spot.now.is.numbered))
+          homes.each;
     }
 
 pub returns-clause-homes : goal.returns-clause-homes
 returns-clause-homes c homes =
     let v = c.make_room-2.new.self in
-    let k = c.args.spot.now.node in
+    let k = c.args.spot.now.is.node in
     record {
       each = home_after (home_of k) c.args.self.now.places c.insert.new.self c.args.spot.now.number (Some v)
           (subst (λ (m : Places). (q : ℕ) → get nat_cmp c.insert.new.self q
           ≡ cond (is_at (nat_cmp c.args.spot.now.number) q) (Some v) (get nat_cmp m q))
           c.get_mut.follows.holds-at-none c.in_ok-insert.ensures.updates.0)
-          (λ some. (k, refl, c.args.spot.now.numbered)) homes.each;
+          (λ some. (k, refl, c.args.spot.now.is.numbered)) homes.each;
     }
 
 pub returns-in_err-make_room-clause-homes : goal.returns-in_err-make_room-clause-homes

@@ -12,24 +12,24 @@ pub returns-in-Some-clause-modes : goal.returns-in-Some-clause-modes
 returns-in-Some-clause-modes c f =
     let e = c.args.examiner in
     let w = c.raise.new.self in
-    let code = c.args.spot.now.numbered in
+    let code = c.args.spot.now.is.numbered in
     let found = c.in-Some.ensures.value in
-    let had = node_finds c.args.self.now.places c.args.spot.now.number c.args.spot.now.node (Some c.in-Some.place.now) code found in
-    let writes = node_writes c.args.self.now.places (c.get_mut.follows.lender w) c.args.spot.now.number c.args.spot.now.node (Some w) code
-    ((c.get_mut.follows.holds w).3 (is_found _ _ found)).0 in
-    raised c.args.self.now.places (c.get_mut.follows.lender w) c.args.spot.now.node (Some w) writes
+    let had = node_finds c.args.self.now.places c.args.spot.now.number c.args.spot.now.is.node (Some c.in-Some.place.now) code found in
+    let writes = node_writes c.args.self.now.places (c.get_mut.follows.lender w) c.args.spot.now.number c.args.spot.now.is.node (Some w)
+    code ((c.get_mut.follows.holds w).3 (is_found _ _ found)).0 in
+    raised c.args.self.now.places (c.get_mut.follows.lender w) c.args.spot.now.is.node (Some w) writes
     e f c.args.mode
     (c.raise.ensures.modes f ∙ ap (λ (o : Option Modes). bound (mode_in f o) (cond (eqb f e) (Some c.args.mode) None)) had)
 
 pub returns-in-Some-clause-stays : goal.returns-in-Some-clause-stays
 returns-in-Some-clause-stays c f =
     let w = c.raise.new.self in
-    let code = c.args.spot.now.numbered in
+    let code = c.args.spot.now.is.numbered in
     let found = c.in-Some.ensures.value in
-    let had = node_finds c.args.self.now.places c.args.spot.now.number c.args.spot.now.node (Some c.in-Some.place.now) code found in
-    let writes = node_writes c.args.self.now.places (c.get_mut.follows.lender w) c.args.spot.now.number c.args.spot.now.node (Some w) code
-    ((c.get_mut.follows.holds w).3 (is_found _ _ found)).0 in
-    room_stays c.args.self.now.places (c.get_mut.follows.lender w) c.args.spot.now.node (Some w)
+    let had = node_finds c.args.self.now.places c.args.spot.now.number c.args.spot.now.is.node (Some c.in-Some.place.now) code found in
+    let writes = node_writes c.args.self.now.places (c.get_mut.follows.lender w) c.args.spot.now.number c.args.spot.now.is.node (Some w)
+    code ((c.get_mut.follows.holds w).3 (is_found _ _ found)).0 in
+    room_stays c.args.self.now.places (c.get_mut.follows.lender w) c.args.spot.now.is.node (Some w)
     writes f
     (λ h. c.raise.ensures.rooms f ∙ ap (room_in f) had ∙ h)
 
@@ -38,13 +38,13 @@ returns-in-Some-clause-idle c =
     let e = c.args.examiner in
     let h = c.in-Some.place.now in
     let w = c.raise.new.self in
-    let code = c.args.spot.now.numbered in
+    let code = c.args.spot.now.is.numbered in
     let found = c.in-Some.ensures.value in
-    let had = node_finds c.args.self.now.places c.args.spot.now.number c.args.spot.now.node (Some c.in-Some.place.now) code found in
-    let writes = node_writes c.args.self.now.places (c.get_mut.follows.lender w) c.args.spot.now.number c.args.spot.now.node (Some w) code
-    ((c.get_mut.follows.holds w).3 (is_found _ _ found)).0 in
+    let had = node_finds c.args.self.now.places c.args.spot.now.number c.args.spot.now.is.node (Some c.in-Some.place.now) code found in
+    let writes = node_writes c.args.self.now.places (c.get_mut.follows.lender w) c.args.spot.now.number c.args.spot.now.is.node (Some w)
+    code ((c.get_mut.follows.holds w).3 (is_found _ _ found)).0 in
     record {
-      less = λ f. idle_less c.args.self.now.places (c.get_mut.follows.lender w) c.args.spot.now.node (Some w)
+      less = λ f. idle_less c.args.self.now.places (c.get_mut.follows.lender w) c.args.spot.now.is.node (Some w)
           writes (eqb f e) f
           (idles_raised h w f e c.args.mode (c.raise.ensures.modes f) (c.raise.ensures.rooms f)
           ∙ ap (λ (o : Option Modes). idle_in f o && not (eqb f e)) had);
@@ -53,13 +53,13 @@ returns-in-Some-clause-idle c =
 pub returns-in-Some-clause-used : goal.returns-in-Some-clause-used
 returns-in-Some-clause-used c used =
     let w = c.raise.new.self in
-    let code = c.args.spot.now.numbered in
+    let code = c.args.spot.now.is.numbered in
     let found = c.in-Some.ensures.value in
-    let had = node_finds c.args.self.now.places c.args.spot.now.number c.args.spot.now.node (Some c.in-Some.place.now) code found in
-    let writes = node_writes c.args.self.now.places (c.get_mut.follows.lender w) c.args.spot.now.number c.args.spot.now.node (Some w) code
-    ((c.get_mut.follows.holds w).3 (is_found _ _ found)).0 in
+    let had = node_finds c.args.self.now.places c.args.spot.now.number c.args.spot.now.is.node (Some c.in-Some.place.now) code found in
+    let writes = node_writes c.args.self.now.places (c.get_mut.follows.lender w) c.args.spot.now.number c.args.spot.now.is.node (Some w)
+    code ((c.get_mut.follows.holds w).3 (is_found _ _ found)).0 in
     record {
-      each = used_after c.args.self.now.places (c.get_mut.follows.lender w) c.args.spot.now.node (Some w)
+      each = used_after c.args.self.now.places (c.get_mut.follows.lender w) c.args.spot.now.is.node (Some w)
           writes
           (λ here. rooms_used c.in-Some.place.now w (λ f room. c.raise.ensures.rooms f ∙ room) (ap unused_in had ∙ here)) used.each;
     }

@@ -16,8 +16,9 @@ use Rattle.title_lock.proofs.shelf.Shelf.take_out.Goals as goal
 pub returns-in_default : goal.returns-in_default
 returns-in_default c =
     let e = c.args.examiner in
-    let k = c.args.spot.now.node in
-    let none = sym (node_finds c.args.self.now.places c.args.spot.now.number k None c.args.spot.now.numbered c.in_default.ensures.value) in
+    let k = c.args.spot.now.is.node in
+    let code = c.args.spot.now.is.numbered in
+    let none = sym (node_finds c.args.self.now.places c.args.spot.now.number k None code c.in_default.ensures.value) in
     let now = c.get_mut.follows.holds-at-none in
     let m = c.args.self.now.places in
     record {
@@ -35,10 +36,10 @@ returns-in_default c =
 pub returns-then-take_out : goal.returns-then-take_out
 returns-then-take_out c =
     let e = c.args.examiner in
-    let k = c.args.spot.now.node in
+    let k = c.args.spot.now.is.node in
     let h = c.in-Some.place.now in
     let w = c.take_out.new.self in
-    let code = c.args.spot.now.numbered in
+    let code = c.args.spot.now.is.numbered in
     let m = c.args.self.now.places in
     let mid = c.get_mut.follows.lender w in
     let found = c.in-Some.ensures.value in
@@ -76,10 +77,10 @@ returns-then-take_out c =
 pub returns-else-take_out : goal.returns-else-take_out
 returns-else-take_out c =
     let e = c.args.examiner in
-    let k = c.args.spot.now.node in
+    let k = c.args.spot.now.is.node in
     let h = c.in-Some.place.now in
     let w = c.take_out.new.self in
-    let code = c.args.spot.now.numbered in
+    let code = c.args.spot.now.is.numbered in
     let m = c.args.self.now.places in
     let mid = c.get_mut.follows.lender w in
     let found = c.in-Some.ensures.value in

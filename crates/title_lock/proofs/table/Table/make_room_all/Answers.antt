@@ -1,69 +1,69 @@
--- Room for one node of the cover more, and those before keep theirs.
-use Rattle.std.proofs.Common.{ap, ℕ, Option, true≢false, ◌≡◌, get_or, sym, ◌<◌, ◌∙◌, subst, refl, List, length, arith}
+-- One climb more.
+use Rattle.std.proofs.Common.{◌∙◌, List, None, subst}
 use Rattle.std.specs.List.{list_any}
-use Rattle.std.proofs.lemmas.List.{take_all}
-use Rattle.title_land.specs.declared.node.Node.{Node}
-use Rattle.std.proofs.lemmas.Bool.{or_right}
-use Rattle.title_land.specs.Nodes.{same_node, is_above}
-use Rattle.title_lock.specs.Families.{family, same_family}
-use Rattle.title_land.specs.NodeNumbers.{node_number}
-use Rattle.title_lock.specs.Tables.{placed}
-use Rattle.title_lock.proofs.FamilyLaws.{above_too}
-use Rattle.title_lock.specs.Tables.{is_asked, HasRoom}
-use Rattle.title_lock.proofs.TableLaws.{room_more}
-use Rattle.title_lock.proofs.IdleLaws.{more_same, more_all}
+use Rattle.title_lock.specs.Tables.{placed, is_asked, HasRoom}
+use Rattle.title_lock.specs.Walks.{Asked, asks_in, walk, climb_asks, walk_left, Roomed}
+use Rattle.title_lock.proofs.WalkLaws.{walk_shorter, walk_asks_in}
+use Rattle.title_lock.proofs.DoneLaws.{roomed_then, roomed_same, rooms_then, room_last, more_is}
 use Rattle.title_lock.proofs.table.Table.make_room_all.Goals as goal
 
-pub loop-node-init : goal.loop-node-init
-loop-node-init c = record {
-  modes = λ f n. refl;
-  room = λ n asks. absurd cc;
-  idle = more_same (placed c.args.self.now) c.args.examiner (λ n. list_any (is_asked n) c.args.cover.now);
-  known = λ n same m up. absurd (true≢false (sym same));
+pub loop-climb-init : goal.loop-climb-init
+loop-climb-init c = record {
+  does = λ v. subst (λ (z : List Asked). Roomed (placed c.args.self.now) v c.args.examiner z) c.of-walk.ensures.of;
+  room = λ v keeps. subst (λ (z : List Asked). HasRoom v c.args.examiner (asks_in z)) c.of-walk.ensures.of;
   used = λ used. used;
 }
 
-pub loop-node-preserved : goal.loop-node-preserved
-loop-node-preserved c =
-    let low : c.loop-node.node-index < length c.args.cover.now = omega arith in
-    let nodes = c.args.cover.now in
-    let i = c.loop-node.node-index in
-    let k = c.of-spot.result.node in
-    let at_it : k ≡ get_or nodes i k = subst (λ (z : Node). z ≡ get_or nodes i z) (sym c.of-spot.ensures.of) c.node-item.is in
-    let fam : c.family-family.result ≡ family (node_number k) = c.family-family.ensures.family ∙ ap family c.of-spot.result.numbered in
+pub loop-climb-preserved : goal.loop-climb-preserved
+loop-climb-preserved c =
+    let e = c.args.examiner in
+    let t = placed c.loop-climb.self in
+    let u = placed c.make_room_along.new.self in
+    let one = climb_asks c.in-Some.climb in
+    let rest = walk_left c.next.new.self in
+    let whole = walk None c.args.cover.now in
+    let made = c.make_room_along.ensures in
     record {
-      modes = λ f n. c.make_room_next.ensures.modes f n ∙ c.loop-node.invariant.modes f n;
-      room = room_more (placed c.make_room_next.new.self) c.args.examiner c.args.cover.now c.loop-node.node-index
-          k at_it low
-          c.in_ok-make_room_next.ensures.room
-          (λ n asks. c.make_room_next.ensures.stays c.args.examiner n (c.loop-node.invariant.room n asks));
-      idle = more_all c.args.cover.now c.loop-node.node-index k at_it low c.loop-node.invariant.idle
-          c.make_room_next.ensures.idle;
-      known = λ n same m up. c.in_ok-make_room_next.ensures.room m
-          (or_right (same_node m k) (is_above m k) (above_too k n m
-          (ap (λ (z : Option ℕ). same_family z (family (node_number n))) (sym fam) ∙ same) up));
-      used = λ used. c.make_room_next.ensures.used (c.loop-node.invariant.used used);
+      does = roomed_then t e one rest c.in-Some.ensures.next (placed c.args.self.now) u whole c.loop-climb.invariant.does made.roomed;
+      room = rooms_then t e one rest c.in-Some.ensures.next u whole c.loop-climb.invariant.room made.roomed.stays
+          c.in_ok-make_room_along.ensures.room;
+      used = λ used. made.used (c.loop-climb.invariant.used used);
     }
 
-pub returns-clause-room : goal.returns-clause-room
-returns-clause-room c =
-    subst (λ (nodes : List Node). HasRoom (placed c.loop-node.self) c.args.examiner (λ n. list_any (is_asked n) nodes))
-    (take_all c.loop-node.node-index c.args.cover.now (omega arith)) c.loop-node.invariant.room
+pub loop-climb-smaller : goal.loop-climb-smaller
+loop-climb-smaller c = walk_shorter (walk_left c.loop-climb.walk) c.in-Some.climb (walk_left c.next.new.self) c.in-Some.ensures.next
 
-pub returns-in_err-make_room_next-clause-idle : goal.returns-in_err-make_room_next-clause-idle
-returns-in_err-make_room_next-clause-idle c =
-    let nodes = c.args.cover.now in
-    let i = c.loop-node.node-index in
-    let k = c.of-spot.result.node in
-    let at_it : k ≡ get_or nodes i k = subst (λ (z : Node). z ≡ get_or nodes i z) (sym c.of-spot.ensures.of) c.node-item.is in
-    more_all nodes i k at_it (omega arith) c.loop-node.invariant.idle
-    c.make_room_next.ensures.idle
-
-pub make_room_next-requires : goal.make_room_next-requires
-make_room_next-requires c =
-    let k = c.of-spot.result.node in
-    let fam : c.family-family.result ≡ family (node_number k) = c.family-family.ensures.family ∙ ap family c.of-spot.result.numbered in
+pub returns : goal.returns
+returns c =
+    let e = c.args.examiner in
+    let cover = c.args.cover.now in
+    let t = placed c.args.self.now in
+    let u = placed c.loop-climb.self in
+    let left = walk_left c.loop-climb.walk in
+    let all = c.loop-climb.invariant.does u (roomed_same u e left) in
     record {
-      known = λ yes. c.loop-node.invariant.known k
-          (sym (c.is_same_family-is_known.ensures.same ∙ ap (same_family c.loop-node.last) fam) ∙ yes);
+      modes = all.modes;
+      room = λ n asks. c.loop-climb.invariant.room u (λ f m room. room) (room_last u e left c.in_default.ensures.next) n
+          (walk_asks_in cover n ∙ asks);
+      idle = more_is t u e (asks_in (walk None cover)) (λ n. list_any (is_asked n) cover) (walk_asks_in cover) all.idle;
+      used = c.loop-climb.invariant.used;
     }
+
+pub returns-in_err-make_room_along-clause-modes : goal.returns-in_err-make_room_along-clause-modes
+returns-in_err-make_room_along-clause-modes c =
+    let e = c.args.examiner in
+    let u = placed c.make_room_along.new.self in
+    let rest = walk_left c.next.new.self in
+    let all = roomed_then (placed c.loop-climb.self) e (climb_asks c.in-Some.climb) rest c.in-Some.ensures.next (placed c.args.self.now) u
+    (walk None c.args.cover.now) c.loop-climb.invariant.does c.make_room_along.ensures.roomed u (roomed_same u e rest) in
+    all.modes
+
+pub returns-in_err-make_room_along-clause-idle : goal.returns-in_err-make_room_along-clause-idle
+returns-in_err-make_room_along-clause-idle c =
+    let e = c.args.examiner in
+    let cover = c.args.cover.now in
+    let u = placed c.make_room_along.new.self in
+    let rest = walk_left c.next.new.self in
+    let all = roomed_then (placed c.loop-climb.self) e (climb_asks c.in-Some.climb) rest c.in-Some.ensures.next (placed c.args.self.now) u
+    (walk None cover) c.loop-climb.invariant.does c.make_room_along.ensures.roomed u (roomed_same u e rest) in
+    more_is (placed c.args.self.now) u e (asks_in (walk None cover)) (λ n. list_any (is_asked n) cover) (walk_asks_in cover) all.idle

@@ -1,21 +1,16 @@
--- The loop over the cover.
-use Rattle.title_land.specs.declared.node.Node.{Node}
-use Rattle.title_land.specs.Nodes.{is_above}
-use Rattle.title_lock.specs.Families.{family, same_family}
-use Rattle.title_land.specs.NodeNumbers.{node_number}
-use Rattle.std.proofs.Common.{true, ◌≡◌, ℕ, take}
-use Rattle.std.specs.List.{list_any}
-use Rattle.title_lock.specs.Tables.{table_mode, is_asked, HasRoom, IdleMore, TableUsed}
-use Rattle.title_lock.specs.Tables.{placed}
+-- Room for what is left makes room for all; nobody's mode changes, and places stay used.
+use Rattle.std.proofs.Common.{None, length}
+use Rattle.title_lock.specs.Tables.{Placed, placed, KeepsRoom, HasRoom, TableUsed}
+use Rattle.title_lock.specs.Walks.{asks_in, walk, walk_left, Roomed}
 use Rattle.title_lock.proofs.table.Table.make_room_all.Given as goal
 
--- nobody's mode changes, there is room for the nodes so far and above the last one's family, and nothing is
--- kept besides
-abbrev pub invariant-loop-node : goal.invariant-loop-node
-invariant-loop-node l = record {
-  modes : (f : ℕ) (n : Node) → table_mode (placed l.self) f n ≡ table_mode (placed l.fn.self) f n;
-  room : HasRoom (placed l.self) l.examiner (λ n. list_any (is_asked n) (take l.node-index l.cover));
-  idle : IdleMore (placed l.fn.self) (placed l.self) l.examiner (λ n. list_any (is_asked n) l.cover);
-  known : (n : Node) → same_family l.last (family (node_number n)) ≡ true → HasRoom (placed l.self) l.examiner (λ m. is_above m n);
+abbrev pub invariant-loop-climb : goal.invariant-loop-climb
+invariant-loop-climb l = record {
+  does : (v : Placed) → Roomed (placed l.self) v l.examiner (walk_left l.walk) → Roomed (placed l.fn.self) v l.examiner (walk None l.cover);
+  room : (v : Placed) → KeepsRoom (placed l.self) v → HasRoom v l.examiner (asks_in (walk_left l.walk))
+      → HasRoom v l.examiner (asks_in (walk None l.cover));
   used : TableUsed l.fn.self → TableUsed l.self;
 }
+
+abbrev pub decreases-loop-climb : goal.decreases-loop-climb
+decreases-loop-climb l = length (walk_left l.walk)

@@ -1,73 +1,58 @@
--- One node of the cover more.
-use Rattle.std.proofs.Common.{ℕ, Option, ◌≡◌, get_or, ◌<◌, ◌∙◌, ap, sym, subst, List, None, cond, eqb, length, arith}
-use Rattle.std.proofs.lemmas.List.{drop_all, take_all}
-use Rattle.std.proofs.lemmas.Grind.{common_steps}
+-- One climb more.
+use Rattle.std.proofs.Common.{◌∙◌, List, Option, None, cond, eqb, ap, sym, subst}
 use Rattle.std.specs.List.{list_any}
-use Rattle.title_land.specs.declared.node.Node.{Node}
+use Rattle.title_lock.specs.declared.modes.Mode.{Mode}
 use Rattle.title_lock.specs.Modes.{bound}
 use Rattle.title_lock.specs.Overlaps.{is_post}
-use Rattle.title_lock.specs.Asking.{asked_for, asked}
-use Rattle.title_lock.specs.Families.{family, same_family}
-use Rattle.title_land.specs.NodeNumbers.{node_number}
-use Rattle.title_lock.specs.Tables.{placed}
-use Rattle.title_lock.proofs.FamilyLaws.{raised_after}
-use Rattle.title_lock.specs.Tables.{table_mode, is_asked, IdleLess}
-use Rattle.title_lock.proofs.AccessLaws.{rest_join, rest_none}
-use Rattle.title_lock.proofs.TableLaws.{asked_of_one}
-use Rattle.title_lock.proofs.IdleLaws.{less_next}
+use Rattle.title_lock.specs.Tables.{placed, table_mode, is_asked}
+use Rattle.title_lock.specs.Walks.{Asked, asks_in, walk, climb_asks, walk_left, Raised}
+use Rattle.title_lock.proofs.WalkLaws.{walk_shorter, walk_asked, walk_asks_in}
+use Rattle.title_lock.proofs.DoneLaws.{room_now, room_then, raised_then, raised_last, less_is}
 use Rattle.title_lock.proofs.table.Table.raise_all.Goals as goal
 
-pub loop-node-preserved : goal.loop-node-preserved
-loop-node-preserved c =
-    let low : c.loop-node.node-index < length c.args.cover.now = omega arith in
+pub loop-climb-init : goal.loop-climb-init
+loop-climb-init c = record {
+  does = λ v. subst (λ (z : List Asked). Raised (placed c.args.self.now) v c.args.examiner (is_post c.args.access) z) c.of-walk.ensures.of;
+  room = λ n asks. c.requires.room n
+      (sym (walk_asks_in c.args.cover.now n) ∙ ap (λ (z : List Asked). asks_in z n) (sym c.of-walk.ensures.of) ∙ asks);
+  used = λ used. used;
+}
+
+pub raise_along-requires : goal.raise_along-requires
+raise_along-requires c = record {
+  room = room_now (placed c.loop-climb.self) c.args.examiner (climb_asks c.in-Some.climb) (walk_left c.next.new.self)
+      c.in-Some.ensures.next c.loop-climb.invariant.room;
+}
+
+pub loop-climb-preserved : goal.loop-climb-preserved
+loop-climb-preserved c =
     let e = c.args.examiner in
-    let nodes = c.args.cover.now in
-    let i = c.loop-node.node-index in
-    let k = c.of-spot.result.node in
-    let at_it : k ≡ get_or nodes i k = subst (λ (z : Node). z ≡ get_or nodes i z) (sym c.of-spot.ensures.of) c.node-item.is in
-    let fam : c.family-family.result ≡ family (node_number k) = c.family-family.ensures.family ∙ ap family c.of-spot.result.numbered in
+    let t = placed c.loop-climb.self in
+    let u = placed c.raise_along.new.self in
+    let one = climb_asks c.in-Some.climb in
+    let rest = walk_left c.next.new.self in
+    let made = c.raise_along.ensures in
     record {
-      modes = λ f n. grind (
-        arith,
-        common_steps,
-        rest_join,
-        (subst (λ (z : Node). table_mode (placed c.raise_next.new.self) f n
-            ≡ bound (table_mode (placed c.loop-node.self) f n) (cond (eqb f e) (asked_for (is_post c.args.access) z n) None))
-            c.of-spot.ensures.of
-            (c.raise_next.ensures.modes f n)),
-        c.loop-node.invariant.modes f n,
-      );
-      room = λ n asks. c.raise_next.ensures.stays e n (c.loop-node.invariant.room n asks);
-      idle = less_next c.args.cover.now c.loop-node.node-index k at_it low c.loop-node.invariant.idle
-          c.raise_next.ensures.idle;
-      known = λ n same. raised_after k (is_post c.args.access) n
-          (ap (λ (z : Option ℕ). same_family z (family (node_number n))) (sym fam) ∙ same)
-          c.raise_next.ensures.modes c.raise_next.ensures.idle;
-      used = λ used. c.raise_next.ensures.used (c.loop-node.invariant.used used);
+      does = raised_then t e one rest c.in-Some.ensures.next (placed c.args.self.now) u (is_post c.args.access)
+          (walk None c.args.cover.now) c.loop-climb.invariant.does made.raised;
+      room = room_then t e one rest c.in-Some.ensures.next u made.raised.stays c.loop-climb.invariant.room;
+      used = λ used. made.used (c.loop-climb.invariant.used used);
     }
 
-pub raise_next-requires : goal.raise_next-requires
-raise_next-requires c =
-    let nodes = c.args.cover.now in
-    let i = c.loop-node.node-index in
-    let k = c.of-spot.result.node in
-    let at_it : k ≡ get_or nodes i k = subst (λ (z : Node). z ≡ get_or nodes i z) (sym c.of-spot.ensures.of) c.node-item.is in
-    let fam : c.family-family.result ≡ family (node_number k) = c.family-family.ensures.family ∙ ap family c.of-spot.result.numbered in
-    record {
-      room = λ n asks. c.loop-node.invariant.room n (asked_of_one n nodes i k at_it (omega arith) asks);
-      known = λ yes. c.loop-node.invariant.known k
-          (sym (c.is_same_family-is_known.ensures.same ∙ ap (same_family c.loop-node.last) fam) ∙ yes);
-    }
+pub loop-climb-smaller : goal.loop-climb-smaller
+loop-climb-smaller c = walk_shorter (walk_left c.loop-climb.walk) c.in-Some.climb (walk_left c.next.new.self) c.in-Some.ensures.next
 
 pub returns : goal.returns
-returns c = record {
-  modes = λ f n. rest_none (eqb f c.args.examiner) (table_mode (placed c.loop-node.self) f n)
-      ∙ ap (λ (nodes : List Node). bound (table_mode (placed c.loop-node.self) f n)
-      (cond (eqb f c.args.examiner) (asked (is_post c.args.access) nodes n) None))
-      (sym (drop_all c.loop-node.node-index c.args.cover.now (omega arith)))
-      ∙ c.loop-node.invariant.modes f n;
-  idle = subst (λ (nodes : List Node). IdleLess (placed c.args.self.now) (placed c.loop-node.self) c.args.examiner
-      (λ n. list_any (is_asked n) nodes))
-      (take_all c.loop-node.node-index c.args.cover.now (omega arith)) c.loop-node.invariant.idle;
-  used = c.loop-node.invariant.used;
-}
+returns c =
+    let e = c.args.examiner in
+    let p = is_post c.args.access in
+    let cover = c.args.cover.now in
+    let t = placed c.args.self.now in
+    let u = placed c.loop-climb.self in
+    let all = c.loop-climb.invariant.does u (raised_last u e p (walk_left c.loop-climb.walk) c.in_default.ensures.next) in
+    record {
+      modes = λ f n. all.modes f n
+          ∙ ap (λ (z : Option Mode). bound (table_mode t f n) (cond (eqb f e) z None)) (walk_asked p cover n);
+      idle = less_is t u e (asks_in (walk None cover)) (λ n. list_any (is_asked n) cover) (walk_asks_in cover) all.idle;
+      used = c.loop-climb.invariant.used;
+    }

@@ -1,20 +1,37 @@
--- Somebody has room on the shelf, so that it isn't bare.
-use Rattle.std.proofs.Common.{subst, sym, Option}
-use Rattle.std.proofs.lemmas.Bool.{or_left}
-use Rattle.title_land.specs.Nodes.{same_node}
+-- On the shelf that stands there: there is one, since there is room on it.
+use Rattle.std.proofs.Common.{sym, subst, Option}
+use Rattle.std.specs.Ordering.{nat_cmp}
+use Rattle.std.specs.BTreeMap.{get}
 use Rattle.title_lock.specs.declared.shelf.Shelf.{Shelf}
-use Rattle.title_lock.specs.Tables.{is_shelf_above, IsStocked, HasRoom, is_shelf_asked}
-use Rattle.title_lock.proofs.NodeLaws.{same_self}
+use Rattle.title_lock.specs.Overlaps.{is_post}
+use Rattle.title_lock.specs.Tables.{on_some, IsStocked, HasRoom}
+use Rattle.title_lock.specs.Walks.{asks_in, climb_asks, Raised}
 use Rattle.title_lock.proofs.SectionLaws.{room_stocked, carried_one, is_there}
+use Rattle.title_lock.proofs.Shelves.{carried, no_room, asks_own}
 use Rattle.title_lock.proofs.table.Table.raise_on.Goals as goal
+
+pub returns-in-Some-clause-raised : goal.returns-in-Some-clause-raised
+returns-in-Some-clause-raised c =
+    let w = c.raise_along.new.self in
+    let found = c.in-Some.ensures.value in
+    carried (λ t u. Raised t u c.args.examiner (is_post c.args.access) (climb_asks c.args.climb.now))
+    (get nat_cmp c.args.self.now.sections c.args.home) (get nat_cmp (c.get_mut.follows.lender w) c.args.home) c.in-Some.shelf.now w found
+    ((c.get_mut.follows.holds w).3 (is_there _ _ found)).1 c.raise_along.ensures.raised
 
 pub returns-in-Some-clause-stocked : goal.returns-in-Some-clause-stocked
 returns-in-Some-clause-stocked c =
-    let w = c.raise_next.new.self in
-    let k = c.args.spot.now.node in
+    let w = c.raise_along.new.self in
+    let k = c.args.climb.now.spot.is.node in
     let e = c.args.examiner in
     let found = c.in-Some.ensures.value in
     let now = ((c.get_mut.follows.holds w).3 (is_there _ _ found)).1 in
-    let room = carried_one (λ q. HasRoom q e (λ n. is_shelf_asked n k)) _ c.in-Some.shelf.now found c.requires.room in
+    let room = carried_one (λ q. HasRoom q e (asks_in (climb_asks c.args.climb.now))) _ c.in-Some.shelf.now found c.requires.room in
     subst (λ (o : Option Shelf). IsStocked o) (sym now)
-    (room_stocked e w k (c.raise_next.ensures.stays e k (room k (or_left (same_node k k) (is_shelf_above k k) (same_self k)))))
+    (room_stocked e w k (c.raise_along.ensures.raised.stays e k (room k (asks_own c.args.climb.now))))
+
+pub returns-in_default-clause-raised : goal.returns-in_default-clause-raised
+returns-in_default-clause-raised c =
+    absurd (no_room c.args.examiner c.args.climb.now
+    (subst (λ (o : Option Shelf). HasRoom (on_some o) c.args.examiner (asks_in (climb_asks c.args.climb.now)))
+    (sym c.in_default.ensures.value)
+    c.requires.room))

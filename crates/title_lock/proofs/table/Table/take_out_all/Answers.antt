@@ -1,48 +1,45 @@
--- One node of the cover more.
-use Rattle.title_land.specs.declared.node.Node.{Node}
-use Rattle.std.proofs.Common.{ℕ, ◌≡◌, get_or, sym, subst, ◌<◌, ◌∙◌, ◌&&◌, ap, Bool, Option, None, cond, eqb, length, take, arith}
+-- One climb more.
+use Rattle.std.proofs.Common.{◌∙◌, ◌&&◌, Bool, List, None, cond, eqb, ap, subst}
 use Rattle.std.specs.List.{list_any}
-use Rattle.title_lock.specs.declared.modes.Mode.{Mode}
 use Rattle.title_lock.specs.Holders.{is_mode}
-use Rattle.title_lock.specs.Families.{family, same_family}
-use Rattle.title_land.specs.NodeNumbers.{node_number}
-use Rattle.title_lock.specs.Tables.{placed}
-use Rattle.title_lock.proofs.FamilyLaws.{gone_after}
-use Rattle.title_lock.specs.Tables.{table_mode, is_asked}
-use Rattle.title_lock.proofs.AccessLaws.{gone_join}
-use Rattle.title_lock.proofs.IdleLaws.{list_parts, less_next}
+use Rattle.title_lock.specs.Tables.{placed, table_mode, is_asked}
+use Rattle.title_lock.specs.Walks.{Asked, asks_in, walk, climb_asks, walk_left, TakenOut}
+use Rattle.title_lock.proofs.WalkLaws.{walk_shorter, walk_asks_in}
+use Rattle.title_lock.proofs.DoneLaws.{taken_then, taken_last, less_is}
 use Rattle.title_lock.proofs.table.Table.take_out_all.Goals as goal
 
-pub loop-node-preserved : goal.loop-node-preserved
-loop-node-preserved c =
-    let low : c.loop-node.node-index < length c.args.cover.now = omega arith in
-    let nodes = c.args.cover.now in
-    let i = c.loop-node.node-index in
-    let k = c.of-spot.result.node in
-    let at_it : k ≡ get_or nodes i k = subst (λ (z : Node). z ≡ get_or nodes i z) (sym c.of-spot.ensures.of) c.node-item.is in
-    let fam : c.family-family.result ≡ family (node_number k) = c.family-family.ensures.family ∙ ap family c.of-spot.result.numbered in
+pub loop-climb-init : goal.loop-climb-init
+loop-climb-init c = record {
+  does = λ v. subst (λ (z : List Asked). TakenOut (placed c.args.self.now) v c.args.examiner (is_mode c.args.taken) z) c.of-walk.ensures.of;
+  used = λ used. used;
+}
+
+pub loop-climb-preserved : goal.loop-climb-preserved
+loop-climb-preserved c =
+    let e = c.args.examiner in
+    let t = placed c.loop-climb.self in
+    let u = placed c.take_out_along.new.self in
+    let one = climb_asks c.in-Some.climb in
+    let rest = walk_left c.next.new.self in
     record {
-      modes = λ f n.
-          let mine = is_mode c.args.taken && eqb f c.args.examiner in
-          let old = table_mode (placed c.args.self.now) f n in
-          let first = list_any (is_asked n) (take i nodes) in
-          c.take_out_next.ensures.modes f n
-          ∙ ap (λ (r : Option Mode). cond (mine && is_asked n k) None r) (c.loop-node.invariant.modes f n)
-          ∙ gone_join mine first (is_asked n k) old
-          ∙ ap (λ (b : Bool). cond (mine && b) None old) (list_parts nodes i k n at_it low);
-      idle = less_next c.args.cover.now c.loop-node.node-index k at_it low c.loop-node.invariant.idle
-          c.take_out_next.ensures.idle;
-      known = λ n same. gone_after k (is_mode c.args.taken) n
-          (ap (λ (z : Option ℕ). same_family z (family (node_number n))) (sym fam) ∙ same)
-          c.take_out_next.ensures.modes c.take_out_next.ensures.idle;
-      used = λ used. c.take_out_next.ensures.used (c.loop-node.invariant.used used);
+      does = taken_then t e one rest c.in-Some.ensures.next (placed c.args.self.now) u (is_mode c.args.taken)
+          (walk None c.args.cover.now) c.loop-climb.invariant.does c.take_out_along.ensures.taken;
+      used = λ used. c.take_out_along.ensures.used (c.loop-climb.invariant.used used);
     }
 
-pub take_out_next-requires : goal.take_out_next-requires
-take_out_next-requires c =
-    let k = c.of-spot.result.node in
-    let fam : c.family-family.result ≡ family (node_number k) = c.family-family.ensures.family ∙ ap family c.of-spot.result.numbered in
+pub loop-climb-smaller : goal.loop-climb-smaller
+loop-climb-smaller c = walk_shorter (walk_left c.loop-climb.walk) c.in-Some.climb (walk_left c.next.new.self) c.in-Some.ensures.next
+
+pub returns : goal.returns
+returns c =
+    let e = c.args.examiner in
+    let m = is_mode c.args.taken in
+    let cover = c.args.cover.now in
+    let t = placed c.args.self.now in
+    let u = placed c.loop-climb.self in
+    let all = c.loop-climb.invariant.does u (taken_last u e m (walk_left c.loop-climb.walk) c.in_default.ensures.next) in
     record {
-      known = λ yes. c.loop-node.invariant.known k
-          (sym (c.is_same_family-is_known.ensures.same ∙ ap (same_family c.loop-node.last) fam) ∙ yes);
+      modes = λ f n. all.gone f n ∙ ap (λ (z : Bool). cond (m && eqb f e && z) None (table_mode t f n)) (walk_asks_in cover n);
+      idle = less_is t u e (asks_in (walk None cover)) (λ n. list_any (is_asked n) cover) (walk_asks_in cover) all.idle;
+      used = c.loop-climb.invariant.used;
     }

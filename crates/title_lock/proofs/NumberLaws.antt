@@ -1,0 +1,96 @@
+-- A node lies above another exactly where it is met on the way up by numbers.
+use Rattle.std.proofs.Common.{◌≡◌, ◌≢◌, ◌<◌, ◌≤◌, ◌*◌, ℕ, Bool, true, false, ◌||◌, [], ◌∷◌, List, eqb, refl, sym, ap, ◌∙◌}
+use Rattle.std.proofs.Common.{arith, inl, inr, true≢false}
+use Rattle.std.proofs.lemmas.Bool.{or_cases, or_from, or_left, false_from_ne_true, eqb-true, eqb-false}
+use Rattle.std.specs.List.{list_any}
+use Rattle.title_land.specs.declared.place.Section.{Section}
+use Rattle.title_land.specs.declared.rectangle.Quarter.{Quarter}
+use Rattle.title_land.specs.declared.node.Node.{Node}
+use Rattle.title_land.specs.declared.node.Node.TheVariants as node
+use Rattle.title_land.specs.Nodes.{same_node, is_above}
+use Rattle.title_land.specs.NodeNumbers.{township_number, node_number, number_above}
+use Rattle.title_land.specs.Laws.NodeNumbers.{township_below, numbers_tell_nodes, node_above}
+use Rattle.title_land.specs.Laws.PathNumbers.{path_positive}
+use Rattle.title_lock.proofs.NodeLaws.{same_self, same_true, above_of}
+
+-- ---- numbers fall on the way up
+
+number_is : (n c : Node) → same_node n c ≡ true → node_number n ≡ node_number c
+number_is n c same = ap node_number (same_true n c same)
+
+square_higher : (s : Section) (w : List Quarter) (n : Node) → is_above n (node.Part s w) ≡ true
+    → node_number n < node_number (node.Part s w)
+square_higher s [] n up = elim (or_cases (same_node n (node.Township s.township)) (same_node n node.Everything || false) up) [
+  | inl same ↦
+      let e : node_number n ≡ township_number s.township * 64 = number_is n (node.Township s.township) same in
+      omega (arith, e, township_below s.township)
+  | inr more ↦ elim (or_cases (same_node n node.Everything) false more) [
+    | inl same ↦ let e : node_number n ≡ 0 = number_is n node.Everything same in omega (arith, e)
+    | inr never ↦ absurd (true≢false (sym never))
+  ]
+]
+square_higher s (q ∷ w) n up = elim (or_cases (same_node n (node.Part s w)) (is_above n (node.Part s w)) up) [
+  | inl same ↦
+      let e : node_number n ≡ node_number (node.Part s w) = number_is n (node.Part s w) same in
+      omega (arith, e, path_positive w)
+  | inr more ↦ omega (arith, square_higher s w n more, path_positive w)
+]
+
+-- a node above has a lesser number
+pub above_less : (a n : Node) → is_above n a ≡ true → node_number n < node_number a
+above_less node.Everything n up = absurd cc
+above_less (node.Township t) n up = elim (or_cases (same_node n node.Everything) false up) [
+  | inl same ↦
+      let e : node_number n ≡ 0 = number_is n node.Everything same in
+      omega (arith, e, t.numbered.0)
+  | inr never ↦ absurd (true≢false (sym never))
+]
+above_less (node.Part s w) n up = square_higher s w n up
+
+-- ---- the way up from a node
+
+-- a node with this number is on the way up from node o, so that n is this one or above it exactly where it is above o
+pub record IsOnWay (n : Node) (o : Node) (k : ℕ) : Type 0 where
+  pub at : Node
+  pub numbered : k ≡ node_number at
+  pub way : (same_node n at || is_above n at) ≡ is_above n o
+
+not_same : (n a : Node) (k : ℕ) → k ≡ node_number a → k ≢ node_number n → same_node n a ≡ false
+not_same n a k is other = false_from_ne_true (same_node n a) (λ same. other (is ∙ sym (number_is n a same)))
+
+-- at first
+pub way_begins : (n o : Node) (k : ℕ) → k ≡ node_number o → node_number n < k → IsOnWay n o k
+way_begins n o k is less = record {
+  at = o;
+  numbered = is;
+  way = ap (λ (b : Bool). b || is_above n o) (not_same n o k is (λ e. omega (arith, e, less)));
+}
+
+-- one node up
+pub way_goes : (n o : Node) (k : ℕ) → node_number n < k → IsOnWay n o k → IsOnWay n o (number_above k)
+way_goes n o k less w =
+    let p = node_above w.at k w.numbered (λ e. omega (arith, e, less)) in
+    record {
+      at = p.parent;
+      numbered = p.numbered;
+      way = ap (λ (z : List Node). list_any (same_node n) z) (sym (above_of w.at p.parent p.is))
+          ∙ sym (ap (λ (b : Bool). b || is_above n w.at) (not_same n w.at k w.numbered (λ e. omega (arith, e, less))))
+          ∙ w.way;
+    }
+
+-- where numbers have come down to a node's own, it lies above exactly where they meet
+pub way_ends : (n o : Node) (k : ℕ) → k ≤ node_number n → IsOnWay n o k → eqb k (node_number n) ≡ is_above n o
+way_ends n o k low w = go (eqb k (node_number n)) refl
+  where
+    go : (b : Bool) → eqb k (node_number n) ≡ b → b ≡ is_above n o
+    go true e =
+        let same : n ≡ w.at = numbers_tell_nodes n w.at (sym (eqb-true k (node_number n) e) ∙ w.numbered) in
+        sym (or_left (same_node n n) (is_above n n) (same_self n)) ∙ ap (λ (z : Node). same_node n z || is_above n z) same ∙ w.way
+    go false e = sym (or_from (same_node n w.at) (is_above n w.at)
+        (not_same n w.at k w.numbered (eqb-false k (node_number n) e))
+        (false_from_ne_true (is_above n w.at) (λ up. let less = above_less w.at n up in
+        omega (arith, less, low, w.numbered)))) ∙ w.way
+
+-- a node whose number isn't less lies above none
+pub not_above : (n o : Node) → node_number o ≤ node_number n → false ≡ is_above n o
+not_above n o low = sym (false_from_ne_true (is_above n o) (λ up. let less = above_less o n up in omega (arith, less, low)))

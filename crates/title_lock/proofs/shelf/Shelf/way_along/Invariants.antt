@@ -1,0 +1,14 @@
+-- The least in the way so far.
+use Rattle.std.proofs.Common.{length}
+use Rattle.title_lock.specs.Overlaps.{is_post}
+use Rattle.title_lock.specs.Tables.{on_shelf, table_mode}
+use Rattle.title_lock.specs.Walks.{climb_asks, climb_left}
+use Rattle.title_lock.proofs.DoneLaws.{IsSoFar}
+use Rattle.title_lock.proofs.shelf.Shelf.way_along.Given as goal
+
+abbrev pub invariant-loop-next : goal.invariant-loop-next
+invariant-loop-next l =
+    IsSoFar (is_post l.access) (λ f n. table_mode (on_shelf l.self) f n) l.examiner (climb_asks l.climb) (climb_left l.next) l.way
+
+abbrev pub decreases-loop-next : goal.decreases-loop-next
+decreases-loop-next l = length (climb_left l.next)
