@@ -1,3 +1,3 @@
 -- Lemmas.
-pub mod Numbers
+pub mod PathNumbers
 pub mod Joins

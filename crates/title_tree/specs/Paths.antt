@@ -1,8 +1,16 @@
 -- Paths in a tree of quarters, the outermost quarter first.
-use Rattle.std.specs.Prelude.{ℕ, zero, suc, ◌/◌, ◌%◌, Bool, true, false, ◌&&◌, List, [], ◌∷◌, ◌++◌, reverse}
+use Rattle.std.specs.Prelude.{◌≡◌, ℕ, zero, suc, ◌/◌, ◌%◌, Bool, true, false, ◌&&◌, List, [], ◌∷◌, ◌++◌, reverse}
 use Rattle.title_land.specs.declared.rectangle.Quarter.{Quarter}
 use Rattle.title_land.specs.Nodes.{same_quarter}
-use Rattle.title_land.specs.Paths.{quarter_at}
+use Rattle.title_land.specs.Paths.{quarter_at, path_number, path_at}
+
+-- a path's quarters from its number: with q before the path of number n it is 4 n and the place of q
+abbrev pub quarters_of : ℕ → List Quarter
+quarters_of n = path_at n n
+
+-- it is the number of a path
+abbrev pub IsPath : ℕ → Type 0
+IsPath n = path_number (quarters_of n) ≡ n
 
 -- the path of a square that is named by its quarters, the innermost first
 abbrev pub way : List Quarter → List Quarter

@@ -4,34 +4,34 @@ ghost use Rattle.std.specs.Prelude.{◌≡◌, ◌++◌, ◌∷◌, [], true, No
 ghost use Rattle.std.specs.Option.{option_map};
 ghost use Rattle.title_tree.specs.Changes.{after};
 ghost use Rattle.title_tree.specs.Faults.{Tells};
-ghost use Rattle.title_tree.specs.Parts.{piece, ways};
+ghost use Rattle.title_tree.specs.Parts.{piece};
 ghost use Rattle.title_tree.specs.Pieces.{Disjoint, Ready, Refines, StaysWithin, paths, swapped, taken};
 ghost use Rattle.title_tree.specs.Pieces.{split_all, fresh, refusal_at, uniform_at};
 ghost use Rattle.title_tree.specs.Plots.{has_path, plot_at, graft, split, tidied_all};
 ghost use Rattle.title_tree.specs.Trees.{plot};
 
 use crate::change::{Change, Fault};
+use crate::path::Path;
 use crate::tree::{Tree, is_same};
 use std::alloc::{AllocError, Global};
-use title_land::Quarter;
 use title_share::Holding;
 
-/// A tree that stood at a path of another, the outermost quarter first, or is to stand there.
+/// A tree that stood at a path of another, or is to stand there.
 #[derive(Drop)]
 pub struct Part {
-    pub path: Vec<Quarter>,
+    pub path: Path,
     pub tree: Tree,
 }
 
 impl Part {
     /// Changes places with what stands at its path. Takes no memory.
     pub fn exchange(&mut self, root: &mut Tree)
-        requires there { has_path self.old.path.items (plot root.old) ≡ true }
+        requires there { has_path self.old.path (plot root.old) ≡ true }
         ensures path { self.new.path ≡ self.old.path }
-        ensures tree { plot self.new.tree ≡ plot_at self.old.path.items (plot root.old) }
-        ensures root { plot root.new ≡ graft self.old.path.items (plot self.old.tree) (plot root.old) }
+        ensures tree { plot self.new.tree ≡ plot_at self.old.path (plot root.old) }
+        ensures root { plot root.new ≡ graft self.old.path (plot self.old.tree) (plot root.old) }
     {
-        root.exchange(self.path.as_slice(), &mut self.tree);
+        root.exchange(self.path, &mut self.tree);
     }
 }
 
@@ -53,69 +53,63 @@ pub fn exchange_all(root: &mut Tree, parts: &mut [Part])
 pub fn add_changed<C: Change>(
     alloc: Global,
     root: &Tree,
-    paths: &[Vec<Quarter>],
+    paths: &[Path],
     change: &mut C,
     parts: &mut Vec<Part>,
 ) -> Result<(), Fault<C::Refusal>>
-    ensures none { OnOk result (refusal_at (C.effect change.old) (ways paths.now) (plot root.now) ≡ None) }
+    ensures none { OnOk result (refusal_at (C.effect change.old) paths.now (plot root.now) ≡ None) }
     ensures new { OnOk result (map piece parts.new.items ≡ map piece parts.old.items
-        ++ fresh (after (C.effect change.old)) (ways paths.now) (plot root.now)) }
-    ensures why { IfErr result (λ fault. Tells fault (refusal_at (C.effect change.old) (ways paths.now) (plot root.now))) }
+        ++ fresh (after (C.effect change.old)) paths.now (plot root.now)) }
+    ensures why { IfErr result (λ fault. Tells fault (refusal_at (C.effect change.old) paths.now (plot root.now))) }
     ensures same { C.effect change.new ≡ C.effect change.old }
 {
     let Some((path, rest)) = paths.split_first() else {
         return Ok(());
     };
-    let tree = root.at(path.as_slice()).changed(alloc, change)?;
-    push_part(alloc, parts, path.as_slice(), tree)?;
+    let tree = root.at(*path).changed(alloc, change)?;
+    push_part(parts, *path, tree)?;
     add_changed(alloc, root, rest, change, parts)
 }
 
 // Adds a part at the end.
-fn push_part(
-    alloc: Global,
-    parts: &mut Vec<Part>,
-    path: &[Quarter],
-    tree: Tree,
-) -> Result<(), AllocError>
+fn push_part(parts: &mut Vec<Part>, path: Path, tree: Tree) -> Result<(), AllocError>
     ensures parts { OnOk result (map piece parts.new.items
-        ≡ map piece parts.old.items ++ record { path = path.now; plot = plot tree } ∷ []) }
+        ≡ map piece parts.old.items ++ record { path = path; plot = plot tree } ∷ []) }
 {
-    let path = path.to_vec(alloc)?;
     parts.push(Part { path, tree })?;
     Ok(())
 }
 
 /// Quarters a tree down to each path. After `Err` it may be quartered down to some: the same cells hold the same,
 /// each node is still there, and none lies deeper than the paths.
-pub fn split_each(root: &mut Tree, alloc: Global, paths: &[Vec<Quarter>]) -> Result<(), AllocError>
-    ensures ok { OnOk result (plot root.new ≡ split_all (ways paths.now) (plot root.old)) }
+pub fn split_each(root: &mut Tree, alloc: Global, paths: &[Path]) -> Result<(), AllocError>
+    ensures ok { OnOk result (plot root.new ≡ split_all paths.now (plot root.old)) }
     ensures err { OnErr result (Refines (plot root.old) (plot root.new)) }
-    ensures err_fits { OnErr result (StaysWithin (ways paths.now) (plot root.old) (plot root.new)) }
+    ensures err_fits { OnErr result (StaysWithin paths.now (plot root.old) (plot root.new)) }
 {
     let Some((path, rest)) = paths.split_first() else {
         return Ok(());
     };
-    root.split(alloc, path.as_slice())?;
+    root.split(alloc, *path)?;
     split_each(root, alloc, rest)
 }
 
 /// Joins quarters below and above each path in turn; no cell's holding changes. Takes no memory.
-pub fn tidy_all(root: &mut Tree, paths: &[Vec<Quarter>])
-    ensures tidied { plot root.new ≡ tidied_all (ways paths.now) (plot root.old) }
+pub fn tidy_all(root: &mut Tree, paths: &[Path])
+    ensures tidied { plot root.new ≡ tidied_all paths.now (plot root.old) }
 {
     if let Some((path, rest)) = paths.split_first() {
-        root.tidy_at(path.as_slice());
+        root.tidy_at(*path);
         tidy_all(root, rest);
     }
 }
 
 /// The one holding of all leaves at some paths; `None` where two differ or there is no path.
-pub fn uniform_at<'a>(root: &'a Tree, paths: &[Vec<Quarter>]) -> Option<&'a Holding>
-    ensures uniform { option_map (λ held. held.now) result ≡ uniform_at (ways paths.now) (plot root.now) }
+pub fn uniform_at<'a>(root: &'a Tree, paths: &[Path]) -> Option<&'a Holding>
+    ensures uniform { option_map (λ held. held.now) result ≡ uniform_at paths.now (plot root.now) }
 {
     let (first, rest) = paths.split_first()?;
-    let held = root.at(first.as_slice()).uniform()?;
+    let held = root.at(*first).uniform()?;
     if rest.is_empty() {
         return Some(held);
     }

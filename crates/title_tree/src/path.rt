@@ -1,14 +1,42 @@
 //! Paths from a tree's root down, the outermost quarter first.
 
-ghost use Rattle.std.specs.Prelude.{◌≡◌, ◌<◌, ◌++◌, ◌∷◌, [], OnOk};
-ghost use Rattle.title_land.specs.Paths.{quarter_at};
+ghost use Rattle.std.specs.Prelude.{◌≡◌, ◌<◌, ◌++◌, ◌∷◌, [], IfOk, MatchOption};
+ghost use Rattle.title_land.specs.Paths.{quarter_at, quarter_number};
 ghost use Rattle.title_tree.specs.Paths.{way, number_path};
 
 use std::alloc::AllocError;
+use std::marker::Model;
 use title_land::{Quarter, Within};
 
-// The quarter at a place among the four; from the fourth on it is the last.
-fn quarter_at(place: usize) -> Quarter
+// A path with a number below this may have one quarter more.
+const LIMIT: u64 = 1 << 62;
+
+/// A path from a tree's root down to a node. A contract sees it as its quarters, the outermost first.
+#[derive(Clone, Copy)]
+pub struct Path {
+    // The empty path is 1; a path of number n with a quarter before it is 4 n and the quarter's place.
+    number: u64,
+}
+
+impl Model for Path {
+    ghost use Rattle.std.specs.Prelude.{List};
+    ghost use Rattle.title_land.specs.declared.rectangle.Quarter.{Quarter};
+    ghost use Rattle.title_land.specs.Paths.{path_number};
+    ghost use Rattle.title_tree.specs.Paths.{quarters_of, IsPath};
+
+    ghost Value = { List Quarter };
+
+    ghost view = { λ p. quarters_of p.number };
+
+    ghost invariant = { λ p. IsPath p.number };
+
+    ghost inverse = { λ quarters. record { number = path_number quarters } };
+
+    ghost inverse_ok = { λ p h. λ i. record { number = h i } };
+}
+
+/// The quarter at a place among the four; from the fourth on it is the last.
+pub fn quarter_at(place: usize) -> Quarter
     ensures quarter { result ≡ quarter_at place }
 {
     match place {
@@ -19,25 +47,73 @@ fn quarter_at(place: usize) -> Quarter
     }
 }
 
-/// Goes on to the square of this number among the 4 ^ levels that lie so many levels below, in their order.
-pub fn add_number(path: &mut Vec<Quarter>, levels: usize, number: usize) -> Result<(), AllocError>
-    ensures path { OnOk result (path.new.items ≡ path.old.items ++ number_path levels number) }
+// The place of a quarter among the four.
+fn place_of(quarter: Quarter) -> u64
+    ensures place { result ≡ quarter_number quarter }
 {
-    if levels == 0 {
-        return Ok(());
+    match quarter {
+        Quarter::Northeast => 0,
+        Quarter::Northwest => 1,
+        Quarter::Southwest => 2,
+        Quarter::Southeast => 3,
     }
-    add_number(path, levels - 1, number / 4)?;
-    path.push(quarter_at(number % 4))?;
-    Ok(())
 }
 
-/// Goes on from a section to one of its squares.
-pub fn add_square(path: &mut Vec<Quarter>, square: Within) -> Result<(), AllocError>
-    ensures path { OnOk result (path.new.items ≡ path.old.items ++ way square) }
-{
-    if let Some((which, outer)) = square.split() {
-        add_square(path, outer)?;
-        path.push(which)?;
+impl Path {
+    /// The path of the root itself.
+    pub fn root() -> Path
+        ensures root { result ≡ [] }
+    {
+        Path { number: 1 }
     }
-    Ok(())
+
+    /// The path in a quarter, from what the quarter is one of. `Err` where there are too many quarters: 31 always fit.
+    pub fn inside(self, quarter: Quarter) -> Result<Path, AllocError>
+        ensures inside { IfOk result (λ p. p ≡ quarter ∷ self) }
+    {
+        if self.number >= LIMIT {
+            return Err(AllocError);
+        }
+        Ok(Path {
+            number: self.number * 4 + place_of(quarter),
+        })
+    }
+
+    /// Its outermost quarter, and the path from there on; `None` for the root.
+    pub fn split(self) -> Option<(Quarter, Path)>
+        ensures split { MatchOption result (self ≡ []) (λ p. self ≡ p.0 ∷ p.1) }
+    {
+        if self.number < 4 {
+            return None;
+        }
+        let first = quarter_at((self.number % 4) as usize);
+        let rest = Path {
+            number: self.number / 4,
+        };
+        Some((first, rest))
+    }
+
+    /// The path in the square of this number among the 4 ^ levels that lie so many levels below a root, from that root.
+    pub fn inside_number(self, levels: usize, number: usize) -> Result<Path, AllocError>
+        ensures path { IfOk result (λ p. p ≡ number_path levels number ++ self) }
+    {
+        if levels == 0 {
+            return Ok(self);
+        }
+        let inner = self.inside(quarter_at(number % 4))?;
+        let path = inner.inside_number(levels - 1, number / 4)?;
+        Ok(path)
+    }
+
+    /// The path in a square of a section, from the section.
+    pub fn inside_square(self, square: Within) -> Result<Path, AllocError>
+        ensures path { IfOk result (λ p. p ≡ way square ++ self) }
+    {
+        let Some(parts) = square.split() else {
+            return Ok(self);
+        };
+        let inner = self.inside(parts.0)?;
+        let path = inner.inside_square(parts.1)?;
+        Ok(path)
+    }
 }

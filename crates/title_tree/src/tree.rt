@@ -1,6 +1,6 @@
 //! A square as a tree of quarters.
 
-ghost use Rattle.std.specs.Prelude.{◌≡◌, true, None, IfOk, IfErr, OnOk, OnErr};
+ghost use Rattle.std.specs.Prelude.{◌≡◌, ◌∷◌, [], true, None, IfOk, IfErr, OnOk, OnErr};
 ghost use Rattle.std.specs.Option.{option_map};
 ghost use Rattle.std.specs.Arc.{arc_value};
 ghost use Rattle.title_tree.specs.Changes.{after};
@@ -11,6 +11,7 @@ ghost use Rattle.title_tree.specs.Plots.{same_division, uniform, same_leaf, join
 ghost use Rattle.title_tree.specs.Trees.{plot};
 
 use crate::change::{Change, Fault};
+use crate::path::Path;
 use core::mem::replace_with;
 use std::alloc::{AllocError, Global};
 use std::mem;
@@ -37,8 +38,8 @@ pub struct Block {
     pub southeast: Tree,
 }
 
-// Whether the holdings are one.
-pub(crate) fn is_same(held: &Holding, other: &Holding) -> bool
+/// Whether the holdings are one.
+pub fn is_same(held: &Holding, other: &Holding) -> bool
     ensures same { result ≡ same_division held.now other.now }
 {
     held.same(other)
@@ -58,19 +59,19 @@ fn first_of(four: Box<Block>) -> Tree
 }
 
 impl Tree {
-    /// Changes places with the node at a path, the outermost quarter first. Takes no memory.
-    pub fn exchange(&mut self, path: &[Quarter], other: &mut Tree)
-        requires there { has_path path.now (plot self.old) ≡ true }
-        ensures tree { plot self.new ≡ graft path.now (plot other.old) (plot self.old) }
-        ensures other { plot other.new ≡ plot_at path.now (plot self.old) }
+    /// Changes places with the node at a path. Takes no memory.
+    pub fn exchange(&mut self, path: Path, other: &mut Tree)
+        requires there { has_path path (plot self.old) ≡ true }
+        ensures tree { plot self.new ≡ graft path (plot other.old) (plot self.old) }
+        ensures other { plot other.new ≡ plot_at path (plot self.old) }
     {
-        let Some((first, rest)) = path.split_first() else {
+        let Some((first, rest)) = path.split() else {
             mem::swap(self, other);
             return;
         };
         match self {
             Tree::Leaf(_) => unreachable!(),
-            Tree::Quarters(four) => match *first {
+            Tree::Quarters(four) => match first {
                 Quarter::Northeast => four.northeast.exchange(rest, other),
                 Quarter::Northwest => four.northwest.exchange(rest, other),
                 Quarter::Southwest => four.southwest.exchange(rest, other),
@@ -80,15 +81,15 @@ impl Tree {
     }
 
     /// The node at a path, or the leaf above it whose holding it inherits.
-    pub fn at(&self, path: &[Quarter]) -> &Tree
-        ensures at { plot result.now ≡ plot_at path.now (plot self.now) }
+    pub fn at(&self, path: Path) -> &Tree
+        ensures at { plot result.now ≡ plot_at path (plot self.now) }
     {
-        let Some((first, rest)) = path.split_first() else {
+        let Some((first, rest)) = path.split() else {
             return self;
         };
         match self {
             Tree::Leaf(_) => self,
-            Tree::Quarters(four) => match *first {
+            Tree::Quarters(four) => match first {
                 Quarter::Northeast => four.northeast.at(rest),
                 Quarter::Northwest => four.northwest.at(rest),
                 Quarter::Southwest => four.southwest.at(rest),
@@ -97,38 +98,43 @@ impl Tree {
         }
     }
 
-    /// The holding of the cell at a path. A path that ends above a cell goes on to the northeast.
-    pub fn holding(&self, path: &[Quarter]) -> &Holding
-        ensures holding { result.now ≡ value_at (plot self.now) path.now }
+    /// What stands in a quarter: its node, or the leaf whose holding it inherits.
+    pub fn quarter(&self, which: Quarter) -> &Tree
+        ensures at { plot result.now ≡ plot_at (which ∷ []) (plot self.now) }
+    {
+        match self {
+            Tree::Leaf(_) => self,
+            Tree::Quarters(four) => match which {
+                Quarter::Northeast => &four.northeast,
+                Quarter::Northwest => &four.northwest,
+                Quarter::Southwest => &four.southwest,
+                Quarter::Southeast => &four.southeast,
+            },
+        }
+    }
+
+    /// The holding of the first cell.
+    pub fn first_holding(&self) -> &Holding
+        ensures holding { result.now ≡ value_at (plot self.now) [] }
     {
         match self {
             Tree::Leaf(held) => &**held,
-            Tree::Quarters(four) => {
-                let Some((first, rest)) = path.split_first() else {
-                    return four.northeast.holding(path);
-                };
-                match *first {
-                    Quarter::Northeast => four.northeast.holding(rest),
-                    Quarter::Northwest => four.northwest.holding(rest),
-                    Quarter::Southwest => four.southwest.holding(rest),
-                    Quarter::Southeast => four.southeast.holding(rest),
-                }
-            }
+            Tree::Quarters(four) => four.northeast.first_holding(),
         }
     }
 
     // A tree of one holding, with a node of its own at a path.
-    fn split_leaf(alloc: Global, held: &Arc<Holding>, path: &[Quarter]) -> Result<Tree, AllocError>
-        ensures split { IfOk result (λ t. plot t ≡ split path.now (Same (arc_value held.now))) }
+    fn split_leaf(alloc: Global, held: &Arc<Holding>, path: Path) -> Result<Tree, AllocError>
+        ensures split { IfOk result (λ t. plot t ≡ split path (Same (arc_value held.now))) }
     {
-        let Some((first, rest)) = path.split_first() else {
+        let Some((first, rest)) = path.split() else {
             return Ok(Tree::Leaf(held.clone()?));
         };
         let inner = Tree::split_leaf(alloc, held, rest)?;
         let a = Tree::Leaf(held.clone()?);
         let b = Tree::Leaf(held.clone()?);
         let c = Tree::Leaf(held.clone()?);
-        match *first {
+        match first {
             Quarter::Northeast => Tree::quarters(alloc, inner, a, b, c),
             Quarter::Northwest => Tree::quarters(alloc, a, inner, b, c),
             Quarter::Southwest => Tree::quarters(alloc, a, b, inner, c),
@@ -137,11 +143,11 @@ impl Tree {
     }
 
     /// Quarters the tree down to a path; each quarter inherits, so no cell's holding changes. `Err` changes nothing.
-    pub fn split(&mut self, alloc: Global, path: &[Quarter]) -> Result<(), AllocError>
-        ensures ok { OnOk result (plot self.new ≡ split path.now (plot self.old)) }
+    pub fn split(&mut self, alloc: Global, path: Path) -> Result<(), AllocError>
+        ensures ok { OnOk result (plot self.new ≡ split path (plot self.old)) }
         ensures err { OnErr result (plot self.new ≡ plot self.old) }
     {
-        let Some((first, rest)) = path.split_first() else {
+        let Some((first, rest)) = path.split() else {
             return Ok(());
         };
         match self {
@@ -149,7 +155,7 @@ impl Tree {
                 *self = Tree::split_leaf(alloc, held, path)?;
                 Ok(())
             }
-            Tree::Quarters(four) => match *first {
+            Tree::Quarters(four) => match first {
                 Quarter::Northeast => four.northeast.split(alloc, rest),
                 Quarter::Northwest => four.northwest.split(alloc, rest),
                 Quarter::Southwest => four.southwest.split(alloc, rest),
@@ -311,15 +317,15 @@ impl Tree {
 
     /// Joins quarters below a path and then those above it; elsewhere nothing is looked at, so it costs what a walk of the
     /// path and of what stands there does. No cell's holding changes. Takes no memory.
-    pub fn tidy_at(&mut self, path: &[Quarter])
-        ensures tidied { plot self.new ≡ tidied_at path.now (plot self.old) }
+    pub fn tidy_at(&mut self, path: Path)
+        ensures tidied { plot self.new ≡ tidied_at path (plot self.old) }
     {
-        let Some((first, rest)) = path.split_first() else {
+        let Some((first, rest)) = path.split() else {
             self.tidy();
             return;
         };
         if let Tree::Quarters(four) = self {
-            match *first {
+            match first {
                 Quarter::Northeast => {
                     four.northeast.tidy_at(rest);
                     self.join();

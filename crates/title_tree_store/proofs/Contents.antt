@@ -16,7 +16,6 @@ use Rattle.title_instrument.specs.Owners.{opening_owners}
 use Rattle.title_store.specs.Plants.{is_cell_of}
 use Rattle.title_tree.specs.Plots.{Plot, value_at}
 use Rattle.title_tree.specs.Pieces as pieces
-use Rattle.title_tree.specs.Pieces.{Piece, Short, held, paths}
 use Rattle.title_tree_store.specs.Spots.{cell_path, tract_spots}
 use Rattle.title_tree_store.specs.Forests.{owners_at}
 use Rattle.title_tree_store.specs.Keeping.{content_of}

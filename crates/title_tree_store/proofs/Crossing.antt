@@ -1,9 +1,20 @@
--- A store may go to another thread. std's set has no lemma for an `Option`: without one the search takes it apart and breaks off.
+-- A store may go to another thread. std's set has no lemma for an `Option`, and takes parts, an enum above trees, for too long.
 use denote.Param.Send.{IsSend, sendable}
 use Rattle.std.proofs.Crossing as std
 use Rattle.std.proofs.option.Option.TheSendSync as option
 use Rattle.title_tree.proofs.tree.Tree.TheLaws.TheKnot as knot
+use Rattle.title_tree_store.proofs.forest.Written.TheSendSync as written
+use Rattle.title_tree_store.proofs.townships.Townships.TheSendSync as townships
+use Rattle.title_tree_store.specs.contracts.forest.Parts as parts
+use Rattle.title_tree_store.specs.contracts.lent.Lent as lent
 use Rattle.title_tree_store.specs.contracts.tree_store.TreeStore as store
 
+parts_send : IsSend (parts.the_field).row
+parts_send = search (knot.crosses, std.crosses, sendable) depth 60 fits 20000
+
+lent_send : IsSend lent.the_row
+lent_send = search (parts_send, knot.crosses, std.crosses, sendable) depth 60 fits 20000
+
 pub store_send : IsSend store.the_row
-store_send = search (option.the_send, knot.crosses, std.crosses, sendable) depth 60 fits 20000
+store_send = search (lent_send, option.the_send, knot.crosses, written.the_send, townships.the_send, std.crosses, sendable) depth 60
+    fits 20000

@@ -22,7 +22,7 @@ use Rattle.title_instrument.specs.declared.parts.Estate.TheVariants.{S, O, M}
 use Rattle.title_tree.specs.Paths.{way, begins}
 use Rattle.title_tree.specs.Plots.{Plot, graft, fits, tidied_all}
 use Rattle.title_tree.specs.Pieces as pieces
-use Rattle.title_tree.specs.Pieces.{In, Piece, paths, Disjoint, Ready, Short, Refines, swapped, taken, held}
+use Rattle.title_tree.specs.Pieces.{In, Piece, paths, Disjoint, Ready, Short, Refines, swapped, taken}
 use Rattle.title_tree.specs.Lendings.{Lending, Keeps, LaterClear, Clear}
 use Rattle.title_tree.specs.Laws.Beginnings.{begins_append}
 use Rattle.title_tree.specs.Laws.Uniform.{corner, length-corner}
@@ -31,7 +31,7 @@ use Rattle.title_tree.specs.Laws.Images.{keeps_less, keeps_restored, keeps_refin
 use Rattle.title_tree_store.specs.declared.lent.Lent.{Lent}
 use Rattle.title_tree_store.specs.Spots.{index_of, township_path, section_path, cell_path, township_spots, spots, tract_spots}
 use Rattle.title_tree_store.specs.Forests as forests
-use Rattle.title_tree_store.specs.Forests.{plots, tidied_written}
+use Rattle.title_tree_store.specs.Forests.{tidied_written}
 use Rattle.title_tree_store.specs.Keeping.{height, lending, loans_of, same_ways, PiecesFit, IsBacked, IsKept, Rises, IsTakenOut}
 use Rattle.title_tree_store.proofs.Paths.{has_from, begins_on, length-number_path}
 use Rattle.title_tree_store.proofs.Places.{IsDeclared, in_tract, tract_has, cover_declared, length-section_path}

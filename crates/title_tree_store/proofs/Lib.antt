@@ -2,7 +2,6 @@
 pub mod Paths
 pub mod Places
 pub mod Steps
-pub mod Noted
 pub mod Slots
 pub mod Contents
 pub mod Images

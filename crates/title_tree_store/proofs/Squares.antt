@@ -4,7 +4,7 @@ use Rattle.std.proofs.Common.{List, [], ◌∷◌, ◌++◌, length, map, append
 use Rattle.std.specs.Prelude.{nat_lt}
 use Rattle.std.specs.List.{flat_map}
 use Rattle.std.proofs.lemmas.Bool.{cases_Bool}
-use Rattle.std.proofs.lemmas.List.{append-nil, reverse-append}
+use Rattle.std.proofs.lemmas.List.{append-nil}
 use Rattle.title_land.specs.Depth.{depth}
 use Rattle.title_land.specs.declared.place.Township.{Township}
 use Rattle.title_land.specs.declared.place.Section.{Section}
@@ -25,8 +25,7 @@ use Rattle.title_store.specs.Sheets.{rows_or}
 use Rattle.title_tree.specs.Paths.{way, number_path}
 use Rattle.title_tree.specs.Plots.{Plot, Same, Four, plot_at, uniform}
 use Rattle.title_tree.specs.Pieces.{uniform_at, both_have}
-use Rattle.title_tree_store.specs.Spots.{blocks, township_path, section_path, square_path, township_spots, spots, tract_spots}
-use Rattle.title_tree_store.specs.Stems.{stem_spots}
+use Rattle.title_tree_store.specs.Spots.{index_of, blocks, township_path, section_path, square_path, township_spots}
 use Rattle.title_tree_store.specs.SquareSheets.{square_sheet, part_sheet, section_sheet, township_sheet, plant_sheet}
 use Rattle.title_tree_store.specs.TreeSheets.{tree_sheet}
 use Rattle.title_tree_store.proofs.Standing.{plot_at_join, square_down, section_down}
@@ -76,13 +75,6 @@ square_is (suc m) levels ts t (Four a b c d) e s w l h =
 
 pub join_down : (p q : List Quarter) (t x y : Plot) → x ≡ plot_at p t → y ≡ plot_at q x → y ≡ plot_at (p ++ q) t
 join_down p q t x y h k = k ∙ ap (plot_at q) h ∙ sym (plot_at_join p q t)
-
--- a square by the one around it
-pub way_down : (w v : List Quarter) (q : Quarter) (t x y : Plot) → v ≡ q ∷ w → x ≡ plot_at (way w) t → y ≡ plot_at (q ∷ []) x
-    → y ≡ plot_at (way v) t
-way_down w v q t x y e h k =
-    join_down (way w) (q ∷ []) t x y h k
-    ∙ ap (λ (p : List Quarter). plot_at p t) (sym (reverse-append (q ∷ []) w) ∙ ap way (sym e))
 
 uniform_under : (p : List Quarter) (bs : List (List Quarter)) (t x : Plot) → x ≡ plot_at p t
     → uniform_at bs x ≡ uniform_at (map (λ b. p ++ b) bs) t
@@ -180,10 +172,13 @@ parts_cover x s w rest levels ts t y e h k =
     (λ v. square_is (depth + 2) levels ts t (plot_at (way v) y) e s v (omega arith)
     (join_down (section_path levels ts s) (way v) t y (plot_at (way v) y) k refl))
 
--- the paths of a cover's nodes, from that of their section
-pub stems_cover : (x : Land) (s : Section) (w : List Quarter) (rest : List Node) (levels : ℕ) (ts : List Township) (stem : List Quarter)
-    → cover_of depth x ≡ node.Part s w ∷ rest → stem ≡ section_path levels ts s
-    → flat_map (stem_spots stem) (cover_of depth x) ≡ tract_spots levels ts x
-stems_cover x s w rest levels ts stem h k =
-    ap (λ (p : List Quarter). flat_map (stem_spots p) (cover_of depth x)) k
-    ∙ cover_same (stem_spots (section_path levels ts s)) (spots levels ts) x s w rest h (λ v. refl)
+-- the path of a square, from the inside
+pub square_from_inside : (levels : ℕ) (ts : List Township) (s : Section) (w root a b c : List Quarter) (i k : ℕ)
+    → i ≡ index_of ts s.township → k ≡ s.number - 1 → root ≡ [] → a ≡ way w ++ root → b ≡ number_path 3 k ++ a
+    → c ≡ number_path levels i ++ b → c ≡ square_path levels ts s w
+square_from_inside levels ts s w root a b c i k at number none first second third =
+    third
+    ∙ ap (λ (p : List Quarter). number_path levels i ++ p) (second ∙ ap (λ (p : List Quarter). number_path 3 k ++ p)
+    (first ∙ ap (λ (p : List Quarter). way w ++ p) none ∙ append-nil (way w)))
+    ∙ sym (append_assoc (number_path levels i) (number_path 3 k) (way w))
+    ∙ (λ o. (number_path levels (at o) ++ number_path 3 (number o)) ++ way w)

@@ -1,6 +1,7 @@
--- Steps of the code.
-use Rattle.std.proofs.Common.{◌≡◌, ◌∙◌, ap, sym, subst, ℕ}
-use Rattle.std.proofs.Common.{Bool, true, false, cond, List, [], Result, Ok, Err, OnErr}
+-- Steps of the code, and what a put wrote: it is noted for the estates that its instrument names.
+use Rattle.std.proofs.Common.{◌≡◌, ◌∙◌, ap, sym, subst, ℕ, Bool, true, false, cond}
+use Rattle.std.proofs.Common.{List, [], ◌∷◌, ◌++◌, map, Result, Ok, Err, OnOk, OnErr}
+use Rattle.std.proofs.lemmas.List.{map-append}
 use Rattle.title_land.specs.declared.rectangle.Quarter.{Quarter}
 use Rattle.title_instrument.specs.declared.parts.Estate.{Estate}
 use Rattle.title_instrument.specs.declared.instrument.Instrument.{Instrument}
@@ -8,7 +9,9 @@ use Rattle.title_instrument.specs.Estates.{names}
 use Rattle.title_instrument.specs.Parties.{estates_of}
 use Rattle.title_tree.specs.Plots.{Plot, fits}
 use Rattle.title_tree.specs.Pieces.{split_all, Short, Refines, StaysWithin}
-use Rattle.title_tree_store.specs.Forests.{named_spots}
+use Rattle.title_tree_store.specs.declared.forest.Written.{Written}
+use Rattle.title_tree_store.specs.Spots.{paths_in}
+use Rattle.title_tree_store.specs.Forests.{put_ways, named_spots}
 use Rattle.title_tree.specs.Laws.Depths.{split_all_fits}
 use Rattle.title_tree.specs.Laws.Swaps.{split_all_reaches}
 
@@ -39,3 +42,14 @@ pub split_within : {A E : Type 0} (r : Result A E) (i : Instrument ℕ) (e : Est
 split_within (Ok x) i e ps t u h = tt
 split_within (Err f) i e ps t u h =
     λ n s k. ap (fits n) h ∙ split_all_fits (named_spots i e ps) t n (named_short i e ps n s) k
+
+-- what holds anyway holds where all went well
+pub on_ok : {A E : Type 0} (r : Result A E) (P : Type 0) → P → OnOk r P
+on_ok (Ok x) P p = p
+on_ok (Err f) P p = tt
+
+pub put_noted : (i : Instrument ℕ) (old between new : List Written) (w : Written) → between ≡ old → new ≡ between ++ w ∷ [] → w.estates
+    ≡ estates_of i → (e : Estate) → map (put_ways e) new ≡ map (put_ways e) old ++ named_spots i e (paths_in w.paths) ∷ []
+put_noted i old between new w same h named e =
+    ap (map (put_ways e)) h ∙ map-append (put_ways e) between (w ∷ [])
+    ∙ (λ j. map (put_ways e) (same j) ++ cond (names (named j) e) (paths_in w.paths) [] ∷ [])

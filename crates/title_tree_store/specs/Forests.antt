@@ -13,12 +13,15 @@ use Rattle.title_tree.specs.declared.change.Fault.{Fault}
 use Rattle.title_tree.specs.Changes.{after}
 use Rattle.title_tree.specs.Faults.{Tells}
 use Rattle.title_tree.specs.Plots.{Plot, value_at, tidied_all}
-use Rattle.title_tree.specs.Parts.{piece, ways}
+use Rattle.title_tree.specs.Parts.{piece}
 use Rattle.title_tree.specs.Pieces.{Piece, fresh, refusal_at}
 use Rattle.title_tree.specs.Trees.{plot}
 use Rattle.title_tree_store.specs.declared.forest.Forest.{Forest}
 use Rattle.title_tree_store.specs.declared.forest.Subtrees.{Subtrees}
+use Rattle.title_tree_store.specs.declared.forest.Parts.{Parts}
+use Rattle.title_tree_store.specs.declared.forest.Parts.TheVariants.{Nothing, One, Many}
 use Rattle.title_tree_store.specs.declared.forest.Written.{Written}
+use Rattle.title_tree_store.specs.Spots.{paths_in}
 
 -- the plot of each estate
 abbrev pub plots : Forest → Estate → Plot
@@ -28,7 +31,7 @@ plots f M = plot f.m
 
 -- the paths at which a put wrote an estate
 abbrev pub put_ways : Estate → Written → List (List Quarter)
-put_ways e w = cond (names w.estates e) (ways w.paths.items) []
+put_ways e w = cond (names w.estates e) (paths_in w.paths) []
 
 -- the paths at which an estate was written since a forest was last tidied, put by put
 abbrev pub written : Estate → Forest → List (List (List Quarter))
@@ -39,11 +42,16 @@ abbrev pub tidied_written : List (List (List Quarter)) → Plot → Plot
 tidied_written [] t = t
 tidied_written (ps ∷ puts) t = tidied_written puts (tidied_all ps t)
 
+abbrev pub parts_in : Parts → List Piece
+parts_in Nothing = []
+parts_in (One part) = piece part ∷ []
+parts_in (Many parts) = map piece parts.items
+
 -- the parts of each estate
 abbrev pub pieces : Subtrees → Estate → List Piece
-pieces x S = map piece x.s.items
-pieces x O = map piece x.o.items
-pieces x M = map piece x.m.items
+pieces x S = parts_in x.s
+pieces x O = parts_in x.o
+pieces x M = parts_in x.m
 
 -- the owners of the cell at a path
 abbrev pub owners_at : (Estate → Plot) → List Quarter → Owners

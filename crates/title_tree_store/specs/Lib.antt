@@ -1,6 +1,6 @@
 -- The definitions that the contracts cite.
 pub mod Spots
-pub mod Stems
+pub mod TownshipTable
 pub mod Forests
 pub mod Keeping
 pub mod Slots

@@ -15,6 +15,8 @@ use Rattle.title_land.specs.Places.{same_township}
 use Rattle.title_land.specs.Lands.{cover_of}
 use Rattle.title_tree.specs.Paths.{way, number_path}
 use Rattle.title_tree.specs.CellWays.{cell_quarters}
+use Rattle.title_tree_store.specs.declared.spots.Paths.{Paths}
+use Rattle.title_tree_store.specs.declared.spots.Paths.TheVariants.{Nothing, One, Many}
 
 -- the place of a township in a list
 abbrev pub index_of : List Township → Township → ℕ
@@ -54,3 +56,9 @@ spots levels ts (node.Part s w) = square_path levels ts s w ∷ []
 -- the paths of the tree's nodes that together have a tract's cells
 abbrev pub tract_spots : ℕ → List Township → Land → List (List Quarter)
 tract_spots levels ts land = flat_map (spots levels ts) (cover_of depth land)
+
+-- paths that are kept together
+abbrev pub paths_in : Paths → List (List Quarter)
+paths_in Nothing = []
+paths_in (One path) = path ∷ []
+paths_in (Many paths) = paths.items

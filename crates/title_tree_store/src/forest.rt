@@ -1,31 +1,29 @@
 //! The trees of a plant, one for each estate.
 
-ghost use Rattle.std.specs.Prelude.{◌≡◌, ◌++◌, ◌∷◌, [], ◌&&◌, None, map, IfOk, OnOk, OnErr, IfErr};
+ghost use Rattle.std.specs.Prelude.{◌≡◌, ◌++◌, ◌∷◌, [], ◌&&◌, map, IfOk, OnOk, OnErr, IfErr};
 ghost use Rattle.title_share.specs.Division.{all_to};
-ghost use Rattle.title_instrument.specs.Effect.{holding_effect};
 ghost use Rattle.title_instrument.specs.Estates.{names};
 ghost use Rattle.title_instrument.specs.Parties.{estates_of};
 ghost use Rattle.title_instrument.specs.declared.parts.Estate.TheVariants.{S, O, M};
-ghost use Rattle.title_tree.specs.Changes.{after};
-ghost use Rattle.title_tree.specs.Parts.{piece, ways};
-ghost use Rattle.title_tree.specs.Pieces.{Disjoint, Ready, Refines, StaysWithin, paths, swapped, taken, split_all, fresh, refusal_at};
+ghost use Rattle.title_tree.specs.Pieces.{Disjoint, Ready, Refines, StaysWithin, paths, swapped, taken, split_all};
 ghost use Rattle.title_tree.specs.Plots.{Same, is_tidy, tidied_all};
 ghost use Rattle.title_tree.specs.Trees.{plot};
-ghost use Rattle.title_tree_store.specs.Forests.{plots, named_spots, put_ways, written, tidied_written, IsNoted};
+ghost use Rattle.title_tree_store.specs.Spots.{paths_in};
+ghost use Rattle.title_tree_store.specs.Forests.{parts_in, plots, named_spots, put_ways, written, tidied_written, IsNoted};
 ghost use Rattle.title_tree_store.specs.Forests.{IsChange, IsRefusedIn};
 
 use crate::passing::Passing;
+use crate::spots::Paths;
 use std::alloc::{AllocError, Global};
 use std::sync::Arc;
 use title_instrument::{Estate, Estates, Instrument, Rule};
-use title_land::Quarter;
 use title_share::Holding;
-use title_tree::{Fault, Part, Tree, add_changed, exchange_all, split_each, tidy_all};
+use title_tree::{Fault, Part, Path, Tree, add_changed, exchange_all, split_each, tidy_all};
 
 /// What a put wrote: the paths down to which it quartered the trees of some estates.
 #[derive(Drop)]
 pub(crate) struct Written {
-    pub paths: Vec<Vec<Quarter>>,
+    pub paths: Paths,
     pub estates: Estates,
 }
 
@@ -39,12 +37,36 @@ pub(crate) struct Forest {
     pub written: Vec<Written>,
 }
 
+/// Parts of an estate's tree: one alone takes no list.
+#[derive(Drop)]
+pub(crate) enum Parts {
+    Nothing,
+    One(Part),
+    Many(Vec<Part>),
+}
+
 /// Parts of each estate's tree.
 #[derive(Drop)]
 pub(crate) struct Subtrees {
-    pub s: Vec<Part>,
-    pub o: Vec<Part>,
-    pub m: Vec<Part>,
+    pub s: Parts,
+    pub o: Parts,
+    pub m: Parts,
+}
+
+impl Parts {
+    // Each part changes places with what stands at its path. Takes no memory.
+    fn exchange(&mut self, tree: &mut Tree)
+        requires disjoint { Disjoint (paths (parts_in self.old)) }
+        requires ready { Ready (paths (parts_in self.old)) (plot tree.old) }
+        ensures tree { plot tree.new ≡ swapped (parts_in self.old) (plot tree.old) }
+        ensures parts { parts_in self.new ≡ taken (parts_in self.old) (plot tree.old) }
+    {
+        match self {
+            Parts::Nothing => {}
+            Parts::One(part) => part.exchange(tree),
+            Parts::Many(parts) => exchange_all(tree, parts),
+        }
+    }
 }
 
 // A tree in which party 0 has the whole of each cell.
@@ -63,48 +85,52 @@ pub(crate) fn names(instrument: &Instrument, estate: Estate) -> bool
 }
 
 // What stands at some paths of a tree, after an instrument; nothing where it doesn't name the estate. Refused as the first
-// leaf that refuses. The list is made once nothing refuses at the first path: a refusal there takes none.
+// leaf that refuses. A list is made once nothing refuses at the first path, where there are more.
 fn changed(
     alloc: Global,
     tree: &Tree,
-    paths: &[Vec<Quarter>],
+    paths: &[Path],
     instrument: &Instrument,
     estate: Estate,
-) -> Result<Vec<Part>, Fault<Rule>>
-    ensures change { IfOk result (λ parts. IsChange instrument.now estate (ways paths.now) (plot tree.now) (map piece parts.items)) }
-    ensures why { IfErr result (IsRefusedIn instrument.now estate (ways paths.now) (plot tree.now)) }
+) -> Result<Parts, Fault<Rule>>
+    ensures change { IfOk result (λ parts. IsChange instrument.now estate paths.now (plot tree.now) (parts_in parts)) }
+    ensures why { IfErr result (IsRefusedIn instrument.now estate paths.now (plot tree.now)) }
 {
     if !names(instrument, estate) {
-        return Ok(Vec::new(alloc));
+        return Ok(Parts::Nothing);
     }
     let Some((first, rest)) = paths.split_first() else {
-        return Ok(Vec::new(alloc));
+        return Ok(Parts::Nothing);
     };
     let mut passing = Passing {
         instrument: *instrument,
         estate,
     };
-    let changed = tree.at(first.as_slice()).changed(alloc, &mut passing)?;
-    let mut parts = Vec::with_capacity(alloc, paths.len())?;
-    parts.push_reserved(Part {
-        path: first.to_vec(alloc)?,
+    let changed = tree.at(*first).changed(alloc, &mut passing)?;
+    let part = Part {
+        path: *first,
         tree: changed,
-    });
+    };
+    if rest.is_empty() {
+        return Ok(Parts::One(part));
+    }
+    let mut parts = Vec::with_capacity(alloc, paths.len())?;
+    parts.push_reserved(part);
     add_changed(alloc, tree, rest, &mut passing, &mut parts)?;
-    Ok(parts)
+    Ok(Parts::Many(parts))
 }
 
 // Quarters an estate's tree down to each path, where an instrument names the estate.
 fn split_named(
     tree: &mut Tree,
     alloc: Global,
-    paths: &[Vec<Quarter>],
+    paths: &[Path],
     instrument: &Instrument,
     estate: Estate,
 ) -> Result<(), AllocError>
-    ensures ok { OnOk result (plot tree.new ≡ split_all (named_spots instrument.now estate (ways paths.now)) (plot tree.old)) }
+    ensures ok { OnOk result (plot tree.new ≡ split_all (named_spots instrument.now estate paths.now) (plot tree.old)) }
     ensures err { OnErr result (Refines (plot tree.old) (plot tree.new)) }
-    ensures err_fits { OnErr result (StaysWithin (ways paths.now) (plot tree.old) (plot tree.new)) }
+    ensures err_fits { OnErr result (StaysWithin paths.now (plot tree.old) (plot tree.new)) }
 {
     if !names(instrument, estate) {
         return Ok(());
@@ -139,33 +165,33 @@ impl Forest {
 
     /// Each part changes places with what stands at its path. Takes no memory.
     pub(crate) fn exchange(&mut self, parts: &mut Subtrees)
-        requires s { Disjoint (paths (map piece parts.old.s.items)) × Ready (paths (map piece parts.old.s.items)) (plot self.old.s) }
-        requires o { Disjoint (paths (map piece parts.old.o.items)) × Ready (paths (map piece parts.old.o.items)) (plot self.old.o) }
-        requires m { Disjoint (paths (map piece parts.old.m.items)) × Ready (paths (map piece parts.old.m.items)) (plot self.old.m) }
-        ensures tree_s { plot self.new.s ≡ swapped (map piece parts.old.s.items) (plot self.old.s) }
-        ensures tree_o { plot self.new.o ≡ swapped (map piece parts.old.o.items) (plot self.old.o) }
-        ensures tree_m { plot self.new.m ≡ swapped (map piece parts.old.m.items) (plot self.old.m) }
-        ensures parts_s { map piece parts.new.s.items ≡ taken (map piece parts.old.s.items) (plot self.old.s) }
-        ensures parts_o { map piece parts.new.o.items ≡ taken (map piece parts.old.o.items) (plot self.old.o) }
-        ensures parts_m { map piece parts.new.m.items ≡ taken (map piece parts.old.m.items) (plot self.old.m) }
+        requires s { Disjoint (paths (parts_in parts.old.s)) × Ready (paths (parts_in parts.old.s)) (plot self.old.s) }
+        requires o { Disjoint (paths (parts_in parts.old.o)) × Ready (paths (parts_in parts.old.o)) (plot self.old.o) }
+        requires m { Disjoint (paths (parts_in parts.old.m)) × Ready (paths (parts_in parts.old.m)) (plot self.old.m) }
+        ensures tree_s { plot self.new.s ≡ swapped (parts_in parts.old.s) (plot self.old.s) }
+        ensures tree_o { plot self.new.o ≡ swapped (parts_in parts.old.o) (plot self.old.o) }
+        ensures tree_m { plot self.new.m ≡ swapped (parts_in parts.old.m) (plot self.old.m) }
+        ensures parts_s { parts_in parts.new.s ≡ taken (parts_in parts.old.s) (plot self.old.s) }
+        ensures parts_o { parts_in parts.new.o ≡ taken (parts_in parts.old.o) (plot self.old.o) }
+        ensures parts_m { parts_in parts.new.m ≡ taken (parts_in parts.old.m) (plot self.old.m) }
         ensures written { self.new.written ≡ self.old.written }
     {
-        exchange_vec(&mut self.s, &mut parts.s);
-        exchange_vec(&mut self.o, &mut parts.o);
-        exchange_vec(&mut self.m, &mut parts.m);
+        parts.s.exchange(&mut self.s);
+        parts.o.exchange(&mut self.o);
+        parts.m.exchange(&mut self.m);
     }
 
     /// What stands at some paths of the trees, after an instrument; nothing changes. Refused by a rule of some leaf.
     pub(crate) fn changed(
         &self,
         alloc: Global,
-        paths: &[Vec<Quarter>],
+        paths: &[Path],
         instrument: &Instrument,
     ) -> Result<Subtrees, Fault<Rule>>
-        ensures s { IfOk result (λ x. IsChange instrument.now S (ways paths.now) (plot self.now.s) (map piece x.s.items)) }
-        ensures o { IfOk result (λ x. IsChange instrument.now O (ways paths.now) (plot self.now.o) (map piece x.o.items)) }
-        ensures m { IfOk result (λ x. IsChange instrument.now M (ways paths.now) (plot self.now.m) (map piece x.m.items)) }
-        ensures why { IfErr result (λ f. (e : Estate) × IsRefusedIn instrument.now e (ways paths.now) (plots self.now e) f) }
+        ensures s { IfOk result (λ x. IsChange instrument.now S paths.now (plot self.now.s) (parts_in x.s)) }
+        ensures o { IfOk result (λ x. IsChange instrument.now O paths.now (plot self.now.o) (parts_in x.o)) }
+        ensures m { IfOk result (λ x. IsChange instrument.now M paths.now (plot self.now.m) (parts_in x.m)) }
+        ensures why { IfErr result (λ f. (e : Estate) × IsRefusedIn instrument.now e paths.now (plots self.now e) f) }
     {
         let s = changed(alloc, &self.s, paths, instrument, Estate::S)?;
         let o = changed(alloc, &self.o, paths, instrument, Estate::O)?;
@@ -178,18 +204,18 @@ impl Forest {
     fn split_each(
         &mut self,
         alloc: Global,
-        paths: &[Vec<Quarter>],
+        paths: &[Path],
         instrument: &Instrument,
     ) -> Result<(), AllocError>
-        ensures s { OnOk result (plot self.new.s ≡ split_all (named_spots instrument.now S (ways paths.now)) (plot self.old.s)) }
-        ensures o { OnOk result (plot self.new.o ≡ split_all (named_spots instrument.now O (ways paths.now)) (plot self.old.o)) }
-        ensures m { OnOk result (plot self.new.m ≡ split_all (named_spots instrument.now M (ways paths.now)) (plot self.old.m)) }
+        ensures s { OnOk result (plot self.new.s ≡ split_all (named_spots instrument.now S paths.now) (plot self.old.s)) }
+        ensures o { OnOk result (plot self.new.o ≡ split_all (named_spots instrument.now O paths.now) (plot self.old.o)) }
+        ensures m { OnOk result (plot self.new.m ≡ split_all (named_spots instrument.now M paths.now) (plot self.old.m)) }
         ensures err_s { OnErr result (Refines (plot self.old.s) (plot self.new.s)) }
         ensures err_o { OnErr result (Refines (plot self.old.o) (plot self.new.o)) }
         ensures err_m { OnErr result (Refines (plot self.old.m) (plot self.new.m)) }
-        ensures within_s { OnErr result (StaysWithin (ways paths.now) (plot self.old.s) (plot self.new.s)) }
-        ensures within_o { OnErr result (StaysWithin (ways paths.now) (plot self.old.o) (plot self.new.o)) }
-        ensures within_m { OnErr result (StaysWithin (ways paths.now) (plot self.old.m) (plot self.new.m)) }
+        ensures within_s { OnErr result (StaysWithin paths.now (plot self.old.s) (plot self.new.s)) }
+        ensures within_o { OnErr result (StaysWithin paths.now (plot self.old.o) (plot self.new.o)) }
+        ensures within_m { OnErr result (StaysWithin paths.now (plot self.old.m) (plot self.new.m)) }
         ensures written { self.new.written ≡ self.old.written }
     {
         split_named(&mut self.s, alloc, paths, instrument, Estate::S)?;
@@ -202,25 +228,25 @@ impl Forest {
     pub(crate) fn quarter(
         &mut self,
         alloc: Global,
-        paths: Vec<Vec<Quarter>>,
+        paths: Paths,
         instrument: &Instrument,
     ) -> Result<(), AllocError>
-        ensures s { OnOk result (plot self.new.s ≡ split_all (named_spots instrument.now S (ways paths.items)) (plot self.old.s)) }
-        ensures o { OnOk result (plot self.new.o ≡ split_all (named_spots instrument.now O (ways paths.items)) (plot self.old.o)) }
-        ensures m { OnOk result (plot self.new.m ≡ split_all (named_spots instrument.now M (ways paths.items)) (plot self.old.m)) }
+        ensures s { OnOk result (plot self.new.s ≡ split_all (named_spots instrument.now S (paths_in paths)) (plot self.old.s)) }
+        ensures o { OnOk result (plot self.new.o ≡ split_all (named_spots instrument.now O (paths_in paths)) (plot self.old.o)) }
+        ensures m { OnOk result (plot self.new.m ≡ split_all (named_spots instrument.now M (paths_in paths)) (plot self.old.m)) }
         ensures err_s { OnErr result (Refines (plot self.old.s) (plot self.new.s)) }
         ensures err_o { OnErr result (Refines (plot self.old.o) (plot self.new.o)) }
         ensures err_m { OnErr result (Refines (plot self.old.m) (plot self.new.m)) }
-        ensures within_s { OnErr result (StaysWithin (ways paths.items) (plot self.old.s) (plot self.new.s)) }
-        ensures within_o { OnErr result (StaysWithin (ways paths.items) (plot self.old.o) (plot self.new.o)) }
-        ensures within_m { OnErr result (StaysWithin (ways paths.items) (plot self.old.m) (plot self.new.m)) }
+        ensures within_s { OnErr result (StaysWithin (paths_in paths) (plot self.old.s) (plot self.new.s)) }
+        ensures within_o { OnErr result (StaysWithin (paths_in paths) (plot self.old.o) (plot self.new.o)) }
+        ensures within_m { OnErr result (StaysWithin (paths_in paths) (plot self.old.m) (plot self.new.m)) }
         ensures noted { OnOk result ((e : Estate)
-            → written e self.new ≡ written e self.old ++ named_spots instrument.now e (ways paths.items) ∷ []) }
-        ensures err_noted { OnErr result (IsNoted instrument.now (ways paths.items) self.old self.new) }
+            → written e self.new ≡ written e self.old ++ named_spots instrument.now e (paths_in paths) ∷ []) }
+        ensures err_noted { OnErr result (IsNoted instrument.now (paths_in paths) self.old self.new) }
     {
         self.written.reserve(1)?;
         let estates = instrument.estates();
-        let quartered = self.split_each(alloc, &paths, instrument);
+        let quartered = self.split_each(alloc, paths.as_slice(), instrument);
         self.written.push_reserved(Written { paths, estates });
         quartered
     }
@@ -252,7 +278,7 @@ fn tidy_put(tree: &mut Tree, put: &Written, estate: Estate)
     ensures tidied { plot tree.new ≡ tidied_all (put_ways estate put.now) (plot tree.old) }
 {
     if put.estates.has(estate) {
-        tidy_all(tree, &put.paths);
+        tidy_all(tree, put.paths.as_slice());
     }
 }
 
@@ -264,14 +290,4 @@ fn tidy_written(tree: &mut Tree, written: &[Written], estate: Estate)
         tidy_put(tree, put, estate);
         tidy_written(tree, rest, estate);
     }
-}
-
-// Each part changes places with what stands at its path.
-fn exchange_vec(tree: &mut Tree, parts: &mut Vec<Part>)
-    requires disjoint { Disjoint (paths (map piece parts.old.items)) }
-    requires ready { Ready (paths (map piece parts.old.items)) (plot tree.old) }
-    ensures tree { plot tree.new ≡ swapped (map piece parts.old.items) (plot tree.old) }
-    ensures parts { map piece parts.new.items ≡ taken (map piece parts.old.items) (plot tree.old) }
-{
-    exchange_all(tree, parts);
 }

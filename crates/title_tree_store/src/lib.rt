@@ -8,6 +8,7 @@ mod passing;
 mod refusals;
 mod sheets;
 mod spots;
+mod townships;
 pub mod tree_store;
 mod walks;
 

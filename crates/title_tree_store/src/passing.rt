@@ -1,10 +1,8 @@
 //! What an instrument does to one estate's holding, as a change of trees.
 
-ghost use Rattle.std.specs.Prelude.{◌≡◌, Ok, Err, Result, IfOk, IfErr};
+ghost use Rattle.std.specs.Prelude.{◌≡◌, Ok, Err, Result, IfOk};
 ghost use Rattle.std.specs.Arc.{arc_value};
 ghost use Rattle.title_instrument.specs.Effect.{holding_effect};
-ghost use Rattle.title_tree.specs.Changes.{why_of};
-ghost use Rattle.title_tree.specs.Faults.{Tells};
 
 use std::alloc::{AllocError, Global};
 use std::sync::Arc;

@@ -7,7 +7,6 @@ ghost use Rattle.title_land.specs.CellLists.{cells_below, section_cells, townshi
 ghost use Rattle.title_land.specs.Lands.{has, Meets, land_of, is_in_plant};
 ghost use Rattle.title_instrument.specs.Effect.{cell_effect};
 ghost use Rattle.title_instrument.specs.declared.parts.Estate.TheVariants.{S, O, M};
-ghost use Rattle.title_tree.specs.Paths.{number_path};
 ghost use Rattle.title_tree.specs.Plots.{value_at, plot_at};
 ghost use Rattle.title_tree.specs.Trees.{plot};
 ghost use Rattle.title_tree_store.specs.Spots.{township_path, square_path};
@@ -15,8 +14,9 @@ ghost use Rattle.title_tree_store.specs.Forests.{plots};
 ghost use Rattle.title_tree_store.specs.Refusing.{why_holding, why_first, is_settled, refused_at, StandsAt, first_in, first_of, triple};
 
 use crate::forest::{Forest, names};
-use crate::spots::{SECTION_LEVELS, index_of};
-use crate::walks::quarter_at;
+use crate::spots::SECTION_LEVELS;
+use crate::townships::Townships;
+use crate::walks::{numbered, township_tree};
 use title_instrument::{Estate, Instrument, Rule};
 use title_land::{Cell, DEPTH, Land, Node, Quarter, Section, Township, Tract, Within};
 use title_tree::Tree;
@@ -35,7 +35,7 @@ fn is_settled(tree: &Tree, instrument: &Instrument, estate: Estate) -> bool
 fn why_holding(tree: &Tree, instrument: &Instrument, estate: Estate) -> Option<Rule>
     ensures why { result ≡ why_holding instrument.now estate (value_at (plot tree.now) []) }
 {
-    let units = tree.holding(&[]).units(instrument.grantor());
+    let units = tree.first_holding().units(instrument.grantor());
     match instrument.passes(estate, units) {
         Ok(_) => None,
         Err(rule) => Some(rule),
@@ -58,23 +58,10 @@ impl<'a> Trees<'a> {
         ensures m { plot result.m.now ≡ plot_at (which ∷ []) (plot self.now.m.now) }
     {
         Trees {
-            s: self.s.at(&[which]),
-            o: self.o.at(&[which]),
-            m: self.m.at(&[which]),
+            s: self.s.quarter(which),
+            o: self.o.quarter(which),
+            m: self.m.quarter(which),
         }
-    }
-
-    // What stands in the square of this number among those that lie so many levels below.
-    fn numbered(&self, levels: usize, number: usize) -> Trees<'a>
-        ensures s { plot result.s.now ≡ plot_at (number_path levels number) (plot self.now.s.now) }
-        ensures o { plot result.o.now ≡ plot_at (number_path levels number) (plot self.now.o.now) }
-        ensures m { plot result.m.now ≡ plot_at (number_path levels number) (plot self.now.m.now) }
-    {
-        if levels == 0 {
-            return *self;
-        }
-        let outer = self.numbered(levels - 1, number / 4);
-        outer.quarter(quarter_at(number % 4))
     }
 
     // Whether an instrument treats all cells of the square alike, which has so many levels below it.
@@ -111,7 +98,7 @@ impl<'a> Trees<'a> {
 #[derive(Clone, Copy)]
 pub(crate) struct Search<'a> {
     pub levels: usize,
-    pub townships: &'a [Township],
+    pub townships: &'a Townships,
     pub forest: &'a Forest,
     pub tract: &'a Tract,
     pub instrument: &'a Instrument,
@@ -123,12 +110,12 @@ impl<'a> Search<'a> {
         ensures stands { StandsAt (plots self.now.forest.now) (township_path self.now.levels self.now.townships.now township)
             (plot result.s.now) (plot result.o.now) (plot result.m.now) }
     {
-        let root = Trees {
-            s: &self.forest.s,
-            o: &self.forest.o,
-            m: &self.forest.m,
-        };
-        root.numbered(self.levels, index_of(self.townships, township))
+        let (levels, townships) = (self.levels, self.townships);
+        Trees {
+            s: township_tree(&self.forest.s, levels, townships, township),
+            o: township_tree(&self.forest.o, levels, townships, township),
+            m: township_tree(&self.forest.m, levels, townships, township),
+        }
     }
 
     // Whether the tract has a cell in a square.
@@ -230,7 +217,12 @@ impl<'a> Search<'a> {
         ensures first { result ≡ first_of self.now.levels self.now.townships.now (plots self.now.forest.now) self.now.instrument.now
             self.now.tract.now (section_cells depth section) }
     {
-        let trees = township.numbered(SECTION_LEVELS, usize::from(section.number - 1));
+        let number = usize::from(section.number - 1);
+        let trees = Trees {
+            s: numbered(township.s, SECTION_LEVELS, number),
+            o: numbered(township.o, SECTION_LEVELS, number),
+            m: numbered(township.m, SECTION_LEVELS, number),
+        };
         self.first_in_square(&trees, section, DEPTH, Within::section())
     }
 
@@ -254,7 +246,8 @@ impl<'a> Search<'a> {
         ensures first { result ≡ triple (first_in self.now.levels self.now.townships.now (plots self.now.forest.now)
             self.now.instrument.now (cells_of depth self.now.townships.now self.now.tract.now)) }
     {
-        for township in self.townships {
+        let list = self.townships.list();
+        for township in list {
             let found = self.first_in_township(*township);
             if found.is_some() {
                 return found;

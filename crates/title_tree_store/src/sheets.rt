@@ -1,12 +1,12 @@
 //! Rows of sheets, read off a tree.
 
-ghost use Rattle.std.specs.Prelude.{◌≡◌, ◌+◌, ◌++◌, [], OnOk, IfOk};
+ghost use Rattle.std.specs.Prelude.{◌≡◌, ◌+◌, ◌++◌, ◌∷◌, [], OnOk, IfOk};
 ghost use Rattle.std.specs.List.{flat_map};
 ghost use Rattle.std.specs.Option.{option_map};
 ghost use Rattle.title_land.specs.Depth.{depth};
 ghost use Rattle.title_land.specs.Lands.{cover_of};
 ghost use Rattle.title_tree.specs.Pieces.{uniform_at};
-ghost use Rattle.title_tree.specs.Plots.{agreed, same_division, uniform};
+ghost use Rattle.title_tree.specs.Plots.{agreed, uniform};
 ghost use Rattle.title_tree.specs.Trees.{plot};
 ghost use Rattle.title_land.specs.declared.node.Node.TheVariants as node;
 ghost use Rattle.title_store.specs.Sheets.{holding_rows, rows_or};
@@ -14,31 +14,23 @@ ghost use Rattle.title_tree_store.specs.Spots.{blocks, spots};
 ghost use Rattle.title_tree_store.specs.SquareSheets.{part_sheet, plant_sheet, section_sheet, square_sheet, township_sheet};
 ghost use Rattle.title_tree_store.specs.TreeSheets.{tree_sheet};
 
-use crate::spots::{SECTION_LEVELS, add_spots};
+use crate::spots::{Paths, SECTION_LEVELS, add_spots};
+use crate::townships::Townships;
 use crate::walks::{numbered, section_tree, square_tree, township_tree};
 use std::alloc::{AllocError, Global};
 use title_instrument::Estate;
 use title_land::{Node, Quarter, Section, Township, Tract, Within};
 use title_share::Holding;
 use title_store::SheetRow;
-use title_tree::{Tree, uniform_at};
+use title_tree::{Tree, is_same, uniform_at};
 
-// Whether the holdings are one.
-fn is_same(held: &Holding, other: &Holding) -> bool
-    ensures same { result ≡ same_division held.now other.now }
-{
-    held.same(other)
-}
-
-// The one holding of a township's cells, where they have one.
+// The one holding of a township's cells, where they have one. The last four sections are the ninth of 16 squares.
 fn township_holding(tree: &Tree) -> Option<&Holding>
     ensures holding { option_map (λ held. held.now) result ≡ uniform_at blocks (plot tree.now) }
 {
-    let held = tree.at(&[Quarter::Northeast]).uniform()?;
-    let second = tree.at(&[Quarter::Northwest]).uniform()?;
-    let third = tree
-        .at(&[Quarter::Southwest, Quarter::Northeast])
-        .uniform()?;
+    let held = tree.quarter(Quarter::Northeast).uniform()?;
+    let second = tree.quarter(Quarter::Northwest).uniform()?;
+    let third = numbered(tree, 2, 8).uniform()?;
     if is_same(second, third) && is_same(held, second) {
         Some(held)
     } else {
@@ -51,14 +43,14 @@ fn plant_holding<'a>(
     alloc: Global,
     tree: &'a Tree,
     levels: usize,
-    townships: &[Township],
+    townships: &Townships,
 ) -> Result<Option<&'a Holding>, AllocError>
     ensures holding { IfOk result (λ o. option_map (λ held. held.now) o
         ≡ uniform_at (spots levels townships.now node.Everything) (plot tree.now)) }
 {
-    let mut paths = Vec::new(alloc);
+    let mut paths = Paths::Nothing;
     add_spots(alloc, levels, townships, Node::Everything, &mut paths)?;
-    Ok(uniform_at(tree, &paths))
+    Ok(uniform_at(tree, paths.as_slice()))
 }
 
 // Adds one row for each entry of a holding.
@@ -170,7 +162,7 @@ fn add_part(
     ensures rows { OnOk result (rows.new.items ≡ rows.old.items ++ part_sheet (plot tree.now) estate node.now) }
 {
     if let Node::Part(section, within) = node {
-        let stands = square_tree(tree, *within);
+        let stands = square_tree(tree, *within)?;
         add_square(stands, *section, *within, estate, rows)?;
     }
     Ok(())
@@ -228,7 +220,7 @@ fn add_plant(
     alloc: Global,
     tree: &Tree,
     levels: usize,
-    townships: &[Township],
+    townships: &Townships,
     estate: Estate,
     rows: &mut Vec<SheetRow>,
 ) -> Result<(), AllocError>
@@ -238,7 +230,8 @@ fn add_plant(
     if let Some(held) = held {
         return add_entries(&Node::Everything, estate, held, rows);
     }
-    for township in townships {
+    let list = townships.list();
+    for township in list {
         let stands = township_tree(tree, levels, townships, *township);
         add_township(stands, *township, estate, rows)?;
     }
@@ -251,7 +244,7 @@ pub(crate) fn add_estate(
     alloc: Global,
     tree: &Tree,
     levels: usize,
-    townships: &[Township],
+    townships: &Townships,
     estate: Estate,
     tract: &Tract,
     rows: &mut Vec<SheetRow>,

@@ -1,6 +1,6 @@
 //! The plant as trees of quarters, one for each estate.
 
-ghost use Rattle.std.specs.Prelude.{◌≡◌, ◌≤◌, ◌^◌, length};
+ghost use Rattle.std.specs.Prelude.{◌≡◌, ◌≤◌, ◌^◌};
 ghost use Rattle.title_land.specs.Depth.{depth};
 ghost use Rattle.title_store.specs.Plants.{IsEachOnce, node_of};
 ghost use Rattle.title_tree_store.specs.Forests.{plots};
@@ -13,6 +13,7 @@ use crate::lent::Images;
 use crate::refusals::Search;
 use crate::sheets::add_estate;
 use crate::spots::tract_spots;
+use crate::townships::Townships;
 use crate::walks::section_tree;
 use std::alloc::{AllocError, Global};
 use title_instrument::{Estate, Instrument};
@@ -31,13 +32,13 @@ pub struct Image {
 #[derive(Drop)]
 pub struct TreeStore {
     alloc: Global,
-    townships: Vec<Township>,
+    townships: Townships,
     // The levels from the root down to a township.
     levels: usize,
     forest: Forest,
     lent: Images,
-    ghost once: { IsEachOnce townships.items } by { Prim.hlevel once_prop },
-    ghost kept: { IsKept levels townships.items (plots forest) (images lent) lent.next } by { kept_prop _ _ _ _ _ },
+    ghost once: { IsEachOnce townships } by { Prim.hlevel once_prop },
+    ghost kept: { IsKept levels townships (plots forest) (images lent) lent.next } by { kept_prop _ _ _ _ _ },
 }
 
 // How many levels have a place for so many townships.
@@ -68,18 +69,18 @@ impl TreeStore {
 impl Store for TreeStore {
     type Image = Image;
 
-    ghost content = { λ s. content_of s.levels s.townships.items (plots s.forest) };
+    ghost content = { λ s. content_of s.levels s.townships (plots s.forest) };
 
-    ghost declared = { λ s. s.townships.items };
+    ghost declared = { λ s. s.townships };
 
-    ghost out = { λ s. loans_of s.levels s.townships.items (plots s.forest) (images s.lent) };
+    ghost out = { λ s. loans_of s.levels s.townships (plots s.forest) (images s.lent) };
 
     ghost number = { λ i. i.number };
 
     fn open(alloc: Global, townships: &[Township]) -> Result<TreeStore, AllocError> {
         let levels = levels_for(townships.len());
         let forest = Forest::open(alloc)?;
-        let townships = Vec::from_slice(alloc, townships)?;
+        let townships = Townships::new(alloc, townships)?;
         Ok(TreeStore {
             alloc,
             townships,
@@ -91,7 +92,10 @@ impl Store for TreeStore {
 
     fn put(&mut self, tract: &Tract, instrument: &Instrument) -> Result<Put<Image>, AllocError> {
         let paths = tract_spots(self.alloc, self.levels, &self.townships, tract)?;
-        match self.forest.changed(self.alloc, &paths, instrument) {
+        match self
+            .forest
+            .changed(self.alloc, paths.as_slice(), instrument)
+        {
             Ok(mut trees) => {
                 self.lent.reserve()?;
                 self.forest.quarter(self.alloc, paths, instrument)?;
@@ -130,15 +134,9 @@ impl Store for TreeStore {
         let mut rows = Vec::new(alloc);
         for estate in [Estate::S, Estate::O, Estate::M] {
             let tree = self.forest.of(estate);
-            add_estate(
-                alloc,
-                tree,
-                self.levels,
-                &self.townships,
-                estate,
-                tract,
-                &mut rows,
-            )?;
+            let levels = self.levels;
+            let townships = &self.townships;
+            add_estate(alloc, tree, levels, townships, estate, tract, &mut rows)?;
         }
         Ok(rows)
     }
@@ -151,15 +149,9 @@ impl Store for TreeStore {
     ) -> Result<Vec<SheetRow>, AllocError> {
         let mut rows = Vec::new(alloc);
         let tree = self.forest.of(estate);
-        add_estate(
-            alloc,
-            tree,
-            self.levels,
-            &self.townships,
-            estate,
-            tract,
-            &mut rows,
-        )?;
+        let levels = self.levels;
+        let townships = &self.townships;
+        add_estate(alloc, tree, levels, townships, estate, tract, &mut rows)?;
         Ok(rows)
     }
 

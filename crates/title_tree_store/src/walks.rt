@@ -1,27 +1,16 @@
 //! Walks down a tree to what stands in a square. None takes memory.
 
-ghost use Rattle.std.specs.Prelude.{◌≡◌};
-ghost use Rattle.title_land.specs.Paths.{quarter_at};
+ghost use Rattle.std.specs.Prelude.{◌≡◌, IfOk};
 ghost use Rattle.title_tree.specs.Paths.{way, number_path};
 ghost use Rattle.title_tree.specs.Plots.{plot_at};
 ghost use Rattle.title_tree.specs.Trees.{plot};
 ghost use Rattle.title_tree_store.specs.Spots.{township_path, section_path};
 
-use crate::spots::{SECTION_LEVELS, index_of};
-use title_land::{Quarter, Section, Township, Within};
-use title_tree::Tree;
-
-/// The quarter at a place among the four; from the fourth on it is the last.
-pub(crate) fn quarter_at(place: usize) -> Quarter
-    ensures quarter { result ≡ quarter_at place }
-{
-    match place {
-        0 => Quarter::Northeast,
-        1 => Quarter::Northwest,
-        2 => Quarter::Southwest,
-        _ => Quarter::Southeast,
-    }
-}
+use crate::spots::SECTION_LEVELS;
+use crate::townships::Townships;
+use std::alloc::AllocError;
+use title_land::{Section, Township, Within};
+use title_tree::{Path, Tree, quarter_at};
 
 /// What stands in the square of this number among those that lie so many levels below.
 pub(crate) fn numbered(tree: &Tree, levels: usize, number: usize) -> &Tree
@@ -31,26 +20,26 @@ pub(crate) fn numbered(tree: &Tree, levels: usize, number: usize) -> &Tree
         return tree;
     }
     let outer = numbered(tree, levels - 1, number / 4);
-    outer.at(&[quarter_at(number % 4)])
+    outer.quarter(quarter_at(number % 4))
 }
 
 /// What stands in a township.
 pub(crate) fn township_tree<'a>(
     tree: &'a Tree,
     levels: usize,
-    townships: &[Township],
+    townships: &Townships,
     township: Township,
 ) -> &'a Tree
     ensures stands { plot result.now ≡ plot_at (township_path levels townships.now township) (plot tree.now) }
 {
-    numbered(tree, levels, index_of(townships, township))
+    numbered(tree, levels, townships.index_of(township))
 }
 
 /// What stands in a section.
 pub(crate) fn section_tree<'a>(
     tree: &'a Tree,
     levels: usize,
-    townships: &[Township],
+    townships: &Townships,
     section: Section,
 ) -> &'a Tree
     ensures stands { plot result.now ≡ plot_at (section_path levels townships.now section) (plot tree.now) }
@@ -60,11 +49,9 @@ pub(crate) fn section_tree<'a>(
 }
 
 /// What stands in a square of a section, from what stands in the section.
-pub(crate) fn square_tree(tree: &Tree, within: Within) -> &Tree
-    ensures stands { plot result.now ≡ plot_at (way within) (plot tree.now) }
+pub(crate) fn square_tree(tree: &Tree, within: Within) -> Result<&Tree, AllocError>
+    ensures stands { IfOk result (λ t. plot t.now ≡ plot_at (way within) (plot tree.now)) }
 {
-    let Some(parts) = within.split() else {
-        return tree;
-    };
-    square_tree(tree, parts.1).at(&[parts.0])
+    let path = Path::root().inside_square(within)?;
+    Ok(tree.at(path))
 }

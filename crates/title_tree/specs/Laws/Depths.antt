@@ -113,10 +113,6 @@ within_split (Err f) p ps qs t u v l e h = λ n s k.
     let short = subst (λ (z : List (List Quarter)). Short z n) l s in
     h n (λ q i. short q (inr i)) (ap (fits n) e ∙ fits_split n p t (short p (inl refl)) k)
 
-pub within_same : {A E : Type 0} (r : Result A E) (ps : List (List Quarter)) (t u : Plot) → u ≡ t → OnErr r (StaysWithin ps t u)
-within_same (Ok x) ps t u e = tt
-within_same (Err f) ps t u e = λ n s k. ap (fits n) e ∙ k
-
 pub split_all_fits : (ps : List (List Quarter)) (t : Plot) → StaysWithin ps t (split_all ps t)
 split_all_fits [] t n s k = k
 split_all_fits (p ∷ ps) t n s k = split_all_fits ps (split p t) n (λ q i. s q (inr i)) (fits_split n p t (s p (inl refl)) k)

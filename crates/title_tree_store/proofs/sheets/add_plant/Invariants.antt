@@ -10,4 +10,4 @@ use Rattle.title_tree_store.proofs.sheets.add_plant.Given as goal
 abbrev pub invariant-loop-township : goal.invariant-loop-township
 invariant-loop-township l = l.rows.items ≡ l.fn.rows.items
     ++ flat_map (λ t. township_sheet (plot_at (township_path l.levels l.townships t) (plot l.tree)) l.estate t)
-    (take l.township-index l.townships)
+    (take l.township-index l.list)

@@ -1,6 +1,8 @@
 -- The townships come in their order.
-use Rattle.std.proofs.Common.{◌∙◌, sym, refl}
+use Rattle.std.proofs.Common.{◌∙◌, ap, sym, refl, List}
 use Rattle.title_land.specs.Depth.{depth}
+use Rattle.std.specs.List.{flat_map}
+use Rattle.title_land.specs.declared.place.Township.{Township}
 use Rattle.title_land.specs.CellLists.{township_cells}
 use Rattle.title_tree_store.specs.Forests.{plots}
 use Rattle.title_tree_store.specs.Refusing.{first_of}
@@ -13,7 +15,7 @@ returns-then-is_some c =
       first = next_here (first_of c.args.self.now.levels c.args.self.now.townships.now (plots c.args.self.now.forest.now)
           c.args.self.now.instrument.now c.args.self.now.tract.now)
           (first_join c.args.self.now.levels c.args.self.now.townships.now (plots c.args.self.now.forest.now)
-          c.args.self.now.instrument.now c.args.self.now.tract.now) (township_cells depth) c.args.self.now.townships.now
+          c.args.self.now.instrument.now c.args.self.now.tract.now) (township_cells depth) c.list-list.result.now
           c.loop-township.township-index c.township-item.result c.first_in_township-found.result
           c.loop-township-test.true c.township-item.is (sym c.is_some.ensures ∙ c.if-is_some.true) c.first_in_township-found.ensures.first
           ∙ sym c.loop-township.invariant
@@ -27,7 +29,7 @@ loop-township-preserved c =
     ∙ next_later (first_of c.args.self.now.levels c.args.self.now.townships.now (plots c.args.self.now.forest.now)
     c.args.self.now.instrument.now c.args.self.now.tract.now)
     (first_join c.args.self.now.levels c.args.self.now.townships.now (plots c.args.self.now.forest.now)
-    c.args.self.now.instrument.now c.args.self.now.tract.now) (township_cells depth) c.args.self.now.townships.now
+    c.args.self.now.instrument.now c.args.self.now.tract.now) (township_cells depth) c.list-list.result.now
     c.loop-township.township-index c.township-item.result c.first_in_township-found.result
     c.loop-township-test.true c.township-item.is (sym c.is_some.ensures ∙ c.if-is_some.false) c.first_in_township-found.ensures.first
 
@@ -35,9 +37,14 @@ pub returns : goal.returns
 returns c =
     record {
       first = none_left (first_of c.args.self.now.levels c.args.self.now.townships.now (plots c.args.self.now.forest.now)
-          c.args.self.now.instrument.now c.args.self.now.tract.now) refl (township_cells depth) c.args.self.now.townships.now
+          c.args.self.now.instrument.now c.args.self.now.tract.now) refl (township_cells depth) c.list-list.result.now
           c.loop-township.township-index c.loop-township-test.false
           ∙ sym c.loop-township.invariant
           ∙ tract_cells c.args.self.now.levels c.args.self.now.townships.now (plots c.args.self.now.forest.now)
           c.args.self.now.instrument.now c.args.self.now.tract.now;
     }
+
+pub loop-township-init : goal.loop-township-init
+loop-township-init c =
+    ap (λ (ts : List Township). first_of c.args.self.now.levels c.args.self.now.townships.now (plots c.args.self.now.forest.now)
+    c.args.self.now.instrument.now c.args.self.now.tract.now (flat_map (township_cells depth) ts)) (sym c.list-list.ensures.list)

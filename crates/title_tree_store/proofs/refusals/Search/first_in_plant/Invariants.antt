@@ -12,4 +12,4 @@ invariant-loop-township l =
     first_of l.self.levels l.self.townships.now (plots l.self.forest.now) l.self.instrument.now l.self.tract.now
     (flat_map (township_cells depth) l.self.townships.now)
     ≡ first_of l.self.levels l.self.townships.now (plots l.self.forest.now) l.self.instrument.now l.self.tract.now
-    (flat_map (township_cells depth) (drop l.township-index l.self.townships.now))
+    (flat_map (township_cells depth) (drop l.township-index l.list))

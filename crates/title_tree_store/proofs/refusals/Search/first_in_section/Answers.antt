@@ -15,12 +15,12 @@ use Rattle.title_tree_store.proofs.refusals.Search.first_in_section.Goals as goa
 pub first_in_square-requires-clause-here : goal.first_in_square-requires-clause-here
 first_in_square-requires-clause-here c =
     subst (λ (w : List Quarter). StandsAt (plots c.args.self.now.forest.now)
-    (square_path c.args.self.now.levels c.args.self.now.townships.now c.args.section w) (plot c.numbered-trees.result.s.now)
-    (plot c.numbered-trees.result.o.now) (plot c.numbered-trees.result.m.now)) (sym c.section.ensures.whole)
-    (section_stands c.args.self.now.levels c.args.self.now.townships.now (plots c.args.self.now.forest.now) c.args.section c.from.result
-    (plot c.args.township.now.s.now) (plot c.args.township.now.o.now) (plot c.args.township.now.m.now)
-    (plot c.numbered-trees.result.s.now) (plot c.numbered-trees.result.o.now) (plot c.numbered-trees.result.m.now) c.requires.here
-    c.from.ensures c.numbered-trees.ensures.s c.numbered-trees.ensures.o c.numbered-trees.ensures.m)
+    (square_path c.args.self.now.levels c.args.self.now.townships.now c.args.section w) (plot c.numbered.result.now)
+    (plot c.numbered-2.result.now) (plot c.numbered-3.result.now)) (sym c.section.ensures.whole)
+    (section_stands c.args.self.now.levels c.args.self.now.townships.now (plots c.args.self.now.forest.now) c.args.section
+    c.from-number.result (plot c.args.township.now.s.now) (plot c.args.township.now.o.now) (plot c.args.township.now.m.now)
+    (plot c.numbered.result.now) (plot c.numbered-2.result.now) (plot c.numbered-3.result.now) c.requires.here
+    c.from-number.ensures c.numbered.ensures.stands c.numbered-2.ensures.stands c.numbered-3.ensures.stands)
 
 pub returns : goal.returns
 returns c =

@@ -1,5 +1,5 @@
 -- What stands in the section has one holding where its cells have.
-use Rattle.std.proofs.Common.{◌∙◌}
+use Rattle.std.proofs.Common.{◌∙◌, ap}
 use Rattle.title_tree.specs.Plots.{plot_at}
 use Rattle.title_tree.specs.Trees.{plot}
 use Rattle.title_tree_store.specs.Forests.{plots}
@@ -12,8 +12,8 @@ returns c =
     let store = c.args.self.now in
     record {
       one = one_test (λ held. held.now) c.uniform.result c.is_some.result _ c.is_some.ensures (c.uniform.ensures.uniform
-          ∙ section_one store.levels store.townships.items (plots store.forest) c.args.estate c.args.section
+          ∙ section_one store.levels store.townships (plots store.forest) c.args.estate c.args.section
           (plot c.section_tree-stands.result.now) store.kept.room (store.kept.fit c.args.estate) c.requires.within
           (c.section_tree-stands.ensures.stands
-          ∙ (λ i. plot_at (section_path store.levels (c.deref.ensures.value i) c.args.section) (c.of-tree.ensures.of i))));
+          ∙ ap (plot_at (section_path store.levels store.townships c.args.section)) c.of-tree.ensures.of));
     }

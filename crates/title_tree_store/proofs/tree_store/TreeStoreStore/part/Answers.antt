@@ -14,8 +14,8 @@ returns c =
     record {
       part = c.in_ok-add_estate.ensures.rows
           ∙ (λ i. c.new-rows.ensures.items i ++ flat_map
-          (tree_sheet (depth + 2) store.levels (c.deref.ensures.value i) (c.of-tree.ensures.of i) c.args.estate)
+          (tree_sheet (depth + 2) store.levels store.townships (c.of-tree.ensures.of i) c.args.estate)
           (cover_of depth c.args.tract.now))
-          ∙ part_is store.levels store.townships.items (plots store.forest) c.args.tract.now c.args.estate store.kept.room
+          ∙ part_is store.levels store.townships (plots store.forest) c.args.tract.now c.args.estate store.kept.room
           (store.kept.fit c.args.estate) c.requires.within;
     }

@@ -1,75 +1,56 @@
 -- The image that is taken out has its pieces' places in the trees, and they hold what its cells held.
-use Rattle.std.proofs.Common.{◌≡◌, sym, subst}
-use Rattle.title_tree_store.specs.Keeping.{IsKept}
-use Rattle.title_tree.specs.Pieces.{swapped}
+use Rattle.std.proofs.Common.{◌≡◌, refl}
 use Rattle.title_instrument.specs.declared.parts.Estate.TheVariants.{S, O, M}
+use Rattle.title_tree.specs.Pieces.{swapped}
 use Rattle.title_tree_store.specs.Forests.{plots, pieces}
-use Rattle.title_tree_store.proofs.Keeps.{each, goes_back}
+use Rattle.title_tree_store.specs.Keeping.{IsTakenOut}
 use Rattle.title_tree_store.specs.Out.{images}
+use Rattle.title_tree_store.proofs.Keeps.{each, goes_back, kept_as}
 use Rattle.title_tree_store.proofs.Operations.{some_taken, some_is, restored_kept, restored_out, restores}
 use Rattle.title_tree_store.proofs.tree_store.TreeStoreStore.restore.Goals as goal
 
 pub unwrap-lent-requires : goal.unwrap-lent-requires
 unwrap-lent-requires c =
-    some_taken c.args.self.now.levels c.args.self.now.townships.items (plots c.args.self.now.forest) (images c.args.self.now.lent)
-    (images c.take.new.self) c.args.image.number c.take.result c.requires.out c.take.ensures.taken
+    some_taken c.args.self.now.levels _ (plots c.args.self.now.forest) _ _ _ c.take.result c.requires.out c.take.ensures.taken
+
+taken : (c : goal.After-exchange-arg-2-1) → IsTakenOut c.args.image.number c.unwrap-lent.result (images c.args.self.now.lent)
+    (images c.take.new.self)
+taken c = some_is _ _ _ c.take.result _ c.unwrap-lent.ensures c.take.ensures.taken
 
 pub exchange-requires-clause-s : goal.exchange-requires-clause-s
 exchange-requires-clause-s c =
-    let taken = some_is c.args.image.number (images c.args.self.now.lent) (images c.take.new.self) c.take.result c.unwrap-lent.result
-    c.unwrap-lent.ensures c.take.ensures.taken in
-    let g = goes_back c.args.self.now.levels c.args.self.now.townships.items (plots c.args.self.now.forest) (images c.args.self.now.lent)
-    (images c.take.new.self) c.args.self.now.lent.next c.args.image.number c.unwrap-lent.result taken c.args.self.now.kept S in
+    let g = goes_back _ _ _ _ _ _ _ _ (taken c) c.args.self.now.kept S in
     (g.apart, g.ready)
 
 pub exchange-requires-clause-o : goal.exchange-requires-clause-o
 exchange-requires-clause-o c =
-    let taken = some_is c.args.image.number (images c.args.self.now.lent) (images c.take.new.self) c.take.result c.unwrap-lent.result
-    c.unwrap-lent.ensures c.take.ensures.taken in
-    let g = goes_back c.args.self.now.levels c.args.self.now.townships.items (plots c.args.self.now.forest) (images c.args.self.now.lent)
-    (images c.take.new.self) c.args.self.now.lent.next c.args.image.number c.unwrap-lent.result taken c.args.self.now.kept O in
+    let g = goes_back _ _ _ _ _ _ _ _ (taken c) c.args.self.now.kept O in
     (g.apart, g.ready)
 
 pub exchange-requires-clause-m : goal.exchange-requires-clause-m
 exchange-requires-clause-m c =
-    let taken = some_is c.args.image.number (images c.args.self.now.lent) (images c.take.new.self) c.take.result c.unwrap-lent.result
-    c.unwrap-lent.ensures c.take.ensures.taken in
-    let g = goes_back c.args.self.now.levels c.args.self.now.townships.items (plots c.args.self.now.forest) (images c.args.self.now.lent)
-    (images c.take.new.self) c.args.self.now.lent.next c.args.image.number c.unwrap-lent.result taken c.args.self.now.kept M in
+    let g = goes_back _ _ _ _ _ _ _ _ (taken c) c.args.self.now.kept M in
     (g.apart, g.ready)
 
 pub invariant_of-self : goal.invariant_of-self
-invariant_of-self c =
-    let taken = some_is c.args.image.number (images c.args.self.now.lent) (images c.take.new.self) c.take.result c.unwrap-lent.result
-    c.unwrap-lent.ensures c.take.ensures.taken in
-    record {
-      once = c.args.self.now.once;
-      kept = subst (IsKept c.args.self.now.levels c.args.self.now.townships.items (plots c.exchange.new.self) (images c.take.new.self))
-          (sym c.take.ensures.next)
-          (restored_kept c.args.self.now.levels c.args.self.now.townships.items (plots c.args.self.now.forest) (plots c.exchange.new.self)
-          (images c.args.self.now.lent) (images c.take.new.self) c.args.self.now.lent.next c.args.image.number c.unwrap-lent.result taken
-          c.requires.last
-          (each (λ e. plots c.exchange.new.self e ≡ swapped (pieces c.unwrap-lent.result.trees e) (plots c.args.self.now.forest e))
-          c.exchange.ensures.tree_s c.exchange.ensures.tree_o c.exchange.ensures.tree_m)
-          c.args.self.now.kept);
-    }
+invariant_of-self c = record {
+  once = c.args.self.now.once;
+  kept = kept_as _ _ _ _ _ _ _ refl c.take.ensures.next
+      (restored_kept _ _ _ _ _ _ _ _ _ (taken c.before) c.requires.last
+      (each (λ e. plots c.exchange.new.self e ≡ swapped (pieces c.unwrap-lent.result.trees e) (plots c.args.self.now.forest e))
+      c.exchange.ensures.tree_s c.exchange.ensures.tree_o c.exchange.ensures.tree_m) c.args.self.now.kept);
+}
 
 pub returns-clause-content : goal.returns-clause-content
 returns-clause-content c =
-    let taken = some_is c.args.image.number (images c.args.self.now.lent) (images c.take.new.self) c.take.result c.unwrap-lent.result
-    c.unwrap-lent.ensures c.take.ensures.taken in
-    restores c.args.self.now.levels c.args.self.now.townships.items (plots c.args.self.now.forest) (plots c.exchange.new.self)
-    (images c.args.self.now.lent) (images c.take.new.self) c.args.self.now.lent.next c.args.image.number c.unwrap-lent.result taken
-    c.requires.last c.args.self.now.kept
+    restores _ _ _ _ _ (images c.take.new.self) _ c.args.image.number c.unwrap-lent.result
+    (some_is _ _ _ c.take.result _ c.unwrap-lent.ensures c.take.ensures.taken) c.requires.last c.args.self.now.kept
     (each (λ e. plots c.exchange.new.self e ≡ swapped (pieces c.unwrap-lent.result.trees e) (plots c.args.self.now.forest e))
     c.exchange.ensures.tree_s c.exchange.ensures.tree_o c.exchange.ensures.tree_m)
 
 pub returns-clause-out : goal.returns-clause-out
 returns-clause-out c =
-    let taken = some_is c.args.image.number (images c.args.self.now.lent) (images c.take.new.self) c.take.result c.unwrap-lent.result
-    c.unwrap-lent.ensures c.take.ensures.taken in
-    restored_out c.args.self.now.levels c.args.self.now.townships.items (plots c.args.self.now.forest) (plots c.exchange.new.self)
-    (images c.args.self.now.lent) (images c.take.new.self) c.args.self.now.lent.next c.args.image.number c.unwrap-lent.result taken
-    c.requires.last c.args.self.now.kept
+    restored_out _ _ _ _ _ (images c.take.new.self) _ c.args.image.number c.unwrap-lent.result
+    (some_is _ _ _ c.take.result _ c.unwrap-lent.ensures c.take.ensures.taken) c.requires.last c.args.self.now.kept
     (each (λ e. plots c.exchange.new.self e ≡ swapped (pieces c.unwrap-lent.result.trees e) (plots c.args.self.now.forest e))
     c.exchange.ensures.tree_s c.exchange.ensures.tree_o c.exchange.ensures.tree_m)

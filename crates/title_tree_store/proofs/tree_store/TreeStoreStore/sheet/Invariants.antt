@@ -9,5 +9,5 @@ use Rattle.title_tree_store.proofs.tree_store.TreeStoreStore.sheet.Given as goal
 
 abbrev pub invariant-loop-estate : goal.invariant-loop-estate
 invariant-loop-estate l = l.rows.items ≡ flat_map (λ e.
-    flat_map (tree_sheet (depth + 2) l.self.levels l.self.townships.items (plots l.self.forest e) e) (cover_of depth l.tract))
+    flat_map (tree_sheet (depth + 2) l.self.levels l.self.townships (plots l.self.forest e) e) (cover_of depth l.tract))
     (take l.estate-index l.estate-items)

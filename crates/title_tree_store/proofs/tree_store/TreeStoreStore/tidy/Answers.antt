@@ -10,20 +10,19 @@ use Rattle.title_tree_store.proofs.tree_store.TreeStoreStore.tidy.Goals as goal
 pub invariant_of-self : goal.invariant_of-self
 invariant_of-self c = record {
   once = c.args.self.now.once;
-  kept = kept_tidied c.args.self.now.levels c.args.self.now.townships.items (plots c.args.self.now.forest) (plots c.tidy.new.self)
-      (λ e. written e c.args.self.now.forest) (images c.args.self.now.lent) c.args.self.now.lent.next c.requires.none
+  kept = kept_tidied _ _ _ _ (λ e. written e c.args.self.now.forest) _ _ c.requires.none
       (each (λ e. plots c.tidy.new.self e ≡ tidied_written (written e c.args.self.now.forest) (plots c.args.self.now.forest e))
       c.tidy.ensures.s c.tidy.ensures.o c.tidy.ensures.m) c.args.self.now.kept;
 }
 
 pub returns-clause-content : goal.returns-clause-content
 returns-clause-content c x =
-    tidies c.args.self.now.levels c.args.self.now.townships.items (plots c.args.self.now.forest) (plots c.tidy.new.self)
+    tidies c.args.self.now.levels c.args.self.now.townships (plots c.args.self.now.forest) (plots c.tidy.new.self)
     (λ e. written e c.args.self.now.forest)
     (each (λ e. plots c.tidy.new.self e ≡ tidied_written (written e c.args.self.now.forest) (plots c.args.self.now.forest e))
     c.tidy.ensures.s c.tidy.ensures.o c.tidy.ensures.m) x
 
 pub returns-clause-out : goal.returns-clause-out
-returns-clause-out c = ap (loans_of c.args.self.now.levels c.args.self.now.townships.items (plots c.tidy.new.self))
-    (no_loans c.args.self.now.levels c.args.self.now.townships.items (plots c.args.self.now.forest) (images c.args.self.now.lent)
+returns-clause-out c = ap (loans_of c.args.self.now.levels c.args.self.now.townships (plots c.tidy.new.self))
+    (no_loans c.args.self.now.levels c.args.self.now.townships (plots c.args.self.now.forest) (images c.args.self.now.lent)
     c.requires.none)
