@@ -11,15 +11,13 @@ use Rattle.title_chain.specs.declared.ask.Ask.{Ask}
 use Rattle.title_chain.specs.declared.ask.Ask.TheVariants as ask
 use Rattle.title_chain.specs.declared.ask.Answer.{Answer}
 use Rattle.title_chain.specs.declared.ask.Step.{Step}
-use Rattle.title_chain.specs.declared.record.Record.{Record}
 use Rattle.title_chain.specs.Asks.{tract_of, is_post, overlap, effect}
-use Rattle.title_chain.specs.Alone.{after_steps, plant_after}
+use Rattle.title_chain.specs.Alone.{after_steps}
 use Rattle.title_chain.specs.Overlaps.{overlaps, Clear}
 use Rattle.title_chain.specs.ChainLaws.{SameIn}
 use Rattle.title_chain.specs.Laws.AskLaws.{cell_meets, effect_outside}
-use Rattle.title_lock.specs.declared.guards.Entry.{Entry}
 use Rattle.title_desk.specs.Images.{is_posted, posted_at, Peels, Backed}
-use Rattle.title_desk.specs.Keeps.{Facts}
+use Rattle.title_desk.specs.Keeps.{State, plant_of, plant_for, Facts}
 
 case_at : (P : Bool → Type 0) (f e : ℕ) → (f ≡ e → P true) → (f ≢ e → P false) → (b : Bool) → eqb f e ≡ b → P b
 case_at P f e same other true h = same (eqb-true f e h)
@@ -60,35 +58,30 @@ posted_apart ts (s ∷ earlier) theirs c clear h =
     (posted_apart ts earlier theirs c clear.0 h)
 
 -- a step that wasn't posted at a cell leaves it
-step_keeps : {I : Type 0} (number : I → ℕ) (out : List Loan) (ts : List Township) (before : Plant) (s : Step) (images older : List I)
-    (b : Bool) (c : Cell) →
-    Peels number out ts before s images older b → (b && is_cell_of depth ts (tract_of s.ask) c) ≡ false
-    → effect depth ts before s.ask c ≡ before c
-step_keeps number out ts before s images older true c p n = effect_outside depth ts before s.ask c n
-step_keeps number out ts before s images older false c p n = p.1 c
+step_keeps : (out : List Loan) (ts : List Township) (before : Plant) (s : Step) (images older : List ℕ) (b : Bool) (c : Cell) →
+    Peels out ts before s images older b → (b && is_cell_of depth ts (tract_of s.ask) c) ≡ false → effect depth ts before s.ask c ≡ before c
+step_keeps out ts before s images older true c p n = effect_outside depth ts before s.ask c n
+step_keeps out ts before s images older false c p n = p.1 c
 
 -- steps of which none was posted at a cell leave it
-pub steps_keep : {I : Type 0} (number : I → ℕ) (out : List Loan) (ts : List Township) (p : Plant) (own : List Step) (images : List I)
-    (c : Cell) →
-    Backed number out ts p own images → posted_at ts c own ≡ false → after_steps depth ts p own c ≡ p c
-steps_keep number out ts p [] images c b n = refl
-steps_keep number out ts p (s ∷ earlier) images c b n =
+pub steps_keep : (out : List Loan) (ts : List Township) (p : Plant) (own : List Step) (images : List ℕ) (c : Cell) →
+    Backed out ts p own images → posted_at ts c own ≡ false → after_steps depth ts p own c ≡ p c
+steps_keep out ts p [] images c b n = refl
+steps_keep out ts p (s ∷ earlier) images c b n =
     let parts = or_parts (is_posted s.ask s.answer && is_cell_of depth ts (tract_of s.ask) c) (posted_at ts c earlier) n in
-    step_keeps number out ts (after_steps depth ts p earlier) s images b.0 (is_posted s.ask s.answer) c b.1 parts.0
-    ∙ steps_keep number out ts p earlier b.0 c b.2 parts.1
+    step_keeps out ts (after_steps depth ts p earlier) s images b.0 (is_posted s.ask s.answer) c b.1 parts.0
+    ∙ steps_keep out ts p earlier b.0 c b.2 parts.1
 
 -- in the tract of an ask that nobody else's steps overlap, the store holds what the examiner sees
-pub content_is : {I : Type 0} {number : I → ℕ} {ts : List Township} {own : ℕ → List Step} {images : ℕ → List I} {done : List Record}
-    {content : Plant} {out : List Loan} {locks : List Entry} →
-    Facts number ts own images done content out locks → (e : ℕ) (a : Ask) → ((f : ℕ) → f ≢ e → overlaps a (own f) ≡ false) →
-    SameIn depth ts (tract_of a) content (after_steps depth ts (plant_after depth ts done) (own e))
-content_is {number = number} {ts = ts} {own = own} {images = images} {done = done} {out = out} facts e a free c inside =
-    elim (cases_Bool (posted_at ts c (own e))) [
+pub content_is : {s : State} → Facts s → (e : ℕ) (a : Ask) → ((f : ℕ) → f ≢ e → overlaps a (s.own f) ≡ false) →
+    SameIn depth s.declared (tract_of a) s.content (plant_for s e)
+content_is {s} facts e a free c inside =
+    elim (cases_Bool (posted_at s.declared c (s.own e))) [
       | inl mine ↦ facts.posted e c mine
       | inr none ↦
-          let nobody : (f : ℕ) → posted_at ts c (own f) ≡ false = λ f. elim (cases_eq f e) [
-            | inl same ↦ ap (λ g. posted_at ts c (own g)) same ∙ none
-            | inr other ↦ unposted ts a (own f) c (free f other) inside
-          ] in
-          facts.rest c nobody ∙ sym (steps_keep number out ts (plant_after depth ts done) (own e) (images e) c (facts.backed e) none)
+          facts.rest c (λ f. elim (cases_eq f e) [
+            | inl same ↦ ap (λ g. posted_at s.declared c (s.own g)) same ∙ none
+            | inr other ↦ unposted s.declared a (s.own f) c (free f other) inside
+          ])
+          ∙ sym (steps_keep s.out s.declared (plant_of s) (s.own e) (s.images e) c (facts.backed e) none)
     ]

@@ -1,8 +1,8 @@
 -- Slots by examiner.
-use Rattle.std.proofs.Common.{◌≡◌, ℕ, Bool, true, false, cond, [], ◌∷◌, ◌++◌, reverse, refl, ap, ◌∙◌, sym, subst, eqb, Option, Some}
-use Rattle.std.proofs.Common.{None, is_some, Result, Ok, Err, OnOk, OnErr}
+use Rattle.std.proofs.Common.{◌≡◌, ℕ, Bool, true, false, cond, [], ◌∷◌, ◌++◌, map, reverse, refl, ap, ◌∙◌, sym, subst, eqb, Option, Some}
+use Rattle.std.proofs.Common.{List, None, is_some, Result, Ok, Err, OnOk, OnErr}
 use Rattle.std.proofs.lemmas.Bool.{eqb-true, eqb-false, false_from_ne_true}
-use Rattle.std.proofs.lemmas.List.{reverse-append}
+use Rattle.std.proofs.lemmas.List.{map-append, reverse-append, reverse-reverse}
 use Rattle.std.proofs.lemmas.Map.Lookups.{exact_unsigned}
 use Rattle.std.specs.Ordering.{nat_cmp}
 use Rattle.std.specs.Option.{IsSome}
@@ -10,7 +10,7 @@ use Rattle.std.specs.Cmp.{Equal-is, tied_itself, nat_cmp_total}
 use Rattle.std.specs.BTreeMap.{BTreeMap, WritesThrough, is_at}
 use Rattle.title_chain.specs.declared.ask.Step.{Step}
 use Rattle.title_desk.specs.declared.slots.Slot.{Slot}
-use Rattle.title_desk.specs.Slots.{IsFirst, IsSet, SameSlots, StepAdded, SameImages, ImageAdded, found, steps_in, images_in}
+use Rattle.title_desk.specs.Slots.{IsBegun, IsFirst, IsSet, SameSlots, StepAdded, SameImages, ImageAdded, found, steps_in, images_in}
 use Rattle.title_desk.proofs.Content.{case_eqb}
 
 at_examiner : (e f : ℕ) → is_at (nat_cmp e) f ≡ eqb f e
@@ -29,6 +29,10 @@ set_at e o old new h f = h f ∙ ap (λ b. cond b o (found old f)) (at_examiner 
 pub set_through : {I : Type 0} (e : ℕ) (s s' : Slot I) (old new : BTreeMap ℕ (Slot I)) → found old e ≡ Some s
     → WritesThrough nat_cmp (nat_cmp e) old s' new → IsSet e (Some s') (found old) (found new)
 set_through e s s' old new at h = set_at e (Some s') old new (h.3 (subst IsSome (sym at) refl)).0
+
+pub none_from : {X : Type 0} (o : Option X) → is_some o ≡ false → o ≡ None
+none_from None h = refl
+none_from (Some x) h = cc
 
 view_cond : {A X : Type 0} (view : A → X) (b : Bool) (x y : A) → view (cond b x y) ≡ cond b (view x) (view y)
 view_cond view true x y = refl
@@ -55,10 +59,6 @@ same_slots e s s' old new at set steps images f = (
   view_kept steps_in e (Some s') old new set (ap steps_in at ∙ ap reverse (sym steps)) f,
   view_kept images_in e (Some s') old new set (ap images_in at ∙ ap reverse (sym images)) f,
 )
-
-pub same_images : {I : Type 0} (e : ℕ) (s s' : Slot I) (old new : ℕ → Option (Slot I)) → old e ≡ Some s → IsSet e (Some s') old new
-    → s'.images.items ≡ s.images.items → SameImages old new
-same_images e s s' old new at set images f = view_kept images_in e (Some s') old new set (ap images_in at ∙ ap reverse (sym images)) f
 
 -- a slot with one step more
 pub step_added : {I : Type 0} (e : ℕ) (step : Step) (s s' : Slot I) (old new : ℕ → Option (Slot I)) → old e ≡ Some s
@@ -94,3 +94,65 @@ err_then (Err x) p q f = f p q
 pub first_alike : (test other : ℕ → Bool) → ((e : ℕ) → test e ≡ other e) → (r : Option ℕ) → IsFirst test r → IsFirst other r
 first_alike test other same None h = λ e. sym (same e) ∙ h e
 first_alike test other same (Some e) h = (sym (same e) ∙ h.0, λ f below. sym (same f) ∙ h.1 f below)
+
+-- ---- what is seen of slots: whether each is there, its steps, and the numbers of its images
+
+map_reverse : {X Y : Type 0} (f : X → Y) (xs : List X) → map f (reverse xs) ≡ reverse (map f xs)
+map_reverse f [] = refl
+map_reverse f (x ∷ xs) =
+    ap (map f) (reverse-append (x ∷ []) xs) ∙ map-append f (reverse xs) (x ∷ []) ∙ ap (λ z. z ++ f x ∷ []) (map_reverse f xs)
+    ∙ sym (reverse-append (f x ∷ []) (map f xs))
+
+-- the numbers of a slot's images, the oldest first
+pub oldest_first : {I : Type 0} (number : I → ℕ) (o : Option (Slot I)) (s : Slot I) → o ≡ Some s
+    → reverse (map number (images_in o)) ≡ map number s.images.items
+oldest_first number o s at =
+    ap (λ x. reverse (map number (images_in x))) at ∙ sym (map_reverse number (reverse s.images.items))
+    ∙ ap (map number) (reverse-reverse s.images.items)
+
+-- of slots that look the same
+pub seen_same : {I : Type 0} (number : I → ℕ) (old new : ℕ → Option (Slot I)) → SameSlots old new → (f : ℕ) →
+    (is_some (new f) ≡ is_some (old f)) × (steps_in (new f) ≡ steps_in (old f))
+    × (map number (images_in (new f)) ≡ map number (images_in (old f)))
+seen_same number old new same f = ((same f).0, (same f).1, ap (map number) (same f).2)
+
+-- of slots with one more, in which nothing is
+pub seen_begun : {I : Type 0} (number : I → ℕ) (e : ℕ) (old new : ℕ → Option (Slot I)) → IsBegun e old new → is_some (old e) ≡ false →
+    (f : ℕ) → (is_some (new f) ≡ cond (eqb f e) true (is_some (old f))) × (steps_in (new f) ≡ steps_in (old f))
+    × (map number (images_in (new f)) ≡ map number (images_in (old f)))
+seen_begun number e old new begun none f =
+    let at = none_from (old e) none in (
+      view_set is_some e (Some begun.0) old new begun.3 f,
+      view_kept steps_in e (Some begun.0) old new begun.3 (ap steps_in at ∙ sym (ap reverse begun.1)) f,
+      ap (map number) (view_kept images_in e (Some begun.0) old new begun.3 (ap images_in at ∙ sym (ap reverse begun.2)) f),
+    )
+
+-- of slots without that of an examiner
+pub seen_taken : {I : Type 0} (number : I → ℕ) (e : ℕ) (old new : ℕ → Option (Slot I)) → IsSet e None old new → (f : ℕ) →
+    (is_some (new f) ≡ cond (eqb f e) false (is_some (old f))) × (steps_in (new f) ≡ cond (eqb f e) [] (steps_in (old f)))
+    × (map number (images_in (new f)) ≡ cond (eqb f e) [] (map number (images_in (old f))))
+seen_taken number e old new taken f = (
+  view_set is_some e None old new taken f,
+  view_set steps_in e None old new taken f,
+  view_set (λ o. map number (images_in o)) e None old new taken f,
+)
+
+-- if none is left, nobody else has images
+pub none_seen : {I : Type 0} (number : I → ℕ) (e : ℕ) (old new : ℕ → Option (Slot I)) → IsSet e None old new → ((f : ℕ) → new f ≡ None)
+    → (f : ℕ) → cond (eqb f e) [] (map number (images_in (old f))) ≡ []
+none_seen number e old new taken none f = sym (seen_taken number e old new taken f).2 ∙ ap (λ o. map number (images_in o)) (none f)
+
+-- of slots of which one has a step more
+pub seen_answered : {I : Type 0} (number : I → ℕ) (e : ℕ) (step : Step) (old new : ℕ → Option (Slot I)) → StepAdded e step old new
+    → SameImages old new → (f : ℕ) →
+    (is_some (new f) ≡ is_some (old f)) × (steps_in (new f) ≡ cond (eqb f e) (step ∷ steps_in (old f)) (steps_in (old f)))
+    × (map number (images_in (new f)) ≡ map number (images_in (old f)))
+seen_answered number e step old new added same f = ((added f).0, (added f).1, ap (map number) (same f))
+
+-- and an image more
+pub seen_posted : {I : Type 0} (number : I → ℕ) (e : ℕ) (step : Step) (image : I) (old new : ℕ → Option (Slot I)) → StepAdded e step old new
+    → ImageAdded e image old new → (f : ℕ) →
+    (is_some (new f) ≡ is_some (old f)) × (steps_in (new f) ≡ cond (eqb f e) (step ∷ steps_in (old f)) (steps_in (old f)))
+    × (map number (images_in (new f)) ≡ cond (eqb f e) (number image ∷ map number (images_in (old f))) (map number (images_in (old f))))
+seen_posted number e step image old new added more f =
+    ((added f).0, (added f).1, ap (map number) (more f) ∙ view_cond (map number) (eqb f e) (image ∷ images_in (old f)) (images_in (old f)))

@@ -14,7 +14,7 @@ use Rattle.title_instrument.specs.declared.parts.Estates.{Estates}
 use Rattle.title_instrument.specs.Estates.{names}
 use Rattle.title_instrument.specs.Owners.{holding_of}
 use Rattle.title_land.specs.Depth.{depth}
-use Rattle.title_land.specs.Lands.{meets}
+use Rattle.title_land.specs.Lands.{home_of, meets}
 use Rattle.title_land.specs.Grids.{has_some, grids_meet}
 use Rattle.title_land.specs.NodeNumbers.{node_number, township_number}
 use Rattle.title_land.specs.Places.{same_township, same_section}
@@ -38,19 +38,12 @@ use Rattle.title_desk.specs.declared.kept_sheets.Kept.TheVariants as what
 use Rattle.title_desk.specs.declared.kept_sheets.Home.{Home}
 use Rattle.title_desk.specs.declared.kept_sheets.Quartered.{Quartered}
 use Rattle.title_desk.specs.declared.kept_sheets.KeptSheets.{KeptSheets}
-use Rattle.title_desk.specs.Shown.{IsQuarter, IsTrue, land_in, is_left, home_of, all_kept, kept_in, kept_under}
+use Rattle.title_desk.specs.Shown.{IsQuarter, IsTrue, land_in, is_left, all_kept, kept_in, kept_under}
 use Rattle.title_desk.specs.Shown.{IsSetUnder, IsKept, AreKept}
 use Rattle.title_desk.specs.Shown.{SameOutside, SameBut, AreLeft}
 use Rattle.title_desk.specs.Shown.{OthersStay, ApartStay}
 
 -- ---- what stands under a number
-
--- where there is no home, there is no sheet
-pub none_kept : (ts : List Township) (p : Plant) (kept : KeptSheets) → kept.homes.entries ≡ [] → AreKept ts p kept
-none_kept ts p kept none = record {
-  each = λ k. All-same (IsKept ts p k) (kept_under kept k) []
-      (ap (λ (es : List (ℕ × Home)). kept_in (lookup (is_at (nat_cmp k)) es)) none) (All-nil (IsKept ts p k));
-}
 
 -- what a home was found with
 pub found_home : (P : Kept → Type 0) (home : Home) (o : Option Home) → Some home ≡ o → All P (kept_in o) → All P (all_kept home)

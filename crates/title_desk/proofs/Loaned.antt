@@ -1,20 +1,23 @@
--- Images that are out, and those of a transaction that go back or are let go in their turn.
-use Rattle.std.proofs.Common.{◌≡◌, ◌≢◌, ◌<◌, ℕ, Bool, true, false, cond, ◌&&◌, ◌||◌, List, [], ◌∷◌, ◌++◌, reverse, map, refl, ap, ◌∙◌, sym}
-use Rattle.std.proofs.Common.{subst, ◌⊎◌, inl, inr, arith}
+-- Images that are out, those of a transaction that go back or are let go in their turn, and what the plant holds then.
+use Rattle.std.proofs.Common.{◌≡◌, ◌≢◌, ◌<◌, ℕ, Bool, true, false, cond, ◌&&◌, ◌||◌, List, [], ◌∷◌, ◌++◌, reverse, refl, ap, ◌∙◌, sym}
+use Rattle.std.proofs.Common.{subst, ◌⊎◌, inl, inr, arith, map}
 use Rattle.title_land.specs.Depth.{depth}
-use Rattle.std.proofs.lemmas.Bool.{or_parts}
+use Rattle.std.proofs.lemmas.Bool.{or_parts, cond_both, cond-false}
 use Rattle.std.proofs.lemmas.List.{reverse-append, reverse-reverse}
 use Rattle.title_land.specs.declared.place.Township.{Township}
 use Rattle.title_land.specs.Lands.{meets}
-use Rattle.title_store.specs.Plants.{Plant}
-use Rattle.title_store.specs.Loans.{Loan, IsAmong, IsOut, without}
+use Rattle.title_store.specs.Plants.{Plant, SameContent, is_cell_of}
+use Rattle.title_store.specs.Loans.{Loan, IsAmong, IsLentAs, IsOut, without, IsLast, IsFirst}
 use Rattle.title_chain.specs.declared.ask.Ask.{Ask}
 use Rattle.title_chain.specs.declared.ask.Step.{Step}
-use Rattle.title_chain.specs.Asks.{tract_of, is_post, overlap}
+use Rattle.title_chain.specs.Asks.{tract_of, is_post, overlap, effect}
 use Rattle.title_chain.specs.Alone.{after_steps}
 use Rattle.title_chain.specs.Overlaps.{overlaps, Clear}
-use Rattle.title_desk.specs.Images.{is_posted, IsOf, Backs, Peels, Backed, without_all, Restorable, Forgettable}
+use Rattle.title_desk.specs.Images.{is_posted, IsOf, Backs, Peels, Backed, without_all, Restorable, Forgettable, posted_at, put_back}
+use Rattle.title_desk.specs.Images.{IsRestored}
 use Rattle.title_desk.proofs.Content.{case_eqb, post_of}
+use Rattle.title_land.specs.declared.place.Cell.{Cell}
+use Rattle.title_chain.specs.Laws.AskLaws.{effect_outside}
 
 -- what is out without one number
 pub out_without : (n : ℕ) (x : Loan) (out : List Loan) → IsAmong x (without n out) → IsAmong x out × (x.number ≢ n)
@@ -62,52 +65,73 @@ remain_later n ns out now above r = record {
   back = λ b at k. r.back b (inr at) (out_without n b now k).0;
 }
 
-backs_in : {I : Type 0} (number : I → ℕ) (out out' : List Loan) (ts : List Township) (before : Plant) (s : Step) (image : I)
-    (older : List I) →
-    Remain (number image ∷ map number older) out out' → Backs number out ts before s image older → Backs number out' ts before s image older
-backs_in number out out' ts before s image older r p =
+backs_in : (out out' : List Loan) (ts : List Township) (before : Plant) (s : Step) (n : ℕ) (older : List ℕ) →
+    Remain (n ∷ older) out out' → Backs out ts before s n older → Backs out' ts before s n older
+backs_in out out' ts before s n older r p =
     let b = p.is_out.0 in
-    let same : b.number ≡ number image = p.is_out.1.1 in record {
+    let same : b.number ≡ n = p.is_out.1.1 in record {
       is_out = (b, (r.there b (inl same) p.is_out.1.0, same));
       land_is = λ x lent. p.land_is x (r.back x (inl lent.1) lent.0, lent.1);
       holds = λ x lent. p.holds x (r.back x (inl lent.1) lent.0, lent.1);
       above = p.above;
     }
 
-peels_in : {I : Type 0} (number : I → ℕ) (out out' : List Loan) (ts : List Township) (before : Plant) (s : Step) (images older : List I)
-    (posted : Bool) →
-    Peels number out ts before s images older posted → Remain (map number images) out out' →
-    Peels number out' ts before s images older posted × Remain (map number older) out out'
-peels_in number out out' ts before s images older false p r = (p, subst (λ is. Remain (map number is) out out') p.0 r)
-peels_in number out out' ts before s images older true p r =
-    let r' : Remain (number p.0 ∷ map number older) out out' = subst (λ is. Remain (map number is) out out') p.1 r in (
-      (p.0, p.1, backs_in number out out' ts before s p.0 older r' p.2),
+peels_in : (out out' : List Loan) (ts : List Township) (before : Plant) (s : Step) (images older : List ℕ) (posted : Bool) →
+    Peels out ts before s images older posted → Remain images out out' → Peels out' ts before s images older posted × Remain older out out'
+peels_in out out' ts before s images older false p r = (p, subst (λ is. Remain is out out') p.0 r)
+peels_in out out' ts before s images older true p r =
+    let r' : Remain (p.0 ∷ older) out out' = subst (λ is. Remain is out out') p.1 r in (
+      (p.0, p.1, backs_in out out' ts before s p.0 older r' p.2),
       record { there = λ b k. r'.there b (inr k); back = λ b k. r'.back b (inr k) },
     )
 
 -- images that stay out
-pub backed_in : {I : Type 0} (number : I → ℕ) (out out' : List Loan) (ts : List Township) (p : Plant) (own : List Step) (images : List I) →
-    Backed number out ts p own images → Remain (map number images) out out' → Backed number out' ts p own images
-backed_in number out out' ts p [] images b r = b
-backed_in number out out' ts p (s ∷ earlier) images b r =
-    let peeled = peels_in number out out' ts (after_steps depth ts p earlier) s images b.0 (is_posted s.ask s.answer) b.1 r in
-    (b.0, peeled.0, backed_in number out out' ts p earlier b.0 b.2 peeled.1)
+pub backed_in : (out out' : List Loan) (ts : List Township) (p : Plant) (own : List Step) (images : List ℕ) →
+    Backed out ts p own images → Remain images out out' → Backed out' ts p own images
+backed_in out out' ts p [] images b r = b
+backed_in out out' ts p (s ∷ earlier) images b r =
+    let peeled = peels_in out out' ts (after_steps depth ts p earlier) s images b.0 (is_posted s.ask s.answer) b.1 r in
+    (b.0, peeled.0, backed_in out out' ts p earlier b.0 b.2 peeled.1)
 
-peels_out : {I : Type 0} (number : I → ℕ) (out : List Loan) (ts : List Township) (before : Plant) (s : Step) (images older : List I)
-    (posted : Bool) (n : ℕ) →
-    Peels number out ts before s images older posted → IsOf n (map number images) → (IsOf n (map number older) → IsOut n out) → IsOut n out
-peels_out number out ts before s images older false n p h more = more (subst (λ is. IsOf n (map number is)) p.0 h)
-peels_out number out ts before s images older true n p h more =
-    elim (subst (λ is. IsOf n (map number is)) p.1 h) [ inl same ↦ subst (λ z. IsOut z out) (sym same) p.2.is_out | inr r ↦ more r ]
+-- the step is one of these
+abbrev pub IsStepOf : Step → List Step → Type 0
+IsStepOf s [] = ⊥
+IsStepOf s (o ∷ earlier) = (s ≡ o) ⊎ IsStepOf s earlier
 
--- each image is out
-pub backed_out : {I : Type 0} (number : I → ℕ) (out : List Loan) (ts : List Township) (p : Plant) (own : List Step) (images : List I)
-    (n : ℕ) →
-    Backed number out ts p own images → IsOf n (map number images) → IsOut n out
-backed_out number out ts p [] images n b h = absurd (subst (λ is. IsOf n (map number is)) b h)
-backed_out number out ts p (s ∷ earlier) images n b h =
-    peels_out number out ts (after_steps depth ts p earlier) s images b.0 (is_posted s.ask s.answer) n b.1 h
-    (λ k. backed_out number out ts p earlier b.0 n b.2 k)
+-- the image of this number is out for the tract of one of these steps, which was posted
+pub record IsFor (out : List Loan) (own : List Step) (n : ℕ) : Type 0 where
+  pub step : Step
+  pub among : IsStepOf step own
+  pub posted : is_posted step.ask step.answer ≡ true
+  pub is_out : IsOut n out
+  pub land_is : (b : Loan) → IsLentAs b n out → b.land ≡ tract_of step.ask
+
+for_more : (out : List Loan) (own : List Step) (s : Step) (n : ℕ) → IsFor out own n → IsFor out (s ∷ own) n
+for_more out own s n f = record { step = f.step; among = inr f.among; posted = f.posted; is_out = f.is_out; land_is = f.land_is }
+
+peels_for : (out : List Loan) (ts : List Township) (before : Plant) (s : Step) (earlier : List Step) (images older : List ℕ) (posted : Bool)
+    (n : ℕ) → is_posted s.ask s.answer ≡ posted → Peels out ts before s images older posted → IsOf n images
+    → (IsOf n older → IsFor out earlier n) → IsFor out (s ∷ earlier) n
+peels_for out ts before s earlier images older false n is p h more = for_more out earlier s n (more (subst (IsOf n) p.0 h))
+peels_for out ts before s earlier images older true n is p h more =
+    elim (subst (IsOf n) p.1 h) [
+      | inl same ↦ record {
+        step = s;
+        among = inl refl;
+        posted = is;
+        is_out = subst (λ m. IsOut m out) (sym same) p.2.is_out;
+        land_is = λ b lent. p.2.land_is b (lent.0, lent.1 ∙ same);
+      }
+      | inr r ↦ for_more out earlier s n (more r)
+    ]
+
+-- each image is for a step
+pub backed_for : (out : List Loan) (ts : List Township) (p : Plant) (own : List Step) (images : List ℕ) (n : ℕ) →
+    Backed out ts p own images → IsOf n images → IsFor out own n
+backed_for out ts p [] images n b h = absurd (subst (IsOf n) b h)
+backed_for out ts p (s ∷ earlier) images n b h =
+    peels_for out ts (after_steps depth ts p earlier) s earlier images b.0 (is_posted s.ask s.answer) n refl b.1 h
+    (λ k. backed_for out ts p earlier b.0 n b.2 k)
 
 -- each number is above all later ones
 abbrev pub IsFalling : List ℕ → Type 0
@@ -119,18 +143,17 @@ abbrev pub IsRising : List ℕ → Type 0
 IsRising [] = Unit {0}
 IsRising (n ∷ ns) = ((m : ℕ) → IsOf m ns → n < m) × IsRising ns
 
-peels_fall : {I : Type 0} (number : I → ℕ) (out : List Loan) (ts : List Township) (before : Plant) (s : Step) (images older : List I)
-    (posted : Bool) →
-    Peels number out ts before s images older posted → IsFalling (map number older) → IsFalling (map number images)
-peels_fall number out ts before s images older false p h = subst (λ is. IsFalling (map number is)) (sym p.0) h
-peels_fall number out ts before s images older true p h = subst (λ is. IsFalling (map number is)) (sym p.1) (p.2.above, h)
+peels_fall : (out : List Loan) (ts : List Township) (before : Plant) (s : Step) (images older : List ℕ) (posted : Bool) →
+    Peels out ts before s images older posted → IsFalling older → IsFalling images
+peels_fall out ts before s images older false p h = subst IsFalling (sym p.0) h
+peels_fall out ts before s images older true p h = subst IsFalling (sym p.1) (p.2.above, h)
 
 -- the numbers of the images fall
-pub falling : {I : Type 0} (number : I → ℕ) (out : List Loan) (ts : List Township) (p : Plant) (own : List Step) (images : List I)
-    → Backed number out ts p own images → IsFalling (map number images)
-falling number out ts p [] images b = subst (λ is. IsFalling (map number is)) (sym b) tt
-falling number out ts p (s ∷ earlier) images b = peels_fall number out ts (after_steps depth ts p earlier) s images b.0
-    (is_posted s.ask s.answer) b.1 (falling number out ts p earlier b.0 b.2)
+pub falling : (out : List Loan) (ts : List Township) (p : Plant) (own : List Step) (images : List ℕ) → Backed out ts p own images
+    → IsFalling images
+falling out ts p [] images b = subst IsFalling (sym b) tt
+falling out ts p (s ∷ earlier) images b =
+    peels_fall out ts (after_steps depth ts p earlier) s images b.0 (is_posted s.ask s.answer) b.1 (falling out ts p earlier b.0 b.2)
 
 of_append : (ms ns : List ℕ) (m : ℕ) → IsOf m (ms ++ ns) → IsOf m ms ⊎ IsOf m ns
 of_append [] ns m h = inr h
@@ -210,53 +233,128 @@ forgettable (n ∷ ns) now f mine apart = (
       (apart_later n ns now apart),
 )
 
+-- a step that doesn't overlap any of these doesn't overlap this one of them
+misses : (a : Ask) (own : List Step) (s : Step) → IsStepOf s own → overlaps a own ≡ false → overlap a s.ask ≡ false
+misses a [] s at n = absurd at
+misses a (o ∷ earlier) s at n =
+    let parts = or_parts (overlap a o.ask) (overlaps a earlier) n in
+    elim at [ inl same ↦ ap (λ z. overlap a z.ask) same ∙ parts.0 | inr r ↦ misses a earlier s r parts.1 ]
+
+clear_at : (own theirs : List Step) (s t : Step) → IsStepOf s own → IsStepOf t theirs → Clear own theirs → overlap s.ask t.ask ≡ false
+clear_at [] theirs s t at to clear = absurd at
+clear_at (o ∷ earlier) theirs s t at to clear = elim at [
+  | inl same ↦ ap (λ z. overlap z.ask t.ask) same ∙ misses o.ask theirs t to clear.1
+  | inr r ↦ clear_at earlier theirs s t r to clear.0
+]
+
 apart_of : (a b : Ask) → overlap a b ≡ false → is_post a ≡ true → meets (tract_of a) (tract_of b) ≡ false
 apart_of a b n p = sym (ap (λ x. (x || is_post b) && meets (tract_of a) (tract_of b)) p) ∙ n
 
-peeled_away : {I : Type 0} (number : I → ℕ) (out : List Loan) (ts : List Township) (before : Plant) (s : Step) (images older : List I)
-    (posted : Bool) (a : Ask) (x : Loan) →
-    Peels number out ts before s images older posted → overlap a s.ask ≡ false → is_post a ≡ true → IsOf x.number (map number images)
-    → IsAmong x out →
-    (IsOf x.number (map number older) → meets (tract_of a) x.land ≡ false) → meets (tract_of a) x.land ≡ false
-peeled_away number out ts before s images older false a x p n post h at more = more (subst (λ is. IsOf x.number (map number is)) p.0 h)
-peeled_away number out ts before s images older true a x p n post h at more =
-    elim (subst (λ is. IsOf x.number (map number is)) p.1 h) [
-      | inl same ↦ ap (meets (tract_of a)) (p.2.land_is x (at, same)) ∙ apart_of a s.ask n post
-      | inr r ↦ more r
-    ]
-
--- the tract of an image is that of a posted step
-backed_away : {I : Type 0} (number : I → ℕ) (out : List Loan) (ts : List Township) (p : Plant) (own : List Step) (images : List I) (a : Ask)
-    (x : Loan) →
-    Backed number out ts p own images → overlaps a own ≡ false → is_post a ≡ true → IsOf x.number (map number images) → IsAmong x out
-    → meets (tract_of a) x.land ≡ false
-backed_away number out ts p [] images a x b n post h at = absurd (subst (λ is. IsOf x.number (map number is)) b h)
-backed_away number out ts p (s ∷ earlier) images a x b n post h at =
-    let parts = or_parts (overlap a s.ask) (overlaps a earlier) n in
-    peeled_away number out ts (after_steps depth ts p earlier) s images b.0 (is_posted s.ask s.answer) a x b.1 parts.0 post h at
-    (λ k. backed_away number out ts p earlier b.0 a x b.2 parts.1 post k at)
-
-peeled_apart : {I : Type 0} (number : I → ℕ) (out : List Loan) (ts : List Township) (before : Plant) (s : Step) (images older : List I)
-    (posted : Bool) (b x : Loan) →
-    is_posted s.ask s.answer ≡ posted → Peels number out ts before s images older posted → IsOf b.number (map number images)
-    → IsAmong b out →
-    (is_post s.ask ≡ true → meets (tract_of s.ask) x.land ≡ false) → (IsOf b.number (map number older) → meets b.land x.land ≡ false)
-    → meets b.land x.land ≡ false
-peeled_apart number out ts before s images older false b x is p h at here more = more (subst (λ is. IsOf b.number (map number is)) p.0 h)
-peeled_apart number out ts before s images older true b x is p h at here more =
-    elim (subst (λ is. IsOf b.number (map number is)) p.1 h) [
-      | inl same ↦ ap (λ l. meets l x.land) (p.2.land_is b (at, same)) ∙ here (post_of s.ask s.answer is)
-      | inr r ↦ more r
-    ]
-
 -- images of steps that don't overlap share no cell
-pub images_apart : {I : Type 0} (number : I → ℕ) (out : List Loan) (ts : List Township) (p : Plant) (own theirs : List Step)
-    (images others : List I) (b x : Loan) →
-    Backed number out ts p own images → Backed number out ts p theirs others → Clear own theirs →
-    IsOf b.number (map number images) → IsAmong b out → IsOf x.number (map number others) → IsAmong x out → meets b.land x.land ≡ false
-images_apart number out ts p [] theirs images others b x mine yours clear h at k xt =
-    absurd (subst (λ is. IsOf b.number (map number is)) mine h)
-images_apart number out ts p (s ∷ earlier) theirs images others b x mine yours clear h at k xt =
-    peeled_apart number out ts (after_steps depth ts p earlier) s images mine.0 (is_posted s.ask s.answer) b x refl mine.1 h at
-    (λ post. backed_away number out ts p theirs others s.ask x yours clear.1 post k xt)
-    (λ r. images_apart number out ts p earlier theirs mine.0 others b x mine.2 yours clear.0 r at k xt)
+pub images_apart : (out : List Loan) (own theirs : List Step) (b x : Loan) → IsFor out own b.number → IsFor out theirs x.number →
+    Clear own theirs → IsAmong b out → IsAmong x out → meets b.land x.land ≡ false
+images_apart out own theirs b x mine yours clear at xt =
+    rw (mine.land_is b (at, refl), yours.land_is x (xt, refl)) (apart_of mine.step.ask yours.step.ask
+    (clear_at own theirs mine.step yours.step mine.among yours.among clear) (post_of mine.step.ask mine.step.answer mine.posted))
+
+-- the plant at a cell after one step's image, where it has one, has gone back
+record Peeled (out : List Loan) (ts : List Township) (before : Plant) (s : Step) (older : List ℕ) (posted : Bool) (old new : Plant)
+    (c : Cell) : Type 0 where
+  now : List Loan
+  mid : Plant
+  remain : Remain older out now
+  rest : IsRestored ts older now mid new
+  outside : (posted && is_cell_of depth ts (tract_of s.ask) c) ≡ false → mid c ≡ old c
+  undone : old c ≡ effect depth ts before s.ask c → mid c ≡ before c
+
+peeled : (out now : List Loan) (ts : List Township) (before : Plant) (s : Step) (images older : List ℕ) (posted : Bool)
+    (old new : Plant) (c : Cell) → Peels out ts before s images older posted → Remain images out now → IsRestored ts images now old new →
+    Peeled out ts before s older posted old new c
+peeled out now ts before s images older false old new c p r h = record {
+  now = now;
+  mid = old;
+  remain = subst (λ is. Remain is out now) p.0 r;
+  rest = subst (λ is. IsRestored ts is now old new) p.0 h;
+  outside = λ _. refl;
+  undone = λ e. e ∙ p.1 c;
+}
+peeled out now ts before s images older true old new c p r h =
+    let r' : Remain (p.0 ∷ older) out now = subst (λ is. Remain is out now) p.1 r in
+    let h' : IsRestored ts (p.0 ∷ older) now old new = subst (λ is. IsRestored ts is now old new) p.1 h in
+    let b : Loan = p.2.is_out.0 in
+    let lent : IsLentAs b p.0 out = p.2.is_out.1 in
+    let here : h'.0 c ≡ cond (is_cell_of depth ts b.land c) (b.held c) (old c) = h'.1 b (r'.there b (inl lent.1) lent.0, lent.1) c in
+    let land : b.land ≡ tract_of s.ask = p.2.land_is b lent in record {
+      now = without p.0 now;
+      mid = h'.0;
+      remain = remain_later p.0 older out now p.2.above r';
+      rest = h'.2;
+      outside = λ n. here ∙ cond-false (is_cell_of depth ts b.land c) (b.held c) (old c) (ap (λ l. is_cell_of depth ts l c) land ∙ n);
+      undone = λ e. here ∙ cond_both (is_cell_of depth ts b.land c) (b.held c) (old c) (λ x. x ≡ before c)
+          (λ t. p.2.holds b lent c (ap (λ l. is_cell_of depth ts l c) (sym land) ∙ t))
+          (λ f. e ∙ effect_outside depth ts before s.ask c (ap (λ l. is_cell_of depth ts l c) (sym land) ∙ f));
+    }
+
+-- where the steps left the cell as it is, it is as it was before them
+pub restored_back : (out now : List Loan) (ts : List Township) (p : Plant) (own : List Step) (images : List ℕ)
+    (old new : Plant) (c : Cell) →
+    Backed out ts p own images → Remain images out now → IsRestored ts images now old new
+    → old c ≡ after_steps depth ts p own c → new c ≡ p c
+restored_back out now ts p [] images old new c b r h e = subst (λ is. IsRestored ts is now old new) b h c ∙ e
+restored_back out now ts p (s ∷ earlier) images old new c b r h e =
+    let next = peeled out now ts (after_steps depth ts p earlier) s images b.0 (is_posted s.ask s.answer) old new c b.1 r h in
+    restored_back out next.now ts p earlier b.0 next.mid new c b.2 next.remain next.rest (next.undone e)
+
+-- a cell where no step was posted keeps what it has
+pub restored_outside : (out now : List Loan) (ts : List Township) (p : Plant) (own : List Step)
+    (images : List ℕ) (old new : Plant) (c : Cell) →
+    Backed out ts p own images → Remain images out now → IsRestored ts images now old new
+    → posted_at ts c own ≡ false → new c ≡ old c
+restored_outside out now ts p [] images old new c b r h n = subst (λ is. IsRestored ts is now old new) b h c
+restored_outside out now ts p (s ∷ earlier) images old new c b r h n =
+    let parts = or_parts (is_posted s.ask s.answer && is_cell_of depth ts (tract_of s.ask) c) (posted_at ts c earlier) n in
+    let next = peeled out now ts (after_steps depth ts p earlier) s images b.0 (is_posted s.ask s.answer) old new c b.1 r h in
+    restored_outside out next.now ts p earlier b.0 next.mid new c b.2 next.remain next.rest parts.1 ∙ next.outside parts.0
+
+-- the numbers of a list that ends with an image, from its end
+numbers_from : {I : Type 0} (number : I → ℕ) (images rest : List I) (image : I) → images ≡ rest ++ image ∷ []
+    → map number (reverse images) ≡ number image ∷ map number (reverse rest)
+numbers_from number images rest image items = ap (λ is. map number (reverse is)) items ∙ ap (map number) (reverse-append rest (image ∷ []))
+
+-- one image put back, in a loop from the end of a list
+pub record RestoreStep (ts : List Township) (old new : Plant) (out out' : List Loan) (images rest : List ℕ) : Type 0 where
+  pub able : Restorable rest out'
+  pub content : (q : Plant) → IsRestored ts rest out' new q → IsRestored ts images out old q
+  pub gone : without_all rest out' ≡ without_all images out
+
+pub restore_step : {I : Type 0} (number : I → ℕ) (ts : List Township) (old new : Plant) (out out' : List Loan) (images rest : List I)
+    (image : I) →
+    images ≡ rest ++ image ∷ [] → ((b : Loan) → IsLentAs b (number image) out → SameContent (put_back ts b old) new)
+    → out' ≡ without (number image) out → Restorable (map number (reverse images)) out →
+    RestoreStep ts old new out out' (map number (reverse images)) (map number (reverse rest))
+restore_step number ts old new out out' images rest image items content outs able =
+    rw (numbers_from number images rest image items, outs) record {
+      able = (rw (numbers_from number images rest image items) at able).2;
+      content = λ q h. (new, content, h);
+      gone = refl;
+    }
+
+-- one image let go, in a loop from the end of a list
+pub forget_step : {I : Type 0} (number : I → ℕ) (out out' : List Loan) (images rest : List I) (image : I) →
+    images ≡ rest ++ image ∷ [] → out' ≡ without (number image) out → Forgettable (map number (reverse images)) out →
+    Forgettable (map number (reverse rest)) out' × (without_all (map number (reverse rest)) out'
+    ≡ without_all (map number (reverse images)) out)
+forget_step number out out' images rest image items outs able =
+    rw (numbers_from number images rest image items, outs) ((rw (numbers_from number images rest image items) at able).2, refl)
+
+-- the last image of a list can go back first
+pub restores_first : {I : Type 0} (number : I → ℕ) (out : List Loan) (images rest : List I) (image : I) →
+    images ≡ rest ++ image ∷ [] → Restorable (map number (reverse images)) out → IsOut (number image) out × IsLast (number image) out
+restores_first number out images rest image items able =
+    let able' = rw (numbers_from number images rest image items) at able in (able'.0, able'.1)
+
+-- the last image of a list can be let go first
+pub forgets_first : {I : Type 0} (number : I → ℕ) (out : List Loan) (images rest : List I) (image : I) →
+    images ≡ rest ++ image ∷ [] → Forgettable (map number (reverse images)) out → IsOut (number image) out × IsFirst (number image) out
+forgets_first number out images rest image items able =
+    let able' = rw (numbers_from number images rest image items) at able in (able'.0, able'.1)

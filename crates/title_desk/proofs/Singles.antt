@@ -1,15 +1,12 @@
--- What a transaction of one step makes of what the desk keeps, where nobody is open.
-use Rattle.std.proofs.Common.{◌≡◌, ℕ, suc, true, false, cond, List, [], ◌∷◌, ◌++◌, map, reverse, refl, ap, ◌∙◌, sym, subst, eqb}
-use Rattle.std.proofs.Common.{Option, None, length}
-use Rattle.std.specs.Prelude.{nat_le}
+-- A transaction of one step where nobody is open: begun, asked and ended, each by the lemma of that call.
+use Rattle.std.proofs.Common.{◌≡◌, ℕ, suc, true, false, cond, List, [], ◌∷◌, ◌++◌, reverse, refl, ap, ◌∙◌, sym, subst, eqb, None, length}
+use Rattle.std.specs.Prelude.{Option, nat_le, is_some}
 use Rattle.title_land.specs.Depth.{depth}
-use Rattle.std.proofs.Math.Path.{fun_ext}
-use Rattle.std.proofs.lemmas.Bool.{cond_both}
 use Rattle.std.proofs.lemmas.List.{reverse-append, length-reverse}
-use Rattle.title_land.specs.declared.place.Township.{Township}
-use Rattle.title_land.specs.declared.place.Cell.{Cell}
-use Rattle.title_store.specs.Plants.{Plant, SameContent, plant_effect}
-use Rattle.title_store.specs.Loans.{Loan}
+use Rattle.title_lock.specs.declared.guards.Entry.{Entry}
+use Rattle.title_lock.specs.Overlaps.{without}
+use Rattle.title_store.specs.Plants.{Plant, SameContent, plant_effect, refused_in}
+use Rattle.title_store.specs.Loans.{Loan, IsAmong, IsTaken}
 use Rattle.title_chain.specs.declared.ask.Ask.{Ask}
 use Rattle.title_chain.specs.declared.ask.Ask.TheVariants as ask
 use Rattle.title_chain.specs.declared.ask.Answer.{Answer}
@@ -17,277 +14,215 @@ use Rattle.title_chain.specs.declared.ask.Answer.TheVariants as answer
 use Rattle.title_chain.specs.declared.ask.Posting.{Posting}
 use Rattle.title_chain.specs.declared.ask.Step.{Step}
 use Rattle.title_chain.specs.declared.record.Record.{Record}
-use Rattle.title_chain.specs.Asks.{tract_of, is_post, effect}
-use Rattle.title_chain.specs.Alone.{plant_after, alone}
+use Rattle.title_chain.specs.Alone.{alone}
 use Rattle.title_chain.specs.Overlaps.{overlaps, record_of}
-use Rattle.title_chain.specs.Laws.AskLaws.{effect_post}
-use Rattle.title_lock.specs.declared.guards.Entry.{Entry}
-use Rattle.title_lock.specs.Overlaps.{against}
 use Rattle.title_trace.specs.declared.call.Call.{Call}
 use Rattle.title_trace.specs.declared.call.Request.TheVariants as request
+use Rattle.title_trace.specs.declared.call.Reply.{Reply}
 use Rattle.title_trace.specs.declared.call.Reply.TheVariants as reply
 use Rattle.title_trace.specs.Trace.{is_open, open_steps, committed}
 use Rattle.title_trace.specs.Due.{Setting, most_steps, InTheWay, IsDue}
-use Rattle.title_trace.specs.Serial.{IdleHaveNoSteps}
 use Rattle.title_desk.specs.declared.refusal.Refusal.{Refusal}
 use Rattle.title_desk.specs.declared.refusal.Refusal.TheVariants as refusal
 use Rattle.title_desk.specs.declared.slots.Slot.{Slot}
 use Rattle.title_desk.specs.Refusals.{reply_of}
-use Rattle.title_desk.specs.Slots.{images_in}
-use Rattle.title_desk.specs.Images.{is_posted, posted_at, IsOf}
-use Rattle.title_desk.specs.Keeps.{images_of, Facts, Keeps}
+use Rattle.title_desk.specs.Slots.{steps_in}
+use Rattle.title_desk.specs.Images.{is_posted, IsRestored, without_all}
+use Rattle.title_desk.specs.Keeps.{State, Keeps}
 use Rattle.title_desk.specs.Told.{Books, Passes}
-use Rattle.title_desk.specs.Singles.{IsIdle, Stands, Bars, AddedSingle, ToldSingle, after_single}
+use Rattle.title_desk.specs.Admissions.{entry_of}
+use Rattle.title_desk.specs.Singles.{IsIdle, Stands, Bars, ToldSingle, after_single}
 use Rattle.title_desk.proofs.Content.{case_eqb}
-use Rattle.title_desk.proofs.Moves.{facts_same, none_from, none_out}
-use Rattle.title_desk.proofs.Steps.{due_alone, due_no_township, due_invalid, leaves}
+use Rattle.title_desk.proofs.Found.{none_from}
+use Rattle.title_desk.proofs.States.{told, books_of, keeps_told, keeps_slots, keeps_store, keeps_locks, keeps_refused, keeps_began}
+use Rattle.title_desk.proofs.Ends.{Gone, gone_newest, nothing_out, keeps_aborted, keeps_committed}
+use Rattle.title_desk.proofs.Steps.{bars_due, longer, keeps_answered, with_image, keeps_posted}
 
 is_self : (e : ℕ) → eqb e e ≡ true
 is_self e = case_eqb (λ b. b ≡ true) e e (λ _. refl) (λ ne. absurd (ne refl))
 
--- the trace after an examiner has begun
-abbrev begun : ℕ → List Call → List Call
-begun e before = record { request = request.Begin e; reply = reply.Began } ∷ before
+-- a state in which nobody is open, nor has a step
+pub record Idle (s : State) : Type 0 where
+  pub keeps : Keeps s
+  pub shut : IsIdle s.trace
+  pub none : (f : ℕ) → s.own f ≡ []
 
-begun_open : (e : ℕ) (before : List Call) → is_open e (begun e before) ≡ true
-begun_open e before = ap (λ b. cond b true (is_open e before)) (is_self e)
-
-begun_steps : (e : ℕ) (before : List Call) → open_steps (begun e before) e ≡ []
-begun_steps e before = ap (λ b. cond b [] (open_steps before e)) (is_self e)
-
--- where nobody is open, nobody has a step
-pub no_steps : {I : Type 0} {number : I → ℕ} {setting : Setting} {content : Plant} {declared : List Township} {out : List Loan}
-    {locks : List Entry} {trace : List Call} {records : List Record} {slots : ℕ → Option (Slot I)} → IdleHaveNoSteps depth → IsIdle trace →
-    Keeps number setting content declared out locks trace records slots → (f : ℕ) → open_steps trace f ≡ []
-no_steps {setting = setting} {trace = trace} law idle k f = law setting trace f k.due (idle f)
-
--- nor stands in anybody's way
-pub nobody_in_the_way : (trace : List Call) (e : ℕ) (a : Ask) → ((f : ℕ) → open_steps trace f ≡ []) → InTheWay trace e a None
-nobody_in_the_way trace e a none f ne = ap (overlaps a) (none f)
-
--- nor has an image
-no_images : {I : Type 0} {number : I → ℕ} {setting : Setting} {content : Plant} {declared : List Township} {out : List Loan}
-    {locks : List Entry} {trace : List Call} {records : List Record} {slots : ℕ → Option (Slot I)} → IsIdle trace →
-    Keeps number setting content declared out locks trace records slots → (f : ℕ) → images_of slots f ≡ []
-no_images {slots = slots} idle k f = ap images_in (none_from (slots f) (k.slots_are.begun_are f ∙ idle f))
-
--- so no image is out
-pub nothing_out : {I : Type 0} {number : I → ℕ} {setting : Setting} {content : Plant} {declared : List Township} {out : List Loan}
-    {locks : List Entry} {trace : List Call} {records : List Record} {slots : ℕ → Option (Slot I)} → IsIdle trace →
-    Keeps number setting content declared out locks trace records slots → out ≡ []
-nothing_out {number = number} {out = out} idle k =
-    none_out out (λ b at.
-    let owner = k.facts.owned b at in
-    subst (λ is. IsOf b.number (map number is)) (no_images idle k owner.0) owner.1)
-
--- and the store holds the committed plant
-pub holds_committed : {I : Type 0} {number : I → ℕ} {setting : Setting} {content : Plant} {declared : List Township} {out : List Loan}
-    {locks : List Entry} {trace : List Call} {records : List Record} {slots : ℕ → Option (Slot I)} → IdleHaveNoSteps depth → IsIdle trace →
-    Keeps number setting content declared out locks trace records slots → content ≡ plant_after depth setting.townships (committed trace)
-holds_committed {setting = setting} law idle k =
-    fun_ext (λ c. k.facts.rest c (λ f. ap (posted_at setting.townships c) (no_steps law idle k f)))
-
--- the facts of a desk at which nobody is open
-facts_idle : {I : Type 0} (number : I → ℕ) (ts : List Township) (done : List Record) (content : Plant) (locks : List Entry)
-    → ((a : Ask) (f : ℕ) → against (tract_of a) (is_post a) f locks ≡ false) → ((c : Cell) → content c ≡ plant_after depth ts done c) →
-    Facts number ts (λ _. []) (λ _. []) done content [] locks
-facts_idle number ts done content locks free holds = record {
-  locks_are = free;
-  backed = λ e. refl;
-  numbers = λ e f n at bt. absurd at;
-  owned = λ b at. absurd at;
-  posted = λ e c h. cc;
-  rest = λ c none. holds c;
+-- so it is where no slot is there
+pub idle_state : {s : State} {I : Type 0} (slots : ℕ → Option (Slot I)) → Keeps s → IsIdle s.trace
+    → ((f : ℕ) → is_some (slots f) ≡ s.begun f) → ((f : ℕ) → steps_in (slots f) ≡ s.own f) → Idle s
+idle_state slots k shut begun own = record {
+  keeps = k;
+  shut = shut;
+  none = λ f. sym (own f) ∙ ap steps_in (none_from (slots f) (begun f ∙ k.begun_are f ∙ shut f));
 }
 
--- what a desk keeps from one trace at which nobody is open to another
-keeps_idle : {I : Type 0} {number : I → ℕ} {setting : Setting} {content content' : Plant} {declared declared' : List Township}
-    {out out' : List Loan} {locks : List Entry} {trace trace' : List Call} {records records' : List Record} {slots : ℕ → Option (Slot I)} →
-    IdleHaveNoSteps depth → IsIdle trace → Keeps number setting content declared out locks trace records slots
-    → IsDue depth setting trace' →
-    IsIdle trace' → declared' ≡ declared → out' ≡ [] → reverse records' ≡ committed trace' →
-    ((c : Cell) → content' c ≡ plant_after depth setting.townships (committed trace') c) →
-    Keeps number setting content' declared' out' locks trace' records' slots
-keeps_idle {number = number} {setting = setting} {content' = content'} {locks = locks} {trace = trace} {trace' = trace'} {slots = slots} law
-    idle k due shut declared_is out_is records_are holds =
-    let none : (f : ℕ) → open_steps trace' f ≡ [] = λ f. law setting trace' f due (shut f) in
-    let was : (f : ℕ) → open_steps trace f ≡ [] = no_steps law idle k in
-    record {
-      few = k.few;
-      due = due;
-      declared_are = declared_is ∙ k.declared_are;
-      records_are = records_are;
-      slots_are = record {
-        begun_are = λ f. k.slots_are.begun_are f ∙ idle f ∙ sym (shut f);
-        steps_are = λ f. k.slots_are.steps_are f ∙ was f ∙ sym (none f);
-      };
-      facts = facts_same (fun_ext (λ f. sym (none f))) (fun_ext (λ f. sym (no_images idle k f))) refl (sym out_is) refl
-          (facts_idle number setting.townships (committed trace') content' locks
-          (λ a f. k.facts.locks_are a f ∙ ap (overlaps a) (was f)) holds);
-    }
+no_images : {s : State} → Idle s → (f : ℕ) → s.images f ≡ []
+no_images {s} i f = rw (i.none f) at (i.keeps.facts.backed f)
 
--- ---- a step that is refused
+pub none_out : {s : State} → Idle s → s.out ≡ []
+none_out i = nothing_out i.keeps.facts (no_images i)
 
--- a reply that ends nothing and adds nothing
-keeps_still : {I : Type 0} {number : I → ℕ} {setting : Setting} {content : Plant} {declared : List Township} {out : List Loan}
-    {locks : List Entry} {trace : List Call} {records : List Record} {slots : ℕ → Option (Slot I)} → IdleHaveNoSteps depth → IsIdle trace →
-    Keeps number setting content declared out locks trace records slots → (e : ℕ) (a : Ask) (trace' : List Call)
-    → IsDue depth setting trace' →
-    ((f : ℕ) → is_open f trace' ≡ cond (eqb f e) false (cond (eqb f e) true (is_open f trace))) → committed trace' ≡ committed trace →
-    Keeps number setting content declared out locks trace' records slots
-keeps_still {setting = setting} {content = content} {trace = trace} law idle k e a trace' due opens done =
-    keeps_idle law idle k due
-    (λ f. opens f ∙ case_eqb (λ b. cond b false (cond b true (is_open f trace)) ≡ false) f e (λ _. refl) (λ _. idle f)) refl
-    (nothing_out idle k) (k.records_are ∙ sym done)
-    (λ c. ap (λ (p : Plant). p c) (holds_committed law idle k) ∙ ap (λ rs. plant_after depth setting.townships rs c) (sym done))
+-- nobody stands in anybody's way
+pub nobody : {s : State} → Idle s → (e : ℕ) (a : Ask) → InTheWay s.trace e a None
+nobody i e a f ne = ap (overlaps a) (sym (i.keeps.steps_are f) ∙ i.none f)
 
--- a transaction whose step is refused is due
-pub barred_due : {I : Type 0} {number : I → ℕ} {setting : Setting} {content : Plant} {declared : List Township} {out : List Loan}
-    {locks : List Entry} {trace : List Call} {records : List Record} {slots : ℕ → Option (Slot I)} → IsIdle trace →
-    Keeps number setting content declared out locks trace records slots → (e : ℕ) (a : Ask) (why : Refusal) → Bars setting a why →
-    IsDue depth setting (after_single trace e a (reply_of why))
-barred_due {setting = setting} {trace = trace} idle k e a refusal.NoSuchTownship bar = (
-  ((k.due, rw (idle e) refl), due_no_township setting (begun e trace) e a (begun_open e trace) bar),
-  rw (begun_open e trace) refl,
+-- an examiner has begun
+abbrev begun : ℕ → State → State
+begun e s = told (request.Begin e) reply.Began (record s { begun = λ f. cond (eqb f e) true (s.begun f) })
+
+began : {s : State} → Idle s → (e : ℕ) → Keeps (begun e s)
+began i e = keeps_began e i.keeps (i.keeps.begun_are e ∙ i.shut e) (i.none e)
+
+opened : (s : State) (e : ℕ) → (begun e s).begun e ≡ true
+opened s e = ap (λ b. cond b true (s.begun e)) (is_self e)
+
+is_open_now : {s : State} → Idle s → (e : ℕ) → is_open e (begun e s).trace ≡ true
+is_open_now {s} i e = sym ((began i e).begun_are e) ∙ opened s e
+
+-- the ask passes, if it can stand
+passes : {s : State} → Idle s → (e : ℕ) (a : Ask) → Stands s.setting a → Passes (books_of (begun e s)) e a
+passes {s} i e a stands =
+    let steps : (f : ℕ) → open_steps (begun e s).trace f ≡ [] = λ f. sym ((began i e).steps_are f) ∙ i.none f in
+    (is_open_now i e, stands.0, stands.1, ap (λ own. nat_le most_steps (length own)) (steps e), λ f ne. ap (overlaps a) (steps f))
+
+-- what it gets alone, before and after it has begun
+alone_now : {s : State} → Idle s → (e : ℕ) (a : Ask) (given : Answer)
+    → given ≡ alone depth s.setting.townships (committed s.trace) (open_steps s.trace e) a
+    → given ≡ alone depth s.setting.townships (committed s.trace) (open_steps (begun e s).trace e) a
+alone_now {s} i e a given is =
+    is ∙ ap (λ own. alone depth s.setting.townships (committed s.trace) own a) (sym (i.keeps.steps_are e) ∙ (began i e).steps_are e)
+
+-- who has begun and ended again has no slot, steps or images
+slots_back : {s : State} → Idle s → (e : ℕ) (own : ℕ → List Step) (images : ℕ → List ℕ) → ((f : ℕ) → cond (eqb f e) [] (own f) ≡ [])
+    → ((f : ℕ) → cond (eqb f e) [] (images f) ≡ []) → (f : ℕ) →
+    (s.begun f ≡ cond (eqb f e) false (cond (eqb f e) true (s.begun f))) × (s.own f ≡ cond (eqb f e) [] (own f))
+    × (s.images f ≡ cond (eqb f e) [] (images f))
+slots_back {s} i e own images no_steps no_images_left f = (
+  case_eqb (λ b. s.begun f ≡ cond b false (cond b true (s.begun f))) f e (λ _. i.keeps.begun_are f ∙ i.shut f) (λ _. refl),
+  i.none f ∙ sym (no_steps f),
+  no_images i f ∙ sym (no_images_left f),
 )
-barred_due {setting = setting} {trace = trace} idle k e a (refusal.Invalid cause) bar = (
-  ((k.due, rw (idle e) refl), due_invalid setting (begun e trace) e a cause (begun_open e trace) bar.0 bar.1),
-  rw (begun_open e trace) refl,
-)
-barred_due idle k e a refusal.NotOpen bar = absurd bar
-barred_due idle k e a refusal.AlreadyOpen bar = absurd bar
-barred_due idle k e a refusal.TooLong bar = absurd bar
-barred_due idle k e a (refusal.Conflict f) bar = absurd bar
 
--- and changes nothing that is kept
-pub keeps_barred : {I : Type 0} {number : I → ℕ} {setting : Setting} {content : Plant} {declared : List Township} {out : List Loan}
-    {locks : List Entry} {trace : List Call} {records : List Record} {slots : ℕ → Option (Slot I)} → IdleHaveNoSteps depth → IsIdle trace →
-    Keeps number setting content declared out locks trace records slots → (e : ℕ) (a : Ask) (why : Refusal) → Bars setting a why →
-    Keeps number setting content declared out locks (after_single trace e a (reply_of why)) records slots
-keeps_barred law idle k e a refusal.NoSuchTownship bar =
-    keeps_still law idle k e a _ (barred_due idle k e a refusal.NoSuchTownship bar) (λ f. refl) refl
-keeps_barred law idle k e a (refusal.Invalid cause) bar =
-    keeps_still law idle k e a _ (barred_due idle k e a (refusal.Invalid cause) bar) (λ f. refl) refl
-keeps_barred law idle k e a refusal.NotOpen bar = absurd bar
-keeps_barred law idle k e a refusal.AlreadyOpen bar = absurd bar
-keeps_barred law idle k e a refusal.TooLong bar = absurd bar
-keeps_barred law idle k e a (refusal.Conflict f) bar = absurd bar
+nothing_at : {X : Type 0} (e : ℕ) (xs : ℕ → List X) → ((f : ℕ) → xs f ≡ []) → (f : ℕ) → cond (eqb f e) [] (xs f) ≡ []
+nothing_at e xs none f = case_eqb (λ b. cond b [] (xs f) ≡ []) f e (λ _. refl) (λ _. none f)
 
--- its calls
-pub barred_calls : (setting : Setting) (trace : List Call) (e : ℕ) (a : Ask) (why : Refusal) → Bars setting a why →
-    record { request = request.Abort e; reply = reply.Aborted } ∷ record { request = request.Step e a; reply = reply_of why }
-    ∷ begun e trace
-    ≡ after_single trace e a (reply_of why)
-barred_calls setting trace e a refusal.NoSuchTownship bar = refl
-barred_calls setting trace e a (refusal.Invalid cause) bar = refl
-barred_calls setting trace e a refusal.NotOpen bar = absurd bar
-barred_calls setting trace e a refusal.AlreadyOpen bar = absurd bar
-barred_calls setting trace e a refusal.TooLong bar = absurd bar
-barred_calls setting trace e a (refusal.Conflict f) bar = absurd bar
+-- locks that have gone again put nobody in anybody's way
+keeps_unlocked : {s t : State} → Idle s → Keeps t → ((f : ℕ) → t.own f ≡ s.own f) → Keeps (record t { locks = s.locks })
+keeps_unlocked {s} i k own =
+    keeps_locks s.locks (λ a f. i.keeps.facts.locks_are a f ∙ ap (overlaps a) (sym (own f)) ∙ sym (k.facts.locks_are a f)) k
 
--- which are told
-pub barred_told : (old new : Books) (e : ℕ) (a : Ask) (why : Refusal) → AddedSingle old e a (reply_of why) new
-    → ToldSingle old e a (reply_of why) new
-barred_told old new e a refusal.NotOpen added = added
-barred_told old new e a refusal.AlreadyOpen added = added
-barred_told old new e a refusal.NoSuchTownship added = added
-barred_told old new e a (refusal.Invalid cause) added = added
-barred_told old new e a refusal.TooLong added = added
-barred_told old new e a (refusal.Conflict f) added = added
+-- the state after a transaction of one step that is answered
+abbrev pub after_one : ℕ → Ask → Answer → Plant → State → State
+after_one e a given after s = record s {
+  trace = after_single s.trace e a (reply.Answered given);
+  records = record_of e (record { ask = a; answer = given } ∷ []) ∷ s.records;
+  content = after;
+}
 
--- ---- a step that is answered
-
--- the step of the transaction, after it has begun, is its only one
-own_step : (trace : List Call) (e : ℕ) (s : Step) →
-    cond (eqb e e) (s ∷ cond (eqb e e) [] (open_steps trace e)) (cond (eqb e e) [] (open_steps trace e)) ≡ s ∷ []
-own_step trace e s = ap (λ b. cond b (s ∷ cond b [] (open_steps trace e)) (cond b [] (open_steps trace e))) (is_self e)
-
--- the records after it
-committed_single : (trace : List Call) (e : ℕ) (a : Ask) (given : Answer) → committed (after_single trace e a (reply.Answered given))
-    ≡ record_of e (record { ask = a; answer = given } ∷ []) ∷ committed trace
-committed_single trace e a given =
-    ap (λ own. record_of e own ∷ committed trace) (own_step trace e (record { ask = a; answer = given }))
-
-shut_single : (trace : List Call) (e : ℕ) (a : Ask) (given : Answer) → IsIdle trace → IsIdle (after_single trace e a (reply.Answered given))
-shut_single trace e a given idle f =
-    case_eqb (λ b. cond b false (cond b true (is_open f trace)) ≡ false) f e (λ _. refl) (λ _. idle f)
-
--- a transaction whose step gets the answer that it gets alone is due
-pub single_due : {I : Type 0} {number : I → ℕ} {setting : Setting} {content : Plant} {declared : List Township} {out : List Loan}
-    {locks : List Entry} {trace : List Call} {records : List Record} {slots : ℕ → Option (Slot I)} → IdleHaveNoSteps depth → IsIdle trace →
-    Keeps number setting content declared out locks trace records slots → (e : ℕ) (a : Ask) (given : Answer) → Stands setting a →
-    given ≡ alone depth setting.townships (committed trace) (open_steps trace e) a →
-    IsDue depth setting (after_single trace e a (reply.Answered given))
-single_due {setting = setting} {trace = trace} law idle k e a given stands is =
-    let none : (f : ℕ) → open_steps trace f ≡ [] = no_steps law idle k in
-    let mine : open_steps (begun e trace) e ≡ [] = begun_steps e trace in
-    let books : Books = record { setting = setting; trace = begun e trace; is_ready = true; prepared = None } in
-    let way : InTheWay (begun e trace) e a None =
-    λ f ne. cond_both (eqb f e) [] (open_steps trace f) (λ x. overlaps a x ≡ false) (λ _. refl) (λ _. ap (overlaps a) (none f)) in
-    let passes : Passes books e a = (begun_open e trace, stands.0, stands.1, ap (λ own. nat_le most_steps (length own)) mine, way) in
-    let same : given ≡ alone depth setting.townships (committed trace) (open_steps (begun e trace) e) a =
-    is ∙ ap (λ own. alone depth setting.townships (committed trace) own a) (none e ∙ sym mine) in (
-      ((k.due, rw (idle e) refl), due_alone books e a given passes same),
-      rw (begun_open e trace) refl,
-    )
-
-records_single : (records records' : List Record) (trace : List Call) (e : ℕ) (s : Step) → reverse records ≡ committed trace →
-    records' ≡ records ++ record { examiner = e; steps = s ∷ [] } ∷ [] → reverse records' ≡ record_of e (s ∷ []) ∷ committed trace
-records_single records records' trace e s are more =
-    ap reverse more ∙ reverse-append records (record_of e (s ∷ []) ∷ []) ∙ ap (λ rs. record_of e (s ∷ []) ∷ rs) are
-
--- the place of its record
-pub place_is : {I : Type 0} {number : I → ℕ} {setting : Setting} {content : Plant} {declared : List Township} {out : List Loan}
-    {locks : List Entry} {trace : List Call} {records records' : List Record} {slots : ℕ → Option (Slot I)} →
-    Keeps number setting content declared out locks trace records slots → (r : Record) (place : ℕ) → records' ≡ records ++ r ∷ [] →
-    place ≡ length records' → place ≡ suc (length (committed trace))
-place_is {records = records} {records' = records'} k r place more at =
-    at ∙ sym (length-reverse records')
-    ∙ ap length (ap reverse more ∙ reverse-append records (r ∷ []) ∙ ap (λ rs. r ∷ rs) k.records_are)
-
--- and is kept, the plant being as its ask leaves it
-keeps_done : {I : Type 0} {number : I → ℕ} {setting : Setting} {content content' : Plant} {declared declared' : List Township}
-    {out out' : List Loan} {locks : List Entry} {trace : List Call} {records records' : List Record} {slots : ℕ → Option (Slot I)} →
-    IdleHaveNoSteps depth → IsIdle trace → Keeps number setting content declared out locks trace records slots
-    → (e : ℕ) (a : Ask) (given : Answer)
-    → Stands setting a → given ≡ alone depth setting.townships (committed trace) (open_steps trace e) a → declared' ≡ declared → out' ≡ [] →
-    records' ≡ records ++ record { examiner = e; steps = record { ask = a; answer = given } ∷ [] } ∷ [] →
-    ((c : Cell) → content' c ≡ effect depth setting.townships (plant_after depth setting.townships (committed trace)) a c) →
-    Keeps number setting content' declared' out' locks (after_single trace e a (reply.Answered given)) records' slots
-keeps_done {setting = setting} {content' = content'} {trace = trace} {records = records} {records' = records'} law idle k e a given stands
-    is declared_is out_is more holds =
-    let done = committed_single trace e a given in
-    keeps_idle law idle k (single_due law idle k e a given stands is) (shut_single trace e a given idle) declared_is out_is
-    (records_single records records' trace e (record { ask = a; answer = given }) k.records_are more ∙ sym done)
-    (λ c. holds c ∙ ap (λ rs. plant_after depth setting.townships rs c) (sym done))
+-- the step is answered, and the examiner commits
+closed : {s : State} → Idle s → (e : ℕ) (a : Ask) (given : Answer) (images : ℕ → List ℕ) (after : Plant) (out : List Loan)
+    (locks : List Entry) (gone : List ℕ) →
+    Keeps (told (request.Step e a) (reply.Answered given) (record (begun e s) {
+      own = longer e (record { ask = a; answer = given }) s;
+      images = images;
+      content = after;
+      out = out;
+      locks = locks;
+    }))
+    → Gone (images e) gone → ((f : ℕ) → cond (eqb f e) [] (images f) ≡ []) → without_all gone out ≡ [] → Keeps (after_one e a given after s)
+closed {s} i e a given images after out locks gone k g none none_left =
+    let step : Step = record { ask = a; answer = given } in
+    let own : ℕ → List Step = longer e step s in
+    let mine : own e ≡ step ∷ [] = rw (is_self e, i.none e) refl in
+    let trace_is = ap (λ rs. record { request = request.Commit e; reply = reply.Committed (suc (length rs)) }
+    ∷ record { request = request.Step e a; reply = reply.Answered given } ∷ (begun e s).trace) (sym i.keeps.records_are) in
+    let records_are = ap (λ steps. record_of e steps ∷ s.records) (sym mine) in
+    let no_steps = λ (f : ℕ). case_eqb (λ b. cond b [] (cond b (step ∷ s.own f) (s.own f)) ≡ []) f e (λ _. refl) (λ _. i.none f) in
+    let t : State = record (after_one e a given after s) { locks = without e locks } in
+    let kept : Keeps t = keeps_store (keeps_slots (keeps_told (keeps_committed e gone k (opened s e) g) trace_is records_are)
+    (slots_back i e own images no_steps none) refl) (λ c. refl) refl (none_out i ∙ sym none_left) in
+    keeps_unlocked i kept (λ f. refl)
 
 -- a step that posts nothing
-pub keeps_read : {I : Type 0} {number : I → ℕ} {setting : Setting} {content : Plant} {declared : List Township}
-    {out : List Loan} {locks : List Entry} {trace : List Call} {records records' : List Record} {slots : ℕ → Option (Slot I)} →
-    IdleHaveNoSteps depth → IsIdle trace → Keeps number setting content declared out locks trace records slots
-    → (e : ℕ) (a : Ask) (given : Answer)
-    → Stands setting a → given ≡ alone depth setting.townships (committed trace) (open_steps trace e) a → is_posted a given ≡ false →
-    records' ≡ records ++ record { examiner = e; steps = record { ask = a; answer = given } ∷ [] } ∷ [] →
-    Keeps number setting content declared out locks (after_single trace e a (reply.Answered given)) records' slots
-keeps_read {setting = setting} {trace = trace} law idle k e a given stands is unposted more =
-    let none : open_steps trace e ≡ [] = no_steps law idle k e in
-    let alone_is : given ≡ alone depth setting.townships (committed trace) [] a =
-    is ∙ ap (λ own. alone depth setting.townships (committed trace) own a) none in
-    keeps_done law idle k e a given stands is refl (nothing_out idle k) more
-    (λ c. ap (λ (p : Plant). p c) (holds_committed law idle k)
-    ∙ sym (leaves setting.townships (committed trace) [] a given alone_is unposted c))
+pub keeps_read : {s : State} → Idle s → (e : ℕ) (a : Ask) (given : Answer) → Stands s.setting a
+    → given ≡ alone depth s.setting.townships (committed s.trace) (open_steps s.trace e) a → is_posted a given ≡ false
+    → Keeps (after_one e a given s.content s)
+keeps_read {s} i e a given stands is unposted =
+    closed i e a given s.images s.content s.out (entry_of e a ∷ s.locks) []
+    (keeps_answered e a given (began i e) (passes i e a stands) (alone_now i e a given is) unposted)
+    (subst (λ is. Gone is []) (sym (no_images i e)) (gone_newest [])) (nothing_at e s.images (no_images i)) (none_out i)
 
--- a post that is done
-pub keeps_deed : {I : Type 0} {number : I → ℕ} {setting : Setting} {content content' : Plant} {declared declared' : List Township}
-    {out out' : List Loan} {locks : List Entry} {trace : List Call} {records records' : List Record} {slots : ℕ → Option (Slot I)} →
-    IdleHaveNoSteps depth → IsIdle trace → Keeps number setting content declared out locks trace records slots → (e : ℕ) (p : Posting)
-    → Stands setting (ask.Post p) →
-    answer.Posted ≡ alone depth setting.townships (committed trace) (open_steps trace e) (ask.Post p) → declared' ≡ declared → out' ≡ [] →
-    records' ≡ records ++ record { examiner = e; steps = record { ask = ask.Post p; answer = answer.Posted } ∷ [] } ∷ [] →
-    SameContent (plant_effect depth declared p.instrument content p.tract) content' →
-    Keeps number setting content' declared' out' locks (after_single trace e (ask.Post p) (reply.Answered answer.Posted)) records' slots
-keeps_deed {setting = setting} {content = content} {trace = trace} law idle k e p stands is declared_is out_is more posted =
-    keeps_done law idle k e (ask.Post p) answer.Posted stands is declared_is out_is more
-    (λ c. posted c ∙ ap (λ ts. plant_effect depth ts p.instrument content p.tract c) k.declared_are
-    ∙ ap (λ q. plant_effect depth setting.townships p.instrument q p.tract c) (holds_committed law idle k)
-    ∙ ap (λ (q : Plant). q c) (sym (effect_post depth setting.townships (plant_after depth setting.townships (committed trace)) p)))
+-- a post that is done: its image, which none other stands beside, is let go
+pub keeps_deed : {s : State} → Idle s → (e : ℕ) (p : Posting) (after : Plant) → Stands s.setting (ask.Post p)
+    → refused_in depth s.declared p.instrument s.content p.tract ≡ None →
+    SameContent (plant_effect depth s.declared p.instrument s.content p.tract) after
+    → Keeps (after_one e (ask.Post p) answer.Posted after s)
+keeps_deed {s} i e p after stands h same =
+    let new : Loan = record { number = 0; land = p.tract; held = s.content } in
+    let taken : IsTaken 0 s.declared p.tract s.content s.out (s.out ++ new ∷ []) = record {
+      held = s.content;
+      holds = λ c inside. refl;
+      above = λ x at. absurd (subst (IsAmong x) (none_out i) at);
+      last = refl;
+    } in
+    let mine : with_image e 0 s e ≡ 0 ∷ [] = rw (is_self e, no_images i e) refl in
+    closed i e (ask.Post p) answer.Posted (with_image e 0 s) after (s.out ++ new ∷ []) (entry_of e (ask.Post p) ∷ s.locks) (0 ∷ [])
+    (keeps_posted e p 0 after (s.out ++ new ∷ []) (began i e) (passes i e (ask.Post p) stands) h taken same)
+    (subst (λ is. Gone is (0 ∷ [])) (sym mine) (gone_newest (0 ∷ [])))
+    (λ f. case_eqb (λ b. cond b [] (cond b (0 ∷ s.images f) (s.images f)) ≡ []) f e (λ _. refl) (λ _. no_images i f))
+    (ap (λ out. without_all (0 ∷ []) (out ++ new ∷ [])) (none_out i))
+
+-- the calls and the records with those of such a transaction
+pub added : {s : State} (records mid records' : List Record) (steps : List Step) (trace : List Call) → Keeps s → (e : ℕ) (a : Ask)
+    (given : Answer) → s.records ≡ reverse records → mid ≡ records → steps ≡ record { ask = a; answer = given } ∷ []
+    → records' ≡ mid ++ record { examiner = e; steps = steps } ∷ [] →
+    trace ≡ record { request = request.Commit e; reply = reply.Committed (length records') }
+    ∷ record { request = request.Step e a; reply = reply.Answered given } ∷ record { request = request.Begin e; reply = reply.Began }
+    ∷ s.trace →
+    (trace ≡ after_single s.trace e a (reply.Answered given))
+    × (reverse records' ≡ record_of e (record { ask = a; answer = given } ∷ []) ∷ s.records)
+added {s} records mid records' steps trace k e a given are kept own more calls =
+    let new : Record = record_of e (record { ask = a; answer = given } ∷ []) in
+    let longer_by : records' ≡ records ++ new ∷ [] = more ∙ (λ i. kept i ++ record { examiner = e; steps = own i } ∷ []) in
+    let now : reverse records' ≡ new ∷ s.records =
+    ap reverse longer_by ∙ reverse-append records (new ∷ []) ∙ ap (λ rs. new ∷ rs) (sym are) in
+    let place : length records' ≡ suc (length (committed s.trace)) =
+    sym (length-reverse records') ∙ ap length now ∙ ap (λ rs. suc (length rs)) k.records_are in
+    (rw place at calls, now)
+
+-- the step is refused, and the examiner aborts
+pub keeps_barred : {s : State} → Idle s → (e : ℕ) (a : Ask) (why : Refusal) → Bars s.setting a why
+    → Keeps (told (request.Abort e) reply.Aborted (told (request.Step e a) (reply_of why) (told (request.Begin e) reply.Began s)))
+keeps_barred {s} i e a why bar =
+    let k = keeps_refused (request.Step e a) why (began i e) (bars_due (books_of (begun e s)) e a why (is_open_now i e) bar) in
+    let t : State = told (request.Abort e) reply.Aborted (told (request.Step e a) (reply_of why)
+    (told (request.Begin e) reply.Began (record s { locks = without e s.locks }))) in
+    let back : IsRestored s.declared (s.images e) s.out s.content s.content =
+    subst (λ is. IsRestored s.declared is s.out s.content s.content) (sym (no_images i e)) (λ c. refl) in
+    let kept : Keeps t = keeps_store (keeps_slots (keeps_aborted e s.content k (opened s e) back)
+    (slots_back i e s.own s.images (nothing_at e s.own i.none) (nothing_at e s.images (no_images i))) refl) (λ c. refl) refl
+    (ap (λ is. without_all is s.out) (sym (no_images i e))) in
+    keeps_unlocked i kept (λ f. refl)
+
+-- the calls of a transaction of one step are told, if they are due
+pub told_single : {s : State} {setting : Setting} {trace : List Call} (old : Books) → Keeps s → (e : ℕ) (a : Ask) (r : Reply)
+    → old.setting ≡ s.setting → (before : List Call) → old.trace ≡ before → setting ≡ s.setting → s.trace ≡ after_single before e a r
+    → trace ≡ s.trace →
+    (setting ≡ old.setting) × (trace ≡ after_single old.trace e a r) × IsDue depth old.setting (after_single old.trace e a r)
+told_single {s} old k e a r setting before trace same calls added =
+    let now : s.trace ≡ after_single old.trace e a r = calls ∙ ap (λ t. after_single t e a r) (sym trace) in (
+      same ∙ sym setting,
+      added ∙ now,
+      subst (λ x. IsDue depth x (after_single old.trace e a r)) (sym setting) (subst (IsDue depth s.setting) now k.due),
+    )
+
+pub barred_told : {s : State} (old new : Books) → Idle s → (e : ℕ) (a : Ask) (why : Refusal) → Bars s.setting a why
+    → old.setting ≡ s.setting → old.trace ≡ s.trace → new.setting ≡ s.setting
+    → new.trace ≡ record { request = request.Abort e; reply = reply.Aborted }
+    ∷ record { request = request.Step e a; reply = reply_of why } ∷ record { request = request.Begin e; reply = reply.Began } ∷ s.trace →
+    ToldSingle old e a (reply_of why) new
+barred_told {s} old new i e a refusal.NoSuchTownship bar setting trace same added =
+    told_single old (keeps_barred i e a refusal.NoSuchTownship bar) e a reply.NoSuchTownship setting s.trace trace same refl added
+barred_told {s} old new i e a (refusal.Invalid cause) bar setting trace same added =
+    told_single old (keeps_barred i e a (refusal.Invalid cause) bar) e a (reply.Invalid cause) setting s.trace trace same refl added
+barred_told old new i e a _ bar setting trace same added = absurd bar

@@ -1,120 +1,110 @@
--- Steps: what is due to them, and what an answered one makes of what the desk keeps.
-use Rattle.std.proofs.Common.{◌≡◌, ℕ, Bool, true, false, cond, ◌&&◌, ◌||◌, List, ◌∷◌, reverse, refl, ap, ◌∙◌, sym, subst, eqb, Option, Some}
-use Rattle.std.proofs.Common.{None, length, Result, Ok, Err, is_err, OnOk, OnErr}
+-- Steps: what is due to them, and what an answered one makes of a state, a post that was done too, or one that is taken back.
+use Rattle.std.proofs.Common.{◌≡◌, ◌≢◌, ℕ, Bool, true, false, cond, ◌&&◌, ◌||◌, List, ◌∷◌, refl, ap, ◌∙◌, sym, subst, eqb, Option, Some}
+use Rattle.std.proofs.Common.{None, Result, Ok, Err, is_err, OnOk, OnErr, ◌<◌, [], ◌++◌, ◌⊎◌, inl, inr, arith}
 use Rattle.title_land.specs.Depth.{depth}
-use Rattle.std.proofs.Math.Path.{fun_ext}
-use Rattle.std.specs.Prelude.{nat_le}
 use Rattle.title_land.specs.declared.place.Township.{Township}
 use Rattle.title_land.specs.declared.place.Cell.{Cell}
 use Rattle.title_land.specs.declared.tract.Land.{Land}
-use Rattle.title_land.specs.Lands.{meets, is_in_plant}
-use Rattle.title_instrument.specs.declared.parts.Cause.{Cause}
-use Rattle.title_store.specs.Plants.{Plant, Refusal, is_cell_of, refused_in}
+use Rattle.title_land.specs.Lands.{meets}
+use Rattle.title_store.specs.Plants.{Plant, Refusal, is_cell_of, refused_in, SameContent, plant_effect}
 use Rattle.title_store.specs.Sheets.{sheet_of}
-use Rattle.title_store.specs.Loans.{Loan}
 use Rattle.title_chain.specs.declared.ask.Ask.{Ask}
 use Rattle.title_chain.specs.declared.ask.Ask.TheVariants as ask
 use Rattle.title_chain.specs.declared.ask.Answer.{Answer}
 use Rattle.title_chain.specs.declared.ask.Answer.TheVariants as answer
 use Rattle.title_chain.specs.declared.ask.Posting.{Posting}
 use Rattle.title_chain.specs.declared.ask.Step.{Step}
-use Rattle.title_chain.specs.declared.record.Record.{Record}
-use Rattle.title_chain.specs.Asks.{tract_of, is_post, cause_of, effect, post_answer}
+use Rattle.title_chain.specs.Asks.{tract_of, is_post, effect, post_answer}
 use Rattle.title_chain.specs.Chains.{chain_of}
-use Rattle.title_chain.specs.Alone.{after_steps, plant_after, alone}
+use Rattle.title_chain.specs.Alone.{after_steps, alone}
 use Rattle.title_chain.specs.Overlaps.{overlaps}
-use Rattle.title_chain.specs.Laws.AskLaws.{answer_same, answer_sheet, answer_chain, answer_post, effect_read, effect_refused}
-use Rattle.title_lock.specs.declared.guards.Access.{Access}
-use Rattle.title_lock.specs.declared.guards.Entry.{Entry}
+use Rattle.title_chain.specs.Laws.AskLaws.{answer_same, answer_sheet, answer_chain, answer_post, effect_read, effect_refused, effect_same}
+use Rattle.title_chain.specs.Laws.AskLaws.{effect_outside, effect_post}
 use Rattle.title_lock.specs.Overlaps.{against, Stands, is_post as is_post_access}
-use Rattle.title_trace.specs.declared.call.Call.{Call}
 use Rattle.title_trace.specs.declared.call.Request.TheVariants as request
-use Rattle.title_trace.specs.declared.call.Reply.{Reply}
 use Rattle.title_trace.specs.declared.call.Reply.TheVariants as reply
 use Rattle.title_trace.specs.Trace.{is_open, open_steps, committed}
-use Rattle.title_trace.specs.Due.{Setting, most_steps, InTheWay, DueStep, DueReply}
-use Rattle.title_desk.specs.declared.slots.Slot.{Slot}
-use Rattle.title_desk.specs.Slots.{StepAdded, SameImages, steps_in}
-use Rattle.title_desk.specs.Images.{is_posted, posted_at, Peels, Backed}
-use Rattle.title_desk.specs.Keeps.{SlotsAre, Facts, Keeps}
+use Rattle.title_trace.specs.Due.{InTheWay, DueReply}
+use Rattle.title_desk.specs.Images.{is_posted, posted_at, Peels, Backed, IsOf, Backs, put_back}
+use Rattle.title_desk.specs.Keeps.{State, plant_of, plant_for, Facts, Keeps}
+use Rattle.title_desk.specs.declared.refusal.Refusal as refusals
+use Rattle.title_desk.specs.declared.refusal.Refusal.TheVariants as refusal
+use Rattle.title_desk.specs.Refusals.{reply_of}
+use Rattle.title_desk.specs.Singles.{Bars}
 use Rattle.title_desk.specs.Told.{Books, Passes}
-use Rattle.title_desk.proofs.Content.{case_eqb, content_is}
-use Rattle.title_desk.proofs.Moves.{facts_same}
+use Rattle.title_desk.specs.Admissions.{IsFit, access_of, entry_of}
+use Rattle.title_desk.proofs.Content.{case_eqb, content_is, unposted}
+use Rattle.title_desk.proofs.States.{told, books_of}
+use Rattle.std.proofs.lemmas.Bool.{or_parts, false_from_ne_true, both_ways, cases_Bool, cond_both}
+use Rattle.title_instrument.specs.declared.instrument.Instrument.{Instrument}
+use Rattle.title_store.specs.Loans.{Loan, IsAmong, IsLentAs, IsOut, IsLast, IsFirst, IsTaken, without}
+use Rattle.title_store.specs.Laws.EffectLaws as store
+use Rattle.title_chain.specs.ChainLaws.{SameIn}
+use Rattle.title_desk.proofs.Loaned.{Remain, backed_in, backed_for}
 
--- the due reply to a step, by its four tests
-due_from : (setting : Setting) (before : List Call) (e : ℕ) (a : Ask) (r : Reply) (begun inside : Bool) (cause : Option Cause) (full : Bool)
-    →
-    is_open e before ≡ begun → is_in_plant setting.townships (tract_of a) ≡ inside → cause_of setting.parties a ≡ cause
-    → nat_le most_steps (length (open_steps before e)) ≡ full →
-    DueStep depth setting before e a r begun inside cause full → DueReply depth setting before (request.Step e a) r
-due_from setting before e a r begun inside cause full h1 h2 h3 h4 due =
-    subst (λ b. DueStep depth setting before e a r b (is_in_plant setting.townships (tract_of a)) (cause_of setting.parties a)
-    (nat_le most_steps (length (open_steps before e)))) (sym h1)
-    (subst (λ b. DueStep depth setting before e a r begun b (cause_of setting.parties a) (nat_le most_steps (length (open_steps before e))))
-    (sym h2)
-    (subst (λ b. DueStep depth setting before e a r begun inside b (nat_le most_steps (length (open_steps before e)))) (sym h3)
-    (subst (λ b. DueStep depth setting before e a r begun inside cause b) (sym h4) due)))
-
-pub due_not_open : (setting : Setting) (before : List Call) (e : ℕ) (a : Ask) → is_open e before ≡ false
-    → DueReply depth setting before (request.Step e a) reply.NotOpen
-due_not_open setting before e a h = due_from setting before e a reply.NotOpen false _ _ _ h refl refl refl refl
-
-pub due_no_township : (setting : Setting) (before : List Call) (e : ℕ) (a : Ask) → is_open e before ≡ true
-    → is_in_plant setting.townships (tract_of a) ≡ false →
-    DueReply depth setting before (request.Step e a) reply.NoSuchTownship
-due_no_township setting before e a h1 h2 = due_from setting before e a reply.NoSuchTownship true false _ _ h1 h2 refl refl refl
-
-pub due_invalid : (setting : Setting) (before : List Call) (e : ℕ) (a : Ask) (cause : Cause) → is_open e before ≡ true
-    → is_in_plant setting.townships (tract_of a) ≡ true → cause_of setting.parties a ≡ Some cause →
-    DueReply depth setting before (request.Step e a) (reply.Invalid cause)
-due_invalid setting before e a cause h1 h2 h3 = due_from setting before e a (reply.Invalid cause) true true (Some cause) _ h1 h2 h3 refl
-    refl
-
-pub due_too_long : (setting : Setting) (before : List Call) (e : ℕ) (a : Ask) → is_open e before ≡ true
-    → is_in_plant setting.townships (tract_of a) ≡ true → cause_of setting.parties a ≡ None
-    → nat_le most_steps (length (open_steps before e)) ≡ true →
-    DueReply depth setting before (request.Step e a) reply.TooLong
-due_too_long setting before e a h1 h2 h3 h4 = due_from setting before e a reply.TooLong true true None true h1 h2 h3 h4 refl
-
-pub due_conflict : (setting : Setting) (before : List Call) (e : ℕ) (a : Ask) (f : ℕ) → is_open e before ≡ true
-    → is_in_plant setting.townships (tract_of a) ≡ true → cause_of setting.parties a ≡ None
-    → nat_le most_steps (length (open_steps before e)) ≡ false →
-    InTheWay before e a (Some f) → DueReply depth setting before (request.Step e a) (reply.Conflict f)
-due_conflict setting before e a f h1 h2 h3 h4 way =
-    due_from setting before e a (reply.Conflict f) true true None false h1 h2 h3 h4 (Some f, way, refl)
+-- a refusal that bars an ask is due to who is open
+pub bars_due : (books : Books) (e : ℕ) (a : Ask) (why : refusals.Refusal) → is_open e books.trace ≡ true → Bars books.setting a why
+    → DueReply depth books.setting books.trace (request.Step e a) (reply_of why)
+bars_due books e a refusal.NoSuchTownship opened bar = rw (opened, bar) refl
+bars_due books e a (refusal.Invalid cause) opened bar = rw (opened, bar.0, bar.1) refl
+bars_due books e a _ opened bar = absurd bar
 
 -- the answer that a step gets alone is due where nothing refuses it
 pub due_alone : (books : Books) (e : ℕ) (a : Ask) (given : Answer) → Passes books e a
     → given ≡ alone depth books.setting.townships (committed books.trace) (open_steps books.trace e) a →
     DueReply depth books.setting books.trace (request.Step e a) (reply.Answered given)
-due_alone books e a given p is = due_from books.setting books.trace e a (reply.Answered given) true true None false p.0 p.1 p.2 p.3
-    (None, p.4, ap reply.Answered is)
+due_alone books e a given p is = rw (p.0, p.1, p.2, p.3) (None, p.4, ap reply.Answered is)
+
+-- who is in the way of a step that is fit is named
+pub conflict_due : (books : Books) (e : ℕ) (a : Ask) (f : ℕ) → IsFit books e a → InTheWay books.trace e a (Some f)
+    → DueReply depth books.setting books.trace (request.Step e a) (reply.Conflict f)
+conflict_due books e a f fit way = rw (fit.0, fit.1, fit.2, fit.3) (Some f, way, refl)
 
 -- who is in the way by the locks is in the way by the trace
-pub in_the_way : {I : Type 0} {number : I → ℕ} {setting : Setting} {content : Plant} {declared : List Township} {out : List Loan}
-    {locks : List Entry} {trace : List Call} {records : List Record} {slots : ℕ → Option (Slot I)} →
-    (e : ℕ) (a : Ask) (post : Bool) (way : Option ℕ) → Keeps number setting content declared out locks trace records slots
-    → post ≡ is_post a → Stands locks e (tract_of a) post way → InTheWay trace e a way
-in_the_way {locks = locks} e a post None k p h = λ f ne.
-    sym (k.facts.locks_are a f) ∙ ap (λ b. against (tract_of a) b f locks) (sym p) ∙ h f ne
-in_the_way {locks = locks} e a post (Some f) k p h = (
-  h.0,
-  sym (k.facts.locks_are a f) ∙ ap (λ b. against (tract_of a) b f locks) (sym p) ∙ h.1,
-  λ g below ne. sym (k.facts.locks_are a g) ∙ ap (λ b. against (tract_of a) b g locks) (sym p) ∙ h.2 g below ne,
-)
+pub in_the_way : {s : State} (e : ℕ) (a : Ask) (post : Bool) (way : Option ℕ) → Keeps s → post ≡ is_post a
+    → Stands s.locks e (tract_of a) post way → InTheWay s.trace e a way
+in_the_way {s} e a post way k p stands = go way (rw p at stands)
+  where
+    same : (f : ℕ) → against (tract_of a) (is_post a) f s.locks ≡ overlaps a (open_steps s.trace f)
+    same f = k.facts.locks_are a f ∙ ap (overlaps a) (k.steps_are f)
+
+    go : (w : Option ℕ) → Stands s.locks e (tract_of a) (is_post a) w → InTheWay s.trace e a w
+    go None h = λ f ne. sym (same f) ∙ h f ne
+    go (Some f) h = (h.0, sym (same f) ∙ h.1, λ g below ne. sym (same g) ∙ h.2 g below ne)
+
+-- nobody's steps overlap the ask but the examiner's own
+pub free_of : {s : State} (e : ℕ) (a : Ask) → Keeps s → InTheWay s.trace e a None → (f : ℕ) → f ≢ e → overlaps a (s.own f) ≡ false
+free_of e a k way f ne = ap (overlaps a) (k.steps_are f) ∙ way f ne
+
+-- what an ask gets alone after the records and the examiner's steps is what it gets after the trace
+alone_is : {s : State} (e : ℕ) (a : Ask) → Keeps s → alone depth s.declared s.records (s.own e) a
+    ≡ alone depth s.setting.townships (committed s.trace) (open_steps s.trace e) a
+alone_is {s} e a k = rw (k.declared_are, k.records_are, k.steps_are e) refl
 
 -- the sheet of what the store holds is what the examiner sees
-pub sheet_due : {I : Type 0} {number : I → ℕ} {setting : Setting} {content : Plant} {declared : List Township} {out : List Loan}
-    {locks : List Entry} {trace : List Call} {records : List Record} {slots : ℕ → Option (Slot I)} →
-    (e : ℕ) (t : Land) → Keeps number setting content declared out locks trace records slots → InTheWay trace e (ask.Sheet t) None →
-    answer.Rows (sheet_of depth setting.townships content t)
-    ≡ alone depth setting.townships (committed trace) (open_steps trace e) (ask.Sheet t)
-sheet_due {setting = setting} {content = content} {trace = trace} e t k h =
-    let ts = setting.townships in
-    let seen : Plant = after_steps depth ts (plant_after depth ts (committed trace)) (open_steps trace e) in
-    let listed = chain_of (committed trace) (open_steps trace e) t in
-    sym (answer_sheet depth ts content listed t) ∙ answer_same depth ts content seen listed listed (ask.Sheet t)
-    (content_is k.facts e (ask.Sheet t) h) refl
+pub sheet_due : {s : State} (e : ℕ) (t : Land) → Keeps s → InTheWay s.trace e (ask.Sheet t) None →
+    answer.Rows (sheet_of depth s.declared s.content t)
+    ≡ alone depth s.setting.townships (committed s.trace) (open_steps s.trace e) (ask.Sheet t)
+sheet_due {s} e t k way =
+    let listed = chain_of s.records (s.own e) t in
+    sym (answer_sheet depth s.declared s.content listed t) ∙ answer_same depth s.declared s.content (plant_for s e) listed listed
+    (ask.Sheet t) (content_is k.facts e (ask.Sheet t) (free_of e (ask.Sheet t) k way)) refl ∙ alone_is e (ask.Sheet t) k
+
+-- the chain that is made of the records and of the examiner's steps is the one that it sees
+pub chain_due : {s : State} (e : ℕ) (t : Land) → Keeps s → answer.Entries (chain_of s.records (s.own e) t)
+    ≡ alone depth s.setting.townships (committed s.trace) (open_steps s.trace e) (ask.Chain t)
+chain_due {s} e t k =
+    sym (answer_chain depth s.declared (plant_for s e) (chain_of s.records (s.own e) t) t) ∙ alone_is e (ask.Chain t) k
+
+-- what the store says to a post is what the ask gets alone
+pub post_due : {s : State} (e : ℕ) (p : Posting) (refused : Option Refusal) → Keeps s → InTheWay s.trace e (ask.Post p) None →
+    refused_in depth s.declared p.instrument s.content p.tract ≡ refused →
+    post_answer refused ≡ alone depth s.setting.townships (committed s.trace) (open_steps s.trace e) (ask.Post p)
+post_due {s} e p refused k way h =
+    let listed = chain_of s.records (s.own e) p.tract in
+    sym (ap post_answer h) ∙ sym (answer_post depth s.declared s.content listed p)
+    ∙ answer_same depth s.declared s.content (plant_for s e) listed listed (ask.Post p)
+    (content_is k.facts e (ask.Post p) (free_of e (ask.Post p) k way)) refl ∙ alone_is e (ask.Post p) k
 
 post_leaves : (ts : List Township) (seen : Plant) (p : Posting) (refused : Option Refusal)
     → refused_in depth ts p.instrument seen p.tract ≡ refused → is_posted (ask.Post p) (post_answer refused) ≡ false → (c : Cell)
@@ -123,98 +113,73 @@ post_leaves ts seen p None h n c = cc
 post_leaves ts seen p (Some r) h n c = effect_refused depth ts seen p r c h
 
 -- a step that posted nothing leaves the plant
-pub leaves : (ts : List Township) (done : List Record) (own : List Step) (a : Ask) (given : Answer) → given ≡ alone depth ts done own a
-    → is_posted a given ≡ false →
-    (c : Cell) → effect depth ts (after_steps depth ts (plant_after depth ts done) own) a c
-    ≡ after_steps depth ts (plant_after depth ts done) own c
-leaves ts done own (ask.Sheet t) given is n c = effect_read depth ts _ (ask.Sheet t) c refl
-leaves ts done own (ask.Chain t) given is n c = effect_read depth ts _ (ask.Chain t) c refl
-leaves ts done own (ask.Post p) given is n c =
-    let seen : Plant = after_steps depth ts (plant_after depth ts done) own in
-    post_leaves ts seen p (refused_in depth ts p.instrument seen p.tract) refl
-    (sym (ap (is_posted (ask.Post p)) (is ∙ answer_post depth ts seen (chain_of done own p.tract) p)) ∙ n) c
+leaves : (s : State) (e : ℕ) (a : Ask) (given : Answer) → given ≡ alone depth s.declared s.records (s.own e) a → is_posted a given ≡ false →
+    (c : Cell) → effect depth s.declared (plant_for s e) a c ≡ plant_for s e c
+leaves s e (ask.Sheet t) given is n c = effect_read depth s.declared _ (ask.Sheet t) c refl
+leaves s e (ask.Chain t) given is n c = effect_read depth s.declared _ (ask.Chain t) c refl
+leaves s e (ask.Post p) given is n c =
+    post_leaves s.declared (plant_for s e) p (refused_in depth s.declared p.instrument (plant_for s e) p.tract) refl
+    (sym (ap (is_posted (ask.Post p))
+    (is ∙ answer_post depth s.declared (plant_for s e) (chain_of s.records (s.own e) p.tract) p)) ∙ n) c
+
+access_is : (a : Ask) → is_post_access (access_of a) ≡ is_post a
+access_is (ask.Sheet t) = refl
+access_is (ask.Chain t) = refl
+access_is (ask.Post p) = refl
+
+-- the steps with one more of an examiner
+abbrev pub longer : ℕ → Step → State → ℕ → List Step
+longer e step s f = cond (eqb f e) (step ∷ s.own f) (s.own f)
 
 -- one lock more with one step more
-pub step_locks : (b a : Ask) (given : Answer) (f e : ℕ) (access : Access) (locks : List Entry) (own : List Step)
-    → is_post_access access ≡ is_post a → against (tract_of b) (is_post b) f locks ≡ overlaps b own →
-    against (tract_of b) (is_post b) f (record { examiner = e; tract = tract_of a; access = access } ∷ locks)
-    ≡ overlaps b (cond (eqb f e) (record { ask = a; answer = given } ∷ own) own)
-step_locks b a given f e access locks own p h =
-    case_eqb (λ x. ((x && ((is_post b || is_post_access access) && meets (tract_of b) (tract_of a)))
-    || against (tract_of b) (is_post b) f locks) ≡ overlaps b (cond x (record { ask = a; answer = given } ∷ own) own)) f e
-    (λ _. ap (λ q. ((is_post b || q) && meets (tract_of b) (tract_of a)) || against (tract_of b) (is_post b) f locks) p
-    ∙ ap (λ r. ((is_post b || is_post a) && meets (tract_of b) (tract_of a)) || r) h)
-    (λ _. h)
+pub step_locks : {s : State} → Facts s → (e : ℕ) (step : Step) (b : Ask) (f : ℕ)
+    → against (tract_of b) (is_post b) f (entry_of e step.ask ∷ s.locks) ≡ overlaps b (longer e step s f)
+step_locks {s} facts e step b f =
+    case_eqb (λ x. ((x && ((is_post b || is_post_access (access_of step.ask)) && meets (tract_of b) (tract_of step.ask)))
+    || against (tract_of b) (is_post b) f s.locks) ≡ overlaps b (cond x (step ∷ s.own f) (s.own f))) f e
+    (λ _. rw (access_is step.ask, facts.locks_are b f) refl) (λ _. facts.locks_are b f)
 
-posted_skip : (ts : List Township) (c : Cell) (a : Ask) (given : Answer) (own : List Step) → is_posted a given ≡ false
-    → posted_at ts c (record { ask = a; answer = given } ∷ own) ≡ posted_at ts c own
-posted_skip ts c a given own n = ap (λ b. (b && is_cell_of depth ts (tract_of a) c) || posted_at ts c own) n
+posted_skip : (ts : List Township) (c : Cell) (s : Step) (own : List Step) → is_posted s.ask s.answer ≡ false
+    → posted_at ts c (s ∷ own) ≡ posted_at ts c own
+posted_skip ts c s own n = ap (λ b. (b && is_cell_of depth ts (tract_of s.ask) c) || posted_at ts c own) n
 
--- a step that posted nothing
-facts_answered : {I : Type 0} {number : I → ℕ} {ts : List Township} {own : ℕ → List Step} {images : ℕ → List I} {done : List Record}
-    {content : Plant} {out : List Loan} {locks : List Entry} →
-    (e : ℕ) (a : Ask) (given : Answer) (access : Access) → is_post_access access ≡ is_post a → is_posted a given ≡ false
-    → given ≡ alone depth ts done (own e) a →
-    Facts number ts own images done content out locks →
-    Facts number ts (λ f. cond (eqb f e) (record { ask = a; answer = given } ∷ own f) (own f)) images done content out
-    (record { examiner = e; tract = tract_of a; access = access } ∷ locks)
-facts_answered {number = number} {ts = ts} {own = own} {images = images} {done = done} {content = content} {out = out} {locks = locks} e a
-    given access p n is facts =
-    let s : Step = record { ask = a; answer = given } in
-    let plant : Plant = plant_after depth ts done in
-    let idle : (c : Cell) → effect depth ts (after_steps depth ts plant (own e)) a c ≡ after_steps depth ts plant (own e) c =
-    leaves ts done (own e) a given is n in
-    let mine : Backed number out ts plant (s ∷ own e) (images e) = (
-      images e,
-      subst (λ b. Peels number out ts (after_steps depth ts plant (own e)) s (images e) (images e) b) (sym n) (refl, idle),
+-- a step that posted nothing is answered
+pub keeps_answered : {s : State} (e : ℕ) (a : Ask) (given : Answer) → Keeps s → Passes (books_of s) e a
+    → given ≡ alone depth s.setting.townships (committed s.trace) (open_steps s.trace e) a → is_posted a given ≡ false →
+    Keeps (told (request.Step e a) (reply.Answered given)
+    (record s { own = longer e (record { ask = a; answer = given }) s; locks = entry_of e a ∷ s.locks }))
+keeps_answered {s} e a given k passes is n =
+    let facts : Facts s = k.facts in
+    let ts : List Township = s.declared in
+    let plant : Plant = plant_of s in
+    let step : Step = record { ask = a; answer = given } in
+    let idle : (c : Cell) → effect depth ts (plant_for s e) a c ≡ plant_for s e c = leaves s e a given (is ∙ sym (alone_is e a k)) n in
+    let mine : Backed s.out ts plant (step ∷ s.own e) (s.images e) = (
+      s.images e,
+      subst (λ b. Peels s.out ts (plant_for s e) step (s.images e) (s.images e) b) (sym n) (refl, idle),
       facts.backed e,
     ) in
     record {
-      locks_are = λ b f. step_locks b a given f e access locks (own f) p (facts.locks_are b f);
-      backed = λ f. case_eqb (λ b. Backed number out ts plant (cond b (s ∷ own f) (own f)) (images f)) f e
-          (λ same. subst (λ g. Backed number out ts plant (s ∷ own g) (images g)) (sym same) mine) (λ _. facts.backed f);
-      numbers = facts.numbers;
-      owned = facts.owned;
-      posted = λ f c. case_eqb (λ b. posted_at ts c (cond b (s ∷ own f) (own f)) ≡ true
-          → content c ≡ after_steps depth ts plant (cond b (s ∷ own f) (own f)) c) f e
-          (λ same h. subst (λ g. content c ≡ after_steps depth ts plant (s ∷ own g) c) (sym same)
-          (facts.posted e c (sym (ap (λ g. posted_at ts c (s ∷ own g)) same ∙ posted_skip ts c a given (own e) n) ∙ h) ∙ sym (idle c)))
-          (λ _ h. facts.posted f c h);
-      rest = λ c none. facts.rest c (λ f. case_eqb (λ b. posted_at ts c (cond b (s ∷ own f) (own f)) ≡ false
-          → posted_at ts c (own f) ≡ false) f e
-          (λ _ h. sym (posted_skip ts c a given (own f) n) ∙ h) (λ _ h. h) (none f));
-    }
-
--- the slots after a step went to one of them
-pub slots_longer : {I : Type 0} (begun : ℕ → Bool) (own : ℕ → List Step) (slots slots' : ℕ → Option (Slot I)) (e : ℕ) (step : Step)
-    → SlotsAre begun own slots → StepAdded e step slots slots' →
-    SlotsAre begun (λ f. cond (eqb f e) (step ∷ own f) (own f)) slots'
-slots_longer begun own slots slots' e step are added = record {
-  begun_are = λ f. (added f).0 ∙ are.begun_are f;
-  steps_are = λ f. (added f).1 ∙ ap (λ steps. cond (eqb f e) (step ∷ steps) steps) (are.steps_are f);
-}
-
--- a step that posted nothing is answered
-pub keeps_answered : {I : Type 0} {number : I → ℕ} {setting : Setting} {content : Plant} {declared : List Township} {out : List Loan}
-    {locks locks' : List Entry} {trace : List Call} {records : List Record} {slots : ℕ → Option (Slot I)} →
-    (slots' : ℕ → Option (Slot I)) (e : ℕ) (a : Ask) (given : Answer) (access : Access)
-    → Keeps number setting content declared out locks trace records slots →
-    StepAdded e (record { ask = a; answer = given }) slots slots' → SameImages slots slots' →
-    locks' ≡ record { examiner = e; tract = tract_of a; access = access } ∷ locks → is_post_access access ≡ is_post a
-    → is_posted a given ≡ false →
-    given ≡ alone depth setting.townships (committed trace) (open_steps trace e) a
-    → DueReply depth setting trace (request.Step e a) (reply.Answered given) →
-    Keeps number setting content declared out locks' (record { request = request.Step e a; reply = reply.Answered given } ∷ trace) records
-    slots'
-keeps_answered {trace = trace} {slots = slots} slots' e a given access k added same locked post idle is due =
-    record {
       few = k.few;
-      due = (k.due, due);
+      due = (k.due, due_alone (books_of s) e a given passes is);
       declared_are = k.declared_are;
       records_are = k.records_are;
-      slots_are = slots_longer (λ f. is_open f trace) (open_steps trace) slots slots' e (record { ask = a; answer = given }) k.slots_are
-          added;
-      facts = facts_same refl (fun_ext (λ f. sym (same f))) refl refl (sym locked) (facts_answered e a given access post idle is k.facts);
+      begun_are = k.begun_are;
+      steps_are = λ f. ap (λ own. cond (eqb f e) (step ∷ own) own) (k.steps_are f);
+      facts = record {
+        locks_are = step_locks facts e step;
+        backed = λ f. case_eqb (λ b. Backed s.out ts plant (cond b (step ∷ s.own f) (s.own f)) (s.images f)) f e
+            (λ same. subst (λ g. Backed s.out ts plant (step ∷ s.own g) (s.images g)) (sym same) mine) (λ _. facts.backed f);
+        numbers = facts.numbers;
+        owned = facts.owned;
+        posted = λ f c. case_eqb (λ b. posted_at ts c (cond b (step ∷ s.own f) (s.own f)) ≡ true
+            → s.content c ≡ after_steps depth ts plant (cond b (step ∷ s.own f) (s.own f)) c) f e
+            (λ same. subst (λ g. posted_at ts c (step ∷ s.own g) ≡ true → s.content c ≡ after_steps depth ts plant (step ∷ s.own g) c)
+            (sym same) (λ h. facts.posted e c (sym (posted_skip ts c step (s.own e) n) ∙ h) ∙ sym (idle c)))
+            (λ _ h. facts.posted f c h);
+        rest = λ c none. facts.rest c (λ f. case_eqb (λ b. posted_at ts c (cond b (step ∷ s.own f) (s.own f)) ≡ false
+            → posted_at ts c (s.own f) ≡ false) f e (λ _ h. sym (posted_skip ts c step (s.own f) n) ∙ h) (λ _ h. h) (none f));
+      };
     }
 
 pub on_good : {T E : Type 0} (r : Result T E) (P : Type 0) → is_err r ≡ false → OnOk r P → P
@@ -225,14 +190,183 @@ pub on_bad : {T E : Type 0} (r : Result T E) (P : Type 0) → is_err r ≡ true 
 on_bad (Ok x) P h p = cc
 on_bad (Err x) P h p = p
 
--- the chain that is made of the records and of the examiner's steps is the one that it sees
-pub chain_due : {I : Type 0} {number : I → ℕ} {setting : Setting} {content : Plant} {declared : List Township} {out : List Loan}
-    {locks : List Entry} {trace : List Call} {records : List Record} {slots : ℕ → Option (Slot I)} →
-    (e : ℕ) (t : Land) → Keeps number setting content declared out locks trace records slots →
-    answer.Entries (chain_of (reverse records) (steps_in (slots e)) t)
-    ≡ alone depth setting.townships (committed trace) (open_steps trace e) (ask.Chain t)
-chain_due {setting = setting} {trace = trace} {records = records} {slots = slots} e t k =
-    ap answer.Entries (ap (λ r. chain_of r (steps_in (slots e)) t) k.records_are
-    ∙ ap (λ s. chain_of (committed trace) s t) (k.slots_are.steps_are e))
-    ∙ sym (answer_chain depth setting.townships (after_steps depth setting.townships (plant_after depth setting.townships (committed trace))
-    (open_steps trace e)) (chain_of (committed trace) (open_steps trace e) t) t)
+among_last : (b : Loan) (out : List Loan) → IsAmong b (out ++ b ∷ [])
+among_last b [] = inl refl
+among_last b (x ∷ out) = inr (among_last b out)
+
+among_more : (b x : Loan) (out : List Loan) → IsAmong b out → IsAmong b (out ++ x ∷ [])
+among_more b x [] h = absurd h
+among_more b x (y ∷ out) h = elim h [ inl same ↦ inl same | inr r ↦ inr (among_more b x out r) ]
+
+among_parts : (b x : Loan) (out : List Loan) → IsAmong b (out ++ x ∷ []) → IsAmong b out ⊎ (b ≡ x)
+among_parts b x [] h = elim h [ inl same ↦ inr same | inr r ↦ absurd r ]
+among_parts b x (y ∷ out) h = elim h [
+  | inl same ↦ inl (inl same)
+  | inr r ↦
+      elim (among_parts b x out r) [ inl k ↦ inl (inr k) | inr is ↦ inr is ]
+]
+
+without_last : (x : Loan) (out : List Loan) → ((b : Loan) → IsAmong b out → b.number < x.number) → without x.number (out ++ x ∷ []) ≡ out
+without_last x [] h = case_eqb (λ b. cond b [] (x ∷ []) ≡ []) x.number x.number (λ _. refl) (λ ne. absurd (ne refl))
+without_last x (y ∷ out) h =
+    case_eqb (λ b. cond b (without x.number (out ++ x ∷ [])) (y ∷ without x.number (out ++ x ∷ [])) ≡ y ∷ out) x.number y.number
+    (λ same. absurd (let below : y.number < x.number = h y (inl refl) in omega arith))
+    (λ _. ap (λ z. y ∷ z) (without_last x out (λ b k. h b (inr k))))
+
+is_new : (n : ℕ) (ts : List Township) (land : Land) (before : Plant) (out out' : List Loan) (taken : IsTaken n ts land before out out')
+    (b : Loan) → IsLentAs b n out' → b ≡ record { number = n; land = land; held = taken.held }
+is_new n ts land before out out' taken b lent =
+    elim (among_parts b (record { number = n; land = land; held = taken.held }) out (subst (IsAmong b) taken.last lent.0)) [
+      | inl old ↦ absurd (let low : b.number < n = taken.above b old in let same : b.number ≡ n = lent.1 in omega arith)
+      | inr is ↦ is
+    ]
+
+-- a new image is out
+pub image_out : (n : ℕ) (ts : List Township) (land : Land) (before : Plant) (out out' : List Loan) → IsTaken n ts land before out out'
+    → IsOut n out'
+image_out n ts land before out out' taken =
+    let b : Loan = record { number = n; land = land; held = taken.held } in
+    (b, (subst (IsAmong b) (sym taken.last) (among_last b out), refl))
+
+-- and the last one
+pub image_last : (n : ℕ) (ts : List Township) (land : Land) (before : Plant) (out out' : List Loan) → IsTaken n ts land before out out'
+    → IsLast n out'
+image_last n ts land before out out' taken b x lent at higher =
+    elim (among_parts x (record { number = n; land = land; held = taken.held }) out (subst (IsAmong x) taken.last at)) [
+      | inl old ↦ absurd (let low : x.number < n = taken.above x old in omega arith)
+      | inr is ↦ absurd (let same : x.number ≡ n = ap (λ z. z.number) is in omega arith)
+    ]
+
+-- and the first one, where no other is out
+pub image_first : (n : ℕ) (ts : List Township) (land : Land) (before : Plant) (out out' : List Loan) → out ≡ []
+    → IsTaken n ts land before out out' → IsFirst n out'
+image_first n ts land before out out' none taken b x lent at lower =
+    elim (among_parts x (record { number = n; land = land; held = taken.held }) out (subst (IsAmong x) taken.last at)) [
+      | inl old ↦ absurd (subst (IsAmong x) none old)
+      | inr is ↦ absurd (let same : x.number ≡ n = ap (λ z. z.number) is in omega arith)
+    ]
+
+-- put back at once, it leaves the plant and the list as they were
+pub taken_back : (n : ℕ) (ts : List Township) (i : Instrument ℕ) (land : Land) (before mid after : Plant) (out out' : List Loan)
+    → IsTaken n ts land before out out' →
+    SameContent (plant_effect depth ts i before land) mid → ((b : Loan) → IsLentAs b n out' → SameContent (put_back ts b mid) after)
+    → SameContent before after
+taken_back n ts i land before mid after out out' taken posted back c =
+    let b : Loan = record { number = n; land = land; held = taken.held } in
+    back b (subst (IsAmong b) (sym taken.last) (among_last b out), refl) c
+    ∙ cond_both (is_cell_of depth ts land c) (taken.held c) (mid c) (λ x. x ≡ before c) (λ inside. taken.holds c inside)
+    (λ outside. posted c ∙ store.effect_outside depth ts i land before c outside)
+
+pub taken_out : (n : ℕ) (ts : List Township) (land : Land) (before : Plant) (out out' : List Loan) → IsTaken n ts land before out out'
+    → without n out' ≡ out
+taken_out n ts land before out out' taken = ap (without n) taken.last
+    ∙ without_last (record { number = n; land = land; held = taken.held }) out taken.above
+
+-- the images with one more of an examiner
+abbrev pub with_image : ℕ → ℕ → State → ℕ → List ℕ
+with_image e n s f = cond (eqb f e) (n ∷ s.images f) (s.images f)
+
+of_more : (s : State) (e n f m : ℕ) → IsOf m (with_image e n s f) → IsOf m (s.images f) ⊎ ((f ≡ e) × (m ≡ n))
+of_more s e n f m h =
+    case_eqb (λ b. IsOf m (cond b (n ∷ s.images f) (s.images f)) → IsOf m (s.images f) ⊎ ((f ≡ e) × (m ≡ n))) f e
+    (λ same k. elim k [ inl is ↦ inr (same, is) | inr r ↦ inl r ]) (λ _ k. inl k) h
+
+into_more : (s : State) (e n f m : ℕ) → IsOf m (s.images f) → IsOf m (with_image e n s f)
+into_more s e n f m h = case_eqb (λ b. IsOf m (cond b (n ∷ s.images f) (s.images f))) f e (λ _. inr h) (λ _. h)
+
+here_more : (s : State) (e n : ℕ) → IsOf n (with_image e n s e)
+here_more s e n = case_eqb (λ b. IsOf n (cond b (n ∷ s.images e) (s.images e))) e e (λ _. inl refl) (λ ne. absurd (ne refl))
+
+-- the step of a post that was done
+abbrev pub posted_step : Posting → Step
+posted_step p = record { ask = ask.Post p; answer = answer.Posted }
+
+-- a post that nothing refuses is done and answered
+pub keeps_posted : {s : State} (e : ℕ) (p : Posting) (n : ℕ) (after : Plant) (out' : List Loan) → Keeps s
+    → Passes (books_of s) e (ask.Post p) → refused_in depth s.declared p.instrument s.content p.tract ≡ None →
+    IsTaken n s.declared p.tract s.content s.out out' → SameContent (plant_effect depth s.declared p.instrument s.content p.tract) after →
+    Keeps (told (request.Step e (ask.Post p)) (reply.Answered answer.Posted) (record s {
+      own = longer e (posted_step p) s;
+      images = with_image e n s;
+      content = after;
+      out = out';
+      locks = entry_of e (ask.Post p) ∷ s.locks;
+    }))
+keeps_posted {s} e p n after out' k passes h taken same =
+    let facts : Facts s = k.facts in
+    let ts : List Township = s.declared in
+    let plant : Plant = plant_of s in
+    let seen : Plant = plant_for s e in
+    let a : Ask = ask.Post p in
+    let step : Step = posted_step p in
+    let new : Loan = record { number = n; land = p.tract; held = taken.held } in
+    let free : (f : ℕ) → f ≢ e → overlaps a (s.own f) ≡ false = free_of e a k passes.4 in
+    let same_in : SameIn depth ts p.tract s.content seen = content_is facts e a free in
+    let now : (c : Cell) → after c ≡ effect depth ts s.content a c = λ c.
+    same c ∙ ap (λ (q : Plant). q c) (sym (effect_post depth ts s.content p)) in
+    let low : (f m : ℕ) → IsOf m (s.images f) → m < n =
+    λ f m at. (let is_out : IsOut m s.out = (backed_for s.out ts plant (s.own f) (s.images f) m (facts.backed f) at).is_out in
+    let below : is_out.0.number < n = taken.above is_out.0 is_out.1.0 in let is : is_out.0.number ≡ m = is_out.1.1 in omega arith) in
+    let remain : (f : ℕ) → Remain (s.images f) s.out out' = λ f. record {
+      there = λ b at k. subst (IsAmong b) (sym taken.last) (among_more b new s.out k);
+      back = λ b at k. elim (among_parts b new s.out (subst (IsAmong b) taken.last k)) [
+        | inl old ↦ old
+        | inr is ↦ absurd (let below : b.number < n = low f b.number at in let equal : b.number ≡ n = ap (λ z. z.number) is in omega arith)
+      ];
+    } in
+    let backs : Backs out' ts seen step n (s.images e) = record {
+      is_out = image_out n ts p.tract s.content s.out out' taken;
+      land_is = λ b lent. ap (λ z. z.land) (is_new n ts p.tract s.content s.out out' taken b lent);
+      holds = λ b lent c inside. ap (λ z. z.held c) (is_new n ts p.tract s.content s.out out' taken b lent) ∙ taken.holds c inside
+          ∙ same_in c inside;
+      above = low e;
+    } in
+    let mine : Backed out' ts plant (step ∷ s.own e) (n ∷ s.images e) =
+    (s.images e, (n, refl, backs), backed_in s.out out' ts plant (s.own e) (s.images e) (facts.backed e) (remain e)) in
+    record {
+      few = k.few;
+      due = (k.due, due_alone (books_of s) e a answer.Posted passes (post_due e p None k passes.4 h));
+      declared_are = k.declared_are;
+      records_are = k.records_are;
+      begun_are = k.begun_are;
+      steps_are = λ f. ap (λ own. cond (eqb f e) (step ∷ own) own) (k.steps_are f);
+      facts = record {
+        locks_are = step_locks facts e step;
+        backed = λ f. case_eqb (λ b. Backed out' ts plant (cond b (step ∷ s.own f) (s.own f)) (cond b (n ∷ s.images f) (s.images f))) f e
+            (λ is. subst (λ g. Backed out' ts plant (step ∷ s.own g) (n ∷ s.images g)) (sym is) mine)
+            (λ _. backed_in s.out out' ts plant (s.own f) (s.images f) (facts.backed f) (remain f));
+        numbers = λ f g m at bt. elim (of_more s e n f m at) [
+          | inl old ↦ elim (of_more s e n g m bt) [
+            | inl k ↦ facts.numbers f g m old k
+            | inr k ↦ absurd (let below : m < n = low f m old in let is : m ≡ n = k.1 in omega arith)
+          ]
+          | inr h ↦ elim (of_more s e n g m bt) [
+            | inl k ↦ absurd (let below : m < n = low g m k in let is : m ≡ n = h.1 in omega arith)
+            | inr k ↦ h.0 ∙ sym k.0
+          ]
+        ];
+        owned = λ b k. elim (among_parts b new s.out (subst (IsAmong b) taken.last k)) [
+          | inl old ↦ (let owner = facts.owned b old in (owner.0, into_more s e n owner.0 b.number owner.1))
+          | inr is ↦ (e, subst (λ (m : ℕ). IsOf m (with_image e n s e)) (sym (ap (λ z. z.number) is)) (here_more s e n))
+        ];
+        posted = λ f c. case_eqb (λ b. posted_at ts c (cond b (step ∷ s.own f) (s.own f)) ≡ true
+            → after c ≡ after_steps depth ts plant (cond b (step ∷ s.own f) (s.own f)) c) f e
+            (λ is. subst (λ g. posted_at ts c (step ∷ s.own g) ≡ true → after c ≡ after_steps depth ts plant (step ∷ s.own g) c) (sym is)
+            (λ h. elim (cases_Bool (is_cell_of depth ts p.tract c)) [
+              | inl inside ↦ now c ∙ effect_same depth ts s.content seen a c same_in (same_in c inside)
+              | inr outside ↦ now c ∙ effect_outside depth ts s.content a c outside
+                  ∙ facts.posted e c (sym (ap (λ b. b || posted_at ts c (s.own e)) outside) ∙ h)
+                  ∙ sym (effect_outside depth ts seen a c outside)
+            ]))
+            (λ ne h. now c ∙ effect_outside depth ts s.content a c
+            (false_from_ne_true _ (λ inside. both_ways _ (unposted ts a (s.own f) c (free f ne) inside) h)) ∙ facts.posted f c h);
+        rest = λ c none.
+            let outside : is_cell_of depth ts p.tract c ≡ false =
+            case_eqb (λ b. posted_at ts c (cond b (step ∷ s.own e) (s.own e)) ≡ false → is_cell_of depth ts p.tract c ≡ false) e e
+            (λ _ h. (or_parts (is_cell_of depth ts p.tract c) (posted_at ts c (s.own e)) h).0) (λ ne _. absurd (ne refl)) (none e) in
+            now c ∙ effect_outside depth ts s.content a c outside
+            ∙ facts.rest c (λ f. case_eqb (λ b. posted_at ts c (cond b (step ∷ s.own f) (s.own f)) ≡ false
+            → posted_at ts c (s.own f) ≡ false) f e
+            (λ _ h. (or_parts (is_cell_of depth ts p.tract c) (posted_at ts c (s.own f)) h).1) (λ _ h. h) (none f));
+      };
+    }

@@ -1,5 +1,5 @@
--- Before-images of open transactions. Lists of steps and of images here have the newest first.
-use Rattle.std.specs.Prelude.{◌≡◌, ℕ, ◌<◌, Bool, true, false, cond, ◌&&◌, ◌||◌, List, [], ◌∷◌, map, ◌⊎◌}
+-- Before-images of open transactions, by their numbers. Lists of steps and of images here have the newest first.
+use Rattle.std.specs.Prelude.{◌≡◌, ℕ, ◌<◌, Bool, true, false, cond, ◌&&◌, ◌||◌, List, [], ◌∷◌, ◌⊎◌}
 use Rattle.title_land.specs.Depth.{depth}
 use Rattle.title_land.specs.declared.place.Township.{Township}
 use Rattle.title_land.specs.declared.place.Cell.{Cell}
@@ -33,30 +33,25 @@ abbrev pub IsOf : ℕ → List ℕ → Type 0
 IsOf n [] = ⊥
 IsOf n (m ∷ numbers) = (n ≡ m) ⊎ IsOf n numbers
 
--- the image of a posted step is out, for the step's tract, and holds what the tract held before the step; those before it
--- have lower numbers
-pub record Backs {I : Type 0} (number : I → ℕ) (out : List Loan) (townships : List Township) (before : Plant) (s : Step) (image : I)
-    (older : List I) : Type 0 where
-  pub is_out : IsOut (number image) out
-  pub land_is : (b : Loan) → IsLentAs b (number image) out → b.land ≡ tract_of s.ask
-  pub holds : (b : Loan) → IsLentAs b (number image) out → (c : Cell) → is_cell_of depth townships (tract_of s.ask) c ≡ true
-      → b.held c ≡ before c
-  pub above : (n : ℕ) → IsOf n (map number older) → n < number image
+-- the image of this number is out for a posted step's tract, and holds what the tract held before the step; those before it have
+-- lower numbers
+pub record Backs (out : List Loan) (townships : List Township) (before : Plant) (s : Step) (n : ℕ) (older : List ℕ) : Type 0 where
+  pub is_out : IsOut n out
+  pub land_is : (b : Loan) → IsLentAs b n out → b.land ≡ tract_of s.ask
+  pub holds : (b : Loan) → IsLentAs b n out → (c : Cell) → is_cell_of depth townships (tract_of s.ask) c ≡ true → b.held c ≡ before c
+  pub above : (m : ℕ) → IsOf m older → m < n
 
 -- a posted step has the first of these images; another has none and leaves the plant
-abbrev pub Peels : {I : Type 0} → (I → ℕ) → List Loan → List Township → Plant → Step → List I → List I → Bool → Type 0
-Peels number out townships before s images older true =
-    (image : _) × (images ≡ image ∷ older) × Backs number out townships before s image older
-Peels number out townships before s images older false =
-    (images ≡ older) × ((c : Cell) → effect depth townships before s.ask c ≡ before c)
+abbrev pub Peels : List Loan → List Township → Plant → Step → List ℕ → List ℕ → Bool → Type 0
+Peels out townships before s images older true = (n : ℕ) × (images ≡ n ∷ older) × Backs out townships before s n older
+Peels out townships before s images older false = (images ≡ older) × ((c : Cell) → effect depth townships before s.ask c ≡ before c)
 
 -- the images of these steps, made one after another from a plant
-abbrev pub Backed : {I : Type 0} → (I → ℕ) → List Loan → List Township → Plant → List Step → List I → Type 0
-Backed number out townships plant [] images = images ≡ []
-Backed number out townships plant (s ∷ earlier) images =
-    (older : List _)
-    × Peels number out townships (after_steps depth townships plant earlier) s images older (is_posted s.ask s.answer)
-    × Backed number out townships plant earlier older
+abbrev pub Backed : List Loan → List Township → Plant → List Step → List ℕ → Type 0
+Backed out townships plant [] images = images ≡ []
+Backed out townships plant (s ∷ earlier) images =
+    (older : List ℕ) × Peels out townships (after_steps depth townships plant earlier) s images older (is_posted s.ask s.answer)
+    × Backed out townships plant earlier older
 
 -- the plant after what an image holds has been put back
 abbrev pub put_back : List Township → Loan → Plant → Plant

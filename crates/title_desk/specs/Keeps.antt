@@ -1,5 +1,5 @@
--- What a desk's parts have to do with its trace.
-use Rattle.std.specs.Prelude.{◌≡◌, ℕ, ◌≤◌, Bool, true, false, List, map, reverse, Option, is_some}
+-- A desk's state, and what its parts have to do with each other and with its trace.
+use Rattle.std.specs.Prelude.{◌≡◌, ℕ, ◌≤◌, Bool, true, false, List}
 use Rattle.title_land.specs.Depth.{depth}
 use Rattle.title_land.specs.declared.place.Township.{Township}
 use Rattle.title_land.specs.declared.place.Cell.{Cell}
@@ -16,37 +16,47 @@ use Rattle.title_chain.specs.Overlaps.{overlaps}
 use Rattle.title_trace.specs.declared.call.Call.{Call}
 use Rattle.title_trace.specs.Trace.{is_open, open_steps, committed}
 use Rattle.title_trace.specs.Due.{Setting, IsDue}
-use Rattle.title_desk.specs.declared.slots.Slot.{Slot}
-use Rattle.title_desk.specs.Slots.{steps_in, images_in}
 use Rattle.title_desk.specs.Images.{Backed, IsOf, posted_at}
 
--- the slots are those of the open examiners, with their steps
-pub record SlotsAre {I : Type 0} (begun : ℕ → Bool) (own : ℕ → List Step) (slots : ℕ → Option (Slot I)) : Type 0 where
-  pub begun_are : (e : ℕ) → is_some (slots e) ≡ begun e
-  pub steps_are : (e : ℕ) → steps_in (slots e) ≡ own e
+-- All that a desk has: what it was opened with and its calls; its records; of each examiner whether a slot is there, the steps in
+-- it and the numbers of its images; the store's owners, townships and images that are out; the locks. Calls, records, steps
+-- and images have the newest first.
+pub record State : Type 0 where
+  pub setting : Setting
+  pub trace : List Call
+  pub records : List Record
+  pub begun : ℕ → Bool
+  pub own : ℕ → List Step
+  pub images : ℕ → List ℕ
+  pub content : Plant
+  pub declared : List Township
+  pub out : List Loan
+  pub locks : List Entry
 
--- the store and the guards are where the open steps and the committed records leave them: the locks are those of the open
--- steps; each examiner's images undo its posts; in a cell where an examiner's open step was posted stands what the
--- committed plant followed by that examiner's open steps has there, in every other cell the committed plant
-pub record Facts {I : Type 0} (number : I → ℕ) (townships : List Township) (own : ℕ → List Step) (images : ℕ → List I) (done : List Record)
-    (content : Plant) (out : List Loan) (locks : List Entry) : Type 0 where
-  pub locks_are : (a : Ask) (f : ℕ) → against (tract_of a) (is_post a) f locks ≡ overlaps a (own f)
-  pub backed : (e : ℕ) → Backed number out townships (plant_after depth townships done) (own e) (images e)
-  pub numbers : (e f : ℕ) (n : ℕ) → IsOf n (map number (images e)) → IsOf n (map number (images f)) → e ≡ f
-  pub owned : (b : Loan) → IsAmong b out → (e : ℕ) × IsOf b.number (map number (images e))
-  pub posted : (e : ℕ) (c : Cell) → posted_at townships c (own e) ≡ true →
-      content c ≡ after_steps depth townships (plant_after depth townships done) (own e) c
-  pub rest : (c : Cell) → ((e : ℕ) → posted_at townships c (own e) ≡ false) → content c ≡ plant_after depth townships done c
+-- the plant after the records, and as an examiner sees it, after its own steps too
+abbrev pub plant_of : State → Plant
+plant_of s = plant_after depth s.declared s.records
 
--- the images of each examiner, the newest first
-abbrev pub images_of : {I : Type 0} → (ℕ → Option (Slot I)) → ℕ → List I
-images_of slots e = images_in (slots e)
+abbrev pub plant_for : State → ℕ → Plant
+plant_for s e = after_steps depth s.declared (plant_of s) (s.own e)
 
-pub record Keeps {I : Type 0} (number : I → ℕ) (setting : Setting) (content : Plant) (declared : List Township) (out : List Loan)
-    (locks : List Entry) (trace : List Call) (records : List Record) (slots : ℕ → Option (Slot I)) : Type 0 where
-  pub few : setting.parties ≤ most_parties
-  pub due : IsDue depth setting trace
-  pub declared_are : declared ≡ setting.townships
-  pub records_are : reverse records ≡ committed trace
-  pub slots_are : SlotsAre (λ e. is_open e trace) (open_steps trace) slots
-  pub facts : Facts number setting.townships (open_steps trace) (images_of slots) (committed trace) content out locks
+-- the store and the locks are where the slots and the records leave them: the locks are those of the steps; each examiner's
+-- images undo its posts, and nobody else's; in a cell where an examiner's step was posted stands what that examiner sees, in
+-- every other cell the plant after the records
+pub record Facts (s : State) : Type 0 where
+  pub locks_are : (a : Ask) (f : ℕ) → against (tract_of a) (is_post a) f s.locks ≡ overlaps a (s.own f)
+  pub backed : (e : ℕ) → Backed s.out s.declared (plant_of s) (s.own e) (s.images e)
+  pub numbers : (e f n : ℕ) → IsOf n (s.images e) → IsOf n (s.images f) → e ≡ f
+  pub owned : (b : Loan) → IsAmong b s.out → (e : ℕ) × IsOf b.number (s.images e)
+  pub posted : (e : ℕ) (c : Cell) → posted_at s.declared c (s.own e) ≡ true → s.content c ≡ plant_for s e c
+  pub rest : (c : Cell) → ((e : ℕ) → posted_at s.declared c (s.own e) ≡ false) → s.content c ≡ plant_of s c
+
+-- each reply was the due one, and records and slots are where the trace leaves them
+pub record Keeps (s : State) : Type 0 where
+  pub few : s.setting.parties ≤ most_parties
+  pub due : IsDue depth s.setting s.trace
+  pub declared_are : s.declared ≡ s.setting.townships
+  pub records_are : s.records ≡ committed s.trace
+  pub begun_are : (e : ℕ) → s.begun e ≡ is_open e s.trace
+  pub steps_are : (e : ℕ) → s.own e ≡ open_steps s.trace e
+  pub facts : Facts s

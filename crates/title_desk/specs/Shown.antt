@@ -8,7 +8,7 @@ use Rattle.title_instrument.specs.declared.parts.Estates.{Estates}
 use Rattle.title_instrument.specs.Estates.{names}
 use Rattle.title_instrument.specs.Owners.{holding_of}
 use Rattle.title_land.specs.Depth.{depth}
-use Rattle.title_land.specs.Lands.{meets}
+use Rattle.title_land.specs.Lands.{home_of, meets}
 use Rattle.title_land.specs.NodeNumbers.{node_number}
 use Rattle.title_land.specs.Nodes.{are_related}
 use Rattle.title_land.specs.declared.node.Node.{Node}
@@ -17,7 +17,6 @@ use Rattle.title_land.specs.declared.place.Cell.{Cell}
 use Rattle.title_land.specs.declared.place.Section.{Section}
 use Rattle.title_land.specs.declared.place.Township.{Township}
 use Rattle.title_land.specs.declared.tract.Land.{Land}
-use Rattle.title_land.specs.declared.tract.Land.TheVariants as land
 use Rattle.title_store.specs.Plants.{Plant, is_cell_of}
 use Rattle.title_store.specs.Sheets.{estate_sheet, sheet_of}
 use Rattle.title_desk.specs.declared.kept_sheets.Quartered.{Quartered}
@@ -49,12 +48,6 @@ IsTrue townships content (kept.Quarter quartered) = IsQuarter townships content 
 abbrev pub is_left : Land → Estates → Kept → Bool
 is_left land estates (kept.Sheet shown) = not (meets shown.tract land)
 is_left land estates (kept.Quarter quartered) = not (names estates quartered.estate && meets quartered.tract land)
-
--- the home of a tract, where its sheets stand: the section in which it lies, or else the township, or the whole plant
-abbrev pub home_of : Land → Node
-home_of land.Everything = node.Everything
-home_of (land.Township t) = node.Township t
-home_of (land.Part s g) = node.Part s []
 
 -- all that is kept of a home
 unfoldable pub all_kept : Home → List Kept

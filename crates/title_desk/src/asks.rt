@@ -2,13 +2,12 @@
 
 ghost use Rattle.std.specs.Prelude.{◌≡◌, ◌++◌, ◌∷◌, [], IfOk, OnOk, OnErr, Some};
 ghost use Rattle.std.specs.BTreeMap.{btree_map_len};
-ghost use Rattle.title_lock.specs.declared.guards.Access.TheVariants.{Post};
 ghost use Rattle.title_lock.specs.Overlaps.{is_post as is_post_access};
 ghost use Rattle.title_store.specs.Loans.{Loan, IsOut, IsLast, IsLentAs, without};
 ghost use Rattle.title_store.specs.Plants.{SameContent};
 ghost use Rattle.title_desk.specs.Images.{put_back};
 ghost use Rattle.title_desk.specs.Slots.{ImageAdded, SameImages, SameSlots, StepAdded, found};
-ghost use Rattle.title_desk.specs.Admissions.{access_of};
+ghost use Rattle.title_desk.specs.Admissions.{access_of, entry_of};
 ghost use Rattle.title_chain.specs.Asks.{tract_of, is_post, cause_of};
 
 use crate::slots::Slot;
@@ -68,18 +67,17 @@ fn lengthen<G: Guards, I>(
     guards: &mut G,
     examiner: u32,
     slot: &mut Slot<I>,
-    access: Access,
     step: Step,
 ) -> Result<(), AllocError>
-    requires prepared { G.prepared guards.old ≡ Some (record { examiner = examiner; tract = tract_of step.ask; access = access }) }
+    requires prepared { G.prepared guards.old ≡ Some (entry_of examiner step.ask) }
     ensures images { slot.new.images ≡ slot.old.images }
     ensures steps { OnOk result (slot.new.steps.steps ≡ slot.old.steps.steps ++ step ∷ []) }
-    ensures locked { OnOk result (G.entries guards.new ≡ record { examiner = examiner; tract = tract_of step.ask; access = access }
-        ∷ G.entries guards.old) }
+    ensures locked { OnOk result (G.entries guards.new ≡ entry_of examiner step.ask ∷ G.entries guards.old) }
     ensures err_steps { OnErr result (slot.new.steps.steps ≡ slot.old.steps.steps) }
     ensures err_locked { OnErr result (G.entries guards.new ≡ G.entries guards.old) }
 {
     slot.steps.reserve()?;
+    let access = access_in(&step.ask);
     guards.grant(examiner, tract_in(&step.ask), access);
     slot.steps.push_reserved(step);
     Ok(())
@@ -90,22 +88,20 @@ pub(crate) fn add_step<G: Guards, I>(
     guards: &mut G,
     slots: &mut BTreeMap<u32, Slot<I>>,
     examiner: u32,
-    access: Access,
     step: Step,
 ) -> Result<(), AllocError>
-    requires prepared { G.prepared guards.old ≡ Some (record { examiner = examiner; tract = tract_of step.ask; access = access }) }
+    requires prepared { G.prepared guards.old ≡ Some (entry_of examiner step.ask) }
     ensures len { btree_map_len slots.new ≡ btree_map_len slots.old }
     ensures images { SameImages (found slots.old) (found slots.new) }
     ensures added { OnOk result (StepAdded examiner step (found slots.old) (found slots.new)) }
-    ensures locked { OnOk result (G.entries guards.new ≡ record { examiner = examiner; tract = tract_of step.ask; access = access }
-        ∷ G.entries guards.old) }
+    ensures locked { OnOk result (G.entries guards.new ≡ entry_of examiner step.ask ∷ G.entries guards.old) }
     ensures err { OnErr result (SameSlots (found slots.old) (found slots.new)) }
     ensures err_locked { OnErr result (G.entries guards.new ≡ G.entries guards.old) }
 {
     let Some(slot) = slots.get_mut(&examiner) else {
         return Err(AllocError);
     };
-    lengthen(guards, examiner, slot, access, step)
+    lengthen(guards, examiner, slot, step)
 }
 
 // Adds a post that was done: its step and image to an examiner's slot and its lock to the guards; or takes it back.
@@ -119,12 +115,11 @@ fn extend<S: Store, G: Guards>(
 ) -> Result<(), AllocError>
     requires out { IsOut (S.number image) (S.out store.old) }
     requires last { IsLast (S.number image) (S.out store.old) }
-    requires prepared { G.prepared guards.old ≡ Some (record { examiner = examiner; tract = tract_of step.ask; access = Post }) }
+    requires prepared { G.prepared guards.old ≡ Some (entry_of examiner step.ask) }
     ensures declared { S.declared store.new ≡ S.declared store.old }
     ensures images { OnOk result (slot.new.images.items ≡ slot.old.images.items ++ image ∷ []) }
     ensures steps { OnOk result (slot.new.steps.steps ≡ slot.old.steps.steps ++ step ∷ []) }
-    ensures locked { OnOk result (G.entries guards.new ≡ record { examiner = examiner; tract = tract_of step.ask; access = Post }
-        ∷ G.entries guards.old) }
+    ensures locked { OnOk result (G.entries guards.new ≡ entry_of examiner step.ask ∷ G.entries guards.old) }
     ensures content { OnOk result (SameContent (S.content store.old) (S.content store.new)) }
     ensures out { OnOk result (S.out store.new ≡ S.out store.old) }
     ensures err_images { OnErr result (slot.new.images.items ≡ slot.old.images.items) }
@@ -138,7 +133,7 @@ fn extend<S: Store, G: Guards>(
         store.restore(image);
         return Err(AllocError);
     }
-    if lengthen(guards, examiner, slot, Access::Post, step).is_err() {
+    if lengthen(guards, examiner, slot, step).is_err() {
         store.restore(image);
         return Err(AllocError);
     }
@@ -157,13 +152,12 @@ pub(crate) fn keep_post<S: Store, G: Guards>(
 ) -> Result<(), AllocError>
     requires out { IsOut (S.number image) (S.out store.old) }
     requires last { IsLast (S.number image) (S.out store.old) }
-    requires prepared { G.prepared guards.old ≡ Some (record { examiner = examiner; tract = tract_of step.ask; access = Post }) }
+    requires prepared { G.prepared guards.old ≡ Some (entry_of examiner step.ask) }
     ensures declared { S.declared store.new ≡ S.declared store.old }
     ensures len { btree_map_len slots.new ≡ btree_map_len slots.old }
     ensures images { OnOk result (ImageAdded examiner image (found slots.old) (found slots.new)) }
     ensures steps { OnOk result (StepAdded examiner step (found slots.old) (found slots.new)) }
-    ensures locked { OnOk result (G.entries guards.new ≡ record { examiner = examiner; tract = tract_of step.ask; access = Post }
-        ∷ G.entries guards.old) }
+    ensures locked { OnOk result (G.entries guards.new ≡ entry_of examiner step.ask ∷ G.entries guards.old) }
     ensures content { OnOk result (SameContent (S.content store.old) (S.content store.new)) }
     ensures out { OnOk result (S.out store.new ≡ S.out store.old) }
     ensures err { OnErr result (SameSlots (found slots.old) (found slots.new)) }

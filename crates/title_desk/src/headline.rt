@@ -3,7 +3,7 @@
 ghost use Rattle.std.specs.Prelude.{reverse};
 ghost use Rattle.title_desk.specs.Headline.{Headline};
 
-use crate::transactions::Desk;
+use crate::desk::Desk;
 use title_chain::Record;
 use title_lock::Guards;
 use title_store::Store;

@@ -4,14 +4,14 @@ ghost use Rattle.std.specs.Prelude.{◌≡◌, ℕ, List, [], filter, IfOk, IfSo
 ghost use Rattle.std.specs.List.{All};
 ghost use Rattle.title_instrument.specs.declared.parts.Estates.{Estates as Named};
 ghost use Rattle.title_land.specs.Depth.{depth};
-ghost use Rattle.title_land.specs.Lands.{land_of};
+ghost use Rattle.title_land.specs.Lands.{home_of, land_of};
 ghost use Rattle.title_land.specs.NodeNumbers.{node_number};
 ghost use Rattle.title_land.specs.declared.node.Node.TheVariants.{Part as Square};
 ghost use Rattle.title_land.specs.declared.place.Township.{Township};
 ghost use Rattle.title_land.specs.declared.tract.Land.TheVariants.{Township as WholeTownship};
 ghost use Rattle.title_store.specs.Plants.{Plant as Content};
 ghost use Rattle.title_store.specs.Sheets.{estate_sheet, sheet_of};
-ghost use Rattle.title_desk.specs.Shown.{IsShown, IsQuarter, IsTrue, is_left, home_of, land_in, all_kept, kept_under, IsKept, AreKept};
+ghost use Rattle.title_desk.specs.Shown.{IsShown, IsQuarter, IsTrue, is_left, land_in, all_kept, kept_under, IsKept, AreKept};
 ghost use Rattle.title_desk.specs.Shown.{AreLeft, IsSetUnder, ApartStay, OthersStay};
 ghost use Rattle.title_desk.specs.declared.kept_sheets.Kept.TheVariants.{Quarter as OfQuarter, Sheet as OfSheet};
 
@@ -19,7 +19,7 @@ use std::alloc::{AllocError, Global};
 use std::collections::BTreeMap;
 use title_chain::{Part, SheetRows, same_tract};
 use title_instrument::{Estate, Estates};
-use title_land::{Land, Node, Quarter, Section, Township, Tract, Within};
+use title_land::{Node, Quarter, Section, Township, Tract};
 
 // How many sheets of one home are kept at most. Homes are at most 2,304 sections, 64 townships and the whole plant, so at most
 // 37,904 sheets are kept, of 24 bytes each besides their rows, which the steps that were answered by them share.
@@ -119,58 +119,17 @@ impl Kept {
     }
 }
 
-/// The node of a section.
-pub(crate) fn section_node(section: Section) -> Node
-    ensures node { result ≡ Square section [] }
-{
-    Node::Part(section, Within::section())
-}
-
 /// The section of which a tract has all cells, where it is a section's tract.
 pub(crate) fn whole_section(tract: &Tract) -> Option<Section>
     ensures whole { IfSome result (λ section. tract.now ≡ land_of depth (Square section [])) }
 {
-    let (first, _) = tract.cover().split_first()?;
-    let Node::Part(section, _) = first else {
+    let Node::Part(section, _) = tract.home() else {
         return None;
     };
-    if same_tract(tract, &Tract::of(section_node(*section))) {
-        return Some(*section);
+    if same_tract(tract, &Tract::of(section.node())) {
+        return Some(section);
     }
     None
-}
-
-// The home of a node's tract.
-fn home_above(node: Node) -> Node
-    ensures home { result ≡ home_of (land_of depth node) }
-{
-    match node {
-        Node::Everything => Node::Everything,
-        Node::Township(township) => Node::Township(township),
-        Node::Part(section, _) => section_node(section),
-    }
-}
-
-// The home of a land.
-fn home_in(land: &Land) -> Node
-    ensures home { result ≡ home_of land.now }
-{
-    match land {
-        Land::Everything => Node::Everything,
-        Land::Township(township) => Node::Township(*township),
-        Land::Part(section, _) => section_node(*section),
-    }
-}
-
-/// The home of a tract.
-#[tactic(auto, using(crate::proofs::CoverHomes::home_by_cover))]
-pub(crate) fn home_of(tract: &Tract) -> Node
-    ensures home { result ≡ home_of tract.now }
-{
-    let Some((first, _)) = tract.cover().split_first() else {
-        return home_in(&tract.land());
-    };
-    home_above(*first)
 }
 
 impl Shown {
@@ -312,7 +271,7 @@ impl KeptSheets {
         ensures rows { (townships : List Township) (content : Content) → AreKept townships content self.now →
             IfSome result (λ rows. rows ≡ sheet_of depth townships content tract.now) }
     {
-        let home = self.homes.get(&home_of(tract).number())?;
+        let home = self.homes.get(&tract.home().number())?;
         rows_of(&home.shown, tract)
     }
 
@@ -327,13 +286,13 @@ impl KeptSheets {
         ensures part { (townships : List Township) (content : Content) → AreKept townships content self.now →
             IfSome result (λ part. part ≡ estate_sheet depth townships content tract.now estate) }
     {
-        let home = self.homes.get(&section_node(section).number())?;
+        let home = self.homes.get(&section.node().number())?;
         part_of(&home.quarters, tract, quarter, estate)
     }
 
     /// Whether the last sheet of a section that was kept was long.
     pub(crate) fn is_long(&self, section: Section) -> bool {
-        match self.homes.get(&section_node(section).number()) {
+        match self.homes.get(&section.node().number()) {
             Some(home) => home.is_long,
             None => false,
         }
@@ -344,7 +303,7 @@ impl KeptSheets {
         ensures kept { (townships : List Township) (content : Content) → AreKept townships content self.old →
             IsTrue townships content kept → AreKept townships content self.new }
     {
-        let home = home_of(kept.tract());
+        let home = kept.tract().home();
         let number = home.number();
         if let Some(home) = self.homes.get_mut(&number) {
             home.keep(kept);
@@ -387,7 +346,7 @@ impl KeptSheets {
         ensures others { OthersStay tract.now self.old self.new }
         ensures apart { ApartStay tract.now estates self.old self.new }
     {
-        self.let_go_at(section_node(section), tract, estates);
+        self.let_go_at(section.node(), tract, estates);
         self.drop_home(Node::Township(section.township));
         self.drop_home(Node::Everything);
     }
@@ -398,7 +357,7 @@ impl KeptSheets {
         ensures others { OthersStay (WholeTownship township) self.old self.new }
     {
         for number in 1..=LAST_SECTION {
-            self.drop_home(section_node(Section { township, number }));
+            self.drop_home(Section { township, number }.node());
         }
         self.drop_home(Node::Township(township));
         self.drop_home(Node::Everything);
@@ -410,10 +369,10 @@ impl KeptSheets {
         ensures others { OthersStay tract.now self.old self.new }
         ensures apart { ApartStay tract.now estates self.old self.new }
     {
-        match &tract.land() {
-            Land::Everything => self.clear(),
-            Land::Township(township) => self.let_go_in_township(*township),
-            Land::Part(section, _) => self.let_go_in_section(*section, tract, estates),
+        match tract.home() {
+            Node::Everything => self.clear(),
+            Node::Township(township) => self.let_go_in_township(township),
+            Node::Part(section, _) => self.let_go_in_section(section, tract, estates),
         }
     }
 }

@@ -3,6 +3,7 @@
 
 mod asks;
 mod calls;
+pub mod desk;
 pub mod headline;
 mod images;
 mod kept_sheets;
@@ -10,6 +11,5 @@ mod plant;
 mod refusal;
 mod sections;
 mod slots;
-pub mod transactions;
 
-pub use transactions::{Desk, may_open};
+pub use desk::{Desk, may_open};

@@ -6,7 +6,6 @@ ghost use Rattle.title_land.specs.Lands.{land_of};
 ghost use Rattle.title_land.specs.declared.node.Node.TheVariants.{Part as Square};
 ghost use Rattle.title_chain.specs.SheetParts.{all_rows};
 
-use crate::kept_sheets::section_node;
 use std::alloc::AllocError;
 use title_chain::Part;
 use title_land::{Node, Quarter, Section, Tract, Within};
@@ -15,7 +14,7 @@ use title_land::{Node, Quarter, Section, Tract, Within};
 pub(crate) fn section_tract(section: Section) -> Tract
     ensures tract { result ≡ land_of depth (Square section []) }
 {
-    Tract::of(section_node(section))
+    Tract::of(section.node())
 }
 
 /// The tract of a section's quarter.

@@ -80,8 +80,10 @@ pub(crate) fn first_in<I>(slots: &BTreeMap<u32, Slot<I>>) -> Option<u32>
     Some(*examiner)
 }
 
-/// The chain of a tract for an open examiner: the entries of these records, then those of its own steps.
+/// The chain of a tract for an examiner: the entries of these records, then those of its own steps, of which it has none where it
+/// has no slot.
 pub(crate) fn chain_for<I>(
+    alloc: Global,
     records: &mut TractIndex,
     slots: &mut BTreeMap<u32, Slot<I>>,
     examiner: u32,
@@ -95,7 +97,8 @@ pub(crate) fn chain_for<I>(
         tract.now) }
 {
     let Some(slot) = slots.get_mut(&examiner) else {
-        return Err(AllocError);
+        let mut none = OwnSteps::new(alloc);
+        return records.chain(&mut none, tract);
     };
     records.chain(&mut slot.steps, tract)
 }

@@ -67,3 +67,9 @@ abbrev pub land_of : ℕ → Node → Land
 land_of depth node.Everything = land.Everything
 land_of depth (node.Township t) = land.Township t
 land_of depth (node.Part s w) = land.Part s (grid_of depth (holds (square depth w)))
+
+-- where a tract lies, by one node: the section that has it, or else the township, or the whole plant
+abbrev pub home_of : Land → Node
+home_of land.Everything = node.Everything
+home_of (land.Township t) = node.Township t
+home_of (land.Part s g) = node.Part s []

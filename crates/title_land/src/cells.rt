@@ -102,10 +102,10 @@ impl Tract {
     pub fn is_in(&self, townships: &[Township]) -> bool
         ensures is_in { result ≡ is_in_plant townships.now self.now }
     {
-        match self.land() {
-            Land::Everything => !townships.is_empty(),
-            Land::Township(township) => township.is_among(townships),
-            Land::Part(section, _) => section.township.is_among(townships),
+        match self.home() {
+            Node::Everything => !townships.is_empty(),
+            Node::Township(township) => township.is_among(townships),
+            Node::Part(section, _) => section.township.is_among(townships),
         }
     }
 

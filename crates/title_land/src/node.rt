@@ -2,6 +2,8 @@
 
 ghost use Rattle.std.specs.Prelude.{◌≡◌, ◌≤◌, ◌<◌, ◌∷◌, [], length, nat_le, Some, MatchOption};
 ghost use Rattle.title_land.specs.Depth.{depth};
+ghost use Rattle.title_land.specs.declared.node.Node.TheVariants.{Part};
+ghost use Rattle.title_land.specs.Lands.{home_of, land_of};
 ghost use Rattle.title_land.specs.Nodes.{parent_of, IsNode};
 ghost use Rattle.title_land.specs.Paths.{path_number};
 ghost use Rattle.title_land.specs.Texts.{path_text, quarters_text, node_text};
@@ -109,6 +111,15 @@ impl Within {
     }
 }
 
+impl Section {
+    /// Its node.
+    pub fn node(self) -> Node
+        ensures node { result ≡ Part self [] }
+    {
+        Node::Part(self, Within::section())
+    }
+}
+
 impl Node {
     /// It is a node of the tree: a square has no more quarters than the depth. The function does nothing: the type says so.
     pub fn is_in_tree(&self)
@@ -116,6 +127,16 @@ impl Node {
     {
         if let Node::Part(_, within) = self {
             within.split();
+        }
+    }
+
+    /// The section in which it lies, as a node, or itself where it lies in none.
+    pub fn home(self) -> Node
+        ensures home { result ≡ home_of (land_of depth self) }
+    {
+        match self {
+            Node::Part(section, _) => section.node(),
+            _ => self,
         }
     }
 

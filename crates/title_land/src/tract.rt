@@ -6,7 +6,7 @@ ghost use Rattle.title_land.specs.declared.tract.Land.{Land};
 ghost use Rattle.title_land.specs.CoverSets.{IsCover};
 ghost use Rattle.title_land.specs.Acres.{half_acres_of};
 ghost use Rattle.title_land.specs.Nodes.{IsNode};
-ghost use Rattle.title_land.specs.Lands.{has, cover_of, land_of, meets, Meets, IsLand};
+ghost use Rattle.title_land.specs.Lands.{has, cover_of, home_of, land_of, meets, Meets, IsLand};
 
 use crate::acres::{CELL_HALF_ACRES, TOWNSHIP_HALF_ACRES};
 use crate::cover::{cover_of, sole_square};
@@ -136,6 +136,16 @@ impl Tract {
         match &self.extent {
             Extent::Node(node) => Land::of(*node),
             Extent::Shape(section, shape) => Land::Part(*section, shape.cells),
+        }
+    }
+
+    /// Where the tract lies, by one node: the section that has it, or else the township, or the whole plant.
+    pub fn home(&self) -> Node
+        ensures home { result ≡ home_of self.now }
+    {
+        match &self.extent {
+            Extent::Node(node) => node.home(),
+            Extent::Shape(section, _) => section.node(),
         }
     }
 

@@ -10,8 +10,8 @@ use Rattle.title_tree_store.proofs.tree_store.Image.TheSendSync as image_sent
 use Rattle.title_lock.specs.contracts.node_locks.NodeLocks as locks
 use Rattle.title_lock.specs.contracts.node_locks.NodeLocksGuards.TheImpl as guards
 use Rattle.title_lock.proofs.node_locks.NodeLocks.TheSendSync as locks_sent
-use Rattle.title_desk.specs.contracts.transactions.Desk as desks
-use Rattle.title_desk.proofs.transactions.Desk.TheSendSync as desk_sent
+use Rattle.title_desk.specs.contracts.desk.Desk as desks
+use Rattle.title_desk.proofs.desk.Desk.TheSendSync as desk_sent
 
 -- the desk may be sent
 pub desk_send : IsSend (desks.the_row trees.the_row locks.the_row image.the_row stores.ghosts guards.ghosts)

@@ -1,6 +1,6 @@
 -- One image more has been let go.
 use Rattle.std.proofs.Common.{◌∙◌}
-use Rattle.title_desk.proofs.Undo.{forget_step, forgets_first}
+use Rattle.title_desk.proofs.Loaned.{forget_step, forgets_first}
 use Rattle.title_desk.proofs.images.forget_all.Goals as goal
 
 pub loop-image-preserved : goal.loop-image-preserved

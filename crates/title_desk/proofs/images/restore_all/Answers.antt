@@ -2,7 +2,7 @@
 use Rattle.std.proofs.Common.{◌∙◌, subst}
 use Rattle.title_store.specs.Plants.{SameContent}
 use Rattle.title_desk.specs.Images.{put_back}
-use Rattle.title_desk.proofs.Undo.{restore_step, restores_first}
+use Rattle.title_desk.proofs.Loaned.{restore_step, restores_first}
 use Rattle.title_desk.proofs.images.restore_all.Goals as goal
 
 pub loop-image-preserved : goal.loop-image-preserved

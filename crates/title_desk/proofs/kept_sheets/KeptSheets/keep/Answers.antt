@@ -2,10 +2,11 @@
 use Rattle.std.proofs.Common.{◌≡◌, ◌∙◌, [], Option, Some, ap, refl, subst, sym}
 use Rattle.std.specs.Prelude.{IsSome}
 use Rattle.std.proofs.lemmas.List.Elements.{All-nil, All-same}
+use Rattle.title_land.specs.Lands.{home_of}
 use Rattle.title_land.specs.NodeNumbers.{node_number}
 use Rattle.title_desk.specs.declared.kept_sheets.Home.{Home}
 use Rattle.title_desk.specs.declared.kept_sheets.KeptSheets.{KeptSheets}
-use Rattle.title_desk.specs.Shown.{home_of, land_in, all_kept, IsKept}
+use Rattle.title_desk.specs.Shown.{land_in, all_kept, IsKept}
 use Rattle.title_desk.proofs.Homes.{Homes, found_home, set_under, kept_set, kept_put, kept_unchanged}
 use Rattle.title_desk.proofs.kept_sheets.KeptSheets.keep.Goals as goal
 
@@ -16,7 +17,7 @@ returns-in-Some c =
     let w = c.keep.new.self in
     let found = c.in-Some.ensures.value in
     let numbered : node_number (home_of (land_in c.args.kept)) ≡ k =
-    sym (c.number-number.ensures.number ∙ ap node_number (c.home_of-home.ensures.home ∙ ap home_of c.tract.ensures.tract)) in
+    sym (c.number-number.ensures.number ∙ ap node_number (c.home-home.ensures.home ∙ ap home_of c.tract.ensures.tract)) in
     let new : KeptSheets = record { alloc = old.alloc; homes = c.get_mut.follows.lender w } in
     record {
       kept = λ ts p are is. kept_set ts p k (all_kept w) old new
@@ -31,7 +32,7 @@ returns c =
     let k = c.number-number.result in
     let w = c.keep-2.new.self in
     let numbered : node_number (home_of (land_in c.args.kept)) ≡ k =
-    sym (c.number-number.ensures.number ∙ ap node_number (c.home_of-home.ensures.home ∙ ap home_of c.tract.ensures.tract)) in
+    sym (c.number-number.ensures.number ∙ ap node_number (c.home-home.ensures.home ∙ ap home_of c.tract.ensures.tract)) in
     let mid : KeptSheets = record { alloc = old.alloc; homes = c.get_mut.follows.lender-at-none } in
     let new : KeptSheets = record { alloc = old.alloc; homes = c.insert.new.self } in
     record {

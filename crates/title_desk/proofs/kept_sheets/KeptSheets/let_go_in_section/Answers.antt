@@ -11,7 +11,7 @@ pub returns : goal.returns
 returns c =
     let looked_through = subst (λ (n : Node). IsSetUnder (node_number n)
     (filter (is_left c.args.tract.now c.args.estates) (kept_under c.args.self.now (node_number n))) c.args.self.now c.let_go_at.new.self)
-    c.section_node.ensures.node c.let_go_at.ensures.left in
+    c.node.ensures.node c.let_go_at.ensures.left in
     record {
       left = section_left c.args.section c.args.tract.now c.args.estates c.args.self.now c.let_go_at.new.self c.drop_home.new.self
           c.drop_home-2.new.self c.requires.home looked_through c.drop_home.ensures.gone c.drop_home-2.ensures.gone;

@@ -17,7 +17,7 @@ loop-number-preserved c =
       number = c.loop-number.number;
       numbered = (c.loop-number.auto.number, c.loop-number-test.true);
     } in
-    let gone = subst (λ (n : Node). IsSetUnder (node_number n) [] c.loop-number.self c.drop_home.new.self) c.section_node.ensures.node
+    let gone = subst (λ (n : Node). IsSetUnder (node_number n) [] c.loop-number.self c.drop_home.new.self) c.node.ensures.node
     c.drop_home.ensures.gone in
     record {
       swept = swept_more s c.args.self.now c.loop-number.self c.drop_home.new.self c.loop-number.invariant.swept gone;

@@ -1,0 +1,26 @@
+-- What the store and the index give is what the ask gets alone; the examiners' slots look as they did.
+use Rattle.std.proofs.Common.{◌∙◌, ap, refl}
+use Rattle.title_chain.specs.declared.ask.Answer.TheVariants.{Entries, Rows}
+use Rattle.title_desk.proofs.Found.{seen_same}
+use Rattle.title_desk.proofs.States.{keeps_slots}
+use Rattle.title_desk.proofs.Steps.{chain_due, sheet_due}
+use Rattle.title_desk.proofs.desk.Desk.read.Goals as goal
+
+pub invariant_of-self-in_err-entries-in-Chain : goal.invariant_of-self-in_err-entries-in-Chain
+invariant_of-self-in_err-entries-in-Chain g c =
+    rw c.chain_for.ensures.records (keeps_slots c.self.invariant (seen_same g.S.Store.number _ _ c.chain_for.ensures.slots) refl)
+
+pub invariant_of-self-in-Chain : goal.invariant_of-self-in-Chain
+invariant_of-self-in-Chain g c =
+    rw c.chain_for.ensures.records (keeps_slots c.self.invariant (seen_same g.S.Store.number _ _ c.chain_for.ensures.slots) refl)
+
+pub returns-in_ok-rows-in-Sheet-clause-alone : goal.returns-in_ok-rows-in-Sheet-clause-alone
+returns-in_ok-rows-in-Sheet-clause-alone g c =
+    let free = rw (c.in-Sheet.is, ← c.self.view_is) at c.requires.free in
+    rw (c.in-Sheet.is, ← c.self.view_is)
+    (ap Rows c.in_ok-rows-in-Sheet.ensures.rows ∙ sheet_due c.args.examiner c.in-Sheet.tract c.self.invariant free)
+
+pub returns-in_ok-entries-in-Chain-clause-alone : goal.returns-in_ok-entries-in-Chain-clause-alone
+returns-in_ok-entries-in-Chain-clause-alone g c =
+    rw (c.in-Chain.is, ← c.self.view_is)
+    (ap Entries c.in_ok-entries-in-Chain.ensures.chain ∙ chain_due c.args.examiner c.in-Chain.tract c.self.invariant)

@@ -1,0 +1,220 @@
+//! Transactions of one step, where nobody is open: no slot, no lock and no before-image is kept for them.
+
+ghost use Rattle.std.specs.Prelude.{◌≡◌, ◌++◌, ◌∷◌, [], IfOk, OnOk, OnErr, true, false, length};
+ghost use Rattle.title_land.specs.Depth.{depth};
+ghost use Rattle.title_land.specs.Lands.{is_in_plant};
+ghost use Rattle.title_store.specs.Plants.{SameContent, plant_effect, refused_in};
+ghost use Rattle.title_chain.specs.declared.ask.Ask.TheVariants.{Post};
+ghost use Rattle.title_chain.specs.Alone.{alone};
+ghost use Rattle.title_chain.specs.declared.ask.Answer.TheVariants.{Posted};
+ghost use Rattle.title_trace.specs.declared.call.Request.TheVariants.{Begin, Commit, Step};
+ghost use Rattle.title_trace.specs.declared.call.Reply.TheVariants.{Began, Committed};
+ghost use Rattle.title_trace.specs.Trace.{committed, open_steps};
+ghost use Rattle.title_desk.specs.Images.{is_posted};
+ghost use Rattle.title_desk.specs.Singles.{Bars, IsDeed, IsIdle, Stands, ToldSingle};
+
+use crate::asks::step_of;
+use crate::calls::Calls;
+use crate::desk::Desk;
+use crate::images::settle;
+use crate::refusal::Refusal;
+use std::alloc::{AllocError, Global};
+use title_chain::{Answer, Ask, Posting, Record, Steps, TractIndex};
+use title_lock::Guards;
+use title_store::{Put, Store};
+use title_trace::laws::idle_have_no_steps;
+use title_trace::{Reply, Request};
+
+// The list of one step.
+fn one_step(alloc: Global, step: title_chain::Step) -> Result<Steps, AllocError>
+    ensures steps { IfOk result (λ steps. steps ≡ step ∷ []) }
+{
+    let mut steps = Vec::with_capacity(alloc, 1)?;
+    steps.push_reserved(step);
+    Ok(Steps::new(steps))
+}
+
+// What a transaction of one answered step takes memory for: the list of its step, and room for its record.
+fn prepare_answer(
+    alloc: Global,
+    records: &mut TractIndex,
+    ask: &Ask,
+    answer: &Answer,
+) -> Result<Steps, AllocError>
+    ensures records { records.new.records ≡ records.old.records }
+    ensures room { OnOk result (records.new.has_room ≡ true) }
+    ensures steps { IfOk result (λ steps. steps ≡ record { ask = ask.now; answer = answer.now } ∷ []) }
+{
+    let step = step_of(alloc, ask, answer)?;
+    let steps = one_step(alloc, step)?;
+    records.reserve()?;
+    Ok(steps)
+}
+
+// What a transaction of one post that is done takes memory for: the list of its step, and room for its record.
+fn prepare_post(
+    alloc: Global,
+    records: &mut TractIndex,
+    posting: &Posting,
+) -> Result<Steps, AllocError>
+    ensures records { records.new.records ≡ records.old.records }
+    ensures room { OnOk result (records.new.has_room ≡ true) }
+    ensures steps { IfOk result (λ steps. steps ≡ record { ask = Post posting.now; answer = Posted } ∷ []) }
+{
+    let ask = Ask::Post(posting.copy(alloc)?);
+    let answer = Answer::Posted;
+    prepare_answer(alloc, records, &ask, &answer)
+}
+
+// Posts in a store of which no image is out, and lets the image go; or gives the answer that says why it is refused.
+fn post_at_once<S: Store>(store: &mut S, posting: &Posting) -> Result<Option<Answer>, AllocError>
+    requires within { is_in_plant (S.declared store.old) posting.now.tract ≡ true }
+    requires none { S.out store.old ≡ [] }
+    ensures deed { IfOk result (λ refused. IsDeed refused
+        (refused_in depth (S.declared store.old) posting.now.instrument (S.content store.old) posting.now.tract)
+        (SameContent (plant_effect depth (S.declared store.old) posting.now.instrument (S.content store.old) posting.now.tract)
+        (S.content store.new))
+        (SameContent (S.content store.old) (S.content store.new))) }
+    ensures declared { S.declared store.new ≡ S.declared store.old }
+    ensures out { S.out store.new ≡ [] }
+    ensures err_content { OnErr result (SameContent (S.content store.old) (S.content store.new)) }
+{
+    let terms = posting.terms();
+    let Ok(put) = store.put(&terms.tract, &terms.instrument) else {
+        return Err(AllocError);
+    };
+    let image = match put {
+        Put::Refused(rule, estate, node) => {
+            return Ok(Some(Answer::Refused(rule, estate, node)));
+        }
+        Put::Done(image) => image,
+    };
+    settle(store, image);
+    Ok(None)
+}
+
+// The calls with those of a transaction of one step: it is begun, asked, and ended.
+fn with_single(
+    calls: &Calls,
+    examiner: u32,
+    ask: Ask,
+    told: &Reply,
+    end: &Request,
+    ended: &Reply,
+) -> Calls
+    ensures calls { result.list ≡ record { request = end.now; reply = ended.now }
+        ∷ record { request = Step examiner ask; reply = told.now } ∷ record { request = Begin examiner; reply = Began }
+        ∷ calls.now.list }
+{
+    let (begin, step) = (Request::Begin(examiner), Request::Step(examiner, ask));
+    let begun = calls.then(&begin, &Reply::Began);
+    let asked = begun.then(&step, told);
+    asked.then(end, ended)
+}
+
+// Adds the record of a transaction whose step is answered, for which there is room; the calls with its own.
+fn add_done(
+    calls: &Calls,
+    records: &mut TractIndex,
+    examiner: u32,
+    ask: Ask,
+    told: &Reply,
+    steps: Steps,
+) -> Calls
+    requires room { records.old.has_room ≡ true }
+    ensures records { records.new.records ≡ records.old.records ++ record { examiner = examiner; steps = steps } ∷ [] }
+    ensures calls { result.list ≡ record { request = Commit examiner; reply = Committed (length records.new.records) }
+        ∷ record { request = Step examiner ask; reply = told.now } ∷ record { request = Begin examiner; reply = Began }
+        ∷ calls.now.list }
+{
+    records.push_reserved(Record { examiner, steps });
+    let (end, ended) = (
+        Request::Commit(examiner),
+        Reply::Committed(records.len() as u64),
+    );
+    with_single(calls, examiner, ask, told, &end, &ended)
+}
+
+impl<S: Store + Drop, G: Guards + Drop> Desk<S, G> {
+    // Adds a transaction whose step is refused.
+    fn refuse_alone(&mut self, examiner: u32, ask: Ask, refusal: Refusal) -> Reply
+        requires idle { IsIdle self.old.trace }
+        requires bars { Bars self.old.setting ask refusal }
+        ensures told { ToldSingle self.old examiner ask result self.new }
+    {
+        let (told, end) = (refusal.reply(), Request::Abort(examiner));
+        self.calls = with_single(&self.calls, examiner, ask, &told, &end, &Reply::Aborted);
+        told
+    }
+
+    // Adds a transaction whose step is answered and posts nothing.
+    fn answer_alone(&mut self, examiner: u32, ask: Ask, answer: Answer) -> Reply
+        requires idle { IsIdle self.old.trace }
+        requires stands { Stands self.old.setting ask }
+        requires alone { answer
+            ≡ alone depth self.old.setting.townships (committed self.old.trace) (open_steps self.old.trace examiner) ask }
+        requires unposted { is_posted ask answer ≡ false }
+        ensures told { ToldSingle self.old examiner ask result self.new }
+    {
+        let Ok(steps) = prepare_answer(self.alloc, &mut self.records, &ask, &answer) else {
+            return self.want_memory(&ask);
+        };
+        let told = Reply::Answered(answer);
+        let (calls, records) = (&self.calls, &mut self.records);
+        self.calls = add_done(calls, records, examiner, ask, &told, steps);
+        told
+    }
+
+    // Answers a sheet or a chain that nothing refuses.
+    fn read_alone(&mut self, examiner: u32, ask: Ask) -> Reply
+        requires idle { IsIdle self.old.trace }
+        requires stands { Stands self.old.setting ask }
+        ensures told { ToldSingle self.old examiner ask result self.new }
+    {
+        idle_have_no_steps();
+        self.is_due();
+        let Ok(answer) = self.read(examiner, &ask) else {
+            return self.want_memory(&ask);
+        };
+        self.answer_alone(examiner, ask, answer)
+    }
+
+    // Posts an instrument that nothing refuses but the plant. All that takes memory comes before the post is done.
+    fn post_alone(&mut self, examiner: u32, posting: Posting) -> Reply
+        requires idle { IsIdle self.old.trace }
+        requires stands { Stands self.old.setting (Post posting) }
+        ensures told { ToldSingle self.old examiner (Post posting) result self.new }
+    {
+        let Ok(steps) = prepare_post(self.alloc, &mut self.records, &posting) else {
+            return Reply::Memory;
+        };
+        let Ok(refused) = post_at_once(&mut self.store, &posting) else {
+            return Reply::Memory;
+        };
+        match refused {
+            Some(answer) => return self.answer_alone(examiner, Ask::Post(posting), answer),
+            None => {}
+        }
+        let (ask, told) = (Ask::Post(posting), Reply::Answered(Answer::Posted));
+        let (calls, records) = (&self.calls, &mut self.records);
+        self.calls = add_done(calls, records, examiner, ask, &told, steps);
+        told
+    }
+
+    /// Serves an examiner's ask as a transaction of its own where nobody is open: adds its three calls, begun, asked, and
+    /// committed or aborted, to the trace and gives the step's reply; or answers `Memory` where a growth was refused, and
+    /// then nothing has changed.
+    pub fn serve_alone(&mut self, examiner: u32, ask: Ask) -> Reply
+        requires idle { IsIdle self.old.trace }
+        ensures told { ToldSingle self.old examiner ask result self.new }
+    {
+        if let Some(refusal) = self.bar(&ask) {
+            return self.refuse_alone(examiner, ask, refusal);
+        }
+        match ask {
+            Ask::Sheet(tract) => self.read_alone(examiner, Ask::Sheet(tract)),
+            Ask::Chain(tract) => self.read_alone(examiner, Ask::Chain(tract)),
+            Ask::Post(posting) => self.post_alone(examiner, posting),
+        }
+    }
+}
