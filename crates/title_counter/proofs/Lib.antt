@@ -1,0 +1,11 @@
+mod Aborting
+mod AnswerLaws
+mod AskedOnce
+mod Batches
+mod FieldLaws
+mod LineLaws
+mod NamesText
+mod OnResults
+mod ReadOne
+mod RowLaws
+mod Sittings

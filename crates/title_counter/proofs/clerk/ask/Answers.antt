@@ -1,0 +1,7 @@
+use Rattle.title_counter.proofs.AskedOnce.{asked}
+use Rattle.title_counter.proofs.clerk.ask.Goals as goal
+
+pub returns-in_default : goal.returns-in_default
+returns-in_default g c =
+    let a = asked c.args.desk.now c.serve.new.self c.args.request c.serve.result c.in_default.not-Memory c.serve.ensures.told in
+    record { setting = a.0; trace = a.1; reply = a.2 }

@@ -1,0 +1,19 @@
+-- Between two pulls all whole lines of what was given are answered, and the answers passed on.
+use Rattle.std.proofs.Common.{◌≡◌, ◌≤◌, ◌-◌, ◌^◌, [], false}
+use Rattle.title_counter.specs.Sessions.{IsBetween, IsSound}
+use Rattle.title_counter.specs.Views.{counter_of}
+use Rattle.title_counter.proofs.session.attend_rows.Given as goal
+
+abbrev pub invariant-pulls : goal.invariant-pulls
+invariant-pulls g l = record {
+  between : IsBetween (g.R.Source.left l.fn.source) (g.R.Source.left l.source) (g.W.Sink.taken l.fn.sink) (g.W.Sink.taken l.sink)
+      (counter_of l.clerk) l.line l.given;
+  page : l.page ≡ [];
+  sound : IsSound (counter_of l.clerk);
+  rows : l.clerk.rows ≤ l.given;
+  source_works : g.R.Source.has_failed l.source ≡ false;
+  sink_works : g.W.Sink.has_failed l.sink ≡ false;
+}
+
+abbrev pub decreases-pulls : goal.decreases-pulls
+decreases-pulls g l = 2 ^ 64 - l.given

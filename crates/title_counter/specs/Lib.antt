@@ -1,0 +1,8 @@
+pub mod Limits
+pub mod Lines
+pub mod Founds
+pub mod Readers
+pub mod Closings
+pub mod Counters
+pub mod Sessions
+pub mod Views

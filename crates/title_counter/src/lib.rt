@@ -1,0 +1,19 @@
+//! The desk row by row: rows are served as they come, and answered before more of them are waited for.
+#![tactic(auto)]
+
+mod answer;
+mod clerk;
+mod closing;
+mod declaring;
+mod fault;
+mod found;
+pub mod laws;
+mod line_start;
+mod lines;
+mod session;
+mod wish;
+
+pub use fault::CounterFault;
+pub use line_start::LINE_LIMIT;
+pub use session::attend;
+pub use title_device::{Device, Failed, Sink, Source};
