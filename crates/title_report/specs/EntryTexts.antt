@@ -1,5 +1,6 @@
 -- The text of a chain's row behind its examiner, as it is kept for further rows of the entry.
-use Rattle.std.specs.Prelude.{◌≡◌, ℕ, List, [], ◌∷◌, ◌++◌, codes, IfSome}
+use Rattle.std.specs.Prelude.{◌≡◌, ℕ, List, Option, [], ◌∷◌, ◌++◌, codes, IfSome}
+use Rattle.std.specs.List.{All}
 use Rattle.std.specs.Fmt.{decimal}
 use Rattle.csv.specs.Writing.{field_text}
 use Rattle.title_instrument.specs.Estates.{estates_text}
@@ -10,6 +11,7 @@ use Rattle.title_page.specs.Rows.{row_writer}
 use Rattle.title_report.specs.Replies.{name_of}
 use Rattle.title_report.specs.declared.entry_line.EntryKey.{EntryKey}
 use Rattle.title_report.specs.declared.entry_line.EntryLine.{EntryLine}
+use Rattle.title_report.specs.declared.entry_lines.KeptLines.{KeptLines}
 
 -- what a chain's row shows of an entry
 abbrev pub key_of : Entry → EntryKey
@@ -32,3 +34,7 @@ entry_text names k =
 -- the text that a line has is that of its key
 pub record IsMade (names : List (List ℕ)) (l : EntryLine) : Type 0 where
   pub text : IfSome l.key (λ k. l.text.items ≡ entry_text names k)
+
+-- each line that there is has the text of its key
+abbrev pub AreMade : List (List ℕ) → Option KeptLines → Type 0
+AreMade names lines = IfSome lines (λ it. All (IsMade names) it.lines.items)

@@ -1,6 +1,6 @@
 //! The rows of answers.
 
-ghost use Rattle.std.specs.Prelude.{◌≡◌, ◌∷◌, ◌++◌, [], true, false, All, OnOk, OnErr, codes, length, map};
+ghost use Rattle.std.specs.Prelude.{◌≡◌, ◌∷◌, ◌++◌, [], true, false, OnOk, OnErr, codes, length, map};
 ghost use Rattle.std.specs.List.{flat_map};
 ghost use Rattle.csv.specs.Writing.{field_text};
 ghost use Rattle.title_chain.specs.KeptRows.{rows_in, sheet_in};
@@ -8,13 +8,13 @@ ghost use Rattle.title_chain.specs.SquareRows.{row_in};
 ghost use Rattle.title_instrument.specs.Kinds.{kind_word};
 ghost use Rattle.title_page.specs.Pages.{Stopped, Written};
 ghost use Rattle.title_page.specs.Rows.{row_writer, rows_text};
-ghost use Rattle.title_report.specs.EntryTexts.{IsMade};
+ghost use Rattle.title_report.specs.EntryTexts.{AreMade, IsMade};
 ghost use Rattle.title_report.specs.Fronts.{entry_start, tail_text, IsFront};
 ghost use Rattle.title_report.specs.Replies.{answer_rows, entry_row, number_row, refused_row, sheet_row};
 
 use crate::entries::{estates_end, make_entry, make_start, put_entry_from};
 use crate::entry_line::{EntryLine, key_of};
-use crate::entry_lines::line_of;
+use crate::entry_lines::KeptLines;
 use crate::field::ReportField;
 use crate::front::{Front, Square};
 use crate::nodes::number_is_plain;
@@ -468,16 +468,16 @@ fn put_entry<S: Sink>(
     page: &mut Page,
     sink: &mut S,
     roster: &Roster,
-    lines: &mut [EntryLine],
+    lines: &mut Option<KeptLines>,
     examiner: u32,
     start: &[u8],
     line: &mut Line,
     entry: &Entry,
 ) -> Result<(), Failed>
     requires start { start.now ≡ entry_start examiner }
-    requires lines { All (IsMade roster.now) lines.old }
+    requires lines { AreMade roster.now lines.old }
     requires works { S.has_failed sink.old ≡ false }
-    ensures lines { All (IsMade roster.now) lines.new }
+    ensures lines { AreMade roster.now lines.new }
     ensures written { OnOk result (Written (S.taken sink.old) page.old (S.taken sink.new) page.new
         (rows_text (entry_row roster.now examiner entry.now ∷ []))) }
     ensures well { OnOk result (S.has_failed sink.new ≡ false) }
@@ -485,18 +485,20 @@ fn put_entry<S: Sink>(
         (rows_text (entry_row roster.now examiner entry.now ∷ []))) }
     ensures failed { OnErr result (S.has_failed sink.new ≡ true) }
 {
-    let number = line_of(entry.place);
-    if number < lines.len() {
-        return put_kept_entry(
-            page,
-            sink,
-            roster,
-            &mut lines[number],
-            examiner,
-            start,
-            line,
-            entry,
-        );
+    if let Some(kept) = lines {
+        let number = kept.number_of(entry.place);
+        if number < kept.lines.len() {
+            return put_kept_entry(
+                page,
+                sink,
+                roster,
+                &mut kept.lines[number],
+                examiner,
+                start,
+                line,
+                entry,
+            );
+        }
     }
     put_entry_in_parts(page, sink, roster, examiner, start, line, entry)
 }
@@ -506,13 +508,13 @@ fn put_entries<S: Sink>(
     page: &mut Page,
     sink: &mut S,
     roster: &Roster,
-    lines: &mut [EntryLine],
+    lines: &mut Option<KeptLines>,
     examiner: u32,
     entries: &[Entry],
 ) -> Result<(), Failed>
-    requires lines { All (IsMade roster.now) lines.old }
+    requires lines { AreMade roster.now lines.old }
     requires works { S.has_failed sink.old ≡ false }
-    ensures lines { All (IsMade roster.now) lines.new }
+    ensures lines { AreMade roster.now lines.new }
     ensures written { OnOk result (Written (S.taken sink.old) page.old (S.taken sink.new) page.new
         (rows_text (map (entry_row roster.now examiner) entries.now))) }
     ensures well { OnOk result (S.has_failed sink.new ≡ false) }
@@ -534,13 +536,13 @@ fn put_chain<S: Sink>(
     page: &mut Page,
     sink: &mut S,
     roster: &Roster,
-    lines: &mut [EntryLine],
+    lines: &mut Option<KeptLines>,
     examiner: u32,
     entries: &[Entry],
 ) -> Result<(), Failed>
-    requires lines { All (IsMade roster.now) lines.old }
+    requires lines { AreMade roster.now lines.old }
     requires works { S.has_failed sink.old ≡ false }
-    ensures lines { All (IsMade roster.now) lines.new }
+    ensures lines { AreMade roster.now lines.new }
     ensures written { OnOk result (Written (S.taken sink.old) page.old (S.taken sink.new) page.new
         (rows_text (number_row examiner (codes "chain") (length entries.now)
         ∷ map (entry_row roster.now examiner) entries.now))) }
@@ -559,13 +561,13 @@ pub(crate) fn put_answer<S: Sink>(
     page: &mut Page,
     sink: &mut S,
     roster: &Roster,
-    lines: &mut [EntryLine],
+    lines: &mut Option<KeptLines>,
     examiner: u32,
     answer: &Answer,
 ) -> Result<(), Failed>
-    requires lines { All (IsMade roster.now) lines.old }
+    requires lines { AreMade roster.now lines.old }
     requires works { S.has_failed sink.old ≡ false }
-    ensures lines { All (IsMade roster.now) lines.new }
+    ensures lines { AreMade roster.now lines.new }
     ensures written { OnOk result (Written (S.taken sink.old) page.old (S.taken sink.new) page.new
         (rows_text (answer_rows roster.now examiner answer.now))) }
     ensures well { OnOk result (S.has_failed sink.new ≡ false) }

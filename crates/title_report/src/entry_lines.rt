@@ -1,74 +1,101 @@
 //! The texts of entries that a report's chains have shown.
 
-ghost use Rattle.std.specs.Prelude.{◌≡◌, ℕ, List, All};
-ghost use Rattle.title_report.specs.EntryTexts.{IsMade};
+ghost use Rattle.std.specs.Prelude.{◌≡◌, ℕ, List, All, IfOk};
+ghost use Rattle.title_report.specs.EntryTexts.{AreMade, IsMade};
 
 use crate::entry_line::EntryLine;
 use crate::roster::Roster;
 use std::alloc::{AllocError, Global};
 use std::marker::Model;
 
-// The most lines.
-const LINES: usize = 4096;
+// The most lines: 11 MB, of which a report takes what its chains show.
+const LINES: usize = 65_536;
 
-/// The roster of a report, and lines with the texts of entries that its chains have shown, so that most of these are made once.
+// The number of no line.
+const NO_LINE: u32 = u32::MAX;
+
+// Lines with the texts of entries. Which is an entry's goes by its place, counted round.
+#[derive(Drop)]
+pub(crate) struct KeptLines {
+    pub(crate) numbers: Vec<u32>,
+    pub(crate) lines: Vec<EntryLine>,
+}
+
+/// The roster of a report, and lines with the texts of entries that its chains have shown, so that these are made once.
 /// A contract sees the names' bytes.
 #[derive(Drop)]
 pub struct EntryLines<'a> {
     pub(crate) roster: Roster<'a>,
-    pub(crate) lines: Vec<EntryLine>,
+    pub(crate) lines: Option<KeptLines>,
 }
 
 impl<'a> Model for EntryLines<'a> {
-    ghost use Rattle.std.specs.Prelude.{ℕ, List, All};
+    ghost use Rattle.std.specs.Prelude.{ℕ, List};
 
     ghost Value = { List (List ℕ) };
 
-    ghost use Rattle.title_report.specs.EntryTexts.{IsMade};
+    ghost use Rattle.title_report.specs.EntryTexts.{AreMade};
 
     ghost view = { λ x. x.roster };
 
-    ghost invariant = { λ x. All (IsMade x.roster) x.lines.items };
+    ghost invariant = { λ x. AreMade x.roster x.lines };
 }
 
-// The number of the line of an entry at this place. Entries may share a line: it has the text of the last one.
-#[inline]
-pub(crate) fn line_of(place: u64) -> usize {
-    (place % LINES as u64) as usize
-}
-
-// Adds a line with no text made.
-fn add_line(lines: &mut Vec<EntryLine>) -> Result<(), AllocError>
+// Adds a line with no text made, where there is room for it, and tells whether there was.
+fn add_line(lines: &mut Vec<EntryLine>) -> bool
     ensures lines { (names : List (List ℕ)) → All (IsMade names) lines.old.items → All (IsMade names) lines.new.items }
 {
-    lines.push(EntryLine::new())?;
-    Ok(())
+    let has_room = lines.len() < lines.capacity();
+    if has_room {
+        lines.push_reserved(EntryLine::new());
+    }
+    has_room
 }
 
-// So many lines with no text made; fewer where memory is refused.
-fn blank_lines(alloc: Global, count: usize) -> Vec<EntryLine>
-    ensures lines { (names : List (List ℕ)) → All (IsMade names) result.items }
-{
-    let Ok(mut lines) = Vec::with_capacity(alloc, count) else {
-        return Vec::new(alloc);
-    };
-    for _ in 0..count {
-        let Ok(()) = add_line(&mut lines) else {
-            return lines;
-        };
+impl KeptLines {
+    // Room for so many lines, at most 65,536, none of them begun, by so many places.
+    fn new(alloc: Global, entries: usize) -> Result<KeptLines, AllocError>
+        ensures made { IfOk result (λ it. (names : List (List ℕ)) → All (IsMade names) it.lines.items) }
+    {
+        Ok(KeptLines {
+            numbers: vec![in alloc; NO_LINE; entries]?,
+            lines: Vec::with_capacity(alloc, entries.min(LINES))?,
+        })
     }
-    lines
+
+    // The number of the line of an entry at this place, which is begun where there is none yet: as many as there are lines where
+    // no more has room. Entries may share a line: it has the text of the last one.
+    #[inline]
+    pub(crate) fn number_of(&mut self, place: u64) -> usize
+        ensures made { (names : List (List ℕ)) → All (IsMade names) self.old.lines.items → All (IsMade names) self.new.lines.items }
+    {
+        let next = self.lines.len();
+        let places = self.numbers.len() as u64;
+        if places == 0 {
+            return next;
+        }
+        let Some(number) = self.numbers.get_mut((place % places) as usize) else {
+            return next;
+        };
+        if (*number as usize) < next {
+            return *number as usize;
+        }
+        if add_line(&mut self.lines) {
+            *number = next as u32;
+        }
+        next
+    }
 }
 
 impl<'a> EntryLines<'a> {
-    /// A roster with lines for so many entries, at most 4,096. Their memory is taken here and nowhere else; where it is refused
+    /// A roster with lines for so many entries, at most 65,536. Their memory is taken here and nowhere else; where it is refused
     /// there are none, and each row is made anew.
     pub fn new(alloc: Global, roster: Roster<'a>, entries: usize) -> EntryLines<'a>
         ensures names { result ≡ roster.entry }
     {
         EntryLines {
             roster,
-            lines: blank_lines(alloc, entries.min(LINES)),
+            lines: KeptLines::new(alloc, entries).ok(),
         }
     }
 }

@@ -1,16 +1,15 @@
 //! The rows of replies.
 
-ghost use Rattle.std.specs.Prelude.{◌≡◌, ◌<◌, ◌∷◌, [], true, false, All, OnOk, OnErr, length, map};
+ghost use Rattle.std.specs.Prelude.{◌≡◌, ◌<◌, ◌∷◌, [], true, false, OnOk, OnErr, length, map};
 ghost use Rattle.std.specs.String.{string_bytes};
 ghost use Rattle.title_page.specs.Pages.{Stopped, Written};
 ghost use Rattle.title_page.specs.Rows.{rows_text};
-ghost use Rattle.title_report.specs.EntryTexts.{IsMade};
+ghost use Rattle.title_report.specs.EntryTexts.{AreMade};
 ghost use Rattle.title_report.specs.Fields.{text_of};
 ghost use Rattle.title_report.specs.Replies.{described_row, end_row, number_row, reply_rows, word_row};
 
 use crate::answers::put_answer;
-use crate::entry_line::EntryLine;
-use crate::entry_lines::EntryLines;
+use crate::entry_lines::{EntryLines, KeptLines};
 use crate::field::ReportField;
 use crate::roster::Roster;
 use indexmap::IndexSet;
@@ -91,13 +90,13 @@ fn put_reply_by<S: Sink>(
     page: &mut Page,
     sink: &mut S,
     roster: &Roster,
-    lines: &mut [EntryLine],
+    lines: &mut Option<KeptLines>,
     examiner: u32,
     reply: &Reply,
 ) -> Result<(), Failed>
-    requires lines { All (IsMade roster.now) lines.old }
+    requires lines { AreMade roster.now lines.old }
     requires works { S.has_failed sink.old ≡ false }
-    ensures lines { All (IsMade roster.now) lines.new }
+    ensures lines { AreMade roster.now lines.new }
     ensures written { OnOk result (Written (S.taken sink.old) page.old (S.taken sink.new) page.new
         (rows_text (reply_rows roster.now examiner reply.now))) }
     ensures well { OnOk result (S.has_failed sink.new ≡ false) }
@@ -160,7 +159,7 @@ pub fn put_reply_with<S: Sink>(
         (rows_text (reply_rows roster.now examiner reply.now))) }
     ensures failed { OnErr result (S.has_failed sink.new ≡ true) }
 {
-    put_reply_by(page, sink, roster, &mut [], examiner, reply)
+    put_reply_by(page, sink, roster, &mut None, examiner, reply)
 }
 
 /// The same with the lines of entries, which spare the making of rows that were shown before. `Failed` as with `put_reply`.
@@ -180,14 +179,7 @@ pub fn put_reply_from<S: Sink>(
         (rows_text (reply_rows lines.old examiner reply.now))) }
     ensures failed { OnErr result (S.has_failed sink.new ≡ true) }
 {
-    put_reply_by(
-        page,
-        sink,
-        &lines.roster,
-        lines.lines.as_mut_slice(),
-        examiner,
-        reply,
-    )
+    put_reply_by(page, sink, &lines.roster, &mut lines.lines, examiner, reply)
 }
 
 // Writes the row of a description that is none at this byte.

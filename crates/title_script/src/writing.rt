@@ -9,9 +9,11 @@ ghost use Rattle.title_script.specs.Told.{served_text, told_rows};
 
 use crate::told::{Served, Told};
 use std::alloc::Global;
+use title_chain::Answer;
 use title_device::{Failed, Sink};
 use title_page::Page;
 use title_report::{EntryLines, Roster, put_described, put_end, put_reply_from};
+use title_trace::Reply;
 
 // Writes the rows of what came of a step row.
 fn put_told<S: Sink>(
@@ -57,6 +59,16 @@ fn put_all_told<S: Sink>(
     Ok(())
 }
 
+// How many entries its chains may show: at most one of each step, and none where no chain was told.
+fn entries_in(told: &[Told]) -> usize {
+    for one in told {
+        if let Told::Replied(_, Reply::Answered(Answer::Entries(_))) = one {
+            return told.len();
+        }
+    }
+    0
+}
+
 /// Writes the report of a script whose steps have been served. It wants no memory: lines for the entries of chains are made
 /// before the first byte, and where these are refused the report is written without them. `Failed` where a push fails; the sink
 /// has then taken a beginning of the report.
@@ -69,7 +81,7 @@ pub fn write_served<S: Sink>(alloc: Global, sink: &mut S, served: &Served) -> Re
 {
     let mut page = Page::new();
     let roster = Roster::judged(&served.plan.parties);
-    let mut lines = EntryLines::new(alloc, roster, served.told.len());
+    let mut lines = EntryLines::new(alloc, roster, entries_in(served.told.as_slice()));
     put_all_told(&mut page, sink, &mut lines, served.told.as_slice())?;
     put_end(&mut page, sink, served.steps)?;
     page.pass(sink)?;

@@ -1,9 +1,8 @@
 -- The rows so far are written, and each line has the text of its key.
 use Rattle.std.proofs.Common.{◌≡◌, false, map, take}
-use Rattle.std.specs.List.{All}
 use Rattle.title_page.specs.Pages.{Written}
 use Rattle.title_page.specs.Rows.{rows_text}
-use Rattle.title_report.specs.EntryTexts.{IsMade}
+use Rattle.title_report.specs.EntryTexts.{AreMade}
 use Rattle.title_report.specs.Replies.{entry_row}
 use Rattle.title_report.proofs.answers.put_entries.Given as goal
 
@@ -12,4 +11,4 @@ invariant-loop-entry g l =
     Written (g.S.Sink.taken l.fn.sink) l.fn.page (g.S.Sink.taken l.sink) l.page
     (rows_text (map (entry_row l.roster l.examiner) (take l.entry-index l.entries)))
     × (g.S.Sink.has_failed l.sink ≡ false)
-    × All (IsMade l.roster) l.lines
+    × AreMade l.roster l.lines
