@@ -67,15 +67,15 @@ abbrev any : Fit
 any id text = Unit {0}
 
 -- `tract` without a fault has its text
-tract_level : Level (at 3)
+tract_level : Level (at 4)
 tract_level words e =
-    let rows = rows_after (at 3).rules [] words in
-    let kept = level_keeps any (at 3) words (inl (refl, le_refl 1, refl, (λ v ok. tt), tt), (inr (inr (refl, refl)), tt)) e in
+    let rows = rows_after (at 4).rules [] words in
+    let kept = level_keeps any (at 4) words (inl (refl, le_refl 1, refl, (λ v ok. tt), tt), (inr (inr (refl, refl)), tt)) e in
     let has = given_row (codes "TEXT") rows (given rows (is_given (codes "TEXT") rows) refl kept.1) in
     let read = first_read any (codes "TEXT") rows has kept.0 in
-    inr (inr (inr (inl (refl, rw read.1 refl))))
+    inr (inr (inr (inr (inl (refl, rw read.1 refl)))))
   where
-    given : (rows : List Row) (b : Bool) → is_given (codes "TEXT") rows ≡ b → check_fault (at 3) rows false ≡ []
+    given : (rows : List Row) (b : Bool) → is_given (codes "TEXT") rows ≡ b → check_fault (at 4) rows false ≡ []
         → is_given (codes "TEXT") rows ≡ true
     given rows true is ok = is
     given rows false is ok =
@@ -146,34 +146,38 @@ run_level words e = inl (refl, place_rows (at 0) place_rules words e)
 alone_level : Level (at 1)
 alone_level words e = inr (inl (refl, place_rows (at 1) place_rules words e))
 
+-- `desk` wants nothing
+desk_level : Level (at 3)
+desk_level words e = inr (inr (inr (inl refl)))
+
 -- the text of true or of false fits the flag
 abbrev flags : Fit
 flags id text = id ≡ codes "script" → (b : Bool) × (text ≡ bool_text b)
 
 -- `check` without a fault has its file and its flag
-check_level : Level (at 4)
+check_level : Level (at 5)
 check_level words e =
-    let rows = rows_after (at 4).rules [] words in
-    let rules : Each (KeepsValues flags) (at 4).rules = (
+    let rows = rows_after (at 5).rules [] words in
+    let rules : Each (KeepsValues flags) (at 5).rules = (
       inl (refl, le_refl 1, refl, (λ v ok same. absurd (differ (codes "FILE") (codes "script") refl same)), tt),
       (
         inr (inl (refl, (refl, refl), refl, (le_refl 1, ((λ same. (true, refl)), tt)), ((λ same. (false, refl)), tt))),
         (inr (inr (refl, refl)), tt),
       ),
     ) in
-    let kept = level_keeps flags (at 4) words rules e in
-    let gives = level_gives (at 4).rules words in
+    let kept = level_keeps flags (at 5) words rules e in
+    let gives = level_gives (at 5).rules words in
     let has = given_row (codes "FILE") rows (given rows (is_given (codes "FILE") rows) refl kept.1) in
     let file = first_read flags (codes "FILE") rows has kept.0 in
     let script = first_read flags (codes "script") rows (gives.1.0 (le_refl 1)) kept.0 in
     let flag = script.3 refl in
-    inr (inr (inr (inr (
+    inr (inr (inr (inr (inr (
       refl,
       rw file.1 refl,
       (flag.0, script.1 ∙ ap (λ (t : Text). Some t) flag.1, script.2 ∙ ap (λ (t : Text). Some t) flag.1),
-    ))))
+    )))))
   where
-    given : (rows : List Row) (b : Bool) → is_given (codes "FILE") rows ≡ b → check_fault (at 4) rows false ≡ []
+    given : (rows : List Row) (b : Bool) → is_given (codes "FILE") rows ≡ b → check_fault (at 5) rows false ≡ []
         → is_given (codes "FILE") rows ≡ true
     given rows true is ok = is
     given rows false is ok =
@@ -182,7 +186,7 @@ check_level words e =
 
 -- each subcommand without a fault is readable
 levels : Each Level (built command).subs
-levels = (run_level, (alone_level, (office_level, (tract_level, (check_level, tt)))))
+levels = (run_level, (alone_level, (office_level, (desk_level, (tract_level, (check_level, tt))))))
 
 -- the subcommand that was entered is one of these
 entered_reads : (p : Text × List Text) (o : Option Shape) → ((s : Shape) → o ≡ Some s → Level s)
@@ -249,9 +253,11 @@ run_reads name rows is (inr (inl other)) =
     absurd (clash name (codes "run") (codes "alone") is refl other.0)
 run_reads name rows is (inr (inr (inl other))) =
     absurd (clash name (codes "run") (codes "office") is refl other.0)
-run_reads name rows is (inr (inr (inr (inl other)))) =
+run_reads name rows is (inr (inr (inr (inl desk)))) =
+    absurd (clash name (codes "run") (codes "desk") is refl desk)
+run_reads name rows is (inr (inr (inr (inr (inl other))))) =
     absurd (clash name (codes "run") (codes "tract") is refl other.0)
-run_reads name rows is (inr (inr (inr (inr other)))) =
+run_reads name rows is (inr (inr (inr (inr (inr other))))) =
     absurd (clash name (codes "run") (codes "check") is refl other.0)
 
 -- and of one that is `alone`
@@ -262,9 +268,11 @@ alone_reads name rows is (inl other) =
 alone_reads name rows is (inr (inl alone)) = alone
 alone_reads name rows is (inr (inr (inl other))) =
     absurd (clash name (codes "alone") (codes "office") is refl other.0)
-alone_reads name rows is (inr (inr (inr (inl other)))) =
+alone_reads name rows is (inr (inr (inr (inl desk)))) =
+    absurd (clash name (codes "alone") (codes "desk") is refl desk)
+alone_reads name rows is (inr (inr (inr (inr (inl other))))) =
     absurd (clash name (codes "alone") (codes "tract") is refl other.0)
-alone_reads name rows is (inr (inr (inr (inr other)))) =
+alone_reads name rows is (inr (inr (inr (inr (inr other))))) =
     absurd (clash name (codes "alone") (codes "check") is refl other.0)
 
 -- and of one that is `office`
@@ -275,9 +283,11 @@ office_reads name rows is (inl other) =
 office_reads name rows is (inr (inl other)) =
     absurd (clash name (codes "office") (codes "alone") is refl other.0)
 office_reads name rows is (inr (inr (inl office))) = office
-office_reads name rows is (inr (inr (inr (inl other)))) =
+office_reads name rows is (inr (inr (inr (inl desk)))) =
+    absurd (clash name (codes "office") (codes "desk") is refl desk)
+office_reads name rows is (inr (inr (inr (inr (inl other))))) =
     absurd (clash name (codes "office") (codes "tract") is refl other.0)
-office_reads name rows is (inr (inr (inr (inr other)))) =
+office_reads name rows is (inr (inr (inr (inr (inr other))))) =
     absurd (clash name (codes "office") (codes "check") is refl other.0)
 
 -- and of one that is `check`
@@ -289,19 +299,28 @@ check_reads name rows is (inr (inl other)) =
     absurd (clash name (codes "check") (codes "alone") is refl other.0)
 check_reads name rows is (inr (inr (inl other))) =
     absurd (clash name (codes "check") (codes "office") is refl other.0)
-check_reads name rows is (inr (inr (inr (inl other)))) =
+check_reads name rows is (inr (inr (inr (inl desk)))) =
+    absurd (clash name (codes "check") (codes "desk") is refl desk)
+check_reads name rows is (inr (inr (inr (inr (inl other))))) =
     absurd (clash name (codes "check") (codes "tract") is refl other.0)
-check_reads name rows is (inr (inr (inr (inr check)))) = check
+check_reads name rows is (inr (inr (inr (inr (inr check))))) = check
+
+-- a name that is `desk` by the test is that name
+pub desk_is : (name : Text) → true ≡ bytes_eq name (codes "desk") → name ≡ codes "desk"
+desk_is name is = (bytes_eq-Decides name (codes "desk")).0 (sym is)
 
 -- a name that is none of these is that of `tract`
 pub tract_reads : (name : Text) (rows : List Row) → false ≡ bytes_eq name (codes "run") → false ≡ bytes_eq name (codes "alone")
-    → false ≡ bytes_eq name (codes "office") → false ≡ bytes_eq name (codes "check") → IsReadable name rows
-    → (name ≡ codes "tract") × (is_some (first_of (codes "TEXT") rows) ≡ true)
-tract_reads name rows not_run not_alone not_office not_check (inl is) = absurd (differ name (codes "run") not_run is.0)
-tract_reads name rows not_run not_alone not_office not_check (inr (inl is)) = absurd (differ name (codes "alone") not_alone is.0)
-tract_reads name rows not_run not_alone not_office not_check (inr (inr (inl is))) = absurd (differ name (codes "office") not_office is.0)
-tract_reads name rows not_run not_alone not_office not_check (inr (inr (inr (inl is)))) = is
-tract_reads name rows not_run not_alone not_office not_check (inr (inr (inr (inr is)))) =
+    → false ≡ bytes_eq name (codes "office") → false ≡ bytes_eq name (codes "desk") → false ≡ bytes_eq name (codes "check")
+    → IsReadable name rows → (name ≡ codes "tract") × (is_some (first_of (codes "TEXT") rows) ≡ true)
+tract_reads name rows not_run not_alone not_office not_desk not_check (inl is) = absurd (differ name (codes "run") not_run is.0)
+tract_reads name rows not_run not_alone not_office not_desk not_check (inr (inl is)) = absurd (differ name (codes "alone") not_alone is.0)
+tract_reads name rows not_run not_alone not_office not_desk not_check (inr (inr (inl is))) =
+    absurd (differ name (codes "office") not_office is.0)
+tract_reads name rows not_run not_alone not_office not_desk not_check (inr (inr (inr (inl is)))) =
+    absurd (differ name (codes "desk") not_desk is)
+tract_reads name rows not_run not_alone not_office not_desk not_check (inr (inr (inr (inr (inl is))))) = is
+tract_reads name rows not_run not_alone not_office not_desk not_check (inr (inr (inr (inr (inr is))))) =
     absurd (differ name (codes "check") not_check is.0)
 
 -- ---- a number that is read

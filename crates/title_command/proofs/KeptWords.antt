@@ -4,7 +4,7 @@ use Rattle.std.specs.Prelude.{unwrap_or}
 use Rattle.clap.proofs.OnLiterals.{clap_on_literals}
 use Rattle.clap.specs.Walk.{Row, Text, first_of, rows_after}
 use Rattle.title_command.specs.declared.choice.Line.{Line}
-use Rattle.title_command.specs.declared.choice.Line.TheVariants.{Run, Alone, Office, Tract, Kept, Check}
+use Rattle.title_command.specs.declared.choice.Line.TheVariants.{Run, Alone, Office, Desk, Tract, Kept, Check}
 use Rattle.title_command.specs.declared.choice.Work.TheVariants as work
 use Rattle.title_command.specs.CommandLine.{IsAfter, IsKept, IsLine, KeptByWords, PlaceAlone, SaysKept, most_place}
 use Rattle.title_command.proofs.CommandLemmas.{at, differ}
@@ -38,6 +38,7 @@ alone_keeps rows plant some none Alone is =
     let both : None ≡ Some plant = sym is.1.0 ∙ some in
     absurd (cc)
 alone_keeps rows plant some none (Office e t) is = absurd (differ (codes "alone") (codes "office") refl is.0)
+alone_keeps rows plant some none Desk is = absurd (differ (codes "alone") (codes "desk") refl is)
 alone_keeps rows plant some none (Tract text) is = absurd (differ (codes "alone") (codes "tract") refl is.0)
 alone_keeps rows plant some none (Check file as_script) is = absurd (differ (codes "alone") (codes "check") refl is.0)
 alone_keeps rows plant some none (Kept named after work.Run) is = absurd (differ (codes "alone") (codes "run") refl is.0)
@@ -52,6 +53,7 @@ run_keeps rows plant place some says Run is =
     absurd (cc)
 run_keeps rows plant place some says Alone is = absurd (differ (codes "run") (codes "alone") refl is.0)
 run_keeps rows plant place some says (Office e t) is = absurd (differ (codes "run") (codes "office") refl is.0)
+run_keeps rows plant place some says Desk is = absurd (differ (codes "run") (codes "desk") refl is)
 run_keeps rows plant place some says (Tract text) is = absurd (differ (codes "run") (codes "tract") refl is.0)
 run_keeps rows plant place some says (Check file as_script) is = absurd (differ (codes "run") (codes "check") refl is.0)
 run_keeps rows plant place some says (Kept named after work.Alone) is = absurd (differ (codes "run") (codes "alone") refl is.0)

@@ -3,3 +3,4 @@ mod ReadRows
 mod CommandLemmas
 mod OfficeWords
 mod KeptWords
+mod DeskWord

@@ -10,9 +10,9 @@ use Rattle.clap.specs.Walk.{Row, Rule, Text, first_of, one_of}
 use Rattle.clap.specs.declared.builder.action.ArgAction.TheVariants.{Set, SetTrue}
 use Rattle.clap.specs.declared.builder.value_parser.ValueParser.TheVariants.{Unsigned}
 use Rattle.clap.specs.declared.error.kind.ErrorKind.{ErrorKind}
-use Rattle.clap.specs.declared.error.kind.ErrorKind.TheVariants.{DisplayHelp, OutOfMemory}
+use Rattle.clap.specs.declared.error.kind.ErrorKind.TheVariants.{DisplayHelp, OutOfMemory, UnknownArgument}
 use Rattle.title_command.specs.declared.choice.Line.{Line}
-use Rattle.title_command.specs.declared.choice.Line.TheVariants.{Run, Alone, Office, Tract, Kept, Check}
+use Rattle.title_command.specs.declared.choice.Line.TheVariants.{Run, Alone, Office, Desk, Tract, Kept, Check}
 use Rattle.title_command.specs.declared.choice.Work.{Work}
 use Rattle.title_command.specs.declared.choice.Work.TheVariants as work
 use Rattle.title_command.specs.declared.choice.LineFault.{LineFault}
@@ -83,6 +83,10 @@ tries_rule = number_rule (codes "tries") most_tries default_tries
 abbrev pub office : Shape
 office = record (new_shape (codes "office")) { rules = examiners_rule ∷ tries_rule ∷ [] }
 
+-- `desk` is followed by nothing
+abbrev pub desk : Shape
+desk = new_shape (codes "desk")
+
 -- a description of land, which has to be given
 abbrev pub text_rule : Rule
 text_rule = record (new_rule (codes "TEXT")) { required = true; action = Some Set }
@@ -114,7 +118,7 @@ titleplant = record (new_shape (codes "titleplant")) {
 
 -- the program's command
 abbrev pub command : App
-command = record { top = titleplant; subs = run ∷ alone ∷ office ∷ tract ∷ check ∷ [] }
+command = record { top = titleplant; subs = run ∷ alone ∷ office ∷ desk ∷ tract ∷ check ∷ [] }
 
 -- ---- what the matches mean
 
@@ -138,6 +142,7 @@ abbrev pub IsReadable : Text → List Row → Type 0
 IsReadable name rows = ((name ≡ codes "run") × MayHavePlace rows)
     ⊎ ((name ≡ codes "alone") × MayHavePlace rows)
     ⊎ ((name ≡ codes "office") × HasNumber (codes "examiners") most_examiners rows × HasNumber (codes "tries") most_tries rows)
+    ⊎ (name ≡ codes "desk")
     ⊎ ((name ≡ codes "tract") × (is_some (first_of (codes "TEXT") rows) ≡ true))
     ⊎ ((name ≡ codes "check") × (is_some (first_of (codes "FILE") rows) ≡ true) × HasFlag (codes "script") rows)
 
@@ -166,6 +171,7 @@ IsLine name rows Run = (name ≡ codes "run") × IsPlantless rows
 IsLine name rows Alone = (name ≡ codes "alone") × IsPlantless rows
 IsLine name rows (Office examiners tries) =
     (name ≡ codes "office") × IsNumberOf (codes "examiners") rows examiners × IsNumberOf (codes "tries") rows tries
+IsLine name rows Desk = name ≡ codes "desk"
 IsLine name rows (Tract text) =
     (name ≡ codes "tract") × (first_of (codes "TEXT") rows ≡ Some text.now)
 IsLine name rows (Kept plant after how) =
@@ -226,6 +232,14 @@ abbrev pub OfficeAtMost : Type 0
 OfficeAtMost = Says
     (codes "office" ∷ codes "--examiners" ∷ codes "64" ∷ codes "--tries" ∷ codes "10000" ∷ [])
     (Office most_examiners most_tries)
+
+-- `desk` alone is a desk
+abbrev pub DeskByWord : Type 0
+DeskByWord = Says (codes "desk" ∷ []) Desk
+
+-- and takes no plant's file
+abbrev pub DeskWithMore : Type 0
+DeskWithMore = fault_of command (codes "desk" ∷ codes "--plant" ∷ codes "county.plant" ∷ []) ≡ UnknownArgument ∷ []
 
 -- the line keeps a script in the file of this name, so
 abbrev pub IsKept : Text → Option ℕ → Work → Line → Type 0

@@ -14,6 +14,8 @@ pub enum Line<'a> {
         /// How many times at most a transaction is begun before its examiner gives it up, 1 to 10,000.
         tries: u32,
     },
+    /// Serve rows as they come, and answer each before more are waited for.
+    Desk,
     /// List the parts of the land that this description names.
     Tract(&'a str),
     /// Serve a script on top of what stands in a plant's file, and put into the file what the script declares and commits.

@@ -68,6 +68,9 @@ fn read_line<'a>(name: &'a str, values: &ArgMatches<'a>) -> Option<Line<'a>>
         let tries = values.get_one::<u32>("tries").unwrap();
         return Some(Line::Office { examiners, tries });
     }
+    if name == "desk" {
+        return Some(Line::Desk);
+    }
     if name == "check" {
         let file = values.get_str("FILE").unwrap();
         let as_script = values.get_flag("script");

@@ -1,7 +1,8 @@
 //! Laws of the command line. Each function does nothing: its clause is the law, proved.
 
 ghost use Rattle.std.specs.Prelude.{◌∷◌, [], codes};
-ghost use Rattle.title_command.specs.CommandLine.{KeptByWords, OfficeAtMost, OfficeByDefault, PlaceAlone, Refuses};
+ghost use Rattle.title_command.specs.CommandLine.{DeskByWord, DeskWithMore, KeptByWords, OfficeAtMost, OfficeByDefault};
+ghost use Rattle.title_command.specs.CommandLine.{PlaceAlone, Refuses};
 
 use clap::error::ErrorKind;
 
@@ -18,6 +19,12 @@ pub fn other_words_are_refused()
     ensures no_number { Refuses (codes "--tries" ∷ codes "ten" ∷ []) ErrorKind.ValueValidation }
     ensures twice { Refuses (codes "--tries=1" ∷ codes "--tries=2" ∷ []) ErrorKind.ArgumentConflict }
     ensures unknown { Refuses (codes "soon" ∷ []) ErrorKind.UnknownArgument }
+{}
+
+/// `desk` is one word: what follows it, a plant's file say, is refused.
+pub fn desk_word_is_said()
+    ensures alone { DeskByWord }
+    ensures more { DeskWithMore }
 {}
 
 /// A script is kept in the file that `--plant` names, with the place that `--after` says; a place that is expected in no plant is refused.

@@ -3,8 +3,8 @@
 ghost use Rattle.std.specs.Prelude.{◌≡◌, ◌∷◌, IfOk, false, true, []};
 ghost use Rattle.clap.specs.Words.{app_of, new_app, rule_of};
 ghost use Rattle.clap.specs.declared.builder.command.Command.TheViews.{out-Command};
-ghost use Rattle.title_command.specs.CommandLine.{after_rule, alone, check, command, file_rule, number_rule, office, plant_rule, run};
-ghost use Rattle.title_command.specs.CommandLine.{script_rule, serving, text_rule, titleplant, tract};
+ghost use Rattle.title_command.specs.CommandLine.{after_rule, alone, check, command, desk, file_rule, number_rule, office, plant_rule};
+ghost use Rattle.title_command.specs.CommandLine.{run, script_rule, serving, text_rule, titleplant, tract};
 
 use clap::builder::ValueParser;
 use clap::error::ErrorKind;
@@ -36,6 +36,7 @@ Examples:
   titleplant run < script.csv
   titleplant alone < script.csv
   titleplant office --examiners 3 < script.csv
+  titleplant desk
   titleplant alone --plant county.plant < script.csv
   titleplant check county.plant
   titleplant tract \"T3N R2W sec 5 NE1/4\"",
@@ -201,6 +202,55 @@ const TRIES: NumberOption<'static> = NumberOption {
     most: 10_000,
     default: "100",
     help: "How many times at most a transaction is begun, 1 to 10000",
+};
+
+const DESK: Help<'static> = Help {
+    about: "Answer rows one by one as they come: CSV rows on standard input, CSV answers on standard output",
+    long_about: "\
+Reads CSV rows from standard input, and answers each on standard output before it waits for
+more of them: a desk for a program at the other end of two pipes, or for a person.
+
+Rows are those of the command run, each on a line of its own: a quote is closed on its line,
+and a line has at most 8192 bytes. There may be any number of them. A township is declared
+before the first step, a party at any time. Nothing is kept in a file.
+
+Answers, in the order of their rows; a blank line has none:
+  township,N            the township is declared, and is the Nth
+  party,N               the party is declared, and has the number N
+  E,..                  the reply to a step, in the rows of a report of run: behind E,sheet,K
+                        and E,chain,K there are K rows, and any other reply is one row
+  fault,NUMBER,ROW      this row is passed over: nothing has changed, and rows go on
+  end,K                 the last row, where there are no more rows: K steps were answered, and
+                        open transactions are aborted
+
+Rows are passed over for these numbers, and are numbered from 1:
+  31                    this row isn't understood
+  34                    a party isn't declared, or is declared again
+  35                    a township is declared after the first step
+  6                     out of memory
+
+Faults at which the answers end, with status 1:
+  fault,32              the rows can't be read
+  fault,6               out of memory before the first row
+
+For rows and replies see titleplant run --help. The whole format stands in docs/FORMATS.md.",
+    usage: "titleplant desk",
+    example: "\
+Example: of these rows
+  township,T3N R2W
+  party,ADAMS
+  1,begin
+  1,deed,101,UNITED STATES,ADAMS,S,W1/2,,T3N R2W sec 5 NE1/4
+  1,deed,102,ADAMS,BELL,S,W1/2,,T3N R2W sec 5 NE1/4
+  1,commit
+the answers are
+  township,1
+  party,1
+  1,began
+  1,posted
+  fault,34,5
+  1,committed,1
+  end,3",
 };
 
 const TRACT: Help<'static> = Help {
@@ -390,7 +440,7 @@ fn top<'a>(alloc: Global) -> Command<'a>
 }
 
 // The program's command with the subcommands that serve a script.
-fn work_commands<'a>(alloc: Global) -> Result<Command<'a>, AllocError>
+fn script_commands<'a>(alloc: Global) -> Result<Command<'a>, AllocError>
     ensures app { IfOk result (λ c. app_of c ≡ record { top = titleplant; subs = run ∷ alone ∷ office ∷ [] }) }
     ensures local { IfOk result (λ c. (out-Command c).has_globals ≡ false) }
 {
@@ -401,6 +451,17 @@ fn work_commands<'a>(alloc: Global) -> Result<Command<'a>, AllocError>
     let with_alone = with_run.subcommand(alone)?;
     let with_office = with_alone.subcommand(office)?;
     Ok(with_office)
+}
+
+// The same with the one that serves rows.
+fn work_commands<'a>(alloc: Global) -> Result<Command<'a>, AllocError>
+    ensures app { IfOk result (λ c. app_of c ≡ record { top = titleplant; subs = run ∷ alone ∷ office ∷ desk ∷ [] }) }
+    ensures local { IfOk result (λ c. (out-Command c).has_globals ≡ false) }
+{
+    let desk = named(alloc, "desk", DESK);
+    let with_scripts = script_commands(alloc)?;
+    let with_desk = with_scripts.subcommand(desk)?;
+    Ok(with_desk)
 }
 
 /// The command of the program `titleplant`, with each of its subcommands.
