@@ -10,6 +10,7 @@ use title_advice::{
     script_advice, telling_advice,
 };
 use title_aliquot::DescFault;
+use title_counter::CounterFault;
 use title_day::OfficeFault;
 use title_device::{SCRIPT_LIMIT, Sink, write_all};
 use title_disk::OpenFault;
@@ -82,6 +83,17 @@ fn office_advice(
         OfficeFault::Unsettled(why) => {
             format!(in alloc; "error: the office can't be settled: {why}\n")
         }
+    }
+}
+
+// Why rows at a desk weren't attended to their end.
+fn desk_advice(alloc: Global, fault: CounterFault) -> Result<String, AllocError> {
+    match fault {
+        CounterFault::Read => {
+            String::from_str(alloc, "error: the rows on standard input can't be read\n")
+        }
+        CounterFault::Write => Ok(String::new(alloc)),
+        CounterFault::Memory => String::from_str(alloc, OUT_OF_MEMORY),
     }
 }
 
@@ -164,6 +176,7 @@ fn advice(
         Why::Untold(fault) => telling_advice(alloc, text_in(words), fault),
         Why::Run(schedule, fault) => run_advice(alloc, schedule, fault, kept),
         Why::Office(examiners, fault) => office_advice(alloc, examiners, fault, kept),
+        Why::Desk(fault) => desk_advice(alloc, fault),
         Why::Description(DescFault::Memory) | Why::Memory => String::from_str(alloc, OUT_OF_MEMORY),
         Why::Description(fault) => pointed_out(alloc, text_in(words), fault),
     }

@@ -1,4 +1,6 @@
 mod OfficeTold
+mod DeskTold
+mod Unread
 mod Printed
 mod KeptTold
 mod Told

@@ -9,6 +9,8 @@ use Rattle.title_settle.specs.declared.outcome.Unsettled.{Unsettled}
 use Rattle.title_settle.specs.declared.outcome.Unsettled.TheVariants as unsettled
 use Rattle.title_office.specs.declared.fault.Fault.{Fault as WorkerFault}
 use Rattle.title_office.specs.declared.fault.Fault.TheVariants as worker
+use Rattle.title_counter.specs.declared.fault.CounterFault.{CounterFault}
+use Rattle.title_counter.specs.declared.fault.CounterFault.TheVariants as desk
 use Rattle.title_disk.specs.declared.cabinet.OpenFault.{OpenFault}
 use Rattle.title_disk.specs.declared.cabinet.OpenFault.TheVariants as opening
 use Rattle.title_lasting.specs.declared.checking.TellFault.{TellFault}
@@ -90,6 +92,12 @@ abbrev pub of_office : OfficeFault → Fault
 of_office (office.Run why) = of_run why
 of_office (office.Worker why) = of_worker why
 of_office (office.Unsettled why) = of_unsettled why
+
+-- rows at a desk aren't attended to: they can't be read, or their answers can't be written
+abbrev pub of_desk : CounterFault → Fault
+of_desk desk.Read = record { number = 32; place = None }
+of_desk desk.Write = record { number = 33; place = None }
+of_desk desk.Memory = memory
 
 -- a plant's file isn't opened
 abbrev pub of_open : OpenFault → Fault

@@ -5,6 +5,7 @@ pub mod Tracts
 pub mod Printing
 pub mod Serving
 pub mod OfficeServing
+pub mod DeskServing
 pub mod Keeping
 pub mod Checking
 pub mod Obeying

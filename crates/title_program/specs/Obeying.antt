@@ -1,5 +1,5 @@
 -- What each command line makes the program do.
-use Rattle.std.specs.Prelude.{◌≡◌, ◌⊎◌, ℕ, List, [], Bool, true, false, Option, Result, Ok, Err, codes, take}
+use Rattle.std.specs.Prelude.{◌≡◌, ◌≢◌, ◌⊎◌, ℕ, List, [], Bool, true, false, Option, Result, Ok, Err, codes, take}
 use Rattle.std.specs.Io.KnownBytes.{Appends, IsAtEnd, Keeps}
 use Rattle.clap.specs.Faults.{fault_of}
 use Rattle.clap.specs.Words.{subcommand_of}
@@ -7,15 +7,17 @@ use Rattle.title_land.specs.Depth.{depth}
 use Rattle.title_plan.specs.Lands.{land_in}
 use Rattle.title_plan.specs.declared.line.Schedule.TheVariants as schedule
 use Rattle.title_command.specs.declared.choice.Line.{Line}
-use Rattle.title_command.specs.declared.choice.Line.TheVariants.{Run, Alone, Office, Tract, Kept, Check}
+use Rattle.title_command.specs.declared.choice.Line.TheVariants.{Run, Alone, Office, Desk, Tract, Kept, Check}
 use Rattle.title_command.specs.declared.choice.LineFault.{LineFault}
 use Rattle.title_command.specs.declared.choice.LineFault.TheVariants.{Help, Bad, Memory}
 use Rattle.title_command.specs.CommandLine.{Explains, IsLineOf, IsTaken, command}
 use Rattle.title_disk.specs.declared.cabinet.OpenFault.TheVariants as opening
+use Rattle.title_script.specs.Runs.{IsReadWithin}
 use Rattle.title_program.specs.declared.words.WordsFault.{WordsFault}
 use Rattle.title_program.specs.declared.words.WordsFault.TheVariants as untaken
 use Rattle.title_program.specs.declared.status.Status.{Status}
 use Rattle.title_program.specs.declared.status.Status.TheVariants.{Success, Failure, Misunderstood}
+use Rattle.title_program.specs.DeskServing.{IsDeskServed}
 use Rattle.title_program.specs.Faults.{fault_line, memory, of_open}
 use Rattle.title_program.specs.OfficeServing.{IsOfficeServed}
 use Rattle.title_program.specs.Printing.{Prints, TellsFault}
@@ -31,27 +33,37 @@ PrintsTract text before after sink_failed status =
     ⊎ Prints (fault_line memory) Failure before after sink_failed status
 
 -- the command was carried out; where there is no cabinet, no plant's file is opened
-abbrev pub IsObeyed : Line → Option (List ℕ) → (source_failed sink_failed : Bool) → (before after : Option (List ℕ)) → Status → Type 0
-IsObeyed Run known source_failed sink_failed before after status =
-    IsServed schedule.Interleaved known source_failed sink_failed before after status
-IsObeyed Alone known source_failed sink_failed before after status =
-    IsServed schedule.Serial known source_failed sink_failed before after status
-IsObeyed (Office examiners tries) known source_failed sink_failed before after status =
-    IsOfficeServed examiners known source_failed sink_failed before after status
-IsObeyed (Tract text) known source_failed sink_failed before after status = PrintsTract text.now before after sink_failed status
-IsObeyed (Kept plant place how) known source_failed sink_failed before after status =
+abbrev pub IsObeyed : Line → (left left_after : Option (List ℕ)) → (source_failed sink_failed : Bool) → (before after : Option (List ℕ))
+    → Status → Type 0
+IsObeyed Run left left_after source_failed sink_failed before after status =
+    IsServed schedule.Interleaved left source_failed sink_failed before after status
+IsObeyed Alone left left_after source_failed sink_failed before after status =
+    IsServed schedule.Serial left source_failed sink_failed before after status
+IsObeyed (Office examiners tries) left left_after source_failed sink_failed before after status =
+    IsOfficeServed examiners left source_failed sink_failed before after status
+IsObeyed Desk left left_after source_failed sink_failed before after status =
+    IsDeskServed left left_after source_failed sink_failed before after status
+IsObeyed (Tract text) left left_after source_failed sink_failed before after status =
+    PrintsTract text.now before after sink_failed status
+IsObeyed (Kept plant place how) left left_after source_failed sink_failed before after status =
     TellsFault (of_open opening.Unopened) before after sink_failed status
-IsObeyed (Check file as_script) known source_failed sink_failed before after status =
+IsObeyed (Check file as_script) left left_after source_failed sink_failed before after status =
     TellsFault (of_open opening.Unopened) before after sink_failed status
 
--- a script whose report was written has been read to its end; `tract` reads nothing, and so does a command whose file isn't opened
+-- a script whose report was written has been read to its end, and so have rows whose answers were; `tract` reads nothing, and neither does
+-- a command whose file isn't opened
 abbrev pub ReadsFor : Line → (left left_after : Option (List ℕ)) → Status → Type 0
 ReadsFor Run left left_after status = status ≡ Success → IsAtEnd left_after
 ReadsFor Alone left left_after status = status ≡ Success → IsAtEnd left_after
 ReadsFor (Office examiners tries) left left_after status = status ≡ Success → IsAtEnd left_after
+ReadsFor Desk left left_after status = status ≡ Success → IsAtEnd left_after
 ReadsFor (Tract text) left left_after status = left_after ≡ left
 ReadsFor (Kept plant place how) left left_after status = left_after ≡ left
 ReadsFor (Check file as_script) left left_after status = left_after ≡ left
+
+-- the source was read in no more turns than a script is, but at a desk, where it is read for as long as rows come
+abbrev pub TurnsFor : Line → (turns turns_after : ℕ) → Type 0
+TurnsFor line turns turns_after = line ≢ Desk → IsReadWithin turns turns_after
 
 -- what is told on the errors where the output has failed
 abbrev pub unwritten : List ℕ
@@ -103,16 +115,21 @@ IsAsked words (Ok line) = IsLineOf (subcommand_of command words) line × (fault_
 IsAsked words (Err why) = Explains words why × (IsTaken words → why ≡ Memory)
 
 -- what was asked for was done, or refused
-abbrev pub IsAnswered : Result Line LineFault → Option (List ℕ) → (source_failed sink_failed : Bool)
+abbrev pub IsAnswered : Result Line LineFault → (left left_after : Option (List ℕ)) → (source_failed sink_failed : Bool)
     → (before after : Option (List ℕ)) → Status → Type 0
-IsAnswered (Ok line) known source_failed sink_failed before after status =
-    IsObeyed line known source_failed sink_failed before after status
-IsAnswered (Err why) known source_failed sink_failed before after status = IsRefused why before after sink_failed status
+IsAnswered (Ok line) left left_after source_failed sink_failed before after status =
+    IsObeyed line left left_after source_failed sink_failed before after status
+IsAnswered (Err why) left left_after source_failed sink_failed before after status = IsRefused why before after sink_failed status
 
 -- what was asked for reads the source; words that are no command don't
 abbrev pub Reads : Result Line LineFault → (left left_after : Option (List ℕ)) → Status → Type 0
 Reads (Ok line) left left_after status = ReadsFor line left left_after status
 Reads (Err why) left left_after status = left_after ≡ left
+
+-- in so many turns; words that are no command read nothing
+abbrev pub Turns : Result Line LineFault → (turns turns_after : ℕ) → Type 0
+Turns (Ok line) turns turns_after = TurnsFor line turns turns_after
+Turns (Err why) turns turns_after = IsReadWithin turns turns_after
 
 -- what is told on the errors
 abbrev pub Tells : Result Line LineFault → (sink_failed : Bool) → (before after : Option (List ℕ)) → Type 0

@@ -38,7 +38,7 @@ module _ {D : Type 0} (seen : D → List ℕ) (may_leave : D → List ℕ → Ty
       (IsUnseen taken taken_after sink_failed status ⊎ IsSeen as_script taken taken_after sink_failed status)
       × (left_after ≡ left) × (cut ≡ 0)
   IsObeyedOnto line left left_after turns turns_after taken taken_after source_failed sink_failed cut status =
-      IsObeyed line left source_failed sink_failed taken taken_after status × ReadsFor line left left_after status × (cut ≡ 0)
+      IsObeyed line left left_after source_failed sink_failed taken taken_after status × ReadsFor line left left_after status × (cut ≡ 0)
 
   -- what was asked for was done, or refused
   abbrev pub IsAnsweredOnto : Result Line LineFault → (left left_after : Option (List ℕ)) → (turns turns_after : ℕ)

@@ -5,12 +5,13 @@ ghost use Rattle.std.specs.String.{string_bytes};
 ghost use Rattle.title_command.specs.CommandLine.{IsInRange};
 ghost use Rattle.title_command.specs.declared.choice.Line.{Line};
 ghost use Rattle.title_command.specs.declared.choice.LineFault.{LineFault};
-ghost use Rattle.title_script.specs.Runs.{IsReadWithin};
 ghost use Rattle.title_program.specs.Endings.{IsQuiet};
 ghost use Rattle.title_program.specs.ObeyingOnto.{IsAnsweredOnto, IsObeyedOnto, schedule_of};
 ghost use Rattle.title_program.specs.Obeying.{Complains, IsAnswered, IsAsked, IsObeyed, PrintsTract, Reads, ReadsFor, Tells};
+ghost use Rattle.title_program.specs.Obeying.{Turns, TurnsFor};
 
 use crate::checking::check;
+use crate::desk_serving::serve_desk;
 use crate::ending::{Ending, Why};
 use crate::keeping::{refuse_file, serve_kept};
 use crate::office_serving::serve_office;
@@ -64,10 +65,10 @@ fn carry_out<T: Threads + Wait + Sync, R: Source, W: Sink, V: Watch>(
     requires ranges { IsInRange line }
     requires source_works { R.has_failed source.old ≡ false }
     requires sink_works { W.has_failed sink.old ≡ false }
-    ensures obeyed { IsObeyed line.entry (R.left source.old) (R.has_failed source.new) (W.has_failed sink.new)
+    ensures obeyed { IsObeyed line.entry (R.left source.old) (R.left source.new) (R.has_failed source.new) (W.has_failed sink.new)
         (W.taken sink.old) (W.taken sink.new) result.status }
     ensures read { ReadsFor line.entry (R.left source.old) (R.left source.new) result.status }
-    ensures turns { IsReadWithin (R.turns source.old) (R.turns source.new) }
+    ensures turns { TurnsFor line.entry (R.turns source.old) (R.turns source.new) }
     ensures quiet { IsQuiet result }
     ensures uncut { result.cut ≡ 0 }
 {
@@ -77,6 +78,7 @@ fn carry_out<T: Threads + Wait + Sync, R: Source, W: Sink, V: Watch>(
         Line::Office { examiners, tries } => {
             serve_office(rt, alloc, examiners, tries, source, sink)
         }
+        Line::Desk => serve_desk(alloc, source, sink),
         Line::Tract(text) => print_tract(alloc, text, sink),
         Line::Kept { .. } | Line::Check { .. } => refuse_file(alloc, OpenFault::Unopened, sink),
     }
@@ -96,10 +98,10 @@ pub fn obey<T: Threads + Wait + Sync, R: Source, W: Sink, E: Sink, V: Watch>(
     requires ranges { IsInRange line }
     requires source_works { R.has_failed source.old ≡ false }
     requires sink_works { W.has_failed sink.old ≡ false }
-    ensures obeyed { IsObeyed line.entry (R.left source.old) (R.has_failed source.new) (W.has_failed sink.new)
+    ensures obeyed { IsObeyed line.entry (R.left source.old) (R.left source.new) (R.has_failed source.new) (W.has_failed sink.new)
         (W.taken sink.old) (W.taken sink.new) result.status }
     ensures read { ReadsFor line.entry (R.left source.old) (R.left source.new) result.status }
-    ensures turns { IsReadWithin (R.turns source.old) (R.turns source.new) }
+    ensures turns { TurnsFor line.entry (R.turns source.old) (R.turns source.new) }
     ensures quiet { IsQuiet result }
     ensures uncut { result.cut ≡ 0 }
     ensures told { Complains (W.has_failed sink.new) (E.taken errors.old) (E.taken errors.new) }
@@ -134,11 +136,11 @@ pub fn obey_words<T: Threads + Wait + Sync, R: Source, W: Sink, E: Sink, V: Watc
     requires source_works { R.has_failed source.old ≡ false }
     requires sink_works { W.has_failed sink.old ≡ false }
     ensures answered { (asked : Result Line LineFault) × IsAsked (map string_bytes words.now) asked
-        × IsAnswered asked (R.left source.old) (R.has_failed source.new) (W.has_failed sink.new)
+        × IsAnswered asked (R.left source.old) (R.left source.new) (R.has_failed source.new) (W.has_failed sink.new)
         (W.taken sink.old) (W.taken sink.new) result.status
         × Reads asked (R.left source.old) (R.left source.new) result.status
+        × Turns asked (R.turns source.old) (R.turns source.new)
         × Tells asked (W.has_failed sink.new) (E.taken errors.old) (E.taken errors.new) }
-    ensures turns { IsReadWithin (R.turns source.old) (R.turns source.new) }
     ensures quiet { IsQuiet result }
     ensures uncut { result.cut ≡ 0 }
 {
@@ -178,7 +180,7 @@ pub fn obey_onto<T: Threads + Wait + Sync, R: Source, W: Sink, E: Sink, V: Watch
     ensures obeyed { IsObeyedOnto K.File.seen K.File.may_leave K.File.moment K.File.left_since K.File.has_failed line.entry
         (R.left source.old) (R.left source.new) (R.turns source.old) (R.turns source.new) (W.taken sink.old) (W.taken sink.new)
         (R.has_failed source.new) (W.has_failed sink.new) result.cut result.status }
-    ensures turns { IsReadWithin (R.turns source.old) (R.turns source.new) }
+    ensures turns { TurnsFor line.entry (R.turns source.old) (R.turns source.new) }
     ensures quiet { IsQuiet result }
     ensures told { Complains (W.has_failed sink.new) (E.taken errors.old) (E.taken errors.new) }
 {
@@ -188,7 +190,7 @@ pub fn obey_onto<T: Threads + Wait + Sync, R: Source, W: Sink, E: Sink, V: Watch
             serve_kept(alloc, schedule, after, plant, cabinet, source, sink, watch)
         }
         Line::Check { file, as_script } => check(alloc, file, as_script, cabinet, sink),
-        Line::Run | Line::Alone | Line::Office { .. } | Line::Tract(_) => {
+        Line::Run | Line::Alone | Line::Office { .. } | Line::Desk | Line::Tract(_) => {
             carry_out(rt, alloc, line, source, sink, watch)
         }
     };
@@ -214,8 +216,8 @@ pub fn obey_words_onto<T: Threads + Wait + Sync, R: Source, W: Sink, E: Sink, V:
         × IsAnsweredOnto K.File.seen K.File.may_leave K.File.moment K.File.left_since K.File.has_failed asked
         (R.left source.old) (R.left source.new) (R.turns source.old) (R.turns source.new) (W.taken sink.old) (W.taken sink.new)
         (R.has_failed source.new) (W.has_failed sink.new) result.cut result.status
+        × Turns asked (R.turns source.old) (R.turns source.new)
         × Tells asked (W.has_failed sink.new) (E.taken errors.old) (E.taken errors.new) }
-    ensures turns { IsReadWithin (R.turns source.old) (R.turns source.new) }
     ensures quiet { IsQuiet result }
 {
     let Ok(texts) = borrowed(alloc, words) else {

@@ -5,17 +5,19 @@ ghost use Rattle.title_program.specs.declared.status.Status.TheVariants as statu
 
 use crate::status::Status;
 use title_aliquot::DescFault;
+use title_counter::CounterFault;
 use title_day::OfficeFault;
 use title_disk::OpenFault;
 use title_lasting::{LastingFault, TellFault};
 use title_script::{RunFault, Schedule};
 
-/// Why a command failed: a script by its schedule, an office's script by the number of its examiners, a description, a plant's file
-/// that isn't opened, a script on top of one by its schedule, what stands in one, or want of memory.
+/// Why a command failed: a script by its schedule, an office's script by the number of its examiners, rows at a desk, a description, a
+/// plant's file that isn't opened, a script on top of one by its schedule, what stands in one, or want of memory.
 #[derive(Clone, Copy, Debug)]
 pub enum Why {
     Run(Schedule, RunFault),
     Office(u32, OfficeFault),
+    Desk(CounterFault),
     Description(DescFault),
     Unopened(OpenFault),
     Kept(Schedule, LastingFault),

@@ -7,6 +7,7 @@ ghost use Rattle.title_program.specs.Faults.{number_of_worker};
 use std::alloc::{AllocError, Global};
 use std::fmt;
 use title_aliquot::DescFault;
+use title_counter::CounterFault;
 use title_day::OfficeFault;
 use title_disk::OpenFault;
 use title_lasting::{LastingFault, TellFault};
@@ -88,6 +89,24 @@ impl From<RunFault> for Fault {
             RunFault::Memory => (6, None),
         };
         Fault { number, place }
+    }
+}
+
+impl From<CounterFault> for Fault {
+    ghost use Rattle.title_program.specs.Faults.{of_desk};
+
+    ghost from_gives = { λ fault told. told ≡ of_desk fault };
+
+    fn from(fault: CounterFault) -> Fault {
+        let number = match fault {
+            CounterFault::Read => 32,
+            CounterFault::Write => 33,
+            CounterFault::Memory => 6,
+        };
+        Fault {
+            number,
+            place: None,
+        }
     }
 }
 

@@ -3,6 +3,7 @@
 
 mod checking;
 mod commands;
+mod desk_serving;
 mod ending;
 mod fault;
 mod keeping;
@@ -17,6 +18,7 @@ mod words;
 
 pub use checking::check;
 pub use commands::{obey, obey_onto, obey_words, obey_words_onto, print_tract};
+pub use desk_serving::serve_desk;
 pub use ending::{Ending, Why};
 pub use fault::Fault;
 pub use keeping::serve_kept;
