@@ -3,14 +3,36 @@
 ghost use Rattle.std.specs.Prelude.{◌≡◌};
 
 use std::alloc::Global;
-use title_device::{Failed, Source};
+use title_device::{Failed, SCRIPT_LIMIT, Source};
 
-/// A source that keeps the bytes that another one gives through it, as long as there is memory for them.
+// Bytes that were given: all of them, or none where memory was wanted or there were more than a script may have.
+#[derive(Drop)]
+struct Kept {
+    alloc: Global,
+    bytes: Vec<u8>,
+    is_whole: bool,
+}
+
+// Adds bytes to others, unless these are more than a script may have already; whether it did.
+fn has_added(kept: &mut Vec<u8>, bytes: &[u8]) -> bool {
+    kept.len() <= SCRIPT_LIMIT && kept.extend_from_slice(bytes).is_ok()
+}
+
+impl Kept {
+    fn add(&mut self, bytes: &[u8]) {
+        if self.is_whole && !has_added(&mut self.bytes, bytes) {
+            self.bytes = Vec::new(self.alloc);
+            self.is_whole = false;
+        }
+    }
+}
+
+/// A source that keeps the bytes that another one gives through it, as long as there is memory for them and they aren't more than a
+/// script may have.
 #[derive(Drop)]
 pub struct Heard<R> {
     inner: R,
-    kept: Vec<u8>,
-    is_whole: bool,
+    kept: Kept,
 }
 
 impl<R> Heard<R> {
@@ -22,15 +44,18 @@ impl<R> Heard<R> {
     {
         Heard {
             inner,
-            kept: Vec::new(alloc),
-            is_whole: true,
+            kept: Kept {
+                alloc,
+                bytes: Vec::new(alloc),
+                is_whole: true,
+            },
         }
     }
 
     /// The bytes that were given, where all of them were kept.
     pub fn kept(&self) -> Option<&[u8]> {
-        if self.is_whole {
-            Some(self.kept.as_slice())
+        if self.kept.is_whole {
+            Some(self.kept.bytes.as_slice())
         } else {
             None
         }
@@ -48,9 +73,7 @@ impl<R: Source> Source for Heard<R> {
 
     fn pull(&mut self, buf: &mut [u8]) -> Result<usize, Failed> {
         let count = self.inner.pull(buf)?;
-        if self.kept.extend_from_slice(&buf[..count]).is_err() {
-            self.is_whole = false;
-        }
+        self.kept.add(&buf[..count]);
         Ok(count)
     }
 
