@@ -1,4 +1,4 @@
-//! Tests of devices, rows and whole scripts, through public calls: limits that take long scripts from both sides, failing
+//! Tests of devices, rows, whole scripts and a desk, through public calls: limits that take long scripts from both sides, failing
 //! devices, cut scripts.
 #![tactic(auto)]
 
@@ -6,6 +6,8 @@
 mod checks;
 #[cfg(test)]
 mod command;
+#[cfg(test)]
+mod desk;
 #[cfg(test)]
 mod device;
 #[cfg(test)]
