@@ -81,8 +81,9 @@ pub fn write_served<S: Sink>(alloc: Global, sink: &mut S, served: &Served) -> Re
 {
     let mut page = Page::new();
     let roster = Roster::judged(&served.plan.parties);
-    let mut lines = EntryLines::new(alloc, roster, entries_in(served.told.as_slice()));
-    put_all_told(&mut page, sink, &mut lines, served.told.as_slice())?;
+    let told = served.told.as_slice();
+    let mut lines = EntryLines::new(alloc, roster, entries_in(told));
+    put_all_told(&mut page, sink, &mut lines, told)?;
     put_end(&mut page, sink, served.steps)?;
     page.pass(sink)?;
     Ok(())
