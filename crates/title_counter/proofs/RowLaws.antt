@@ -1,8 +1,7 @@
 -- What a clerk's calls come to.
 use Rattle.std.proofs.Common.{◌≡◌, ◌+◌, ◌⊎◌, ◌++◌, ◌∷◌, ◌||◌, ◌∙◌, [], refl, ap, sym, subst, inl, inr, ℕ, List, true, false}
 use Rattle.std.proofs.Common.{arith, length}
-use Rattle.std.proofs.Common.{IfErr, IfOk, Result, Ok, Err, nat_le, not, ◌==◌}
-use Rattle.std.proofs.lemmas.Bool.Decides.{nat_tests}
+use Rattle.std.proofs.Common.{IfErr, IfOk, Result, Ok, Err, nat_le, not}
 use Rattle.std.specs.Prelude.{codes}
 use Rattle.std.specs.Fmt.{decimal}
 use Rattle.std.specs.List.{list_any}
@@ -73,6 +72,7 @@ pub asked_served : (c : Counter) (s : Setting) (q : Request) (e : ℕ) (r : Repl
         names = c.names;
         rows = c.rows;
         steps = n;
+        shut = true;
         trace = t;
       };
     }
@@ -145,7 +145,7 @@ ends_of c es setting trace content records same is idle headline = record {
 -- a township is declared, and there is a new desk
 pub township_declared : (c : Counter) (t : Township) (townships : List Township) (n : ℕ) (trace : List Call)
     → (nat_le most_townships (length c.townships) || list_any (λ other. same_township other t) c.townships) ≡ false
-    → not (c.steps == 0) ≡ false → (c.steps ≡ 0 → c.trace ≡ []) → townships ≡ c.townships ++ t ∷ [] → n ≡ length townships → trace ≡ []
+    → c.shut ≡ false → (c.shut ≡ false → c.trace ≡ []) → townships ≡ c.townships ++ t ∷ [] → n ≡ length townships → trace ≡ []
     → township_answer c (with_township 1 (asked_at c) t) ≡ Ok (record {
       rows = (codes "township" ∷ decimal n ∷ []) ∷ [];
       after = record {
@@ -153,13 +153,13 @@ pub township_declared : (c : Counter) (t : Township) (townships : List Township)
         names = c.names;
         rows = c.rows;
         steps = c.steps;
+        shut = c.shut;
         trace = trace;
       };
     })
 township_declared c t townships n trace free unbegun unasked items number none =
-    let zero : (c.steps == 0) ≡ true = not-false _ unbegun in
-    let was : c.trace ≡ [] = unasked (grind (arith, nat_tests)) in
-    rw (free, zero, number, items, none, was) refl
+    let was : c.trace ≡ [] = unasked unbegun in
+    rw (free, unbegun, number, items, none, was) refl
 
 -- one that is refused, and one that comes too late
 pub township_refused : (c : Counter) (t : Township)
@@ -169,5 +169,5 @@ township_refused c t shut = inr (rw shut refl)
 
 pub township_late : (c : Counter) (t : Township)
     → (nat_le most_townships (length c.townships) || list_any (λ other. same_township other t) c.townships) ≡ false
-    → not (c.steps == 0) ≡ true → IsFault (township_answer c (with_township 1 (asked_at c) t)) (fault.Order 1)
-township_late c t free begun = let some : (c.steps == 0) ≡ false = not-true _ begun in inr (rw (free, some) refl)
+    → c.shut ≡ true → IsFault (township_answer c (with_township 1 (asked_at c) t)) (fault.Order 1)
+township_late c t free begun = inr (rw (free, begun) refl)

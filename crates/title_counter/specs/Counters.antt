@@ -1,5 +1,5 @@
 -- A counter, and what is answered to a row there. Lists of calls have the newest first.
-use Rattle.std.specs.Prelude.{ℕ, ◌+◌, ◌==◌, cond, List, [], ◌∷◌, codes, length, nat_le, Option, Some, None, Result, Ok, Err}
+use Rattle.std.specs.Prelude.{ℕ, ◌+◌, Bool, true, false, cond, List, [], ◌∷◌, codes, length, nat_le, Option, Some, None, Result, Ok, Err}
 use Rattle.std.specs.Fmt.{decimal}
 use Rattle.title_land.specs.declared.place.Township.{Township}
 use Rattle.title_chain.specs.Alone.{most_parties}
@@ -22,17 +22,19 @@ use Rattle.title_counter.specs.declared.found.Found.{Found}
 use Rattle.title_counter.specs.declared.found.Found.TheVariants as found
 
 -- what rows have come to so far: the townships; the names of the parties, whose numbers are their places from 0; how many rows there
--- were, and how many step rows that were served or whose description is none; and the desk's trace
+-- were, and how many step rows that were served or whose description is none; whether no township may be declared any more; and the
+-- desk's trace
 pub record Counter : Type 0 where
   pub townships : List Township
   pub names : List (List ℕ)
   pub rows : ℕ
   pub steps : ℕ
+  pub shut : Bool
   pub trace : List Call
 
 -- before the first row there is one party, of which the land comes
 abbrev pub opening : Counter
-opening = record { townships = []; names = codes "UNITED STATES" ∷ []; rows = 0; steps = 0; trace = [] }
+opening = record { townships = []; names = codes "UNITED STATES" ∷ []; rows = 0; steps = 0; shut = false; trace = [] }
 
 -- the desk: parties may be declared at any time, so it has as many as may be
 abbrev pub setting_at : Counter → Setting
@@ -49,6 +51,7 @@ counted c = record {
   names = c.names;
   rows = c.rows + 1;
   steps = c.steps;
+  shut = c.shut;
   trace = c.trace;
 }
 
@@ -84,6 +87,7 @@ with_townships c townships = record {
     names = c.names;
     rows = c.rows;
     steps = c.steps;
+    shut = c.shut;
     trace = c.trace;
   };
 }
@@ -91,7 +95,7 @@ with_townships c townships = record {
 -- `township,N`, the number of townships from then on; not after the first step row
 abbrev pub township_answer : Counter → Result Asked ScriptFault → Result Answered ScriptFault
 township_answer c (Err e) = Err e
-township_answer c (Ok asked) = cond (c.steps == 0) (Ok (with_townships c asked.townships)) (Err (fault.Order 1))
+township_answer c (Ok asked) = cond c.shut (Err (fault.Order 1)) (Ok (with_townships c asked.townships))
 
 -- `party,N`, the party's number
 abbrev pub party_answer : Counter → Result Asked ScriptFault → Result Answered ScriptFault
@@ -103,6 +107,7 @@ party_answer c (Ok asked) = Ok (record {
     names = asked.names;
     rows = c.rows;
     steps = c.steps;
+    shut = c.shut;
     trace = c.trace;
   };
 })
@@ -118,6 +123,7 @@ served c line = record {
     names = c.names;
     rows = c.rows;
     steps = c.steps + 1;
+    shut = true;
     trace = after_line (setting_at c) c.trace line;
   };
 }
@@ -162,5 +168,6 @@ aborted c examiners = record {
   names = c.names;
   rows = c.rows;
   steps = c.steps;
+  shut = c.shut;
   trace = with_aborts (setting_at c) c.trace examiners;
 }

@@ -33,6 +33,7 @@ counter_of clerk = record {
   names = map string_bytes clerk.declared.parties.keys;
   rows = clerk.rows;
   steps = clerk.steps;
+  shut = clerk.shut;
   trace = clerk.desk.trace;
 }
 

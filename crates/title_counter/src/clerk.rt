@@ -1,6 +1,7 @@
 //! The clerk, who takes rows one after another.
 
-ghost use Rattle.std.specs.Prelude.{◌≡◌, ◌==◌, ◌⊎◌, ◌<◌, ◌≤◌, ◌+◌, ◌^◌, [], Ok, Err, IfErr, IfOk, MatchResult, OnErr, not};
+ghost use Rattle.std.specs.Prelude.{◌≡◌, ◌⊎◌, ◌<◌, ◌≤◌, ◌+◌, ◌^◌, [], Ok, Err, IfErr, IfOk, MatchResult, OnErr, false, map};
+ghost use Rattle.std.specs.String.{string_bytes};
 ghost use Rattle.csv.specs.Records.{fields_of};
 ghost use Rattle.title_chain.specs.Alone.{most_parties};
 ghost use Rattle.title_plan.specs.declared.fault.ScriptFault.TheVariants as fault;
@@ -31,18 +32,19 @@ use title_store::Store;
 use title_trace::{MOST_PARTIES, Reply, Request};
 use title_tree_store::TreeStore;
 
-/// What is declared, the desk, how many rows there were, and how many step rows that were served or whose description is none;
-/// beside them the descriptions that were read.
+/// What is declared, the desk, how many rows there were, how many step rows that were served or whose description is none, and
+/// whether no township may be declared any more; beside them the descriptions that were read.
 #[derive(Drop)]
-pub(crate) struct Clerk {
+pub struct Clerk {
     pub(crate) alloc: Global,
-    pub(crate) declared: Declared,
+    pub declared: Declared,
     readings: Readings,
-    pub(crate) desk: Desk<TreeStore, NodeLocks>,
-    pub(crate) rows: u64,
-    pub(crate) steps: u64,
+    pub desk: Desk<TreeStore, NodeLocks>,
+    pub rows: u64,
+    pub steps: u64,
+    pub shut: bool,
     ghost setting: { desk.setting ≡ record { parties = most_parties; townships = declared.townships.items } },
-    ghost unasked: { steps ≡ 0 → desk.trace ≡ [] },
+    ghost unasked: { shut ≡ false → desk.trace ≡ [] },
     ghost counts: { steps ≤ rows },
 }
 
@@ -79,14 +81,44 @@ impl Clerk {
             desk,
             rows: 0,
             steps: 0,
+            shut: false,
         })
     }
 
-    // Whether there was a step row.
-    fn is_begun(&self) -> bool
-        ensures begun { result ≡ not (self.now.steps == 0) }
+    /// What is declared, and a desk that has served what stood. Where it has served anything no township may be declared any more.
+    pub fn onto(
+        alloc: Global,
+        declared: Declared,
+        desk: Desk<TreeStore, NodeLocks>,
+        shut: bool,
+    ) -> Clerk
+        requires setting { desk.setting ≡ record { parties = most_parties; townships = declared.townships.items } }
+        requires unasked { shut ≡ false → desk.trace ≡ [] }
+        ensures onto { counter_of result ≡ record {
+          townships = declared.townships.items;
+          names = map string_bytes declared.parties.keys;
+          rows = 0;
+          steps = 0;
+          shut = shut;
+          trace = desk.trace;
+        } }
     {
-        self.steps != 0
+        Clerk {
+            alloc,
+            declared,
+            readings: Readings::new(alloc),
+            desk,
+            rows: 0,
+            steps: 0,
+            shut,
+        }
+    }
+
+    // Whether no township may be declared any more: there was a step row, or something stood before the first row.
+    fn is_begun(&self) -> bool
+        ensures begun { result ≡ self.now.shut }
+    {
+        self.shut
     }
 
     // Declares a township: from now on there is a desk with one more. Where it fails nothing has changed.
@@ -153,10 +185,12 @@ impl Clerk {
                 let examiner = request.examiner();
                 let reply = ask(&mut self.desk, request)?;
                 self.steps += 1;
+                self.shut = true;
                 Ok(Answer::Replied(examiner, reply))
             }
             Wish::Described(examiner, why) => {
                 self.steps += 1;
+                self.shut = true;
                 Ok(Answer::Described(examiner, why))
             }
         }

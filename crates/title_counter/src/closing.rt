@@ -26,7 +26,7 @@ impl Clerk {
     ghost use Rattle.title_counter.specs.Views.{counter_of};
 
     /// The desk is as it has to be. It does nothing: the desk's type says so.
-    pub(crate) fn is_sound(&self)
+    pub fn is_sound(&self)
         ensures sound { IsSound (counter_of self.now) }
     {
         self.desk.is_due();
@@ -34,7 +34,7 @@ impl Clerk {
     }
 
     /// Aborts all open transactions.
-    pub(crate) fn close(&mut self)
+    pub fn close(&mut self)
         ensures ends { Ends (counter_of self.old) }
         ensures steps { self.new.steps ≡ self.old.steps }
     {

@@ -13,7 +13,9 @@ mod lines;
 mod session;
 mod wish;
 
+pub use clerk::Clerk;
 pub use fault::CounterFault;
-pub use line_start::LINE_LIMIT;
-pub use session::attend;
+pub use line_start::{LINE_LIMIT, LineStart};
+pub use lines::answer_rest;
+pub use session::{GIVEN_LIMIT, answer_batch, attend};
 pub use title_device::{Device, Failed, Sink, Source};

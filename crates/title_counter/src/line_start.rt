@@ -12,7 +12,7 @@ pub const LINE_LIMIT: usize = 8_192;
 
 /// The bytes of a line so far, of which no more are kept than tell that it is too long. A contract sees these bytes.
 #[derive(Drop)]
-pub(crate) struct LineStart {
+pub struct LineStart {
     bytes: ArrayVec<u8, 8193>,
 }
 
@@ -26,7 +26,7 @@ impl Model for LineStart {
 
 impl LineStart {
     /// Nothing yet.
-    pub(crate) fn new() -> LineStart
+    pub fn new() -> LineStart
         ensures empty { result ≡ [] }
     {
         LineStart {

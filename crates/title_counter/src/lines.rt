@@ -2,7 +2,7 @@
 
 ghost use Rattle.std.specs.Prelude.{◌≡◌, ◌<◌, ◌≤◌, ◌+◌, ◌^◌, ◌∷◌, ℕ, List, [], false, length, true, OnErr, OnOk};
 ghost use Rattle.title_counter.specs.Lines.{last_line, lines_from};
-ghost use Rattle.title_counter.specs.Sessions.{BrokenOff, Ended, GotAnswers, LostAnswers};
+ghost use Rattle.title_counter.specs.Sessions.{BrokenOff, Ended, GotAnswers, IsSound, LostAnswers, LostBatch, PassedBatch};
 ghost use Rattle.title_counter.specs.Views.{counter_of};
 
 use crate::clerk::Clerk;
@@ -106,6 +106,31 @@ fn answer_last<S: Sink>(
         return Ok(());
     }
     answer_line(clerk, line, page, sink)
+}
+
+/// Answers the last line, where something of it has come, and passes its answer on. `Failed` where the sink fails.
+pub fn answer_rest<S: Sink>(
+    clerk: &mut Clerk,
+    line: &mut LineStart,
+    page: &mut Page,
+    sink: &mut S,
+) -> Result<(), Failed>
+    requires fits { clerk.old.rows + 1 < 2 ^ 64 }
+    requires works { S.has_failed sink.old ≡ false }
+    requires empty { page.old ≡ [] }
+    ensures answers { OnOk result (PassedBatch (counter_of clerk.old) (last_line line.old) (counter_of clerk.new) (S.taken sink.old)
+        (S.taken sink.new)) }
+    ensures lost { OnErr result (LostBatch (counter_of clerk.old) (last_line line.old) (counter_of clerk.new) (S.taken sink.old)
+        (S.taken sink.new)) }
+    ensures passed { OnOk result (page.new ≡ []) }
+    ensures sound { IsSound (counter_of clerk.new) }
+    ensures well { OnOk result (S.has_failed sink.new ≡ false) }
+    ensures failed { OnErr result (S.has_failed sink.new ≡ true) }
+{
+    let answered = answer_last(clerk, line, page, sink);
+    clerk.is_sound();
+    answered?;
+    page.pass(sink)
 }
 
 /// Ends a session: answers the last line, aborts what is open, and writes the last row.

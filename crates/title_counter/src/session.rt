@@ -17,8 +17,9 @@ use title_page::Page;
 /// The most bytes that are taken of a source: so many never come.
 pub const GIVEN_LIMIT: u64 = 18_446_744_073_709_543_423;
 
-// Answers the whole lines of the bytes of one pull, and passes all answers on.
-fn answer_batch<S: Sink>(
+/// Answers the whole lines of the bytes of one pull, of which the first has begun, and passes all answers on. `Failed` where the sink
+/// fails; the clerk has then taken some of the lines.
+pub fn answer_batch<S: Sink>(
     clerk: &mut Clerk,
     line: &mut LineStart,
     page: &mut Page,
