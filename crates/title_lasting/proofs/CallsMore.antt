@@ -27,7 +27,7 @@ module _ (E : ℕ → Type 0) (P : ℕ → Ask → Type 0) where
     pub is : after ≡ more ++ before
     pub fine : AllByRecursion (FineCall E P) more
 
-  none_more : (before : List Call) → CallsMore before before
+  pub none_more : (before : List Call) → CallsMore before before
   none_more before = record { more = []; is = refl; fine = tt }
 
   call_more : (setting : Setting) (before : List Call) (q : Request) → FineRequest E P q → CallsMore before (after_call setting before q)
@@ -37,7 +37,7 @@ module _ (E : ℕ → Type 0) (P : ℕ → Ask → Type 0) where
     fine = (fine, tt);
   }
 
-  further : (first mid last : List Call) → CallsMore first mid → CallsMore mid last → CallsMore first last
+  pub further : (first mid last : List Call) → CallsMore first mid → CallsMore mid last → CallsMore first last
   further first mid last h k = record {
     more = k.more ++ h.more;
     is = k.is ∙ ap (λ (t : List Call). k.more ++ t) h.is ∙ sym (append_assoc k.more h.more first);
@@ -54,7 +54,7 @@ module _ (E : ℕ → Type 0) (P : ℕ → Ask → Type 0) where
   ends e (reply.Answered given) fine = fine
   ends e _ fine = fine
 
-  line_more : (setting : Setting) (before : List Call) (l : Line) → FineLine l → CallsMore before (after_line setting before l)
+  pub line_more : (setting : Setting) (before : List Call) (l : Line) → FineLine l → CallsMore before (after_line setting before l)
   line_more setting before (line.Asks q) fine = call_more setting before q fine
   line_more setting before (line.Alone e a) fine =
       let begun : List Call = after_call setting before (request.Begin e) in

@@ -96,13 +96,13 @@ kept_is names r fine short = record {
   each = posts_are names r.examiner r.steps fine.steps;
 }
 
-all_kept : (names : List (List ℕ)) (records : List Record) → AllByRecursion (FineRecord IsExaminer (FineAsk names)) records
+pub all_kept : (names : List (List ℕ)) (records : List Record) → AllByRecursion (FineRecord IsExaminer (FineAsk names)) records
     → AreShort records → AllByRecursion (IsKept names) (map kept records)
 all_kept names [] fine short = tt
 all_kept names (r ∷ records) fine short = (kept_is names r fine.0 short.0, all_kept names records fine.1 short.1)
 
 -- what is kept already stays as it is
-kept_again : (names : List (List ℕ)) (records : List Record) → AllByRecursion (IsKept names) records → map kept records ≡ records
+pub kept_again : (names : List (List ℕ)) (records : List Record) → AllByRecursion (IsKept names) records → map kept records ≡ records
 kept_again names [] all = refl
 kept_again names (r ∷ records) all =
     ap₂ (λ (s : Record) (rs : List Record). s ∷ rs) (one r all.0) (kept_again names records all.1)
@@ -118,32 +118,32 @@ kept_again names (r ∷ records) all =
 
 -- ---- lists
 
-drop_front : {A : Type 0} (xs ys : List A) (k : ℕ) → k ≡ length xs → drop k (xs ++ ys) ≡ ys
+pub drop_front : {A : Type 0} (xs ys : List A) (k : ℕ) → k ≡ length xs → drop k (xs ++ ys) ≡ ys
 drop_front [] ys zero h = refl
 drop_front [] ys (suc k) h = absurd (omega arith)
 drop_front (x ∷ xs) ys zero h = absurd (omega arith)
 drop_front (x ∷ xs) ys (suc k) h = drop_front xs ys k (omega arith)
 
-empty : {A : Type 0} (xs : List A) → length xs ≡ 0 → xs ≡ []
+pub empty : {A : Type 0} (xs : List A) → length xs ≡ 0 → xs ≡ []
 empty [] h = refl
 empty (x ∷ xs) h = absurd (omega arith)
 
 -- a list that is no longer than its beginning is that
-no_longer : {A : Type 0} (xs ys : List A) → IsPrefix xs ys → length ys ≡ length xs → ys ≡ xs
+pub no_longer : {A : Type 0} (xs ys : List A) → IsPrefix xs ys → length ys ≡ length xs → ys ≡ xs
 no_longer xs ys p h = sym p.1 ∙ ap (λ l. xs ++ l) (empty p.0 (omega (arith, length-append xs p.0, ap length p.1))) ∙ append-nil xs
 
-none_left : {A : Type 0} (xs : List A) → reverse xs ≡ [] → xs ≡ []
+pub none_left : {A : Type 0} (xs : List A) → reverse xs ≡ [] → xs ≡ []
 none_left xs h = sym (reverse-reverse xs) ∙ ap reverse h
 
-first_short : (news older : List Record) → AreShort (news ++ older) → AreShort news
+pub first_short : (news older : List Record) → AreShort (news ++ older) → AreShort news
 first_short [] older h = tt
 first_short (r ∷ news) older h = (h.0, first_short news older h.1)
 
-due_before : (setting : Setting) (more before : List Call) → IsDue depth setting (more ++ before) → IsDue depth setting before
+pub due_before : (setting : Setting) (more before : List Call) → IsDue depth setting (more ++ before) → IsDue depth setting before
 due_before setting [] before due = due
 due_before setting (call ∷ more) before due = due_before setting more before due.0
 
-ok_blocks : (found : Result (List (List ℕ)) ℕ) (s : Standing) → standing_after found ≡ Ok s
+pub ok_blocks : (found : Result (List (List ℕ)) ℕ) (s : Standing) → standing_after found ≡ Ok s
     → (blocks : List (List ℕ)) × (found ≡ Ok blocks)
 ok_blocks (Ok blocks) s h = (blocks, refl)
 ok_blocks (Err row) s h = absurd (cc h)

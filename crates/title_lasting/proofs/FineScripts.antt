@@ -78,7 +78,7 @@ post_wider names more e p h = record {
   cell = h.cell;
 }
 
-ask_wider : (names more : List (List ℕ)) (e : ℕ) (a : Ask) → FineAsk names e a → FineAsk (names ++ more) e a
+pub ask_wider : (names more : List (List ℕ)) (e : ℕ) (a : Ask) → FineAsk names e a → FineAsk (names ++ more) e a
 ask_wider names more e (ask.Sheet t) h = tt
 ask_wider names more e (ask.Chain t) h = tt
 ask_wider names more e (ask.Post p) h = post_wider names more e p h
@@ -150,7 +150,7 @@ line_fine asked l inside fine step = record {
   lines = all_joined (FineStep asked.names) asked.lines (l ∷ []) fine.lines (step, tt);
 }
 
-step_fine : (names : List (List ℕ)) (alone : Bool) (e : ℕ) (asks : Result Ask DescFault) → IsExaminer e
+pub step_fine : (names : List (List ℕ)) (alone : Bool) (e : ℕ) (asks : Result Ask DescFault) → IsExaminer e
     → IfOk asks (FineAsk names e) → FineStep names (line_of alone e asks)
 step_fine names false e (Ok a) examiner fine = (examiner, fine)
 step_fine names true e (Ok a) examiner fine = (examiner, fine)
@@ -168,16 +168,16 @@ asked_fine (schedule.Office k) n asked e (Ok a) fine examiner step =
 asked_fine (schedule.Office k) n asked e (Err why) fine examiner step = tt
 
 -- a read of what a text describes
-sheet_asks : (names : List (List ℕ)) (e : ℕ) (said : Result Land DescFault) → IfOk (asked_of ask.Sheet said) (FineAsk names e)
+pub sheet_asks : (names : List (List ℕ)) (e : ℕ) (said : Result Land DescFault) → IfOk (asked_of ask.Sheet said) (FineAsk names e)
 sheet_asks names e (Ok l) = tt
 sheet_asks names e (Err why) = tt
 
-chain_asks : (names : List (List ℕ)) (e : ℕ) (said : Result Land DescFault) → IfOk (asked_of ask.Chain said) (FineAsk names e)
+pub chain_asks : (names : List (List ℕ)) (e : ℕ) (said : Result Land DescFault) → IfOk (asked_of ask.Chain said) (FineAsk names e)
 chain_asks names e (Ok l) = tt
 chain_asks names e (Err why) = tt
 
 module _ (lands : LandsHaveCells land_in) where
-  post_asks : (names : List (List ℕ)) (e doc : ℕ) (instrument : Instrument ℕ) (text : List ℕ) (said : Result Land DescFault)
+  pub post_asks : (names : List (List ℕ)) (e doc : ℕ) (instrument : Instrument ℕ) (text : List ℕ) (said : Result Land DescFault)
       → land_in text ≡ said → IsExaminer e → ((l : Land) → IsLand depth l × (has_a_cell l ≡ true)
       → IsPost names e (record { doc = doc; tract = l; instrument = instrument }))
       → IfOk (asked_of (post doc instrument) said) (FineAsk names e)

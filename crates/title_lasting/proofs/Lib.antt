@@ -18,3 +18,11 @@ mod FileOpened
 mod ByDeclared
 mod Told
 mod Tellings
+mod FineCounters
+mod BatchMade
+mod BatchKept
+mod HeldTexts
+mod BatchTold
+mod RowsEnded
+mod DeskSittings
+mod DeskEnds

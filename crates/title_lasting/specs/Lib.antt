@@ -9,3 +9,5 @@ pub mod Opened
 pub mod Made
 pub mod Kept
 pub mod Tells
+pub mod Sittings
+pub mod Desks

@@ -109,8 +109,8 @@ fn added_block(
     Ok(Some(text))
 }
 
-// The records behind so many that stood.
-fn new_records(records: &[Record], kept: usize) -> &[Record]
+/// The records behind so many that stood.
+pub(crate) fn new_records(records: &[Record], kept: usize) -> &[Record]
     requires within { kept ≤ length records.now }
     ensures new { result.now ≡ drop kept records.now }
 {

@@ -1,0 +1,13 @@
+-- The names are those of the parties, and the records stand the other way round.
+use Rattle.std.proofs.Common.{◌∙◌, ap, arith, length, refl, sym}
+use Rattle.std.proofs.lemmas.List.{length-map, length-reverse}
+use Rattle.std.specs.String.{string_bytes}
+use Rattle.title_lasting.proofs.news.mark_at.Goals as goal
+
+pub returns : goal.returns
+returns c = record {
+  gate = refl;
+  townships = omega arith;
+  parties = c.len-2.ensures.len ∙ sym (length-map c.args.clerk.now.declared.parties.keys string_bytes);
+  records = omega (arith, ap length c.records.ensures.records, length-reverse c.records.result.now);
+}
