@@ -146,7 +146,7 @@ run_level words e = inl (refl, place_rows (at 0) place_rules words e)
 alone_level : Level (at 1)
 alone_level words e = inr (inl (refl, place_rows (at 1) place_rules words e))
 
--- `desk` wants nothing
+-- `desk` may have a file, and wants nothing
 desk_level : Level (at 3)
 desk_level words e = inr (inr (inr (inl refl)))
 

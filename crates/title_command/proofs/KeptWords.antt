@@ -4,14 +4,14 @@ use Rattle.std.specs.Prelude.{unwrap_or}
 use Rattle.clap.proofs.OnLiterals.{clap_on_literals}
 use Rattle.clap.specs.Walk.{Row, Text, first_of, rows_after}
 use Rattle.title_command.specs.declared.choice.Line.{Line}
-use Rattle.title_command.specs.declared.choice.Line.TheVariants.{Run, Alone, Office, Desk, Tract, Kept, Check}
+use Rattle.title_command.specs.declared.choice.Line.TheVariants.{Run, Alone, Office, Desk, Tract, Kept, KeptDesk, Check}
 use Rattle.title_command.specs.declared.choice.Work.TheVariants as work
 use Rattle.title_command.specs.CommandLine.{IsAfter, IsKept, IsLine, KeptByWords, PlaceAlone, SaysKept, most_place}
 use Rattle.title_command.proofs.CommandLemmas.{at, differ}
 use Rattle.title_command.proofs.OfficeWords.{number, number_is}
 
 -- the name of a file is that of the option
-named_is : (rows : List Row) (text name : Text) → first_of (codes "plant") rows ≡ Some text → first_of (codes "plant") rows ≡ Some name
+pub named_is : (rows : List Row) (text name : Text) → first_of (codes "plant") rows ≡ Some text → first_of (codes "plant") rows ≡ Some name
     → name ≡ text
 named_is rows text name first is = ap (λ (o : Option Text). unwrap_or o []) (sym is ∙ first)
 
@@ -38,7 +38,8 @@ alone_keeps rows plant some none Alone is =
     let both : None ≡ Some plant = sym is.1.0 ∙ some in
     absurd (cc)
 alone_keeps rows plant some none (Office e t) is = absurd (differ (codes "alone") (codes "office") refl is.0)
-alone_keeps rows plant some none Desk is = absurd (differ (codes "alone") (codes "desk") refl is)
+alone_keeps rows plant some none Desk is = absurd (differ (codes "alone") (codes "desk") refl is.0)
+alone_keeps rows plant some none (KeptDesk named) is = absurd (differ (codes "alone") (codes "desk") refl is.0)
 alone_keeps rows plant some none (Tract text) is = absurd (differ (codes "alone") (codes "tract") refl is.0)
 alone_keeps rows plant some none (Check file as_script) is = absurd (differ (codes "alone") (codes "check") refl is.0)
 alone_keeps rows plant some none (Kept named after work.Run) is = absurd (differ (codes "alone") (codes "run") refl is.0)
@@ -53,7 +54,8 @@ run_keeps rows plant place some says Run is =
     absurd (cc)
 run_keeps rows plant place some says Alone is = absurd (differ (codes "run") (codes "alone") refl is.0)
 run_keeps rows plant place some says (Office e t) is = absurd (differ (codes "run") (codes "office") refl is.0)
-run_keeps rows plant place some says Desk is = absurd (differ (codes "run") (codes "desk") refl is)
+run_keeps rows plant place some says Desk is = absurd (differ (codes "run") (codes "desk") refl is.0)
+run_keeps rows plant place some says (KeptDesk named) is = absurd (differ (codes "run") (codes "desk") refl is.0)
 run_keeps rows plant place some says (Tract text) is = absurd (differ (codes "run") (codes "tract") refl is.0)
 run_keeps rows plant place some says (Check file as_script) is = absurd (differ (codes "run") (codes "check") refl is.0)
 run_keeps rows plant place some says (Kept named after work.Alone) is = absurd (differ (codes "run") (codes "alone") refl is.0)

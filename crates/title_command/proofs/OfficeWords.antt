@@ -6,7 +6,7 @@ use Rattle.clap.proofs.OnLiterals.{clap_on_literals}
 use Rattle.clap.specs.Walk.{Row, Text, first_of, rows_after}
 use Rattle.clap.specs.declared.error.kind.ErrorKind.TheVariants.{ArgumentConflict, UnknownArgument, ValueValidation}
 use Rattle.title_command.specs.declared.choice.Line.{Line}
-use Rattle.title_command.specs.declared.choice.Line.TheVariants.{Run, Alone, Office, Desk, Tract, Kept, Check}
+use Rattle.title_command.specs.declared.choice.Line.TheVariants.{Run, Alone, Office, Desk, Tract, Kept, KeptDesk, Check}
 use Rattle.title_command.specs.declared.choice.Work.TheVariants as work
 use Rattle.title_command.specs.CommandLine.{IsLine, IsNumberOf, OfficeAtMost, OfficeByDefault, Refuses}
 use Rattle.title_command.proofs.CommandLemmas.{at, differ}
@@ -28,7 +28,8 @@ office_is rows examiners tries first second Run is = absurd (differ (codes "offi
 office_is rows examiners tries first second Alone is = absurd (differ (codes "office") (codes "alone") refl is.0)
 office_is rows examiners tries first second (Office e t) is =
     ap₂ Office (number_is (codes "examiners") rows examiners e first is.1) (number_is (codes "tries") rows tries t second is.2)
-office_is rows examiners tries first second Desk is = absurd (differ (codes "office") (codes "desk") refl is)
+office_is rows examiners tries first second Desk is = absurd (differ (codes "office") (codes "desk") refl is.0)
+office_is rows examiners tries first second (KeptDesk plant) is = absurd (differ (codes "office") (codes "desk") refl is.0)
 office_is rows examiners tries first second (Tract text) is = absurd (differ (codes "office") (codes "tract") refl is.0)
 office_is rows examiners tries first second (Kept plant after work.Run) is = absurd (differ (codes "office") (codes "run") refl is.0)
 office_is rows examiners tries first second (Kept plant after work.Alone) is = absurd (differ (codes "office") (codes "alone") refl is.0)

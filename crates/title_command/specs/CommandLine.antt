@@ -12,7 +12,7 @@ use Rattle.clap.specs.declared.builder.value_parser.ValueParser.TheVariants.{Uns
 use Rattle.clap.specs.declared.error.kind.ErrorKind.{ErrorKind}
 use Rattle.clap.specs.declared.error.kind.ErrorKind.TheVariants.{DisplayHelp, OutOfMemory, UnknownArgument}
 use Rattle.title_command.specs.declared.choice.Line.{Line}
-use Rattle.title_command.specs.declared.choice.Line.TheVariants.{Run, Alone, Office, Desk, Tract, Kept, Check}
+use Rattle.title_command.specs.declared.choice.Line.TheVariants.{Run, Alone, Office, Desk, Tract, Kept, KeptDesk, Check}
 use Rattle.title_command.specs.declared.choice.Work.{Work}
 use Rattle.title_command.specs.declared.choice.Work.TheVariants as work
 use Rattle.title_command.specs.declared.choice.LineFault.{LineFault}
@@ -83,9 +83,9 @@ tries_rule = number_rule (codes "tries") most_tries default_tries
 abbrev pub office : Shape
 office = record (new_shape (codes "office")) { rules = examiners_rule ∷ tries_rule ∷ [] }
 
--- `desk` is followed by nothing
+-- `desk` may be followed by a plant's file
 abbrev pub desk : Shape
-desk = new_shape (codes "desk")
+desk = record (new_shape (codes "desk")) { rules = plant_rule ∷ [] }
 
 -- a description of land, which has to be given
 abbrev pub text_rule : Rule
@@ -171,11 +171,12 @@ IsLine name rows Run = (name ≡ codes "run") × IsPlantless rows
 IsLine name rows Alone = (name ≡ codes "alone") × IsPlantless rows
 IsLine name rows (Office examiners tries) =
     (name ≡ codes "office") × IsNumberOf (codes "examiners") rows examiners × IsNumberOf (codes "tries") rows tries
-IsLine name rows Desk = name ≡ codes "desk"
+IsLine name rows Desk = (name ≡ codes "desk") × (first_of (codes "plant") rows ≡ None)
 IsLine name rows (Tract text) =
     (name ≡ codes "tract") × (first_of (codes "TEXT") rows ≡ Some text.now)
 IsLine name rows (Kept plant after how) =
     (name ≡ name_of how) × (first_of (codes "plant") rows ≡ Some plant.now) × IsAfter rows after
+IsLine name rows (KeptDesk plant) = (name ≡ codes "desk") × (first_of (codes "plant") rows ≡ Some plant.now)
 IsLine name rows (Check file as_script) =
     (name ≡ codes "check") × (first_of (codes "FILE") rows ≡ Some file.now) × (first_of (codes "script") rows ≡ Some (bool_text as_script))
 
@@ -237,9 +238,21 @@ OfficeAtMost = Says
 abbrev pub DeskByWord : Type 0
 DeskByWord = Says (codes "desk" ∷ []) Desk
 
--- and takes no plant's file
+-- the line is a desk on top of the file of this name
+abbrev pub IsDeskOn : Text → Line → Type 0
+IsDeskOn plant (KeptDesk named) = named.now ≡ plant
+IsDeskOn plant line = ⊥
+
+-- with a plant's file it is a desk on top of that
+abbrev pub DeskOnPlant : Type 0
+DeskOnPlant =
+    IsTaken (codes "desk" ∷ codes "--plant" ∷ codes "county.plant" ∷ [])
+    × ((line : Line) → IsLineOf (subcommand_of command (codes "desk" ∷ codes "--plant" ∷ codes "county.plant" ∷ [])) line
+    → IsDeskOn (codes "county.plant") line)
+
+-- and it expects no place
 abbrev pub DeskWithMore : Type 0
-DeskWithMore = fault_of command (codes "desk" ∷ codes "--plant" ∷ codes "county.plant" ∷ []) ≡ UnknownArgument ∷ []
+DeskWithMore = fault_of command (codes "desk" ∷ codes "--after" ∷ codes "3" ∷ []) ≡ UnknownArgument ∷ []
 
 -- the line keeps a script in the file of this name, so
 abbrev pub IsKept : Text → Option ℕ → Work → Line → Type 0

@@ -27,6 +27,12 @@ pub enum Line<'a> {
         /// How the script's transactions come.
         work: Work,
     },
+    /// Serve rows as they come on top of what stands in a plant's file, and put into the file what they declare and commit before each
+    /// is answered.
+    KeptDesk {
+        /// The file's name.
+        plant: &'a str,
+    },
     /// Tell what stands in a plant's file.
     Check {
         /// The file's name.

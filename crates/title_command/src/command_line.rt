@@ -1,6 +1,6 @@
 //! The words of a command line, read by `clap`.
 
-ghost use Rattle.std.specs.Prelude.{◌≡◌, IfErr, IfOk, IfSome, List, None, OnOk, Some, map, true, []};
+ghost use Rattle.std.specs.Prelude.{◌≡◌, IfErr, IfOk, IfSome, List, None, OnOk, Some, codes, map, true, []};
 ghost use Rattle.clap.specs.Faults.{fault_of};
 ghost use Rattle.clap.specs.Walk.{Row, Text};
 ghost use Rattle.clap.specs.Words.{found_of, is_simple_and_free, kind_of, rows_of, subcommand_of};
@@ -50,6 +50,17 @@ fn unkept<'a>(work: Work) -> Line<'a>
     }
 }
 
+// The line of a desk: on top of a plant's file where one is named.
+fn read_desk<'a>(values: &ArgMatches<'a>) -> Line<'a>
+    ensures line { IsLine (codes "desk") (rows_of (found_of values.now)) result }
+    ensures ranges { IsInRange result }
+{
+    match values.get_str("plant") {
+        Some(plant) => Line::KeptDesk { plant },
+        None => Line::Desk,
+    }
+}
+
 // The line that a subcommand and its matches say; None where a place is expected and no plant is named.
 fn read_line<'a>(name: &'a str, values: &ArgMatches<'a>) -> Option<Line<'a>>
     requires readable { IsReadable name.now (rows_of (found_of values.now)) }
@@ -69,7 +80,7 @@ fn read_line<'a>(name: &'a str, values: &ArgMatches<'a>) -> Option<Line<'a>>
         return Some(Line::Office { examiners, tries });
     }
     if name == "desk" {
-        return Some(Line::Desk);
+        return Some(read_desk(values));
     }
     if name == "check" {
         let file = values.get_str("FILE").unwrap();

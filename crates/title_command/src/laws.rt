@@ -1,8 +1,8 @@
 //! Laws of the command line. Each function does nothing: its clause is the law, proved.
 
 ghost use Rattle.std.specs.Prelude.{◌∷◌, [], codes};
-ghost use Rattle.title_command.specs.CommandLine.{DeskByWord, DeskWithMore, KeptByWords, OfficeAtMost, OfficeByDefault};
-ghost use Rattle.title_command.specs.CommandLine.{PlaceAlone, Refuses};
+ghost use Rattle.title_command.specs.CommandLine.{DeskByWord, DeskOnPlant, DeskWithMore, KeptByWords};
+ghost use Rattle.title_command.specs.CommandLine.{OfficeAtMost, OfficeByDefault, PlaceAlone, Refuses};
 
 use clap::error::ErrorKind;
 
@@ -21,9 +21,10 @@ pub fn other_words_are_refused()
     ensures unknown { Refuses (codes "soon" ∷ []) ErrorKind.UnknownArgument }
 {}
 
-/// `desk` is one word: what follows it, a plant's file say, is refused.
+/// `desk` is one word, which a plant's file may follow; a last place that is expected there is refused.
 pub fn desk_word_is_said()
     ensures alone { DeskByWord }
+    ensures plant { DeskOnPlant }
     ensures more { DeskWithMore }
 {}
 

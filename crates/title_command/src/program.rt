@@ -212,7 +212,7 @@ more of them: a desk for a program at the other end of two pipes, or for a perso
 
 Rows are those of the command run, each on a line of its own: a quote is closed on its line,
 and a line has at most 8192 bytes. There may be any number of them. A township is declared
-before the first step, a party at any time. Nothing is kept in a file.
+before the first step, a party at any time.
 
 Answers, in the order of their rows; a blank line has none:
   township,N            the township is declared, and is the Nth
@@ -229,12 +229,18 @@ Rows are passed over for these numbers, and are numbered from 1:
   35                    a township is declared after the first step
   6                     out of memory
 
-Faults at which the answers end, with status 1:
+With --plant FILE rows go on from what stands in that file, and what they declare and commit
+is kept there: no row is answered before that is on the disk. Rows that come together are kept
+together. Where transactions stand in FILE no township joins by a row (35), but by a script.
+
+Faults at which the answers end, with status 1; what was answered stands:
   fault,32              the rows can't be read
-  fault,6               out of memory before the first row
+  fault,6               out of memory before the first row, or for what is kept
+  fault,36 to fault,40  as for titleplant run --plant; of what wasn't answered nothing is kept,
+                        but after 40 perhaps the rows that came together last
 
 For rows and replies see titleplant run --help. The whole format stands in docs/FORMATS.md.",
-    usage: "titleplant desk",
+    usage: "titleplant desk [--plant <FILE>]",
     example: "\
 Example: of these rows
   township,T3N R2W
@@ -410,6 +416,14 @@ fn work_command<'a>(alloc: Global, name: &'a str, help: Help<'a>) -> Result<Comm
     Ok(with_after)
 }
 
+fn desk_command<'a>(alloc: Global) -> Result<Command<'a>, AllocError>
+    ensures app { IfOk result (λ c. app_of c ≡ record { top = desk; subs = [] }) }
+    ensures local { IfOk result (λ c. (out-Command c).has_globals ≡ false) }
+{
+    let plant = plant_option(alloc);
+    named(alloc, "desk", DESK).arg(plant)
+}
+
 fn check_command<'a>(alloc: Global) -> Result<Command<'a>, AllocError>
     ensures app { IfOk result (λ c. app_of c ≡ record { top = check; subs = [] }) }
     ensures local { IfOk result (λ c. (out-Command c).has_globals ≡ false) }
@@ -458,7 +472,7 @@ fn work_commands<'a>(alloc: Global) -> Result<Command<'a>, AllocError>
     ensures app { IfOk result (λ c. app_of c ≡ record { top = titleplant; subs = run ∷ alone ∷ office ∷ desk ∷ [] }) }
     ensures local { IfOk result (λ c. (out-Command c).has_globals ≡ false) }
 {
-    let desk = named(alloc, "desk", DESK);
+    let desk = desk_command(alloc)?;
     let with_scripts = script_commands(alloc)?;
     let with_desk = with_scripts.subcommand(desk)?;
     Ok(with_desk)

@@ -114,6 +114,24 @@ fn kept_advice(
     }
 }
 
+// Why rows at a desk on top of a plant's file weren't attended to their end.
+fn kept_desk_advice(alloc: Global, path: &str, fault: LastingFault) -> Result<String, AllocError> {
+    match fault {
+        LastingFault::Read => desk_advice(alloc, CounterFault::Read),
+        LastingFault::Write => desk_advice(alloc, CounterFault::Write),
+        LastingFault::Disk => String::from_str(
+            alloc,
+            "error: the disk failed at the plant's file, or is full: what was answered stands, and nothing else\n",
+        ),
+        LastingFault::Unsure => String::from_str(
+            alloc,
+            "error: the disk failed at the end of the plant's file: what was answered stands, and the rows behind it count all or none; \
+            see the last place by titleplant check\n",
+        ),
+        _ => lasting_advice(alloc, path, fault),
+    }
+}
+
 // The word that follows the command `tract` or `check`: the first that is no flag, or that stands behind the mark which ends options.
 fn text_in(words: &[String]) -> &str {
     let mut has_mark = false;
@@ -173,6 +191,7 @@ fn advice(
     match why {
         Why::Unopened(fault) => unopened_advice(alloc, words, fault),
         Why::Kept(schedule, fault) => kept_advice(alloc, schedule, plant_in(words), fault, kept),
+        Why::KeptDesk(fault) => kept_desk_advice(alloc, plant_in(words), fault),
         Why::Untold(fault) => telling_advice(alloc, text_in(words), fault),
         Why::Run(schedule, fault) => run_advice(alloc, schedule, fault, kept),
         Why::Office(examiners, fault) => office_advice(alloc, examiners, fault, kept),

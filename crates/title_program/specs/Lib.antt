@@ -7,6 +7,7 @@ pub mod Serving
 pub mod OfficeServing
 pub mod DeskServing
 pub mod Keeping
+pub mod DeskKeeping
 pub mod Checking
 pub mod Obeying
 pub mod ObeyingOnto

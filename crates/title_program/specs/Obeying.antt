@@ -1,5 +1,5 @@
 -- What each command line makes the program do.
-use Rattle.std.specs.Prelude.{◌≡◌, ◌≢◌, ◌⊎◌, ℕ, List, [], Bool, true, false, Option, Result, Ok, Err, codes, take}
+use Rattle.std.specs.Prelude.{◌≡◌, ◌⊎◌, ℕ, List, [], Bool, true, false, Option, Result, Ok, Err, codes, take}
 use Rattle.std.specs.Io.KnownBytes.{Appends, IsAtEnd, Keeps}
 use Rattle.clap.specs.Faults.{fault_of}
 use Rattle.clap.specs.Words.{subcommand_of}
@@ -7,7 +7,7 @@ use Rattle.title_land.specs.Depth.{depth}
 use Rattle.title_plan.specs.Lands.{land_in}
 use Rattle.title_plan.specs.declared.line.Schedule.TheVariants as schedule
 use Rattle.title_command.specs.declared.choice.Line.{Line}
-use Rattle.title_command.specs.declared.choice.Line.TheVariants.{Run, Alone, Office, Desk, Tract, Kept, Check}
+use Rattle.title_command.specs.declared.choice.Line.TheVariants.{Run, Alone, Office, Desk, Tract, Kept, KeptDesk, Check}
 use Rattle.title_command.specs.declared.choice.LineFault.{LineFault}
 use Rattle.title_command.specs.declared.choice.LineFault.TheVariants.{Help, Bad, Memory}
 use Rattle.title_command.specs.CommandLine.{Explains, IsLineOf, IsTaken, command}
@@ -47,6 +47,8 @@ IsObeyed (Tract text) left left_after source_failed sink_failed before after sta
     PrintsTract text.now before after sink_failed status
 IsObeyed (Kept plant place how) left left_after source_failed sink_failed before after status =
     TellsFault (of_open opening.Unopened) before after sink_failed status
+IsObeyed (KeptDesk plant) left left_after source_failed sink_failed before after status =
+    TellsFault (of_open opening.Unopened) before after sink_failed status
 IsObeyed (Check file as_script) left left_after source_failed sink_failed before after status =
     TellsFault (of_open opening.Unopened) before after sink_failed status
 
@@ -59,11 +61,14 @@ ReadsFor (Office examiners tries) left left_after status = status ≡ Success �
 ReadsFor Desk left left_after status = status ≡ Success → IsAtEnd left_after
 ReadsFor (Tract text) left left_after status = left_after ≡ left
 ReadsFor (Kept plant place how) left left_after status = left_after ≡ left
+ReadsFor (KeptDesk plant) left left_after status = left_after ≡ left
 ReadsFor (Check file as_script) left left_after status = left_after ≡ left
 
 -- the source was read in no more turns than a script is, but at a desk, where it is read for as long as rows come
 abbrev pub TurnsFor : Line → (turns turns_after : ℕ) → Type 0
-TurnsFor line turns turns_after = line ≢ Desk → IsReadWithin turns turns_after
+TurnsFor Desk turns turns_after = Unit {0}
+TurnsFor (KeptDesk plant) turns turns_after = Unit {0}
+TurnsFor line turns turns_after = IsReadWithin turns turns_after
 
 -- what is told on the errors where the output has failed
 abbrev pub unwritten : List ℕ

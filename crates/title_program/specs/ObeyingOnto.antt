@@ -3,12 +3,13 @@ use Rattle.std.specs.Prelude.{◌≡◌, ◌⊎◌, ℕ, List, Bool, Option, Res
 use Rattle.title_plan.specs.declared.line.Schedule.{Schedule}
 use Rattle.title_plan.specs.declared.line.Schedule.TheVariants as schedule
 use Rattle.title_command.specs.declared.choice.Line.{Line}
-use Rattle.title_command.specs.declared.choice.Line.TheVariants.{Kept, Check}
+use Rattle.title_command.specs.declared.choice.Line.TheVariants.{Kept, KeptDesk, Check}
 use Rattle.title_command.specs.declared.choice.LineFault.{LineFault}
 use Rattle.title_command.specs.declared.choice.Work.{Work}
 use Rattle.title_command.specs.declared.choice.Work.TheVariants as work
 use Rattle.title_program.specs.declared.status.Status.{Status}
 use Rattle.title_program.specs.Checking.{IsSeen, IsUnseen}
+use Rattle.title_program.specs.DeskKeeping.{IsKeptDeskServed}
 use Rattle.title_program.specs.Keeping.{IsDayServed, IsUnopened}
 use Rattle.title_program.specs.Obeying.{IsObeyed, IsRefused, ReadsFor}
 
@@ -29,11 +30,13 @@ module _ {D : Type 0} (seen : D → List ℕ) (may_leave : D → List ℕ → Ty
       ⊎ IsDayServed seen may_leave moment left_since has_failed sched after left left_after turns turns_after taken taken_after
       source_failed sink_failed cut status
 
-  -- the command was carried out, and so much of the source was read; only a script that is kept cuts bytes off
+  -- the command was carried out, and so much of the source was read; only what is kept cuts bytes off
   abbrev pub IsObeyedOnto : Line → (left left_after : Option (List ℕ)) → (turns turns_after : ℕ) → (taken taken_after : Option (List ℕ))
       → (source_failed sink_failed : Bool) → (cut : ℕ) → Status → Type 0
   IsObeyedOnto (Kept plant after how) left left_after turns turns_after taken taken_after source_failed sink_failed cut status =
       IsKeptServed (schedule_of how) after left left_after turns turns_after taken taken_after source_failed sink_failed cut status
+  IsObeyedOnto (KeptDesk plant) left left_after turns turns_after taken taken_after source_failed sink_failed cut status =
+      IsKeptDeskServed seen may_leave moment left_since has_failed left left_after taken taken_after source_failed sink_failed cut status
   IsObeyedOnto (Check file as_script) left left_after turns turns_after taken taken_after source_failed sink_failed cut status =
       (IsUnseen taken taken_after sink_failed status ⊎ IsSeen as_script taken taken_after sink_failed status)
       × (left_after ≡ left) × (cut ≡ 0)

@@ -11,6 +11,7 @@ ghost use Rattle.title_program.specs.Obeying.{Complains, IsAnswered, IsAsked, Is
 ghost use Rattle.title_program.specs.Obeying.{Turns, TurnsFor};
 
 use crate::checking::check;
+use crate::desk_keeping::serve_kept_desk;
 use crate::desk_serving::serve_desk;
 use crate::ending::{Ending, Why};
 use crate::keeping::{refuse_file, serve_kept};
@@ -80,7 +81,9 @@ fn carry_out<T: Threads + Wait + Sync, R: Source, W: Sink, V: Watch>(
         }
         Line::Desk => serve_desk(alloc, source, sink),
         Line::Tract(text) => print_tract(alloc, text, sink),
-        Line::Kept { .. } | Line::Check { .. } => refuse_file(alloc, OpenFault::Unopened, sink),
+        Line::Kept { .. } | Line::KeptDesk { .. } | Line::Check { .. } => {
+            refuse_file(alloc, OpenFault::Unopened, sink)
+        }
     }
 }
 
@@ -189,6 +192,7 @@ pub fn obey_onto<T: Threads + Wait + Sync, R: Source, W: Sink, E: Sink, V: Watch
             let schedule = schedule_of(work);
             serve_kept(alloc, schedule, after, plant, cabinet, source, sink, watch)
         }
+        Line::KeptDesk { plant } => serve_kept_desk(alloc, plant, cabinet, source, sink),
         Line::Check { file, as_script } => check(alloc, file, as_script, cabinet, sink),
         Line::Run | Line::Alone | Line::Office { .. } | Line::Desk | Line::Tract(_) => {
             carry_out(rt, alloc, line, source, sink, watch)

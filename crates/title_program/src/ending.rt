@@ -12,7 +12,8 @@ use title_lasting::{LastingFault, TellFault};
 use title_script::{RunFault, Schedule};
 
 /// Why a command failed: a script by its schedule, an office's script by the number of its examiners, rows at a desk, a description, a
-/// plant's file that isn't opened, a script on top of one by its schedule, what stands in one, or want of memory.
+/// plant's file that isn't opened, a script on top of one by its schedule, rows at a desk on top of one, what stands in one, or want of
+/// memory.
 #[derive(Clone, Copy, Debug)]
 pub enum Why {
     Run(Schedule, RunFault),
@@ -21,6 +22,7 @@ pub enum Why {
     Description(DescFault),
     Unopened(OpenFault),
     Kept(Schedule, LastingFault),
+    KeptDesk(LastingFault),
     Untold(TellFault),
     Memory,
 }

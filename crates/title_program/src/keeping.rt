@@ -32,8 +32,8 @@ pub(crate) fn refuse_file<W: Sink>(alloc: Global, why: OpenFault, sink: &mut W) 
     Ending::told(status, Some(Why::Unopened(why)))
 }
 
-// Prints the line of a fault; after a fault of the sink, nothing. That a script may count or not is told without memory.
-fn tell_kept<W: Sink>(alloc: Global, why: LastingFault, sink: &mut W) -> Status
+/// Prints the line of a fault; after a fault of the sink, nothing. That a script may count or not is told without memory.
+pub(crate) fn tell_kept<W: Sink>(alloc: Global, why: LastingFault, sink: &mut W) -> Status
     ensures cut { why ≡ fault.Write → sink.new ≡ sink.old }
     ensures unsure { why ≡ fault.Unsure → Prints (fault_line (of_lasting fault.Unsure)) status.Failure (W.taken sink.old)
         (W.taken sink.new) (W.has_failed sink.new) result }

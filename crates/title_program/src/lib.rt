@@ -3,6 +3,7 @@
 
 mod checking;
 mod commands;
+mod desk_keeping;
 mod desk_serving;
 mod ending;
 mod fault;
@@ -18,6 +19,7 @@ mod words;
 
 pub use checking::check;
 pub use commands::{obey, obey_onto, obey_words, obey_words_onto, print_tract};
+pub use desk_keeping::serve_kept_desk;
 pub use desk_serving::serve_desk;
 pub use ending::{Ending, Why};
 pub use fault::Fault;

@@ -1,11 +1,12 @@
 -- The values that a subcommand has: the numbers of `office`, the file and the flag of `check`, and the text of `tract`, whose name is
 -- none of the others.
-use Rattle.std.proofs.Common.{◌∙◌, arith, sym, ap, codes}
+use Rattle.std.proofs.Common.{◌∙◌, arith, sym, ap, codes, subst}
 use Rattle.std.specs.Prelude.{is_some, option_map}
 use Rattle.clap.specs.Words.{found_of, rows_of}
 use Rattle.clap.proofs.CallerLemmas.{some_of_text}
 use Rattle.clap.proofs.WalkLemmas.{first_value-rows}
-use Rattle.title_command.specs.CommandLine.{most_examiners, most_tries}
+use Rattle.clap.specs.Walk.{Text}
+use Rattle.title_command.specs.CommandLine.{IsLine, most_examiners, most_tries}
 use Rattle.title_command.proofs.CommandLemmas.{check_reads, desk_is, flag_read, number_got, office_reads, option_read, tract_reads}
 use Rattle.title_command.proofs.command_line.read_line.Goals as goal
 
@@ -35,7 +36,9 @@ returns-then-eq-3 c =
     record { line = (given.0, examiners.0, tries.0); lacks = λ none. absurd (cc); ranges = (examiners.1, tries.1) }
 
 pub returns-then-eq-4-clause-line : goal.returns-then-eq-4-clause-line
-returns-then-eq-4-clause-line c = desk_is c.args.name.now c.if-eq-4.ensures
+returns-then-eq-4-clause-line c =
+    let rows = rows_of (found_of c.args.values.now) in
+    subst (λ (name : Text). IsLine name rows c.read_desk.result) (sym (desk_is c.args.name.now c.if-eq-4.ensures)) c.read_desk.ensures.line
 
 pub unwrap-text-requires : goal.unwrap-text-requires
 unwrap-text-requires c =
