@@ -13,7 +13,7 @@ pub enum OpenFault {
     /// There is no such file and none can be made, or it can't be read or synced.
     #[error("the file can't be opened")]
     Unopened,
-    /// Another has it open.
+    /// Another has it open, for writing or, where it is to be written, for reading.
     #[error("the file is in use")]
     InUse,
     /// Memory ran out.
@@ -21,14 +21,22 @@ pub enum OpenFault {
     Memory,
 }
 
-/// Files that have names, each open once.
+/// Files that have names, each open once for writing, or else shared by those who read it.
 pub trait Cabinet {
     type File: Disk + Drop;
+
+    /// A file that is open for reading alone: as long as it is, nobody has it open for writing.
+    type Shared: Disk + Drop;
 
     /// Opens a file for reading and writing; all of it is on the disk then.
     fn open(&mut self, alloc: Global, path: &str) -> Result<Self::File, OpenFault>
         ensures durable { IfOk result (λ file. Only (Self.File.seen file) (Self.File.may_leave file)) }
         ensures works { IfOk result (λ file. Self.File.has_failed file ≡ false) };
+
+    /// Opens a file that is there for reading alone, beside others who read it. `InUse` where another has it open for writing. Nothing is
+    /// written to it.
+    fn share(&mut self, alloc: Global, path: &str) -> Result<Self::Shared, OpenFault>
+        ensures works { IfOk result (λ file. Self.Shared.has_failed file ≡ false) };
 
     /// The bytes of a file, which another may have open.
     fn look(&mut self, alloc: Global, path: &str) -> Result<Vec<u8>, OpenFault>;

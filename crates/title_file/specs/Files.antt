@@ -2,7 +2,9 @@
 use Rattle.std.specs.Prelude.{ℕ, ◌-◌, Bool, List, length, take}
 use Rattle.title_file.specs.Calls.{Call, seen, MayLeave, LeftSince, has_failed}
 use Rattle.title_file.specs.declared.drawer.Drawer.{Drawer}
+use Rattle.title_file.specs.declared.holding.Hold.{Hold}
 use Rattle.title_file.specs.declared.plant_file.PlantFile.{PlantFile}
+use Rattle.title_file.specs.declared.shared_file.SharedFile.{SharedFile}
 
 -- the calls on it, the newest first
 abbrev pub calls_of : PlantFile → List Call
@@ -23,6 +25,20 @@ file_left_since file = LeftSince (calls_of file)
 -- whether a call has failed
 abbrev pub file_has_failed : PlantFile → Bool
 file_has_failed file = has_failed (calls_of file)
+
+-- ---- where it is shared
+
+-- the bytes that were read of it
+abbrev pub shared_seen : SharedFile → List ℕ
+shared_seen file = seen file.record.calls
+
+-- whether a call has failed
+abbrev pub shared_has_failed : SharedFile → Bool
+shared_has_failed file = file.failed
+
+-- how it is held
+abbrev pub hold_of : SharedFile → Hold
+hold_of file = file.held.hold
 
 -- ---- where it lies
 

@@ -1,6 +1,7 @@
 pub mod Calls
 pub mod Codes
 pub mod Noted
+pub mod Holds
 pub mod Files
 pub mod Fronts
 pub mod InDoubt

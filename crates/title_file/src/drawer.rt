@@ -1,24 +1,29 @@
 //! Where plants' files lie: the file system.
 
-ghost use Rattle.std.specs.Prelude.{◌≡◌, ◌≤◌, ◌<◌, ◌-◌, ◌^◌, false, length, take, drop, IfOk, OnOk};
+ghost use Rattle.std.specs.Prelude.{◌≡◌, ◌≤◌, ◌<◌, ◌-◌, ◌^◌, false, length, take, drop, true, IfOk, OnOk};
 ghost use Rattle.std.specs.IoError.{error_kind};
 ghost use Rattle.title_disk.specs.Crashes.{Only};
 ghost use Rattle.title_disk.specs.declared.cabinet.OpenFault.TheVariants as fault;
-ghost use Rattle.title_file.specs.Files.{calls_of, file_seen, file_may_leave, file_has_failed};
+ghost use Rattle.title_file.specs.Files.{calls_of, file_seen, file_may_leave, file_has_failed, hold_of, shared_has_failed};
+ghost use Rattle.title_file.specs.Holds.{keeps_writers_off};
 ghost use Rattle.title_file.specs.Openings.{IsOpening, IsSecured, again_calls, gate_calls, loose_of, tail_calls};
 
 use crate::gates::{Gates, find_gates};
+use crate::holding::{Held, Hold};
 use crate::keeping::{keep_tail, lock, sync_folder};
 use crate::plant_file::PlantFile;
 use crate::record::{Note, Record};
+use crate::shared_file::SharedFile;
 use std::alloc::Global;
 use std::fs::{self, File, Metadata, OpenOptions};
 use std::hash::{BuildHasher, RandomState};
 use std::io::{self, ErrorKind, Read};
 use std::os::unix::fs::{FileExt, MetadataExt};
+use std::path::PathBuf;
 use title_disk::{Cabinet, OpenFault};
 
-/// The file system as a cabinet. A file that isn't there is made, and one handle at a time has a file open.
+/// The file system as a cabinet. A file that isn't there is made where it is to be written; one handle has it open for writing, or else
+/// any number of them share it.
 #[derive(Clone, Copy)]
 pub struct Drawer {
     rt: HostRuntime,
@@ -51,6 +56,8 @@ impl Cabinet for Drawer {
 
     type File = PlantFile;
 
+    type Shared = SharedFile;
+
     /// Before anything of a file is written again, what lies behind its blocks is put behind the bytes of the file whose name has
     /// `.cut` more, but for a closed gate alone. Where that fails, the file is opened all the same.
     fn open(&mut self, alloc: Global, path: &str) -> Result<PlantFile, OpenFault>
@@ -67,6 +74,17 @@ impl Cabinet for Drawer {
                 self.has_kept = false;
                 Err(fault_of(&error))
             }
+        }
+    }
+
+    /// What is read is on the disk, but for what a sync that failed has left in doubt: only `open` writes that again.
+    fn share(&mut self, alloc: Global, path: &str) -> Result<SharedFile, OpenFault>
+        ensures works { IfOk result (λ file. shared_has_failed file ≡ false) }
+        ensures held { IfOk result (λ file. keeps_writers_off (hold_of file) ≡ true) }
+    {
+        match share(&self.rt, alloc, path) {
+            Ok(file) => Ok(file),
+            Err(error) => Err(fault_of(&error)),
         }
     }
 
@@ -177,11 +195,8 @@ fn settle(
     ensures works { IfOk result (λ opened. file_has_failed opened.file ≡ false) }
     ensures kept { IfOk result (λ opened. IsOpening head.now opened.is_kept (calls_of opened.file)) }
 {
-    let place = fs::canonicalize(rt, path)?;
-    let (found, named) = (file.metadata()?, fs::symlink_metadata(rt, place.as_str())?);
-    if !found.is_file() || found.dev() != named.dev() || found.ino() != named.ino() {
-        return Err(ErrorKind::Unsupported.into());
-    }
+    let place = place_of(rt, path, &file)?;
+    let found = file.metadata()?;
     let bytes = read_all(alloc, &mut file)?;
     let Secured { record, is_kept } = secure(rt, alloc, path, &file, &found, head, &bytes)?;
     file.sync_all()?;
@@ -191,6 +206,16 @@ fn settle(
         file: PlantFile::opened(file, bytes, &record),
         is_kept,
     })
+}
+
+// Where a file lies that is a regular one, and that its name still means.
+fn place_of(rt: &HostRuntime, path: &str, file: &File) -> io::Result<PathBuf> {
+    let place = fs::canonicalize(rt, path)?;
+    let (found, named) = (file.metadata()?, fs::symlink_metadata(rt, place.as_str())?);
+    if !found.is_file() || found.dev() != named.dev() || found.ino() != named.ino() {
+        return Err(ErrorKind::Unsupported.into());
+    }
+    Ok(place)
 }
 
 // Keeps what will be cut off, and then writes again what may be other on the disk. What is no plant isn't written to.
@@ -268,10 +293,29 @@ fn read_all(alloc: Global, file: &mut File) -> io::Result<Vec<u8>> {
     Ok(bytes)
 }
 
-fn look(rt: &HostRuntime, alloc: Global, path: &str) -> io::Result<Vec<u8>> {
+// Opens a file for reading. What is no regular file stays shut, since opening it might block.
+fn open_to_read(rt: &HostRuntime, path: &str, hold: Hold) -> io::Result<Held>
+    ensures hold { IfOk result (λ held. held.hold ≡ hold) }
+{
     if !fs::metadata(rt, path)?.is_file() {
         return Err(ErrorKind::Unsupported.into());
     }
-    let mut file = File::open(rt, path)?;
-    read_all(alloc, &mut file)
+    Held::new(File::open(rt, path)?, hold)
+}
+
+// Shares a file, and reads it once it is on the disk.
+fn share(rt: &HostRuntime, alloc: Global, path: &str) -> io::Result<SharedFile>
+    ensures works { IfOk result (λ file. shared_has_failed file ≡ false) }
+{
+    let mut held = open_to_read(rt, path, Hold::Shared)?;
+    let place = place_of(rt, path, &held.file)?;
+    held.file.sync_all()?;
+    sync_folder(rt, place)?;
+    let bytes = read_all(alloc, &mut held.file)?;
+    Ok(SharedFile::new(held, bytes))
+}
+
+fn look(rt: &HostRuntime, alloc: Global, path: &str) -> io::Result<Vec<u8>> {
+    let mut held = open_to_read(rt, path, Hold::Loose)?;
+    read_all(alloc, &mut held.file)
 }

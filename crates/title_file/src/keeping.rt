@@ -61,12 +61,18 @@ fn keep(
     sync_folder(rt, fs::canonicalize(rt, name.as_str())?)
 }
 
-/// Locks a file. What is meant for a standard stream that was closed must not land in it: its descriptor is above theirs.
-pub(crate) fn lock(mut file: File) -> io::Result<File> {
-    if file.as_raw_fd() <= 2 {
-        file = file.try_clone()?;
-    }
+/// Locks a file.
+pub(crate) fn lock(file: File) -> io::Result<File> {
+    let file = above_streams(file)?;
     file.try_lock()?;
+    Ok(file)
+}
+
+/// A file whose descriptor is above those of the standard streams: what is meant for one that was closed must not land in it.
+pub(crate) fn above_streams(file: File) -> io::Result<File> {
+    if file.as_raw_fd() <= 2 {
+        return file.try_clone();
+    }
     Ok(file)
 }
 

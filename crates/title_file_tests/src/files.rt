@@ -36,6 +36,14 @@ fn refused(rt: &HostRuntime, path: &str) -> Option<OpenFault> {
     }
 }
 
+// Why a file isn't shared.
+fn unshared(rt: &HostRuntime, path: &str) -> Option<OpenFault> {
+    match Drawer::new(rt, FRESH).share(rt.alloc(), path) {
+        Ok(_) => None,
+        Err(fault) => Some(fault),
+    }
+}
+
 // Whether a look at a file shows these bytes.
 fn shows(rt: &HostRuntime, path: &str, bytes: &[u8]) -> bool {
     match Drawer::new(rt, FRESH).look(rt.alloc(), path) {
@@ -98,6 +106,32 @@ fn what_is_written_stands_in_the_file(rt: HostRuntime) {
 }
 
 #[test]
+fn a_file_is_shared_or_written(rt: HostRuntime) {
+    assert!(rt; empty(&rt, "title_file_shared"));
+    assert!(rt; unshared(&rt, "title_file_shared/a.plant") == Some(OpenFault::Unopened));
+    assert!(rt; count(&rt, "title_file_shared") == 0);
+    assert!(rt; fs::write(&rt, "title_file_shared/a.plant", b"here".as_slice()).is_ok());
+    let mut file = Drawer::new(&rt, FRESH)
+        .share(rt.alloc(), "title_file_shared/a.plant")
+        .expect(&rt, "the file is shared");
+    assert!(rt; unshared(&rt, "title_file_shared/a.plant") == None);
+    assert!(rt; refused(&rt, "title_file_shared/a.plant") == Some(OpenFault::InUse));
+    assert!(rt; shows(&rt, "title_file_shared/a.plant", b"here"));
+    let bytes = file.read(rt.alloc()).expect(&rt, "the file is read");
+    assert!(rt; bytes.as_slice() == b"here".as_slice());
+    assert!(rt; file.write_at(0, b"HE").is_err());
+    assert!(rt; has(&rt, "title_file_shared/a.plant", b"here"));
+    drop(file);
+    let file = Drawer::new(&rt, FRESH)
+        .open(rt.alloc(), "title_file_shared/a.plant")
+        .expect(&rt, "the file is opened");
+    assert!(rt; unshared(&rt, "title_file_shared/a.plant") == Some(OpenFault::InUse));
+    drop(file);
+    assert!(rt; count(&rt, "title_file_shared") == 1);
+    assert!(rt; fs::remove_dir_all(&rt, "title_file_shared").is_ok());
+}
+
+#[test]
 fn what_is_no_file_is_refused(rt: HostRuntime) {
     assert!(rt; empty(&rt, "title_file_none"));
     assert!(rt; fs::create_dir(&rt, "title_file_none/folder").is_ok());
@@ -110,6 +144,7 @@ fn what_is_no_file_is_refused(rt: HostRuntime) {
         "/dev/null",
     ] {
         assert!(rt; refused(&rt, path) == Some(OpenFault::Unopened), "{path}");
+        assert!(rt; unshared(&rt, path) == Some(OpenFault::Unopened), "{path}");
         assert!(rt; !shows(&rt, path, b""), "{path}");
     }
     assert!(rt; count(&rt, "title_file_none") == 2);
@@ -133,6 +168,7 @@ fn a_file_is_no_ones_without_permission(rt: HostRuntime) {
         Some(OpenFault::Unopened)
     };
     assert!(rt; refused(&rt, "title_file_shut/a.plant") == fault);
+    assert!(rt; unshared(&rt, "title_file_shut/a.plant") == None);
     assert!(rt; shows(&rt, "title_file_shut/a.plant", FRESH));
     assert!(rt; fs::remove_dir_all(&rt, "title_file_shut").is_ok());
 }
