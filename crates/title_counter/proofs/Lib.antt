@@ -6,6 +6,6 @@ mod FieldLaws
 mod LineLaws
 mod NamesText
 mod OnResults
-mod ReadOne
+mod RecordsOf
 mod RowLaws
 mod Sittings

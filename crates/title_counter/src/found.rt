@@ -1,13 +1,13 @@
 //! The row that a line is.
 
-ghost use Rattle.std.specs.Prelude.{◌≡◌, ℕ, List, IfOk, option_map};
+ghost use Rattle.std.specs.Prelude.{◌≡◌, IfOk, option_map};
 ghost use Rattle.std.specs.List.{list_any};
 ghost use Rattle.csv.specs.Records.{fields_of};
 ghost use Rattle.title_plan.specs.Plans.{rows_in};
 ghost use Rattle.title_counter.specs.Founds.{found_among, found_of, has_line_feed, is_spoilt};
-ghost use Rattle.title_counter.specs.Readers.{RowsLeft, TookRow};
 
-use csv::{ByteRecord, Reader, ReaderBuilder};
+use crate::reading::{Place, Taken, read_next, without_mark};
+use csv::ByteRecord;
 use std::alloc::{AllocError, Global};
 
 /// What is found in a line: nothing, since it is blank; something that is no row; or a row's fields.
@@ -16,28 +16,6 @@ pub(crate) enum Found<T> {
     Blank,
     Spoilt,
     Row(T),
-}
-
-// A reader of the records of a line.
-fn open_line(alloc: Global, text: &[u8]) -> Reader<&[u8]>
-    ensures left { RowsLeft result (rows_in text.now) }
-{
-    ReaderBuilder::new()
-        .has_headers(false)
-        .flexible(true)
-        .from_reader(alloc, text)
-}
-
-// Takes a record; whether there was one.
-fn take_record(reader: &mut Reader<&[u8]>, raw: &mut ByteRecord) -> Result<bool, AllocError>
-    ensures took { (rows : List (List (List ℕ))) → RowsLeft reader.old rows
-        → IfOk result (TookRow rows (fields_of raw.new) reader.new) }
-{
-    let found = match reader.read_byte_record(raw) {
-        Ok(found) => found,
-        Err(_) => return Err(AllocError),
-    };
-    Ok(found)
 }
 
 // Whether a field goes on over the end of its line.
@@ -66,19 +44,21 @@ fn goes_over(raw: &ByteRecord) -> bool
 pub(crate) fn read_line(alloc: Global, text: &[u8]) -> Result<Found<ByteRecord>, AllocError>
     ensures found { IfOk result (λ found. found_of found ≡ found_among (rows_in text.now)) }
 {
-    let mut reader = open_line(alloc, text);
-    let mut raw = ByteRecord::new(alloc);
-    let found = take_record(&mut reader, &mut raw)?;
-    if !found {
+    let line = without_mark(text);
+    let Some(first) = read_next(alloc, line, 0, Place::RecordStart)? else {
         return Ok(Found::Blank);
-    }
-    let mut next = ByteRecord::new(alloc);
-    let again = take_record(&mut reader, &mut next)?;
-    if again {
+    };
+    let second = read_next(alloc, line, first.next, first.place)?;
+    if second.is_some() {
         return Ok(Found::Spoilt);
     }
-    if goes_over(&raw) {
+    if goes_over(&first.raw) {
         return Ok(Found::Spoilt);
     }
+    let Taken {
+        raw,
+        place: _,
+        next: _,
+    } = first;
     Ok(Found::Row(raw))
 }

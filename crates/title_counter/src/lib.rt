@@ -10,6 +10,7 @@ mod found;
 pub mod laws;
 mod line_start;
 mod lines;
+mod reading;
 mod session;
 mod wish;
 

@@ -127,9 +127,9 @@ pub fn answer_rest<S: Sink>(
     ensures well { OnOk result (S.has_failed sink.new ≡ false) }
     ensures failed { OnErr result (S.has_failed sink.new ≡ true) }
 {
-    let answered = answer_last(clerk, line, page, sink);
+    let last = answer_last(clerk, line, page, sink);
     clerk.is_sound();
-    answered?;
+    last?;
     page.pass(sink)
 }
 
