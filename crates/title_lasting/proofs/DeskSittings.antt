@@ -50,56 +50,57 @@ answers_then c m a (x ∷ xs) ys t u h k = (
 )
 
 -- lines of bytes, and of those that come behind them
-abbrev joined_lines : Lines → List ℕ → Lines
+abbrev pub joined_lines : Lines → List ℕ → Lines
 joined_lines l bytes = record { whole = l.whole ++ (lines_from l.rest bytes).whole; rest = (lines_from l.rest bytes).rest }
 
-lines_more : (line xs ys : List ℕ) → lines_from line (xs ++ ys) ≡ joined_lines (lines_from line xs) ys
+pub lines_more : (line xs ys : List ℕ) → lines_from line (xs ++ ys) ≡ joined_lines (lines_from line xs) ys
 lines_more line [] ys = refl
 lines_more line (x ∷ xs) ys = elim (cases_Bool (x == line_feed)) [
   | inl feed ↦ rw feed (ap (and_lines line) (lines_more [] xs ys))
   | inr other ↦ rw other (lines_more (with_byte line x) xs ys)
 ]
 
-whole_more : (line xs ys : List ℕ)
+pub whole_more : (line xs ys : List ℕ)
     → (lines_from line (xs ++ ys)).whole ≡ (lines_from line xs).whole ++ (lines_from (lines_from line xs).rest ys).whole
 whole_more line xs ys = ap (λ (l : Lines). l.whole) (lines_more line xs ys)
 
-rest_more : (line xs ys : List ℕ) → (lines_from line (xs ++ ys)).rest ≡ (lines_from (lines_from line xs).rest ys).rest
+pub rest_more : (line xs ys : List ℕ) → (lines_from line (xs ++ ys)).rest ≡ (lines_from (lines_from line xs).rest ys).rest
 rest_more line xs ys = ap (λ (l : Lines). l.rest) (lines_more line xs ys)
 
 -- ---- bytes that are given
 
-consumes_none : (known : Option (List ℕ)) → Consumes known known []
+pub consumes_none : (known : Option (List ℕ)) → Consumes known known []
 consumes_none None = tt
 consumes_none (Some known) = refl
 
-consumes_more : (before middle after : Option (List ℕ)) (xs ys : List ℕ) → Consumes before middle xs → Consumes middle after ys
+pub consumes_more : (before middle after : Option (List ℕ)) (xs ys : List ℕ) → Consumes before middle xs → Consumes middle after ys
     → Consumes before after (xs ++ ys)
 consumes_more None middle after xs ys p q = tt
 consumes_more (Some known) None after xs ys p q = absurd p
 consumes_more (Some known) (Some rest) None xs ys p q = absurd q
 consumes_more (Some known) (Some rest) (Some end) xs ys p q = p ∙ ap (λ (more : List ℕ). xs ++ more) q ∙ sym (append_assoc xs ys end)
 
-consumes_kept : (before middle after : Option (List ℕ)) (xs : List ℕ) → Consumes before middle xs → Keeps middle after
+pub consumes_kept : (before middle after : Option (List ℕ)) (xs : List ℕ) → Consumes before middle xs → Keeps middle after
     → Consumes before after xs
 consumes_kept None middle after xs p q = tt
 consumes_kept (Some known) None after xs p q = absurd p
 consumes_kept (Some known) (Some rest) None xs p q = absurd q
 consumes_kept (Some known) (Some rest) (Some end) xs p q = p ∙ ap (λ (more : List ℕ). xs ++ more) (sym q)
 
-consumes_last : (before middle after : Option (List ℕ)) (xs : List ℕ) → Consumes before middle xs → Consumes middle after []
+pub consumes_last : (before middle after : Option (List ℕ)) (xs : List ℕ) → Consumes before middle xs → Consumes middle after []
     → Consumes before after xs
 consumes_last before middle after xs p q =
     subst (λ (x : List ℕ). Consumes before after x) (append-nil xs) (consumes_more before middle after xs [] p q)
 
-appends_kept : (before middle after : Option (List ℕ)) (xs : List ℕ) → Appends before middle xs → Keeps middle after
+pub appends_kept : (before middle after : Option (List ℕ)) (xs : List ℕ) → Appends before middle xs → Keeps middle after
     → Appends before after xs
 appends_kept None middle after xs p q = tt
 appends_kept (Some known) None after xs p q = absurd p
 appends_kept (Some known) (Some more) None xs p q = absurd q
 appends_kept (Some known) (Some more) (Some end) xs p q = q ∙ p
 
-more_given : (l m : Option (List ℕ)) (given : List ℕ) (n : ℕ) → Consumes l m given → n < length given → IfSome l (λ bytes. n < length bytes)
+pub more_given : (l m : Option (List ℕ)) (given : List ℕ) (n : ℕ) → Consumes l m given → n < length given
+    → IfSome l (λ bytes. n < length bytes)
 more_given None m given n p h = tt
 more_given (Some known) None given n p h = absurd p
 more_given (Some known) (Some rest) given n p h = rw p (rw length-append (omega arith))

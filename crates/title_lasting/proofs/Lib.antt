@@ -26,3 +26,12 @@ mod BatchTold
 mod RowsEnded
 mod DeskSittings
 mod DeskEnds
+mod ReadOne
+mod OtherRows
+mod LookScripts
+mod LooksServed
+mod LookEnds
+mod LookLines
+mod LookSittings
+mod LookDeskEnds
+mod DayBlock

@@ -11,3 +11,8 @@ pub mod Kept
 pub mod Tells
 pub mod Sittings
 pub mod Desks
+pub mod Readers
+pub mod LookRows
+pub mod Looks
+pub mod LookDesks
+pub mod Footings

@@ -87,8 +87,8 @@ fn attend_rows<D: Disk, R: Source, W: Sink>(
     Err(LastingFault::Read)
 }
 
-// Whether anything stands, of so many records.
-fn any_stand(records: usize) -> bool
+/// Whether anything stands, of so many records.
+pub(crate) fn any_stand(records: usize) -> bool
     ensures any { result ≡ not (records == 0) }
 {
     records != 0

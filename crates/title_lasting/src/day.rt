@@ -28,8 +28,8 @@ pub struct Ended {
     pub outcome: Result<(), LastingFault>,
 }
 
-// Whether the last place is another than the expected one.
-fn is_unexpected(after: Option<u64>, last: u64) -> bool
+/// Whether the last place is another than the expected one.
+pub fn is_unexpected(after: Option<u64>, last: u64) -> bool
     ensures other { result ≡ true → (place : ℕ) × (after ≡ Some place) × (place ≢ last) }
     ensures expected { result ≡ false → IfSome after (λ place. place ≡ last) }
 {

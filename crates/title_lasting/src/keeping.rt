@@ -10,7 +10,7 @@ use title_disk::Disk;
 use title_journal::{Gate, PutFault, put};
 
 /// Puts a block into a file at rest, where there is one.
-pub(crate) fn put_block<D: Disk>(
+pub fn put_block<D: Disk>(
     disk: &mut D,
     mut gate: Gate,
     block: &Option<Vec<u8>>,

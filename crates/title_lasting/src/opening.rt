@@ -29,7 +29,7 @@ pub(crate) struct Found {
 /// What stands in a plant's file that is at rest; a desk that has served it; the gate behind it; and how many bytes that don't count
 /// were cut off there.
 #[derive(Drop)]
-pub(crate) struct Opened {
+pub struct Opened {
     pub stands: Standing,
     pub desk: Desk<TreeStore, NodeLocks>,
     pub gate: Gate,
@@ -81,7 +81,7 @@ pub(crate) fn stand(
 
 /// Reads what stands in a plant's file, serves it, and brings the file to rest. A file that is no plant stays as it is; else a crash
 /// at any moment leaves what stands.
-pub(crate) fn open<D: Disk>(alloc: Global, disk: &mut D) -> Result<Opened, LastingFault>
+pub fn open<D: Disk>(alloc: Global, disk: &mut D) -> Result<Opened, LastingFault>
     requires works { D.has_failed disk.old ≡ false }
     requires durable { Only (D.seen disk.old) (D.may_leave disk.old) }
     ensures opened { IfOk result (IsOpened (D.seen disk.old)) }

@@ -43,8 +43,8 @@ pub(crate) struct Made {
     pub block: Option<Vec<u8>>,
 }
 
-// What a source's script asks for on top of what is declared.
-fn read_plan<R: Source>(
+/// What a source's script asks for on top of what is declared.
+pub(crate) fn read_plan<R: Source>(
     alloc: Global,
     schedule: Schedule,
     declared: Declared,
@@ -62,9 +62,9 @@ fn read_plan<R: Source>(
     Ok(plan)
 }
 
-// The desk of the day: the one that has served what stood, or, where townships join, a new one that has served it under them too. The
-// old one is let go first.
-fn join(
+/// The desk of the day: the one that has served what stood, or, where townships join, a new one that has served it under them too. The
+/// old one is let go first.
+pub(crate) fn join(
     alloc: Global,
     desk: Desk<TreeStore, NodeLocks>,
     stood: usize,
