@@ -8,3 +8,5 @@ pub mod OfficeCounts
 pub mod OfficeOrder
 pub mod OfficeReported
 pub mod OneOutcomeEach
+mod TurnsOnto
+mod StoodOutcomes

@@ -1,5 +1,5 @@
 -- The tallies of an office's day tell what came of each transaction that its script asks for.
-use Rattle.std.proofs.Common.{◌≡◌, ◌∙◌, ◌+◌, ℕ, suc, List, [], ◌∷◌, ◌++◌, length, map, filter, refl, sym, ap}
+use Rattle.std.proofs.Common.{◌≡◌, ◌∙◌, ◌+◌, ℕ, suc, List, [], ◌∷◌, ◌++◌, length, map, filter, refl, sym, ap, arith}
 use Rattle.std.proofs.Common.{Option, Some, None, length-append}
 use Rattle.std.proofs.lemmas.List.{append_assoc, length-map}
 use Rattle.std.proofs.lemmas.List.Sums.{sum_by-cons}
@@ -103,6 +103,23 @@ records_counted seen ws tallies outcomes records ex outs aborted given_up is tol
     ap committed_by (told ∙ ap (λ left. map (λ w. tally_of (ex w) (outs w) (aborted w) (given_up w)) left) is)
     ∙ outcomes_counted ws ex outs aborted given_up ∙ ap length (sym gathered)
     ∙ as_many_outcomes_as_records records outcomes settled
+
+-- the same where others stood before them
+pub all_counted : {W : Type 0} (seen ws : List W) (tallies : List Tally) (stood outcomes : List Outcome) (records : List Record)
+    (ex : W → ℕ) (outs : W → List Outcome) (aborted given_up : W → ℕ) → seen ≡ ws →
+    tallies ≡ map (λ w. tally_of (ex w) (outs w) (aborted w) (given_up w)) seen → outcomes ≡ stood ++ flat_map outs ws →
+    IsSettled records outcomes → committed_by tallies + length stood ≡ length records
+all_counted seen ws tallies stood outcomes records ex outs aborted given_up is told gathered settled =
+    let own : committed_by tallies ≡ length (flat_map outs ws) =
+    ap committed_by (told ∙ ap (λ left. map (λ w. tally_of (ex w) (outs w) (aborted w) (given_up w)) left) is)
+    ∙ outcomes_counted ws ex outs aborted given_up in
+    omega (
+      arith,
+      own,
+      ap length gathered,
+      length-append stood (flat_map outs ws),
+      as_many_outcomes_as_records records outcomes settled,
+    )
 
 -- one worker's outcomes more are gathered
 pub more_gathered : {W O : Type 0} (old new : List W) (w : W) (done after all : List O) (outs : W → List O) → old ≡ w ∷ new →

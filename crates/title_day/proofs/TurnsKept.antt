@@ -50,7 +50,7 @@ passed_else false f r x h = absurd (cc h)
 abbrev got : Asked → Result Asked ScriptFault
 got x = Ok x
 
-same_ok : (x y : Asked) → got x ≡ got y → x ≡ y
+pub same_ok : (x y : Asked) → got x ≡ got y → x ≡ y
 same_ok x y h = cc h
 
 not_false : (b : Bool) → not b ≡ false → b ≡ true
@@ -109,7 +109,7 @@ kept_act number n asked next e (act.Post doc instrument text) h low high turn is
 within : (number e : ℕ) → nat_lt number e ≡ false → e ≤ number
 within number e h = grind (arith, nat_tests)
 
-kept_step : (number n : ℕ) (asked next : Asked) (e : ℕ) (a : Act (List ℕ)) → IsOffice number asked → 1 ≤ e
+pub kept_step : (number n : ℕ) (asked next : Asked) (e : ℕ) (a : Act (List ℕ)) → IsOffice number asked → 1 ≤ e
     → after_step_row (schedule.Office number) n asked e a ≡ Ok next → IsOffice number next
 kept_step number n asked next e a h low is =
     let first = passed (nat_lt number e) (fault.Row n) _ next is in
@@ -124,7 +124,7 @@ same_steps : (number : ℕ) (asked next : Asked) (townships : List Township) (na
 same_steps number asked next townships names h is =
     subst (λ (a : Asked). IsOffice number a) (same_ok _ next is) (record { examiners = h.examiners; turns = h.turns })
 
-kept_township : (number n : ℕ) (asked next : Asked) (found : Result Land DescFault) → IsOffice number asked
+pub kept_township : (number n : ℕ) (asked next : Asked) (found : Result Land DescFault) → IsOffice number asked
     → after_township n asked found ≡ Ok next → IsOffice number next
 kept_township number n asked next (Ok (land.Township t)) h is =
     let refused = nat_le most_townships (length asked.townships) || list_any (λ other. same_township other t) asked.townships in
@@ -134,7 +134,7 @@ kept_township number n asked next (Ok land.Everything) h is = absurd (cc is)
 kept_township number n asked next (Ok (land.Part s g)) h is = absurd (cc is)
 kept_township number n asked next (Err why) h is = absurd (cc is)
 
-kept_party : (number n : ℕ) (asked next : Asked) (name : List ℕ) → IsOffice number asked → with_party n asked name ≡ Ok next
+pub kept_party : (number n : ℕ) (asked next : Asked) (name : List ℕ) → IsOffice number asked → with_party n asked name ≡ Ok next
     → IsOffice number next
 kept_party number n asked next name h is =
     let first = passed (nat_le most_parties (length asked.names)) (fault.Row n) _ next is in
@@ -156,7 +156,7 @@ kept_row : (number n : ℕ) (asked next : Asked) (fields : List (List ℕ)) → 
 kept_row number n asked next fields h is =
     kept_found number n asked next _ (found_low (nat_le n most_rows && list_all is_utf8 fields) fields) h is
 
-went_on : {P : Type 0} (more : Asked → Result Asked ScriptFault) (next : Asked) (r : Result Asked ScriptFault)
+pub went_on : {P : Type 0} (more : Asked → Result Asked ScriptFault) (next : Asked) (r : Result Asked ScriptFault)
     → ((after : Asked) → r ≡ Ok after → more after ≡ Ok next → P) → going_on more r ≡ Ok next → P
 went_on more next (Ok after) on is = on after refl is
 went_on more next (Err e) on is = absurd (cc is)

@@ -6,3 +6,4 @@ pub mod OfficeRuns
 pub mod Dealing
 pub mod OfficeDays
 pub mod OfficeScripts
+pub mod DaysOn

@@ -9,6 +9,7 @@ ghost use Rattle.title_store.specs.Plants.{IsEachOnce};
 ghost use Rattle.title_page.specs.Pages.{Stopped, Written};
 ghost use Rattle.title_page.specs.Rows.{rows_text};
 ghost use Rattle.title_day.specs.Closings.{closed_rows, closed_text};
+ghost use Rattle.title_day.specs.DaysOn.{closing_text_on};
 ghost use Rattle.title_day.specs.OfficeReports.{closing_sheet, closing_text};
 
 use crate::tally::{Tally, put_settled, put_tallies};
@@ -71,6 +72,31 @@ pub fn close_office(
         names,
         tallies,
         records: records.as_slice().len(),
+        sheet,
+        steps,
+    })
+}
+
+/// The same where so many of the records stood before the office was opened: its own are counted, and the closing sheet is of all.
+pub fn close_office_on(
+    alloc: Global,
+    names: IndexSet<String>,
+    townships: &[Township],
+    steps: usize,
+    tallies: Vec<Tally>,
+    stood: usize,
+    records: &Records,
+) -> Result<Closing, AllocError>
+    requires once { IsEachOnce townships.now }
+    requires serial { IsSerial depth townships.now (reverse records.now) }
+    ensures text { IfOk result (λ closing. closed_text closing
+        ≡ closing_text_on townships.now (map string_bytes names.keys) steps tallies.items stood records.now) }
+{
+    let sheet = closing_sheet(alloc, townships, records)?;
+    Ok(Closing {
+        names,
+        tallies,
+        records: records.as_slice().len().saturating_sub(stood),
         sheet,
         steps,
     })

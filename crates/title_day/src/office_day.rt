@@ -25,16 +25,16 @@ use title_script::RunFault;
 
 /// What a settled office leaves: a tally for each examiner, in order, and the committed records in the order of their commits.
 #[derive(Drop)]
-pub(crate) struct Day {
+pub struct Day {
     pub tallies: Vec<Tally>,
     pub records: Records,
 }
 
 /// The number by which the office tells its own seats and slips.
-const OFFICE: u64 = 1;
+pub(crate) const OFFICE: u64 = 1;
 
 /// Nobody looks at it while its scripts run.
-const VIEWERS: u32 = 0;
+pub(crate) const VIEWERS: u32 = 0;
 
 // The fault of the first worker that has ended with one.
 fn first_fault<B: Room>(worked: &[Worked<B>]) -> Option<Fault>
@@ -60,8 +60,11 @@ fn tally<B: Room>(worked: &Worked<B>) -> Tally
     }
 }
 
-// What came of each worker's transactions.
-fn tallies<B: Room>(alloc: Global, worked: &[Worked<B>]) -> Result<Vec<Tally>, AllocError>
+/// What came of each worker's transactions.
+pub(crate) fn tallies<B: Room>(
+    alloc: Global,
+    worked: &[Worked<B>],
+) -> Result<Vec<Tally>, AllocError>
     ensures tallies { IfOk result (λ v. v.items
         ≡ map (λ w. tally_of w.examiner w.outcomes.items w.aborted w.given_up) worked.now) }
 {
@@ -72,16 +75,22 @@ fn tallies<B: Room>(alloc: Global, worked: &[Worked<B>]) -> Result<Vec<Tally>, A
     Ok(tallies)
 }
 
-// Moves the outcomes of a worker behind those of others.
-fn move_behind(gathered: &mut VecDeque<Outcome>, outcomes: Vec<Outcome>) -> Result<(), AllocError>
+/// Moves the outcomes of a worker behind those of others.
+pub(crate) fn move_behind(
+    gathered: &mut VecDeque<Outcome>,
+    outcomes: Vec<Outcome>,
+) -> Result<(), AllocError>
     ensures moved { OnOk result (gathered.new.items ≡ gathered.old.items ++ outcomes.items) }
 {
     let mut outcomes = VecDeque::from(outcomes);
     gathered.append(&mut outcomes)
 }
 
-// The outcomes of all workers.
-fn gather<B: Room>(alloc: Global, worked: Vec<Worked<B>>) -> Result<Vec<Outcome>, AllocError>
+/// The outcomes of all workers.
+pub(crate) fn gather<B: Room>(
+    alloc: Global,
+    worked: Vec<Worked<B>>,
+) -> Result<Vec<Outcome>, AllocError>
     ensures outcomes { IfOk result (λ v. v.items ≡ flat_map (λ w. w.outcomes.items) worked.items) }
 {
     let mut gathered = VecDeque::new(alloc);
@@ -93,8 +102,8 @@ fn gather<B: Room>(alloc: Global, worked: Vec<Worked<B>>) -> Result<Vec<Outcome>
     Ok(Vec::from(gathered))
 }
 
-// Runs the scripts; the fault of the first worker that has ended with one ends the day.
-fn run_scripts<B: Room + Send + Sync, T: Threads + Wait + Sync>(
+/// Runs the scripts; the fault of the first worker that has ended with one ends the day.
+pub(crate) fn run_scripts<B: Room + Send + Sync, T: Threads + Wait + Sync>(
     rt: &T,
     alloc: Global,
     office: &Office<B>,

@@ -1,15 +1,18 @@
 //! The script of an office.
 
-ghost use Rattle.std.specs.Prelude.{◌≡◌, ◌⊎◌, Err, IfErr, IfOk, length};
+ghost use Rattle.std.specs.Prelude.{◌≡◌, ◌⊎◌, All, Err, IfErr, IfOk, length};
 ghost use Rattle.title_trace.specs.Due.{MayOpen};
 ghost use Rattle.title_plan.specs.declared.fault.ScriptFault.TheVariants as fault;
 ghost use Rattle.title_plan.specs.declared.line.Schedule.TheVariants as schedule;
+ghost use Rattle.title_plan.specs.Asked.{asked_in};
 ghost use Rattle.title_plan.specs.Plans.{script_of};
+ghost use Rattle.title_day.specs.DaysOn.{IsDealtOf};
 ghost use Rattle.title_day.specs.OfficeScripts.{IsOfficeScript};
+ghost use Rattle.title_day.specs.Turns.{IsAskedBy};
 
 use crate::dealing::deal;
 use indexmap::IndexSet;
-use std::alloc::Global;
+use std::alloc::{AllocError, Global};
 use title_land::Township;
 use title_office::Script;
 use title_plan::{Plan, Schedule, ScriptFault, read_script};
@@ -45,5 +48,26 @@ pub fn read_office(alloc: Global, examiners: u32, bytes: &[u8]) -> Result<Office
         townships,
         scripts,
         steps,
+    })
+}
+
+/// What a plan asks for, dealt to so many examiners, each step being one of theirs. `Err` is Memory.
+pub fn deal_plan(alloc: Global, examiners: u32, plan: Plan) -> Result<OfficeScript, AllocError>
+    requires asked { All (IsAskedBy examiners) plan.lines.items }
+    ensures script { IfOk result (IsDealtOf examiners (asked_in plan)) }
+{
+    let Plan {
+        parties,
+        townships,
+        mut lines,
+        ..
+    } = plan;
+    let count = lines.len();
+    let scripts = deal(alloc, examiners, &mut lines)?;
+    Ok(OfficeScript {
+        parties,
+        townships,
+        scripts,
+        steps: count,
     })
 }

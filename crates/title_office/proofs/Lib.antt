@@ -7,3 +7,4 @@ pub mod Runs
 pub mod Ends
 pub mod Crossing
 pub mod Faults
+mod Fronts

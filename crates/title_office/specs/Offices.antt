@@ -65,6 +65,10 @@ opening_seats number (suc e) = opening_seats number e ++ record { number = numbe
 abbrev pub opening_sight : ℕ → Sight
 opening_sight number = record { number = number; seen = []; told = [] }
 
+-- one that is opened where records stand: it has seen none, and learnt of all of them
+abbrev pub sight_on : ℕ → List Record → Sight
+sight_on number records = record { number = number; seen = []; told = records }
+
 -- a request that publishes no record: it isn't the commit of a transaction that is open
 abbrev pub PublishesNothing : List Call → Request → Type 0
 PublishesNothing before (request.Commit e) = is_open e before ≡ false

@@ -8,6 +8,7 @@ mod gate;
 pub mod laws;
 mod office;
 mod opening;
+mod opening_on;
 mod seat;
 mod settle;
 mod slip;

@@ -1,0 +1,93 @@
+-- An office's day on top of records that stood. A list of what stood has the newest record first; the records of a day, and outcomes,
+-- have the oldest first.
+use Rattle.std.specs.Prelude.{◌≡◌, ◌+◌, ◌-◌, ℕ, suc, List, [], ◌∷◌, ◌++◌, length, map, reverse, sum, Ok}
+use Rattle.std.specs.String.{string_bytes}
+use Rattle.title_land.specs.Depth.{depth}
+use Rattle.title_land.specs.declared.place.Township.{Township}
+use Rattle.title_chain.specs.declared.record.Record.{Record}
+use Rattle.title_chain.specs.Alone.{IsSerial}
+use Rattle.title_trace.specs.declared.call.Call.{Call}
+use Rattle.title_trace.specs.Trace.{committed}
+use Rattle.title_trace.specs.Due.{IsDue, Setting}
+use Rattle.title_settle.specs.declared.outcome.Outcome.{Outcome}
+use Rattle.title_office.specs.declared.workers.Script.{Script}
+use Rattle.title_office.specs.Offices.{opening_seats}
+use Rattle.title_office.specs.Workers.{examiners_of, seat_examiners}
+use Rattle.title_plan.specs.declared.line.Line.{Line}
+use Rattle.title_plan.specs.declared.line.Schedule.TheVariants as schedule
+use Rattle.title_plan.specs.Asked.{Asked}
+use Rattle.title_plan.specs.Onto.{Before, script_onto}
+use Rattle.title_report.specs.Replies.{end_row, reply_rows}
+use Rattle.title_page.specs.Rows.{row, rows_text}
+use Rattle.title_day.specs.declared.office_script.OfficeScript.{OfficeScript}
+use Rattle.title_day.specs.declared.tally.Tally.{Tally}
+use Rattle.title_day.specs.Dealing.{AreDealt}
+use Rattle.title_day.specs.OfficeDays.{AreTold}
+use Rattle.title_day.specs.OfficeReports.{AreTallies, closing_sheet}
+use Rattle.title_day.specs.Tallies.{settled_row, tally_row}
+use Rattle.title_day.specs.Turns.{IsOffice}
+
+-- ---- scripts
+
+-- the script of an office asks for what an office does on top of what stands, too
+abbrev pub OfficesKeepTurnsOnto : Type 0
+OfficesKeepTurnsOnto =
+    (number : ℕ) (before : Before) (bytes : List ℕ) (asked : Asked) → script_onto (schedule.Office number) before bytes ≡ Ok asked
+    → IsOffice number asked
+
+-- this is what is asked for, dealt to so many examiners
+pub record IsDealtOf (number : ℕ) (asked : Asked) (script : OfficeScript) : Type 0 where
+  pub townships : script.townships.items ≡ asked.townships
+  pub names : map string_bytes script.parties.keys ≡ asked.names
+  pub steps : script.steps ≡ length asked.lines
+  pub many : length script.scripts.items ≡ number
+  pub dealt : AreDealt asked.lines 1 script.scripts.items
+
+-- scripts that were dealt to so many examiners fit the seats of an office
+abbrev pub SeatsFit : Type 0
+SeatsFit =
+    (office number : ℕ) (lines : List Line) (scripts : List Script) → length scripts ≡ number → AreDealt lines 1 scripts
+    → seat_examiners (opening_seats office number) ≡ examiners_of scripts
+
+-- what is told of them are the tallies of what was asked for, one for each
+abbrev pub ToldAreTallies : Type 0
+ToldAreTallies =
+    (lines : List Line) (scripts : List Script) (tallies : List Tally) → AreDealt lines 1 scripts → AreTold scripts tallies
+    → AreTallies lines 1 tallies × (length tallies ≡ length scripts)
+
+-- ---- what stood, as outcomes
+
+-- these records, each with its place, from a place on
+abbrev pub placed : ℕ → List Record → List Outcome
+placed n [] = []
+placed n (r ∷ records) = record { place = n; rec = r } ∷ placed (suc n) records
+
+-- ---- the day
+
+-- the records of a day go on from those that stood, and were committed in some due trace
+pub record GoesOnFrom (setting : Setting) (stood : List Record) (records : List Record) : Type 0 where
+  pub news : List Record
+  pub goes_on : reverse records ≡ news ++ stood
+  pub serial : IsSerial depth setting.townships (reverse records)
+  pub trace : List Call
+  pub due : IsDue depth setting trace
+  pub committed_are : committed trace ≡ reverse records
+
+-- what an office of so many examiners makes of what is asked for, on top of what stood
+pub record IsDayOn (number : ℕ) (asked : Asked) (stood : List Record) (tallies : List Tally) (records : List Record) : Type 0 where
+  pub goes_on : (news : List Record) × (reverse records ≡ news ++ stood)
+  pub serial : IsSerial depth asked.townships (reverse records)
+  pub many : length tallies ≡ number
+  pub tallies_are : AreTallies asked.lines 1 tallies
+  pub counted : sum (map (λ t. t.committed) tallies) + length stood ≡ length records
+
+-- the text of its report: so many records stood before, the others are counted, and the closing sheet is of all
+abbrev pub closing_text_on : List Township → (names : List (List ℕ)) → (steps : ℕ) → List Tally → (stood : ℕ) → List Record → List ℕ
+closing_text_on townships names steps tallies stood records =
+    rows_text (map tally_row tallies ++ settled_row (length records - stood) ∷ reply_rows names 0 (closing_sheet townships records))
+    ++ row (end_row steps)
+
+-- the same for what is asked for
+abbrev pub office_text_on : Asked → List Tally → (stood : ℕ) → List Record → List ℕ
+office_text_on asked tallies stood records =
+    closing_text_on asked.townships asked.names (length asked.lines) tallies stood records
