@@ -1,0 +1,3 @@
+mod Ended
+mod DaysMade
+mod OfficeEnds

@@ -1,0 +1,103 @@
+-- The script is dealt and run, its records can be written, and its report is told.
+use Rattle.std.proofs.Common.{◌≡◌, ◌∙◌, ◌≤◌, ℕ, List, ap, arith, length, map, reverse, subst, sym}
+use Rattle.std.specs.String.{string_bytes}
+use Rattle.std.proofs.lemmas.List.{length-map}
+use Rattle.title_land.specs.Depth.{depth}
+use Rattle.title_land.specs.declared.place.Township.{Township}
+use Rattle.title_chain.specs.Alone.{IsSerial}
+use Rattle.title_chain.specs.declared.record.Record.{Record}
+use Rattle.title_store.specs.Plants.{IsEachOnce}
+use Rattle.title_plan.specs.Asked.{asked_in}
+use Rattle.title_day.specs.DaysOn.{closing_text_on}
+use Rattle.title_lasting.specs.Footings.{Continues, IsNew, stands_on}
+use Rattle.title_lasting.specs.Kept.{text_in}
+use Rattle.title_kept_office.specs.OfficeDays.{IsOwnTrouble}
+use Rattle.title_kept_office.proofs.Ended.{ended_by, office_trouble, unwritten_trouble}
+use Rattle.title_kept_office.proofs.making.run_on.Goals as goal
+
+pub returns-in_err-script-clause-why : goal.returns-in_err-script-clause-why
+returns-in_err-script-clause-why g c = ended_by IsOwnTrouble _ c.from_residual.result c.from_residual.ensures.1 tt
+
+pub run_day_on-requires-clause-townships : goal.run_day_on-requires-clause-townships
+run_day_on-requires-clause-townships g c κs within =
+    c.as_slice-places.ensures.value ∙ c.in_ok-script.ensures.script.townships ∙ sym c.requires.plant
+
+pub run_day_on-requires-clause-once : goal.run_day_on-requires-clause-once
+run_day_on-requires-clause-once g c κs within =
+    subst IsEachOnce (sym (c.as_slice-places.ensures.value ∙ c.in_ok-script.ensures.script.townships)) c.requires.once
+
+pub run_day_on-requires-clause-fits : goal.run_day_on-requires-clause-fits
+run_day_on-requires-clause-fits g c κs within =
+    let script = c.in_ok-script.ensures.script in
+    c.dealt_scripts_fit.ensures.seats 1 c.args.examiners (asked_in c.args.plan).lines c.in_ok-script.script.scripts.items script.many
+    script.dealt
+
+pub returns-in_err-day-clause-why : goal.returns-in_err-day-clause-why
+returns-in_err-day-clause-why g c =
+    ended_by IsOwnTrouble _ c.from_residual-in_err-day.result c.from_residual-in_err-day.ensures.1
+    (office_trouble c.in_err-day.field-0.0 c.in_err-day.ensures.why)
+
+pub day_block-requires : goal.day_block-requires
+day_block-requires g c =
+    let script = c.in_ok-script.ensures.script in
+    let places = c.as_slice-places.ensures.value ∙ script.townships in
+    let names : length c.in_ok-script.script.parties.keys ≡ length c.args.plan.parties.keys =
+    omega (
+      arith,
+      ap length script.names,
+      length-map c.in_ok-script.script.parties.keys string_bytes,
+      length-map c.args.plan.parties.keys string_bytes,
+    ) in
+    record {
+      townships = subst (λ (ts : List Township). c.args.stood.townships ≤ length ts) (sym places) c.requires.townships;
+      parties = omega (arith, c.requires.parties, names);
+      stood = c.requires.stood;
+      kept = omega (arith, c.requires.kept, c.in_ok-day.ensures.counted, ap length c.as_slice-records.ensures.slice);
+    }
+
+pub returns-in_err-block-clause-why : goal.returns-in_err-block-clause-why
+returns-in_err-block-clause-why g c =
+    ended_by IsOwnTrouble _ c.from_residual-in_err-block.result c.from_residual-in_err-block.ensures.1
+    (unwritten_trouble c.in_err-block.field-0.0)
+
+pub close_office_on-requires : goal.close_office_on-requires
+close_office_on-requires g c =
+    let places = c.as_slice-places.ensures.value ∙ c.in_ok-script.ensures.script.townships in
+    record {
+      once = subst IsEachOnce (sym places) c.requires.once;
+      serial = subst (λ (ts : List Township). IsSerial depth ts (reverse c.in_ok-day.day.records)) (c.requires.plant ∙ sym places)
+          c.in_ok-day.ensures.begins.serial;
+    }
+
+pub returns-in_err-closing-clause-why : goal.returns-in_err-closing-clause-why
+returns-in_err-closing-clause-why g c =
+    ended_by IsOwnTrouble _ c.from_residual-in_err-closing.result c.from_residual-in_err-closing.ensures.1 tt
+
+pub returns-clause-run : goal.returns-clause-run
+returns-clause-run g c =
+    let script = c.in_ok-script.ensures.script in
+    let asked = asked_in c.args.plan in
+    let places = c.as_slice-places.ensures.value ∙ script.townships in
+    let tallies = c.in_ok-day.day.tallies.items in
+    let records = c.in_ok-day.day.records in
+    let told = c.dealt_scripts_fit.ensures.tallies asked.lines c.in_ok-script.script.scripts.items tallies script.dealt
+    c.in_ok-day.ensures.told in
+    record {
+      tallies = tallies;
+      records = records;
+      goes_on = c.in_ok-day.ensures.begins;
+      many = told.1 ∙ script.many;
+      tallies_are = told.0;
+      counted = c.in_ok-day.ensures.counted;
+      report = c.in_ok-closing.ensures.text
+          ∙ ap (λ (ts : List Township). closing_text_on ts (map string_bytes c.in_ok-script.script.parties.keys)
+          c.in_ok-script.script.steps tallies c.args.kept records) places
+          ∙ ap (λ (ns : List (List ℕ)). closing_text_on asked.townships ns c.in_ok-script.script.steps tallies c.args.kept records)
+          script.names
+          ∙ ap (λ (n : ℕ). closing_text_on asked.townships asked.names n tallies c.args.kept records) script.steps
+          ∙ ap (λ (n : ℕ). closing_text_on asked.townships asked.names (length asked.lines) tallies n records) (sym c.requires.stood);
+      adds = λ before on so_much.
+          subst (λ (rs : List Record). IsNew (text_in c.in_ok-block.block) before (stands_on asked rs)) c.as_slice-records.ensures.slice
+          (c.in_ok-block.ensures.adds before asked
+          (subst (λ (rs : List Record). Continues before asked rs) (sym c.as_slice-records.ensures.slice) on) so_much places script.names);
+    }

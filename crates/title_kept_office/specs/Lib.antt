@@ -1,0 +1,4 @@
+pub mod Faults
+pub mod OfficeDays
+pub mod Makings
+pub mod OfficeLastings

@@ -1,0 +1,26 @@
+-- What an office comes to that is run on a desk which has served what stood.
+use Rattle.std.specs.Prelude.{◌≡◌, ◌+◌, ℕ, List, length, map, sum}
+use Rattle.title_chain.specs.declared.record.Record.{Record}
+use Rattle.title_trace.specs.Trace.{committed}
+use Rattle.title_desk.specs.Told.{Books}
+use Rattle.title_plan.specs.Asked.{Asked}
+use Rattle.title_daybook.specs.Standing.{Standing}
+use Rattle.title_daybook.specs.declared.writing.Stood.{Stood}
+use Rattle.title_day.specs.declared.tally.Tally.{Tally}
+use Rattle.title_day.specs.Closings.{closed_text}
+use Rattle.title_day.specs.DaysOn.{GoesOnFrom, office_text_on}
+use Rattle.title_day.specs.OfficeReports.{AreTallies}
+use Rattle.title_lasting.specs.Footings.{Continues, HasStood, IsNew, stands_on}
+use Rattle.title_lasting.specs.Kept.{text_in}
+use Rattle.title_kept_office.specs.declared.making.Made.{Made}
+
+pub record IsRunOn (number : ℕ) (asked : Asked) (desk : Books) (stood : Stood) (made : Made) : Type 0 where
+  pub tallies : List Tally
+  pub records : List Record
+  pub goes_on : GoesOnFrom desk.setting (committed desk.trace) records
+  pub many : length tallies ≡ number
+  pub tallies_are : AreTallies asked.lines 1 tallies
+  pub counted : sum (map (λ t. t.committed) tallies) + length (committed desk.trace) ≡ length records
+  pub report : closed_text made.closing ≡ office_text_on asked tallies stood.records records
+  pub adds : (before : Standing) → Continues before asked records → HasStood stood before
+      → IsNew (text_in made.block) before (stands_on asked records)
