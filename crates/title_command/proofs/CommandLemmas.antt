@@ -82,9 +82,11 @@ tract_level words e =
         let bad = rw is at ok in
         absurd (cc)
 
--- a number from 1 to its most fits each option of `office`
+-- a number from 1 to its most fits the two numbers of `office`, and one of 64 bits the expected place
 abbrev numbers : Fit
-numbers id text = (id ≡ codes "examiners" → IsUnsignedIn 1 most_examiners text) × (id ≡ codes "tries" → IsUnsignedIn 1 most_tries text)
+numbers id text =
+    (id ≡ codes "examiners" → IsUnsignedIn 1 most_examiners text) × (id ≡ codes "tries" → IsUnsignedIn 1 most_tries text)
+    × (id ≡ codes "after" → IsUnsignedIn 0 most_place text)
 
 -- a text that a parser of numbers lets through is such a number
 passes : (low high : ℕ) (text : Text) → value_kinds false (Unsigned low high) text ≡ [] → IsUnsignedIn low high text
@@ -97,27 +99,60 @@ passes low high text e = go (accepts false (Unsigned low high) text) refl e
 
 -- so the parser of each option lets through what fits it
 examiners_pass : (text : Text) → value_kinds false (Unsigned 1 most_examiners) text ≡ [] → numbers (codes "examiners") text
-examiners_pass text ok = ((λ same. passes 1 most_examiners text ok), (λ same. absurd (cc)))
+examiners_pass text ok = (
+  (λ same. passes 1 most_examiners text ok),
+  (λ same. absurd (differ (codes "examiners") (codes "tries") refl same)),
+  (λ same. absurd (differ (codes "examiners") (codes "after") refl same)),
+)
 
 tries_pass : (text : Text) → value_kinds false (Unsigned 1 most_tries) text ≡ [] → numbers (codes "tries") text
-tries_pass text ok = ((λ same. absurd (cc)), (λ same. passes 1 most_tries text ok))
+tries_pass text ok = (
+  (λ same. absurd (differ (codes "tries") (codes "examiners") refl same)),
+  (λ same. passes 1 most_tries text ok),
+  (λ same. absurd (differ (codes "tries") (codes "after") refl same)),
+)
 
--- `office` without a fault has its numbers
+office_plant_passes : (text : Text) → numbers (codes "plant") text
+office_plant_passes text = (
+  (λ same. absurd (differ (codes "plant") (codes "examiners") refl same)),
+  (λ same. absurd (differ (codes "plant") (codes "tries") refl same)),
+  (λ same. absurd (differ (codes "plant") (codes "after") refl same)),
+)
+
+office_place_passes : (text : Text) → value_kinds false (Unsigned 0 most_place) text ≡ [] → numbers (codes "after") text
+office_place_passes text ok = (
+  (λ same. absurd (differ (codes "after") (codes "examiners") refl same)),
+  (λ same. absurd (differ (codes "after") (codes "tries") refl same)),
+  (λ same. passes 0 most_place text ok),
+)
+
+-- `office` without a fault has its numbers, and its place, if it has one
 office_level : Level (at 2)
 office_level words e =
     let rows = rows_after (at 2).rules [] words in
     let rules : Each (KeepsValues numbers) (at 2).rules = (
       inl (refl, le_refl 1, refl, examiners_pass, (examiners_pass default_examiners refl, tt)),
-      (inl (refl, le_refl 1, refl, tries_pass, (tries_pass default_tries refl, tt)), (inr (inr (refl, refl)), tt)),
+      (
+        inl (refl, le_refl 1, refl, tries_pass, (tries_pass default_tries refl, tt)),
+        (
+          inl (refl, le_refl 1, refl, (λ v ok. office_plant_passes v), tt),
+          (inl (refl, le_refl 1, refl, office_place_passes, tt), (inr (inr (refl, refl)), tt)),
+        ),
+      ),
     ) in
     let kept = level_keeps numbers (at 2) words rules e in
     let gives = level_gives (at 2).rules words in
     let examiners = first_read numbers (codes "examiners") rows (gives.0 (le_refl 1)) kept.0 in
     let tries = first_read numbers (codes "tries") rows (gives.1.0 (le_refl 1)) kept.0 in
+    let place : MayHavePlace rows = elim (maybe_read numbers (codes "after") rows kept.0) [
+      | inl none ↦ inl none
+      | inr read ↦ inr (read.0, read.1, read.2, read.3.2 refl)
+    ] in
     inr (inr (inl (
       refl,
       (examiners.0, examiners.1, examiners.2, examiners.3.0 refl),
       (tries.0, tries.1, tries.2, tries.3.1 refl),
+      place,
     )))
 
 -- a number of 64 bits fits the expected place
@@ -143,12 +178,73 @@ place_rules = (
 run_level : Level (at 0)
 run_level words e = inl (refl, place_rows (at 0) place_rules words e)
 
-alone_level : Level (at 1)
-alone_level words e = inr (inl (refl, place_rows (at 1) place_rules words e))
+-- a number of 64 bits fits the place that `alone` expects, and the text of true or of false its flag
+abbrev looks : Fit
+looks id text = (id ≡ codes "after" → IsUnsignedIn 0 most_place text) × (id ≡ codes "look" → (b : Bool) × (text ≡ bool_text b))
 
--- `desk` may have a file, and wants nothing
+looks_flag : (b : Bool) → looks (codes "look") (bool_text b)
+looks_flag b = ((λ same. absurd (differ (codes "look") (codes "after") refl same)), (λ same. (b, refl)))
+
+looks_place : (text : Text) → value_kinds false (Unsigned 0 most_place) text ≡ [] → looks (codes "after") text
+looks_place text ok = ((λ same. passes 0 most_place text ok), (λ same. absurd (differ (codes "after") (codes "look") refl same)))
+
+looks_plant : (text : Text) → looks (codes "plant") text
+looks_plant text = (
+  (λ same. absurd (differ (codes "plant") (codes "after") refl same)),
+  (λ same. absurd (differ (codes "plant") (codes "look") refl same)),
+)
+
+-- `alone` without a fault has its place, if it has one, and its flag
+alone_level : Level (at 1)
+alone_level words e =
+    let rows = rows_after (at 1).rules [] words in
+    let rules : Each (KeepsValues looks) (at 1).rules = (
+      inl (refl, le_refl 1, refl, (λ v ok. looks_plant v), tt),
+      (
+        inl (refl, le_refl 1, refl, looks_place, tt),
+        (
+          inr (inl (refl, (refl, refl), refl, (le_refl 1, (looks_flag true, tt)), (looks_flag false, tt))),
+          (inr (inr (refl, refl)), tt),
+        ),
+      ),
+    ) in
+    let kept = level_keeps looks (at 1) words rules e in
+    let gives = level_gives (at 1).rules words in
+    let look = first_read looks (codes "look") rows (gives.1.1.0 (le_refl 1)) kept.0 in
+    let flag = look.3.1 refl in
+    let place : MayHavePlace rows = elim (maybe_read looks (codes "after") rows kept.0) [
+      | inl none ↦ inl none
+      | inr read ↦ inr (read.0, read.1, read.2, read.3.0 refl)
+    ] in
+    inr (inl (
+      refl,
+      place,
+      (flag.0, look.1 ∙ ap (λ (t : Text). Some t) flag.1, look.2 ∙ ap (λ (t : Text). Some t) flag.1),
+    ))
+
+-- the text of true or of false fits the flag of `desk`
+abbrev desk_looks : Fit
+desk_looks id text = id ≡ codes "look" → (b : Bool) × (text ≡ bool_text b)
+
+-- `desk` without a fault has its flag
 desk_level : Level (at 3)
-desk_level words e = inr (inr (inr (inl refl)))
+desk_level words e =
+    let rows = rows_after (at 3).rules [] words in
+    let rules : Each (KeepsValues desk_looks) (at 3).rules = (
+      inl (refl, le_refl 1, refl, (λ v ok same. absurd (differ (codes "plant") (codes "look") refl same)), tt),
+      (
+        inr (inl (refl, (refl, refl), refl, (le_refl 1, ((λ same. (true, refl)), tt)), ((λ same. (false, refl)), tt))),
+        (inr (inr (refl, refl)), tt),
+      ),
+    ) in
+    let kept = level_keeps desk_looks (at 3) words rules e in
+    let gives = level_gives (at 3).rules words in
+    let look = first_read desk_looks (codes "look") rows (gives.1.0 (le_refl 1)) kept.0 in
+    let flag = look.3 refl in
+    inr (inr (inr (inl (
+      refl,
+      (flag.0, look.1 ∙ ap (λ (t : Text). Some t) flag.1, look.2 ∙ ap (λ (t : Text). Some t) flag.1),
+    ))))
 
 -- the text of true or of false fits the flag
 abbrev flags : Fit
@@ -254,7 +350,7 @@ run_reads name rows is (inr (inl other)) =
 run_reads name rows is (inr (inr (inl other))) =
     absurd (clash name (codes "run") (codes "office") is refl other.0)
 run_reads name rows is (inr (inr (inr (inl desk)))) =
-    absurd (clash name (codes "run") (codes "desk") is refl desk)
+    absurd (clash name (codes "run") (codes "desk") is refl desk.0)
 run_reads name rows is (inr (inr (inr (inr (inl other))))) =
     absurd (clash name (codes "run") (codes "tract") is refl other.0)
 run_reads name rows is (inr (inr (inr (inr (inr other))))) =
@@ -262,14 +358,14 @@ run_reads name rows is (inr (inr (inr (inr (inr other))))) =
 
 -- and of one that is `alone`
 pub alone_reads : (name : Text) (rows : List Row) → true ≡ bytes_eq name (codes "alone") → IsReadable name rows
-    → (name ≡ codes "alone") × MayHavePlace rows
+    → (name ≡ codes "alone") × MayHavePlace rows × HasFlag (codes "look") rows
 alone_reads name rows is (inl other) =
     absurd (clash name (codes "alone") (codes "run") is refl other.0)
 alone_reads name rows is (inr (inl alone)) = alone
 alone_reads name rows is (inr (inr (inl other))) =
     absurd (clash name (codes "alone") (codes "office") is refl other.0)
 alone_reads name rows is (inr (inr (inr (inl desk)))) =
-    absurd (clash name (codes "alone") (codes "desk") is refl desk)
+    absurd (clash name (codes "alone") (codes "desk") is refl desk.0)
 alone_reads name rows is (inr (inr (inr (inr (inl other))))) =
     absurd (clash name (codes "alone") (codes "tract") is refl other.0)
 alone_reads name rows is (inr (inr (inr (inr (inr other))))) =
@@ -278,13 +374,14 @@ alone_reads name rows is (inr (inr (inr (inr (inr other))))) =
 -- and of one that is `office`
 pub office_reads : (name : Text) (rows : List Row) → true ≡ bytes_eq name (codes "office") → IsReadable name rows
     → (name ≡ codes "office") × HasNumber (codes "examiners") most_examiners rows × HasNumber (codes "tries") most_tries rows
+    × MayHavePlace rows
 office_reads name rows is (inl other) =
     absurd (clash name (codes "office") (codes "run") is refl other.0)
 office_reads name rows is (inr (inl other)) =
     absurd (clash name (codes "office") (codes "alone") is refl other.0)
 office_reads name rows is (inr (inr (inl office))) = office
 office_reads name rows is (inr (inr (inr (inl desk)))) =
-    absurd (clash name (codes "office") (codes "desk") is refl desk)
+    absurd (clash name (codes "office") (codes "desk") is refl desk.0)
 office_reads name rows is (inr (inr (inr (inr (inl other))))) =
     absurd (clash name (codes "office") (codes "tract") is refl other.0)
 office_reads name rows is (inr (inr (inr (inr (inr other))))) =
@@ -300,14 +397,25 @@ check_reads name rows is (inr (inl other)) =
 check_reads name rows is (inr (inr (inl other))) =
     absurd (clash name (codes "check") (codes "office") is refl other.0)
 check_reads name rows is (inr (inr (inr (inl desk)))) =
-    absurd (clash name (codes "check") (codes "desk") is refl desk)
+    absurd (clash name (codes "check") (codes "desk") is refl desk.0)
 check_reads name rows is (inr (inr (inr (inr (inl other))))) =
     absurd (clash name (codes "check") (codes "tract") is refl other.0)
 check_reads name rows is (inr (inr (inr (inr (inr check))))) = check
 
--- a name that is `desk` by the test is that name
-pub desk_is : (name : Text) → true ≡ bytes_eq name (codes "desk") → name ≡ codes "desk"
-desk_is name is = (bytes_eq-Decides name (codes "desk")).0 (sym is)
+-- and of one that is `desk`
+pub desk_reads : (name : Text) (rows : List Row) → true ≡ bytes_eq name (codes "desk") → IsReadable name rows
+    → (name ≡ codes "desk") × HasFlag (codes "look") rows
+desk_reads name rows is (inl other) =
+    absurd (clash name (codes "desk") (codes "run") is refl other.0)
+desk_reads name rows is (inr (inl other)) =
+    absurd (clash name (codes "desk") (codes "alone") is refl other.0)
+desk_reads name rows is (inr (inr (inl other))) =
+    absurd (clash name (codes "desk") (codes "office") is refl other.0)
+desk_reads name rows is (inr (inr (inr (inl desk)))) = desk
+desk_reads name rows is (inr (inr (inr (inr (inl other))))) =
+    absurd (clash name (codes "desk") (codes "tract") is refl other.0)
+desk_reads name rows is (inr (inr (inr (inr (inr other))))) =
+    absurd (clash name (codes "desk") (codes "check") is refl other.0)
 
 -- a name that is none of these is that of `tract`
 pub tract_reads : (name : Text) (rows : List Row) → false ≡ bytes_eq name (codes "run") → false ≡ bytes_eq name (codes "alone")
@@ -318,7 +426,7 @@ tract_reads name rows not_run not_alone not_office not_desk not_check (inr (inl 
 tract_reads name rows not_run not_alone not_office not_desk not_check (inr (inr (inl is))) =
     absurd (differ name (codes "office") not_office is.0)
 tract_reads name rows not_run not_alone not_office not_desk not_check (inr (inr (inr (inl is)))) =
-    absurd (differ name (codes "desk") not_desk is)
+    absurd (differ name (codes "desk") not_desk is.0)
 tract_reads name rows not_run not_alone not_office not_desk not_check (inr (inr (inr (inr (inl is))))) = is
 tract_reads name rows not_run not_alone not_office not_desk not_check (inr (inr (inr (inr (inr is))))) =
     absurd (differ name (codes "check") not_check is.0)
@@ -377,14 +485,14 @@ place_said rows n (text, first, numeral, is) = ap is_some first
 -- ---- the flag
 
 -- the flag is read as the words say
-pub flag_read : (found : Found) (got : Bool) → HasFlag (codes "script") (rows_of found)
-    → (one_text found (codes "script") ≡ Some (codes "true") → got ≡ true)
-    → (one_text found (codes "script") ≡ Some (codes "false") → got ≡ false)
-    → first_of (codes "script") (rows_of found) ≡ Some (bool_text got)
-flag_read found got (true, first, one) is isnt =
-    first ∙ ap (λ (b : Bool). Some (bool_text b)) (sym (is (one_text-rows found (codes "script") ∙ one)))
-flag_read found got (false, first, one) is isnt =
-    first ∙ ap (λ (b : Bool). Some (bool_text b)) (sym (isnt (one_text-rows found (codes "script") ∙ one)))
+pub flag_read : (id : Text) (found : Found) (got : Bool) → HasFlag id (rows_of found)
+    → (one_text found id ≡ Some (codes "true") → got ≡ true)
+    → (one_text found id ≡ Some (codes "false") → got ≡ false)
+    → first_of id (rows_of found) ≡ Some (bool_text got)
+flag_read id found got (true, first, one) is isnt =
+    first ∙ ap (λ (b : Bool). Some (bool_text b)) (sym (is (one_text-rows found id ∙ one)))
+flag_read id found got (false, first, one) is isnt =
+    first ∙ ap (λ (b : Bool). Some (bool_text b)) (sym (isnt (one_text-rows found id ∙ one)))
 
 -- ---- the fault that stands for an error
 

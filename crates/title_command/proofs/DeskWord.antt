@@ -1,13 +1,14 @@
 -- What the word `desk` says.
-use Rattle.std.proofs.Common.{◌≡◌, ◌∙◌, ◌∷◌, List, [], Some, None, refl, sym, codes, true≢false}
+use Rattle.std.proofs.Common.{◌≡◌, ◌∙◌, ◌∷◌, List, [], Some, None, refl, sym, codes}
 use Rattle.clap.proofs.OnLiterals.{clap_on_literals}
 use Rattle.clap.specs.Walk.{Row, Text, first_of, rows_after}
 use Rattle.title_command.specs.declared.choice.Line.{Line}
-use Rattle.title_command.specs.declared.choice.Line.TheVariants.{Run, Alone, Office, Desk, Tract, Kept, KeptDesk, Check}
+use Rattle.title_command.specs.declared.choice.Line.TheVariants.{Run, Alone, Office, Desk, Tract, Kept, KeptDesk, KeptOffice}
+use Rattle.title_command.specs.declared.choice.Line.TheVariants.{Look, LookDesk, Check}
 use Rattle.title_command.specs.declared.choice.Work.TheVariants as work
-use Rattle.title_command.specs.CommandLine.{DeskByWord, DeskOnPlant, DeskWithMore, IsDeskOn, IsLine}
+use Rattle.title_command.specs.CommandLine.{DeskByWord, DeskOnPlant, DeskWithMore, IsDeskOn, IsLine, IsUnlooked}
 use Rattle.title_command.proofs.CommandLemmas.{at, differ}
-use Rattle.title_command.proofs.KeptWords.{named_is}
+use Rattle.title_command.proofs.KeptWords.{named_is, not_both}
 
 -- the line of the word is a desk, where no plant is named
 is_desk : (rows : List Row) → first_of (codes "plant") rows ≡ None → (line : Line) → IsLine (codes "desk") rows line → line ≡ Desk
@@ -21,22 +22,30 @@ is_desk rows none (Kept plant after work.Alone) is = absurd (differ (codes "desk
 is_desk rows none (KeptDesk plant) is =
     let both : None ≡ Some plant.now = sym none ∙ is.1 in
     absurd (cc)
+is_desk rows none (KeptOffice plant after e t) is = absurd (differ (codes "desk") (codes "office") refl is.0)
+is_desk rows none (Look plant after) is = absurd (differ (codes "desk") (codes "alone") refl is.0)
+is_desk rows none (LookDesk plant) is =
+    let both : None ≡ Some plant.now = sym none ∙ is.1 in
+    absurd (cc)
 is_desk rows none (Check file as_script) is = absurd (differ (codes "desk") (codes "check") refl is.0)
 
 -- and where one is named, it is a desk on top of that
-is_on_plant : (rows : List Row) (plant : Text) → first_of (codes "plant") rows ≡ Some plant → (line : Line)
+is_on_plant : (rows : List Row) (plant : Text) → first_of (codes "plant") rows ≡ Some plant → IsUnlooked rows → (line : Line)
     → IsLine (codes "desk") rows line → IsDeskOn plant line
-is_on_plant rows plant some Run is = absurd (differ (codes "desk") (codes "run") refl is.0)
-is_on_plant rows plant some Alone is = absurd (differ (codes "desk") (codes "alone") refl is.0)
-is_on_plant rows plant some (Office e t) is = absurd (differ (codes "desk") (codes "office") refl is.0)
-is_on_plant rows plant some Desk is =
+is_on_plant rows plant some keeps Run is = absurd (differ (codes "desk") (codes "run") refl is.0)
+is_on_plant rows plant some keeps Alone is = absurd (differ (codes "desk") (codes "alone") refl is.0)
+is_on_plant rows plant some keeps (Office e t) is = absurd (differ (codes "desk") (codes "office") refl is.0)
+is_on_plant rows plant some keeps Desk is =
     let both : None ≡ Some plant = sym is.1 ∙ some in
     absurd (cc)
-is_on_plant rows plant some (Tract text) is = absurd (differ (codes "desk") (codes "tract") refl is.0)
-is_on_plant rows plant some (Kept named after work.Run) is = absurd (differ (codes "desk") (codes "run") refl is.0)
-is_on_plant rows plant some (Kept named after work.Alone) is = absurd (differ (codes "desk") (codes "alone") refl is.0)
-is_on_plant rows plant some (KeptDesk named) is = named_is rows plant named.now some is.1
-is_on_plant rows plant some (Check file as_script) is = absurd (differ (codes "desk") (codes "check") refl is.0)
+is_on_plant rows plant some keeps (Tract text) is = absurd (differ (codes "desk") (codes "tract") refl is.0)
+is_on_plant rows plant some keeps (Kept named after work.Run) is = absurd (differ (codes "desk") (codes "run") refl is.0)
+is_on_plant rows plant some keeps (Kept named after work.Alone) is = absurd (differ (codes "desk") (codes "alone") refl is.0)
+is_on_plant rows plant some keeps (KeptDesk named) is = named_is rows plant named.now some is.1
+is_on_plant rows plant some keeps (KeptOffice named after e t) is = absurd (differ (codes "desk") (codes "office") refl is.0)
+is_on_plant rows plant some keeps (Look named after) is = absurd (differ (codes "desk") (codes "alone") refl is.0)
+is_on_plant rows plant some keeps (LookDesk named) is = absurd (not_both rows keeps is.2)
+is_on_plant rows plant some keeps (Check file as_script) is = absurd (differ (codes "desk") (codes "check") refl is.0)
 
 -- the word alone
 pub by_word : DeskByWord
@@ -47,9 +56,14 @@ by_word = (refl, λ line is. is_desk (rows_after (at 3).rules [] []) refl line i
 pub on_plant : DeskOnPlant
 unfolding clap_on_literals
 on_plant = (
-  (refl, λ lacks. absurd (true≢false (sym lacks.0))),
+  (
+    refl,
+    λ lacks.
+        let both : Some (codes "county.plant") ≡ None = lacks.1 in
+        absurd (cc),
+  ),
   λ line is. is_on_plant
-      (rows_after (at 3).rules [] (codes "--plant" ∷ codes "county.plant" ∷ [])) (codes "county.plant") refl line is,
+      (rows_after (at 3).rules [] (codes "--plant" ∷ codes "county.plant" ∷ [])) (codes "county.plant") refl refl line is,
 )
 
 -- a place behind it

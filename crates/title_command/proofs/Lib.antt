@@ -4,3 +4,5 @@ mod CommandLemmas
 mod OfficeWords
 mod KeptWords
 mod DeskWord
+mod LookWords
+mod KeptOfficeWords

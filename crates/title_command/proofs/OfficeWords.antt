@@ -1,12 +1,13 @@
 -- What some words of the command `office` say.
-use Rattle.std.proofs.Common.{◌≡◌, ◌∙◌, List, [], ◌∷◌, Option, Some, ℕ, refl, sym, ap, ap₂, codes}
+use Rattle.std.proofs.Common.{◌≡◌, ◌∙◌, List, [], ◌∷◌, Option, Some, None, ℕ, refl, sym, ap, ap₂, codes}
 use Rattle.std.specs.Prelude.{unwrap_or}
 use Rattle.std.specs.Str.Parse.{digits_value, without_leading_plus}
 use Rattle.clap.proofs.OnLiterals.{clap_on_literals}
 use Rattle.clap.specs.Walk.{Row, Text, first_of, rows_after}
 use Rattle.clap.specs.declared.error.kind.ErrorKind.TheVariants.{ArgumentConflict, UnknownArgument, ValueValidation}
 use Rattle.title_command.specs.declared.choice.Line.{Line}
-use Rattle.title_command.specs.declared.choice.Line.TheVariants.{Run, Alone, Office, Desk, Tract, Kept, KeptDesk, Check}
+use Rattle.title_command.specs.declared.choice.Line.TheVariants.{Run, Alone, Office, Desk, Tract, Kept, KeptDesk, KeptOffice}
+use Rattle.title_command.specs.declared.choice.Line.TheVariants.{Look, LookDesk, Check}
 use Rattle.title_command.specs.declared.choice.Work.TheVariants as work
 use Rattle.title_command.specs.CommandLine.{IsLine, IsNumberOf, OfficeAtMost, OfficeByDefault, Refuses}
 use Rattle.title_command.proofs.CommandLemmas.{at, differ}
@@ -22,23 +23,31 @@ number_is id rows text n first (other, same, numeral, is) =
 
 -- the line of an office with these texts has their numbers
 office_is : (rows : List Row) (examiners tries : Text) → first_of (codes "examiners") rows ≡ Some examiners
-    → first_of (codes "tries") rows ≡ Some tries → (line : Line) → IsLine (codes "office") rows line
-    → line ≡ Office (number examiners) (number tries)
-office_is rows examiners tries first second Run is = absurd (differ (codes "office") (codes "run") refl is.0)
-office_is rows examiners tries first second Alone is = absurd (differ (codes "office") (codes "alone") refl is.0)
-office_is rows examiners tries first second (Office e t) is =
+    → first_of (codes "tries") rows ≡ Some tries → first_of (codes "plant") rows ≡ None → (line : Line)
+    → IsLine (codes "office") rows line → line ≡ Office (number examiners) (number tries)
+office_is rows examiners tries first second plantless Run is = absurd (differ (codes "office") (codes "run") refl is.0)
+office_is rows examiners tries first second plantless Alone is = absurd (differ (codes "office") (codes "alone") refl is.0)
+office_is rows examiners tries first second plantless (Office e t) is =
     ap₂ Office (number_is (codes "examiners") rows examiners e first is.1) (number_is (codes "tries") rows tries t second is.2)
-office_is rows examiners tries first second Desk is = absurd (differ (codes "office") (codes "desk") refl is.0)
-office_is rows examiners tries first second (KeptDesk plant) is = absurd (differ (codes "office") (codes "desk") refl is.0)
-office_is rows examiners tries first second (Tract text) is = absurd (differ (codes "office") (codes "tract") refl is.0)
-office_is rows examiners tries first second (Kept plant after work.Run) is = absurd (differ (codes "office") (codes "run") refl is.0)
-office_is rows examiners tries first second (Kept plant after work.Alone) is = absurd (differ (codes "office") (codes "alone") refl is.0)
-office_is rows examiners tries first second (Check file as_script) is = absurd (differ (codes "office") (codes "check") refl is.0)
+office_is rows examiners tries first second plantless Desk is = absurd (differ (codes "office") (codes "desk") refl is.0)
+office_is rows examiners tries first second plantless (KeptDesk plant) is = absurd (differ (codes "office") (codes "desk") refl is.0)
+office_is rows examiners tries first second plantless (Look plant after) is = absurd (differ (codes "office") (codes "alone") refl is.0)
+office_is rows examiners tries first second plantless (LookDesk plant) is = absurd (differ (codes "office") (codes "desk") refl is.0)
+office_is rows examiners tries first second plantless (KeptOffice plant after e t) is =
+    let both : None ≡ Some plant.now = sym plantless ∙ is.1 in
+    absurd (cc)
+office_is rows examiners tries first second plantless (Tract text) is = absurd (differ (codes "office") (codes "tract") refl is.0)
+office_is rows examiners tries first second plantless (Kept plant after work.Run) is =
+    absurd (differ (codes "office") (codes "run") refl is.0)
+office_is rows examiners tries first second plantless (Kept plant after work.Alone) is =
+    absurd (differ (codes "office") (codes "alone") refl is.0)
+office_is rows examiners tries first second plantless (Check file as_script) is =
+    absurd (differ (codes "office") (codes "check") refl is.0)
 
 -- `office` alone
 pub by_default : OfficeByDefault
 unfolding clap_on_literals
-by_default = (refl, λ line is. office_is (rows_after (at 2).rules [] []) (codes "2") (codes "100") refl refl line is)
+by_default = (refl, λ line is. office_is (rows_after (at 2).rules [] []) (codes "2") (codes "100") refl refl refl line is)
 
 -- `office` with the most of both
 pub at_most : OfficeAtMost
@@ -47,7 +56,7 @@ at_most = (
   refl,
   λ line is. office_is
       (rows_after (at 2).rules [] (codes "--examiners" ∷ codes "64" ∷ codes "--tries" ∷ codes "10000" ∷ []))
-      (codes "64") (codes "10000") refl refl line is,
+      (codes "64") (codes "10000") refl refl refl line is,
 )
 
 -- numbers out of range

@@ -12,7 +12,8 @@ use Rattle.clap.specs.declared.builder.value_parser.ValueParser.TheVariants.{Uns
 use Rattle.clap.specs.declared.error.kind.ErrorKind.{ErrorKind}
 use Rattle.clap.specs.declared.error.kind.ErrorKind.TheVariants.{DisplayHelp, OutOfMemory, UnknownArgument}
 use Rattle.title_command.specs.declared.choice.Line.{Line}
-use Rattle.title_command.specs.declared.choice.Line.TheVariants.{Run, Alone, Office, Desk, Tract, Kept, KeptDesk, Check}
+use Rattle.title_command.specs.declared.choice.Line.TheVariants.{Run, Alone, Office, Desk, Tract, Kept, KeptDesk, KeptOffice}
+use Rattle.title_command.specs.declared.choice.Line.TheVariants.{Look, LookDesk, Check}
 use Rattle.title_command.specs.declared.choice.Work.{Work}
 use Rattle.title_command.specs.declared.choice.Work.TheVariants as work
 use Rattle.title_command.specs.declared.choice.LineFault.{LineFault}
@@ -37,6 +38,10 @@ after_rule = record (new_rule (codes "after")) {
   value_names = 1;
 }
 
+-- whether what stands there is only looked at
+abbrev pub look_rule : Rule
+look_rule = record (new_rule (codes "look")) { long = Some (codes "look"); action = Some SetTrue }
+
 -- these two options may follow a command that serves a script
 abbrev pub serving : Text → Shape
 serving name = record (new_shape name) { rules = plant_rule ∷ after_rule ∷ [] }
@@ -44,8 +49,9 @@ serving name = record (new_shape name) { rules = plant_rule ∷ after_rule ∷ [
 abbrev pub run : Shape
 run = serving (codes "run")
 
+-- and of one after another this flag too
 abbrev pub alone : Shape
-alone = serving (codes "alone")
+alone = record (new_shape (codes "alone")) { rules = plant_rule ∷ after_rule ∷ look_rule ∷ [] }
 
 -- at most so many examiners are at work at once, and a transaction is begun at most so many times
 abbrev pub most_examiners : ℕ
@@ -79,13 +85,13 @@ examiners_rule = number_rule (codes "examiners") most_examiners default_examiner
 abbrev pub tries_rule : Rule
 tries_rule = number_rule (codes "tries") most_tries default_tries
 
--- `office` is followed by these two options, which may be left out
+-- `office` is followed by these options, which may be left out
 abbrev pub office : Shape
-office = record (new_shape (codes "office")) { rules = examiners_rule ∷ tries_rule ∷ [] }
+office = record (new_shape (codes "office")) { rules = examiners_rule ∷ tries_rule ∷ plant_rule ∷ after_rule ∷ [] }
 
--- `desk` may be followed by a plant's file
+-- `desk` may be followed by a plant's file, and by the flag
 abbrev pub desk : Shape
-desk = record (new_shape (codes "desk")) { rules = plant_rule ∷ [] }
+desk = record (new_shape (codes "desk")) { rules = plant_rule ∷ look_rule ∷ [] }
 
 -- a description of land, which has to be given
 abbrev pub text_rule : Rule
@@ -140,9 +146,10 @@ HasFlag id rows = (b : Bool) × (first_of id rows ≡ Some (bool_text b)) × (on
 -- the subcommand has the values that its line takes from it
 abbrev pub IsReadable : Text → List Row → Type 0
 IsReadable name rows = ((name ≡ codes "run") × MayHavePlace rows)
-    ⊎ ((name ≡ codes "alone") × MayHavePlace rows)
-    ⊎ ((name ≡ codes "office") × HasNumber (codes "examiners") most_examiners rows × HasNumber (codes "tries") most_tries rows)
-    ⊎ (name ≡ codes "desk")
+    ⊎ ((name ≡ codes "alone") × MayHavePlace rows × HasFlag (codes "look") rows)
+    ⊎ ((name ≡ codes "office") × HasNumber (codes "examiners") most_examiners rows × HasNumber (codes "tries") most_tries rows
+    × MayHavePlace rows)
+    ⊎ ((name ≡ codes "desk") × HasFlag (codes "look") rows)
     ⊎ ((name ≡ codes "tract") × (is_some (first_of (codes "TEXT") rows) ≡ true))
     ⊎ ((name ≡ codes "check") × (is_some (first_of (codes "FILE") rows) ≡ true) × HasFlag (codes "script") rows)
 
@@ -154,6 +161,18 @@ IsNumberOf id rows n = (text : Text) × (first_of id rows ≡ Some text)
 -- no plant is named, and so no place is expected
 abbrev pub IsPlantless : List Row → Type 0
 IsPlantless rows = (first_of (codes "plant") rows ≡ None) × (first_of (codes "after") rows ≡ None)
+
+-- a look is asked for, or it isn't
+abbrev pub IsLooked : List Row → Type 0
+IsLooked rows = first_of (codes "look") rows ≡ Some (bool_text true)
+
+abbrev pub IsUnlooked : List Row → Type 0
+IsUnlooked rows = first_of (codes "look") rows ≡ Some (bool_text false)
+
+-- what is served so is kept where a plant is named
+abbrev pub IsKeeping : Work → List Row → Type 0
+IsKeeping work.Run rows = Unit {0}
+IsKeeping work.Alone rows = IsUnlooked rows
 
 -- the expected place is the number that the words say, if they say one
 abbrev pub IsAfter : List Row → Option ℕ → Type 0
@@ -168,15 +187,23 @@ name_of work.Alone = codes "alone"
 -- the line is the subcommand of this name with its values
 abbrev pub IsLine : Text → List Row → Line → Type 0
 IsLine name rows Run = (name ≡ codes "run") × IsPlantless rows
-IsLine name rows Alone = (name ≡ codes "alone") × IsPlantless rows
+IsLine name rows Alone = (name ≡ codes "alone") × IsPlantless rows × IsUnlooked rows
 IsLine name rows (Office examiners tries) =
-    (name ≡ codes "office") × IsNumberOf (codes "examiners") rows examiners × IsNumberOf (codes "tries") rows tries
-IsLine name rows Desk = (name ≡ codes "desk") × (first_of (codes "plant") rows ≡ None)
+    (name ≡ codes "office") × IsNumberOf (codes "examiners") rows examiners × IsNumberOf (codes "tries") rows tries × IsPlantless rows
+IsLine name rows Desk = (name ≡ codes "desk") × (first_of (codes "plant") rows ≡ None) × IsUnlooked rows
 IsLine name rows (Tract text) =
     (name ≡ codes "tract") × (first_of (codes "TEXT") rows ≡ Some text.now)
 IsLine name rows (Kept plant after how) =
-    (name ≡ name_of how) × (first_of (codes "plant") rows ≡ Some plant.now) × IsAfter rows after
-IsLine name rows (KeptDesk plant) = (name ≡ codes "desk") × (first_of (codes "plant") rows ≡ Some plant.now)
+    (name ≡ name_of how) × (first_of (codes "plant") rows ≡ Some plant.now) × IsAfter rows after × IsKeeping how rows
+IsLine name rows (KeptDesk plant) =
+    (name ≡ codes "desk") × (first_of (codes "plant") rows ≡ Some plant.now) × IsUnlooked rows
+IsLine name rows (KeptOffice plant after examiners tries) =
+    (name ≡ codes "office") × (first_of (codes "plant") rows ≡ Some plant.now) × IsAfter rows after
+    × IsNumberOf (codes "examiners") rows examiners × IsNumberOf (codes "tries") rows tries
+IsLine name rows (Look plant after) =
+    (name ≡ codes "alone") × (first_of (codes "plant") rows ≡ Some plant.now) × IsAfter rows after × IsLooked rows
+IsLine name rows (LookDesk plant) =
+    (name ≡ codes "desk") × (first_of (codes "plant") rows ≡ Some plant.now) × IsLooked rows
 IsLine name rows (Check file as_script) =
     (name ≡ codes "check") × (first_of (codes "FILE") rows ≡ Some file.now) × (first_of (codes "script") rows ≡ Some (bool_text as_script))
 
@@ -188,6 +215,8 @@ IsLineOf (Some met) line = IsLine met.0 met.1 line
 -- an office has from one examiner, and from one try, to the most
 abbrev pub IsInRange : Line → Type 0
 IsInRange (Office examiners tries) = ((1 ≤ examiners) × (examiners ≤ most_examiners)) × ((1 ≤ tries) × (tries ≤ most_tries))
+IsInRange (KeptOffice plant after examiners tries) =
+    ((1 ≤ examiners) × (examiners ≤ most_examiners)) × ((1 ≤ tries) × (tries ≤ most_tries))
 IsInRange line = ⊤
 
 -- ---- why words are refused
@@ -198,12 +227,13 @@ IsFaultFor kind (Help error) = kind ≡ DisplayHelp
 IsFaultFor kind (Bad error) = (kind ≢ DisplayHelp) × (kind ≢ OutOfMemory)
 IsFaultFor kind Memory = kind ≡ OutOfMemory
 
--- a place is expected and no plant is named
+-- a place is expected, or a look is asked for, and no plant is named
 abbrev pub LacksPlant : Option (Text × List Row) → Type 0
 LacksPlant None = ⊥
-LacksPlant (Some met) = (is_some (first_of (codes "after") met.1) ≡ true) × (first_of (codes "plant") met.1 ≡ None)
+LacksPlant (Some met) =
+    ((is_some (first_of (codes "after") met.1) ≡ true) ⊎ IsLooked met.1) × (first_of (codes "plant") met.1 ≡ None)
 
--- clap takes the words, and where they expect a place they name a plant
+-- clap takes the words, and where they expect a place or ask for a look they name a plant
 abbrev pub IsTaken : List Text → Type 0
 IsTaken words = (takes command words ≡ true) × (LacksPlant (subcommand_of command words) → ⊥)
 
@@ -233,6 +263,20 @@ abbrev pub OfficeAtMost : Type 0
 OfficeAtMost = Says
     (codes "office" ∷ codes "--examiners" ∷ codes "64" ∷ codes "--tries" ∷ codes "10000" ∷ [])
     (Office most_examiners most_tries)
+
+-- the line keeps the script of an office in the file of this name, so
+abbrev pub IsOfficeOn : Text → Option ℕ → (examiners tries : ℕ) → Line → Type 0
+IsOfficeOn plant after examiners tries (KeptOffice named expected e t) =
+    (named.now ≡ plant) × (expected ≡ after) × (e ≡ examiners) × (t ≡ tries)
+IsOfficeOn plant after examiners tries line = ⊥
+
+-- with a plant's file an office keeps its script there
+abbrev pub OfficeOnPlant : Type 0
+OfficeOnPlant =
+    IsTaken (codes "office" ∷ codes "--plant" ∷ codes "county.plant" ∷ codes "--examiners" ∷ codes "3" ∷ [])
+    × ((line : Line)
+    → IsLineOf (subcommand_of command (codes "office" ∷ codes "--plant" ∷ codes "county.plant" ∷ codes "--examiners" ∷ codes "3" ∷ []))
+    line → IsOfficeOn (codes "county.plant") None 3 100 line)
 
 -- `desk` alone is a desk
 abbrev pub DeskByWord : Type 0
@@ -274,6 +318,37 @@ KeptByWords =
 -- a place that is expected in no plant
 abbrev pub PlaceAlone : Type 0
 PlaceAlone = LacksPlant (subcommand_of command (codes "run" ∷ codes "--after" ∷ codes "3" ∷ []))
+
+-- the line looks at the file of this name, so
+abbrev pub IsLookAt : Text → Option ℕ → Line → Type 0
+IsLookAt plant after (Look named expected) = (named.now ≡ plant) × (expected ≡ after)
+IsLookAt plant after line = ⊥
+
+-- the line is a desk that looks at the file of this name
+abbrev pub IsDeskLookAt : Text → Line → Type 0
+IsDeskLookAt plant (LookDesk named) = named.now ≡ plant
+IsDeskLookAt plant line = ⊥
+
+-- `alone` and `desk` with a plant's file and the flag look at it
+abbrev pub LookByWords : Type 0
+LookByWords =
+    (IsTaken (codes "alone" ∷ codes "--plant" ∷ codes "county.plant" ∷ codes "--look" ∷ [])
+    × ((line : Line)
+    → IsLineOf (subcommand_of command (codes "alone" ∷ codes "--plant" ∷ codes "county.plant" ∷ codes "--look" ∷ [])) line
+    → IsLookAt (codes "county.plant") None line))
+    × (IsTaken (codes "desk" ∷ codes "--look" ∷ codes "--plant=county.plant" ∷ [])
+    × ((line : Line) → IsLineOf (subcommand_of command (codes "desk" ∷ codes "--look" ∷ codes "--plant=county.plant" ∷ [])) line
+    → IsDeskLookAt (codes "county.plant") line))
+
+-- a look at no plant
+abbrev pub LookAlone : Type 0
+LookAlone =
+    LacksPlant (subcommand_of command (codes "alone" ∷ codes "--look" ∷ []))
+    × LacksPlant (subcommand_of command (codes "desk" ∷ codes "--look" ∷ []))
+
+-- transactions that are interleaved don't look alone
+abbrev pub LookOfRun : Type 0
+LookOfRun = fault_of command (codes "run" ∷ codes "--look" ∷ []) ≡ UnknownArgument ∷ []
 
 -- the words that follow `office` are refused for this kind of error
 abbrev pub Refuses : List Text → ErrorKind → Type 0

@@ -33,6 +33,30 @@ pub enum Line<'a> {
         /// The file's name.
         plant: &'a str,
     },
+    /// Serve a script of transactions that follow one another on top of what stands in a plant's file, and keep nothing.
+    Look {
+        /// The file's name.
+        plant: &'a str,
+        /// The last place that is expected there, where one is.
+        after: Option<u64>,
+    },
+    /// Serve rows as they come on top of what stands in a plant's file, and keep nothing.
+    LookDesk {
+        /// The file's name.
+        plant: &'a str,
+    },
+    /// Run scripts of several examiners at once in one office on top of what stands in a plant's file, and put into the file what they
+    /// declare and commit.
+    KeptOffice {
+        /// The file's name.
+        plant: &'a str,
+        /// The last place that is expected there, where one is.
+        after: Option<u64>,
+        /// How many examiners are at work at once, as for `Office`.
+        examiners: u32,
+        /// How many times at most a transaction is begun, as for `Office`.
+        tries: u32,
+    },
     /// Tell what stands in a plant's file.
     Check {
         /// The file's name.

@@ -4,8 +4,9 @@ ghost use Rattle.std.specs.Prelude.{◌≡◌, IfErr, IfOk, IfSome, List, None, 
 ghost use Rattle.clap.specs.Faults.{fault_of};
 ghost use Rattle.clap.specs.Walk.{Row, Text};
 ghost use Rattle.clap.specs.Words.{found_of, is_simple_and_free, kind_of, rows_of, subcommand_of};
-ghost use Rattle.title_command.specs.CommandLine.{Explains, IsFaultFor, IsInRange, IsLine, IsLineOf, IsPlantless, IsReadable, IsTaken};
-ghost use Rattle.title_command.specs.CommandLine.{LacksPlant, MayHavePlace, command, name_of};
+ghost use Rattle.title_command.specs.CommandLine.{Explains, HasFlag, HasNumber, IsFaultFor, IsInRange, IsKeeping, IsLine, IsLineOf};
+ghost use Rattle.title_command.specs.CommandLine.{IsLooked, IsPlantless, IsReadable, IsTaken, LacksPlant, MayHavePlace, command};
+ghost use Rattle.title_command.specs.CommandLine.{most_examiners, most_tries, name_of};
 
 use crate::choice::{Line, LineFault, Work};
 use crate::program::{no_plant, program};
@@ -27,6 +28,7 @@ fn fault_for(error: Error) -> LineFault
 // named.
 fn read_work<'a>(work: Work, values: &ArgMatches<'a>) -> Option<Line<'a>>
     requires place { MayHavePlace (rows_of (found_of values.now)) }
+    requires keeps { IsKeeping work (rows_of (found_of values.now)) }
     ensures line { IfSome result (IsLine (name_of work) (rows_of (found_of values.now))) }
     ensures lacks { result ≡ None → LacksPlant (Some (name_of work, rows_of (found_of values.now))) }
     ensures ranges { IfSome result IsInRange }
@@ -41,7 +43,7 @@ fn read_work<'a>(work: Work, values: &ArgMatches<'a>) -> Option<Line<'a>>
 
 // The line of a command whose script isn't kept.
 fn unkept<'a>(work: Work) -> Line<'a>
-    ensures line { (rows : List Row) → IsPlantless rows → IsLine (name_of work) rows result }
+    ensures line { (rows : List Row) → IsPlantless rows → IsKeeping work rows → IsLine (name_of work) rows result }
     ensures ranges { IsInRange result }
 {
     match work {
@@ -50,18 +52,93 @@ fn unkept<'a>(work: Work) -> Line<'a>
     }
 }
 
-// The line of a desk: on top of a plant's file where one is named.
-fn read_desk<'a>(values: &ArgMatches<'a>) -> Line<'a>
-    ensures line { IsLine (codes "desk") (rows_of (found_of values.now)) result }
-    ensures ranges { IsInRange result }
+// The line of an office: one that keeps its script where a plant is named. None where a place is expected and no plant is named.
+fn read_office<'a>(values: &ArgMatches<'a>) -> Option<Line<'a>>
+    requires examiners { HasNumber (codes "examiners") most_examiners (rows_of (found_of values.now)) }
+    requires tries { HasNumber (codes "tries") most_tries (rows_of (found_of values.now)) }
+    requires place { MayHavePlace (rows_of (found_of values.now)) }
+    ensures line { IfSome result (IsLine (codes "office") (rows_of (found_of values.now))) }
+    ensures lacks { result ≡ None → LacksPlant (Some (codes "office", rows_of (found_of values.now))) }
+    ensures ranges { IfSome result IsInRange }
 {
-    match values.get_str("plant") {
-        Some(plant) => Line::KeptDesk { plant },
-        None => Line::Desk,
+    let examiners_said = values.get_one::<u32>("examiners");
+    let examiners = examiners_said.unwrap();
+    let tries_said = values.get_one::<u32>("tries");
+    let tries = tries_said.unwrap();
+    let after = values.get_one::<u64>("after");
+    match (values.get_str("plant"), after) {
+        (Some(plant), after) => Some(Line::KeptOffice {
+            plant,
+            after,
+            examiners,
+            tries,
+        }),
+        (None, None) => Some(Line::Office { examiners, tries }),
+        (None, Some(_place)) => None,
     }
 }
 
-// The line that a subcommand and its matches say; None where a place is expected and no plant is named.
+// The line of a script that looks at a plant; none where no plant is named.
+fn read_look<'a>(values: &ArgMatches<'a>) -> Option<Line<'a>>
+    requires place { MayHavePlace (rows_of (found_of values.now)) }
+    requires looks { IsLooked (rows_of (found_of values.now)) }
+    ensures line { IfSome result (IsLine (codes "alone") (rows_of (found_of values.now))) }
+    ensures lacks { result ≡ None → LacksPlant (Some (codes "alone", rows_of (found_of values.now))) }
+    ensures ranges { IfSome result IsInRange }
+{
+    let after = values.get_one::<u64>("after");
+    match values.get_str("plant") {
+        Some(plant) => Some(Line::Look { plant, after }),
+        None => None,
+    }
+}
+
+// The line of a script of transactions that follow one another: one that looks at a plant where the words ask for that.
+fn read_alone<'a>(values: &ArgMatches<'a>) -> Option<Line<'a>>
+    requires place { MayHavePlace (rows_of (found_of values.now)) }
+    requires flag { HasFlag (codes "look") (rows_of (found_of values.now)) }
+    ensures line { IfSome result (IsLine (codes "alone") (rows_of (found_of values.now))) }
+    ensures lacks { result ≡ None → LacksPlant (Some (codes "alone", rows_of (found_of values.now))) }
+    ensures ranges { IfSome result IsInRange }
+{
+    let looks = values.get_flag("look");
+    if looks {
+        return read_look(values);
+    }
+    read_work(Work::Alone, values)
+}
+
+// The line of a desk that looks at a plant; none where no plant is named.
+fn read_desk_look<'a>(values: &ArgMatches<'a>) -> Option<Line<'a>>
+    requires looks { IsLooked (rows_of (found_of values.now)) }
+    ensures line { IfSome result (IsLine (codes "desk") (rows_of (found_of values.now))) }
+    ensures lacks { result ≡ None → LacksPlant (Some (codes "desk", rows_of (found_of values.now))) }
+    ensures ranges { IfSome result IsInRange }
+{
+    match values.get_str("plant") {
+        Some(plant) => Some(Line::LookDesk { plant }),
+        None => None,
+    }
+}
+
+// The line of a desk: on top of a plant's file where one is named, and one that looks at it where the words ask for that.
+fn read_desk<'a>(values: &ArgMatches<'a>) -> Option<Line<'a>>
+    requires flag { HasFlag (codes "look") (rows_of (found_of values.now)) }
+    ensures line { IfSome result (IsLine (codes "desk") (rows_of (found_of values.now))) }
+    ensures lacks { result ≡ None → LacksPlant (Some (codes "desk", rows_of (found_of values.now))) }
+    ensures ranges { IfSome result IsInRange }
+{
+    let looks = values.get_flag("look");
+    if looks {
+        return read_desk_look(values);
+    }
+    match values.get_str("plant") {
+        Some(plant) => Some(Line::KeptDesk { plant }),
+        None => Some(Line::Desk),
+    }
+}
+
+// The line that a subcommand and its matches say; None where a place is expected or a look is asked for and no plant is named.
 fn read_line<'a>(name: &'a str, values: &ArgMatches<'a>) -> Option<Line<'a>>
     requires readable { IsReadable name.now (rows_of (found_of values.now)) }
     ensures line { IfSome result (IsLine name.entry.now (rows_of (found_of values.now))) }
@@ -72,15 +149,13 @@ fn read_line<'a>(name: &'a str, values: &ArgMatches<'a>) -> Option<Line<'a>>
         return read_work(Work::Run, values);
     }
     if name == "alone" {
-        return read_work(Work::Alone, values);
+        return read_alone(values);
     }
     if name == "office" {
-        let examiners = values.get_one::<u32>("examiners").unwrap();
-        let tries = values.get_one::<u32>("tries").unwrap();
-        return Some(Line::Office { examiners, tries });
+        return read_office(values);
     }
     if name == "desk" {
-        return Some(read_desk(values));
+        return read_desk(values);
     }
     if name == "check" {
         let file = values.get_str("FILE").unwrap();
@@ -91,7 +166,7 @@ fn read_line<'a>(name: &'a str, values: &ArgMatches<'a>) -> Option<Line<'a>>
     Some(Line::Tract(text))
 }
 
-// The fault of words that expect a place and name no plant.
+// The fault of words that expect a place or ask for a look and name no plant.
 fn lacking_plant(alloc: Global) -> LineFault
     ensures fault { (words : List Text) → LacksPlant (subcommand_of command words) → Explains words result }
 {
@@ -103,8 +178,8 @@ fn lacking_plant(alloc: Global) -> LineFault
 
 /// What the words after the program's name ask for. `Help` where they ask for help, `Bad` where they
 /// aren't understood (a word that `clap` doesn't expect, one that is missing, an option that is repeated,
-/// a number that is none or out of its range, or a place that is expected in no plant), and `Memory` only
-/// where memory ran out.
+/// a number that is none or out of its range, or a place that is expected in no plant, or a look at none), and
+/// `Memory` only where memory ran out.
 pub fn line<'a>(alloc: Global, words: &'a [&'a str]) -> Result<Line<'a>, LineFault>
     ensures line { IfOk result (IsLineOf (subcommand_of command (map (λ w. w.now) words.entry.now))) }
     ensures ranges { IfOk result IsInRange }

@@ -1,8 +1,8 @@
 //! Laws of the command line. Each function does nothing: its clause is the law, proved.
 
 ghost use Rattle.std.specs.Prelude.{◌∷◌, [], codes};
-ghost use Rattle.title_command.specs.CommandLine.{DeskByWord, DeskOnPlant, DeskWithMore, KeptByWords};
-ghost use Rattle.title_command.specs.CommandLine.{OfficeAtMost, OfficeByDefault, PlaceAlone, Refuses};
+ghost use Rattle.title_command.specs.CommandLine.{DeskByWord, DeskOnPlant, DeskWithMore, KeptByWords, LookAlone, LookByWords};
+ghost use Rattle.title_command.specs.CommandLine.{LookOfRun, OfficeAtMost, OfficeByDefault, OfficeOnPlant, PlaceAlone, Refuses};
 
 use clap::error::ErrorKind;
 
@@ -21,6 +21,11 @@ pub fn other_words_are_refused()
     ensures unknown { Refuses (codes "soon" ∷ []) ErrorKind.UnknownArgument }
 {}
 
+/// An office's script is kept in the file that `--plant` names, with its numbers beside.
+pub fn kept_office_words_are_said()
+    ensures kept { OfficeOnPlant }
+{}
+
 /// `desk` is one word, which a plant's file may follow; a last place that is expected there is refused.
 pub fn desk_word_is_said()
     ensures alone { DeskByWord }
@@ -32,4 +37,11 @@ pub fn desk_word_is_said()
 pub fn kept_words_are_said()
     ensures kept { KeptByWords }
     ensures alone { PlaceAlone }
+{}
+
+/// `alone` and `desk` with `--look` look at the file that `--plant` names; a look at no plant is refused, and `run` has none.
+pub fn look_words_are_said()
+    ensures looks { LookByWords }
+    ensures alone { LookAlone }
+    ensures run { LookOfRun }
 {}

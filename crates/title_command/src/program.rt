@@ -3,8 +3,8 @@
 ghost use Rattle.std.specs.Prelude.{◌≡◌, ◌∷◌, IfOk, false, true, []};
 ghost use Rattle.clap.specs.Words.{app_of, new_app, rule_of};
 ghost use Rattle.clap.specs.declared.builder.command.Command.TheViews.{out-Command};
-ghost use Rattle.title_command.specs.CommandLine.{after_rule, alone, check, command, desk, file_rule, number_rule, office, plant_rule};
-ghost use Rattle.title_command.specs.CommandLine.{run, script_rule, serving, text_rule, titleplant, tract};
+ghost use Rattle.title_command.specs.CommandLine.{after_rule, alone, check, command, desk, file_rule, look_rule, number_rule, office};
+ghost use Rattle.title_command.specs.CommandLine.{plant_rule, run, script_rule, serving, text_rule, titleplant, tract};
 
 use clap::builder::ValueParser;
 use clap::error::ErrorKind;
@@ -146,8 +146,13 @@ step outside a transaction is a transaction of its own and is committed at once,
 may be a plain list of deeds and questions.
 
 With --plant FILE the script goes on from what stands in that file, and counts there whole or
-not at all; see titleplant run --help, also for --after and for the faults.",
-    usage: "titleplant alone [--plant <FILE> [--after <N>]]",
+not at all; see titleplant run --help, also for --after and for the faults.
+
+With --look besides, nothing is kept, and FILE isn't changed: rows begin, ask for sheets and
+chains, and abort, and any other row is a fault (31). Any number of scripts may look at FILE
+at once. While one does, FILE is in use for whoever keeps something in it, and the other way
+round.",
+    usage: "titleplant alone [--plant <FILE> [--after <N>] [--look]]",
     example: "\
 Example: titleplant alone < script.csv, where script.csv has
   township,T3N R2W
@@ -164,8 +169,12 @@ Reads a CSV script from standard input and writes a CSV report to standard outpu
 A script is as for the command run, but the rows of each examiner are a script of its own:
 threads of one office run these scripts at once. The order in which their transactions
 commit may differ from run to run. A transaction that another one is in the way of is
-aborted and begun again, at most K times.",
-    usage: "titleplant office [--examiners <N>] [--tries <K>]",
+aborted and begun again, at most K times.
+
+With --plant FILE the office goes on from what stands in that file, and all that it commits
+counts there whole or not at all; the report counts its own commits, and its last sheet is of
+all. See titleplant run --help, also for --after and for the faults.",
+    usage: "titleplant office [--examiners <N>] [--tries <K>] [--plant <FILE> [--after <N>]]",
     example: "\
 Example: titleplant office --examiners 2 --tries 50 < script.csv, where script.csv has
   township,T3N R2W
@@ -228,10 +237,13 @@ Rows are passed over for these numbers, and are numbered from 1:
   34                    a party isn't declared, or is declared again
   35                    a township is declared after the first step
   6                     out of memory
+At a terminal a sentence tells why, and the row help lists the rows that there are.
 
 With --plant FILE rows go on from what stands in that file, and what they declare and commit
 is kept there: no row is answered before that is on the disk. Rows that come together are kept
 together. Where transactions stand in FILE no township joins by a row (35), but by a script.
+With --look besides, nothing is kept: rows begin, ask for sheets and chains, and abort, and any
+other row is passed over (31). See titleplant alone --help.
 
 Faults at which the answers end, with status 1; what was answered stands:
   fault,32              the rows can't be read
@@ -240,7 +252,7 @@ Faults at which the answers end, with status 1; what was answered stands:
                         but after 40 perhaps the rows that came together last
 
 For rows and replies see titleplant run --help. The whole format stands in docs/FORMATS.md.",
-    usage: "titleplant desk [--plant <FILE>]",
+    usage: "titleplant desk [--plant <FILE> [--look]]",
     example: "\
 Example: of these rows
   township,T3N R2W
@@ -380,6 +392,16 @@ fn after_option<'a>(alloc: Global) -> Arg<'a>
         .help("With --plant: only where the last place there is N")
 }
 
+fn look_option<'a>(alloc: Global) -> Arg<'a>
+    ensures rule { rule_of result ≡ look_rule }
+    ensures local { result.global ≡ false }
+{
+    Arg::new(alloc, "look")
+        .long("look")
+        .action(ArgAction::SetTrue)
+        .help("With --plant: only look at what stands there, and keep nothing")
+}
+
 fn number_option<'a>(alloc: Global, option: NumberOption<'a>) -> Arg<'a>
     ensures rule { rule_of result ≡ number_rule option.entry.name.now option.entry.most option.entry.default.now }
     ensures local { result.global ≡ false }
@@ -399,9 +421,13 @@ fn office_command<'a>(alloc: Global) -> Result<Command<'a>, AllocError>
 {
     let examiners = number_option(alloc, EXAMINERS);
     let tries = number_option(alloc, TRIES);
+    let plant = plant_option(alloc);
+    let after = after_option(alloc);
     let with_examiners = named(alloc, "office", OFFICE).arg(examiners)?;
     let with_tries = with_examiners.arg(tries)?;
-    Ok(with_tries)
+    let with_plant = with_tries.arg(plant)?;
+    let with_after = with_plant.arg(after)?;
+    Ok(with_after)
 }
 
 // A command that a script may be kept by.
@@ -416,12 +442,25 @@ fn work_command<'a>(alloc: Global, name: &'a str, help: Help<'a>) -> Result<Comm
     Ok(with_after)
 }
 
+fn alone_command<'a>(alloc: Global) -> Result<Command<'a>, AllocError>
+    ensures app { IfOk result (λ c. app_of c ≡ record { top = alone; subs = [] }) }
+    ensures local { IfOk result (λ c. (out-Command c).has_globals ≡ false) }
+{
+    let look = look_option(alloc);
+    let with_work = work_command(alloc, "alone", ALONE)?;
+    let with_look = with_work.arg(look)?;
+    Ok(with_look)
+}
+
 fn desk_command<'a>(alloc: Global) -> Result<Command<'a>, AllocError>
     ensures app { IfOk result (λ c. app_of c ≡ record { top = desk; subs = [] }) }
     ensures local { IfOk result (λ c. (out-Command c).has_globals ≡ false) }
 {
     let plant = plant_option(alloc);
-    named(alloc, "desk", DESK).arg(plant)
+    let look = look_option(alloc);
+    let with_plant = named(alloc, "desk", DESK).arg(plant)?;
+    let with_look = with_plant.arg(look)?;
+    Ok(with_look)
 }
 
 fn check_command<'a>(alloc: Global) -> Result<Command<'a>, AllocError>
@@ -459,7 +498,7 @@ fn script_commands<'a>(alloc: Global) -> Result<Command<'a>, AllocError>
     ensures local { IfOk result (λ c. (out-Command c).has_globals ≡ false) }
 {
     let run = work_command(alloc, "run", RUN)?;
-    let alone = work_command(alloc, "alone", ALONE)?;
+    let alone = alone_command(alloc)?;
     let office = office_command(alloc)?;
     let with_run = top(alloc).subcommand(run)?;
     let with_alone = with_run.subcommand(alone)?;
@@ -490,11 +529,11 @@ pub fn program<'a>(alloc: Global) -> Result<Command<'a>, AllocError>
     Ok(with_check)
 }
 
-/// The error of words that expect a last place and name no plant.
+/// The error of words that expect a last place or ask for a look, and name no plant.
 pub fn no_plant(alloc: Global) -> Result<Error, AllocError> {
     let mut command = named(alloc, "titleplant", TITLEPLANT);
     command.error(
         ErrorKind::MissingRequiredArgument,
-        "--after <N> is for a plant's file: --plant <FILE> is wanted too",
+        "--after <N> and --look are for a plant's file: --plant <FILE> is wanted too",
     )
 }

@@ -6,14 +6,15 @@ ghost use Rattle.std.specs.Io.KnownBytes.{Appends};
 
 use std::alloc::{AllocError, Global};
 use title_advice::{
-    Heard, Script, cut_advice, lasting_advice, looking_advice, opening_advice, pointed_out,
-    script_advice, telling_advice,
+    Heard, Script, cut_advice, lasting_advice, look_advice, looking_advice, opening_advice,
+    pointed_out, script_advice, telling_advice,
 };
 use title_aliquot::DescFault;
 use title_counter::CounterFault;
 use title_day::OfficeFault;
 use title_device::{SCRIPT_LIMIT, Sink, write_all};
 use title_disk::OpenFault;
+use title_kept_office::KeptOfficeFault;
 use title_lasting::LastingFault;
 use title_plan::{Schedule, ScriptFault};
 use title_program::{Ending, Why};
@@ -114,6 +115,27 @@ fn kept_advice(
     }
 }
 
+// What is wrong with an office's script on top of a plant's file, or with the file.
+fn kept_office_advice(
+    alloc: Global,
+    examiners: u32,
+    path: &str,
+    fault: KeptOfficeFault,
+    kept: Option<&[u8]>,
+) -> Result<String, AllocError> {
+    match fault {
+        KeptOfficeFault::Kept(why) => {
+            kept_advice(alloc, Schedule::Office(examiners), path, why, kept)
+        }
+        KeptOfficeFault::Worker(why) => {
+            office_advice(alloc, examiners, OfficeFault::Worker(why), kept)
+        }
+        KeptOfficeFault::Unsettled(why) => {
+            office_advice(alloc, examiners, OfficeFault::Unsettled(why), kept)
+        }
+    }
+}
+
 // Why rows at a desk on top of a plant's file weren't attended to their end.
 fn kept_desk_advice(alloc: Global, path: &str, fault: LastingFault) -> Result<String, AllocError> {
     match fault {
@@ -132,6 +154,44 @@ fn kept_desk_advice(alloc: Global, path: &str, fault: LastingFault) -> Result<St
     }
 }
 
+// What is wrong with the n-th row of a script that looks at a plant's file, whose bytes were kept, or weren't.
+fn look_row_advice(alloc: Global, n: u64, kept: Option<&[u8]>) -> Result<String, AllocError> {
+    let Some(bytes) = kept else {
+        return row_advice(alloc, Schedule::Serial, true, ScriptFault::Row(n), kept);
+    };
+    let script = Script {
+        alloc,
+        schedule: Schedule::Serial,
+        is_kept: true,
+        bytes,
+    };
+    let said = look_advice(&script, n)?;
+    format!(in alloc; "{said}\n")
+}
+
+// What is wrong with a script that looks at a plant's file, or with the file.
+fn look_script_advice(
+    alloc: Global,
+    path: &str,
+    fault: LastingFault,
+    kept: Option<&[u8]>,
+) -> Result<String, AllocError> {
+    match fault {
+        LastingFault::Row(n) => look_row_advice(alloc, n, kept),
+        LastingFault::Disk => looking_advice(alloc, path, OpenFault::Unopened),
+        LastingFault::Write => Ok(String::new(alloc)),
+        _ => kept_advice(alloc, Schedule::Serial, path, fault, kept),
+    }
+}
+
+// Why rows at a desk that looks at a plant's file weren't attended to their end.
+fn look_desk_advice(alloc: Global, path: &str, fault: LastingFault) -> Result<String, AllocError> {
+    match fault {
+        LastingFault::Disk => looking_advice(alloc, path, OpenFault::Unopened),
+        _ => kept_desk_advice(alloc, path, fault),
+    }
+}
+
 // The word that follows the command `tract` or `check`: the first that is no flag, or that stands behind the mark which ends options.
 fn text_in(words: &[String]) -> &str {
     let mut has_mark = false;
@@ -145,12 +205,17 @@ fn text_in(words: &[String]) -> &str {
     ""
 }
 
-// Whether the command is `check`.
-fn is_check(words: &[String]) -> bool {
+// Whether this is the command.
+fn is_command(words: &[String], command: &str) -> bool {
     match words.first() {
-        Some(word) => word.as_str() == "check",
+        Some(word) => word.as_str() == command,
         None => false,
     }
+}
+
+/// Whether the command is `desk`.
+pub fn is_desk(words: &[String]) -> bool {
+    is_command(words, "desk")
 }
 
 // The name of the plant's file that `--plant` names.
@@ -168,14 +233,26 @@ fn plant_in(words: &[String]) -> &str {
     ""
 }
 
+// Whether the words ask for a look.
+fn is_look(words: &[String]) -> bool {
+    for word in words {
+        if word.as_str() == "--look" {
+            return true;
+        }
+    }
+    false
+}
+
 // Why a plant's file isn't opened, or isn't looked at.
 fn unopened_advice(
     alloc: Global,
     words: &[String],
     fault: OpenFault,
 ) -> Result<String, AllocError> {
-    if is_check(words) {
+    if is_command(words, "check") {
         looking_advice(alloc, text_in(words), fault)
+    } else if is_look(words) {
+        looking_advice(alloc, plant_in(words), fault)
     } else {
         opening_advice(alloc, plant_in(words), fault)
     }
@@ -192,6 +269,11 @@ fn advice(
         Why::Unopened(fault) => unopened_advice(alloc, words, fault),
         Why::Kept(schedule, fault) => kept_advice(alloc, schedule, plant_in(words), fault, kept),
         Why::KeptDesk(fault) => kept_desk_advice(alloc, plant_in(words), fault),
+        Why::KeptOffice(examiners, fault) => {
+            kept_office_advice(alloc, examiners, plant_in(words), fault, kept)
+        }
+        Why::Look(fault) => look_script_advice(alloc, plant_in(words), fault, kept),
+        Why::LookDesk(fault) => look_desk_advice(alloc, plant_in(words), fault),
         Why::Untold(fault) => telling_advice(alloc, text_in(words), fault),
         Why::Run(schedule, fault) => run_advice(alloc, schedule, fault, kept),
         Why::Office(examiners, fault) => office_advice(alloc, examiners, fault, kept),

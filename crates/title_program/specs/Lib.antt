@@ -8,6 +8,8 @@ pub mod OfficeServing
 pub mod DeskServing
 pub mod Keeping
 pub mod DeskKeeping
+pub mod LookServing
+pub mod OfficeKeeping
 pub mod Checking
 pub mod Obeying
 pub mod ObeyingOnto

@@ -7,7 +7,8 @@ use Rattle.title_land.specs.Depth.{depth}
 use Rattle.title_plan.specs.Lands.{land_in}
 use Rattle.title_plan.specs.declared.line.Schedule.TheVariants as schedule
 use Rattle.title_command.specs.declared.choice.Line.{Line}
-use Rattle.title_command.specs.declared.choice.Line.TheVariants.{Run, Alone, Office, Desk, Tract, Kept, KeptDesk, Check}
+use Rattle.title_command.specs.declared.choice.Line.TheVariants.{Run, Alone, Office, Desk, Tract, Kept, KeptDesk, KeptOffice}
+use Rattle.title_command.specs.declared.choice.Line.TheVariants.{Look, LookDesk, Check}
 use Rattle.title_command.specs.declared.choice.LineFault.{LineFault}
 use Rattle.title_command.specs.declared.choice.LineFault.TheVariants.{Help, Bad, Memory}
 use Rattle.title_command.specs.CommandLine.{Explains, IsLineOf, IsTaken, command}
@@ -49,6 +50,12 @@ IsObeyed (Kept plant place how) left left_after source_failed sink_failed before
     TellsFault (of_open opening.Unopened) before after sink_failed status
 IsObeyed (KeptDesk plant) left left_after source_failed sink_failed before after status =
     TellsFault (of_open opening.Unopened) before after sink_failed status
+IsObeyed (KeptOffice plant place examiners tries) left left_after source_failed sink_failed before after status =
+    TellsFault (of_open opening.Unopened) before after sink_failed status
+IsObeyed (Look plant place) left left_after source_failed sink_failed before after status =
+    TellsFault (of_open opening.Unopened) before after sink_failed status
+IsObeyed (LookDesk plant) left left_after source_failed sink_failed before after status =
+    TellsFault (of_open opening.Unopened) before after sink_failed status
 IsObeyed (Check file as_script) left left_after source_failed sink_failed before after status =
     TellsFault (of_open opening.Unopened) before after sink_failed status
 
@@ -62,12 +69,16 @@ ReadsFor Desk left left_after status = status ≡ Success → IsAtEnd left_after
 ReadsFor (Tract text) left left_after status = left_after ≡ left
 ReadsFor (Kept plant place how) left left_after status = left_after ≡ left
 ReadsFor (KeptDesk plant) left left_after status = left_after ≡ left
+ReadsFor (KeptOffice plant place examiners tries) left left_after status = left_after ≡ left
+ReadsFor (Look plant place) left left_after status = left_after ≡ left
+ReadsFor (LookDesk plant) left left_after status = left_after ≡ left
 ReadsFor (Check file as_script) left left_after status = left_after ≡ left
 
 -- the source was read in no more turns than a script is, but at a desk, where it is read for as long as rows come
 abbrev pub TurnsFor : Line → (turns turns_after : ℕ) → Type 0
 TurnsFor Desk turns turns_after = Unit {0}
 TurnsFor (KeptDesk plant) turns turns_after = Unit {0}
+TurnsFor (LookDesk plant) turns turns_after = Unit {0}
 TurnsFor line turns turns_after = IsReadWithin turns turns_after
 
 -- what is told on the errors where the output has failed

@@ -3,7 +3,7 @@ use Rattle.std.specs.Prelude.{◌≡◌, ◌⊎◌, ℕ, List, Bool, Option, Res
 use Rattle.title_plan.specs.declared.line.Schedule.{Schedule}
 use Rattle.title_plan.specs.declared.line.Schedule.TheVariants as schedule
 use Rattle.title_command.specs.declared.choice.Line.{Line}
-use Rattle.title_command.specs.declared.choice.Line.TheVariants.{Kept, KeptDesk, Check}
+use Rattle.title_command.specs.declared.choice.Line.TheVariants.{Kept, KeptDesk, KeptOffice, Look, LookDesk, Check}
 use Rattle.title_command.specs.declared.choice.LineFault.{LineFault}
 use Rattle.title_command.specs.declared.choice.Work.{Work}
 use Rattle.title_command.specs.declared.choice.Work.TheVariants as work
@@ -11,6 +11,8 @@ use Rattle.title_program.specs.declared.status.Status.{Status}
 use Rattle.title_program.specs.Checking.{IsSeen, IsUnseen}
 use Rattle.title_program.specs.DeskKeeping.{IsKeptDeskServed}
 use Rattle.title_program.specs.Keeping.{IsDayServed, IsUnopened}
+use Rattle.title_program.specs.LookServing.{IsLookDeskServed, IsLookServed}
+use Rattle.title_program.specs.OfficeKeeping.{IsKeptOfficeServed}
 use Rattle.title_program.specs.Obeying.{IsObeyed, IsRefused, ReadsFor}
 
 -- how the transactions of a script come that is kept
@@ -30,13 +32,28 @@ module _ {D : Type 0} (seen : D → List ℕ) (may_leave : D → List ℕ → Ty
       ⊎ IsDayServed seen may_leave moment left_since has_failed sched after left left_after turns turns_after taken taken_after
       source_failed sink_failed cut status
 
+-- A file that is shared is seen in the same way.
+module _ {D : Type 0} (seen : D → List ℕ) (may_leave : D → List ℕ → Type 0) (moment : D → ℕ) (left_since : D → ℕ → List ℕ → Type 0)
+    (has_failed : D → Bool) {S : Type 0} (shared_seen : S → List ℕ) (shared_may_leave : S → List ℕ → Type 0) (shared_moment : S → ℕ)
+    (shared_left_since : S → ℕ → List ℕ → Type 0) (shared_has_failed : S → Bool) where
   -- the command was carried out, and so much of the source was read; only what is kept cuts bytes off
   abbrev pub IsObeyedOnto : Line → (left left_after : Option (List ℕ)) → (turns turns_after : ℕ) → (taken taken_after : Option (List ℕ))
       → (source_failed sink_failed : Bool) → (cut : ℕ) → Status → Type 0
   IsObeyedOnto (Kept plant after how) left left_after turns turns_after taken taken_after source_failed sink_failed cut status =
-      IsKeptServed (schedule_of how) after left left_after turns turns_after taken taken_after source_failed sink_failed cut status
+      IsKeptServed seen may_leave moment left_since has_failed (schedule_of how) after left left_after turns turns_after taken taken_after
+      source_failed sink_failed cut status
   IsObeyedOnto (KeptDesk plant) left left_after turns turns_after taken taken_after source_failed sink_failed cut status =
       IsKeptDeskServed seen may_leave moment left_since has_failed left left_after taken taken_after source_failed sink_failed cut status
+  IsObeyedOnto (KeptOffice plant after examiners tries) left left_after turns turns_after taken taken_after source_failed sink_failed cut
+      status =
+      IsKeptOfficeServed seen may_leave moment left_since has_failed examiners after left left_after turns turns_after taken taken_after
+      source_failed sink_failed cut status
+  IsObeyedOnto (Look plant after) left left_after turns turns_after taken taken_after source_failed sink_failed cut status =
+      IsLookServed shared_seen shared_may_leave shared_moment shared_left_since shared_has_failed after left left_after turns turns_after
+      taken taken_after source_failed sink_failed cut status
+  IsObeyedOnto (LookDesk plant) left left_after turns turns_after taken taken_after source_failed sink_failed cut status =
+      IsLookDeskServed shared_seen shared_may_leave shared_moment shared_left_since shared_has_failed left left_after taken taken_after
+      source_failed sink_failed cut status
   IsObeyedOnto (Check file as_script) left left_after turns turns_after taken taken_after source_failed sink_failed cut status =
       (IsUnseen taken taken_after sink_failed status ⊎ IsSeen as_script taken taken_after sink_failed status)
       × (left_after ≡ left) × (cut ≡ 0)

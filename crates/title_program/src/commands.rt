@@ -15,6 +15,8 @@ use crate::desk_keeping::serve_kept_desk;
 use crate::desk_serving::serve_desk;
 use crate::ending::{Ending, Why};
 use crate::keeping::{refuse_file, serve_kept};
+use crate::look_serving::{serve_look, serve_look_desk};
+use crate::office_keeping::serve_kept_office;
 use crate::office_serving::serve_office;
 use crate::printing::{complain, print, tell_memory};
 use crate::refusal::refuse;
@@ -81,9 +83,12 @@ fn carry_out<T: Threads + Wait + Sync, R: Source, W: Sink, V: Watch>(
         }
         Line::Desk => serve_desk(alloc, source, sink),
         Line::Tract(text) => print_tract(alloc, text, sink),
-        Line::Kept { .. } | Line::KeptDesk { .. } | Line::Check { .. } => {
-            refuse_file(alloc, OpenFault::Unopened, sink)
-        }
+        Line::Kept { .. }
+        | Line::KeptDesk { .. }
+        | Line::KeptOffice { .. }
+        | Line::Look { .. }
+        | Line::LookDesk { .. }
+        | Line::Check { .. } => refuse_file(alloc, OpenFault::Unopened, sink),
     }
 }
 
@@ -180,7 +185,8 @@ pub fn obey_onto<T: Threads + Wait + Sync, R: Source, W: Sink, E: Sink, V: Watch
     requires ranges { IsInRange line }
     requires source_works { R.has_failed source.old ≡ false }
     requires sink_works { W.has_failed sink.old ≡ false }
-    ensures obeyed { IsObeyedOnto K.File.seen K.File.may_leave K.File.moment K.File.left_since K.File.has_failed line.entry
+    ensures obeyed { IsObeyedOnto K.File.seen K.File.may_leave K.File.moment K.File.left_since K.File.has_failed
+        K.Shared.seen K.Shared.may_leave K.Shared.moment K.Shared.left_since K.Shared.has_failed line.entry
         (R.left source.old) (R.left source.new) (R.turns source.old) (R.turns source.new) (W.taken sink.old) (W.taken sink.new)
         (R.has_failed source.new) (W.has_failed sink.new) result.cut result.status }
     ensures turns { TurnsFor line.entry (R.turns source.old) (R.turns source.new) }
@@ -193,6 +199,18 @@ pub fn obey_onto<T: Threads + Wait + Sync, R: Source, W: Sink, E: Sink, V: Watch
             serve_kept(alloc, schedule, after, plant, cabinet, source, sink, watch)
         }
         Line::KeptDesk { plant } => serve_kept_desk(alloc, plant, cabinet, source, sink),
+        Line::KeptOffice {
+            plant,
+            after,
+            examiners,
+            tries,
+        } => serve_kept_office(
+            rt, alloc, examiners, tries, after, plant, cabinet, source, sink,
+        ),
+        Line::Look { plant, after } => {
+            serve_look(alloc, after, plant, cabinet, source, sink, watch)
+        }
+        Line::LookDesk { plant } => serve_look_desk(alloc, plant, cabinet, source, sink),
         Line::Check { file, as_script } => check(alloc, file, as_script, cabinet, sink),
         Line::Run | Line::Alone | Line::Office { .. } | Line::Desk | Line::Tract(_) => {
             carry_out(rt, alloc, line, source, sink, watch)
@@ -217,7 +235,8 @@ pub fn obey_words_onto<T: Threads + Wait + Sync, R: Source, W: Sink, E: Sink, V:
     requires source_works { R.has_failed source.old ≡ false }
     requires sink_works { W.has_failed sink.old ≡ false }
     ensures answered { (asked : Result Line LineFault) × IsAsked (map string_bytes words.now) asked
-        × IsAnsweredOnto K.File.seen K.File.may_leave K.File.moment K.File.left_since K.File.has_failed asked
+        × IsAnsweredOnto K.File.seen K.File.may_leave K.File.moment K.File.left_since K.File.has_failed
+        K.Shared.seen K.Shared.may_leave K.Shared.moment K.Shared.left_since K.Shared.has_failed asked
         (R.left source.old) (R.left source.new) (R.turns source.old) (R.turns source.new) (W.taken sink.old) (W.taken sink.new)
         (R.has_failed source.new) (W.has_failed sink.new) result.cut result.status
         × Turns asked (R.turns source.old) (R.turns source.new)

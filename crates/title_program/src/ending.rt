@@ -8,12 +8,13 @@ use title_aliquot::DescFault;
 use title_counter::CounterFault;
 use title_day::OfficeFault;
 use title_disk::OpenFault;
+use title_kept_office::KeptOfficeFault;
 use title_lasting::{LastingFault, TellFault};
 use title_script::{RunFault, Schedule};
 
 /// Why a command failed: a script by its schedule, an office's script by the number of its examiners, rows at a desk, a description, a
-/// plant's file that isn't opened, a script on top of one by its schedule, rows at a desk on top of one, what stands in one, or want of
-/// memory.
+/// plant's file that isn't opened, a script on top of one by its schedule, rows at a desk on top of one, an office's script on top of one
+/// by the number of its examiners, a script or rows that look at one, what stands in one, or want of memory.
 #[derive(Clone, Copy, Debug)]
 pub enum Why {
     Run(Schedule, RunFault),
@@ -23,6 +24,9 @@ pub enum Why {
     Unopened(OpenFault),
     Kept(Schedule, LastingFault),
     KeptDesk(LastingFault),
+    KeptOffice(u32, KeptOfficeFault),
+    Look(LastingFault),
+    LookDesk(LastingFault),
     Untold(TellFault),
     Memory,
 }
@@ -65,6 +69,10 @@ impl Ending {
 
     /// Whether a script counts of which not all of the report was written.
     pub fn counts_untold(self) -> bool {
-        matches!(self.why, Some(Why::Kept(_, LastingFault::Write)))
+        match self.why {
+            Some(Why::Kept(_, LastingFault::Write)) => true,
+            Some(Why::KeptOffice(_, KeptOfficeFault::Kept(LastingFault::Write))) => true,
+            _ => false,
+        }
     }
 }

@@ -1,0 +1,52 @@
+-- What looks at a plant's file leave. A file is seen by its bytes, by what a crash may leave of it, and by what a crash since an earlier
+-- moment might have left.
+use Rattle.std.specs.Prelude.{◌≡◌, ◌⊎◌, ℕ, List, Bool, Option, Result}
+use Rattle.title_disk.specs.Crashes.{LeavesOnly}
+use Rattle.title_lasting.specs.declared.fault.LastingFault.{LastingFault}
+use Rattle.title_lasting.specs.LookDesks.{LookingDesk}
+use Rattle.title_lasting.specs.Looks.{Looking}
+use Rattle.title_program.specs.declared.status.Status.{Status}
+use Rattle.title_program.specs.Keeping.{EndsBy, IsUnopened}
+
+module _ {D : Type 0} (seen : D → List ℕ) (may_leave : D → List ℕ → Type 0) (moment : D → ℕ) (left_since : D → ℕ → List ℕ → Type 0)
+    (has_failed : D → Bool) where
+  -- A file was shared, and the source's script was served on top of what stood in it.
+  pub record IsLookTaken (after : Option ℕ) (left left_after : Option (List ℕ)) (turns turns_after : ℕ)
+      (taken taken_after : Option (List ℕ)) (source_failed sink_failed : Bool) (cut : ℕ) (status : Status) : Type 0 where
+    pub old : D
+    pub new : D
+    -- what the output had taken at the end of the look, and whether it had failed
+    pub written : Option (List ℕ)
+    pub then_failed : Bool
+    pub outcome : Result (Unit {0}) LastingFault
+    pub looking : Looking after (seen old) (seen new) (may_leave old) (may_leave new) (LeavesOnly moment left_since old new) left left_after
+        turns turns_after taken written (has_failed new) source_failed then_failed outcome
+    pub told : EndsBy outcome written taken_after then_failed sink_failed status
+    pub uncut : cut ≡ 0
+
+  -- or the file wasn't opened
+  abbrev pub IsLookServed : (after : Option ℕ) → (left left_after : Option (List ℕ)) → (turns turns_after : ℕ)
+      → (taken taken_after : Option (List ℕ)) → (source_failed sink_failed : Bool) → (cut : ℕ) → Status → Type 0
+  IsLookServed after left left_after turns turns_after taken taken_after source_failed sink_failed cut status =
+      IsUnopened left left_after taken taken_after sink_failed cut status
+      ⊎ IsLookTaken after left left_after turns turns_after taken taken_after source_failed sink_failed cut status
+
+  -- A file was shared, and the source's rows were answered as looks on top of what stood in it.
+  pub record IsLookSat (left left_after taken taken_after : Option (List ℕ)) (source_failed sink_failed : Bool) (cut : ℕ)
+      (status : Status) : Type 0 where
+    pub old : D
+    pub new : D
+    pub written : Option (List ℕ)
+    pub then_failed : Bool
+    pub outcome : Result (Unit {0}) LastingFault
+    pub desk : LookingDesk (seen old) (seen new) (may_leave old) (may_leave new) (LeavesOnly moment left_since old new) left left_after
+        taken written (has_failed new) source_failed then_failed outcome
+    pub told : EndsBy outcome written taken_after then_failed sink_failed status
+    pub uncut : cut ≡ 0
+
+  -- or the file wasn't opened
+  abbrev pub IsLookDeskServed : (left left_after taken taken_after : Option (List ℕ)) → (source_failed sink_failed : Bool) → (cut : ℕ)
+      → Status → Type 0
+  IsLookDeskServed left left_after taken taken_after source_failed sink_failed cut status =
+      IsUnopened left left_after taken taken_after sink_failed cut status
+      ⊎ IsLookSat left left_after taken taken_after source_failed sink_failed cut status
