@@ -57,7 +57,7 @@ fn refused_township(script: &Script<'_>, n: u64, quoted: Quoted<'_>) -> Result<S
     }
     if script.is_kept {
         return format!(in script.alloc;
-            "the township {quoted} is declared above already, \
+            "the township {quoted} is declared already, \
             or the plant has {MOST_TOWNSHIPS} with those above"
         );
     }

@@ -47,7 +47,8 @@ fn has(row: &ByteRecord, place: usize, text: &str) -> bool {
     }
 }
 
-fn is_declaration(row: &ByteRecord) -> bool {
+// Whether a row declares something.
+pub(crate) fn is_declaration(row: &ByteRecord) -> bool {
     has(row, 0, "township") || has(row, 0, "party")
 }
 

@@ -5,6 +5,7 @@
 //! whichever growth is refused, and standard error tells how many calls there were. `bench/refuse_growths.py` refuses each growth.
 #![tactic(auto)]
 
+mod client;
 mod day;
 mod days;
 mod devices;
@@ -22,6 +23,7 @@ mod told;
 mod trial;
 
 use anyhow::Result;
+use client::try_client;
 use day::{Day, Plant};
 use days::try_day;
 use faults::try_faults;
@@ -61,6 +63,7 @@ fn try_all<R: Files + Print + AllocGlobal>(rt: &R) -> Result<()> {
     let day = Day::read(rt, "monday", Schedule::Serial)?;
     try_files(rt, &day)?;
     try_faults(rt)?;
+    try_client(rt)?;
     try_large(rt)
 }
 

@@ -1,6 +1,6 @@
 //! The tables of what is told on the errors.
 
-use crate::case::run;
+use crate::case::{Came, run};
 use crate::tables::{field, fields_after, file, rows_of};
 use crate::tally::Tally;
 use anyhow::Result;
@@ -11,6 +11,15 @@ use std::sync::Wait;
 use std::thread::Threads;
 use title_device::Device;
 use title_explain::tell_cut;
+
+// What is told: beside the answers of a desk, or else at the end.
+fn told(came: &Came) -> &[u8] {
+    if came.beside.is_empty() {
+        came.errors.as_slice()
+    } else {
+        came.beside.as_slice()
+    }
+}
 
 // Runs a stored command line and counts it. One that tells something else is named.
 fn judge_advice<R: Files + Print + AllocGlobal + Threads + Wait + Sync>(
@@ -23,10 +32,11 @@ fn judge_advice<R: Files + Print + AllocGlobal + Threads + Wait + Sync>(
     let words = fields_after(rt.alloc(), row, 2)?;
     let stdin = file(rt, name, "csv")?;
     let came = run(rt, words.as_slice(), stdin.as_slice());
-    let is_same = came.errors.as_slice() == wanted.as_bytes();
+    let told = told(&came);
+    let is_same = told == wanted.as_bytes();
     tally.count(is_same);
     if !is_same {
-        let told = String::from_utf8_lossy(rt.alloc(), came.errors.as_slice())?;
+        let told = String::from_utf8_lossy(rt.alloc(), told)?;
         println!(rt; "tells: {name}: {told}")?;
     }
     Ok(())

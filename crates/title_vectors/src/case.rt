@@ -5,9 +5,9 @@ use anyhow::Result;
 use std::alloc::{AllocError, Global};
 use std::sync::Wait;
 use std::thread::Threads;
-use title_advice::Heard;
+use title_advice::{Aside, Audience, Heard, Listened, Spoken};
 use title_device::Device;
-use title_explain::explain;
+use title_explain::{explain, is_desk};
 use title_program::{Unwatched, obey_words};
 
 /// What is printed, and the status after it.
@@ -26,18 +26,34 @@ pub struct Case {
     pub wanted: Ending,
 }
 
-/// How a command line ends, and what is told on the errors.
+/// How a command line ends, what is told beside the answers of a desk, and what is told on the errors at the end.
 #[derive(Debug, Drop)]
 pub struct Came {
     pub ending: Ending,
+    pub beside: Vec<u8>,
     pub errors: Vec<u8>,
 }
 
-/// Does what a command line asks for, as the program does.
-pub fn run<R: AllocGlobal + Threads + Wait + Sync>(rt: &R, words: &[String], stdin: &[u8]) -> Came {
+// Who is told beside the answers.
+fn audience(words: &[String]) -> Audience {
+    if is_desk(words) {
+        Audience::at_desk(words)
+    } else {
+        Audience::Nobody
+    }
+}
+
+// Does what a command line asks for, and has what is told beside it.
+fn run_beside<'a, R: AllocGlobal + Threads + Wait + Sync>(
+    rt: &R,
+    words: &[String],
+    stdin: &'a [u8],
+    aside: &'a Aside,
+) -> Came {
     let alloc = rt.alloc();
-    let mut source = Heard::new(alloc, Device::new(stdin));
-    let mut sink = Device::new(Vec::new(alloc));
+    let mut source = Heard::new(alloc, Listened::new(Device::new(stdin), aside));
+    let beside = Device::new(Vec::new(alloc));
+    let mut sink = Spoken::new(Device::new(Vec::new(alloc)), beside, aside);
     let mut errors = Device::new(Vec::new(alloc));
     let ending = obey_words(
         rt,
@@ -49,12 +65,22 @@ pub fn run<R: AllocGlobal + Threads + Wait + Sync>(rt: &R, words: &[String], std
         &mut Unwatched,
     );
     explain(alloc, words, ending, &source, &mut errors);
+    let (sink, beside) = sink.into_parts();
     let ending = Ending {
         stdout: sink.into_inner(),
         status: ending.status.code(),
     };
-    let errors = errors.into_inner();
-    Came { ending, errors }
+    Came {
+        ending,
+        beside: beside.into_inner(),
+        errors: errors.into_inner(),
+    }
+}
+
+/// Does what a command line asks for, as the program does at a terminal.
+pub fn run<R: AllocGlobal + Threads + Wait + Sync>(rt: &R, words: &[String], stdin: &[u8]) -> Came {
+    let aside = Aside::new(rt.alloc(), audience(words));
+    run_beside(rt, words, stdin, &aside)
 }
 
 // The number of lines before the first that differs.

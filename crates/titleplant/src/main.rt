@@ -5,9 +5,9 @@
 use std::io::IsTerminal;
 use std::process::ExitCode;
 use std::{env, io};
-use title_advice::{Heard, Progress};
+use title_advice::{Aside, Audience, Heard, Listened, Progress, Spoken};
 use title_device::{Device, Sink};
-use title_explain::{explain, tell_cut};
+use title_explain::{explain, is_desk, tell_cut};
 use title_file::Drawer;
 use title_program::{WordsFault, obey_words_onto, refuse_untaken};
 
@@ -19,13 +19,28 @@ fn words(rt: &HostRuntime) -> Result<Vec<String>, WordsFault> {
     Ok(words)
 }
 
+// Who is told beside the answers, of the words that were taken, where this is shown to anybody.
+fn audience(asked: &Result<Vec<String>, WordsFault>, is_shown: bool) -> Audience {
+    match asked {
+        Ok(words) if is_shown && is_desk(words.as_slice()) => Audience::at_desk(words.as_slice()),
+        _ => Audience::Nobody,
+    }
+}
+
 fn main(rt: HostRuntime) -> ExitCode {
-    let mut source = Heard::new(rt.alloc(), Device::new(rt.stdin()));
-    let mut sink = Device::new(io::writer(&rt));
-    let mut errors = Device::new(rt.stderr());
+    let asked = words(&rt);
     let is_shown = rt.stderr().is_terminal();
+    let aside = Aside::new(rt.alloc(), audience(&asked, is_shown));
+    let given = Listened::new(Device::new(rt.stdin()), &aside);
+    let mut source = Heard::new(rt.alloc(), given);
+    let mut sink = Spoken::new(
+        Device::new(io::writer(&rt)),
+        Device::new(rt.stderr()),
+        &aside,
+    );
+    let mut errors = Device::new(rt.stderr());
     let mut progress = Progress::new(rt.stderr(), is_shown);
-    let status = match words(&rt) {
+    let status = match asked {
         Ok(words) => {
             let words = words.as_slice();
             let mut drawer = Drawer::new(&rt, NEW_PLANT);
