@@ -22,6 +22,8 @@ refused   each call of these refused, with EIO and with ENOSPC: the fault's line
 memory    each allocation refused
 devices   standard streams that are closed; a file that can't grow above each size; what is no file, or may not be read or written to
 full      a file system with room for each number of pages more, where one may be mounted: a new file, a block, a tail to be kept
+offices   three days of an office of one examiner, whose order no timing changes, as `rest`, `tails` and `refused` do it
+looks     a look at what each day leaves, at rest and torn: nothing is written, cut or named; a sync that fails is told
 faults    each fault of a plant's file once, by a case of its own
 large     a file of 1,000,000 rows and 65,535 parties
 
@@ -440,7 +442,7 @@ class Place:
         return self.run(["check", str(self.path)])
 
     def serve(self, day, *words):
-        return self.run([day.command, "--plant", str(self.path), *words], day.script)
+        return self.run([day.command, "--plant", str(self.path), *day.words, *words], day.script)
 
     def noted(self, day, refused=None, number=errno.EIO, half=False):
         """A day, with the notes of its calls."""
@@ -453,7 +455,7 @@ class Place:
         runner.feed(day.script)
         paths = [path for path in (self.path, self.folder / BESIDE) if path.exists()]
         start = Disk({path.name: path.stat().st_ino for path in paths}, {path.stat().st_ino: Kept(path.read_bytes()) for path in paths})
-        ending = runner.run([day.command, "--plant", str(self.path)])
+        ending = runner.run([day.command, "--plant", str(self.path), *day.words])
         text = os.pread(notes, os.fstat(notes).st_size, 0)
         os.close(notes)
         return ending, start, notes_in(text)
@@ -487,6 +489,8 @@ def told_cut(errors):
 class Day:
     """A day, with what stood before it and what stands after it."""
 
+    words = ()
+
     def __init__(self, told, before):
         self.name, self.command, self.script, self.block, self.report, self.standing, self.told = told
         self.before = before
@@ -506,6 +510,50 @@ def all_days():
         made.append(Day(told, file))
         file = made[-1].after
     return made
+
+
+# What an office of one examiner is asked for, puts into the file and reports, and what stands then: three days, of which the last keeps
+# nothing.
+DECLARED = b"township,T3N R2W\ntownship,T4N R2W\nparty,ADAMS\n"
+SALES = (b"1,begin\n1,deed,1,UNITED STATES,ADAMS,S,W1/2,,T3N R2W\n1,deed,2,UNITED STATES,ADAMS,O,W1/1,,T4N R2W\n1,commit\n",
+         b"1,deed,4,ADAMS,BELL,S,W1/2,,T3N R2W\n")
+REST_OF_ALL = (b"0,row,T4N R2W,S,UNITED STATES,1/1\n0,row,T3N R2W,O,UNITED STATES,1/1\n0,row,T4N R2W,O,ADAMS,1/1\n"
+               b"0,row,everything,M,UNITED STATES,1/1\n")
+OFFICE_DAYS = [
+    ("office", "office", DECLARED + SALES[0] + b"1,begin\n1,deed,3,UNITED STATES,ADAMS,S,W1/1,,T4N R2W\n1,abort\n",
+     DECLARED + SALES[0] + b"end,1\n",
+     b"1,done,1,1,0\nsettled,1\n0,sheet,6\n0,row,T3N R2W,S,UNITED STATES,1/2\n0,row,T3N R2W,S,ADAMS,1/2\n" + REST_OF_ALL + b"end,7\n",
+     b"townships,2\nparties,2\ntransactions,1\nposts,2\n", DECLARED + SALES[0]),
+    ("another office", "office", b"party,BELL\n1,begin\n" + SALES[1] + b"1,commit\n", b"party,BELL\n" + SALES[1] + b"end,2\n",
+     b"1,done,1,0,0\nsettled,1\n0,sheet,6\n0,row,T3N R2W,S,UNITED STATES,1/2\n0,row,T3N R2W,S,BELL,1/2\n" + REST_OF_ALL + b"end,3\n",
+     b"townships,2\nparties,3\ntransactions,2\nposts,3\n", DECLARED + b"party,BELL\n" + SALES[0] + SALES[1]),
+    ("an office that keeps nothing", "office", b"1,begin\n1,deed,5,BELL,ADAMS,S,W1/2,,T3N R2W\n1,abort\n", b"",
+     b"1,done,0,1,0\nsettled,0\n0,sheet,6\n0,row,T3N R2W,S,UNITED STATES,1/2\n0,row,T3N R2W,S,BELL,1/2\n" + REST_OF_ALL + b"end,3\n",
+     b"townships,2\nparties,3\ntransactions,2\nposts,3\n", DECLARED + b"party,BELL\n" + SALES[0] + SALES[1]),
+]
+
+
+class OfficeDay(Day):
+    """A day of an office of one examiner."""
+
+    words = ("--examiners", "1")
+
+
+def office_days():
+    file, made = HEAD + b"-", []
+    for told in OFFICE_DAYS:
+        made.append(OfficeDay(told, file))
+        file = made[-1].after
+    return made
+
+
+class Look(Day):
+    """A look at what a day leaves."""
+
+    words = ("--look",)
+
+    def __init__(self, day):
+        super().__init__((day.name, "alone", b"1,sheet,everything\n", b"", b"", day.standing, day.told), day.after)
 
 
 class Seen(Exception):
@@ -714,6 +762,33 @@ def try_refused(trial, day):
     trial.refuse(day, day.before[:-1] + b"-\nparty,", f"{day.name}, torn")
     if day.before == HEAD + b"-":
         trial.refuse(day, None, "a new file")
+
+
+def try_offices(trial, day):
+    if day.before == HEAD + b"-":
+        for office in office_days():
+            try_rest(trial, office)
+            try_tails(trial, office)
+            trial.refuse(office, office.before, office.name)
+
+
+def try_looks(trial, day):
+    look = Look(day)
+    for content in (look.before, look.before[:-1] + tails(day)[3]):
+        trial.place.lay(content)
+        ending, _, notes = trial.place.noted(look)
+        made = [note for note in notes if note.kind not in "sdp"]
+        if ending.status != 0 or ending.errors or not ending.output.startswith(b"1,sheet,") or made:
+            trial.fail(f"{day.name}: a look", ending.status, ending.output[:200], ending.errors, made)
+        trial.counts["looks"] += 1
+        syncs = sum(note.kind in "sd" for note in notes)
+        for call in range(syncs):
+            ending, _, notes = trial.place.noted(look, call)
+            if (ending.status, ending.output) != (1, b"fault,36\n") or not any(note.refused for note in notes):
+                trial.fail(f"{day.name}: a look whose sync fails", call, ending.status, ending.output[:200], ending.errors)
+            trial.counts["syncs refused"] += 1
+        if trial.place.content() != content or trial.place.beside() is not None:
+            trial.fail(f"{day.name}: a look has left something", trial.place.content()[-200:], trial.place.beside())
 
 
 def expect(trial, where, ending, status, output, content):
@@ -1039,7 +1114,8 @@ def try_large(trial, day):
 
 
 TRIALS = {"rest": try_rest, "tails": try_tails, "new": try_new, "syncs": try_syncs, "refused": try_refused,
-          "memory": try_memory, "devices": try_devices, "full": try_full, "faults": try_faults, "large": try_large}
+          "memory": try_memory, "devices": try_devices, "full": try_full, "offices": try_offices, "looks": try_looks, "faults": try_faults,
+          "large": try_large}
 
 
 def one(task):

@@ -27,6 +27,7 @@ import argparse
 import bisect
 import collections
 import contextlib
+import csv
 import fcntl
 import io
 import os
@@ -42,6 +43,7 @@ import sys
 import tempfile
 import threading
 import time
+import types
 import unittest.mock
 
 from endings import BUILT, TOP
@@ -504,14 +506,47 @@ T3N R2W sec 5 NE1/4, M: ADAMS, J. 1/1
 """
 
 
+# What the client sends and reads is stored, and the gate answers these rows too.
+STORED = TOP / "crates" / "title_vectors" / "data" / "rows" / "desk.a_client.desk.csv"
+
+
+class Written(desk_client.Desk):
+    """A client's desk that writes down the rows that were answered, and the answers."""
+
+    rows_of_all, answers_of_all = [], []
+
+    def open(self):
+        super().open()
+        self.sent = []
+        self.rows = csv.writer(types.SimpleNamespace(write=self.write), lineterminator="\n")
+
+    def write(self, text):
+        self.sent.append(text)
+        return self.process.stdin.write(text)
+
+    def answer(self):
+        fields = super().answer()
+        self.rows_of_all += self.sent
+        self.sent.clear()
+        self.answers_of_all.append(row(*fields))
+        return fields
+
+
 def client_itself(trial):
-    """What the client says."""
+    """What the client says, sends and reads."""
     trial.clear()
     said = io.StringIO()
-    with contextlib.redirect_stdout(said), unittest.mock.patch("sys.argv", ["desk_client.py", str(trial.path)]):
+    with contextlib.redirect_stdout(said), unittest.mock.patch("sys.argv", ["desk_client.py", str(trial.path)]), \
+            unittest.mock.patch.object(desk_client, "Desk", Written):
         desk_client.main()
     if said.getvalue() != TRANSCRIPT:
         trial.fail("client: what it says", said.getvalue(), TRANSCRIPT)
+    sent, told = "".join(Written.rows_of_all), "".join(Written.answers_of_all)
+    if sent != STORED.read_text(encoding="utf-8"):
+        trial.fail("client: its rows aren't those that are stored", sent)
+    # (The stored answers are of one desk, whose end counts all the steps.)
+    if told != re.sub(r"end,[0-9]+\n$", "", STORED.with_suffix(".report").read_text(encoding="utf-8")):
+        trial.fail("client: its answers aren't those that are stored", told)
 
 
 def posts_while_killed(trial, count):
@@ -670,27 +705,54 @@ def flood(trial):
     ended_well(trial, "flood", sitting, desk)
 
 
+HELP = """row 4: the rows at a desk are
+  township,TEXT
+  party,NAME
+  E,begin
+  E,sheet,TEXT
+  E,chain,TEXT
+  E,deed,DOC,GRANTOR,GRANTEE,ESTATES,QUANTUM,RESERVE,TEXT
+  E,warranty,DOC,GRANTOR,GRANTEE,ESTATES,QUANTUM,RESERVE,TEXT
+  E,release,DOC,FROM,TO,ESTATES,TEXT
+  E,commit
+  E,abort
+E is an examiner's number, 1 to 9999, and TEXT is land, as T3N R2W sec 5 NE1/4; titleplant run --help tells of all fields
+the end of the input (Ctrl-D at a terminal) ends the desk"""
 QUARTER = "T3N R2W sec 5 NE1/4"
 SHEET = [f"1,row,{QUARTER}SE1/4,{estate},UNITED STATES,1/1" for estate in "SOM"]
-# Rows that are typed, and what is answered to each.
+# Rows that are typed, what is answered to each, and what is told beside that.
 TYPED = [
-    ("township,T3N R2W", ["township,1"]),
-    ("party,ADAMS", ["party,1"]),
-    ("1,begin", ["1,began"]),
-    ("", []),
-    ("help", ["fault,31,4"]),
-    (f"1,deed,1,UNITED STATES,BELL,S,W1/2,,{QUARTER}", ["fault,34,5"]),
-    ("party,BELL", ["party,2"]),
-    (f"1,deed,1,UNITED STATES,BELL,SX,W1/2,,{QUARTER}", ["fault,31,7"]),
-    (f"1,deed,1,UNITED STATES,BELL,S,W1/2,,{QUARTER}", ["1,posted"]),
-    ("township,T4N R2W", ["fault,35,9"]),
-    (f"1,sheet,{QUARTER}SE1/4", ["1,sheet,3", *SHEET]),
-    ("2,begin", ["2,began"]),
-    (f"2,chain,{QUARTER}", ["2,conflict,1"]),
-    ("1,commit", ["1,committed,1"]),
-    ("2,commit", ["2,committed,2"]),
+    ("township,T3N R2W", ["township,1"], []),
+    ("party,ADAMS", ["party,1"], []),
+    ("1,begin", ["1,began"], []),
+    ("", [], []),
+    ("help", ["fault,31,4"], HELP.split("\n")),
+    (f"1,deed,1,UNITED STATES,BELL,S,W1/2,,{QUARTER}", ["fault,34,5"],
+     ['row 5: no party named "BELL" is declared above or in the plant']),
+    ("party,BELL", ["party,2"], []),
+    (f"1,deed,1,UNITED STATES,BELL,SX,W1/2,,{QUARTER}", ["fault,31,7"],
+     ['row 7: ESTATES is "SX"; it must be one of S, O, M, SO, SM, OM, SOM']),
+    (f"1,deed,1,UNITED STATES,BELL,S,W1/2,,{QUARTER}", ["1,posted"], []),
+    ("township,T4N R2W", ["fault,35,9"],
+     ["row 9: townships are declared before the first step; where transactions stand in the plant's file a script declares them, "
+      "by titleplant run --plant"]),
+    (f"1,sheet,{QUARTER}SE1/4", ["1,sheet,3", *SHEET], []),
+    ("2,begin", ["2,began"], []),
+    (f"2,chain,{QUARTER}", ["2,conflict,1"], []),
+    ("1,commit", ["1,committed,1"], []),
+    ("2,commit", ["2,committed,2"], []),
 ]
-ALL = "".join(line + "\n" for _, answers in TYPED for line in answers) + "end,7\n"
+# The same at a desk that looks, on what that has left.
+ONLY_LOOKS = "with --look nothing is kept: a row begins, asks for a sheet or a chain, or aborts"
+LOOKED = [
+    ("help", ["fault,31,1"], ["row 1: the rows at a desk with --look are", "  E,begin", "  E,sheet,TEXT", "  E,chain,TEXT", "  E,abort",
+                              *HELP.split("\n")[-2:]]),
+    ("1,begin", ["1,began"], []),
+    ("1,commit", ["fault,31,3"], [f"row 3: {ONLY_LOOKS}"]),
+    ("party,CLARK", ["fault,31,4"], [f"row 4: {ONLY_LOOKS}"]),
+    (f"1,chain,{QUARTER}", ["1,chain,1", "1,entry,1,1,deed,UNITED STATES,BELL,S"], []),
+    ("1,abort", ["1,aborted"], []),
+]
 
 
 class Screen:
@@ -721,30 +783,37 @@ class Screen:
         os.close(self.there)
 
 
+def typed(trial, words, rows, is_all, last):
+    """Rows that are typed, all three streams at a terminal or standard output elsewhere."""
+    screen = Screen()
+    with tempfile.TemporaryFile() as output:
+        child = subprocess.Popen(words, stdin=screen.there, stdout=screen.there if is_all else output, stderr=screen.there, env={})
+        for text, answers, told in rows:
+            screen.type(text + "\n")
+            wanted = "".join(line + "\n" for line in [text, *(answers if is_all else []), *told])
+            shown = screen.until(wanted, 2.0)
+            if shown != wanted:
+                trial.fail(f"terminal: {text}", shown, wanted)
+            trial.counts["rows typed"] += 1
+        screen.type("\x04")
+        status = child.wait(10)
+        output.seek(0)
+        said = output.read().decode()
+    answered = "".join(line + "\n" for _, answers, _ in rows for line in [*answers]) + last
+    if status != 0 or not is_all and said != answered:
+        trial.fail("terminal: the end", status, said, answered)
+    if is_all and not screen.until(last).endswith(last):
+        trial.fail("terminal: the last row", screen.shown[-200:])
+    screen.close()
+
+
 def terminal(trial):
-    """All three streams at a terminal; standard output elsewhere; and in tmux."""
+    """At a terminal, and in tmux; and a desk that looks."""
     words = [trial.program, "desk", "--plant", str(trial.path)]
     for is_all in (True, False):
         trial.clear()
-        screen = Screen()
-        with tempfile.TemporaryFile() as output:
-            child = subprocess.Popen(words, stdin=screen.there, stdout=screen.there if is_all else output, stderr=screen.there, env={})
-            for typed, answers in TYPED:
-                screen.type(typed + "\n")
-                wanted = "".join(line + "\n" for line in [typed, *(answers if is_all else [])])
-                shown = screen.until(wanted, 2.0)
-                if shown != wanted:
-                    trial.fail(f"terminal: {typed}", shown, wanted)
-                trial.counts["rows typed"] += 1
-            screen.type("\x04")
-            status = child.wait(10)
-            output.seek(0)
-            said = output.read().decode()
-        if status != 0 or not is_all and said != ALL:
-            trial.fail("terminal: the end", status, said, ALL)
-        if is_all and not screen.until("end,7\n").endswith("end,7\n"):
-            trial.fail("terminal: the last row", screen.shown[-200:])
-        screen.close()
+        typed(trial, words, TYPED, is_all, "end,7\n")
+        typed(trial, [*words, "--look"], LOOKED, is_all, "end,3\n")
     if shutil.which("tmux"):
         in_tmux(trial, words)
 
@@ -762,11 +831,11 @@ def in_tmux(trial, words):
 
     try:
         wanted = []
-        for keys, answers in [*(it for it in TYPED if it[0]), (None, ["end,7", "status 0"])]:
+        for keys, answers, told in [*(it for it in TYPED if it[0]), (None, ["end,7", "status 0"], [])]:
             subprocess.run([*tmux, "send-keys", *(["-l", keys] if keys else ["C-d"])], check=True)
             if keys:
                 subprocess.run([*tmux, "send-keys", "Enter"], check=True)
-            wanted += [*([keys] if keys else []), *answers]
+            wanted += [*([keys] if keys else []), *answers, *told]
             until = time.monotonic() + 5
             while shown() != wanted and time.monotonic() < until:
                 time.sleep(0.01)

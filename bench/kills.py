@@ -10,6 +10,12 @@ kills     N times (1,000 where nothing is said) a day of plant_days.py is served
 second    one that reads its script has the file: a second is told so, and changes nothing; the first is killed, and the next is served
 crowd     sixteen at once on a file that isn't there, each with one transaction: as many stand as were told of theirs, and the others were
           told that the file is in use
+looks     sixteen looks at once beside scripts that post: each sees what stands or is told that the file is in use, no script is served
+          while a look is at the file, and a look changes no byte and no name, also where bytes at its end don't count; a desk that
+          looks passes over what would post
+offices   N/10 times a script of an office of eight is killed at a random moment: what stands is what stood before, or that and all that it
+          asks for, each examiner's transactions in their order, and where a byte of the report came, that; a report that came whole tells
+          what a look tells then
 
 With no trial named, all of them. What is wrong is named, and the status is 1 then.
 """
@@ -27,7 +33,7 @@ import time
 
 from crashes import BESIDE, all_days, kept_with, loose_in, told_cut
 from endings import BUILT
-from plant_days import HEAD, Fault, read_plant, tail_of
+from plant_days import HEAD, Fault, read_plant, row, tail_of
 
 
 class Trial:
@@ -208,7 +214,134 @@ def crowd(trial):
         trial.counts["told that it is in use"] += len(children) - served
 
 
-TRIALS = {"kills": kills, "second": second, "crowd": crowd}
+def deeds(examiner, section, numbers):
+    """Transactions of an examiner: a section is granted, and quarters of it are sold by and by."""
+    land, made = f"T3N R2W sec {section}", []
+    for number in numbers:
+        first = [number, "UNITED STATES", f"P{examiner}", "SOM", "W1/1", "", land]
+        sales = [[number, f"P{examiner}", "LAST", "S", "I1/4", "", f"{land} {quarter}1/4"] for quarter in ("NE", "SW")]
+        rows = [first, *sales] if number == numbers[0] else sales
+        made.append(row(examiner, "begin") + "".join(row(examiner, "deed", *it) for it in rows) + row(examiner, "commit"))
+    return made
+
+
+OFFICE = 8
+DECLARED = "township,T3N R2W\nparty,LAST\n" + "".join(f"party,P{examiner}\n" for examiner in range(1, OFFICE + 1))
+
+
+def look_at_all(trial):
+    """What a look tells of all land."""
+    return trial.run(["alone", "--plant", str(trial.path), "--look"], b"1,sheet,everything\n")
+
+
+def looks(trial):
+    """Looks beside each other, and beside scripts that post."""
+    script = trial.path.parent.parent / "script"
+    script.write_bytes(b"1,sheet,everything\n1,chain,everything\n")
+    trial.run(["run", "--plant", str(trial.path)], (DECLARED + "".join(deeds(1, 1, range(1, 2)))).encode())
+    for number in range(50):
+        if number % 2:
+            with open(trial.path, "ab") as file:
+                file.write(b"\nparty,")
+        before, names = trial.content(), sorted(os.listdir(trial.path.parent))
+        words = ["alone", "--plant", str(trial.path), "--look"]
+        # One that reads its script has the file: others look, and nobody posts.
+        first = trial.begin(words)
+        if not is_locked_by(first.pid):
+            trial.fail(f"looks {number}: the first doesn't begin")
+        children = []
+        for _ in range(16):
+            with open(script, "rb") as source:
+                children.append(trial.begin(words, source))
+        seen = {(child.communicate()[0], child.returncode) for child in children}
+        if len(seen) != 1 or not min(seen)[0].startswith(b"1,sheet,") or min(seen)[1] != 0:
+            trial.fail(f"looks {number}: those beside it", seen)
+        post = "".join(deeds(2, 2 + number % 35, [number + 2])).encode()
+        status, output, _ = trial.run(["run", "--plant", str(trial.path)], post)
+        if (status, output) != (1, b"fault,37\n"):
+            trial.fail(f"looks {number}: a script beside a look", status, output)
+        output, _ = first.communicate(script.read_bytes())
+        if {(output, first.returncode)} != seen:
+            trial.fail(f"looks {number}: the first", output, seen)
+        # A desk that looks passes over what would post, and goes on.
+        rows = f"1,begin\n{post.decode()}party,NEW\n1,chain,T3N R2W sec 1\n1,commit\n1,abort\n".encode()
+        status, output, _ = trial.run(["desk", "--plant", str(trial.path), "--look"], rows)
+        fields = [line.split(",") for line in output.decode().splitlines()]
+        passed = [f"fault,31,{place}".split(",") for place in (3, 4, 5, 6, 7, 9)]
+        told = [["1", "began"], ["2", "began"], *passed[:-1], ["1", "chain", "3"], passed[-1], ["1", "aborted"]]
+        if status != 0 or [it for it in fields if it[1] != "entry"][:-1] != told or fields[-1] != ["end", "4"]:
+            trial.fail(f"looks {number}: a desk that looks", status, output)
+        if trial.content() != before or sorted(os.listdir(trial.path.parent)) != names:
+            trial.fail(f"looks {number}: the file is another", trial.content()[-200:], before[-200:])
+        trial.counts["looks"] += 17
+        # One that posts has the file: nobody looks.
+        writer = trial.begin(["run", "--plant", str(trial.path)])
+        if not is_locked_by(writer.pid):
+            trial.fail(f"looks {number}: the script doesn't begin")
+        status, output, _ = look_at_all(trial)
+        if (status, output) != (1, b"fault,37\n"):
+            trial.fail(f"looks {number}: a look beside a script", status, output)
+        writer.communicate(post)
+        if writer.returncode != 0:
+            trial.fail(f"looks {number}: the script", writer.returncode)
+        trial.counts["told that it is in use"] += 2
+
+
+def by_examiner(transactions):
+    """The posts of each examiner's transactions, in their order."""
+    found = collections.defaultdict(list)
+    for examiner, posts in transactions:
+        found[examiner].append(posts)
+    return found
+
+
+def offices(trial):
+    """Offices that are killed."""
+    took, place, stood, document = None, 0, 0, 0
+    for number in range(trial.count // 10):
+        if place == 0:
+            trial.clear()
+            stood, document = 0, 0
+        sections = {examiner: 1 + (examiner - 1) * 4 + place for examiner in range(1, OFFICE + 1)}
+        per = [deeds(examiner, section, range(document + 1, document + 6)) for examiner, section in sections.items()]
+        script = (DECLARED if place == 0 else "") + "".join("".join(it) for it in zip(*per))
+        wanted = by_examiner((fields[0][0], fields[1:-1]) for it in per for text in it
+                             for fields in [[line.split(",") for line in text.splitlines()]])
+        words = ["office", "--plant", str(trial.path), "--examiners", str(OFFICE), "--after", str(stood)]
+        _, gate = read_plant(trial.content())
+        before = trial.content()[:gate]
+        source = trial.path.parent.parent / "script"
+        source.write_bytes(script.encode())
+        if took is None:
+            start = time.perf_counter()
+            trial.run(words, script.encode())
+            took = time.perf_counter() - start
+            trial.clear()
+        output, errors, status = killed(trial, source, words, took * 1.3)
+        trial.counts["killed" if status == -9 else "ended before"] += 1
+        trial.counts["with a byte of the report"] += bool(output)
+        where = f"office {number}"
+        if trial.numbers(where) is None:
+            return None
+        found, _ = read_plant(trial.content())
+        news = by_examiner(found.transactions[stood:])
+        is_after = news == wanted
+        if not is_after and (output or news or not trial.content().startswith(before)):
+            return trial.fail(f"{where}: neither before nor after, or told and not there", news, output[:200], trial.content()[-200:])
+        trial.counts["after" if is_after else "before"] += 1
+        if status == 0:
+            rows = output.decode().splitlines()
+            tallies = [f"{examiner},done,5,0,0" for examiner in range(1, OFFICE + 1)] + [f"settled,{5 * OFFICE}"]
+            _, seen, _ = look_at_all(trial)
+            sheet = [line.replace("1,", "0,", 1) for line in seen.decode().splitlines()[:-1]]
+            if rows[:OFFICE + 1] != tallies or rows[OFFICE + 1:-1] != sheet or rows[-1] != f"end,{21 * OFFICE}":
+                trial.fail(f"{where}: the report", rows[:12], rows[-1], sheet[:3])
+        if is_after:
+            stood, document, place = len(found.transactions), document + 5, (place + 1) % 4
+    return None
+
+
+TRIALS = {"kills": kills, "second": second, "crowd": crowd, "looks": looks, "offices": offices}
 
 
 def main():
