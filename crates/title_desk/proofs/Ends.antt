@@ -51,7 +51,7 @@ pub record Gone (images gone : List ℕ) : Type 0 where
   pub into : (n : ℕ) → IsOf n gone → IsOf n images
   pub all : (n : ℕ) → IsOf n images → IsOf n gone
 
--- the state without the slot, the images and the locks of an examiner
+-- the state without what an examiner has open, and without its locks
 abbrev pub ended : ℕ → List ℕ → State → State
 ended e gone s = record s {
   begun = λ f. cond (eqb f e) false (s.begun f);

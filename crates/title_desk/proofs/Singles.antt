@@ -1,6 +1,6 @@
 -- A transaction of one step where nobody is open: begun, asked and ended, each by the lemma of that call.
 use Rattle.std.proofs.Common.{◌≡◌, ℕ, suc, true, false, cond, List, [], ◌∷◌, ◌++◌, reverse, refl, ap, ◌∙◌, sym, subst, eqb, None, length}
-use Rattle.std.specs.Prelude.{Option, nat_le, is_some}
+use Rattle.std.specs.Prelude.{nat_le, is_some}
 use Rattle.title_land.specs.Depth.{depth}
 use Rattle.std.proofs.lemmas.List.{reverse-append, length-reverse}
 use Rattle.title_lock.specs.declared.guards.Entry.{Entry}
@@ -24,17 +24,16 @@ use Rattle.title_trace.specs.Trace.{is_open, open_steps, committed}
 use Rattle.title_trace.specs.Due.{Setting, most_steps, InTheWay, IsDue}
 use Rattle.title_desk.specs.declared.refusal.Refusal.{Refusal}
 use Rattle.title_desk.specs.declared.refusal.Refusal.TheVariants as refusal
-use Rattle.title_desk.specs.declared.slots.Slot.{Slot}
 use Rattle.title_desk.specs.Refusals.{reply_of}
-use Rattle.title_desk.specs.Slots.{steps_in}
+use Rattle.title_desk.specs.Opened.{Opened, found, held}
 use Rattle.title_desk.specs.Images.{is_posted, IsRestored, without_all}
 use Rattle.title_desk.specs.Keeps.{State, Keeps}
 use Rattle.title_desk.specs.Told.{Books, Passes}
 use Rattle.title_desk.specs.Admissions.{entry_of}
 use Rattle.title_desk.specs.Singles.{IsIdle, Stands, Bars, ToldSingle, after_single}
 use Rattle.title_desk.proofs.Content.{case_eqb}
-use Rattle.title_desk.proofs.Found.{none_from}
-use Rattle.title_desk.proofs.States.{told, books_of, keeps_told, keeps_slots, keeps_store, keeps_locks, keeps_refused, keeps_began}
+use Rattle.title_desk.proofs.Found.{nothing_from}
+use Rattle.title_desk.proofs.States.{told, books_of, keeps_told, keeps_opened, keeps_store, keeps_locks, keeps_refused, keeps_began}
 use Rattle.title_desk.proofs.Ends.{Gone, gone_newest, nothing_out, keeps_aborted, keeps_committed}
 use Rattle.title_desk.proofs.Steps.{bars_due, longer, keeps_answered, with_image, keeps_posted}
 
@@ -47,13 +46,13 @@ pub record Idle (s : State) : Type 0 where
   pub shut : IsIdle s.trace
   pub none : (f : ℕ) → s.own f ≡ []
 
--- so it is where no slot is there
-pub idle_state : {s : State} {I : Type 0} (slots : ℕ → Option (Slot I)) → Keeps s → IsIdle s.trace
-    → ((f : ℕ) → is_some (slots f) ≡ s.begun f) → ((f : ℕ) → steps_in (slots f) ≡ s.own f) → Idle s
-idle_state slots k shut begun own = record {
+-- so it is where nothing is open
+pub idle_state : {s : State} (all : List (ℕ × Opened)) → Keeps s → IsIdle s.trace →
+    ((f : ℕ) → (is_some (found all f) ≡ s.begun f) × ((held (found all f)).steps ≡ s.own f)) → Idle s
+idle_state all k shut is = record {
   keeps = k;
   shut = shut;
-  none = λ f. sym (own f) ∙ ap steps_in (none_from (slots f) (begun f ∙ k.begun_are f ∙ shut f));
+  none = λ f. sym (is f).1 ∙ ap (λ t. t.steps) (nothing_from (found all f) ((is f).0 ∙ k.begun_are f ∙ shut f));
 }
 
 no_images : {s : State} → Idle s → (f : ℕ) → s.images f ≡ []
@@ -92,12 +91,12 @@ alone_now : {s : State} → Idle s → (e : ℕ) (a : Ask) (given : Answer)
 alone_now {s} i e a given is =
     is ∙ ap (λ own. alone depth s.setting.townships (committed s.trace) own a) (sym (i.keeps.steps_are e) ∙ (began i e).steps_are e)
 
--- who has begun and ended again has no slot, steps or images
-slots_back : {s : State} → Idle s → (e : ℕ) (own : ℕ → List Step) (images : ℕ → List ℕ) → ((f : ℕ) → cond (eqb f e) [] (own f) ≡ [])
+-- who has begun and ended again has nothing open, no steps and no images
+as_before : {s : State} → Idle s → (e : ℕ) (own : ℕ → List Step) (images : ℕ → List ℕ) → ((f : ℕ) → cond (eqb f e) [] (own f) ≡ [])
     → ((f : ℕ) → cond (eqb f e) [] (images f) ≡ []) → (f : ℕ) →
     (s.begun f ≡ cond (eqb f e) false (cond (eqb f e) true (s.begun f))) × (s.own f ≡ cond (eqb f e) [] (own f))
     × (s.images f ≡ cond (eqb f e) [] (images f))
-slots_back {s} i e own images no_steps no_images_left f = (
+as_before {s} i e own images no_steps no_images_left f = (
   case_eqb (λ b. s.begun f ≡ cond b false (cond b true (s.begun f))) f e (λ _. i.keeps.begun_are f ∙ i.shut f) (λ _. refl),
   i.none f ∙ sym (no_steps f),
   no_images i f ∙ sym (no_images_left f),
@@ -139,8 +138,8 @@ closed {s} i e a given images after out locks gone k g none none_left =
     let records_are = ap (λ steps. record_of e steps ∷ s.records) (sym mine) in
     let no_steps = λ (f : ℕ). case_eqb (λ b. cond b [] (cond b (step ∷ s.own f) (s.own f)) ≡ []) f e (λ _. refl) (λ _. i.none f) in
     let t : State = record (after_one e a given after s) { locks = without e locks } in
-    let kept : Keeps t = keeps_store (keeps_slots (keeps_told (keeps_committed e gone k (opened s e) g) trace_is records_are)
-    (slots_back i e own images no_steps none) refl) (λ c. refl) refl (none_out i ∙ sym none_left) in
+    let kept : Keeps t = keeps_store (keeps_opened (keeps_told (keeps_committed e gone k (opened s e) g) trace_is records_are)
+    (as_before i e own images no_steps none) refl) (λ c. refl) refl (none_out i ∙ sym none_left) in
     keeps_unlocked i kept (λ f. refl)
 
 -- a step that posts nothing
@@ -199,8 +198,8 @@ keeps_barred {s} i e a why bar =
     (told (request.Begin e) reply.Began (record s { locks = without e s.locks }))) in
     let back : IsRestored s.declared (s.images e) s.out s.content s.content =
     subst (λ is. IsRestored s.declared is s.out s.content s.content) (sym (no_images i e)) (λ c. refl) in
-    let kept : Keeps t = keeps_store (keeps_slots (keeps_aborted e s.content k (opened s e) back)
-    (slots_back i e s.own s.images (nothing_at e s.own i.none) (nothing_at e s.images (no_images i))) refl) (λ c. refl) refl
+    let kept : Keeps t = keeps_store (keeps_opened (keeps_aborted e s.content k (opened s e) back)
+    (as_before i e s.own s.images (nothing_at e s.own i.none) (nothing_at e s.images (no_images i))) refl) (λ c. refl) refl
     (ap (λ is. without_all is s.out) (sym (no_images i e))) in
     keeps_unlocked i kept (λ f. refl)
 

@@ -49,14 +49,14 @@ keeps_told {s} {trace} {records} k calls done =
     let path : record s { trace = trace; records = records } ≡ s = λ i. record s { trace = calls i; records = done i } in
     subst Keeps (sym path) k
 
--- with other slots and locks, which look the same
-pub keeps_slots : {s : State} {begun : ℕ → Bool} {own : ℕ → List Step} {images : ℕ → List ℕ} {locks : List Entry} → Keeps s
+-- with other open transactions and locks, which look the same
+pub keeps_opened : {s : State} {begun : ℕ → Bool} {own : ℕ → List Step} {images : ℕ → List ℕ} {locks : List Entry} → Keeps s
     → ((f : ℕ) → (begun f ≡ s.begun f) × (own f ≡ s.own f) × (images f ≡ s.images f)) → locks ≡ s.locks
     → Keeps (record s { begun = begun; own = own; images = images; locks = locks })
-keeps_slots {s} {begun} {own} {images} {locks} k slots same =
-    let begun_is : begun ≡ s.begun = fun_ext (λ f. (slots f).0) in
-    let own_is : own ≡ s.own = fun_ext (λ f. (slots f).1) in
-    let images_are : images ≡ s.images = fun_ext (λ f. (slots f).2) in
+keeps_opened {s} {begun} {own} {images} {locks} k looks same =
+    let begun_is : begun ≡ s.begun = fun_ext (λ f. (looks f).0) in
+    let own_is : own ≡ s.own = fun_ext (λ f. (looks f).1) in
+    let images_are : images ≡ s.images = fun_ext (λ f. (looks f).2) in
     let path : record s { begun = begun; own = own; images = images; locks = locks } ≡ s =
     λ i. record s { begun = begun_is i; own = own_is i; images = images_are i; locks = same i } in
     subst Keeps (sym path) k

@@ -5,22 +5,10 @@ use Rattle.title_land.specs.declared.place.Township.{Township}
 use Rattle.title_land.specs.declared.place.Cell.{Cell}
 use Rattle.title_store.specs.Plants.{Plant, SameContent, is_cell_of}
 use Rattle.title_store.specs.Loans.{Loan, IsLentAs, IsOut, IsLast, IsFirst, without}
-use Rattle.title_chain.specs.declared.ask.Ask.{Ask}
-use Rattle.title_chain.specs.declared.ask.Ask.TheVariants as ask
-use Rattle.title_chain.specs.declared.ask.Answer.{Answer}
-use Rattle.title_chain.specs.declared.ask.Answer.TheVariants as answer
 use Rattle.title_chain.specs.declared.ask.Step.{Step}
 use Rattle.title_chain.specs.Asks.{tract_of, effect}
 use Rattle.title_chain.specs.Alone.{after_steps}
-
--- the ask is a post, and it was posted
-abbrev pub is_posted : Ask → Answer → Bool
-is_posted (ask.Sheet t) a = false
-is_posted (ask.Chain t) a = false
-is_posted (ask.Post p) (answer.Rows rows) = false
-is_posted (ask.Post p) (answer.Entries entries) = false
-is_posted (ask.Post p) answer.Posted = true
-is_posted (ask.Post p) (answer.Refused rule estate node) = false
+pub use Rattle.title_chain.specs.Replays.{was_posted as is_posted}
 
 -- one of these steps was posted at the cell
 abbrev pub posted_at : List Township → Cell → List Step → Bool

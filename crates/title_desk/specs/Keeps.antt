@@ -18,8 +18,8 @@ use Rattle.title_trace.specs.Trace.{is_open, open_steps, committed}
 use Rattle.title_trace.specs.Due.{Setting, IsDue}
 use Rattle.title_desk.specs.Images.{Backed, IsOf, posted_at}
 
--- All that a desk has: what it was opened with and its calls; its records; of each examiner whether a slot is there, the steps in
--- it and the numbers of its images; the store's owners, townships and images that are out; the locks. Calls, records, steps
+-- All that a desk has: what it was opened with and its calls; its records; of each examiner whether it has begun, its steps and
+-- the numbers of its images; the store's owners, townships and images that are out; the locks. Calls, records, steps
 -- and images have the newest first.
 pub record State : Type 0 where
   pub setting : Setting
@@ -40,9 +40,9 @@ plant_of s = plant_after depth s.declared s.records
 abbrev pub plant_for : State → ℕ → Plant
 plant_for s e = after_steps depth s.declared (plant_of s) (s.own e)
 
--- the store and the locks are where the slots and the records leave them: the locks are those of the steps; each examiner's
--- images undo its posts, and nobody else's; in a cell where an examiner's step was posted stands what that examiner sees, in
--- every other cell the plant after the records
+-- the store and the locks are where the open transactions and the records leave them: the locks are those of the steps; each
+-- examiner's images undo its posts, and nobody else's; in a cell where an examiner's step was posted stands what that examiner
+-- sees, in every other cell the plant after the records
 pub record Facts (s : State) : Type 0 where
   pub locks_are : (a : Ask) (f : ℕ) → against (tract_of a) (is_post a) f s.locks ≡ overlaps a (s.own f)
   pub backed : (e : ℕ) → Backed s.out s.declared (plant_of s) (s.own e) (s.images e)
@@ -51,7 +51,7 @@ pub record Facts (s : State) : Type 0 where
   pub posted : (e : ℕ) (c : Cell) → posted_at s.declared c (s.own e) ≡ true → s.content c ≡ plant_for s e c
   pub rest : (c : Cell) → ((e : ℕ) → posted_at s.declared c (s.own e) ≡ false) → s.content c ≡ plant_of s c
 
--- each reply was the due one, and records and slots are where the trace leaves them
+-- each reply was the due one, and records and open transactions are where the trace leaves them
 pub record Keeps (s : State) : Type 0 where
   pub few : s.setting.parties ≤ most_parties
   pub due : IsDue depth s.setting s.trace

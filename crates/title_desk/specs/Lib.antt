@@ -1,7 +1,7 @@
 pub mod Told
 pub mod QuarterRows
 pub mod Shown
-pub mod Slots
+pub mod Opened
 pub mod Images
 pub mod Keeps
 pub mod Refusals

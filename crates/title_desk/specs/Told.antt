@@ -11,7 +11,7 @@ use Rattle.title_trace.specs.declared.call.Reply.{Reply}
 use Rattle.title_trace.specs.declared.call.Reply.TheVariants as reply
 use Rattle.title_trace.specs.Trace.{is_open, open_steps}
 use Rattle.title_trace.specs.Due.{Setting, most_steps, InTheWay, DueReply}
-use Rattle.title_desk.specs.Slots.{IsFirst}
+use Rattle.title_desk.specs.Opened.{IsFirst}
 
 -- a desk as its callers see it: what it was opened with, its trace, the newest call first, and whether it has room for
 -- one record more; and the lock that is prepared, if one is

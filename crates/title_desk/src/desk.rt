@@ -8,7 +8,7 @@ ghost use Rattle.title_land.specs.declared.place.Cell.{Cell};
 ghost use Rattle.title_trace.specs.declared.call.Request.TheVariants.{Begin, Step, Commit, Abort};
 ghost use Rattle.title_trace.specs.declared.call.Reply.TheVariants.{Aborted, Memory};
 ghost use Rattle.title_chain.specs.declared.ask.Ask.TheVariants.{Post};
-ghost use Rattle.title_chain.specs.Asks.{tract_of};
+ghost use Rattle.title_chain.specs.Asks.{is_post, tract_of};
 ghost use Rattle.title_chain.specs.Alone.{alone, after_steps, plant_after, most_parties, IsSerial};
 ghost use Rattle.title_chain.specs.Overlaps.{record_of};
 ghost use Rattle.title_trace.specs.Trace.{is_open, open_steps, committed};
@@ -19,14 +19,13 @@ ghost use Rattle.title_desk.specs.Told.{Books, IsFirstOpen, Passes, Stays, Told}
 ghost use Rattle.title_desk.specs.Admissions.{Admits, IsFit, entry_of};
 ghost use Rattle.title_desk.specs.Singles.{Bars, Stands};
 
-use crate::asks::{access_in, add_step, cause_in, keep_post, step_of, tract_in};
+use crate::asks::{access_in, cause_in, lock, step_of, tract_in};
 use crate::calls::Calls;
 use crate::images::{forget_all, restore_all, tidy_up};
-use crate::plant::Plant;
+use crate::open_transactions::OpenTransactions;
 use crate::refusal::{Admission, Refusal};
-use crate::slots::{Slot, add_slot, chain_for, count_steps, first_in, is_in, steps_of, take_slot};
+use crate::shown_store::ShownStore;
 use std::alloc::{AllocError, Global};
-use std::collections::BTreeMap;
 use std::marker::Model;
 use title_chain::{Answer, Ask, Posting, Record, TractIndex};
 use title_land::Township;
@@ -67,17 +66,17 @@ pub struct Desk<S: Store + Drop, G: Guards + Drop> {
     alloc: Global,
     parties: u32,
     townships: Vec<Township>,
-    store: Plant<S>,
+    store: ShownStore<S>,
     guards: G,
     calls: Calls,
     records: TractIndex,
-    slots: BTreeMap<u32, Slot<S::Image>>,
+    transactions: OpenTransactions<S>,
 }
 
 impl<S: Store + Drop, G: Guards + Drop> Model for Desk<S, G> {
-    ghost use Rattle.std.specs.Prelude.{is_some, map, reverse};
+    ghost use Rattle.std.specs.Prelude.{is_some, reverse};
     ghost use Rattle.title_desk.specs.Told.{Books};
-    ghost use Rattle.title_desk.specs.Slots.{found, images_in, steps_in};
+    ghost use Rattle.title_desk.specs.Opened.{found, held};
     ghost use Rattle.title_desk.specs.Keeps.{Keeps};
 
     ghost Value = { Books };
@@ -93,9 +92,9 @@ impl<S: Store + Drop, G: Guards + Drop> Model for Desk<S, G> {
       setting = record { parties = d.parties; townships = d.townships.items };
       trace = d.calls.list;
       records = reverse d.records.records;
-      begun = λ e. is_some (found d.slots e);
-      own = λ e. steps_in (found d.slots e);
-      images = λ e. map S.number (images_in (found d.slots e));
+      begun = λ e. is_some (found d.transactions e);
+      own = λ e. (held (found d.transactions e)).steps;
+      images = λ e. (held (found d.transactions e)).images;
       content = S.content d.store;
       declared = S.declared d.store;
       out = S.out d.store;
@@ -114,7 +113,7 @@ impl<S: Store + Drop, G: Guards + Drop> Desk<S, G> {
         ensures setting { IfOk result (λ d. d.setting ≡ record { parties = parties; townships = townships.now }) }
         ensures trace { IfOk result (λ d. d.trace ≡ []) }
     {
-        let store = Plant::open(alloc, townships)?;
+        let store = ShownStore::open(alloc, townships)?;
         let townships = Vec::from_slice(alloc, townships)?;
         Ok(Desk {
             alloc,
@@ -124,7 +123,7 @@ impl<S: Store + Drop, G: Guards + Drop> Desk<S, G> {
             guards: G::new(alloc),
             calls: Calls::new(),
             records: TractIndex::new(alloc),
-            slots: BTreeMap::new(alloc),
+            transactions: OpenTransactions::new(alloc),
         })
     }
 
@@ -143,10 +142,10 @@ impl<S: Store + Drop, G: Guards + Drop> Desk<S, G> {
         ensures told { Told self.old (Begin examiner) result self.new }
     {
         let request = Request::Begin(examiner);
-        if is_in(&self.slots, examiner) {
+        if self.transactions.contains(examiner) {
             return self.refuse(request, Refusal::AlreadyOpen);
         }
-        if add_slot(self.alloc, &mut self.slots, examiner).is_err() {
+        if self.transactions.begin(examiner).is_err() {
             return Reply::Memory;
         }
         self.calls = self.calls.then(&request, &Reply::Began);
@@ -158,15 +157,13 @@ impl<S: Store + Drop, G: Guards + Drop> Desk<S, G> {
         ensures always { is_open examiner self.old.trace ≡ true → result ≡ Aborted }
     {
         let request = Request::Abort(examiner);
-        if !is_in(&self.slots, examiner) {
+        if !self.transactions.contains(examiner) {
             return self.refuse(request, Refusal::NotOpen);
         }
-        let Some(slot) = take_slot(&mut self.slots, examiner) else {
-            return Reply::Memory;
-        };
-        restore_all(&mut self.store, slot.images);
+        let transaction = self.transactions.take(examiner);
+        restore_all(&mut self.store, transaction.images);
         self.guards.give_back(examiner);
-        tidy_up(&mut self.store, &self.slots);
+        tidy_up(&mut self.store, &self.transactions);
         self.calls = self.calls.then(&request, &Reply::Aborted);
         Reply::Aborted
     }
@@ -176,21 +173,19 @@ impl<S: Store + Drop, G: Guards + Drop> Desk<S, G> {
         ensures ready { self.old.is_ready ≡ true → result ≢ Memory }
     {
         let request = Request::Commit(examiner);
-        if !is_in(&self.slots, examiner) {
+        if !self.transactions.contains(examiner) {
             return self.refuse(request, Refusal::NotOpen);
         }
         if self.records.reserve().is_err() {
             return Reply::Memory;
         }
-        let Some(slot) = take_slot(&mut self.slots, examiner) else {
-            return Reply::Memory;
-        };
-        forget_all(&mut self.store, slot.images);
+        let transaction = self.transactions.take(examiner);
+        forget_all(&mut self.store, transaction.images);
         self.guards.give_back(examiner);
-        tidy_up(&mut self.store, &self.slots);
+        tidy_up(&mut self.store, &self.transactions);
         self.records.push_reserved(Record {
             examiner,
-            steps: slot.steps.into_steps(),
+            steps: transaction.steps.into_steps(),
         });
         let reply = Reply::Committed(self.records.len() as u64);
         self.calls = self.calls.then(&request, &reply);
@@ -215,13 +210,13 @@ impl<S: Store + Drop, G: Guards + Drop> Desk<S, G> {
         ensures refusal { MatchOption result (IsFit self.now examiner ask.now)
             (λ why. DueReply depth self.now.setting self.now.trace (Step examiner ask.now) (reply_of why)) }
     {
-        if !is_in(&self.slots, examiner) {
+        if !self.transactions.contains(examiner) {
             return Some(Refusal::NotOpen);
         }
         if let Some(refusal) = self.bar(ask) {
             return Some(refusal);
         }
-        if count_steps(&self.slots, examiner) >= MOST_STEPS {
+        if self.transactions.steps(examiner).len() >= MOST_STEPS {
             return Some(Refusal::TooLong);
         }
         None
@@ -256,6 +251,7 @@ impl<S: Store + Drop, G: Guards + Drop> Desk<S, G> {
 
     // The answer to a sheet or a chain in whose way nobody is.
     fn read(&mut self, examiner: u32, ask: &Ask) -> Result<Answer, AllocError>
+        requires reads { is_post ask.now ≡ false }
         requires within { is_in_plant self.old.setting.townships (tract_of ask.now) ≡ true }
         requires free { InTheWay self.old.trace examiner ask.now None }
         ensures same { self.new ≡ self.old }
@@ -269,11 +265,11 @@ impl<S: Store + Drop, G: Guards + Drop> Desk<S, G> {
                 Ok(Answer::Rows(rows))
             }
             Ask::Chain(tract) => {
-                let (records, slots) = (&mut self.records, &mut self.slots);
-                let entries = chain_for(self.alloc, records, slots, examiner, tract)?;
+                let (transactions, records) = (&mut self.transactions, &mut self.records);
+                let entries = transactions.chain(records, examiner, tract)?;
                 Ok(Answer::Entries(entries))
             }
-            Ask::Post(_) => Err(AllocError),
+            Ask::Post(_) => unreachable!(),
         }
     }
 
@@ -289,9 +285,10 @@ impl<S: Store + Drop, G: Guards + Drop> Desk<S, G> {
         let Ok(step) = step_of(self.alloc, &ask, &answer) else {
             return self.want_memory(&ask);
         };
-        if add_step(&mut self.guards, &mut self.slots, examiner, step).is_err() {
+        if self.transactions.add_step(examiner, step).is_err() {
             return self.want_memory(&ask);
         }
+        lock(&mut self.guards, examiner, &ask);
         let (request, reply) = (Request::Step(examiner, ask), Reply::Answered(answer));
         self.calls = self.calls.then(&request, &reply);
         reply
@@ -321,11 +318,13 @@ impl<S: Store + Drop, G: Guards + Drop> Desk<S, G> {
             ask: Ask::Post(copied),
             answer: Answer::Posted,
         };
-        let (store, guards, slots) = (&mut self.store, &mut self.guards, &mut self.slots);
-        if keep_post(store, guards, slots, examiner, image, step).is_err() {
+        if let Err(image) = self.transactions.add_post(examiner, step, image) {
+            self.store.restore(image);
             return Reply::Memory;
         }
-        let request = Request::Step(examiner, Ask::Post(posting));
+        let ask = Ask::Post(posting);
+        lock(&mut self.guards, examiner, &ask);
+        let request = Request::Step(examiner, ask);
         let reply = Reply::Answered(Answer::Posted);
         self.calls = self.calls.then(&request, &reply);
         reply
@@ -333,6 +332,7 @@ impl<S: Store + Drop, G: Guards + Drop> Desk<S, G> {
 
     // Answers a sheet or a chain that nothing refuses.
     fn pass_read(&mut self, examiner: u32, ask: Ask) -> Reply
+        requires reads { is_post ask ≡ false }
         requires passes { Passes self.old examiner ask }
         requires prepared { self.old.prepared ≡ Some (entry_of examiner ask) }
         ensures told { Told self.old (Step examiner ask) result self.new }
@@ -408,21 +408,21 @@ impl<S: Store + Drop, G: Guards + Drop> Desk<S, G> {
     pub fn is_open(&self, examiner: u32) -> bool
         ensures opened { result ≡ is_open examiner self.now.trace }
     {
-        is_in(&self.slots, examiner)
+        self.transactions.contains(examiner)
     }
 
     /// The steps of an examiner's open transaction, the oldest first; none where it has none open.
     pub fn open_steps(&self, examiner: u32) -> &[title_chain::Step]
         ensures steps { reverse result.now ≡ open_steps self.now.trace examiner }
     {
-        steps_of(&self.slots, examiner)
+        self.transactions.steps(examiner)
     }
 
     /// The least examiner with a transaction open; `None` exactly where there is none.
     pub fn first_open(&self) -> Option<u32>
         ensures first { IsFirstOpen self.now.trace result }
     {
-        first_in(&self.slots)
+        self.transactions.first()
     }
 
     /// The plant: in a cell where a step of an open examiner was posted, what the committed records followed by that

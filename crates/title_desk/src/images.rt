@@ -1,13 +1,11 @@
 //! The before-images of a transaction that ends.
 
-ghost use Rattle.std.specs.Prelude.{◌≡◌, ℕ, None, [], map, reverse};
+ghost use Rattle.std.specs.Prelude.{◌≡◌, [], map, reverse};
 ghost use Rattle.title_store.specs.Loans.{IsFirst, IsOut, without};
 ghost use Rattle.title_store.specs.Plants.{SameContent};
-ghost use Rattle.title_desk.specs.Slots.{found};
 ghost use Rattle.title_desk.specs.Images.{IsRestored, without_all, Restorable, Forgettable};
 
-use crate::slots::Slot;
-use std::collections::BTreeMap;
+use crate::open_transactions::OpenTransactions;
 use title_store::Store;
 
 /// Puts images back, the newest first.
@@ -37,13 +35,13 @@ pub(crate) fn forget_all<S: Store>(store: &mut S, mut images: Vec<S::Image>)
 }
 
 /// Tidies the store up where nobody is open.
-pub(crate) fn tidy_up<S: Store, I>(store: &mut S, slots: &BTreeMap<u32, Slot<I>>)
-    requires idle { ((e : ℕ) → found slots.now e ≡ None) → S.out store.old ≡ [] }
+pub(crate) fn tidy_up<S: Store, I: Store>(store: &mut S, transactions: &OpenTransactions<I>)
+    requires idle { transactions.now ≡ [] → S.out store.old ≡ [] }
     ensures content { SameContent (S.content store.old) (S.content store.new) }
     ensures declared { S.declared store.new ≡ S.declared store.old }
     ensures out { S.out store.new ≡ S.out store.old }
 {
-    if slots.is_empty() {
+    if transactions.is_empty() {
         store.tidy();
     }
 }

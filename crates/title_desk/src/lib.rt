@@ -7,9 +7,9 @@ pub mod desk;
 pub mod headline;
 mod images;
 mod kept_sheets;
-mod plant;
+mod open_transactions;
 mod refusal;
 mod sections;
-mod slots;
+mod shown_store;
 
 pub use desk::{Desk, may_open};

@@ -1,4 +1,4 @@
-//! Transactions of one step, where nobody is open: no slot, no lock and no before-image is kept for them.
+//! Transactions of one step, where nobody is open: no open transaction, no lock and no before-image is kept for them.
 
 ghost use Rattle.std.specs.Prelude.{◌≡◌, ◌++◌, ◌∷◌, [], IfOk, OnOk, OnErr, true, false, length};
 ghost use Rattle.title_land.specs.Depth.{depth};
@@ -6,6 +6,7 @@ ghost use Rattle.title_land.specs.Lands.{is_in_plant};
 ghost use Rattle.title_store.specs.Plants.{SameContent, plant_effect, refused_in};
 ghost use Rattle.title_chain.specs.declared.ask.Ask.TheVariants.{Post};
 ghost use Rattle.title_chain.specs.Alone.{alone};
+ghost use Rattle.title_chain.specs.Asks.{is_post};
 ghost use Rattle.title_chain.specs.declared.ask.Answer.TheVariants.{Posted};
 ghost use Rattle.title_trace.specs.declared.call.Request.TheVariants.{Begin, Commit, Step};
 ghost use Rattle.title_trace.specs.declared.call.Reply.TheVariants.{Began, Committed};
@@ -167,6 +168,7 @@ impl<S: Store + Drop, G: Guards + Drop> Desk<S, G> {
 
     // Answers a sheet or a chain that nothing refuses.
     fn read_alone(&mut self, examiner: u32, ask: Ask) -> Reply
+        requires reads { is_post ask ≡ false }
         requires idle { IsIdle self.old.trace }
         requires stands { Stands self.old.setting ask }
         ensures told { ToldSingle self.old examiner ask result self.new }

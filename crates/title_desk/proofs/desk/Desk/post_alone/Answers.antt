@@ -4,7 +4,6 @@ use Rattle.title_chain.specs.declared.ask.Ask.TheVariants.{Post}
 use Rattle.title_chain.specs.declared.ask.Answer.TheVariants.{Posted}
 use Rattle.title_desk.specs.Images.{is_posted}
 use Rattle.title_trace.specs.declared.call.Reply.TheVariants.{Answered}
-use Rattle.title_desk.specs.Slots.{found}
 use Rattle.title_desk.specs.Told.{Books}
 use Rattle.title_desk.proofs.States.{keeps_told, keeps_store}
 use Rattle.title_desk.proofs.Steps.{post_due}
@@ -13,18 +12,18 @@ use Rattle.title_desk.proofs.desk.Desk.post_alone.Goals as goal
 
 pub post_at_once-requires-clause-none : goal.post_at_once-requires-clause-none
 post_at_once-requires-clause-none g c =
-    none_out (idle_state (found c.self.inside.slots) c.self.invariant (rw (← c.self.view_is) at c.requires.idle) (λ f. refl) (λ f. refl))
+    none_out (idle_state c.self.inside.transactions c.self.invariant (rw (← c.self.view_is) at c.requires.idle) (λ f. (refl, refl)))
 
 pub invariant_of-self-in_default-post_at_once : goal.invariant_of-self-in_default-post_at_once
 invariant_of-self-in_default-post_at_once g c =
-    let idle = idle_state (found c.self.inside.slots) c.self.invariant (rw (← c.self.view_is) at c.requires.idle) (λ f. refl) (λ f. refl) in
+    let idle = idle_state c.self.inside.transactions c.self.invariant (rw (← c.self.view_is) at c.requires.idle) (λ f. (refl, refl)) in
     rw c.prepare_post.ensures.records
     (keeps_store c.self.invariant c.in_default-post_at_once.ensures.err_content c.post_at_once.ensures.declared
     (c.post_at_once.ensures.out ∙ sym (none_out idle)))
 
 pub invariant_of-self-in-Some : goal.invariant_of-self-in-Some
 invariant_of-self-in-Some g c =
-    let idle = idle_state (found c.self.inside.slots) c.self.invariant (rw (← c.self.view_is) at c.requires.idle) (λ f. refl) (λ f. refl) in
+    let idle = idle_state c.self.inside.transactions c.self.invariant (rw (← c.self.view_is) at c.requires.idle) (λ f. (refl, refl)) in
     let h = rw c.in-Some.is at c.in-Ok-post_at_once.ensures.deed in
     rw c.prepare_post.ensures.records
     (keeps_store c.self.invariant h.3 c.post_at_once.ensures.declared (c.post_at_once.ensures.out ∙ sym (none_out idle)))
@@ -34,7 +33,7 @@ answer_alone-requires-clause-idle g c = rw (← c.self.view_is) at c.requires.id
 
 pub answer_alone-requires-clause-alone : goal.answer_alone-requires-clause-alone
 answer_alone-requires-clause-alone g c =
-    let idle = idle_state (found c.self.inside.slots) c.self.invariant (rw (← c.self.view_is) at c.requires.idle) (λ f. refl) (λ f. refl) in
+    let idle = idle_state c.self.inside.transactions c.self.invariant (rw (← c.self.view_is) at c.requires.idle) (λ f. (refl, refl)) in
     let h = rw c.in-Some.is at c.in-Ok-post_at_once.ensures.deed in
     h.2 ∙ post_due c.args.examiner c.args.posting _ c.self.invariant (nobody idle c.args.examiner (Post c.args.posting)) h.1
 
@@ -44,7 +43,7 @@ answer_alone-requires-clause-unposted g c =
 
 pub invariant_of-self-2 : goal.invariant_of-self-2
 invariant_of-self-2 g c =
-    let idle = idle_state (found c.self.inside.slots) c.self.invariant (rw (← c.self.view_is) at c.requires.idle) (λ f. refl) (λ f. refl) in
+    let idle = idle_state c.self.inside.transactions c.self.invariant (rw (← c.self.view_is) at c.requires.idle) (λ f. (refl, refl)) in
     let h = rw c.in-None.is at c.in-Ok-post_at_once.ensures.deed in
     let new = added _ _ _ _ _ c.self.invariant c.args.examiner (Post c.args.posting) Posted refl
     c.prepare_post.ensures.records c.in-Ok.ensures.steps c.add_done-self-inside.ensures.records c.add_done-self-inside.ensures.calls in
@@ -53,7 +52,7 @@ invariant_of-self-2 g c =
 
 pub returns : goal.returns
 returns g c =
-    let idle = idle_state (found c.self.inside.slots) c.self.invariant (rw (← c.self.view_is) at c.requires.idle) (λ f. refl) (λ f. refl) in
+    let idle = idle_state c.self.inside.transactions c.self.invariant (rw (← c.self.view_is) at c.requires.idle) (λ f. (refl, refl)) in
     let h = rw c.in-None.is at c.in-Ok-post_at_once.ensures.deed in
     let new = added _ _ _ _ _ c.self.invariant c.args.examiner (Post c.args.posting) Posted refl
     c.prepare_post.ensures.records c.in-Ok.ensures.steps c.add_done-self-inside.ensures.records c.add_done-self-inside.ensures.calls in

@@ -1,18 +1,18 @@
--- What the store and the index give is what the ask gets alone; the examiners' slots look as they did.
+-- What the store and the index give is what the ask gets alone; what is open looks as it did.
 use Rattle.std.proofs.Common.{◌∙◌, ap, refl}
 use Rattle.title_chain.specs.declared.ask.Answer.TheVariants.{Entries, Rows}
 use Rattle.title_desk.proofs.Found.{seen_same}
-use Rattle.title_desk.proofs.States.{keeps_slots}
+use Rattle.title_desk.proofs.States.{keeps_opened}
 use Rattle.title_desk.proofs.Steps.{chain_due, sheet_due}
 use Rattle.title_desk.proofs.desk.Desk.read.Goals as goal
 
 pub invariant_of-self-in_err-entries-in-Chain : goal.invariant_of-self-in_err-entries-in-Chain
 invariant_of-self-in_err-entries-in-Chain g c =
-    rw c.chain_for.ensures.records (keeps_slots c.self.invariant (seen_same g.S.Store.number _ _ c.chain_for.ensures.slots) refl)
+    rw c.chain.ensures.records (keeps_opened c.self.invariant (seen_same _ _ c.chain.ensures.same) refl)
 
 pub invariant_of-self-in-Chain : goal.invariant_of-self-in-Chain
 invariant_of-self-in-Chain g c =
-    rw c.chain_for.ensures.records (keeps_slots c.self.invariant (seen_same g.S.Store.number _ _ c.chain_for.ensures.slots) refl)
+    rw c.chain.ensures.records (keeps_opened c.self.invariant (seen_same _ _ c.chain.ensures.same) refl)
 
 pub returns-in_ok-rows-in-Sheet-clause-alone : goal.returns-in_ok-rows-in-Sheet-clause-alone
 returns-in_ok-rows-in-Sheet-clause-alone g c =

@@ -1,19 +1,18 @@
 -- The three calls of a transaction whose step is refused are added.
 use Rattle.std.proofs.Common.{ap, refl, sym}
-use Rattle.title_desk.specs.Slots.{found}
 use Rattle.title_desk.specs.Told.{Books}
 use Rattle.title_desk.proofs.Singles.{idle_state, keeps_barred, barred_told}
 use Rattle.title_desk.proofs.desk.Desk.refuse_alone.Goals as goal
 
 pub invariant_of-self : goal.invariant_of-self
 invariant_of-self g c =
-    let idle = idle_state (found c.self.inside.slots) c.self.invariant (rw (← c.self.view_is) at c.requires.idle) (λ f. refl) (λ f. refl) in
+    let idle = idle_state c.self.inside.transactions c.self.invariant (rw (← c.self.view_is) at c.requires.idle) (λ f. (refl, refl)) in
     rw (c.with_single-self-inside.ensures.calls, c.reply-told.ensures.reply)
     (keeps_barred idle c.args.examiner c.args.ask c.args.refusal (rw (← c.self.view_is) at c.requires.bars))
 
 pub returns : goal.returns
 returns g c =
-    let idle = idle_state (found c.self.inside.slots) c.self.invariant (rw (← c.self.view_is) at c.requires.idle) (λ f. refl) (λ f. refl) in
+    let idle = idle_state c.self.inside.transactions c.self.invariant (rw (← c.self.view_is) at c.requires.idle) (λ f. (refl, refl)) in
     record {
       told = rw c.reply-told.ensures.reply (barred_told c.args.self.now _ idle c.args.examiner c.args.ask c.args.refusal
           (rw (← c.self.view_is) at c.requires.bars) (sym (ap (λ (b : Books). b.setting) c.self.view_is))

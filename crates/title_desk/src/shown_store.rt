@@ -1,4 +1,4 @@
-//! The plant of a desk: a store, with sheets that were made of it.
+//! The store of a desk, with sheets that were made of it.
 
 ghost use Rattle.std.specs.Prelude.{◌≡◌, ◌++◌, ◌∷◌, [], true, IfOk, IfSome, OnOk};
 ghost use Rattle.title_land.specs.Depth.{depth};
@@ -20,12 +20,12 @@ use title_store::{Put, SheetRow, Store};
 
 /// A store, with sheets and parts of sheets that were made of it and that still are its own. A contract sees the store.
 #[derive(Drop)]
-pub struct Plant<S: Store + Drop> {
+pub struct ShownStore<S: Store + Drop> {
     store: S,
     kept: KeptSheets,
 }
 
-impl<S: Store + Drop> Model for Plant<S> {
+impl<S: Store + Drop> Model for ShownStore<S> {
     ghost use Rattle.title_desk.specs.Shown.{AreKept};
 
     ghost Value = { S };
@@ -35,7 +35,7 @@ impl<S: Store + Drop> Model for Plant<S> {
     ghost invariant = { λ p. AreKept (S.declared p.store) (S.content p.store) p.kept };
 }
 
-impl<S: Store + Drop> Plant<S> {
+impl<S: Store + Drop> ShownStore<S> {
     /// The store.
     pub(crate) fn store(&self) -> &S
         ensures store { result.now ≡ self.now }
@@ -207,7 +207,7 @@ impl<S: Store + Drop> Plant<S> {
     }
 }
 
-impl<S: Store + Drop> Store for Plant<S> {
+impl<S: Store + Drop> Store for ShownStore<S> {
     type Image = S::Image;
 
     ghost content = { λ p. S.content p };
@@ -218,8 +218,8 @@ impl<S: Store + Drop> Store for Plant<S> {
 
     ghost number = { λ i. S.number i };
 
-    fn open(alloc: Global, townships: &[Township]) -> Result<Plant<S>, AllocError> {
-        Ok(Plant {
+    fn open(alloc: Global, townships: &[Township]) -> Result<ShownStore<S>, AllocError> {
+        Ok(ShownStore {
             store: S::open(alloc, townships)?,
             kept: KeptSheets::new(alloc),
         })

@@ -8,7 +8,7 @@ use Rattle.title_store.specs.declared.sheet_row.SheetRow.{SheetRow}
 use Rattle.title_store.specs.Sheets.{one_holding}
 use Rattle.title_chain.specs.SheetParts.{all_rows}
 use Rattle.title_desk.proofs.OfSections.{quarters_are}
-use Rattle.title_desk.proofs.plant.Plant.add_estate.Goals as goal
+use Rattle.title_desk.proofs.shown_store.ShownStore.add_estate.Goals as goal
 
 pub returns-clause-rows : goal.returns-clause-rows
 returns-clause-rows g c =

@@ -3,7 +3,7 @@ use Rattle.std.proofs.Common.{◌∙◌}
 use Rattle.title_land.specs.Depth.{depth}
 use Rattle.title_store.specs.Laws.EffectLaws.{effect_refused}
 use Rattle.title_desk.proofs.Shows.{kept_left, kept_same}
-use Rattle.title_desk.proofs.plant.PlantStore.put.Goals as goal
+use Rattle.title_desk.proofs.shown_store.ShownStoreStore.put.Goals as goal
 
 pub invariant_of-self-in-Done : goal.invariant_of-self-in-Done
 invariant_of-self-in-Done g c =

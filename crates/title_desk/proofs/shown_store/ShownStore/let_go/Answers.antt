@@ -1,7 +1,7 @@
 -- What is kept of the other homes stays.
 use Rattle.title_land.specs.NodeNumbers.{node_number}
 use Rattle.title_desk.proofs.Shows.{kept_without}
-use Rattle.title_desk.proofs.plant.Plant.let_go.Goals as goal
+use Rattle.title_desk.proofs.shown_store.ShownStore.let_go.Goals as goal
 
 pub invariant_of-self : goal.invariant_of-self
 invariant_of-self g c =
