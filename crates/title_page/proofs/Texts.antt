@@ -1,9 +1,7 @@
 -- The texts of quoted fields and of rows, in parts.
 use Rattle.std.proofs.Common.{◌≡◌, ◌∙◌, ◌++◌, ◌∷◌, [], ◌<◌, ◌+◌, ℕ, suc, List}
 use Rattle.std.proofs.Common.{length, take, drop, get_or, refl, sym, ap, append_assoc, arith}
-use Rattle.std.proofs.lemmas.List.{append-nil, take-append-drop, take_more}
-use Rattle.std.proofs.lemmas.List.Folds.{concat-append}
-use Rattle.std.specs.List.{concat}
+use Rattle.std.proofs.lemmas.List.{take-append-drop, take_more}
 use Rattle.csv.proofs.WriteFacts.{escaped-append, escaped-double, escaped-other}
 use Rattle.csv.specs.Writing.{escaped, field_text, fields_text, is_blank, row_body, row_text}
 use Rattle.csv.specs.declared.writer.WriterBuilder.{WriterBuilder}
@@ -35,6 +33,26 @@ plain_byte_more field i lt other same =
     escaped_more field i lt ∙ ap (λ (x : List ℕ). x ++ escaped row_writer (get_or field i 0 ∷ [])) same
     ∙ ap (λ (x : List ℕ). take i field ++ x) (escaped_byte (get_or field i 0) other) ∙ sym (take_more field i 0 lt)
 
+-- a field up to its first quote, that quote twice, and the rest
+pub quote_found : (field : List ℕ) (at i : ℕ) → at ≡ i → i < length field → get_or field i 0 ≡ 34
+    → escaped row_writer (take i field) ≡ take i field
+    → escaped row_writer field ≡ take at field ++ (34 ∷ 34 ∷ escaped row_writer (drop (at + 1) field))
+quote_found field at i e lt quote same =
+    let rest = escaped row_writer (drop (i + 1) field) in
+    let upto : escaped row_writer (take (i + 1) field) ≡ take i field ++ 34 ∷ 34 ∷ [] =
+    escaped_more field i lt ∙ ap (λ (x : List ℕ). x ++ escaped row_writer (get_or field i 0 ∷ [])) same
+    ∙ ap (λ (x : List ℕ). take i field ++ x) (escaped_quote (get_or field i 0) quote) in
+    let whole : escaped row_writer field ≡ take i field ++ (34 ∷ 34 ∷ rest) =
+    escaped_front field (i + 1) ∙ ap (λ (x : List ℕ). x ++ rest) upto ∙ append_assoc (take i field) (34 ∷ 34 ∷ []) rest in
+    rw e whole
+
+-- a quote that is written twice behind what was written before, where the rest of a text begins with the bytes up to it
+pub quote_behind : {all rest : List ℕ} (text before behind : List ℕ) → all ≡ text ++ rest → rest ≡ before ++ (34 ∷ 34 ∷ behind)
+    → all ≡ (text ++ (before ++ 34 ∷ 34 ∷ [])) ++ behind
+quote_behind text before behind is begins =
+    is ∙ ap (λ (x : List ℕ). text ++ x) (begins ∙ sym (append_assoc before (34 ∷ 34 ∷ []) behind))
+    ∙ sym (append_assoc text (before ++ 34 ∷ 34 ∷ []) behind)
+
 -- further fields in two parts
 fields_parts : (cfg : WriterBuilder) (xs ys : List (List ℕ)) → fields_text cfg (xs ++ ys) ≡ fields_text cfg xs ++ fields_text cfg ys
 unfolding fields_text
@@ -59,14 +77,3 @@ unfolding is_blank
 row_ends [] lt = absurd (omega (arith, lt))
 row_ends (x ∷ []) lt = absurd (omega (arith, lt))
 row_ends (x ∷ y ∷ rest) lt = refl
-
--- the texts up to one more
-pub concat_more : (texts : List (List ℕ)) (i : ℕ) → i < length texts
-    → concat (take (i + 1) texts) ≡ concat (take i texts) ++ get_or texts i []
-concat_more texts i lt =
-    rw (take_more texts i [] lt, concat-append (take i texts) (get_or texts i [] ∷ []), append-nil (get_or texts i [])) refl
-
--- the texts up to one, and the rest
-pub concat_front : (texts : List (List ℕ)) (i : ℕ) → concat texts ≡ concat (take i texts) ++ concat (drop i texts)
-concat_front texts i =
-    ap (λ (x : List (List ℕ)). concat x) (sym (take-append-drop i texts)) ∙ concat-append (take i texts) (drop i texts)

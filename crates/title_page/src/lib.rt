@@ -8,4 +8,4 @@ mod row;
 
 pub use field::Field;
 pub use line::Line;
-pub use page::{Page, is_quoted};
+pub use page::{Page, first_quote, is_quoted};

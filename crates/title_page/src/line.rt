@@ -5,8 +5,8 @@ ghost use Rattle.std.specs.Prelude.{◌≡◌, ◌≤◌, ◌+◌, ◌++◌, ◌
 use arrayvec::ArrayVec;
 use std::marker::Model;
 
-/// A text of at most 64 bytes, put together from parts so that it can be written at once, and more than once. A contract
-/// sees its bytes.
+/// A text of at most 64 bytes, put together from parts so that it can be written at once, and more than once. A contract sees its
+/// bytes.
 #[derive(Drop)]
 pub struct Line {
     bytes: ArrayVec<u8, 64>,

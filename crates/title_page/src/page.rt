@@ -1,6 +1,7 @@
 //! The page through which rows are written.
 
-ghost use Rattle.std.specs.Prelude.{◌≡◌, ◌≤◌, ◌+◌, ◌++◌, ◌∷◌, [], true, false, nat_le, length, map, OnOk, OnErr};
+ghost use Rattle.std.specs.Prelude.{◌≡◌, ◌≤◌, ◌<◌, ◌+◌, ◌++◌, ◌∷◌, [], true, false, nat_le, length, map, take, drop};
+ghost use Rattle.std.specs.Prelude.{IfNone, IfSome, OnOk, OnErr};
 ghost use Rattle.csv.specs.Writing.{escaped, field_text, needs_quotes, quoted};
 ghost use Rattle.csv.specs.Quoting.{needs_byte};
 ghost use Rattle.std.specs.List.{concat};
@@ -25,35 +26,11 @@ impl Model for Page {
     ghost view = { λ p. p.bytes.items };
 }
 
-// For each byte, whether a field with it is quoted: it is where it has a line feed, a carriage return, a quote or a comma.
-static SPECIAL: [bool; 256] = [
-    false, false, false, false, false, false, false, false, false, false, true, false, false, true,
-    false, false, false, false, false, false, false, false, false, false, false, false, false,
-    false, false, false, false, false, false, false, true, false, false, false, false, false,
-    false, false, false, false, true, false, false, false, false, false, false, false, false,
-    false, false, false, false, false, false, false, false, false, false, false, false, false,
-    false, false, false, false, false, false, false, false, false, false, false, false, false,
-    false, false, false, false, false, false, false, false, false, false, false, false, false,
-    false, false, false, false, false, false, false, false, false, false, false, false, false,
-    false, false, false, false, false, false, false, false, false, false, false, false, false,
-    false, false, false, false, false, false, false, false, false, false, false, false, false,
-    false, false, false, false, false, false, false, false, false, false, false, false, false,
-    false, false, false, false, false, false, false, false, false, false, false, false, false,
-    false, false, false, false, false, false, false, false, false, false, false, false, false,
-    false, false, false, false, false, false, false, false, false, false, false, false, false,
-    false, false, false, false, false, false, false, false, false, false, false, false, false,
-    false, false, false, false, false, false, false, false, false, false, false, false, false,
-    false, false, false, false, false, false, false, false, false, false, false, false, false,
-    false, false, false, false, false, false, false, false, false, false, false, false, false,
-    false, false, false, false, false, false, false, false, false, false, false, false, false,
-    false, false, false, false, false, false, false, false,
-];
-
 // Whether a field with this byte is quoted.
 fn is_special(byte: u8) -> bool
     ensures special { result ≡ needs_byte row_writer byte }
 {
-    SPECIAL[usize::from(byte)]
+    matches!(byte, b'\n' | b'\r' | b'"' | b',')
 }
 
 /// Whether a field is quoted: where it has a comma, a quote or a line's end.
@@ -68,16 +45,21 @@ pub fn is_quoted(field: &[u8]) -> bool
     some
 }
 
-// Whether a field has a quote.
-fn has_quote(field: &[u8]) -> bool
-    ensures none { result ≡ false → escaped row_writer field.now ≡ field.now }
+/// The place of a field's first quote, if it has one: the bytes before it stand between quotes as they are.
+pub fn first_quote(field: &[u8]) -> Option<usize>
+    ensures none { IfNone result (escaped row_writer field.now ≡ field.now) }
+    ensures within { IfSome result (λ at. at < length field.now) }
+    ensures some { IfSome result (λ at. escaped row_writer field.now
+        ≡ take at field.now ++ (34 ∷ 34 ∷ escaped row_writer (drop (at + 1) field.now))) }
 {
+    let mut at = 0;
     for byte in field {
         if *byte == b'"' {
-            return true;
+            return Some(at);
         }
+        at += 1;
     }
-    false
+    None
 }
 
 impl Page {
@@ -88,14 +70,6 @@ impl Page {
         Page {
             bytes: ArrayVec::new(),
         }
-    }
-
-    /// Whether so many bytes more fit on the page: nothing is then given to the sink while they are put there.
-    #[inline]
-    pub fn has_room(&self, bytes: usize) -> bool
-        ensures room { result ≡ nat_le (length self.now + bytes) 8192 }
-    {
-        bytes <= self.bytes.remaining_capacity()
     }
 
     /// Gives the sink all that stands on the page. `Failed` where a push fails; the sink then has a beginning of it.
@@ -149,37 +123,7 @@ impl Page {
         self.put_first(sink, text)
     }
 
-    /// Writes texts as they are, one after another. `Failed` as with `put`.
-    pub fn put_each<S: Sink>(&mut self, sink: &mut S, texts: &[&[u8]]) -> Result<(), Failed>
-        requires works { S.has_failed sink.old ≡ false }
-        ensures written { OnOk result (Written (S.taken sink.old) self.old (S.taken sink.new) self.new
-            (concat (map (λ t. t.now) texts.now))) }
-        ensures well { OnOk result (S.has_failed sink.new ≡ false) }
-        ensures stopped { OnErr result (Stopped (S.taken sink.old) self.old (S.taken sink.new) (concat (map (λ t. t.now) texts.now))) }
-        ensures failed { OnErr result (S.has_failed sink.new ≡ true) }
-    {
-        for at in 0..texts.len() {
-            self.put(sink, texts[at])?;
-        }
-        Ok(())
-    }
-
-    // Writes a byte of a quoted field: a quote twice.
-    fn put_escaped<S: Sink>(&mut self, sink: &mut S, byte: u8) -> Result<(), Failed>
-        requires works { S.has_failed sink.old ≡ false }
-        ensures written { OnOk result (Written (S.taken sink.old) self.old (S.taken sink.new) self.new
-            (escaped row_writer (byte ∷ []))) }
-        ensures well { OnOk result (S.has_failed sink.new ≡ false) }
-        ensures stopped { OnErr result (Stopped (S.taken sink.old) self.old (S.taken sink.new) (escaped row_writer (byte ∷ []))) }
-        ensures failed { OnErr result (S.has_failed sink.new ≡ true) }
-    {
-        if byte == b'"' {
-            return self.put(sink, b"\"\"");
-        }
-        self.put(sink, &[byte])
-    }
-
-    // Writes the bytes of a quoted field: at once where none is a quote and the page has room for them.
+    // Writes the bytes of a quoted field: the runs between its quotes, and each quote twice.
     fn put_inside<S: Sink>(&mut self, sink: &mut S, field: &[u8]) -> Result<(), Failed>
         requires works { S.has_failed sink.old ≡ false }
         ensures written { OnOk result (Written (S.taken sink.old) self.old (S.taken sink.new) self.new (escaped row_writer field.now)) }
@@ -187,24 +131,13 @@ impl Page {
         ensures stopped { OnErr result (Stopped (S.taken sink.old) self.old (S.taken sink.new) (escaped row_writer field.now)) }
         ensures failed { OnErr result (S.has_failed sink.new ≡ true) }
     {
-        if has_quote(field) || !self.has_room(field.len()) {
-            return self.put_all_escaped(sink, field);
+        let mut rest = field;
+        while let Some(at) = first_quote(rest) {
+            self.put(sink, &rest[..at])?;
+            self.put(sink, b"\"\"")?;
+            rest = &rest[at + 1..];
         }
-        self.put(sink, field)
-    }
-
-    // Writes the bytes of a quoted field one by one.
-    fn put_all_escaped<S: Sink>(&mut self, sink: &mut S, field: &[u8]) -> Result<(), Failed>
-        requires works { S.has_failed sink.old ≡ false }
-        ensures written { OnOk result (Written (S.taken sink.old) self.old (S.taken sink.new) self.new (escaped row_writer field.now)) }
-        ensures well { OnOk result (S.has_failed sink.new ≡ false) }
-        ensures stopped { OnErr result (Stopped (S.taken sink.old) self.old (S.taken sink.new) (escaped row_writer field.now)) }
-        ensures failed { OnErr result (S.has_failed sink.new ≡ true) }
-    {
-        for byte in field {
-            self.put_escaped(sink, *byte)?;
-        }
-        Ok(())
+        self.put(sink, rest)
     }
 
     // Writes a field between quotes. Out of line: few names are quoted, and each writer of a field would take it in.

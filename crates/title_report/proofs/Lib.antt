@@ -1,4 +1,3 @@
-pub mod Escapes
 pub mod Halvings
 pub mod Judged
 pub mod Lines

@@ -1,11 +1,9 @@
--- The texts of townships and sections, in the parts in which they are written.
-use Rattle.std.proofs.Common.{◌≡◌, ◌∙◌, ◌++◌, ◌∷◌, [], refl, ℕ, List, cond, codes, sym, ap, append_assoc}
-use Rattle.std.proofs.lemmas.List.{append-nil}
+-- The texts of townships and sections, in parts.
+use Rattle.std.proofs.Common.{◌≡◌, ◌∙◌, ◌++◌, ℕ, List, cond, codes, sym, ap, append_assoc}
 use Rattle.std.specs.Fmt.{decimal}
 use Rattle.title_land.specs.declared.place.Township.{Township}
 use Rattle.title_land.specs.declared.place.Section.{Section}
-use Rattle.title_land.specs.declared.rectangle.Quarter.{Quarter}
-use Rattle.title_land.specs.Texts.{path_text, quarter_text, quarters_text, section_text, township_text}
+use Rattle.title_land.specs.Texts.{section_text, township_text}
 
 -- a township's number with its side
 abbrev pub side_text : Township → List ℕ
@@ -28,15 +26,3 @@ number_text s = codes " sec " ++ decimal s.number
 
 pub section_parts : (s : Section) → section_text s ≡ township_text s.township ++ number_text s
 section_parts s = append_assoc (township_text s.township) (codes " sec ") (decimal s.number)
-
-pub section_written : (s : Section) → section_text s ≡ township_text s.township ++ (number_text s ++ [])
-section_written s = section_parts s ∙ ap (λ (x : List ℕ). township_text s.township ++ x) (sym (append-nil (number_text s)))
-
--- the quarters of a square that isn't the section
-pub path_parts : (w : List Quarter) (q : Quarter) (outer : List Quarter) → w ≡ q ∷ outer → path_text w ≡ 32 ∷ quarters_text w
-path_parts w q outer e = rw e refl
-
--- the outermost quarters behind the innermost
-pub quarter_parts : (w : List Quarter) (q : Quarter) (outer : List Quarter) (name : List ℕ) → w ≡ q ∷ outer → name ≡ quarter_text q
-    → quarters_text w ≡ name ++ quarters_text outer
-quarter_parts w q outer name e f = rw (e, f) refl

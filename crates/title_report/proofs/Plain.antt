@@ -1,8 +1,7 @@
 -- Texts that stand in a row without quotes.
-use Rattle.std.proofs.Common.{◌≡◌, ◌∙◌, ◌++◌, ◌∷◌, [], ◌<◌, ◌≤◌, ◌^◌, ℕ, List, Bool, true, false, cond, refl, sym, ap, subst, codes, arith}
+use Rattle.std.proofs.Common.{◌≡◌, ◌∙◌, ◌++◌, ◌∷◌, [], ◌<◌, ◌≤◌, ◌^◌, ℕ, List, Bool, true, false, cond, refl, sym, subst, codes, arith}
 use Rattle.std.proofs.lemmas.Bool.{ne_eqb}
 use Rattle.std.proofs.lemmas.Fmt.{decimal_is_IsNumeral}
-use Rattle.std.proofs.lemmas.List.{append-nil}
 use Rattle.std.proofs.lemmas.List.Folds.{list_any-append}
 use Rattle.std.proofs.lemmas.Str.Parse.{digit_from_value}
 use Rattle.std.specs.Fmt.{decimal}
@@ -100,17 +99,14 @@ plain_node (node.Township t) = plain_township t
 plain_node (node.Part s w) = both_plain (section_text s) (path_text w) (plain_section s) (plain_path w)
 
 -- a node's text is its own field
-pub node_field : (n m : Node) → n ≡ m → field_text row_writer (node_text n) ≡ node_text m
-node_field n m e = plain_field (node_text n) (plain_node n) ∙ ap node_text e
+pub node_field : (n : Node) → field_text row_writer (node_text n) ≡ node_text n
+node_field n = plain_field (node_text n) (plain_node n)
 
--- a share's two numbers with the line between them are its own field
-pub share_field : (units a b : ℕ) (top bottom : List ℕ) → share_text units ≡ decimal a ++ 47 ∷ decimal b → a < 2 ^ 64 → b < 2 ^ 64
-    → top ≡ decimal a → bottom ≡ decimal b → field_text row_writer (share_text units) ≡ top ++ 47 ∷ (bottom ++ [])
-share_field units a b top bottom text p q e f =
-    let plain = plain_field (decimal a ++ 47 ∷ decimal b) (both_plain (decimal a) (47 ∷ decimal b) (plain_number a p) (plain_number b q)) in
-    ap (λ (x : List ℕ). field_text row_writer x) text ∙ plain
-    ∙ ap (λ (x : List ℕ). x ++ 47 ∷ decimal b) (sym e) ∙ ap (λ (x : List ℕ). top ++ 47 ∷ x) (sym f)
-    ∙ ap (λ (x : List ℕ). top ++ 47 ∷ x) (sym (append-nil bottom))
+-- a share's text is its own field
+pub share_field : (units a b : ℕ) → share_text units ≡ decimal a ++ 47 ∷ decimal b → a < 2 ^ 64 → b < 2 ^ 64
+    → field_text row_writer (share_text units) ≡ share_text units
+share_field units a b text p q =
+    rw text (plain_field (decimal a ++ 47 ∷ decimal b) (both_plain (decimal a) (47 ∷ decimal b) (plain_number a p) (plain_number b q)))
 
 -- a number is its own field
 pub number_field : (n : ℕ) (text : List ℕ) → n < 2 ^ 64 → text ≡ decimal n → field_text row_writer (decimal n) ≡ text

@@ -24,12 +24,15 @@ key_of x = record {
   estates = estates_of x.posting.instrument;
 }
 
+-- the text of a row behind `E,entry,` up to the first name: `PLACE,DOC,KIND,`
+abbrev pub entry_front : EntryKey → List ℕ
+entry_front k = decimal k.place ++ codes "," ++ decimal k.doc ++ codes "," ++ kind_word k.kind ++ codes ","
+
 -- the text of a row behind `E,entry,`: `PLACE,DOC,KIND,FROM,TO,ESTATES`, and the line's end
 abbrev pub entry_text : List (List ℕ) → EntryKey → List ℕ
 entry_text names k =
-    decimal k.place ++ codes "," ++ decimal k.doc ++ (44 ∷ (kind_word k.kind ++ 44 ∷ []))
-    ++ field_text row_writer (name_of names k.grantor) ++ codes "," ++ field_text row_writer (name_of names k.grantee)
-    ++ (44 ∷ (estates_text k.estates ++ 10 ∷ []))
+    entry_front k ++ (field_text row_writer (name_of names k.grantor)
+    ++ 44 ∷ (field_text row_writer (name_of names k.grantee) ++ 44 ∷ (estates_text k.estates ++ 10 ∷ [])))
 
 -- the text that a line has is that of its key
 pub record IsMade (names : List (List ℕ)) (l : EntryLine) : Type 0 where

@@ -1,30 +1,27 @@
 //! The rows of answers.
 
-ghost use Rattle.std.specs.Prelude.{◌≡◌, ◌∷◌, ◌++◌, [], true, false, OnOk, OnErr, codes, length, map};
+ghost use Rattle.std.specs.Prelude.{◌≡◌, ◌<◌, ◌∷◌, [], true, false, OnOk, OnErr, codes, get_or, length, map};
 ghost use Rattle.std.specs.List.{flat_map};
-ghost use Rattle.csv.specs.Writing.{field_text};
 ghost use Rattle.title_chain.specs.KeptRows.{rows_in, sheet_in};
-ghost use Rattle.title_chain.specs.SquareRows.{row_in};
-ghost use Rattle.title_instrument.specs.Kinds.{kind_word};
 ghost use Rattle.title_page.specs.Pages.{Stopped, Written};
-ghost use Rattle.title_page.specs.Rows.{row_writer, rows_text};
-ghost use Rattle.title_report.specs.EntryTexts.{AreMade, IsMade};
-ghost use Rattle.title_report.specs.Fronts.{entry_start, tail_text, IsFront};
+ghost use Rattle.title_page.specs.Rows.{rows_text};
+ghost use Rattle.title_report.specs.EntryTexts.{entry_text, AreMade, IsMade};
+ghost use Rattle.title_report.specs.Fronts.{entry_start, IsFront};
 ghost use Rattle.title_report.specs.Replies.{answer_rows, entry_row, number_row, refused_row, sheet_row};
 
-use crate::entries::{estates_end, make_entry, make_start, put_entry_from};
-use crate::entry_line::{EntryLine, key_of};
+use crate::entries::{make_start, put_entry_in_parts};
+use crate::entry_line::{EntryKey, EntryLine, key_of};
 use crate::entry_lines::KeptLines;
 use crate::field::ReportField;
-use crate::front::{Front, Square};
+use crate::front::Front;
 use crate::nodes::number_is_plain;
 use crate::replies::{put_number_row, put_row, put_word_row};
-use crate::roster::{Name, Roster};
+use crate::roster::Roster;
 use crate::shares::put_tail;
-use title_chain::{Answer, Entry, Lines, Part, Sheet, SheetRows, SquareRow};
+use title_chain::{Answer, Entry, Lines, Part, Sheet, SheetRows};
 use title_device::{Failed, Sink};
-use title_instrument::{Estate, Kind, Rule};
-use title_land::{Node, Section};
+use title_instrument::{Estate, Rule};
+use title_land::Node;
 use title_page::{Line, Page};
 use title_store::SheetRow;
 
@@ -55,179 +52,43 @@ fn put_refused<S: Sink>(
     put_row(page, sink, &fields)
 }
 
-// Writes a row of a sheet field by field.
-fn put_sheet_row_by_fields<S: Sink>(
-    page: &mut Page,
-    sink: &mut S,
-    roster: &Roster,
-    examiner: u32,
-    line: SheetRow,
-) -> Result<(), Failed>
-    requires works { S.has_failed sink.old ≡ false }
-    ensures written { OnOk result (Written (S.taken sink.old) page.old (S.taken sink.new) page.new
-        (rows_text (sheet_row roster.now examiner line ∷ []))) }
-    ensures well { OnOk result (S.has_failed sink.new ≡ false) }
-    ensures stopped { OnErr result (Stopped (S.taken sink.old) page.old (S.taken sink.new)
-        (rows_text (sheet_row roster.now examiner line ∷ []))) }
-    ensures failed { OnErr result (S.has_failed sink.new ≡ true) }
-{
-    let name = roster.bytes(line.party);
-    let fields = [
-        ReportField::Number(u64::from(examiner)),
-        ReportField::Text(b"row"),
-        ReportField::Node(line.node),
-        ReportField::Text(line.estate.letter().as_bytes()),
-        ReportField::Text(name),
-        ReportField::Share(line.units),
-    ];
-    put_row(page, sink, &fields)
-}
-
-// Writes a row of a sheet whose beginning is made.
-fn put_row_from<S: Sink>(
-    page: &mut Page,
-    sink: &mut S,
-    front: &[u8],
-    name: &Name,
-    units: u64,
-) -> Result<(), Failed>
-    requires works { S.has_failed sink.old ≡ false }
-    ensures written { OnOk result (Written (S.taken sink.old) page.old (S.taken sink.new) page.new
-        (front.now ++ (field_text row_writer name.now ++ tail_text units))) }
-    ensures well { OnOk result (S.has_failed sink.new ≡ false) }
-    ensures stopped { OnErr result (Stopped (S.taken sink.old) page.old (S.taken sink.new)
-        (front.now ++ (field_text row_writer name.now ++ tail_text units))) }
-    ensures failed { OnErr result (S.has_failed sink.new ≡ true) }
-{
-    page.put(sink, front)?;
-    name.write(page, sink)?;
-    put_tail(page, sink, units)
-}
-
-// Writes a row of a square, from the beginning that it shares with the row before where these are one. Where none is made of the
-// square, or the page has no room for it, field by field, so that the page goes to the sink where it would if all rows were written so.
-fn put_square_row<S: Sink>(
+// Writes a row of a sheet, from the beginning that it shares with the row before where these are one.
+fn put_sheet_row<S: Sink>(
     page: &mut Page,
     sink: &mut S,
     roster: &Roster,
     examiner: u32,
     front: &mut Front,
-    section: Section,
-    estate: Estate,
-    row: &SquareRow,
+    row: &SheetRow,
 ) -> Result<(), Failed>
     requires works { S.has_failed sink.old ≡ false }
     requires front { IsFront examiner front.old }
     ensures front { IsFront examiner front.new }
     ensures written { OnOk result (Written (S.taken sink.old) page.old (S.taken sink.new) page.new
-        (rows_text (sheet_row roster.now examiner (row_in section estate row.now) ∷ []))) }
+        (rows_text (sheet_row roster.now examiner row.now ∷ []))) }
     ensures well { OnOk result (S.has_failed sink.new ≡ false) }
     ensures stopped { OnErr result (Stopped (S.taken sink.old) page.old (S.taken sink.new)
-        (rows_text (sheet_row roster.now examiner (row_in section estate row.now) ∷ []))) }
+        (rows_text (sheet_row roster.now examiner row.now ∷ []))) }
     ensures failed { OnErr result (S.has_failed sink.new ≡ true) }
 {
-    let square = Square {
-        section,
-        within: row.within,
-        estate,
-    };
-    if front.text_for(examiner, &square).is_none() || !page.has_room(front.text.as_bytes().len()) {
-        return put_sheet_row_by_fields(page, sink, roster, examiner, row.row(section, estate));
+    front.text_for(examiner, row);
+    page.put(sink, front.text.as_bytes())?;
+    roster.write(page, sink, row.party)?;
+    put_tail(page, sink, row.units)
+}
+
+// The row at a place, however rows are kept.
+fn row_at(lines: &Lines, place: usize) -> SheetRow
+    requires within { place < length (rows_in lines.now) }
+    ensures row { result ≡ get_or (rows_in lines.now) place result }
+{
+    match lines {
+        Lines::Plain(rows) => rows[place],
+        Lines::Squares(section, estate, squares) => squares[place].row(*section, *estate),
     }
-    let name = roster.name(row.party);
-    put_row_from(page, sink, front.text.as_bytes(), &name, row.share.units())
 }
 
-// Writes rows of a sheet whose section and estate are known: the one loop that takes in how a row is written.
-fn put_square_rows<S: Sink>(
-    page: &mut Page,
-    sink: &mut S,
-    roster: &Roster,
-    examiner: u32,
-    front: &mut Front,
-    section: Section,
-    estate: Estate,
-    squares: &[SquareRow],
-) -> Result<(), Failed>
-    requires works { S.has_failed sink.old ≡ false }
-    requires front { IsFront examiner front.old }
-    ensures front { IsFront examiner front.new }
-    ensures written { OnOk result (Written (S.taken sink.old) page.old (S.taken sink.new) page.new
-        (rows_text (map (λ square. sheet_row roster.now examiner (row_in section estate square)) squares.now))) }
-    ensures well { OnOk result (S.has_failed sink.new ≡ false) }
-    ensures stopped { OnErr result (Stopped (S.taken sink.old) page.old (S.taken sink.new)
-        (rows_text (map (λ square. sheet_row roster.now examiner (row_in section estate square)) squares.now))) }
-    ensures failed { OnErr result (S.has_failed sink.new ≡ true) }
-{
-    for row in squares {
-        put_square_row(page, sink, roster, examiner, front, section, estate, row)?;
-    }
-    Ok(())
-}
-
-// Writes a row of a sheet that is kept as it is: as one of a square, or field by field where it is of a township or of everything.
-fn put_plain_row<S: Sink>(
-    page: &mut Page,
-    sink: &mut S,
-    roster: &Roster,
-    examiner: u32,
-    front: &mut Front,
-    line: &SheetRow,
-) -> Result<(), Failed>
-    requires works { S.has_failed sink.old ≡ false }
-    requires front { IsFront examiner front.old }
-    ensures front { IsFront examiner front.new }
-    ensures written { OnOk result (Written (S.taken sink.old) page.old (S.taken sink.new) page.new
-        (rows_text (sheet_row roster.now examiner line.now ∷ []))) }
-    ensures well { OnOk result (S.has_failed sink.new ≡ false) }
-    ensures stopped { OnErr result (Stopped (S.taken sink.old) page.old (S.taken sink.new)
-        (rows_text (sheet_row roster.now examiner line.now ∷ []))) }
-    ensures failed { OnErr result (S.has_failed sink.new ≡ true) }
-{
-    let Node::Part(section, _) = line.node else {
-        return put_sheet_row_by_fields(page, sink, roster, examiner, *line);
-    };
-    let Some(square) = SquareRow::of(section, line.estate, line) else {
-        return put_sheet_row_by_fields(page, sink, roster, examiner, *line);
-    };
-    put_square_rows(
-        page,
-        sink,
-        roster,
-        examiner,
-        front,
-        section,
-        line.estate,
-        &[square],
-    )
-}
-
-// Writes rows of a sheet that are kept as they are.
-fn put_sheet_rows<S: Sink>(
-    page: &mut Page,
-    sink: &mut S,
-    roster: &Roster,
-    examiner: u32,
-    front: &mut Front,
-    lines: &[SheetRow],
-) -> Result<(), Failed>
-    requires works { S.has_failed sink.old ≡ false }
-    requires front { IsFront examiner front.old }
-    ensures front { IsFront examiner front.new }
-    ensures written { OnOk result (Written (S.taken sink.old) page.old (S.taken sink.new) page.new
-        (rows_text (map (sheet_row roster.now examiner) lines.now))) }
-    ensures well { OnOk result (S.has_failed sink.new ≡ false) }
-    ensures stopped { OnErr result (Stopped (S.taken sink.old) page.old (S.taken sink.new)
-        (rows_text (map (sheet_row roster.now examiner) lines.now))) }
-    ensures failed { OnErr result (S.has_failed sink.new ≡ true) }
-{
-    for line in lines {
-        put_plain_row(page, sink, roster, examiner, front, line)?;
-    }
-    Ok(())
-}
-
-// Writes rows of a sheet, however they are kept.
+// Writes rows of a sheet, however they are kept: the one loop that takes in how a row is written.
 fn put_sheet_lines<S: Sink>(
     page: &mut Page,
     sink: &mut S,
@@ -246,12 +107,11 @@ fn put_sheet_lines<S: Sink>(
         (rows_text (map (sheet_row roster.now examiner) (rows_in lines.now)))) }
     ensures failed { OnErr result (S.has_failed sink.new ≡ true) }
 {
-    match lines {
-        Lines::Plain(rows) => put_sheet_rows(page, sink, roster, examiner, front, rows),
-        Lines::Squares(section, estate, squares) => put_square_rows(
-            page, sink, roster, examiner, front, *section, *estate, squares,
-        ),
+    for place in 0..lines.len() {
+        let row = row_at(lines, place);
+        put_sheet_row(page, sink, roster, examiner, front, &row)?;
     }
+    Ok(())
 }
 
 // Writes the rows of parts of a sheet, one part after another.
@@ -334,144 +194,62 @@ fn put_sheet<S: Sink>(
     put_kept_sheet(page, sink, roster, examiner, &mut front, sheet.sheet())
 }
 
-// The word of a kind of instrument.
-fn kind_bytes(kind: Kind) -> &'static [u8]
-    ensures word { result.now ≡ kind_word kind }
-{
-    match kind {
-        Kind::Deed => b"deed",
-        Kind::Warranty => b"warranty",
-        Kind::Release => b"release",
-    }
-}
-
-// Writes a row of a chain field by field.
-fn put_entry_by_fields<S: Sink>(
-    page: &mut Page,
-    sink: &mut S,
-    roster: &Roster,
-    examiner: u32,
-    entry: &Entry,
-) -> Result<(), Failed>
-    requires works { S.has_failed sink.old ≡ false }
-    ensures written { OnOk result (Written (S.taken sink.old) page.old (S.taken sink.new) page.new
-        (rows_text (entry_row roster.now examiner entry.now ∷ []))) }
-    ensures well { OnOk result (S.has_failed sink.new ≡ false) }
-    ensures stopped { OnErr result (Stopped (S.taken sink.old) page.old (S.taken sink.new)
-        (rows_text (entry_row roster.now examiner entry.now ∷ []))) }
-    ensures failed { OnErr result (S.has_failed sink.new ≡ true) }
-{
-    let terms = entry.posting.terms();
-    let instrument = terms.instrument;
-    let from = roster.bytes(instrument.grantor());
-    let to = roster.bytes(instrument.grantee());
-    let fields = [
-        ReportField::Number(u64::from(examiner)),
-        ReportField::Text(b"entry"),
-        ReportField::Number(entry.place),
-        ReportField::Number(terms.doc),
-        ReportField::Text(kind_bytes(instrument.kind())),
-        ReportField::Text(from),
-        ReportField::Text(to),
-        ReportField::Text(instrument.estates().letters().as_bytes()),
-    ];
-    put_row(page, sink, &fields)
-}
-
-// Writes a row of a chain, of which the text up to the first name is made from that with which all its rows begin; field by field
-// where no line holds that text, or the page has no room for it.
-fn put_entry_in_parts<S: Sink>(
-    page: &mut Page,
-    sink: &mut S,
-    roster: &Roster,
-    examiner: u32,
-    start: &[u8],
-    line: &mut Line,
-    entry: &Entry,
-) -> Result<(), Failed>
-    requires start { start.now ≡ entry_start examiner }
-    requires works { S.has_failed sink.old ≡ false }
-    ensures written { OnOk result (Written (S.taken sink.old) page.old (S.taken sink.new) page.new
-        (rows_text (entry_row roster.now examiner entry.now ∷ []))) }
-    ensures well { OnOk result (S.has_failed sink.new ≡ false) }
-    ensures stopped { OnErr result (Stopped (S.taken sink.old) page.old (S.taken sink.new)
-        (rows_text (entry_row roster.now examiner entry.now ∷ []))) }
-    ensures failed { OnErr result (S.has_failed sink.new ≡ true) }
-{
-    let terms = entry.posting.terms();
-    let instrument = terms.instrument;
-    if make_entry(line, start, entry.place, terms.doc, instrument.kind()).is_none()
-        || !page.has_room(line.as_bytes().len())
-    {
-        return put_entry_by_fields(page, sink, roster, examiner, entry);
-    }
-    number_is_plain(entry.place);
-    number_is_plain(terms.doc);
-    let giver = roster.name(instrument.grantor());
-    let taker = roster.name(instrument.grantee());
-    let end = estates_end(instrument.estates());
-    put_entry_from(page, sink, line.as_bytes(), &giver, &taker, end)
-}
-
-// Writes two texts as they are.
-fn put_both<S: Sink>(
-    page: &mut Page,
-    sink: &mut S,
-    first: &[u8],
-    second: &[u8],
-) -> Result<(), Failed>
-    requires works { S.has_failed sink.old ≡ false }
-    ensures written { OnOk result (Written (S.taken sink.old) page.old (S.taken sink.new) page.new (first.now ++ second.now)) }
-    ensures well { OnOk result (S.has_failed sink.new ≡ false) }
-    ensures stopped { OnErr result (Stopped (S.taken sink.old) page.old (S.taken sink.new) (first.now ++ second.now)) }
-    ensures failed { OnErr result (S.has_failed sink.new ≡ true) }
-{
-    page.put(sink, first)?;
-    page.put(sink, second)
-}
-
-// Writes a row of a chain from a line: its text behind the examiner is made once, and is then used for all rows of its entry.
-// Where no line holds that text, or the page has no room for the row, it is made from its parts, so that the page goes to the
-// sink where it would if all rows were written so.
+// Writes the text of a key from a line, which keeps it for further rows of the entry; in its parts where the line has no room
+// for it.
 fn put_kept_entry<S: Sink>(
     page: &mut Page,
     sink: &mut S,
     roster: &Roster,
     kept: &mut EntryLine,
-    examiner: u32,
-    start: &[u8],
-    line: &mut Line,
-    entry: &Entry,
+    key: &EntryKey,
 ) -> Result<(), Failed>
-    requires start { start.now ≡ entry_start examiner }
     requires kept { IsMade roster.now kept.old }
     requires works { S.has_failed sink.old ≡ false }
     ensures kept { IsMade roster.now kept.new }
-    ensures written { OnOk result (Written (S.taken sink.old) page.old (S.taken sink.new) page.new
-        (rows_text (entry_row roster.now examiner entry.now ∷ []))) }
+    ensures written { OnOk result (Written (S.taken sink.old) page.old (S.taken sink.new) page.new (entry_text roster.now key.now)) }
     ensures well { OnOk result (S.has_failed sink.new ≡ false) }
-    ensures stopped { OnErr result (Stopped (S.taken sink.old) page.old (S.taken sink.new)
-        (rows_text (entry_row roster.now examiner entry.now ∷ []))) }
+    ensures stopped { OnErr result (Stopped (S.taken sink.old) page.old (S.taken sink.new) (entry_text roster.now key.now)) }
     ensures failed { OnErr result (S.has_failed sink.new ≡ true) }
 {
-    let key = key_of(entry);
-    if kept.text_for(roster, &key).is_none() || !page.has_room(start.len() + kept.text.len()) {
-        return put_entry_in_parts(page, sink, roster, examiner, start, line, entry);
+    if kept.text_for(roster, key).is_none() {
+        return put_entry_in_parts(page, sink, roster, key);
     }
-    number_is_plain(key.place);
-    number_is_plain(key.doc);
-    put_both(page, sink, start, kept.text.as_slice())
+    page.put(sink, kept.text.as_slice())
 }
 
-// Writes a row of a chain: from the line of its entry, where there is one.
+// Writes the text of a key: from the line of its entry, where there is one.
+fn put_entry_text<S: Sink>(
+    page: &mut Page,
+    sink: &mut S,
+    roster: &Roster,
+    lines: &mut Option<KeptLines>,
+    key: &EntryKey,
+) -> Result<(), Failed>
+    requires lines { AreMade roster.now lines.old }
+    requires works { S.has_failed sink.old ≡ false }
+    ensures lines { AreMade roster.now lines.new }
+    ensures written { OnOk result (Written (S.taken sink.old) page.old (S.taken sink.new) page.new (entry_text roster.now key.now)) }
+    ensures well { OnOk result (S.has_failed sink.new ≡ false) }
+    ensures stopped { OnErr result (Stopped (S.taken sink.old) page.old (S.taken sink.new) (entry_text roster.now key.now)) }
+    ensures failed { OnErr result (S.has_failed sink.new ≡ true) }
+{
+    if let Some(kept) = lines {
+        let number = kept.number_of(key.place);
+        if number < kept.lines.len() {
+            return put_kept_entry(page, sink, roster, &mut kept.lines[number], key);
+        }
+    }
+    put_entry_in_parts(page, sink, roster, key)
+}
+
+// Writes a row of a chain, behind the text with which all its rows begin.
 fn put_entry<S: Sink>(
     page: &mut Page,
     sink: &mut S,
     roster: &Roster,
     lines: &mut Option<KeptLines>,
     examiner: u32,
-    start: &[u8],
-    line: &mut Line,
+    start: &Line,
     entry: &Entry,
 ) -> Result<(), Failed>
     requires start { start.now ≡ entry_start examiner }
@@ -485,25 +263,14 @@ fn put_entry<S: Sink>(
         (rows_text (entry_row roster.now examiner entry.now ∷ []))) }
     ensures failed { OnErr result (S.has_failed sink.new ≡ true) }
 {
-    if let Some(kept) = lines {
-        let number = kept.number_of(entry.place);
-        if number < kept.lines.len() {
-            return put_kept_entry(
-                page,
-                sink,
-                roster,
-                &mut kept.lines[number],
-                examiner,
-                start,
-                line,
-                entry,
-            );
-        }
-    }
-    put_entry_in_parts(page, sink, roster, examiner, start, line, entry)
+    let key = key_of(entry);
+    number_is_plain(key.place);
+    number_is_plain(key.doc);
+    page.put(sink, start.as_bytes())?;
+    put_entry_text(page, sink, roster, lines, &key)
 }
 
-// Writes the entries of a chain, each from the text with which they begin.
+// Writes the entries of a chain.
 fn put_entries<S: Sink>(
     page: &mut Page,
     sink: &mut S,
@@ -523,10 +290,8 @@ fn put_entries<S: Sink>(
     ensures failed { OnErr result (S.has_failed sink.new ≡ true) }
 {
     let start = make_start(examiner);
-    let start = start.as_bytes();
-    let mut line = Line::new();
     for entry in entries {
-        put_entry(page, sink, roster, lines, examiner, start, &mut line, entry)?;
+        put_entry(page, sink, roster, lines, examiner, &start, entry)?;
     }
     Ok(())
 }

@@ -1,14 +1,11 @@
 //! The text of a chain's row behind its examiner, made once for all rows of an entry.
 
-ghost use Rattle.std.specs.Prelude.{◌≡◌, ◌++◌, ℕ, List, true, OnSome};
-ghost use Rattle.csv.specs.Writing.{field_text};
-ghost use Rattle.title_page.specs.Rows.{row_writer};
+ghost use Rattle.std.specs.Prelude.{◌≡◌, ℕ, List, true, OnSome};
 ghost use Rattle.title_report.specs.EntryTexts.{entry_text, key_of, IsMade};
-ghost use Rattle.title_report.specs.Replies.{name_of};
 
-use crate::entries::{estates_end, kind_between};
+use crate::entries::{estates_end, make_front};
 use crate::roster::Roster;
-use crate::row_text::{RowText, add, add_number};
+use crate::row_text::{RowText, add};
 use title_chain::Entry;
 use title_instrument::{Estates, Kind};
 
@@ -60,26 +57,17 @@ fn same_key(a: &EntryKey, b: &EntryKey) -> bool
         && a.estates == b.estates
 }
 
-// Adds the name of a party as a field.
-fn add_name(text: &mut RowText, roster: &Roster, party: u32) -> Option<()>
-    ensures added { OnSome result (text.new.items ≡ text.old.items ++ field_text row_writer (name_of roster.now party)) }
-{
-    roster.name(party).add_to(text)
-}
-
 // Makes the text of a key anew. `None` where there is no room for it. Out of line: most rows find their text made.
 #[inline(never)]
 fn make_text(text: &mut RowText, roster: &Roster, key: &EntryKey) -> Option<()>
     ensures made { OnSome result (text.new.items ≡ entry_text roster.now key.now) }
 {
+    let front = make_front(key);
     text.clear();
-    add_number(text, key.place)?;
+    add(text, front.as_bytes())?;
+    roster.add_to(text, key.grantor)?;
     add(text, b",")?;
-    add_number(text, key.doc)?;
-    add(text, kind_between(key.kind))?;
-    add_name(text, roster, key.grantor)?;
-    add(text, b",")?;
-    add_name(text, roster, key.grantee)?;
+    roster.add_to(text, key.grantee)?;
     add(text, estates_end(key.estates))
 }
 

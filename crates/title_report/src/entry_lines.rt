@@ -14,7 +14,8 @@ const LINES: usize = 65_536;
 // The number of no line.
 const NO_LINE: u32 = u32::MAX;
 
-// Lines with the texts of entries. Which is an entry's goes by its place, counted round.
+// Lines with the texts of entries. Which is an entry's goes by its place, counted round: by its lowest bits, since the numbers are
+// as many as a power of two.
 #[derive(Drop)]
 pub(crate) struct KeptLines {
     pub(crate) numbers: Vec<u32>,
@@ -52,13 +53,21 @@ fn add_line(lines: &mut Vec<EntryLine>) -> bool
     has_room
 }
 
+// As many as these, up to a power of two; none of none.
+fn power_from(entries: usize) -> usize {
+    match entries.checked_next_power_of_two() {
+        Some(power) if entries > 0 => power,
+        _ => entries,
+    }
+}
+
 impl KeptLines {
-    // Room for so many lines, at most 65,536, none of them begun, by so many places.
+    // Room for so many lines, at most 65,536, none of them begun, by at least so many places.
     fn new(alloc: Global, entries: usize) -> Result<KeptLines, AllocError>
         ensures made { IfOk result (λ it. (names : List (List ℕ)) → All (IsMade names) it.lines.items) }
     {
         Ok(KeptLines {
-            numbers: vec![in alloc; NO_LINE; entries]?,
+            numbers: vec![in alloc; NO_LINE; power_from(entries)]?,
             lines: Vec::with_capacity(alloc, entries.min(LINES))?,
         })
     }
@@ -70,11 +79,8 @@ impl KeptLines {
         ensures made { (names : List (List ℕ)) → All (IsMade names) self.old.lines.items → All (IsMade names) self.new.lines.items }
     {
         let next = self.lines.len();
-        let places = self.numbers.len() as u64;
-        if places == 0 {
-            return next;
-        }
-        let Some(number) = self.numbers.get_mut((place % places) as usize) else {
+        let mask = self.numbers.len().wrapping_sub(1);
+        let Some(number) = self.numbers.get_mut(place as usize & mask) else {
             return next;
         };
         if (*number as usize) < next {

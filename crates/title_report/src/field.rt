@@ -2,18 +2,17 @@
 
 ghost use Rattle.title_report.specs.Fields.{text_of};
 
-use crate::nodes::{put_node, put_number, put_share};
+use crate::nodes::{put_node, put_number};
 use title_device::{Failed, Sink};
 use title_land::Node;
 use title_page::{Field, Page};
 
-/// What stands in a row: a word or a name, a number, a node of the tree of tracts, or a share of so many units.
+/// What stands in a row: a word or a name, a number, or a node of the tree of tracts.
 #[derive(Clone, Copy)]
 pub enum ReportField<'a> {
     Text(&'a [u8]),
     Number(u64),
     Node(Node),
-    Share(u64),
 }
 
 impl Field for ReportField<'_> {
@@ -24,7 +23,6 @@ impl Field for ReportField<'_> {
             ReportField::Text(text) => page.field(sink, text),
             ReportField::Number(number) => put_number(page, sink, *number),
             ReportField::Node(node) => put_node(page, sink, node),
-            ReportField::Share(units) => put_share(page, sink, *units),
         }
     }
 }

@@ -1,106 +1,114 @@
 //! The text with which rows of a sheet begin, made once for all rows of a node and an estate.
 
-ghost use Rattle.std.specs.Prelude.{◌≡◌, ◌++◌, ℕ, true, codes, OnSome};
+ghost use Rattle.std.specs.Prelude.{◌≡◌, ◌≤◌, ◌+◌, ◌++◌, ℕ, true, codes, length};
 ghost use Rattle.title_instrument.specs.Estates.{estate_text};
-ghost use Rattle.title_land.specs.declared.node.Node.TheVariants as node;
-ghost use Rattle.title_land.specs.Texts.{path_text, quarters_text, section_text, township_text};
-ghost use Rattle.title_report.specs.Fronts.{front_text, head_text, IsFront};
+ghost use Rattle.title_land.specs.Texts.{node_text};
+ghost use Rattle.title_report.specs.Fronts.{front_text, head_text, row_start, IsFront, IsHead};
 
-use crate::nodes::{quarter_bytes, range_letter, side_letter};
-use crate::same::{same_section, same_within};
-use itoa::{Buffer, Integer};
+use crate::nodes::{add, add_node, add_path, add_section, start_row};
+use crate::same::{same_node, same_section};
 use title_instrument::Estate;
-use title_land::{Section, Township, Within};
+use title_land::{Node, Section};
 use title_page::Line;
+use title_store::SheetRow;
 
-// A square of a section, and an estate in it.
-#[derive(Clone, Copy)]
-pub(crate) struct Square {
-    pub(crate) section: Section,
-    pub(crate) within: Within,
-    pub(crate) estate: Estate,
-}
-
-// The last square of whose rows the beginning was made, with that beginning, and the part up to its section.
+// The last section up to which a beginning was made, with that beginning.
 #[derive(Drop)]
-pub(crate) struct Front {
+pub(crate) struct Head {
     pub(crate) section: Option<Section>,
-    pub(crate) head: Line,
-    pub(crate) square: Option<Square>,
     pub(crate) text: Line,
 }
 
-// Adds a number in decimal.
-pub(crate) fn add_number<I: Integer>(line: &mut Line, number: I) -> Option<()>
-    ensures added { OnSome result (line.new ≡ line.old ++ I.text number) }
-{
-    let mut digits = Buffer::new();
-    line.add(digits.format(number).as_bytes())
-}
-
-// Adds a township.
-fn add_township(line: &mut Line, township: Township) -> Option<()>
-    ensures added { OnSome result (line.new ≡ line.old ++ township_text township) }
-{
-    line.add(b"T")?;
-    add_number(line, township.number)?;
-    line.add(side_letter(township))?;
-    line.add(b" R")?;
-    add_number(line, township.range)?;
-    line.add(range_letter(township))
-}
-
-// Adds a section.
-fn add_section(line: &mut Line, section: Section) -> Option<()>
-    ensures added { OnSome result (line.new ≡ line.old ++ section_text section) }
-{
-    add_township(line, section.township)?;
-    line.add(b" sec ")?;
-    add_number(line, section.number)
-}
-
-// Adds the quarters of a square, the innermost first.
-fn add_quarters(line: &mut Line, within: Within) -> Option<()>
-    ensures added { OnSome result (line.new ≡ line.old ++ quarters_text within) }
-{
-    let Some(parts) = within.split() else {
-        return Some(());
-    };
-    line.add(quarter_bytes(parts.0))?;
-    add_quarters(line, parts.1)
-}
-
-// Adds what a square's quarters add to its section's text.
-fn add_path(line: &mut Line, within: Within) -> Option<()>
-    ensures added { OnSome result (line.new ≡ line.old ++ path_text within) }
-{
-    let Some((_, _)) = within.split() else {
-        return Some(());
-    };
-    line.add(b" ")?;
-    add_quarters(line, within)
+// The last row of which the beginning was made, with that beginning.
+#[derive(Drop)]
+pub(crate) struct Front {
+    pub(crate) head: Head,
+    pub(crate) row: Option<SheetRow>,
+    pub(crate) text: Line,
 }
 
 // Makes the beginning up to the section anew.
-fn make_head(line: &mut Line, examiner: u32, section: Section) -> Option<()>
-    ensures made { OnSome result (line.new ≡ head_text examiner section) }
+fn make_head(line: &mut Line, examiner: u32, section: Section)
+    ensures made { line.new ≡ head_text examiner section }
+    ensures long { length line.new ≤ 34 }
 {
-    line.clear();
-    add_number(line, examiner)?;
-    line.add(b",row,")?;
-    add_section(line, section)
+    start_row(line, examiner, b"row");
+    add_section(line, section);
 }
 
-// Makes the beginning of rows of a square anew, from that up to its section.
-fn make_text(line: &mut Line, head: &[u8], within: Within, estate: Estate) -> Option<()>
-    ensures made { OnSome result (line.new ≡ head.now ++ path_text within ++ codes "," ++ estate_text estate ++ codes ",") }
+// The letter of an estate.
+fn letter_bytes(estate: Estate) -> &'static [u8]
+    ensures letter { result.now ≡ estate_text estate }
+    ensures one { length result.now ≡ 1 }
+{
+    estate.letter().as_bytes()
+}
+
+// Adds the estate's letter between two commas.
+fn add_estate(line: &mut Line, estate: Estate)
+    requires room { length line.old + 3 ≤ 64 }
+    ensures added { line.new ≡ line.old ++ codes "," ++ estate_text estate ++ codes "," }
+{
+    add(line, b",");
+    add(line, letter_bytes(estate));
+    add(line, b",");
+}
+
+impl Head {
+    // Whether it is that of this section.
+    fn serves(&self, section: Section) -> bool
+        ensures serves { result ≡ true → (e : ℕ) → IsHead e self.now → self.now.text ≡ head_text e section }
+    {
+        match self.section {
+            Some(last) => same_section(last, section),
+            None => false,
+        }
+    }
+
+    // Makes it that of this section.
+    #[inline(always)]
+    fn make_for(&mut self, examiner: u32, section: Section)
+        requires head { IsHead examiner self.old }
+        ensures head { IsHead examiner self.new }
+        ensures text { self.new.text ≡ head_text examiner section }
+    {
+        if self.serves(section) {
+            return;
+        }
+        make_head(&mut self.text, examiner, section);
+        self.section = Some(section);
+    }
+}
+
+// Makes a line what another one is.
+#[inline(always)]
+fn copy_line(line: &mut Line, other: &Line)
+    requires room { length other.now ≤ 64 }
+    ensures made { line.new ≡ other.now }
 {
     line.clear();
-    line.add(head)?;
-    add_path(line, within)?;
-    line.add(b",")?;
-    line.add(estate.letter().as_bytes())?;
-    line.add(b",")
+    add(line, other.as_bytes());
+}
+
+// Makes the beginning up to the node anew.
+#[inline(always)]
+fn make_node(line: &mut Line, head: &mut Head, examiner: u32, node: &Node)
+    requires head { IsHead examiner head.old }
+    ensures head { IsHead examiner head.new }
+    ensures made { line.new ≡ row_start examiner ++ node_text node.now }
+    ensures long { length line.new ≤ 55 }
+{
+    match node {
+        Node::Part(section, within) => {
+            head.make_for(examiner, *section);
+            copy_line(line, &head.text);
+            add_path(line, *within);
+        }
+        _ => {
+            start_row(line, examiner, b"row");
+            add_node(line, node);
+        }
+    }
 }
 
 impl Front {
@@ -109,82 +117,46 @@ impl Front {
         ensures front { (e : ℕ) → IsFront e result }
     {
         Front {
-            section: None,
-            head: Line::new(),
-            square: None,
+            head: Head {
+                section: None,
+                text: Line::new(),
+            },
+            row: None,
             text: Line::new(),
         }
     }
 
-    // Whether the head is that of this section.
-    fn is_headed(&self, section: Section) -> bool
-        ensures headed { result ≡ true → (e : ℕ) → IsFront e self.now → self.now.head ≡ head_text e section }
+    // Whether a row begins as the last one did.
+    fn serves(&self, row: &SheetRow) -> bool
+        ensures serves { result ≡ true → (e : ℕ) → IsFront e self.now → self.now.text ≡ front_text e row.now.node row.now.estate }
     {
-        match self.section {
-            Some(last) => same_section(last, section),
+        match &self.row {
+            Some(last) => same_node(&last.node, &row.node) && last.estate == row.estate,
             None => false,
         }
     }
 
-    // Whether rows of a square begin as the last ones did.
-    fn serves(&self, square: &Square) -> bool
-        ensures serves { result ≡ true → (e : ℕ) → IsFront e self.now
-            → self.now.text ≡ front_text e (node.Part square.now.section square.now.within) square.now.estate }
-    {
-        match &self.square {
-            Some(last) => {
-                same_within(last.within, square.within)
-                    && last.estate == square.estate
-                    && same_section(last.section, square.section)
-            }
-            None => false,
-        }
-    }
-
-    // Makes the head that of this section. `None` where a line has no room for it.
-    fn head_for(&mut self, examiner: u32, section: Section) -> Option<()>
+    // Makes the beginning that of a row, anew. Put inline, as what it calls: the rows of one beginning are few.
+    #[inline(always)]
+    fn make_for(&mut self, examiner: u32, row: &SheetRow)
         requires front { IsFront examiner self.old }
         ensures front { IsFront examiner self.new }
-        ensures head { OnSome result (self.new.head ≡ head_text examiner section) }
+        ensures text { self.new.text ≡ front_text examiner row.now.node row.now.estate }
     {
-        if self.is_headed(section) {
-            return Some(());
-        }
-        self.section = None;
-        make_head(&mut self.head, examiner, section)?;
-        self.section = Some(section);
-        Some(())
+        make_node(&mut self.text, &mut self.head, examiner, &row.node);
+        add_estate(&mut self.text, row.estate);
+        self.row = Some(*row);
     }
 
-    // Makes the beginning that of rows of a square, anew.
-    fn make_for(&mut self, examiner: u32, square: &Square) -> Option<()>
+    // Makes the beginning that of a row.
+    pub(crate) fn text_for(&mut self, examiner: u32, row: &SheetRow)
         requires front { IsFront examiner self.old }
         ensures front { IsFront examiner self.new }
-        ensures text { OnSome result
-            (self.new.text ≡ front_text examiner (node.Part square.now.section square.now.within) square.now.estate) }
+        ensures text { self.new.text ≡ front_text examiner row.now.node row.now.estate }
     {
-        self.head_for(examiner, square.section)?;
-        self.square = None;
-        make_text(
-            &mut self.text,
-            self.head.as_bytes(),
-            square.within,
-            square.estate,
-        )?;
-        self.square = Some(*square);
-        Some(())
-    }
-
-    // Makes the beginning that of rows of a square. `None` where a line has no room for it.
-    pub(crate) fn text_for(&mut self, examiner: u32, square: &Square) -> Option<()>
-        requires front { IsFront examiner self.old }
-        ensures front { IsFront examiner self.new }
-        ensures text { OnSome result
-            (self.new.text ≡ front_text examiner (node.Part square.now.section square.now.within) square.now.estate) }
-    {
-        if self.serves(square) {
-            return Some(());
+        if self.serves(row) {
+            return;
         }
-        self.make_for(examiner, square)
+        self.make_for(examiner, row);
     }
 }

@@ -1,12 +1,11 @@
 //! Texts of rows, put together before they are kept.
 
-ghost use Rattle.std.specs.Prelude.{◌≡◌, ◌++◌, ◌∷◌, [], OnSome};
-ghost use Rattle.std.specs.Fmt.{decimal};
+ghost use Rattle.std.specs.Prelude.{◌≡◌, ◌++◌, OnSome};
 ghost use Rattle.csv.specs.Writing.{escaped, field_text, needs_quotes, quoted};
 ghost use Rattle.title_page.specs.Rows.{row_writer};
 
 use arrayvec::ArrayVec;
-use itoa::Buffer;
+use title_page::first_quote;
 
 // A text of at most 128 bytes.
 pub(crate) type RowText = ArrayVec<u8, 128>;
@@ -18,32 +17,16 @@ pub(crate) fn add(text: &mut RowText, bytes: &[u8]) -> Option<()>
     text.try_extend_from_slice(bytes).ok()
 }
 
-// Adds a number in decimal.
-pub(crate) fn add_number(text: &mut RowText, number: u64) -> Option<()>
-    ensures added { OnSome result (text.new.items ≡ text.old.items ++ decimal number) }
-{
-    let mut digits = Buffer::new();
-    add(text, digits.format(number).as_bytes())
-}
-
-// Adds a byte of a quoted field: a quote twice.
-fn add_escaped_byte(text: &mut RowText, byte: u8) -> Option<()>
-    ensures added { OnSome result (text.new.items ≡ text.old.items ++ escaped row_writer (byte ∷ [])) }
-{
-    if byte == b'"' {
-        return add(text, b"\"\"");
-    }
-    add(text, &[byte])
-}
-
-// Adds the bytes of a quoted field.
+// Adds the bytes of a quoted field: the runs between its quotes, and each quote twice.
 fn add_escaped(text: &mut RowText, field: &[u8]) -> Option<()>
     ensures added { OnSome result (text.new.items ≡ text.old.items ++ escaped row_writer field.now) }
 {
-    for byte in field {
-        add_escaped_byte(text, *byte)?;
-    }
-    Some(())
+    let Some(at) = first_quote(field) else {
+        return add(text, field);
+    };
+    add(text, &field[..at])?;
+    add(text, b"\"\"")?;
+    add_escaped(text, &field[at + 1..])
 }
 
 // Adds a field between quotes.

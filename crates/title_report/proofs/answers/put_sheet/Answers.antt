@@ -6,6 +6,9 @@ use Rattle.title_page.specs.Laws.Rows.{rows_stopped_before, rows_stopped_then, r
 use Rattle.title_report.specs.Replies.{sheet_row, number_row}
 use Rattle.title_report.proofs.answers.put_sheet.Goals as goal
 
+pub put_kept_sheet-requires-clause-front : goal.put_kept_sheet-requires-clause-front
+put_kept_sheet-requires-clause-front g c = c.new-front.ensures.front c.args.examiner
+
 pub returns-in_err-put_number_row-clause-stopped : goal.returns-in_err-put_number_row-clause-stopped
 returns-in_err-put_number_row-clause-stopped g c =
     on_err c.from_residual.result (rows_stopped_before (number_row c.args.examiner (codes "sheet") (length c.args.sheet.now) ∷ [])

@@ -1,20 +1,24 @@
--- Rows that are kept less their section and estate are written as they are.
-use Rattle.std.proofs.lemmas.Result.{on_ok_weaker, on_err_weaker}
-use Rattle.title_chain.specs.SquareRows.{row_in}
+-- One row more, behind those before it.
+use Rattle.std.proofs.Common.{◌<◌, arith, length}
+use Rattle.title_chain.specs.KeptRows.{rows_in}
+use Rattle.title_page.specs.Laws.InTurn.{on_err}
+use Rattle.title_page.specs.Laws.Rows.{one_row_more, stopped_at_a_row}
 use Rattle.title_report.specs.Replies.{sheet_row}
-use Rattle.title_report.proofs.SheetParts.{squares_stopped, squares_written}
 use Rattle.title_report.proofs.answers.put_sheet_lines.Goals as goal
 
-pub returns-in-Squares-clause-written : goal.returns-in-Squares-clause-written
-returns-in-Squares-clause-written g c =
-    let written = rw c.deref-in-Squares.ensures.value at c.put_square_rows.ensures.written in
-    rw c.in-Squares.is (on_ok_weaker c.put_square_rows.result
-    (λ w. squares_written (sheet_row c.args.roster.now c.args.examiner) (row_in c.in-Squares.section c.in-Squares.estate)
-    c.in-Squares.squares.items w) written)
+pub loop-place-preserved : goal.loop-place-preserved
+loop-place-preserved g c =
+    let within : c.loop-place.place < length (rows_in c.args.lines.now) =
+    omega (arith, c.len-place-end.ensures.len, c.loop-place-test.true) in (
+      one_row_more (sheet_row c.args.roster.now c.args.examiner) (rows_in c.args.lines.now) c.loop-place.place c.row_at-row.result
+          within c.row_at-row.ensures.row c.loop-place.invariant.0 c.in_ok-put_sheet_row.ensures.written,
+      c.in_ok-put_sheet_row.ensures.well,
+      c.in_ok-put_sheet_row.ensures.front,
+    )
 
-pub returns-in-Squares-clause-stopped : goal.returns-in-Squares-clause-stopped
-returns-in-Squares-clause-stopped g c =
-    let stopped = rw c.deref-in-Squares.ensures.value at c.put_square_rows.ensures.stopped in
-    rw c.in-Squares.is (on_err_weaker c.put_square_rows.result
-    (λ v. squares_stopped (sheet_row c.args.roster.now c.args.examiner) (row_in c.in-Squares.section c.in-Squares.estate)
-    c.in-Squares.squares.items v) stopped)
+pub returns-in_err-put_sheet_row-clause-stopped : goal.returns-in_err-put_sheet_row-clause-stopped
+returns-in_err-put_sheet_row-clause-stopped g c =
+    let within : c.loop-place.place < length (rows_in c.args.lines.now) =
+    omega (arith, c.len-place-end.ensures.len, c.loop-place-test.true) in
+    on_err c.from_residual.result (stopped_at_a_row (sheet_row c.args.roster.now c.args.examiner) (rows_in c.args.lines.now)
+    c.loop-place.place c.row_at-row.result within c.row_at-row.ensures.row c.loop-place.invariant.0 c.in_err-put_sheet_row.ensures.stopped)

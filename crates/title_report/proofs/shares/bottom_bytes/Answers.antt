@@ -1,5 +1,5 @@
 -- Each power of two in decimal.
-use Rattle.std.proofs.Common.{◌≡◌, ◌^◌, ◌++◌, ◌∷◌, [], ℕ, List, refl}
+use Rattle.std.proofs.Common.{◌≡◌, ◌^◌, ◌++◌, ◌∷◌, [], ℕ, List, arith, refl}
 use Rattle.std.specs.Fmt.{decimal, digits}
 use Rattle.title_report.proofs.shares.bottom_bytes.Goals as goal
 
@@ -134,6 +134,6 @@ pub returns-in-31 : goal.returns-in-31
 unfolding digits
 returns-in-31 c = record { bottom = at_one c.args.exponent 31 _ c.in-31.is refl }
 
-pub returns-in-32 : goal.returns-in-32
+pub returns-in_default : goal.returns-in_default
 unfolding digits
-returns-in-32 c = record { bottom = at_one c.args.exponent 32 _ c.in-32.is refl }
+returns-in_default c = let last : c.args.exponent ≡ 32 = omega arith in record { bottom = at_one c.args.exponent 32 _ last refl }

@@ -1,0 +1,15 @@
+-- The rows so far are written, and what the front remembers are beginnings of rows.
+use Rattle.std.proofs.Common.{◌≡◌, false, map, take}
+use Rattle.title_page.specs.Pages.{Written}
+use Rattle.title_page.specs.Rows.{rows_text}
+use Rattle.title_chain.specs.KeptRows.{rows_in}
+use Rattle.title_report.specs.Fronts.{IsFront}
+use Rattle.title_report.specs.Replies.{sheet_row}
+use Rattle.title_report.proofs.answers.put_sheet_lines.Given as goal
+
+abbrev pub invariant-loop-place : goal.invariant-loop-place
+invariant-loop-place g l =
+    Written (g.S.Sink.taken l.fn.sink) l.fn.page (g.S.Sink.taken l.sink) l.page
+    (rows_text (map (sheet_row l.roster l.examiner) (take l.place (rows_in l.lines))))
+    × (g.S.Sink.has_failed l.sink ≡ false)
+    × IsFront l.examiner l.front
