@@ -23,7 +23,6 @@ With no trial named, all of them. What is wrong is named, and the status is 1 th
 it is the other one, in memory where nothing is said.
 """
 
-import argparse
 import bisect
 import collections
 import contextlib
@@ -47,7 +46,7 @@ import types
 import unittest.mock
 
 from endings import BUILT, TOP
-from kills import Trial
+from kills import Trial, carry_out, parser_of
 from plant_days import FIRST, ODD_NAMES, read_plant, row
 
 sys.path.insert(0, str(TOP / "examples"))
@@ -946,14 +945,14 @@ def first_answers(trial):
 
 
 def speed(trial):
-    if trial.fast:
-        trial.path = pathlib.Path(trial.fast) / f"desks-{os.getpid()}" / "plant"
+    if trial.options.fast:
+        trial.path = pathlib.Path(trial.options.fast) / f"desks-{os.getpid()}" / "plant"
         trial.path.parent.mkdir()
     try:
         for part in (first_answers, waiting, sent_ahead):
             part(trial)
     finally:
-        if trial.fast:
+        if trial.options.fast:
             shutil.rmtree(trial.path.parent)
 
 
@@ -962,30 +961,9 @@ TRIALS = {"fifty": fifty, "examiners": examiners, "kills": kills, "client": clie
 
 
 def main():
-    parser = argparse.ArgumentParser(description=__doc__, formatter_class=argparse.RawDescriptionHelpFormatter)
-    parser.add_argument("--program", type=pathlib.Path, default=BUILT)
-    parser.add_argument("--count", type=int, default=1000)
-    parser.add_argument("--seed", type=int, default=1)
-    parser.add_argument("--folder", help="where the plants lie; a folder of the disk, else a temporary one")
+    parser = parser_of(__doc__)
     parser.add_argument("--fast", default="/dev/shm", help="where those of `speed` lie, a folder in memory (default /dev/shm)")
-    parser.add_argument("trials", nargs="*", metavar="TRIAL")
-    options = parser.parse_args()
-    options.program = options.program.resolve()
-    wrong = 0
-    for name in options.trials or TRIALS:
-        start = time.monotonic()
-        with tempfile.TemporaryDirectory(prefix="desks-", dir=options.folder) as top:
-            folder = pathlib.Path(top) / "plants"
-            folder.mkdir()
-            trial = Trial(options, folder)
-            trial.fast = options.fast
-            TRIALS[name](trial)
-        words = ", ".join(f"{count} {what}" for what, count in sorted(trial.counts.items()))
-        print(f"{name}: {words}; {trial.counts['wrong']} wrong; {time.monotonic() - start:.0f} s", flush=True)
-        for line in trial.wrong:
-            print(f"  WRONG {line}")
-        wrong += trial.counts["wrong"]
-    sys.exit(1 if wrong else 0)
+    sys.exit(carry_out(TRIALS, parser.parse_args()))
 
 
 if __name__ == "__main__":

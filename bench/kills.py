@@ -40,7 +40,8 @@ class Trial:
     """What was tried, and what was wrong."""
 
     def __init__(self, options, folder):
-        self.program, self.path, self.chance = str(options.program), folder / "plant", random.Random(options.seed)
+        self.options, self.program = options, str(options.program)
+        self.path, self.chance = folder / "plant", random.Random(options.seed)
         self.count, self.counts, self.wrong = options.count, collections.Counter(), []
 
     def fail(self, what, *seen):
@@ -344,29 +345,38 @@ def offices(trial):
 TRIALS = {"kills": kills, "second": second, "crowd": crowd, "looks": looks, "offices": offices}
 
 
-def main():
-    parser = argparse.ArgumentParser(description=__doc__, formatter_class=argparse.RawDescriptionHelpFormatter)
+def parser_of(words):
+    """A parser of what a program with such trials is told."""
+    parser = argparse.ArgumentParser(description=words, formatter_class=argparse.RawDescriptionHelpFormatter)
     parser.add_argument("--program", type=pathlib.Path, default=BUILT)
     parser.add_argument("--count", type=int, default=1000)
     parser.add_argument("--seed", type=int, default=1)
     parser.add_argument("--folder", help="where the plants lie; a folder of the disk, else a temporary one")
     parser.add_argument("trials", nargs="*", metavar="TRIAL")
-    options = parser.parse_args()
+    return parser
+
+
+def carry_out(trials, options):
+    """The trials that are asked for, one after another, each with a folder of its own; the status."""
     options.program = options.program.resolve()
     wrong = 0
-    for name in options.trials or TRIALS:
+    for name in options.trials or trials:
         start = time.monotonic()
-        with tempfile.TemporaryDirectory(prefix="kills-", dir=options.folder) as top:
+        with tempfile.TemporaryDirectory(prefix="plants-", dir=options.folder) as top:
             folder = pathlib.Path(top) / "plants"
             folder.mkdir()
             trial = Trial(options, folder)
-            TRIALS[name](trial)
+            trials[name](trial)
         words = ", ".join(f"{count} {what}" for what, count in sorted(trial.counts.items()))
         print(f"{name}: {words}; {trial.counts['wrong']} wrong; {time.monotonic() - start:.0f} s", flush=True)
         for line in trial.wrong:
             print(f"  WRONG {line}")
         wrong += trial.counts["wrong"]
-    sys.exit(1 if wrong else 0)
+    return 1 if wrong else 0
+
+
+def main():
+    sys.exit(carry_out(TRIALS, parser_of(__doc__).parse_args()))
 
 
 if __name__ == "__main__":
