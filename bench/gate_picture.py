@@ -1,19 +1,42 @@
 #!/usr/bin/env python3
 """Runs the gate and shows where its time goes: bench/gate_picture.py [COMMAND ..], by default .ci/run, from the repository's root.
 
-While the command runs, the checks that it has started are looked at twice a second (Linux, /proc). Then standard error gets,
-crate by crate, the seconds of its own checks, of its tests, and of its must-fail edits, each with the minutes of the clock from
-which and to which they ran, how many checks ran side by side in each minute, and the dearest edits. What the command prints passes
-through; the exit status is its own.
+While the command runs, the checks that it has started are looked at twice a second (Linux, /proc), each with the processes that it has
+started in its turn. Then standard error gets, crate by crate, the seconds of its own checks, of its tests, and of its must-fail edits,
+each with the minutes of the clock from which and to which they ran, how many checks ran side by side in each minute, and the dearest
+edits. What the command prints passes through; the exit status is its own.
 """
 import os, subprocess, sys, threading, time
 
 TICKS = os.sysconf("SC_CLK_TCK")
 
 
-def checks():
-    """The checks that run now: process, crate, kind, processor seconds."""
+def processes():
+    """All processes: parent, and processor seconds with those of the children that it has waited for."""
+    found = {}
     for pid in filter(str.isdigit, os.listdir("/proc")):
+        try:
+            with open(f"/proc/{pid}/stat") as it:
+                fields = it.read().rsplit(")", 1)[1].split()
+        except OSError:
+            continue
+        found[int(pid)] = (int(fields[1]), sum(map(int, fields[11:15])) / TICKS)
+    return found
+
+
+def below(pid, children):
+    """A process and all that it has started."""
+    yield pid
+    for child in children.get(pid, ()):
+        yield from below(child, children)
+
+
+def checks(command):
+    """The checks that run now below the command: process, crate, kind, processor seconds with those of the processes that it started."""
+    found, children = processes(), {}
+    for pid, (parent, _) in found.items():
+        children.setdefault(parent, []).append(pid)
+    for pid in below(command, children):
         try:
             with open(f"/proc/{pid}/cmdline", "rb") as it:
                 words = it.read().decode(errors="replace").split("\0")
@@ -21,18 +44,16 @@ def checks():
                 continue
             name = words[words.index("--crate-name") + 1]
             folder = os.readlink(f"/proc/{pid}/cwd")
-            with open(f"/proc/{pid}/stat") as it:
-                fields = it.read().rsplit(")", 1)[1].split()
         except (OSError, ValueError):
             continue
         kind = "edits" if "rt-edit-" in folder else "tests" if "--test" in words else "check"
-        yield int(pid), name, kind, (int(fields[11]) + int(fields[12])) / TICKS
+        yield pid, name, kind, sum(found[it][1] for it in below(pid, children) if it in found)
 
 
-def watch(seen, lanes, done, start):
+def watch(command, seen, lanes, done, start):
     while not done.wait(0.5):
         now, running = time.monotonic() - start, 0
-        for pid, name, kind, spent in checks():
+        for pid, name, kind, spent in checks(command):
             first = seen.get((pid, name, kind), (now,))[0]
             seen[pid, name, kind] = (first, now, spent)
             running += 1
@@ -63,7 +84,6 @@ def dearest(seen, count=25):
     found = []
     for name, checks_of in spent.items():
         folder = f"crates/{name}/must-fail"
-        # (a check of a crate with no such folder here is another checkout's)
         edits = sorted(it for it in os.listdir(folder) if it.endswith(".edit")) if os.path.isdir(folder) else []
         found += [(seconds, f"{name}/{it}") for it, (_, seconds) in zip(edits, sorted(checks_of))][1:]
     print("\nThe dearest edits:", file=sys.stderr)
@@ -73,10 +93,11 @@ def dearest(seen, count=25):
 
 def main():
     start, seen, lanes, done = time.monotonic(), {}, {}, threading.Event()
-    watcher = threading.Thread(target=watch, args=(seen, lanes, done, start))
+    command = subprocess.Popen(sys.argv[1:] or [".ci/run"])
+    watcher = threading.Thread(target=watch, args=(command.pid, seen, lanes, done, start))
     watcher.start()
     try:
-        status = subprocess.run(sys.argv[1:] or [".ci/run"]).returncode
+        status = command.wait()
     finally:
         done.set()
         watcher.join()
