@@ -1,8 +1,7 @@
 -- Places: one is found exactly where the same one stands; what is found above a node is found at its parent or above that.
-use Rattle.std.proofs.Common.{◌≡◌, ◌≢◌, ◌<◌, ◌+◌, ℕ, Bool, true, false, ◌||◌, List, [], ◌∷◌, length, get_or, take, refl, sym, ap, ◌∙◌}
-use Rattle.std.proofs.Common.{inl, inr, true≢false}
-use Rattle.std.proofs.lemmas.Bool.{and_parts, and_from, eqb-true, eq-eqb, or_cases, or_left, or_right}
-use Rattle.std.proofs.lemmas.List.Folds.{list_any_more}
+use Rattle.std.proofs.Common.{◌≡◌, ◌≢◌, ℕ, Bool, true, false, ◌||◌, List, refl, sym, ap, ◌∙◌}
+use Rattle.std.proofs.Common.{true≢false}
+use Rattle.std.proofs.lemmas.Bool.{and_parts, and_from, eqb-true, eq-eqb, or_right}
 use Rattle.std.proofs.lemmas.Map.Lookups.{exact_unsigned}
 use Rattle.std.specs.declared.cmp.Ordering.TheVariants.{Equal}
 use Rattle.std.specs.Ordering.{nat_cmp}
@@ -11,7 +10,7 @@ use Rattle.std.specs.Cmp.{tied_itself, nat_cmp_total}
 use Rattle.std.specs.BTreeMap.{is_at}
 use Rattle.std.specs.List.{list_any}
 use Rattle.title_land.specs.declared.node.Node.{Node}
-use Rattle.title_land.specs.Nodes.{same_node, above}
+use Rattle.title_land.specs.Nodes.{above}
 use Rattle.title_land.specs.Laws.LandSharing.{equal_tests}
 use Rattle.title_land.specs.Laws.Keys.{found_at, then_parts}
 use Rattle.title_land.specs.Laws.CoverSet.{above_by_parent}
@@ -21,9 +20,8 @@ use Rattle.title_chain.specs.declared.place.Place.{Place}
 use Rattle.title_chain.specs.PostPlaces.{same_place, is_listed}
 use Rattle.title_land.specs.NodeNumbers.{node_number, number_above}
 use Rattle.title_chain.specs.PlaceMaps.{places_numbered, places_under, place_cmp}
-use Rattle.title_chain.specs.TractIndexes.{is_near}
+use Rattle.title_chain.specs.TractIndexes.{is_near, is_higher, KnowsAbove}
 use Rattle.title_chain.proofs.Filings.{Lists}
-use Rattle.title_land.specs.Laws.SameNode.{same_node-is, same_node-self}
 use Rattle.title_land.specs.Laws.NodeNumbers.{node_above, whole_is, one_above}
 
 -- places that are one by their numbers are one value
@@ -107,10 +105,6 @@ found_to_the_top lists was now n k so none p =
 
 -- ---- near a node
 
--- the places filed above a node
-abbrev pub is_higher : Filing → Place → Node → Bool
-is_higher f p n = list_any (λ a. is_listed p (places_under f.at a)) (above n)
-
 -- what was found under a node, then under it in the other lists, and above it, where that was found before, is what is near it
 pub near_known : (f : Filing) (n : Node) (k : ℕ) (p : Place) (was first second : Bool) → k ≡ node_number n
     → first ≡ (was || is_listed p (places_numbered f.at k)) → second ≡ (first || is_listed p (places_numbered f.below k))
@@ -128,39 +122,29 @@ near_known f n k p was first second is at below known =
     skipped false false false true k = absurd (true≢false (sym (k refl)))
     skipped false false false false k = refl
 
--- a node of the list lies below the one with this number
-pub record SomeBelow (nodes : List Node) (k : ℕ) : Type 0 where
-  pub node : Node
-  pub listed : list_any (same_node node) nodes ≡ true
-  pub numbered : number_above (node_number node) ≡ k
+-- what was found under a node, then under it in the other lists, and then above it is what is near it
+pub near_found : (f : Filing) (n : Node) (k : ℕ) (p : Place) (was first second third : Bool) → k ≡ node_number n
+    → first ≡ (was || is_listed p (places_numbered f.at k)) → second ≡ (first || is_listed p (places_numbered f.below k))
+    → third ≡ (second || is_higher f p n) → third ≡ (was || is_near f p n)
+near_found f n k p was first second third is at below higher =
+    higher
+    ∙ ap (λ (b : Bool). b || is_higher f p n) (below
+    ∙ (λ i. at i || is_listed p (places_numbered f.below k))
+    ∙ (λ i. (was || is_listed p (places_numbered f.at (is i))) || is_listed p (places_numbered f.below (is i))))
+    ∙ grouped was (is_listed p (places_under f.at n)) (is_listed p (places_under f.below n)) (is_higher f p n)
+  where
+    grouped : (w a b h : Bool) → (((w || a) || b) || h) ≡ (w || (a || (b || h)))
+    grouped true a b h = refl
+    grouped false true b h = refl
+    grouped false false b h = refl
 
--- the last node of a list that was gone through so far
-pub next_below : (nodes : List Node) (i : ℕ) (n : Node) (k : ℕ) → i < length nodes → n ≡ get_or nodes i n
-    → k ≡ number_above (node_number n) → SomeBelow (take (i + 1) nodes) k
-next_below nodes i n k low at is = record {
-  node = n;
-  listed = list_any_more (same_node n) nodes i n low
-      ∙ or_right (list_any (same_node n) (take i nodes)) (same_node n (get_or nodes i n))
-      (ap (same_node n) (sym at) ∙ same_node-self n);
-  numbered = sym is;
-}
-
--- what one node of a list passes, some node of it passes
-any_of : (test : Node → Bool) (n : Node) (nodes : List Node) → list_any (same_node n) nodes ≡ true → test n ≡ true
-    → list_any test nodes ≡ true
-any_of test n [] h passes = h
-any_of test n (x ∷ nodes) h passes = elim (or_cases (same_node n x) (list_any (same_node n) nodes) h) [
-  | inl same ↦ or_left (test x) (list_any test nodes) (ap test (sym ((same_node-is n x).0 same)) ∙ passes)
-  | inr more ↦ or_right (test x) (list_any test nodes) (any_of test n nodes more passes)
-]
-
--- what is filed above a node is near the nodes of a list that has one below the same node
-pub near_before : (f : Filing) (p : Place) (nodes : List Node) (k : ℕ) (n : Node) → k ≢ 0 → SomeBelow nodes k
-    → number_above (node_number n) ≡ k → is_higher f p n ≡ true → list_any (is_near f p) nodes ≡ true
-near_before f p nodes k n positive some is higher =
-    let here : Bool = is_listed p (places_under f.at some.node) in
-    let lower : Bool = is_listed p (places_under f.below some.node) in
-    any_of (is_near f p) some.node nodes some.listed
-    (or_right here (lower || is_higher f p some.node) (or_right lower (is_higher f p some.node)
-    (ap (λ (up : List Node). list_any (λ a. is_listed p (places_under f.at a)) up) (one_above some.node n k positive some.numbered is)
+-- what was found near a node, and before it, knows what is filed above the nodes below the same one
+pub near_knows : (f : Filing) (n : Node) (k : ℕ) (was now : List Place) → k ≡ number_above (node_number n)
+    → ((p : Place) → is_listed p now ≡ (is_listed p was || is_near f p n)) → KnowsAbove f k now
+near_knows f n k was now below found positive c is p higher =
+    let here : Bool = is_listed p (places_under f.at n) in
+    let lower : Bool = is_listed p (places_under f.below n) in
+    found p ∙ or_right (is_listed p was) (is_near f p n)
+    (or_right here (lower || is_higher f p n) (or_right lower (is_higher f p n)
+    (ap (λ (up : List Node). list_any (λ a. is_listed p (places_under f.at a)) up) (one_above n c k positive (sym below) is)
     ∙ higher)))

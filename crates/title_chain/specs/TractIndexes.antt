@@ -1,10 +1,11 @@
 -- Records, and the steps of an open transaction, with an index of their posts by tract. Lists here have the oldest first.
-use Rattle.std.specs.Prelude.{ℕ, ◌≡◌, ◌≤◌, Bool, ◌||◌, List, length, take, reverse}
+use Rattle.std.specs.Prelude.{ℕ, ◌≡◌, ◌≢◌, ◌≤◌, Bool, true, ◌||◌, List, length, take, reverse}
 use Rattle.std.specs.List.{AllByRecursion, list_any}
 use Rattle.title_land.specs.declared.node.Node.{Node}
 use Rattle.title_land.specs.declared.tract.Land.{Land}
 use Rattle.title_land.specs.Nodes.{same_node, above, is_above}
 use Rattle.title_land.specs.Lands.{cover_of, IsLand}
+use Rattle.title_land.specs.NodeNumbers.{node_number, number_above}
 use Rattle.title_chain.specs.declared.ask.Step.{Step}
 use Rattle.title_chain.specs.declared.filing.Filing.{Filing}
 use Rattle.title_chain.specs.declared.place.Place.{Place}
@@ -47,7 +48,15 @@ pub record AreReadFrom (depth : ℕ) (f : Filing) (steps : List Step) : Type 0 w
   pub within : f.read ≤ length steps
   pub filed : IsFiled depth f (step_posts 0 (reverse (take f.read steps)))
 
+-- the place is filed at a node above this one
+abbrev pub is_higher : Filing → Place → Node → Bool
+is_higher f p n = list_any (λ a. is_listed p (places_under f.at a)) (above n)
+
 -- the place is filed at the node, below it, or at a node above it
 abbrev pub is_near : Filing → Place → Node → Bool
-is_near f p n = is_listed p (places_under f.at n) ||
-    (is_listed p (places_under f.below n) || list_any (λ a. is_listed p (places_under f.at a)) (above n))
+is_near f p n = is_listed p (places_under f.at n) || (is_listed p (places_under f.below n) || is_higher f p n)
+
+-- what is filed above the nodes below the one with this number stands among these places, unless that is the whole plant
+abbrev pub KnowsAbove : Filing → ℕ → List Place → Type 0
+KnowsAbove f k places = k ≢ 0 → (c : Node) → number_above (node_number c) ≡ k → (p : Place) → is_higher f p c ≡ true
+    → is_listed p places ≡ true

@@ -1,5 +1,7 @@
 //! An index of posts by the nodes of the tree of tracts.
 
+mod found;
+
 ghost use Rattle.std.specs.Prelude.{◌≡◌, ◌≢◌, ℕ, ◌++◌, ◌∷◌, ◌&&◌, ◌||◌, ◌==◌, [], List, IfOk, OnOk, length, reverse, true};
 ghost use Rattle.title_land.specs.Depth.{depth};
 ghost use Rattle.std.specs.List.{list_any};
@@ -13,14 +15,12 @@ ghost use Rattle.std.specs.List.Sorted.{IsStrictlySortedBy};
 
 use crate::ask::{Answer, Ask, Entry, Step};
 use crate::chains::{add_entries_at, add_own_entries_at};
+use crate::filing::found::Found;
 use crate::place::Place;
 use crate::record::Record;
 use std::alloc::{AllocError, Global};
 use std::collections::BTreeMap;
 use title_land::{Node, Tract, number_above};
-
-// So many places may be found, some more than once, before they are put in order.
-const FEW: usize = 1_024;
 
 /// The places of the posts of a list's first records, or of a transaction's first steps as those of a record at index 0:
 /// under each node's number those of the posts whose cover has the node, and those of the posts whose cover has a node below it.
@@ -89,55 +89,6 @@ fn file_above(
         file_under(alloc, lists, reached, place)?;
     }
     Ok(())
-}
-
-// Adds places to those found.
-fn find_all(found: &mut Vec<Place>, places: &[Place]) -> Result<(), AllocError>
-    ensures found { OnOk result ((p : Place) → is_listed p found.new.items ≡ (is_listed p found.old.items || is_listed p places.now)) }
-{
-    if places.is_empty() {
-        return Ok(());
-    }
-    found.extend_from_slice(places)?;
-    Ok(())
-}
-
-// Whether each place stands before the next.
-fn ascend(places: &[Place]) -> bool
-    ensures ascend { result ≡ true → IsStrictlySortedBy place_cmp places.now }
-{
-    let mut i = 1;
-    while i < places.len() {
-        if !places[i - 1].is_before(places[i]) {
-            return false;
-        }
-        i += 1;
-    }
-    true
-}
-
-// Puts places in order, each once. Those of one list are so already.
-fn put_in_order(places: &mut Vec<Place>)
-    ensures ordered { IsStrictlySortedBy place_cmp places.new.items }
-    ensures same { (p : Place) → is_listed p places.new.items ≡ is_listed p places.old.items }
-{
-    if !ascend(places) {
-        places.sort_unstable();
-        places.dedup();
-    }
-}
-
-// Puts places in order, each once, where they are more than so many. The result is how many may be there before that is
-// done again: as many as before, or twice as many as are left. So there are never more than twice the places that were found,
-// or `FEW`, and beyond these what one node of a cover adds.
-fn thin_out(places: &mut Vec<Place>, most: usize) -> usize
-    ensures same { (p : Place) → is_listed p places.new.items ≡ is_listed p places.old.items }
-{
-    if places.len() <= most {
-        return most;
-    }
-    put_in_order(places);
-    most.max(places.len().saturating_mul(2))
 }
 
 impl Filing {
@@ -267,52 +218,16 @@ impl Filing {
         filed
     }
 
-    // Adds the places of the posts whose cover has a node above the one with a number.
-    fn find_above(&self, found: &mut Vec<Place>, number: u64) -> Result<(), AllocError>
-        ensures found { (c : Node) → number ≡ node_number c → OnOk result ((p : Place) → is_listed p found.new.items
-            ≡ (is_listed p found.old.items || list_any (λ a. is_listed p (places_under self.now.at a)) (above c))) }
-    {
-        let mut reached = number;
-        while reached != 0 {
-            reached = number_above(reached);
-            find_all(found, places_at(&self.at, reached))?;
-        }
-        Ok(())
-    }
-
-    // Adds the places of the posts whose cover has the node, or one above or below it, and gives the number of the node above.
-    // That of the node before is `last`, or 0. Where both are one, and not the whole plant's, what lies above was found then.
-    fn find_near(&self, found: &mut Vec<Place>, node: &Node, last: u64) -> Result<u64, AllocError>
-        requires known { last ≢ 0 → (c : Node) → number_above (node_number c) ≡ last
-            → (p : Place) → list_any (λ a. is_listed p (places_under self.now.at a)) (above c) ≡ true → is_listed p found.old.items ≡ true }
-        ensures found { OnOk result ((p : Place) → is_listed p found.new.items
-            ≡ (is_listed p found.old.items || is_near self.now p node.now)) }
-        ensures above { IfOk result (λ parent. parent ≡ number_above (node_number node.now)) }
-    {
-        let number = node.number();
-        find_all(found, places_at(&self.at, number))?;
-        find_all(found, places_at(&self.below, number))?;
-        let parent = number_above(number);
-        if parent != 0 && parent == last {
-            return Ok(parent);
-        }
-        self.find_above(found, number)?;
-        Ok(parent)
-    }
-
     // The places of the posts whose cover has one of these nodes, or one above or below one of them, in order.
     fn find(&self, alloc: Global, cover: &[Node]) -> Result<Vec<Place>, AllocError>
         ensures found { IfOk result (λ found. (p : Place) → is_listed p found.items ≡ list_any (is_near self.now p) cover.now) }
         ensures ordered { IfOk result (λ found. IsStrictlySortedBy place_cmp found.items) }
     {
-        let mut found = Vec::new(alloc);
-        let (mut last, mut most) = (0, FEW);
+        let mut found = Found::none(alloc, self);
         for node in cover {
-            last = self.find_near(&mut found, node, last)?;
-            most = thin_out(&mut found, most);
+            found.add_near(node)?;
         }
-        put_in_order(&mut found);
-        Ok(found)
+        Ok(found.in_order())
     }
 
     /// Adds the entries of records that were all read to the chain of a tract, and gives the places where they were found.

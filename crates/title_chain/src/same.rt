@@ -4,7 +4,7 @@ ghost use Rattle.std.specs.Prelude.{◌≡◌, ◌↔◌, true};
 
 use crate::ask::{Answer, Ask, Entry, Posting, Step, Terms};
 use crate::record::Record;
-use crate::same_parts::{same_estate, same_node, same_rule, same_tract};
+use crate::same_parts::{same_estate, same_rule, same_tract};
 use crate::same_sheets::same_sheets;
 
 impl Terms {
@@ -69,7 +69,7 @@ impl Answer {
             (Answer::Entries(a), Answer::Entries(b)) => same_entries(a.as_slice(), b.as_slice()),
             (Answer::Posted, Answer::Posted) => true,
             (Answer::Refused(rule, estate, node), Answer::Refused(other, part, place)) => {
-                same_rule(*rule, *other) && same_estate(*estate, *part) && same_node(node, place)
+                same_rule(*rule, *other) && same_estate(*estate, *part) && node.is(place)
             }
             _ => false,
         }

@@ -6,55 +6,9 @@ ghost use Rattle.title_land.specs.Lands.{IsLand};
 ghost use Rattle.title_chain.specs.SoleNodes.{HasNoSoleNode, HasSoleNode};
 
 use title_instrument::{Estate, Rule};
-use title_land::laws::same_nodes_are_equal;
-use title_land::{Land, Node, Section, Township, Tract, Within};
+use title_land::{Node, Tract};
 use title_share::Share;
 use title_store::SheetRow;
-
-fn same_township(a: Township, b: Township) -> bool
-    ensures same { (result ≡ true) ↔ (a ≡ b) }
-{
-    same_nodes_are_equal();
-    a.is(b)
-}
-
-/// Whether two sections are one.
-pub(crate) fn same_section(a: Section, b: Section) -> bool
-    ensures same { (result ≡ true) ↔ (a ≡ b) }
-{
-    same_nodes_are_equal();
-    a.is(b)
-}
-
-/// Whether two squares of a section are one. They are exactly where their numbers are, which the derived comparison compares.
-pub(crate) fn same_within(a: Within, b: Within) -> bool
-    ensures same { (result ≡ true) ↔ (a ≡ b) }
-{
-    a == b
-}
-
-/// Whether two nodes are one.
-pub(crate) fn same_node(a: &Node, b: &Node) -> bool
-    ensures same { (result ≡ true) ↔ (a.now ≡ b.now) }
-{
-    match (a, b) {
-        (Node::Everything, Node::Everything) => true,
-        (Node::Township(t), Node::Township(u)) => same_township(*t, *u),
-        (Node::Part(s, v), Node::Part(u, w)) => same_section(*s, *u) && same_within(*v, *w),
-        _ => false,
-    }
-}
-
-fn same_land(a: &Land, b: &Land) -> bool
-    ensures same { (result ≡ true) ↔ (a.now ≡ b.now) }
-{
-    match (a, b) {
-        (Land::Everything, Land::Everything) => true,
-        (Land::Township(t), Land::Township(u)) => same_township(*t, *u),
-        (Land::Part(s, cells), Land::Part(u, others)) => same_section(*s, *u) && cells.is(others),
-        _ => false,
-    }
-}
 
 // The one node of a tract's cover, where it has one.
 fn sole_node(tract: &Tract) -> Option<Node>
@@ -70,8 +24,8 @@ pub fn same_tract(a: &Tract, b: &Tract) -> bool
     ensures same { (result ≡ true) ↔ (a.now ≡ b.now) }
 {
     match (sole_node(a), sole_node(b)) {
-        (Some(node), Some(other)) => same_node(&node, &other),
-        (None, None) => same_land(&a.land(), &b.land()),
+        (Some(node), Some(other)) => node.is(&other),
+        (None, None) => a.land().is(&b.land()),
         _ => false,
     }
 }
@@ -104,7 +58,7 @@ pub(crate) fn same_row(a: &SheetRow, b: &SheetRow) -> bool
     a.party == b.party
         && a.units == b.units
         && same_estate(a.estate, b.estate)
-        && same_node(&a.node, &b.node)
+        && a.node.is(&b.node)
 }
 
 /// Whether two lists have the same rows, in order.

@@ -5,7 +5,7 @@ ghost use Rattle.title_chain.specs.SheetParts.{all_rows};
 ghost use Rattle.title_chain.specs.KeptRows.{rows_in, sheet_in};
 
 use crate::lists::{Lines, Part, Sheet, SheetRows};
-use crate::same_parts::{same_estate, same_row, same_rows, same_section};
+use crate::same_parts::{same_estate, same_row, same_rows};
 use crate::square_row::same_squares;
 
 // Whether rows are kept alike and are the same.
@@ -15,9 +15,7 @@ fn same_lines(a: &Lines, b: &Lines) -> bool
     match (a, b) {
         (Lines::Plain(rows), Lines::Plain(others)) => same_rows(rows, others),
         (Lines::Squares(section, estate, rows), Lines::Squares(other, another, others)) => {
-            same_section(*section, *other)
-                && same_estate(*estate, *another)
-                && same_squares(rows, others)
+            section.is(*other) && same_estate(*estate, *another) && same_squares(rows, others)
         }
         _ => false,
     }

@@ -3,7 +3,7 @@
 ghost use Rattle.std.specs.Prelude.{◌≡◌, IfOk, IfSome, map, true};
 ghost use Rattle.title_chain.specs.SquareRows.{row_in};
 
-use crate::same_parts::{same_estate, same_section, same_share, same_within};
+use crate::same_parts::{same_estate, same_share};
 use std::alloc::{AllocError, Global};
 use title_instrument::Estate;
 use title_land::{Node, Section, Within};
@@ -26,7 +26,7 @@ impl SquareRow {
         let Node::Part(other, within) = row.node else {
             return None;
         };
-        if !(same_section(section, other) && same_estate(estate, row.estate)) {
+        if !(section.is(other) && same_estate(estate, row.estate)) {
             return None;
         }
         let share = Share::new(row.units)?;
@@ -53,7 +53,7 @@ impl SquareRow {
     fn same(&self, other: &SquareRow) -> bool
         ensures same { result ≡ true → self.now ≡ other.now }
     {
-        same_within(self.within, other.within)
+        self.within.is(other.within)
             && self.party == other.party
             && same_share(self.share, other.share)
     }

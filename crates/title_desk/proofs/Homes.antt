@@ -1,5 +1,5 @@
 -- What stands under the numbers of homes, and what is left there after a post.
-use Rattle.std.proofs.Common.{◌≡◌, ◌≢◌, ◌⊎◌, ◌<◌, ◌+◌, ◌*◌, ℕ, Bool, true, false, not, ◌&&◌, ◌||◌, cond, eqb, List, [], ◌∷◌, ◌++◌, map}
+use Rattle.std.proofs.Common.{◌≡◌, ◌≢◌, ◌⊎◌, ◌<◌, ◌+◌, ℕ, Bool, true, false, not, ◌&&◌, ◌||◌, cond, eqb, List, [], ◌∷◌, ◌++◌, map}
 use Rattle.std.proofs.Common.{Option, Some, get_or}
 use Rattle.std.proofs.Common.{Result, Ok, Err, OnOk, OnErr, inl, inr, arith, refl, sym, ap, subst, ◌∙◌}
 use Rattle.std.specs.List.{All, AllByRecursion, filter}
@@ -16,9 +16,9 @@ use Rattle.title_instrument.specs.Owners.{holding_of}
 use Rattle.title_land.specs.Depth.{depth}
 use Rattle.title_land.specs.Lands.{home_of, meets}
 use Rattle.title_land.specs.Grids.{has_some, grids_meet}
-use Rattle.title_land.specs.NodeNumbers.{node_number, township_number}
+use Rattle.title_land.specs.NodeNumbers.{node_number}
 use Rattle.title_land.specs.Places.{same_township, same_section}
-use Rattle.title_land.specs.Laws.NodeNumbers.{number_at}
+use Rattle.title_land.specs.Laws.NodeNumbers.{number_at, same_square_number}
 use Rattle.title_land.specs.Laws.SameLand.{same_township-is, same_township-self, same_section-is}
 use Rattle.title_land.specs.Laws.SameNode.{same_node-is}
 use Rattle.title_land.specs.Nodes.{same_node, is_above, are_related}
@@ -278,7 +278,7 @@ pub none_swept : (t : Township) (kept : KeptSheets) → AreSwept t 1 kept kept
 none_swept t kept k = inr (refl, λ s of low is. absurd (omega (arith, s.numbered.0)))
 
 same_number : (s u : Section) → s.township ≡ u.township → s.number ≡ u.number → section_home s ≡ section_home u
-same_number s u a b = λ i. 1 * 4194304 + (township_number (a i) * 64 + b i)
+same_number s u a b = same_square_number s u [] a b
 
 -- a section before the next one has another number, where those before this one and this one have
 other_number : (s u : Section) (k : ℕ) → u.township ≡ s.township → section_home s ≢ k → (u.number < s.number → section_home u ≢ k)

@@ -50,6 +50,12 @@ same_node (node.Part s v) node.Everything = false
 same_node (node.Part s v) (node.Township u) = false
 same_node (node.Part s v) (node.Part u w) = same_section s u && same_path v w
 
+-- the node is a square of a section
+abbrev pub is_square : Node → Bool
+is_square node.Everything = false
+is_square (node.Township t) = false
+is_square (node.Part s w) = true
+
 -- the square above, which for the section's own is the township
 abbrev pub parent_in : Section → List Quarter → Node
 parent_in s [] = node.Township s.township

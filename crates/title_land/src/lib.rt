@@ -21,7 +21,7 @@ pub use cells::cells_of;
 pub use grid::Grid;
 pub use lists::{children_of, node_cells};
 pub use node::{Node, Within};
-pub use numbers::number_above;
+pub use numbers::{is_square_number, number_above, section_of_square, township_of_section};
 pub use place::{Cell, Section, Township};
 pub use rectangle::{DEPTH, Half, Quarter, Rectangle, SIDE, Step};
 pub use tract::{Land, Tract};

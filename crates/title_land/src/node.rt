@@ -1,6 +1,6 @@
 //! Nodes of the tree of tracts.
 
-ghost use Rattle.std.specs.Prelude.{◌≡◌, ◌≤◌, ◌<◌, ◌∷◌, [], length, nat_le, Some, MatchOption};
+ghost use Rattle.std.specs.Prelude.{◌≡◌, ◌↔◌, ◌≤◌, ◌<◌, ◌∷◌, [], length, nat_le, Some, MatchOption, true};
 ghost use Rattle.title_land.specs.Depth.{depth};
 ghost use Rattle.title_land.specs.declared.node.Node.TheVariants.{Part};
 ghost use Rattle.title_land.specs.Lands.{home_of, land_of};
@@ -71,6 +71,13 @@ impl Within {
         Some(square.quarter(*which))
     }
 
+    /// Whether it is this square.
+    pub fn is(self, other: Within) -> bool
+        ensures same { (result ≡ true) ↔ (self ≡ other) }
+    {
+        self == other
+    }
+
     // The square's number in its section, from 1 for the section itself.
     pub(crate) fn number(self) -> u16
         ensures number { result ≡ path_number self }
@@ -121,6 +128,18 @@ impl Section {
 }
 
 impl Node {
+    /// Whether both are one. Of two squares the places in their sections are compared first: these differ more often.
+    pub fn is(&self, other: &Node) -> bool
+        ensures same { (result ≡ true) ↔ (self.now ≡ other.now) }
+    {
+        match (self, other) {
+            (Node::Everything, Node::Everything) => true,
+            (Node::Township(t), Node::Township(u)) => t.is(*u),
+            (Node::Part(s, v), Node::Part(u, w)) => v.is(*w) && s.is(*u),
+            _ => false,
+        }
+    }
+
     /// It is a node of the tree: a square has no more quarters than the depth. The function does nothing: the type says so.
     pub fn is_in_tree(&self)
         ensures tree { IsNode depth self.now }

@@ -1,11 +1,25 @@
 //! Nodes as numbers, by which maps find them. A number's last 6 bits are the section's, the 16 before them the township's, and
-//! those before them the square's; a township has no section and no square, and the whole plant is 0.
+//! those before them the square's; a township has no section and no square, and the whole plant is 0. No code elsewhere knows this.
 
-ghost use Rattle.std.specs.Prelude.{◌≡◌, ◌<◌, ◌^◌};
+ghost use Rattle.std.specs.Prelude.{◌≡◌, ◌<◌, ◌^◌, List};
+ghost use Rattle.title_land.specs.declared.place.Section.{Section};
+ghost use Rattle.title_land.specs.declared.rectangle.Quarter.{Quarter};
+ghost use Rattle.title_land.specs.declared.node.Node.{Node};
+ghost use Rattle.title_land.specs.declared.node.Node.TheVariants as node;
+ghost use Rattle.title_land.specs.Nodes.{is_square};
 ghost use Rattle.title_land.specs.NodeNumbers.{flag_number, township_number, section_number, node_number, number_above};
 
 use crate::node::Node;
 use crate::place::{Section, Township};
+
+// From one township's number to the next; those between are its sections'.
+const TOWNSHIP_STEP: u64 = 64;
+
+// From one square's number to the next in its section. The plant and all townships and sections have lesser ones.
+const SQUARE_STEP: u64 = 4_194_304;
+
+// From here on stand the numbers of squares whose node above is a square.
+const QUARTERS: u64 = 4 * SQUARE_STEP;
 
 // 1 for north of the base line, and for east of the meridian.
 fn flag_number(flag: bool) -> u64
@@ -30,7 +44,7 @@ fn section_number(section: Section) -> u64
     ensures number { result ≡ section_number section }
     ensures fits { result < 2 ^ 32 }
 {
-    township_number(section.township) * 64 + section.number as u64
+    township_number(section.township) * TOWNSHIP_STEP + section.number as u64
 }
 
 impl Node {
@@ -41,9 +55,9 @@ impl Node {
     {
         match self {
             Node::Everything => 0,
-            Node::Township(township) => township_number(township) * 64,
+            Node::Township(township) => township_number(township) * TOWNSHIP_STEP,
             Node::Part(section, within) => {
-                u64::from(within.number()) * 4_194_304 + section_number(section)
+                u64::from(within.number()) * SQUARE_STEP + section_number(section)
             }
         }
     }
@@ -54,11 +68,32 @@ pub fn number_above(number: u64) -> u64
     ensures above { result ≡ number_above number }
     ensures falls { 0 < number → result < number }
 {
-    if number < 4_194_304 {
+    if number < SQUARE_STEP {
         0
-    } else if number < 16_777_216 {
-        number % 4_194_304 / 64 * 64
+    } else if number < QUARTERS {
+        number % SQUARE_STEP / TOWNSHIP_STEP * TOWNSHIP_STEP
     } else {
-        number / 16_777_216 * 4_194_304 + number % 4_194_304
+        number / QUARTERS * SQUARE_STEP + number % SQUARE_STEP
     }
+}
+
+/// Whether the node with this number is a square of a section.
+pub fn is_square_number(number: u64) -> bool
+    ensures square { (n : Node) → number ≡ node_number n → result ≡ is_square n }
+{
+    number >= SQUARE_STEP
+}
+
+/// The number of the section of the square with this number.
+pub fn section_of_square(number: u64) -> u64
+    ensures section { (s : Section) (w : List Quarter) → number ≡ node_number (node.Part s w) → result ≡ section_number s }
+{
+    number % SQUARE_STEP
+}
+
+/// The number of the township of the section with this number.
+pub fn township_of_section(number: u64) -> u64
+    ensures township { (s : Section) → number ≡ section_number s → result ≡ node_number (node.Township s.township) }
+{
+    number / TOWNSHIP_STEP * TOWNSHIP_STEP
 }

@@ -1,6 +1,6 @@
 //! Townships, sections and cells.
 
-ghost use Rattle.std.specs.Prelude.{◌≡◌, ◌≤◌, ◌<◌, MatchOption};
+ghost use Rattle.std.specs.Prelude.{◌≡◌, ◌↔◌, ◌≤◌, ◌<◌, MatchOption, true};
 
 use std::fmt;
 
@@ -39,6 +39,7 @@ impl Township {
     /// Whether it is this township.
     pub fn is(self, other: Township) -> bool
         ensures is { result ≡ same_township self other }
+        ensures same { (result ≡ true) ↔ (self ≡ other) }
     {
         self.number == other.number
             && self.north == other.north
@@ -87,6 +88,7 @@ impl Section {
     /// Whether it is this section.
     pub fn is(self, other: Section) -> bool
         ensures is { result ≡ same_section self other }
+        ensures same { (result ≡ true) ↔ (self ≡ other) }
     {
         self.township.is(other.township) && self.number == other.number
     }

@@ -39,6 +39,18 @@ impl Land {
             Node::Part(section, within) => Land::Part(section, Grid::of(within.square())),
         }
     }
+
+    /// Whether both are one.
+    pub fn is(&self, other: &Land) -> bool
+        ensures same { (result ≡ true) ↔ (self.now ≡ other.now) }
+    {
+        match (self, other) {
+            (Land::Everything, Land::Everything) => true,
+            (Land::Township(t), Land::Township(u)) => t.is(*u),
+            (Land::Part(s, grid), Land::Part(u, cells)) => s.is(*u) && grid.is(cells),
+            _ => false,
+        }
+    }
 }
 
 // A set of a section's cells beside its cover.

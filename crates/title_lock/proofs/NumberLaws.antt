@@ -1,51 +1,16 @@
 -- A node lies above another exactly where it is met on the way up by numbers.
-use Rattle.std.proofs.Common.{◌≡◌, ◌≢◌, ◌<◌, ◌≤◌, ◌*◌, ℕ, Bool, true, false, ◌||◌, [], ◌∷◌, List, eqb, refl, sym, ap, ◌∙◌}
-use Rattle.std.proofs.Common.{arith, inl, inr, true≢false}
-use Rattle.std.proofs.lemmas.Bool.{or_cases, or_from, or_left, false_from_ne_true, eqb-true, eqb-false}
+use Rattle.std.proofs.Common.{◌≡◌, ◌≢◌, ◌<◌, ◌≤◌, ℕ, Bool, true, false, ◌||◌, List, eqb, refl, sym, ap, ◌∙◌}
+use Rattle.std.proofs.Common.{arith}
+use Rattle.std.proofs.lemmas.Bool.{or_from, or_left, false_from_ne_true, eqb-true, eqb-false}
 use Rattle.std.specs.List.{list_any}
-use Rattle.title_land.specs.declared.place.Section.{Section}
-use Rattle.title_land.specs.declared.rectangle.Quarter.{Quarter}
 use Rattle.title_land.specs.declared.node.Node.{Node}
-use Rattle.title_land.specs.declared.node.Node.TheVariants as node
 use Rattle.title_land.specs.Nodes.{same_node, is_above}
-use Rattle.title_land.specs.NodeNumbers.{township_number, node_number, number_above}
-use Rattle.title_land.specs.Laws.NodeNumbers.{township_below, numbers_tell_nodes, node_above}
-use Rattle.title_land.specs.Laws.PathNumbers.{path_positive}
+use Rattle.title_land.specs.NodeNumbers.{node_number, number_above}
+use Rattle.title_land.specs.Laws.NodeNumbers.{numbers_tell_nodes, node_above, above_less}
 use Rattle.title_lock.proofs.NodeLaws.{same_self, same_true, above_of}
-
--- ---- numbers fall on the way up
 
 number_is : (n c : Node) → same_node n c ≡ true → node_number n ≡ node_number c
 number_is n c same = ap node_number (same_true n c same)
-
-square_higher : (s : Section) (w : List Quarter) (n : Node) → is_above n (node.Part s w) ≡ true
-    → node_number n < node_number (node.Part s w)
-square_higher s [] n up = elim (or_cases (same_node n (node.Township s.township)) (same_node n node.Everything || false) up) [
-  | inl same ↦
-      let e : node_number n ≡ township_number s.township * 64 = number_is n (node.Township s.township) same in
-      omega (arith, e, township_below s.township)
-  | inr more ↦ elim (or_cases (same_node n node.Everything) false more) [
-    | inl same ↦ let e : node_number n ≡ 0 = number_is n node.Everything same in omega (arith, e)
-    | inr never ↦ absurd (true≢false (sym never))
-  ]
-]
-square_higher s (q ∷ w) n up = elim (or_cases (same_node n (node.Part s w)) (is_above n (node.Part s w)) up) [
-  | inl same ↦
-      let e : node_number n ≡ node_number (node.Part s w) = number_is n (node.Part s w) same in
-      omega (arith, e, path_positive w)
-  | inr more ↦ omega (arith, square_higher s w n more, path_positive w)
-]
-
--- a node above has a lesser number
-pub above_less : (a n : Node) → is_above n a ≡ true → node_number n < node_number a
-above_less node.Everything n up = absurd cc
-above_less (node.Township t) n up = elim (or_cases (same_node n node.Everything) false up) [
-  | inl same ↦
-      let e : node_number n ≡ 0 = number_is n node.Everything same in
-      omega (arith, e, t.numbered.0)
-  | inr never ↦ absurd (true≢false (sym never))
-]
-above_less (node.Part s w) n up = square_higher s w n up
 
 -- ---- the way up from a node
 

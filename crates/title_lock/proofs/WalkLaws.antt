@@ -1,7 +1,8 @@
 -- What a walk asks is what its access asks for, and what is done along its parts is done along the whole.
 use Rattle.std.proofs.Common.{◌≡◌, ℕ, Bool, true, false, cond, not, ◌&&◌, ◌||◌, List, [], ◌∷◌, ◌++◌, Option, Some, None, is_some}
-use Rattle.std.proofs.Common.{refl, sym, ap, subst, ◌∙◌, true≢false, inl, inr, suc, ◌+◌, ◌<◌, length, length-append, append_assoc, arith}
-use Rattle.std.proofs.lemmas.Bool.{or_cases, or_left, or_right, or_from, or_parts, cond_both, not-false, not_from_true}
+use Rattle.std.proofs.Common.{refl, sym, ap, subst, ◌∙◌, true≢false, inl, inr, suc, ◌+◌, ◌<◌, length, length-append, append_assoc}
+use Rattle.std.proofs.Common.{eqb, arith}
+use Rattle.std.proofs.lemmas.Bool.{eqb-true, or_cases, or_left, or_right, or_from, or_parts, cond_both, not-false, not_from_true}
 use Rattle.std.specs.Prelude.{All}
 use Rattle.std.proofs.lemmas.List.Elements.{All-nil, All-cons, All-head, All-tail}
 use Rattle.std.proofs.lemmas.List.Folds.{list_any-append}
@@ -17,6 +18,8 @@ use Rattle.title_lock.specs.Modes.{bound, allows}
 use Rattle.title_lock.specs.Asking.{own_mode, above_mode, asked_for, asked}
 use Rattle.title_lock.specs.Holders.{clashes}
 use Rattle.title_land.specs.NodeNumbers.{section_number}
+use Rattle.title_land.specs.Laws.NodeNumbers.{numbers_tell_nodes}
+use Rattle.title_lock.specs.declared.spots.Spot.{Spot}
 use Rattle.title_lock.specs.declared.walks.Climb.{Climb}
 use Rattle.title_lock.specs.Tables.{clashes_with, is_asked, shelf_above, upper_above, home_of}
 use Rattle.title_lock.specs.Walks.{Asked, mode_for, is_known, asks_above, walk, asked_in, asks_in, clashes_in}
@@ -86,6 +89,24 @@ known_stops last p h =
 pub unknown_goes : (last : Option Node) (p : Node) → is_known last p ≡ false
     → asks_above last (p ∷ shelf_above p) ≡ (p, false) ∷ asks_above last (shelf_above p)
 unknown_goes last p h = ap (λ (k : Bool). cond k (asks_above last (shelf_above p)) ((p, false) ∷ asks_above last (shelf_above p))) h
+
+upper_up : (p n : Node) → list_any (same_node n) (upper_above p) ≡ true → is_above n p ≡ true
+upper_up node.Everything n h = absurd (true≢false (sym h))
+upper_up (node.Township t) n h = absurd (true≢false (sym h))
+upper_up (node.Part s w) n h =
+    list_any-append (same_node n) (above_in s w) (node.Township s.township ∷ node.Everything ∷ [])
+    ∙ or_right (list_any (same_node n) (above_in s w)) (list_any (same_node n) (node.Township s.township ∷ node.Everything ∷ [])) h
+
+-- after a square nothing on the upper shelf is asked of one of the same township
+pub upper_known : (last : Option Spot) (l n t u : Spot) → last ≡ Some l → upper_above l.is.node ≡ t.is.node ∷ shelf_above t.is.node
+    → upper_above n.is.node ≡ u.is.node ∷ shelf_above u.is.node → eqb u.number t.number ≡ true
+    → asks_above (node_of last) (upper_above n.is.node) ≡ []
+upper_known last l n t u some at here same =
+    let one : u.is.node ≡ t.is.node = numbers_tell_nodes u.is.node t.is.node
+    (sym u.is.numbered ∙ eqb-true u.number t.number same ∙ t.is.numbered) in
+    ap (λ (o : Option Spot). asks_above (node_of o) (upper_above n.is.node)) some
+    ∙ ap (asks_above (Some l.is.node)) (here ∙ ap (λ (z : Node). z ∷ shelf_above z) one ∙ sym at)
+    ∙ none_new (Some l.is.node) (upper_above l.is.node) (upper_up l.is.node)
 
 -- ---- the modes that a walk asks
 

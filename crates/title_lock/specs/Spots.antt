@@ -1,9 +1,8 @@
 -- Nodes by their numbers.
-use Rattle.std.specs.Prelude.{ℕ, ◌≡◌, Bool, true, false}
+use Rattle.std.specs.Prelude.{ℕ, ◌≡◌}
 use Rattle.std.proofs.Common.{sym, ◌∙◌, ap, subst}
 use Rattle.std.proofs.Math.Nat.{ℕ_set}
 use Rattle.title_land.specs.declared.node.Node.{Node}
-use Rattle.title_land.specs.declared.node.Node.TheVariants as node
 use Rattle.title_land.specs.NodeNumbers.{node_number}
 use Rattle.title_land.specs.Laws.NodeNumbers.{numbers_tell_nodes}
 
@@ -21,9 +20,3 @@ number_prop k a b =
     subst (λ (m : Node). (h : k ≡ node_number m) → number_of a.node a.numbered ≡ number_of m h)
     (numbers_tell_nodes a.node b.node (sym a.numbered ∙ b.numbered))
     (λ h. ap (λ (z : k ≡ node_number a.node). number_of a.node z) (ℕ_set k (node_number a.node) a.numbered h)) b.numbered
-
--- a node is a square of a section
-abbrev pub is_square : Node → Bool
-is_square node.Everything = false
-is_square (node.Township t) = false
-is_square (node.Part s w) = true

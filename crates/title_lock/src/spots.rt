@@ -1,11 +1,11 @@
 //! Nodes by their numbers, as a table of locks finds them.
 
 ghost use Rattle.std.specs.Prelude.{◌≡◌, [], ◌∷◌, Some, None, MatchOption};
-ghost use Rattle.title_land.specs.Nodes.{parent_of, is_above};
-ghost use Rattle.title_lock.specs.Spots.{IsNumber, number_prop, is_square};
+ghost use Rattle.title_land.specs.Nodes.{is_square, parent_of, is_above};
+ghost use Rattle.title_lock.specs.Spots.{IsNumber, number_prop};
 ghost use Rattle.title_lock.specs.Tables.{home_of, shelf_above, upper_above, shelf_parent};
 
-use title_land::{Node, number_above};
+use title_land::{Node, is_square_number, number_above, section_of_square, township_of_section};
 
 /// A node, by its number.
 #[derive(Clone, Copy)]
@@ -40,11 +40,11 @@ impl Spot {
         Some(Spot::numbered(number_above(self.number)))
     }
 
-    // Whether it is a square of a section: by the layout of numbers, those begin at 4_194_304.
+    // Whether it is a square of a section.
     fn is_square(&self) -> bool
         ensures square { result ≡ is_square self.now.is.node }
     {
-        self.number >= 4_194_304
+        is_square_number(self.number)
     }
 
     /// The node above, where it stands on the same shelf; `None` for the plant and for a section.
@@ -59,14 +59,14 @@ impl Spot {
         Some(parent)
     }
 
-    /// The number of a square's section, its own without the square's part; `None` for the plant and a township.
+    /// The number of a square's section; `None` for the plant and a township.
     pub(crate) fn home(&self) -> Option<u64>
         ensures home { result ≡ home_of self.now.is.node }
     {
         if !self.is_square() {
             return None;
         }
-        Some(self.number % 4_194_304)
+        Some(section_of_square(self.number))
     }
 
     /// A square's township; `None` for the plant and a township.
@@ -75,7 +75,7 @@ impl Spot {
             (λ t. upper_above self.now.is.node ≡ t.is.node ∷ shelf_above t.is.node) }
     {
         let home = self.home()?;
-        Some(Spot::numbered(home / 64 * 64))
+        Some(Spot::numbered(township_of_section(home)))
     }
 
     /// Whether it lies above another node.

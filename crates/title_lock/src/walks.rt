@@ -63,16 +63,17 @@ fn is_known(last: &Option<Spot>, spot: &Spot) -> bool
 }
 
 // Whether the node before is a square of the same township, so that nothing on the upper shelf is new.
+#[tactic(auto, using(crate::proofs::WalkLaws::upper_known))]
 fn is_upper_known(last: &Option<Spot>, spot: &Spot) -> bool
     ensures known { result ≡ true → asks_above (node_of last.now) (upper_above spot.now.is.node) ≡ [] }
 {
     let Some(last) = last else {
         return false;
     };
-    let (Some(other), Some(home)) = (last.home(), spot.home()) else {
+    let (Some(other), Some(township)) = (last.township(), spot.township()) else {
         return false;
     };
-    home / 64 == other / 64
+    township.number == other.number
 }
 
 // The climb from a node above, where it isn't known.

@@ -6,7 +6,6 @@ ghost use Rattle.title_land.specs.Texts.{node_text};
 ghost use Rattle.title_report.specs.Fronts.{front_text, head_text, row_start, IsFront, IsHead};
 
 use crate::nodes::{add, add_node, add_path, add_section, start_row};
-use crate::same::{same_node, same_section};
 use title_instrument::Estate;
 use title_land::{Node, Section};
 use title_page::Line;
@@ -60,7 +59,7 @@ impl Head {
         ensures serves { result ≡ true → (e : ℕ) → IsHead e self.now → self.now.text ≡ head_text e section }
     {
         match self.section {
-            Some(last) => same_section(last, section),
+            Some(last) => last.is(section),
             None => false,
         }
     }
@@ -131,7 +130,7 @@ impl Front {
         ensures serves { result ≡ true → (e : ℕ) → IsFront e self.now → self.now.text ≡ front_text e row.now.node row.now.estate }
     {
         match &self.row {
-            Some(last) => same_node(&last.node, &row.node) && last.estate == row.estate,
+            Some(last) => last.node.is(&row.node) && last.estate == row.estate,
             None => false,
         }
     }

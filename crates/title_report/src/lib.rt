@@ -11,7 +11,6 @@ mod nodes;
 mod replies;
 mod roster;
 mod row_text;
-mod same;
 mod shares;
 
 pub use entry_lines::EntryLines;

@@ -8,7 +8,6 @@ ghost use Rattle.title_store.specs.Sheets.{sheet_of};
 ghost use Rattle.title_chain.specs.Alone.{IsSerial};
 ghost use Rattle.title_views.specs.Views.{IsKept, IsMade, IsSheetIn};
 
-use crate::same_land::same_land;
 use std::alloc::{AllocError, Global};
 use title_chain::{Record, SheetRows, post_all_again};
 use title_land::{Land, Township, Tract};
@@ -35,7 +34,7 @@ impl Made {
         ensures rows { IfSome result (λ rows. rows ≡ self.now.rows) }
         ensures land { IfSome result (λ rows. self.now.land ≡ land.now) }
     {
-        if !same_land(&self.land, land) {
+        if !self.land.is(land) {
             return None;
         }
         self.rows.copy().ok()

@@ -7,7 +7,6 @@ mod look;
 mod published;
 mod publishing;
 mod receipt;
-mod same_land;
 mod unseen;
 mod viewer;
 

@@ -1,13 +1,15 @@
--- Nodes have one number exactly where they are one, and the number of the node above comes from a node's own.
-use Rattle.std.proofs.Common.{◌≡◌, ◌≢◌, ◌<◌, ◌+◌, ◌*◌, ◌/◌, ◌%◌, ℕ, Bool, true, false, cond, ltb, eqb, lt-ltb, le-ltb}
-use Rattle.std.proofs.Common.{[], ◌∷◌, Option, Some, unwrap_or, refl, sym, ap, ◌∙◌, arith}
-use Rattle.std.proofs.lemmas.Bool.{and_from, eqb-true, eq-eqb, false_from_ne_true, true≢false}
+-- Nodes have one number exactly where they are one, and the number of the node above comes from a node's own and is less.
+use Rattle.std.proofs.Common.{◌≡◌, ◌≢◌, ◌<◌, ◌+◌, ◌*◌, ◌/◌, ◌%◌, ◌||◌, ℕ, Bool, true, false, eqb, lt-ltb, le-ltb}
+use Rattle.std.proofs.Common.{List, [], ◌∷◌, Option, Some, unwrap_or, inl, inr, refl, sym, ap, ◌∙◌, arith}
+use Rattle.std.specs.Prelude.{nat_le}
+use Rattle.std.proofs.lemmas.Bool.{and_from, or_cases, eqb-true, eq-eqb, leb-true, le-leb, false_from_ne_true, true≢false}
 use Rattle.title_land.specs.declared.place.Township.{Township}
 use Rattle.title_land.specs.declared.place.Section.{Section}
+use Rattle.title_land.specs.declared.rectangle.Quarter.{Quarter}
 use Rattle.title_land.specs.declared.node.Node.{Node}
 use Rattle.title_land.specs.declared.node.Node.TheVariants as node
 use Rattle.title_land.specs.Places.{same_flag, same_township, same_section}
-use Rattle.title_land.specs.Nodes.{same_node, parent_of, above}
+use Rattle.title_land.specs.Nodes.{same_node, is_square, parent_of, above, is_above}
 use Rattle.title_land.specs.Laws.PathNumbers.{quarter_below, path_positive, path_number-is}
 use Rattle.std.proofs.lemmas.Map.Lookups.{exact_unsigned}
 use Rattle.std.specs.Ordering.{nat_cmp}
@@ -17,7 +19,8 @@ use Rattle.title_land.specs.Laws.Keys.{found_at}
 use Rattle.title_land.specs.Laws.SameNode.{same_node-is, same_node-self, same_path-self}
 use Rattle.title_land.specs.Laws.CoverSet.{above_by_parent}
 use Rattle.title_land.specs.Paths.{path_number, quarter_number}
-use Rattle.title_land.specs.NodeNumbers.{flag_number, township_number, section_number, node_number, number_above}
+use Rattle.title_land.specs.NodeNumbers.{township_step, square_step, flag_number, township_number, section_number, node_number}
+use Rattle.title_land.specs.NodeNumbers.{number_above}
 use Rattle.title_land.specs.NodeNumbers.{NumbersTellNodes, NumbersGoUp}
 
 flag_below : (b : Bool) → flag_number b < 2
@@ -38,10 +41,11 @@ two_parts a b g h l m e = (omega arith, omega arith)
 range_parts : (a b g h : ℕ) → g < 128 → h < 128 → a * 128 + g ≡ b * 128 + h → (a ≡ b) × (g ≡ h)
 range_parts a b g h l m e = (omega arith, omega arith)
 
-number_parts : (a b g h : ℕ) → g < 64 → h < 64 → a * 64 + g ≡ b * 64 + h → (a ≡ b) × (g ≡ h)
+number_parts : (a b g h : ℕ) → g < township_step → h < township_step → a * township_step + g ≡ b * township_step + h
+    → (a ≡ b) × (g ≡ h)
 number_parts a b g h l m e = (omega arith, omega arith)
 
-path_parts : (a b g h : ℕ) → g < 4194304 → h < 4194304 → a * 4194304 + g ≡ b * 4194304 + h → (a ≡ b) × (g ≡ h)
+path_parts : (a b g h : ℕ) → g < square_step → h < square_step → a * square_step + g ≡ b * square_step + h → (a ≡ b) × (g ≡ h)
 path_parts a b g h l m e = (omega arith, omega arith)
 
 -- ---- townships and sections
@@ -65,10 +69,10 @@ township_is t u e =
     and_from _ _ (and_from _ _ (and_from _ _ (eq-eqb t.number u.number north.0) (flag_is t.north u.north north.1))
     (eq-eqb t.range u.range range.1)) (flag_is t.east u.east east.1)
 
-number_below : (s : Section) → s.number < 64
+number_below : (s : Section) → s.number < township_step
 number_below s = omega (arith, s.numbered.1)
 
-section_below : (s : Section) → section_number s < 4194304
+section_below : (s : Section) → section_number s < square_step
 section_below s = omega (arith, township_below s.township, number_below s)
 
 section_is : (s u : Section) → section_number s ≡ section_number u → same_section s u ≡ true
@@ -79,15 +83,15 @@ section_is s u e =
 
 -- ---- nodes
 
-times_sixty_four : (a b : ℕ) → a * 64 ≡ b * 64 → a ≡ b
-times_sixty_four a b e = omega arith
+same_times : (a b : ℕ) → a * township_step ≡ b * township_step → a ≡ b
+same_times a b e = omega arith
 
 node_is : (a b : Node) → node_number a ≡ node_number b → same_node a b ≡ true
 node_is node.Everything node.Everything e = refl
 node_is node.Everything (node.Township u) e = absurd (omega (arith, township_positive u, e))
 node_is node.Everything (node.Part u w) e = absurd (omega (arith, path_positive w, e))
 node_is (node.Township t) node.Everything e = absurd (omega (arith, township_positive t, e))
-node_is (node.Township t) (node.Township u) e = township_is t u (times_sixty_four (township_number t) (township_number u) e)
+node_is (node.Township t) (node.Township u) e = township_is t u (same_times (township_number t) (township_number u) e)
 node_is (node.Township t) (node.Part u w) e = absurd (omega (arith, township_below t, path_positive w, e))
 node_is (node.Part s v) node.Everything e = absurd (omega (arith, path_positive v, e))
 node_is (node.Part s v) (node.Township u) e = absurd (omega (arith, township_below u, path_positive v, e))
@@ -119,31 +123,48 @@ numbered_at k q = found_at (λ a b. nat_cmp (node_number a) (node_number b)) sam
 pub whole_is : (n : Node) → node_number n ≡ 0 → n ≡ node.Everything
 whole_is n e = (same_node-is n node.Everything).0 (node_is n node.Everything e)
 
+-- a square has one number, by its section's township, its section's number in it, and its quarters
+pub same_square_number : (s u : Section) (w : List Quarter) → s.township ≡ u.township → s.number ≡ u.number
+    → node_number (node.Part s w) ≡ node_number (node.Part u w)
+same_square_number s u w a b = λ i. path_number w * square_step + (township_number (a i) * township_step + b i)
+
+-- squares have the numbers from a square's step on
+pub square_at : (n : Node) → nat_le square_step (node_number n) ≡ is_square n
+square_at node.Everything = refl
+square_at (node.Township t) = false_from_ne_true (nat_le square_step (township_number t * township_step))
+    (λ e. let h = leb-true square_step (township_number t * township_step) e in absurd (omega (arith, township_below t, h)))
+square_at (node.Part s w) = le-leb square_step (path_number w * square_step + section_number s) (omega (arith, path_positive w))
+
+-- a square's number less its own part is its section's
+pub section_at : (k : ℕ) (s : Section) (w : List Quarter) → k ≡ node_number (node.Part s w) → k % square_step ≡ section_number s
+section_at k s w is = omega (arith, section_below s)
+
+-- a section's number less its own part is its township's
+pub township_at : (k : ℕ) (s : Section) → k ≡ section_number s
+    → k / township_step * township_step ≡ node_number (node.Township s.township)
+township_at k s is = omega (arith, number_below s)
+
 -- ---- the node above
 
 -- a township's number is below any square's
-above_low : (k : ℕ) → k < 4194304 → number_above k ≡ 0
-above_low k low = ap (λ (b : Bool). cond b 0 (cond (ltb k 16777216) (k % 4194304 / 64 * 64) (k / 16777216 * 4194304 + k % 4194304)))
-    (lt-ltb k 4194304 low)
+above_low : (k : ℕ) → k < square_step → number_above k ≡ 0
+above_low k low = rw (lt-ltb k square_step low) refl
 
 -- above a section's own square is its township
-above_mid : (k t n : ℕ) → k ≡ 1 * 4194304 + (t * 64 + n) → n < 64 → t * 64 + n < 4194304 → number_above k ≡ t * 64
+above_mid : (k t n : ℕ) → k ≡ 1 * square_step + (t * township_step + n) → n < township_step → t * township_step + n < square_step
+    → number_above k ≡ t * township_step
 above_mid k t n is few low =
-    let rest : k % 4194304 / 64 * 64 ≡ t * 64 = omega arith in
-    ap (λ (b : Bool). cond b 0 (cond (ltb k 16777216) (k % 4194304 / 64 * 64) (k / 16777216 * 4194304 + k % 4194304)))
-    (le-ltb k 4194304 (omega arith))
-    ∙ ap (λ (b : Bool). cond b (k % 4194304 / 64 * 64) (k / 16777216 * 4194304 + k % 4194304)) (lt-ltb k 16777216 (omega arith))
-    ∙ rest
+    let rest : k % square_step / township_step * township_step ≡ t * township_step = omega arith in
+    rw (le-ltb k square_step (omega arith)) (rw (lt-ltb k (4 * square_step) (omega arith)) rest)
 
 -- above a quarter is the square that it is a quarter of
-above_high : (k p q s : ℕ) → k ≡ (p * 4 + q) * 4194304 + s → 0 < p → q < 4 → s < 4194304 → number_above k ≡ p * 4194304 + s
+above_high : (k p q s : ℕ) → k ≡ (p * 4 + q) * square_step + s → 0 < p → q < 4 → s < square_step
+    → number_above k ≡ p * square_step + s
 above_high k p q s is some few low =
-    let square : k / 16777216 ≡ p = omega arith in
-    let rest : k % 4194304 ≡ s = omega arith in
-    ap (λ (b : Bool). cond b 0 (cond (ltb k 16777216) (k % 4194304 / 64 * 64) (k / 16777216 * 4194304 + k % 4194304)))
-    (le-ltb k 4194304 (omega arith))
-    ∙ ap (λ (b : Bool). cond b (k % 4194304 / 64 * 64) (k / 16777216 * 4194304 + k % 4194304)) (le-ltb k 16777216 (omega arith))
-    ∙ ap (λ (z : ℕ). z * 4194304 + k % 4194304) square ∙ ap (λ (z : ℕ). p * 4194304 + z) rest
+    let square : k / (4 * square_step) ≡ p = omega arith in
+    let rest : k % square_step ≡ s = omega arith in
+    rw (le-ltb k square_step (omega arith)) (rw (le-ltb k (4 * square_step) (omega arith))
+    (λ i. square i * square_step + rest i))
 
 -- the node above a node that isn't the whole plant, with its number
 pub record HasAbove (n : Node) (k : ℕ) : Type 0 where
@@ -176,7 +197,7 @@ some_is a b h = ap (λ (o : Option Node). unwrap_or o a) h
 pub numbers_go_up : NumbersGoUp
 numbers_go_up node.Everything p h = absurd cc
 numbers_go_up (node.Township t) p h =
-    above_low (township_number t * 64) (omega (arith, township_below t)) ∙ ap node_number (some_is node.Everything p h)
+    above_low (township_number t * township_step) (omega (arith, township_below t)) ∙ ap node_number (some_is node.Everything p h)
 numbers_go_up (node.Part s []) p h =
     above_mid (node_number (node.Part s [])) (township_number s.township) s.number refl (number_below s) (section_below s)
     ∙ ap node_number (some_is (node.Township s.township) p h)
@@ -196,3 +217,37 @@ one_above a b k positive h j =
   where
     is_below : (n : Node) → number_above (node_number n) ≡ k → node_number n ≢ 0
     is_below n e none = positive (sym e ∙ ap number_above none ∙ above_low 0 (omega arith))
+
+-- ---- numbers fall on the way up
+
+same_numbers : (n c : Node) → same_node n c ≡ true → node_number n ≡ node_number c
+same_numbers n c same = ap node_number ((same_node-is n c).0 same)
+
+square_higher : (s : Section) (w : List Quarter) (n : Node) → is_above n (node.Part s w) ≡ true
+    → node_number n < node_number (node.Part s w)
+square_higher s [] n up = elim (or_cases (same_node n (node.Township s.township)) (same_node n node.Everything || false) up) [
+  | inl same ↦
+      let e : node_number n ≡ township_number s.township * township_step = same_numbers n (node.Township s.township) same in
+      omega (arith, e, township_below s.township)
+  | inr more ↦ elim (or_cases (same_node n node.Everything) false more) [
+    | inl same ↦ let e : node_number n ≡ 0 = same_numbers n node.Everything same in omega (arith, e)
+    | inr never ↦ absurd (true≢false (sym never))
+  ]
+]
+square_higher s (q ∷ w) n up = elim (or_cases (same_node n (node.Part s w)) (is_above n (node.Part s w)) up) [
+  | inl same ↦
+      let e : node_number n ≡ node_number (node.Part s w) = same_numbers n (node.Part s w) same in
+      omega (arith, e, path_positive w)
+  | inr more ↦ omega (arith, square_higher s w n more, path_positive w)
+]
+
+-- a node above has a lesser number
+pub above_less : (a n : Node) → is_above n a ≡ true → node_number n < node_number a
+above_less node.Everything n up = absurd cc
+above_less (node.Township t) n up = elim (or_cases (same_node n node.Everything) false up) [
+  | inl same ↦
+      let e : node_number n ≡ 0 = same_numbers n node.Everything same in
+      omega (arith, e, t.numbered.0)
+  | inr never ↦ absurd (true≢false (sym never))
+]
+above_less (node.Part s w) n up = square_higher s w n up

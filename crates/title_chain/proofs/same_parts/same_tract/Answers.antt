@@ -5,5 +5,5 @@ use Rattle.title_chain.proofs.same_parts.same_tract.Goals as goal
 pub returns-in-Some-Some : goal.returns-in-Some-Some
 returns-in-Some-Some c = record {
   same = same_by_node c.args.a.now c.args.b.now _ _ _ c.in-Some-Some.ensures.sized c.in-Some-Some.ensures'.sized
-      c.in-Some-Some.ensures.sole c.in-Some-Some.ensures'.sole c.same_node.ensures.same;
+      c.in-Some-Some.ensures.sole c.in-Some-Some.ensures'.sole c.is.ensures.same;
 }

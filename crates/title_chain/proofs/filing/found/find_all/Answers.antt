@@ -3,7 +3,7 @@ use Rattle.std.proofs.Common.{List, ap, ◌∙◌}
 use Rattle.std.proofs.lemmas.List.Folds.{list_any-append}
 use Rattle.title_chain.specs.declared.place.Place.{Place}
 use Rattle.title_chain.specs.PostPlaces.{same_place, is_listed}
-use Rattle.title_chain.proofs.filing.find_all.Goals as goal
+use Rattle.title_chain.proofs.filing.found.find_all.Goals as goal
 
 pub returns : goal.returns
 returns c = record {

@@ -1,7 +1,7 @@
 -- One place more stands before the next.
 use Rattle.std.proofs.Common.{arith}
 use Rattle.title_chain.proofs.PlacesInOrder.{all_ascend}
-use Rattle.title_chain.proofs.filing.ascend.Goals as goal
+use Rattle.title_chain.proofs.filing.found.ascend.Goals as goal
 
 pub loop-i-init : goal.loop-i-init
 loop-i-init c = (omega arith, λ k d h. absurd (omega (arith, h)))

@@ -6,7 +6,7 @@ use Rattle.title_chain.specs.declared.place.Place.{Place}
 use Rattle.title_chain.specs.PlaceMaps.{place_cmp}
 use Rattle.title_chain.specs.PostPlaces.{same_place, is_listed}
 use Rattle.title_chain.proofs.PlacesInOrder.{sorted_same, sorted_ascends}
-use Rattle.title_chain.proofs.filing.put_in_order.Goals as goal
+use Rattle.title_chain.proofs.filing.found.put_in_order.Goals as goal
 
 pub returns-then-not-ascend : goal.returns-then-not-ascend
 returns-then-not-ascend c =
