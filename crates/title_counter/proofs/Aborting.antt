@@ -38,12 +38,7 @@ others reply.Began was = refl
 others (reply.Answered given) was = refl
 others (reply.Committed place) was = refl
 others reply.Aborted was = refl
-others reply.NotOpen was = refl
-others reply.AlreadyOpen was = refl
-others reply.NoSuchTownship was = refl
-others (reply.Invalid cause) was = refl
-others reply.TooLong was = refl
-others (reply.Conflict f) was = refl
+others (reply.Denied why) was = refl
 others reply.Memory was = refl
 
 -- after an abort no more are open

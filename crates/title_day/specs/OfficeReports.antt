@@ -11,6 +11,7 @@ use Rattle.title_chain.specs.Alone.{alone, IsSerial}
 use Rattle.title_trace.specs.declared.call.Request.TheVariants as request
 use Rattle.title_trace.specs.declared.call.Reply.{Reply}
 use Rattle.title_trace.specs.declared.call.Reply.TheVariants as reply
+use Rattle.title_trace.specs.declared.denial.Denial.TheVariants as denial
 use Rattle.title_plan.specs.declared.line.Line.{Line}
 use Rattle.title_plan.specs.declared.line.Line.TheVariants as line
 use Rattle.title_plan.specs.Asked.{Asked}
@@ -23,7 +24,7 @@ use Rattle.title_page.specs.Rows.{row, rows_text}
 abbrev pub closing_sheet : List Township → List Record → Reply
 closing_sheet townships records =
     cond (is_in_plant townships land.Everything)
-    (reply.Answered (alone depth townships (reverse records) [] (ask.Sheet land.Everything))) reply.NoSuchTownship
+    (reply.Answered (alone depth townships (reverse records) [] (ask.Sheet land.Everything))) (reply.Denied denial.NoSuchTownship)
 
 -- the text of a report: the tallies, how many records there are, the closing sheet as a reply to nobody's number, 0, and the number of
 -- step rows

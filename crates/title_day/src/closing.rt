@@ -20,7 +20,7 @@ use title_device::{Failed, Sink};
 use title_land::{Node, Township, Tract};
 use title_page::Page;
 use title_report::{put_end, put_reply};
-use title_trace::Reply;
+use title_trace::{Denial, Reply};
 use title_tree_store::TreeStore;
 
 /// What the report of a settled office shows: the names of the parties, a tally for each examiner, how many records there
@@ -46,7 +46,7 @@ fn closing_sheet(
     ensures sheet { IfOk result (λ r. r ≡ closing_sheet townships.now records.now) }
 {
     if townships.is_empty() {
-        return Ok(Reply::NoSuchTownship);
+        return Ok(Reply::Denied(Denial::NoSuchTownship));
     }
     let everything = Tract::of(Node::Everything);
     let rows = sheet_by_chain::<TreeStore>(alloc, records, townships, &everything)?;

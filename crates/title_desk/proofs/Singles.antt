@@ -20,17 +20,15 @@ use Rattle.title_trace.specs.declared.call.Call.{Call}
 use Rattle.title_trace.specs.declared.call.Request.TheVariants as request
 use Rattle.title_trace.specs.declared.call.Reply.{Reply}
 use Rattle.title_trace.specs.declared.call.Reply.TheVariants as reply
+use Rattle.title_trace.specs.declared.denial.Denial.{Denial}
 use Rattle.title_trace.specs.Trace.{is_open, open_steps, committed}
 use Rattle.title_trace.specs.Due.{Setting, most_steps, InTheWay, IsDue}
-use Rattle.title_desk.specs.declared.refusal.Refusal.{Refusal}
-use Rattle.title_desk.specs.declared.refusal.Refusal.TheVariants as refusal
-use Rattle.title_desk.specs.Refusals.{reply_of}
 use Rattle.title_desk.specs.Opened.{Opened, found, held}
 use Rattle.title_desk.specs.Images.{is_posted, IsRestored, without_all}
 use Rattle.title_desk.specs.Keeps.{State, Keeps}
 use Rattle.title_desk.specs.Told.{Books, Passes}
 use Rattle.title_desk.specs.Admissions.{entry_of}
-use Rattle.title_desk.specs.Singles.{IsIdle, Stands, Bars, ToldSingle, after_single}
+use Rattle.title_desk.specs.Singles.{IsIdle, Stands, Bars, after_single}
 use Rattle.title_desk.proofs.Content.{case_eqb}
 use Rattle.title_desk.proofs.Found.{nothing_from}
 use Rattle.title_desk.proofs.States.{told, books_of, keeps_told, keeps_opened, keeps_store, keeps_locks, keeps_refused, keeps_began}
@@ -190,11 +188,11 @@ added {s} records mid records' steps trace k e a given are kept own more calls =
     (rw place at calls, now)
 
 -- the step is refused, and the examiner aborts
-pub keeps_barred : {s : State} → Idle s → (e : ℕ) (a : Ask) (why : Refusal) → Bars s.setting a why
-    → Keeps (told (request.Abort e) reply.Aborted (told (request.Step e a) (reply_of why) (told (request.Begin e) reply.Began s)))
+pub keeps_barred : {s : State} → Idle s → (e : ℕ) (a : Ask) (why : Denial) → Bars s.setting a why
+    → Keeps (told (request.Abort e) reply.Aborted (told (request.Step e a) (reply.Denied why) (told (request.Begin e) reply.Began s)))
 keeps_barred {s} i e a why bar =
     let k = keeps_refused (request.Step e a) why (began i e) (bars_due (books_of (begun e s)) e a why (is_open_now i e) bar) in
-    let t : State = told (request.Abort e) reply.Aborted (told (request.Step e a) (reply_of why)
+    let t : State = told (request.Abort e) reply.Aborted (told (request.Step e a) (reply.Denied why)
     (told (request.Begin e) reply.Began (record s { locks = without e s.locks }))) in
     let back : IsRestored s.declared (s.images e) s.out s.content s.content =
     subst (λ is. IsRestored s.declared is s.out s.content s.content) (sym (no_images i e)) (λ c. refl) in
@@ -214,14 +212,3 @@ told_single {s} old k e a r setting before trace same calls added =
       added ∙ now,
       subst (λ x. IsDue depth x (after_single old.trace e a r)) (sym setting) (subst (IsDue depth s.setting) now k.due),
     )
-
-pub barred_told : {s : State} (old new : Books) → Idle s → (e : ℕ) (a : Ask) (why : Refusal) → Bars s.setting a why
-    → old.setting ≡ s.setting → old.trace ≡ s.trace → new.setting ≡ s.setting
-    → new.trace ≡ record { request = request.Abort e; reply = reply.Aborted }
-    ∷ record { request = request.Step e a; reply = reply_of why } ∷ record { request = request.Begin e; reply = reply.Began } ∷ s.trace →
-    ToldSingle old e a (reply_of why) new
-barred_told {s} old new i e a refusal.NoSuchTownship bar setting trace same added =
-    told_single old (keeps_barred i e a refusal.NoSuchTownship bar) e a reply.NoSuchTownship setting s.trace trace same refl added
-barred_told {s} old new i e a (refusal.Invalid cause) bar setting trace same added =
-    told_single old (keeps_barred i e a (refusal.Invalid cause) bar) e a (reply.Invalid cause) setting s.trace trace same refl added
-barred_told old new i e a _ bar setting trace same added = absurd bar

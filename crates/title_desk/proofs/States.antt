@@ -16,11 +16,9 @@ use Rattle.title_trace.specs.declared.call.Request.{Request}
 use Rattle.title_trace.specs.declared.call.Request.TheVariants as request
 use Rattle.title_trace.specs.declared.call.Reply.{Reply}
 use Rattle.title_trace.specs.declared.call.Reply.TheVariants as reply
-use Rattle.title_trace.specs.Trace.{is_open, open_steps, committed}
+use Rattle.title_trace.specs.declared.denial.Denial.{Denial}
+use Rattle.title_trace.specs.Trace.{open_steps}
 use Rattle.title_trace.specs.Due.{Setting, DueReply}
-use Rattle.title_desk.specs.declared.refusal.Refusal.{Refusal}
-use Rattle.title_desk.specs.declared.refusal.Refusal.TheVariants as refusal
-use Rattle.title_desk.specs.Refusals.{reply_of}
 use Rattle.title_desk.specs.Headline.{ShowsOpenPosts, ShowsCommitted}
 use Rattle.title_desk.specs.Told.{Books}
 use Rattle.title_desk.specs.Keeps.{State, Facts, Keeps}
@@ -97,30 +95,18 @@ keeps_locks {s} locks same k = record {
   facts = facts_of s.trace s.begun locks same k.facts;
 }
 
--- a due call by which nobody begins, ends or gets a step
-still : {s : State} (q : Request) (r : Reply) → Keeps s → DueReply depth s.setting s.trace q r →
-    ((e : ℕ) → is_open e (record { request = q; reply = r } ∷ s.trace) ≡ is_open e s.trace) →
-    ((e : ℕ) → open_steps (record { request = q; reply = r } ∷ s.trace) e ≡ open_steps s.trace e) →
-    committed (record { request = q; reply = r } ∷ s.trace) ≡ committed s.trace → Keeps (told q r s)
-still {s} q r k due begun own done = record {
+-- a denial that is due changes nothing but the trace: nobody begins, ends or gets a step
+pub keeps_refused : {s : State} (q : Request) (why : Denial) → Keeps s → DueReply depth s.setting s.trace q (reply.Denied why)
+    → Keeps (told q (reply.Denied why) s)
+keeps_refused {s} q why k due = record {
   few = k.few;
   due = (k.due, due);
   declared_are = k.declared_are;
-  records_are = k.records_are ∙ sym done;
-  begun_are = λ e. k.begun_are e ∙ sym (begun e);
-  steps_are = λ e. k.steps_are e ∙ sym (own e);
+  records_are = k.records_are;
+  begun_are = k.begun_are;
+  steps_are = k.steps_are;
   facts = facts_of _ s.begun s.locks (λ a f. refl) k.facts;
 }
-
--- a refusal that is due changes nothing but the trace
-pub keeps_refused : {s : State} (q : Request) (why : Refusal) → Keeps s → DueReply depth s.setting s.trace q (reply_of why)
-    → Keeps (told q (reply_of why) s)
-keeps_refused q refusal.NotOpen k due = still q reply.NotOpen k due (λ e. refl) (λ e. refl) refl
-keeps_refused q refusal.AlreadyOpen k due = still q reply.AlreadyOpen k due (λ e. refl) (λ e. refl) refl
-keeps_refused q refusal.NoSuchTownship k due = still q reply.NoSuchTownship k due (λ e. refl) (λ e. refl) refl
-keeps_refused q (refusal.Invalid cause) k due = still q (reply.Invalid cause) k due (λ e. refl) (λ e. refl) refl
-keeps_refused q refusal.TooLong k due = still q reply.TooLong k due (λ e. refl) (λ e. refl) refl
-keeps_refused q (refusal.Conflict f) k due = still q (reply.Conflict f) k due (λ e. refl) (λ e. refl) refl
 
 -- an examiner begins
 pub keeps_began : {s : State} (e : ℕ) → Keeps s → s.begun e ≡ false → s.own e ≡ []

@@ -23,13 +23,12 @@ use Rattle.title_chain.specs.Laws.AskLaws.{effect_outside, effect_post}
 use Rattle.title_lock.specs.Overlaps.{against, Stands, is_post as is_post_access}
 use Rattle.title_trace.specs.declared.call.Request.TheVariants as request
 use Rattle.title_trace.specs.declared.call.Reply.TheVariants as reply
+use Rattle.title_trace.specs.declared.denial.Denial.{Denial}
+use Rattle.title_trace.specs.declared.denial.Denial.TheVariants as denial
 use Rattle.title_trace.specs.Trace.{is_open, open_steps, committed}
 use Rattle.title_trace.specs.Due.{InTheWay, DueReply}
 use Rattle.title_desk.specs.Images.{is_posted, posted_at, Peels, Backed, IsOf, Backs, put_back}
 use Rattle.title_desk.specs.Keeps.{State, plant_of, plant_for, Facts, Keeps}
-use Rattle.title_desk.specs.declared.refusal.Refusal as refusals
-use Rattle.title_desk.specs.declared.refusal.Refusal.TheVariants as refusal
-use Rattle.title_desk.specs.Refusals.{reply_of}
 use Rattle.title_desk.specs.Singles.{Bars}
 use Rattle.title_desk.specs.Told.{Books, Passes}
 use Rattle.title_desk.specs.Admissions.{IsFit, access_of, entry_of}
@@ -42,11 +41,11 @@ use Rattle.title_store.specs.Laws.EffectLaws as store
 use Rattle.title_chain.specs.ChainLaws.{SameIn}
 use Rattle.title_desk.proofs.Loaned.{Remain, backed_in, backed_for}
 
--- a refusal that bars an ask is due to who is open
-pub bars_due : (books : Books) (e : ℕ) (a : Ask) (why : refusals.Refusal) → is_open e books.trace ≡ true → Bars books.setting a why
-    → DueReply depth books.setting books.trace (request.Step e a) (reply_of why)
-bars_due books e a refusal.NoSuchTownship opened bar = rw (opened, bar) refl
-bars_due books e a (refusal.Invalid cause) opened bar = rw (opened, bar.0, bar.1) refl
+-- what bars an ask is due to who is open
+pub bars_due : (books : Books) (e : ℕ) (a : Ask) (why : Denial) → is_open e books.trace ≡ true → Bars books.setting a why
+    → DueReply depth books.setting books.trace (request.Step e a) (reply.Denied why)
+bars_due books e a denial.NoSuchTownship opened bar = rw (opened, bar) refl
+bars_due books e a (denial.Invalid cause) opened bar = rw (opened, bar.0, bar.1) refl
 bars_due books e a _ opened bar = absurd bar
 
 -- the answer that a step gets alone is due where nothing refuses it
@@ -57,7 +56,7 @@ due_alone books e a given p is = rw (p.0, p.1, p.2, p.3) (None, p.4, ap reply.An
 
 -- who is in the way of a step that is fit is named
 pub conflict_due : (books : Books) (e : ℕ) (a : Ask) (f : ℕ) → IsFit books e a → InTheWay books.trace e a (Some f)
-    → DueReply depth books.setting books.trace (request.Step e a) (reply.Conflict f)
+    → DueReply depth books.setting books.trace (request.Step e a) (reply.Denied (denial.Conflict f))
 conflict_due books e a f fit way = rw (fit.0, fit.1, fit.2, fit.3) (Some f, way, refl)
 
 -- who is in the way by the locks is in the way by the trace

@@ -1,4 +1,4 @@
--- What becomes of a step: refused, or passed with its lock prepared.
+-- What becomes of a step: denied, or passed with its lock prepared.
 use Rattle.std.specs.Prelude.{◌≡◌, ℕ, true, false, nat_le, length, Some, None}
 use Rattle.title_land.specs.Depth.{depth}
 use Rattle.title_land.specs.Lands.{is_in_plant}
@@ -8,12 +8,12 @@ use Rattle.title_lock.specs.declared.guards.Entry.{Entry}
 use Rattle.title_chain.specs.declared.ask.Ask.{Ask}
 use Rattle.title_chain.specs.declared.ask.Ask.TheVariants as ask
 use Rattle.title_chain.specs.Asks.{tract_of, cause_of}
+use Rattle.title_trace.specs.declared.call.Reply.TheVariants.{Denied}
 use Rattle.title_trace.specs.declared.call.Request.TheVariants.{Step}
 use Rattle.title_trace.specs.Trace.{is_open, open_steps}
 use Rattle.title_trace.specs.Due.{most_steps, DueReply}
-use Rattle.title_desk.specs.declared.refusal.Admission.{Admission}
-use Rattle.title_desk.specs.declared.refusal.Admission.TheVariants as admission
-use Rattle.title_desk.specs.Refusals.{reply_of}
+use Rattle.title_desk.specs.declared.admission.Admission.{Admission}
+use Rattle.title_desk.specs.declared.admission.Admission.TheVariants as admission
 use Rattle.title_desk.specs.Told.{Books, Passes}
 
 -- what an ask wants of its tract
@@ -32,8 +32,8 @@ IsFit books e a =
     (is_open e books.trace ≡ true) × (is_in_plant books.setting.townships (tract_of a) ≡ true)
     × (cause_of books.setting.parties a ≡ None) × (nat_le most_steps (length (open_steps books.trace e)) ≡ false)
 
--- a step that passes has its lock prepared, and a refusal is due
+-- a step that passes has its lock prepared, and a denial is due
 abbrev pub Admits : Books → ℕ → Ask → Admission → Type 0
 Admits books e a admission.Passed = Passes books e a × (books.prepared ≡ Some (entry_of e a))
-Admits books e a (admission.Refused why) = DueReply depth books.setting books.trace (Step e a) (reply_of why)
+Admits books e a (admission.Denied why) = DueReply depth books.setting books.trace (Step e a) (Denied why)
 Admits books e a admission.Memory = Unit {0}

@@ -4,7 +4,6 @@ pub mod Shown
 pub mod Opened
 pub mod Images
 pub mod Keeps
-pub mod Refusals
 pub mod Headline
 pub mod Admissions
 pub mod Singles

@@ -10,10 +10,10 @@ use Rattle.title_trace.specs.declared.call.Call.{Call}
 use Rattle.title_trace.specs.declared.call.Request.TheVariants as request
 use Rattle.title_trace.specs.declared.call.Reply.{Reply}
 use Rattle.title_trace.specs.declared.call.Reply.TheVariants as reply
+use Rattle.title_trace.specs.declared.denial.Denial.{Denial}
+use Rattle.title_trace.specs.declared.denial.Denial.TheVariants as denial
 use Rattle.title_trace.specs.Trace.{is_open, committed}
 use Rattle.title_trace.specs.Due.{Setting, IsDue}
-use Rattle.title_desk.specs.declared.refusal.Refusal.{Refusal}
-use Rattle.title_desk.specs.declared.refusal.Refusal.TheVariants as refusal
 use Rattle.title_desk.specs.Told.{Books, Stays}
 
 -- nobody has a transaction open
@@ -49,9 +49,9 @@ abbrev pub Stands : Setting → Ask → Type 0
 Stands setting a = (is_in_plant setting.townships (tract_of a) ≡ true) × (cause_of setting.parties a ≡ None)
 
 -- why a transaction of this one step is refused where nobody is open
-abbrev pub Bars : Setting → Ask → Refusal → Type 0
-Bars setting a refusal.NoSuchTownship = is_in_plant setting.townships (tract_of a) ≡ false
-Bars setting a (refusal.Invalid cause) =
+abbrev pub Bars : Setting → Ask → Denial → Type 0
+Bars setting a denial.NoSuchTownship = is_in_plant setting.townships (tract_of a) ≡ false
+Bars setting a (denial.Invalid cause) =
     (is_in_plant setting.townships (tract_of a) ≡ true) × (cause_of setting.parties a ≡ Some cause)
 Bars setting a _ = ⊥
 

@@ -38,12 +38,7 @@ Told old q reply.Began new = Added old q reply.Began new
 Told old q (reply.Answered given) new = Added old q (reply.Answered given) new
 Told old q (reply.Committed place) new = Added old q (reply.Committed place) new
 Told old q reply.Aborted new = Added old q reply.Aborted new
-Told old q reply.NotOpen new = Added old q reply.NotOpen new
-Told old q reply.AlreadyOpen new = Added old q reply.AlreadyOpen new
-Told old q reply.NoSuchTownship new = Added old q reply.NoSuchTownship new
-Told old q (reply.Invalid cause) new = Added old q (reply.Invalid cause) new
-Told old q reply.TooLong new = Added old q reply.TooLong new
-Told old q (reply.Conflict f) new = Added old q (reply.Conflict f) new
+Told old q (reply.Denied why) new = Added old q (reply.Denied why) new
 
 -- nothing refuses the step: the examiner is open, the tract is in the plant, the instrument can stand, the transaction has
 -- room for a step, and nobody is in the way

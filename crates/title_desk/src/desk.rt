@@ -6,24 +6,23 @@ ghost use Rattle.title_land.specs.Lands.{is_in_plant};
 ghost use Rattle.title_store.specs.Plants.{IsEachOnce};
 ghost use Rattle.title_land.specs.declared.place.Cell.{Cell};
 ghost use Rattle.title_trace.specs.declared.call.Request.TheVariants.{Begin, Step, Commit, Abort};
-ghost use Rattle.title_trace.specs.declared.call.Reply.TheVariants.{Aborted, Memory};
+ghost use Rattle.title_trace.specs.declared.call.Reply.TheVariants.{Aborted, Denied, Memory};
 ghost use Rattle.title_chain.specs.declared.ask.Ask.TheVariants.{Post};
 ghost use Rattle.title_chain.specs.Asks.{is_post, tract_of};
 ghost use Rattle.title_chain.specs.Alone.{alone, after_steps, plant_after, most_parties, IsSerial};
 ghost use Rattle.title_chain.specs.Overlaps.{record_of};
 ghost use Rattle.title_trace.specs.Trace.{is_open, open_steps, committed};
 ghost use Rattle.title_trace.specs.Due.{DueReply, InTheWay, IsDue, MayOpen};
-ghost use Rattle.title_desk.specs.Refusals.{reply_of};
 ghost use Rattle.title_desk.specs.Images.{is_posted, posted_at};
 ghost use Rattle.title_desk.specs.Told.{Books, IsFirstOpen, Passes, Stays, Told};
 ghost use Rattle.title_desk.specs.Admissions.{Admits, IsFit, entry_of};
 ghost use Rattle.title_desk.specs.Singles.{Bars, Stands};
 
+use crate::admission::Admission;
 use crate::asks::{access_in, cause_in, lock, step_of, tract_in};
 use crate::calls::Calls;
 use crate::images::{forget_all, restore_all, tidy_up};
 use crate::open_transactions::OpenTransactions;
-use crate::refusal::{Admission, Refusal};
 use crate::shown_store::ShownStore;
 use std::alloc::{AllocError, Global};
 use std::marker::Model;
@@ -31,7 +30,7 @@ use title_chain::{Answer, Ask, Posting, Record, TractIndex};
 use title_land::Township;
 use title_lock::{Guards, LockFault};
 use title_store::{Put, Store};
-use title_trace::{MOST_PARTIES, MOST_STEPS, MOST_TOWNSHIPS, Reply, Request};
+use title_trace::{Denial, MOST_PARTIES, MOST_STEPS, MOST_TOWNSHIPS, Reply, Request};
 
 mod alone;
 
@@ -128,12 +127,12 @@ impl<S: Store + Drop, G: Guards + Drop> Desk<S, G> {
     }
 
     // Refuses a request.
-    fn refuse(&mut self, request: Request, refusal: Refusal) -> Reply
-        requires due { DueReply depth self.old.setting self.old.trace request (reply_of refusal) }
+    fn refuse(&mut self, request: Request, why: Denial) -> Reply
+        requires due { DueReply depth self.old.setting self.old.trace request (Denied why) }
         ensures told { Told self.old request result self.new }
         ensures always { result ≢ Memory }
     {
-        let reply = refusal.reply();
+        let reply = Reply::Denied(why);
         self.calls = self.calls.then(&request, &reply);
         reply
     }
@@ -143,7 +142,7 @@ impl<S: Store + Drop, G: Guards + Drop> Desk<S, G> {
     {
         let request = Request::Begin(examiner);
         if self.transactions.contains(examiner) {
-            return self.refuse(request, Refusal::AlreadyOpen);
+            return self.refuse(request, Denial::AlreadyOpen);
         }
         if self.transactions.begin(examiner).is_err() {
             return Reply::Memory;
@@ -158,7 +157,7 @@ impl<S: Store + Drop, G: Guards + Drop> Desk<S, G> {
     {
         let request = Request::Abort(examiner);
         if !self.transactions.contains(examiner) {
-            return self.refuse(request, Refusal::NotOpen);
+            return self.refuse(request, Denial::NotOpen);
         }
         let transaction = self.transactions.take(examiner);
         restore_all(&mut self.store, transaction.images);
@@ -174,7 +173,7 @@ impl<S: Store + Drop, G: Guards + Drop> Desk<S, G> {
     {
         let request = Request::Commit(examiner);
         if !self.transactions.contains(examiner) {
-            return self.refuse(request, Refusal::NotOpen);
+            return self.refuse(request, Denial::NotOpen);
         }
         if self.records.reserve().is_err() {
             return Reply::Memory;
@@ -193,31 +192,31 @@ impl<S: Store + Drop, G: Guards + Drop> Desk<S, G> {
     }
 
     // Why an ask is refused whoever makes it, in the order of refusals.
-    fn bar(&self, ask: &Ask) -> Option<Refusal>
+    fn bar(&self, ask: &Ask) -> Option<Denial>
         ensures bars { MatchOption result (Stands self.now.setting ask.now) (λ why. Bars self.now.setting ask.now why) }
     {
         if !tract_in(ask).is_in(&self.townships) {
-            return Some(Refusal::NoSuchTownship);
+            return Some(Denial::NoSuchTownship);
         }
         if let Some(cause) = cause_in(ask, self.parties) {
-            return Some(Refusal::Invalid(cause));
+            return Some(Denial::Invalid(cause));
         }
         None
     }
 
     // Why a step is refused before its lock is asked for, in the order of refusals.
-    fn refusal(&self, examiner: u32, ask: &Ask) -> Option<Refusal>
+    fn refusal(&self, examiner: u32, ask: &Ask) -> Option<Denial>
         ensures refusal { MatchOption result (IsFit self.now examiner ask.now)
-            (λ why. DueReply depth self.now.setting self.now.trace (Step examiner ask.now) (reply_of why)) }
+            (λ why. DueReply depth self.now.setting self.now.trace (Step examiner ask.now) (Denied why)) }
     {
         if !self.transactions.contains(examiner) {
-            return Some(Refusal::NotOpen);
+            return Some(Denial::NotOpen);
         }
-        if let Some(refusal) = self.bar(ask) {
-            return Some(refusal);
+        if let Some(why) = self.bar(ask) {
+            return Some(why);
         }
         if self.transactions.steps(examiner).len() >= MOST_STEPS {
-            return Some(Refusal::TooLong);
+            return Some(Denial::TooLong);
         }
         None
     }
@@ -227,13 +226,13 @@ impl<S: Store + Drop, G: Guards + Drop> Desk<S, G> {
         ensures stays { Stays self.old self.new }
         ensures admits { Admits self.new examiner ask.now result }
     {
-        if let Some(refusal) = self.refusal(examiner, ask) {
-            return Admission::Refused(refusal);
+        if let Some(why) = self.refusal(examiner, ask) {
+            return Admission::Denied(why);
         }
         let access = access_in(ask);
         match self.guards.prepare(examiner, tract_in(ask), access) {
             Ok(()) => Admission::Passed,
-            Err(LockFault::Conflict(other)) => Admission::Refused(Refusal::Conflict(other)),
+            Err(LockFault::Conflict(other)) => Admission::Denied(Denial::Conflict(other)),
             Err(LockFault::Memory) => Admission::Memory,
         }
     }
@@ -360,7 +359,7 @@ impl<S: Store + Drop, G: Guards + Drop> Desk<S, G> {
     {
         match self.admit(examiner, &ask) {
             Admission::Passed => self.pass(examiner, ask),
-            Admission::Refused(refusal) => self.refuse(Request::Step(examiner, ask), refusal),
+            Admission::Denied(why) => self.refuse(Request::Step(examiner, ask), why),
             Admission::Memory => Reply::Memory,
         }
     }

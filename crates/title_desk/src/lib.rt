@@ -1,6 +1,7 @@
 //! The desk: interleaved transactions of any number of examiners over any store and any guards.
 #![tactic(auto)]
 
+mod admission;
 mod asks;
 mod calls;
 pub mod desk;
@@ -8,7 +9,6 @@ pub mod headline;
 mod images;
 mod kept_sheets;
 mod open_transactions;
-mod refusal;
 mod sections;
 mod shown_store;
 

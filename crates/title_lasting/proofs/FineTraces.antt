@@ -82,12 +82,7 @@ module _ (E : ℕ → Type 0) (P : ℕ → Ask → Type 0) where
   own_fine b f q (reply.Committed place) own same fine mine = emptied b f own mine
   own_fine b f q reply.Aborted own same fine mine = emptied b f own mine
   own_fine b f q (reply.Answered given) own same fine mine = comes b f q given own same fine mine
-  own_fine b f q reply.NotOpen own same fine mine = mine
-  own_fine b f q reply.AlreadyOpen own same fine mine = mine
-  own_fine b f q reply.NoSuchTownship own same fine mine = mine
-  own_fine b f q (reply.Invalid cause) own same fine mine = mine
-  own_fine b f q reply.TooLong own same fine mine = mine
-  own_fine b f q (reply.Conflict g) own same fine mine = mine
+  own_fine b f q (reply.Denied why) own same fine mine = mine
   own_fine b f q reply.Memory own same fine mine = mine
 
   -- a reply commits a record of the open steps, or none

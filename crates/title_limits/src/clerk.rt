@@ -12,7 +12,7 @@ use title_land::{Node, Township, Tract};
 use title_lock::NodeLocks;
 use title_share::Share;
 use title_store::SheetRow;
-use title_trace::{Reply, Request};
+use title_trace::{Denial, Reply, Request};
 use title_tree_store::TreeStore;
 
 /// The examiner of each transaction of one step.
@@ -70,6 +70,21 @@ impl Drop for Clerk {
     }
 }
 
+// Why a call is refused, in the words of a report.
+fn write_denial<W: fmt::Write>(why: Denial, f: &mut fmt::Formatter<W>) -> fmt::Result {
+    match why {
+        Denial::NotOpen => write!(f, "notopen"),
+        Denial::AlreadyOpen => write!(f, "alreadyopen"),
+        Denial::NoSuchTownship => write!(f, "notownship"),
+        Denial::Invalid(cause) => {
+            let cause = cause.number();
+            write!(f, "invalid,{cause}")
+        }
+        Denial::TooLong => write!(f, "toolong"),
+        Denial::Conflict(other) => write!(f, "conflict,{other}"),
+    }
+}
+
 /// A reply in the words of a report, but for the rows of a list.
 #[derive(Clone, Copy)]
 struct Told<'a>(&'a Reply);
@@ -93,15 +108,7 @@ impl fmt::Display for Told<'_> {
             }
             Reply::Committed(place) => write!(f, "committed,{place}"),
             Reply::Aborted => write!(f, "aborted"),
-            Reply::NotOpen => write!(f, "notopen"),
-            Reply::AlreadyOpen => write!(f, "alreadyopen"),
-            Reply::NoSuchTownship => write!(f, "notownship"),
-            Reply::Invalid(cause) => {
-                let cause = cause.number();
-                write!(f, "invalid,{cause}")
-            }
-            Reply::TooLong => write!(f, "toolong"),
-            Reply::Conflict(other) => write!(f, "conflict,{other}"),
+            Reply::Denied(why) => write_denial(*why, f),
             Reply::Memory => write!(f, "want of memory"),
         }
     }
@@ -274,7 +281,7 @@ impl Clerk {
     fn reply_alone(&mut self, ask: Ask) -> Reply {
         match self.desk.first_open() {
             None => self.desk.serve_alone(EXAMINER, ask),
-            Some(examiner) => Reply::Conflict(examiner),
+            Some(examiner) => Reply::Denied(Denial::Conflict(examiner)),
         }
     }
 

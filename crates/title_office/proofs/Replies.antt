@@ -10,11 +10,13 @@ use Rattle.title_trace.specs.declared.call.Request.{Request}
 use Rattle.title_trace.specs.declared.call.Request.TheVariants as request
 use Rattle.title_trace.specs.declared.call.Reply.{Reply}
 use Rattle.title_trace.specs.declared.call.Reply.TheVariants as reply
+use Rattle.title_trace.specs.declared.denial.Denial.{Denial}
+use Rattle.title_trace.specs.declared.denial.Denial.TheVariants as denial
 use Rattle.title_trace.specs.Trace.{is_open, committed}
 use Rattle.title_trace.specs.Due.{Setting, DueReply, DueStep, IsDue, reply_past}
 use Rattle.title_office.specs.declared.fault.Fault.{Fault}
 use Rattle.title_office.specs.declared.fault.Fault.TheVariants as fault
-use Rattle.title_office.specs.Offices.{IsServed, IsRefused, IsToStep, refusal_of}
+use Rattle.title_office.specs.Offices.{IsLast, IsServed, IsRefused, IsToStep, refusal_of}
 
 -- a request that nothing refuses was added to the trace, with the due reply
 pub added : (setting : Setting) (before after : List Call) (q : Request) (r : Reply) → IsServed setting before q r after
@@ -23,12 +25,7 @@ added setting before after q reply.Began served none = served
 added setting before after q (reply.Answered given) served none = served
 added setting before after q (reply.Committed place) served none = served
 added setting before after q reply.Aborted served none = served
-added setting before after q reply.NotOpen served none = served
-added setting before after q reply.AlreadyOpen served none = served
-added setting before after q reply.NoSuchTownship served none = served
-added setting before after q (reply.Invalid cause) served none = served
-added setting before after q reply.TooLong served none = served
-added setting before after q (reply.Conflict f) served none = served
+added setting before after q (reply.Denied why) served none = served
 added setting before after q reply.Memory served none = absurd (cc none)
 
 -- an answer was added to the trace
@@ -37,22 +34,19 @@ pub answered : (setting : Setting) (before after : List Call) (q : Request) (r :
     → (after ≡ record { request = q; reply = reply.Answered given } ∷ before) × DueReply depth setting before q (reply.Answered given)
 answered setting before after q r given served is = subst (λ s. IsServed setting before q s after) is served
 
+-- what is told of a denial that was due
+denied : (setting : Setting) (before : List Call) (Holds : List Call → Type 0) (q : Request) (why : Denial)
+    → IsLast setting before q (reply.Denied why) → Holds before → IsRefused setting Holds q (fault.Denied why)
+denied setting before Holds q denial.NotOpen last holds = (before, last)
+denied setting before Holds q _ last holds = (before, last, holds)
+
 -- what is told of a refused request
 pub refused : (setting : Setting) (before after : List Call) (Holds : List Call → Type 0) (q : Request) (r : Reply) (why : Fault)
     → IsDue depth setting before → IsServed setting before q r after → Holds before → refusal_of r ≡ Some why
     → IsRefused setting Holds q why
-refused setting before after Holds q reply.NotOpen why due served holds is =
-    let same : fault.NotOpen ≡ why = cc is in subst (IsRefused setting Holds q) same (before, (due, served.1))
-refused setting before after Holds q reply.AlreadyOpen why due served holds is =
-    let same : fault.AlreadyOpen ≡ why = cc is in subst (IsRefused setting Holds q) same (before, (due, served.1), holds)
-refused setting before after Holds q reply.NoSuchTownship why due served holds is =
-    let same : fault.NoSuchTownship ≡ why = cc is in subst (IsRefused setting Holds q) same (before, (due, served.1), holds)
-refused setting before after Holds q (reply.Invalid cause) why due served holds is =
-    let same : fault.Invalid cause ≡ why = cc is in subst (IsRefused setting Holds q) same (before, (due, served.1), holds)
-refused setting before after Holds q reply.TooLong why due served holds is =
-    let same : fault.TooLong ≡ why = cc is in subst (IsRefused setting Holds q) same (before, (due, served.1), holds)
-refused setting before after Holds q (reply.Conflict f) why due served holds is =
-    let same : fault.Conflict f ≡ why = cc is in subst (IsRefused setting Holds q) same (before, (due, served.1), holds)
+refused setting before after Holds q (reply.Denied d) why due served holds is =
+    let same : fault.Denied d ≡ why = cc is in
+    subst (IsRefused setting Holds q) same (denied setting before Holds q d (due, served.1) holds)
 refused setting before after Holds q reply.Memory why due served holds is =
     let same : fault.Memory ≡ why = cc is in subst (IsRefused setting Holds q) same tt
 refused setting before after Holds q reply.Began why due served holds is = absurd (cc is)
@@ -63,12 +57,8 @@ refused setting before after Holds q reply.Aborted why due served holds is = abs
 -- what is told where only the trace was known
 pub refused_there : (setting : Setting) (before : List Call) (Holds : List Call → Type 0) (q : Request) (why : Fault)
     → IsRefused setting (λ b. b ≡ before) q why → Holds before → IsRefused setting Holds q why
-refused_there setting before Holds q fault.NotOpen told holds = told
-refused_there setting before Holds q fault.AlreadyOpen told holds = (told.0, told.1, subst Holds (sym told.2) holds)
-refused_there setting before Holds q (fault.Invalid cause) told holds = (told.0, told.1, subst Holds (sym told.2) holds)
-refused_there setting before Holds q (fault.Conflict f) told holds = (told.0, told.1, subst Holds (sym told.2) holds)
-refused_there setting before Holds q fault.TooLong told holds = (told.0, told.1, subst Holds (sym told.2) holds)
-refused_there setting before Holds q fault.NoSuchTownship told holds = (told.0, told.1, subst Holds (sym told.2) holds)
+refused_there setting before Holds q (fault.Denied denial.NotOpen) told holds = told
+refused_there setting before Holds q (fault.Denied _) told holds = (told.0, told.1, subst Holds (sym told.2) holds)
 refused_there setting before Holds q fault.Memory told holds = told
 refused_there setting before Holds q fault.Stranger told holds = told
 refused_there setting before Holds q fault.NoThread told holds = told
@@ -95,25 +85,20 @@ to_step setting before after e a reply.Began served = due_to_step setting before
 to_step setting before after e a (reply.Committed place) served = due_to_step setting before e a _ _ _ _ _ served.1
 to_step setting before after e a reply.Aborted served = due_to_step setting before e a _ _ _ _ _ served.1
 to_step setting before after e a (reply.Answered given) served = tt
-to_step setting before after e a reply.NotOpen served = tt
-to_step setting before after e a reply.AlreadyOpen served = tt
-to_step setting before after e a reply.NoSuchTownship served = tt
-to_step setting before after e a (reply.Invalid cause) served = tt
-to_step setting before after e a reply.TooLong served = tt
-to_step setting before after e a (reply.Conflict f) served = tt
+to_step setting before after e a (reply.Denied why) served = tt
 to_step setting before after e a reply.Memory served = tt
 
 -- the reply to a Begin that nothing refuses
 pub began : (setting : Setting) (before : List Call) (e : ℕ) (r : Reply) → DueReply depth setting before (request.Begin e) r
     → refusal_of r ≡ None → r ≡ reply.Began
 began setting before e r due none =
-    cond_both (is_open e before) reply.AlreadyOpen reply.Began (λ s. r ≡ s → r ≡ reply.Began)
+    cond_both (is_open e before) (reply.Denied denial.AlreadyOpen) reply.Began (λ s. r ≡ s → r ≡ reply.Began)
     (λ _ is. absurd (cc (sym none ∙ ap refusal_of is))) (λ _ is. is) due
 
 -- the reply to a Commit that nothing refuses
 pub committed_at : (setting : Setting) (before : List Call) (e : ℕ) (r : Reply) → DueReply depth setting before (request.Commit e) r
     → refusal_of r ≡ None → r ≡ reply.Committed (suc (length (committed before)))
 committed_at setting before e r due none =
-    cond_both (is_open e before) (reply.Committed (suc (length (committed before)))) reply.NotOpen
+    cond_both (is_open e before) (reply.Committed (suc (length (committed before)))) (reply.Denied denial.NotOpen)
     (λ s. r ≡ s → r ≡ reply.Committed (suc (length (committed before))))
     (λ _ is. is) (λ _ is. absurd (cc (sym none ∙ ap refusal_of is))) due

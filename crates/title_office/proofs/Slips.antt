@@ -17,6 +17,7 @@ use Rattle.title_trace.specs.declared.call.Request.{Request}
 use Rattle.title_trace.specs.declared.call.Request.TheVariants as request
 use Rattle.title_trace.specs.declared.call.Reply.{Reply}
 use Rattle.title_trace.specs.declared.call.Reply.TheVariants as reply
+use Rattle.title_trace.specs.declared.denial.Denial.TheVariants as denial
 use Rattle.title_trace.specs.Trace.{is_open, open_steps, committed}
 use Rattle.title_trace.specs.Due.{Setting, IsDue, DueReply, DueStep}
 use Rattle.title_trace.specs.Laws.Law.{committed_serial}
@@ -31,7 +32,7 @@ abbrev pub call : Request → Reply → Call
 call q r = record { request = q; reply = r }
 
 not_open_due : (setting : Setting) (before : List Call) (e : ℕ) (a : Ask) (begun inside : Bool) (cause : Option Cause) (full : Bool)
-    → begun ≡ false → DueStep depth setting before e a reply.NotOpen begun inside cause full
+    → begun ≡ false → DueStep depth setting before e a (reply.Denied denial.NotOpen) begun inside cause full
 not_open_due setting before e a false inside cause full is = refl
 not_open_due setting before e a true inside cause full is = absurd (cc is)
 
@@ -39,31 +40,19 @@ not_open_due setting before e a true inside cause full is = absurd (cc is)
 pub falls_at_step : (setting : Setting) (slip : SlipState) (before : List Call) (Holds : List Call → Type 0) (a : Ask) (why : Fault)
     → IsDue depth setting before → Falls slip before why
     → IsRefused setting Holds (request.Step slip.seat.examiner a) why
-falls_at_step setting slip before Holds a fault.NotOpen due falls =
+falls_at_step setting slip before Holds a (fault.Denied denial.NotOpen) due falls =
     (before, (due, not_open_due setting before slip.seat.examiner a _ _ _ _ falls))
 falls_at_step setting slip before Holds a fault.Stranger due falls = tt
-falls_at_step setting slip before Holds a fault.AlreadyOpen due falls = absurd falls
-falls_at_step setting slip before Holds a (fault.Invalid cause) due falls = absurd falls
-falls_at_step setting slip before Holds a (fault.Conflict f) due falls = absurd falls
-falls_at_step setting slip before Holds a fault.TooLong due falls = absurd falls
-falls_at_step setting slip before Holds a fault.NoSuchTownship due falls = absurd falls
-falls_at_step setting slip before Holds a fault.Memory due falls = absurd falls
-falls_at_step setting slip before Holds a fault.NoThread due falls = absurd falls
+falls_at_step setting slip before Holds a _ due falls = absurd falls
 
 -- and so is its commit
 pub falls_at_commit : (setting : Setting) (slip : SlipState) (before : List Call) (Holds : List Call → Type 0) (why : Fault)
     → IsDue depth setting before → Falls slip before why
     → IsRefused setting Holds (request.Commit slip.seat.examiner) why
-falls_at_commit setting slip before Holds fault.NotOpen due falls =
-    (before, (due, ap (λ b. cond b (reply.Committed (suc (length (committed before)))) reply.NotOpen) (sym falls)))
+falls_at_commit setting slip before Holds (fault.Denied denial.NotOpen) due falls =
+    (before, (due, ap (λ b. cond b (reply.Committed (suc (length (committed before)))) (reply.Denied denial.NotOpen)) (sym falls)))
 falls_at_commit setting slip before Holds fault.Stranger due falls = tt
-falls_at_commit setting slip before Holds fault.AlreadyOpen due falls = absurd falls
-falls_at_commit setting slip before Holds (fault.Invalid cause) due falls = absurd falls
-falls_at_commit setting slip before Holds (fault.Conflict f) due falls = absurd falls
-falls_at_commit setting slip before Holds fault.TooLong due falls = absurd falls
-falls_at_commit setting slip before Holds fault.NoSuchTownship due falls = absurd falls
-falls_at_commit setting slip before Holds fault.Memory due falls = absurd falls
-falls_at_commit setting slip before Holds fault.NoThread due falls = absurd falls
+falls_at_commit setting slip before Holds _ due falls = absurd falls
 
 -- a commit that nothing refuses
 pub commits : (setting : Setting) (slip : SlipState) (before after : List Call) (r : Reply) (place : ℕ) (rec : Record) (receipt : Shows)

@@ -12,6 +12,7 @@ use Rattle.title_trace.specs.declared.call.Request.{Request}
 use Rattle.title_trace.specs.declared.call.Request.TheVariants as request
 use Rattle.title_trace.specs.declared.call.Reply.{Reply}
 use Rattle.title_trace.specs.declared.call.Reply.TheVariants as reply
+use Rattle.title_trace.specs.declared.denial.Denial.TheVariants as denial
 use Rattle.title_trace.specs.Trace.{is_open, open_steps, committed}
 use Rattle.title_trace.specs.Due.{Setting, DueReply, IsDue}
 use Rattle.title_desk.specs.Told.{IsFirstOpen}
@@ -136,22 +137,18 @@ Commits setting slip place rec receipt seat =
 -- a transaction is aborted, or its examiner has none open
 abbrev pub Aborts : Setting → SlipState → SeatState → Bool → Type 0
 Aborts setting slip seat ended =
-    (before : List Call) × IsLast setting before (request.Abort slip.seat.examiner) (cond ended reply.Aborted reply.NotOpen)
+    (before : List Call) × IsLast setting before (request.Abort slip.seat.examiner) (cond ended reply.Aborted (reply.Denied denial.NotOpen))
     × (ended ≡ true → Stands slip before) × (seat ≡ slip.seat)
 
 -- an examiner who is gone is aborted, or has none open
 abbrev pub Sweeps : Setting → ℕ → Reply → Type 0
 Sweeps setting e r = (before : List Call) × IsLast setting before (request.Abort e) r
 
--- a refusal with one of the desk's numbers is the last reply of a due trace of which this holds; a stranger's call and want of memory
--- come to no trace
+-- a denial is the last reply of a due trace, and but for NotOpen this holds of the calls before it; a stranger's call and want of
+-- memory come to no trace
 abbrev pub IsRefused : Setting → (List Call → Type 0) → Request → Fault → Type 0
-IsRefused setting Holds q fault.NotOpen = (before : List Call) × IsLast setting before q reply.NotOpen
-IsRefused setting Holds q fault.AlreadyOpen = (before : List Call) × IsLast setting before q reply.AlreadyOpen × Holds before
-IsRefused setting Holds q (fault.Invalid cause) = (before : List Call) × IsLast setting before q (reply.Invalid cause) × Holds before
-IsRefused setting Holds q (fault.Conflict f) = (before : List Call) × IsLast setting before q (reply.Conflict f) × Holds before
-IsRefused setting Holds q fault.TooLong = (before : List Call) × IsLast setting before q reply.TooLong × Holds before
-IsRefused setting Holds q fault.NoSuchTownship = (before : List Call) × IsLast setting before q reply.NoSuchTownship × Holds before
+IsRefused setting Holds q (fault.Denied denial.NotOpen) = (before : List Call) × IsLast setting before q (reply.Denied denial.NotOpen)
+IsRefused setting Holds q (fault.Denied why) = (before : List Call) × IsLast setting before q (reply.Denied why) × Holds before
 IsRefused setting Holds q fault.Memory = Unit {0}
 IsRefused setting Holds q fault.Stranger = Unit {0}
 IsRefused setting Holds q fault.NoThread = ⊥
@@ -162,17 +159,12 @@ refusal_of reply.Began = None
 refusal_of (reply.Answered given) = None
 refusal_of (reply.Committed place) = None
 refusal_of reply.Aborted = None
-refusal_of reply.NotOpen = Some fault.NotOpen
-refusal_of reply.AlreadyOpen = Some fault.AlreadyOpen
-refusal_of reply.NoSuchTownship = Some fault.NoSuchTownship
-refusal_of (reply.Invalid cause) = Some (fault.Invalid cause)
-refusal_of reply.TooLong = Some fault.TooLong
-refusal_of (reply.Conflict f) = Some (fault.Conflict f)
+refusal_of (reply.Denied why) = Some (fault.Denied why)
 refusal_of reply.Memory = Some fault.Memory
 
 -- why a slip is not its examiner's open transaction: its examiner has none open, or the slip is a stranger's
 abbrev pub Falls : SlipState → List Call → Fault → Type 0
-Falls slip before fault.NotOpen = is_open slip.seat.examiner before ≡ false
+Falls slip before (fault.Denied denial.NotOpen) = is_open slip.seat.examiner before ≡ false
 Falls slip before fault.Stranger = Unit {0}
 Falls slip before _ = ⊥
 

@@ -1,6 +1,7 @@
 -- What comes of the transactions of a worker.
 use Rattle.std.specs.Prelude.{◌≡◌, ◌+◌, ◌∷◌, ◌++◌, ℕ, Bool, true, false, List, [], length, map, Option, None, IfSome, IsSome}
 use Rattle.title_settle.specs.declared.outcome.Outcome.{Outcome}
+use Rattle.title_trace.specs.declared.denial.Denial.TheVariants as denial
 use Rattle.title_office.specs.declared.fault.Fault.{Fault}
 use Rattle.title_office.specs.declared.fault.Fault.TheVariants as fault
 use Rattle.title_office.specs.declared.workers.came.Came.{Came}
@@ -12,19 +13,15 @@ use Rattle.title_office.specs.Workers.{Ended}
 
 -- the faults that end a worker: after any other the transaction is begun again, or the step is passed over
 abbrev pub EndsWorker : Fault → Type 0
-EndsWorker fault.NotOpen = Unit {0}
-EndsWorker fault.AlreadyOpen = Unit {0}
-EndsWorker (fault.Invalid cause) = ⊥
-EndsWorker (fault.Conflict f) = ⊥
-EndsWorker fault.TooLong = ⊥
-EndsWorker fault.Memory = Unit {0}
-EndsWorker fault.Stranger = Unit {0}
-EndsWorker fault.NoThread = Unit {0}
-EndsWorker fault.NoSuchTownship = ⊥
+EndsWorker (fault.Denied denial.NoSuchTownship) = ⊥
+EndsWorker (fault.Denied (denial.Invalid cause)) = ⊥
+EndsWorker (fault.Denied denial.TooLong) = ⊥
+EndsWorker (fault.Denied (denial.Conflict f)) = ⊥
+EndsWorker why = Unit {0}
 
 -- the faults that end a try of a transaction: those that end the worker, and Conflict
 abbrev pub EndsTry : Fault → Type 0
-EndsTry (fault.Conflict f) = Unit {0}
+EndsTry (fault.Denied (denial.Conflict f)) = Unit {0}
 EndsTry why = EndsWorker why
 
 -- a transaction is committed, or aborted by its script, only where the script says so

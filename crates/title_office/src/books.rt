@@ -18,7 +18,7 @@ use title_chain::{Record, Step, Steps};
 use title_desk::Desk;
 use title_ledger::Room;
 use title_lock::NodeLocks;
-use title_trace::{Reply, Request};
+use title_trace::{Denial, Reply, Request};
 use title_tree_store::TreeStore;
 use title_views::{Fronts, Receipt};
 
@@ -116,7 +116,7 @@ impl<B: Room> Books<B> {
         ensures shut { is_open examiner self.new ≡ false }
     {
         if !self.desk.is_open(examiner) {
-            return Reply::NotOpen;
+            return Reply::Denied(Denial::NotOpen);
         }
         self.serve(rt, Request::Abort(examiner))
     }

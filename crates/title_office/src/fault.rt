@@ -6,27 +6,14 @@ ghost use Rattle.title_office.specs.Offices.{refusal_of, IsToStep};
 
 use thiserror::Error;
 use title_chain::Answer;
-use title_instrument::Cause;
-use title_trace::Reply;
+use title_trace::{Denial, Reply};
 
 /// Why an office refuses a call, or a worker has ended.
 #[derive(Clone, Copy, Debug, Error)]
 pub enum Fault {
-    /// The examiner has no transaction open.
-    #[error("no transaction is open")]
-    NotOpen,
-    /// The examiner has one open already.
-    #[error("a transaction is open already")]
-    AlreadyOpen,
-    /// The instrument can't stand.
-    #[error("the instrument can't stand")]
-    Invalid(Cause),
-    /// A step of this examiner's open transaction is in the way, the least of them.
-    #[error("a step of examiner {0} is in the way")]
-    Conflict(u32),
-    /// The transaction has as many steps as one may have.
-    #[error("the transaction has too many steps")]
-    TooLong,
+    /// The desk refuses the call.
+    #[error("{0}")]
+    Denied(Denial),
     /// Memory ran out.
     #[error("out of memory")]
     Memory,
@@ -36,9 +23,6 @@ pub enum Fault {
     /// No thread could be started.
     #[error("no thread could be started")]
     NoThread,
-    /// The tract names a township that is not declared.
-    #[error("the tract has a township that is not declared")]
-    NoSuchTownship,
 }
 
 // The fault that a reply is told as, where it refuses.
@@ -47,12 +31,7 @@ pub(crate) fn refusal(reply: &Reply) -> Option<Fault>
 {
     match reply {
         Reply::Began | Reply::Answered(_) | Reply::Committed(_) | Reply::Aborted => None,
-        Reply::NotOpen => Some(Fault::NotOpen),
-        Reply::AlreadyOpen => Some(Fault::AlreadyOpen),
-        Reply::NoSuchTownship => Some(Fault::NoSuchTownship),
-        Reply::Invalid(cause) => Some(Fault::Invalid(*cause)),
-        Reply::TooLong => Some(Fault::TooLong),
-        Reply::Conflict(examiner) => Some(Fault::Conflict(*examiner)),
+        Reply::Denied(why) => Some(Fault::Denied(*why)),
         Reply::Memory => Some(Fault::Memory),
     }
 }

@@ -16,7 +16,7 @@ use title_office::{
     Done, Ledger, Office, Opened, Outcome, Room, Seat, Settled, Slip, Unseen, Unsettled, Viewer,
 };
 use title_share::Share;
-use title_trace::Reply;
+use title_trace::{Denial, Reply};
 
 /// All of an estate in a cell, in units.
 pub const WHOLE: u64 = 4_294_967_296;
@@ -202,7 +202,7 @@ pub fn commit_two<B: Room, R: Wait + Abort>(
 fn sweep<B: Room, R: Wait + Abort>(rt: &R, office: &Office<B>, examiner: u32) -> bool {
     match office.sweep(rt, examiner) {
         Reply::Aborted => true,
-        Reply::NotOpen => false,
+        Reply::Denied(Denial::NotOpen) => false,
         _ => panic!(rt; "a sweep aborts, or finds nothing open"),
     }
 }

@@ -13,6 +13,7 @@ use std::sync::Wait;
 use title_chain::Answer;
 use title_land::Township;
 use title_office::{Fault, Ledger, Office, Room, Seat, Slip};
+use title_trace::Denial;
 
 // Posts a deed of section 5.
 fn post<B: Room, R: Wait + Abort>(
@@ -33,7 +34,7 @@ fn assert_in_the_way<B: Room, R: Wait + Abort>(
     slip: &mut Slip<B>,
 ) {
     let posted = post(rt, alloc, office, slip);
-    let is_refused = matches!(posted, Err(Fault::Conflict(1)));
+    let is_refused = matches!(posted, Err(Fault::Denied(Denial::Conflict(1))));
     must(rt, is_refused, "the first examiner is in the way");
 }
 

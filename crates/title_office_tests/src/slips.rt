@@ -10,6 +10,7 @@ use std::process::Abort;
 use std::sync::Wait;
 use title_land::Township;
 use title_office::{Fault, Ledger, Office, Room, Seat, Slip};
+use title_trace::Denial;
 
 /// Aborts a slip, which is open or isn't, as it should be; its seat.
 pub fn abort<B: Room, R: Wait + Abort>(
@@ -44,7 +45,7 @@ fn assert_refused<B: Room, R: Wait + Abort>(
 // A fault in a word.
 fn word(why: &Fault) -> &'static str {
     match why {
-        Fault::NotOpen => "not open",
+        Fault::Denied(Denial::NotOpen) => "not open",
         Fault::Stranger => "stranger",
         _ => "another",
     }

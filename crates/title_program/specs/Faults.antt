@@ -5,6 +5,8 @@ use Rattle.std.specs.Fmt.{decimal}
 use Rattle.title_aliquot.specs.declared.fault.DescFault.{DescFault}
 use Rattle.title_aliquot.specs.declared.fault.DescFault.TheVariants as description
 use Rattle.title_aliquot.specs.Faults.{number_of}
+use Rattle.title_trace.specs.declared.denial.Denial.{Denial}
+use Rattle.title_trace.specs.declared.denial.Denial.TheVariants as denial
 use Rattle.title_settle.specs.declared.outcome.Unsettled.{Unsettled}
 use Rattle.title_settle.specs.declared.outcome.Unsettled.TheVariants as unsettled
 use Rattle.title_office.specs.declared.fault.Fault.{Fault as WorkerFault}
@@ -62,17 +64,21 @@ of_run (run.Party row) = record { number = 34; place = Some row }
 of_run (run.Order row) = record { number = 35; place = Some row }
 of_run run.Memory = memory
 
+-- the numbers of a call's refusals
+abbrev pub number_of_denial : Denial → ℕ
+number_of_denial denial.NotOpen = 1
+number_of_denial denial.AlreadyOpen = 2
+number_of_denial (denial.Invalid cause) = 3
+number_of_denial (denial.Conflict examiner) = 4
+number_of_denial denial.TooLong = 5
+number_of_denial denial.NoSuchTownship = 26
+
 -- the numbers of the faults with which an examiner's worker may end
 abbrev pub number_of_worker : WorkerFault → ℕ
-number_of_worker worker.NotOpen = 1
-number_of_worker worker.AlreadyOpen = 2
-number_of_worker (worker.Invalid cause) = 3
-number_of_worker (worker.Conflict examiner) = 4
-number_of_worker worker.TooLong = 5
+number_of_worker (worker.Denied why) = number_of_denial why
 number_of_worker worker.Memory = 6
 number_of_worker worker.Stranger = 7
 number_of_worker worker.NoThread = 9
-number_of_worker worker.NoSuchTownship = 26
 
 -- the fault of a worker has its number alone
 abbrev pub of_worker : WorkerFault → Fault

@@ -2,7 +2,7 @@
 
 ghost use Rattle.std.specs.Prelude.{◌≡◌, IfOk, Some};
 ghost use Rattle.std.specs.String.{string_bytes};
-ghost use Rattle.title_program.specs.Faults.{number_of_worker};
+ghost use Rattle.title_program.specs.Faults.{number_of_denial, number_of_worker};
 
 use std::alloc::{AllocError, Global};
 use std::fmt;
@@ -13,6 +13,7 @@ use title_disk::OpenFault;
 use title_lasting::{LastingFault, TellFault};
 use title_office::{Fault as WorkerFault, Unsettled};
 use title_script::RunFault;
+use title_trace::Denial;
 
 /// A fault as its line tells it: its number, and the row of a script, the byte of a text, the examiner or the place of a record
 /// where it stands.
@@ -168,20 +169,29 @@ impl From<TellFault> for Fault {
     }
 }
 
+// The number of a call's refusal.
+fn number_of_denial(why: Denial) -> u32
+    ensures number { result ≡ number_of_denial why }
+{
+    match why {
+        Denial::NotOpen => 1,
+        Denial::AlreadyOpen => 2,
+        Denial::Invalid(_) => 3,
+        Denial::Conflict(_) => 4,
+        Denial::TooLong => 5,
+        Denial::NoSuchTownship => 26,
+    }
+}
+
 // The number of a worker's fault.
 fn number_of_worker(fault: WorkerFault) -> u32
     ensures number { result ≡ number_of_worker fault }
 {
     match fault {
-        WorkerFault::NotOpen => 1,
-        WorkerFault::AlreadyOpen => 2,
-        WorkerFault::Invalid(_) => 3,
-        WorkerFault::Conflict(_) => 4,
-        WorkerFault::TooLong => 5,
+        WorkerFault::Denied(why) => number_of_denial(why),
         WorkerFault::Memory => 6,
         WorkerFault::Stranger => 7,
         WorkerFault::NoThread => 9,
-        WorkerFault::NoSuchTownship => 26,
     }
 }
 

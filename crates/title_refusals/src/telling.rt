@@ -5,7 +5,7 @@ use title_chain::{Answer, Ask, Entry, Record, SheetRows, Step};
 use title_land::{Node, Tract};
 use title_share::Share;
 use title_store::SheetRow;
-use title_trace::Reply;
+use title_trace::{Denial, Reply};
 
 // The name of a party.
 fn party(number: u32) -> &'static str {
@@ -65,6 +65,18 @@ pub fn tell_answer(rt: &impl Print, examiner: u32, answer: &Answer) -> io::Resul
     }
 }
 
+// Tells why a call is refused.
+fn tell_denial(rt: &impl Print, examiner: u32, why: Denial) -> io::Result<()> {
+    match why {
+        Denial::NotOpen => println!(rt; "{examiner},notopen"),
+        Denial::AlreadyOpen => println!(rt; "{examiner},alreadyopen"),
+        Denial::NoSuchTownship => println!(rt; "{examiner},notownship"),
+        Denial::Invalid(cause) => println!(rt; "{examiner},invalid,{}", cause.number()),
+        Denial::TooLong => println!(rt; "{examiner},toolong"),
+        Denial::Conflict(other) => println!(rt; "{examiner},conflict,{other}"),
+    }
+}
+
 /// Tells a reply.
 pub fn tell_reply(rt: &impl Print, examiner: u32, reply: &Reply) -> io::Result<()> {
     match reply {
@@ -72,12 +84,7 @@ pub fn tell_reply(rt: &impl Print, examiner: u32, reply: &Reply) -> io::Result<(
         Reply::Answered(answer) => tell_answer(rt, examiner, answer),
         Reply::Committed(place) => println!(rt; "{examiner},committed,{place}"),
         Reply::Aborted => println!(rt; "{examiner},aborted"),
-        Reply::NotOpen => println!(rt; "{examiner},notopen"),
-        Reply::AlreadyOpen => println!(rt; "{examiner},alreadyopen"),
-        Reply::NoSuchTownship => println!(rt; "{examiner},notownship"),
-        Reply::Invalid(cause) => println!(rt; "{examiner},invalid,{}", cause.number()),
-        Reply::TooLong => println!(rt; "{examiner},toolong"),
-        Reply::Conflict(other) => println!(rt; "{examiner},conflict,{other}"),
+        Reply::Denied(why) => tell_denial(rt, examiner, *why),
         Reply::Memory => println!(rt; "{examiner},memory"),
     }
 }

@@ -16,6 +16,8 @@ use Rattle.title_chain.specs.declared.ask.Answer.{Answer}
 use Rattle.title_chain.specs.declared.ask.Answer.TheVariants as answer
 use Rattle.title_trace.specs.declared.call.Reply.{Reply}
 use Rattle.title_trace.specs.declared.call.Reply.TheVariants as reply
+use Rattle.title_trace.specs.declared.denial.Denial.{Denial}
+use Rattle.title_trace.specs.declared.denial.Denial.TheVariants as denial
 use Rattle.title_aliquot.specs.declared.fault.DescFault.{DescFault}
 use Rattle.title_aliquot.specs.declared.fault.DescFault.TheVariants as fault
 use Rattle.title_aliquot.specs.Faults.{number_of}
@@ -55,18 +57,22 @@ answer_rows names e (answer.Entries entries) = number_row e (codes "chain") (len
 answer_rows names e answer.Posted = word_row e (codes "posted") ∷ []
 answer_rows names e (answer.Refused rule estate node) = refused_row e rule estate node ∷ []
 
+-- why a call is refused
+abbrev pub denial_row : ℕ → Denial → List (List ℕ)
+denial_row e denial.NotOpen = word_row e (codes "notopen")
+denial_row e denial.AlreadyOpen = word_row e (codes "alreadyopen")
+denial_row e denial.NoSuchTownship = word_row e (codes "notownship")
+denial_row e (denial.Invalid cause) = number_row e (codes "invalid") (cause_number cause)
+denial_row e denial.TooLong = word_row e (codes "toolong")
+denial_row e (denial.Conflict other) = number_row e (codes "conflict") other
+
 -- the rows of a reply to an examiner; want of memory has none, and is never due
 abbrev pub reply_rows : List (List ℕ) → ℕ → Reply → List (List (List ℕ))
 reply_rows names e reply.Began = word_row e (codes "began") ∷ []
 reply_rows names e (reply.Answered given) = answer_rows names e given
 reply_rows names e (reply.Committed place) = number_row e (codes "committed") place ∷ []
 reply_rows names e reply.Aborted = word_row e (codes "aborted") ∷ []
-reply_rows names e reply.NotOpen = word_row e (codes "notopen") ∷ []
-reply_rows names e reply.AlreadyOpen = word_row e (codes "alreadyopen") ∷ []
-reply_rows names e reply.NoSuchTownship = word_row e (codes "notownship") ∷ []
-reply_rows names e (reply.Invalid cause) = number_row e (codes "invalid") (cause_number cause) ∷ []
-reply_rows names e reply.TooLong = word_row e (codes "toolong") ∷ []
-reply_rows names e (reply.Conflict other) = number_row e (codes "conflict") other ∷ []
+reply_rows names e (reply.Denied why) = denial_row e why ∷ []
 reply_rows names e reply.Memory = []
 
 -- the row of a description that is none: `E,description,21,BYTE`, or `E,description,N`

@@ -6,7 +6,7 @@ ghost use Rattle.title_page.specs.Pages.{Stopped, Written};
 ghost use Rattle.title_page.specs.Rows.{rows_text};
 ghost use Rattle.title_report.specs.EntryTexts.{AreMade};
 ghost use Rattle.title_report.specs.Fields.{text_of};
-ghost use Rattle.title_report.specs.Replies.{described_row, end_row, number_row, reply_rows, word_row};
+ghost use Rattle.title_report.specs.Replies.{denial_row, described_row, end_row, number_row, reply_rows, word_row};
 
 use crate::answers::put_answer;
 use crate::entry_lines::{EntryLines, KeptLines};
@@ -16,7 +16,7 @@ use indexmap::IndexSet;
 use title_aliquot::DescFault;
 use title_device::{Failed, Sink};
 use title_page::Page;
-use title_trace::Reply;
+use title_trace::{Denial, Reply};
 
 // The names of the parties, each at the place that is its number.
 pub(crate) type Names = IndexSet<String>;
@@ -85,6 +85,35 @@ pub(crate) fn put_number_row<S: Sink>(
     put_row(page, sink, &fields)
 }
 
+// Writes the row that tells why a call is refused.
+fn put_denial<S: Sink>(
+    page: &mut Page,
+    sink: &mut S,
+    examiner: u32,
+    why: Denial,
+) -> Result<(), Failed>
+    requires works { S.has_failed sink.old ≡ false }
+    ensures written { OnOk result (Written (S.taken sink.old) page.old (S.taken sink.new) page.new
+        (rows_text (denial_row examiner why ∷ []))) }
+    ensures well { OnOk result (S.has_failed sink.new ≡ false) }
+    ensures stopped { OnErr result (Stopped (S.taken sink.old) page.old (S.taken sink.new)
+        (rows_text (denial_row examiner why ∷ []))) }
+    ensures failed { OnErr result (S.has_failed sink.new ≡ true) }
+{
+    match why {
+        Denial::NotOpen => put_word_row(page, sink, examiner, b"notopen"),
+        Denial::AlreadyOpen => put_word_row(page, sink, examiner, b"alreadyopen"),
+        Denial::NoSuchTownship => put_word_row(page, sink, examiner, b"notownship"),
+        Denial::Invalid(cause) => {
+            put_number_row(page, sink, examiner, b"invalid", u64::from(cause.number()))
+        }
+        Denial::TooLong => put_word_row(page, sink, examiner, b"toolong"),
+        Denial::Conflict(other) => {
+            put_number_row(page, sink, examiner, b"conflict", u64::from(other))
+        }
+    }
+}
+
 // Writes the rows of a reply, those of chains by the lines of their entries.
 fn put_reply_by<S: Sink>(
     page: &mut Page,
@@ -109,16 +138,7 @@ fn put_reply_by<S: Sink>(
         Reply::Answered(answer) => put_answer(page, sink, roster, lines, examiner, answer),
         Reply::Committed(place) => put_number_row(page, sink, examiner, b"committed", *place),
         Reply::Aborted => put_word_row(page, sink, examiner, b"aborted"),
-        Reply::NotOpen => put_word_row(page, sink, examiner, b"notopen"),
-        Reply::AlreadyOpen => put_word_row(page, sink, examiner, b"alreadyopen"),
-        Reply::NoSuchTownship => put_word_row(page, sink, examiner, b"notownship"),
-        Reply::Invalid(cause) => {
-            put_number_row(page, sink, examiner, b"invalid", u64::from(cause.number()))
-        }
-        Reply::TooLong => put_word_row(page, sink, examiner, b"toolong"),
-        Reply::Conflict(other) => {
-            put_number_row(page, sink, examiner, b"conflict", u64::from(*other))
-        }
+        Reply::Denied(why) => put_denial(page, sink, examiner, *why),
         Reply::Memory => Ok(()),
     }
 }

@@ -20,12 +20,7 @@ added old new e a reply.Began other told = told
 added old new e a (reply.Answered given) other told = told
 added old new e a (reply.Committed place) other told = told
 added old new e a reply.Aborted other told = told
-added old new e a reply.NotOpen other told = told
-added old new e a reply.AlreadyOpen other told = told
-added old new e a reply.NoSuchTownship other told = told
-added old new e a (reply.Invalid cause) other told = told
-added old new e a reply.TooLong other told = told
-added old new e a (reply.Conflict f) other told = told
+added old new e a (reply.Denied why) other told = told
 
 -- a call with a due reply is the one after a request
 called : (setting : Setting) (before : List Call) (q : Request) (r : Reply) → DueReply depth setting before q r →
@@ -40,12 +35,7 @@ last_is e before reply.Began = refl
 last_is e before (reply.Answered given) = refl
 last_is e before (reply.Committed place) = refl
 last_is e before reply.Aborted = refl
-last_is e before reply.NotOpen = refl
-last_is e before reply.AlreadyOpen = refl
-last_is e before reply.NoSuchTownship = refl
-last_is e before (reply.Invalid cause) = refl
-last_is e before reply.TooLong = refl
-last_is e before (reply.Conflict f) = refl
+last_is e before (reply.Denied why) = refl
 last_is e before reply.Memory = refl
 
 -- a due reply is the one that is replied

@@ -73,12 +73,7 @@ added_single old new e a reply.Began other told = told
 added_single old new e a (reply.Answered given) other told = told
 added_single old new e a (reply.Committed place) other told = told
 added_single old new e a reply.Aborted other told = told
-added_single old new e a reply.NotOpen other told = told
-added_single old new e a reply.AlreadyOpen other told = told
-added_single old new e a reply.NoSuchTownship other told = told
-added_single old new e a (reply.Invalid cause) other told = told
-added_single old new e a reply.TooLong other told = told
-added_single old new e a (reply.Conflict f) other told = told
+added_single old new e a (reply.Denied why) other told = told
 
 -- two due replies to a request are one
 one_reply : (setting : Setting) (before : List Call) (q : Request) (r s : Reply) → DueReply depth setting before q r

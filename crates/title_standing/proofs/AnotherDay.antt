@@ -16,6 +16,7 @@ use Rattle.title_chain.specs.Overlaps.{overlaps}
 use Rattle.title_trace.specs.declared.call.Call.{Call}
 use Rattle.title_trace.specs.declared.call.Reply.{Reply}
 use Rattle.title_trace.specs.declared.call.Reply.TheVariants as reply
+use Rattle.title_trace.specs.declared.denial.Denial.TheVariants as denial
 use Rattle.title_trace.specs.Trace.{is_open, open_steps, committed}
 use Rattle.title_trace.specs.Due.{Setting, most_steps, InTheWay, DueStep, IsDue}
 use Rattle.title_trace.specs.Laws.Law.{committed_serial}
@@ -85,8 +86,8 @@ serial_are_served depth ts (r ∷ older) serial short =
     let before = serial_are_served depth ts older serial.0 short.1 in
     let after = replayed_are_committed older in
     let shut : is_open e (replayed older) ≡ false = after.1 e in
-    let begins : reply.Began ≡ cond (is_open e (replayed older)) reply.AlreadyOpen reply.Began =
-    ap (λ (b : Bool). cond b reply.AlreadyOpen reply.Began) (sym shut) in
+    let begins : reply.Began ≡ cond (is_open e (replayed older)) (reply.Denied denial.AlreadyOpen) reply.Began =
+    ap (λ (b : Bool). cond b (reply.Denied denial.AlreadyOpen) reply.Began) (sym shut) in
     let few : length (reverse r.steps) ≤ most_steps =
     subst (λ (n : ℕ). n ≤ most_steps) (sym (length-reverse r.steps)) short.0 in
     let asked : IsDue depth (widest ts) (asked_by e (reverse r.steps) (begun e (replayed older))) =
@@ -96,10 +97,10 @@ serial_are_served depth ts (r ∷ older) serial short =
     ap (λ (rs : List Record). suc (length rs)) (sym (done_before e (reverse r.steps) (replayed older) ∙ after.0)) in
     let ends : reply.Committed (suc (length older))
     ≡ cond (is_open e (asked_by e (reverse r.steps) (begun e (replayed older))))
-    (reply.Committed (suc (length (committed (asked_by e (reverse r.steps) (begun e (replayed older))))))) reply.NotOpen =
+    (reply.Committed (suc (length (committed (asked_by e (reverse r.steps) (begun e (replayed older))))))) (reply.Denied denial.NotOpen) =
     ap reply.Committed place
     ∙ ap (λ (b : Bool). cond b (reply.Committed (suc (length (committed (asked_by e (reverse r.steps) (begun e (replayed older)))))))
-    reply.NotOpen) (sym (open_still e (reverse r.steps) (replayed older))) in
+    (reply.Denied denial.NotOpen)) (sym (open_still e (reverse r.steps) (replayed older))) in
     (asked, ends)
 
 pub committed_are_served : CommittedAreServed

@@ -17,6 +17,7 @@ use Rattle.title_trace.specs.declared.call.Request.{Request}
 use Rattle.title_trace.specs.declared.call.Request.TheVariants as request
 use Rattle.title_trace.specs.declared.call.Reply.{Reply}
 use Rattle.title_trace.specs.declared.call.Reply.TheVariants as reply
+use Rattle.title_trace.specs.declared.denial.Denial.TheVariants as denial
 use Rattle.title_trace.specs.Trace.{examiner_of, is_open, steps_by, open_steps, committed_by, committed}
 use Rattle.title_trace.specs.Due.{Setting, most_steps, reply_past, DueStep, DueReply, IsDue}
 use Rattle.title_desk.specs.Images.{is_posted}
@@ -90,15 +91,15 @@ short_call : (depth : ℕ) (setting : Setting) (before : List Call) (q : Request
     → ShortAt before → ShortBy before q r
 short_call depth setting before (request.Begin e) r due k =
     let P = ShortBy before (request.Begin e) in
-    subst P (sym due) (cond_both (is_open e before) reply.AlreadyOpen reply.Began P (λ _. k) (λ _. short_emptied _ _ e k))
+    subst P (sym due) (cond_both (is_open e before) (reply.Denied denial.AlreadyOpen) reply.Began P (λ _. k) (λ _. short_emptied _ _ e k))
 short_call depth setting before (request.Step e a) r due k = short_step depth setting before e a r _ _ _ _ refl due k
 short_call depth setting before (request.Commit e) r due k =
     let P = ShortBy before (request.Commit e) in
-    subst P (sym due) (cond_both (is_open e before) (reply.Committed (suc (length (committed before)))) reply.NotOpen P
+    subst P (sym due) (cond_both (is_open e before) (reply.Committed (suc (length (committed before)))) (reply.Denied denial.NotOpen) P
     (λ _. short_committed _ _ e k) (λ _. k))
 short_call depth setting before (request.Abort e) r due k =
     let P = ShortBy before (request.Abort e) in
-    subst P (sym due) (cond_both (is_open e before) reply.Aborted reply.NotOpen P (λ _. short_emptied _ _ e k) (λ _. k))
+    subst P (sym due) (cond_both (is_open e before) reply.Aborted (reply.Denied denial.NotOpen) P (λ _. short_emptied _ _ e k) (λ _. k))
 
 short_at : (depth : ℕ) (setting : Setting) (trace : List Call) → IsDue depth setting trace → ShortAt trace
 short_at depth setting [] due = record { done = tt; mine = λ f. omega arith }

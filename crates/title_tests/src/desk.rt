@@ -13,7 +13,7 @@ use title_instrument::{Estates, Instrument, Release};
 use title_land::{Land, Node, Quarter, Township, Tract};
 use title_lock::NodeLocks;
 use title_store::{SheetRow, Store};
-use title_trace::{Reply, Request};
+use title_trace::{Denial, Reply, Request};
 use title_tree_store::TreeStore;
 
 type TestDesk = Desk<TreeStore, NodeLocks>;
@@ -91,9 +91,9 @@ fn word(reply: &Reply) -> &'static str {
         Reply::Answered(Answer::Posted) => "posted",
         Reply::Committed(_) => "committed",
         Reply::Aborted => "aborted",
-        Reply::NotOpen => "not open",
-        Reply::AlreadyOpen => "already open",
-        Reply::Conflict(_) => "conflict",
+        Reply::Denied(Denial::NotOpen) => "not open",
+        Reply::Denied(Denial::AlreadyOpen) => "already open",
+        Reply::Denied(Denial::Conflict(_)) => "conflict",
         Reply::Memory => "memory",
         _ => "another",
     }

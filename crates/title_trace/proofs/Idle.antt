@@ -3,7 +3,6 @@ use Rattle.std.proofs.Common.{◌≡◌, ℕ, suc, Bool, true, false, cond, List
 use Rattle.std.proofs.Common.{Some, None}
 use Rattle.std.proofs.lemmas.Bool.{cond_both, eqb-true}
 use Rattle.title_instrument.specs.declared.parts.Cause.{Cause}
-use Rattle.title_chain.specs.declared.ask.Ask.{Ask}
 use Rattle.title_chain.specs.declared.ask.Step.{Step}
 use Rattle.title_chain.specs.Alone.{alone}
 use Rattle.title_trace.specs.declared.call.Call.{Call}
@@ -11,6 +10,7 @@ use Rattle.title_trace.specs.declared.call.Request.{Request}
 use Rattle.title_trace.specs.declared.call.Request.TheVariants as request
 use Rattle.title_trace.specs.declared.call.Reply.{Reply}
 use Rattle.title_trace.specs.declared.call.Reply.TheVariants as reply
+use Rattle.title_trace.specs.declared.denial.Denial.TheVariants as denial
 use Rattle.title_trace.specs.Trace.{examiner_of, open_by, is_open, steps_by, open_steps, committed}
 use Rattle.title_trace.specs.Due.{Setting, reply_past, DueStep, DueReply, IsDue}
 
@@ -52,15 +52,17 @@ quiet_call : (depth : ℕ) (setting : Setting) (before : List Call) (f : ℕ) (q
     → IsQuiet (is_open f before) (open_steps before f) → QuietBy before f q r
 quiet_call depth setting before f (request.Begin e) r due k =
     let P = QuietBy before f (request.Begin e) in
-    subst P (sym due) (cond_both (is_open e before) reply.AlreadyOpen reply.Began P (λ _. k) (λ _. quiet_emptied (eqb f e) _ _ _ k))
+    subst P (sym due) (cond_both (is_open e before) (reply.Denied denial.AlreadyOpen) reply.Began P
+    (λ _. k) (λ _. quiet_emptied (eqb f e) _ _ _ k))
 quiet_call depth setting before f (request.Step e a) r due k = quiet_step depth setting before e f a r _ _ _ _ refl due k
 quiet_call depth setting before f (request.Commit e) r due k =
     let P = QuietBy before f (request.Commit e) in
-    subst P (sym due) (cond_both (is_open e before) (reply.Committed (suc (length (committed before)))) reply.NotOpen P
+    subst P (sym due) (cond_both (is_open e before) (reply.Committed (suc (length (committed before)))) (reply.Denied denial.NotOpen) P
     (λ _. quiet_emptied (eqb f e) _ _ _ k) (λ _. k))
 quiet_call depth setting before f (request.Abort e) r due k =
     let P = QuietBy before f (request.Abort e) in
-    subst P (sym due) (cond_both (is_open e before) reply.Aborted reply.NotOpen P (λ _. quiet_emptied (eqb f e) _ _ _ k) (λ _. k))
+    subst P (sym due) (cond_both (is_open e before) reply.Aborted (reply.Denied denial.NotOpen) P
+    (λ _. quiet_emptied (eqb f e) _ _ _ k) (λ _. k))
 
 pub none_when_idle : (depth : ℕ) (setting : Setting) (trace : List Call) (e : ℕ) → IsDue depth setting trace →
     is_open e trace ≡ false → open_steps trace e ≡ []

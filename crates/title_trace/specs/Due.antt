@@ -14,6 +14,7 @@ use Rattle.title_trace.specs.declared.call.Request.{Request}
 use Rattle.title_trace.specs.declared.call.Request.TheVariants as request
 use Rattle.title_trace.specs.declared.call.Reply.{Reply}
 use Rattle.title_trace.specs.declared.call.Reply.TheVariants as reply
+use Rattle.title_trace.specs.declared.denial.Denial.TheVariants as denial
 use Rattle.title_trace.specs.Trace.{examiner_of, is_open, open_steps, committed}
 
 -- the most steps that a transaction has
@@ -42,29 +43,29 @@ InTheWay before e a (Some f) =
 
 -- nobody being in the way, the ask is answered as it would be alone, after the committed records and its own open steps
 abbrev pub reply_past : ℕ → Setting → List Call → ℕ → Ask → Option ℕ → Reply
-reply_past depth setting before e a (Some f) = reply.Conflict f
+reply_past depth setting before e a (Some f) = reply.Denied (denial.Conflict f)
 reply_past depth setting before e a None =
     reply.Answered (alone depth setting.townships (committed before) (open_steps before e) a)
 
 -- the due reply to a step, the first line that holds: not open; a township that isn't declared; an instrument that can't
 -- stand; as many steps as a transaction may have; an examiner in the way; else the answer that it gets alone
 abbrev pub DueStep : ℕ → Setting → List Call → ℕ → Ask → Reply → (begun inside : Bool) → Option Cause → (full : Bool) → Type 0
-DueStep depth setting before e a r false inside cause full = r ≡ reply.NotOpen
-DueStep depth setting before e a r true false cause full = r ≡ reply.NoSuchTownship
-DueStep depth setting before e a r true true (Some cause) full = r ≡ reply.Invalid cause
-DueStep depth setting before e a r true true None true = r ≡ reply.TooLong
+DueStep depth setting before e a r false inside cause full = r ≡ reply.Denied denial.NotOpen
+DueStep depth setting before e a r true false cause full = r ≡ reply.Denied denial.NoSuchTownship
+DueStep depth setting before e a r true true (Some cause) full = r ≡ reply.Denied (denial.Invalid cause)
+DueStep depth setting before e a r true true None true = r ≡ reply.Denied denial.TooLong
 DueStep depth setting before e a r true true None false =
     (way : Option ℕ) × InTheWay before e a way × (r ≡ reply_past depth setting before e a way)
 
 -- the due reply to a request after a trace
 abbrev pub DueReply : ℕ → Setting → List Call → Request → Reply → Type 0
-DueReply depth setting before (request.Begin e) r = r ≡ cond (is_open e before) reply.AlreadyOpen reply.Began
+DueReply depth setting before (request.Begin e) r = r ≡ cond (is_open e before) (reply.Denied denial.AlreadyOpen) reply.Began
 DueReply depth setting before (request.Step e a) r =
     DueStep depth setting before e a r (is_open e before) (is_in_plant setting.townships (tract_of a))
     (cause_of setting.parties a) (nat_le most_steps (length (open_steps before e)))
 DueReply depth setting before (request.Commit e) r =
-    r ≡ cond (is_open e before) (reply.Committed (suc (length (committed before)))) reply.NotOpen
-DueReply depth setting before (request.Abort e) r = r ≡ cond (is_open e before) reply.Aborted reply.NotOpen
+    r ≡ cond (is_open e before) (reply.Committed (suc (length (committed before)))) (reply.Denied denial.NotOpen)
+DueReply depth setting before (request.Abort e) r = r ≡ cond (is_open e before) reply.Aborted (reply.Denied denial.NotOpen)
 
 -- a trace is due where each reply is the due reply after the calls before it
 abbrev pub IsDue : ℕ → Setting → List Call → Type 0
@@ -98,21 +99,21 @@ in_the_way before e a = least (filter (stops before e a) (examiners before))
 
 -- the due reply to a step, by the same lines as the relation
 abbrev pub due_step : ℕ → Setting → List Call → ℕ → Ask → (begun inside : Bool) → Option Cause → (full : Bool) → Reply
-due_step depth setting before e a false inside cause full = reply.NotOpen
-due_step depth setting before e a true false cause full = reply.NoSuchTownship
-due_step depth setting before e a true true (Some cause) full = reply.Invalid cause
-due_step depth setting before e a true true None true = reply.TooLong
+due_step depth setting before e a false inside cause full = reply.Denied denial.NotOpen
+due_step depth setting before e a true false cause full = reply.Denied denial.NoSuchTownship
+due_step depth setting before e a true true (Some cause) full = reply.Denied (denial.Invalid cause)
+due_step depth setting before e a true true None true = reply.Denied denial.TooLong
 due_step depth setting before e a true true None false = reply_past depth setting before e a (in_the_way before e a)
 
 -- the due reply to a request after a trace
 abbrev pub due_reply : ℕ → Setting → List Call → Request → Reply
-due_reply depth setting before (request.Begin e) = cond (is_open e before) reply.AlreadyOpen reply.Began
+due_reply depth setting before (request.Begin e) = cond (is_open e before) (reply.Denied denial.AlreadyOpen) reply.Began
 due_reply depth setting before (request.Step e a) =
     due_step depth setting before e a (is_open e before) (is_in_plant setting.townships (tract_of a))
     (cause_of setting.parties a) (nat_le most_steps (length (open_steps before e)))
 due_reply depth setting before (request.Commit e) =
-    cond (is_open e before) (reply.Committed (suc (length (committed before)))) reply.NotOpen
-due_reply depth setting before (request.Abort e) = cond (is_open e before) reply.Aborted reply.NotOpen
+    cond (is_open e before) (reply.Committed (suc (length (committed before)))) (reply.Denied denial.NotOpen)
+due_reply depth setting before (request.Abort e) = cond (is_open e before) reply.Aborted (reply.Denied denial.NotOpen)
 
 -- an examiner, or nobody, stands in the way by the relation exactly where it does by the function
 abbrev pub OneInTheWay : Type 0

@@ -1,6 +1,5 @@
 -- Traces: who is open, with which steps, and what is committed. Lists of calls, steps and records here have the newest first.
-use Rattle.std.specs.Prelude.{◌≡◌, ℕ, Bool, true, false, cond, eqb, List, [], ◌∷◌}
-use Rattle.title_chain.specs.declared.ask.Ask.{Ask}
+use Rattle.std.specs.Prelude.{ℕ, Bool, true, false, cond, eqb, List, [], ◌∷◌}
 use Rattle.title_chain.specs.declared.ask.Answer.{Answer}
 use Rattle.title_chain.specs.declared.ask.Step.{Step}
 use Rattle.title_chain.specs.declared.record.Record.{Record}
@@ -24,12 +23,7 @@ open_by mine reply.Began was = cond mine true was
 open_by mine (reply.Committed place) was = cond mine false was
 open_by mine reply.Aborted was = cond mine false was
 open_by mine (reply.Answered answer) was = was
-open_by mine reply.NotOpen was = was
-open_by mine reply.AlreadyOpen was = was
-open_by mine reply.NoSuchTownship was = was
-open_by mine (reply.Invalid cause) was = was
-open_by mine reply.TooLong was = was
-open_by mine (reply.Conflict f) was = was
+open_by mine (reply.Denied why) was = was
 open_by mine reply.Memory was = was
 
 abbrev pub is_open : ℕ → List Call → Bool
@@ -48,12 +42,7 @@ steps_by mine q reply.Began own = cond mine [] own
 steps_by mine q (reply.Committed place) own = cond mine [] own
 steps_by mine q reply.Aborted own = cond mine [] own
 steps_by mine q (reply.Answered given) own = cond mine (step_of q given own) own
-steps_by mine q reply.NotOpen own = own
-steps_by mine q reply.AlreadyOpen own = own
-steps_by mine q reply.NoSuchTownship own = own
-steps_by mine q (reply.Invalid cause) own = own
-steps_by mine q reply.TooLong own = own
-steps_by mine q (reply.Conflict f) own = own
+steps_by mine q (reply.Denied why) own = own
 steps_by mine q reply.Memory own = own
 
 -- the open steps of an examiner: the asks since its last Began that were answered, with their answers
@@ -66,12 +55,7 @@ committed_by (reply.Committed place) r records = r ∷ records
 committed_by reply.Began r records = records
 committed_by reply.Aborted r records = records
 committed_by (reply.Answered given) r records = records
-committed_by reply.NotOpen r records = records
-committed_by reply.AlreadyOpen r records = records
-committed_by reply.NoSuchTownship r records = records
-committed_by (reply.Invalid cause) r records = records
-committed_by reply.TooLong r records = records
-committed_by (reply.Conflict f) r records = records
+committed_by (reply.Denied why) r records = records
 committed_by reply.Memory r records = records
 
 -- the committed records: for each reply Committed the record of that examiner's open steps just before it

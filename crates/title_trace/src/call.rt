@@ -3,8 +3,8 @@
 ghost use Rattle.std.specs.Prelude.{◌≡◌};
 ghost use Rattle.title_trace.specs.Trace.{examiner_of};
 
+use crate::denial::Denial;
 use title_chain::{Answer, Ask};
-use title_instrument::Cause;
 
 /// What an examiner asks of a desk.
 #[derive(Debug, Drop)]
@@ -16,20 +16,15 @@ pub enum Request {
 }
 
 /// What a desk replies. `Answered` is the answer to a step, a refused post among them; `Committed` names the place of the
-/// record, from 1; `Conflict` names the least examiner in the way. `Memory` stands in place of any reply but `Aborted`
-/// where a growth was refused, and then nothing has changed.
+/// record, from 1; `Denied` tells why nothing is done. `Memory` stands in place of any reply but `Aborted` where a growth was
+/// refused, and then nothing has changed.
 #[derive(Debug, Drop)]
 pub enum Reply {
     Began,
     Answered(Answer),
     Committed(u64),
     Aborted,
-    NotOpen,
-    AlreadyOpen,
-    NoSuchTownship,
-    Invalid(Cause),
-    TooLong,
-    Conflict(u32),
+    Denied(Denial),
     Memory,
 }
 

@@ -2,8 +2,10 @@
 #![tactic(auto)]
 
 pub mod call;
+pub mod denial;
 pub mod laws;
 pub mod limits;
 
 pub use call::{Call, Reply, Request};
+pub use denial::Denial;
 pub use limits::{MOST_PARTIES, MOST_STEPS, MOST_TOWNSHIPS};

@@ -2,7 +2,7 @@
 
 use title_chain::{Answer, Ask, Step};
 use title_land::{Node, Tract};
-use title_trace::Reply;
+use title_trace::{Denial, Reply};
 
 /// How many requests were replied to so, and how many wanted memory and were made again.
 #[derive(Clone, Copy)]
@@ -43,7 +43,7 @@ impl Tally {
             Reply::Answered(Answer::Posted) => &mut self.posted,
             Reply::Answered(Answer::Refused(_, _, _)) => &mut self.refused,
             Reply::Answered(_) => &mut self.sheets,
-            Reply::Conflict(_) => &mut self.conflicts,
+            Reply::Denied(Denial::Conflict(_)) => &mut self.conflicts,
             Reply::Committed(_) => &mut self.committed,
             Reply::Aborted => &mut self.aborted,
             _ => &mut self.others,
@@ -63,10 +63,8 @@ pub fn are_one(reply: Reply, other: Reply) -> bool {
     match (reply, other) {
         (Reply::Answered(answer), Reply::Answered(second)) => step(answer).same(&step(second)),
         (Reply::Committed(place), Reply::Committed(second)) => place == second,
-        (Reply::Invalid(cause), Reply::Invalid(second)) => cause == second,
-        (Reply::Conflict(examiner), Reply::Conflict(second)) => examiner == second,
+        (Reply::Denied(why), Reply::Denied(second)) => why == second,
         (Reply::Began, Reply::Began) | (Reply::Aborted, Reply::Aborted) => true,
-        (Reply::NotOpen, Reply::NotOpen) => true,
         _ => false,
     }
 }

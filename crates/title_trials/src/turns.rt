@@ -6,7 +6,7 @@ use title_chance::{Chance, Ground, StepWish, Wish};
 use title_desk::Desk;
 use title_lock::NodeLocks;
 use title_store::Store;
-use title_trace::Reply;
+use title_trace::{Denial, Reply};
 
 // A request, or a step that is a transaction of its own.
 #[derive(Clone, Copy)]
@@ -76,7 +76,7 @@ impl Turn {
         };
         match desk.first_open() {
             None => desk.serve_alone(self.examiner, ask),
-            Some(_) => Reply::AlreadyOpen,
+            Some(_) => Reply::Denied(Denial::AlreadyOpen),
         }
     }
 

@@ -18,13 +18,12 @@ use crate::asks::step_of;
 use crate::calls::Calls;
 use crate::desk::Desk;
 use crate::images::settle;
-use crate::refusal::Refusal;
 use std::alloc::{AllocError, Global};
 use title_chain::{Answer, Ask, Posting, Record, Steps, TractIndex};
 use title_lock::Guards;
 use title_store::{Put, Store};
 use title_trace::laws::idle_have_no_steps;
-use title_trace::{Reply, Request};
+use title_trace::{Denial, Reply, Request};
 
 // The list of one step.
 fn one_step(alloc: Global, step: title_chain::Step) -> Result<Steps, AllocError>
@@ -138,12 +137,12 @@ fn add_done(
 
 impl<S: Store + Drop, G: Guards + Drop> Desk<S, G> {
     // Adds a transaction whose step is refused.
-    fn refuse_alone(&mut self, examiner: u32, ask: Ask, refusal: Refusal) -> Reply
+    fn refuse_alone(&mut self, examiner: u32, ask: Ask, why: Denial) -> Reply
         requires idle { IsIdle self.old.trace }
-        requires bars { Bars self.old.setting ask refusal }
+        requires bars { Bars self.old.setting ask why }
         ensures told { ToldSingle self.old examiner ask result self.new }
     {
-        let (told, end) = (refusal.reply(), Request::Abort(examiner));
+        let (told, end) = (Reply::Denied(why), Request::Abort(examiner));
         self.calls = with_single(&self.calls, examiner, ask, &told, &end, &Reply::Aborted);
         told
     }
@@ -210,8 +209,8 @@ impl<S: Store + Drop, G: Guards + Drop> Desk<S, G> {
         requires idle { IsIdle self.old.trace }
         ensures told { ToldSingle self.old examiner ask result self.new }
     {
-        if let Some(refusal) = self.bar(&ask) {
-            return self.refuse_alone(examiner, ask, refusal);
+        if let Some(why) = self.bar(&ask) {
+            return self.refuse_alone(examiner, ask, why);
         }
         match ask {
             Ask::Sheet(tract) => self.read_alone(examiner, Ask::Sheet(tract)),

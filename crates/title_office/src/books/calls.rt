@@ -16,7 +16,7 @@ use crate::slip::Slip;
 use std::sync::Wait;
 use title_chain::{Ask, Step};
 use title_ledger::Room;
-use title_trace::Request;
+use title_trace::{Denial, Request};
 
 impl<B: Room> Books<B> {
     // Opens a transaction.
@@ -140,7 +140,7 @@ impl<B: Room> Books<B> {
                 self.serve(rt, Request::Abort(slip.examiner()));
                 Ok((slip.into_seat(), true))
             }
-            Err(Fault::NotOpen) => Ok((slip.into_seat(), false)),
+            Err(Fault::Denied(Denial::NotOpen)) => Ok((slip.into_seat(), false)),
             Err(_) => Err((slip, Fault::Stranger)),
         }
     }

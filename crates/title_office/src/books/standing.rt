@@ -13,6 +13,7 @@ use crate::seat::Seat;
 use crate::slip::Slip;
 use title_chain::same_steps;
 use title_ledger::Room;
+use title_trace::Denial;
 
 impl<B: Room> Books<B> {
     // The trace is due, and there are no more parties than a plant may have. It does nothing: the type says so.
@@ -52,7 +53,7 @@ impl<B: Room> Books<B> {
         ensures stands { MatchResult result (λ _. Stands slip.now self.now) (λ why. Falls slip.now self.now why) }
     {
         if !self.desk.is_open(slip.seat.examiner) {
-            return Err(Fault::NotOpen);
+            return Err(Fault::Denied(Denial::NotOpen));
         }
         if !self.has_shown(&slip.seat) || !self.has_steps(slip) {
             return Err(Fault::Stranger);

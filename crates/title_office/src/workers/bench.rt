@@ -13,6 +13,7 @@ use std::alloc::Global;
 use std::sync::Wait;
 use title_chain::Ask;
 use title_ledger::Room;
+use title_trace::Denial;
 
 /// What the workers share: their office, and the gate that stands before and after each call.
 #[derive(Drop)]
@@ -109,9 +110,9 @@ fn passed_over(answered: Result<(), Fault>) -> Result<(), Fault>
     ensures same { IfErr result (λ why. answered ≡ Err why) }
 {
     match answered {
-        Err(Fault::Invalid(_)) => Ok(()),
-        Err(Fault::TooLong) => Ok(()),
-        Err(Fault::NoSuchTownship) => Ok(()),
+        Err(Fault::Denied(Denial::NoSuchTownship)) => Ok(()),
+        Err(Fault::Denied(Denial::Invalid(_))) => Ok(()),
+        Err(Fault::Denied(Denial::TooLong)) => Ok(()),
         other => other,
     }
 }

@@ -20,6 +20,7 @@ use std::thread;
 use title_chain::Ask;
 use title_ledger::Room;
 use title_settle::Outcome;
+use title_trace::Denial;
 
 impl<'a, B: Room, R: Wait, G: Gate> Bench<'a, B, R, G> {
     /// Runs a job's script.
@@ -142,7 +143,7 @@ impl<'a, B: Room, R: Wait, G: Gate> Bench<'a, B, R, G> {
         ensures came { IfOk result (λ tried. tried.1 ≡ came.InTheWay) }
     {
         match why {
-            Fault::Conflict(_) => self.back_out(caller, slip, Came::InTheWay),
+            Fault::Denied(Denial::Conflict(_)) => self.back_out(caller, slip, Came::InTheWay),
             fault => Err(self.stop(caller, slip, fault)),
         }
     }

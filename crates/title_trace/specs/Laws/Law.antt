@@ -3,7 +3,6 @@ use Rattle.std.proofs.Common.{◌≡◌, ◌≢◌, ℕ, suc, ◌≤◌, Bool, t
 use Rattle.std.proofs.Common.{Some, None}
 use Rattle.std.proofs.lemmas.Bool.{cond_both, eqb-true, eqb-false}
 use Rattle.std.proofs.lemmas.List.{reverse-reverse}
-use Rattle.std.specs.Prelude.{nat_le}
 use Rattle.title_land.specs.declared.place.Township.{Township}
 use Rattle.title_land.specs.Lands.{is_in_plant}
 use Rattle.title_instrument.specs.declared.parts.Cause.{Cause}
@@ -19,8 +18,9 @@ use Rattle.title_trace.specs.declared.call.Request.{Request}
 use Rattle.title_trace.specs.declared.call.Request.TheVariants as request
 use Rattle.title_trace.specs.declared.call.Reply.{Reply}
 use Rattle.title_trace.specs.declared.call.Reply.TheVariants as reply
+use Rattle.title_trace.specs.declared.denial.Denial.TheVariants as denial
 use Rattle.title_trace.specs.Trace.{examiner_of, is_open, steps_by, open_steps, committed_by, committed}
-use Rattle.title_trace.specs.Due.{Setting, most_steps, InTheWay, reply_past, DueStep, DueReply, IsDue}
+use Rattle.title_trace.specs.Due.{Setting, InTheWay, reply_past, DueStep, DueReply, IsDue}
 use Rattle.title_trace.specs.Laws.Causes.{cause_among_more}
 
 -- what holds of the committed records and of the open steps of each examiner
@@ -106,15 +106,16 @@ kept_call : (depth : ℕ) (setting : Setting) (before : List Call) (q : Request)
     → DueReply depth setting before q r → KeptAt depth setting before → KeptBy depth setting before q r
 kept_call depth setting before (request.Begin e) r most due k =
     let P = KeptBy depth setting before (request.Begin e) in
-    subst P (sym due) (cond_both (is_open e before) reply.AlreadyOpen reply.Began P (λ _. k) (λ _. kept_emptied _ _ _ _ e k))
+    subst P (sym due) (cond_both (is_open e before) (reply.Denied denial.AlreadyOpen) reply.Began P
+    (λ _. k) (λ _. kept_emptied _ _ _ _ e k))
 kept_call depth setting before (request.Step e a) r most due k = kept_step depth setting before e a r _ _ _ _ most refl refl due k
 kept_call depth setting before (request.Commit e) r most due k =
     let P = KeptBy depth setting before (request.Commit e) in
-    subst P (sym due) (cond_both (is_open e before) (reply.Committed (suc (length (committed before)))) reply.NotOpen P
+    subst P (sym due) (cond_both (is_open e before) (reply.Committed (suc (length (committed before)))) (reply.Denied denial.NotOpen) P
     (λ _. kept_committed _ _ _ _ e k) (λ _. k))
 kept_call depth setting before (request.Abort e) r most due k =
     let P = KeptBy depth setting before (request.Abort e) in
-    subst P (sym due) (cond_both (is_open e before) reply.Aborted reply.NotOpen P (λ _. kept_emptied _ _ _ _ e k) (λ _. k))
+    subst P (sym due) (cond_both (is_open e before) reply.Aborted (reply.Denied denial.NotOpen) P (λ _. kept_emptied _ _ _ _ e k) (λ _. k))
 
 pub kept : (depth : ℕ) (setting : Setting) → setting.parties ≤ most_parties → (trace : List Call) → IsDue depth setting trace
     → KeptAt depth setting trace

@@ -69,12 +69,7 @@ others_stay q reply.Began own = refl
 others_stay q (reply.Committed place) own = refl
 others_stay q reply.Aborted own = refl
 others_stay q (reply.Answered given) own = refl
-others_stay q reply.NotOpen own = refl
-others_stay q reply.AlreadyOpen own = refl
-others_stay q reply.NoSuchTownship own = refl
-others_stay q (reply.Invalid cause) own = refl
-others_stay q reply.TooLong own = refl
-others_stay q (reply.Conflict f) own = refl
+others_stay q (reply.Denied why) own = refl
 others_stay q reply.Memory own = refl
 
 -- whose open steps overlap an ask is an examiner of the trace

@@ -8,4 +8,4 @@ pub returns-in-Some : goal.returns-in-Some
 returns-in-Some g c =
     let opened : is_open c.args.examiner c.args.self.now.trace ≡ true =
     rw (← c.self.view_is) (sym (c.self.invariant.begun_are c.args.examiner) ∙ sym c.contains.ensures.found ∙ c.if-not-contains.false) in
-    record { refusal = bars_due c.args.self.now c.args.examiner c.args.ask.now c.in-Some.refusal opened c.in-Some.ensures.bars }
+    record { refusal = bars_due c.args.self.now c.args.examiner c.args.ask.now c.in-Some.why opened c.in-Some.ensures.bars }

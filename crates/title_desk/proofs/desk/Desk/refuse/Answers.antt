@@ -1,8 +1,8 @@
--- A refusal that is due is added.
+-- A denial that is due is added.
 use Rattle.title_desk.proofs.States.{keeps_refused}
 use Rattle.title_desk.proofs.desk.Desk.refuse.Goals as goal
 
 pub invariant_of-self : goal.invariant_of-self
 invariant_of-self g c =
-    rw (c.then-self-inside.ensures.then, c.reply-reply.ensures.reply)
-    (keeps_refused c.args.request c.args.refusal c.self.invariant (rw (← c.self.view_is) at c.requires.due))
+    rw c.then-self-inside.ensures.then
+    (keeps_refused c.args.request c.args.why c.self.invariant (rw (← c.self.view_is) at c.requires.due))

@@ -1,6 +1,7 @@
 -- An abort where the transaction is open, and where it isn't.
 use Rattle.std.proofs.Common.{cond, refl, sym, ap, ◌∙◌, subst}
-use Rattle.title_trace.specs.declared.call.Reply.TheVariants.{Aborted, NotOpen}
+use Rattle.title_trace.specs.declared.call.Reply.TheVariants.{Aborted, Denied}
+use Rattle.title_trace.specs.declared.denial.Denial.TheVariants.{NotOpen}
 use Rattle.title_trace.specs.declared.call.Request.TheVariants.{Abort}
 use Rattle.title_trace.specs.Trace.{is_open}
 use Rattle.title_office.specs.Offices.{IsServed}
@@ -16,7 +17,7 @@ returns-in-Ok g c =
     record {
       aborted = (
         c.args.self.now,
-        (c.is_due.ensures.due, ap (λ b. cond b Aborted NotOpen) (sym stands.0)),
+        (c.is_due.ensures.due, ap (λ b. cond b Aborted (Denied NotOpen)) (sym stands.0)),
         (λ _. stands),
         c.into_seat.ensures.seat,
       );
