@@ -1,6 +1,5 @@
 -- A list of one part whose steps are quarters is the square of these quarters.
-use Rattle.std.proofs.Common.{◌≡◌, ◌==◌, false, ℕ, ◌+◌, ◌<◌, ◌≤◌, List, [], ◌∷◌, length, drop, get_or, refl, sym, ap, subst, arith}
-use Rattle.std.proofs.Common.{drop-cons, add-one}
+use Rattle.std.proofs.Common.{◌≡◌, ◌==◌, false, ◌<◌, ◌≤◌, List, [], ◌∷◌, length, drop, refl, sym, subst, arith}
 use Rattle.title_land.specs.Depth.{depth}
 use Rattle.title_land.specs.declared.grid.Grid.{Grid}
 use Rattle.title_land.specs.declared.rectangle.Quarter.{Quarter}
@@ -21,20 +20,6 @@ pub record Squared (es : List Entry) (w : List Quarter) : Type 0 where
   pub steps : leading es ≡ steps_of w
   pub alone : parts_in es ≡ []
   pub short : length w ≤ depth
-
-pub squared_nothing : Squared [] []
-squared_nothing = record { steps = refl; alone = refl; short = omega arith }
-
--- one entry more
-squared_next : (es : List Entry) (q : Quarter) (w : List Quarter) → length w < depth → Squared es w
-    → Squared (entry.Step (step.Quarter q) ∷ es) (q ∷ w)
-squared_next es q w h k = record { steps = ap (λ (z : List Step). step.Quarter q ∷ z) k.steps; alone = k.alone; short = omega arith }
-
-pub squared_more : (es : List Entry) (i : ℕ) (d : Entry) (q : Quarter) (w : List Quarter) → i < length es
-    → get_or es i d ≡ entry.Step (step.Quarter q) → length w < depth → Squared (drop (i + 1) es) w → Squared (drop i es) (q ∷ w)
-squared_more es i d q w l e h k =
-    let there : drop i es ≡ entry.Step (step.Quarter q) ∷ drop (i + 1) es = rw (drop-cons es i d l, add-one, e) refl in
-    subst (λ (z : List Entry). Squared z (q ∷ w)) (sym there) (squared_next (drop (i + 1) es) q w h k)
 
 pub some_entry : (es : List Entry) → (length es == 0) ≡ false → 0 < length es
 some_entry [] h = absurd cc

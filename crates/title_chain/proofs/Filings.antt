@@ -81,14 +81,6 @@ pub record IsFiledTo (was now : Lists) (place : Place) (n : Node) (k : ℕ) : Ty
   pub filed : (q : Node) (p : Place) → (is_listed p (places_under now q) || (is_above q reached && same_place p place))
       ≡ (is_listed p (places_under was q) || (is_above q n && same_place p place))
 
--- nothing was filed yet
-pub filed_to_itself : (m : Lists) (place : Place) (n : Node) (k : ℕ) → k ≡ node_number n → IsFiledTo m m place n k
-filed_to_itself m place n k is = record {
-  reached = n;
-  numbered = is;
-  filed = λ q p. refl;
-}
-
 -- the place is filed under the next node above
 pub filed_further : (was m now : Lists) (place : Place) (n : Node) (k above : ℕ) → IsFiledTo was m place n k → k ≢ 0
     → above ≡ number_above k → ((q : ℕ) (p : Place) → is_listed p (places_numbered now q)

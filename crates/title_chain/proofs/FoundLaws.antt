@@ -69,14 +69,6 @@ pub record IsFoundTo (lists : Lists) (was now : List Place) (n : Node) (k : ℕ)
   pub found : (p : Place) → (is_listed p now || list_any (λ a. is_listed p (places_under lists a)) (above reached))
       ≡ (is_listed p was || list_any (λ a. is_listed p (places_under lists a)) (above n))
 
--- nothing was found yet
-pub found_to_itself : (lists : Lists) (was : List Place) (n : Node) (k : ℕ) → k ≡ node_number n → IsFoundTo lists was was n k
-found_to_itself lists was n k is = record {
-  reached = n;
-  numbered = is;
-  found = λ p. refl;
-}
-
 -- the places under the next node above were found
 pub found_further : (lists : Lists) (was m now : List Place) (n : Node) (k above_it : ℕ) → IsFoundTo lists was m n k → k ≢ 0
     → above_it ≡ number_above k → ((p : Place) → is_listed p now ≡ (is_listed p m || is_listed p (places_numbered lists above_it)))

@@ -1,13 +1,12 @@
 -- Lists of places in order, each place once.
-use Rattle.std.proofs.Common.{◌≡◌, ℕ, ◌<◌, ◌≤◌, ◌+◌, ◌-◌, Bool, List, length, get_or, sym, subst, ◌∙◌, arith}
+use Rattle.std.proofs.Common.{◌≡◌, ℕ, ◌≤◌, ◌-◌, Bool, List, length, sym, subst, ◌∙◌, arith}
 use Rattle.std.specs.declared.cmp.Ordering.TheVariants.{Less}
 use Rattle.std.specs.Cmp.{IsEquivalence}
 use Rattle.std.specs.List.{dedup, AllAdjacentBelow}
 use Rattle.std.specs.List.Sorted.{IsPermutation, IsSorted, IsStrictlySortedBy}
 use Rattle.std.proofs.lemmas.Cmp.{eq_by_cmp_equiv}
-use Rattle.std.proofs.lemmas.List.{get_or_default}
 use Rattle.std.proofs.lemmas.List.Kept.{Contains-dedup, Contains-from_dedup, IsStrictlySortedBy-dedup}
-use Rattle.std.proofs.lemmas.List.Sorted.{all_adjacent_more, list_any-IsPermutation}
+use Rattle.std.proofs.lemmas.List.Sorted.{list_any-IsPermutation}
 use Rattle.std.proofs.lemmas.Map.Keys.{sorted_from_all_adjacent}
 use Rattle.std.proofs.lemmas.Map.Views.{Contains-from_any, list_any-from_Contains}
 use Rattle.title_land.specs.Laws.LandSharing.{equal_tests}
@@ -42,15 +41,6 @@ sorted_ascends places h = IsStrictlySortedBy-dedup place_laws.total-law (λ x y.
 -- each of the first places stands before the next
 abbrev pub FirstAscend : List Place → ℕ → Type 0
 FirstAscend places i = AllAdjacentBelow (λ x y. place_cmp x y ≡ Less) places i
-
-pub next_ascends :
-    (places : List Place) (i : ℕ) (x y : Place) → 0 < i → i < length places → x ≡ get_or places (i - 1) x → y ≡ get_or places i y →
-    place_cmp x y ≡ Less → FirstAscend places i → FirstAscend places (i + 1)
-next_ascends places i x y positive low at there before so_far =
-    all_adjacent_more places (λ a b. place_cmp a b ≡ Less) i positive so_far
-    (λ d. subst (λ (a : Place). place_cmp a (get_or places i d) ≡ Less)
-    (at ∙ get_or_default places (i - 1) x d (omega (arith, positive, low)))
-    (subst (λ (b : Place). place_cmp x b ≡ Less) (there ∙ get_or_default places i y d low) before))
 
 pub all_ascend : (places : List Place) (i : ℕ) → length places ≤ i → FirstAscend places i → IsStrictlySortedBy place_cmp places
 all_ascend places i past h =

@@ -11,10 +11,7 @@ use Rattle.title_land.specs.Places.{same_township}
 use Rattle.title_store.specs.Plants.{Plant}
 use Rattle.title_chain.specs.declared.record.Record.{Record}
 use Rattle.title_trace.specs.declared.call.Call.{Call}
-use Rattle.title_trace.specs.declared.call.Request.{Request}
-use Rattle.title_trace.specs.declared.call.Reply.{Reply}
 use Rattle.title_trace.specs.Due.{MayOpen, Setting, most_townships}
-use Rattle.title_trace.specs.Trace.{examiner_of}
 use Rattle.title_desk.specs.Headline.{Headline}
 use Rattle.title_desk.specs.Singles.{IsIdle}
 use Rattle.title_plan.specs.Plans.{after_act, with_line, with_township}
@@ -26,8 +23,6 @@ use Rattle.title_plan.specs.declared.line.Line.TheVariants as line
 use Rattle.title_plan.specs.declared.line.Schedule.TheVariants as schedule
 use Rattle.title_plan.specs.declared.row.Act.{Act}
 use Rattle.title_plan.specs.declared.row.Row.TheVariants as row
-use Rattle.title_report.specs.Replies.{reply_rows}
-use Rattle.title_script.specs.Served.{after_call, reply_to}
 use Rattle.title_counter.specs.Counters.{Answered, Counter, aborted, asked_at, counted, due_answer, due_found, due_said, fault_number}
 use Rattle.title_counter.specs.Counters.{or_fault, passed_over, served, setting_at, township_answer}
 use Rattle.title_counter.specs.Founds.{found_in}
@@ -61,22 +56,6 @@ may_open_more townships t once free = (
 )
 
 -- ---- steps
-
--- what the desk replied is what is served
-pub asked_served : (c : Counter) (s : Setting) (q : Request) (e : ℕ) (r : Reply) (t : List Call) (n : ℕ) → s ≡ setting_at c
-    → e ≡ examiner_of q → r ≡ reply_to s c.trace q → t ≡ after_call s c.trace q → n ≡ c.steps + 1
-    → served c (line.Asks q) ≡ record {
-      rows = reply_rows c.names e r;
-      after = record {
-        townships = c.townships;
-        names = c.names;
-        rows = c.rows;
-        steps = n;
-        shut = true;
-        trace = t;
-      };
-    }
-asked_served c s q e r t n same who is after more = rw (who, is, after, more, same) refl
 
 -- an act asks for one step
 pub step_due : (c : Counter) (e : ℕ) (a : Act (List ℕ)) (l : Line) (answer : Answered)

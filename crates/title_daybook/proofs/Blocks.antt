@@ -20,9 +20,6 @@ pub record IsUpTo (first : ℕ) (text : List ℕ) (start : Progress) (n at : ℕ
   pub counted : n + length (lines_of (drop at text)) ≡ first + length (lines_of text)
   pub rows : after_rows first start (lines_of text) ≡ after_rows n p (lines_of (drop at text))
 
-pub at_front : (first : ℕ) (text : List ℕ) (start : Progress) → IsUpTo first text start first 0 start
-at_front first text start = record { within = omega arith; few = omega arith; counted = refl; rows = refl }
-
 module _ (first : ℕ) (text : List ℕ) (start : Progress) (n at : ℕ) (p : Progress) (read : IsUpTo first text start n at p) where
   -- no row is left
   pub no_row : length text ≤ at → after_rows first start (lines_of text) ≡ Err n
@@ -126,11 +123,6 @@ module _ (texts : List (Vec ℕ Global)) (n i : ℕ) (p : Progress) (read : AreU
         ∙ ap (λ (k : ℕ). after_blocks k after (contents (drop (i + 1) texts))) (sym is);
     few = omega (arith, sizes, read.few, few);
   }
-
--- all were read
-pub all_read : (texts : List (Vec ℕ Global)) (n i : ℕ) (p : Progress) → AreUpTo texts n i p → length texts ≤ i
-    → after_blocks 2 (between nothing_standing) (contents texts) ≡ Ok p
-all_read texts n i p read past = read.rows ∙ ap (λ (t : List (Vec ℕ Global)). after_blocks n p (contents t)) (drop_all i texts past)
 
 -- what the blocks of a file come to
 pub comes_to : (file : List ℕ) (texts : List (List ℕ)) (found : Result Progress ℕ) → blocks_in file ≡ Ok texts

@@ -88,6 +88,7 @@ impl<S: Store> OpenTransactions<S> {
     /// Whether none is open.
     pub(crate) fn is_empty(&self) -> bool
         ensures empty { result ≡ true → self.now ≡ [] }
+        ensures some { self.now ≡ [] → result ≡ true }
     {
         self.by_examiner.is_empty()
     }

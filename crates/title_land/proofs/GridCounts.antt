@@ -1,10 +1,9 @@
 -- The cells of a set, counted by rows and columns.
-use Rattle.std.proofs.Common.{◌≡◌, ℕ, suc, ◌+◌, Bool, false, List, [], ◌∷◌, Option, Some, length, take, ◌≤◌, cond, sum_by, count_by, refl}
+use Rattle.std.proofs.Common.{◌≡◌, ℕ, suc, ◌+◌, Bool, false, List, [], ◌∷◌, Option, Some, length, cond, sum_by, count_by, refl}
 use Rattle.std.proofs.Common.{sym, ap, ◌∙◌, arith}
 use Rattle.std.specs.Prelude.{slice_get, option_and_then, unwrap_or}
 use Rattle.std.specs.List.{fold, range_with_len}
 use Rattle.std.proofs.lemmas.Option.{slice_get_within, get_or_from_slice_get}
-use Rattle.std.proofs.lemmas.List.{take_all}
 use Rattle.std.proofs.lemmas.List.Elements.{All-get_or}
 use Rattle.title_land.specs.declared.grid.Grid.{Grid}
 use Rattle.title_land.specs.Places.{side}
@@ -51,10 +50,3 @@ unfolding cells_counted
 counts depth g size =
     sum_same row_count (λ row. count_by (λ column. grid_has g row column) (places depth)) g (side depth) size.0
     (λ row cells h. row_is depth g row cells h (row_long depth g row cells size h))
-
--- the same, of a count that has passed all rows
-pub counts_all : (depth : ℕ) (g : Grid) (n i : ℕ) → IsGrid depth g → n ≡ sum_by row_count (take i g) → side depth ≤ i
-    → n ≡ cells_counted depth (grid_has g)
-counts_all depth g n i size e past =
-    let all : length g ≤ i = omega (arith, size.0) in
-    e ∙ ap (λ (rows : List (List Bool)). sum_by row_count rows) (take_all i g all) ∙ counts depth g size

@@ -12,7 +12,7 @@ use Rattle.std.proofs.lemmas.List.Folds.{list_any_at, Any-from_list_any}
 use Rattle.std.proofs.lemmas.List.FromFn.{length-range_with_len, get_or-range_with_len}
 use Rattle.std.proofs.lemmas.Nat.{pow_pos, one_shl, shl_whole, and_le_r}
 use Rattle.std.proofs.Math.Pow.{ones_lt, high_ones, pow-sub-lt, pow_mono}
-use Rattle.std.proofs.lemmas.Nat.Bits.{bit_at-lt, bit_at-zero, bit_at_and, bit_at_or, bit_at_above, bit_at_mask_below, bit_at_mask_inside}
+use Rattle.std.proofs.lemmas.Nat.Bits.{bit_at-lt, bit_at-zero, bit_at_and, bit_at_or, bit_at_mask_below, bit_at_mask_inside}
 use Rattle.std.proofs.lemmas.Nat.Bits.{bit_at_mask_above, same_from_bits_below}
 use Rattle.std.proofs.lemmas.Simd.{ones-mask_l}
 use Rattle.std.specs.Simd.Lanes.{mask_l}
@@ -35,10 +35,6 @@ set_or a b k = let e = bit_at_or a b k in let i = bit_at-lt a k in let j = bit_a
 
 pub zero_clear : (k : ℕ) → is_set 0 k ≡ false
 zero_clear k = ap (λ (b : ℕ). b == 1) (bit_at-zero k)
-
--- a number of n bits has none past them
-pub clear_past : (n row k : ℕ) → row < 2 ^ n → n ≤ k → is_set row k ≡ false
-clear_past n row k h l = ap (λ (b : ℕ). b == 1) (bit_at_above row n k h l)
 
 bits_same : (a b : ℕ) → a < 2 → b < 2 → (a == 1) ≡ (b == 1) → a ≡ b
 bits_same a b h k e = grind (arith, nat_tests)

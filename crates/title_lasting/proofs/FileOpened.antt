@@ -1,6 +1,6 @@
 -- What the opening of a plant's file finds, and how it fails.
-use Rattle.std.proofs.Common.{◌≡◌, ◌∙◌, ◌≤◌, ◌<◌, ◌^◌, ℕ, Bool, true, false, not, List, [], ◌∷◌, ◌++◌, drop, length, Ok, Err}
-use Rattle.std.proofs.Common.{refl, sym, ap, subst, arith, inl, inr, length-append}
+use Rattle.std.proofs.Common.{◌≡◌, ◌∙◌, ◌≤◌, ℕ, Bool, true, false, not, List, [], ◌∷◌, drop, length, Ok, Err}
+use Rattle.std.proofs.Common.{refl, sym, ap, subst, arith, inl, inr}
 use Rattle.std.specs.List.{AllByRecursion, list_any}
 use Rattle.std.proofs.lemmas.Bool.{and_parts}
 use Rattle.std.proofs.lemmas.List.{length-map}
@@ -35,11 +35,6 @@ use Rattle.title_lasting.proofs.FineBooks.{stands_written}
 use Rattle.title_lasting.proofs.FineRows.{LandsHaveCells}
 
 -- ---- reading
-
--- the blocks are no longer than the file
-pub front_fits : (file : List ℕ) (blocks : List (List ℕ)) (n : ℕ) → file ≡ front blocks ++ drop n file → length file < 2 ^ 63
-    → length (front blocks) < 2 ^ 63
-front_fits file blocks n parts fits = omega (arith, fits, ap length parts, length-append (front blocks) (drop n file))
 
 -- the blocks aren't read
 pub unread : (file : List ℕ) (disk_failed : Bool) (failed : JournalFault) → (failed ≡ journal.Failed → disk_failed ≡ true)

@@ -92,10 +92,6 @@ length_cond : (b : Bool) (x : ℕ) (es : List ℕ) → length (cond b (x ∷ es)
 length_cond true x es = omega arith
 length_cond false x es = omega arith
 
-one_not : (b : Bool) → one_if (not b) + one_if b ≡ 1
-one_not true = refl
-one_not false = refl
-
 -- x: the first is the one left out; r: it is among the rest
 length_cases : (x g r : Bool) (l k : ℕ) → g ≡ x → (x ≡ true → r ≡ false) → l + one_if r ≡ k → (one_if (not x) + l) + one_if (g || r) ≡ suc k
 length_cases true true true l k s h e = absurd (let z = h refl in cc)

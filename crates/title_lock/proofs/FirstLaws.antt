@@ -1,6 +1,6 @@
 -- The least other examiner in the way among the holders of a node, which stand in the order of their numbers.
 use Rattle.std.proofs.Common.{◌≡◌, ◌≢◌, ◌<◌, ◌≤◌, ℕ, Bool, true, false, cond, List, [], ◌∷◌, Option, Some, None, eqb, refl, sym, ap, subst}
-use Rattle.std.proofs.Common.{◌||◌, ◌&&◌, not, is_some, filter, ltb, lt-ltb, le-ltb}
+use Rattle.std.proofs.Common.{◌||◌, ◌&&◌, not, filter, ltb, lt-ltb, le-ltb}
 use Rattle.std.specs.declared.cmp.Ordering.{Ordering}
 use Rattle.std.specs.Ordering.{is_le}
 use Rattle.std.specs.declared.ops.Bound.TheVariants.{Excluded, Unbounded}
@@ -15,10 +15,9 @@ use Rattle.std.specs.Map.{keys_of, lookup}
 use Rattle.std.specs.BTreeMap.{is_at}
 use Rattle.std.specs.List.Sorted.{IsStrictlySortedBy}
 use Rattle.std.proofs.lemmas.Bool.{ne_eqb, eq-eqb, eqb-true, eqb-false, ltb-true, or_left, or_right, or_from, and_parts, true≢false}
-use Rattle.std.proofs.Math.Bool.{or-false}
 use Rattle.title_lock.specs.Overlaps.{IsLeast}
 use Rattle.title_lock.specs.declared.modes.Mode.{Mode}
-use Rattle.title_lock.specs.Holders.{Modes, mode_of_place, holder_mode, clashes, first_way, listed, IsApart}
+use Rattle.title_lock.specs.Holders.{mode_of_place, holder_mode, clashes, first_way}
 
 abbrev Held : Type 0
 Held = List (ℕ × Option Mode)
@@ -181,34 +180,3 @@ first_other (Some p) e m = go (eqb p.0 e) (clashes m p.1) refl
     go true c s = refl
     go false true s = ne_eqb e p.0 (λ h. eqb-false p.0 e s (sym h))
     go false false s = refl
-
-no_mode : (o : Option (Option Mode)) → is_some o ≡ false → mode_of_place o ≡ None
-no_mode None h = refl
-no_mode (Some held) h = absurd (true≢false h)
-
--- the first in the way and those among the others are those in the way among all
-pub listed_either : (first : Option (ℕ × Option Mode)) (h : Modes) (e : ℕ) (m : Mode) → IsApart first h → (f : ℕ) → f ≢ e
-    → either_way (first_way first e m) m h f ≡ in_way m (listed first h) f
-listed_either None h e m apart f o = refl
-listed_either (Some p) h e m apart f o = go (eqb f p.0) refl ∙ sym (way_first m p.0 p.1 h f)
-  where
-    here : (c : Bool) (x : ℕ) → eqb f x ≡ true → is_one (cond c (Some x) None) f ≡ c
-    here true x s = s
-    here false x s = refl
-
-    away : (c : Bool) (x : ℕ) → eqb f x ≡ false → is_one (cond c (Some x) None) f ≡ false
-    away true x s = s
-    away false x s = refl
-
-    go : (t : Bool) → eqb f p.0 ≡ t → either_way (first_way (Some p) e m) m h f ≡ cond (eqb f p.0) (clashes m p.1) (in_way m h f)
-    go true s =
-        let same = eqb-true f p.0 s in
-        ap (λ (b : Bool). is_one (first_way (Some p) e m) f || b)
-        (ap (λ (x : ℕ). in_way m h x) same ∙ ap (clashes m) (no_mode (lookup (is_at (nat_cmp p.0)) h) apart))
-        ∙ or-false (is_one (first_way (Some p) e m) f)
-        ∙ here (not (eqb p.0 e) && clashes m p.1) p.0 s
-        ∙ ap (λ (b : Bool). not b && clashes m p.1) (ne_eqb p.0 e (λ z. o (same ∙ z)))
-        ∙ ap (λ (b : Bool). cond b (clashes m p.1) (in_way m h f)) (sym s)
-    go false s =
-        ap (λ (b : Bool). b || in_way m h f) (away (not (eqb p.0 e) && clashes m p.1) p.0 s)
-        ∙ ap (λ (b : Bool). cond b (clashes m p.1) (in_way m h f)) (sym s)

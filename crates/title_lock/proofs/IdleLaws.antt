@@ -9,7 +9,7 @@ use Rattle.std.specs.BTreeMap.{is_at}
 use Rattle.title_land.specs.declared.node.Node.{Node}
 use Rattle.title_lock.specs.declared.modes.Mode.{Mode}
 use Rattle.title_lock.specs.Modes.{bound}
-use Rattle.title_lock.specs.Holders.{Modes, holder_mode, has_room, idles, is_free, mode_of_place}
+use Rattle.title_lock.specs.Holders.{Modes, holder_mode, has_room, idles, is_free}
 use Rattle.title_lock.specs.Tables.{Placed, is_idle, IdleMore, IdleLess, NoMoreIdle}
 
 -- ---- the holders of one node
@@ -30,14 +30,6 @@ room_used (p ∷ h) e room = ne_eqb (length (p ∷ h)) 0 (λ none. omega arith)
 pub rooms_used : (h g : Modes) → ((e : ℕ) → has_room h e ≡ true → has_room g e ≡ true) → is_free h ≡ false → is_free g ≡ false
 rooms_used [] g keeps used = absurd (true≢false used)
 rooms_used (p ∷ h) g keeps used = room_used g p.0 (keeps p.0 (first_room p h))
-
--- who has a mode has room
-pub mode_room : (h : Modes) (e : ℕ) → is_some (holder_mode h e) ≡ true → has_room h e ≡ true
-mode_room h e some = go (lookup (is_at (nat_cmp e)) h) some
-  where
-    go : (o : Option (Option Mode)) → is_some (mode_of_place o) ≡ true → is_some o ≡ true
-    go None s = absurd (true≢false (sym s))
-    go (Some r) s = refl
 
 -- who gets room may be idle, and nobody else is but who was
 pub idles_more : (h g : Modes) (f e : ℕ) → holder_mode g f ≡ holder_mode h f → (f ≢ e → has_room g f ≡ has_room h f) → idles g f ≡ true
@@ -171,16 +163,4 @@ fewer false b h = h
 pub less_more : (t u v : Placed) (e : ℕ) (asks : Node → Bool) → NoMoreIdle t u → IdleLess u v e asks → NoMoreIdle t v
 less_more t u v e asks first then = record {
   same = λ f n idle. first.same f n (fewer (is_idle u f n) (eqb f e && asks n) (sym (then.less f n) ∙ idle));
-}
-
-one_undone : (i j a : Bool) → (i ≡ true → (j || a) ≡ true) → (i && not a) ≡ true → j ≡ true
-one_undone true true a h g = refl
-one_undone true false true h g = absurd (true≢false (sym g))
-one_undone true false false h g = h refl
-one_undone false j a h g = absurd (true≢false (sym g))
-
--- who may have become idle by a test, and then isn't by the same, was idle before
-pub more_undone : {t u v : Placed} {e : ℕ} {asks : Node → Bool} → IdleMore t u e asks → IdleLess u v e asks → NoMoreIdle t v
-more_undone {t = t} {u = u} {v = v} {e = e} {asks = asks} first then = record {
-  same = λ f n idle. one_undone (is_idle u f n) (is_idle t f n) (eqb f e && asks n) (first.more f n) (sym (then.less f n) ∙ idle);
 }

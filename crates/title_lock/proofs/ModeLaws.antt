@@ -1,5 +1,5 @@
 -- The finite laws of the tables.
-use Rattle.std.proofs.Common.{◌≡◌, ◌∙◌, Bool, true, false, cond, ◌&&◌, ◌||◌, Option, Some, None, refl, sym, ap}
+use Rattle.std.proofs.Common.{◌≡◌, Bool, true, false, ◌&&◌, Option, Some, None, refl, sym, ap}
 use Rattle.std.proofs.lemmas.Bool.{and_parts}
 use Rattle.title_lock.specs.declared.modes.Mode.{Mode}
 use Rattle.title_lock.specs.declared.modes.Mode.TheVariants.{Is, Ix, S, Six, X}
@@ -114,17 +114,6 @@ bound_turn None None = refl
 bound_turn None (Some b) = refl
 bound_turn (Some a) None = refl
 bound_turn (Some a) (Some b) = ap Some (sup_turn a b)
-
--- a mode that is given where it may be given already
-pub bound_given : (m : Mode) (more before : Bool) → cond (more || before) (Some m) None
-    ≡ bound (cond before (Some m) None) (cond more (Some m) None)
-bound_given m true true = ap Some (sym (sup_self m))
-bound_given m true false = refl
-bound_given m false before = sym (bound_none (cond before (Some m) None))
-
--- what is joined to a part of a bound is joined to the whole
-pub bound_left : (a b c : Option Mode) → bound (bound a c) b ≡ bound (bound a b) c
-bound_left a b c = bound_assoc a c b ∙ ap (bound a) (bound_turn c b) ∙ sym (bound_assoc a b c)
 
 pub bound_right : (a b c : Option Mode) → bound a (bound b c) ≡ bound (bound a b) c
 bound_right a b c = sym (bound_assoc a b c)

@@ -27,10 +27,6 @@ bare_none : (es : List (ℕ × Modes)) (k : ℕ) → eqb (length es) 0 ≡ true 
 bare_none [] k h = refl
 bare_none (e ∷ es) k h = absurd (true≢false (sym h ∙ ne_eqb (length (e ∷ es)) 0 (λ none. omega arith)))
 
--- a bare shelf has no place
-pub bare_nowhere : (s : Shelf) → is_bare s ≡ true → (n : Node) → on_shelf s n ≡ None
-bare_nowhere s h n = bare_none s.places.entries (node_number n) h
-
 -- where there is a place a shelf isn't bare
 pub found_stocked : (s : Shelf) (k : ℕ) (h : Modes) → get nat_cmp s.places k ≡ Some h → is_bare s ≡ false
 found_stocked s k h is = false_from_ne_true (is_bare s) (λ bare. none_some (sym (bare_none s.places.entries k bare) ∙ is))

@@ -8,3 +8,4 @@ pub mod Ends
 pub mod Crossing
 pub mod Faults
 mod Fronts
+mod Denials

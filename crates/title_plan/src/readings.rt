@@ -9,6 +9,7 @@ use std::alloc::{AllocError, Global};
 use std::collections::BTreeMap;
 use std::hash::{BuildHasher, BuildHasherDefault, FoldHasher};
 use title_aliquot::DescFault;
+use title_aliquot::describe::LONGEST;
 use title_land::Tract;
 
 // The slots of readings, and the places of each.
@@ -18,9 +19,6 @@ const PLACES: usize = 8;
 
 // The places of hashes that were seen.
 const SEEN: u64 = 4_096;
-
-// The most bytes of one that is kept; a longer text is none, which is seen at once.
-const LONGEST_KEPT: usize = 1_000;
 
 // What a description says, once more, which shares the tract; `None` where it may not be shared.
 fn copied(alloc: Global, said: &Result<Tract, DescFault>) -> Option<Result<Tract, DescFault>>
@@ -201,7 +199,8 @@ impl Readings {
     pub fn read(&mut self, text: &str) -> Result<Result<Tract, DescFault>, AllocError>
         ensures said { IfOk result (λ said. said ≡ land_in text.now) }
     {
-        if !self.keeps || text.len() > LONGEST_KEPT {
+        // a longer text describes nothing, which is seen at once
+        if !self.keeps || text.len() > LONGEST {
             return read_tract(self.alloc, text);
         }
         let hash = self.hashers.hash_one(text);

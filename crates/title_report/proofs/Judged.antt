@@ -1,11 +1,10 @@
 -- Words of bits, one for each name.
-use Rattle.std.proofs.Common.{◌≡◌, ◌∙◌, ◌≢◌, ◌<◌, ◌≤◌, ◌+◌, ◌*◌, ◌/◌, ◌%◌, ◌^◌, ◌++◌, ◌∷◌, [], ℕ, List, Bool, true, false}
+use Rattle.std.proofs.Common.{◌≡◌, ◌∙◌, ◌≢◌, ◌<◌, ◌≤◌, ◌+◌, ◌*◌, ◌%◌, ◌^◌, ◌++◌, ◌∷◌, [], ℕ, List, Bool, true, false}
 use Rattle.std.proofs.Common.{inl, inr, ap, arith, below_more, drop, get_or, length, refl, subst, sym}
 use Rattle.std.specs.Prelude.{◌==◌, bit_or, max}
 use Rattle.std.specs.Int.{bit_at, from_bool, w64}
 use Rattle.std.proofs.lemmas.Bool.{cases_lt}
-use Rattle.std.proofs.lemmas.List.{get_or-drop, get_or_append_left, get_or_past, get_or_push, length_push}
-use Rattle.std.proofs.lemmas.Nat.{div-add-mod', mod_below}
+use Rattle.std.proofs.lemmas.List.{get_or_append_left, get_or_past, get_or_push, length_push}
 use Rattle.std.proofs.lemmas.Nat.Bits.{bit_at-zero, bit_at_or, bit_at_set_other, bit_at_set_same}
 use Rattle.csv.specs.Writing.{needs_quotes}
 use Rattle.title_page.specs.Rows.{row_writer}
@@ -66,12 +65,3 @@ one_word_more names words word h is k lt =
     (λ k l. subst (λ (w : ℕ). IsJudged (drop (k * 64) names) w) (sym (get_or_append_left words (word ∷ []) 0 k l)) (h k l))
     (subst (λ (w : ℕ). IsJudged (drop (length words * 64) names) w) (sym (get_or_push words word 0 (length words) refl)) is)
     k (omega (arith, lt, length_push words word))
-
--- what the words know of a party's name
-pub bit_of_party : (names : List (List ℕ)) (words : List ℕ) (party : ℕ) (name : List ℕ) → AreJudged names words
-    → party / 64 < length words → name ≡ name_of names party
-    → (bit_at (get_or words (party / 64) 0) (party % 64) == 1) ≡ needs_quotes row_writer name
-bit_of_party names words party name h lt is =
-    h (party / 64) lt (party % 64) (mod_below party 64 (omega arith))
-    ∙ ap (λ (n : List ℕ). needs_quotes row_writer n)
-    (get_or-drop (party / 64 * 64) names (party % 64) [] ∙ ap (λ (i : ℕ). get_or names i []) (div-add-mod' party 64) ∙ sym is)

@@ -8,7 +8,6 @@ use Rattle.std.specs.Fmt.{decimal}
 use Rattle.std.specs.Str.Parse.{AllDigits}
 use Rattle.csv.specs.Writing.{field_text, needs_quotes}
 use Rattle.csv.specs.Quoting.{needs_byte}
-use Rattle.title_share.specs.Share.{share_text}
 use Rattle.title_land.specs.declared.place.Township.{Township}
 use Rattle.title_land.specs.declared.place.Section.{Section}
 use Rattle.title_land.specs.declared.rectangle.Quarter.{Quarter}
@@ -101,12 +100,6 @@ plain_node (node.Part s w) = both_plain (section_text s) (path_text w) (plain_se
 -- a node's text is its own field
 pub node_field : (n : Node) → field_text row_writer (node_text n) ≡ node_text n
 node_field n = plain_field (node_text n) (plain_node n)
-
--- a share's text is its own field
-pub share_field : (units a b : ℕ) → share_text units ≡ decimal a ++ 47 ∷ decimal b → a < 2 ^ 64 → b < 2 ^ 64
-    → field_text row_writer (share_text units) ≡ share_text units
-share_field units a b text p q =
-    rw text (plain_field (decimal a ++ 47 ∷ decimal b) (both_plain (decimal a) (47 ∷ decimal b) (plain_number a p) (plain_number b q)))
 
 -- a number is its own field
 pub number_field : (n : ℕ) (text : List ℕ) → n < 2 ^ 64 → text ≡ decimal n → field_text row_writer (decimal n) ≡ text

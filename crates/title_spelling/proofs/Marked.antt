@@ -25,10 +25,6 @@ lesser a b h = grind (arith, nat_tests)
 greater : (a b : ℕ) → b ≤ a → nat_lt a b ≡ false
 greater a b h = grind (arith, nat_tests)
 
--- of no cells, no set has one
-pub first_none : (test : ℕ → ℕ → Bool) (g : Grid) → ((row column : ℕ) → grid_has g row column ≡ false) → HasFirst test 0 g
-first_none test g none row column r c = rw (greater (row * 16 + column) 0 (omega arith)) (none row column)
-
 -- before a further place stands what stood before, and the place itself
 same_before : (a n : ℕ) → (a ≡ n → ⊥) → nat_lt a n ≡ nat_lt a (n + 1)
 same_before a n h = grind (arith, nat_tests)
