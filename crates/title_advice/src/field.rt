@@ -113,9 +113,9 @@ fn judge_quantum(text: &str) -> Result<(), Wanted> {
     Err(Wanted::Quantum)
 }
 
-// The place of the estate whose letter an item of a reserve begins with.
+// The index of the estate whose letter an item of a reserve begins with.
 fn judge_item(item: &str) -> Result<usize, Wanted> {
-    let (place, share) = if let Some(share) = item.strip_prefix('S') {
+    let (index, share) = if let Some(share) = item.strip_prefix('S') {
         (0, share)
     } else if let Some(share) = item.strip_prefix('O') {
         (1, share)
@@ -125,7 +125,7 @@ fn judge_item(item: &str) -> Result<usize, Wanted> {
         return Err(Wanted::Reserve);
     };
     judge_share(share)?;
-    Ok(place)
+    Ok(index)
 }
 
 fn judge_reserve(text: &str) -> Result<(), Wanted> {
@@ -134,9 +134,9 @@ fn judge_reserve(text: &str) -> Result<(), Wanted> {
     }
     let mut seen = [false; 3];
     for item in text.split(';') {
-        let place = judge_item(item)?;
-        match seen.get(place) {
-            Some(false) => seen[place] = true,
+        let index = judge_item(item)?;
+        match seen.get(index) {
+            Some(false) => seen[index] = true,
             _ => return Err(Wanted::EstateOnce),
         }
     }

@@ -18,10 +18,10 @@ enum StepFault {
     Field(usize, Field, Wanted),
 }
 
-fn judge_field(row: &StringRecord, place: usize, name: Field) -> Result<(), StepFault> {
-    match name.judge(field(row, place)) {
+fn judge_field(row: &StringRecord, index: usize, name: Field) -> Result<(), StepFault> {
+    match name.judge(field(row, index)) {
         Ok(()) => Ok(()),
-        Err(wanted) => Err(StepFault::Field(place, name, wanted)),
+        Err(wanted) => Err(StepFault::Field(index, name, wanted)),
     }
 }
 
@@ -114,8 +114,8 @@ fn step_advice(script: &Script<'_>, row: &StringRecord) -> Result<String, AllocE
     match judge_step(row) {
         Err(StepFault::Word) => word_advice(script, row),
         Err(StepFault::Fields(word)) => fields_advice(script, row, word),
-        Err(StepFault::Field(place, name, wanted)) => {
-            let text = Quoted(field(row, place));
+        Err(StepFault::Field(index, name, wanted)) => {
+            let text = Quoted(field(row, index));
             format!(in script.alloc; "{name} is {text}; {wanted}")
         }
         Ok(()) => office_advice(script, row),

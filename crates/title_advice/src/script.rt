@@ -35,13 +35,13 @@ pub(crate) struct Found {
 }
 
 // The field of a row, empty where it has fewer.
-pub(crate) fn field(row: &StringRecord, place: usize) -> &str {
-    row.get(place).unwrap_or("")
+pub(crate) fn field(row: &StringRecord, index: usize) -> &str {
+    row.get(index).unwrap_or("")
 }
 
 // Whether a row has this field.
-fn has(row: &ByteRecord, place: usize, text: &str) -> bool {
-    match row.get(place) {
+fn has(row: &ByteRecord, index: usize, text: &str) -> bool {
+    match row.get(index) {
         Some(field) => field == text.as_bytes(),
         None => false,
     }

@@ -33,7 +33,7 @@ area_next depth r shapes before none after alone inside is empty e k o =
 
 -- ---- one more entry
 
--- the entries from some place on: what is left of the section for the steps before the first part, and the area of the parts
+-- the entries from some index on: what is left of the section for the steps before the first part, and the area of the parts
 pub record Walked (depth : ℕ) (es : List Entry) (shape : Rectangle) (a : Area) : Type 0 where
   pub shape_is : part_of depth (leading es) ≡ Some shape
   pub inside : InSection depth shape

@@ -14,8 +14,8 @@ use Rattle.std.proofs.lemmas.Str.Ascii.{IsAscii-nil}
 use Rattle.title_land.specs.declared.rectangle.Quarter.{Quarter}
 use Rattle.title_land.specs.declared.rectangle.Quarter.TheVariants.{Northeast, Northwest, Southwest, Southeast}
 use Rattle.title_land.specs.declared.rectangle.Step.{Step}
-use Rattle.title_land.specs.declared.place.Township.{Township}
-use Rattle.title_land.specs.declared.place.Section.{Section}
+use Rattle.title_land.specs.declared.survey.Township.{Township}
+use Rattle.title_land.specs.declared.survey.Section.{Section}
 use Rattle.title_land.specs.declared.node.Node.{Node}
 use Rattle.title_land.specs.declared.node.Node.TheVariants as node
 use Rattle.title_land.specs.Depth.{depth}
@@ -23,8 +23,8 @@ use Rattle.title_land.specs.Nodes.{IsNode}
 use Rattle.title_land.specs.Laws.PathNumbers.{depth_fits}
 use Rattle.title_land.specs.Texts.{township_text, section_text, quarter_text, quarters_text, path_text, node_text}
 use Rattle.title_grammar.specs.Language.{Gives, ◌<|>◌}
-use Rattle.title_aliquot.specs.Grammar.{Syntax, Everything, SectionSyntax, Description, PlaceText, TownshipText, RangeText, SectionText}
-use Rattle.title_aliquot.specs.Grammar.{SectionParts, section_of, place_of}
+use Rattle.title_aliquot.specs.Grammar.{Syntax, Everything, SectionSyntax, Description, LandText, TownshipText, RangeText, SectionText}
+use Rattle.title_aliquot.specs.Grammar.{SectionParts, section_of, syntax_of}
 use Rattle.title_aliquot.specs.Letters.{letters}
 use Rattle.title_aliquot.specs.Describes.{Says}
 use Rattle.title_aliquot.proofs.Spellings.{letters-append, number_spelled, number_letters, path_spelling, path_letters, parts_spelled}
@@ -168,9 +168,9 @@ section_spelled n p l =
       ),
     )
 
-place_spelled : (n : ℕ) (north : Bool) (r : ℕ) (east : Bool) (s : Option SectionSyntax) (x : List ℕ) → n < 100 → r < 100 → SectionText s x →
-    PlaceText (place_of (n, north) ((r, east), s)) (township_spelling n north ++ (range_spelling r east ++ x))
-place_spelled n north r east s x l m h = (
+land_spelled : (n : ℕ) (north : Bool) (r : ℕ) (east : Bool) (s : Option SectionSyntax) (x : List ℕ) → n < 100 → r < 100 → SectionText s x →
+    LandText (syntax_of (n, north) ((r, east), s)) (township_spelling n north ++ (range_spelling r east ++ x))
+land_spelled n north r east s x l m h = (
   (n, north),
   ((r, east), s),
   township_spelling n north,
@@ -194,9 +194,9 @@ place_spelled n north r east s x l m h = (
 
 abbrev pub node_syntax : Node → Syntax
 node_syntax node.Everything = Everything
-node_syntax (node.Township t) = place_of (t.number, t.north) ((t.range, t.east), None)
+node_syntax (node.Township t) = syntax_of (t.number, t.north) ((t.range, t.east), None)
 node_syntax (node.Part s w) =
-    place_of (s.township.number, s.township.north) ((s.township.range, s.township.east), section_of s.number (parts_named w))
+    syntax_of (s.township.number, s.township.north) ((s.township.range, s.township.east), section_of s.number (parts_named w))
 
 node_spelled : (n : Node) → Description (node_syntax n) (letters (node_text n))
 unfolding Description
@@ -206,15 +206,15 @@ node_spelled (node.Township t) =
     let r : t.range < 100 = omega arith in
     let e = township_letters t ∙ ap (λ (z : List ℕ). township_spelling t.number t.north ++ z)
     (sym (append-nil (range_spelling t.range t.east))) in
-    inr (subst (λ (z : List ℕ). PlaceText (node_syntax (node.Township t)) z) (sym e)
-    (place_spelled t.number t.north t.range t.east None [] n r (inr (refl, refl))))
+    inr (subst (λ (z : List ℕ). LandText (node_syntax (node.Township t)) z) (sym e)
+    (land_spelled t.number t.north t.range t.east None [] n r (inr (refl, refl))))
 node_spelled (node.Part s w) =
     let n : s.township.number < 100 = omega arith in
     let r : s.township.range < 100 = omega arith in
     let m : s.number < 100 = omega arith in
     let t = s.township in
-    inr (subst (λ (z : List ℕ). PlaceText (node_syntax (node.Part s w)) z) (sym (part_letters s w))
-    (place_spelled t.number t.north t.range t.east (section_of s.number (parts_named w)) (section_spelling s.number w) n r
+    inr (subst (λ (z : List ℕ). LandText (node_syntax (node.Part s w)) z) (sym (part_letters s w))
+    (land_spelled t.number t.north t.range t.east (section_of s.number (parts_named w)) (section_spelling s.number w) n r
     (section_spelled s.number w m)))
 
 -- ---- its bytes are ASCII, and few

@@ -112,15 +112,15 @@ cut_text bs i at u e =
     let good = scalars_parts k.front k.back (ap scalars (sym k.whole) ∙ scalars-chars bs u) in
     let whole : bs ≡ encode_utf8_all k.front ++ encode_utf8_all k.back =
     sym (encodes-chars bs u) ∙ ap (λ (cs : List ℕ). encode_utf8_all cs) k.whole ∙ encodes-append k.front k.back in
-    let place : at ≡ length (encode_utf8_all k.front) = e ∙ k.at in
+    let located : at ≡ length (encode_utf8_all k.front) = e ∙ k.at in
     let front : take at bs ≡ encode_utf8_all k.front =
-    ap (λ (n : ℕ). take n bs) place ∙ ap (λ (z : List ℕ). take (length (encode_utf8_all k.front)) z) whole
+    ap (λ (n : ℕ). take n bs) located ∙ ap (λ (z : List ℕ). take (length (encode_utf8_all k.front)) z) whole
     ∙ take-append_seam (encode_utf8_all k.front) (encode_utf8_all k.back) in
     let back : drop at bs ≡ encode_utf8_all k.back =
-    ap (λ (n : ℕ). drop n bs) place ∙ ap (λ (z : List ℕ). drop (length (encode_utf8_all k.front)) z) whole
+    ap (λ (n : ℕ). drop n bs) located ∙ ap (λ (z : List ℕ). drop (length (encode_utf8_all k.front)) z) whole
     ∙ drop-append_seam (encode_utf8_all k.front) (encode_utf8_all k.back) in
     record {
-      boundary = subst (λ (n : ℕ). IsCharBoundary bs n) (sym place)
+      boundary = subst (λ (n : ℕ). IsCharBoundary bs n) (sym located)
           (IsCharBoundary-at_seam bs (encode_utf8_all k.front) (encode_utf8_all k.back) whole (k.back, (good.1, refl)));
       before = ap (λ (z : List ℕ). letters (chars z)) front ∙ ap letters (chars-encodes k.front good.0) ∙ k.before;
       after = ap (λ (z : List ℕ). letters (chars z)) back ∙ ap letters (chars-encodes k.back good.1) ∙ k.after;

@@ -6,10 +6,10 @@ use Rattle.std.specs.List.{cons_option}
 use Rattle.std.proofs.lemmas.Bool.{and_parts}
 use Rattle.title_land.specs.declared.rectangle.Step.{Step}
 use Rattle.title_land.specs.declared.rectangle.Rectangle.{Rectangle}
-use Rattle.title_land.specs.declared.place.Township.{Township}
+use Rattle.title_land.specs.declared.survey.Township.{Township}
 use Rattle.title_land.specs.declared.tract.Land.{Land}
 use Rattle.title_land.specs.declared.tract.Land.TheVariants as land
-use Rattle.title_land.specs.Places.{side}
+use Rattle.title_land.specs.Survey.{side}
 use Rattle.title_land.specs.Rectangles.{part_of, holds, SharesCell}
 use Rattle.title_land.specs.Grids.{grid_has, grid_of}
 use Rattle.title_land.specs.Doubled.{double, doubled}
@@ -18,7 +18,7 @@ use Rattle.title_land.specs.Laws.PartsDoubled.{part_double, two_pow}
 use Rattle.title_land.specs.Laws.SquaresDoubled.{holds_double}
 use Rattle.title_land.specs.Laws.CoversDoubled.{grid_same}
 use Rattle.title_aliquot.specs.declared.fault.DescFault.TheVariants as fault
-use Rattle.title_aliquot.specs.Grammar.{Syntax, Everything, InPlace, SectionSyntax}
+use Rattle.title_aliquot.specs.Grammar.{Syntax, Everything, InTownship, SectionSyntax}
 use Rattle.title_aliquot.specs.Meaning.{section_parts, parts_of, parts_exist, rectangles, SharesCellWithOne, Overlap, union, IsLandIn}
 use Rattle.title_aliquot.specs.Meaning.{IsLandOf, StandsFor, IsOverlapping}
 use Rattle.title_aliquot.specs.DepthLaws.{LandDoubles, FaultStays}
@@ -116,7 +116,7 @@ land_in d t (Some s) l h k = (k.0, k.1, ap (doubled d) k.2 ∙ ap (land.Part k.0
 land_of : (d : ℕ) (s : Syntax) (l : Land) → PartsDouble d (parts_of s) → IsLandOf d s l → IsLandOf (suc d) s (doubled d l)
 unfolding doubled
 land_of d Everything l h k = ap (doubled d) k
-land_of d (InPlace p) l h k =
+land_of d (InTownship p) l h k =
     (k.0, k.1, land_in d k.0 p.section l (λ x e. subst (λ (o : Option SectionSyntax). PartsDouble d (section_parts o)) e h) k.2)
 
 stands : (d : ℕ) (s : Syntax) (l : Land) → StandsFor d s l → StandsFor (suc d) s (doubled d l)

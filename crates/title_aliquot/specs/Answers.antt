@@ -12,7 +12,7 @@ use Rattle.title_aliquot.specs.Grammar.{Syntax, Description}
 use Rattle.title_aliquot.specs.Meaning.{IsOutOfRange, IsTooSmall, IsOverlapping, parts_exist, rectangles, Overlap}
 use Rattle.title_aliquot.specs.Views.{words_view}
 
--- the place of the first letter that no text of the grammar has there, or want of memory
+-- the index of the first letter that no text of the grammar has there, or want of memory
 abbrev pub Refused : Unread → List ℕ → Type 0
 Refused (unread.Letter i) s = (i ≤ length s) × FaultAt Description (take i s) (drop i s)
 Refused unread.Memory s = Unit {0}

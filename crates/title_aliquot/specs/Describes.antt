@@ -25,7 +25,7 @@ Describes depth text l = (s : Syntax) × Says text s × StandsFor depth s l
 -- ---- faults
 
 -- A step may begin after the letters p: the text n1/2, which is a step wherever the grammar has it, may stand there. Steps
--- all stand at the same places, so one of them tells.
+-- all stand at the same letters, so one of them tells.
 abbrev pub StepMayBegin : List ℕ → Type 0
 StepMayBegin p = Begins Description (p ++ codes "n1/2")
 

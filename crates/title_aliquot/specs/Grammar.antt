@@ -16,7 +16,7 @@ pub record SectionSyntax : Type 0 where
   pub parts : List (List Step)
 
 -- a township, and a section of it where one is named
-pub record PlaceSyntax : Type 0 where
+pub record LandSyntax : Type 0 where
   pub township : ℕ
   pub north : Bool
   pub range : ℕ
@@ -26,7 +26,7 @@ pub record PlaceSyntax : Type 0 where
 -- what a text says
 pub data Syntax : Type 0 where
   Everything : Syntax
-  InPlace : PlaceSyntax → Syntax
+  InTownship : LandSyntax → Syntax
 
 -- ---- the grammar
 
@@ -110,14 +110,14 @@ section_of n ps = Some (record { number = n; parts = ps })
 abbrev pub SectionText : Language (Option SectionSyntax)
 SectionText = (Maybe (Word (codes ",")) *> Then section_of SectionNumber SectionParts) <|> Gives None []
 
--- a place, from its township, its range and its section
-abbrev pub place_of : (ℕ × Bool) → ((ℕ × Bool) × Option SectionSyntax) → Syntax
-place_of t r = InPlace (record { township = t.0; north = t.1; range = r.0.0; east = r.0.1; section = r.1 })
+-- land, from its township, its range and its section
+abbrev pub syntax_of : (ℕ × Bool) → ((ℕ × Bool) × Option SectionSyntax) → Syntax
+syntax_of t r = InTownship (record { township = t.0; north = t.1; range = r.0.0; east = r.0.1; section = r.1 })
 
 -- place = twp ["," | "-"] rng [ [","] sec [ ["," | ":"] parts ] ]
-abbrev pub PlaceText : Language Syntax
-PlaceText = Then place_of TownshipText ((Word (codes ",") <|> Word (codes "-") <|> Word []) *> Then (λ r s. (r, s)) RangeText SectionText)
+abbrev pub LandText : Language Syntax
+LandText = Then syntax_of TownshipText ((Word (codes ",") <|> Word (codes "-") <|> Word []) *> Then (λ r s. (r, s)) RangeText SectionText)
 
 -- text = "everything" | place
 unfoldable pub Description : Language Syntax
-Description = Gives Everything (codes "everything") <|> PlaceText
+Description = Gives Everything (codes "everything") <|> LandText

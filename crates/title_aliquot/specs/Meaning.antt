@@ -4,14 +4,14 @@ use Rattle.std.specs.Option.{is_some}
 use Rattle.std.specs.List.{list_any, list_all, filter_map}
 use Rattle.title_land.specs.declared.rectangle.Step.{Step}
 use Rattle.title_land.specs.declared.rectangle.Rectangle.{Rectangle}
-use Rattle.title_land.specs.declared.place.Township.{Township}
-use Rattle.title_land.specs.declared.place.Section.{Section}
+use Rattle.title_land.specs.declared.survey.Township.{Township}
+use Rattle.title_land.specs.declared.survey.Section.{Section}
 use Rattle.title_land.specs.declared.tract.Land.{Land}
 use Rattle.title_land.specs.declared.tract.Land.TheVariants as land
-use Rattle.title_land.specs.Places.{IsTownshipNumber, IsTownship, IsSectionNumber, IsSection}
+use Rattle.title_land.specs.Survey.{IsTownshipNumber, IsTownship, IsSectionNumber, IsSection}
 use Rattle.title_land.specs.Rectangles.{part_of, holds, SharesCell}
 use Rattle.title_land.specs.Grids.{grid_of}
-use Rattle.title_aliquot.specs.Grammar.{Syntax, Everything, InPlace, SectionSyntax}
+use Rattle.title_aliquot.specs.Grammar.{Syntax, Everything, InTownship, SectionSyntax}
 
 -- ---- numbers
 
@@ -23,7 +23,7 @@ SectionIsNumbered (Some s) = IsSectionNumber s.number
 -- township and range numbers are 1 to 99, and a section's number is 1 to 36
 abbrev pub IsNumbered : Syntax → Type 0
 IsNumbered Everything = Unit {0}
-IsNumbered (InPlace p) = IsTownshipNumber p.township × IsTownshipNumber p.range × SectionIsNumbered p.section
+IsNumbered (InTownship p) = IsTownshipNumber p.township × IsTownshipNumber p.range × SectionIsNumbered p.section
 
 -- ---- parts
 
@@ -34,7 +34,7 @@ section_parts (Some s) = s.parts
 
 abbrev pub parts_of : Syntax → List (List Step)
 parts_of Everything = []
-parts_of (InPlace p) = section_parts p.section
+parts_of (InTownship p) = section_parts p.section
 
 -- no step of a part halves a side of one cell
 abbrev pub parts_exist : ℕ → List (List Step) → Bool
@@ -69,7 +69,7 @@ IsLandIn depth t (Some s) l =
 -- the land is every cell, or the land in the township with these numbers
 abbrev pub IsLandOf : ℕ → Syntax → Land → Type 0
 IsLandOf depth Everything l = l ≡ land.Everything
-IsLandOf depth (InPlace p) l =
+IsLandOf depth (InTownship p) l =
     (t : Township) × IsTownship p.township p.north p.range p.east t × IsLandIn depth t p.section l
 
 -- the numbers fit, each part exists, no two share a cell, and the land is the one that they name

@@ -9,7 +9,7 @@ use Rattle.title_land.specs.declared.rectangle.Half.{Half}
 use Rattle.title_land.specs.declared.rectangle.Half.TheVariants.{North, South, East, West}
 use Rattle.title_land.specs.declared.rectangle.Step.{Step}
 use Rattle.title_land.specs.declared.rectangle.Step.TheVariants as step
-use Rattle.title_aliquot.specs.Grammar.{digits, decimal, quarter_sign, half_sign, SectionSyntax, Syntax, Everything, section_of, place_of}
+use Rattle.title_aliquot.specs.Grammar.{digits, decimal, quarter_sign, half_sign, SectionSyntax, Syntax, Everything, section_of, syntax_of}
 use Rattle.title_aliquot.specs.Grammar.{whole_section}
 
 unfoldable pub number_at : List ℕ → Read ℕ
@@ -73,11 +73,11 @@ section_at s =
     or_at (codes ",s") (behind (maybe_at (codes ",") (word_at (codes ","))) (then_at section_of section_number_at section_parts_at))
     (gives_at None []) s
 
-unfoldable pub place_at : List ℕ → Read Syntax
-place_at s =
-    then_at place_of township_at
+unfoldable pub land_at : List ℕ → Read Syntax
+land_at s =
+    then_at syntax_of township_at
     (behind (or_at (codes ",") (word_at (codes ",")) (maybe_at (codes "-") (word_at (codes "-"))))
     (then_at (λ r s. (r, s)) range_at section_at)) s
 
 unfoldable pub description_at : List ℕ → Read Syntax
-description_at s = or_at (codes "e") (gives_at Everything (codes "everything")) place_at s
+description_at s = or_at (codes "e") (gives_at Everything (codes "everything")) land_at s

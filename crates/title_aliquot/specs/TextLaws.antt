@@ -5,7 +5,7 @@ use Rattle.title_land.specs.declared.tract.Land.{Land}
 use Rattle.title_land.specs.declared.node.Node.{Node}
 use Rattle.title_land.specs.Texts.{node_text}
 use Rattle.title_land.specs.Lands.{cover_of}
-use Rattle.title_land.specs.Places.{side}
+use Rattle.title_land.specs.Survey.{side}
 use Rattle.title_land.specs.Nodes.{IsNode}
 use Rattle.title_land.specs.Grids.{grid_has, grid_of}
 use Rattle.title_aliquot.specs.declared.fault.DescFault.{DescFault}

@@ -1,18 +1,18 @@
 -- What the words that were read say, without where they lie in memory.
 use Rattle.std.specs.Option.{option_map}
 use Rattle.title_aliquot.specs.declared.syntax.SectionWords.{SectionWords}
-use Rattle.title_aliquot.specs.declared.syntax.PlaceWords.{PlaceWords}
+use Rattle.title_aliquot.specs.declared.syntax.LandWords.{LandWords}
 use Rattle.title_aliquot.specs.declared.syntax.Words.{Words}
 use Rattle.title_aliquot.specs.declared.syntax.Words.TheVariants as words
-use Rattle.title_aliquot.specs.Grammar.{SectionSyntax, PlaceSyntax, Syntax, Everything, InPlace}
+use Rattle.title_aliquot.specs.Grammar.{SectionSyntax, LandSyntax, Syntax, Everything, InTownship}
 
 abbrev pub section_view : SectionWords → SectionSyntax
 section_view s = record { number = s.number; parts = s.parts }
 
-abbrev pub place_view : PlaceWords → PlaceSyntax
-place_view d =
+abbrev pub land_view : LandWords → LandSyntax
+land_view d =
     record { township = d.township; north = d.north; range = d.range; east = d.east; section = option_map section_view d.section }
 
 abbrev pub words_view : Words → Syntax
 words_view words.Everything = Everything
-words_view (words.Place p) = InPlace (place_view p)
+words_view (words.Land p) = InTownship (land_view p)

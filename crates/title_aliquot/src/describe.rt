@@ -29,7 +29,7 @@ pub const LONGEST: usize = 1000;
 /// Why letters say nothing.
 #[derive(Clone, Copy, Debug, PartialEq, Eq, Drop)]
 pub enum Unread {
-    /// The place of the first letter that can't stand there.
+    /// The index of the first letter that can't stand there.
     Letter(usize),
     Memory,
 }
@@ -65,12 +65,12 @@ fn step_may_begin(alloc: Global, before: &str) -> Result<bool, DescFault>
     }
 }
 
-/// Whether the letters after this place go on with the word lot, and a step may begin there.
-fn is_lot(alloc: Global, text: &str, place: usize) -> Result<bool, DescFault>
-    ensures lot { IfOk result (λ lot. Decides lot (IsLot (take place (letters (chars text.now))) (drop place (letters (chars text.now))))) }
+/// Whether the letters after this index go on with the word lot, and a step may begin there.
+fn is_lot(alloc: Global, text: &str, index: usize) -> Result<bool, DescFault>
+    ensures lot { IfOk result (λ lot. Decides lot (IsLot (take index (letters (chars text.now))) (drop index (letters (chars text.now))))) }
     ensures memory { IfErr result (λ e. e ≡ fault.Memory) }
 {
-    let (before, after) = split_at_letter(text, place);
+    let (before, after) = split_at_letter(text, index);
     match Reader::new(after).word("lot") {
         Ok(()) => step_may_begin(alloc, before),
         Err(Stop::Stuck) => Ok(false),
@@ -86,15 +86,15 @@ fn words_of(alloc: Global, text: &str) -> Result<Words, DescFault>
     if text.len() > LONGEST {
         return Err(DescFault::BadText(LONGEST));
     }
-    let place = match read_letters(alloc, text) {
+    let index = match read_letters(alloc, text) {
         Ok(words) => return Ok(words),
-        Err(Unread::Letter(place)) => place,
+        Err(Unread::Letter(index)) => index,
         Err(Unread::Memory) => return Err(DescFault::Memory),
     };
-    if is_lot(alloc, text, place)? {
+    if is_lot(alloc, text, index)? {
         return Err(DescFault::Lots);
     }
-    Err(DescFault::BadText(offset_of(text, place)))
+    Err(DescFault::BadText(offset_of(text, index)))
 }
 
 /// The tract that a text describes.

@@ -5,15 +5,15 @@ ghost use Rattle.title_land.specs.Depth.{depth};
 ghost use Rattle.title_aliquot.specs.Answers.{FailsBy, PartsFailBy};
 ghost use Rattle.title_aliquot.specs.Areas.{IsArea, IsAreaOf};
 ghost use Rattle.title_aliquot.specs.Entries.{leading, parts_in};
-ghost use Rattle.title_aliquot.specs.Grammar.{InPlace};
+ghost use Rattle.title_aliquot.specs.Grammar.{InTownship};
 ghost use Rattle.title_aliquot.specs.Meaning.{parts_exist, rectangles, union, Overlap, StandsFor};
-ghost use Rattle.title_aliquot.specs.Views.{words_view, place_view};
+ghost use Rattle.title_aliquot.specs.Views.{words_view, land_view};
 ghost use Rattle.title_land.specs.Grids.{grid_of};
 ghost use Rattle.title_land.specs.Rectangles.{InSection};
 ghost use Rattle.title_land.specs.declared.rectangle.Rectangle.{Rectangle};
 
 use crate::fault::DescFault;
-use crate::syntax::{Entry, Parts, PlaceWords, Words};
+use crate::syntax::{Entry, LandWords, Parts, Words};
 use title_land::{Grid, Land, Rectangle, Section, Township};
 
 /// The cells of rectangles, and whether two of the rectangles share one.
@@ -55,8 +55,8 @@ fn area_of(entries: &[Entry]) -> Option<Area>
 {
     let mut area = Area::nothing();
     let mut shape = Rectangle::section();
-    'entries: for place in (0..entries.len()).rev() {
-        match entries[place] {
+    'entries: for index in (0..entries.len()).rev() {
+        match entries[index] {
             Entry::Step(step) => shape = shape.step(step)?,
             Entry::Part => {
                 area = area.with(shape);
@@ -83,15 +83,15 @@ fn grid_of_parts(parts: &Parts) -> Result<Grid, DescFault>
     Ok(area.cells)
 }
 
-/// The land of a place.
-fn land_of_place(place: &PlaceWords) -> Result<Land, DescFault>
-    ensures land { IfOk result (StandsFor depth (InPlace (place_view place.now))) }
-    ensures fault { IfErr result (FailsBy depth (InPlace (place_view place.now))) }
+/// The land in a township.
+fn land_in_township(land: &LandWords) -> Result<Land, DescFault>
+    ensures land { IfOk result (StandsFor depth (InTownship (land_view land.now))) }
+    ensures fault { IfErr result (FailsBy depth (InTownship (land_view land.now))) }
 {
-    let Some(township) = Township::new(place.township, place.north, place.range, place.east) else {
+    let Some(township) = Township::new(land.township, land.north, land.range, land.east) else {
         return Err(DescFault::Range);
     };
-    let Some(words) = &place.section else {
+    let Some(words) = &land.section else {
         return Ok(Land::Township(township));
     };
     let Some(section) = Section::new(township, words.number) else {
@@ -108,6 +108,6 @@ pub fn land_of(words: &Words) -> Result<Land, DescFault>
 {
     match words {
         Words::Everything => Ok(Land::Everything),
-        Words::Place(place) => land_of_place(place),
+        Words::Land(land) => land_in_township(land),
     }
 }

@@ -3,20 +3,20 @@
 ghost use Rattle.std.specs.Option.{option_map};
 ghost use Rattle.std.specs.Str.{chars};
 ghost use Rattle.std.specs.Prelude.{◌≡◌, ℕ, ◌+◌, ◌-◌, ◌<◌, ◌≤◌, ◌==◌, List, [], ◌∷◌, ◌++◌, true, false, length, codes, IfOk};
-ghost use Rattle.title_aliquot.specs.Grammar.{digits, InPlace};
+ghost use Rattle.title_aliquot.specs.Grammar.{digits, InTownship};
 ghost use Rattle.title_aliquot.specs.Letters.{letters, letters_from};
 ghost use Rattle.title_aliquot.specs.Outcomes.{Reads};
 ghost use Rattle.title_aliquot.specs.Readers.{number_at, quarter_mark_at, half_mark_at, behind_at, step_at, joined_at, part_at, with_part};
 ghost use Rattle.title_aliquot.specs.Readers.{next_part_at, parts_at, township_at, range_at, section_number_at, section_parts_at};
-ghost use Rattle.title_aliquot.specs.Readers.{section_at, place_at, description_at};
-ghost use Rattle.title_aliquot.specs.Views.{section_view, place_view, words_view};
+ghost use Rattle.title_aliquot.specs.Readers.{section_at, land_at, description_at};
+ghost use Rattle.title_aliquot.specs.Views.{section_view, land_view, words_view};
 ghost use Rattle.title_aliquot.specs.declared.reader.Stop.TheVariants.{Memory};
 ghost use Rattle.title_grammar.specs.Language.{member};
 ghost use Rattle.title_grammar.specs.Reading.{starts, one_of_at, word_at, as_at, choice};
 ghost use Rattle.title_land.specs.declared.rectangle.Step.TheVariants as step;
 
 use crate::letters::{count_letters, split_letter};
-use crate::syntax::{Parts, PlaceWords, SectionWords, Words};
+use crate::syntax::{LandWords, Parts, SectionWords, Words};
 use std::alloc::{AllocError, AllocFailed, Global};
 use std::marker::Model;
 use title_land::{Half, Quarter, Step};
@@ -378,9 +378,9 @@ impl<'a> Reader<'a> {
     }
 
     /// A township, and a section of it where one is named.
-    #[tactic(auto, unfolding(crate::specs::Readers::place_at))]
-    fn place(&mut self, alloc: Global) -> Result<PlaceWords, Stop>
-        ensures read { Reads (λ d. InPlace (place_view d)) result self.new (place_at self.old) }
+    #[tactic(auto, unfolding(crate::specs::Readers::land_at))]
+    fn land(&mut self, alloc: Global) -> Result<LandWords, Stop>
+        ensures read { Reads (λ d. InTownship (land_view d)) result self.new (land_at self.old) }
     {
         let (township, north) = self.township()?;
         if self.starts(",") {
@@ -390,7 +390,7 @@ impl<'a> Reader<'a> {
         }
         let (range, east) = self.range()?;
         let section = self.section(alloc)?;
-        Ok(PlaceWords {
+        Ok(LandWords {
             township,
             north,
             range,
@@ -408,7 +408,7 @@ impl<'a> Reader<'a> {
             self.word("everything")?;
             Ok(Words::Everything)
         } else {
-            Ok(Words::Place(self.place(alloc)?))
+            Ok(Words::Land(self.land(alloc)?))
         }
     }
 

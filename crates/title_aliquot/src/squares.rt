@@ -3,16 +3,16 @@
 ghost use Rattle.std.specs.Prelude.{◌≡◌, [], IfSome};
 ghost use Rattle.title_land.specs.Depth.{depth};
 ghost use Rattle.title_aliquot.specs.Entries.{leading, parts_in};
-ghost use Rattle.title_aliquot.specs.Grammar.{InPlace};
+ghost use Rattle.title_aliquot.specs.Grammar.{InTownship};
 ghost use Rattle.title_aliquot.specs.Laws.Lands.{PartsStand};
 ghost use Rattle.title_aliquot.specs.Meaning.{StandsFor};
-ghost use Rattle.title_aliquot.specs.Views.{words_view, place_view};
+ghost use Rattle.title_aliquot.specs.Views.{words_view, land_view};
 ghost use Rattle.title_land.specs.Grids.{grid_of};
 ghost use Rattle.title_land.specs.Lands.{land_of};
 ghost use Rattle.title_land.specs.Nodes.{square};
 ghost use Rattle.title_land.specs.Rectangles.{holds};
 
-use crate::syntax::{Entry, PlaceWords, Words};
+use crate::syntax::{Entry, LandWords, Words};
 use title_land::{Node, Section, Step, Township, Within};
 
 /// The square that a list of parts is, where it is one part whose steps are all quarters, down to a cell at most.
@@ -24,8 +24,8 @@ fn square_of(entries: &[Entry]) -> Option<Within>
         return None;
     }
     let mut within = Within::section();
-    'entries: for place in (1..entries.len()).rev() {
-        let Entry::Step(Step::Quarter(which)) = entries[place] else {
+    'entries: for index in (1..entries.len()).rev() {
+        let Entry::Step(Step::Quarter(which)) = entries[index] else {
             return None;
         };
         if within.is_cell() {
@@ -36,12 +36,12 @@ fn square_of(entries: &[Entry]) -> Option<Within>
     Some(within)
 }
 
-/// The node that a place is, where it is one by its words alone.
-fn node_of_place(place: &PlaceWords) -> Option<Node>
-    ensures node { IfSome result (λ n. StandsFor depth (InPlace (place_view place.now)) (land_of depth n)) }
+/// The node that lies in a township, where it is one by its words alone.
+fn node_in_township(land: &LandWords) -> Option<Node>
+    ensures node { IfSome result (λ n. StandsFor depth (InTownship (land_view land.now)) (land_of depth n)) }
 {
-    let township = Township::new(place.township, place.north, place.range, place.east)?;
-    let Some(words) = &place.section else {
+    let township = Township::new(land.township, land.north, land.range, land.east)?;
+    let Some(words) = &land.section else {
         return Some(Node::Township(township));
     };
     let section = Section::new(township, words.number)?;
@@ -55,6 +55,6 @@ pub fn node_of(words: &Words) -> Option<Node>
 {
     match words {
         Words::Everything => Some(Node::Everything),
-        Words::Place(place) => node_of_place(place),
+        Words::Land(land) => node_in_township(land),
     }
 }

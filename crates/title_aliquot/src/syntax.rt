@@ -90,7 +90,7 @@ pub struct SectionWords {
 
 /// A township's numbers, and a section of it where one is named. A number of 100 stands for that or any above.
 #[derive(Drop)]
-pub struct PlaceWords {
+pub struct LandWords {
     pub township: u8,
     pub north: bool,
     pub range: u8,
@@ -102,5 +102,5 @@ pub struct PlaceWords {
 #[derive(Drop)]
 pub enum Words {
     Everything,
-    Place(PlaceWords),
+    Land(LandWords),
 }

@@ -9,7 +9,7 @@ use Rattle.title_land.specs.Depth.{depth}
 use Rattle.title_land.specs.declared.grid.Grid.{Grid}
 use Rattle.title_land.specs.declared.node.Node.{Node}
 use Rattle.title_land.specs.declared.node.Node.TheVariants as node
-use Rattle.title_land.specs.declared.place.Section.{Section}
+use Rattle.title_land.specs.declared.survey.Section.{Section}
 use Rattle.title_land.specs.declared.rectangle.Quarter.{Quarter}
 use Rattle.title_land.specs.declared.tract.Land.{Land}
 use Rattle.title_land.specs.declared.tract.Land.TheVariants as land
@@ -20,12 +20,12 @@ use Rattle.title_land.specs.Laws.LandSharing.{cover_has_its_cells}
 use Rattle.title_land.specs.Laws.NodeSharing.{cell_at}
 use Rattle.title_land.specs.Laws.SameLand.{same_section-self}
 use Rattle.title_land.specs.Nodes.{node_has}
-use Rattle.title_land.specs.Places.{is_on_grid, side}
+use Rattle.title_land.specs.Survey.{is_on_grid, side}
 use Rattle.title_chain.specs.SoleNodes.{HasSoleNode}
 
 -- ---- sets of cells
 
--- rows that agree in each place are one
+-- rows that agree at each index are one
 cells_one : (m : ℕ) (x y : List Bool) → length x ≡ m → length y ≡ m
     → ((column : ℕ) → column < m → unwrap_or (slice_get x column) false ≡ unwrap_or (slice_get y column) false) → x ≡ y
 cells_one m x y k l same =

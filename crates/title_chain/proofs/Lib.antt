@@ -1,7 +1,7 @@
 -- The lemmas.
-pub mod PlaceOrder
-pub mod PlaceEntries
-pub mod PlacesInOrder
+pub mod SpotOrder
+pub mod SpotEntries
+pub mod SpotsInOrder
 pub mod Filings
 pub mod FoundLaws
 pub mod Nearness

@@ -1,4 +1,4 @@
--- The places filed near the nodes of a tract's cover are those of the posts that share a cell with it.
+-- The spots filed near the nodes of a tract's cover are those of the posts that share a cell with it.
 use Rattle.std.proofs.Common.{◌≡◌, ℕ, Bool, true, false, ◌&&◌, ◌||◌, List, [], ◌∷◌, refl, sym, ap, ◌∙◌}
 use Rattle.std.specs.List.{AllByRecursion, list_any}
 use Rattle.title_land.specs.Depth.{depth}
@@ -11,8 +11,8 @@ use Rattle.title_land.specs.Laws.SameNode.{same_node-is}
 use Rattle.title_land.specs.Laws.LandSharing.{equal_tests}
 use Rattle.title_land.specs.Laws.CoversMeet.{meets_by_covers}
 use Rattle.title_chain.specs.declared.filing.Filing.{Filing}
-use Rattle.title_chain.specs.declared.place.Place.{Place}
-use Rattle.title_chain.specs.PostPlaces.{PlacedPost, same_place, is_place_where}
+use Rattle.title_chain.specs.declared.spot.Spot.{Spot}
+use Rattle.title_chain.specs.PostSpots.{FiledPost, same_spot, is_spot_where}
 use Rattle.title_chain.specs.TractIndexes.{covers, covers_below, IsFiled, is_near}
 
 -- ---- tests of lists
@@ -40,34 +40,34 @@ any_swap r (x ∷ xs) ys =
     ap (λ (b : Bool). list_any (r x) ys || b) (any_swap r xs ys)
     ∙ any_or (r x) (λ y. list_any (λ x. r x y) xs) ys
 
--- ---- places of posts
+-- ---- spots of posts
 
 both_tests : (s a b : Bool) → ((s && a) || (s && b)) ≡ (s && (a || b))
 both_tests true a b = refl
 both_tests false a b = refl
 
--- the places of the posts of such lands or of such
-where_or : (left right : Land → Bool) (posts : List PlacedPost) (p : Place)
-    → (is_place_where left posts p || is_place_where right posts p) ≡ is_place_where (λ l. left l || right l) posts p
+-- the spots of the posts of such lands or of such
+where_or : (left right : Land → Bool) (posts : List FiledPost) (p : Spot)
+    → (is_spot_where left posts p || is_spot_where right posts p) ≡ is_spot_where (λ l. left l || right l) posts p
 where_or left right posts p =
-    any_or (λ x. same_place p x.place && left x.posting.tract) (λ x. same_place p x.place && right x.posting.tract) posts
-    ∙ (λ i. list_any (λ x. both_tests (same_place p x.place) (left x.posting.tract) (right x.posting.tract) i) posts)
+    any_or (λ x. same_spot p x.spot && left x.posting.tract) (λ x. same_spot p x.spot && right x.posting.tract) posts
+    ∙ (λ i. list_any (λ x. both_tests (same_spot p x.spot) (left x.posting.tract) (right x.posting.tract) i) posts)
 
-where_none : (posts : List PlacedPost) (p : Place) → false ≡ is_place_where (λ l. false) posts p
+where_none : (posts : List FiledPost) (p : Spot) → false ≡ is_spot_where (λ l. false) posts p
 where_none [] p = refl
-where_none (x ∷ posts) p = where_none posts p ∙ ap (λ (b : Bool). b || is_place_where (λ l. false) posts p)
-    (sym (none (same_place p x.place)))
+where_none (x ∷ posts) p = where_none posts p ∙ ap (λ (b : Bool). b || is_spot_where (λ l. false) posts p)
+    (sym (none (same_spot p x.spot)))
   where
     none : (b : Bool) → (b && false) ≡ false
     none true = refl
     none false = refl
 
--- the places of the posts of lands that pass one of these tests
-where_any : {X : Type 0} (tests : X → Land → Bool) (xs : List X) (posts : List PlacedPost) (p : Place) →
-    list_any (λ a. is_place_where (tests a) posts p) xs ≡ is_place_where (λ l. list_any (λ a. tests a l) xs) posts p
+-- the spots of the posts of lands that pass one of these tests
+where_any : {X : Type 0} (tests : X → Land → Bool) (xs : List X) (posts : List FiledPost) (p : Spot) →
+    list_any (λ a. is_spot_where (tests a) posts p) xs ≡ is_spot_where (λ l. list_any (λ a. tests a l) xs) posts p
 where_any tests [] posts p = where_none posts p
 where_any tests (x ∷ xs) posts p =
-    ap (λ (b : Bool). is_place_where (tests x) posts p || b) (where_any tests xs posts p)
+    ap (λ (b : Bool). is_spot_where (tests x) posts p || b) (where_any tests xs posts p)
     ∙ where_or (tests x) (λ l. list_any (λ a. tests a l) xs) posts p
 
 -- ---- nodes near a node
@@ -88,41 +88,41 @@ related_any n nodes =
     ∙ ap (λ (b : Bool). list_any (same_node n) nodes || b) (any_or (is_above n) (λ b. is_above b n) nodes)
     ∙ any_or (same_node n) (λ b. is_above n b || is_above b n) nodes
 
--- ---- places near a node
+-- ---- spots near a node
 
 -- the land's cover has the node or one related to it
 abbrev covers_near : ℕ → Node → Land → Bool
 covers_near depth n l = list_any (are_related n) (cover_of depth l)
 
--- the places filed near a node are those of the posts whose covers have it or a node related to it
-near_is : (depth : ℕ) (f : Filing) (posts : List PlacedPost) → IsFiled depth f posts → (p : Place) (n : Node)
-    → is_near f p n ≡ is_place_where (covers_near depth n) posts p
+-- the spots filed near a node are those of the posts whose covers have it or a node related to it
+near_is : (depth : ℕ) (f : Filing) (posts : List FiledPost) → IsFiled depth f posts → (p : Spot) (n : Node)
+    → is_near f p n ≡ is_spot_where (covers_near depth n) posts p
 near_is depth f posts filed p n =
     (λ i. filed.at n p i || (filed.below n p i || list_any (λ a. filed.at a p i) (above n)))
-    ∙ ap (λ (b : Bool). is_place_where (covers depth n) posts p || (is_place_where (covers_below depth n) posts p || b))
+    ∙ ap (λ (b : Bool). is_spot_where (covers depth n) posts p || (is_spot_where (covers_below depth n) posts p || b))
     (where_any (covers depth) (above n) posts p)
-    ∙ ap (λ (b : Bool). is_place_where (covers depth n) posts p || b)
+    ∙ ap (λ (b : Bool). is_spot_where (covers depth n) posts p || b)
     (where_or (covers_below depth n) (λ l. list_any (λ a. covers depth a l) (above n)) posts p)
     ∙ where_or (covers depth n) (λ l. covers_below depth n l || list_any (λ a. covers depth a l) (above n)) posts p
-    ∙ (λ i. is_place_where (λ l. related_any n (cover_of depth l) i) posts p)
+    ∙ (λ i. is_spot_where (λ l. related_any n (cover_of depth l) i) posts p)
 
--- the places of the posts whose covers meet a tract's are those of the posts that share a cell with it
-where_meets : (depth : ℕ) → MeetsByCovers depth → (land : Land) → IsLand depth land → (posts : List PlacedPost) →
-    AllByRecursion (λ x. IsLand depth x.posting.tract) posts → (p : Place)
-    → is_place_where (covers_meet depth land) posts p ≡ is_place_where (meets land) posts p
+-- the spots of the posts whose covers meet a tract's are those of the posts that share a cell with it
+where_meets : (depth : ℕ) → MeetsByCovers depth → (land : Land) → IsLand depth land → (posts : List FiledPost) →
+    AllByRecursion (λ x. IsLand depth x.posting.tract) posts → (p : Spot)
+    → is_spot_where (covers_meet depth land) posts p ≡ is_spot_where (meets land) posts p
 where_meets d law land sized [] all p = refl
 where_meets d law land sized (x ∷ posts) all p =
-    λ i. (same_place p x.place && sym (law land x.posting.tract sized all.0) i) || where_meets d law land sized posts all.1 p i
+    λ i. (same_spot p x.spot && sym (law land x.posting.tract sized all.0) i) || where_meets d law land sized posts all.1 p i
 
--- the places filed near the nodes of a tract's cover are those of the posts that share a cell with it
-near_meets_at : (depth : ℕ) → MeetsByCovers depth → (f : Filing) (posts : List PlacedPost) → IsFiled depth f posts → (land : Land)
+-- the spots filed near the nodes of a tract's cover are those of the posts that share a cell with it
+near_meets_at : (depth : ℕ) → MeetsByCovers depth → (f : Filing) (posts : List FiledPost) → IsFiled depth f posts → (land : Land)
     → IsLand depth land →
-    (p : Place) → list_any (is_near f p) (cover_of depth land) ≡ is_place_where (meets land) posts p
+    (p : Spot) → list_any (is_near f p) (cover_of depth land) ≡ is_spot_where (meets land) posts p
 near_meets_at depth law f posts filed land sized p =
     (λ i. list_any (λ n. near_is depth f posts filed p n i) (cover_of depth land))
     ∙ where_any (covers_near depth) (cover_of depth land) posts p
     ∙ where_meets depth law land sized posts filed.sized p
 
-pub near_meets : (f : Filing) (posts : List PlacedPost) → IsFiled depth f posts → (land : Land) → IsLand depth land →
-    (p : Place) → list_any (is_near f p) (cover_of depth land) ≡ is_place_where (meets land) posts p
+pub near_meets : (f : Filing) (posts : List FiledPost) → IsFiled depth f posts → (land : Land) → IsLand depth land →
+    (p : Spot) → list_any (is_near f p) (cover_of depth land) ≡ is_spot_where (meets land) posts p
 near_meets = near_meets_at depth (meets_by_covers depth)

@@ -1,7 +1,7 @@
 -- The laws of asks: what an answer and an effect depend on, and what an ask leaves alone.
 use Rattle.std.specs.Prelude.{◌≡◌, ℕ, true, false, List, [], Some}
-use Rattle.title_land.specs.declared.place.Cell.{Cell}
-use Rattle.title_land.specs.declared.place.Township.{Township}
+use Rattle.title_land.specs.declared.survey.Cell.{Cell}
+use Rattle.title_land.specs.declared.survey.Township.{Township}
 use Rattle.title_land.specs.declared.tract.Land.{Land}
 use Rattle.title_store.specs.Plants.{Plant, Refusal, is_cell_of, refused_in}
 use Rattle.title_chain.specs.declared.ask.Ask.{Ask}

@@ -6,8 +6,8 @@ pub mod Alone
 pub mod Overlaps
 pub mod ChainLaws
 pub mod Replays
-pub mod PostPlaces
-pub mod PlaceMaps
+pub mod PostSpots
+pub mod SpotMaps
 pub mod TractIndexes
 pub mod SoleNodes
 pub mod SheetParts

@@ -1,6 +1,6 @@
 -- Steps whose posts are made again. Lists of steps here have the newest first.
 use Rattle.std.specs.Prelude.{◌≡◌, ℕ, Bool, true, false, List, [], ◌∷◌}
-use Rattle.title_land.specs.declared.place.Township.{Township}
+use Rattle.title_land.specs.declared.survey.Township.{Township}
 use Rattle.title_land.specs.Lands.{is_in_plant}
 use Rattle.title_store.specs.Plants.{Plant, SameContent}
 use Rattle.title_chain.specs.declared.ask.Ask.{Ask}

@@ -1,7 +1,7 @@
 -- Rows of sheets as they are kept.
 use Rattle.title_instrument.specs.declared.parts.Estate.{Estate}
 use Rattle.title_land.specs.declared.node.Node.TheVariants as node
-use Rattle.title_land.specs.declared.place.Section.{Section}
+use Rattle.title_land.specs.declared.survey.Section.{Section}
 use Rattle.title_store.specs.declared.sheet_row.SheetRow.{SheetRow}
 use Rattle.title_chain.specs.declared.square_row.SquareRow.{SquareRow}
 

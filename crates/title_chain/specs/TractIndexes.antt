@@ -8,10 +8,10 @@ use Rattle.title_land.specs.Lands.{cover_of, IsLand}
 use Rattle.title_land.specs.NodeNumbers.{node_number, number_above}
 use Rattle.title_chain.specs.declared.ask.Step.{Step}
 use Rattle.title_chain.specs.declared.filing.Filing.{Filing}
-use Rattle.title_chain.specs.declared.place.Place.{Place}
+use Rattle.title_chain.specs.declared.spot.Spot.{Spot}
 use Rattle.title_chain.specs.declared.record.Record.{Record}
-use Rattle.title_chain.specs.PostPlaces.{PlacedPost, step_posts, record_posts, is_listed, is_place_where}
-use Rattle.title_chain.specs.PlaceMaps.{places_under}
+use Rattle.title_chain.specs.PostSpots.{FiledPost, step_posts, record_posts, is_listed, is_spot_where}
+use Rattle.title_chain.specs.SpotMaps.{spots_under}
 
 -- the records in the order of their commits, and whether one more can be added without memory
 pub record Recorded : Type 0 where
@@ -31,11 +31,11 @@ covers depth n l = list_any (same_node n) (cover_of depth l)
 abbrev pub covers_below : ℕ → Node → Land → Bool
 covers_below depth n l = list_any (is_above n) (cover_of depth l)
 
--- the places of these posts are filed under the nodes of their covers, and under all nodes above those; their sets of
+-- the spots of these posts are filed under the nodes of their covers, and under all nodes above those; their sets of
 -- cells are as large as the grid
-pub record IsFiled (depth : ℕ) (f : Filing) (posts : List PlacedPost) : Type 0 where
-  pub at : (n : Node) (p : Place) → is_listed p (places_under f.at n) ≡ is_place_where (covers depth n) posts p
-  pub below : (n : Node) (p : Place) → is_listed p (places_under f.below n) ≡ is_place_where (covers_below depth n) posts p
+pub record IsFiled (depth : ℕ) (f : Filing) (posts : List FiledPost) : Type 0 where
+  pub at : (n : Node) (p : Spot) → is_listed p (spots_under f.at n) ≡ is_spot_where (covers depth n) posts p
+  pub below : (n : Node) (p : Spot) → is_listed p (spots_under f.below n) ≡ is_spot_where (covers_below depth n) posts p
   pub sized : AllByRecursion (λ x. IsLand depth x.posting.tract) posts
 
 -- the posts of the first records are filed, as many as were read
@@ -49,14 +49,14 @@ pub record AreReadFrom (depth : ℕ) (f : Filing) (steps : List Step) : Type 0 w
   pub filed : IsFiled depth f (step_posts 0 (reverse (take f.read steps)))
 
 -- the place is filed at a node above this one
-abbrev pub is_higher : Filing → Place → Node → Bool
-is_higher f p n = list_any (λ a. is_listed p (places_under f.at a)) (above n)
+abbrev pub is_higher : Filing → Spot → Node → Bool
+is_higher f p n = list_any (λ a. is_listed p (spots_under f.at a)) (above n)
 
--- the place is filed at the node, below it, or at a node above it
-abbrev pub is_near : Filing → Place → Node → Bool
-is_near f p n = is_listed p (places_under f.at n) || (is_listed p (places_under f.below n) || is_higher f p n)
+-- the spot is filed at the node, below it, or at a node above it
+abbrev pub is_near : Filing → Spot → Node → Bool
+is_near f p n = is_listed p (spots_under f.at n) || (is_listed p (spots_under f.below n) || is_higher f p n)
 
 -- what is filed above the nodes below the one with this number stands among these places, unless that is the whole plant
-abbrev pub KnowsAbove : Filing → ℕ → List Place → Type 0
-KnowsAbove f k places = k ≢ 0 → (c : Node) → number_above (node_number c) ≡ k → (p : Place) → is_higher f p c ≡ true
+abbrev pub KnowsAbove : Filing → ℕ → List Spot → Type 0
+KnowsAbove f k places = k ≢ 0 → (c : Node) → number_above (node_number c) ≡ k → (p : Spot) → is_higher f p c ≡ true
     → is_listed p places ≡ true

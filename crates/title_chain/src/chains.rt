@@ -3,12 +3,12 @@
 ghost use Rattle.std.specs.Prelude.{◌≡◌, IfOk, ◌++◌, reverse, slice_get};
 ghost use Rattle.title_chain.specs.StepEntries.{entry_of, step_entries};
 ghost use Rattle.title_chain.specs.Chains.{record_entries, chain_of};
-ghost use Rattle.title_chain.specs.PostPlaces.{posted, step_entry, entry_at, own_entry_at, entries_at};
+ghost use Rattle.title_chain.specs.PostSpots.{posted, step_entry, entry_at, own_entry_at, entries_at};
 
 use crate::ask::{Answer, Ask, Entry, Step};
 use crate::lists::{Entries, Records};
-use crate::place::Place;
 use crate::record::Record;
+use crate::spot::Spot;
 use std::alloc::{AllocError, Global};
 use title_land::Tract;
 
@@ -67,7 +67,7 @@ pub(crate) fn add_records(
 }
 
 // Adds the entry of a step that was posted, whatever its tract. Inline in both callers, each of which calls it once for each
-// place, so that an entry is made where the list has it and isn't handed on.
+// spot, so that an entry is made where the list has it and isn't handed on.
 #[inline(always)]
 fn add_posted(
     alloc: Global,
@@ -87,36 +87,36 @@ fn add_posted(
     }
 }
 
-// Adds the entry of the step at a place, if these records have it, with its record's number from 1.
+// Adds the entry of the step at a spot, if these records have it, with its record's number from 1.
 fn add_entry_at(
     alloc: Global,
     entries: &mut Vec<Entry>,
     records: &[Record],
-    place: Place,
+    spot: Spot,
 ) -> Result<(), AllocError>
-    ensures added { IfOk result (λ _. entries.new.items ≡ entries.old.items ++ entry_at records.now place) }
+    ensures added { IfOk result (λ _. entries.new.items ≡ entries.old.items ++ entry_at records.now spot) }
 {
-    let Some(record) = records.get(place.record) else {
+    let Some(record) = records.get(spot.record) else {
         return Ok(());
     };
-    let Some(step) = record.steps.as_slice().get(place.step) else {
+    let Some(step) = record.steps.as_slice().get(spot.step) else {
         return Ok(());
     };
-    add_posted(alloc, entries, place.record as u64 + 1, step)
+    add_posted(alloc, entries, spot.record as u64 + 1, step)
 }
 
-/// Adds the entries of the steps at these places of records, each with its record's number from 1, with room for all at once.
+/// Adds the entries of the steps at these spots of records, each with its record's number from 1, with room for all at once.
 pub(crate) fn add_entries_at(
     alloc: Global,
     entries: &mut Vec<Entry>,
     records: &[Record],
-    places: &[Place],
+    spots: &[Spot],
 ) -> Result<(), AllocError>
-    ensures added { IfOk result (λ _. entries.new.items ≡ entries.old.items ++ entries_at (entry_at records.now) places.now) }
+    ensures added { IfOk result (λ _. entries.new.items ≡ entries.old.items ++ entries_at (entry_at records.now) spots.now) }
 {
-    entries.reserve_exact(places.len())?;
-    for place in places {
-        add_entry_at(alloc, entries, records, *place)?;
+    entries.reserve_exact(spots.len())?;
+    for spot in spots {
+        add_entry_at(alloc, entries, records, *spot)?;
     }
     Ok(())
 }
@@ -136,18 +136,18 @@ fn add_own_entry_at(
     add_posted(alloc, entries, 0, step)
 }
 
-/// Adds the entries of a transaction's own steps at these places, each with place 0, with room for all at once.
+/// Adds the entries of a transaction's own steps at these spots, each with place 0, with room for all at once.
 pub(crate) fn add_own_entries_at(
     alloc: Global,
     entries: &mut Vec<Entry>,
     steps: &[Step],
-    places: &[Place],
+    spots: &[Spot],
 ) -> Result<(), AllocError>
-    ensures added { IfOk result (λ _. entries.new.items ≡ entries.old.items ++ entries_at (own_entry_at steps.now) places.now) }
+    ensures added { IfOk result (λ _. entries.new.items ≡ entries.old.items ++ entries_at (own_entry_at steps.now) spots.now) }
 {
-    entries.reserve_exact(places.len())?;
-    for place in places {
-        add_own_entry_at(alloc, entries, steps, place.step)?;
+    entries.reserve_exact(spots.len())?;
+    for spot in spots {
+        add_own_entry_at(alloc, entries, steps, spot.step)?;
     }
     Ok(())
 }

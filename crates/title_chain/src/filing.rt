@@ -7,86 +7,86 @@ ghost use Rattle.title_land.specs.Depth.{depth};
 ghost use Rattle.std.specs.List.{list_any};
 ghost use Rattle.title_land.specs.declared.node.Node.{Node};
 ghost use Rattle.title_land.specs.Nodes.{same_node, above, is_above};
-ghost use Rattle.title_chain.specs.declared.place.Place.{Place};
-ghost use Rattle.title_chain.specs.PostPlaces.{same_place, is_listed};
+ghost use Rattle.title_chain.specs.declared.spot.Spot.{Spot};
+ghost use Rattle.title_chain.specs.PostSpots.{same_spot, is_listed};
 ghost use Rattle.title_land.specs.NodeNumbers.{node_number, number_above};
-ghost use Rattle.title_chain.specs.PlaceMaps.{places_numbered, places_under, place_cmp};
+ghost use Rattle.title_chain.specs.SpotMaps.{spots_numbered, spots_under, spot_cmp};
 ghost use Rattle.std.specs.List.Sorted.{IsStrictlySortedBy};
 
 use crate::ask::{Answer, Ask, Entry, Step};
 use crate::chains::{add_entries_at, add_own_entries_at};
 use crate::filing::found::Found;
-use crate::place::Place;
 use crate::record::Record;
+use crate::spot::Spot;
 use std::alloc::{AllocError, Global};
 use std::collections::BTreeMap;
 use title_land::{Node, Tract, number_above};
 
-/// The places of the posts of a list's first records, or of a transaction's first steps as those of a record at index 0:
+/// The spots of the posts of a list's first records, or of a transaction's first steps as those of a record at index 0:
 /// under each node's number those of the posts whose cover has the node, and those of the posts whose cover has a node below it.
 #[derive(Debug, Drop)]
 pub(crate) struct Filing {
     read: usize,
-    at: BTreeMap<u64, Vec<Place>>,
-    below: BTreeMap<u64, Vec<Place>>,
+    at: BTreeMap<u64, Vec<Spot>>,
+    below: BTreeMap<u64, Vec<Spot>>,
 }
 
-// The places under the node with a number.
-fn places_at<'a>(lists: &'a BTreeMap<u64, Vec<Place>>, number: u64) -> &'a [Place]
-    ensures places { result.now ≡ places_numbered lists.now number }
+// The spots under the node with a number.
+fn spots_at<'a>(lists: &'a BTreeMap<u64, Vec<Spot>>, number: u64) -> &'a [Spot]
+    ensures spots { result.now ≡ spots_numbered lists.now number }
 {
     match lists.get(&number) {
-        Some(places) => places.as_slice(),
+        Some(spots) => spots.as_slice(),
         None => &[],
     }
 }
 
-// Adds a place to a list, unless it is the last there.
-fn push_once(list: &mut Vec<Place>, place: Place) -> Result<(), AllocError>
-    ensures listed { OnOk result ((p : Place) → is_listed p list.new.items ≡ (is_listed p list.old.items || same_place p place)) }
+// Adds a spot to a list, unless it is the last there.
+fn push_once(list: &mut Vec<Spot>, spot: Spot) -> Result<(), AllocError>
+    ensures listed { OnOk result ((p : Spot) → is_listed p list.new.items ≡ (is_listed p list.old.items || same_spot p spot)) }
 {
     if let Some(last) = list.last() {
-        if last.is(place) {
+        if last.is(spot) {
             return Ok(());
         }
     }
-    list.push(place)?;
+    list.push(spot)?;
     Ok(())
 }
 
-// Adds a place to those under the node with a number.
+// Adds a spot to those under the node with a number.
 fn file_under(
     alloc: Global,
-    lists: &mut BTreeMap<u64, Vec<Place>>,
+    lists: &mut BTreeMap<u64, Vec<Spot>>,
     number: u64,
-    place: Place,
+    spot: Spot,
 ) -> Result<(), AllocError>
-    ensures filed { OnOk result ((k : ℕ) (p : Place) → is_listed p (places_numbered lists.new k)
-        ≡ (is_listed p (places_numbered lists.old k) || (number == k && same_place p place))) }
+    ensures filed { OnOk result ((k : ℕ) (p : Spot) → is_listed p (spots_numbered lists.new k)
+        ≡ (is_listed p (spots_numbered lists.old k) || (number == k && same_spot p spot))) }
 {
     if let Some(list) = lists.get_mut(&number) {
-        return push_once(list, place);
+        return push_once(list, spot);
     }
     let mut list = Vec::new(alloc);
-    push_once(&mut list, place)?;
+    push_once(&mut list, spot)?;
     lists.insert(number, list)?;
     Ok(())
 }
 
-// Adds a place to those under each node above the one with a number.
+// Adds a spot to those under each node above the one with a number.
 fn file_above(
     alloc: Global,
-    lists: &mut BTreeMap<u64, Vec<Place>>,
+    lists: &mut BTreeMap<u64, Vec<Spot>>,
     number: u64,
-    place: Place,
+    spot: Spot,
 ) -> Result<(), AllocError>
-    ensures filed { (c : Node) → number ≡ node_number c → OnOk result ((n : Node) (p : Place) → is_listed p (places_under lists.new n)
-        ≡ (is_listed p (places_under lists.old n) || (is_above n c && same_place p place))) }
+    ensures filed { (c : Node) → number ≡ node_number c → OnOk result ((n : Node) (p : Spot) → is_listed p (spots_under lists.new n)
+        ≡ (is_listed p (spots_under lists.old n) || (is_above n c && same_spot p spot))) }
 {
     let mut reached = number;
     while reached != 0 {
         reached = number_above(reached);
-        file_under(alloc, lists, reached, place)?;
+        file_under(alloc, lists, reached, spot)?;
     }
     Ok(())
 }
@@ -94,7 +94,7 @@ fn file_above(
 impl Filing {
     ghost use Rattle.title_chain.specs.Chains.{record_entries};
     ghost use Rattle.title_chain.specs.StepEntries.{step_entries};
-    ghost use Rattle.title_chain.specs.PostPlaces.{PlacedPost, post_of, step_posts, record_posts};
+    ghost use Rattle.title_chain.specs.PostSpots.{FiledPost, post_of, step_posts, record_posts};
     ghost use Rattle.title_chain.specs.TractIndexes.{IsFiled, IsReadFrom, AreReadFrom, is_near};
 
     /// Nothing was read yet; takes no memory.
@@ -110,54 +110,54 @@ impl Filing {
     }
 
     // Files a post whose tract has this cover.
-    fn file_cover(&mut self, alloc: Global, place: Place, cover: &[Node]) -> Result<(), AllocError>
+    fn file_cover(&mut self, alloc: Global, spot: Spot, cover: &[Node]) -> Result<(), AllocError>
         ensures read { self.new.read ≡ self.old.read }
-        ensures at { OnOk result ((n : Node) (p : Place) → is_listed p (places_under self.new.at n)
-            ≡ (is_listed p (places_under self.old.at n) || (list_any (same_node n) cover.now && same_place p place))) }
-        ensures below { OnOk result ((n : Node) (p : Place) → is_listed p (places_under self.new.below n)
-            ≡ (is_listed p (places_under self.old.below n) || (list_any (is_above n) cover.now && same_place p place))) }
+        ensures at { OnOk result ((n : Node) (p : Spot) → is_listed p (spots_under self.new.at n)
+            ≡ (is_listed p (spots_under self.old.at n) || (list_any (same_node n) cover.now && same_spot p spot))) }
+        ensures below { OnOk result ((n : Node) (p : Spot) → is_listed p (spots_under self.new.below n)
+            ≡ (is_listed p (spots_under self.old.below n) || (list_any (is_above n) cover.now && same_spot p spot))) }
     {
         for node in cover {
             let number = node.number();
-            file_under(alloc, &mut self.at, number, place)?;
-            file_above(alloc, &mut self.below, number, place)?;
+            file_under(alloc, &mut self.at, number, spot)?;
+            file_above(alloc, &mut self.below, number, spot)?;
         }
         Ok(())
     }
 
     // Files a post of this tract.
-    fn file_post(&mut self, alloc: Global, place: Place, tract: &Tract) -> Result<(), AllocError>
+    fn file_post(&mut self, alloc: Global, spot: Spot, tract: &Tract) -> Result<(), AllocError>
         ensures read { self.new.read ≡ self.old.read }
-        ensures filed { OnOk result ((posts : List PlacedPost) (x : PlacedPost) → x.place ≡ place → x.posting.tract ≡ tract.now
+        ensures filed { OnOk result ((posts : List FiledPost) (x : FiledPost) → x.spot ≡ spot → x.posting.tract ≡ tract.now
             → IsFiled depth self.old posts → IsFiled depth self.new (posts ++ x ∷ [])) }
     {
-        self.file_cover(alloc, place, tract.cover())
+        self.file_cover(alloc, spot, tract.cover())
     }
 
     // Files a step, if it was posted.
-    fn file_step(&mut self, alloc: Global, place: Place, step: &Step) -> Result<(), AllocError>
+    fn file_step(&mut self, alloc: Global, spot: Spot, step: &Step) -> Result<(), AllocError>
         ensures read { self.new.read ≡ self.old.read }
-        ensures filed { OnOk result ((posts : List PlacedPost) → IsFiled depth self.old posts
-            → IsFiled depth self.new (posts ++ post_of place step.now.ask step.now.answer)) }
+        ensures filed { OnOk result ((posts : List FiledPost) → IsFiled depth self.old posts
+            → IsFiled depth self.new (posts ++ post_of spot step.now.ask step.now.answer)) }
     {
         let (Ask::Post(posting), Answer::Posted) = (&step.ask, &step.answer) else {
             return Ok(());
         };
-        self.file_post(alloc, place, &posting.terms().tract)
+        self.file_post(alloc, spot, &posting.terms().tract)
     }
 
     // Files the steps of the record at an index.
     fn file_steps(&mut self, alloc: Global, index: usize, steps: &[Step]) -> Result<(), AllocError>
         ensures read { self.new.read ≡ self.old.read }
-        ensures filed { OnOk result ((posts : List PlacedPost) → IsFiled depth self.old posts
+        ensures filed { OnOk result ((posts : List FiledPost) → IsFiled depth self.old posts
             → IsFiled depth self.new (posts ++ step_posts index (reverse steps.now))) }
     {
         for (i, step) in steps.iter().enumerate() {
-            let place = Place {
+            let spot = Spot {
                 record: index,
                 step: i,
             };
-            self.file_step(alloc, place, step)?;
+            self.file_step(alloc, spot, step)?;
         }
         Ok(())
     }
@@ -195,11 +195,11 @@ impl Filing {
         ensures read { OnOk result (self.new.read ≡ length steps.now) }
     {
         while let Some(step) = steps.get(self.read) {
-            let place = Place {
+            let spot = Spot {
                 record: 0,
                 step: self.read,
             };
-            self.file_step(alloc, place, step)?;
+            self.file_step(alloc, spot, step)?;
             self.read += 1;
         }
         Ok(())
@@ -218,10 +218,10 @@ impl Filing {
         filed
     }
 
-    // The places of the posts whose cover has one of these nodes, or one above or below one of them, in order.
-    fn find(&self, alloc: Global, cover: &[Node]) -> Result<Vec<Place>, AllocError>
-        ensures found { IfOk result (λ found. (p : Place) → is_listed p found.items ≡ list_any (is_near self.now p) cover.now) }
-        ensures ordered { IfOk result (λ found. IsStrictlySortedBy place_cmp found.items) }
+    // The spots of the posts whose cover has one of these nodes, or one above or below one of them, in order.
+    fn find(&self, alloc: Global, cover: &[Node]) -> Result<Vec<Spot>, AllocError>
+        ensures found { IfOk result (λ found. (p : Spot) → is_listed p found.items ≡ list_any (is_near self.now p) cover.now) }
+        ensures ordered { IfOk result (λ found. IsStrictlySortedBy spot_cmp found.items) }
     {
         let mut found = Found::none(alloc, self);
         for node in cover {
@@ -230,14 +230,14 @@ impl Filing {
         Ok(found.in_order())
     }
 
-    /// Adds the entries of records that were all read to the chain of a tract, and gives the places where they were found.
+    /// Adds the entries of records that were all read to the chain of a tract, and gives the spots where they were found.
     pub(crate) fn add_entries(
         &self,
         alloc: Global,
         entries: &mut Vec<Entry>,
         records: &[Record],
         tract: &Tract,
-    ) -> Result<Vec<Place>, AllocError>
+    ) -> Result<Vec<Spot>, AllocError>
         requires filed { IsFiled depth self.now (record_posts (reverse records.now)) }
         ensures added { OnOk result (entries.new.items ≡ entries.old.items ++ record_entries tract.now (reverse records.now)) }
     {

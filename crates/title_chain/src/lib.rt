@@ -7,12 +7,12 @@ mod filing;
 pub mod laws;
 pub mod lists;
 pub mod own_steps;
-mod place;
 pub mod record;
 pub mod replay;
 pub mod same;
 mod same_parts;
 mod same_sheets;
+mod spot;
 pub mod square_row;
 pub mod tract_index;
 

@@ -111,14 +111,14 @@ impl Lines {
         }
     }
 
-    // The row at a place, where there is one.
-    fn row(&self, place: usize) -> Option<SheetRow>
-        ensures row { result ≡ slice_get (rows_in self.now) place }
+    // The row at an index, where there is one.
+    fn row(&self, index: usize) -> Option<SheetRow>
+        ensures row { result ≡ slice_get (rows_in self.now) index }
     {
         match self {
-            Lines::Plain(rows) => rows.get(place).copied(),
+            Lines::Plain(rows) => rows.get(index).copied(),
             Lines::Squares(section, estate, squares) => {
-                let square = squares.get(place)?;
+                let square = squares.get(index)?;
                 Some(square.row(*section, *estate))
             }
         }
@@ -165,9 +165,9 @@ const FEW: usize = 16;
 fn run_of(rows: &[SheetRow], estate: Estate) -> usize
     ensures run { result ≤ length rows.now }
 {
-    for place in 0..rows.len() {
-        if !same_estate(rows[place].estate, estate) {
-            return place;
+    for index in 0..rows.len() {
+        if !same_estate(rows[index].estate, estate) {
+            return index;
         }
     }
     rows.len()
@@ -207,17 +207,17 @@ fn count_rows(parts: &[Part]) -> Option<usize>
     Some(count)
 }
 
-// The row at a place of the rows of parts, one part after another, where there is one.
-fn row_at(parts: &[Part], place: usize) -> Option<SheetRow>
-    ensures row { result ≡ slice_get (all_rows parts.now) place }
+// The row at an index of the rows of parts, one part after another, where there is one.
+fn row_at(parts: &[Part], index: usize) -> Option<SheetRow>
+    ensures row { result ≡ slice_get (all_rows parts.now) index }
 {
     let (first, rest) = parts.split_first()?;
     let lines = first.lines();
     let count = lines.len();
-    if place < count {
-        return lines.row(place);
+    if index < count {
+        return lines.row(index);
     }
-    row_at(rest, place - count)
+    row_at(rest, index - count)
 }
 
 impl Parts {
@@ -288,13 +288,13 @@ impl SheetRows {
         }
     }
 
-    /// The row at a place, from 0, where there is one.
-    pub fn row(&self, place: usize) -> Option<SheetRow>
-        ensures row { result ≡ slice_get self.now place }
+    /// The row at an index, from 0, where there is one.
+    pub fn row(&self, index: usize) -> Option<SheetRow>
+        ensures row { result ≡ slice_get self.now index }
     {
         match self.sheet() {
-            Sheet::Whole(lines) => lines.row(place),
-            Sheet::Parted(parts) => row_at(parts.as_slice(), place),
+            Sheet::Whole(lines) => lines.row(index),
+            Sheet::Parted(parts) => row_at(parts.as_slice(), index),
         }
     }
 

@@ -68,7 +68,7 @@ impl Answer {
             (Answer::Rows(a), Answer::Rows(b)) => same_sheets(a, b),
             (Answer::Entries(a), Answer::Entries(b)) => same_entries(a.as_slice(), b.as_slice()),
             (Answer::Posted, Answer::Posted) => true,
-            (Answer::Refused(rule, estate, node), Answer::Refused(other, part, place)) => {
+            (Answer::Refused(rule, estate, node), Answer::Refused(other, part, other_node)) => {
                 same_rule(*rule, *other) && same_estate(*estate, *part) && node.is(place)
             }
             _ => false,

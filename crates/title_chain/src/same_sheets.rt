@@ -36,14 +36,14 @@ fn same_parts(a: &[Part], b: &[Part]) -> bool
     true
 }
 
-// Whether two sheets have the same row in a place, or both have none there.
-fn same_at(a: &SheetRows, b: &SheetRows, place: usize) -> bool
-    ensures same { (result ≡ true) ↔ (slice_get a.now place ≡ slice_get b.now place) }
+// Whether two sheets have the same row at an index, or both have none there.
+fn same_at(a: &SheetRows, b: &SheetRows, index: usize) -> bool
+    ensures same { (result ≡ true) ↔ (slice_get a.now index ≡ slice_get b.now index) }
 {
-    let Some(row) = a.row(place) else {
-        return b.row(place).is_none();
+    let Some(row) = a.row(index) else {
+        return b.row(index).is_none();
     };
-    let Some(other) = b.row(place) else {
+    let Some(other) = b.row(index) else {
         return false;
     };
     same_row(&row, &other)
@@ -54,8 +54,8 @@ fn same_row_by_row(a: &SheetRows, b: &SheetRows) -> bool
     requires as_many { length a.now ≡ length b.now }
     ensures same { (result ≡ true) ↔ (a.now ≡ b.now) }
 {
-    for place in 0..a.len() {
-        if !same_at(a, b, place) {
+    for index in 0..a.len() {
+        if !same_at(a, b, index) {
             return false;
         }
     }

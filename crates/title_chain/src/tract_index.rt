@@ -86,8 +86,8 @@ impl TractIndex {
     {
         self.filing.read_on(self.alloc, &self.records)?;
         let mut entries = Vec::new(self.alloc);
-        // The places are let go last, so that the chain's own memory isn't taken from theirs, which then serves the next chain's.
-        let _places = self
+        // The spots are let go last, so that the chain's own memory isn't taken from theirs, which then serves the next chain's.
+        let _spots = self
             .filing
             .add_entries(self.alloc, &mut entries, &self.records, tract)?;
         own.add_entries(self.alloc, &mut entries, tract)?;

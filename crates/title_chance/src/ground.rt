@@ -148,19 +148,19 @@ impl Ground {
         self.tracts.as_slice()
     }
 
-    /// The tract of a place; the whole past the last.
-    pub fn at(&self, place: u32) -> &Tract {
-        self.tracts.get(place as usize).unwrap_or(&self.whole)
+    /// The tract of an index; the whole past the last.
+    pub fn at(&self, index: u32) -> &Tract {
+        self.tracts.get(index as usize).unwrap_or(&self.whole)
     }
 
-    /// Any place, or the one past the last.
-    pub fn any_place(&self, chance: &mut Chance) -> u32 {
+    /// Any index, or the one past the last.
+    pub fn any_index(&self, chance: &mut Chance) -> u32 {
         let count = u32::try_from(self.tracts.len()).unwrap_or(0);
         chance.below(count.saturating_add(1))
     }
 
     /// Any of the tracts.
     pub fn any(&self, chance: &mut Chance) -> &Tract {
-        self.at(self.any_place(chance))
+        self.at(self.any_index(chance))
     }
 }

@@ -12,7 +12,7 @@ use title_trace::Request;
 /// The parties of the plant.
 pub const PARTIES: u32 = 4;
 
-/// What an examiner wishes for in a transaction: a tract is named by its place in the ground, an instrument by the seed that
+/// What an examiner wishes for in a transaction: a tract is named by its index in the ground, an instrument by the seed that
 /// makes it.
 #[derive(Clone, Copy)]
 pub enum StepWish {
@@ -105,20 +105,20 @@ fn post(alloc: Global, tract: &Tract, seed: u32, doc: u64) -> Result<Ask, AllocE
 impl StepWish {
     /// A chain in one of eight, a sheet in three, and else a post.
     pub fn any(chance: &mut Chance, ground: &Ground) -> StepWish {
-        let place = ground.any_place(chance);
+        let index = ground.any_index(chance);
         match chance.below(8) {
-            0 => StepWish::Chain(place),
-            1..=3 => StepWish::Sheet(place),
-            _ => StepWish::Post(place, chance.below(u32::MAX)),
+            0 => StepWish::Chain(index),
+            1..=3 => StepWish::Sheet(index),
+            _ => StepWish::Post(index, chance.below(u32::MAX)),
         }
     }
 
     /// The ask for it; a post makes a document with this number.
     pub fn ask(self, alloc: Global, ground: &Ground, doc: u64) -> Result<Ask, AllocError> {
         Ok(match self {
-            StepWish::Sheet(place) => Ask::Sheet(ground.at(place).copy(alloc)?),
-            StepWish::Chain(place) => Ask::Chain(ground.at(place).copy(alloc)?),
-            StepWish::Post(place, seed) => post(alloc, ground.at(place), seed, doc)?,
+            StepWish::Sheet(index) => Ask::Sheet(ground.at(index).copy(alloc)?),
+            StepWish::Chain(index) => Ask::Chain(ground.at(index).copy(alloc)?),
+            StepWish::Post(index, seed) => post(alloc, ground.at(index), seed, doc)?,
         })
     }
 }
@@ -129,12 +129,12 @@ impl Wish {
         if !is_open {
             return Wish::Begin;
         }
-        let place = ground.any_place(chance);
+        let index = ground.any_index(chance);
         match chance.below(16) {
             0 => Wish::Commit,
             1 | 2 => Wish::Abort,
-            3..=5 => Wish::Step(StepWish::Sheet(place)),
-            _ => Wish::Step(StepWish::Post(place, chance.below(u32::MAX))),
+            3..=5 => Wish::Step(StepWish::Sheet(index)),
+            _ => Wish::Step(StepWish::Post(index, chance.below(u32::MAX))),
         }
     }
 

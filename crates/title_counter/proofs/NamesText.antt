@@ -12,8 +12,8 @@ use Rattle.std.proofs.lemmas.Bool.{and_parts, cases_Bool, not-true, or_from, or_
 use Rattle.std.proofs.lemmas.Bool.Decides.{nat_tests}
 use Rattle.csv.specs.Records.{AllText}
 use Rattle.indexmap.specs.IndexSet.{insert_key}
-use Rattle.title_land.specs.declared.place.Township.{Township}
-use Rattle.title_land.specs.Places.{same_township}
+use Rattle.title_land.specs.declared.survey.Township.{Township}
+use Rattle.title_land.specs.Survey.{same_township}
 use Rattle.title_store.specs.Plants.{IsEachOnce}
 use Rattle.title_chain.specs.Alone.{most_parties}
 use Rattle.title_trace.specs.Due.{most_townships}

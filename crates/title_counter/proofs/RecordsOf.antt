@@ -12,7 +12,7 @@ use Rattle.csv.specs.declared.parser.State.{State}
 use Rattle.csv.specs.declared.parser.State.TheVariants as st
 use Rattle.title_plan.specs.Plans.{rows_in}
 use Rattle.title_counter.specs.Founds.{found_among, has_line_feed}
-use Rattle.title_counter.specs.Places.{read_in}
+use Rattle.title_counter.specs.Positions.{read_in}
 use Rattle.title_counter.specs.declared.found.Found.TheVariants as found
 use Rattle.title_counter.specs.declared.reading.Taken.{Taken}
 
@@ -54,7 +54,7 @@ unmarked xs e = rw (strips xs) (rw e refl)
 
 -- a byte does a to the fields and to the field at hand, and leaves the reading at t
 module _ (s t : State) (a : Action) (fields fields2 : List (List ℕ)) (field field2 xs : List ℕ) (i : ℕ) (lt : i < length xs)
-    (place : t ≡ (step default_config s (get_or xs i 0)).0) (act : a ≡ (step default_config s (get_or xs i 0)).1)
+    (position : t ≡ (step default_config s (get_or xs i 0)).0) (act : a ≡ (step default_config s (get_or xs i 0)).1)
     (got : fields2 ≡ fields_after a fields field) where
   -- one that ends no record: the reading goes on behind it
   pub goes_on : is_end a ≡ false → field2 ≡ field_after a (get_or xs i 0) field
@@ -62,7 +62,7 @@ module _ (s t : State) (a : Action) (fields fields2 : List (List ℕ)) (field fi
   unfolding next_record
   goes_on e at_hand =
       let no : is_end (step default_config s (get_or xs i 0)).1 ≡ false = rw act at e in
-      rw (drop_more xs i 0 lt) (rw at_hand (rw got (rw place (rw act (rw no refl)))))
+      rw (drop_more xs i 0 lt) (rw at_hand (rw got (rw position (rw act (rw no refl)))))
 
   -- one that ends a record
   pub ends_here : is_end a ≡ true
@@ -70,7 +70,7 @@ module _ (s t : State) (a : Action) (fields fields2 : List (List ℕ)) (field fi
   unfolding next_record
   ends_here e =
       let yes : is_end (step default_config s (get_or xs i 0)).1 ≡ true = rw act at e in
-      rw (drop_more xs i 0 lt) (rw got (rw place (rw act (rw yes refl))))
+      rw (drop_more xs i 0 lt) (rw got (rw position (rw act (rw yes refl))))
 
 nothing_behind : (xs : List ℕ) → drop (length xs) xs ≡ []
 nothing_behind [] = refl

@@ -6,8 +6,8 @@ use Rattle.std.specs.Prelude.{codes}
 use Rattle.std.specs.Fmt.{decimal}
 use Rattle.std.specs.List.{list_any}
 use Rattle.std.proofs.lemmas.Bool.{not-false, not-true}
-use Rattle.title_land.specs.declared.place.Township.{Township}
-use Rattle.title_land.specs.Places.{same_township}
+use Rattle.title_land.specs.declared.survey.Township.{Township}
+use Rattle.title_land.specs.Survey.{same_township}
 use Rattle.title_store.specs.Plants.{Plant}
 use Rattle.title_chain.specs.declared.record.Record.{Record}
 use Rattle.title_trace.specs.declared.call.Call.{Call}

@@ -1,7 +1,7 @@
 -- A counter, and what is answered to a row there. Lists of calls have the newest first.
 use Rattle.std.specs.Prelude.{ℕ, ◌+◌, Bool, true, false, cond, List, [], ◌∷◌, codes, length, nat_le, Option, Some, None, Result, Ok, Err}
 use Rattle.std.specs.Fmt.{decimal}
-use Rattle.title_land.specs.declared.place.Township.{Township}
+use Rattle.title_land.specs.declared.survey.Township.{Township}
 use Rattle.title_chain.specs.Alone.{most_parties}
 use Rattle.title_trace.specs.declared.call.Call.{Call}
 use Rattle.title_trace.specs.Due.{Setting}
@@ -21,7 +21,7 @@ use Rattle.title_counter.specs.Limits.{longest_line}
 use Rattle.title_counter.specs.declared.found.Found.{Found}
 use Rattle.title_counter.specs.declared.found.Found.TheVariants as found
 
--- what rows have come to so far: the townships; the names of the parties, whose numbers are their places from 0; how many rows there
+-- what rows have come to so far: the townships; the names of the parties, whose numbers are their indices from 0; how many rows there
 -- were, and how many step rows that were served or whose description is none; whether no township may be declared any more; and the
 -- desk's trace
 pub record Counter : Type 0 where

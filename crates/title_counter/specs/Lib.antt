@@ -1,7 +1,7 @@
 pub mod Limits
 pub mod Lines
 pub mod Founds
-pub mod Places
+pub mod Positions
 pub mod Closings
 pub mod Counters
 pub mod Sessions

@@ -2,7 +2,7 @@
 
 ghost use Rattle.std.specs.Prelude.{◌≡◌, ◌⊎◌, ◌∷◌, ◌++◌, ◌||◌, [], Ok, Err, IfErr, IfOk, OnErr, length, nat_le};
 ghost use Rattle.std.specs.List.{list_any};
-ghost use Rattle.title_land.specs.Places.{same_township};
+ghost use Rattle.title_land.specs.Survey.{same_township};
 ghost use Rattle.title_plan.specs.declared.fault.ScriptFault.TheVariants as fault;
 ghost use Rattle.title_plan.specs.Plans.{with_party};
 ghost use Rattle.title_trace.specs.Due.{most_townships};

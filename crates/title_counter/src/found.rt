@@ -6,7 +6,7 @@ ghost use Rattle.csv.specs.Records.{fields_of};
 ghost use Rattle.title_plan.specs.Plans.{rows_in};
 ghost use Rattle.title_counter.specs.Founds.{found_among, found_of, has_line_feed, is_spoilt};
 
-use crate::reading::{Place, Taken, read_next, without_mark};
+use crate::reading::{Position, Taken, read_next, without_mark};
 use csv::ByteRecord;
 use std::alloc::{AllocError, Global};
 
@@ -45,10 +45,10 @@ pub(crate) fn read_line(alloc: Global, text: &[u8]) -> Result<Found<ByteRecord>,
     ensures found { IfOk result (λ found. found_of found ≡ found_among (rows_in text.now)) }
 {
     let line = without_mark(text);
-    let Some(first) = read_next(alloc, line, 0, Place::RecordStart)? else {
+    let Some(first) = read_next(alloc, line, 0, Position::RecordStart)? else {
         return Ok(Found::Blank);
     };
-    let second = read_next(alloc, line, first.next, first.place)?;
+    let second = read_next(alloc, line, first.next, first.position)?;
     if second.is_some() {
         return Ok(Found::Spoilt);
     }
@@ -57,7 +57,7 @@ pub(crate) fn read_line(alloc: Global, text: &[u8]) -> Result<Found<ByteRecord>,
     }
     let Taken {
         raw,
-        place: _,
+        position: _,
         next: _,
     } = first;
     Ok(Found::Row(raw))

@@ -6,14 +6,14 @@ ghost use Rattle.csv.specs.Machine.{start_record, step};
 ghost use Rattle.csv.specs.Reading.{default_config, strip_bom};
 ghost use Rattle.csv.specs.Records.{fields_of, partial_of};
 ghost use Rattle.csv.specs.declared.parser.State.TheVariants as st;
-ghost use Rattle.title_counter.specs.Places.{action_of, read_in, state_of};
+ghost use Rattle.title_counter.specs.Positions.{action_of, read_in, state_of};
 
 use csv::ByteRecord;
 use std::alloc::{AllocError, Global};
 
 /// Where in a text a reading stands.
 #[derive(Clone, Copy, PartialEq, Eq)]
-pub(crate) enum Place {
+pub(crate) enum Position {
     RecordStart,
     FieldStart,
     Plain,
@@ -34,7 +34,7 @@ pub(crate) enum Act {
 /// A byte's act, and where the reading stands behind it.
 #[derive(Clone, Copy)]
 pub(crate) struct Step {
-    pub place: Place,
+    pub position: Position,
     pub act: Act,
 }
 
@@ -42,7 +42,7 @@ pub(crate) struct Step {
 #[derive(Drop)]
 pub(crate) struct Taken {
     pub raw: ByteRecord,
-    pub place: Place,
+    pub position: Position,
     pub next: usize,
 }
 
@@ -55,26 +55,26 @@ struct Begun {
 
 // A byte of a field that isn't in quotes.
 fn step_in_field(byte: u8) -> Step
-    ensures place { state_of result.place ≡ (in_field default_config byte).0 }
+    ensures position { state_of result.position ≡ (in_field default_config byte).0 }
     ensures act { action_of result.act ≡ (in_field default_config byte).1 }
 {
-    let (place, act) = match byte {
-        b',' => (Place::FieldStart, Act::EndField),
-        b'\r' => (Place::AfterReturn, Act::EndRecord),
-        b'\n' => (Place::RecordStart, Act::EndRecord),
-        _ => (Place::Plain, Act::Copy),
+    let (position, act) = match byte {
+        b',' => (Position::FieldStart, Act::EndField),
+        b'\r' => (Position::AfterReturn, Act::EndRecord),
+        b'\n' => (Position::RecordStart, Act::EndRecord),
+        _ => (Position::Plain, Act::Copy),
     };
-    Step { place, act }
+    Step { position, act }
 }
 
 // The first byte of a field.
 fn step_at_field(byte: u8) -> Step
-    ensures place { state_of result.place ≡ (start_field default_config byte).0 }
+    ensures position { state_of result.position ≡ (start_field default_config byte).0 }
     ensures act { action_of result.act ≡ (start_field default_config byte).1 }
 {
     if byte == b'"' {
         return Step {
-            place: Place::Quoted,
+            position: Position::Quoted,
             act: Act::Skip,
         };
     }
@@ -83,12 +83,12 @@ fn step_at_field(byte: u8) -> Step
 
 // The first byte of a record, or an end of a line before it.
 fn step_at_record(byte: u8) -> Step
-    ensures place { state_of result.place ≡ (start_record default_config byte).0 }
+    ensures position { state_of result.position ≡ (start_record default_config byte).0 }
     ensures act { action_of result.act ≡ (start_record default_config byte).1 }
 {
     if byte == b'\r' || byte == b'\n' {
         return Step {
-            place: Place::RecordStart,
+            position: Position::RecordStart,
             act: Act::Skip,
         };
     }
@@ -97,29 +97,29 @@ fn step_at_record(byte: u8) -> Step
 
 // A byte within quotes.
 fn step_in_quotes(byte: u8) -> Step
-    ensures place { state_of result.place ≡ (step default_config st.InQuoted byte).0 }
+    ensures position { state_of result.position ≡ (step default_config st.InQuoted byte).0 }
     ensures act { action_of result.act ≡ (step default_config st.InQuoted byte).1 }
 {
     if byte == b'"' {
         return Step {
-            place: Place::QuoteEnd,
+            position: Position::QuoteEnd,
             act: Act::Skip,
         };
     }
     Step {
-        place: Place::Quoted,
+        position: Position::Quoted,
         act: Act::Copy,
     }
 }
 
 // A byte behind a quote within quotes.
 fn step_at_quote(byte: u8) -> Step
-    ensures place { state_of result.place ≡ (step default_config st.AfterQuote byte).0 }
+    ensures position { state_of result.position ≡ (step default_config st.AfterQuote byte).0 }
     ensures act { action_of result.act ≡ (step default_config st.AfterQuote byte).1 }
 {
     if byte == b'"' {
         return Step {
-            place: Place::Quoted,
+            position: Position::Quoted,
             act: Act::Copy,
         };
     }
@@ -128,31 +128,31 @@ fn step_at_quote(byte: u8) -> Step
 
 // A byte behind a carriage return that has ended a record.
 fn step_after_return(byte: u8) -> Step
-    ensures place { state_of result.place ≡ (step default_config st.AfterCr byte).0 }
+    ensures position { state_of result.position ≡ (step default_config st.AfterCr byte).0 }
     ensures act { action_of result.act ≡ (step default_config st.AfterCr byte).1 }
 {
     if byte == b'\n' {
         return Step {
-            place: Place::RecordStart,
+            position: Position::RecordStart,
             act: Act::Skip,
         };
     }
     step_at_record(byte)
 }
 
-impl Place {
+impl Position {
     // What a byte does here.
     fn step(self, byte: u8) -> Step
-        ensures place { state_of result.place ≡ (step default_config (state_of self) byte).0 }
+        ensures position { state_of result.position ≡ (step default_config (state_of self) byte).0 }
         ensures act { action_of result.act ≡ (step default_config (state_of self) byte).1 }
     {
         match self {
-            Place::RecordStart => step_at_record(byte),
-            Place::FieldStart => step_at_field(byte),
-            Place::Plain => step_in_field(byte),
-            Place::Quoted => step_in_quotes(byte),
-            Place::QuoteEnd => step_at_quote(byte),
-            Place::AfterReturn => step_after_return(byte),
+            Position::RecordStart => step_at_record(byte),
+            Position::FieldStart => step_at_field(byte),
+            Position::Plain => step_in_field(byte),
+            Position::Quoted => step_in_quotes(byte),
+            Position::QuoteEnd => step_at_quote(byte),
+            Position::AfterReturn => step_after_return(byte),
         }
     }
 
@@ -161,8 +161,8 @@ impl Place {
         ensures within { result ≡ ends_at_end (state_of self) }
     {
         match self {
-            Place::RecordStart | Place::AfterReturn => false,
-            Place::FieldStart | Place::Plain | Place::Quoted | Place::QuoteEnd => true,
+            Position::RecordStart | Position::AfterReturn => false,
+            Position::FieldStart | Position::Plain | Position::Quoted | Position::QuoteEnd => true,
         }
     }
 }
@@ -233,39 +233,43 @@ pub(crate) fn without_mark(text: &[u8]) -> &[u8]
     }
 }
 
-/// The next record of a text from this byte and this place on; `None` where there is none.
+/// The next record of a text from this byte and this position on; `None` where there is none.
 pub(crate) fn read_next(
     alloc: Global,
     text: &[u8],
     from: usize,
-    place: Place,
+    position: Position,
 ) -> Result<Option<Taken>, AllocError>
     requires within { from ≤ length text.now }
     ensures read { IfOk result (λ taken. option_map (read_in text.now) taken
-        ≡ next_record default_config (state_of place) [] [] (drop from text.now)) }
+        ≡ next_record default_config (state_of position) [] [] (drop from text.now)) }
     ensures left { IfOk result (λ taken. IfSome taken (λ t. t.next ≤ length text.now)) }
 {
     let mut begun = Begun::new(alloc);
-    let mut place = place;
+    let mut position = position;
     for at in from..text.len() {
         let byte = text[at];
-        let step = place.step(byte);
+        let step = position.step(byte);
         begun.take(step.act, byte)?;
-        place = step.place;
+        position = step.position;
         if ends(step.act) {
             let Begun { raw, field: _ } = begun;
             let next = at + 1;
-            return Ok(Some(Taken { raw, place, next }));
+            return Ok(Some(Taken {
+                raw,
+                position,
+                next,
+            }));
         }
     }
-    if !place.is_within() {
+    if !position.is_within() {
         return Ok(None);
     }
     begun.end_field()?;
     let Begun { raw, field: _ } = begun;
     Ok(Some(Taken {
         raw,
-        place: Place::RecordStart,
+        position: Position::RecordStart,
         next: text.len(),
     }))
 }

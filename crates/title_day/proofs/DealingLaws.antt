@@ -68,14 +68,14 @@ dealt_at q e (suc i) (hand ∷ hands) d h inside =
     rw (cond-false (examiner_of q == e) (with_request q hand) hand other)
     (ap (λ (hs : List Hand). hand ∷ hs) (dealt_at q (suc e) i hands d (omega (arith, h)) (omega (arith, inside))))
 
--- the hand at its examiner's place takes a request
-pub request_dealt : (q : Request) (l : Line) (hands : List Hand) (place : ℕ) (old new : Hand) → l ≡ line.Asks q →
-    IsAskedBy (length hands) l → place ≡ examiner_of q - 1 → old ≡ get_or hands place old → new ≡ with_request q old →
-    set hands place new ≡ with_line_each 1 l hands
-request_dealt q l hands place old new is asked at was then =
+-- the hand at its examiner's index takes a request
+pub request_dealt : (q : Request) (l : Line) (hands : List Hand) (index : ℕ) (old new : Hand) → l ≡ line.Asks q →
+    IsAskedBy (length hands) l → index ≡ examiner_of q - 1 → old ≡ get_or hands index old → new ≡ with_request q old →
+    set hands index new ≡ with_line_each 1 l hands
+request_dealt q l hands index old new is asked at was then =
     let own = subst (IsAskedBy (length hands)) is asked in
-    ap (λ (h : Hand). set hands place h) (then ∙ ap (with_request q) was)
-    ∙ dealt_at q 1 place hands old (omega (arith, own.0, at)) (omega (arith, own.0, own.1, at))
+    ap (λ (h : Hand). set hands index h) (then ∙ ap (with_request q) was)
+    ∙ dealt_at q 1 index hands old (omega (arith, own.0, at)) (omega (arith, own.0, own.1, at))
     ∙ ap (λ (x : Line). with_line_each 1 x hands) (sym is)
 
 -- scripts that tell what hands come to are those of the steps

@@ -3,7 +3,7 @@
 use Rattle.std.specs.Prelude.{◌≡◌, ◌+◌, ◌==◌, ℕ, suc, Bool, false, cond, List, [], ◌∷◌, ◌++◌, length, reverse, map, filter, sum}
 use Rattle.title_land.specs.Depth.{depth}
 use Rattle.title_land.specs.Lands.{is_in_plant}
-use Rattle.title_land.specs.declared.place.Township.{Township}
+use Rattle.title_land.specs.declared.survey.Township.{Township}
 use Rattle.title_land.specs.declared.tract.Land.TheVariants as land
 use Rattle.title_chain.specs.declared.ask.Ask.TheVariants as ask
 use Rattle.title_chain.specs.declared.record.Record.{Record}

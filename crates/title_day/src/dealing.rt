@@ -29,8 +29,8 @@ fn deal_line(alloc: Global, hands: &mut VecDeque<Hand>, line: Line) -> Result<()
     ensures dealt { OnOk result (hands.new.items ≡ with_line_each 1 line hands.old.items) }
 {
     if let Line::Asks(request) = line {
-        let place = (request.examiner() - 1) as usize;
-        hands[place].take(alloc, request)?;
+        let index = (request.examiner() - 1) as usize;
+        hands[index].take(alloc, request)?;
     }
     Ok(())
 }

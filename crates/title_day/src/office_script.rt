@@ -17,7 +17,7 @@ use title_land::Township;
 use title_office::Script;
 use title_plan::{Plan, Schedule, ScriptFault, read_script};
 
-/// What the script of an office asks for: the parties' names, which have their numbers as places, the townships, what each examiner
+/// What the script of an office asks for: the parties' names, which have their numbers as indices, the townships, what each examiner
 /// from 1 on is to do, and how many step rows there are.
 #[derive(Drop)]
 pub struct OfficeScript {

@@ -13,7 +13,7 @@ use Rattle.title_daybook.specs.KeptRows.{between, after_kept_row, after_last_row
 use Rattle.title_daybook.specs.Lines.{fields_in, lines_of, said_by, IsFirstLine}
 use Rattle.title_daybook.proofs.FirstLines.{some_line}
 
--- rows of a text were read up to a place: what is left comes to what the whole does
+-- rows of a text were read up to one of them: what is left comes to what the whole does
 pub record IsUpTo (first : ℕ) (text : List ℕ) (start : Progress) (n at : ℕ) (p : Progress) : Type 0 where
   pub within : at ≤ length text
   pub few : n ≤ first + at
@@ -80,7 +80,7 @@ no_fields p line e = rw e refl
 abbrev pub contents : List (Vec ℕ Global) → List (List ℕ)
 contents texts = map (λ text. text.items) texts
 
--- blocks were read up to a place: what is left comes to what all do
+-- blocks were read up to one of them: what is left comes to what all do
 pub record AreUpTo (texts : List (Vec ℕ Global)) (n i : ℕ) (p : Progress) : Type 0 where
   pub rows : after_blocks 2 (between nothing_standing) (contents texts) ≡ after_blocks n p (contents (drop i texts))
   pub few : n + length (flat_map counted (contents (drop i texts))) < 2 ^ 63

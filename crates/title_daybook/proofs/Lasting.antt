@@ -5,7 +5,7 @@ use Rattle.std.proofs.Common.{Result, Ok, Err, refl, sym, ap, subst, arith}
 use Rattle.std.specs.List.{flat_map, AllByRecursion}
 use Rattle.std.proofs.lemmas.List.{reverse-append, reverse-reverse, take_at}
 use Rattle.std.proofs.Math.Seq.{drop-append_seam}
-use Rattle.title_land.specs.declared.place.Township.{Township as TownshipPlace}
+use Rattle.title_land.specs.declared.survey.Township.{Township as SurveyTownship}
 use Rattle.title_chain.specs.declared.record.Record.{Record}
 use Rattle.title_journal.specs.Blocks.{IsBlock}
 use Rattle.title_spelling.specs.Laws.{MarksReadBack, OnlyEndsEnd, PostsReadBack, RowsAreLines}
@@ -51,7 +51,7 @@ module _ (are_lines : RowsAreLines) (only_ends : OnlyEndsEnd) (marks : MarksRead
       let whole = ap length on.records_are ∙ length-append on.records old.records in omega (arith, whole) in
       let rs : take (length new.records - length old.records) new.records ≡ on.records =
       ap (take (length new.records - length old.records)) on.records_are ∙ take_at on.records old.records _ size in
-      ap (λ (l : List TownshipPlace). rows_of l (drop (length old.names) new.names)
+      ap (λ (l : List SurveyTownship). rows_of l (drop (length old.names) new.names)
       (reverse (take (length new.records - length old.records) new.records)) (length new.records)) ts
       ∙ ap (λ (l : List (List ℕ)). rows_of on.townships l (reverse (take (length new.records - length old.records) new.records))
       (length new.records)) ns
@@ -63,11 +63,11 @@ module _ (are_lines : RowsAreLines) (only_ends : OnlyEndsEnd) (marks : MarksRead
       let after_townships : Standing = record { townships = new.townships; names = old.names; records = old.records } in
       let after_names : Standing = record { townships = new.townships; names = new.names; records = old.records } in
       let first : Takes marks posts_read new.names can.names can.texts (map Township on.townships) (between old) (between after_townships) =
-      subst (λ (l : List TownshipPlace). Takes marks posts_read new.names can.names can.texts (map Township on.townships) (between old)
+      subst (λ (l : List SurveyTownship). Takes marks posts_read new.names can.names can.texts (map Township on.townships) (between old)
       (between (record { townships = l; names = old.names; records = old.records }))) (sym on.townships_are)
       (townships marks posts_read new.names can.names can.texts on.townships old
-      (subst (λ (l : List TownshipPlace). length l ≤ most_townships) on.townships_are can.few_townships)
-      (subst (λ (l : List TownshipPlace). each_once l ≡ true) on.townships_are can.once)) in
+      (subst (λ (l : List SurveyTownship). length l ≤ most_townships) on.townships_are can.few_townships)
+      (subst (λ (l : List SurveyTownship). each_once l ≡ true) on.townships_are can.once)) in
       let second = parties marks posts_read new.names can.names can.texts on.names after_townships (sym on.names_are) can.few_names in
       let kept = all_turned (IsKept new.names) on.records
       (all_front (IsKept new.names) on.records old.records (subst (AllByRecursion (IsKept new.names)) on.records_are can.records)) in

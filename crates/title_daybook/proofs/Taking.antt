@@ -10,8 +10,8 @@ use Rattle.std.proofs.lemmas.Bool.Decides.{nat_tests}
 use Rattle.std.proofs.lemmas.List.{append-nil, reverse-append}
 use Rattle.std.proofs.lemmas.List.Folds.{list_any-append}
 use Rattle.std.proofs.lemmas.Slice.Eq.{bytes_eq-Decides}
-use Rattle.title_land.specs.declared.place.Township.{Township as TownshipPlace}
-use Rattle.title_land.specs.Places.{same_township}
+use Rattle.title_land.specs.declared.survey.Township.{Township as SurveyTownship}
+use Rattle.title_land.specs.Survey.{same_township}
 use Rattle.title_land.specs.Texts.{township_text}
 use Rattle.title_chain.specs.declared.ask.Terms.{Terms}
 use Rattle.title_chain.specs.declared.ask.Step.{Step}
@@ -39,7 +39,7 @@ use Rattle.title_daybook.proofs.Utf8Fields.{fields_text}
 
 -- ---- nothing is declared twice
 
-once_apart : (xs : List TownshipPlace) (t : TownshipPlace) (ys : List TownshipPlace) → each_once (xs ++ t ∷ ys) ≡ true
+once_apart : (xs : List SurveyTownship) (t : SurveyTownship) (ys : List SurveyTownship) → each_once (xs ++ t ∷ ys) ≡ true
     → list_any (λ other. same_township other t) xs ≡ false
 once_apart [] t ys h = refl
 once_apart (x ∷ xs) t ys h =
@@ -113,7 +113,7 @@ module _ (marks : MarksReadBack) (posts_read : PostsReadBack) (names : List (Lis
 
   -- ---- townships
 
-  one_township : (s : Standing) (t : TownshipPlace) → length s.townships < most_townships
+  one_township : (s : Standing) (t : SurveyTownship) → length s.townships < most_townships
       → list_any (λ other. same_township other t) s.townships ≡ false
       → given (said_by (fields_of names (Township t))) (after_said (between s))
       ≡ Some (between (record { townships = s.townships ++ t ∷ []; names = s.names; records = s.records }))
@@ -122,24 +122,24 @@ module _ (marks : MarksReadBack) (posts_read : PostsReadBack) (names : List (Lis
       says (Township t) (said.Township (township_text t)) (between s) (fields_text names (Township t) texts tt tt) back.0
       ∙ rw (back.1, not_full (length s.townships) most_townships few, apart) refl
 
-  pub townships : (ts : List TownshipPlace) (s : Standing) → length (s.townships ++ ts) ≤ most_townships
+  pub townships : (ts : List SurveyTownship) (s : Standing) → length (s.townships ++ ts) ≤ most_townships
       → each_once (s.townships ++ ts) ≡ true
       → Takes (map Township ts) (between s) (between (record { townships = s.townships ++ ts; names = s.names; records = s.records }))
   unfolding Takes
   townships [] s few once =
-      ap (λ (ts : List TownshipPlace). between (record { townships = ts; names = s.names; records = s.records })) (sym (append-nil
+      ap (λ (ts : List SurveyTownship). between (record { townships = ts; names = s.names; records = s.records })) (sym (append-nil
       s.townships))
   townships (t ∷ ts) s few once =
       let next : Standing = record { townships = s.townships ++ t ∷ []; names = s.names; records = s.records } in
       let same = append_assoc s.townships (t ∷ []) ts in
       let short : length s.townships < most_townships = omega (arith, length-append s.townships (t ∷ ts)) in
-      let more = townships ts next (subst (λ (l : List TownshipPlace). length l ≤ most_townships) (sym same) few)
-      (subst (λ (l : List TownshipPlace). each_once l ≡ true) (sym same) once) in (
+      let more = townships ts next (subst (λ (l : List SurveyTownship). length l ≤ most_townships) (sym same) few)
+      (subst (λ (l : List SurveyTownship). each_once l ≡ true) (sym same) once) in (
         between next,
         tt,
         tt,
         one_township s t short (once_apart s.townships t ts once),
-        subst (λ (l : List TownshipPlace). Takes (map Township ts) (between next)
+        subst (λ (l : List SurveyTownship). Takes (map Township ts) (between next)
             (between (record { townships = l; names = s.names; records = s.records }))) same more,
       )
 

@@ -1,7 +1,7 @@
 -- The block that adds to what stands what is new.
 use Rattle.std.specs.Prelude.{◌≡◌, ℕ, ◌-◌, ◌==◌, cond, List, [], ◌∷◌, ◌++◌, drop, length, map, reverse, take, Option, Some, None}
 use Rattle.std.specs.List.{flat_map}
-use Rattle.title_land.specs.declared.place.Township.{Township}
+use Rattle.title_land.specs.declared.survey.Township.{Township}
 use Rattle.title_chain.specs.declared.ask.Answer.{Answer}
 use Rattle.title_chain.specs.declared.ask.Answer.TheVariants as answer
 use Rattle.title_chain.specs.declared.ask.Ask.{Ask}

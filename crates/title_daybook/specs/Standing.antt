@@ -1,9 +1,9 @@
 -- What stands in a plant's file. Lists of records have the newest first; a record has its steps the oldest first.
 use Rattle.std.specs.Prelude.{ℕ, List, [], ◌∷◌, codes}
-use Rattle.title_land.specs.declared.place.Township.{Township}
+use Rattle.title_land.specs.declared.survey.Township.{Township}
 use Rattle.title_chain.specs.declared.record.Record.{Record}
 
--- the townships; the names of the parties, whose numbers are their places from 0; and the records, each of whose steps was posted
+-- the townships; the names of the parties, whose numbers are their indices from 0; and the records, each of whose steps was posted
 pub record Standing : Type 0 where
   pub townships : List Township
   pub names : List (List ℕ)

@@ -4,7 +4,7 @@ ghost use Rattle.std.specs.Prelude.{◌≡◌, ◌≤◌, ◌∷◌, ◌++◌, �
 ghost use Rattle.std.specs.List.{list_any};
 ghost use Rattle.indexmap.specs.IndexSet.{index_set_len};
 ghost use Rattle.title_chain.specs.Alone.{most_parties};
-ghost use Rattle.title_land.specs.Places.{same_township};
+ghost use Rattle.title_land.specs.Survey.{same_township};
 ghost use Rattle.title_plan.specs.Townships.{each_once};
 ghost use Rattle.title_trace.specs.Due.{most_townships};
 
@@ -18,7 +18,7 @@ use title_trace::{MOST_PARTIES, MOST_TOWNSHIPS};
 /// The name of party 0.
 const FIRST_PARTY: &str = "UNITED STATES";
 
-/// What stands in a plant's file: its townships, each once; its parties, who have their numbers as places, UNITED STATES being 0;
+/// What stands in a plant's file: its townships, each once; its parties, who have their numbers as indices, UNITED STATES being 0;
 /// and the deeds of its transactions, the oldest first.
 #[derive(Drop)]
 pub struct Standing {

@@ -3,8 +3,8 @@ use Rattle.std.proofs.Common.{◌≡◌, ◌≢◌, ℕ, Bool, true, false, ◌&
 use Rattle.title_land.specs.Depth.{depth}
 use Rattle.std.proofs.lemmas.Bool.{eqb-true, eqb-false, and_parts, and_from, or_parts, or_from, or_right, false_from_ne_true, both_ways}
 use Rattle.std.proofs.lemmas.Bool.{cases_eq, cases_Bool}
-use Rattle.title_land.specs.declared.place.Township.{Township}
-use Rattle.title_land.specs.declared.place.Cell.{Cell}
+use Rattle.title_land.specs.declared.survey.Township.{Township}
+use Rattle.title_land.specs.declared.survey.Cell.{Cell}
 use Rattle.title_store.specs.Plants.{Plant, is_cell_of}
 use Rattle.title_store.specs.Loans.{Loan}
 use Rattle.title_chain.specs.declared.ask.Ask.{Ask}

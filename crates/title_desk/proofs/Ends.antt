@@ -4,8 +4,8 @@ use Rattle.std.proofs.Common.{ap, ◌∙◌, sym, subst, eqb, inl, inr}
 use Rattle.title_land.specs.Depth.{depth}
 use Rattle.std.proofs.lemmas.Bool.{cases_Bool, cases_eq, or_cases, and_parts, ne_eqb}
 use Rattle.std.proofs.lemmas.List.{reverse-reverse}
-use Rattle.title_land.specs.declared.place.Township.{Township}
-use Rattle.title_land.specs.declared.place.Cell.{Cell}
+use Rattle.title_land.specs.declared.survey.Township.{Township}
+use Rattle.title_land.specs.declared.survey.Cell.{Cell}
 use Rattle.title_land.specs.declared.tract.Land.{Land}
 use Rattle.title_store.specs.Plants.{Plant, is_cell_of}
 use Rattle.title_store.specs.Loans.{Loan, IsAmong}

@@ -17,16 +17,16 @@ use Rattle.title_land.specs.Depth.{depth}
 use Rattle.title_land.specs.Lands.{home_of, meets}
 use Rattle.title_land.specs.Grids.{has_some, grids_meet}
 use Rattle.title_land.specs.NodeNumbers.{node_number}
-use Rattle.title_land.specs.Places.{same_township, same_section}
+use Rattle.title_land.specs.Survey.{same_township, same_section}
 use Rattle.title_land.specs.Laws.NodeNumbers.{number_at, same_square_number}
 use Rattle.title_land.specs.Laws.SameLand.{same_township-is, same_township-self, same_section-is}
 use Rattle.title_land.specs.Laws.SameNode.{same_node-is}
 use Rattle.title_land.specs.Nodes.{same_node, is_above, are_related}
 use Rattle.title_land.specs.declared.node.Node.{Node}
 use Rattle.title_land.specs.declared.node.Node.TheVariants as node
-use Rattle.title_land.specs.declared.place.Cell.{Cell}
-use Rattle.title_land.specs.declared.place.Section.{Section}
-use Rattle.title_land.specs.declared.place.Township.{Township}
+use Rattle.title_land.specs.declared.survey.Cell.{Cell}
+use Rattle.title_land.specs.declared.survey.Section.{Section}
+use Rattle.title_land.specs.declared.survey.Township.{Township}
 use Rattle.title_land.specs.declared.tract.Land.{Land}
 use Rattle.title_land.specs.declared.tract.Land.TheVariants as land
 use Rattle.title_store.specs.Plants.{Plant, is_cell_of}

@@ -4,7 +4,7 @@ use Rattle.std.proofs.Common.{subst, ◌⊎◌, inl, inr, arith, map}
 use Rattle.title_land.specs.Depth.{depth}
 use Rattle.std.proofs.lemmas.Bool.{or_parts, cond_both, cond-false}
 use Rattle.std.proofs.lemmas.List.{reverse-append, reverse-reverse}
-use Rattle.title_land.specs.declared.place.Township.{Township}
+use Rattle.title_land.specs.declared.survey.Township.{Township}
 use Rattle.title_land.specs.Lands.{meets}
 use Rattle.title_store.specs.Plants.{Plant, SameContent, is_cell_of}
 use Rattle.title_store.specs.Loans.{Loan, IsAmong, IsLentAs, IsOut, without, IsLast, IsFirst}
@@ -16,7 +16,7 @@ use Rattle.title_chain.specs.Overlaps.{overlaps, Clear}
 use Rattle.title_desk.specs.Images.{is_posted, IsOf, Backs, Peels, Backed, without_all, Restorable, Forgettable, posted_at, put_back}
 use Rattle.title_desk.specs.Images.{IsRestored}
 use Rattle.title_desk.proofs.Content.{case_eqb, post_of}
-use Rattle.title_land.specs.declared.place.Cell.{Cell}
+use Rattle.title_land.specs.declared.survey.Cell.{Cell}
 use Rattle.title_chain.specs.Laws.AskLaws.{effect_outside}
 
 -- what is out without one number

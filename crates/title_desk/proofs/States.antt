@@ -1,7 +1,7 @@
--- States of a desk that look the same, and a call's place in the trace.
+-- States of a desk that look the same, and where a call stands in the trace.
 use Rattle.std.proofs.Common.{◌≡◌, ℕ, Bool, true, false, cond, List, [], ◌∷◌, refl, ap, ◌∙◌, sym, subst, eqb, None}
 use Rattle.std.proofs.Math.Path.{fun_ext}
-use Rattle.title_land.specs.declared.place.Township.{Township}
+use Rattle.title_land.specs.declared.survey.Township.{Township}
 use Rattle.title_store.specs.Plants.{Plant, SameContent}
 use Rattle.title_store.specs.Loans.{Loan}
 use Rattle.title_lock.specs.declared.guards.Entry.{Entry}

@@ -2,8 +2,8 @@
 use Rattle.std.proofs.Common.{◌≡◌, ◌≢◌, ℕ, Bool, true, false, cond, ◌&&◌, ◌||◌, List, ◌∷◌, refl, ap, ◌∙◌, sym, subst, eqb, Option, Some}
 use Rattle.std.proofs.Common.{None, Result, Ok, Err, is_err, OnOk, OnErr, ◌<◌, [], ◌++◌, ◌⊎◌, inl, inr, arith}
 use Rattle.title_land.specs.Depth.{depth}
-use Rattle.title_land.specs.declared.place.Township.{Township}
-use Rattle.title_land.specs.declared.place.Cell.{Cell}
+use Rattle.title_land.specs.declared.survey.Township.{Township}
+use Rattle.title_land.specs.declared.survey.Cell.{Cell}
 use Rattle.title_land.specs.declared.tract.Land.{Land}
 use Rattle.title_land.specs.Lands.{meets}
 use Rattle.title_store.specs.Plants.{Plant, Refusal, is_cell_of, refused_in, SameContent, plant_effect}

@@ -1,8 +1,8 @@
 -- The headline: what is true of a desk after any list of requests. Lists of calls and records here have the newest first.
 use Rattle.std.specs.Prelude.{◌≡◌, ℕ, true, false, List, ◌∷◌}
 use Rattle.title_land.specs.Depth.{depth}
-use Rattle.title_land.specs.declared.place.Cell.{Cell}
-use Rattle.title_land.specs.declared.place.Township.{Township}
+use Rattle.title_land.specs.declared.survey.Cell.{Cell}
+use Rattle.title_land.specs.declared.survey.Township.{Township}
 use Rattle.title_share.specs.Rows.{total, whole_units}
 use Rattle.title_share.specs.Division.{rows_of}
 use Rattle.title_instrument.specs.declared.parts.Estate.{Estate}

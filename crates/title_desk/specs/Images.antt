@@ -1,8 +1,8 @@
 -- Before-images of open transactions, by their numbers. Lists of steps and of images here have the newest first.
 use Rattle.std.specs.Prelude.{◌≡◌, ℕ, ◌<◌, Bool, true, false, cond, ◌&&◌, ◌||◌, List, [], ◌∷◌, ◌⊎◌}
 use Rattle.title_land.specs.Depth.{depth}
-use Rattle.title_land.specs.declared.place.Township.{Township}
-use Rattle.title_land.specs.declared.place.Cell.{Cell}
+use Rattle.title_land.specs.declared.survey.Township.{Township}
+use Rattle.title_land.specs.declared.survey.Cell.{Cell}
 use Rattle.title_store.specs.Plants.{Plant, SameContent, is_cell_of}
 use Rattle.title_store.specs.Loans.{Loan, IsLentAs, IsOut, IsLast, IsFirst, without}
 use Rattle.title_chain.specs.declared.ask.Step.{Step}

@@ -1,8 +1,8 @@
 -- A desk's state, and what its parts have to do with each other and with its trace.
 use Rattle.std.specs.Prelude.{◌≡◌, ℕ, ◌≤◌, Bool, true, false, List}
 use Rattle.title_land.specs.Depth.{depth}
-use Rattle.title_land.specs.declared.place.Township.{Township}
-use Rattle.title_land.specs.declared.place.Cell.{Cell}
+use Rattle.title_land.specs.declared.survey.Township.{Township}
+use Rattle.title_land.specs.declared.survey.Cell.{Cell}
 use Rattle.title_lock.specs.declared.guards.Entry.{Entry}
 use Rattle.title_lock.specs.Overlaps.{against}
 use Rattle.title_store.specs.Plants.{Plant}

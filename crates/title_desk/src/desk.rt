@@ -4,7 +4,7 @@ ghost use Rattle.std.specs.Prelude.{MatchOption, None, Some, ◌≡◌, ◌≢�
 ghost use Rattle.title_land.specs.Depth.{depth};
 ghost use Rattle.title_land.specs.Lands.{is_in_plant};
 ghost use Rattle.title_store.specs.Plants.{IsEachOnce};
-ghost use Rattle.title_land.specs.declared.place.Cell.{Cell};
+ghost use Rattle.title_land.specs.declared.survey.Cell.{Cell};
 ghost use Rattle.title_trace.specs.declared.call.Request.TheVariants.{Begin, Step, Commit, Abort};
 ghost use Rattle.title_trace.specs.declared.call.Reply.TheVariants.{Aborted, Denied, Memory};
 ghost use Rattle.title_chain.specs.declared.ask.Ask.TheVariants.{Post};

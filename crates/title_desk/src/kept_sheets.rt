@@ -7,7 +7,7 @@ ghost use Rattle.title_land.specs.Depth.{depth};
 ghost use Rattle.title_land.specs.Lands.{home_of, land_of};
 ghost use Rattle.title_land.specs.NodeNumbers.{node_number};
 ghost use Rattle.title_land.specs.declared.node.Node.TheVariants.{Part as Square};
-ghost use Rattle.title_land.specs.declared.place.Township.{Township};
+ghost use Rattle.title_land.specs.declared.survey.Township.{Township};
 ghost use Rattle.title_land.specs.declared.tract.Land.TheVariants.{Township as WholeTownship};
 ghost use Rattle.title_store.specs.Plants.{Plant as Content};
 ghost use Rattle.title_store.specs.Sheets.{estate_sheet, sheet_of};
@@ -63,7 +63,7 @@ pub(crate) enum Kept {
 #[derive(Drop)]
 pub(crate) struct Home {
     shown: Vec<Shown>,
-    // The place whose sheet goes where there are as many as may be and another is to be kept: the places take turns.
+    // The slot whose sheet goes where there are as many as may be and another is to be kept: the slots take turns.
     turn: usize,
     quarters: Vec<Quartered>,
     // Whether the last sheet of the section was long: a hint, on which no clause rests.
@@ -207,7 +207,7 @@ impl Home {
             .retain(|one| !(estates.has(one.estate) && one.tract.meets(tract)));
     }
 
-    // Keeps a sheet, in the place of another where there are as many as may be; where memory is refused it isn't kept.
+    // Keeps a sheet, in the slot of another where there are as many as may be; where memory is refused it isn't kept.
     fn keep_sheet(&mut self, shown: Shown)
         ensures kept { (townships : List Township) (content : Content) (number : ℕ)
             → All (λ x. IsKept townships content number (OfSheet x)) self.old.shown.items
@@ -222,9 +222,9 @@ impl Home {
             let _ = self.shown.push(shown);
             return;
         }
-        let place = self.turn % MOST_SHOWN;
-        self.turn = place + 1;
-        if let Some(old) = self.shown.get_mut(place) {
+        let slot = self.turn % MOST_SHOWN;
+        self.turn = slot + 1;
+        if let Some(old) = self.shown.get_mut(slot) {
             *old = shown;
         }
     }

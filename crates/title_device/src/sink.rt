@@ -6,7 +6,7 @@ ghost use Rattle.std.specs.Io.KnownBytes.{WriteAppends};
 
 use crate::fault::Failed;
 
-/// A place that takes bytes in turns, as a file, a pipe or memory.
+/// What takes bytes in turns, as a file, a pipe or memory.
 pub trait Sink {
     // The bytes that pushes have taken so far, where they are known.
     ghost taken: { Self → Option (List ℕ) } = { λ _. None };

@@ -3,7 +3,7 @@ use Rattle.std.specs.Prelude.{◌≡◌, ◌⊎◌, ℕ, ◌+◌, ◌≤◌, min
 use Rattle.title_disk.specs.declared.fault.DiskFault.{DiskFault}
 use Rattle.title_disk.specs.declared.fault.DiskFault.TheVariants.{Memory, Failed}
 
--- new is old with these bytes at this place
+-- new is old with these bytes at this offset
 abbrev pub Holds : List ℕ → ℕ → List ℕ → List ℕ → Type 0
 Holds old at bytes new = new ≡ take at old ++ bytes ++ drop (at + length bytes) old
 

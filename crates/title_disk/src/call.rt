@@ -5,7 +5,7 @@
 pub enum DiskCall {
     /// The file was read.
     Read,
-    /// These bytes were written at this place.
+    /// These bytes were written at this offset.
     Write(usize, Vec<u8>),
     /// The file was cut to this length.
     Cut(usize),

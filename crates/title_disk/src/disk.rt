@@ -7,7 +7,7 @@ ghost use Rattle.title_disk.specs.Crashes.{Holds, Torn, Cut, Follows, Only, Elap
 use crate::fault::{DiskFailed, DiskFault};
 use std::alloc::Global;
 
-/// A file that is read whole, written at a place, cut, and synced. What a crash may leave is any content that
+/// A file that is read whole, written at an offset, cut, and synced. What a crash may leave is any content that
 /// the calls since the last sync allow. After a call has failed nothing more is asked of a disk.
 pub trait Disk {
     // The bytes that a read returns.

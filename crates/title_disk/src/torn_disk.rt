@@ -210,7 +210,7 @@ fn cut(
     Ok(())
 }
 
-// A content with other bytes from a place on.
+// A content with other bytes from an offset on.
 fn overwritten(
     alloc: Global,
     content: &[u8],

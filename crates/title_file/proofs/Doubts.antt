@@ -50,14 +50,14 @@ beginning_of_tail (suc (suc len)) (gate ∷ byte ∷ bytes) ends = ends
 -- ---- bytes written over bytes
 
 -- one byte over another
-over_one : (front rest : List ℕ) (old new place : ℕ) → length front ≡ place
-    → after (written place (new ∷ []) true) (front ++ old ∷ rest) ≡ front ++ new ∷ rest
-over_one front rest old new place is =
+over_one : (front rest : List ℕ) (old new offset : ℕ) → length front ≡ offset
+    → after (written offset (new ∷ []) true) (front ++ old ∷ rest) ≡ front ++ new ∷ rest
+over_one front rest old new offset is =
     let content = front ++ old ∷ rest in
     let regrouped : content ≡ (front ++ old ∷ []) ++ rest = sym (append_assoc front (old ∷ []) rest) in
-    let behind : drop (place + 1) content ≡ rest =
-    ap (drop (place + 1)) regrouped ∙ drop_at (front ++ old ∷ []) rest (place + 1) (omega (arith, is, length-append front (old ∷ []))) in
-    ap (λ (l : List ℕ). l ++ new ∷ [] ++ drop (place + 1) content) (take_at front (old ∷ rest) place is)
+    let behind : drop (offset + 1) content ≡ rest =
+    ap (drop (offset + 1)) regrouped ∙ drop_at (front ++ old ∷ []) rest (offset + 1) (omega (arith, is, length-append front (old ∷ []))) in
+    ap (λ (l : List ℕ). l ++ new ∷ [] ++ drop (offset + 1) content) (take_at front (old ∷ rest) offset is)
     ∙ ap (λ (l : List ℕ). (front ++ new ∷ []) ++ l) behind
     ∙ append_assoc front (new ∷ []) rest
 
@@ -78,11 +78,11 @@ over_tail front (byte ∷ bytes) kept end is (inr shorter) =
 
 -- the last open gate, where it stands open
 gate_again : (head : List ℕ) (blocks : List (List ℕ)) (kept : List ℕ) (opened : Option ℕ)
-    → IfSome opened (λ place. (earlier : List (List ℕ)) × (last : List ℕ)
-    × (blocks ≡ earlier ++ last ∷ []) × (place ≡ length (front_of head earlier)))
+    → IfSome opened (λ offset. (earlier : List (List ℕ)) × (last : List ℕ)
+    × (blocks ≡ earlier ++ last ∷ []) × (offset ≡ length (front_of head earlier)))
     → with_gate opened (front_of head blocks ++ kept) ≡ front_of head blocks ++ kept
 gate_again head blocks kept None is = refl
-gate_again head blocks kept (Some place) is =
+gate_again head blocks kept (Some offset) is =
     let earlier = is.0 in
     let last = is.1 in
     let front = front_of head earlier in
@@ -91,7 +91,7 @@ gate_again head blocks kept (Some place) is =
     ap (λ (b : List (List ℕ)). front_of head b ++ kept) is.2
     ∙ ap (λ (l : List ℕ). l ++ kept) (sym (flat_map_more counted head earlier last))
     ∙ append_assoc front (counted last) kept in
-    ap (with_gate (Some place)) regrouped ∙ over_one front rest open_gate open_gate place (sym is.3) ∙ sym regrouped
+    ap (with_gate (Some offset)) regrouped ∙ over_one front rest open_gate open_gate offset (sym is.3) ∙ sym regrouped
 
 module _ (head : List ℕ) (blocks : List (List ℕ)) (whole : AllByRecursion IsBlock blocks) where
   -- where no gate is in doubt that is read as open
@@ -102,8 +102,8 @@ module _ (head : List ℕ) (blocks : List (List ℕ)) (whole : AllByRecursion Is
       let front = front_of head blocks in
       let blocks_are : are.blocks ≡ blocks = same_ok are.blocks blocks (sym are.stand ∙ stands head blocks tail whole ends) in
       let end_is : length front ≡ gates.end = sym (are.end ∙ ap (λ (b : List (List ℕ)). length (front_of head b)) blocks_are) in
-      let opened = subst (λ (b : List (List ℕ)). IfSome gates.opened (λ place. (earlier : List (List ℕ)) × (last : List ℕ)
-      × (b ≡ earlier ++ last ∷ []) × (place ≡ length (front_of head earlier)))) blocks_are are.opened in
+      let opened = subst (λ (b : List (List ℕ)). IfSome gates.opened (λ offset. (earlier : List (List ℕ)) × (last : List ℕ)
+      × (b ≡ earlier ++ last ∷ []) × (offset ≡ length (front_of head earlier)))) blocks_are are.opened in
       ap (λ (l : List ℕ). with_tail gates.end l (with_gate gates.opened (front ++ kept))) (drop_at front tail gates.end end_is)
       ∙ ap (with_tail gates.end tail) (gate_again head blocks kept gates.opened opened)
       ∙ over_tail front tail kept gates.end end_is longer
@@ -118,12 +118,12 @@ module _ (head : List ℕ) (blocks : List (List ℕ)) (whole : AllByRecursion Is
 
     -- the gate that is in doubt is the last open one
     gate_opened : (opened : Option ℕ) (kept : ℕ)
-        → IfSome opened (λ place. (earlier : List (List ℕ)) × (last : List ℕ)
-        × (more ≡ earlier ++ last ∷ []) × (place ≡ length (front_of head earlier)))
+        → IfSome opened (λ offset. (earlier : List (List ℕ)) × (last : List ℕ)
+        × (more ≡ earlier ++ last ∷ []) × (offset ≡ length (front_of head earlier)))
         → IfNone opened (more ≡ [])
         → with_gate opened (front_of head blocks ++ behind_gate block kept) ≡ front_of head blocks ++ behind_gate block open_gate
     gate_opened None kept is none = absurd (omega (arith, ap length none, length-append blocks (block ∷ [])))
-    gate_opened (Some place) kept is none =
+    gate_opened (Some offset) kept is none =
         let earlier = is.0 in
         let last = is.1 in
         let many : length earlier ≡ length blocks =
@@ -131,7 +131,7 @@ module _ (head : List ℕ) (blocks : List (List ℕ)) (whole : AllByRecursion Is
         let same : earlier ≡ blocks =
         sym (take_at earlier (last ∷ []) (length blocks) many) ∙ ap (take (length blocks)) (sym is.2)
         ∙ take_at blocks (block ∷ []) (length blocks) refl in
-        over_one (front_of head blocks) (line_feed ∷ (block ++ closed_gate ∷ [])) kept open_gate place
+        over_one (front_of head blocks) (line_feed ∷ (block ++ closed_gate ∷ [])) kept open_gate offset
         (sym (is.3 ∙ ap (λ (b : List (List ℕ)). length (front_of head b)) same))
 
     opened_again : (read kept : ℕ) (gates : Gates) → read ≡ open_gate
@@ -146,8 +146,8 @@ module _ (head : List ℕ) (blocks : List (List ℕ)) (whole : AllByRecursion Is
         let blocks_are : are.blocks ≡ more = same_ok are.blocks more (sym are.stand ∙ ap (blocks_behind head) seen_is
         ∙ stands head more closed (all_and_one blocks block whole is_block) tt) in
         let end_is : length front ≡ gates.end = sym (are.end ∙ ap (λ (b : List (List ℕ)). length (front_of head b)) blocks_are) in
-        let opened = subst (λ (b : List (List ℕ)). IfSome gates.opened (λ place. (earlier : List (List ℕ)) × (last : List ℕ)
-        × (b ≡ earlier ++ last ∷ []) × (place ≡ length (front_of head earlier)))) blocks_are are.opened in
+        let opened = subst (λ (b : List (List ℕ)). IfSome gates.opened (λ offset. (earlier : List (List ℕ)) × (last : List ℕ)
+        × (b ≡ earlier ++ last ∷ []) × (offset ≡ length (front_of head earlier)))) blocks_are are.opened in
         let unopened = subst (λ (b : List (List ℕ)). IfNone gates.opened (b ≡ [])) blocks_are are.unopened in
         ap (λ (s : List ℕ). written_again s gates (front_of head blocks ++ behind_gate block kept)) seen_is
         ∙ ap (λ (l : List ℕ). with_tail gates.end l (with_gate gates.opened (front_of head blocks ++ behind_gate block kept)))

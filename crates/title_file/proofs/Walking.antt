@@ -15,17 +15,17 @@ use Rattle.title_file.specs.Fronts.{AreGates, blocks_behind, front_of}
 -- the gate that was opened last is that of the last block
 abbrev pub IsLast : List ℕ → List (List ℕ) → Option ℕ → Type 0
 IsLast head blocks opened =
-    IfSome opened (λ place. (earlier : List (List ℕ)) × (last : List ℕ)
-    × (blocks ≡ earlier ++ last ∷ []) × (place ≡ length (front_of head earlier)))
+    IfSome opened (λ offset. (earlier : List (List ℕ)) × (last : List ℕ)
+    × (blocks ≡ earlier ++ last ∷ []) × (offset ≡ length (front_of head earlier)))
     × IfNone opened (blocks ≡ [])
 
--- a file was walked up to a place
-pub record IsWalked (head file : List ℕ) (opened : Option ℕ) (place : ℕ) : Type 0 where
+-- a file was walked up to an offset
+pub record IsWalked (head file : List ℕ) (opened : Option ℕ) (offset : ℕ) : Type 0 where
   pub blocks : List (List ℕ)
   pub starts : starts_with nat_eq file head ≡ true
-  pub within : place ≤ length file
-  pub place_is : place ≡ length (front_of head blocks)
-  pub behind : drop (length head) file ≡ flat_map counted blocks ++ drop place file
+  pub within : offset ≤ length file
+  pub offset_is : offset ≡ length (front_of head blocks)
+  pub behind : drop (length head) file ≡ flat_map counted blocks ++ drop offset file
   pub whole : AllByRecursion IsBlock blocks
   pub last : IsLast head blocks opened
 
@@ -36,7 +36,7 @@ walk_begun head file starts =
       blocks = [];
       starts = starts;
       within = omega (arith, ap length is, length-append head (drop (length head) file));
-      place_is = ap length (sym (append-nil head));
+      offset_is = ap length (sym (append-nil head));
       behind = refl;
       whole = tt;
       last = (tt, refl);
@@ -58,65 +58,65 @@ pub all_and_one : (blocks : List (List ℕ)) (block : List ℕ) → AllByRecursi
 all_and_one [] block whole is = (is, tt)
 all_and_one (first ∷ blocks) block whole is = (whole.0, all_and_one blocks block whole.1 is)
 
-module _ (head file : List ℕ) (opened : Option ℕ) (place : ℕ) (walked : IsWalked head file opened place) where
+module _ (head file : List ℕ) (opened : Option ℕ) (offset : ℕ) (walked : IsWalked head file opened offset) where
   abbrev number : ℕ
   number = 2 + rows_in (flat_map counted walked.blocks)
 
-  stands_so_far : blocks_behind head file ≡ all_before walked.blocks (blocks_from number AtGate (drop place file))
+  stands_so_far : blocks_behind head file ≡ all_before walked.blocks (blocks_from number AtGate (drop offset file))
   stands_so_far = cond-true (starts_with nat_eq file head) _ _ walked.starts ∙ ap (blocks_from 2 AtGate) walked.behind
-      ∙ some_blocks 2 walked.blocks (drop place file) walked.whole
+      ∙ some_blocks 2 walked.blocks (drop offset file) walked.whole
 
-  two_bytes : place + 1 < length file → drop place file ≡ get_or file place 0 ∷ get_or file (place + 1) 0 ∷ drop (place + 2) file
+  two_bytes : offset + 1 < length file → drop offset file ≡ get_or file offset 0 ∷ get_or file (offset + 1) 0 ∷ drop (offset + 2) file
   two_bytes within =
-      drop_more file place 0 (omega arith)
-      ∙ ap (λ (l : List ℕ). get_or file place 0 ∷ l) (drop_more file (place + 1) 0 within
-      ∙ ap (λ (n : ℕ). get_or file (place + 1) 0 ∷ drop n file) (omega arith))
+      drop_more file offset 0 (omega arith)
+      ∙ ap (λ (l : List ℕ). get_or file offset 0 ∷ l) (drop_more file (offset + 1) 0 within
+      ∙ ap (λ (n : ℕ). get_or file (offset + 1) 0 ∷ drop n file) (omega arith))
 
   -- what follows is a tail
-  ended : IsTail (drop place file) → AreGates head file (record { opened = opened; end = place })
+  ended : IsTail (drop offset file) → AreGates head file (record { opened = opened; end = offset })
   ended ends = record {
     blocks = walked.blocks;
-    stand = stands_so_far ∙ ap (all_before walked.blocks) (tail_is_nothing number (drop place file) ends)
+    stand = stands_so_far ∙ ap (all_before walked.blocks) (tail_is_nothing number (drop offset file) ends)
         ∙ ap Ok (append-nil walked.blocks);
     opened = walked.last.0;
     unopened = walked.last.1;
-    end = walked.place_is;
+    end = walked.offset_is;
     within = walked.within;
   }
 
   -- a gate that isn't open
-  pub shut : place + 1 < length file → (get_or file place 0 ≡ open_gate → ⊥)
-      → AreGates head file (record { opened = opened; end = place })
+  pub shut : offset + 1 < length file → (get_or file offset 0 ≡ open_gate → ⊥)
+      → AreGates head file (record { opened = opened; end = offset })
   shut within is_not = ended (subst IsTail (sym (two_bytes within)) is_not)
 
   -- a gate that is the last byte, or none
-  pub at_the_end : length file ≤ place + 1 → AreGates head file (record { opened = opened; end = place })
-  at_the_end short = ended (short_tail (drop place file) (omega (arith, length-drop place file)))
+  pub at_the_end : length file ≤ offset + 1 → AreGates head file (record { opened = opened; end = offset })
+  at_the_end short = ended (short_tail (drop offset file) (omega (arith, length-drop offset file)))
 
-  module _ (within : place + 1 < length file) (gate : get_or file place 0 ≡ open_gate) where
-    pub no_line_feed : (get_or file (place + 1) 0 ≡ line_feed → ⊥) → IsErr (blocks_behind head file)
+  module _ (within : offset + 1 < length file) (gate : get_or file offset 0 ≡ open_gate) where
+    pub no_line_feed : (get_or file (offset + 1) 0 ≡ line_feed → ⊥) → IsErr (blocks_behind head file)
     no_line_feed is_not =
-        let feed = get_or file (place + 1) 0 in
+        let feed = get_or file (offset + 1) 0 in
         subst IsErr (sym (stands_so_far
         ∙ ap (λ (l : List ℕ). all_before walked.blocks (blocks_from number AtGate l)) (two_bytes within
-        ∙ ap (λ (g : ℕ). g ∷ feed ∷ drop (place + 2) file) gate)
+        ∙ ap (λ (g : ℕ). g ∷ feed ∷ drop (offset + 2) file) gate)
         ∙ ap (all_before walked.blocks) (cond-false (feed == line_feed) _ _ (ne_eqb feed line_feed is_not)))) refl
 
-    module _ (feed : get_or file (place + 1) 0 ≡ line_feed) where
-      gate_and_feed : drop place file ≡ open_gate ∷ line_feed ∷ drop (place + 2) file
-      gate_and_feed = two_bytes within ∙ ap (λ (g : ℕ). g ∷ get_or file (place + 1) 0 ∷ drop (place + 2) file) gate
-          ∙ ap (λ (b : ℕ). open_gate ∷ b ∷ drop (place + 2) file) feed
+    module _ (feed : get_or file (offset + 1) 0 ≡ line_feed) where
+      gate_and_feed : drop offset file ≡ open_gate ∷ line_feed ∷ drop (offset + 2) file
+      gate_and_feed = two_bytes within ∙ ap (λ (g : ℕ). g ∷ get_or file (offset + 1) 0 ∷ drop (offset + 2) file) gate
+          ∙ ap (λ (b : ℕ). open_gate ∷ b ∷ drop (offset + 2) file) feed
 
-      pub breaks_off : IsUnfinished (drop (place + 2) file) → IsErr (blocks_behind head file)
+      pub breaks_off : IsUnfinished (drop (offset + 2) file) → IsErr (blocks_behind head file)
       breaks_off unfinished =
           subst IsErr (sym (stands_so_far
           ∙ ap (λ (l : List ℕ). all_before walked.blocks (blocks_from number AtGate l)) gate_and_feed
-          ∙ ap (all_before walked.blocks) (unfinished_block (number + 1) (drop (place + 2) file) unfinished))) refl
+          ∙ ap (all_before walked.blocks) (unfinished_block (number + 1) (drop (offset + 2) file) unfinished))) refl
 
-      pub one_block_more : (len : ℕ) → len ≤ length (drop (place + 2) file) → IsBlock (take len (drop (place + 2) file))
-          → IsWalked head file (Some place) (place + 2 + len)
+      pub one_block_more : (len : ℕ) → len ≤ length (drop (offset + 2) file) → IsBlock (take len (drop (offset + 2) file))
+          → IsWalked head file (Some offset) (offset + 2 + len)
       one_block_more len fits is =
-          let rest = drop (place + 2) file in
+          let rest = drop (offset + 2) file in
           let block = take len rest in
           let more = walked.blocks ++ block ∷ [] in
           let front_is : flat_map counted walked.blocks ++ counted block ≡ flat_map counted more =
@@ -124,12 +124,12 @@ module _ (head file : List ℕ) (opened : Option ℕ) (place : ℕ) (walked : Is
           record {
             blocks = more;
             starts = walked.starts;
-            within = omega (arith, length-drop (place + 2) file);
-            place_is =
+            within = omega (arith, length-drop (offset + 2) file);
+            offset_is =
                 omega (
                   arith,
                   length-take-le len rest fits,
-                  walked.place_is,
+                  walked.offset_is,
                   length-append head (flat_map counted walked.blocks),
                   length-append head (flat_map counted more),
                   length-append (flat_map counted walked.blocks) (counted block),
@@ -141,7 +141,7 @@ module _ (head file : List ℕ) (opened : Option ℕ) (place : ℕ) (walked : Is
                 ∙ ap (λ (l : List ℕ). open_gate ∷ line_feed ∷ l) (sym (take-append-drop len rest)))
                 ∙ sym (append_assoc (flat_map counted walked.blocks) (counted block) (drop len rest))
                 ∙ ap (λ (l : List ℕ). l ++ drop len rest) front_is
-                ∙ ap (λ (l : List ℕ). flat_map counted more ++ l) (drop-drop len (place + 2) file);
+                ∙ ap (λ (l : List ℕ). flat_map counted more ++ l) (drop-drop len (offset + 2) file);
             whole = all_and_one walked.blocks block walked.whole is;
-            last = ((walked.blocks, block, refl, walked.place_is), tt);
+            last = ((walked.blocks, block, refl, walked.offset_is), tt);
           }

@@ -6,7 +6,7 @@ use Rattle.title_disk.specs.Crashes.{Torn, Cut}
 pub data Call : Type 0 where
   -- the file had these bytes, all of them on the disk
   opened : List ℕ → Call
-  -- these bytes, at this place
+  -- these bytes, at this offset
   written : ℕ → List ℕ → Bool → Call
   -- to this length
   cut : ℕ → Bool → Call

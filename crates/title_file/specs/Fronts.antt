@@ -16,8 +16,8 @@ front_of head blocks = head ++ flat_map counted blocks
 pub record AreGates (head file : List ℕ) (gates : Gates) : Type 0 where
   pub blocks : List (List ℕ)
   pub stand : blocks_behind head file ≡ Ok blocks
-  pub opened : IfSome gates.opened (λ place. (earlier : List (List ℕ)) × (last : List ℕ)
-      × (blocks ≡ earlier ++ last ∷ []) × (place ≡ length (front_of head earlier)))
+  pub opened : IfSome gates.opened (λ offset. (earlier : List (List ℕ)) × (last : List ℕ)
+      × (blocks ≡ earlier ++ last ∷ []) × (offset ≡ length (front_of head earlier)))
   pub unopened : IfNone gates.opened (blocks ≡ [])
   pub end : gates.end ≡ length (front_of head blocks)
   pub within : gates.end ≤ length file

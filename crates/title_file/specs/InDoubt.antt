@@ -67,7 +67,7 @@ with_opened (Closing read kept) blocks = blocks
 
 abbrev pub with_gate : Option ℕ → List ℕ → List ℕ
 with_gate None content = content
-with_gate (Some place) content = after (written place (open_gate ∷ []) true) content
+with_gate (Some offset) content = after (written offset (open_gate ∷ []) true) content
 
 abbrev pub with_tail : ℕ → List ℕ → List ℕ → List ℕ
 with_tail end [] content = take end content

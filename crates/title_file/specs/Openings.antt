@@ -18,7 +18,7 @@ kept_calls (byte ∷ bytes) is_kept earlier = kept (byte ∷ bytes) is_kept ∷ 
 -- the last open gate is written again
 abbrev pub gate_calls : Option ℕ → List Call → List Call
 gate_calls None earlier = earlier
-gate_calls (Some place) earlier = written place (open_gate ∷ []) true ∷ earlier
+gate_calls (Some offset) earlier = written offset (open_gate ∷ []) true ∷ earlier
 
 -- what lies behind the blocks is written again, or else the length
 abbrev pub tail_calls : ℕ → List ℕ → List Call → List Call

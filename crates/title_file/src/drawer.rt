@@ -195,12 +195,12 @@ fn settle(
     ensures works { IfOk result (λ opened. file_has_failed opened.file ≡ false) }
     ensures kept { IfOk result (λ opened. IsOpening head.now opened.is_kept (calls_of opened.file)) }
 {
-    let place = place_of(rt, path, &file)?;
+    let canonical = canonical_path(rt, path, &file)?;
     let found = file.metadata()?;
     let bytes = read_all(alloc, &mut file)?;
     let Secured { record, is_kept } = secure(rt, alloc, path, &file, &found, head, &bytes)?;
     file.sync_all()?;
-    sync_folder(rt, place)?;
+    sync_folder(rt, canonical)?;
     let record = record.then(&Note::Synced(true));
     Ok(Opened {
         file: PlantFile::opened(file, bytes, &record),
@@ -209,13 +209,16 @@ fn settle(
 }
 
 // Where a file lies that is a regular one, and that its name still means.
-fn place_of(rt: &HostRuntime, path: &str, file: &File) -> io::Result<PathBuf> {
-    let place = fs::canonicalize(rt, path)?;
-    let (found, named) = (file.metadata()?, fs::symlink_metadata(rt, place.as_str())?);
+fn canonical_path(rt: &HostRuntime, path: &str, file: &File) -> io::Result<PathBuf> {
+    let canonical = fs::canonicalize(rt, path)?;
+    let (found, named) = (
+        file.metadata()?,
+        fs::symlink_metadata(rt, canonical.as_str())?,
+    );
     if !found.is_file() || found.dev() != named.dev() || found.ino() != named.ino() {
         return Err(ErrorKind::Unsupported.into());
     }
-    Ok(place)
+    Ok(canonical)
 }
 
 // Keeps what will be cut off, and then writes again what may be other on the disk. What is no plant isn't written to.
@@ -265,9 +268,9 @@ fn write_again(file: &File, gates: Gates, bytes: &[u8], record: &mut Record) -> 
 fn gate_again(file: &File, opened: Option<usize>, record: &mut Record) -> io::Result<()>
     ensures again { OnOk result (record.new.calls ≡ gate_calls opened record.old.calls) }
 {
-    if let Some(place) = opened {
-        file.write_all_at(b"+", place as u64)?;
-        *record = record.then(&Note::Written(place, b"+", true));
+    if let Some(offset) = opened {
+        file.write_all_at(b"+", offset as u64)?;
+        *record = record.then(&Note::Written(offset, b"+", true));
     }
     Ok(())
 }
@@ -308,9 +311,9 @@ fn share(rt: &HostRuntime, alloc: Global, path: &str) -> io::Result<SharedFile>
     ensures works { IfOk result (λ file. shared_has_failed file ≡ false) }
 {
     let mut held = open_to_read(rt, path, Hold::Shared)?;
-    let place = place_of(rt, path, &held.file)?;
+    let canonical = canonical_path(rt, path, &held.file)?;
     held.file.sync_all()?;
-    sync_folder(rt, place)?;
+    sync_folder(rt, canonical)?;
     let bytes = read_all(alloc, &mut held.file)?;
     Ok(SharedFile::new(held, bytes))
 }

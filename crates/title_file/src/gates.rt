@@ -26,19 +26,22 @@ pub(crate) fn find_gates(head: &[u8], file: &[u8]) -> Option<Gates>
         return None;
     }
     let mut opened = None;
-    let mut place = head.len();
-    while place + 1 < file.len() && file[place] == b'+' {
-        if file[place + 1] != b'\n' {
+    let mut offset = head.len();
+    while offset + 1 < file.len() && file[offset] == b'+' {
+        if file[offset + 1] != b'\n' {
             return None;
         }
-        let start = place + 2;
+        let start = offset + 2;
         let Some(len) = block_len(&file[start..]) else {
             return None;
         };
-        opened = Some(place);
-        place = start + len;
+        opened = Some(offset);
+        offset = start + len;
     }
-    Some(Gates { opened, end: place })
+    Some(Gates {
+        opened,
+        end: offset,
+    })
 }
 
 // How long the block is that begins here; none where it isn't whole.

@@ -95,8 +95,8 @@ fn put_behind(file: &File, len: u64, bytes: &[u8]) -> io::Result<()> {
     put
 }
 
-/// Brings the name of a file onto the disk, which is at this place.
-pub(crate) fn sync_folder(rt: &HostRuntime, mut place: PathBuf) -> io::Result<()> {
-    place.pop();
-    File::open(rt, place.as_str())?.sync_all()
+/// Brings the name of a file onto the disk, which is at this path.
+pub(crate) fn sync_folder(rt: &HostRuntime, mut path: PathBuf) -> io::Result<()> {
+    path.pop();
+    File::open(rt, path.as_str())?.sync_all()
 }

@@ -12,7 +12,7 @@ use std::marker::Model;
 pub(crate) enum Note<'a> {
     /// The file was opened with these bytes, all of them on the disk.
     Opened(&'a [u8]),
-    /// These bytes were written at this place.
+    /// These bytes were written at this offset.
     Written(usize, &'a [u8], bool),
     /// The file was cut to this length.
     Cut(usize, bool),

@@ -51,7 +51,7 @@ Maybe A = A <|> Word []
 abbrev pub cons : {V : Type 0} → V → List V → List V
 cons v vs = v ∷ vs
 
--- ---- beginnings of texts, and the place of a fault
+-- ---- beginnings of texts, and the index of a fault
 
 -- p is the beginning of some text of A
 abbrev pub Begins : {V : Type 0} → Language V → List ℕ → Type 0

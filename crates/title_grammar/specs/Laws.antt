@@ -3,6 +3,6 @@ pub mod Exact
 pub mod Repeat
 pub mod Combine
 pub mod Words
-pub mod Places
+pub mod Faults
 pub mod Sets
 pub mod Heads

@@ -14,11 +14,11 @@ names e M = e.m
 abbrev pub names_none : Estates → Bool
 names_none e = not (e.s || e.o || e.m)
 
--- an estate's place in the order S, O, M
-abbrev pub place_in : Estate → ℕ
-place_in S = 0
-place_in O = 1
-place_in M = 2
+-- an estate's index in the order S, O, M
+abbrev pub estate_index : Estate → ℕ
+estate_index S = 0
+estate_index O = 1
+estate_index M = 2
 
 -- the letter of an estate
 abbrev pub letter_of : Estate → ℕ

@@ -5,7 +5,7 @@ use Rattle.title_instrument.specs.declared.parts.Estates.{Estates}
 use Rattle.title_instrument.specs.declared.instrument.Instrument.{Instrument}
 use Rattle.title_instrument.specs.declared.instrument.Instrument.TheVariants as i
 use Rattle.title_instrument.specs.declared.instrument.Deed.{Deed}
-use Rattle.title_instrument.specs.Estates.{place_in}
+use Rattle.title_instrument.specs.Estates.{estate_index}
 
 -- the party that passes units: a deed's grantor, or the releasor
 abbrev pub grantor_of : {P : Type 0} → Instrument P → P
@@ -34,4 +34,4 @@ between (i.Release r) giver taker = i.Release (record { «from» = giver; to = t
 
 -- what a deed reserves in an estate, if anything
 abbrev pub reservation_of : Deed ℕ → Estate → Option ℕ
-reservation_of d e = slice_index_or d.reserve (place_in e) None
+reservation_of d e = slice_index_or d.reserve (estate_index e) None

@@ -6,7 +6,7 @@ use Rattle.std.specs.List.{AllByRecursion, flat_map, starts_with}
 use Rattle.std.proofs.lemmas.Bool.{cases_eq, cases_Bool, cond-true, cond-false, eq-eqb, ne_eqb}
 use Rattle.std.proofs.lemmas.Bool.Decides.{Decides-eqb}
 use Rattle.std.proofs.lemmas.Slice.Eq.{starts_is}
-use Rattle.title_journal.specs.Blocks.{Place, AtGate, InRow, blocks_from, blocks_in, before_others, counted, head, ends_block, line_feed}
+use Rattle.title_journal.specs.Blocks.{State, AtGate, InRow, blocks_from, blocks_in, before_others, counted, head, ends_block, line_feed}
 use Rattle.title_journal.specs.Blocks.{open_gate, IsRow, IsBlock}
 use Rattle.title_journal.specs.Rest.{IsTail, Stands}
 use Rattle.title_journal.proofs.Splitting.{SomeRows, no_rows, one_row_more, last_row_more}
@@ -27,20 +27,20 @@ row_more [] byte is other = (other, tt)
 row_more (first ∷ row) byte is other = (is.0, row_more row byte is.1 other)
 
 -- what a reader has behind it
-abbrev Before : Place → Type 0
+abbrev Before : State → Type 0
 Before AtGate = Unit {0}
 Before (InRow rows start) = SomeRows rows × IsRow start
 
 -- what it finds
-abbrev Found : Place → List ℕ → List (List ℕ) → Type 0
+abbrev Found : State → List ℕ → List (List ℕ) → Type 0
 Found AtGate bytes blocks = (tail : List ℕ) × (bytes ≡ flat_map counted blocks ++ tail) × AllByRecursion IsBlock blocks × IsTail tail
 Found (InRow rows start) bytes blocks =
     (block : List ℕ) × (others : List (List ℕ)) × (tail : List ℕ) × (blocks ≡ block ∷ others)
     × (rows ++ (start ++ bytes) ≡ block ++ (flat_map counted others ++ tail))
     × IsBlock block × AllByRecursion IsBlock others × IsTail tail
 
-found : (number : ℕ) (place : Place) (bytes : List ℕ) (blocks : List (List ℕ)) → Before place → blocks_from number place bytes ≡ Ok blocks
-    → Found place bytes blocks
+found : (number : ℕ) (state : State) (bytes : List ℕ) (blocks : List (List ℕ)) → Before state → blocks_from number state bytes ≡ Ok blocks
+    → Found state bytes blocks
 found number AtGate [] blocks before e = subst (Found AtGate []) (same_ok [] blocks e) ([], refl, tt, tt)
 found number AtGate (gate ∷ []) blocks before e = subst (Found AtGate (gate ∷ [])) (same_ok [] blocks e) (gate ∷ [], refl, tt, tt)
 found number AtGate (gate ∷ feed ∷ bytes) blocks before e = elim (cases_eq gate open_gate) [

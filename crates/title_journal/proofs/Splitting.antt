@@ -75,11 +75,11 @@ row_taken bytes at len within feed =
 
 -- ---- blocks
 
--- a file was split into these blocks up to a place
-pub record IsSplit (file : List ℕ) (blocks : List (List ℕ)) (place : ℕ) : Type 0 where
-  pub within : place ≤ length file
-  pub place_is : place ≡ length (front blocks)
-  pub front_is : file ≡ front blocks ++ drop place file
+-- a file was split into these blocks up to an offset
+pub record IsSplit (file : List ℕ) (blocks : List (List ℕ)) (offset : ℕ) : Type 0 where
+  pub within : offset ≤ length file
+  pub offset_is : offset ≡ length (front blocks)
+  pub front_is : file ≡ front blocks ++ drop offset file
   pub whole : AllByRecursion IsBlock blocks
 
 pub split_begun : (file : List ℕ) → starts_with nat_eq file head ≡ true → IsSplit file [] (length head)
@@ -87,56 +87,56 @@ split_begun file starts =
     let is : file ≡ head ++ drop (length head) file = (starts_is Decides-eqb file head (starts_with nat_eq file head) refl).0 starts in
     record {
       within = omega (arith, ap length is, length-append head (drop (length head) file));
-      place_is = refl;
+      offset_is = refl;
       front_is = is;
       whole =
           tt;
     }
 
-module _ (file : List ℕ) (blocks : List (List ℕ)) (place : ℕ) (split : IsSplit file blocks place) where
-  taken : take place file ≡ front blocks
-  taken = ap (λ (l : List ℕ). take place l) split.front_is ∙ take_at (front blocks) (drop place file) place (sym split.place_is)
+module _ (file : List ℕ) (blocks : List (List ℕ)) (offset : ℕ) (split : IsSplit file blocks offset) where
+  taken : take offset file ≡ front blocks
+  taken = ap (λ (l : List ℕ). take offset l) split.front_is ∙ take_at (front blocks) (drop offset file) offset (sym split.offset_is)
 
-  stands_so_far : blocks_in file ≡ all_before blocks (blocks_from (1 + rows_in (front blocks)) AtGate (drop place file))
-  stands_so_far = ap blocks_in split.front_is ∙ front_and_rest blocks (drop place file) split.whole
+  stands_so_far : blocks_in file ≡ all_before blocks (blocks_from (1 + rows_in (front blocks)) AtGate (drop offset file))
+  stands_so_far = ap blocks_in split.front_is ∙ front_and_rest blocks (drop offset file) split.whole
 
-  two_bytes : place + 1 < length file → drop place file ≡ get_or file place 0 ∷ get_or file (place + 1) 0 ∷ drop (place + 2) file
+  two_bytes : offset + 1 < length file → drop offset file ≡ get_or file offset 0 ∷ get_or file (offset + 1) 0 ∷ drop (offset + 2) file
   two_bytes within =
-      drop_more file place 0 (omega arith)
-      ∙ ap (λ (l : List ℕ). get_or file place 0 ∷ l) (drop_more file (place + 1) 0 within
-      ∙ ap (λ (n : ℕ). get_or file (place + 1) 0 ∷ drop n file) (omega arith))
+      drop_more file offset 0 (omega arith)
+      ∙ ap (λ (l : List ℕ). get_or file offset 0 ∷ l) (drop_more file (offset + 1) 0 within
+      ∙ ap (λ (n : ℕ). get_or file (offset + 1) 0 ∷ drop n file) (omega arith))
 
   -- a gate that isn't open, or is the last byte
-  pub shut : place + 1 < length file → (get_or file place 0 ≡ open_gate → ⊥) → IsTail (drop place file)
+  pub shut : offset + 1 < length file → (get_or file offset 0 ≡ open_gate → ⊥) → IsTail (drop offset file)
   shut within is_not = subst IsTail (sym (two_bytes within)) is_not
 
-  pub at_the_end : length file ≤ place + 1 → IsTail (drop place file)
-  at_the_end short = short_tail (drop place file) (omega (arith, length-drop place file))
+  pub at_the_end : length file ≤ offset + 1 → IsTail (drop offset file)
+  at_the_end short = short_tail (drop offset file) (omega (arith, length-drop offset file))
 
-  module _ (within : place + 1 < length file) (gate : get_or file place 0 ≡ open_gate) where
-    pub no_line_feed : (get_or file (place + 1) 0 ≡ line_feed → ⊥) → blocks_in file ≡ Err (1 + rows_in (take place file))
+  module _ (within : offset + 1 < length file) (gate : get_or file offset 0 ≡ open_gate) where
+    pub no_line_feed : (get_or file (offset + 1) 0 ≡ line_feed → ⊥) → blocks_in file ≡ Err (1 + rows_in (take offset file))
     no_line_feed is_not =
-        let feed = get_or file (place + 1) 0 in
+        let feed = get_or file (offset + 1) 0 in
         stands_so_far
         ∙ ap (λ (l : List ℕ). all_before blocks (blocks_from (1 + rows_in (front blocks)) AtGate l)) (two_bytes within
-        ∙ ap (λ (g : ℕ). g ∷ feed ∷ drop (place + 2) file) gate)
+        ∙ ap (λ (g : ℕ). g ∷ feed ∷ drop (offset + 2) file) gate)
         ∙ ap (all_before blocks) (cond-false (feed == line_feed) _ _ (ne_eqb feed line_feed is_not))
         ∙ ap (λ (l : List ℕ). Err (1 + rows_in l)) (sym taken)
 
-    module _ (feed : get_or file (place + 1) 0 ≡ line_feed) where
-      gate_and_feed : drop place file ≡ open_gate ∷ line_feed ∷ drop (place + 2) file
-      gate_and_feed = two_bytes within ∙ ap (λ (g : ℕ). g ∷ get_or file (place + 1) 0 ∷ drop (place + 2) file) gate
-          ∙ ap (λ (b : ℕ). open_gate ∷ b ∷ drop (place + 2) file) feed
+    module _ (feed : get_or file (offset + 1) 0 ≡ line_feed) where
+      gate_and_feed : drop offset file ≡ open_gate ∷ line_feed ∷ drop (offset + 2) file
+      gate_and_feed = two_bytes within ∙ ap (λ (g : ℕ). g ∷ get_or file (offset + 1) 0 ∷ drop (offset + 2) file) gate
+          ∙ ap (λ (b : ℕ). open_gate ∷ b ∷ drop (offset + 2) file) feed
 
-      pub breaks_off : IsUnfinished (drop (place + 2) file) → blocks_in file ≡ Err (1 + rows_in file)
+      pub breaks_off : IsUnfinished (drop (offset + 2) file) → blocks_in file ≡ Err (1 + rows_in file)
       breaks_off unfinished =
-          let rest = drop (place + 2) file in
+          let rest = drop (offset + 2) file in
           let first = 1 + rows_in (front blocks) in
           let counts : first + 1 + rows_in rest ≡ 1 + rows_in file =
           omega (
             arith,
             ap rows_in split.front_is,
-            rows_in-append (front blocks) (drop place file),
+            rows_in-append (front blocks) (drop offset file),
             ap rows_in gate_and_feed,
             rows_in-append (open_gate ∷ line_feed ∷ []) rest,
           ) in
@@ -145,20 +145,20 @@ module _ (file : List ℕ) (blocks : List (List ℕ)) (place : ℕ) (split : IsS
           ∙ ap (all_before blocks) (unfinished_block (first + 1) rest unfinished)
           ∙ ap (λ (n : ℕ). Err n) counts
 
-      pub one_block_more : (len : ℕ) → len ≤ length (drop (place + 2) file) → IsBlock (take len (drop (place + 2) file))
-          → IsSplit file (blocks ++ take len (drop (place + 2) file) ∷ []) (place + 2 + len)
+      pub one_block_more : (len : ℕ) → len ≤ length (drop (offset + 2) file) → IsBlock (take len (drop (offset + 2) file))
+          → IsSplit file (blocks ++ take len (drop (offset + 2) file) ∷ []) (offset + 2 + len)
       one_block_more len fits is =
-          let rest = drop (place + 2) file in
+          let rest = drop (offset + 2) file in
           let block = take len rest in
           let block_len : length block ≡ len = length-take-le len rest fits in
           record {
-            within = omega (arith, length-drop (place + 2) file);
-            place_is = omega (arith, length-front_more blocks block, block_len, split.place_is);
+            within = omega (arith, length-drop (offset + 2) file);
+            offset_is = omega (arith, length-front_more blocks block, block_len, split.offset_is);
             front_is =
                 split.front_is
                 ∙ ap (λ (l : List ℕ). front blocks ++ l) (gate_and_feed
                 ∙ ap (λ (l : List ℕ). open_gate ∷ line_feed ∷ l) (sym (take-append-drop len rest)))
                 ∙ front_more blocks block (drop len rest)
-                ∙ ap (λ (l : List ℕ). front (blocks ++ block ∷ []) ++ l) (drop-drop len (place + 2) file);
+                ∙ ap (λ (l : List ℕ). front (blocks ++ block ∷ []) ++ l) (drop-drop len (offset + 2) file);
             whole = all_and_one blocks block split.whole is;
           }

@@ -2,7 +2,7 @@
 use Rattle.std.specs.Prelude.{◌≡◌, ◌⊎◌, ℕ, suc, ◌+◌, ◌≤◌, ◌<◌, List, length, take, Result, Ok, IsErr}
 use Rattle.title_journal.specs.Blocks.{front}
 
--- the place of the gate behind this many blocks
+-- the offset of the gate behind this many blocks
 abbrev pub gate_behind : List (List ℕ) → ℕ → ℕ
 gate_behind blocks number = length (front (take number blocks))
 

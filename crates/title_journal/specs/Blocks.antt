@@ -68,18 +68,18 @@ front blocks = head ++ flat_map counted blocks
 -- ---- what stands
 
 -- where a reader is: at a gate, or in a row of a block, with the rows before it and the bytes of it so far
-pub data Place : Type 0 where
-  AtGate : Place
-  InRow : List ℕ → List ℕ → Place
+pub data State : Type 0 where
+  AtGate : State
+  InRow : List ℕ → List ℕ → State
 
 -- a block before those that follow
 abbrev pub before_others : List ℕ → Result (List (List ℕ)) ℕ → Result (List (List ℕ)) ℕ
 before_others block (Ok blocks) = Ok (block ∷ blocks)
 before_others block (Err row) = Err row
 
--- The blocks that stand from a place on, or the number of the row at which the file is no plant. At a gate that isn't open, and
+-- The blocks that stand from a state on, or the number of the row at which the file is no plant. At a gate that isn't open, and
 -- at an open one that is the last byte, nothing more stands.
-abbrev pub blocks_from : ℕ → Place → List ℕ → Result (List (List ℕ)) ℕ
+abbrev pub blocks_from : ℕ → State → List ℕ → Result (List (List ℕ)) ℕ
 blocks_from row AtGate [] = Ok []
 blocks_from row AtGate (gate ∷ []) = Ok []
 blocks_from row AtGate (gate ∷ feed ∷ bytes) =

@@ -26,14 +26,14 @@ pub record Stands (file : List ℕ) (blocks : List (List ℕ)) : Type 0 where
 abbrev pub at_rest : List (List ℕ) → List ℕ
 at_rest blocks = front blocks ++ closed_gate ∷ []
 
--- The file is at rest, and on the disk: the blocks that stand there, and a closed gate at this place.
+-- The file is at rest, and on the disk: the blocks that stand there, and a closed gate at this offset.
 pub record IsAtRest {D : Type 0} (seen : D → List ℕ) (may_leave : D → List ℕ → Type 0) (has_failed : D
     → Bool) (disk : D) (gate : ℕ) : Type 0 where
   pub blocks : List (List ℕ)
   pub stand : blocks_in (seen disk) ≡ Ok blocks
   pub whole : AllByRecursion IsBlock blocks
   pub file : seen disk ≡ at_rest blocks
-  pub place : gate ≡ length (front blocks)
+  pub offset : gate ≡ length (front blocks)
   pub fits : length (seen disk) < 2 ^ 63
   pub durable : Only (seen disk) (may_leave disk)
   pub works : has_failed disk ≡ false
@@ -50,10 +50,10 @@ texts_of found = map (λ text. text.items) found.texts.items
 pub record IsReadFrom (file : List ℕ) (found : Blocks) : Type 0 where
   pub stand : blocks_in file ≡ Ok (texts_of found)
   pub whole : AllByRecursion IsBlock (texts_of found)
-  pub place : found.gate.place ≡ length (front (texts_of found))
-  pub front_is : file ≡ front (texts_of found) ++ drop found.gate.place file
-  pub tail : found.tail ≡ tail_of (drop found.gate.place file)
-  pub ends : IsTail (drop found.gate.place file)
+  pub offset : found.gate.offset ≡ length (front (texts_of found))
+  pub front_is : file ≡ front (texts_of found) ++ drop found.gate.offset file
+  pub tail : found.tail ≡ tail_of (drop found.gate.offset file)
+  pub ends : IsTail (drop found.gate.offset file)
 
 -- what stands with one block more
 abbrev pub with_block : List ℕ → Result (List (List ℕ)) ℕ → Result (List (List ℕ)) ℕ

@@ -1,9 +1,9 @@
 //! What a plant's file has.
 
-/// The place of the gate behind the last block that counts, as an offset in bytes.
+/// The offset in bytes of the gate behind the last block that counts.
 #[derive(Clone, Copy, Debug, PartialEq, Eq)]
 pub struct Gate {
-    pub place: usize,
+    pub offset: usize,
 }
 
 /// What lies behind the last block that counts.

@@ -43,7 +43,7 @@ pub fn repair<D: Disk>(disk: &mut D, found: &Blocks) -> Result<(), DiskFailed>
     requires read { IsReadFrom (D.seen disk.old) found.now }
     requires fits { length (D.seen disk.old) < 2 ^ 63 }
     requires durable { Only (D.seen disk.old) (D.may_leave disk.old) }
-    ensures rest { OnOk result (IsAtRest D.seen D.may_leave D.has_failed disk.new found.now.gate.place) }
+    ensures rest { OnOk result (IsAtRest D.seen D.may_leave D.has_failed disk.new found.now.gate.offset) }
     ensures alike { OnOk result (StandsAlike (D.seen disk.old) (D.seen disk.new)) }
     ensures any_moment { LeavesOnly D.moment D.left_since disk.old disk.new (StandsAlike (D.seen disk.old)) }
     ensures untouched { found.now.tail ≡ Tail.Closed → disk.new ≡ disk.old }
@@ -60,44 +60,44 @@ fn close<D: Disk>(disk: &mut D, found: &Blocks) -> Result<(), DiskFailed>
     requires works { D.has_failed disk.old ≡ false }
     requires read { IsReadFrom (D.seen disk.old) found.now }
     requires durable { Only (D.seen disk.old) (D.may_leave disk.old) }
-    ensures rest { OnOk result (IsAtRest D.seen D.may_leave D.has_failed disk.new found.now.gate.place) }
+    ensures rest { OnOk result (IsAtRest D.seen D.may_leave D.has_failed disk.new found.now.gate.offset) }
     ensures alike { OnOk result (StandsAlike (D.seen disk.old) (D.seen disk.new)) }
     ensures any_moment { LeavesOnly D.moment D.left_since disk.old disk.new (StandsAlike (D.seen disk.old)) }
     ensures failed { D.has_failed disk.new ≡ is_err result }
 {
-    let place = found.gate.place;
-    cut_through(disk, place)?;
-    write_through(disk, place, b"-")
+    let offset = found.gate.offset;
+    cut_through(disk, offset)?;
+    write_through(disk, offset, b"-")
 }
 
-/// Puts a block behind those that stand, in a file at rest with its gate at this place, which moves on. At `Ok` the block is on the
+/// Puts a block behind those that stand, in a file at rest with its gate at this offset, which moves on. At `Ok` the block is on the
 /// disk. A crash at any moment leaves what stood, with the whole block or without it.
 pub fn put<D: Disk>(disk: &mut D, gate: &mut Gate, block: &[u8]) -> Result<(), PutFault>
-    requires rest { IsAtRest D.seen D.may_leave D.has_failed disk.old gate.old.place }
+    requires rest { IsAtRest D.seen D.may_leave D.has_failed disk.old gate.old.offset }
     requires block { IsBlock block.now }
-    ensures rest { OnOk result (IsAtRest D.seen D.may_leave D.has_failed disk.new gate.new.place) }
+    ensures rest { OnOk result (IsAtRest D.seen D.may_leave D.has_failed disk.new gate.new.offset) }
     ensures stands { OnOk result (blocks_in (D.seen disk.new) ≡ with_block block.now (blocks_in (D.seen disk.old))) }
     ensures any_moment { LeavesOnly D.moment D.left_since disk.old disk.new (IsBeforeOrAfter (D.seen disk.old) block.now) }
     ensures before { IsErrOf result PutFault.Before → LeavesOnly D.moment D.left_since disk.old disk.new (StandsAlike (D.seen disk.old)) }
     ensures failed { D.has_failed disk.new ≡ is_err result }
 {
-    stage(disk, gate.place, block).map_err(|_| PutFault::Before)?;
-    write_through(disk, gate.place, b"+").map_err(|_| PutFault::Unsure)?;
-    gate.place += block.len() + 2;
+    stage(disk, gate.offset, block).map_err(|_| PutFault::Before)?;
+    write_through(disk, gate.offset, b"+").map_err(|_| PutFault::Unsure)?;
+    gate.offset += block.len() + 2;
     Ok(())
 }
 
 // The block behind the closed gate, and a closed gate behind it, all of it on the disk.
-fn stage<D: Disk>(disk: &mut D, place: usize, block: &[u8]) -> Result<(), DiskFailed>
-    requires rest { IsAtRest D.seen D.may_leave D.has_failed disk.old place }
+fn stage<D: Disk>(disk: &mut D, offset: usize, block: &[u8]) -> Result<(), DiskFailed>
+    requires rest { IsAtRest D.seen D.may_leave D.has_failed disk.old offset }
     ensures staged { OnOk result (D.seen disk.new ≡ D.seen disk.old ++ (line_feed ∷ [] ++ block.now ++ closed_gate ∷ [])) }
     ensures fits { OnOk result (length (D.seen disk.new) < 2 ^ 63) }
     ensures durable { OnOk result (Only (D.seen disk.new) (D.may_leave disk.new)) }
     ensures any_moment { LeavesOnly D.moment D.left_since disk.old disk.new (StandsAlike (D.seen disk.old)) }
     ensures failed { D.has_failed disk.new ≡ is_err result }
 {
-    disk.write_at(place + 1, b"\n")?;
-    disk.write_at(place + 2, block)?;
-    disk.write_at(place + 2 + block.len(), b"-")?;
+    disk.write_at(offset + 1, b"\n")?;
+    disk.write_at(offset + 2, block)?;
+    disk.write_at(offset + 2 + block.len(), b"-")?;
     disk.sync()
 }

@@ -29,26 +29,26 @@ pub fn split(alloc: Global, file: &[u8]) -> Result<Blocks, JournalFault>
         return Err(JournalFault::NotAPlant { row: 1 });
     }
     let mut texts = Vec::new(alloc);
-    let mut place = HEAD.len();
-    while place + 1 < file.len() && file[place] == b'+' {
-        if file[place + 1] != b'\n' {
+    let mut offset = HEAD.len();
+    while offset + 1 < file.len() && file[offset] == b'+' {
+        if file[offset + 1] != b'\n' {
             return Err(JournalFault::NotAPlant {
-                row: row_at(file, place),
+                row: row_at(file, offset),
             });
         }
-        let start = place + 2;
+        let start = offset + 2;
         let Some(len) = block_len(&file[start..]) else {
             return Err(JournalFault::NotAPlant {
                 row: row_at(file, file.len()),
             });
         };
         texts.push(file[start..start + len].to_vec(alloc)?)?;
-        place = start + len;
+        offset = start + len;
     }
-    let tail = tail_at(&file[place..]);
+    let tail = tail_at(&file[offset..]);
     Ok(Blocks {
         texts,
-        gate: Gate { place },
+        gate: Gate { offset },
         tail,
     })
 }
@@ -64,13 +64,13 @@ fn tail_at(bytes: &[u8]) -> Tail
     }
 }
 
-// The number of the row in which a place lies.
-fn row_at(file: &[u8], place: usize) -> usize
+// The number of the row in which an offset lies.
+fn row_at(file: &[u8], offset: usize) -> usize
     requires fits { length file.now < 2 ^ 63 }
-    requires within { place ≤ length file.now }
-    ensures row { result ≡ 1 + rows_in (take place file.now) }
+    requires within { offset ≤ length file.now }
+    ensures row { result ≡ 1 + rows_in (take offset file.now) }
 {
-    1 + file[..place].iter().filter(|byte| **byte == b'\n').count()
+    1 + file[..offset].iter().filter(|byte| **byte == b'\n').count()
 }
 
 // How long the block is that begins here; none where it isn't whole.

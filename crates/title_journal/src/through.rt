@@ -6,7 +6,7 @@ ghost use Rattle.title_disk.specs.Crashes.{Holds, Torn, Cut, Only, LeavesOnly};
 
 use title_disk::{Disk, DiskFailed};
 
-/// Writes bytes at a place. A crash meanwhile may leave any bytes in their range.
+/// Writes bytes at an offset. A crash meanwhile may leave any bytes in their range.
 pub fn write_through<D: Disk>(disk: &mut D, at: usize, bytes: &[u8]) -> Result<(), DiskFailed>
     requires works { D.has_failed disk.old ≡ false }
     requires within { at ≤ length (D.seen disk.old) }

@@ -3,7 +3,7 @@ use Rattle.std.proofs.Common.{◌≡◌, ◌∙◌, ◌≤◌, ℕ, List, Bool, 
 use Rattle.std.proofs.Common.{Ok, reverse}
 use mathlib.Core.List.{IsPrefix}
 use Rattle.title_land.specs.Depth.{depth}
-use Rattle.title_land.specs.declared.place.Township.{Township}
+use Rattle.title_land.specs.declared.survey.Township.{Township}
 use Rattle.title_chain.specs.declared.record.Record.{Record}
 use Rattle.title_chain.specs.Alone.{IsSerial, most_parties}
 use Rattle.title_trace.specs.Trace.{committed}

@@ -69,14 +69,14 @@ fn run_on<T: Threads + Wait + Sync>(
         scripts,
         steps,
     } = script;
-    let places = townships.as_slice();
-    let day = run_day_on(rt, alloc, desk, places, examiners, scripts, tries)?;
+    let listed = townships.as_slice();
+    let day = run_day_on(rt, alloc, desk, listed, examiners, scripts, tries)?;
     let records = day.records.as_slice();
-    let block = day_block(alloc, stood, places, &parties, records, kept)?;
+    let block = day_block(alloc, stood, listed, &parties, records, kept)?;
     let closing = close_office_on(
         alloc,
         parties,
-        places,
+        listed,
         steps,
         day.tallies,
         kept,

@@ -44,7 +44,7 @@ fn run_opened<T: Threads + Wait + Sync, D: Disk, R: Source, W: Sink>(
     requires seats { examiners ≤ most_seats }
     requires source_works { R.has_failed source.old ≡ false }
     requires sink_works { W.has_failed sink.old ≡ false }
-    requires rest { IsAtRest D.seen D.may_leave D.has_failed disk.old opened.gate.place }
+    requires rest { IsAtRest D.seen D.may_leave D.has_failed disk.old opened.gate.offset }
     requires stands { standing_in (D.seen disk.old) ≡ Ok (standing_of opened.stands) }
     requires served { HasServed opened.stands.townships.items (standing_of opened.stands).records opened.desk }
     ensures day { (old : D) (after : Option ℕ) → CameToRest D.seen D.moment D.left_since old disk.old

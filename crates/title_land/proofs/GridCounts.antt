@@ -6,10 +6,10 @@ use Rattle.std.specs.List.{fold, range_with_len}
 use Rattle.std.proofs.lemmas.Option.{slice_get_within, get_or_from_slice_get}
 use Rattle.std.proofs.lemmas.List.Elements.{All-get_or}
 use Rattle.title_land.specs.declared.grid.Grid.{Grid}
-use Rattle.title_land.specs.Places.{side}
-use Rattle.title_land.specs.Grids.{grid_has, IsGrid, row_count, cell_count, cells_counted, places}
+use Rattle.title_land.specs.Survey.{side}
+use Rattle.title_land.specs.Grids.{grid_has, IsGrid, row_count, cell_count, cells_counted, indices}
 
--- a sum over a list is one over its places
+-- a sum over a list is one over its indices
 fold_same : {X : Type 0} (f : X → ℕ) (h : ℕ → ℕ) (xs : List X) (a start : ℕ)
     → ((i : ℕ) (x : X) → slice_get xs i ≡ Some x → f x ≡ h (start + i))
     → fold (λ s x. s + f x) a xs ≡ fold (λ s k. s + h k) a (range_with_len start (length xs))
@@ -30,9 +30,9 @@ cell_is g row column cells cell h k =
     sym (ap (λ (m : Option (List Bool)). unwrap_or (option_and_then (λ row. slice_get row column) m) false) h
     ∙ ap (λ (m : Option Bool). unwrap_or m false) k)
 
--- a row's count is that of its places
+-- a row's count is that of its columns
 row_is : (depth : ℕ) (g : Grid) (row : ℕ) (cells : List Bool) → slice_get g row ≡ Some cells → length cells ≡ side depth
-    → row_count cells ≡ count_by (λ column. grid_has g row column) (places depth)
+    → row_count cells ≡ count_by (λ column. grid_has g row column) (indices depth)
 row_is depth g row cells h long =
     sum_same (λ cell. cond cell 1 0) (λ column. cond (grid_has g row column) 1 0) cells (side depth) long
     (λ column cell k. ap (λ (b : Bool). cond b 1 0) (cell_is g row column cells cell h k))
@@ -44,9 +44,9 @@ row_long depth g row cells size h =
     let wide = All-get_or (λ (row : List Bool). length row ≡ side depth) g row cells inside size.1 in
     sym (ap (λ (row : List Bool). length row) (get_or_from_slice_get g row cells cells h)) ∙ wide
 
--- a set as large as its section's grid has as many cells as there are places at which it has one
+-- a set as large as its section's grid has as many cells as there are rows and columns at which it has one
 pub counts : (depth : ℕ) (g : Grid) → IsGrid depth g → cell_count g ≡ cells_counted depth (grid_has g)
 unfolding cells_counted
 counts depth g size =
-    sum_same row_count (λ row. count_by (λ column. grid_has g row column) (places depth)) g (side depth) size.0
+    sum_same row_count (λ row. count_by (λ column. grid_has g row column) (indices depth)) g (side depth) size.0
     (λ row cells h. row_is depth g row cells h (row_long depth g row cells size h))

@@ -15,9 +15,9 @@ use Rattle.std.proofs.lemmas.List.{length-replicate, get_or-replicate}
 use Rattle.std.proofs.lemmas.Option.{slice_get-map, slice_get-get_or, slice_get_past, unwrap_or-slice_get}
 use Rattle.title_land.specs.declared.grid.Grid.{Grid}
 use Rattle.title_land.specs.declared.rectangle.Rectangle.{Rectangle}
-use Rattle.title_land.specs.Grids.{grid_has, has_some, rows_meet, grids_meet, row_count, cell_count, IsGrid, places, row_fills}
+use Rattle.title_land.specs.Grids.{grid_has, has_some, rows_meet, grids_meet, row_count, cell_count, IsGrid, indices, row_fills}
 use Rattle.title_land.specs.Grids.{with_rectangle, grid_of}
-use Rattle.title_land.specs.Places.{side}
+use Rattle.title_land.specs.Survey.{side}
 use Rattle.title_land.specs.Rectangles.{holds, InSection}
 use Rattle.title_land.specs.RowBits.{is_set, row_cells, grid_cells, row_numbers, HasColumns, IsRows}
 use Rattle.title_land.specs.RowNumbers.{length-row_cells, get_or-row_cells, rows_back}
@@ -164,7 +164,7 @@ pub rows_with : (d : ℕ) (rows new : List ℕ) (r : Rectangle) (mask : ℕ) →
     → AddsMask r.top (r.top + r.height) mask rows new → grid_cells d new ≡ with_rectangle d (grid_cells d rows) r
 unfolding with_rectangle grid_of
 rows_with d rows new r mask h columns adds =
-    fill_by_all (λ row. map (λ column. grid_has (grid_cells d rows) row column || holds r row column) (places d)) (grid_cells d new)
+    fill_by_all (λ row. map (λ column. grid_has (grid_cells d rows) row column || holds r row column) (indices d)) (grid_cells d new)
     (side d) [] (length-map new (row_cells (side d)) ∙ adds.0 ∙ h.0) each
   where
     bit : (b : Bool) (x k : ℕ) → is_set (cond b (bit_or x mask) x) k ≡ (is_set x k || (b && nat_le r.left k && nat_lt k (r.left + r.width)))
@@ -172,7 +172,7 @@ rows_with d rows new r mask h columns adds =
     bit false x k = grind arith
 
     each : (row : ℕ) → row < side d → get_or (grid_cells d new) row []
-        ≡ map (λ column. grid_has (grid_cells d rows) row column || holds r row column) (places d)
+        ≡ map (λ column. grid_has (grid_cells d rows) row column || holds r row column) (indices d)
     each row l =
         let inside : row < length rows = omega (arith, h.0) in
         let here : row < length new = omega (arith, adds.0) in
@@ -191,7 +191,7 @@ pub one_row : (d n x : ℕ) (b : Bool) → n ≡ side d → ((column : ℕ) → 
     → grid_cells d (replicate n x) ≡ grid_of d (λ row column. b)
 unfolding grid_of
 one_row d n x b e h =
-    fill_by_all (λ row. map (λ column. b) (places d)) (grid_cells d (replicate n x)) (side d) []
+    fill_by_all (λ row. map (λ column. b) (indices d)) (grid_cells d (replicate n x)) (side d) []
     (length-map (replicate n x) (row_cells (side d)) ∙ length-replicate n x ∙ e)
     (λ k l.
     let here : k < length (replicate n x) = omega (arith, length-replicate n x) in

@@ -1,6 +1,6 @@
 -- The cells of a node are those of its land.
 use Rattle.std.proofs.Common.{◌≡◌, ℕ, List, filter}
-use Rattle.title_land.specs.declared.place.Township.{Township}
+use Rattle.title_land.specs.declared.survey.Township.{Township}
 use Rattle.title_land.specs.declared.node.Node.{Node}
 use Rattle.title_land.specs.Nodes.{IsNode}
 use Rattle.title_land.specs.Lands.{land_of}

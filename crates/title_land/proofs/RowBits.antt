@@ -108,7 +108,7 @@ row_counts n row h =
     ∙ ones-mask_l (λ cell. cell) (row_cells n row)
 
 -- ---- the columns of a rectangle
--- ones shifted to their place are a difference of two powers
+-- ones shifted to the left are a difference of two powers
 pub columns_value : (left width : ℕ) → left + width < 64 → (1 * 2 ^ width % 2 ^ 64 - 1) * 2 ^ left % 2 ^ 64 ≡ 2 ^ (left + width) - 2 ^ left
 columns_value left width h =
     let turned : width + left ≡ left + width = omega arith in

@@ -1,9 +1,9 @@
 -- A township's sections, from a number on.
 use Rattle.std.proofs.Common.{◌≡◌, ℕ, suc, ◌+◌, ◌-◌, ◌≤◌, List, [], ◌∷◌, ◌++◌, refl, ap, ◌∙◌, arith}
 use Rattle.std.specs.Prelude.{nat_le, ◌&&◌}
-use Rattle.title_land.specs.declared.place.Township.{Township}
-use Rattle.title_land.specs.declared.place.Section.{Section}
-use Rattle.title_land.specs.Places.{IsSection, IsSectionNumber}
+use Rattle.title_land.specs.declared.survey.Township.{Township}
+use Rattle.title_land.specs.declared.survey.Section.{Section}
+use Rattle.title_land.specs.Survey.{IsSection, IsSectionNumber}
 use Rattle.title_land.specs.CellLists.{sections_from, sections_of, sections_left}
 use Rattle.title_land.specs.Laws.CellMembers.{section_if-is}
 

@@ -3,15 +3,15 @@ use Rattle.std.specs.Prelude.{◌≡◌, ℕ, zero, suc, ◌+◌, ◌-◌, Bool,
 use Rattle.std.specs.Prelude.{nat_le, nat_lt, refl, if◌then◌else◌}
 use Rattle.std.specs.List.{flat_map}
 use Rattle.std.proofs.lemmas.Bool.{leb-true}
-use Rattle.title_land.specs.declared.place.Township.{Township}
-use Rattle.title_land.specs.declared.place.Section.{Section}
-use Rattle.title_land.specs.declared.place.Cell.{Cell}
+use Rattle.title_land.specs.declared.survey.Township.{Township}
+use Rattle.title_land.specs.declared.survey.Section.{Section}
+use Rattle.title_land.specs.declared.survey.Cell.{Cell}
 use Rattle.title_land.specs.declared.rectangle.Quarter.{Quarter}
 use Rattle.title_land.specs.declared.rectangle.Rectangle.{Rectangle}
 use Rattle.title_land.specs.declared.node.Node.{Node}
 use Rattle.title_land.specs.declared.node.Node.TheVariants as node
 use Rattle.title_land.specs.declared.tract.Land.{Land}
-use Rattle.title_land.specs.Places.{same_section}
+use Rattle.title_land.specs.Survey.{same_section}
 use Rattle.title_land.specs.Nodes.{square, quarters, node_has}
 use Rattle.title_land.specs.Lands.{has}
 

@@ -2,7 +2,7 @@
 use Rattle.std.specs.Prelude.{◌≡◌}
 use Rattle.title_land.specs.declared.rectangle.TheConstants.{DEPTH, SIDE}
 use Rattle.title_land.specs.Depth.{depth}
-use Rattle.title_land.specs.Places.{side}
+use Rattle.title_land.specs.Survey.{side}
 
 -- the code's depth is that of the definitions, and so is its side
 abbrev pub DepthIsSaidOnce : Type 0

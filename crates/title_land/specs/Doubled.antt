@@ -1,15 +1,15 @@
 -- A section that is quartered once more: each cell becomes four of half the side, and what lies where stays.
 use Rattle.std.specs.Prelude.{◌≡◌, ℕ, suc, ◌+◌, ◌*◌, ◌/◌, true, List, [], ◌∷◌, Some}
 use Rattle.std.specs.List.{list_any, flat_map}
-use Rattle.title_land.specs.declared.place.Township.{Township}
-use Rattle.title_land.specs.declared.place.Section.{Section}
-use Rattle.title_land.specs.declared.place.Cell.{Cell}
+use Rattle.title_land.specs.declared.survey.Township.{Township}
+use Rattle.title_land.specs.declared.survey.Section.{Section}
+use Rattle.title_land.specs.declared.survey.Cell.{Cell}
 use Rattle.title_land.specs.declared.rectangle.Step.{Step}
 use Rattle.title_land.specs.declared.rectangle.Rectangle.{Rectangle}
 use Rattle.title_land.specs.declared.node.Node.{Node}
 use Rattle.title_land.specs.declared.tract.Land.{Land}
 use Rattle.title_land.specs.declared.tract.Land.TheVariants as land
-use Rattle.title_land.specs.Places.{is_on_grid}
+use Rattle.title_land.specs.Survey.{is_on_grid}
 use Rattle.title_land.specs.Rectangles.{part_of}
 use Rattle.title_land.specs.Nodes.{node_has, IsNode}
 use Rattle.title_land.specs.Grids.{grid_has, grid_of}

@@ -2,7 +2,7 @@
 use Rattle.std.specs.Prelude.{◌≡◌, ◌<◌, ℕ, zero, suc, ◌+◌, Bool, true, false, ◌&&◌, ◌||◌, List, map, length, slice_get, unwrap_or}
 use Rattle.std.specs.Prelude.{option_and_then, sum_by, count_by}
 use Rattle.std.specs.List.{list_any, range_with_len, zip, All}
-use Rattle.title_land.specs.Places.{side}
+use Rattle.title_land.specs.Survey.{side}
 use Rattle.title_land.specs.Rectangles.{holds}
 use Rattle.title_land.specs.declared.grid.Grid.{Grid}
 use Rattle.title_land.specs.declared.rectangle.Rectangle.{Rectangle}
@@ -48,12 +48,12 @@ abbrev pub IsGrid : ℕ → Grid → Type 0
 IsGrid depth g = (length g ≡ side depth) × All (λ row. length row ≡ side depth) g
 
 -- the numbers of a section's rows, and of its columns
-abbrev pub places : ℕ → List ℕ
-places depth = range_with_len 0 (side depth)
+abbrev pub indices : ℕ → List ℕ
+indices depth = range_with_len 0 (side depth)
 
 -- the set of a section's cells at which a test holds
 unfoldable pub grid_of : ℕ → (ℕ → ℕ → Bool) → Grid
-grid_of depth test = map (λ row. map (λ column. test row column) (places depth)) (places depth)
+grid_of depth test = map (λ row. map (λ column. test row column) (indices depth)) (indices depth)
 
 -- the set with a rectangle's cells added
 unfoldable pub with_rectangle : ℕ → Grid → Rectangle → Grid
@@ -67,4 +67,4 @@ AddsRectangle depth g r h =
 
 -- the number of a section's cells at which a test holds, row by row
 unfoldable pub cells_counted : ℕ → (ℕ → ℕ → Bool) → ℕ
-cells_counted depth test = sum_by (λ row. count_by (λ column. test row column) (places depth)) (places depth)
+cells_counted depth test = sum_by (λ row. count_by (λ column. test row column) (indices depth)) (indices depth)

@@ -1,17 +1,17 @@
 -- What a tract is: every cell, a township, or a set of one section's cells.
 use Rattle.std.specs.Prelude.{◌≡◌, ℕ, Bool, true, false, ◌&&◌, List, [], ◌∷◌, not}
 use Rattle.std.specs.List.{list_any}
-use Rattle.title_land.specs.declared.place.Township.{Township}
-use Rattle.title_land.specs.declared.place.Cell.{Cell}
+use Rattle.title_land.specs.declared.survey.Township.{Township}
+use Rattle.title_land.specs.declared.survey.Cell.{Cell}
 use Rattle.title_land.specs.declared.node.Node.{Node}
 use Rattle.title_land.specs.declared.node.Node.TheVariants as node
 use Rattle.title_land.specs.declared.tract.Land.{Land}
 use Rattle.title_land.specs.declared.tract.Land.TheVariants as land
-use Rattle.title_land.specs.Places.{is_on_grid}
+use Rattle.title_land.specs.Survey.{is_on_grid}
 use Rattle.title_land.specs.Grids.{grid_has, grid_of, has_some, grids_meet, IsGrid}
 use Rattle.title_land.specs.Rectangles.{holds}
 use Rattle.title_land.specs.Nodes.{square}
-use Rattle.title_land.specs.Places.{same_township, same_section}
+use Rattle.title_land.specs.Survey.{same_township, same_section}
 use Rattle.title_land.specs.Covers.{section_cover}
 
 -- the cell lies in the tract

@@ -1,5 +1,5 @@
 pub mod Depth
-pub mod Places
+pub mod Survey
 pub mod Rectangles
 pub mod Constants
 pub mod Paths

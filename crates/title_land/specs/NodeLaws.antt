@@ -1,9 +1,9 @@
 -- Laws of nodes.
 use Rattle.std.specs.Prelude.{◌≡◌, ℕ, true, ◌↔◌, [], ◌∷◌, Some}
-use Rattle.title_land.specs.declared.place.Cell.{Cell}
+use Rattle.title_land.specs.declared.survey.Cell.{Cell}
 use Rattle.title_land.specs.declared.node.Node.{Node}
 use Rattle.title_land.specs.declared.node.Node.TheVariants as node
-use Rattle.title_land.specs.Places.{is_on_grid}
+use Rattle.title_land.specs.Survey.{is_on_grid}
 use Rattle.title_land.specs.Nodes.{same_node, parent_of, above, is_above, are_related, node_has, IsNode}
 
 -- a test of nodes is their equality: the same numbers and quarters make one node

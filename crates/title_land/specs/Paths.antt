@@ -4,14 +4,14 @@ use Rattle.title_land.specs.Depth.{depth}
 use Rattle.title_land.specs.declared.rectangle.Quarter.{Quarter}
 use Rattle.title_land.specs.declared.rectangle.Quarter.TheVariants.{Northeast, Northwest, Southwest, Southeast}
 
--- the place of a quarter among the four
+-- the number of a quarter among the four
 abbrev pub quarter_number : Quarter → ℕ
 quarter_number Northeast = 0
 quarter_number Northwest = 1
 quarter_number Southwest = 2
 quarter_number Southeast = 3
 
--- the quarter at a place
+-- the quarter with a number
 abbrev pub quarter_at : ℕ → Quarter
 quarter_at zero = Northeast
 quarter_at (suc zero) = Northwest

@@ -3,7 +3,7 @@ use Rattle.std.specs.Prelude.{◌≡◌, ◌<◌, ℕ, ◌+◌, ◌^◌, ◌==�
 use Rattle.std.specs.Int.{bit_at}
 use Rattle.std.specs.List.{range_with_len, All}
 use Rattle.std.specs.Simd.Lanes.{mask_l}
-use Rattle.title_land.specs.Places.{side}
+use Rattle.title_land.specs.Survey.{side}
 
 -- the cell of this column is set in a row's number
 abbrev pub is_set : ℕ → ℕ → Bool

@@ -9,7 +9,7 @@ use Rattle.std.proofs.lemmas.Simd.{mask_l-lt, bit_mask_l, map-map}
 use Rattle.std.proofs.lemmas.List.Elements.{All-weaker}
 use Rattle.std.proofs.lemmas.List.Folds.{map_fixed}
 use Rattle.std.proofs.lemmas.List.FromFn.{length-map-range_with_len, get_or-map-range_with_len}
-use Rattle.title_land.specs.Places.{side}
+use Rattle.title_land.specs.Survey.{side}
 use Rattle.title_land.specs.RowBits.{is_set, row_cells, grid_cells, row_numbers, IsRows}
 
 -- a row has as many cells as are asked for

@@ -1,6 +1,6 @@
 -- Laws of tracts that share a cell.
 use Rattle.std.specs.Prelude.{◌≡◌, ◌↔◌, ℕ, true}
-use Rattle.title_land.specs.declared.place.Cell.{Cell}
+use Rattle.title_land.specs.declared.survey.Cell.{Cell}
 use Rattle.title_land.specs.declared.tract.Land.{Land}
 use Rattle.title_land.specs.Lands.{has, meets, Meets, IsLand}
 

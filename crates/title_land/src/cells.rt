@@ -3,7 +3,7 @@
 ghost use Rattle.std.specs.Prelude.{◌≡◌, ◌≤◌, ◌+◌, ◌++◌, OnOk, IfOk, filter, find, length};
 ghost use Rattle.title_land.specs.Depth.{depth};
 ghost use Rattle.std.specs.List.{list_any};
-ghost use Rattle.title_land.specs.Places.{same_township};
+ghost use Rattle.title_land.specs.Survey.{same_township};
 ghost use Rattle.title_land.specs.Rectangles.{InSection};
 ghost use Rattle.title_land.specs.Nodes.{square, node_has, are_related};
 ghost use Rattle.title_land.specs.Nestings.{lies_in};
@@ -11,8 +11,8 @@ ghost use Rattle.title_land.specs.Lands.{has, cover_of, is_in_plant};
 ghost use Rattle.title_land.specs.CellLists.{same_cell, cells_below, section_cells, township_cells, cells_of};
 
 use crate::node::{Node, Within};
-use crate::place::{Cell, Section, Township};
 use crate::rectangle::{DEPTH, Quarter, Rectangle};
+use crate::survey::{Cell, Section, Township};
 use crate::tract::{Land, Tract};
 use std::alloc::{AllocError, Global};
 

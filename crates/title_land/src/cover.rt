@@ -9,8 +9,8 @@ ghost use Rattle.title_land.specs.Rectangles.{holds, InSection};
 
 use crate::grid::{Grid, fills};
 use crate::node::{Node, Within};
-use crate::place::Section;
 use crate::rectangle::{DEPTH, Quarter, Rectangle};
+use crate::survey::Section;
 use std::alloc::{AllocError, Global};
 
 // Adds the nodes that list the set within one square, with so many levels below it. Squares without a cell of the set aren't walked.

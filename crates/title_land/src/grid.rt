@@ -5,7 +5,7 @@ ghost use Rattle.std.specs.Prelude.{◌==◌, not, bit_and, ◌≡◌, ◌↔◌
 ghost use Rattle.title_land.specs.Depth.{depth};
 ghost use Rattle.title_land.specs.Grids.{IsGrid, grid_has, grid_of, fills, has_some, cell_count, cells_counted, grids_meet};
 ghost use Rattle.title_land.specs.Grids.{with_rectangle, AddsRectangle};
-ghost use Rattle.title_land.specs.Places.{side};
+ghost use Rattle.title_land.specs.Survey.{side};
 ghost use Rattle.title_land.specs.Rectangles.{InSection, holds};
 ghost use Rattle.title_land.specs.RowBits.{HasColumns};
 
@@ -163,7 +163,7 @@ fn have_bits(rows: &[u32]) -> bool
     rows.iter().any(|row| *row != 0)
 }
 
-/// Whether two rows of one place have a bit in common.
+/// Whether two rows of one number have a bit in common.
 fn share_bits(rows: &[u32], others: &[u32]) -> bool
     ensures shared { result
         ≡ list_any (λ pair. not (bit_and pair.0 pair.1 == 0)) (zip rows.now others.now) }

@@ -10,9 +10,9 @@ pub mod laws;
 pub mod lists;
 pub mod node;
 pub mod numbers;
-pub mod place;
 pub mod rectangle;
 pub mod sharing;
+pub mod survey;
 pub mod tract;
 pub mod walks;
 
@@ -22,6 +22,6 @@ pub use grid::Grid;
 pub use lists::{children_of, node_cells};
 pub use node::{Node, Within};
 pub use numbers::{is_square_number, number_above, section_of_square, township_of_section};
-pub use place::{Cell, Section, Township};
 pub use rectangle::{DEPTH, Half, Quarter, Rectangle, SIDE, Step};
+pub use survey::{Cell, Section, Township};
 pub use tract::{Land, Tract};

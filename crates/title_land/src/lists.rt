@@ -7,8 +7,8 @@ ghost use Rattle.title_land.specs.CellLists.{sections_of, node_cells, children_o
 
 use crate::cells::cells_of;
 use crate::node::{Node, Within};
-use crate::place::{Cell, Section, Township};
 use crate::rectangle::Quarter;
+use crate::survey::{Cell, Section, Township};
 use crate::tract::Tract;
 use std::alloc::{AllocError, Global};
 

@@ -9,8 +9,8 @@ ghost use Rattle.title_land.specs.Paths.{path_number};
 ghost use Rattle.title_land.specs.Texts.{path_text, quarters_text, node_text};
 ghost use Rattle.std.specs.Fmt.{WritesOnOk};
 
-use crate::place::{Section, Township};
 use crate::rectangle::{DEPTH, Quarter};
+use crate::survey::{Section, Township};
 use std::fmt;
 use std::marker::Model;
 

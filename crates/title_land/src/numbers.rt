@@ -2,7 +2,7 @@
 //! those before them the square's; a township has no section and no square, and the whole plant is 0. No code elsewhere knows this.
 
 ghost use Rattle.std.specs.Prelude.{◌≡◌, ◌<◌, ◌^◌, List};
-ghost use Rattle.title_land.specs.declared.place.Section.{Section};
+ghost use Rattle.title_land.specs.declared.survey.Section.{Section};
 ghost use Rattle.title_land.specs.declared.rectangle.Quarter.{Quarter};
 ghost use Rattle.title_land.specs.declared.node.Node.{Node};
 ghost use Rattle.title_land.specs.declared.node.Node.TheVariants as node;
@@ -10,7 +10,7 @@ ghost use Rattle.title_land.specs.Nodes.{is_square};
 ghost use Rattle.title_land.specs.NodeNumbers.{flag_number, township_number, section_number, node_number, number_above};
 
 use crate::node::Node;
-use crate::place::{Section, Township};
+use crate::survey::{Section, Township};
 
 // From one township's number to the next; those between are its sections'.
 const TOWNSHIP_STEP: u64 = 64;

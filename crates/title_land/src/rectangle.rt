@@ -36,7 +36,7 @@ impl Quarter {
         Quarter::Southeast,
     ];
 
-    // Its place among the quarters.
+    // Its number among the quarters.
     pub(crate) fn number(self) -> u16
         ensures number { result ≡ quarter_number self }
     {
@@ -48,12 +48,12 @@ impl Quarter {
         }
     }
 
-    // The quarter at a place.
-    pub(crate) fn numbered(place: u16) -> Quarter
-        requires below { place < 4 }
-        ensures quarter { result ≡ quarter_at place }
+    // The quarter with a number.
+    pub(crate) fn numbered(number: u16) -> Quarter
+        requires below { number < 4 }
+        ensures quarter { result ≡ quarter_at number }
     {
-        match place {
+        match number {
             0 => Quarter::Northeast,
             1 => Quarter::Northwest,
             2 => Quarter::Southwest,

@@ -12,7 +12,7 @@ use crate::acres::{CELL_HALF_ACRES, TOWNSHIP_HALF_ACRES};
 use crate::cover::{cover_of, sole_square};
 use crate::grid::Grid;
 use crate::node::Node;
-use crate::place::{Cell, Section, Township};
+use crate::survey::{Cell, Section, Township};
 use std::alloc::{AllocError, Global};
 use std::marker::Model;
 use std::slice;

@@ -5,7 +5,7 @@ ghost use Rattle.title_land.specs.CellLists.{sections_of};
 ghost use Rattle.title_land.specs.Nodes.{above};
 
 use crate::node::Node;
-use crate::place::{Section, Township};
+use crate::survey::{Section, Township};
 use std::marker::Model;
 
 /// The nodes above a node, the nearest first, up to the whole plant. From [`Node::ancestors`].
@@ -60,7 +60,7 @@ pub struct Sections {
 impl Model for Sections {
     ghost use Rattle.std.specs.Prelude.{List, ◌≤◌};
     ghost use Rattle.title_land.specs.CellLists.{sections_left};
-    ghost use Rattle.title_land.specs.declared.place.Section.{Section};
+    ghost use Rattle.title_land.specs.declared.survey.Section.{Section};
 
     ghost Value = { List Section };
 

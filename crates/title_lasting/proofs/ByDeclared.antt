@@ -5,7 +5,7 @@ use Rattle.std.proofs.Common.{Option, Some, Ok}
 use Rattle.std.proofs.lemmas.Bool.{lt-leb}
 use Rattle.std.specs.List.{AllByRecursion}
 use Rattle.title_land.specs.Depth.{depth}
-use Rattle.title_land.specs.declared.place.Township.{Township}
+use Rattle.title_land.specs.declared.survey.Township.{Township}
 use Rattle.title_instrument.specs.declared.instrument.Instrument.{Instrument}
 use Rattle.title_instrument.specs.declared.parts.Cause.{Cause}
 use Rattle.title_instrument.specs.declared.parts.Cause.TheVariants.{Party, SameParty, NoEstate, Reservation}

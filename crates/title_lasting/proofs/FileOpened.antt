@@ -4,8 +4,8 @@ use Rattle.std.proofs.Common.{refl, sym, ap, subst, arith, inl, inr}
 use Rattle.std.specs.List.{AllByRecursion, list_any}
 use Rattle.std.proofs.lemmas.Bool.{and_parts}
 use Rattle.std.proofs.lemmas.List.{length-map}
-use Rattle.title_land.specs.declared.place.Township.{Township}
-use Rattle.title_land.specs.Places.{same_township}
+use Rattle.title_land.specs.declared.survey.Township.{Township}
+use Rattle.title_land.specs.Survey.{same_township}
 use Rattle.title_store.specs.Plants.{IsEachOnce}
 use Rattle.title_chain.specs.declared.record.Record.{Record}
 use Rattle.title_chain.specs.Alone.{most_parties}
@@ -89,8 +89,8 @@ refused_there file found place row is first there = inr (standing_of found.stand
 -- as many bytes are cut as lie behind the blocks
 pub cut_is : (file : List ℕ) (found : Found) → IsFoundIn file found → bytes_of found.blocks.tail ≡ cut_in file
 cut_is file found is =
-    let there : drop found.blocks.gate.place file ≡ drop (length (front (texts_of found.blocks))) file =
-    ap (λ (n : ℕ). drop n file) is.read.place in
+    let there : drop found.blocks.gate.offset file ≡ drop (length (front (texts_of found.blocks))) file =
+    ap (λ (n : ℕ). drop n file) is.read.offset in
     ap bytes_of (is.read.tail ∙ ap tail_of there)
     ∙ sym (ap (cut_behind file) is.read.stand)
 

@@ -7,9 +7,9 @@ use Rattle.std.specs.Prelude.{nat_le, nat_lt}
 use Rattle.std.specs.Str.{bytes_eq, is_utf8}
 use Rattle.std.proofs.lemmas.Bool.{and_parts, eqb-true, ltb-true}
 use Rattle.std.proofs.lemmas.List.{length-append, length-map, map-append}
-use Rattle.title_land.specs.declared.place.Township.{Township}
+use Rattle.title_land.specs.declared.survey.Township.{Township}
 use Rattle.title_land.specs.declared.tract.Land.{Land}
-use Rattle.title_land.specs.Places.{same_township}
+use Rattle.title_land.specs.Survey.{same_township}
 use Rattle.title_aliquot.specs.declared.fault.DescFault.{DescFault}
 use Rattle.title_instrument.specs.declared.instrument.Instrument.{Instrument}
 use Rattle.title_chain.specs.declared.ask.Step.{Step}

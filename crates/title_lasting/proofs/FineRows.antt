@@ -26,7 +26,7 @@ use Rattle.title_instrument.specs.declared.parts.Estate.TheVariants.{S, O, M}
 use Rattle.title_instrument.specs.declared.parts.Estates.{Estates}
 use Rattle.title_instrument.specs.declared.parts.Quantum.{Quantum}
 use Rattle.title_instrument.specs.declared.parts.Quantum.TheVariants as quantum
-use Rattle.title_instrument.specs.Estates.{estates_text, names_none, place_in}
+use Rattle.title_instrument.specs.Estates.{estates_text, names_none, estate_index}
 use Rattle.title_instrument.specs.Kinds.{kind_in}
 use Rattle.title_instrument.specs.Parties.{between, estates_of, grantee_of, grantor_of}
 use Rattle.title_plan.specs.declared.row.Act.{Act}
@@ -125,7 +125,7 @@ quantum_is (letter ∷ share) q h =
     (λ other. by_share quantum.Interest share q (λ u is. is) (where_true is_interest interest q other).1)
     (one_of (bytes_eq (letter ∷ []) (codes "W")) (option_map quantum.Whole (share_in share)) (cond is_interest interest None) q h)
 
-set_is : (r : List (Option ℕ)) (e : Estate) (u : ℕ) → IsReserve r → IsShare u → IsReserve (slice_set r (place_in e) (Some u))
+set_is : (r : List (Option ℕ)) (e : Estate) (u : ℕ) → IsReserve r → IsShare u → IsReserve (slice_set r (estate_index e) (Some u))
 set_is [] e u h k = absurd h
 set_is (s ∷ []) e u h k = absurd h
 set_is (s ∷ o ∷ []) e u h k = absurd h
@@ -139,8 +139,8 @@ item_is r [] next is h = absurd cc
 item_is r (letter ∷ share) next is h =
     let e = given_some (estate_of letter) (λ e. given (share_in share) (reserving r e)) next h in
     let u = given_some (share_in share) (reserving r e.0) next e.2 in
-    let c = where_true _ (Some (slice_set r (place_in e.0) (Some u.0))) next u.2 in
-    subst IsReserve (some_inj (slice_set r (place_in e.0) (Some u.0)) next c.1) (set_is r e.0 u.0 is (share_is share u.0 u.1))
+    let c = where_true _ (Some (slice_set r (estate_index e.0) (Some u.0))) next u.2 in
+    subst IsReserve (some_inj (slice_set r (estate_index e.0) (Some u.0)) next c.1) (set_is r e.0 u.0 is (share_is share u.0 u.1))
 
 items_is : (r : List (Option ℕ)) (items : List (List ℕ)) (last : List (Option ℕ)) → IsReserve r → with_items r items ≡ Some last
     → IsReserve last

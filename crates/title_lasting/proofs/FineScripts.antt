@@ -11,7 +11,7 @@ use Rattle.title_land.specs.Depth.{depth}
 use Rattle.title_land.specs.declared.tract.Land.{Land}
 use Rattle.title_land.specs.declared.tract.Land.TheVariants as land
 use Rattle.title_land.specs.Lands.{IsLand}
-use Rattle.title_land.specs.Places.{same_township}
+use Rattle.title_land.specs.Survey.{same_township}
 use Rattle.title_aliquot.specs.declared.fault.DescFault.{DescFault}
 use Rattle.title_instrument.specs.declared.instrument.Instrument.{Instrument}
 use Rattle.title_chain.specs.Alone.{most_parties}

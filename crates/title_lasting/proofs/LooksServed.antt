@@ -1,7 +1,7 @@
 -- A script of looks that is served at a desk which has served what stood, and why none is.
 use Rattle.std.proofs.Common.{◌≡◌, ◌∙◌, ◌⊎◌, ◌<◌, ◌++◌, ℕ, List, Bool, true, Option, IfSome, Err, refl, sym, ap, subst, inl, inr}
 use Rattle.std.proofs.Common.{length, reverse}
-use Rattle.title_land.specs.declared.place.Township.{Township}
+use Rattle.title_land.specs.declared.survey.Township.{Township}
 use Rattle.title_store.specs.Plants.{Plant}
 use Rattle.title_chain.specs.declared.record.Record.{Record}
 use Rattle.title_trace.specs.declared.call.Call.{Call}

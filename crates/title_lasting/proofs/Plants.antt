@@ -2,7 +2,7 @@
 use Rattle.std.proofs.Common.{◌≡◌, ◌∙◌, ℕ, List, ◌++◌, Result, Ok, Err, sym, ap, subst, take, drop, reverse, ⊎_elim}
 use Rattle.std.proofs.lemmas.List.{reverse-append, reverse-reverse, take-append-drop}
 use Rattle.title_land.specs.Depth.{depth}
-use Rattle.title_land.specs.declared.place.Township.{Township}
+use Rattle.title_land.specs.declared.survey.Township.{Township}
 use Rattle.title_chain.specs.declared.record.Record.{Record}
 use Rattle.title_chain.specs.Alone.{IsSerial}
 use Rattle.title_daybook.specs.Files.{row_of, standing_in}

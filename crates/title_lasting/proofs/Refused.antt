@@ -2,7 +2,7 @@
 use Rattle.std.proofs.Common.{◌≡◌, ◌≤◌, ◌-◌, ◌∙◌, ℕ, List, ◌++◌, Option, Some, sym, ap, subst, take, drop, reverse, length, arith}
 use Rattle.std.proofs.lemmas.List.{length-reverse, reverse-append, reverse-reverse, take-append-drop}
 use Rattle.title_land.specs.Depth.{depth}
-use Rattle.title_land.specs.declared.place.Township.{Township}
+use Rattle.title_land.specs.declared.survey.Township.{Township}
 use Rattle.title_chain.specs.declared.record.Record.{Record}
 use Rattle.title_chain.specs.Alone.{IsSerial}
 use Rattle.title_trace.specs.declared.call.Call.{Call}

@@ -81,7 +81,7 @@ pub record ComesTo (c d : Counter) : Type 0 where
 module _ {D : Type 0} (seen : D → List ℕ) (may_leave : D → List ℕ → Type 0) (has_failed : D → Bool) where
   -- the file is at rest, all of it on the disk, and has what stands at a counter; the mark says how much that is
   pub record IsUpTo (disk : D) (mark : Mark) (c : Counter) : Type 0 where
-    pub rest : IsAtRest seen may_leave has_failed disk mark.gate.place
+    pub rest : IsAtRest seen may_leave has_failed disk mark.gate.offset
     pub stands : HasAt c (seen disk)
     pub townships : mark.townships ≡ length c.townships
     pub parties : mark.parties ≡ length c.names

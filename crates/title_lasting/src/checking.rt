@@ -190,12 +190,12 @@ fn undescribed(n: u64, lines: &VecDeque<Line>) -> Option<u64>
     None
 }
 
-// The number of the row in which a place lies.
-fn row_at(text: &[u8], place: usize) -> u64
-    requires within { place ≤ length text.now }
-    ensures row { result ≡ suc (rows_in (take place text.now)) }
+// The number of the row in which an offset lies.
+fn row_at(text: &[u8], offset: usize) -> u64
+    requires within { offset ≤ length text.now }
+    ensures row { result ≡ suc (rows_in (take offset text.now)) }
 {
-    let whole = text[..place].iter().filter(|byte| **byte == b'\n').count();
+    let whole = text[..offset].iter().filter(|byte| **byte == b'\n').count();
     whole as u64 + 1
 }
 

@@ -51,7 +51,7 @@ fn run_opened<D: Disk, R: Source, W: Sink, V: Watch>(
 ) -> Result<(), LastingFault>
     requires source_works { R.has_failed source.old ≡ false }
     requires sink_works { W.has_failed sink.old ≡ false }
-    requires rest { IsAtRest D.seen D.may_leave D.has_failed disk.old opened.gate.place }
+    requires rest { IsAtRest D.seen D.may_leave D.has_failed disk.old opened.gate.offset }
     requires stands { standing_in (D.seen disk.old) ≡ Ok (standing_of opened.stands) }
     requires served { HasServed opened.stands.townships.items (standing_of opened.stands).records opened.desk }
     ensures day { Lasting schedule None (D.seen disk.old) (D.seen disk.new) (D.may_leave disk.new)

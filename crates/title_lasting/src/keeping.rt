@@ -15,7 +15,7 @@ pub fn put_block<D: Disk>(
     mut gate: Gate,
     block: &Option<Vec<u8>>,
 ) -> Result<(), PutFault>
-    requires rest { IsAtRest D.seen D.may_leave D.has_failed disk.old gate.place }
+    requires rest { IsAtRest D.seen D.may_leave D.has_failed disk.old gate.offset }
     requires block { IfSome block.now (λ text. IsBlock text.items) }
     ensures durable { OnOk result (Only (D.seen disk.new) (D.may_leave disk.new)) }
     ensures stands { OnOk result (blocks_in (D.seen disk.new) ≡ with_text (text_in block.now) (blocks_in (D.seen disk.old))) }

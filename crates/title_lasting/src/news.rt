@@ -74,9 +74,9 @@ fn clerk_block(
 
 // Puts a block into a file at rest, where there is one; the gate moves on.
 fn put_news<D: Disk>(disk: &mut D, gate: &mut Gate, block: &Option<Vec<u8>>) -> Result<(), PutFault>
-    requires rest { IsAtRest D.seen D.may_leave D.has_failed disk.old gate.old.place }
+    requires rest { IsAtRest D.seen D.may_leave D.has_failed disk.old gate.old.offset }
     requires block { IfSome block.now (λ text. IsBlock text.items) }
-    ensures rest { OnOk result (IsAtRest D.seen D.may_leave D.has_failed disk.new gate.new.place) }
+    ensures rest { OnOk result (IsAtRest D.seen D.may_leave D.has_failed disk.new gate.new.offset) }
     ensures stands { OnOk result (blocks_in (D.seen disk.new) ≡ with_text (text_in block.now) (blocks_in (D.seen disk.old))) }
     ensures any_moment { LeavesOnly D.moment D.left_since disk.old disk.new
         (IsWithOrWithout (text_in block.now) (D.seen disk.old)) }

@@ -85,7 +85,7 @@ pub fn open<D: Disk>(alloc: Global, disk: &mut D) -> Result<Opened, LastingFault
     requires works { D.has_failed disk.old ≡ false }
     requires durable { Only (D.seen disk.old) (D.may_leave disk.old) }
     ensures opened { IfOk result (IsOpened (D.seen disk.old)) }
-    ensures rest { IfOk result (λ opened. IsAtRest D.seen D.may_leave D.has_failed disk.new opened.gate.place) }
+    ensures rest { IfOk result (λ opened. IsAtRest D.seen D.may_leave D.has_failed disk.new opened.gate.offset) }
     ensures alike { OnOk result (StandsAlike (D.seen disk.old) (D.seen disk.new)) }
     ensures resting { OnOk result (IsResting (D.seen disk.old) → D.seen disk.new ≡ D.seen disk.old) }
     ensures why { IfErr result (IsUnopened (D.seen disk.old) (D.has_failed disk.new)) }

@@ -1,6 +1,6 @@
 //! Scripts, each beside the report that the rules give for it.
 
-use crate::place::Place;
+use crate::parcel::Parcel;
 use crate::portion::{ALL, Portion};
 use anyhow::{Result, bail};
 use std::alloc::{AllocError, Global};
@@ -140,7 +140,7 @@ impl Case {
     /// Declares the first so many townships.
     pub fn declare_townships(&mut self, count: u32) {
         for number in 0..count {
-            let township = Place::Township(number);
+            let township = Parcel::Township(number);
             self.declare(format_args!("township,{township}"));
         }
     }
@@ -156,37 +156,37 @@ impl Case {
     pub fn want_owner(
         &mut self,
         examiner: u32,
-        place: Place,
+        parcel: Parcel,
         estate: &str,
         name: impl Display + Drop,
         portion: Portion,
     ) {
-        self.want(format_args!("{examiner},row,{place},{estate},{name},{portion}"));
+        self.want(format_args!("{examiner},row,{parcel},{estate},{name},{portion}"));
     }
 
-    /// Adds the rows of some estates in a place that UNITED STATES owns.
-    pub fn want_unsold(&mut self, examiner: u32, place: Place, estates: &[&'static str]) {
+    /// Adds the rows of some estates in a parcel that UNITED STATES owns.
+    pub fn want_unsold(&mut self, examiner: u32, parcel: Parcel, estates: &[&'static str]) {
         for estate in estates {
-            self.want_owner(examiner, place, *estate, GOVERNMENT, ALL);
+            self.want_owner(examiner, parcel, *estate, GOVERNMENT, ALL);
         }
     }
 
-    /// Adds a sheet of a place, of so many rows; they come next.
-    pub fn sheet(&mut self, examiner: u32, place: Place, rows: u32) {
-        let sheet = format_args!("sheet,{place}");
+    /// Adds a sheet of a parcel, of so many rows; they come next.
+    pub fn sheet(&mut self, examiner: u32, parcel: Parcel, rows: u32) {
+        let sheet = format_args!("sheet,{parcel}");
         self.step(examiner, sheet, format_args!("sheet,{rows}"));
     }
 
-    /// Adds a chain of a place, of so many entries; they come next.
-    pub fn chain(&mut self, examiner: u32, place: Place, entries: u32) {
-        let chain = format_args!("chain,{place}");
+    /// Adds a chain of a parcel, of so many entries; they come next.
+    pub fn chain(&mut self, examiner: u32, parcel: Parcel, entries: u32) {
+        let chain = format_args!("chain,{parcel}");
         self.step(examiner, chain, format_args!("chain,{entries}"));
     }
 
-    /// Adds a sheet of a place that UNITED STATES owns in all estates.
-    pub fn sheet_unsold(&mut self, examiner: u32, place: Place) {
-        self.sheet(examiner, place, 3);
-        self.want_unsold(examiner, place, &ESTATES);
+    /// Adds a sheet of a parcel that UNITED STATES owns in all estates.
+    pub fn sheet_unsold(&mut self, examiner: u32, parcel: Parcel) {
+        self.sheet(examiner, parcel, 3);
+        self.want_unsold(examiner, parcel, &ESTATES);
     }
 
     /// Runs the script; how much there was of it. An error tells where its report isn't the one that it has to have.

@@ -1,6 +1,6 @@
 //! A desk, each of whose replies is held against the one that it has to be.
 
-use crate::place::{Place, township};
+use crate::parcel::{Parcel, township};
 use crate::portion::WHOLE;
 use anyhow::{Error, Result, anyhow, bail};
 use std::alloc::{AllocError, Global};
@@ -192,10 +192,10 @@ impl Rows {
         }
     }
 
-    /// Adds rows: party 0 owns these estates in a place.
-    pub fn add_unsold(&mut self, place: Place, estates: &[Estate]) {
+    /// Adds rows: party 0 owns these estates in a parcel.
+    pub fn add_unsold(&mut self, parcel: Parcel, estates: &[Estate]) {
         for estate in estates {
-            self.add(place, *estate, 0, WHOLE);
+            self.add(parcel, *estate, 0, WHOLE);
         }
     }
 
@@ -216,9 +216,9 @@ impl Rows {
         Ok(())
     }
 
-    /// Adds a row: a party owns so many units of an estate in a place.
-    pub fn add(&mut self, place: Place, estate: Estate, party: u32, units: u64) {
-        let is_added = match place.found() {
+    /// Adds a row: a party owns so many units of an estate in a parcel.
+    pub fn add(&mut self, parcel: Parcel, estate: Estate, party: u32, units: u64) {
+        let is_added = match parcel.found() {
             Some(node) => self.add_in(node, estate, party, units).is_ok(),
             None => false,
         };
@@ -231,8 +231,8 @@ impl Rows {
         if self.is_short || came != wanted {
             bail!("a sheet has {came} rows, and not {wanted}");
         }
-        for (place, wanted) in self.rows.iter().enumerate() {
-            match sheet.row(place) {
+        for (index, wanted) in self.rows.iter().enumerate() {
+            match sheet.row(index) {
                 Some(row) if row == *wanted => {}
                 row => bail!("{row:?} is no row of the sheet"),
             }
@@ -292,9 +292,9 @@ impl Clerk {
         is_told(self.alloc, &reply, wanted)
     }
 
-    /// The same in a place.
-    pub fn alone_at(&mut self, wish: Wish, place: Place, wanted: &str) -> Result<()> {
-        self.alone(wish, &place.tract()?, wanted)
+    /// The same in a parcel.
+    pub fn alone_at(&mut self, wish: Wish, parcel: Parcel, wanted: &str) -> Result<()> {
+        self.alone(wish, &parcel.tract()?, wanted)
     }
 
     /// Serves a step in a tract, of an open transaction, to which this has to be the reply.
@@ -303,9 +303,15 @@ impl Clerk {
         self.serve(Request::Step(examiner, ask), wanted)
     }
 
-    /// The same in a place.
-    pub fn step_at(&mut self, examiner: u32, wish: Wish, place: Place, wanted: &str) -> Result<()> {
-        self.step(examiner, wish, &place.tract()?, wanted)
+    /// The same in a parcel.
+    pub fn step_at(
+        &mut self,
+        examiner: u32,
+        wish: Wish,
+        parcel: Parcel,
+        wanted: &str,
+    ) -> Result<()> {
+        self.step(examiner, wish, &parcel.tract()?, wanted)
     }
 
     /// The sheet of a tract, asked for alone, has to have these rows.
@@ -317,14 +323,14 @@ impl Clerk {
         }
     }
 
-    /// The same in a place.
-    pub fn shows_at(&mut self, place: Place, rows: &Rows) -> Result<()> {
-        self.shows(&place.tract()?, rows)
+    /// The same in a parcel.
+    pub fn shows_at(&mut self, parcel: Parcel, rows: &Rows) -> Result<()> {
+        self.shows(&parcel.tract()?, rows)
     }
 
-    /// The chain of a place, asked for alone.
-    pub fn chain_at(&mut self, place: Place) -> Result<Entries> {
-        match self.reply_alone(Ask::Chain(place.tract()?)) {
+    /// The chain of a parcel, asked for alone.
+    pub fn chain_at(&mut self, parcel: Parcel) -> Result<Entries> {
+        match self.reply_alone(Ask::Chain(parcel.tract()?)) {
             Reply::Answered(Answer::Entries(entries)) => Ok(entries),
             reply => Err(no_list(&reply)),
         }

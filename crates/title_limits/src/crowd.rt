@@ -1,7 +1,7 @@
 //! A cell that as many parties own as there may be, and one less, at a desk.
 
 use crate::clerk::{Clerk, MINERALS, Rows, SURFACE, Sale, Wish};
-use crate::place::Place;
+use crate::parcel::Parcel;
 use crate::portion::WHOLE;
 use anyhow::Result;
 use std::alloc::Global;
@@ -13,7 +13,7 @@ const PARTIES: u32 = 65_536;
 // What each of them gets of the surface, and party 0 keeps.
 const UNITS: u64 = WHOLE / 65_536;
 
-fn sell(clerk: &mut Clerk, cell: Place) -> Result<()> {
+fn sell(clerk: &mut Clerk, cell: Parcel) -> Result<()> {
     for grantee in 1..PARTIES {
         let sale = Sale {
             document: u64::from(grantee),
@@ -27,7 +27,7 @@ fn sell(clerk: &mut Clerk, cell: Place) -> Result<()> {
 }
 
 // The rows of the cell's sheet when a party has so much of the surface, and each one behind it its part.
-fn rows(alloc: Global, cell: Place, first: u32, units: u64) -> Rows {
+fn rows(alloc: Global, cell: Parcel, first: u32, units: u64) -> Rows {
     let mut rows = Rows::new(alloc);
     rows.add(cell, Estate::S, first, units);
     for party in first.saturating_add(1)..PARTIES {
@@ -38,7 +38,7 @@ fn rows(alloc: Global, cell: Place, first: u32, units: u64) -> Rows {
 }
 
 // The sheet of the cell has to be this when a party has so much of the surface, and each one behind it its part.
-fn is_shown(alloc: Global, clerk: &mut Clerk, cell: Place, first: u32, units: u64) -> Result<()> {
+fn is_shown(alloc: Global, clerk: &mut Clerk, cell: Parcel, first: u32, units: u64) -> Result<()> {
     clerk.shows_at(cell, &rows(alloc, cell, first, units))
 }
 
@@ -51,7 +51,7 @@ const RELEASE: Release = Release {
 
 // How many transactions are committed.
 fn try_all(alloc: Global, clerk: &mut Clerk) -> Result<usize> {
-    let cell = Place::cell(0);
+    let cell = Parcel::cell(0);
     sell(clerk, cell)?;
     is_shown(alloc, clerk, cell, 0, UNITS)?;
     clerk.alone_at(Wish::Release(RELEASE), cell, "posted")?;

@@ -1,7 +1,7 @@
 //! As many deeds as a script has rows, each a transaction of its own or many in one.
 
 use crate::clerk::{Clerk, MINERALS, Rows, Sale, Wish};
-use crate::place::{CELLS, Place};
+use crate::parcel::{CELLS, Parcel};
 use crate::portion::WHOLE;
 use anyhow::{Result, bail};
 use std::alloc::Global;
@@ -36,8 +36,8 @@ fn sale(document: u32) -> Wish {
     })
 }
 
-fn cell(document: u32) -> Place {
-    Place::cell(document.saturating_sub(1) % CELLS)
+fn cell(document: u32) -> Parcel {
+    Parcel::cell(document.saturating_sub(1) % CELLS)
 }
 
 fn is_tidy(clerk: &Clerk, document: u32) -> Result<()> {
@@ -51,14 +51,14 @@ fn is_tidy(clerk: &Clerk, document: u32) -> Result<()> {
 fn add_rows(rows: &mut Rows, squares: &[(u32, u32)], deeds: u64) {
     let sold = UNITS.saturating_mul(deeds);
     for (level, number) in squares {
-        let place = Place::square(*level, *number);
-        rows.add(place, Estate::S, 0, WHOLE.saturating_sub(sold));
-        rows.add(place, Estate::S, 1, sold);
+        let parcel = Parcel::square(*level, *number);
+        rows.add(parcel, Estate::S, 0, WHOLE.saturating_sub(sold));
+        rows.add(parcel, Estate::S, 1, sold);
     }
 }
 
 // The closing sheet of a section.
-fn closing_rows(alloc: Global, section: Place) -> Rows {
+fn closing_rows(alloc: Global, section: Parcel) -> Rows {
     let mut rows = Rows::new(alloc);
     add_rows(&mut rows, &ONE_MORE, 391);
     add_rows(&mut rows, &OTHERS, 390);
@@ -68,7 +68,7 @@ fn closing_rows(alloc: Global, section: Place) -> Rows {
 
 // The closing sheet has to be this, and the trees tidy.
 fn is_closed(alloc: Global, clerk: &mut Clerk) -> Result<()> {
-    let section = Place::section(1);
+    let section = Parcel::section(1);
     clerk.shows_at(section, &closing_rows(alloc, section))?;
     is_tidy(clerk, DEEDS)
 }
@@ -96,7 +96,7 @@ fn is_chain(chain: &[Entry], in_one: u32) -> Result<()> {
 
 // The chain of the section has all deeds, so many of them in each record.
 fn is_chained(clerk: &mut Clerk, in_one: u32) -> Result<()> {
-    let chain = clerk.chain_at(Place::section(1))?;
+    let chain = clerk.chain_at(Parcel::section(1))?;
     is_chain(chain.as_slice(), in_one)
 }
 

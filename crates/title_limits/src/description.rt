@@ -5,7 +5,7 @@
 //! eight columns, one in each pair, and then cells of the others, of 16 letters, as many as 1,000 bytes have room for.
 
 use crate::case::{Case, GOVERNMENT, MINERALS, Tried};
-use crate::place::Place;
+use crate::parcel::Parcel;
 use crate::portion::{ALL, Portion};
 use anyhow::{Result, bail};
 use std::alloc::{AllocError, Global};
@@ -69,19 +69,19 @@ fn is_in(cell: u32) -> bool {
 fn want_owned(case: &mut Case, examiner: u32, estate: &str, name: &str) {
     for cell in 0..256u32 {
         if is_in(cell) {
-            case.want_owner(examiner, Place::cell(cell), estate, name, ALL);
+            case.want_owner(examiner, Parcel::cell(cell), estate, name, ALL);
         }
     }
 }
 
 // Wants the rows of the surface of a cell after the deeds: a quarter of what lies in the tract is ADAMS'.
 fn want_sold(case: &mut Case, cell: u32) {
-    let place = Place::cell(cell);
+    let parcel = Parcel::cell(cell);
     if is_in(cell) {
-        case.want_owner(1, place, "S", GOVERNMENT, Portion(3, 4));
-        case.want_owner(1, place, "S", "ADAMS", Portion(1, 4));
+        case.want_owner(1, parcel, "S", GOVERNMENT, Portion(3, 4));
+        case.want_owner(1, parcel, "S", "ADAMS", Portion(1, 4));
     } else {
-        case.want_owner(1, place, "S", GOVERNMENT, ALL);
+        case.want_owner(1, parcel, "S", GOVERNMENT, ALL);
     }
 }
 
@@ -102,7 +102,7 @@ fn add_deeds(case: &mut Case, text: &str) {
     }
     let (deed, first) = (
         format_args!("deed,99,BELL,ADAMS,S,W1/1,,\"{text}\""),
-        Place::cell(0),
+        Parcel::cell(0),
     );
     case.step(1, deed, format_args!("refused,11,S,{first}"));
 }
@@ -123,7 +123,7 @@ fn add_sheet_after(case: &mut Case, text: &str) {
 
 // The sheet of its section after the deeds: no four cells of the surface are alike, and all else is.
 fn add_section_after(case: &mut Case) {
-    let section = Place::section(1);
+    let section = Parcel::section(1);
     case.sheet(1, section, 256 + SQUARES + 2);
     for cell in 0..256u32 {
         want_sold(case, cell);
@@ -161,7 +161,7 @@ fn add_post(case: &mut Case, text: &str) {
     let deed = format_args!("deed,1,{GOVERNMENT},ADAMS,S,W1/1,,\"{text}\"");
     case.step(1, deed, "posted");
     case.step(2, format_args!("sheet,\"{text}\""), "conflict,1");
-    case.sheet_unsold(2, Place::cell(255));
+    case.sheet_unsold(2, Parcel::cell(255));
     add_sheet(case, 1, text, "ADAMS");
 }
 

@@ -1,6 +1,6 @@
 //! Answers of tables of locks, each held against the one that it has to be.
 
-use crate::place::Place;
+use crate::parcel::Parcel;
 use anyhow::{Result, bail};
 use title_land::Tract;
 use title_lock::{Access, Guards, LockFault, Mode, NodeLocks};
@@ -24,31 +24,31 @@ pub fn asks_in<G: Guards>(
     is_answer(locks.ask(examiner, tract, access), wanted)
 }
 
-/// The same in a place.
+/// The same in a parcel.
 pub fn asks<G: Guards>(
     locks: &mut G,
     examiner: u32,
-    place: Place,
+    parcel: Parcel,
     access: Access,
     wanted: Result<(), LockFault>,
 ) -> Result<()> {
-    asks_in(locks, examiner, &place.tract()?, access, wanted)
+    asks_in(locks, examiner, &parcel.tract()?, access, wanted)
 }
 
-/// The mode of an examiner in a place.
-pub fn is_mode<G: Guards>(locks: &G, examiner: u32, place: Place, wanted: Mode) -> Result<()> {
-    let mode = locks.mode(examiner, &place.node()?);
+/// The mode of an examiner in a parcel.
+pub fn is_mode<G: Guards>(locks: &G, examiner: u32, parcel: Parcel, wanted: Mode) -> Result<()> {
+    let mode = locks.mode(examiner, &parcel.node()?);
     if mode != Some(wanted) {
-        bail!("examiner {examiner} has {mode:?} in {place}, and not {wanted:?}");
+        bail!("examiner {examiner} has {mode:?} in {parcel}, and not {wanted:?}");
     }
     Ok(())
 }
 
-/// How many examiners have each mode in a place: IS, IX, S, SIX and X.
-pub fn is_counted(locks: &NodeLocks, place: Place, wanted: [u64; 5]) -> Result<()> {
-    let counts = locks.counts(&place.node()?);
+/// How many examiners have each mode in a parcel: IS, IX, S, SIX and X.
+pub fn is_counted(locks: &NodeLocks, parcel: Parcel, wanted: [u64; 5]) -> Result<()> {
+    let counts = locks.counts(&parcel.node()?);
     if counts != wanted {
-        bail!("{counts:?} hold {place}, and not {wanted:?}");
+        bail!("{counts:?} hold {parcel}, and not {wanted:?}");
     }
     Ok(())
 }

@@ -2,7 +2,7 @@
 
 use crate::case::{Case, Tried};
 use crate::held::{asks, is_counted};
-use crate::place::Place;
+use crate::parcel::Parcel;
 use anyhow::Result;
 use std::alloc::Global;
 use title_lock::{Access, Guards, LockFault, NodeLocks};
@@ -13,15 +13,15 @@ const EXAMINERS: u32 = 9_999;
 // All read a section.
 fn read_all(locks: &mut NodeLocks) -> Result<()> {
     for examiner in 1..=EXAMINERS {
-        asks(locks, examiner, Place::section(1), Access::Read, Ok(()))?;
+        asks(locks, examiner, Parcel::section(1), Access::Read, Ok(()))?;
     }
-    is_counted(locks, Place::section(1), [0, 0, 9_999, 0, 0])?;
-    is_counted(locks, Place::Township(0), [9_999, 0, 0, 0, 0])
+    is_counted(locks, Parcel::section(1), [0, 0, 9_999, 0, 0])?;
+    is_counted(locks, Parcel::Township(0), [9_999, 0, 0, 0, 0])
 }
 
 // The last may post there as soon as it is alone.
 fn post_alone(locks: &mut NodeLocks) -> Result<()> {
-    let (section, conflict) = (Place::section(1), Err(LockFault::Conflict(1)));
+    let (section, conflict) = (Parcel::section(1), Err(LockFault::Conflict(1)));
     asks(locks, EXAMINERS, section, Access::Post, conflict)?;
     for examiner in 1..EXAMINERS {
         locks.give_back(examiner);
@@ -40,7 +40,7 @@ fn add_readers(case: &mut Case) {
         case.step(examiner, "begin", "began");
     }
     for examiner in 1..=EXAMINERS {
-        case.sheet_unsold(examiner, Place::section(1));
+        case.sheet_unsold(examiner, Parcel::section(1));
     }
 }
 

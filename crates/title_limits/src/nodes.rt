@@ -2,7 +2,7 @@
 
 use crate::case::{Case, Tried};
 use crate::held::{asks, is_counted};
-use crate::place::Place;
+use crate::parcel::Parcel;
 use anyhow::{Result, bail};
 use std::alloc::Global;
 use title_lock::{Access, Guards, LockFault, NodeLocks, RowLocks};
@@ -12,7 +12,7 @@ use title_script::Schedule;
 const NODES: u32 = 341;
 
 // The node with a number: the section, then its squares, level by level; and how many nodes of the section lie below it.
-fn node(number: u32) -> (Place, u64) {
+fn node(number: u32) -> (Parcel, u64) {
     let (level, first, below) = match number {
         0 => (0, 0, 340),
         1..=4 => (1, 1, 84),
@@ -20,7 +20,7 @@ fn node(number: u32) -> (Place, u64) {
         21..=84 => (3, 21, 4),
         _ => (4, 85, 0),
     };
-    (Place::square(level, number.saturating_sub(first)), below)
+    (Parcel::square(level, number.saturating_sub(first)), below)
 }
 
 // Each examiner asks for the node before its number.
@@ -31,11 +31,11 @@ fn ask_all<G: Guards>(locks: &mut G, access: Access) -> Result<()> {
     Ok(())
 }
 
-// The least examiner in the way of a post in a place by one who has asked for nothing.
-fn is_in_the_way<G: Guards>(locks: &G, place: Place, wanted: Option<u32>) -> Result<()> {
-    let other = locks.would(NODES + 1, &place.tract()?, Access::Post);
+// The least examiner in the way of a post in a parcel by one who has asked for nothing.
+fn is_in_the_way<G: Guards>(locks: &G, parcel: Parcel, wanted: Option<u32>) -> Result<()> {
+    let other = locks.would(NODES + 1, &parcel.tract()?, Access::Post);
     if other != wanted {
-        bail!("{other:?} is in the way in {place}, and not {wanted:?}");
+        bail!("{other:?} is in the way in {parcel}, and not {wanted:?}");
     }
     Ok(())
 }
@@ -43,13 +43,13 @@ fn is_in_the_way<G: Guards>(locks: &G, place: Place, wanted: Option<u32>) -> Res
 // In the way in the last cell are the readers of all that it lies in, of whom one after another gives back: those of the section,
 // of its southeast quarter, of the southeast quarter of that and so on, and of the cell.
 fn are_in_the_way<G: Guards>(locks: &mut G) -> Result<()> {
-    let last = Place::cell(255);
+    let last = Parcel::cell(255);
     for examiner in [1, 5, 21, 85, 341] {
         is_in_the_way(locks, last, Some(examiner))?;
         locks.give_back(examiner);
     }
     is_in_the_way(locks, last, None)?;
-    is_in_the_way(locks, Place::section(1), Some(2))
+    is_in_the_way(locks, Parcel::section(1), Some(2))
 }
 
 // All read.
@@ -61,11 +61,11 @@ fn try_readers<G: Guards>(locks: &mut G) -> Result<()> {
 // All read: at each node one has S, and those who read below it have IS.
 fn are_counted(locks: &NodeLocks) -> Result<()> {
     for number in 0..NODES {
-        let (place, below) = node(number);
-        is_counted(locks, place, [below, 0, 1, 0, 0])?;
+        let (parcel, below) = node(number);
+        is_counted(locks, parcel, [below, 0, 1, 0, 0])?;
     }
-    is_counted(locks, Place::Township(0), [341, 0, 0, 0, 0])?;
-    is_counted(locks, Place::Everything, [341, 0, 0, 0, 0])
+    is_counted(locks, Parcel::Township(0), [341, 0, 0, 0, 0])?;
+    is_counted(locks, Parcel::Everything, [341, 0, 0, 0, 0])
 }
 
 fn try_counts(locks: &mut NodeLocks) -> Result<()> {
@@ -74,20 +74,20 @@ fn try_counts(locks: &mut NodeLocks) -> Result<()> {
     for examiner in 1..=NODES {
         locks.give_back(examiner);
     }
-    is_counted(locks, Place::section(1), [0; 5])
+    is_counted(locks, Parcel::section(1), [0; 5])
 }
 
 // An examiner posts in each cell.
 fn post_all<G: Guards>(locks: &mut G) -> Result<()> {
     for cell in 0..256u32 {
-        asks(locks, cell + 1, Place::cell(cell), Access::Post, Ok(()))?;
+        asks(locks, cell + 1, Parcel::cell(cell), Access::Post, Ok(()))?;
     }
     Ok(())
 }
 
 // All post, and the last reads the section as soon as it is alone.
 fn try_posts<G: Guards>(locks: &mut G) -> Result<()> {
-    let (section, conflict) = (Place::section(1), Err(LockFault::Conflict(1)));
+    let (section, conflict) = (Parcel::section(1), Err(LockFault::Conflict(1)));
     post_all(locks)?;
     asks(locks, 256, section, Access::Read, conflict)?;
     for examiner in 1..256u32 {
@@ -99,9 +99,9 @@ fn try_posts<G: Guards>(locks: &mut G) -> Result<()> {
 // Each examiner of a script reads a node.
 fn add_readers(case: &mut Case) {
     for number in 0..NODES {
-        let (place, examiner) = (node(number).0, number + 1);
+        let (parcel, examiner) = (node(number).0, number + 1);
         case.step(examiner, "begin", "began");
-        case.sheet_unsold(examiner, place);
+        case.sheet_unsold(examiner, parcel);
     }
 }
 

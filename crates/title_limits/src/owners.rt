@@ -1,7 +1,7 @@
 //! A cell with more than 4,096 owners, by a script.
 
 use crate::case::{Case, GOVERNMENT, MINERALS, Tried};
-use crate::place::Place;
+use crate::parcel::Parcel;
 use crate::portion::Portion;
 use anyhow::Result;
 use std::alloc::Global;
@@ -41,7 +41,7 @@ fn declare_owners(case: &mut Case) {
 }
 
 fn add_deeds(case: &mut Case) {
-    let cell = Place::cell(0);
+    let cell = Parcel::cell(0);
     for number in 1..=OWNERS {
         let owner = Owner(number);
         let deed = format_args!("deed,1,{GOVERNMENT},{owner},S,{QUANTUM},,{cell}");
@@ -51,7 +51,7 @@ fn add_deeds(case: &mut Case) {
 
 // The sheet of the cell: a row for each owner, in the order of their numbers, and two.
 fn add_sheet(case: &mut Case) {
-    let cell = Place::cell(0);
+    let cell = Parcel::cell(0);
     case.sheet(1, cell, OWNERS + 3);
     case.want_owner(1, cell, "S", GOVERNMENT, LEFT);
     for number in 1..=OWNERS {

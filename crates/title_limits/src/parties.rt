@@ -1,7 +1,7 @@
 //! As many parties as there may be, each in a chain and a thousand of them in a sheet; and long names that are all quotes.
 
 use crate::case::{Case, GOVERNMENT, MINERALS, Tried};
-use crate::place::{CELLS, Place, Square};
+use crate::parcel::{CELLS, Parcel, Square};
 use crate::portion::{ALL, Portion};
 use anyhow::Result;
 use std::alloc::Global;
@@ -56,8 +56,8 @@ fn pair(number: u32) -> (Party, Party) {
 }
 
 // The cell with a number: those of section 1, then those of the next, and so on.
-fn cell(number: u32) -> Place {
-    Place::Part {
+fn cell(number: u32) -> Parcel {
+    Parcel::Part {
         township: 0,
         section: (number / CELLS).saturating_add(1),
         square: Square::cell(number % CELLS),
@@ -85,14 +85,14 @@ fn add_releases(case: &mut Case) {
 // The sheet of the township: a row for each cell that was sold, one for the last cell of section 4, for each other section, and
 // two for the other estates.
 fn add_sheet(case: &mut Case) {
-    let township = Place::Township(0);
+    let township = Parcel::Township(0);
     case.sheet(1, township, SOLD + 1 + 32 + 2);
     for number in 0..SOLD {
         case.want_owner(1, cell(number), "S", buyer(number), ALL);
     }
     case.want_owner(1, cell(SOLD), "S", GOVERNMENT, ALL);
     for section in 5..=36u32 {
-        case.want_owner(1, Place::section(section), "S", GOVERNMENT, ALL);
+        case.want_owner(1, Parcel::section(section), "S", GOVERNMENT, ALL);
     }
     case.want_unsold(1, township, &MINERALS);
 }
@@ -113,7 +113,7 @@ fn want_releases(case: &mut Case) {
 
 // The chain of everything: the deeds, and as many releases as the other parties are pairs.
 fn add_chain(case: &mut Case) {
-    case.chain(1, Place::Everything, SOLD + PAIRS);
+    case.chain(1, Parcel::Everything, SOLD + PAIRS);
     for number in 0..SOLD {
         want_deed(case, number + 1, buyer(number));
     }
@@ -171,7 +171,7 @@ fn declare_quoted(case: &mut Case) {
 const LEFT: Portion = Portion(2_096, 4_096);
 
 fn add_small_deeds(case: &mut Case) {
-    let cell = Place::cell(0);
+    let cell = Parcel::cell(0);
     for number in 1..=QUOTED {
         let name = Quoted(number);
         let deed = format_args!("deed,1,{GOVERNMENT},{name},S,W1/4096,,{cell}");
@@ -181,7 +181,7 @@ fn add_small_deeds(case: &mut Case) {
 
 // The sheet of the cell, a row for each of them and three.
 fn add_quoted_sheet(case: &mut Case) {
-    let cell = Place::cell(0);
+    let cell = Parcel::cell(0);
     case.sheet(1, cell, QUOTED + 3);
     case.want_owner(1, cell, "S", GOVERNMENT, LEFT);
     for number in 1..=QUOTED {
@@ -191,7 +191,7 @@ fn add_quoted_sheet(case: &mut Case) {
 }
 
 fn add_quoted_chain(case: &mut Case) {
-    case.chain(1, Place::Everything, QUOTED);
+    case.chain(1, Parcel::Everything, QUOTED);
     for number in 1..=QUOTED {
         want_deed(case, number, Quoted(number));
     }

@@ -2,7 +2,7 @@
 //! kept that come again and again.
 
 use crate::case::{Case, Tried};
-use crate::place::{Place, Square};
+use crate::parcel::{Parcel, Square};
 use anyhow::Result;
 use std::alloc::Global;
 use title_script::Schedule;
@@ -38,24 +38,24 @@ fn square(number: u32) -> Square {
     }
 }
 
-// The place with a number; the same place comes again after all others.
-fn place(number: u32) -> Place {
+// The parcel with a number; the same parcel comes again after all others.
+fn parcel(number: u32) -> Parcel {
     let (square, rest) = (square(number % SQUARES), number / SQUARES);
-    Place::Part {
+    Parcel::Part {
         township: rest / SECTIONS % TOWNSHIPS,
         section: (rest % SECTIONS).saturating_add(1),
         square,
     }
 }
 
-// The sheet of a place, where it has no fault.
-fn add_sheet(case: &mut Case, place: Place) {
-    match place {
-        Place::Part {
+// The sheet of a parcel, where it has no fault.
+fn add_sheet(case: &mut Case, parcel: Parcel) {
+    match parcel {
+        Parcel::Part {
             section: SECTIONS,
             ..
-        } => { case.step(1, format_args!("sheet,{place}"), "description,22") }
-        _ => case.sheet_unsold(1, place),
+        } => { case.step(1, format_args!("sheet,{parcel}"), "description,22") }
+        _ => case.sheet_unsold(1, parcel),
     }
 }
 
@@ -64,7 +64,7 @@ fn once(alloc: Global) -> Result<Tried> {
     let mut case = Case::new(alloc);
     case.declare_townships(TOWNSHIPS);
     for number in 0..ONCE {
-        add_sheet(&mut case, place(number));
+        add_sheet(&mut case, parcel(number));
     }
     case.run(Schedule::Serial)
 }
@@ -74,7 +74,7 @@ fn in_turn(alloc: Global) -> Result<Tried> {
     case.declare_townships(TOWNSHIPS);
     for _ in 0..TURNS {
         for number in 0..IN_TURN {
-            add_sheet(&mut case, place(number));
+            add_sheet(&mut case, parcel(number));
         }
     }
     case.run(Schedule::Serial)

@@ -3,7 +3,7 @@
 
 use crate::case::{Case, Tried};
 use crate::clerk::{Clerk, ESTATES, Rows, SURFACE, Sale, Wish};
-use crate::place::{Place, Square};
+use crate::parcel::{Parcel, Square};
 use crate::portion::WHOLE;
 use anyhow::Result;
 use std::alloc::Global;
@@ -17,16 +17,16 @@ const SHEETS: u32 = 34;
 
 const TURNS: u32 = 3;
 
-// The places whose sheets are asked for: squares of ten acres of section 2, and then the sections behind it.
-fn place(number: u32) -> Place {
+// The parcels whose sheets are asked for: squares of ten acres of section 2, and then the sections behind it.
+fn parcel(number: u32) -> Parcel {
     if number < SQUARES {
-        return Place::Part {
+        return Parcel::Part {
             township: 0,
             section: 2,
             square: Square { level: 3, number },
         };
     }
-    Place::section((number - SQUARES).saturating_add(3))
+    Parcel::section((number - SQUARES).saturating_add(3))
 }
 
 // Steps of a script that post, and are refused, each alone.
@@ -85,19 +85,19 @@ const CHAIN: [&str; 2] = [
     "1,entry,6,5,warranty,ADAMS,BELL,S",
 ];
 
-// Sheets of these places in turn.
+// Sheets of these parcels in turn.
 fn add_sheets(case: &mut Case) {
     for _ in 0..TURNS {
         for number in 0..SHEETS {
-            case.sheet_unsold(1, place(number));
+            case.sheet_unsold(1, parcel(number));
         }
     }
 }
 
 fn by_script(alloc: Global) -> Result<Tried> {
-    let (mut case, quarter) = (Case::new(alloc), Place::square(1, 0));
+    let (mut case, quarter) = (Case::new(alloc), Parcel::square(1, 0));
     case.declare_plant(1);
-    case.sheet_unsold(1, Place::section(1));
+    case.sheet_unsold(1, Parcel::section(1));
     case.steps(&POSTS);
     case.steps(&REFUSED);
     case.sheet(1, quarter, 5);
@@ -129,16 +129,16 @@ fn releases(estates: Estates) -> Wish {
 }
 
 // Steps alone with their replies.
-fn try_all(clerk: &mut Clerk, steps: &[(Wish, Place, &'static str)]) -> Result<()> {
-    for (wish, place, reply) in steps {
-        clerk.alone_at(*wish, *place, *reply)?;
+fn try_all(clerk: &mut Clerk, steps: &[(Wish, Parcel, &'static str)]) -> Result<()> {
+    for (wish, parcel, reply) in steps {
+        clerk.alone_at(*wish, *parcel, *reply)?;
     }
     Ok(())
 }
 
 // A sheet, a chain, posts, and posts that a cause or the plant refuses.
 fn try_each(clerk: &mut Clerk) -> Result<()> {
-    let (here, elsewhere) = (Place::section(1), Place::Township(1));
+    let (here, elsewhere) = (Parcel::section(1), Parcel::Township(1));
     let steps = [
         (Wish::Sheet, here, "sheet,3"),
         (Wish::Chain, here, "chain,0"),
@@ -154,18 +154,18 @@ fn try_each(clerk: &mut Clerk) -> Result<()> {
     try_all(clerk, &steps)
 }
 
-fn unsold(alloc: Global, place: Place) -> Rows {
+fn unsold(alloc: Global, parcel: Parcel) -> Rows {
     let mut rows = Rows::new(alloc);
-    rows.add_unsold(place, &ESTATES);
+    rows.add_unsold(parcel, &ESTATES);
     rows
 }
 
-// The sheets of these places in turn.
+// The sheets of these parcels in turn.
 fn try_sheets(alloc: Global, clerk: &mut Clerk) -> Result<()> {
     for _ in 0..TURNS {
         for number in 0..SHEETS {
-            let place = place(number);
-            clerk.shows_at(place, &unsold(alloc, place))?;
+            let parcel = parcel(number);
+            clerk.shows_at(parcel, &unsold(alloc, parcel))?;
         }
     }
     Ok(())

@@ -2,7 +2,7 @@
 //! an estate, so everything has 192.
 
 use crate::case::{Case, ESTATES, GOVERNMENT, MINERALS, Tried};
-use crate::place::Place;
+use crate::parcel::Parcel;
 use crate::portion::{ALL, Portion};
 use anyhow::Result;
 use std::alloc::Global;
@@ -13,48 +13,48 @@ const TOWNSHIPS: u32 = 64;
 // The township in which ADAMS sells on.
 const SOLD: u32 = 17;
 
-// Wants the rows of estates in a place, half of which is ADAMS'.
-fn want_halves(case: &mut Case, examiner: u32, place: Place, estates: &[&'static str]) {
+// Wants the rows of estates in a parcel, half of which is ADAMS'.
+fn want_halves(case: &mut Case, examiner: u32, parcel: Parcel, estates: &[&'static str]) {
     let half = Portion(1, 2);
     for estate in estates {
-        case.want_owner(examiner, place, *estate, GOVERNMENT, half);
-        case.want_owner(examiner, place, *estate, "ADAMS", half);
+        case.want_owner(examiner, parcel, *estate, GOVERNMENT, half);
+        case.want_owner(examiner, parcel, *estate, "ADAMS", half);
     }
 }
 
 // The sheet of everything while two own half each in all estates.
 fn add_halves(case: &mut Case, examiner: u32) {
-    case.sheet(examiner, Place::Everything, 6);
-    want_halves(case, examiner, Place::Everything, &ESTATES);
+    case.sheet(examiner, Parcel::Everything, 6);
+    want_halves(case, examiner, Parcel::Everything, &ESTATES);
 }
 
 // Wants the rows of the surface of a township: BELL has a quarter of the one that ADAMS sold on.
 fn want_surface(case: &mut Case, number: u32) {
-    let place = Place::Township(number);
-    case.want_owner(1, place, "S", GOVERNMENT, Portion(1, 2));
+    let parcel = Parcel::Township(number);
+    case.want_owner(1, parcel, "S", GOVERNMENT, Portion(1, 2));
     if number == SOLD {
-        case.want_owner(1, place, "S", "ADAMS", Portion(1, 4));
-        case.want_owner(1, place, "S", "BELL", Portion(1, 4));
+        case.want_owner(1, parcel, "S", "ADAMS", Portion(1, 4));
+        case.want_owner(1, parcel, "S", "BELL", Portion(1, 4));
     } else {
-        case.want_owner(1, place, "S", "ADAMS", Portion(1, 2));
+        case.want_owner(1, parcel, "S", "ADAMS", Portion(1, 2));
     }
 }
 
 // The sheet of everything when a township was sold on: two rows for each of 63 townships, three for that one, and four.
 fn add_sheet_after(case: &mut Case) {
-    case.sheet(1, Place::Everything, (TOWNSHIPS - 1) * 2 + 3 + 4);
+    case.sheet(1, Parcel::Everything, (TOWNSHIPS - 1) * 2 + 3 + 4);
     for number in 0..TOWNSHIPS {
         want_surface(case, number);
     }
-    want_halves(case, 1, Place::Everything, &MINERALS);
+    want_halves(case, 1, Parcel::Everything, &MINERALS);
 }
 
 // The sheet of the township that was sold on.
 fn add_township_after(case: &mut Case) {
-    let place = Place::Township(SOLD);
-    case.sheet(1, place, 7);
+    let parcel = Parcel::Township(SOLD);
+    case.sheet(1, parcel, 7);
     want_surface(case, SOLD);
-    want_halves(case, 1, place, &MINERALS);
+    want_halves(case, 1, parcel, &MINERALS);
 }
 
 // A deed of everything, one of a township, and one of everything by BELL, which has something in that township alone.
@@ -65,7 +65,7 @@ fn add_deeds(case: &mut Case) {
         "posted",
     );
     add_halves(case, 1);
-    let sold = Place::Township(SOLD);
+    let sold = Parcel::Township(SOLD);
     case.step(
         1,
         format_args!("deed,2,ADAMS,BELL,S,W1/4,,{sold}"),
@@ -90,8 +90,8 @@ fn add_releases(case: &mut Case) {
     case.step(1, "release,4,BELL,ADAMS,S,everything", "posted");
     add_halves(case, 1);
     case.step(1, "release,5,ADAMS,UNITED STATES,SOM,everything", "posted");
-    case.sheet_unsold(1, Place::Everything);
-    case.chain(1, Place::Everything, 4);
+    case.sheet_unsold(1, Parcel::Everything);
+    case.chain(1, Parcel::Everything, 4);
     case.want_all(&CHAIN);
 }
 
@@ -99,7 +99,7 @@ fn add_releases(case: &mut Case) {
 fn alone(alloc: Global) -> Result<Tried> {
     let mut case = Case::new(alloc);
     case.declare_plant(TOWNSHIPS);
-    case.sheet_unsold(1, Place::Everything);
+    case.sheet_unsold(1, Parcel::Everything);
     add_deeds(&mut case);
     add_releases(&mut case);
     case.run(Schedule::Serial)
@@ -120,18 +120,18 @@ fn add_undone(case: &mut Case) {
     case.steps(&IN_THE_WAY);
     add_halves(case, 1);
     case.step(1, "abort", "aborted");
-    case.sheet_unsold(2, Place::Everything);
+    case.sheet_unsold(2, Parcel::Everything);
     case.step(2, "commit", "committed,1");
 }
 
 // Deeds of all townships, one by one, by examiner 1 while examiner 2 has read another of them.
 fn add_each(case: &mut Case) {
     case.step(2, "begin", "began");
-    case.sheet_unsold(2, Place::Township(SOLD));
+    case.sheet_unsold(2, Parcel::Township(SOLD));
     case.step(1, "begin", "began");
     for number in 0..TOWNSHIPS {
-        let place = Place::Township(number);
-        let deed = format_args!("deed,2,{GOVERNMENT},ADAMS,S,W1/1,,{place}");
+        let parcel = Parcel::Township(number);
+        let deed = format_args!("deed,2,{GOVERNMENT},ADAMS,S,W1/1,,{parcel}");
         case.step(1, deed, deed_reply(number));
     }
     case.step(2, "sheet,everything", "conflict,1");
@@ -148,12 +148,12 @@ fn deed_reply(number: u32) -> &'static str {
 
 // The sheet of everything then.
 fn add_last(case: &mut Case) {
-    case.sheet(2, Place::Everything, TOWNSHIPS + 2);
+    case.sheet(2, Parcel::Everything, TOWNSHIPS + 2);
     for number in 0..TOWNSHIPS {
         let owner = if number == SOLD { GOVERNMENT } else { "ADAMS" };
-        case.want_owner(2, Place::Township(number), "S", owner, ALL);
+        case.want_owner(2, Parcel::Township(number), "S", owner, ALL);
     }
-    case.want_unsold(2, Place::Everything, &MINERALS);
+    case.want_unsold(2, Parcel::Everything, &MINERALS);
 }
 
 // Two examiners at once.

@@ -2,7 +2,7 @@
 
 use crate::clerk::{Clerk, Rows, Sale, Wish};
 use crate::held::{asks, asks_in, is_mode};
-use crate::place::{CELLS, Place, Square, section};
+use crate::parcel::{CELLS, Parcel, Square, section};
 use crate::portion::WHOLE;
 use anyhow::{Result, bail};
 use std::alloc::Global;
@@ -46,7 +46,7 @@ fn tract(alloc: Global) -> Result<Tract> {
 fn add_cells(nodes: &mut Vec<Node>) -> Result<()> {
     for cell in 0..CELLS {
         if is_in(cell) {
-            nodes.push(Place::cell(cell).node()?)?;
+            nodes.push(Parcel::cell(cell).node()?)?;
         }
     }
     Ok(())
@@ -66,7 +66,7 @@ fn is_covered(alloc: Global, tract: &Tract) -> Result<()> {
 fn add_unsold(rows: &mut Rows, estate: Estate) {
     for cell in 0..CELLS {
         if is_in(cell) {
-            rows.add(Place::cell(cell), estate, 0, WHOLE);
+            rows.add(Parcel::cell(cell), estate, 0, WHOLE);
         }
     }
 }
@@ -75,8 +75,8 @@ fn add_unsold(rows: &mut Rows, estate: Estate) {
 fn add_sold(rows: &mut Rows) {
     for cell in 0..CELLS {
         if is_in(cell) {
-            rows.add(Place::cell(cell), Estate::S, 0, WHOLE / 4 * 3);
-            rows.add(Place::cell(cell), Estate::S, 1, WHOLE / 4);
+            rows.add(Parcel::cell(cell), Estate::S, 0, WHOLE / 4 * 3);
+            rows.add(Parcel::cell(cell), Estate::S, 1, WHOLE / 4);
         }
     }
 }
@@ -164,18 +164,18 @@ fn try_accesses<G: Guards>(locks: &mut G, tract: &Tract) -> Result<()> {
     asks_in(locks, 1, tract, Access::Post, Ok(()))?;
     let conflict = Err(LockFault::Conflict(1));
     asks_in(locks, 2, tract, Access::Read, conflict)?;
-    asks(locks, 2, Place::cell(3), Access::Read, Ok(()))
+    asks(locks, 2, Parcel::cell(3), Access::Read, Ok(()))
 }
 
 // The same, and a read there again when examiner 1 is gone.
 fn try_table<G: Guards>(locks: &mut G, tract: &Tract) -> Result<()> {
     try_accesses(locks, tract)?;
-    is_mode(locks, 1, Place::section(1), Mode::Ix)?;
-    is_mode(locks, 1, Place::cell(254), Mode::X)?;
-    is_mode(locks, 2, Place::section(1), Mode::Is)?;
+    is_mode(locks, 1, Parcel::section(1), Mode::Ix)?;
+    is_mode(locks, 1, Parcel::cell(254), Mode::X)?;
+    is_mode(locks, 2, Parcel::section(1), Mode::Is)?;
     locks.give_back(1);
     asks_in(locks, 2, tract, Access::Read, Ok(()))?;
-    is_mode(locks, 2, Place::cell(254), Mode::S)
+    is_mode(locks, 2, Parcel::cell(254), Mode::S)
 }
 
 // By both tables of locks.

@@ -2,7 +2,7 @@
 //! aborted.
 
 use crate::case::{Case, GOVERNMENT, MINERALS, Tried};
-use crate::place::{CELLS, Place};
+use crate::parcel::{CELLS, Parcel};
 use crate::portion::Portion;
 use anyhow::Result;
 use std::alloc::Global;
@@ -25,14 +25,14 @@ const ONE_MORE: (u32, u32) = (2, 0);
 const OTHERS: [(u32, u32); 6] = [(2, 1), (2, 2), (2, 3), (1, 1), (1, 2), (1, 3)];
 
 fn add_deed(case: &mut Case, document: u32, reply: &str) {
-    let cell = Place::cell(document.saturating_sub(1) % CELLS);
+    let cell = Parcel::cell(document.saturating_sub(1) % CELLS);
     let deed = format_args!("deed,{document},{GOVERNMENT},ADAMS,S,W1/64,,{cell}");
     case.step(1, deed, reply);
 }
 
 // Examiner 1 posts 10,000 deeds, and can do no more; it is in the way of examiner 2 there, and not elsewhere.
 fn add_posts(case: &mut Case) {
-    let section = Place::section(1);
+    let section = Parcel::section(1);
     case.step(1, "begin", "began");
     for document in 1..=STEPS {
         add_deed(case, document, "posted");
@@ -41,24 +41,24 @@ fn add_posts(case: &mut Case) {
     case.step(1, format_args!("sheet,{section}"), "toolong");
     case.step(2, "begin", "began");
     case.step(2, format_args!("sheet,{section}"), "conflict,1");
-    case.sheet_unsold(2, Place::section(2));
+    case.sheet_unsold(2, Parcel::section(2));
     case.step(1, "commit", "committed,1");
 }
 
 // Wants the rows of the surface of a square of which ADAMS and BELL have so many of 1,024 parts, and UNITED STATES the others.
 fn want_owners(case: &mut Case, examiner: u32, square: (u32, u32), adams: u64, bell: u64) {
-    let place = Place::square(square.0, square.1);
+    let parcel = Parcel::square(square.0, square.1);
     let left = 1_024u64.saturating_sub(adams).saturating_sub(bell);
-    case.want_owner(examiner, place, "S", GOVERNMENT, Portion(left, 1_024));
-    case.want_owner(examiner, place, "S", "ADAMS", Portion(adams, 1_024));
+    case.want_owner(examiner, parcel, "S", GOVERNMENT, Portion(left, 1_024));
+    case.want_owner(examiner, parcel, "S", "ADAMS", Portion(adams, 1_024));
     if bell > 0 {
-        case.want_owner(examiner, place, "S", "BELL", Portion(bell, 1_024));
+        case.want_owner(examiner, parcel, "S", "BELL", Portion(bell, 1_024));
     }
 }
 
 // The sheet of the section when BELL got its part so often.
 fn add_sheet(case: &mut Case, examiner: u32, bell: u64) {
-    let section = Place::section(1);
+    let section = Parcel::section(1);
     let rows = if bell > 0 { 7 * 3 + 2 } else { 7 * 2 + 2 };
     case.sheet(examiner, section, rows);
     want_owners(case, examiner, ONE_MORE, 640, bell);
@@ -77,13 +77,13 @@ fn want_posts(case: &mut Case, examiner: u32) {
 
 // The chain of the section after the first transaction.
 fn add_chain(case: &mut Case, examiner: u32) {
-    case.chain(examiner, Place::section(1), STEPS);
+    case.chain(examiner, Parcel::section(1), STEPS);
     want_posts(case, examiner);
 }
 
 // The same within the second one, whose own deeds have place 0.
 fn add_own_chain(case: &mut Case) {
-    case.chain(3, Place::section(1), STEPS + POSTS);
+    case.chain(3, Parcel::section(1), STEPS + POSTS);
     want_posts(case, 3);
     for _ in 0..POSTS {
         case.want(format_args!("3,entry,0,7,deed,{GOVERNMENT},BELL,S"));
@@ -93,7 +93,7 @@ fn add_own_chain(case: &mut Case) {
 // Examiner 3 gives BELL its part of each cell.
 fn add_round(case: &mut Case) {
     for cell in 0..CELLS {
-        let cell = Place::cell(cell);
+        let cell = Parcel::cell(cell);
         let deed = format_args!("deed,7,{GOVERNMENT},BELL,S,W1/1024,,{cell}");
         case.step(3, deed, "posted");
     }
@@ -101,7 +101,7 @@ fn add_round(case: &mut Case) {
 
 // Examiner 3 posts and reads in turn, and undoes all.
 fn add_undone(case: &mut Case) {
-    let section = Place::section(1);
+    let section = Parcel::section(1);
     case.step(3, "begin", "began");
     for time in 1..=TIMES {
         add_round(case);

@@ -17,7 +17,7 @@ use Rattle.std.specs.List.Sorted.{IsStrictlySortedBy}
 use Rattle.std.proofs.lemmas.Bool.{ne_eqb, eq-eqb, eqb-true, eqb-false, ltb-true, or_left, or_right, or_from, and_parts, true≢false}
 use Rattle.title_lock.specs.Overlaps.{IsLeast}
 use Rattle.title_lock.specs.declared.modes.Mode.{Mode}
-use Rattle.title_lock.specs.Holders.{mode_of_place, holder_mode, clashes, first_way}
+use Rattle.title_lock.specs.Holders.{mode_of_slot, holder_mode, clashes, first_way}
 
 abbrev Held : Type 0
 Held = List (ℕ × Option Mode)
@@ -27,7 +27,7 @@ abbrev pub in_way : Mode → Held → ℕ → Bool
 in_way m entries f = clashes m (holder_mode entries f)
 
 way_cond : (m : Mode) (t : Bool) (b : Option Mode) (r : Option (Option Mode))
-    → clashes m (mode_of_place (cond t (Some b) r)) ≡ cond t (clashes m b) (clashes m (mode_of_place r))
+    → clashes m (mode_of_slot (cond t (Some b) r)) ≡ cond t (clashes m b) (clashes m (mode_of_slot r))
 way_cond m true b r = refl
 way_cond m false b r = refl
 
@@ -120,16 +120,16 @@ before_is x f = go (nat_cmp x f) (ranks x f)
 pub in_way_before : (m : Mode) (x : ℕ) (es : Held) (f : ℕ) → in_way m (before x es) f ≡ (ltb f x && in_way m es f)
 in_way_before m x es f =
     let p : ℕ → Bool = range_contains nat_cmp Unbounded (Excluded x) in
-    ap (λ (o : Option (Option Mode)). clashes m (mode_of_place o)) (lookup-filter-keys (is_at (nat_cmp f)) p (p f)
+    ap (λ (o : Option (Option Mode)). clashes m (mode_of_slot o)) (lookup-filter-keys (is_at (nat_cmp f)) p (p f)
     (λ k t. ap p (sym (eqb-true f k (sym (unsigned_tied f k) ∙ t)))) es)
     ∙ go (p f) (lookup (is_at (nat_cmp f)) es)
     ∙ ap (λ (b : Bool). b && in_way m es f) (before_is x f)
   where
-    go : (b : Bool) (o : Option (Option Mode)) → clashes m (mode_of_place (cond b o None)) ≡ (b && clashes m (mode_of_place o))
+    go : (b : Bool) (o : Option (Option Mode)) → clashes m (mode_of_slot (cond b o None)) ≡ (b && clashes m (mode_of_slot o))
     go true o = refl
     go false o = refl
 
--- ---- the first place beside the others
+-- ---- the first slot beside the others
 
 -- it is this examiner
 abbrev pub is_one : Option ℕ → ℕ → Bool

@@ -13,7 +13,7 @@ use Rattle.title_land.specs.Lands.{cover_of, IsLand}
 use Rattle.title_lock.specs.Modes.{bound, allows}
 use Rattle.title_lock.specs.Overlaps.{Stands, is_post, without}
 use Rattle.title_lock.specs.Asking.{own_mode, above_mode, asked_for, asked, mode_at}
-use Rattle.title_lock.specs.Tables.{placed, table_mode, is_asked, is_asked_by, TableIs}
+use Rattle.title_lock.specs.Tables.{on_all, table_mode, is_asked, is_asked_by, TableIs}
 use Rattle.title_lock.specs.Books.{IsNewest}
 use Rattle.title_lock.proofs.ModeLaws.{bound_turn}
 use Rattle.title_lock.proofs.Overlap.{MeetByCovers, apart_more, entries_fit}
@@ -21,14 +21,14 @@ use Rattle.title_lock.proofs.Overlap.{MeetByCovers, apart_more, entries_fit}
 -- ---- one entry more
 
 pub table_more : (depth : ℕ) → MeetByCovers depth → (es : List Entry) (table more : Table) (x : Entry) → IsLand depth x.tract
-    → TableIs depth es (placed table) → Stands es x.examiner x.tract (is_post x.access) None →
-    ((f : ℕ) (n : Node) → table_mode (placed more) f n ≡ bound (table_mode (placed table) f n)
-    (cond (eqb f x.examiner) (asked (is_post x.access) (cover_of depth x.tract) n) None)) → TableIs depth (x ∷ es) (placed more)
+    → TableIs depth es (on_all table) → Stands es x.examiner x.tract (is_post x.access) None →
+    ((f : ℕ) (n : Node) → table_mode (on_all more) f n ≡ bound (table_mode (on_all table) f n)
+    (cond (eqb f x.examiner) (asked (is_post x.access) (cover_of depth x.tract) n) None)) → TableIs depth (x ∷ es) (on_all more)
 table_more depth by es table more x wide are free modes = record {
   apart = apart_more depth es x (λ e f o n. are.apart e f o n)
       (λ f o. entries_fit depth by (is_post x.access) x.tract wide f es are.sized (free f o));
   sized = All-cons (λ (z : Entry). IsLand depth z.tract) x es wide are.sized;
-  modes = λ f n. modes f n ∙ bound_turn (table_mode (placed table) f n)
+  modes = λ f n. modes f n ∙ bound_turn (table_mode (on_all table) f n)
       (cond (eqb f x.examiner) (asked (is_post x.access) (cover_of depth x.tract) n) None)
       ∙ ap (bound (cond (eqb f x.examiner) (asked (is_post x.access) (cover_of depth x.tract) n) None)) (are.modes f n);
 }
@@ -108,10 +108,10 @@ left_none true false r h = h refl refl
 left_none false a r h = refl
 
 -- the table without what an examiner's entries ask for is that of the others' entries
-pub table_fewer : (depth : ℕ) (e : ℕ) (es : List Entry) (table fewer : Table) → TableIs depth es (placed table) →
-    ((f : ℕ) (n : Node) → table_mode (placed fewer) f n ≡ cond (eqb f e && list_any (is_asked_by depth e n) es) None
-    (table_mode (placed table) f n))
-    → TableIs depth (without e es) (placed fewer)
+pub table_fewer : (depth : ℕ) (e : ℕ) (es : List Entry) (table fewer : Table) → TableIs depth es (on_all table) →
+    ((f : ℕ) (n : Node) → table_mode (on_all fewer) f n ≡ cond (eqb f e && list_any (is_asked_by depth e n) es) None
+    (table_mode (on_all table) f n))
+    → TableIs depth (without e es) (on_all fewer)
 table_fewer depth e es table fewer are left =
     record {
       apart = λ f g o n. ap (λ (z : Option Mode). allows z (mode_at depth (without e es) g n)) (modes_without depth e es f n)

@@ -1,4 +1,4 @@
--- Who is idle at a node, and which places are used, after one change and after several.
+-- Who is idle at a node, and which holders are used, after one change and after several.
 use Rattle.std.proofs.Common.{◌≡◌, ◌≢◌, ℕ, Bool, true, false, cond, not, ◌&&◌, ◌||◌, [], ◌∷◌, length, Option}
 use Rattle.std.proofs.Common.{Some, None, is_some, eqb, refl, sym, ap, ◌∙◌, inl, inr, true≢false, arith}
 use Rattle.std.proofs.lemmas.Bool.{eqb-false, ne_eqb, or_cases, or_left, or_right}
@@ -10,7 +10,7 @@ use Rattle.title_land.specs.declared.node.Node.{Node}
 use Rattle.title_lock.specs.declared.modes.Mode.{Mode}
 use Rattle.title_lock.specs.Modes.{bound}
 use Rattle.title_lock.specs.Holders.{Modes, holder_mode, has_room, idles, is_free}
-use Rattle.title_lock.specs.Tables.{Placed, is_idle, IdleMore, IdleLess, NoMoreIdle}
+use Rattle.title_lock.specs.Tables.{HeldAt, is_idle, IdleMore, IdleLess, NoMoreIdle}
 
 -- ---- the holders of one node
 
@@ -102,7 +102,7 @@ free_idles (p ∷ h) free e = absurd (true≢false (sym free ∙ ne_eqb (length 
 -- ---- tables
 
 -- the same table has nobody more idle
-pub more_same : (t : Placed) (e : ℕ) (asks : Node → Bool) → IdleMore t t e asks
+pub more_same : (t : HeldAt) (e : ℕ) (asks : Node → Bool) → IdleMore t t e asks
 more_same t e asks = record { more = λ f n idle. or_left (is_idle t f n) (eqb f e && asks n) idle }
 
 wider : (b p r : Bool) → (p ≡ true → r ≡ true) → (b && p) ≡ true → (b && r) ≡ true
@@ -110,7 +110,7 @@ wider true p r h both = h both
 wider false p r h both = both
 
 -- what may be idle by one test may be by a wider one
-pub more_wider : (t u : Placed) (e : ℕ) (p r : Node → Bool) → ((n : Node) → p n ≡ true → r n ≡ true) → IdleMore t u e p → IdleMore t u e r
+pub more_wider : (t u : HeldAt) (e : ℕ) (p r : Node → Bool) → ((n : Node) → p n ≡ true → r n ≡ true) → IdleMore t u e p → IdleMore t u e r
 more_wider t u e p r wide h = record {
   more = λ f n idle. elim (or_cases (is_idle t f n) (eqb f e && p n) (h.more f n idle)) [
     | inl old ↦ or_left (is_idle t f n) (eqb f e && r n) old
@@ -119,7 +119,7 @@ more_wider t u e p r wide h = record {
 }
 
 -- what may be idle by two changes in turn
-pub more_join : (t u v : Placed) (e : ℕ) (p r : Node → Bool) → ((n : Node) → p n ≡ true → r n ≡ true) → IdleMore t u e r → IdleMore u v e p
+pub more_join : (t u v : HeldAt) (e : ℕ) (p r : Node → Bool) → ((n : Node) → p n ≡ true → r n ≡ true) → IdleMore t u e r → IdleMore u v e p
     → IdleMore t v e r
 more_join t u v e p r wide first then = record {
   more = λ f n idle. elim (or_cases (is_idle u f n) (eqb f e && p n) (then.more f n idle)) [
@@ -136,7 +136,7 @@ both_gone true false p q = refl
 both_gone false b p q = refl
 
 -- the same table has nobody less idle by a test that passes no node
-pub less_same : (t : Placed) (e : ℕ) (asks : Node → Bool) → ((n : Node) → asks n ≡ false) → IdleLess t t e asks
+pub less_same : (t : HeldAt) (e : ℕ) (asks : Node → Bool) → ((n : Node) → asks n ≡ false) → IdleLess t t e asks
 less_same t e asks none = record {
   less = λ f n. go (is_idle t f n) (eqb f e) ∙ ap (λ (z : Bool). is_idle t f n && not (eqb f e && z)) (sym (none n));
 }
@@ -147,7 +147,7 @@ less_same t e asks none = record {
     go false b = refl
 
 -- who is no more idle after two changes in turn
-pub less_join : (t u v : Placed) (e : ℕ) (p q r : Node → Bool) → ((n : Node) → (p n || q n) ≡ r n) → IdleLess t u e p → IdleLess u v e q
+pub less_join : (t u v : HeldAt) (e : ℕ) (p q r : Node → Bool) → ((n : Node) → (p n || q n) ≡ r n) → IdleLess t u e p → IdleLess u v e q
     → IdleLess t v e r
 less_join t u v e p q r parts first then = record {
   less = λ f n. then.less f n ∙ ap (λ (z : Bool). z && not (eqb f e && q n)) (first.less f n)
@@ -160,7 +160,7 @@ fewer true b h = refl
 fewer false b h = h
 
 -- nobody is idle but who was, also after one who was is no more
-pub less_more : (t u v : Placed) (e : ℕ) (asks : Node → Bool) → NoMoreIdle t u → IdleLess u v e asks → NoMoreIdle t v
+pub less_more : (t u v : HeldAt) (e : ℕ) (asks : Node → Bool) → NoMoreIdle t u → IdleLess u v e asks → NoMoreIdle t v
 less_more t u v e asks first then = record {
   same = λ f n idle. first.same f n (fewer (is_idle u f n) (eqb f e && asks n) (sym (then.less f n) ∙ idle));
 }

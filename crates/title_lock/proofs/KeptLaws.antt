@@ -9,13 +9,13 @@ use Rattle.title_lock.specs.declared.guards.Entry.{Entry}
 use Rattle.title_lock.specs.declared.table.Table.{Table}
 use Rattle.title_lock.specs.Overlaps.{is_post, Stands, without}
 use Rattle.title_lock.specs.Books.{IsNewest}
-use Rattle.title_lock.specs.Tables.{placed, table_mode, is_asked, is_asked_by, HasRoom, is_idle, IdleMore, IdleLess, NoMoreIdle}
+use Rattle.title_lock.specs.Tables.{on_all, table_mode, is_asked, is_asked_by, HasRoom, is_idle, IdleMore, IdleLess, NoMoreIdle}
 use Rattle.title_lock.specs.Tables.{TableIs, TableUsed}
 use Rattle.title_lock.specs.Locks.{granted, waiting, IsReady, AreKept, IsLean}
 
 -- the table tells the modes of the entries, whether or not an access is prepared
 pub kept_table : (depth : ℕ) (p : Option ℕ) (book : List Entry) (t : Table) → AreKept depth p book t
-    → TableIs depth (granted p book) (placed t)
+    → TableIs depth (granted p book) (on_all t)
 kept_table depth None book t h = h
 kept_table depth (Some e) [] t h = absurd cc
 kept_table depth (Some e) (x ∷ es) t h = h.0
@@ -27,8 +27,8 @@ none_waiting depth (Some e) [] t h none = absurd cc
 none_waiting depth (Some e) (x ∷ es) t h none = absurd cc
 
 -- a table with the same modes is that of the same entries
-pub table_same : (depth : ℕ) (es : List Entry) (t u : Table) → ((f : ℕ) (n : Node) → table_mode (placed u) f n ≡ table_mode (placed t) f n)
-    → TableIs depth es (placed t) → TableIs depth es (placed u)
+pub table_same : (depth : ℕ) (es : List Entry) (t u : Table) → ((f : ℕ) (n : Node) → table_mode (on_all u) f n ≡ table_mode (on_all t) f n)
+    → TableIs depth es (on_all t) → TableIs depth es (on_all u)
 table_same depth es t u same are = record {
   apart = are.apart;
   sized = are.sized;
@@ -40,7 +40,7 @@ pub record IsFirst (depth : ℕ) (p : Option ℕ) (book : List Entry) (t : Table
   pub first : book ≡ x ∷ granted p book
   pub wide : IsLand depth x.tract
   pub free : Stands (granted p book) x.examiner x.tract (is_post x.access) None
-  pub room : HasRoom (placed t) x.examiner (λ n. list_any (is_asked n) (cover_of depth x.tract))
+  pub room : HasRoom (on_all t) x.examiner (λ n. list_any (is_asked n) (cover_of depth x.tract))
 
 first_here : (depth : ℕ) (e : ℕ) (x : Entry) (es : List Entry) (t : Table) → IsReady depth e x es t → IsFirst depth (Some e) (x ∷ es) t x
 first_here depth e x es t h = record { first = refl; wide = h.wide; free = h.free; room = h.room }
@@ -128,19 +128,19 @@ waits_no_more false a h e = true≢false (sym e)
 
 -- an access that waits no more leaves nobody idle
 pub lean_done : (depth : ℕ) (x : Entry) (t u : Table) → IsLean depth (Some x) t
-    → IdleLess (placed t) (placed u) x.examiner (λ n. list_any (is_asked n) (cover_of depth x.tract)) → (TableUsed t → TableUsed u)
+    → IdleLess (on_all t) (on_all u) x.examiner (λ n. list_any (is_asked n) (cover_of depth x.tract)) → (TableUsed t → TableUsed u)
     → IsLean depth None u
 lean_done depth x t u lean less used = record {
-  idle = λ f n idle. absurd (waits_no_more (is_idle (placed t) f n) (is_asked_by depth f n x) (lean.idle f n) (sym (less.less f n) ∙ idle));
+  idle = λ f n idle. absurd (waits_no_more (is_idle (on_all t) f n) (is_asked_by depth f n x) (lean.idle f n) (sym (less.less f n) ∙ idle));
   used = used lean.used;
 }
 
 -- an access that is to wait makes its examiner idle where it asks
 pub lean_more : (depth : ℕ) (x : Entry) (t u : Table) → IsLean depth None t
-    → IdleMore (placed t) (placed u) x.examiner (λ n. list_any (is_asked n) (cover_of depth x.tract)) → (TableUsed t → TableUsed u)
+    → IdleMore (on_all t) (on_all u) x.examiner (λ n. list_any (is_asked n) (cover_of depth x.tract)) → (TableUsed t → TableUsed u)
     → IsLean depth (Some x) u
 lean_more depth x t u lean more used = record {
-  idle = λ f n idle. elim (or_cases (is_idle (placed t) f n) (is_asked_by depth f n x) (more.more f n idle)) [
+  idle = λ f n idle. elim (or_cases (is_idle (on_all t) f n) (is_asked_by depth f n x) (more.more f n idle)) [
     | inl old ↦ absurd (true≢false (sym (lean.idle f n old)))
     | inr new ↦ new
   ];
@@ -148,7 +148,7 @@ lean_more depth x t u lean more used = record {
 }
 
 -- where nobody more is idle it is as it was
-pub lean_same : (depth : ℕ) (w : Option Entry) (t u : Table) → IsLean depth w t → NoMoreIdle (placed t) (placed u)
+pub lean_same : (depth : ℕ) (w : Option Entry) (t u : Table) → IsLean depth w t → NoMoreIdle (on_all t) (on_all u)
     → (TableUsed t → TableUsed u)
     → IsLean depth w u
 lean_same depth w t u lean same used = record { idle = λ f n idle. lean.idle f n (same.same f n idle); used = used lean.used }

@@ -4,7 +4,7 @@ use Rattle.std.proofs.Common.{[], ◌∷◌, ◌++◌, length, Some, refl, sym, 
 use Rattle.std.proofs.Common.{inr}
 use Rattle.std.specs.List.{list_any}
 use Rattle.std.proofs.lemmas.Bool.{or_cases, false_from_ne_true, both_ways}
-use Rattle.title_land.specs.declared.place.Section.{Section}
+use Rattle.title_land.specs.declared.survey.Section.{Section}
 use Rattle.title_land.specs.declared.rectangle.Quarter.{Quarter}
 use Rattle.title_land.specs.declared.node.Node.{Node}
 use Rattle.title_land.specs.declared.node.Node.TheVariants as node

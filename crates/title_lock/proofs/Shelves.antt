@@ -14,7 +14,7 @@ use Rattle.title_lock.specs.declared.table.Table.{Table}
 use Rattle.title_lock.specs.Modes.{bound}
 use Rattle.title_lock.specs.Overlaps.{IsLeast}
 use Rattle.title_lock.specs.Holders.{Modes}
-use Rattle.title_lock.specs.Tables.{Placed, on_shelf, on_some, nowhere, placed, mode_in, room_in, idle_in}
+use Rattle.title_lock.specs.Tables.{HeldAt, on_shelf, on_some, nowhere, on_all, mode_in, room_in, idle_in}
 use Rattle.title_lock.specs.Tables.{table_mode, is_idle, shelf_above, home_of}
 use Rattle.title_lock.specs.Tables.{HasRoom, IdleLess, AllUsed, IsStocked, AreAtHome, IsAtHome, TableUsed}
 use Rattle.title_lock.specs.Walks.{Asked, asks_above, node_of, asked_in, asks_in, clashes_in, climb_asks, Roomed, Raised, TakenOut}
@@ -56,10 +56,10 @@ abbrev pub shelf_at : Table → Option ℕ → Option Shelf
 shelf_at t None = Some t.upper
 shelf_at t (Some k) = get nat_cmp t.sections k
 
-pub placed_at : (t : Table) (n : Node) → placed t n ≡ on_some (shelf_at t (home_of n)) n
-placed_at t node.Everything = refl
-placed_at t (node.Township u) = refl
-placed_at t (node.Part s w) = refl
+pub on_all_at : (t : Table) (n : Node) → on_all t n ≡ on_some (shelf_at t (home_of n)) n
+on_all_at t node.Everything = refl
+on_all_at t (node.Township u) = refl
+on_all_at t (node.Part s w) = refl
 
 -- nothing but one shelf changes
 pub record ChangesOne (t : Table) (u : Table) (h : Option ℕ) : Type 0 where
@@ -95,24 +95,24 @@ stand_at h c is = subst (λ (k : Option ℕ). StandOn k (climb_asks c)) (sym is)
 -- what holds of where nodes stand by their home holds in the table
 pub way_at_home : (t : Table) (h : Option ℕ) (p : Bool) (e : ℕ) (l : List Asked) (w : Option ℕ) → StandOn h l
     → IsLeast (λ f. clashes_in p (λ n. table_mode (on_some (shelf_at t h)) f n) l) e w
-    → IsLeast (λ f. clashes_in p (λ n. table_mode (placed t) f n) l) e w
+    → IsLeast (λ f. clashes_in p (λ n. table_mode (on_all t) f n) l) e w
 way_at_home t h p e l w stand least = least_same
-    (λ f. clashes_in p (λ n. table_mode (on_some (shelf_at t h)) f n) l) (λ f. clashes_in p (λ n. table_mode (placed t) f n) l) e w
-    (λ f other. clash_at_home p h (λ n. table_mode (on_some (shelf_at t h)) f n) (λ n. table_mode (placed t) f n) l stand
-    (λ n at_it. ap (λ (k : Option ℕ). table_mode (on_some (shelf_at t k)) f n) (sym at_it) ∙ ap (mode_in f) (sym (placed_at t n)))) least
+    (λ f. clashes_in p (λ n. table_mode (on_some (shelf_at t h)) f n) l) (λ f. clashes_in p (λ n. table_mode (on_all t) f n) l) e w
+    (λ f other. clash_at_home p h (λ n. table_mode (on_some (shelf_at t h)) f n) (λ n. table_mode (on_all t) f n) l stand
+    (λ n at_it. ap (λ (k : Option ℕ). table_mode (on_some (shelf_at t k)) f n) (sym at_it) ∙ ap (mode_in f) (sym (on_all_at t n)))) least
 
 -- there is room at home where there is room in the table
-pub room_at_home : (t : Table) (h : Option ℕ) (e : ℕ) (l : List Asked) → StandOn h l → HasRoom (placed t) e (asks_in l)
+pub room_at_home : (t : Table) (h : Option ℕ) (e : ℕ) (l : List Asked) → StandOn h l → HasRoom (on_all t) e (asks_in l)
     → HasRoom (on_some (shelf_at t h)) e (asks_in l)
 room_at_home t h e l stand room n asks =
     ap (λ (k : Option ℕ). room_in e (on_some (shelf_at t k) n)) (sym (on_home h l stand n asks))
-    ∙ ap (room_in e) (sym (placed_at t n)) ∙ room n asks
+    ∙ ap (room_in e) (sym (on_all_at t n)) ∙ room n asks
 
 -- and the other way round
 pub room_of_home : (t : Table) (h : Option ℕ) (e : ℕ) (l : List Asked) → StandOn h l → HasRoom (on_some (shelf_at t h)) e (asks_in l)
-    → HasRoom (placed t) e (asks_in l)
+    → HasRoom (on_all t) e (asks_in l)
 room_of_home t h e l stand room n asks =
-    ap (room_in e) (placed_at t n) ∙ ap (λ (k : Option ℕ). room_in e (on_some (shelf_at t k) n)) (on_home h l stand n asks) ∙ room n asks
+    ap (room_in e) (on_all_at t n) ∙ ap (λ (k : Option ℕ). room_in e (on_some (shelf_at t k) n)) (on_home h l stand n asks) ∙ room n asks
 
 none_clash : (p : Bool) (f : ℕ) (l : List Asked) → clashes_in p (λ n. table_mode nowhere f n) l ≡ false
 none_clash p f [] = refl
@@ -125,7 +125,7 @@ way_nowhere p e l f other = none_clash p f l
 -- ---- the shelf of a section
 
 -- what is done on a shelf is done where it stands
-pub carried : (Q : Placed → Placed → Type 0) (old new : Option Shelf) (s w : Shelf) → Some s ≡ old → new ≡ Some w
+pub carried : (Q : HeldAt → HeldAt → Type 0) (old new : Option Shelf) (s w : Shelf) → Some s ≡ old → new ≡ Some w
     → Q (on_shelf s) (on_shelf w) → Q (on_some old) (on_some new)
 carried Q old new s w found now fact =
     subst (λ (o : Option Shelf). Q (on_some o) (on_some new)) found
@@ -158,13 +158,13 @@ abbrev pub IsStockedAt : Option ℕ → Option Shelf → Type 0
 IsStockedAt None s = Unit {0}
 IsStockedAt (Some k) s = IsStocked s
 
--- a shelf's places are used and at home, and a section's has one
+-- a shelf's holders are used and at home, and a section's has some
 pub record IsTidy (h : Option ℕ) (s : Option Shelf) : Type 0 where
   pub used : AllUsed (on_some s)
   pub home : IsAtHome h s
   pub stocked : IsStockedAt h s
 
--- a table's places are so where each shelf's are
+-- a table's holders are so where each shelf's are
 used_tidy : (t : Table) → TableUsed t → (k : Option ℕ) → IsTidy k (shelf_at t k)
 used_tidy t h None = record { used = h.upper; home = h.upper_home; stocked = tt }
 used_tidy t h (Some k) = record { used = h.sections k; home = h.section_homes k; stocked = h.stocked k }
@@ -178,7 +178,7 @@ tidy_used t h = record {
   section_homes = λ k. let at_it = h (Some k) in at_it.home;
 }
 
--- what keeps places at a node's home keeps them at its shelf's
+-- what keeps holders at a node's home keeps them at its shelf's
 pub home_kept : (h k : Option ℕ) (s t : Shelf) → h ≡ k → (AreAtHome k s → AreAtHome k t) → AreAtHome h s → AreAtHome h t
 home_kept h k s t is kept = subst (λ (z : Option ℕ). AreAtHome z s → AreAtHome z t) (sym is) kept
 
@@ -194,13 +194,13 @@ gone_kept true r = refl
 gone_kept false r = refl
 
 module _ (t u : Table) (h : Option ℕ) (one : ChangesOne t u h) where
-  -- what holds of each place before and after, where it holds on the shelf that changes, and of places that stay
+  -- what is so of each node's holders before and after, where it is so on the shelf that changes, and of holders that stay
   lifted : (Q : Option Modes → Option Modes → Node → Type 0)
       → ((n : Node) → Q (on_some (shelf_at t h) n) (on_some (shelf_at u h) n) n)
-      → ((n : Node) → home_of n ≢ h → (o : Option Modes) → Q o o n) → (n : Node) → Q (placed t n) (placed u n) n
+      → ((n : Node) → home_of n ≢ h → (o : Option Modes) → Q o o n) → (n : Node) → Q (on_all t n) (on_all u n) n
   lifted Q own rest n =
-      subst (λ (o : Option Modes). Q o (placed u n) n) (sym (placed_at t n))
-      (subst (λ (o : Option Modes). Q (on_some (shelf_at t (home_of n)) n) o n) (sym (placed_at u n)) (go (same_home (home_of n) h) refl))
+      subst (λ (o : Option Modes). Q o (on_all u n) n) (sym (on_all_at t n))
+      (subst (λ (o : Option Modes). Q (on_some (shelf_at t (home_of n)) n) o n) (sym (on_all_at u n)) (go (same_home (home_of n) h) refl))
     where
       go : (b : Bool) → same_home (home_of n) h ≡ b
           → Q (on_some (shelf_at t (home_of n)) n) (on_some (shelf_at u (home_of n)) n) n
@@ -212,7 +212,7 @@ module _ (t u : Table) (h : Option ℕ) (one : ChangesOne t u h) where
           (rest n other (on_some (shelf_at t (home_of n)) n))
 
   pub lift_roomed : (e : ℕ) (l : List Asked) → Roomed (on_some (shelf_at t h)) (on_some (shelf_at u h)) e l
-      → Roomed (placed t) (placed u) e l
+      → Roomed (on_all t) (on_all u) e l
   lift_roomed e l r = record {
     modes = λ f. lifted (λ o q n. mode_in f q ≡ mode_in f o) (λ n. r.modes f n) (λ n other o. refl);
     stays = λ f. lifted (λ o q n. room_in f o ≡ true → room_in f q ≡ true) (λ n. r.stays f n) (λ n other o room. room);
@@ -226,14 +226,14 @@ module _ (t u : Table) (h : Option ℕ) (one : ChangesOne t u h) where
     elsewhere : (n : Node) → home_of n ≢ h → asks_in l n ≡ false
     elsewhere n other = false_from_ne_true (asks_in l n) (λ asks. other (on_home h l stand n asks))
 
-    less_all : IdleLess (on_some (shelf_at t h)) (on_some (shelf_at u h)) e (asks_in l) → IdleLess (placed t) (placed u) e (asks_in l)
+    less_all : IdleLess (on_some (shelf_at t h)) (on_some (shelf_at u h)) e (asks_in l) → IdleLess (on_all t) (on_all u) e (asks_in l)
     less_all r = record {
       less = λ f. lifted (λ o q n. idle_in f q ≡ (idle_in f o && not (eqb f e && asks_in l n))) (λ n. r.less f n)
           (λ n other o. idle_kept (idle_in f o) (eqb f e)
           ∙ ap (λ (z : Bool). idle_in f o && not (eqb f e && z)) (sym (elsewhere n other)));
     }
 
-    pub lift_raised : (p : Bool) → Raised (on_some (shelf_at t h)) (on_some (shelf_at u h)) e p l → Raised (placed t) (placed u) e p l
+    pub lift_raised : (p : Bool) → Raised (on_some (shelf_at t h)) (on_some (shelf_at u h)) e p l → Raised (on_all t) (on_all u) e p l
     lift_raised p r = record {
       modes = λ f. lifted (λ o q n. mode_in f q ≡ bound (mode_in f o) (cond (eqb f e) (asked_in p l n) None)) (λ n. r.modes f n)
           (λ n other o. rest_none (eqb f e) (mode_in f o)
@@ -242,7 +242,7 @@ module _ (t u : Table) (h : Option ℕ) (one : ChangesOne t u h) where
       idle = less_all r.idle;
     }
 
-    pub lift_taken : (m : Bool) → TakenOut (on_some (shelf_at t h)) (on_some (shelf_at u h)) e m l → TakenOut (placed t) (placed u) e m l
+    pub lift_taken : (m : Bool) → TakenOut (on_some (shelf_at t h)) (on_some (shelf_at u h)) e m l → TakenOut (on_all t) (on_all u) e m l
     lift_taken m r = record {
       gone = λ f. lifted (λ o q n. mode_in f q ≡ cond (m && eqb f e && asks_in l n) None (mode_in f o)) (λ n. r.gone f n)
           (λ n other o. gone_kept (m && eqb f e) (mode_in f o)
@@ -260,6 +260,6 @@ module _ (t u : Table) (h : Option ℕ) (one : ChangesOne t u h) where
           subst (λ (j : Option ℕ). P j (shelf_at u j)) (sym is) (here (subst (λ (j : Option ℕ). P j (shelf_at t j)) is was))
       go false e = subst (λ (s : Option Shelf). P k s) (sym (one.others k (home_other k h e))) was
 
-  -- places stay tidy where those of the shelf do
+  -- holders stay tidy where those of the shelf do
   pub lift_tidy : (IsTidy h (shelf_at t h) → IsTidy h (shelf_at u h)) → TableUsed t → TableUsed u
   lift_tidy here used = tidy_used u (λ k. each IsTidy here k (used_tidy t used k))

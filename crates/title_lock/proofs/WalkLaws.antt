@@ -7,7 +7,7 @@ use Rattle.std.specs.Prelude.{All}
 use Rattle.std.proofs.lemmas.List.Elements.{All-nil, All-cons, All-head, All-tail}
 use Rattle.std.proofs.lemmas.List.Folds.{list_any-append}
 use Rattle.std.specs.List.{list_any}
-use Rattle.title_land.specs.declared.place.Section.{Section}
+use Rattle.title_land.specs.declared.survey.Section.{Section}
 use Rattle.title_land.specs.declared.rectangle.Quarter.{Quarter}
 use Rattle.title_land.specs.declared.node.Node.{Node}
 use Rattle.title_land.specs.declared.node.Node.TheVariants as node

@@ -13,7 +13,7 @@ use Rattle.title_lock.specs.Modes.{allows}
 use Rattle.title_lock.specs.Overlaps.{IsLeast, against}
 use Rattle.title_lock.specs.Asking.{own_mode, above_mode, asked_for, asked}
 use Rattle.title_lock.specs.Holders.{clashes}
-use Rattle.title_lock.specs.Tables.{Placed, table_mode, clashes_above, clashes_for, clashes_with, TableIs}
+use Rattle.title_lock.specs.Tables.{HeldAt, table_mode, clashes_above, clashes_for, clashes_with, TableIs}
 use Rattle.title_lock.proofs.NodeLaws.{same_self, same_true, above_apart}
 use Rattle.title_lock.proofs.LeastLaws.{least_same}
 use Rattle.title_lock.proofs.Overlap.{MeetByCovers, Allow, allow_bound, allow_parts, entries_fit, entries_clear}
@@ -90,7 +90,7 @@ same_when_false false true h k = sym (h refl)
 same_when_false false false h k = refl
 
 -- the least examiner in the way by the table is the least whose entry overlaps
-pub stands : (depth : ℕ) → MeetByCovers depth → (es : List Entry) (table : Placed) (e : ℕ) (p : Bool) (land : Land) (w : Option ℕ)
+pub stands : (depth : ℕ) → MeetByCovers depth → (es : List Entry) (table : HeldAt) (e : ℕ) (p : Bool) (land : Land) (w : Option ℕ)
     → IsLand depth land → TableIs depth es table →
     IsLeast (λ f. clashes_with p (λ n. table_mode table f n) (cover_of depth land)) e w → IsLeast (λ f. against land p f es) e w
 stands depth by es table e p land w wide are =

@@ -12,17 +12,17 @@ use Rattle.title_lock.specs.declared.holders.Taken.TheVariants as taken
 use Rattle.title_lock.specs.Modes.{in_row, compat, allows}
 use Rattle.title_lock.specs.Counts.{IsCount}
 
--- the places among the holders of a node, by examiners, with the mode of each that holds the node
+-- the slots among the holders of a node, by examiners, with the mode of each that holds the node
 abbrev pub Modes : Type 0
 Modes = List (ℕ × Option Mode)
 
-abbrev pub mode_of_place : Option (Option Mode) → Option Mode
-mode_of_place None = None
-mode_of_place (Some held) = held
+abbrev pub mode_of_slot : Option (Option Mode) → Option Mode
+mode_of_slot None = None
+mode_of_slot (Some held) = held
 
 -- the mode of examiner e
 abbrev pub holder_mode : Modes → ℕ → Option Mode
-holder_mode h e = mode_of_place (lookup (is_at (nat_cmp e)) h)
+holder_mode h e = mode_of_slot (lookup (is_at (nat_cmp e)) h)
 
 -- examiner e can be given a mode without memory
 abbrev pub has_room : Modes → ℕ → Bool
@@ -79,14 +79,14 @@ pub record AreCounted (counts : Counts) (h : Modes) : Type 0 where
   pub few : (e : ℕ) → is_some (holder_mode h e) ≡ true → e < 2 ^ 32
   pub each : (m : Mode) → IsCount (holder_mode h) m (count_in counts m)
 
--- ---- the first place beside the others
+-- ---- the first slot beside the others
 
--- the places of a node's holders, the first before the others
+-- the slots of a node's holders, the first before the others
 abbrev pub listed : Option (ℕ × Option Mode) → Modes → Modes
 listed None h = h
 listed (Some p) h = p ∷ h
 
--- who is first has no place among the others
+-- who is first has no slot among the others
 abbrev pub IsApart : Option (ℕ × Option Mode) → Modes → Type 0
 IsApart None h = Unit {0}
 IsApart (Some p) h = has_room h p.0 ≡ false

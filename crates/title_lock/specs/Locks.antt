@@ -8,7 +8,7 @@ use Rattle.title_lock.specs.declared.table.Table.{Table}
 use Rattle.title_lock.specs.Overlaps.{is_post, Stands}
 use Rattle.title_lock.specs.Asking.{AreSized}
 use Rattle.title_lock.specs.Standing.{StandFree}
-use Rattle.title_lock.specs.Tables.{placed, is_asked, is_asked_by, HasRoom, is_idle, TableIs, TableUsed}
+use Rattle.title_lock.specs.Tables.{on_all, is_asked, is_asked_by, HasRoom, is_idle, TableIs, TableUsed}
 
 -- the entries, the newest first, and the one that there is room for, if there is one
 pub record Locks : Type 0 where
@@ -31,13 +31,13 @@ pub record IsReady (depth : ℕ) (e : ℕ) (x : Entry) (es : List Entry) (t : Ta
   pub own : x.examiner ≡ e
   pub wide : IsLand depth x.tract
   pub free : Stands es x.examiner x.tract (is_post x.access) None
-  pub room : HasRoom (placed t) x.examiner (λ n. list_any (is_asked n) (cover_of depth x.tract))
+  pub room : HasRoom (on_all t) x.examiner (λ n. list_any (is_asked n) (cover_of depth x.tract))
 
 -- the table tells the modes of the entries, and an access that is prepared can be granted
 abbrev pub AreKept : ℕ → Option ℕ → List Entry → Table → Type 0
-AreKept depth None es t = TableIs depth es (placed t)
+AreKept depth None es t = TableIs depth es (on_all t)
 AreKept depth (Some e) [] t = None ≡ Some e
-AreKept depth (Some e) (x ∷ es) t = TableIs depth es (placed t) × IsReady depth e x es t
+AreKept depth (Some e) (x ∷ es) t = TableIs depth es (on_all t) × IsReady depth e x es t
 
 -- examiner f waits at n: the entry that waits is its own, and asks for something there
 abbrev pub waits_at : ℕ → Option Entry → ℕ → Node → Bool
@@ -46,7 +46,7 @@ waits_at depth (Some x) f n = is_asked_by depth f n x
 
 -- nothing is kept of a node or an examiner but what is held and what waits
 pub record IsLean (depth : ℕ) (waits : Option Entry) (t : Table) : Type 0 where
-  pub idle : (f : ℕ) (n : Node) → is_idle (placed t) f n ≡ true → waits_at depth waits f n ≡ true
+  pub idle : (f : ℕ) (n : Node) → is_idle (on_all t) f n ≡ true → waits_at depth waits f n ≡ true
   pub used : TableUsed t
 
 -- locks by node: the table is that of the entries, there is room for what waits, and nothing else is kept

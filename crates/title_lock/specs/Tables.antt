@@ -18,40 +18,40 @@ use Rattle.title_lock.specs.Asking.{own_mode, above_mode, mode_at, AreSized}
 use Rattle.title_lock.specs.Holders.{Modes, holder_mode, has_room, idles, is_free, clashes}
 
 -- the holders at n, in a map by the numbers of nodes
-abbrev pub place_at : BTreeMap ℕ Modes → Node → Option Modes
-place_at m n = get nat_cmp m (node_number n)
+abbrev pub holders_at : BTreeMap ℕ Modes → Node → Option Modes
+holders_at m n = get nat_cmp m (node_number n)
 
 abbrev pub mode_in : ℕ → Option Modes → Option Mode
 mode_in e None = None
 mode_in e (Some h) = holder_mode h e
 
 -- the holders of each node, where there are any
-abbrev pub Placed : Type 0
-Placed = Node → Option Modes
+abbrev pub HeldAt : Type 0
+HeldAt = Node → Option Modes
 
 -- those on a shelf
-abbrev pub on_shelf : Shelf → Placed
-on_shelf s n = place_at s.places n
+abbrev pub on_shelf : Shelf → HeldAt
+on_shelf s n = holders_at s.holders n
 
-abbrev pub nowhere : Placed
+abbrev pub nowhere : HeldAt
 nowhere n = None
 
-abbrev pub on_some : Option Shelf → Placed
+abbrev pub on_some : Option Shelf → HeldAt
 on_some None = nowhere
 on_some (Some s) = on_shelf s
 
 -- those on the shelf of the section with this number
-abbrev pub on_section : Table → ℕ → Placed
+abbrev pub on_section : Table → ℕ → HeldAt
 on_section t k = on_some (get nat_cmp t.sections k)
 
 -- those in a table: a section's squares stand on a shelf of their own, and the plant and its townships on another
-abbrev pub placed : Table → Placed
-placed t node.Everything = on_shelf t.upper node.Everything
-placed t (node.Township u) = on_shelf t.upper (node.Township u)
-placed t (node.Part s w) = on_section t (section_number s) (node.Part s w)
+abbrev pub on_all : Table → HeldAt
+on_all t node.Everything = on_shelf t.upper node.Everything
+on_all t (node.Township u) = on_shelf t.upper (node.Township u)
+on_all t (node.Part s w) = on_section t (section_number s) (node.Part s w)
 
 -- the mode of examiner e at n
-abbrev pub table_mode : Placed → ℕ → Node → Option Mode
+abbrev pub table_mode : HeldAt → ℕ → Node → Option Mode
 table_mode t e n = mode_in e (t n)
 
 -- ---- who is in the way
@@ -96,15 +96,15 @@ room_in e None = false
 room_in e (Some h) = has_room h e
 
 -- examiner e can be given a mode at n without memory
-abbrev pub table_room : Placed → ℕ → Node → Bool
+abbrev pub table_room : HeldAt → ℕ → Node → Bool
 table_room t e n = room_in e (t n)
 
 -- where there was room at first there is room after
-abbrev pub KeepsRoom : Placed → Placed → Type 0
+abbrev pub KeepsRoom : HeldAt → HeldAt → Type 0
 KeepsRoom t u = (e : ℕ) (n : Node) → table_room t e n ≡ true → table_room u e n ≡ true
 
 -- examiner e has room at each node that passes a test
-abbrev pub HasRoom : Placed → ℕ → (Node → Bool) → Type 0
+abbrev pub HasRoom : HeldAt → ℕ → (Node → Bool) → Type 0
 HasRoom t e asks = (n : Node) → asks n ≡ true → table_room t e n ≡ true
 
 -- ---- what is kept and not held
@@ -114,38 +114,38 @@ idle_in e None = false
 idle_in e (Some h) = idles h e
 
 -- examiner e has room at n and no mode there
-abbrev pub is_idle : Placed → ℕ → Node → Bool
+abbrev pub is_idle : HeldAt → ℕ → Node → Bool
 is_idle t e n = idle_in e (t n)
 
 -- nobody is idle but who was, and examiner e at nodes that pass a test
-pub record IdleMore (old : Placed) (new : Placed) (e : ℕ) (asks : Node → Bool) : Type 0 where
+pub record IdleMore (old : HeldAt) (new : HeldAt) (e : ℕ) (asks : Node → Bool) : Type 0 where
   pub more : (f : ℕ) (n : Node) → is_idle new f n ≡ true → (is_idle old f n || (f == e && asks n)) ≡ true
 
 -- exactly those are idle who were, but for examiner e at nodes that pass a test
-pub record IdleLess (old : Placed) (new : Placed) (e : ℕ) (asks : Node → Bool) : Type 0 where
+pub record IdleLess (old : HeldAt) (new : HeldAt) (e : ℕ) (asks : Node → Bool) : Type 0 where
   pub less : (f : ℕ) (n : Node) → is_idle new f n ≡ (is_idle old f n && not (f == e && asks n))
 
 -- nobody is idle but who was
-pub record NoMoreIdle (old : Placed) (new : Placed) : Type 0 where
+pub record NoMoreIdle (old : HeldAt) (new : HeldAt) : Type 0 where
   pub same : (f : ℕ) (n : Node) → is_idle new f n ≡ true → is_idle old f n ≡ true
 
 abbrev pub unused_in : Option Modes → Bool
 unused_in None = false
 unused_in (Some h) = is_free h
 
--- there is a place for n, where nobody holds n or has room
-abbrev pub is_unused : Placed → Node → Bool
+-- there are holders of n, where nobody holds n or has room
+abbrev pub is_unused : HeldAt → Node → Bool
 is_unused t n = unused_in (t n)
 
--- each node that has a place is one that somebody holds or has room at
-pub record AllUsed (t : Placed) : Type 0 where
+-- each node that has holders is one that somebody holds or has room at
+pub record AllUsed (t : HeldAt) : Type 0 where
   pub each : (n : Node) → is_unused t n ≡ false
 
--- a shelf has no place
+-- a shelf has no holders
 abbrev pub is_bare : Shelf → Bool
-is_bare s = length s.places.entries == 0
+is_bare s = length s.holders.entries == 0
 
--- a section's shelf has a place, where there is one
+-- a section's shelf has holders, where there is one
 abbrev pub IsStocked : Option Shelf → Type 0
 IsStocked shelf = IfSome shelf (λ s. is_bare s ≡ false)
 
@@ -159,19 +159,19 @@ home_of (node.Part s w) = Some (section_number s)
 abbrev pub IsNumberOn : Option ℕ → ℕ → Type 0
 IsNumberOn home k = (n : Node) × (home_of n ≡ home) × (k ≡ node_number n)
 
--- a shelf has a place under this number
-abbrev pub has_place : Shelf → ℕ → Bool
-has_place s k = is_some (get nat_cmp s.places k)
+-- a shelf has holders under this number
+abbrev pub has_holders : Shelf → ℕ → Bool
+has_holders s k = is_some (get nat_cmp s.holders k)
 
--- each place of a shelf is that of a node which stands there
+-- the holders on a shelf are each those of a node which stands there
 pub record AreAtHome (home : Option ℕ) (s : Shelf) : Type 0 where
-  pub each : (k : ℕ) → has_place s k ≡ true → IsNumberOn home k
+  pub each : (k : ℕ) → has_holders s k ≡ true → IsNumberOn home k
 
--- each place of a section's shelf is that of a node which stands there, where there is one
+-- the holders on a section's shelf are each those of a node which stands there, where there is one
 abbrev pub IsAtHome : Option ℕ → Option Shelf → Type 0
 IsAtHome home shelf = IfSome shelf (AreAtHome home)
 
--- each place of a table is one that somebody holds or has room at, no section's shelf is bare, and each place is that of a node
+-- each node of a table is one that somebody holds or has room at, no section's shelf is bare, and holders are those of a node
 -- which stands on its shelf
 pub record TableUsed (t : Table) : Type 0 where
   pub upper : AllUsed (on_shelf t.upper)
@@ -191,7 +191,7 @@ abbrev pub is_asked_by : ℕ → ℕ → Node → Entry → Bool
 is_asked_by depth e n x = e == x.examiner && list_any (is_asked n) (cover_of depth x.tract)
 
 -- the table tells the modes of the entries, whose tracts are as large as the grid, and any two examiners' stand beside each other
-pub record TableIs (depth : ℕ) (entries : List Entry) (t : Placed) : Type 0 where
+pub record TableIs (depth : ℕ) (entries : List Entry) (t : HeldAt) : Type 0 where
   pub apart : (e f : ℕ) → f ≢ e → (n : Node) → allows (mode_at depth entries e n) (mode_at depth entries f n) ≡ true
   pub sized : AreSized depth entries
   pub modes : (e : ℕ) (n : Node) → table_mode t e n ≡ mode_at depth entries e n

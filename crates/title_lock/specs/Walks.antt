@@ -11,7 +11,7 @@ use Rattle.title_lock.specs.declared.walks.Walk.{Walk}
 use Rattle.title_lock.specs.Modes.{bound}
 use Rattle.title_lock.specs.Asking.{own_mode, above_mode}
 use Rattle.title_lock.specs.Holders.{clashes}
-use Rattle.title_lock.specs.Tables.{Placed, shelf_above, table_mode, KeepsRoom, IdleMore, IdleLess}
+use Rattle.title_lock.specs.Tables.{HeldAt, shelf_above, table_mode, KeepsRoom, IdleMore, IdleLess}
 
 -- a node that is asked for, and whether it is one of the cover; else it lies above one
 abbrev pub Asked : Type 0
@@ -72,18 +72,18 @@ walk_left w = climb_left w.upper ++ walk (node_of w.last) w.nodes.now
 -- ---- what is done along it
 
 -- no mode changes, room is kept, and nobody gets idle but examiner e where it asks
-pub record Roomed (old : Placed) (new : Placed) (e : ℕ) (asks : List Asked) : Type 0 where
+pub record Roomed (old : HeldAt) (new : HeldAt) (e : ℕ) (asks : List Asked) : Type 0 where
   pub modes : (f : ℕ) (n : Node) → table_mode new f n ≡ table_mode old f n
   pub stays : KeepsRoom old new
   pub idle : IdleMore old new e (asks_in asks)
 
 -- examiner e has what is asked, room is kept, and it isn't idle where it asks
-pub record Raised (old : Placed) (new : Placed) (e : ℕ) (post : Bool) (asks : List Asked) : Type 0 where
+pub record Raised (old : HeldAt) (new : HeldAt) (e : ℕ) (post : Bool) (asks : List Asked) : Type 0 where
   pub modes : (f : ℕ) (n : Node) → table_mode new f n ≡ bound (table_mode old f n) (if f == e then asked_in post asks n else None)
   pub stays : KeepsRoom old new
   pub idle : IdleLess old new e (asks_in asks)
 
 -- examiner e isn't idle where it asks, and has no mode there where modes are taken out
-pub record TakenOut (old : Placed) (new : Placed) (e : ℕ) (modes : Bool) (asks : List Asked) : Type 0 where
+pub record TakenOut (old : HeldAt) (new : HeldAt) (e : ℕ) (modes : Bool) (asks : List Asked) : Type 0 where
   pub gone : (f : ℕ) (n : Node) → table_mode new f n ≡ (if modes && f == e && asks_in asks n then None else table_mode old f n)
   pub idle : IdleLess old new e (asks_in asks)

@@ -10,7 +10,7 @@ ghost use Rattle.title_lock.specs.Holders.{Modes, holder_mode, has_room, is_free
 
 use crate::counts::Counts;
 use crate::modes::{Mode, bound, compat};
-use crate::places::Places;
+use crate::slots::Slots;
 use std::alloc::{AllocError, Global};
 use std::marker::Model;
 
@@ -26,15 +26,15 @@ pub(crate) enum Taken {
 #[derive(Drop)]
 pub(crate) struct Holders {
     counts: Counts,
-    places: Places,
+    slots: Slots,
 }
 
 impl Model for Holders {
     ghost Value = { Modes };
 
-    ghost view = { λ h. h.places };
+    ghost view = { λ h. h.slots };
 
-    ghost invariant = { λ h. AreCounted h.counts h.places };
+    ghost invariant = { λ h. AreCounted h.counts h.slots };
 }
 
 /// How many of those with a mode one examiner is, by what it holds.
@@ -84,7 +84,7 @@ impl Holders {
     {
         Holders {
             counts: Counts::NONE,
-            places: Places::new(alloc),
+            slots: Slots::new(alloc),
         }
     }
 
@@ -92,7 +92,7 @@ impl Holders {
     pub(crate) fn mode(&self, examiner: u32) -> Option<Mode>
         ensures mode { result ≡ holder_mode self.now examiner }
     {
-        self.places.mode(examiner)
+        self.slots.mode(examiner)
     }
 
     /// How many examiners have each mode, from IS to X.
@@ -123,7 +123,7 @@ impl Holders {
         if is_clear(self.counts, self.mode(examiner), wanted) {
             return None;
         }
-        self.places.way(examiner, wanted)
+        self.slots.way(examiner, wanted)
     }
 
     /// Makes room for an examiner. Nobody's mode changes.
@@ -133,7 +133,7 @@ impl Holders {
         ensures stays { (e : ℕ) → has_room self.old e ≡ true → has_room self.new e ≡ true }
         ensures others { (e : ℕ) → e ≢ examiner → has_room self.new e ≡ has_room self.old e }
     {
-        self.places.make_room(examiner)
+        self.slots.make_room(examiner)
     }
 
     /// Gives an examiner one mode more. Takes no memory.
@@ -142,7 +142,7 @@ impl Holders {
         ensures modes { (e : ℕ) → holder_mode self.new e ≡ bound (holder_mode self.old e) (if e == examiner then Some mode else None) }
         ensures rooms { (e : ℕ) → has_room self.new e ≡ has_room self.old e }
     {
-        let had = self.places.raise(examiner, mode);
+        let had = self.slots.raise(examiner, mode);
         let raised = bound(had, Some(mode));
         self.counts = self.counts.moved(had, raised);
     }
@@ -152,7 +152,7 @@ impl Holders {
         ensures modes { (e : ℕ) → holder_mode self.new e ≡ (if e == examiner then None else holder_mode self.old e) }
         ensures rooms { (e : ℕ) → has_room self.new e ≡ (not (e == examiner) && has_room self.old e) }
     {
-        let had = self.places.erase(examiner);
+        let had = self.slots.erase(examiner);
         self.counts = self.counts.moved(had, None);
     }
 
@@ -165,7 +165,7 @@ impl Holders {
         match self.mode(examiner) {
             Some(_) => {}
             None => {
-                self.places.erase(examiner);
+                self.slots.erase(examiner);
             }
         }
     }
@@ -182,6 +182,6 @@ impl Holders {
             Taken::Mode => self.release(examiner),
             Taken::Room => self.drop_room(examiner),
         }
-        self.places.is_empty()
+        self.slots.is_empty()
     }
 }

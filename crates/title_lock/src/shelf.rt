@@ -27,7 +27,7 @@ use title_land::Node;
 pub(crate) struct Shelf {
     alloc: Global,
     // By the numbers of nodes.
-    places: BTreeMap<u64, Holders>,
+    holders: BTreeMap<u64, Holders>,
 }
 
 impl Shelf {
@@ -40,23 +40,23 @@ impl Shelf {
     {
         Shelf {
             alloc,
-            places: BTreeMap::new(alloc),
+            holders: BTreeMap::new(alloc),
         }
     }
 
-    /// Whether there is no place.
+    /// Whether nobody holds a node or has room at one.
     pub(crate) fn is_empty(&self) -> bool
         ensures bare { result ≡ is_bare self.now }
     {
-        self.places.is_empty()
+        self.holders.is_empty()
     }
 
     /// The mode of an examiner at a node.
     pub(crate) fn mode(&self, examiner: u32, node: &Node) -> Option<Mode>
         ensures mode { result ≡ table_mode (on_shelf self.now) examiner node.now }
     {
-        match self.places.get(&node.number()) {
-            Some(place) => place.mode(examiner),
+        match self.holders.get(&node.number()) {
+            Some(holders) => holders.mode(examiner),
             None => None,
         }
     }
@@ -69,8 +69,8 @@ impl Shelf {
         ensures six { IsCount (λ e. table_mode (on_shelf self.now) e node.now) Six (slice_index result 3) }
         ensures x { IsCount (λ e. table_mode (on_shelf self.now) e node.now) X (slice_index result 4) }
     {
-        match self.places.get(&node.number()) {
-            Some(place) => place.numbers(),
+        match self.holders.get(&node.number()) {
+            Some(holders) => holders.numbers(),
             None => [0; 5],
         }
     }
@@ -79,8 +79,8 @@ impl Shelf {
     fn way_of(&self, examiner: u32, spot: &Spot, mode: Mode) -> Option<u32>
         ensures way { IsLeast (λ f. clashes mode (table_mode (on_shelf self.now) f spot.now.is.node)) examiner result }
     {
-        match self.places.get(&spot.number) {
-            Some(place) => place.way(examiner, mode),
+        match self.holders.get(&spot.number) {
+            Some(holders) => holders.way(examiner, mode),
             None => None,
         }
     }
@@ -109,12 +109,12 @@ impl Shelf {
         ensures homes { AreAtHome (home_of spot.now.is.node) self.old → AreAtHome (home_of spot.now.is.node) self.new }
         ensures kept { is_bare self.old ≡ false → is_bare self.new ≡ false }
     {
-        if let Some(place) = self.places.get_mut(&spot.number) {
-            return place.make_room(examiner);
+        if let Some(holders) = self.holders.get_mut(&spot.number) {
+            return holders.make_room(examiner);
         }
-        let mut place = Holders::new(self.alloc);
-        place.make_room(examiner)?;
-        self.places.insert(spot.number, place)?;
+        let mut holders = Holders::new(self.alloc);
+        holders.make_room(examiner)?;
+        self.holders.insert(spot.number, holders)?;
         Ok(())
     }
 
@@ -144,8 +144,8 @@ impl Shelf {
         ensures used { AllUsed (on_shelf self.old) → AllUsed (on_shelf self.new) }
         ensures homes { (h : Option ℕ) → AreAtHome h self.old → AreAtHome h self.new }
     {
-        if let Some(place) = self.places.get_mut(&spot.number) {
-            place.raise(examiner, mode);
+        if let Some(holders) = self.holders.get_mut(&spot.number) {
+            holders.raise(examiner, mode);
         }
     }
 
@@ -172,11 +172,11 @@ impl Shelf {
         ensures used { AllUsed (on_shelf self.old) → AllUsed (on_shelf self.new) }
         ensures homes { (h : Option ℕ) → AreAtHome h self.old → AreAtHome h self.new }
     {
-        let Some(place) = self.places.get_mut(&spot.number) else {
+        let Some(holders) = self.holders.get_mut(&spot.number) else {
             return;
         };
-        if place.take_out(examiner, taken) {
-            self.places.remove(&spot.number);
+        if holders.take_out(examiner, taken) {
+            self.holders.remove(&spot.number);
         }
     }
 

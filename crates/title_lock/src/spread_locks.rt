@@ -11,7 +11,7 @@ ghost use Rattle.title_lock.specs.Books.{is_nothing};
 ghost use Rattle.title_lock.specs.Asking.{mode_at, AllGranted, AreSized};
 ghost use Rattle.title_lock.specs.Counts.{IsCount};
 ghost use Rattle.title_lock.specs.Standing.{StandFree};
-ghost use Rattle.title_lock.specs.Tables.{placed, table_mode, is_asked, is_asked_by, HasRoom, IdleMore, NoMoreIdle, TableUsed};
+ghost use Rattle.title_lock.specs.Tables.{on_all, table_mode, is_asked, is_asked_by, HasRoom, IdleMore, NoMoreIdle, TableUsed};
 ghost use Rattle.title_lock.specs.Locks.{Locks, granted, waiting, AreLocks};
 
 use crate::book::Book;
@@ -44,9 +44,9 @@ impl Model for SpreadLocks {
 
 // Makes room for what an entry asks for, and adds it to the book. An error may leave room.
 fn fill(table: &mut Table, book: &mut Book, cover: &[Node], entry: Entry) -> Result<(), AllocError>
-    ensures modes { (f : ℕ) → (n : Node) → table_mode (placed table.new) f n ≡ table_mode (placed table.old) f n }
-    ensures room { OnOk result (HasRoom (placed table.new) entry.examiner (λ n. list_any (is_asked n) cover.now)) }
-    ensures idle { IdleMore (placed table.old) (placed table.new) entry.examiner (λ n. list_any (is_asked n) cover.now) }
+    ensures modes { (f : ℕ) → (n : Node) → table_mode (on_all table.new) f n ≡ table_mode (on_all table.old) f n }
+    ensures room { OnOk result (HasRoom (on_all table.new) entry.examiner (λ n. list_any (is_asked n) cover.now)) }
+    ensures idle { IdleMore (on_all table.old) (on_all table.new) entry.examiner (λ n. list_any (is_asked n) cover.now) }
     ensures used { TableUsed table.old → TableUsed table.new }
     ensures ok { OnOk result (book.new ≡ entry ∷ book.old) }
     ensures err { OnErr result (book.new ≡ book.old) }
@@ -57,10 +57,10 @@ fn fill(table: &mut Table, book: &mut Book, cover: &[Node], entry: Entry) -> Res
 
 // The same; an error leaves no room that wasn't there.
 fn stage(table: &mut Table, book: &mut Book, cover: &[Node], entry: Entry) -> Result<(), AllocError>
-    ensures modes { (f : ℕ) → (n : Node) → table_mode (placed table.new) f n ≡ table_mode (placed table.old) f n }
-    ensures room { OnOk result (HasRoom (placed table.new) entry.examiner (λ n. list_any (is_asked n) cover.now)) }
-    ensures idle { OnOk result (IdleMore (placed table.old) (placed table.new) entry.examiner (λ n. list_any (is_asked n) cover.now)) }
-    ensures undone { OnErr result (NoMoreIdle (placed table.old) (placed table.new)) }
+    ensures modes { (f : ℕ) → (n : Node) → table_mode (on_all table.new) f n ≡ table_mode (on_all table.old) f n }
+    ensures room { OnOk result (HasRoom (on_all table.new) entry.examiner (λ n. list_any (is_asked n) cover.now)) }
+    ensures idle { OnOk result (IdleMore (on_all table.old) (on_all table.new) entry.examiner (λ n. list_any (is_asked n) cover.now)) }
+    ensures undone { OnErr result (NoMoreIdle (on_all table.old) (on_all table.new)) }
     ensures used { TableUsed table.old → TableUsed table.new }
     ensures ok { OnOk result (book.new ≡ entry ∷ book.old) }
     ensures err { OnErr result (book.new ≡ book.old) }
@@ -76,9 +76,9 @@ fn stage(table: &mut Table, book: &mut Book, cover: &[Node], entry: Entry) -> Re
 // Takes out an examiner's entries, and the examiner out of the holders of all nodes that they ask for.
 fn give_back_all(table: &mut Table, book: &mut Book, examiner: u32)
     ensures left { book.new ≡ without examiner book.old }
-    ensures modes { (f : ℕ) → (n : Node) → table_mode (placed table.new) f n
-        ≡ (if f == examiner && list_any (is_asked_by depth examiner n) book.old then None else table_mode (placed table.old) f n) }
-    ensures idle { NoMoreIdle (placed table.old) (placed table.new) }
+    ensures modes { (f : ℕ) → (n : Node) → table_mode (on_all table.new) f n
+        ≡ (if f == examiner && list_any (is_asked_by depth examiner n) book.old then None else table_mode (on_all table.old) f n) }
+    ensures idle { NoMoreIdle (on_all table.old) (on_all table.new) }
     ensures used { TableUsed table.old → TableUsed table.new }
 {
     while let Some(entry) = book.take(examiner) {

@@ -11,7 +11,7 @@ ghost use Rattle.title_lock.specs.Asking.{asked};
 ghost use Rattle.title_lock.specs.declared.modes.Mode.TheVariants.{Is, Ix, S, Six, X};
 ghost use Rattle.title_lock.specs.Counts.{IsCount};
 ghost use Rattle.title_lock.specs.Holders.{is_mode};
-ghost use Rattle.title_lock.specs.Tables.{on_section, placed, table_mode, clashes_with, HasRoom, is_asked, is_idle, IdleMore, IdleLess};
+ghost use Rattle.title_lock.specs.Tables.{on_section, on_all, table_mode, clashes_with, HasRoom, is_asked, is_idle, IdleMore, IdleLess};
 ghost use Rattle.title_lock.specs.Tables.{AllUsed, IsStocked, TableUsed, home_of, IsAtHome};
 ghost use Rattle.title_lock.specs.Walks.{asks_in, clashes_in, climb_asks, Roomed, Raised, TakenOut};
 
@@ -40,8 +40,8 @@ pub(crate) struct Table {
 impl Table {
     /// The table where nobody holds a node. Takes no memory.
     pub(crate) fn new(alloc: Global) -> Table
-        ensures free { (e : ℕ) → (n : Node) → table_mode (placed result) e n ≡ None }
-        ensures idle { (e : ℕ) → (n : Node) → is_idle (placed result) e n ≡ false }
+        ensures free { (e : ℕ) → (n : Node) → table_mode (on_all result) e n ≡ None }
+        ensures idle { (e : ℕ) → (n : Node) → is_idle (on_all result) e n ≡ false }
         ensures used { TableUsed result }
     {
         Table {
@@ -53,7 +53,7 @@ impl Table {
 
     /// The mode of an examiner at a node.
     pub(crate) fn mode(&self, examiner: u32, node: &Node) -> Option<Mode>
-        ensures mode { result ≡ table_mode (placed self.now) examiner node.now }
+        ensures mode { result ≡ table_mode (on_all self.now) examiner node.now }
     {
         let Some(home) = Spot::of(node).home() else {
             return self.upper.mode(examiner, node);
@@ -66,11 +66,11 @@ impl Table {
 
     /// How many examiners have each mode at a node, from IS to X.
     pub(crate) fn counts(&self, node: &Node) -> [u64; 5]
-        ensures is { IsCount (λ e. table_mode (placed self.now) e node.now) Is (slice_index result 0) }
-        ensures ix { IsCount (λ e. table_mode (placed self.now) e node.now) Ix (slice_index result 1) }
-        ensures s { IsCount (λ e. table_mode (placed self.now) e node.now) S (slice_index result 2) }
-        ensures six { IsCount (λ e. table_mode (placed self.now) e node.now) Six (slice_index result 3) }
-        ensures x { IsCount (λ e. table_mode (placed self.now) e node.now) X (slice_index result 4) }
+        ensures is { IsCount (λ e. table_mode (on_all self.now) e node.now) Is (slice_index result 0) }
+        ensures ix { IsCount (λ e. table_mode (on_all self.now) e node.now) Ix (slice_index result 1) }
+        ensures s { IsCount (λ e. table_mode (on_all self.now) e node.now) S (slice_index result 2) }
+        ensures six { IsCount (λ e. table_mode (on_all self.now) e node.now) Six (slice_index result 3) }
+        ensures x { IsCount (λ e. table_mode (on_all self.now) e node.now) X (slice_index result 4) }
     {
         let Some(home) = Spot::of(node).home() else {
             return self.upper.counts(node);
@@ -83,7 +83,7 @@ impl Table {
 
     // The least other examiner in the way of an access along a climb.
     fn way_along(&self, examiner: u32, climb: &Climb, access: Access) -> Option<u32>
-        ensures way { IsLeast (λ f. clashes_in (is_post access) (λ n. table_mode (placed self.now) f n) (climb_asks climb.now))
+        ensures way { IsLeast (λ f. clashes_in (is_post access) (λ n. table_mode (on_all self.now) f n) (climb_asks climb.now))
             examiner result }
     {
         let Some(home) = climb.spot.home() else {
@@ -97,7 +97,7 @@ impl Table {
 
     /// The least other examiner in the way of an access, by modes. Takes no memory.
     pub(crate) fn ways(&self, examiner: u32, cover: &[Node], access: Access) -> Option<u32>
-        ensures way { IsLeast (λ f. clashes_with (is_post access) (λ n. table_mode (placed self.now) f n) cover.now) examiner result }
+        ensures way { IsLeast (λ f. clashes_with (is_post access) (λ n. table_mode (on_all self.now) f n) cover.now) examiner result }
     {
         let mut way = None;
         let mut walk = Walk::of(cover);
@@ -130,8 +130,8 @@ impl Table {
 
     // Makes room along a climb.
     fn make_room_along(&mut self, examiner: u32, climb: &Climb) -> Result<(), AllocError>
-        ensures roomed { Roomed (placed self.old) (placed self.new) examiner (climb_asks climb.now) }
-        ensures room { OnOk result (HasRoom (placed self.new) examiner (asks_in (climb_asks climb.now))) }
+        ensures roomed { Roomed (on_all self.old) (on_all self.new) examiner (climb_asks climb.now) }
+        ensures room { OnOk result (HasRoom (on_all self.new) examiner (asks_in (climb_asks climb.now))) }
         ensures used { TableUsed self.old → TableUsed self.new }
     {
         match climb.spot.home() {
@@ -142,9 +142,9 @@ impl Table {
 
     /// Makes room for what an access asks for. No mode changes, also where memory is refused.
     pub(crate) fn make_room_all(&mut self, examiner: u32, cover: &[Node]) -> Result<(), AllocError>
-        ensures modes { (f : ℕ) → (n : Node) → table_mode (placed self.new) f n ≡ table_mode (placed self.old) f n }
-        ensures room { OnOk result (HasRoom (placed self.new) examiner (λ n. list_any (is_asked n) cover.now)) }
-        ensures idle { IdleMore (placed self.old) (placed self.new) examiner (λ n. list_any (is_asked n) cover.now) }
+        ensures modes { (f : ℕ) → (n : Node) → table_mode (on_all self.new) f n ≡ table_mode (on_all self.old) f n }
+        ensures room { OnOk result (HasRoom (on_all self.new) examiner (λ n. list_any (is_asked n) cover.now)) }
+        ensures idle { IdleMore (on_all self.old) (on_all self.new) examiner (λ n. list_any (is_asked n) cover.now) }
         ensures used { TableUsed self.old → TableUsed self.new }
     {
         let mut walk = Walk::of(cover);
@@ -171,8 +171,8 @@ impl Table {
 
     // Gives an examiner what an access asks along a climb.
     fn raise_along(&mut self, examiner: u32, climb: &Climb, access: Access)
-        requires room { HasRoom (placed self.old) examiner (asks_in (climb_asks climb.now)) }
-        ensures raised { Raised (placed self.old) (placed self.new) examiner (is_post access) (climb_asks climb.now) }
+        requires room { HasRoom (on_all self.old) examiner (asks_in (climb_asks climb.now)) }
+        ensures raised { Raised (on_all self.old) (on_all self.new) examiner (is_post access) (climb_asks climb.now) }
         ensures used { TableUsed self.old → TableUsed self.new }
     {
         match climb.spot.home() {
@@ -183,10 +183,10 @@ impl Table {
 
     /// Gives an examiner what an access asks for, where there is room for it. Takes no memory.
     pub(crate) fn raise_all(&mut self, examiner: u32, cover: &[Node], access: Access)
-        requires room { HasRoom (placed self.old) examiner (λ n. list_any (is_asked n) cover.now) }
-        ensures modes { (f : ℕ) → (n : Node) → table_mode (placed self.new) f n
-            ≡ bound (table_mode (placed self.old) f n) (if f == examiner then asked (is_post access) cover.now n else None) }
-        ensures idle { IdleLess (placed self.old) (placed self.new) examiner (λ n. list_any (is_asked n) cover.now) }
+        requires room { HasRoom (on_all self.old) examiner (λ n. list_any (is_asked n) cover.now) }
+        ensures modes { (f : ℕ) → (n : Node) → table_mode (on_all self.new) f n
+            ≡ bound (table_mode (on_all self.old) f n) (if f == examiner then asked (is_post access) cover.now n else None) }
+        ensures idle { IdleLess (on_all self.old) (on_all self.new) examiner (λ n. list_any (is_asked n) cover.now) }
         ensures used { TableUsed self.old → TableUsed self.new }
     {
         let mut walk = Walk::of(cover);
@@ -215,7 +215,7 @@ impl Table {
 
     // Takes an examiner out of the holders along a climb.
     fn take_out_along(&mut self, examiner: u32, climb: &Climb, taken: Taken)
-        ensures taken { TakenOut (placed self.old) (placed self.new) examiner (is_mode taken) (climb_asks climb.now) }
+        ensures taken { TakenOut (on_all self.old) (on_all self.new) examiner (is_mode taken) (climb_asks climb.now) }
         ensures used { TableUsed self.old → TableUsed self.new }
     {
         match climb.spot.home() {
@@ -226,9 +226,9 @@ impl Table {
 
     /// Takes an examiner's modes or rooms out of the holders of what an access asks for. Takes no memory.
     pub(crate) fn take_out_all(&mut self, examiner: u32, cover: &[Node], taken: Taken)
-        ensures modes { (f : ℕ) → (n : Node) → table_mode (placed self.new) f n
-            ≡ (if is_mode taken && f == examiner && list_any (is_asked n) cover.now then None else table_mode (placed self.old) f n) }
-        ensures idle { IdleLess (placed self.old) (placed self.new) examiner (λ n. list_any (is_asked n) cover.now) }
+        ensures modes { (f : ℕ) → (n : Node) → table_mode (on_all self.new) f n
+            ≡ (if is_mode taken && f == examiner && list_any (is_asked n) cover.now then None else table_mode (on_all self.old) f n) }
+        ensures idle { IdleLess (on_all self.old) (on_all self.new) examiner (λ n. list_any (is_asked n) cover.now) }
         ensures used { TableUsed self.old → TableUsed self.new }
     {
         let mut walk = Walk::of(cover);

@@ -57,7 +57,7 @@ pub struct Worked<B: Room> {
     pub fault: Option<Fault>,
 }
 
-/// Runs each script by a thread of its own, from the seat at the same place. On Conflict a transaction is aborted and begun again, at most
+/// Runs each script by a thread of its own, from the seat at the same index. On Conflict a transaction is aborted and begun again, at most
 /// so many times in all, then given up; a step refused with Invalid, TooLong or NoSuchTownship is passed over; on any other fault
 /// the transaction is aborted and the worker ends with it. `Err` is Memory, before any thread is started, with both lists.
 pub fn work<B: Room + Send + Sync, R: Threads + Wait + Sync, G: Gate + Sync>(

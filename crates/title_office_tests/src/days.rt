@@ -239,8 +239,8 @@ pub fn not_settled<B: Room, R: Wait + Abort>(
     }
 }
 
-fn has_whole(sheet: &SheetRows, place: usize, estate: Estate, party: u32) -> bool {
-    match sheet.row(place) {
+fn has_whole(sheet: &SheetRows, index: usize, estate: Estate, party: u32) -> bool {
+    match sheet.row(index) {
         Some(row) => row.estate == estate && row.party == party && row.units == WHOLE,
         None => false,
     }

@@ -98,8 +98,8 @@ fn watch<B: Room>(tract: &Tract, mut viewer: Viewer<B>) -> bool {
 }
 
 // A party owns so many units by a row of a sheet.
-fn owns(sheet: &SheetRows, place: usize, party: u32, units: u64) -> bool {
-    match sheet.row(place) {
+fn owns(sheet: &SheetRows, index: usize, party: u32, units: u64) -> bool {
+    match sheet.row(index) {
         Some(row) => row.party == party && row.units == units,
         None => false,
     }
@@ -141,10 +141,10 @@ fn sell_and_watch<B: Room + Send + Sync, R: Threads + Wait + Abort + Sync>(
     mut learning: Viewer<B>,
 ) {
     let tract = section(rt, alloc, 5);
-    let place = &tract;
+    let land = &tract;
     let (is_right, receipt) = join(
         rt,
-        || watch(place, watching),
+        || watch(land, watching),
         || sell_all(rt, alloc, office, seat),
     );
     must(rt, is_right, "each sheet is right, none older");

@@ -1,4 +1,4 @@
--- What stands keeps its places, row by row.
+-- What stands keeps its indices, row by row.
 use Rattle.std.proofs.Common.{◌≡◌, ◌≤◌, ◌+◌, ◌∙◌, refl, ap, sym, ℕ, List, [], ◌∷◌, ◌++◌, ◌==◌, ◌&&◌, Bool, true, false, cond, Option, Some}
 use Rattle.std.proofs.Common.{None, Result, Ok, Err, IfOk, subst}
 use Rattle.std.proofs.Common.{append_assoc, length, nat_le, take, ◌||◌, arith}
@@ -6,8 +6,8 @@ use Rattle.std.proofs.lemmas.List.{append-nil, length-append, take-append-le}
 use Rattle.std.specs.List.{list_any}
 use Rattle.std.specs.Str.{bytes_eq}
 use mathlib.Core.List.{IsPrefix}
-use Rattle.title_land.specs.declared.place.Township.{Township}
-use Rattle.title_land.specs.Places.{same_township}
+use Rattle.title_land.specs.declared.survey.Township.{Township}
+use Rattle.title_land.specs.Survey.{same_township}
 use Rattle.title_land.specs.declared.tract.Land.{Land}
 use Rattle.title_land.specs.declared.tract.Land.TheVariants as land
 use Rattle.title_aliquot.specs.declared.fault.DescFault.{DescFault}

@@ -10,7 +10,7 @@ use Rattle.title_instrument.specs.declared.parts.Estate.TheVariants.{S, O, M}
 use Rattle.title_instrument.specs.declared.parts.Estates.{Estates}
 use Rattle.title_instrument.specs.declared.parts.Quantum.{Quantum}
 use Rattle.title_instrument.specs.declared.parts.Quantum.TheVariants as quantum
-use Rattle.title_instrument.specs.Estates.{estates_text, letter_of, place_in}
+use Rattle.title_instrument.specs.Estates.{estates_text, letter_of, estate_index}
 use Rattle.title_plan.specs.Limits.{longest_name, last_examiner, last_document}
 
 -- what comes of a value, where there is one
@@ -75,7 +75,7 @@ estate_of letter = find (λ e. letter == letter_of e) (S ∷ O ∷ M ∷ [])
 -- what is reserved, with a share of one estate more: none of them twice
 abbrev pub reserving : List (Option ℕ) → Estate → ℕ → Option (List (Option ℕ))
 reserving reserve e share =
-    cond (is_none (slice_index_or reserve (place_in e) None)) (Some (slice_set reserve (place_in e) (Some share))) None
+    cond (is_none (slice_index_or reserve (estate_index e) None)) (Some (slice_set reserve (estate_index e) (Some share))) None
 
 -- what is reserved, with an item more: an estate's letter and a share
 abbrev pub with_item : List (Option ℕ) → List ℕ → Option (List (Option ℕ))

@@ -5,10 +5,10 @@ use Rattle.std.specs.List.{list_any}
 use Rattle.std.specs.Str.{bytes_eq}
 use Rattle.std.specs.String.{string_bytes}
 use mathlib.Core.List.{IsPrefix}
-use Rattle.title_land.specs.declared.place.Township.{Township}
+use Rattle.title_land.specs.declared.survey.Township.{Township}
 use Rattle.title_land.specs.declared.tract.Land.{Land}
 use Rattle.title_land.specs.declared.tract.Land.TheVariants as land
-use Rattle.title_land.specs.Places.{same_township}
+use Rattle.title_land.specs.Survey.{same_township}
 use Rattle.title_aliquot.specs.declared.fault.DescFault.{DescFault}
 use Rattle.title_plan.specs.declared.fault.ScriptFault.{ScriptFault}
 use Rattle.title_plan.specs.declared.fault.ScriptFault.TheVariants as fault
@@ -21,7 +21,7 @@ use Rattle.title_plan.specs.Asked.{Asked}
 use Rattle.title_plan.specs.Lands.{land_in}
 use Rattle.title_plan.specs.Plans.{after_step_row, after_township, going_on, rows_in, script_of, understood, with_party}
 
--- what stands before a script: its townships, and the names of its parties, whose numbers are their places from 0; the first
+-- what stands before a script: its townships, and the names of its parties, whose numbers are their indices from 0; the first
 -- party is UNITED STATES
 pub record Before : Type 0 where
   pub townships : List Township
@@ -98,7 +98,7 @@ script_onto sched before bytes = after_rows_onto sched before 1 (asked_on before
 abbrev pub OntoNothing : Type 0
 OntoNothing = (sched : Schedule) (bytes : List ℕ) → script_onto sched nothing_before bytes ≡ script_of sched bytes
 
--- what stands keeps its places, and what a script declares comes behind it
+-- what stands keeps its indices, and what a script declares comes behind it
 abbrev pub BeginsWith : Asked → Before → Type 0
 BeginsWith asked before = IsPrefix before.townships asked.townships × IsPrefix before.names asked.names
 

@@ -26,7 +26,7 @@ pub fn onto_nothing()
     ensures alone { OntoNothing }
 {}
 
-/// What stands before a script keeps its places, and what the script declares comes behind it.
+/// What stands before a script keeps its indices, and what the script declares comes behind it.
 pub fn scripts_begin()
     ensures begins { ScriptsBegin }
 {}

@@ -10,7 +10,7 @@ ghost use Rattle.title_plan.specs.Rows.{named};
 use indexmap::IndexSet;
 use title_instrument::Instrument;
 
-/// The number of a party: its place among the names.
+/// The number of a party: its index among the names.
 pub fn number(parties: &IndexSet<String>, name: &str) -> Option<u32>
     requires few { index_set_len parties.now ≤ most_parties }
     ensures number { result ≡ number_of (map string_bytes parties.now.keys) name.now }

@@ -13,7 +13,7 @@ use title_land::Township;
 /// The name of party 0.
 const FIRST_PARTY: &str = "UNITED STATES";
 
-/// What stands before a script: townships, each once, and parties, who have their numbers as places. Party 0 is UNITED STATES:
+/// What stands before a script: townships, each once, and parties, who have their numbers as indices. Party 0 is UNITED STATES:
 /// the one that no script may declare.
 #[derive(Drop)]
 pub struct Declared {

@@ -30,7 +30,7 @@ use turns::is_beyond;
 /// The most rows of a script.
 pub const ROWS: u64 = 100_000;
 
-/// What the rows of a script declare and ask for. The parties have their numbers as places, UNITED STATES being 0; the
+/// What the rows of a script declare and ask for. The parties have their numbers as indices, UNITED STATES being 0; the
 /// steps stand in order; `inside` are the examiners whose transactions are open, none where these are interleaved.
 #[derive(Drop)]
 pub struct Plan {

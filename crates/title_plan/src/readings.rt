@@ -12,12 +12,12 @@ use title_aliquot::DescFault;
 use title_aliquot::describe::LONGEST;
 use title_land::Tract;
 
-// The slots of readings, and the places of each.
+// The slots of readings, and the ways of each.
 const SLOTS: u64 = 512;
 
-const PLACES: usize = 8;
+const WAYS: usize = 8;
 
-// The places of hashes that were seen.
+// The slots of hashes that were seen.
 const SEEN: u64 = 4_096;
 
 // What a description says, once more, which shares the tract; `None` where it may not be shared.
@@ -81,7 +81,7 @@ impl Slot {
     }
 
     fn has_room(&self) -> bool {
-        self.readings.len() < PLACES
+        self.readings.len() < WAYS
     }
 
     // What a text says, where one of these readings is its.
@@ -98,7 +98,7 @@ impl Slot {
 
     // Takes a reading; in a full slot the oldest goes. It isn't taken where memory is refused.
     fn take(&mut self, reading: Reading) {
-        if self.readings.len() < PLACES {
+        if self.readings.len() < WAYS {
             let _ = self.readings.push(reading);
             return;
         }
@@ -106,12 +106,12 @@ impl Slot {
             return;
         };
         *oldest = reading;
-        self.next = (self.next + 1) % PLACES;
+        self.next = (self.next + 1) % WAYS;
     }
 }
 
 /// Descriptions that were read, and what each says, so that one that comes again isn't read again. The hash of a text is its
-/// slot's, of which there are 512 with eight places each: a text takes a free place at once, and that of the oldest when it comes a
+/// slot's, of which there are 512 with eight ways each: a text takes a free one at once, and that of the oldest when it comes a
 /// second time. Texts of more than 1,000 bytes are read as they come.
 #[derive(Drop)]
 pub struct Readings {
@@ -119,7 +119,7 @@ pub struct Readings {
     hashers: BuildHasherDefault<FoldHasher>,
     keeps: bool,
     slots: BTreeMap<u64, Slot>,
-    // The last hash of those that fall together, of texts that came once and found no free place.
+    // The last hash of those that fall together, of texts that came once and found no free way.
     seen: BTreeMap<u64, u64>,
 }
 
@@ -156,13 +156,13 @@ impl Readings {
 
     // Whether a text with this hash was seen not long ago; from now on it was.
     fn is_seen(&mut self, hash: u64) -> bool {
-        let place = (hash >> 32) % SEEN;
-        if let Some(last) = self.seen.get_mut(&place) {
+        let key = (hash >> 32) % SEEN;
+        if let Some(last) = self.seen.get_mut(&key) {
             let is_seen = *last == hash;
             *last = hash;
             return is_seen;
         }
-        let _ = self.seen.insert(place, hash);
+        let _ = self.seen.insert(key, hash);
         false
     }
 
@@ -184,14 +184,14 @@ impl Readings {
         let Some(reading) = Reading::new(self.alloc, hash, text, said) else {
             return;
         };
-        let place = hash % SLOTS;
-        if let Some(slot) = self.slots.get_mut(&place) {
+        let key = hash % SLOTS;
+        if let Some(slot) = self.slots.get_mut(&key) {
             slot.take(reading);
             return;
         }
         let mut slot = Slot::new(self.alloc);
         slot.take(reading);
-        let _ = self.slots.insert(place, slot);
+        let _ = self.slots.insert(key, slot);
     }
 
     /// The tract that a text describes, or the text's fault, as `read_tract` gives it. `Err` is Memory, where it is wanted to

@@ -39,6 +39,6 @@ parts_more rows parts new p at pushed so_far here some =
     ∙ sym front
     ∙ ap (λ (k : ℕ). take k rows) n
 
--- a list from a place on, cut where it ends
+-- a list from an index on, cut where it ends
 pub rest_of : {X : Type 0} (xs : List X) (k : ℕ) → take (length xs - k) (drop k xs) ≡ drop k xs
 rest_of xs k = grind (arith, common_steps)

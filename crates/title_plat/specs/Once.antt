@@ -2,11 +2,11 @@
 use Rattle.std.specs.Prelude.{◌≡◌, ◌<◌, ◌&&◌, ◌==◌, ℕ, Bool, true, List, count_by, nat_le, sum_by, All}
 use Rattle.title_instrument.specs.declared.parts.Estate.{Estate}
 use Rattle.title_instrument.specs.declared.parts.Estate.TheVariants.{S, O, M}
-use Rattle.title_land.specs.declared.place.Cell.{Cell}
-use Rattle.title_land.specs.declared.place.Section.{Section}
+use Rattle.title_land.specs.declared.survey.Cell.{Cell}
+use Rattle.title_land.specs.declared.survey.Section.{Section}
 use Rattle.title_land.specs.Depth.{depth}
 use Rattle.title_land.specs.Nodes.{node_has}
-use Rattle.title_land.specs.Places.{side}
+use Rattle.title_land.specs.Survey.{side}
 use Rattle.title_share.specs.Rows.{whole_units}
 use Rattle.title_land.specs.CellLists.{sections_of}
 use Rattle.title_plat.specs.declared.frame.Frame.{Frame}

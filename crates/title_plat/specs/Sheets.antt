@@ -4,12 +4,12 @@ use Rattle.title_plat.specs.declared.sheet.Extent.{Extent}
 use Rattle.title_plat.specs.declared.sheet.Wanted.{Wanted}
 use Rattle.title_plat.specs.declared.sheet.Wanted.TheVariants as wanted
 
--- the sheet with this place, counted from 1
+-- the sheet with this number, counted from 1
 abbrev pub nth_sheet : List Extent → ℕ → Option Extent
 nth_sheet sheets zero = None
 nth_sheet sheets (suc before) = slice_get sheets before
 
--- the sheet that is wanted, of sheets in their order: the last is the one whose place is their number
+-- the sheet that is wanted, of sheets in their order: the last is the one whose number is their count
 abbrev pub sheet_in : List Extent → Wanted → Option Extent
-sheet_in sheets (wanted.Place place) = nth_sheet sheets place
+sheet_in sheets (wanted.Number number) = nth_sheet sheets number
 sheet_in sheets wanted.Last = nth_sheet sheets (length sheets)

@@ -4,7 +4,7 @@ use crate::parts::{Part, owners_of};
 use crate::row::Row;
 use std::alloc::{AllocError, Global};
 
-/// A part with its rows and the key of its holding: the place of that holding among those of the sheet, in the order in which
+/// A part with its rows and the key of its holding: the index of that holding among those of the sheet, in the order in which
 /// they first stand there.
 #[derive(Drop)]
 pub(crate) struct Keyed<'a> {

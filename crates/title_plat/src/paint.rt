@@ -4,7 +4,7 @@
 use crate::canvas::Canvas;
 use std::alloc::{AllocError, Global};
 
-/// The letter of the holding with this place, from 0: A to Z, and then A1 to Z1 and so on.
+/// The letter of the holding with this index, from 0: A to Z, and then A1 to Z1 and so on.
 pub(crate) fn key_text(alloc: Global, key: usize) -> Result<String, AllocError> {
     let letter = char::from(b'A' + (key % 26) as u8);
     let round = key / 26;

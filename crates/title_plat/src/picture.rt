@@ -194,11 +194,11 @@ fn add_heading(
 ) -> Result<(), AllocError> {
     canvas.text(MARGIN, 52, "title", title)?;
     let acres = Acres { half_acres };
-    let (place, sheets) = (sheet.place, sheet.sheets);
+    let (number, sheets) = (sheet.number, sheet.sheets);
     let told = if half_acres == 0 {
-        format!(in canvas.alloc; "Sheet {place} of {sheets}")?
+        format!(in canvas.alloc; "Sheet {number} of {sheets}")?
     } else {
-        format!(in canvas.alloc; "Sheet {place} of {sheets}, {acres} acres")?
+        format!(in canvas.alloc; "Sheet {number} of {sheets}, {acres} acres")?
     };
     canvas.text(MARGIN, 78, "sub", told.as_str())?;
     add_north(canvas)

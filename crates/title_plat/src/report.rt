@@ -149,12 +149,12 @@ impl Reading {
             return Err(PlatFault::NoSheet);
         };
         let sheets = self.sheets.len() as u64;
-        let place = match wanted {
-            Wanted::Place(place) => place,
+        let number = match wanted {
+            Wanted::Number(number) => number,
             Wanted::Last => sheets,
         };
         Ok(Sheet {
-            place,
+            number,
             sheets,
             rows: self.rows,
             extent,

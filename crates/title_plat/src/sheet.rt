@@ -8,8 +8,8 @@ use crate::row::Row;
 /// Which sheet of a report is wanted.
 #[derive(Clone, Copy, Debug, PartialEq, Eq)]
 pub enum Wanted {
-    /// The sheet with this place, from 1.
-    Place(u64),
+    /// The sheet with this number, from 1.
+    Number(u64),
     Last,
 }
 
@@ -26,15 +26,15 @@ pub fn sheet_in(sheets: &[Extent], wanted: Wanted) -> Option<Extent>
 {
     match wanted {
         Wanted::Last => sheets.last().copied(),
-        Wanted::Place(0) => None,
-        Wanted::Place(place) => sheets.get((place - 1) as usize).copied(),
+        Wanted::Number(0) => None,
+        Wanted::Number(number) => sheets.get((number - 1) as usize).copied(),
     }
 }
 
-/// A sheet of a report, with its place among the report's sheets, from 1, and their number. The rows are those of all sheets.
+/// A sheet of a report, with its number among the report's sheets, from 1, and how many they are. The rows are those of all sheets.
 #[derive(Drop)]
 pub struct Sheet {
-    pub place: u64,
+    pub number: u64,
     pub sheets: u64,
     pub rows: Vec<Row>,
     pub extent: Extent,

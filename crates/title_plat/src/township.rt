@@ -5,7 +5,7 @@ use crate::canvas::{Area, Canvas};
 use crate::label::{acres_text, tip};
 use crate::owners::Keyed;
 use crate::paint::key_text;
-use crate::places::place_of;
+use crate::positions::position_of;
 use crate::section::area_in;
 use crate::squares::square_in;
 use std::alloc::AllocError;
@@ -105,13 +105,13 @@ fn add_section(
     parts: &[Keyed<'_>],
     estate: Estate,
 ) -> Result<(), AllocError> {
-    let place = place_of(section.number);
+    let position = position_of(section.number);
     let x = panel
         .x
-        .saturating_add(u32::from(place.column).saturating_mul(SECTION));
+        .saturating_add(u32::from(position.column).saturating_mul(SECTION));
     let y = panel
         .y
-        .saturating_add(u32::from(place.row).saturating_mul(SECTION));
+        .saturating_add(u32::from(position.row).saturating_mul(SECTION));
     let square = Area::square(x, y, SECTION);
     for keyed in parts {
         if keyed.part.estate == estate {

@@ -20,7 +20,7 @@ use title_trace::Denial;
 #[derive(Clone, Copy, Debug, PartialEq, Eq)]
 pub struct Fault {
     pub number: u32,
-    pub place: Option<u64>,
+    pub detail: Option<u64>,
 }
 
 impl Fault {
@@ -32,7 +32,7 @@ impl Fault {
     {
         Fault {
             number: 6,
-            place: None,
+            detail: None,
         }
     }
 
@@ -51,9 +51,9 @@ impl fmt::Display for Fault {
 
     fn fmt<W: fmt::Write>(&self, f: &mut fmt::Formatter<W>) -> fmt::Result {
         let number = self.number;
-        match self.place {
+        match self.detail {
             None => write!(f, "fault,{number}"),
-            Some(place) => write!(f, "fault,{number},{place}"),
+            Some(detail) => write!(f, "fault,{number},{detail}"),
         }
     }
 }
@@ -64,13 +64,13 @@ impl From<DescFault> for Fault {
     ghost from_gives = { λ fault told. told ≡ of_description fault };
 
     fn from(fault: DescFault) -> Fault {
-        let place = match fault {
+        let detail = match fault {
             DescFault::BadText(byte) => Some(byte as u64),
             _ => None,
         };
         Fault {
             number: u32::from(fault.number()),
-            place,
+            detail,
         }
     }
 }
@@ -81,7 +81,7 @@ impl From<RunFault> for Fault {
     ghost from_gives = { λ fault told. told ≡ of_run fault };
 
     fn from(fault: RunFault) -> Fault {
-        let (number, place) = match fault {
+        let (number, detail) = match fault {
             RunFault::Row(row) => (31, Some(row)),
             RunFault::Read => (32, None),
             RunFault::Write => (33, None),
@@ -89,7 +89,7 @@ impl From<RunFault> for Fault {
             RunFault::Order(row) => (35, Some(row)),
             RunFault::Memory => (6, None),
         };
-        Fault { number, place }
+        Fault { number, detail }
     }
 }
 
@@ -106,7 +106,7 @@ impl From<CounterFault> for Fault {
         };
         Fault {
             number,
-            place: None,
+            detail: None,
         }
     }
 }
@@ -124,7 +124,7 @@ impl From<OpenFault> for Fault {
         };
         Fault {
             number,
-            place: None,
+            detail: None,
         }
     }
 }
@@ -135,7 +135,7 @@ impl From<LastingFault> for Fault {
     ghost from_gives = { λ fault told. told ≡ of_lasting fault };
 
     fn from(fault: LastingFault) -> Fault {
-        let (number, place) = match fault {
+        let (number, detail) = match fault {
             LastingFault::Row(row) => (31, Some(row)),
             LastingFault::Read => (32, None),
             LastingFault::Write => (33, None),
@@ -148,7 +148,7 @@ impl From<LastingFault> for Fault {
             LastingFault::After(last) => (47, Some(last)),
             LastingFault::Memory => (6, None),
         };
-        Fault { number, place }
+        Fault { number, detail }
     }
 }
 
@@ -158,14 +158,14 @@ impl From<TellFault> for Fault {
     ghost from_gives = { λ fault told. told ≡ of_telling fault };
 
     fn from(fault: TellFault) -> Fault {
-        let (number, place) = match fault {
+        let (number, detail) = match fault {
             TellFault::Write => (33, None),
             TellFault::Disk => (36, None),
             TellFault::NotAPlant(row) => (38, Some(row as u64)),
             TellFault::NoScript(row) => (48, Some(row)),
             TellFault::Memory => (6, None),
         };
-        Fault { number, place }
+        Fault { number, detail }
     }
 }
 
@@ -203,7 +203,7 @@ impl From<WorkerFault> for Fault {
     fn from(fault: WorkerFault) -> Fault {
         Fault {
             number: number_of_worker(fault),
-            place: None,
+            detail: None,
         }
     }
 }
@@ -214,7 +214,7 @@ impl From<Unsettled> for Fault {
     ghost from_gives = { λ fault told. told ≡ of_unsettled fault };
 
     fn from(fault: Unsettled) -> Fault {
-        let (number, place) = match fault {
+        let (number, detail) = match fault {
             Unsettled::Open(examiner) => (41, Some(u64::from(examiner))),
             Unsettled::Unknown(place) => (42, Some(place)),
             Unsettled::Missing(place) => (43, Some(place)),
@@ -222,7 +222,7 @@ impl From<Unsettled> for Fault {
             Unsettled::Different(place) => (45, Some(place)),
             Unsettled::Memory => (6, None),
         };
-        Fault { number, place }
+        Fault { number, detail }
     }
 }
 

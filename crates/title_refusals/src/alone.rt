@@ -2,7 +2,7 @@
 
 use crate::at_desk::{Plant, open_plant, tell_end};
 use crate::deeds::{HALF, Sale, WHOLE, Wish};
-use crate::places::Place;
+use crate::parcels::Parcel;
 use crate::telling::tell_reply;
 use crate::wanted::Wanted;
 use anyhow::{Result, bail};
@@ -12,12 +12,12 @@ use title_trace::Reply;
 
 const EXAMINER: u32 = 1;
 
-fn sells(doc: u64, grantee: u32, units: u64, place: Place) -> Wish {
+fn sells(doc: u64, grantee: u32, units: u64, parcel: Parcel) -> Wish {
     Wish::Post(Sale {
         doc,
         grantee,
         units,
-        place,
+        parcel,
     })
 }
 
@@ -58,14 +58,14 @@ fn serve_all(
 /// grantor's title is too short for, one to nobody, and a sheet outside the plant.
 pub fn tell<R: Print>(rt: &R, alloc: Global, wanted: &mut Wanted) -> Result<()> {
     let wishes = [
-        Wish::Sheet(Place::Quarter),
-        sells(201, 1, HALF, Place::Corner),
-        sells(202, 2, WHOLE, Place::Quarter),
-        sells(201, 1, HALF, Place::AroundCorner),
-        Wish::Sheet(Place::Quarter),
-        Wish::Chain(Place::Quarter),
-        sells(203, 3, HALF, Place::Quarter),
-        Wish::Sheet(Place::Undeclared),
+        Wish::Sheet(Parcel::Quarter),
+        sells(201, 1, HALF, Parcel::Corner),
+        sells(202, 2, WHOLE, Parcel::Quarter),
+        sells(201, 1, HALF, Parcel::AroundCorner),
+        Wish::Sheet(Parcel::Quarter),
+        Wish::Chain(Parcel::Quarter),
+        sells(203, 3, HALF, Parcel::Quarter),
+        Wish::Sheet(Parcel::Undeclared),
     ];
     let mut desk = open_plant(alloc, wanted)?;
     serve_all(rt, &mut desk, alloc, &wishes, wanted)

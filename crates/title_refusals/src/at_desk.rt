@@ -3,7 +3,7 @@
 ghost use Rattle.title_trace.specs.Due.{MayOpen};
 
 use crate::deeds::{HALF, Sale, Wish};
-use crate::places::{Place, township};
+use crate::parcels::{Parcel, township};
 use crate::telling::{tell_records, tell_reply};
 use crate::wanted::Wanted;
 use anyhow::{Result, bail};
@@ -56,23 +56,23 @@ fn aborts(examiner: u32) -> Turn {
     Turn { examiner, call }
 }
 
-fn reads(examiner: u32, place: Place) -> Turn {
-    let call = Call::Step(Wish::Sheet(place));
+fn reads(examiner: u32, parcel: Parcel) -> Turn {
+    let call = Call::Step(Wish::Sheet(parcel));
     Turn { examiner, call }
 }
 
-fn chains(examiner: u32, place: Place) -> Turn {
-    let call = Call::Step(Wish::Chain(place));
+fn chains(examiner: u32, parcel: Parcel) -> Turn {
+    let call = Call::Step(Wish::Chain(parcel));
     Turn { examiner, call }
 }
 
 // Half of the surface goes to ADAMS.
-fn posts(examiner: u32, doc: u64, place: Place) -> Turn {
+fn posts(examiner: u32, doc: u64, parcel: Parcel) -> Turn {
     let call = Call::Step(Wish::Post(Sale {
         doc,
         grantee: 1,
         units: HALF,
-        place,
+        parcel,
     }));
     Turn { examiner, call }
 }
@@ -125,14 +125,14 @@ fn serve_all(
 fn overlap(rt: &impl Print, desk: &mut Plant, alloc: Global, wanted: &mut Wanted) -> Result<()> {
     let turns = [
         begins(1),
-        reads(1, Place::Quarter),
-        posts(1, 101, Place::Corner),
+        reads(1, Parcel::Quarter),
+        posts(1, 101, Parcel::Corner),
         begins(2),
-        reads(2, Place::BesideCorner),
-        posts(2, 102, Place::BesideCorner),
-        reads(1, Place::Quarter),
-        chains(1, Place::Quarter),
-        posts(1, 103, Place::TwoNodes),
+        reads(2, Parcel::BesideCorner),
+        posts(2, 102, Parcel::BesideCorner),
+        reads(1, Parcel::Quarter),
+        chains(1, Parcel::Quarter),
+        posts(1, 103, Parcel::TwoNodes),
     ];
     serve_all(rt, desk, alloc, &turns, wanted)
 }
@@ -148,7 +148,7 @@ fn abort(rt: &impl Print, desk: &mut Plant, alloc: Global, wanted: &mut Wanted) 
         aborts(1),
         aborts(2),
         begins(1),
-        posts(1, 104, Place::TwoNodes),
+        posts(1, 104, Parcel::TwoNodes),
     ];
     serve_all(rt, desk, alloc, &turns, wanted)?;
     tell_reply(rt, 1, &desk.sweep(1))?;
@@ -163,7 +163,7 @@ pub fn tell_end(
     wanted: &mut Wanted,
 ) -> Result<()> {
     tell_records(rt, desk.records())?;
-    let turns = [begins(3), reads(3, Place::Everything), aborts(3)];
+    let turns = [begins(3), reads(3, Parcel::Everything), aborts(3)];
     serve_all(rt, desk, alloc, &turns, wanted)?;
     println!(rt; "trees are tidy: {}", desk.store().is_tidy())?;
     Ok(())

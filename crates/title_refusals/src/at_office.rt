@@ -5,7 +5,7 @@ ghost use Rattle.title_trace.specs.Due.{MayOpen};
 
 use crate::asker::{Asker, add_outcome, outcomes, settle};
 use crate::deeds::{Sale, WHOLE, Wish};
-use crate::places::{Place, township};
+use crate::parcels::{Parcel, township};
 use crate::telling::tell_records;
 use crate::viewing::{front, tell_record_at, tell_sheet};
 use crate::wanted::Wanted;
@@ -29,14 +29,14 @@ const FIRST_SALE: Sale = Sale {
     doc: 101,
     grantee: 1,
     units: WHOLE,
-    place: Place::Section,
+    parcel: Parcel::Section,
 };
 
 const SECOND_SALE: Sale = Sale {
     doc: 102,
     grantee: 1,
     units: WHOLE,
-    place: Place::NextSection,
+    parcel: Parcel::NextSection,
 };
 
 /// What is done in an office of two examiners.
@@ -68,7 +68,10 @@ fn look_round<B: Room, R: Wait + Print>(
     seat: Seat<B>,
     wanted: &mut Wanted,
 ) -> Result<()> {
-    let wishes = [Wish::Sheet(Place::Everything), Wish::Chain(Place::Section)];
+    let wishes = [
+        Wish::Sheet(Parcel::Everything),
+        Wish::Chain(Parcel::Section),
+    ];
     take_back(asker, seat, &wishes, wanted)?;
     Ok(())
 }
@@ -111,7 +114,7 @@ fn view_back<B: Room, R: Wait + Print>(
     wanted: &mut Wanted,
 ) -> Result<()> {
     learn(asker.rt, viewer, receipt)?;
-    tell_sheet(asker.rt, viewer, asker.alloc, Place::Section, wanted)?;
+    tell_sheet(asker.rt, viewer, asker.alloc, Parcel::Section, wanted)?;
     tell_other(asker, other, wanted)
 }
 
@@ -163,7 +166,7 @@ fn abort_sale<B: Room, R: Wait + Print>(
     wanted: &mut Wanted,
 ) -> Result<Seat<B>> {
     let seat = take_back(asker, seat, &[Wish::Post(FIRST_SALE)], wanted)?;
-    tell_sheet(asker.rt, viewer, asker.alloc, Place::Section, wanted)?;
+    tell_sheet(asker.rt, viewer, asker.alloc, Parcel::Section, wanted)?;
     Ok(seat)
 }
 
@@ -188,13 +191,13 @@ fn tell_views<B: Room, R: Wait + Print>(
     wanted: &mut Wanted,
 ) -> Result<()> {
     let (rt, alloc) = (asker.rt, asker.alloc);
-    for place in [Place::Section, Place::Undeclared, Place::TwoNodes] {
-        tell_sheet(rt, viewer, alloc, place, wanted)?;
+    for parcel in [Parcel::Section, Parcel::Undeclared, Parcel::TwoNodes] {
+        tell_sheet(rt, viewer, alloc, parcel, wanted)?;
     }
     for place in 0..3 {
         tell_record_at(rt, viewer, place, wanted)?;
     }
-    tell_sheet(rt, viewer, alloc, Place::Everything, wanted)
+    tell_sheet(rt, viewer, alloc, Parcel::Everything, wanted)
 }
 
 // A viewer learns of a commit, and is asked for all that it shows.

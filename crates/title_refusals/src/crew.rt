@@ -7,7 +7,7 @@ ghost use Rattle.title_office.specs.Workers.{examiners_of, seat_examiners};
 use crate::asker::{Asker, add_outcome, outcomes, settle};
 use crate::at_office::OFFICE;
 use crate::deeds::{Sale, WHOLE, Wish};
-use crate::places::{Place, township};
+use crate::parcels::{Parcel, township};
 use crate::wanted::Wanted;
 use anyhow::{Result, bail};
 use std::alloc::{AllocError, Global};
@@ -38,16 +38,16 @@ struct Sold {
 
 // The deed of an examiner's script: 1 sells section 5 to ADAMS, 2 sells section 6 to BELL.
 fn sale_of(examiner: u32) -> Sale {
-    let place = if examiner == 1 {
-        Place::Section
+    let parcel = if examiner == 1 {
+        Parcel::Section
     } else {
-        Place::NextSection
+        Parcel::NextSection
     };
     Sale {
         doc: u64::from(examiner),
         grantee: examiner,
         units: WHOLE,
-        place,
+        parcel,
     }
 }
 
@@ -240,8 +240,8 @@ impl Sold {
     // Whether these are the rows: one a section, and one for each of the other estates.
     fn are_rows_due(self, rows: &SheetRows) -> bool {
         let mut are_due = rows.len() == 38;
-        for place in 0..rows.len() {
-            are_due &= match rows.row(place) {
+        for index in 0..rows.len() {
+            are_due &= match rows.row(index) {
                 Some(row) => self.is_row_due(&row),
                 None => false,
             };
@@ -269,7 +269,7 @@ fn is_plant_due<B: Room, R: Wait + Print>(
         return Ok(false);
     };
     let mut slip = asker.begin_again(seat, wanted)?;
-    asker.step(&mut slip, Wish::Sheet(Place::Everything), wanted)?;
+    asker.step(&mut slip, Wish::Sheet(Parcel::Everything), wanted)?;
     let is_due = is_sheet_due(&slip, sold);
     Ok(is_due && asker.office.abort(asker.rt, slip).is_ok())
 }

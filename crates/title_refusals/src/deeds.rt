@@ -1,6 +1,6 @@
 //! Deeds of the surface by party 0.
 
-use crate::places::Place;
+use crate::parcels::Parcel;
 use crate::wanted::Wanted;
 use anyhow::{Result, bail};
 use std::alloc::Global;
@@ -20,14 +20,14 @@ pub struct Sale {
     pub doc: u64,
     pub grantee: u32,
     pub units: u64,
-    pub place: Place,
+    pub parcel: Parcel,
 }
 
 /// What an examiner asks for in a transaction.
 #[derive(Clone, Copy)]
 pub enum Wish {
-    Sheet(Place),
-    Chain(Place),
+    Sheet(Parcel),
+    Chain(Parcel),
     Post(Sale),
 }
 
@@ -53,7 +53,7 @@ impl Sale {
         let Some(share) = Share::new(self.units) else {
             bail!("a deed passes some units, and not more than all");
         };
-        let tract = self.place.tract(alloc, wanted)?;
+        let tract = self.parcel.tract(alloc, wanted)?;
         let (doc, instrument) = (self.doc, self.instrument(share));
         Ok(wanted.again(|| {
             let tract = tract.copy(alloc)?;
@@ -71,8 +71,8 @@ impl Wish {
     /// The ask for it.
     pub fn ask(self, alloc: Global, wanted: &mut Wanted) -> Result<Ask> {
         Ok(match self {
-            Wish::Sheet(place) => Ask::Sheet(place.tract(alloc, wanted)?),
-            Wish::Chain(place) => Ask::Chain(place.tract(alloc, wanted)?),
+            Wish::Sheet(parcel) => Ask::Sheet(parcel.tract(alloc, wanted)?),
+            Wish::Chain(parcel) => Ask::Chain(parcel.tract(alloc, wanted)?),
             Wish::Post(sale) => Ask::Post(sale.posting(alloc, wanted)?),
         })
     }

@@ -16,7 +16,7 @@ mod at_desk;
 mod at_office;
 mod crew;
 mod deeds;
-mod places;
+mod parcels;
 mod script;
 mod telling;
 mod viewing;

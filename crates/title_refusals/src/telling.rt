@@ -29,8 +29,8 @@ fn tell_row(rt: &impl Print, examiner: u32, row: &SheetRow) -> io::Result<()> {
 /// Tells the rows of a sheet.
 pub fn tell_rows(rt: &impl Print, examiner: u32, rows: &SheetRows) -> io::Result<()> {
     println!(rt; "{examiner},sheet,{}", rows.len())?;
-    for place in 0..rows.len() {
-        if let Some(row) = rows.row(place) {
+    for index in 0..rows.len() {
+        if let Some(row) = rows.row(index) {
             tell_row(rt, examiner, &row)?;
         }
     }

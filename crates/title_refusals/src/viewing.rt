@@ -1,6 +1,6 @@
 //! A viewer's calls, each made again at once where it wants memory.
 
-use crate::places::Place;
+use crate::parcels::Parcel;
 use crate::telling::{tell_record, tell_rows};
 use crate::wanted::Wanted;
 use anyhow::Result;
@@ -41,7 +41,7 @@ fn record<B: Room>(
 
 /// How many records a viewer shows.
 pub fn front<B: Room>(viewer: &mut Viewer<B>, alloc: Global, wanted: &mut Wanted) -> Result<u64> {
-    let tract = Place::Section.tract(alloc, wanted)?;
+    let tract = Parcel::Section.tract(alloc, wanted)?;
     Ok(sheet(viewer, &tract, wanted)?.front)
 }
 
@@ -50,15 +50,15 @@ fn tell_seen(rt: &impl Print, seen: &Seen) -> io::Result<()> {
     tell_rows(rt, 0, &seen.rows)
 }
 
-/// Tells what a viewer shows of a place.
+/// Tells what a viewer shows of a parcel.
 pub fn tell_sheet<B: Room>(
     rt: &impl Print,
     viewer: &mut Viewer<B>,
     alloc: Global,
-    place: Place,
+    parcel: Parcel,
     wanted: &mut Wanted,
 ) -> Result<()> {
-    let tract = place.tract(alloc, wanted)?;
+    let tract = parcel.tract(alloc, wanted)?;
     match sheet(viewer, &tract, wanted) {
         Ok(seen) => Ok(tell_seen(rt, &seen)?),
         Err(why) => Ok(println!(rt; "viewer: {why}")?),

@@ -29,7 +29,7 @@ bit_here : (word at : ℕ) (b : Bool) → at < 64 → bit_at word at ≡ 0 → (
 bit_here word at true lt none = ap (λ (x : ℕ). x == 1) (bit_at_set_same w64 word at lt)
 bit_here word at false lt none = ap (λ (x : ℕ). x == 1) (nothing_added word at at ∙ none)
 
--- the bits of the names before a place, and no other
+-- the bits of the names before an index, and no other
 pub record HasBits (names : List (List ℕ)) (word at : ℕ) : Type 0 where
   pub known : (i : ℕ) → i < at → (bit_at word i == 1) ≡ needs_quotes row_writer (name_of names i)
   pub none : (i : ℕ) → at ≤ i → bit_at word i ≡ 0

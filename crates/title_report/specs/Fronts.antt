@@ -4,7 +4,7 @@ use Rattle.std.specs.Fmt.{decimal}
 use Rattle.csv.specs.Writing.{field_text}
 use Rattle.title_share.specs.Share.{share_text}
 use Rattle.title_land.specs.declared.node.Node.{Node}
-use Rattle.title_land.specs.declared.place.Section.{Section}
+use Rattle.title_land.specs.declared.survey.Section.{Section}
 use Rattle.title_land.specs.Texts.{node_text, section_text}
 use Rattle.title_instrument.specs.declared.parts.Estate.{Estate}
 use Rattle.title_instrument.specs.Estates.{estate_text}

@@ -77,14 +77,14 @@ fn put_sheet_row<S: Sink>(
     put_tail(page, sink, row.units)
 }
 
-// The row at a place, however rows are kept.
-fn row_at(lines: &Lines, place: usize) -> SheetRow
-    requires within { place < length (rows_in lines.now) }
-    ensures row { result ≡ get_or (rows_in lines.now) place result }
+// The row at an index, however rows are kept.
+fn row_at(lines: &Lines, index: usize) -> SheetRow
+    requires within { index < length (rows_in lines.now) }
+    ensures row { result ≡ get_or (rows_in lines.now) index result }
 {
     match lines {
-        Lines::Plain(rows) => rows[place],
-        Lines::Squares(section, estate, squares) => squares[place].row(*section, *estate),
+        Lines::Plain(rows) => rows[index],
+        Lines::Squares(section, estate, squares) => squares[index].row(*section, *estate),
     }
 }
 
@@ -107,8 +107,8 @@ fn put_sheet_lines<S: Sink>(
         (rows_text (map (sheet_row roster.now examiner) (rows_in lines.now)))) }
     ensures failed { OnErr result (S.has_failed sink.new ≡ true) }
 {
-    for place in 0..lines.len() {
-        let row = row_at(lines, place);
+    for index in 0..lines.len() {
+        let row = row_at(lines, index);
         put_sheet_row(page, sink, roster, examiner, front, &row)?;
     }
     Ok(())

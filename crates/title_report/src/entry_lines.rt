@@ -62,7 +62,7 @@ fn power_from(entries: usize) -> usize {
 }
 
 impl KeptLines {
-    // Room for so many lines, at most 65,536, none of them begun, by at least so many places.
+    // Room for so many lines, at most 65,536, none of them begun, by at least so many slots.
     fn new(alloc: Global, entries: usize) -> Result<KeptLines, AllocError>
         ensures made { IfOk result (λ it. (names : List (List ℕ)) → All (IsMade names) it.lines.items) }
     {

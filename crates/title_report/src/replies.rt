@@ -18,7 +18,7 @@ use title_device::{Failed, Sink};
 use title_page::Page;
 use title_trace::{Denial, Reply};
 
-// The names of the parties, each at the place that is its number.
+// The names of the parties, each at the index that is its number.
 pub(crate) type Names = IndexSet<String>;
 
 /// Writes a row of two fields or more. `Failed` where a push fails; the sink then has a beginning of what was written.
@@ -143,7 +143,7 @@ fn put_reply_by<S: Sink>(
     }
 }
 
-/// Writes the rows of a reply to an examiner, the names having the parties' numbers as places; a Memory reply has none.
+/// Writes the rows of a reply to an examiner, the names having the parties' numbers as indices; a Memory reply has none.
 /// `Failed` where a push fails; the sink then has a beginning of what was written.
 pub fn put_reply<S: Sink>(
     page: &mut Page,

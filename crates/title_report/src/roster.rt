@@ -15,7 +15,7 @@ use std::marker::Model;
 use title_device::{Failed, Sink};
 use title_page::{Page, is_quoted};
 
-/// The names of the parties, each at the place that is its number, and which of them are quoted where they are written as fields:
+/// The names of the parties, each at the index that is its number, and which of them are quoted where they are written as fields:
 /// that is found out once, and not at each row. A contract sees the names' bytes.
 #[derive(Drop)]
 pub struct Roster<'a> {

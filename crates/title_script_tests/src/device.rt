@@ -26,8 +26,8 @@ impl Read for FlakyReader<'_> {
         }
         self.good_turns -= 1;
         match (self.left.split_first(), buf.first_mut()) {
-            (Some((byte, left)), Some(place)) => {
-                *place = *byte;
+            (Some((byte, left)), Some(slot)) => {
+                *slot = *byte;
                 self.left = left;
                 Ok(1)
             }

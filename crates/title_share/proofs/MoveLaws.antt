@@ -204,7 +204,7 @@ walk_step from to n given r rs some = go given (leb to r.0)
         (ap (λ (x : List (ℕ × ℕ)). (to, cond (eqb r.0 to) r.1 0 + n) ∷ x) (front_split r.0 (left_of from to n r) (walk from to n true rs)))
     go false false = front_split r.0 (left_of from to n r) (walk from to n false rs)
 
--- the same at a place of the rows
+-- the same at an index of the rows
 pub walk_on : (from to n : ℕ) (given : Bool) (rows done mid end all : List (ℕ × ℕ)) (i : ℕ) (d : ℕ × ℕ) → 0 < n → i < length rows →
     mid ≡ done ++ with_front to (gained_of to n given (get_or rows i d)) [] →
     end ≡ mid ++ with_front (get_or rows i d).0 (left_of from to n (get_or rows i d)) [] →

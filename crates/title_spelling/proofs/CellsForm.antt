@@ -9,15 +9,15 @@ use Rattle.std.proofs.lemmas.List.{append-nil}
 use Rattle.std.proofs.lemmas.List.Concat.{get_or-flat_map}
 use Rattle.std.proofs.lemmas.List.FromFn.{length-range_with_len, get_or-range_with_len}
 use Rattle.title_land.specs.Depth.{depth}
-use Rattle.title_land.specs.Grids.{places}
-use Rattle.title_land.specs.Places.{side}
+use Rattle.title_land.specs.Grids.{indices}
+use Rattle.title_land.specs.Survey.{side}
 use Rattle.title_land.specs.Laws.Sides.{side_is}
 use Rattle.title_spelling.specs.Cells.{number_of, row_text, rows_text, value_of, is_marked}
 
 -- ---- one digit
 
 abbrev has_bit : ℕ → ℕ → Bool
-has_bit digit place = bit_at (value_of digit) (3 - place) == 1
+has_bit digit index = bit_at (value_of digit) (3 - index) == 1
 
 -- the four cells of a digit
 record Marks (digit : ℕ) (a b c d : Bool) : Type 0 where
@@ -87,14 +87,14 @@ rows_long has (row ∷ rows) =
 -- the rows of a section take so many bytes
 pub rows_length : (has : ℕ → ℕ → Bool) → length (rows_text has) ≡ 80
 rows_length has =
-    let long = rows_long has (places depth) in
+    let long = rows_long has (indices depth) in
     let rows = length-range_with_len 0 (side depth) in
     omega (arith, long, rows, side_is)
 
-front_long : (has : ℕ → ℕ → Bool) (row : ℕ) → row ≤ side depth → length (flat_map (row_text has) (take row (places depth))) ≡ 5 * row
+front_long : (has : ℕ → ℕ → Bool) (row : ℕ) → row ≤ side depth → length (flat_map (row_text has) (take row (indices depth))) ≡ 5 * row
 front_long has row h =
-    let long = rows_long has (take row (places depth)) in
-    let rows = length-take row (places depth) in
+    let long = rows_long has (take row (indices depth)) in
+    let rows = length-take row (indices depth) in
     let all = length-range_with_len 0 (side depth) in
     omega (arith, long, rows, all)
 
@@ -104,8 +104,8 @@ pub rows_mark : (has : ℕ → ℕ → Bool) (row column : ℕ) → row < side d
 rows_mark has row column r c =
     let all = length-range_with_len 0 (side depth) in
     let plain : 0 + row ≡ row = omega arith in
-    let at : get_or (places depth) row 0 ≡ row = get_or-range_with_len 0 (side depth) row 0 r ∙ plain in
-    let here = get_or-flat_map (row_text has) (places depth) row (1 + column / 4) 0 0 (omega (arith, all)) (omega (arith, side_is)) in
+    let at : get_or (indices depth) row 0 ≡ row = get_or-range_with_len 0 (side depth) row 0 r ∙ plain in
+    let here = get_or-flat_map (row_text has) (indices depth) row (1 + column / 4) 0 0 (omega (arith, all)) (omega (arith, side_is)) in
     let digit : get_or (rows_text has) (5 * row + (1 + column / 4)) 0 ≡ get_or (row_text has row) (1 + column / 4) 0 =
     ap (λ (n : ℕ). get_or (rows_text has) (n + (1 + column / 4)) 0) (sym (front_long has row (omega arith)))
     ∙ here ∙ ap (λ (n : ℕ). get_or (row_text has n) (1 + column / 4) 0) at in

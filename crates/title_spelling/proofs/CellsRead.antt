@@ -9,7 +9,7 @@ use Rattle.std.proofs.lemmas.Slice.Eq.{bytes_eq-Decides}
 use Rattle.title_land.specs.declared.grid.Grid.{Grid}
 use Rattle.title_land.specs.declared.node.Node.{Node}
 use Rattle.title_land.specs.declared.node.Node.TheVariants as node
-use Rattle.title_land.specs.declared.place.Section.{Section}
+use Rattle.title_land.specs.declared.survey.Section.{Section}
 use Rattle.title_land.specs.declared.tract.Land.{Land}
 use Rattle.title_land.specs.declared.tract.Land.TheVariants as land
 use Rattle.title_land.specs.Depth.{depth}
@@ -19,10 +19,10 @@ use Rattle.title_land.specs.Nodes.{IsNode}
 use Rattle.title_land.specs.Texts.{node_text, section_text}
 use Rattle.title_land.specs.Laws.NodeLands.{is_grid-grid_of}
 use Rattle.title_aliquot.specs.Describes.{Describes}
-use Rattle.title_aliquot.specs.Grammar.{Everything, InPlace, SectionSyntax, Syntax}
+use Rattle.title_aliquot.specs.Grammar.{Everything, InTownship, SectionSyntax, Syntax}
 use Rattle.title_aliquot.specs.Meaning.{IsLandIn, IsLandOf}
 use Rattle.title_aliquot.specs.TextLaws.{ReadsBack}
-use Rattle.title_land.specs.declared.place.Township.{Township}
+use Rattle.title_land.specs.declared.survey.Township.{Township}
 use Rattle.title_plan.specs.Lands.{land_in, LandsAreRead}
 use Rattle.title_spelling.specs.Cells.{cells_in, if_spelled, is_marked, marked_in, rows_text, section_of, spelled_cells}
 use Rattle.title_spelling.proofs.CellsForm.{rows_length, rows_mark}
@@ -38,7 +38,7 @@ sized_in t (Some s) l e = subst (λ (m : Land). IsLand depth m) (sym e.2) (is_gr
 
 sized_of : (s : Syntax) (l : Land) → IsLandOf depth s l → IsLand depth l
 sized_of Everything l e = subst (λ (m : Land). IsLand depth m) (sym e) tt
-sized_of (InPlace p) l e = sized_in e.0 p.section l e.2
+sized_of (InTownship p) l e = sized_in e.0 p.section l e.2
 
 -- a land that a text describes is as large as the grid
 pub described_sized : (text : List ℕ) (l : Land) → Describes depth text l → IsLand depth l

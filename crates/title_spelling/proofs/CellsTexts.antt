@@ -7,7 +7,7 @@ use Rattle.std.specs.Str.{IsCharBoundary}
 use Rattle.std.proofs.lemmas.List.{drop_at, length-drop, take_all}
 use Rattle.std.proofs.Math.Seq.{get_or-append_seam}
 use Rattle.title_land.specs.declared.grid.Grid.{Grid}
-use Rattle.title_land.specs.declared.place.Section.{Section}
+use Rattle.title_land.specs.declared.survey.Section.{Section}
 use Rattle.title_land.specs.Depth.{depth}
 use Rattle.title_land.specs.Grids.{grid_has, grid_of}
 use Rattle.title_land.specs.Texts.{section_text}

@@ -5,8 +5,8 @@ use Rattle.std.proofs.lemmas.List.Elements.{All-get_or}
 use Rattle.std.proofs.lemmas.List.FromFn.{fill_by_all}
 use Rattle.std.proofs.lemmas.Option.{slice_get-get_or}
 use Rattle.title_land.specs.declared.grid.Grid.{Grid}
-use Rattle.title_land.specs.Grids.{grid_has, grid_of, places, IsGrid}
-use Rattle.title_land.specs.Places.{side}
+use Rattle.title_land.specs.Grids.{grid_has, grid_of, indices, IsGrid}
+use Rattle.title_land.specs.Survey.{side}
 
 abbrev cell_of : Option (List Bool) → ℕ → Bool
 cell_of row column = unwrap_or (option_and_then (λ cells. slice_get cells column) row) false
@@ -23,7 +23,7 @@ pub grid_is : (d : ℕ) (g : Grid) (test : ℕ → ℕ → Bool) → IsGrid d g
     → ((row column : ℕ) → row < side d → column < side d → grid_has g row column ≡ test row column) → g ≡ grid_of d test
 unfolding grid_of
 grid_is d g test sized same =
-    fill_by_all (λ row. map (λ column. test row column) (places d)) g (side d) [] sized.0 (λ row r.
+    fill_by_all (λ row. map (λ column. test row column) (indices d)) g (side d) [] sized.0 (λ row r.
     let long : length (get_or g row []) ≡ side d =
     All-get_or (λ (cells : List Bool). length cells ≡ side d) g row [] (omega (arith, sized.0)) sized.1 in
     fill_by_all (λ column. test row column) (get_or g row []) (side d) false long (λ column c.

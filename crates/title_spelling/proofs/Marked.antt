@@ -7,7 +7,7 @@ use Rattle.title_land.specs.declared.grid.Grid.{Grid}
 use Rattle.title_land.specs.declared.rectangle.Rectangle.{Rectangle}
 use Rattle.title_land.specs.Depth.{depth}
 use Rattle.title_land.specs.Grids.{grid_has, grid_of, AddsRectangle, IsGrid}
-use Rattle.title_land.specs.Places.{side}
+use Rattle.title_land.specs.Survey.{side}
 use Rattle.title_land.specs.Rectangles.{holds}
 use Rattle.title_land.specs.Laws.Sides.{side_is}
 use Rattle.title_land.specs.Laws.Squares.{inside}
@@ -15,9 +15,9 @@ use Rattle.title_spelling.proofs.Grids.{grid_is}
 
 -- the set has those of the first cells, row by row, at which a test holds
 abbrev pub HasFirst : (ℕ → ℕ → Bool) → ℕ → Grid → Type 0
-HasFirst test place g =
+HasFirst test number g =
     (row column : ℕ) → row < side depth → column < side depth →
-    grid_has g row column ≡ (nat_lt (row * 16 + column) place && test row column)
+    grid_has g row column ≡ (nat_lt (row * 16 + column) number && test row column)
 
 lesser : (a b : ℕ) → a < b → nat_lt a b ≡ true
 lesser a b h = grind (arith, nat_tests)
@@ -25,7 +25,7 @@ lesser a b h = grind (arith, nat_tests)
 greater : (a b : ℕ) → b ≤ a → nat_lt a b ≡ false
 greater a b h = grind (arith, nat_tests)
 
--- before a further place stands what stood before, and the place itself
+-- before a further number stands what stood before, and the number itself
 same_before : (a n : ℕ) → (a ≡ n → ⊥) → nat_lt a n ≡ nat_lt a (n + 1)
 same_before a n h = grind (arith, nat_tests)
 
@@ -60,39 +60,39 @@ holds_other row column r c h = elim (cases_Bool (holds (cell_at row column) r c)
   | inr e ↦ e
 ]
 
-module _ (test : ℕ → ℕ → Bool) (place row column : ℕ) (row_is : row ≡ place / 16) (column_is : column ≡ place % 16) where
-  same_cell : (r c : ℕ) → r < side depth → c < side depth → r * 16 + c ≡ place → (r ≡ row) × (c ≡ column)
+module _ (test : ℕ → ℕ → Bool) (number row column : ℕ) (row_is : row ≡ number / 16) (column_is : column ≡ number % 16) where
+  same_cell : (r c : ℕ) → r < side depth → c < side depth → r * 16 + c ≡ number → (r ≡ row) × (c ≡ column)
   same_cell r c in_rows in_columns e =
       let side = side_is in
       (omega arith, omega arith)
 
   -- one cell more that the text has
-  pub one_more : (g h : Grid) → test row column ≡ true → AddsRectangle depth g (cell_at row column) h → HasFirst test place g
-      → HasFirst test (place + 1) h
+  pub one_more : (g h : Grid) → test row column ≡ true → AddsRectangle depth g (cell_at row column) h → HasFirst test number g
+      → HasFirst test (number + 1) h
   one_more g h has adds first r c in_rows in_columns =
       let added = adds r c in_rows in_columns in
       let before = first r c in_rows in_columns in
-      elim (cases_eq (r * 16 + c) place) [
+      elim (cases_eq (r * 16 + c) number) [
         | inl e ↦
             let (same_row, same_column) = same_cell r c in_rows in_columns e in
             let here : holds (cell_at row column) r c ≡ true = rw (same_row, same_column) (holds_here row column) in
             let there : test r c ≡ true = rw (same_row, same_column) has in
-            rw (added, here, there, or_some (grid_has g r c), lesser (r * 16 + c) (place + 1) (omega arith)) refl
+            rw (added, here, there, or_some (grid_has g r c), lesser (r * 16 + c) (number + 1) (omega arith)) refl
         | inr n ↦
             let off = holds_other row column r c (λ a b. n (omega (arith, a, b))) in
-            rw (added, off, or_none (grid_has g r c), before, same_before (r * 16 + c) place n) refl
+            rw (added, off, or_none (grid_has g r c), before, same_before (r * 16 + c) number n) refl
       ]
 
   -- one cell more that it doesn't have
-  pub none_more : (g : Grid) → test row column ≡ false → HasFirst test place g → HasFirst test (place + 1) g
+  pub none_more : (g : Grid) → test row column ≡ false → HasFirst test number g → HasFirst test (number + 1) g
   none_more g has first r c in_rows in_columns =
       let before = first r c in_rows in_columns in
-      elim (cases_eq (r * 16 + c) place) [
+      elim (cases_eq (r * 16 + c) number) [
         | inl e ↦
             let (same_row, same_column) = same_cell r c in_rows in_columns e in
             let there : test r c ≡ false = rw (same_row, same_column) has in
-            rw (before, there, and_none (nat_lt (r * 16 + c) place), and_none (nat_lt (r * 16 + c) (place + 1))) refl
-        | inr n ↦ rw (before, same_before (r * 16 + c) place n) refl
+            rw (before, there, and_none (nat_lt (r * 16 + c) number), and_none (nat_lt (r * 16 + c) (number + 1))) refl
+        | inr n ↦ rw (before, same_before (r * 16 + c) number n) refl
       ]
 
 -- with all cells it is the set of the test

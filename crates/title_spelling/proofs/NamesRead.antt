@@ -30,12 +30,12 @@ not_true : (b : Bool) → not b ≡ true → b ≡ false
 not_true true h = cc h
 not_true false h = refl
 
--- where names differ, the first place of one is its own
-first_place : (names : List (List ℕ)) (i : ℕ) → each_once names ≡ true → i < length names
+-- where names differ, the first index of one is its own
+first_index : (names : List (List ℕ)) (i : ℕ) → each_once names ≡ true → i < length names
     → position_or_len (bytes_eq (get_or names i [])) names ≡ i
-first_place [] i once lt = absurd (omega arith)
-first_place (x ∷ names) zero once lt = rw (same_bytes x) refl
-first_place (x ∷ names) (suc i) once lt =
+first_index [] i once lt = absurd (omega arith)
+first_index (x ∷ names) zero once lt = rw (same_bytes x) refl
+first_index (x ∷ names) (suc i) once lt =
     let parts = and_parts (not (list_any (bytes_eq x) names)) (each_once names) once in
     elim (cases_Bool (bytes_eq (get_or names i []) x)) [
       | inl e ↦
@@ -45,7 +45,7 @@ first_place (x ∷ names) (suc i) once lt =
           absurd (cc (sym there ∙ none))
       | inr e ↦
           let next : 1 + i ≡ suc i = omega arith in
-          rw (e, first_place names i parts.1 (omega arith)) next
+          rw (e, first_index names i parts.1 (omega arith)) next
     ]
 
 module _ (names : List (List ℕ)) (are : are_names names ≡ true) (party : ℕ) (within : party < length names) where
@@ -56,5 +56,5 @@ module _ (names : List (List ℕ)) (are : are_names names ≡ true) (party : ℕ
   -- and its name has its number
   pub numbered_as : number_of names (name_of names party) ≡ Some party
   numbered_as =
-      let place = first_place names party (and_parts (list_all is_name names) (each_once names) are).1 within in
-      rw place (cond-true (nat_lt party (length names)) (Some party) None (lt-ltb party (length names) within))
+      let index = first_index names party (and_parts (list_all is_name names) (each_once names) are).1 within in
+      rw index (cond-true (nat_lt party (length names)) (Some party) None (lt-ltb party (length names) within))

@@ -14,7 +14,7 @@ use Rattle.title_instrument.specs.Kinds.{deed_kind, kind_in, kind_word}
 use Rattle.title_instrument.specs.Parties.{estates_of, grantee_of, grantor_of}
 use Rattle.title_instrument.specs.Estates.{estates_text, names_none}
 use Rattle.title_land.specs.declared.node.Node.TheVariants as node
-use Rattle.title_land.specs.declared.place.Township.{Township as TownshipPlace}
+use Rattle.title_land.specs.declared.survey.Township.{Township as SurveyTownship}
 use Rattle.title_land.specs.declared.tract.Land.{Land}
 use Rattle.title_land.specs.Depth.{depth}
 use Rattle.title_land.specs.Texts.{township_text}
@@ -88,7 +88,7 @@ numbers_back names are (i.Release r) giver taker = rw (numbered_as names are r.�
 
 -- ---- declarations, begins and commits
 
-township_said : (t : TownshipPlace) → row_in (township_fields t) ≡ Some (row.Township (township_text t))
+township_said : (t : SurveyTownship) → row_in (township_fields t) ≡ Some (row.Township (township_text t))
 township_said t = refl
 
 party_said : (name : List ℕ) → is_name name ≡ true → row_in (party_fields name) ≡ Some (row.Party name)

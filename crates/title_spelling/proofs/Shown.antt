@@ -22,14 +22,14 @@ use Rattle.title_instrument.specs.Kinds.{kind_word}
 use Rattle.title_land.specs.declared.grid.Grid.{Grid}
 use Rattle.title_land.specs.declared.node.Node.{Node}
 use Rattle.title_land.specs.declared.node.Node.TheVariants as node
-use Rattle.title_land.specs.declared.place.Section.{Section}
-use Rattle.title_land.specs.declared.place.Township.{Township}
+use Rattle.title_land.specs.declared.survey.Section.{Section}
+use Rattle.title_land.specs.declared.survey.Township.{Township}
 use Rattle.title_land.specs.declared.rectangle.Quarter.{Quarter}
 use Rattle.title_land.specs.declared.rectangle.Quarter.TheVariants.{Northeast, Northwest, Southwest, Southeast}
 use Rattle.title_land.specs.declared.tract.Land.{Land}
 use Rattle.title_land.specs.declared.tract.Land.TheVariants as land
 use Rattle.title_land.specs.Depth.{depth}
-use Rattle.title_land.specs.Grids.{grid_has, places}
+use Rattle.title_land.specs.Grids.{grid_has, indices}
 use Rattle.title_land.specs.Lands.{cover_of}
 use Rattle.title_land.specs.Texts.{node_text, path_text, quarter_text, quarters_text, section_text, township_text}
 use Rattle.title_plan.specs.Fields.{is_name, is_name_byte}
@@ -183,7 +183,7 @@ rows has [] = word [] refl
 rows has (row ∷ numbers) = both (row_shown has row) (rows has numbers)
 
 cells : (s : Section) (g : Grid) → Shown (spelled_cells s g)
-cells s g = both (both (section s) (word (codes " cells") refl)) (rows (grid_has g) (places depth))
+cells s g = both (both (section s) (word (codes " cells") refl)) (rows (grid_has g) (indices depth))
 
 part : (s : Section) (g : Grid) (nodes : List Node) → Shown (part_spelling s g nodes)
 part s g [] = flag _ _ _ (both (section s) (paths [])) (cells s g)

@@ -8,8 +8,8 @@ use Rattle.std.specs.List.{All}
 use Rattle.title_land.specs.declared.grid.Grid.{Grid}
 use Rattle.title_land.specs.declared.node.Node.{Node}
 use Rattle.title_land.specs.declared.node.Node.TheVariants as node
-use Rattle.title_land.specs.declared.place.Cell.{Cell}
-use Rattle.title_land.specs.declared.place.Section.{Section}
+use Rattle.title_land.specs.declared.survey.Cell.{Cell}
+use Rattle.title_land.specs.declared.survey.Section.{Section}
 use Rattle.title_land.specs.declared.rectangle.Quarter.{Quarter}
 use Rattle.title_land.specs.declared.tract.Land.{Land}
 use Rattle.title_land.specs.declared.tract.Land.TheVariants as land
@@ -18,7 +18,7 @@ use Rattle.title_land.specs.Depth.{depth}
 use Rattle.title_land.specs.Grids.{grid_has, IsGrid}
 use Rattle.title_land.specs.Lands.{cover_of, has, land_of, IsLand}
 use Rattle.title_land.specs.Nodes.{node_has, square, IsNode}
-use Rattle.title_land.specs.Places.{is_on_grid, side}
+use Rattle.title_land.specs.Survey.{is_on_grid, side}
 use Rattle.title_land.specs.Rectangles.{holds}
 use Rattle.title_land.specs.Laws.CoverSet.{cover_is_cover}
 use Rattle.title_land.specs.Laws.LandSharing.{cover_has_its_cells}

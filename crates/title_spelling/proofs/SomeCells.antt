@@ -4,7 +4,7 @@ use Rattle.std.proofs.Common.{subst, arith, inl, inr, Option, Some, None}
 use Rattle.std.specs.Option.{is_some}
 use Rattle.std.specs.Prelude.{option_and_then, Result, Ok}
 use Rattle.std.proofs.lemmas.Bool.{and_parts, cases_Bool, eqb-true, or_left}
-use Rattle.title_land.specs.declared.place.Township.{Township}
+use Rattle.title_land.specs.declared.survey.Township.{Township}
 use Rattle.title_land.specs.declared.rectangle.Half.{Half}
 use Rattle.title_land.specs.declared.rectangle.Half.TheVariants.{North, South, East, West}
 use Rattle.title_land.specs.declared.rectangle.Quarter.TheVariants.{Northeast, Northwest, Southwest, Southeast}
@@ -15,14 +15,14 @@ use Rattle.title_land.specs.declared.tract.Land.{Land}
 use Rattle.title_land.specs.Depth.{depth}
 use Rattle.title_land.specs.Grids.{grid_of, has_some}
 use Rattle.title_land.specs.Lands.{IsLand}
-use Rattle.title_land.specs.Places.{side}
+use Rattle.title_land.specs.Survey.{side}
 use Rattle.title_land.specs.Rectangles.{exists, half_of, holds, is_even, part_of, section_square, step_of, taken_of}
 use Rattle.title_land.specs.Laws.GridLaws.{grid_has-grid_of}
 use Rattle.title_land.specs.Laws.GridSharing.{some_from}
 use Rattle.title_land.specs.Laws.Squares.{holds_from, pow_positive}
 use Rattle.title_aliquot.specs.declared.fault.DescFault.{DescFault}
 use Rattle.title_aliquot.specs.Describes.{Describes}
-use Rattle.title_aliquot.specs.Grammar.{Description, Everything, InPlace, Parts, PlaceText, SectionParts, SectionSyntax}
+use Rattle.title_aliquot.specs.Grammar.{Description, Everything, InTownship, Parts, LandText, SectionParts, SectionSyntax}
 use Rattle.title_aliquot.specs.Grammar.{SectionText, Syntax}
 use Rattle.title_aliquot.specs.Meaning.{parts_exist, parts_of, rectangles, section_parts, union, IsLandIn, IsLandOf}
 use Rattle.title_plan.specs.Lands.{land_in, LandsAreRead}
@@ -156,11 +156,11 @@ section_named o s (inr e) = subst NamesAPart (sym e.0) tt
 
 HasParts : Syntax → Type 0
 HasParts Everything = Unit {0}
-HasParts (InPlace p) = NamesAPart p.section
+HasParts (InTownship p) = NamesAPart p.section
 
-place_named : (v : Syntax) (s : List ℕ) → PlaceText v s → HasParts v
+land_named : (v : Syntax) (s : List ℕ) → LandText v s → HasParts v
 unfolding HasParts
-place_named v s h =
+land_named v s h =
     let r = h.7 in
     let t = r.7 in
     let named = section_named t.1 t.3 t.7 in
@@ -170,21 +170,21 @@ place_named v s h =
 description_named : (v : Syntax) (s : List ℕ) → Description v s → HasParts v
 unfolding Description HasParts
 description_named v s (inl e) = subst HasParts (sym e.0) tt
-description_named v s (inr h) = place_named v s h
+description_named v s (inr h) = land_named v s h
 
 -- ---- lands
 
-in_place : (t : Township) (o : Option SectionSyntax) (l : Land) → NamesAPart o → parts_exist depth (section_parts o) ≡ true
+in_township : (t : Township) (o : Option SectionSyntax) (l : Land) → NamesAPart o → parts_exist depth (section_parts o) ≡ true
     → IsLandIn depth t o l → has_a_cell l ≡ true
 unfolding NamesAPart
-in_place t None l named exist e = ap has_a_cell e
-in_place t (Some x) l named exist e = ap has_a_cell e.2 ∙ union_some x.parts named exist
+in_township t None l named exist e = ap has_a_cell e
+in_township t (Some x) l named exist e = ap has_a_cell e.2 ∙ union_some x.parts named exist
 
 of_syntax : (s : Syntax) (l : Land) → HasParts s → parts_exist depth (parts_of s) ≡ true → IsLandOf depth s l
     → has_a_cell l ≡ true
 unfolding HasParts
 of_syntax Everything l named exist e = ap has_a_cell e
-of_syntax (InPlace p) l named exist e = in_place e.0 p.section l named exist e.2
+of_syntax (InTownship p) l named exist e = in_township e.0 p.section l named exist e.2
 
 described_some : (text : List ℕ) (l : Land) → Describes depth text l → has_a_cell l ≡ true
 described_some text l h =

@@ -8,13 +8,13 @@ use Rattle.std.proofs.lemmas.Slice.Eq.{bytes_eq-Decides}
 use Rattle.title_land.specs.declared.grid.Grid.{Grid}
 use Rattle.title_land.specs.declared.node.Node.{Node}
 use Rattle.title_land.specs.declared.node.Node.TheVariants as node
-use Rattle.title_land.specs.declared.place.Section.{Section}
+use Rattle.title_land.specs.declared.survey.Section.{Section}
 use Rattle.title_land.specs.declared.tract.Land.{Land}
 use Rattle.title_land.specs.declared.tract.Land.TheVariants as land
 use Rattle.title_land.specs.Depth.{depth}
 use Rattle.title_land.specs.Grids.{has_some, IsGrid}
 use Rattle.title_land.specs.Lands.{cover_of, land_of, IsLand}
-use Rattle.title_land.specs.Places.{same_flag, same_section}
+use Rattle.title_land.specs.Survey.{same_flag, same_section}
 use Rattle.title_land.specs.Texts.{node_text}
 use Rattle.title_land.specs.Laws.LandSharing.{equal_tests}
 use Rattle.title_land.specs.Laws.NodeLands.{is_grid-grid_of}

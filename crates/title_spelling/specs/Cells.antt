@@ -7,11 +7,11 @@ use Rattle.std.specs.Int.{bit_at}
 use Rattle.std.specs.List.{flat_map}
 use Rattle.std.specs.Str.{bytes_eq}
 use Rattle.title_land.specs.declared.grid.Grid.{Grid}
-use Rattle.title_land.specs.declared.place.Section.{Section}
+use Rattle.title_land.specs.declared.survey.Section.{Section}
 use Rattle.title_land.specs.declared.tract.Land.{Land}
 use Rattle.title_land.specs.declared.tract.Land.TheVariants as land
 use Rattle.title_land.specs.Depth.{depth}
-use Rattle.title_land.specs.Grids.{grid_has, grid_of, has_some, places}
+use Rattle.title_land.specs.Grids.{grid_has, grid_of, has_some, indices}
 use Rattle.title_land.specs.Texts.{section_text}
 use Rattle.title_aliquot.specs.declared.fault.DescFault.{DescFault}
 use Rattle.title_plan.specs.Lands.{land_in}
@@ -32,7 +32,7 @@ row_text has row = 32 ∷ digit_at has row 0 ∷ digit_at has row 4 ∷ digit_at
 
 -- the rows of a set
 abbrev pub rows_text : (ℕ → ℕ → Bool) → List ℕ
-rows_text has = flat_map (row_text has) (places depth)
+rows_text has = flat_map (row_text has) (indices depth)
 
 -- a part of a section in the cells form
 abbrev pub spelled_cells : Section → Grid → List ℕ

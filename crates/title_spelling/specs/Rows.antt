@@ -3,14 +3,14 @@ use Rattle.std.specs.Prelude.{ℕ, ◌<◌, ◌^◌, ◌≡◌, ◌&&◌, not, B
 use Rattle.std.specs.Fmt.{decimal}
 use Rattle.std.specs.List.{list_all, list_any}
 use Rattle.std.specs.Str.{bytes_eq}
-use Rattle.title_land.specs.declared.place.Township.{Township as TownshipPlace}
+use Rattle.title_land.specs.declared.survey.Township.{Township as SurveyTownship}
 use Rattle.title_land.specs.Texts.{township_text}
 use Rattle.title_chain.specs.declared.ask.Terms.{Terms}
 use Rattle.title_plan.specs.Fields.{is_name}
 use Rattle.title_spelling.specs.Posts.{post_fields, IsExaminer, IsPost}
 
 -- `township,TEXT`
-abbrev pub township_fields : TownshipPlace → List (List ℕ)
+abbrev pub township_fields : SurveyTownship → List (List ℕ)
 township_fields t = codes "township" ∷ township_text t ∷ []
 
 -- `party,NAME`
@@ -31,7 +31,7 @@ end_fields n = codes "end" ∷ decimal n ∷ []
 
 -- a row of a plant's file
 pub data PlantRow : Type 0 where
-  Township : TownshipPlace → PlantRow
+  Township : SurveyTownship → PlantRow
   Party : List ℕ → PlantRow
   Begin : ℕ → PlantRow
   Commit : ℕ → PlantRow

@@ -104,8 +104,8 @@ fn marked(rows: &[u8]) -> Grid
     ensures marked { result ≡ grid_of depth (is_marked rows.now) }
 {
     let mut cells = Grid::empty();
-    for place in 0..256u16 {
-        let (row, column) = ((place / 16) as u8, (place % 16) as u8);
+    for number in 0..256u16 {
+        let (row, column) = ((number / 16) as u8, (number % 16) as u8);
         if is_marked(rows, row, column) {
             cells = cells.with(Rectangle {
                 top: row,

@@ -1,4 +1,4 @@
-//! Every byte at every place of a script.
+//! Every byte at every index of a script.
 
 use crate::reading::Command;
 use crate::trial::Trial;
@@ -6,16 +6,16 @@ use anyhow::Result;
 use std::sync::Wait;
 use std::thread::Threads;
 
-// Tries a script with each of the 256 bytes at a place.
+// Tries a script with each of the 256 bytes at an index.
 fn try_values<R: Print + AllocGlobal + Threads + Wait + Sync>(
     rt: &R,
     trial: &mut Trial,
     script: &[u8],
-    place: usize,
+    index: usize,
 ) -> Result<()> {
     let mut changed = Vec::from_slice(rt.alloc(), script)?;
     for value in 0..=u8::MAX {
-        if let Some(byte) = changed.get_mut(place) {
+        if let Some(byte) = changed.get_mut(index) {
             *byte = value;
         }
         trial.try_script(rt, changed.as_slice(), None)?;
@@ -23,7 +23,7 @@ fn try_values<R: Print + AllocGlobal + Threads + Wait + Sync>(
     Ok(())
 }
 
-/// Tries a script with each byte at each place, and tells what came of them.
+/// Tries a script with each byte at each index, and tells what came of them.
 pub fn try_bytes<R: Print + AllocGlobal + Threads + Wait + Sync>(
     rt: &R,
     name: &str,
@@ -31,10 +31,10 @@ pub fn try_bytes<R: Print + AllocGlobal + Threads + Wait + Sync>(
     script: &[u8],
 ) -> Result<()> {
     let mut trial = Trial::new(command);
-    for place in 0..script.len() {
-        try_values(rt, &mut trial, script, place)?;
+    for index in 0..script.len() {
+        try_values(rt, &mut trial, script, index)?;
     }
     let tally = trial.tally();
-    println!(rt; "each byte at each place of {name}, {command}: {tally}")?;
+    println!(rt; "each byte at each index of {name}, {command}: {tally}")?;
     Ok(())
 }

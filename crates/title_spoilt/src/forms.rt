@@ -54,16 +54,16 @@ pub fn is_quantum(text: &str) -> bool {
     }
 }
 
-// The place of an estate's letter among three, where an item of a reservation is one and a share.
+// The index of an estate's letter among three, where an item of a reservation is one and a share.
 fn reserved(item: &str) -> Option<usize> {
     let (letter, share) = item.split_at_checked(1)?;
-    let place = match letter {
+    let index = match letter {
         "S" => 0,
         "O" => 1,
         "M" => 2,
         _ => return None,
     };
-    if is_share(share) { Some(place) } else { None }
+    if is_share(share) { Some(index) } else { None }
 }
 
 /// Whether a text says what a deed reserves: nothing, or items of which no two are of one estate.
@@ -73,11 +73,11 @@ pub fn is_reserve(text: &str) -> bool {
     }
     let mut seen = [false; 3];
     for item in text.split(';') {
-        let Some(place) = reserved(item) else {
+        let Some(index) = reserved(item) else {
             return false;
         };
-        match seen.get(place) {
-            Some(false) => seen[place] = true,
+        match seen.get(index) {
+            Some(false) => seen[index] = true,
             _ => return false,
         }
     }

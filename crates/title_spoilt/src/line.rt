@@ -79,22 +79,22 @@ impl Line {
         })
     }
 
-    fn leave_out(&mut self, place: usize) {
-        if place < self.fields.len() {
-            let _gone = self.fields.remove(place);
+    fn leave_out(&mut self, index: usize) {
+        if index < self.fields.len() {
+            let _gone = self.fields.remove(index);
         }
     }
 
-    fn double(&mut self, alloc: Global, place: usize) -> Result<(), AllocError> {
-        if let Some(field) = self.fields.get(place) {
+    fn double(&mut self, alloc: Global, index: usize) -> Result<(), AllocError> {
+        if let Some(field) = self.fields.get(index) {
             let copy = Vec::from_slice(alloc, field.as_slice())?;
-            self.fields.insert(place, copy)?;
+            self.fields.insert(index, copy)?;
         }
         Ok(())
     }
 
-    fn quote(&mut self, alloc: Global, place: usize) -> Result<(), AllocError> {
-        if let Some(field) = self.fields.get_mut(place) {
+    fn quote(&mut self, alloc: Global, index: usize) -> Result<(), AllocError> {
+        if let Some(field) = self.fields.get_mut(index) {
             let text = quoted(alloc, field.as_slice())?;
             *field = text;
         }
@@ -102,8 +102,8 @@ impl Line {
     }
 
     // Cuts the row within a field.
-    fn cut(&mut self, chance: &mut Chance, place: usize) {
-        self.fields.truncate(place.saturating_add(1));
+    fn cut(&mut self, chance: &mut Chance, index: usize) {
+        self.fields.truncate(index.saturating_add(1));
         if let Some(field) = self.fields.last_mut() {
             let end = pick(chance, field.len());
             field.truncate(end);
@@ -112,12 +112,12 @@ impl Line {
 
     /// Spoils the row once.
     pub fn spoil(&mut self, alloc: Global, chance: &mut Chance) -> Result<(), AllocError> {
-        let place = pick(chance, self.fields.len());
+        let index = pick(chance, self.fields.len());
         match chance.below(6) {
-            0 => self.leave_out(place),
-            1 => self.double(alloc, place)?,
-            2 => self.quote(alloc, place)?,
-            3 => self.cut(chance, place),
+            0 => self.leave_out(index),
+            1 => self.double(alloc, index)?,
+            2 => self.quote(alloc, index)?,
+            3 => self.cut(chance, index),
             _ => self.ending = Ending::by_chance(chance),
         }
         Ok(())

@@ -2,7 +2,7 @@
 //! to tell the same fault at the same row, or a report of as many steps.
 //!
 //! - Every beginning of three scripts: two by `run` and by `alone`, one by `office`.
-//! - A script of 24 bytes with each byte at each place, by `run`: 6,144 scripts.
+//! - A script of 24 bytes with each byte at each index, by `run`: 6,144 scripts.
 //! - 2,000 scripts that chance makes of the three: bits turned, rows exchanged, fields left out, quotes unbalanced and more; 975 by
 //!   `run`, 975 by `alone` and 50 by `office`.
 #![tactic(auto)]

@@ -153,7 +153,7 @@ impl Book {
         }
     }
 
-    // Whether an office has no place for a step.
+    // Whether an office has no seat for a step.
     fn is_too_many(&self, step: Step) -> bool {
         self.command == Command::Office && step.examiner > u64::from(EXAMINERS)
     }

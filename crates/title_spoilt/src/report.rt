@@ -14,13 +14,13 @@ struct Walk<'a> {
     has_ended: bool,
 }
 
-fn field(line: &str, place: usize) -> &str {
-    line.split(',').nth(place).unwrap_or("")
+fn field(line: &str, index: usize) -> &str {
+    line.split(',').nth(index).unwrap_or("")
 }
 
 // A number in a field; the greatest of 64 bits where there is none.
-fn number(line: &str, place: usize) -> u64 {
-    field(line, place).parse::<u64>().unwrap_or(u64::MAX)
+fn number(line: &str, index: usize) -> u64 {
+    field(line, index).parse::<u64>().unwrap_or(u64::MAX)
 }
 
 fn begins_with(line: &str, examiner: u64, word: &str) -> bool {
@@ -115,8 +115,8 @@ fn tells_steps(command: Command, steps: &[Step], report: &str) -> bool {
     walk.has_ended
 }
 
-fn line_at(report: &str, place: usize) -> &str {
-    report.lines().nth(place).unwrap_or("")
+fn line_at(report: &str, index: usize) -> &str {
+    report.lines().nth(index).unwrap_or("")
 }
 
 // Whether a row tells of as many transactions as an examiner has begun.

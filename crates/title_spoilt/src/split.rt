@@ -11,7 +11,7 @@ pub struct Fields {
 
 // Where in a row the splitter is.
 #[derive(Clone, Copy, PartialEq, Eq)]
-enum Place {
+enum State {
     RowStart,
     FieldStart,
     Plain,
@@ -26,7 +26,7 @@ struct Splitter {
     rows: Vec<Fields>,
     fields: Vec<Vec<u8>>,
     field: Vec<u8>,
-    place: Place,
+    state: State,
 }
 
 impl Fields {
@@ -44,8 +44,8 @@ impl Fields {
     }
 
     /// A field as text; the empty text where there is none, or it isn't UTF-8.
-    pub fn text(&self, place: usize) -> &str {
-        match self.fields.get(place) {
+    pub fn text(&self, index: usize) -> &str {
+        match self.fields.get(index) {
             Some(field) => str::from_utf8(field.as_slice()).unwrap_or(""),
             None => "",
         }
@@ -59,7 +59,7 @@ impl Splitter {
             rows: Vec::new(alloc),
             fields: Vec::new(alloc),
             field: Vec::new(alloc),
-            place: Place::RowStart,
+            state: State::RowStart,
         }
     }
 
@@ -67,7 +67,7 @@ impl Splitter {
         let empty = Vec::new(self.alloc);
         let field = mem::replace(&mut self.field, empty);
         self.fields.push(field)?;
-        self.place = Place::FieldStart;
+        self.state = State::FieldStart;
         Ok(())
     }
 
@@ -76,38 +76,38 @@ impl Splitter {
         let empty = Vec::new(self.alloc);
         let fields = mem::replace(&mut self.fields, empty);
         self.rows.push(Fields { fields })?;
-        self.place = Place::RowStart;
+        self.state = State::RowStart;
         Ok(())
     }
 
-    fn keep(&mut self, byte: u8, place: Place) -> Result<(), AllocError> {
+    fn keep(&mut self, byte: u8, state: State) -> Result<(), AllocError> {
         self.field.push(byte)?;
-        self.place = place;
+        self.state = state;
         Ok(())
     }
 
     // A line end where a row would begin is a blank line or the second half of a line end.
     fn read_byte(&mut self, byte: u8) -> Result<(), AllocError> {
-        match (self.place, byte) {
-            (Place::RowStart, b'\r' | b'\n') => Ok(()),
-            (Place::RowStart | Place::FieldStart, b'"') => {
-                self.place = Place::Quoted;
+        match (self.state, byte) {
+            (State::RowStart, b'\r' | b'\n') => Ok(()),
+            (State::RowStart | State::FieldStart, b'"') => {
+                self.state = State::Quoted;
                 Ok(())
             }
-            (Place::Quoted, b'"') => {
-                self.place = Place::QuoteEnd;
+            (State::Quoted, b'"') => {
+                self.state = State::QuoteEnd;
                 Ok(())
             }
-            (Place::Quoted, _) | (Place::QuoteEnd, b'"') => self.keep(byte, Place::Quoted),
+            (State::Quoted, _) | (State::QuoteEnd, b'"') => self.keep(byte, State::Quoted),
             (_, b',') => self.end_field(),
             (_, b'\r' | b'\n') => self.end_row(),
-            _ => self.keep(byte, Place::Plain),
+            _ => self.keep(byte, State::Plain),
         }
     }
 
     // A row that the script's end cuts off is a row.
     fn into_rows(mut self) -> Result<Vec<Fields>, AllocError> {
-        if self.place != Place::RowStart {
+        if self.state != State::RowStart {
             self.end_row()?;
         }
         let Splitter { rows, .. } = self;

@@ -4,10 +4,10 @@ use crate::line::{Line, lines_of, text_of};
 use std::alloc::{AllocError, Global};
 use title_chance::Chance;
 
-/// A place below a number of places, by chance; 0 where there is none.
-pub fn pick(chance: &mut Chance, places: usize) -> usize {
-    let places = u32::try_from(places).unwrap_or(u32::MAX);
-    usize::try_from(chance.below(places)).unwrap_or(0)
+/// An index below a number of indices, by chance; 0 where there is none.
+pub fn pick(chance: &mut Chance, indices: usize) -> usize {
+    let indices = u32::try_from(indices).unwrap_or(u32::MAX);
+    usize::try_from(chance.below(indices)).unwrap_or(0)
 }
 
 // Exchanges two rows.
@@ -21,18 +21,18 @@ fn exchange(chance: &mut Chance, lines: &mut Vec<Line>) {
 
 // Leaves out a row.
 fn leave_out(chance: &mut Chance, lines: &mut Vec<Line>) {
-    let place = pick(chance, lines.len());
-    if place < lines.len() {
-        let _gone = lines.remove(place);
+    let index = pick(chance, lines.len());
+    if index < lines.len() {
+        let _gone = lines.remove(index);
     }
 }
 
 // Writes a row twice.
 fn double(alloc: Global, chance: &mut Chance, lines: &mut Vec<Line>) -> Result<(), AllocError> {
-    let place = pick(chance, lines.len());
-    if let Some(line) = lines.get(place) {
+    let index = pick(chance, lines.len());
+    if let Some(line) = lines.get(index) {
         let copy = line.copy(alloc)?;
-        lines.insert(place, copy)?;
+        lines.insert(index, copy)?;
     }
     Ok(())
 }
@@ -48,8 +48,8 @@ fn spoil_lines(
         2 => leave_out(chance, lines),
         3 => double(alloc, chance, lines)?,
         _ => {
-            let place = pick(chance, lines.len());
-            if let Some(line) = lines.get_mut(place) {
+            let index = pick(chance, lines.len());
+            if let Some(line) = lines.get_mut(index) {
                 line.spoil(alloc, chance)?;
             }
         }
@@ -59,26 +59,26 @@ fn spoil_lines(
 
 // Turns a bit.
 fn turn_bit(chance: &mut Chance, text: &mut Vec<u8>) {
-    let place = pick(chance, text.len());
+    let index = pick(chance, text.len());
     let bit = chance.below(8);
-    if let Some(byte) = text.get_mut(place) {
+    if let Some(byte) = text.get_mut(index) {
         *byte ^= 1u8.checked_shl(bit).unwrap_or(0);
     }
 }
 
 // Puts a quote, a comma or a line end in, or takes a byte away.
 fn spoil_bytes(chance: &mut Chance, text: &mut Vec<u8>) -> Result<(), AllocError> {
-    let place = pick(chance, text.len());
-    if place >= text.len() {
+    let index = pick(chance, text.len());
+    if index >= text.len() {
         return Ok(());
     }
     match chance.below(8) {
         0..=2 => turn_bit(chance, text),
-        3 | 4 => text.insert(place, b'"')?,
-        5 => text.insert(place, b',')?,
-        6 => text.insert(place, b'\n')?,
+        3 | 4 => text.insert(index, b'"')?,
+        5 => text.insert(index, b',')?,
+        6 => text.insert(index, b'\n')?,
         _ => {
-            let _gone = text.remove(place);
+            let _gone = text.remove(index);
         }
     }
     Ok(())

@@ -6,12 +6,12 @@ use Rattle.std.specs.Option.{option_map}
 use Rattle.std.specs.List.{flat_map, list_any}
 use Rattle.std.proofs.lemmas.Bool.{and_right, cases_Bool}
 use Rattle.std.proofs.Math.Path.{fun_ext}
-use Rattle.title_land.specs.declared.place.Township.{Township}
-use Rattle.title_land.specs.declared.place.Cell.{Cell}
+use Rattle.title_land.specs.declared.survey.Township.{Township}
+use Rattle.title_land.specs.declared.survey.Cell.{Cell}
 use Rattle.title_land.specs.declared.node.Node.{Node}
 use Rattle.title_land.specs.declared.node.Node.TheVariants as node
 use Rattle.title_land.specs.declared.tract.Land.{Land}
-use Rattle.title_land.specs.Places.{same_township, is_on_grid}
+use Rattle.title_land.specs.Survey.{same_township, is_on_grid}
 use Rattle.title_land.specs.Nodes.{node_has}
 use Rattle.title_land.specs.Lands.{has, cover_of}
 use Rattle.title_land.specs.CellLists.{cells_of}

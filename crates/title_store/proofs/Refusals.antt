@@ -4,11 +4,11 @@ use Rattle.std.proofs.Common.{Option, Some, None, is_some, unwrap_or, find, refl
 use Rattle.std.proofs.Common.{subst, ◌∙◌}
 use Rattle.std.proofs.lemmas.Bool.{and_parts, or_cases, cases_Bool, both_ways, or_left, or_right}
 use Rattle.std.specs.List.{AllByRecursion, list_any}
-use Rattle.title_land.specs.declared.place.Cell.{Cell}
+use Rattle.title_land.specs.declared.survey.Cell.{Cell}
 use Rattle.title_land.specs.declared.node.Node.{Node}
 use Rattle.title_land.specs.declared.node.Node.TheVariants as node
 use Rattle.title_land.specs.declared.tract.Land.{Land}
-use Rattle.title_land.specs.Places.{is_on_grid, same_township}
+use Rattle.title_land.specs.Survey.{is_on_grid, same_township}
 use Rattle.title_land.specs.Nodes.{same_node, node_has}
 use Rattle.title_land.specs.Lands.{has, cover_of, is_plant_cell}
 use Rattle.title_land.specs.CellLists.{same_cell, cells_of}

@@ -2,7 +2,7 @@
 use Rattle.std.proofs.Common.{◌≡◌, ◌⊎◌, ℕ, zero, suc, ◌+◌, Bool, true, ◌&&◌, ◌||◌, false, inl, inr, List, [], ◌∷◌}
 use Rattle.std.proofs.Common.{refl, sym, ap, subst, ◌∙◌}
 use Rattle.std.specs.List.{flat_map}
-use Rattle.title_land.specs.declared.place.Township.{Township}
+use Rattle.title_land.specs.declared.survey.Township.{Township}
 use Rattle.title_land.specs.declared.node.Node.{Node}
 use Rattle.title_land.specs.declared.tract.Land.{Land}
 use Rattle.title_land.specs.Lands.{cover_of}
@@ -12,7 +12,7 @@ use Rattle.std.specs.Prelude.{reverse}
 use Rattle.std.proofs.lemmas.Bool.{and_parts, or_cases, or_from, both_ways}
 use Rattle.title_land.specs.declared.rectangle.Quarter.{Quarter}
 use Rattle.title_land.specs.declared.node.Node.TheVariants as node
-use Rattle.title_land.specs.Places.{same_section}
+use Rattle.title_land.specs.Survey.{same_section}
 use Rattle.title_land.specs.Nodes.{same_quarter, node_has}
 use Rattle.title_land.specs.CoverSets.{quarter_before, path_before, comes_before, are_in_order}
 use Rattle.title_land.specs.Laws.Members.{In, in_flat_mapped}

@@ -5,13 +5,13 @@ use Rattle.std.specs.Prelude.{nat_lt}
 use Rattle.std.specs.List.{flat_map, list_all}
 use Rattle.std.proofs.lemmas.Bool.{and_parts, and_from, lt-ltb, ltb-true, le-ltb, ltb-false, cases_Bool, false_from_ne_true}
 use Rattle.title_share.specs.Division.{Division}
-use Rattle.title_land.specs.declared.place.Township.{Township}
-use Rattle.title_land.specs.declared.place.Section.{Section}
-use Rattle.title_land.specs.declared.place.Cell.{Cell}
+use Rattle.title_land.specs.declared.survey.Township.{Township}
+use Rattle.title_land.specs.declared.survey.Section.{Section}
+use Rattle.title_land.specs.declared.survey.Cell.{Cell}
 use Rattle.title_land.specs.declared.rectangle.Quarter.{Quarter}
 use Rattle.title_land.specs.declared.node.Node.{Node}
 use Rattle.title_land.specs.declared.node.Node.TheVariants as node
-use Rattle.title_land.specs.Places.{same_section}
+use Rattle.title_land.specs.Survey.{same_section}
 use Rattle.title_land.specs.Rectangles.{holds}
 use Rattle.title_land.specs.Nodes.{square, quarters, node_has, IsNode}
 use Rattle.title_land.specs.Lands.{cover_of}

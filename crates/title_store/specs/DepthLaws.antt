@@ -1,6 +1,6 @@
 -- Laws between two depths: a plant where each section is quartered once more, the four cells owned as the one was.
 use Rattle.std.specs.Prelude.{◌≡◌, ℕ, suc, List}
-use Rattle.title_land.specs.declared.place.Township.{Township}
+use Rattle.title_land.specs.declared.survey.Township.{Township}
 use Rattle.title_land.specs.declared.tract.Land.{Land}
 use Rattle.title_land.specs.Doubled.{halved, doubled}
 use Rattle.title_instrument.specs.declared.instrument.Instrument.{Instrument}

@@ -1,12 +1,12 @@
 -- A plant: the owners of each cell; and what an instrument does to a tract of it.
 use Rattle.std.specs.Prelude.{◌≡◌, ℕ, Bool, false, cond, ◌&&◌, List, [], ◌∷◌, Option, Some, None, find, unwrap_or, is_some}
 use Rattle.std.specs.List.{list_any}
-use Rattle.title_land.specs.declared.place.Cell.{Cell}
-use Rattle.title_land.specs.declared.place.Township.{Township}
+use Rattle.title_land.specs.declared.survey.Cell.{Cell}
+use Rattle.title_land.specs.declared.survey.Township.{Township}
 use Rattle.title_land.specs.declared.node.Node.{Node}
 use Rattle.title_land.specs.declared.node.Node.TheVariants as node
 use Rattle.title_land.specs.declared.tract.Land.{Land}
-use Rattle.title_land.specs.Places.{same_township}
+use Rattle.title_land.specs.Survey.{same_township}
 use Rattle.title_land.specs.Nodes.{node_has}
 use Rattle.title_land.specs.Lands.{has, cover_of, is_plant_cell}
 use Rattle.title_land.specs.CellLists.{cells_of}

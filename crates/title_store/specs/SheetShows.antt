@@ -1,8 +1,8 @@
 -- What a sheet shows of the tract's cells, one by one.
 use Rattle.std.specs.Prelude.{◌≡◌, ◌⊎◌, ◌↔◌, ℕ, true, List, [], ◌∷◌, Some}
 use Rattle.title_share.specs.Division.{Division, rows_of}
-use Rattle.title_land.specs.declared.place.Cell.{Cell}
-use Rattle.title_land.specs.declared.place.Township.{Township}
+use Rattle.title_land.specs.declared.survey.Cell.{Cell}
+use Rattle.title_land.specs.declared.survey.Township.{Township}
 use Rattle.title_land.specs.declared.node.Node.{Node}
 use Rattle.title_land.specs.declared.tract.Land.{Land}
 use Rattle.title_land.specs.Nodes.{node_has, parent_of}

@@ -21,7 +21,7 @@ impl CellMap {
     ghost use Rattle.std.specs.Prelude.{◌∷◌, true, cond, Some, unwrap_or, IfOk, OnOk};
     ghost use Rattle.std.specs.List.{AllByRecursion};
     ghost use Rattle.std.specs.BTreeMap.{get};
-    ghost use Rattle.title_land.specs.declared.place.Cell.{Cell};
+    ghost use Rattle.title_land.specs.declared.survey.Cell.{Cell};
     ghost use Rattle.title_land.specs.CellLists.{same_cell};
     ghost use Rattle.title_store.specs.CellMaps.{content_of, is_there, IsWritten, kept_at, kept_cells};
 
@@ -46,8 +46,8 @@ impl CellMap {
         }
     }
 
-    // Gives a cell a place. Nothing changes hands.
-    fn make_place(&mut self, alloc: Global, cell: Cell) -> Result<(), AllocError>
+    // Gives a cell a slot. Nothing changes hands.
+    fn make_slot(&mut self, alloc: Global, cell: Cell) -> Result<(), AllocError>
         ensures content { (c : Cell) → content_of self.new c ≡ content_of self.old c }
         ensures stays { (c : Cell) → is_there self.old c ≡ true → is_there self.new c ≡ true }
         ensures there { OnOk result (is_there self.new cell ≡ true) }
@@ -60,19 +60,19 @@ impl CellMap {
         Ok(())
     }
 
-    /// Gives each cell of a list a place. Nothing changes hands.
-    pub(crate) fn make_places(&mut self, alloc: Global, cells: &[Cell]) -> Result<(), AllocError>
+    /// Gives each cell of a list a slot. Nothing changes hands.
+    pub(crate) fn make_slots(&mut self, alloc: Global, cells: &[Cell]) -> Result<(), AllocError>
         ensures content { (c : Cell) → content_of self.new c ≡ content_of self.old c }
         ensures stays { (c : Cell) → is_there self.old c ≡ true → is_there self.new c ≡ true }
         ensures there { OnOk result (AllByRecursion (λ c. is_there self.new c ≡ true) cells.now) }
     {
         for cell in cells {
-            self.make_place(alloc, *cell)?;
+            self.make_slot(alloc, *cell)?;
         }
         Ok(())
     }
 
-    // Writes owners into a cell that has a place, which takes no memory.
+    // Writes owners into a cell that has a slot, which takes no memory.
     fn write(&mut self, cell: Cell, owners: Owners)
         requires there { is_there self.old cell ≡ true }
         ensures written { IsWritten self.old self.new cell owners }
@@ -80,7 +80,7 @@ impl CellMap {
         let _ = self.owners.insert(cell, owners);
     }
 
-    /// Writes owners into cells that have a place; of two for one cell the first stays. Takes no memory.
+    /// Writes owners into cells that have a slot; of two for one cell the first stays. Takes no memory.
     pub(crate) fn write_all(&mut self, mut kept: Vec<Kept>)
         requires there { AllByRecursion (λ c. is_there self.old c ≡ true) (kept_cells kept.items) }
         ensures content { (c : Cell) → content_of self.new c ≡ unwrap_or (kept_at kept.items c) (content_of self.old c) }

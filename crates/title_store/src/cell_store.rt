@@ -81,7 +81,7 @@ impl Store for CellStore {
                 Ok(Put::Refused(rule, estate, node_of(tract, cell)))
             }
             Computed::Done(old, new) => {
-                self.map.make_places(self.alloc, &cells)?;
+                self.map.make_slots(self.alloc, &cells)?;
                 let land = tract.land();
                 self.lent.insert(number, Lent { land, old })?;
                 self.map.write_all(new);

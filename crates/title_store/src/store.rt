@@ -2,9 +2,9 @@
 
 ghost use Rattle.std.specs.Prelude.{◌≡◌, ℕ, IfOk, OnOk, OnErr, List, [], true, cond, is_some};
 ghost use Rattle.title_land.specs.Depth.{depth};
-ghost use Rattle.title_land.specs.declared.place.Cell.{Cell};
+ghost use Rattle.title_land.specs.declared.survey.Cell.{Cell};
 ghost use Rattle.title_land.specs.declared.node.Node.TheVariants as node;
-ghost use Rattle.title_land.specs.declared.place.Township.{Township};
+ghost use Rattle.title_land.specs.declared.survey.Township.{Township};
 ghost use Rattle.title_land.specs.CellLists.{node_cells};
 ghost use Rattle.title_land.specs.Lands.{is_in_plant, land_of};
 ghost use Rattle.title_instrument.specs.Owners.{opening_owners};

@@ -1,7 +1,7 @@
 //! Chains of records and of open steps, and their copies.
 
 use crate::checks::must;
-use crate::places::{square, township};
+use crate::survey::{square, township};
 use std::alloc::Global;
 use std::process::Abort;
 use title_chain::{

@@ -4,7 +4,7 @@
 ghost use Rattle.std.specs.Prelude.{◌≡◌};
 
 use crate::checks::must;
-use crate::places::{square, township};
+use crate::survey::{square, township};
 use std::alloc::Global;
 use std::process::Abort;
 use title_chain::{Answer, Ask, Posting, Record, Terms};

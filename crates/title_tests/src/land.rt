@@ -1,7 +1,7 @@
 //! Tracts, their nodes and their cells.
 
 use crate::checks::must;
-use crate::places::{section, square, township};
+use crate::survey::{section, square, township};
 use std::alloc::{AllocError, Global};
 use std::fmt::Write;
 use std::process::Abort;
@@ -38,10 +38,10 @@ fn add_cell(lines: &mut String, cell: &Cell) -> Result<(), AllocError> {
     writeln!(lines, "{section} row {row} column {column}")
 }
 
-/// Adds the cells at these places of a list; none where it ends before.
-fn add_cells(lines: &mut String, cells: &[Cell], places: &[usize]) -> Result<(), AllocError> {
-    for place in places {
-        if let Some(cell) = cells.get(*place) {
+/// Adds the cells at these indices of a list; none where it ends before.
+fn add_cells(lines: &mut String, cells: &[Cell], indices: &[usize]) -> Result<(), AllocError> {
+    for index in indices {
+        if let Some(cell) = cells.get(*index) {
             add_cell(lines, cell)?;
         }
     }
@@ -104,10 +104,10 @@ fn a_cell_lies_below_six_nodes(rt: HostRuntime) {
     must(&rt, Within::named(&[NORTHEAST; 5]).is_none(), "no cell");
 }
 
-/// Places in lists of cells: the last is past the end of the plant's.
-const PLACES: [usize; 9] = [0, 1, 2, 3, 256, 9215, 9216, 18431, 18432];
+/// Indices in lists of cells: the last is past the end of the plant's.
+const INDICES: [usize; 9] = [0, 1, 2, 3, 256, 9215, 9216, 18431, 18432];
 
-/// What lies right below the plant, a township, a square and a cell, each before its cells at these places.
+/// What lies right below the plant, a township, a square and a cell, each before its cells at these indices.
 const LISTED: &str = "T4N R2W\n\
     T3N R2W\n\
     T4N R2W sec 1 row 0 column 15\n\
@@ -151,19 +151,19 @@ fn add_children(
     add_nodes(lines, &children)
 }
 
-/// Adds a node's cells at these places.
+/// Adds a node's cells at these indices.
 fn add_cells_in(
     alloc: Global,
     lines: &mut String,
     townships: &[Township],
     node: Node,
-    places: &[usize],
+    indices: &[usize],
 ) -> Result<(), AllocError> {
     let cells = node_cells(alloc, townships, node)?;
-    add_cells(lines, &cells, places)
+    add_cells(lines, &cells, indices)
 }
 
-/// Adds what lies right below each node, and its cells at some places, a line each.
+/// Adds what lies right below each node, and its cells at some indices, a line each.
 fn add_listed(
     alloc: Global,
     lines: &mut String,
@@ -172,7 +172,7 @@ fn add_listed(
 ) -> Result<(), AllocError> {
     for node in nodes {
         add_children(alloc, lines, townships, *node)?;
-        add_cells_in(alloc, lines, townships, *node, &PLACES)?;
+        add_cells_in(alloc, lines, townships, *node, &INDICES)?;
     }
     Ok(())
 }
@@ -225,7 +225,7 @@ fn add_nodes_of(
     Ok(())
 }
 
-/// Adds the cells at some places of a tract's, in a township.
+/// Adds the cells at some indices of a tract's, in a township.
 fn add_cells_of(
     alloc: Global,
     lines: &mut String,
@@ -236,7 +236,7 @@ fn add_cells_of(
     add_cells(lines, &cells, &[0, 63, 64, 127, 128])
 }
 
-/// Adds the cover of a half of section 5, its cells at some places, and the nodes of cells in sections 5 and 6.
+/// Adds the cover of a half of section 5, its cells at some indices, and the nodes of cells in sections 5 and 6.
 fn add_half(
     rt: &impl Abort,
     alloc: Global,
@@ -245,8 +245,8 @@ fn add_half(
 ) -> Result<(), AllocError> {
     add_nodes(lines, half.cover())?;
     add_cells_of(alloc, lines, half, township(rt, 3))?;
-    let places = [(7, 7), (8, 7), (15, 0), (15, 8), (8, 16)];
-    add_nodes_of(lines, half, section(rt, 5), &places)?;
+    let indices = [(7, 7), (8, 7), (15, 0), (15, 8), (8, 16)];
+    add_nodes_of(lines, half, section(rt, 5), &indices)?;
     add_nodes_of(lines, half, section(rt, 6), &[(8, 7)])
 }
 

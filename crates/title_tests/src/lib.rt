@@ -19,6 +19,6 @@ mod lock;
 #[cfg(test)]
 mod pages;
 #[cfg(test)]
-mod places;
-#[cfg(test)]
 mod share;
+#[cfg(test)]
+mod survey;

@@ -1,7 +1,7 @@
 //! Locks in section 5 of T3N R2W, call by call.
 
 use crate::checks::must;
-use crate::places::square;
+use crate::survey::square;
 use std::alloc::Global;
 use std::process::Abort;
 use title_land::{Node, Quarter, Tract};

@@ -2,7 +2,7 @@
 //! of a model of these texts in another language: what rows begin with, the runs of a name and its quotes, what stands behind it.
 
 use crate::checks::must;
-use crate::places::{square, township};
+use crate::survey::{square, township};
 use indexmap::IndexSet;
 use std::alloc::{AllocError, Global};
 use std::process::Abort;

@@ -32,7 +32,7 @@ struct Book {
 
 // Where in the file a row stands.
 #[derive(Clone, Copy, PartialEq, Eq)]
-enum Place {
+enum State {
     Head,
     Gate,
     Block,
@@ -179,15 +179,15 @@ fn tail_len(tail: &[u8]) -> usize {
 /// What a file is found to be.
 pub fn read(alloc: Global, file: &[u8]) -> Result<Verdict, AllocError> {
     let mut book = Book::new(alloc)?;
-    let (mut place, mut row, mut at) = (Place::Head, 0usize, 0usize);
+    let (mut state, mut row, mut at) = (State::Head, 0usize, 0usize);
     for line in file.split(|byte| *byte == b'\n') {
         row = row.saturating_add(1);
         let next = at.saturating_add(line.len()).saturating_add(1);
         let is_whole = next <= file.len();
-        match place {
-            Place::Head if is_whole && line == HEAD => place = Place::Gate,
-            Place::Head => return Ok(Verdict::Fault(row)),
-            Place::Gate => {
+        match state {
+            State::Head if is_whole && line == HEAD => state = State::Gate,
+            State::Head => return Ok(Verdict::Fault(row)),
+            State::Gate => {
                 let tail = file.get(at..).unwrap_or(b"");
                 if !tail.starts_with(b"+") || tail.len() == 1 {
                     return Ok(Verdict::Plant(book.numbers(), tail_len(tail)));
@@ -195,12 +195,12 @@ pub fn read(alloc: Global, file: &[u8]) -> Result<Verdict, AllocError> {
                 if !is_whole || line != b"+".as_slice() {
                     return Ok(Verdict::Fault(row));
                 }
-                place = Place::Block;
+                state = State::Block;
             }
-            Place::Block if !is_whole => return Ok(Verdict::Fault(row)),
-            Place::Block => match book.row(line)? {
+            State::Block if !is_whole => return Ok(Verdict::Fault(row)),
+            State::Block => match book.row(line)? {
                 Taken::GoesOn => {}
-                Taken::Ends => place = Place::Gate,
+                Taken::Ends => state = State::Gate,
                 Taken::Refused => return Ok(Verdict::Fault(row)),
             },
         }

@@ -11,7 +11,7 @@ pub struct Fields {
 
 // Where in a field the splitter is.
 #[derive(Clone, Copy, PartialEq, Eq)]
-enum Place {
+enum State {
     Start,
     Plain,
     Quoted,
@@ -24,7 +24,7 @@ struct Splitter {
     alloc: Global,
     fields: Vec<Vec<u8>>,
     field: Vec<u8>,
-    place: Place,
+    state: State,
 }
 
 impl Fields {
@@ -34,8 +34,8 @@ impl Fields {
     }
 
     /// A field; nothing where there is none.
-    pub fn get(&self, place: usize) -> &[u8] {
-        match self.fields.get(place) {
+    pub fn get(&self, index: usize) -> &[u8] {
+        match self.fields.get(index) {
             Some(field) => field.as_slice(),
             None => b"",
         }
@@ -47,29 +47,29 @@ impl Splitter {
         let empty = Vec::new(self.alloc);
         let field = mem::replace(&mut self.field, empty);
         self.fields.push(field)?;
-        self.place = Place::Start;
+        self.state = State::Start;
         Ok(())
     }
 
-    fn keep(&mut self, byte: u8, place: Place) -> Result<(), AllocError> {
+    fn keep(&mut self, byte: u8, state: State) -> Result<(), AllocError> {
         self.field.push(byte)?;
-        self.place = place;
+        self.state = state;
         Ok(())
     }
 
     fn read_byte(&mut self, byte: u8) -> Result<(), AllocError> {
-        match (self.place, byte) {
-            (Place::Start, b'"') => {
-                self.place = Place::Quoted;
+        match (self.state, byte) {
+            (State::Start, b'"') => {
+                self.state = State::Quoted;
                 Ok(())
             }
-            (Place::Quoted, b'"') => {
-                self.place = Place::QuoteEnd;
+            (State::Quoted, b'"') => {
+                self.state = State::QuoteEnd;
                 Ok(())
             }
-            (Place::Quoted, _) | (Place::QuoteEnd, b'"') => self.keep(byte, Place::Quoted),
+            (State::Quoted, _) | (State::QuoteEnd, b'"') => self.keep(byte, State::Quoted),
             (_, b',') => self.end_field(),
-            _ => self.keep(byte, Place::Plain),
+            _ => self.keep(byte, State::Plain),
         }
     }
 }
@@ -80,7 +80,7 @@ pub fn fields_of(alloc: Global, line: &[u8]) -> Result<Fields, AllocError> {
         alloc,
         fields: Vec::new(alloc),
         field: Vec::new(alloc),
-        place: Place::Start,
+        state: State::Start,
     };
     for byte in line {
         splitter.read_byte(*byte)?;

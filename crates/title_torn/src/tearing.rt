@@ -177,12 +177,12 @@ impl Trial<'_> {
         mark: Mark,
     ) -> Result<(), AllocError> {
         let mut changed = Vec::from_slice(self.alloc, text)?;
-        for place in 0..text.len() {
+        for index in 0..text.len() {
             for byte in [b'+', b'-', b'\n', b',', b'"', b'0'] {
-                set(&mut changed, place, byte);
+                set(&mut changed, index, byte);
                 self.look_at(disk, moment, changed.as_slice(), true, mark)?;
             }
-            set(&mut changed, place, text.get(place).copied().unwrap_or(0));
+            set(&mut changed, index, text.get(index).copied().unwrap_or(0));
         }
         Ok(())
     }
@@ -254,8 +254,8 @@ impl Trial<'_> {
     }
 }
 
-fn set(text: &mut Vec<u8>, place: usize, byte: u8) {
-    if let Some(found) = text.get_mut(place) {
+fn set(text: &mut Vec<u8>, index: usize, byte: u8) {
+    if let Some(found) = text.get_mut(index) {
         *found = byte;
     }
 }

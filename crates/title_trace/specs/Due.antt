@@ -1,7 +1,7 @@
 -- The due reply to a request after a trace, with no lock and no undo in it. Lists of calls and steps have the newest first.
 use Rattle.std.specs.Prelude.{◌≡◌, ◌≢◌, ◌↔◌, ℕ, suc, ◌<◌, ◌≤◌, Bool, true, false, cond, not, ◌&&◌, eqb, nat_le, min}
 use Rattle.std.specs.Prelude.{List, [], ◌∷◌, length, map, filter, Option, Some, None}
-use Rattle.title_land.specs.declared.place.Township.{Township}
+use Rattle.title_land.specs.declared.survey.Township.{Township}
 use Rattle.title_land.specs.Lands.{is_in_plant}
 use Rattle.title_instrument.specs.declared.parts.Cause.{Cause}
 use Rattle.title_store.specs.Plants.{IsEachOnce}

@@ -4,7 +4,7 @@ use Rattle.title_land.specs.declared.rectangle.Quarter.{Quarter}
 use Rattle.title_land.specs.Nodes.{same_quarter}
 use Rattle.title_land.specs.Paths.{quarter_at, path_number, path_at}
 
--- a path's quarters from its number: with q before the path of number n it is 4 n and the place of q
+-- a path's quarters from its number: with q before the path of number n it is 4 n and the number of q
 abbrev pub quarters_of : ℕ → List Quarter
 quarters_of n = path_at n n
 

@@ -14,7 +14,7 @@ const LIMIT: u64 = 1 << 62;
 /// A path from a tree's root down to a node. A contract sees it as its quarters, the outermost first.
 #[derive(Clone, Copy)]
 pub struct Path {
-    // The empty path is 1; a path of number n with a quarter before it is 4 n and the quarter's place.
+    // The empty path is 1; a path of number n with a quarter before it is 4 n and the quarter's.
     number: u64,
 }
 
@@ -35,11 +35,11 @@ impl Model for Path {
     ghost inverse_ok = { λ p h. λ i. record { number = h i } };
 }
 
-/// The quarter at a place among the four; from the fourth on it is the last.
-pub fn quarter_at(place: usize) -> Quarter
-    ensures quarter { result ≡ quarter_at place }
+/// The quarter with a number; from the fourth on it is the last.
+pub fn quarter_at(number: usize) -> Quarter
+    ensures quarter { result ≡ quarter_at number }
 {
-    match place {
+    match number {
         0 => Quarter::Northeast,
         1 => Quarter::Northwest,
         2 => Quarter::Southwest,
@@ -47,9 +47,9 @@ pub fn quarter_at(place: usize) -> Quarter
     }
 }
 
-// The place of a quarter among the four.
-fn place_of(quarter: Quarter) -> u64
-    ensures place { result ≡ quarter_number quarter }
+// The number of a quarter among the four.
+fn quarter_number(quarter: Quarter) -> u64
+    ensures number { result ≡ quarter_number quarter }
 {
     match quarter {
         Quarter::Northeast => 0,
@@ -75,7 +75,7 @@ impl Path {
             return Err(AllocError);
         }
         Ok(Path {
-            number: self.number * 4 + place_of(quarter),
+            number: self.number * 4 + quarter_number(quarter),
         })
     }
 

@@ -5,13 +5,13 @@ use Rattle.std.specs.Prelude.{reverse}
 use Rattle.std.specs.List.{flat_map, list_any, list_all}
 use Rattle.std.proofs.lemmas.Bool.{and_parts, both_ways}
 use Rattle.title_land.specs.Depth.{depth}
-use Rattle.title_land.specs.declared.place.Township.{Township}
+use Rattle.title_land.specs.declared.survey.Township.{Township}
 use Rattle.title_land.specs.declared.rectangle.Quarter.{Quarter}
 use Rattle.title_land.specs.declared.rectangle.Quarter.TheVariants.{Northeast, Northwest, Southwest, Southeast}
 use Rattle.title_land.specs.declared.node.Node.{Node}
 use Rattle.title_land.specs.declared.node.Node.TheVariants as node
 use Rattle.title_land.specs.declared.tract.Land.{Land}
-use Rattle.title_land.specs.Places.{same_township, same_section}
+use Rattle.title_land.specs.Survey.{same_township, same_section}
 use Rattle.title_land.specs.Nodes.{same_quarter}
 use Rattle.title_land.specs.Lands.{is_in_plant, cover_of}
 use Rattle.title_land.specs.CoverSets.{quarter_before, path_before, comes_before, are_in_order}
@@ -29,7 +29,7 @@ use Rattle.title_tree.specs.Laws.Uniform.{corner, length-corner}
 use Rattle.title_tree_store.specs.Spots.{index_of, township_path, blocks, township_spots, spots, tract_spots}
 use Rattle.title_tree_store.specs.Keeping.{height}
 use Rattle.title_tree_store.proofs.Paths.{begins_parts, begins_on, has_from, disjoint_under, disjoint_join, in_join, length-number_path}
-use Rattle.title_tree_store.proofs.Places.{IsOf, township_is, in_spots, spots_have, cover_declared}
+use Rattle.title_tree_store.proofs.CellPaths.{IsOf, township_is, in_spots, spots_have, cover_declared}
 use Rattle.title_tree_store.proofs.Images.{in_mapped}
 use Rattle.title_tree_store.proofs.Keeps.{spots_short}
 

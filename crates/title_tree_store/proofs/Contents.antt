@@ -4,8 +4,8 @@ use Rattle.std.proofs.Common.{◌^◌, ◌≤◌, Bool, true, false, ◌&&◌, c
 use Rattle.std.proofs.Common.{List, length}
 use Rattle.title_share.specs.Division.{Division}
 use Rattle.title_land.specs.Depth.{depth}
-use Rattle.title_land.specs.declared.place.Township.{Township}
-use Rattle.title_land.specs.declared.place.Cell.{Cell}
+use Rattle.title_land.specs.declared.survey.Township.{Township}
+use Rattle.title_land.specs.declared.survey.Cell.{Cell}
 use Rattle.title_land.specs.declared.rectangle.Quarter.{Quarter}
 use Rattle.title_land.specs.declared.tract.Land.{Land}
 use Rattle.title_land.specs.Lands.{has, is_in_plant, is_plant_cell}
@@ -19,7 +19,7 @@ use Rattle.title_tree.specs.Pieces as pieces
 use Rattle.title_tree_store.specs.Spots.{cell_path, tract_spots}
 use Rattle.title_tree_store.specs.Forests.{owners_at}
 use Rattle.title_tree_store.specs.Keeping.{content_of}
-use Rattle.title_tree_store.proofs.Places.{tract_has}
+use Rattle.title_tree_store.proofs.CellPaths.{tract_has}
 
 -- the owners of a cell from what each estate's tree has
 pub owners_same : (a b c d e f : Division) → a ≡ d → b ≡ e → c ≡ f

@@ -9,14 +9,14 @@ use Rattle.std.proofs.lemmas.Bool.{or_left, or_right, or_cases, cases_Bool, ltb-
 use Rattle.std.proofs.lemmas.List.{append-nil}
 use Rattle.title_share.specs.Division.{Division}
 use Rattle.title_land.specs.Depth.{depth}
-use Rattle.title_land.specs.declared.place.Township.{Township}
-use Rattle.title_land.specs.declared.place.Section.{Section}
-use Rattle.title_land.specs.declared.place.Cell.{Cell}
+use Rattle.title_land.specs.declared.survey.Township.{Township}
+use Rattle.title_land.specs.declared.survey.Section.{Section}
+use Rattle.title_land.specs.declared.survey.Cell.{Cell}
 use Rattle.title_land.specs.declared.rectangle.Quarter.{Quarter}
 use Rattle.title_land.specs.declared.node.Node.{Node}
 use Rattle.title_land.specs.declared.node.Node.TheVariants as node
 use Rattle.title_land.specs.declared.tract.Land.{Land}
-use Rattle.title_land.specs.Places.{same_township}
+use Rattle.title_land.specs.Survey.{same_township}
 use Rattle.title_land.specs.Nodes.{quarters}
 use Rattle.title_land.specs.Lands.{is_in_plant, is_plant_cell, cover_of}
 use Rattle.title_land.specs.CellLists.{sections_of, node_cells, children_of}
@@ -44,7 +44,7 @@ use Rattle.title_tree_store.specs.Forests.{owners_at}
 use Rattle.title_tree_store.specs.Keeping.{height, content_of}
 use Rattle.title_tree_store.specs.TreeSheets.{tree_sheet}
 use Rattle.title_tree_store.proofs.Paths.{has_in, has_from}
-use Rattle.title_tree_store.proofs.Places.{IsOf, IsDeclared, in_spots, spots_have, cover_declared}
+use Rattle.title_tree_store.proofs.CellPaths.{IsOf, IsDeclared, in_spots, spots_have, cover_declared}
 use Rattle.title_tree_store.proofs.Keeps.{spots_short}
 
 -- ---- the one holding at some paths

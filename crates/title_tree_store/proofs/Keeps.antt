@@ -4,7 +4,7 @@ use Rattle.std.proofs.Common.{◌^◌, ◌<◌, ◌≤◌, arith, Bool, true, fa
 use Rattle.std.proofs.Common.{inl, inr, List, [], ◌∷◌, ◌++◌, length, map, length-append}
 use Rattle.std.proofs.lemmas.Bool.{and_from, and_parts, or_cases}
 use Rattle.title_land.specs.Depth.{depth}
-use Rattle.title_land.specs.declared.place.Township.{Township}
+use Rattle.title_land.specs.declared.survey.Township.{Township}
 use Rattle.title_land.specs.declared.rectangle.Quarter.{Quarter}
 use Rattle.title_land.specs.declared.tract.Land.{Land}
 use Rattle.title_land.specs.Nodes.{same_path}
@@ -34,7 +34,7 @@ use Rattle.title_tree_store.specs.Forests as forests
 use Rattle.title_tree_store.specs.Forests.{tidied_written}
 use Rattle.title_tree_store.specs.Keeping.{height, lending, loans_of, same_ways, PiecesFit, IsBacked, IsKept, Rises, IsTakenOut}
 use Rattle.title_tree_store.proofs.Paths.{has_from, begins_on, length-number_path}
-use Rattle.title_tree_store.proofs.Places.{IsDeclared, in_tract, tract_has, cover_declared, length-section_path}
+use Rattle.title_tree_store.proofs.CellPaths.{IsDeclared, in_tract, tract_has, cover_declared, length-section_path}
 use Rattle.title_tree_store.proofs.Images.{in_map, in_mapped, in_joined, in_more, in_middle, rises_less, rises_apart}
 
 pub same_ways-is : (ps qs : List (List Quarter)) → same_ways ps qs ≡ true → ps ≡ qs

@@ -1,6 +1,6 @@
 -- Lemmas.
 pub mod Paths
-pub mod Places
+pub mod CellPaths
 pub mod Steps
 pub mod Slots
 pub mod Contents

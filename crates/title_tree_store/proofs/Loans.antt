@@ -5,8 +5,8 @@ use Rattle.std.proofs.Common.{List, [], ◌∷◌, ◌++◌, length}
 use Rattle.std.proofs.lemmas.Bool.{cases_Bool, eqb-true, eq-eqb, and_parts}
 use Rattle.title_share.specs.Division.{Division}
 use Rattle.title_land.specs.Depth.{depth}
-use Rattle.title_land.specs.declared.place.Township.{Township}
-use Rattle.title_land.specs.declared.place.Cell.{Cell}
+use Rattle.title_land.specs.declared.survey.Township.{Township}
+use Rattle.title_land.specs.declared.survey.Cell.{Cell}
 use Rattle.title_land.specs.declared.rectangle.Quarter.{Quarter}
 use Rattle.title_land.specs.declared.tract.Land.{Land}
 use Rattle.title_land.specs.Lands.{has, is_plant_cell, meets}
@@ -22,7 +22,7 @@ use Rattle.title_tree_store.specs.declared.lent.Lent.{Lent}
 use Rattle.title_tree_store.specs.Spots.{cell_path, tract_spots}
 use Rattle.title_tree_store.specs.Forests as forests
 use Rattle.title_tree_store.specs.Keeping.{height, Rises, lies_in, held_before, owners_before, loan_of, loans_of, IsBacked, IsKept}
-use Rattle.title_tree_store.proofs.Places.{length-cell_path, tract_has}
+use Rattle.title_tree_store.proofs.CellPaths.{length-cell_path, tract_has}
 use Rattle.title_tree_store.proofs.Paths.{has_in, has_from}
 use Rattle.title_tree_store.proofs.Contents.{owners_same}
 use Rattle.title_tree_store.proofs.Images.{in_middle}

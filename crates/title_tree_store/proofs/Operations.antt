@@ -5,8 +5,8 @@ use Rattle.std.specs.Prelude.{MatchOption}
 use Rattle.std.specs.Option.{IsSome}
 use Rattle.title_share.specs.Division.{all_to}
 use Rattle.title_land.specs.Depth.{depth}
-use Rattle.title_land.specs.declared.place.Township.{Township}
-use Rattle.title_land.specs.declared.place.Cell.{Cell}
+use Rattle.title_land.specs.declared.survey.Township.{Township}
+use Rattle.title_land.specs.declared.survey.Cell.{Cell}
 use Rattle.title_land.specs.declared.rectangle.Quarter.{Quarter}
 use Rattle.title_land.specs.Lands.{has, is_plant_cell}
 use Rattle.title_instrument.specs.declared.parts.Estate.{Estate}
@@ -25,7 +25,7 @@ use Rattle.title_tree_store.specs.Forests as forests
 use Rattle.title_tree_store.specs.Forests.{owners_at, tidied_written}
 use Rattle.title_tree_store.specs.Keeping.{height, content_of, lies_in, held_before, owners_before, loan_of, loans_of}
 use Rattle.title_tree_store.specs.Keeping.{IsAbsent, IsTakenOut, IsKept, IsBacked}
-use Rattle.title_tree_store.proofs.Places.{length-cell_path, tract_has}
+use Rattle.title_tree_store.proofs.CellPaths.{length-cell_path, tract_has}
 use Rattle.title_tree_store.proofs.Contents.{owners_same, content_agrees, content_changes}
 use Rattle.title_tree_store.proofs.Images.{in_middle}
 use Rattle.title_tree_store.proofs.Keeps.{goes_back, in_spots, kept_less, kept_restored, tract_short}

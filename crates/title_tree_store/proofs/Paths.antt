@@ -144,7 +144,7 @@ four_pow n = grind arith
 last_is : (q x : Quarter) → ◌≡◌ {A = List Quarter} (q ∷ []) (x ∷ []) → q ≡ x
 last_is q x h = cc
 
--- of numbers that have a place each has its own path
+-- of numbers that are small enough each has its own path
 pub number_is : (levels n m : ℕ) → n < 4 ^ levels → m < 4 ^ levels → number_path levels n ≡ number_path levels m → n ≡ m
 number_is zero n m l k h = omega (arith, l, k)
 number_is (suc levels) n m l k h =

@@ -4,8 +4,8 @@ use Rattle.std.proofs.Common.{List, [], ◌∷◌, ◌++◌, length, length-appe
 use Rattle.std.proofs.lemmas.Bool.{and_parts, and_from, or_right}
 use Rattle.title_share.specs.Division.{Division}
 use Rattle.title_land.specs.Depth.{depth}
-use Rattle.title_land.specs.declared.place.Township.{Township}
-use Rattle.title_land.specs.declared.place.Cell.{Cell}
+use Rattle.title_land.specs.declared.survey.Township.{Township}
+use Rattle.title_land.specs.declared.survey.Cell.{Cell}
 use Rattle.title_land.specs.declared.rectangle.Quarter.{Quarter}
 use Rattle.title_land.specs.declared.tract.Land.{Land}
 use Rattle.title_land.specs.Lands.{has, is_in_plant, is_plant_cell}
@@ -49,7 +49,7 @@ use Rattle.title_tree_store.specs.Forests.{owners_at, named_spots, IsChange}
 use Rattle.title_tree_store.specs.Keeping.{height, content_of, lending, lies_in, owners_before, loan_of, loans_of, same_ways, is_whole}
 use Rattle.title_tree_store.specs.Keeping.{PiecesFit, IsBacked, IsKept}
 use Rattle.title_tree_store.specs.Refusing.{why_cell, first_in, triple}
-use Rattle.title_tree_store.proofs.Places.{in_tract, tract_has, length-cell_path}
+use Rattle.title_tree_store.proofs.CellPaths.{in_tract, tract_has, length-cell_path}
 use Rattle.title_tree_store.proofs.Paths.{has_in}
 use Rattle.title_tree_store.proofs.Contents.{owners_same, content_changes}
 use Rattle.title_tree_store.proofs.Images.{in_map, in_last, map_push, rises_more}

@@ -6,14 +6,14 @@ use Rattle.std.proofs.lemmas.Bool.{and_from, or_cases, cases_Bool, eqb-true, fal
 use Rattle.std.proofs.lemmas.List.{reverse-append, append-nil}
 use Rattle.title_share.specs.Division.{Division}
 use Rattle.title_land.specs.Depth.{depth}
-use Rattle.title_land.specs.declared.place.Township.{Township}
-use Rattle.title_land.specs.declared.place.Section.{Section}
-use Rattle.title_land.specs.declared.place.Cell.{Cell}
+use Rattle.title_land.specs.declared.survey.Township.{Township}
+use Rattle.title_land.specs.declared.survey.Section.{Section}
+use Rattle.title_land.specs.declared.survey.Cell.{Cell}
 use Rattle.title_land.specs.declared.rectangle.Quarter.{Quarter}
 use Rattle.title_land.specs.declared.rectangle.Quarter.TheVariants.{Northeast, Northwest, Southwest, Southeast}
 use Rattle.title_land.specs.declared.node.Node.TheVariants as node
 use Rattle.title_land.specs.declared.tract.Land.{Land}
-use Rattle.title_land.specs.Places.{same_section}
+use Rattle.title_land.specs.Survey.{same_section}
 use Rattle.title_land.specs.Paths.{quarter_at}
 use Rattle.title_land.specs.Rectangles.{holds}
 use Rattle.title_land.specs.Nodes.{square}
@@ -49,7 +49,7 @@ use Rattle.title_tree_store.specs.Refusing.{why_cell, why_first, is_settled, ref
 use Rattle.title_tree_store.proofs.Contents.{owners_same}
 use Rattle.title_tree_store.proofs.Firsts.{find_yes, find_no}
 use Rattle.title_tree_store.proofs.Paths.{begins_under}
-use Rattle.title_tree_store.proofs.Places.{corner_way, grid_parts}
+use Rattle.title_tree_store.proofs.CellPaths.{corner_way, grid_parts}
 
 -- ---- going down
 

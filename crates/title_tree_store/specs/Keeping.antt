@@ -1,7 +1,7 @@
 -- What a store of trees keeps.
 use Rattle.std.specs.Prelude.{◌≡◌, ◌≢◌, ℕ, ◌+◌, ◌<◌, ◌≤◌, ◌^◌, Bool, true, false, ◌&&◌, ◌||◌, cond, List, [], ◌∷◌, ◌++◌, length, map}
 use Rattle.title_land.specs.Depth.{depth}
-use Rattle.title_land.specs.declared.place.Township.{Township}
+use Rattle.title_land.specs.declared.survey.Township.{Township}
 use Rattle.title_land.specs.declared.rectangle.Quarter.{Quarter}
 use Rattle.title_land.specs.Nodes.{same_path}
 use Rattle.title_land.specs.Lands.{is_in_plant, is_plant_cell}
@@ -100,7 +100,7 @@ abbrev pub Rises : List Lent → Type 0
 Rises [] = Unit {0}
 Rises (l ∷ lent) = ((x : Lent) → In x lent → l.number < x.number) × Rises lent
 
--- there is a place for each township, no tree goes deeper than its cells, and each image that is out can go back
+-- there is a path for each township, no tree goes deeper than its cells, and each image that is out can go back
 pub record IsKept (levels : ℕ) (ts : List Township) (ps : Estate → Plot) (lent : List Lent) (next : ℕ) : Type 0 where
   pub room : length ts ≤ 4 ^ levels
   pub fit : (e : Estate) → fits (height levels) (ps e) ≡ true

@@ -1,8 +1,8 @@
 -- Which cell refuses an instrument.
 use Rattle.std.specs.Prelude.{◌≡◌, ℕ, Bool, true, not, List, [], filter, Option, Some, None}
 use Rattle.title_share.specs.Division.{Division}
-use Rattle.title_land.specs.declared.place.Township.{Township}
-use Rattle.title_land.specs.declared.place.Cell.{Cell}
+use Rattle.title_land.specs.declared.survey.Township.{Township}
+use Rattle.title_land.specs.declared.survey.Cell.{Cell}
 use Rattle.title_land.specs.declared.rectangle.Quarter.{Quarter}
 use Rattle.title_land.specs.declared.tract.Land.{Land}
 use Rattle.title_land.specs.Lands.{has}

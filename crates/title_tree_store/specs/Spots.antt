@@ -1,24 +1,24 @@
--- Where nodes and cells lie in a tree of the plant. Below the root lie the places of townships, so many levels down; three
--- levels below a township its sections, of whose 64 places 36 are taken; below a section its squares.
+-- Where nodes and cells lie in a tree of the plant. Below the root lie the paths of townships, so many levels down; three
+-- levels below a township its sections, of whose 64 paths 36 are taken; below a section its squares.
 use Rattle.std.specs.Prelude.{ℕ, ◌+◌, ◌-◌, cond, List, [], ◌∷◌, ◌++◌, map}
 use Rattle.std.specs.List.{flat_map}
 use Rattle.title_land.specs.Depth.{depth}
-use Rattle.title_land.specs.declared.place.Township.{Township}
-use Rattle.title_land.specs.declared.place.Section.{Section}
-use Rattle.title_land.specs.declared.place.Cell.{Cell}
+use Rattle.title_land.specs.declared.survey.Township.{Township}
+use Rattle.title_land.specs.declared.survey.Section.{Section}
+use Rattle.title_land.specs.declared.survey.Cell.{Cell}
 use Rattle.title_land.specs.declared.rectangle.Quarter.{Quarter}
 use Rattle.title_land.specs.declared.rectangle.Quarter.TheVariants.{Northeast, Northwest, Southwest}
 use Rattle.title_land.specs.declared.node.Node.{Node}
 use Rattle.title_land.specs.declared.node.Node.TheVariants as node
 use Rattle.title_land.specs.declared.tract.Land.{Land}
-use Rattle.title_land.specs.Places.{same_township}
+use Rattle.title_land.specs.Survey.{same_township}
 use Rattle.title_land.specs.Lands.{cover_of}
 use Rattle.title_tree.specs.Paths.{way, number_path}
 use Rattle.title_tree.specs.CellWays.{cell_quarters}
 use Rattle.title_tree_store.specs.declared.spots.Paths.{Paths}
 use Rattle.title_tree_store.specs.declared.spots.Paths.TheVariants.{Nothing, One, Many}
 
--- the place of a township in a list
+-- the index of a township in a list
 abbrev pub index_of : List Township → Township → ℕ
 index_of [] t = 0
 index_of (u ∷ ts) t = cond (same_township t u) 0 (index_of ts t + 1)

@@ -79,8 +79,8 @@ impl Images {
     }
 
     // The slot of a number, where there is one.
-    fn place_of(&self, number: u64) -> Option<usize>
-        ensures place { MatchOption result (IsAbsent number (images self.now))
+    fn slot_of(&self, number: u64) -> Option<usize>
+        ensures slot { MatchOption result (IsAbsent number (images self.now))
             (λ i. (i < length self.now.slots.items) × (number + length self.now.slots.items ≡ self.now.next + i)) }
     {
         if self.next <= number {
@@ -100,10 +100,10 @@ impl Images {
             (λ l. IsTakenOut number l (images self.old) (images self.new)) }
         ensures next { self.new.next ≡ self.old.next }
     {
-        let Some(place) = self.place_of(number) else {
+        let Some(slot) = self.slot_of(number) else {
             return None;
         };
-        let taken = self.slots[place].take();
+        let taken = self.slots[slot].take();
         trim(&mut self.slots);
         taken
     }

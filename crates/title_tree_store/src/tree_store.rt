@@ -41,7 +41,7 @@ pub struct TreeStore {
     ghost kept: { IsKept levels townships (plots forest) (images lent) lent.next } by { kept_prop _ _ _ _ _ },
 }
 
-// How many levels have a place for so many townships.
+// How many levels have a path for each of so many townships.
 fn levels_for(count: usize) -> usize
     ensures room { count ≤ 4 ^ result }
     ensures bound { result ≤ count }

@@ -11,8 +11,8 @@ use std::sync::Wait;
 use std::thread::Threads;
 
 /// A field that each row has.
-pub fn field(row: &StringRecord, place: usize) -> Result<&str> {
-    row.get(place).context("a row of a table is too short")
+pub fn field(row: &StringRecord, index: usize) -> Result<&str> {
+    row.get(index).context("a row of a table is too short")
 }
 
 /// The fields after so many.

@@ -5,7 +5,7 @@ use Rattle.std.specs.Prelude.{All, MatchResult, is_ok, if◌then◌else◌}
 use Rattle.std.proofs.lemmas.List.Sums.{fold-append}
 use Rattle.std.proofs.Math.Seq.{take-append_seam, take-length}
 use Rattle.logbook.specs.Pages.{Book}
-use Rattle.title_land.specs.declared.place.Township.{Township}
+use Rattle.title_land.specs.declared.survey.Township.{Township}
 use Rattle.title_chain.specs.declared.record.Record.{Record}
 use Rattle.title_ledger.specs.declared.entry.Entry.{Entry}
 use Rattle.title_ledger.specs.declared.entry.Entry.TheVariants as entry

@@ -49,8 +49,8 @@ impl<B: Room> Fronts<B> {
         let (head, last) = ledger.named::<B>();
         let first = Published::new(alloc, last.page());
         let second = Published::new(alloc, last.page());
-        let places = viewers as usize + 1;
-        let writer = Publisher::<B>::new(alloc, first, second, places)?;
+        let readers = viewers as usize + 1;
+        let writer = Publisher::<B>::new(alloc, first, second, readers)?;
         let sure = last.again();
         Ok(Fronts {
             writer,

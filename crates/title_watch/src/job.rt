@@ -14,8 +14,8 @@ pub struct Job {
 }
 
 impl Job {
-    fn set(&mut self, place: usize, number: u32) {
-        match place {
+    fn set(&mut self, index: usize, number: u32) {
+        match index {
             0 => self.viewers = number,
             1 => self.records = number,
             2 => self.sales = number,
@@ -31,12 +31,12 @@ impl Job {
             sales: 8,
             sheets: 100,
         };
-        let mut place = 0usize;
+        let mut index = 0usize;
         for word in env::args(rt)?.skip(1) {
             if let Ok(number) = word.as_str().parse::<u32>() {
-                job.set(place, number);
+                job.set(index, number);
             }
-            place = place.saturating_add(1);
+            index = index.saturating_add(1);
         }
         Ok(job)
     }

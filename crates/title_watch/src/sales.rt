@@ -40,9 +40,9 @@ fn surface_release(from: u32, to: u32) -> Instrument {
 
 // The sale with this number: a section's surface goes from one of two parties to the other, and back the next time round.
 fn posting(alloc: Global, number: u32) -> Result<Posting, AllocError> {
-    let place = u8::try_from(number % 36).unwrap_or(0);
+    let index = u8::try_from(number % 36).unwrap_or(0);
     let round = (number / 36) % 2;
-    let tract = section(alloc, place.saturating_add(1))?;
+    let tract = section(alloc, index.saturating_add(1))?;
     let terms = Terms {
         doc: u64::from(number),
         tract,

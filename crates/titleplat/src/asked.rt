@@ -16,7 +16,7 @@ pub fn read_words(words: &[String]) -> Option<Asked> {
         [] => Some(Asked::Draw(Wanted::Last)),
         [word] => match word.as_str() {
             "--help" | "-h" => Some(Asked::Help),
-            word => number(word).map(|place| Asked::Draw(Wanted::Place(place))),
+            word => number(word).map(|sheet| Asked::Draw(Wanted::Number(sheet))),
         },
         _ => None,
     }

@@ -13,7 +13,7 @@ Draws who owns which share of an estate, part by part, as a picture in SVG.
 Usage: titleplat [N] < REPORT > PICTURE.svg
 
   REPORT is what `titleplant alone` or `titleplant run` writes.
-  N is the place of a sheet in the report, from 1; where none is said, the last sheet is drawn.
+  N is the number of a sheet in the report, from 1; where none is said, the last sheet is drawn.
 
 The exit status is 0 for a picture or help, 1 for a report that has no such sheet or is none, and 2 for words that aren't
 understood.

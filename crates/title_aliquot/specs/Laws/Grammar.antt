@@ -12,10 +12,10 @@ use Rattle.title_grammar.specs.Reading.{as_at}
 use Rattle.title_grammar.specs.Laws.Exact.{Exact, one_of_exact}
 use Rattle.title_grammar.specs.Laws.Repeat.{gives_exact}
 use Rattle.title_grammar.specs.Laws.Combine.{sequence, choose, repeat, word, same_language, maybe_exact, un_word}
-use Rattle.title_aliquot.specs.Grammar.{SectionText, SectionParts, PlaceText, Description, SectionNumber, RangeText, TownshipText, digits}
-use Rattle.title_aliquot.specs.Grammar.{decimal, Everything, section_of, place_of, whole_section, Number, QuarterMark, HalfMark}
+use Rattle.title_aliquot.specs.Grammar.{SectionText, SectionParts, LandText, Description, SectionNumber, RangeText, TownshipText, digits}
+use Rattle.title_aliquot.specs.Grammar.{decimal, Everything, section_of, syntax_of, whole_section, Number, QuarterMark, HalfMark}
 use Rattle.title_aliquot.specs.Grammar.{QuarterName, HalfName, StepText, Part, Parts}
-use Rattle.title_aliquot.specs.Readers.{section_number_at, range_at, township_at, section_parts_at, section_at, place_at, description_at}
+use Rattle.title_aliquot.specs.Readers.{section_number_at, range_at, township_at, section_parts_at, section_at, land_at, description_at}
 use Rattle.title_aliquot.specs.Readers.{number_at, quarter_mark_at, half_mark_at, behind_at, step_at, joined_at, part_at, parts_at}
 use Rattle.title_aliquot.specs.Readers.{next_part_at}
 
@@ -245,12 +245,12 @@ unfolding section_at
 section_exact = choose (sequence (λ u v. v) (maybe_exact (word (codes ",")) refl)
     (sequence section_of section_number_exact section_parts_exact refl) refl) (gives_exact None []) refl
 
-place_exact : Exact place_at PlaceText (codes "t") (codes ",onsewonsew,:ansew0123456789,s") false
-unfolding place_at
-place_exact = sequence place_of township_exact
+land_exact : Exact land_at LandText (codes "t") (codes ",onsewonsew,:ansew0123456789,s") false
+unfolding land_at
+land_exact = sequence syntax_of township_exact
     (sequence (λ u v. v) (choose (word (codes ",")) (maybe_exact (word (codes "-")) refl) refl)
     (sequence (λ r s. (r, s)) range_exact section_exact refl) refl) refl
 
 pub description_exact : Exact description_at Description (codes "et") (codes ",onsewonsew,:ansew0123456789,s") false
 unfolding description_at Description
-description_exact = choose (gives_exact Everything (codes "everything")) place_exact refl
+description_exact = choose (gives_exact Everything (codes "everything")) land_exact refl

@@ -4,17 +4,17 @@ use Rattle.title_land.specs.Depth.{depth}
 use Rattle.std.proofs.Math.Bridge.{le_prop}
 use Rattle.title_land.specs.declared.rectangle.Step.{Step}
 use Rattle.title_land.specs.declared.grid.Grid.{Grid}
-use Rattle.title_land.specs.declared.place.Township.{Township}
-use Rattle.title_land.specs.declared.place.Section.{Section}
+use Rattle.title_land.specs.declared.survey.Township.{Township}
+use Rattle.title_land.specs.declared.survey.Section.{Section}
 use Rattle.title_land.specs.declared.tract.Land.{Land}
 use Rattle.title_land.specs.declared.tract.Land.TheVariants as land
-use Rattle.title_land.specs.Places.{IsTownshipNumber, IsSectionNumber, IsTownship, IsSection}
+use Rattle.title_land.specs.Survey.{IsTownshipNumber, IsSectionNumber, IsTownship, IsSection}
 use Rattle.title_land.specs.Grids.{grid_of}
-use Rattle.title_aliquot.specs.Grammar.{Syntax, Everything, InPlace, PlaceSyntax, SectionSyntax}
+use Rattle.title_aliquot.specs.Grammar.{Syntax, Everything, InTownship, LandSyntax, SectionSyntax}
 use Rattle.title_aliquot.specs.Meaning.{SectionIsNumbered, section_parts, parts_exist, rectangles, Overlap, union, IsLandIn, IsLandOf}
 use Rattle.title_aliquot.specs.Meaning.{StandsFor}
 
--- ---- lands of places
+-- ---- lands in townships
 
 number_as : (n m : ℕ) → n ≡ m → IsTownshipNumber n → IsTownshipNumber m
 number_as n m e h = let P : ℕ → Type 0 = λ k. IsTownshipNumber k in subst P e h
@@ -22,8 +22,8 @@ number_as n m e h = let P : ℕ → Type 0 = λ k. IsTownshipNumber k in subst P
 section_as : (n m : ℕ) → n ≡ m → IsSectionNumber n → IsSectionNumber m
 section_as n m e h = let P : ℕ → Type 0 = λ k. IsSectionNumber k in subst P e h
 
-pub township_stands : (p : PlaceSyntax) (t : Township) → IsTownship p.township p.north p.range p.east t → p.section ≡ None
-    → StandsFor depth (InPlace p) (land.Township t)
+pub township_stands : (p : LandSyntax) (t : Township) → IsTownship p.township p.north p.range p.east t → p.section ≡ None
+    → StandsFor depth (InTownship p) (land.Township t)
 township_stands p t h e = record {
   numbered = (
     number_as t.number p.township h.number_is t.numbered,
@@ -41,9 +41,9 @@ pub record PartsStand (parts : List (List Step)) (g : Grid) : Type 0 where
   pub apart : Overlap (rectangles depth parts) → ⊥
   pub union_is : g ≡ grid_of depth (union (rectangles depth parts))
 
-pub section_stands : (p : PlaceSyntax) (t : Township) (s : SectionSyntax) (z : Section) (g : Grid)
+pub section_stands : (p : LandSyntax) (t : Township) (s : SectionSyntax) (z : Section) (g : Grid)
     → IsTownship p.township p.north p.range p.east t → p.section ≡ Some s →
-    IsSection t s.number z → PartsStand s.parts g → StandsFor depth (InPlace p) (land.Part z g)
+    IsSection t s.number z → PartsStand s.parts g → StandsFor depth (InTownship p) (land.Part z g)
 section_stands p t s z g h e k w = record {
   numbered = (
     number_as t.number p.township h.number_is t.numbered,
@@ -96,18 +96,18 @@ one_township n north r east t u h k =
     ∙ ap (λ (x : Bool). made u.number x u.range t.east u.numbered u.ranged) (h.north_is ∙ sym k.north_is)
     ∙ ap (λ (x : Bool). made u.number u.north u.range x u.numbered u.ranged) (h.east_is ∙ sym k.east_is)
 
-abbrev placed : (t : Township) (n : ℕ) → IsSectionNumber n → Section
-placed t n a = record { township = t; number = n; numbered = a }
+abbrev nth_section : (t : Township) (n : ℕ) → IsSectionNumber n → Section
+nth_section t n a = record { township = t; number = n; numbered = a }
 
-placed_same : (t : Township) (n m : ℕ) → n ≡ m → (a : IsSectionNumber n) (x : IsSectionNumber m) → placed t n a ≡ placed t m x
-placed_same t n m e a x =
-    let P : ℕ → Type 0 = λ k. (y : IsSectionNumber k) → placed t n a ≡ placed t k y in
-    subst P e (λ y. ap (λ (z : IsSectionNumber n). placed t n z) (section_prop n a y)) x
+same_nth : (t : Township) (n m : ℕ) → n ≡ m → (a : IsSectionNumber n) (x : IsSectionNumber m) → nth_section t n a ≡ nth_section t m x
+same_nth t n m e a x =
+    let P : ℕ → Type 0 = λ k. (y : IsSectionNumber k) → nth_section t n a ≡ nth_section t k y in
+    subst P e (λ y. ap (λ (z : IsSectionNumber n). nth_section t n z) (section_prop n a y)) x
 
 pub one_section : (t : Township) (n : ℕ) (z y : Section) → IsSection t n z → IsSection t n y → z ≡ y
 one_section t n z y h k =
-    ap (λ (u : Township). placed u z.number z.numbered) (h.township_is ∙ sym k.township_is)
-    ∙ placed_same y.township z.number y.number (h.number_is ∙ sym k.number_is) z.numbered y.numbered
+    ap (λ (u : Township). nth_section u z.number z.numbered) (h.township_is ∙ sym k.township_is)
+    ∙ same_nth y.township z.number y.number (h.number_is ∙ sym k.number_is) z.numbered y.numbered
 
 -- ---- one land
 
@@ -118,6 +118,6 @@ one_land_in d t (Some s) l m h k =
 
 pub one_land_of : (depth : ℕ) (s : Syntax) (l m : Land) → IsLandOf depth s l → IsLandOf depth s m → l ≡ m
 one_land_of d Everything l m h k = h ∙ sym k
-one_land_of d (InPlace p) l m h k =
+one_land_of d (InTownship p) l m h k =
     let e = one_township p.township p.north p.range p.east h.0 k.0 h.1 k.1 in
     one_land_in d k.0 p.section l m (subst (λ (t : Township). IsLandIn d t p.section l) e h.2) k.2

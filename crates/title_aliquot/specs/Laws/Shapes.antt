@@ -7,9 +7,9 @@ use Rattle.std.proofs.lemmas.Bool.{and_parts, or_cases, or_left, or_right}
 use Rattle.std.proofs.lemmas.Bool.Decides.{nat_tests, Decides-or}
 use Rattle.title_land.specs.declared.grid.Grid.{Grid}
 use Rattle.title_land.specs.declared.rectangle.Rectangle.{Rectangle}
-use Rattle.title_land.specs.Places.{side}
+use Rattle.title_land.specs.Survey.{side}
 use Rattle.title_land.specs.Rectangles.{holds, rectangles_meet, SharesCell, InSection}
-use Rattle.title_land.specs.Grids.{grid_has, grid_of, with_rectangle, grids_meet, places}
+use Rattle.title_land.specs.Grids.{grid_has, grid_of, with_rectangle, grids_meet, indices}
 use Rattle.title_land.specs.Laws.GridLaws.{grid_has-grid_of, grid_has-everywhere, on_side}
 use Rattle.title_land.specs.Laws.GridSharing.{grids_found, grids_from}
 use Rattle.title_aliquot.specs.Meaning.{SharesCellWithOne, Overlap, union}
@@ -51,9 +51,9 @@ pub grid_same : (depth : ℕ) (f g : ℕ → ℕ → Bool) →
     ((row column : ℕ) → row < side depth → column < side depth → f row column ≡ g row column) → grid_of depth f ≡ grid_of depth g
 unfolding grid_of
 grid_same depth f g h =
-    let rows : map (λ row. map (λ column. f row column) (places depth)) (places depth)
-    ≡ map (λ row. map (λ column. g row column) (places depth)) (places depth) =
-    map_same (λ row. map (λ column. f row column) (places depth)) (λ row. map (λ column. g row column) (places depth)) 0 (side depth)
+    let rows : map (λ row. map (λ column. f row column) (indices depth)) (indices depth)
+    ≡ map (λ row. map (λ column. g row column) (indices depth)) (indices depth) =
+    map_same (λ row. map (λ column. f row column) (indices depth)) (λ row. map (λ column. g row column) (indices depth)) 0 (side depth)
     (λ row l m. map_same (λ column. f row column) (λ column. g row column) 0 (side depth)
     (λ column i j. h row column (omega arith) (omega arith))) in
     rows
@@ -79,7 +79,7 @@ union_next depth r shapes g h e k =
 -- ---- a rectangle and the cells of others
 
 -- a cell that the rectangle shares with the others
-record SharedPlace (r : Rectangle) (others : List Rectangle) : Type 0 where
+record SharedCell (r : Rectangle) (others : List Rectangle) : Type 0 where
   row : ℕ
   column : ℕ
   here : holds r row column ≡ true
@@ -95,16 +95,16 @@ shared_one r (s ∷ others) row column h k = elim (or_cases (holds s row column)
 ]
 
 -- and the other way
-shared_place : (r : Rectangle) (others : List Rectangle) → SharesCellWithOne r others → SharedPlace r others
-shared_place r [] h = absurd h
-shared_place r (s ∷ others) (inl h) = record {
+shared_cell : (r : Rectangle) (others : List Rectangle) → SharesCellWithOne r others → SharedCell r others
+shared_cell r [] h = absurd h
+shared_cell r (s ∷ others) (inl h) = record {
   row = h.0;
   column = h.1;
   here = h.2;
   there = or_left (holds s h.0 h.1) (union others h.0 h.1) h.3;
 }
-shared_place r (s ∷ others) (inr h) =
-    let k = shared_place r others h in
+shared_cell r (s ∷ others) (inr h) =
+    let k = shared_cell r others h in
     let there = or_right (holds s k.row k.column) (union others k.row k.column) k.there in
     record { row = k.row; column = k.column; here = k.here; there = there }
 
@@ -133,11 +133,11 @@ shared_found : (depth : ℕ) (r : Rectangle) (others : List Rectangle) (g a : Gr
     a ≡ grid_of depth (union (r ∷ [])) →
     grids_meet g a ≡ true → SharesCellWithOne r others
 shared_found depth r others g a e k m =
-    let place = grids_found g a m in
-    let there = passes depth (union others) g place.0 place.1 e place.2 in
-    let alone = passes depth (union (r ∷ [])) a place.0 place.1 k place.3 in
-    elim (or_cases (holds r place.0 place.1) (union [] place.0 place.1) alone) [
-      | inl here ↦ shared_one r others place.0 place.1 here there
+    let spot = grids_found g a m in
+    let there = passes depth (union others) g spot.0 spot.1 e spot.2 in
+    let alone = passes depth (union (r ∷ [])) a spot.0 spot.1 k spot.3 in
+    elim (or_cases (holds r spot.0 spot.1) (union [] spot.0 spot.1) alone) [
+      | inl here ↦ shared_one r others spot.0 spot.1 here there
       | inr none ↦ absurd cc
     ]
 
@@ -145,11 +145,11 @@ shared_from : (depth : ℕ) (r : Rectangle) (others : List Rectangle) (g a : Gri
     a ≡ grid_of depth (union (r ∷ [])) →
     SharesCellWithOne r others → grids_meet g a ≡ true
 shared_from depth r others g a inside e k h =
-    let place = shared_place r others h in
-    let on = on_grid depth r place.row place.column inside place.here in
-    let alone = or_left (holds r place.row place.column) (union [] place.row place.column) place.here in
-    grids_from g a place.row place.column (has_passing depth (union others) g place.row place.column e on place.there)
-    (has_passing depth (union (r ∷ [])) a place.row place.column k on alone)
+    let spot = shared_cell r others h in
+    let on = on_grid depth r spot.row spot.column inside spot.here in
+    let alone = or_left (holds r spot.row spot.column) (union [] spot.row spot.column) spot.here in
+    grids_from g a spot.row spot.column (has_passing depth (union others) g spot.row spot.column e on spot.there)
+    (has_passing depth (union (r ∷ [])) a spot.row spot.column k on alone)
 
 pub shared_decides : (depth : ℕ) (r : Rectangle) (others : List Rectangle) (g a : Grid) → InSection depth r →
     g ≡ grid_of depth (union others) → a ≡ grid_of depth (union (r ∷ [])) →

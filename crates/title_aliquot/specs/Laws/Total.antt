@@ -10,16 +10,16 @@ use Rattle.std.proofs.lemmas.Bool.Decides.{nat_tests}
 use Rattle.title_grammar.specs.Language.{Begins}
 use Rattle.title_grammar.specs.Reading.{Read, Got, Stuck, word_at}
 use Rattle.title_grammar.specs.Laws.Exact.{tells}
-use Rattle.title_grammar.specs.Laws.Places.{FaultAfter, begins_decided}
+use Rattle.title_grammar.specs.Laws.Faults.{FaultAfter, begins_decided}
 use Rattle.title_land.specs.declared.rectangle.Rectangle.{Rectangle}
-use Rattle.title_land.specs.declared.place.Township.{Township}
-use Rattle.title_land.specs.declared.place.Section.{Section}
+use Rattle.title_land.specs.declared.survey.Township.{Township}
+use Rattle.title_land.specs.declared.survey.Section.{Section}
 use Rattle.title_land.specs.declared.tract.Land.{Land}
 use Rattle.title_land.specs.declared.tract.Land.TheVariants as land
 use Rattle.title_land.specs.Rectangles.{rectangles_meet}
 use Rattle.title_land.specs.Grids.{grid_of}
 use Rattle.title_aliquot.specs.declared.fault.DescFault.TheVariants as fault
-use Rattle.title_aliquot.specs.Grammar.{Syntax, Everything, InPlace, SectionSyntax, Description}
+use Rattle.title_aliquot.specs.Grammar.{Syntax, Everything, InTownship, SectionSyntax, Description}
 use Rattle.title_aliquot.specs.Letters.{letters, offset}
 use Rattle.title_aliquot.specs.Meaning.{IsNumbered, SectionIsNumbered, IsLandIn, IsLandOf, parts_of, parts_exist, rectangles, union}
 use Rattle.title_aliquot.specs.Meaning.{Overlap}
@@ -88,7 +88,7 @@ section_or_not (Some s) = number_or_not 36 s.number
 
 numbered_or_not : (s : Syntax) → IsNumbered s ⊎ (IsNumbered s → ⊥)
 numbered_or_not Everything = inl tt
-numbered_or_not (InPlace p) = elim (number_or_not 99 p.township) [
+numbered_or_not (InTownship p) = elim (number_or_not 99 p.township) [
   | inl a ↦ elim (number_or_not 99 p.range) [
     | inl b ↦ elim (section_or_not p.section) [
       | inl c ↦ inl (a, b, c)
@@ -107,7 +107,7 @@ land_in t (Some s) h =
 
 land_there : (s : Syntax) → IsNumbered s → (l : Land) × IsLandOf depth s l
 land_there Everything h = (land.Everything, refl)
-land_there (InPlace p) h =
+land_there (InTownship p) h =
     let t : Township = record { number = p.township; north = p.north; range = p.range; east = p.east; numbered = h.0; ranged = h.1 } in
     let k = land_in t p.section h.2 in
     (k.0, (t, record { number_is = refl; north_is = refl; range_is = refl; east_is = refl }, k.1))

@@ -4,7 +4,7 @@ use Rattle.title_land.specs.Depth.{depth}
 use Rattle.std.specs.Prelude.{Result, Ok, Err, IfOk, IfErr}
 use Rattle.std.specs.Str.{chars}
 use Rattle.title_grammar.specs.Laws.Repeat.{fault_none}
-use Rattle.title_grammar.specs.Laws.Places.{FaultAfter, fault_there, one_fault_place, one_value}
+use Rattle.title_grammar.specs.Laws.Faults.{FaultAfter, fault_there, one_fault_index, one_value}
 use Rattle.title_land.specs.declared.tract.Land.{Land}
 use Rattle.title_aliquot.specs.declared.fault.DescFault.{DescFault}
 use Rattle.title_aliquot.specs.declared.fault.DescFault.TheVariants as fault
@@ -28,13 +28,13 @@ one_land depth text l m h k =
 
 -- ---- letters that are not in the grammar say nothing
 
-place_of_bad : (text : List ℕ) (i : ℕ) → BadLetter text i → FaultAfter Description (letters (chars text)) i
-place_of_bad text i b = (b.within, b.fault_at)
+fault_of_bad : (text : List ℕ) (i : ℕ) → BadLetter text i → FaultAfter Description (letters (chars text)) i
+fault_of_bad text i b = (b.within, b.fault_at)
 
 letter_unsaid : (text : List ℕ) (i : ℕ) (s : Syntax) → BadLetter text i → Says text s → ⊥
 letter_unsaid text i s b h =
     fault_none Description (letters (chars text)) (drop i (letters (chars text)))
-    (fault_there Description (letters (chars text)) i (place_of_bad text i b)) s h.spells
+    (fault_there Description (letters (chars text)) i (fault_of_bad text i b)) s h.spells
 
 bad_unsaid : (text : List ℕ) (byte : ℕ) (s : Syntax) → IsBadText text byte → Says text s → ⊥
 bad_unsaid text byte s (inl b) h = let short = h.short in absurd (omega (arith, b.0, short))
@@ -43,20 +43,20 @@ bad_unsaid text byte s (inr b) h = letter_unsaid text b.0 s b.1 h
 lots_unsaid : (text : List ℕ) (s : Syntax) → IsLots text → Says text s → ⊥
 lots_unsaid text s b h = letter_unsaid text b.0 s b.1 h
 
-same_place : (text : List ℕ) (i j : ℕ) → BadLetter text i → BadLetter text j → i ≡ j
-same_place text i j b c = one_fault_place Description (letters (chars text)) i j (place_of_bad text i b) (place_of_bad text j c)
+same_letter : (text : List ℕ) (i j : ℕ) → BadLetter text i → BadLetter text j → i ≡ j
+same_letter text i j b c = one_fault_index Description (letters (chars text)) i j (fault_of_bad text i b) (fault_of_bad text j c)
 
 bad_no_lots : (text : List ℕ) (byte : ℕ) → IsBadText text byte → IsLots text → ⊥
 bad_no_lots text byte (inl b) k = let short = k.1.short in absurd (omega (arith, b.0, short))
 bad_no_lots text byte (inr b) k =
-    let e = same_place text k.0 b.0 k.1 b.1 in
+    let e = same_letter text k.0 b.0 k.1 b.1 in
     b.2 (subst (λ (i : ℕ). LotAt text i) e k.2)
 
 one_byte : (text : List ℕ) (a b : ℕ) → IsBadText text a → IsBadText text b → a ≡ b
 one_byte text a b (inl h) (inl k) = h.1 ∙ sym k.1
 one_byte text a b (inl h) (inr k) = let short = k.1.short in absurd (omega (arith, h.0, short))
 one_byte text a b (inr h) (inl k) = let short = h.1.short in absurd (omega (arith, k.0, short))
-one_byte text a b (inr h) (inr k) = h.3 ∙ ap (λ (i : ℕ). offset (chars text) i) (same_place text h.0 k.0 h.1 k.1) ∙ sym k.3
+one_byte text a b (inr h) (inr k) = h.3 ∙ ap (λ (i : ℕ). offset (chars text) i) (same_letter text h.0 k.0 h.1 k.1) ∙ sym k.3
 
 -- ---- one fault
 

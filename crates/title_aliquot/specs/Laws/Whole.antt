@@ -1,4 +1,4 @@
--- Whole texts: what was read to its end, and the place where reading stopped.
+-- Whole texts: what was read to its end, and the letter at which reading stopped.
 use Rattle.std.proofs.Common.{◌≡◌, ℕ, ◌-◌, ◌≤◌, ◌<◌, ◌==◌, Bool, false, List, [], ◌∷◌, length, refl, sym, subst, arith}
 use Rattle.std.specs.Bool.{Decides}
 use Rattle.std.specs.Prelude.{true}
@@ -7,7 +7,7 @@ use Rattle.std.proofs.lemmas.List.{append-nil}
 use Rattle.title_grammar.specs.Language.{Begins}
 use Rattle.title_grammar.specs.Reading.{Got, Stuck}
 use Rattle.title_grammar.specs.Laws.Repeat.{Fault, whole_found, whole_left, whole_stuck}
-use Rattle.title_grammar.specs.Laws.Places.{nothing_left, fault_shorter, FaultAfter, fault_after, begins_decided}
+use Rattle.title_grammar.specs.Laws.Faults.{nothing_left, fault_shorter, FaultAfter, fault_after, begins_decided}
 use Rattle.title_aliquot.specs.Grammar.{Syntax, Description}
 use Rattle.title_aliquot.specs.Readers.{description_at}
 use Rattle.title_aliquot.specs.Laws.Grammar.{description_exact}

@@ -4,7 +4,7 @@ use Rattle.std.proofs.Common.{ap, ◌∙◌, sym, subst, inl}
 use Rattle.std.proofs.Math.Path.{fun_ext}
 use Rattle.std.proofs.lemmas.Bool.{both_ways}
 use Rattle.std.proofs.lemmas.List.{reverse-append, take_more, take-append-drop}
-use Rattle.title_land.specs.declared.place.Township.{Township}
+use Rattle.title_land.specs.declared.survey.Township.{Township}
 use Rattle.title_land.specs.declared.tract.Land.{Land}
 use Rattle.title_store.specs.Plants.{Plant, SameContent, Refusal, refused_in, plant_effect}
 use Rattle.title_store.specs.Loans.{Loan, IsTaken, IsOut}
@@ -57,7 +57,7 @@ one_more :
 one_more xs k x h e =
     ap reverse (take_more xs k x h) ∙ reverse-append (take k xs) (get_or xs k x ∷ []) ∙ ap (λ y. y ∷ reverse (take k xs)) (sym e)
 
--- a list, the newest first, is its part after a place and the part up to there
+-- a list, the newest first, is its part after an index and the part up to there
 up_to : {A : Type 0} (xs : List A) (n : ℕ) → reverse xs ≡ reverse (drop n xs) ++ reverse (take n xs)
 up_to xs n = ap reverse (sym (take-append-drop n xs)) ∙ reverse-append (take n xs) (drop n xs)
 

@@ -8,13 +8,13 @@ use Rattle.std.proofs.lemmas.Bool.{and_parts, false_from_ne_true, both_ways, cas
 use Rattle.std.proofs.lemmas.List.{append-nil, take_more, take_all, flat_map_more}
 use Rattle.std.proofs.lemmas.List.Elements.{filter-append}
 use Rattle.std.proofs.lemmas.Grind.{flat_map-append}
-use Rattle.title_land.specs.declared.place.Township.{Township}
-use Rattle.title_land.specs.declared.place.Section.{Section}
-use Rattle.title_land.specs.declared.place.Cell.{Cell}
+use Rattle.title_land.specs.declared.survey.Township.{Township}
+use Rattle.title_land.specs.declared.survey.Section.{Section}
+use Rattle.title_land.specs.declared.survey.Cell.{Cell}
 use Rattle.title_land.specs.declared.grid.Grid.{Grid}
 use Rattle.title_land.specs.declared.tract.Land.{Land}
 use Rattle.title_land.specs.declared.tract.Land.TheVariants as land
-use Rattle.title_land.specs.Places.{same_township, same_section, IsSection, IsSectionNumber}
+use Rattle.title_land.specs.Survey.{same_township, same_section, IsSection, IsSectionNumber}
 use Rattle.title_land.specs.Grids.{grid_has}
 use Rattle.title_land.specs.Lands.{has}
 use Rattle.title_land.specs.CellLists.{section_if, sections_from, sections_of, section_cells, township_cells, plant_cells, cells_of}

@@ -4,12 +4,12 @@ use Rattle.std.proofs.Common.{ap, subst, ◌∙◌, arith}
 use Rattle.std.specs.Prelude.{nat_le}
 use Rattle.std.specs.List.{list_any, filter}
 use Rattle.std.proofs.lemmas.Bool.{and_parts, and_from, both_ways, eqb-true, eq-eqb, le-leb, leb-true, cases_eq}
-use Rattle.title_land.specs.declared.place.Township.{Township}
-use Rattle.title_land.specs.declared.place.Section.{Section}
-use Rattle.title_land.specs.declared.place.Cell.{Cell}
+use Rattle.title_land.specs.declared.survey.Township.{Township}
+use Rattle.title_land.specs.declared.survey.Section.{Section}
+use Rattle.title_land.specs.declared.survey.Cell.{Cell}
 use Rattle.title_land.specs.declared.rectangle.Quarter.{Quarter}
 use Rattle.title_land.specs.declared.rectangle.Quarter.TheVariants.{Northeast, Northwest, Southwest, Southeast}
-use Rattle.title_land.specs.Places.{is_on_grid, same_township, same_section, IsSection, IsSectionNumber}
+use Rattle.title_land.specs.Survey.{is_on_grid, same_township, same_section, IsSection, IsSectionNumber}
 use Rattle.title_land.specs.Nodes.{square, quarters, node_has}
 use Rattle.title_land.specs.Lands.{has, is_plant_cell}
 use Rattle.title_land.specs.CellLists.{same_cell, section_if, sections_from, sections_of, cells_below, section_cells, township_cells}

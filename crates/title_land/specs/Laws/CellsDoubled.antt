@@ -3,10 +3,10 @@ use Rattle.std.proofs.Common.{◌≡◌, ℕ, suc, ◌+◌, ◌*◌, ◌/◌, �
 use Rattle.std.specs.Prelude.{nat_lt}
 use Rattle.std.specs.List.{list_any}
 use Rattle.std.proofs.lemmas.Bool.{and_parts, ltb-true, lt-ltb, cases_eq}
-use Rattle.title_land.specs.declared.place.Cell.{Cell}
+use Rattle.title_land.specs.declared.survey.Cell.{Cell}
 use Rattle.title_land.specs.declared.node.Node.TheVariants as node
 use Rattle.title_land.specs.declared.tract.Land.TheVariants as land
-use Rattle.title_land.specs.Places.{side, is_on_grid, same_section}
+use Rattle.title_land.specs.Survey.{side, is_on_grid, same_section}
 use Rattle.title_land.specs.Lands.{has}
 use Rattle.title_land.specs.CellLists.{same_cell}
 use Rattle.title_land.specs.Doubled.{halved, cell_in, four_cells, doubled, FourCellsLieIn, DoubledHasTheCells, NodesHaveTheCells}

@@ -8,7 +8,7 @@ use Rattle.title_land.specs.declared.rectangle.Rectangle.{Rectangle}
 use Rattle.title_land.specs.declared.grid.Grid.{Grid}
 use Rattle.title_land.specs.Rectangles.{quarter_of, holds}
 use Rattle.title_land.specs.Nodes.{square}
-use Rattle.title_land.specs.Places.{side}
+use Rattle.title_land.specs.Survey.{side}
 use Rattle.title_land.specs.Grids.{fills, grid_has, grid_of, grids_meet}
 use Rattle.title_land.specs.Laws.GridLaws.{grid_has-grid_of}
 use Rattle.title_land.specs.Laws.GridSharing.{grids_from}

@@ -7,7 +7,7 @@ use Rattle.std.proofs.Common.{◌+◌, get_or, length, take, sym}
 use Rattle.std.proofs.lemmas.List.{append-nil, flat_map_more, map-append, take_all, take_more}
 use Rattle.std.specs.List.{flat_map}
 use Rattle.title_land.specs.declared.node.Node.{Node}
-use Rattle.title_land.specs.declared.place.Section.{Section}
+use Rattle.title_land.specs.declared.survey.Section.{Section}
 use Rattle.title_land.specs.Nodes.{quarters}
 use Rattle.title_land.specs.Covers.{cover_below, node_at}
 use Rattle.title_land.specs.Grids.{fills}

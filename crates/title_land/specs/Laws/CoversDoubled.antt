@@ -10,8 +10,8 @@ use Rattle.title_land.specs.declared.node.Node.TheVariants as node
 use Rattle.title_land.specs.declared.tract.Land.TheVariants as land
 use Rattle.title_land.specs.Rectangles.{holds}
 use Rattle.title_land.specs.Nodes.{square, are_related}
-use Rattle.title_land.specs.Places.{side}
-use Rattle.title_land.specs.Grids.{grid_has, grid_of, fills, places}
+use Rattle.title_land.specs.Survey.{side}
+use Rattle.title_land.specs.Grids.{grid_has, grid_of, fills, indices}
 use Rattle.title_land.specs.Covers.{cover_below, node_at}
 use Rattle.title_land.specs.Lands.{cover_of}
 use Rattle.std.specs.List.{list_any, range_with_len}
@@ -86,7 +86,7 @@ pub grid_same : (d : ℕ) (f g : ℕ → ℕ → Bool) → ((row column : ℕ) �
     → grid_of d f ≡ grid_of d g
 unfolding grid_of
 grid_same d f g h =
-    map_same (λ row. map (λ column. f row column) (places d)) (λ row. map (λ column. g row column) (places d)) 0 (side d)
+    map_same (λ row. map (λ column. f row column) (indices d)) (λ row. map (λ column. g row column) (indices d)) 0 (side d)
     (λ row r. map_same (λ column. f row column) (λ column. g row column) 0 (side d) (λ column c. h row column (omega arith) (omega arith)))
 
 -- the finer set of a section's set

@@ -9,9 +9,9 @@ use Rattle.std.proofs.lemmas.Option.{slice_get-get_or, slice_get_past}
 use Rattle.std.proofs.lemmas.List.FromFn.{length-map-range_with_len, get_or-map-range_with_len}
 use Rattle.title_land.specs.declared.grid.Grid.{Grid}
 use Rattle.title_land.specs.declared.rectangle.Rectangle.{Rectangle}
-use Rattle.title_land.specs.Places.{side}
+use Rattle.title_land.specs.Survey.{side}
 use Rattle.title_land.specs.Rectangles.{holds, InSection}
-use Rattle.title_land.specs.Grids.{grid_has, grid_of, with_rectangle, places, AddsRectangle}
+use Rattle.title_land.specs.Grids.{grid_has, grid_of, with_rectangle, indices, AddsRectangle}
 
 -- a list made from the numbers below n, at one of them
 made_at : {X : Type 0} (f : ℕ → X) (n i : ℕ) → i < n → slice_get (map f (range_with_len 0 n)) i ≡ Some (f i)
@@ -33,7 +33,7 @@ pub grid_has-grid_of : (depth : ℕ) (test : ℕ → ℕ → Bool) (row column :
 unfolding grid_of
 grid_has-grid_of depth test row column r c =
     ap (λ (cells : Option (List Bool)). row_get cells column)
-    (made_at (λ row. map (λ column. test row column) (places depth)) (side depth) row r)
+    (made_at (λ row. map (λ column. test row column) (indices depth)) (side depth) row r)
     ∙ ap (λ (cell : Option Bool). unwrap_or cell false) (made_at (λ column. test row column) (side depth) column c)
 
 -- off the grid it has no cell
@@ -41,7 +41,7 @@ pub grid_of-rows : (depth : ℕ) (test : ℕ → ℕ → Bool) (row column : ℕ
 unfolding grid_of
 grid_of-rows depth test row column r =
     ap (λ (cells : Option (List Bool)). row_get cells column)
-    (made_past (λ row. map (λ column. test row column) (places depth)) (side depth) row r)
+    (made_past (λ row. map (λ column. test row column) (indices depth)) (side depth) row r)
 
 -- nor past the last column
 pub grid_of-columns : (depth : ℕ) (test : ℕ → ℕ → Bool) (row column : ℕ) → row < side depth → side depth ≤ column
@@ -49,7 +49,7 @@ pub grid_of-columns : (depth : ℕ) (test : ℕ → ℕ → Bool) (row column : 
 unfolding grid_of
 grid_of-columns depth test row column r c =
     ap (λ (cells : Option (List Bool)). row_get cells column)
-    (made_at (λ row. map (λ column. test row column) (places depth)) (side depth) row r)
+    (made_at (λ row. map (λ column. test row column) (indices depth)) (side depth) row r)
     ∙ ap (λ (cell : Option Bool). unwrap_or cell false) (made_past (λ column. test row column) (side depth) column c)
 
 -- a set with a rectangle's cells added has, on the grid, its own cells and the rectangle's

@@ -7,22 +7,22 @@ use Rattle.std.proofs.lemmas.Bool.{and_parts, or_cases, or_left, or_right}
 use Rattle.std.proofs.lemmas.Option.{slice_get_within, get_or_from_slice_get}
 use Rattle.std.proofs.lemmas.List.Elements.{All-get_or}
 use Rattle.title_land.specs.declared.grid.Grid.{Grid}
-use Rattle.title_land.specs.Places.{side}
+use Rattle.title_land.specs.Survey.{side}
 use Rattle.title_land.specs.Grids.{grid_has, has_some, rows_meet, grids_meet, IsGrid}
 
--- an element of each list at one place, of which a test holds
+-- an element of each list at one index, of which a test holds
 record Pair {X Y : Type 0} (f : X → Y → Bool) (xs : List X) (ys : List Y) : Type 0 where
-  place : ℕ
+  index : ℕ
   left : X
   right : Y
-  left_at : slice_get xs place ≡ Some left
-  right_at : slice_get ys place ≡ Some right
+  left_at : slice_get xs index ≡ Some left
+  right_at : slice_get ys index ≡ Some right
   holds : f left right ≡ true
 
 -- a pair of two tails is one of the lists
 pair_later : {X Y : Type 0} (f : X → Y → Bool) (x : X) (y : Y) (xs : List X) (ys : List Y) → Pair f xs ys → Pair f (x ∷ xs) (y ∷ ys)
 pair_later f x y xs ys p = record {
-  place = suc p.place;
+  index = suc p.index;
   left = p.left;
   right = p.right;
   left_at = p.left_at;
@@ -30,12 +30,12 @@ pair_later f x y xs ys p = record {
   holds = p.holds;
 }
 
--- a test that holds of some pair of two lists holds at a place of both
+-- a test that holds of some pair of two lists holds at an index of both
 pair_found : {X Y : Type 0} (f : X → Y → Bool) (xs : List X) (ys : List Y) → list_any (λ p. f p.0 p.1) (zip xs ys) ≡ true → Pair f xs ys
 pair_found f [] ys h = absurd cc
 pair_found f (x ∷ xs) [] h = absurd cc
 pair_found f (x ∷ xs) (y ∷ ys) h = elim (or_cases (f x y) (list_any (λ p. f p.0 p.1) (zip xs ys)) h) [
-  | inl e ↦ record { place = 0; left = x; right = y; left_at = refl; right_at = refl; holds = e }
+  | inl e ↦ record { index = 0; left = x; right = y; left_at = refl; right_at = refl; holds = e }
   | inr e ↦ pair_later f x y xs ys (pair_found f xs ys e)
 ]
 
@@ -53,17 +53,17 @@ pair_from f (a ∷ xs) (b ∷ ys) (suc i) x y h k t =
 
 -- an element of which a test holds
 record One {X : Type 0} (f : X → Bool) (xs : List X) : Type 0 where
-  place : ℕ
+  index : ℕ
   value : X
-  value_at : slice_get xs place ≡ Some value
+  value_at : slice_get xs index ≡ Some value
   holds : f value ≡ true
 
--- a test that holds of some element holds at a place
+-- a test that holds of some element holds at an index
 one_found : {X : Type 0} (f : X → Bool) (xs : List X) → list_any f xs ≡ true → One f xs
 one_found f [] h = absurd cc
 one_found f (x ∷ xs) h = elim (or_cases (f x) (list_any f xs) h) [
-  | inl e ↦ record { place = 0; value = x; value_at = refl; holds = e }
-  | inr e ↦ let k = one_found f xs e in record { place = suc k.place; value = k.value; value_at = k.value_at; holds = k.holds }
+  | inl e ↦ record { index = 0; value = x; value_at = refl; holds = e }
+  | inr e ↦ let k = one_found f xs e in record { index = suc k.index; value = k.value; value_at = k.value_at; holds = k.holds }
 ]
 
 -- and the other way
@@ -104,7 +104,7 @@ grids_found g h m =
     let rows = pair_found rows_meet g h m in
     let cells = pair_found (λ a b. a && b) rows.left rows.right rows.holds in
     let both = and_parts cells.left cells.right cells.holds in
-    (rows.place, cells.place, has_from g _ _ _ _ rows.left_at cells.left_at both.0, has_from h _ _ _ _ rows.right_at cells.right_at both.1)
+    (rows.index, cells.index, has_from g _ _ _ _ rows.left_at cells.left_at both.0, has_from h _ _ _ _ rows.right_at cells.right_at both.1)
 
 -- and the other way
 pub grids_from : (g h : Grid) (row column : ℕ) → grid_has g row column ≡ true → grid_has h row column ≡ true → grids_meet g h ≡ true
@@ -118,7 +118,7 @@ pub some_found : (g : Grid) → has_some g ≡ true → (row : ℕ) × (column :
 some_found g m =
     let rows = one_found (λ row. list_any (λ cell. cell) row) g m in
     let cells = one_found (λ cell. cell) rows.value rows.holds in
-    (rows.place, cells.place, has_from g _ _ _ _ rows.value_at cells.value_at cells.holds)
+    (rows.index, cells.index, has_from g _ _ _ _ rows.value_at cells.value_at cells.holds)
 
 -- and the other way
 pub some_from : (g : Grid) (row column : ℕ) → grid_has g row column ≡ true → has_some g ≡ true
@@ -127,9 +127,9 @@ some_from g row column a =
     one_from (λ row. list_any (λ cell. cell) row) g row p.0 p.1 (one_from (λ cell. cell) p.0 column true p.2 refl)
 
 -- the cells of a set as large as its section's grid stand on the grid
-pub grid_places : (depth : ℕ) (g : Grid) (row column : ℕ) → IsGrid depth g → grid_has g row column ≡ true
+pub grid_within : (depth : ℕ) (g : Grid) (row column : ℕ) → IsGrid depth g → grid_has g row column ≡ true
     → (row < side depth) × (column < side depth)
-grid_places depth g row column size a =
+grid_within depth g row column size a =
     let p = has_parts g row column a in
     let inside : row < length g = slice_get_within g row p.0 p.1 in
     let wide = All-get_or (λ (cells : List Bool). length cells ≡ side depth) g row p.0 inside size.1 in

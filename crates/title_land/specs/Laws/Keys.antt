@@ -7,10 +7,10 @@ use Rattle.std.specs.declared.cmp.Ordering.TheVariants.{Less, Equal, Greater}
 use Rattle.std.specs.Ordering.{nat_cmp, bool_cmp, ordering_then}
 use Rattle.std.specs.Cmp.{Equal-is, tied_itself, nat_cmp_total, bool_cmp_total}
 use Rattle.std.specs.BTreeMap.{is_at}
-use Rattle.title_land.specs.declared.place.Township.{Township}
-use Rattle.title_land.specs.declared.place.Section.{Section}
-use Rattle.title_land.specs.declared.place.Cell.{Cell}
-use Rattle.title_land.specs.Places.{same_flag, same_township, same_section}
+use Rattle.title_land.specs.declared.survey.Township.{Township}
+use Rattle.title_land.specs.declared.survey.Section.{Section}
+use Rattle.title_land.specs.declared.survey.Cell.{Cell}
+use Rattle.title_land.specs.Survey.{same_flag, same_township, same_section}
 use Rattle.title_land.specs.CellLists.{same_cell}
 use Rattle.title_land.specs.Orders.{township_cmp, section_cmp, cell_cmp}
 use Rattle.title_land.specs.Laws.SameLand.{same_township-is, same_township-self, same_section-is, same_section-self}
@@ -78,7 +78,7 @@ cell_is a b h =
 pub same_cell-self : (a : Cell) → same_cell a a ≡ true
 same_cell-self a = and_from _ _ (and_from _ _ (same_section-self a.section) (eq-eqb a.row a.row refl)) (eq-eqb a.column a.column refl)
 
--- ---- each place compares alike to itself
+-- ---- each key compares alike to itself
 
 number_self : (n : ℕ) → nat_cmp n n ≡ Equal
 number_self n = tied_itself nat_cmp_total n
@@ -95,7 +95,7 @@ section_self s = rw (township_self s.township, number_self s.number) refl
 cell_self : (a : Cell) → cell_cmp a a ≡ Equal
 cell_self a = rw (section_self a.section, number_self a.row, number_self a.column) refl
 
--- ---- a map finds a place exactly at that place
+-- ---- a map finds a key exactly at that key
 
 pub township_at : (t q : Township) → is_at (township_cmp t) q ≡ same_township q t
 township_at t q = found_at township_cmp same_township t q (same_township-is q t) (township_tied t q) (township_self t)

@@ -7,18 +7,18 @@ use Rattle.std.proofs.lemmas.List.{append-nil}
 use Rattle.std.proofs.lemmas.List.Elements.{All-map}
 use Rattle.std.proofs.lemmas.List.FromFn.{length-map-range_with_len}
 use Rattle.std.proofs.Math.Bool.{or-false}
-use Rattle.title_land.specs.declared.place.Section.{Section}
-use Rattle.title_land.specs.declared.place.Cell.{Cell}
+use Rattle.title_land.specs.declared.survey.Section.{Section}
+use Rattle.title_land.specs.declared.survey.Cell.{Cell}
 use Rattle.title_land.specs.declared.grid.Grid.{Grid}
 use Rattle.title_land.specs.declared.rectangle.Quarter.{Quarter}
 use Rattle.title_land.specs.declared.rectangle.Quarter.TheVariants.{Northeast, Northwest, Southwest, Southeast}
 use Rattle.title_land.specs.declared.node.Node.{Node}
 use Rattle.title_land.specs.declared.node.Node.TheVariants as node
 use Rattle.title_land.specs.declared.tract.Land.TheVariants as land
-use Rattle.title_land.specs.Places.{side, same_section}
+use Rattle.title_land.specs.Survey.{side, same_section}
 use Rattle.title_land.specs.Rectangles.{holds, InSection}
 use Rattle.title_land.specs.Nodes.{square, same_quarter, node_has, are_related, IsNode}
-use Rattle.title_land.specs.Grids.{grid_has, grid_of, fills, places, IsGrid}
+use Rattle.title_land.specs.Grids.{grid_has, grid_of, fills, indices, IsGrid}
 use Rattle.title_land.specs.Covers.{cover_below, section_cover, node_at}
 use Rattle.title_land.specs.CoverSets.{quarter_before, path_before}
 use Rattle.title_land.specs.Lands.{has, cover_of, land_of, meets, IsLand}
@@ -176,8 +176,8 @@ cover_of-land_of d (node.Part s w) h =
 pub is_grid-grid_of : (d : ℕ) (test : ℕ → ℕ → Bool) → IsGrid d (grid_of d test)
 unfolding grid_of
 is_grid-grid_of d test = (
-  length-map-range_with_len (λ row. map (λ column. test row column) (places d)) 0 (side d),
-  All-map (λ (row : List Bool). length row ≡ side d) (λ row. map (λ column. test row column) (places d)) (places d)
+  length-map-range_with_len (λ row. map (λ column. test row column) (indices d)) 0 (side d),
+  All-map (λ (row : List Bool). length row ≡ side d) (λ row. map (λ column. test row column) (indices d)) (indices d)
       (λ k x l. length-map-range_with_len (λ column. test _ column) 0 (side d)),
 )
 

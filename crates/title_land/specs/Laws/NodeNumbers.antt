@@ -3,12 +3,12 @@ use Rattle.std.proofs.Common.{◌≡◌, ◌≢◌, ◌<◌, ◌+◌, ◌*◌, �
 use Rattle.std.proofs.Common.{List, [], ◌∷◌, Option, Some, unwrap_or, inl, inr, refl, sym, ap, ◌∙◌, arith}
 use Rattle.std.specs.Prelude.{nat_le}
 use Rattle.std.proofs.lemmas.Bool.{and_from, or_cases, eqb-true, eq-eqb, leb-true, le-leb, false_from_ne_true, true≢false}
-use Rattle.title_land.specs.declared.place.Township.{Township}
-use Rattle.title_land.specs.declared.place.Section.{Section}
+use Rattle.title_land.specs.declared.survey.Township.{Township}
+use Rattle.title_land.specs.declared.survey.Section.{Section}
 use Rattle.title_land.specs.declared.rectangle.Quarter.{Quarter}
 use Rattle.title_land.specs.declared.node.Node.{Node}
 use Rattle.title_land.specs.declared.node.Node.TheVariants as node
-use Rattle.title_land.specs.Places.{same_flag, same_township, same_section}
+use Rattle.title_land.specs.Survey.{same_flag, same_township, same_section}
 use Rattle.title_land.specs.Nodes.{same_node, is_square, parent_of, above, is_above}
 use Rattle.title_land.specs.Laws.PathNumbers.{quarter_below, path_positive, path_number-is}
 use Rattle.std.proofs.lemmas.Map.Lookups.{exact_unsigned}

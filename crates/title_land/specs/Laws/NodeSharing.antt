@@ -3,14 +3,14 @@ use Rattle.std.proofs.Common.{◌≡◌, ℕ, ◌+◌, ◌-◌, ◌<◌, ◌≤�
 use Rattle.std.proofs.Common.{sym, ap, subst, ◌∙◌, arith, lit≤}
 use Rattle.std.specs.Prelude.{nat_lt, ◌↔◌}
 use Rattle.std.proofs.lemmas.Bool.{and_parts, and_from, or_cases, or_left, or_right, lt-ltb, cases_lt, false≢true}
-use Rattle.title_land.specs.declared.place.Township.{Township}
-use Rattle.title_land.specs.declared.place.Section.{Section}
-use Rattle.title_land.specs.declared.place.Cell.{Cell}
+use Rattle.title_land.specs.declared.survey.Township.{Township}
+use Rattle.title_land.specs.declared.survey.Section.{Section}
+use Rattle.title_land.specs.declared.survey.Cell.{Cell}
 use Rattle.title_land.specs.declared.rectangle.Quarter.{Quarter}
 use Rattle.title_land.specs.declared.node.Within.{Within}
 use Rattle.title_land.specs.declared.node.Node.{Node}
 use Rattle.title_land.specs.declared.node.Node.TheVariants as node
-use Rattle.title_land.specs.Places.{side, is_on_grid, same_township, same_section}
+use Rattle.title_land.specs.Survey.{side, is_on_grid, same_township, same_section}
 use Rattle.title_land.specs.Rectangles.{holds, SharesCell}
 use Rattle.title_land.specs.Nodes.{square, same_node, above_in, above, is_above, are_related, node_has, IsNode}
 use Rattle.title_land.specs.NodeLaws.{NodesShareACell, AboveIsTransitive, AboveHasTheCells, SameNodesAreEqual}

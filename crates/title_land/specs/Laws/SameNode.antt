@@ -7,7 +7,7 @@ use Rattle.title_land.specs.declared.rectangle.Quarter.TheVariants.{Northeast, N
 use Rattle.title_land.specs.declared.node.Node.{Node}
 use Rattle.title_land.specs.declared.node.Node.TheVariants as node
 use Rattle.title_land.specs.Nodes.{same_quarter, same_path, same_node}
-use Rattle.title_land.specs.Places.{same_section}
+use Rattle.title_land.specs.Survey.{same_section}
 use Rattle.title_land.specs.Laws.SameLand.{same_township-is, same_township-self, same_section-is, same_section-self}
 
 pub same_quarter-is : (a b : Quarter) → same_quarter a b ≡ true → a ≡ b

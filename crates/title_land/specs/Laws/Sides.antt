@@ -2,11 +2,11 @@
 use Rattle.std.proofs.Common.{◌≡◌, ℕ, ◌*◌, Some, ◌≤◌, refl, sym, ap, arith, lit≤}
 use Rattle.title_land.specs.declared.rectangle.Rectangle.{Rectangle}
 use Rattle.title_land.specs.declared.acres.TheConstants.{CELL_HALF_ACRES, TOWNSHIP_HALF_ACRES}
-use Rattle.title_land.specs.declared.place.Township.{Township}
+use Rattle.title_land.specs.declared.survey.Township.{Township}
 use Rattle.title_land.specs.declared.tract.Land.TheVariants as land
 use Rattle.title_land.specs.Acres.{half_acres_of, cell_half_acres}
 use Rattle.title_land.specs.Depth.{depth}
-use Rattle.title_land.specs.Places.{side}
+use Rattle.title_land.specs.Survey.{side}
 use Rattle.title_land.specs.Rectangles.{section_square, InSection}
 use Rattle.title_land.specs.declared.rectangle.TheConstants.{DEPTH, SIDE, ROWS}
 

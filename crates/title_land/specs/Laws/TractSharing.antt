@@ -2,13 +2,13 @@
 use Rattle.std.proofs.Common.{◌≡◌, ◌↔◌, ℕ, ◌<◌, Bool, true, ◌&&◌, refl}
 use Rattle.std.specs.Prelude.{nat_lt}
 use Rattle.std.proofs.lemmas.Bool.{and_parts, and_from, lt-ltb}
-use Rattle.title_land.specs.declared.place.Township.{Township}
-use Rattle.title_land.specs.declared.place.Section.{Section}
-use Rattle.title_land.specs.declared.place.Cell.{Cell}
+use Rattle.title_land.specs.declared.survey.Township.{Township}
+use Rattle.title_land.specs.declared.survey.Section.{Section}
+use Rattle.title_land.specs.declared.survey.Cell.{Cell}
 use Rattle.title_land.specs.declared.grid.Grid.{Grid}
 use Rattle.title_land.specs.declared.tract.Land.{Land}
 use Rattle.title_land.specs.declared.tract.Land.TheVariants as land
-use Rattle.title_land.specs.Places.{side, is_on_grid, same_township, same_section}
+use Rattle.title_land.specs.Survey.{side, is_on_grid, same_township, same_section}
 use Rattle.title_land.specs.Grids.{grid_has, has_some, grids_meet}
 use Rattle.title_land.specs.Lands.{has, meets, Meets, IsLand}
 use Rattle.title_land.specs.SharedCells.{MeetsAtACell, CommonCellMeets, MeetsEitherWay}
@@ -16,7 +16,7 @@ use Rattle.title_land.specs.Laws.SameLand.{same_township-is, same_township-self,
 use Rattle.title_land.specs.Laws.Squares.{pow_positive}
 use Rattle.title_land.specs.Laws.NodeSharing.{some_township, first_section, cell_at}
 use Rattle.title_land.specs.Laws.LandSharing.{equal_tests}
-use Rattle.title_land.specs.Laws.GridSharing.{grids_found, grids_from, some_found, some_from, grid_places}
+use Rattle.title_land.specs.Laws.GridSharing.{grids_found, grids_from, some_found, some_from, grid_within}
 
 -- a cell that lies in both, on the grid where both are as large as it
 record Common (a b : Land) : Type 0 where
@@ -29,7 +29,7 @@ record Common (a b : Land) : Type 0 where
 turned : (a b : Land) → Common a b → Common b a
 turned a b c = record { cell = c.cell; in_a = c.in_b; in_b = c.in_a; on_grid = λ depth h k. c.on_grid depth k h }
 
--- a place on the grid
+-- a row and a column on the grid
 stands : (depth row column : ℕ) → row < side depth → column < side depth → (nat_lt row (side depth) && nat_lt column (side depth)) ≡ true
 stands depth row column h k = and_from (nat_lt row (side depth)) (nat_lt column (side depth)) (lt-ltb row (side depth) h)
     (lt-ltb column (side depth) k)
@@ -58,7 +58,7 @@ part_everything s g h =
       cell = cell_at s k.0 k.1;
       in_a = and_from (same_section s s) (grid_has g k.0 k.1) (same_section-self s) k.2;
       in_b = refl;
-      on_grid = λ depth a b. let p = grid_places depth g k.0 k.1 a k.2 in stands depth k.0 k.1 p.0 p.1;
+      on_grid = λ depth a b. let p = grid_within depth g k.0 k.1 a k.2 in stands depth k.0 k.1 p.0 p.1;
     }
 
 -- with the cell's township
@@ -72,7 +72,7 @@ part_township s g t h =
       cell = cell_at s k.0 k.1;
       in_a = and_from (same_section s s) (grid_has g k.0 k.1) (same_section-self s) k.2;
       in_b = same_township_turned s.township t m.0;
-      on_grid = λ depth a b. let p = grid_places depth g k.0 k.1 a k.2 in stands depth k.0 k.1 p.0 p.1;
+      on_grid = λ depth a b. let p = grid_within depth g k.0 k.1 a k.2 in stands depth k.0 k.1 p.0 p.1;
     }
 
 -- with a set of the same section
@@ -85,7 +85,7 @@ part_part s u g h m =
       cell = cell_at s k.0 k.1;
       in_a = and_from (same_section s s) (grid_has g k.0 k.1) (same_section-self s) k.2;
       in_b = and_from (same_section u s) (grid_has h k.0 k.1) (same_section_turned s u e.0) k.3;
-      on_grid = λ depth a b. let p = grid_places depth g k.0 k.1 a k.2 in stands depth k.0 k.1 p.0 p.1;
+      on_grid = λ depth a b. let p = grid_within depth g k.0 k.1 a k.2 in stands depth k.0 k.1 p.0 p.1;
     }
 
 -- tracts that meet have a cell in common

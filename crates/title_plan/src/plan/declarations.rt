@@ -4,7 +4,7 @@ ghost use Rattle.std.specs.Prelude.{◌≡◌, ◌≤◌, ◌==◌, ◌⊎◌, �
 ghost use Rattle.std.specs.Prelude.{drop, length, nat_le, take};
 ghost use Rattle.std.specs.List.{list_any};
 ghost use Rattle.std.specs.Str.{bytes_eq};
-ghost use Rattle.title_land.specs.Places.{same_township};
+ghost use Rattle.title_land.specs.Survey.{same_township};
 ghost use Rattle.title_plan.specs.declared.fault.ScriptFault.TheVariants as fault;
 ghost use Rattle.title_plan.specs.Asked.{asked_in};
 ghost use Rattle.title_plan.specs.Lands.{land_in};

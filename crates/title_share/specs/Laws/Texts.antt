@@ -178,11 +178,11 @@ first_slash top bottom a h =
 share_found : (top bottom : List ℕ) (a b n : ℕ) → IsNumber top a → IsNumber bottom b → IsFraction a b n →
     share_in (top ++ 47 ∷ bottom) ≡ Some n
 share_found top bottom a b n above below h =
-    let place = first_slash top bottom a above in
+    let slash = first_slash top bottom a above in
     let before : before_first is_slash (top ++ 47 ∷ bottom) ≡ top =
-    ap (λ (i : ℕ). take i (top ++ 47 ∷ bottom)) place ∙ take_at top (47 ∷ bottom) (length top) refl in
+    ap (λ (i : ℕ). take i (top ++ 47 ∷ bottom)) slash ∙ take_at top (47 ∷ bottom) (length top) refl in
     let after : after_first is_slash (top ++ 47 ∷ bottom) ≡ bottom =
-    ap (λ (i : ℕ). drop (i + 1) (top ++ 47 ∷ bottom)) place ∙ drop-append-add top (47 ∷ bottom) 1 in
+    ap (λ (i : ℕ). drop (i + 1) (top ++ 47 ∷ bottom)) slash ∙ drop-append-add top (47 ∷ bottom) 1 in
     ap (λ (t : List ℕ). units_of_fraction (number_in t) (number_in (after_first is_slash (top ++ 47 ∷ bottom)))) before
     ∙ ap (λ (t : List ℕ). units_of_fraction (number_in top) (number_in t)) after
     ∙ ap (λ (x : Option ℕ). units_of_fraction x (number_in bottom)) ((numbers_read top a).1 above)

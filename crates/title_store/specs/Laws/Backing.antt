@@ -6,8 +6,8 @@ use Rattle.std.specs.List.{AllByRecursion}
 use Rattle.std.specs.Ordering.{nat_cmp}
 use Rattle.std.specs.Map.{lookup}
 use Rattle.std.specs.BTreeMap.{BTreeMap, get, is_at, IsOrdered}
-use Rattle.title_land.specs.declared.place.Cell.{Cell}
-use Rattle.title_land.specs.declared.place.Township.{Township}
+use Rattle.title_land.specs.declared.survey.Cell.{Cell}
+use Rattle.title_land.specs.declared.survey.Township.{Township}
 use Rattle.title_land.specs.declared.tract.Land.{Land}
 use Rattle.title_land.specs.CellLists.{same_cell, cells_of}
 use Rattle.title_instrument.specs.declared.owners.Owners.{Owners}
@@ -56,12 +56,12 @@ keeps_from p ts land ks e c =
     go true = refl
     go false = refl
 
--- places for a tract's listed cells are places for its cells
-pub places_for : (ts : List Township) (land : Land) (m : CellMap) → AllByRecursion (λ c. is_there m c ≡ true) (cells_of depth ts land)
+-- slots for a tract's listed cells are slots for its cells
+pub slots_for : (ts : List Township) (land : Land) (m : CellMap) → AllByRecursion (λ c. is_there m c ≡ true) (cells_of depth ts land)
     → (c : Cell) → is_cell_of depth ts land c ≡ true → is_there m c ≡ true
-places_for ts land m h c l = each_listed (λ x. is_there m x ≡ true) (cells_of depth ts land) c h (listed_is ts land c ∙ l)
+slots_for ts land m h c l = each_listed (λ x. is_there m x ≡ true) (cells_of depth ts land) c h (listed_is ts land c ∙ l)
 
--- places that stay back what is out
+-- slots that stay back what is out
 pub backed_stays : (ts : List Township) (m k : CellMap) (lent : BTreeMap ℕ Lent) → ((c : Cell) → is_there m c ≡ true → is_there k c ≡ true)
     → AreBacked ts m lent → AreBacked ts k lent
 backed_stays ts m k lent f h n l e c = let b = h n l e c in (b.0, λ i. f c (b.1 i))

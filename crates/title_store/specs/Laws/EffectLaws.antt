@@ -1,7 +1,7 @@
 -- A post depends on the cells of its tract, and changes no others.
 use Rattle.std.proofs.Common.{◌≡◌, ℕ, Bool, true, false, cond, List, [], ◌∷◌, Option, is_some, refl, ap, ◌∙◌}
 use Rattle.std.specs.List.{AllByRecursion}
-use Rattle.title_land.specs.declared.place.Cell.{Cell}
+use Rattle.title_land.specs.declared.survey.Cell.{Cell}
 use Rattle.title_land.specs.CellLists.{cells_of}
 use Rattle.title_instrument.specs.declared.instrument.Instrument.{Instrument}
 use Rattle.title_instrument.specs.declared.owners.Effect.{Effect}
@@ -13,7 +13,7 @@ use Rattle.title_instrument.specs.Estates.{names}
 use Rattle.title_instrument.specs.Owners.{holding_of}
 use Rattle.title_instrument.specs.Parties.{estates_of}
 use Rattle.title_instrument.specs.Laws.EffectLaws.{unnamed_in}
-use Rattle.title_land.specs.declared.place.Township.{Township}
+use Rattle.title_land.specs.declared.survey.Township.{Township}
 use Rattle.title_land.specs.declared.tract.Land.{Land}
 use Rattle.title_store.specs.Plants.{Plant, Refusal, is_cell_of, failing_or, first_failing, refusal_of, refused_in, done_or, plant_effect}
 use Rattle.title_store.specs.StoreLaws.{RefusedSame, EffectSame, EffectOutside, EffectRefused}

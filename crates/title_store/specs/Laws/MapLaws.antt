@@ -7,13 +7,13 @@ use Rattle.std.proofs.lemmas.List.{take_more}
 use Rattle.std.proofs.lemmas.Bool.{or_cases}
 use Rattle.std.specs.List.{AllByRecursion, list_any}
 use Rattle.std.specs.BTreeMap.{BTreeMap, get, is_at}
-use Rattle.title_land.specs.declared.place.Cell.{Cell}
+use Rattle.title_land.specs.declared.survey.Cell.{Cell}
 use Rattle.title_land.specs.CellLists.{same_cell, cells_of}
 use Rattle.title_instrument.specs.declared.owners.Owners.{Owners}
 use Rattle.title_instrument.specs.Owners.{opening_owners}
 use Rattle.title_store.specs.declared.kept.Kept.{Kept}
 use Rattle.title_store.specs.Plants.{Plant, Failing, is_cell_of, first_failing, refusal_of, refused_in, done_or, plant_effect}
-use Rattle.title_land.specs.declared.place.Township.{Township}
+use Rattle.title_land.specs.declared.survey.Township.{Township}
 use Rattle.title_land.specs.declared.tract.Land.{Land}
 use Rattle.title_instrument.specs.declared.instrument.Instrument.{Instrument}
 use Rattle.title_instrument.specs.Effect.{cell_effect}
@@ -34,9 +34,9 @@ abbrev pub holds : BTreeMap Cell Owners → Cell → Bool
 holds m c = is_some (get cell_cmp m c)
 
 -- opening owners at a cell that the map doesn't hold change nothing
-pub placed_content : (m n : BTreeMap Cell Owners) (k : Cell) → Writes m n k opening_owners → holds m k ≡ false → (q : Cell)
+pub slot_content : (m n : BTreeMap Cell Owners) (k : Cell) → Writes m n k opening_owners → holds m k ≡ false → (q : Cell)
     → in_map n q ≡ in_map m q
-placed_content m n k h none q = ap (λ (o : Option Owners). unwrap_or o opening_owners) (h q) ∙ go (is_at (cell_cmp k) q) refl
+slot_content m n k h none q = ap (λ (o : Option Owners). unwrap_or o opening_owners) (h q) ∙ go (is_at (cell_cmp k) q) refl
   where
     absent : (o : Option Owners) → is_some o ≡ false → unwrap_or o opening_owners ≡ opening_owners
     absent None e = refl

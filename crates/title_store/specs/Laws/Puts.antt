@@ -5,8 +5,8 @@ use Rattle.std.specs.Prelude.{unwrap_or}
 use Rattle.std.specs.List.{AllByRecursion}
 use Rattle.std.specs.Ordering.{nat_cmp}
 use Rattle.std.specs.BTreeMap.{BTreeMap, get, is_at, insert_entry}
-use Rattle.title_land.specs.declared.place.Township.{Township}
-use Rattle.title_land.specs.declared.place.Cell.{Cell}
+use Rattle.title_land.specs.declared.survey.Township.{Township}
+use Rattle.title_land.specs.declared.survey.Cell.{Cell}
 use Rattle.title_land.specs.declared.node.Node.{Node}
 use Rattle.title_land.specs.declared.tract.Land.{Land}
 use Rattle.title_land.specs.CellLists.{cells_of}
@@ -20,7 +20,7 @@ use Rattle.title_store.specs.Loans.{AllBelow, IsTaken}
 use Rattle.title_store.specs.CellMaps.{is_there, kept_at, kept_cells, keep_from, loans_of, AreBacked}
 use Rattle.title_store.specs.Laws.LoanLaws.{insert_last, loans_push, below_push}
 use Rattle.title_store.specs.Laws.MapLaws.{cells_kept, held_from, listed_is, refused_by}
-use Rattle.title_store.specs.Laws.Backing.{keeps_from, places_for, backed_stays, backed_more}
+use Rattle.title_store.specs.Laws.Backing.{keeps_from, slots_for, backed_stays, backed_more}
 
 -- why a put is refused, from the first failing cell
 pub refused_put : (i : Instrument ℕ) (p : Plant) (ts : List Township) (land : Land) (cells : List Cell) (f : Failing) (n : Node)
@@ -61,24 +61,24 @@ taken p ts land cells old new n l listed same kept below entries =
     }
 
 -- every image that is out can go back after a put
-pub backed_after : (p : Plant) (ts : List Township) (land : Land) (cells : List Cell) (m placed written : CellMap)
+pub backed_after : (p : Plant) (ts : List Township) (land : Land) (cells : List Cell) (m slotted written : CellMap)
     (old new : BTreeMap ℕ Lent) (n : ℕ) (l : Lent)
     → cells ≡ cells_of depth ts land → l.land ≡ land → l.old.items ≡ keep_from p cells
-    → ((c : Cell) → is_there m c ≡ true → is_there placed c ≡ true) → AllByRecursion (λ c. is_there placed c ≡ true) cells
-    → ((c : Cell) → is_there placed c ≡ true → is_there written c ≡ true)
+    → ((c : Cell) → is_there m c ≡ true → is_there slotted c ≡ true) → AllByRecursion (λ c. is_there slotted c ≡ true) cells
+    → ((c : Cell) → is_there slotted c ≡ true → is_there written c ≡ true)
     → ((q : ℕ) → get nat_cmp new q ≡ cond (is_at (nat_cmp n) q) (Some l) (get nat_cmp old q)) → AreBacked ts m old
     → AreBacked ts written new
-backed_after p ts land cells m placed written old new n l listed same kept stays there stays2 updates backed =
-    let places = places_for ts land placed (subst (AllByRecursion (λ (c : Cell). is_there placed c ≡ true)) listed there) in
+backed_after p ts land cells m slotted written old new n l listed same kept stays there stays2 updates backed =
+    let slots = slots_for ts land slotted (subst (AllByRecursion (λ (c : Cell). is_there slotted c ≡ true)) listed there) in
     backed_more ts written old new n l updates
-    (backed_stays ts placed written old stays2 (backed_stays ts m placed old stays backed))
+    (backed_stays ts slotted written old stays2 (backed_stays ts m slotted old stays backed))
     (λ c. (
       keeps_from p ts land l.old.items (kept ∙ ap (keep_from p) listed) c ∙ ap (λ (x : Land). is_cell_of depth ts x c) (sym same),
-      λ h. stays2 c (places c (ap (λ (x : Land). is_cell_of depth ts x c) (sym same) ∙ h)),
+      λ h. stays2 c (slots c (ap (λ (x : Land). is_cell_of depth ts x c) (sym same) ∙ h)),
     ))
 
--- the cells that are written have places
-pub places_kept : (q : Plant) (m : CellMap) (cells : List Cell) (ks : List Kept) → ks ≡ keep_from q cells
+-- the cells that are written have slots
+pub slots_kept : (q : Plant) (m : CellMap) (cells : List Cell) (ks : List Kept) → ks ≡ keep_from q cells
     → AllByRecursion (λ c. is_there m c ≡ true) cells → AllByRecursion (λ c. is_there m c ≡ true) (kept_cells ks)
-places_kept q m cells ks kept there = subst (AllByRecursion (λ (c : Cell). is_there m c ≡ true))
+slots_kept q m cells ks kept there = subst (AllByRecursion (λ (c : Cell). is_there m c ≡ true))
     (sym (ap kept_cells kept ∙ cells_kept q cells)) there

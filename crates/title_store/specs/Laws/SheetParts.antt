@@ -5,9 +5,9 @@ use Rattle.std.specs.Prelude.{nat_lt}
 use Rattle.std.specs.List.{flat_map}
 use Rattle.std.proofs.lemmas.Bool.{cases_Bool, lt-ltb, ltb-true}
 use Rattle.std.proofs.lemmas.List.{append-nil}
-use Rattle.title_land.specs.declared.place.Township.{Township}
-use Rattle.title_land.specs.declared.place.Section.{Section}
-use Rattle.title_land.specs.declared.place.Cell.{Cell}
+use Rattle.title_land.specs.declared.survey.Township.{Township}
+use Rattle.title_land.specs.declared.survey.Section.{Section}
+use Rattle.title_land.specs.declared.survey.Cell.{Cell}
 use Rattle.title_land.specs.declared.rectangle.Quarter.{Quarter}
 use Rattle.title_land.specs.declared.rectangle.Quarter.TheVariants.{Northeast, Northwest, Southwest, Southeast}
 use Rattle.title_land.specs.declared.node.Node.{Node}

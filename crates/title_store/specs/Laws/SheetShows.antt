@@ -4,12 +4,12 @@ use Rattle.std.proofs.Common.{Some, refl, sym, ap, subst, ◌∙◌, arith}
 use Rattle.std.proofs.lemmas.Bool.{and_parts, or_cases, both_ways}
 use Rattle.std.specs.List.{list_any, flat_map}
 use Rattle.title_share.specs.Division.{Division, rows_of}
-use Rattle.title_land.specs.declared.place.Township.{Township}
-use Rattle.title_land.specs.declared.place.Cell.{Cell}
+use Rattle.title_land.specs.declared.survey.Township.{Township}
+use Rattle.title_land.specs.declared.survey.Cell.{Cell}
 use Rattle.title_land.specs.declared.node.Node.{Node}
 use Rattle.title_land.specs.declared.node.Node.TheVariants as node
 use Rattle.title_land.specs.declared.tract.Land.{Land}
-use Rattle.title_land.specs.Places.{is_on_grid, same_township}
+use Rattle.title_land.specs.Survey.{is_on_grid, same_township}
 use Rattle.title_land.specs.Nodes.{same_node, is_above, node_has, parent_of, IsNode}
 use Rattle.title_land.specs.Lands.{has, cover_of, is_plant_cell}
 use Rattle.title_land.specs.CellLists.{node_cells}

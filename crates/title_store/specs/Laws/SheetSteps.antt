@@ -5,8 +5,8 @@ use Rattle.std.proofs.lemmas.Bool.{false_from_ne_true}
 use Rattle.std.proofs.lemmas.List.{drop_more, drop_all}
 use Rattle.std.specs.List.{list_all, flat_map}
 use Rattle.title_share.specs.Division.{Division}
-use Rattle.title_land.specs.declared.place.Township.{Township}
-use Rattle.title_land.specs.declared.place.Cell.{Cell}
+use Rattle.title_land.specs.declared.survey.Township.{Township}
+use Rattle.title_land.specs.declared.survey.Cell.{Cell}
 use Rattle.title_land.specs.declared.node.Node.{Node}
 use Rattle.title_land.specs.CellLists.{node_cells, children_of}
 use Rattle.title_instrument.specs.declared.parts.Estate.{Estate}

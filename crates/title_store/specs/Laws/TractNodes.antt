@@ -5,9 +5,9 @@ use Rattle.std.proofs.lemmas.Bool.{and_from, and_parts, cases_eq}
 use Rattle.std.specs.Prelude.{nat_lt}
 use Rattle.std.proofs.Common.{inl, inr}
 use Rattle.std.specs.List.{AllByRecursion}
-use Rattle.title_land.specs.declared.place.Township.{Township}
-use Rattle.title_land.specs.declared.place.Section.{Section}
-use Rattle.title_land.specs.declared.place.Cell.{Cell}
+use Rattle.title_land.specs.declared.survey.Township.{Township}
+use Rattle.title_land.specs.declared.survey.Section.{Section}
+use Rattle.title_land.specs.declared.survey.Cell.{Cell}
 use Rattle.title_land.specs.declared.rectangle.Quarter.{Quarter}
 use Rattle.title_land.specs.declared.rectangle.Quarter.TheVariants.{Northeast, Northwest, Southwest, Southeast}
 use Rattle.title_land.specs.declared.rectangle.Rectangle.{Rectangle}
@@ -16,7 +16,7 @@ use Rattle.title_land.specs.declared.node.Node.TheVariants as node
 use Rattle.title_land.specs.declared.node.Within.{Within}
 use Rattle.title_land.specs.declared.tract.Land.{Land}
 use Rattle.title_land.specs.declared.tract.Land.TheVariants as land
-use Rattle.title_land.specs.Places.{same_township, same_section}
+use Rattle.title_land.specs.Survey.{same_township, same_section}
 use Rattle.title_land.specs.Rectangles.{holds, quarter_of}
 use Rattle.title_land.specs.Nodes.{square, quarters, node_has}
 use Rattle.title_land.specs.Grids.{grid_has, range_all, row_fills, fills}

@@ -11,11 +11,11 @@ pub returns-in-Ok-clause-lot : goal.returns-in-Ok-clause-lot
 returns-in-Ok-clause-lot c =
     let read = ap (word_at (codes "lot")) (sym c.new.ensures.new) ∙ c.in-Ok.ensures.read in
     lot_result c.step_may_begin.result (letters (chars c.split_at_letter.result.0.now)) (letters (chars c.split_at_letter.result.1.now))
-    (take c.args.place (letters (chars c.args.text.now))) (drop c.args.place (letters (chars c.args.text.now))) _
+    (take c.args.index (letters (chars c.args.text.now))) (drop c.args.index (letters (chars c.args.text.now))) _
     c.split_at_letter.ensures.before c.split_at_letter.ensures.after read c.step_may_begin.ensures.may
 
 pub returns-in-Err-Stuck-clause-lot : goal.returns-in-Err-Stuck-clause-lot
 returns-in-Err-Stuck-clause-lot c =
     let read = ap (word_at (codes "lot")) (sym c.new.ensures.new) ∙ (rw c.in-Err-Stuck.field-0-is at c.in-Err-Stuck.ensures.read) in
-    no_lot (letters (chars c.split_at_letter.result.1.now)) (take c.args.place (letters (chars c.args.text.now)))
-    (drop c.args.place (letters (chars c.args.text.now))) _ c.split_at_letter.ensures.after read
+    no_lot (letters (chars c.split_at_letter.result.1.now)) (take c.args.index (letters (chars c.args.text.now)))
+    (drop c.args.index (letters (chars c.args.text.now))) _ c.split_at_letter.ensures.after read

@@ -12,13 +12,13 @@ returns-in-Ok-clause-says c =
 pub returns-then-branch-clause-fault : goal.returns-then-branch-clause-fault
 returns-then-branch-clause-fault c = λ n.
     let short : length c.args.text.now ≤ 1000 = omega arith in
-    let bad = bad_letter c.args.text.now c.in-Err-Letter.place short (rw c.in-Err-Letter.field-0-is at c.in-Err-Letter.ensures.answers) in
-    is_lots c.args.text.now c.in-Err-Letter.place c.in_ok-is_lot.field-0 bad c.in_ok-is_lot.ensures.lot c.if-branch.true
+    let bad = bad_letter c.args.text.now c.in-Err-Letter.index short (rw c.in-Err-Letter.field-0-is at c.in-Err-Letter.ensures.answers) in
+    is_lots c.args.text.now c.in-Err-Letter.index c.in_ok-is_lot.field-0 bad c.in_ok-is_lot.ensures.lot c.if-branch.true
 
 pub returns-clause-fault : goal.returns-clause-fault
 returns-clause-fault c = λ n.
     let short : length c.args.text.now ≤ 1000 = omega arith in
-    let bad = bad_letter c.args.text.now c.in-Err-Letter.place short (rw c.in-Err-Letter.field-0-is at c.in-Err-Letter.ensures.answers) in
-    is_bad_text c.args.text.now c.in-Err-Letter.place c.offset_of.result c.in_ok-is_lot.field-0 bad
+    let bad = bad_letter c.args.text.now c.in-Err-Letter.index short (rw c.in-Err-Letter.field-0-is at c.in-Err-Letter.ensures.answers) in
+    is_bad_text c.args.text.now c.in-Err-Letter.index c.offset_of.result c.in_ok-is_lot.field-0 bad
     c.in_ok-is_lot.ensures.lot c.if-branch.false
     c.offset_of.ensures.offset

@@ -18,14 +18,14 @@ entries-init c =
 pub returns-in_err-shape-in-Step : goal.returns-in_err-shape-in-Step
 returns-in_err-shape-in-Step c =
     let none : step_of c.in-Step.step c.entries.shape ≡ None = sym c.in_err-shape-in-Step.ensures.step in
-    let next : c.entries.place - 1 + 1 ≡ c.entries.place = omega arith in
+    let next : c.entries.index - 1 + 1 ≡ c.entries.index = omega arith in
     let w = subst (λ n. Walked depth (drop n c.args.entries.now) c.entries.shape c.entries.area) (sym next) c.entries.invariant in
-    let gone = part_missing depth c.args.entries.now (c.entries.place - 1) _ c.entries.shape c.entries.area
+    let gone = part_missing depth c.args.entries.now (c.entries.index - 1) _ c.entries.shape c.entries.area
     c.in-Step.step c.requires.begun (omega arith) c.in-Step.is w none in
     record { area = rw c.from_residual.ensures gone }
 
 pub returns : goal.returns
 returns c =
-    let e : c.entries.place ≡ 0 = omega arith in
+    let e : c.entries.index ≡ 0 = omega arith in
     let w = subst (λ n. Walked depth (drop n c.args.entries.now) c.entries.shape c.entries.area) e c.entries.invariant in
     record { area = w.parts }

@@ -5,4 +5,4 @@ use Rattle.title_aliquot.proofs.Areas.{Walked}
 use Rattle.title_aliquot.proofs.meaning.area_of.Given as goal
 
 abbrev pub invariant-entries : goal.invariant-entries
-invariant-entries l = Walked depth (drop l.place l.entries) l.shape l.area
+invariant-entries l = Walked depth (drop l.index l.entries) l.shape l.area

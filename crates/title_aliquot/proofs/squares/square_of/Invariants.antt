@@ -4,4 +4,4 @@ use Rattle.title_aliquot.proofs.SquareParts.{Squared}
 use Rattle.title_aliquot.proofs.squares.square_of.Given as goal
 
 abbrev pub invariant-entries : goal.invariant-entries
-invariant-entries l = record { behind : 1 ≤ l.place; squared : Squared (drop l.place l.entries) l.within }
+invariant-entries l = record { behind : 1 ≤ l.index; squared : Squared (drop l.index l.entries) l.within }

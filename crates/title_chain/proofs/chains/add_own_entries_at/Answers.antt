@@ -1,9 +1,9 @@
--- The entry of one place more.
+-- The entry of one spot more.
 use Rattle.std.proofs.Common.{arith}
-use Rattle.title_chain.specs.PostPlaces.{own_entry_at}
-use Rattle.title_chain.proofs.PlaceEntries.{one_place_more}
+use Rattle.title_chain.specs.PostSpots.{own_entry_at}
+use Rattle.title_chain.proofs.SpotEntries.{one_spot_more}
 use Rattle.title_chain.proofs.chains.add_own_entries_at.Goals as goal
 
-pub loop-place-preserved : goal.loop-place-preserved
-loop-place-preserved c = one_place_more (own_entry_at c.args.steps.now) c.args.places.now c.loop-place.place-index _ _ _ _ (omega arith)
-    c.in_ok-add_own_entry_at.ensures.added c.loop-place.invariant
+pub loop-spot-preserved : goal.loop-spot-preserved
+loop-spot-preserved c = one_spot_more (own_entry_at c.args.steps.now) c.args.spots.now c.loop-spot.spot-index _ _ _ _ (omega arith)
+    c.in_ok-add_own_entry_at.ensures.added c.loop-spot.invariant

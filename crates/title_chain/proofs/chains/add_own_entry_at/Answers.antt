@@ -3,7 +3,7 @@ use Rattle.std.proofs.Common.{◌≡◌, ◌++◌, List, refl, subst}
 use Rattle.std.specs.Prelude.{IfOk}
 use Rattle.std.proofs.lemmas.Option.{slice_get_read}
 use Rattle.title_chain.specs.declared.ask.Entry.{Entry}
-use Rattle.title_chain.proofs.PlaceEntries.{past_own, own_entry_is}
+use Rattle.title_chain.proofs.SpotEntries.{past_own, own_entry_is}
 use Rattle.title_chain.proofs.chains.add_own_entry_at.Goals as goal
 
 pub returns-in_default : goal.returns-in_default

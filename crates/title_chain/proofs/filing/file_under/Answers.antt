@@ -1,10 +1,10 @@
--- A place is written into the list at the node, or into a new list there.
+-- A spot is written into the list at the node, or into a new list there.
 use Rattle.std.proofs.Common.{◌∙◌, ◌||◌, ap, subst, List, Option, Some}
 use Rattle.std.specs.Global.{Vec}
-use Rattle.title_chain.specs.declared.place.Place.{Place}
+use Rattle.title_chain.specs.declared.spot.Spot.{Spot}
 use Rattle.std.proofs.lemmas.Result.{on_ok_weaker}
-use Rattle.title_chain.specs.PostPlaces.{same_place, is_listed}
-use Rattle.title_chain.specs.PlaceMaps.{places_in}
+use Rattle.title_chain.specs.PostSpots.{same_spot, is_listed}
+use Rattle.title_chain.specs.SpotMaps.{spots_in}
 use Rattle.title_chain.proofs.Filings.{Lists, Writes, is_there, one_more_under}
 use Rattle.title_chain.proofs.filing.file_under.Goals as goal
 
@@ -13,19 +13,19 @@ returns-in-Some c =
     let w = c.push_once.new.list in
     let had = c.in-Some.ensures.value in record {
       filed = on_ok_weaker c.push_once.result
-          (λ more. one_more_under c.args.lists.now (c.get_mut.follows.lender w) c.args.number (Some w) c.args.place
+          (λ more. one_more_under c.args.lists.now (c.get_mut.follows.lender w) c.args.number (Some w) c.args.spot
           ((c.get_mut.follows.holds w).3 (is_there _ _ had)).0
-          (λ p. more p ∙ ap (λ (o : Option (Vec Place)). is_listed p (places_in o) || same_place p c.args.place) had))
+          (λ p. more p ∙ ap (λ (o : Option (Vec Spot)). is_listed p (spots_in o) || same_spot p c.args.spot) had))
           c.push_once.ensures.listed;
     }
 
 pub returns : goal.returns
 returns c =
     let v = c.push_once-2.new.list in record {
-      filed = one_more_under c.args.lists.now c.insert.new.self c.args.number (Some v) c.args.place
+      filed = one_more_under c.args.lists.now c.insert.new.self c.args.number (Some v) c.args.spot
           (subst (λ (m : Lists). Writes m c.insert.new.self c.args.number (Some v)) c.get_mut.follows.holds-at-none
           c.in_ok-insert.ensures.updates.0)
           (λ p. c.in_ok-push_once.ensures.listed p
-          ∙ ap (λ (places : List Place). is_listed p places || same_place p c.args.place)
-          (c.new-list.ensures.items ∙ ap places_in c.in_default.ensures.value));
+          ∙ ap (λ (spots : List Spot). is_listed p spots || same_spot p c.args.spot)
+          (c.new-list.ensures.items ∙ ap spots_in c.in_default.ensures.value));
     }

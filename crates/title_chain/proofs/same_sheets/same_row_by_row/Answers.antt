@@ -1,4 +1,4 @@
--- One place more in which both sheets have the same row.
+-- One index more in which both sheets have the same row.
 use Rattle.std.proofs.Common.{◌≡◌, ℕ, zero, suc, List, [], ◌∷◌, take, ap, refl, add-one, slice_get}
 use Rattle.title_chain.proofs.same_sheets.same_row_by_row.Goals as goal
 
@@ -16,7 +16,7 @@ agree_more (x ∷ xs) (y ∷ ys) (suc i) h k =
     let more = agree_more xs ys i rests k in
     (λ o. heads o ∷ more o)
 
-pub loop-place-preserved : goal.loop-place-preserved
-loop-place-preserved c =
-    rw add-one (agree_more c.args.a.now c.args.b.now c.loop-place.place c.loop-place.invariant
+pub loop-index-preserved : goal.loop-index-preserved
+loop-index-preserved c =
+    rw add-one (agree_more c.args.a.now c.args.b.now c.loop-index.index c.loop-index.invariant
     (c.if-not-same_at.ensures.same.0 refl))

@@ -6,7 +6,7 @@ use Rattle.title_journal.specs.Blocks.{line_feed, IsRow, IsBlock, ends_block}
 use Rattle.title_file.proofs.BlockRows.{SomeRows, row_taken, one_row_more, last_row_more}
 use Rattle.title_file.proofs.gates.block_len.Goals as goal
 
--- what the row's length and its test say of the bytes from a place on
+-- what the row's length and its test say of the bytes from an offset on
 record RowAt (bytes : List ℕ) (at len : ℕ) (test : Bool) : Type 0 where
   within : len < length (drop at bytes)
   row : IsRow (take len (drop at bytes))

@@ -2,8 +2,8 @@ use Rattle.std.proofs.Common.{◌-◌, length}
 use Rattle.title_file.proofs.Walking.{IsWalked}
 use Rattle.title_file.proofs.gates.find_gates.Given as goal
 
-abbrev pub invariant-loop-place : goal.invariant-loop-place
-invariant-loop-place l = IsWalked l.head l.file l.opened l.place
+abbrev pub invariant-loop-offset : goal.invariant-loop-offset
+invariant-loop-offset l = IsWalked l.head l.file l.opened l.offset
 
-abbrev pub decreases-loop-place : goal.decreases-loop-place
-decreases-loop-place l = length l.file - l.place
+abbrev pub decreases-loop-offset : goal.decreases-loop-offset
+decreases-loop-offset l = length l.file - l.offset

@@ -16,17 +16,17 @@ returns-in_err-map_err-2-clause-any_moment g c =
     let block = c.args.block.now in
     let is_block = c.requires.block in
     let old = disk.seen c.args.disk.now in
-    let place = c.args.gate.now.place in
+    let offset = c.args.gate.now.offset in
     let staged : disk.seen c.stage.new.disk ≡ gated rest.blocks rest.whole block is_block closed_gate =
     went_well c.stage.result c.in_ok-map_err.ensures.variant c.stage.ensures.staged
     ∙ staged_is rest.blocks rest.whole block is_block old rest.file in
     let first = weakened disk.moment disk.left_since c.args.disk.now c.stage.new.disk (StandsAlike old) (IsBeforeOrAfter old block)
     (λ f alike. inl alike) c.stage.ensures.any_moment in
     let second = weakened disk.moment disk.left_since c.stage.new.disk c.write_through.new.disk
-    (Torn place 1 (disk.seen c.stage.new.disk)) (IsBeforeOrAfter old block)
+    (Torn offset 1 (disk.seen c.stage.new.disk)) (IsBeforeOrAfter old block)
     (λ f torn. torn_gate rest.blocks rest.whole block is_block old f rest.stand
-    (subst (λ (p : ℕ). Torn p 1 (gated rest.blocks rest.whole block is_block closed_gate) f) rest.place
-    (subst (λ (d : List ℕ). Torn place 1 d f) staged torn)))
+    (subst (λ (p : ℕ). Torn p 1 (gated rest.blocks rest.whole block is_block closed_gate) f) rest.offset
+    (subst (λ (d : List ℕ). Torn offset 1 d f) staged torn)))
     c.write_through.ensures.any_moment in
     joined disk.moment disk.left_since c.args.disk.now c.stage.new.disk c.write_through.new.disk (IsBeforeOrAfter old block) first second
 
@@ -37,17 +37,17 @@ returns-clause-any_moment g c =
     let block = c.args.block.now in
     let is_block = c.requires.block in
     let old = disk.seen c.args.disk.now in
-    let place = c.args.gate.now.place in
+    let offset = c.args.gate.now.offset in
     let staged : disk.seen c.stage.new.disk ≡ gated rest.blocks rest.whole block is_block closed_gate =
     went_well c.stage.result c.in_ok-map_err.ensures.variant c.stage.ensures.staged
     ∙ staged_is rest.blocks rest.whole block is_block old rest.file in
     let first = weakened disk.moment disk.left_since c.args.disk.now c.stage.new.disk (StandsAlike old) (IsBeforeOrAfter old block)
     (λ f alike. inl alike) c.stage.ensures.any_moment in
     let second = weakened disk.moment disk.left_since c.stage.new.disk c.write_through.new.disk
-    (Torn place 1 (disk.seen c.stage.new.disk)) (IsBeforeOrAfter old block)
+    (Torn offset 1 (disk.seen c.stage.new.disk)) (IsBeforeOrAfter old block)
     (λ f torn. torn_gate rest.blocks rest.whole block is_block old f rest.stand
-    (subst (λ (p : ℕ). Torn p 1 (gated rest.blocks rest.whole block is_block closed_gate) f) rest.place
-    (subst (λ (d : List ℕ). Torn place 1 d f) staged torn)))
+    (subst (λ (p : ℕ). Torn p 1 (gated rest.blocks rest.whole block is_block closed_gate) f) rest.offset
+    (subst (λ (d : List ℕ). Torn offset 1 d f) staged torn)))
     c.write_through.ensures.any_moment in
     joined disk.moment disk.left_since c.args.disk.now c.stage.new.disk c.write_through.new.disk (IsBeforeOrAfter old block) first second
 
@@ -58,7 +58,7 @@ returns-clause-stands g c =
     let block = c.args.block.now in
     let is_block = c.requires.block in
     let old = disk.seen c.args.disk.now in
-    let place = c.args.gate.now.place in
+    let offset = c.args.gate.now.offset in
     let staged : disk.seen c.stage.new.disk ≡ gated rest.blocks rest.whole block is_block closed_gate =
     went_well c.stage.result c.in_ok-map_err.ensures.variant c.stage.ensures.staged
     ∙ staged_is rest.blocks rest.whole block is_block old rest.file in
@@ -66,8 +66,8 @@ returns-clause-stands g c =
     let is : disk.seen c.write_through.new.disk ≡ at_rest (rest.blocks ++ block ∷ []) =
     opened rest.blocks rest.whole block is_block _
     (subst (λ (p : ℕ). Holds (gated rest.blocks rest.whole block is_block closed_gate) p (open_gate ∷ [])
-    (disk.seen c.write_through.new.disk)) rest.place
-    (subst (λ (d : List ℕ). Holds d place (open_gate ∷ []) (disk.seen c.write_through.new.disk)) staged holds)) in
+    (disk.seen c.write_through.new.disk)) rest.offset
+    (subst (λ (d : List ℕ). Holds d offset (open_gate ∷ []) (disk.seen c.write_through.new.disk)) staged holds)) in
     let whole = all_and_one rest.blocks block rest.whole is_block in
     let stand = ap blocks_in is ∙ stands (rest.blocks ++ block ∷ []) (closed_gate ∷ []) whole tt in
     stand ∙ sym (ap (with_block block) rest.stand)
@@ -79,7 +79,7 @@ returns-clause-rest g c =
     let block = c.args.block.now in
     let is_block = c.requires.block in
     let old = disk.seen c.args.disk.now in
-    let place = c.args.gate.now.place in
+    let offset = c.args.gate.now.offset in
     let staged : disk.seen c.stage.new.disk ≡ gated rest.blocks rest.whole block is_block closed_gate =
     went_well c.stage.result c.in_ok-map_err.ensures.variant c.stage.ensures.staged
     ∙ staged_is rest.blocks rest.whole block is_block old rest.file in
@@ -87,8 +87,8 @@ returns-clause-rest g c =
     let is : disk.seen c.write_through.new.disk ≡ at_rest (rest.blocks ++ block ∷ []) =
     opened rest.blocks rest.whole block is_block _
     (subst (λ (p : ℕ). Holds (gated rest.blocks rest.whole block is_block closed_gate) p (open_gate ∷ [])
-    (disk.seen c.write_through.new.disk)) rest.place
-    (subst (λ (d : List ℕ). Holds d place (open_gate ∷ []) (disk.seen c.write_through.new.disk)) staged holds)) in
+    (disk.seen c.write_through.new.disk)) rest.offset
+    (subst (λ (d : List ℕ). Holds d offset (open_gate ∷ []) (disk.seen c.write_through.new.disk)) staged holds)) in
     let whole = all_and_one rest.blocks block rest.whole is_block in
     let stand = ap blocks_in is ∙ stands (rest.blocks ++ block ∷ []) (closed_gate ∷ []) whole tt in
     record {
@@ -96,7 +96,7 @@ returns-clause-rest g c =
       stand = stand;
       whole = whole;
       file = is;
-      place = omega (arith, rest.place, length-front_more rest.blocks block);
+      offset = omega (arith, rest.offset, length-front_more rest.blocks block);
       fits = went_well c.write_through.result c.in_ok-map_err-2.ensures.variant c.write_through.ensures.fits;
       durable = went_well c.write_through.result c.in_ok-map_err-2.ensures.variant c.write_through.ensures.durable;
       works = c.write_through.ensures.failed ∙ no_error c.write_through.result c.in_ok-map_err-2.ensures.variant;

@@ -3,7 +3,7 @@ use Rattle.std.proofs.Common.{◌≡◌, ◌∙◌, ◌≤◌, ℕ, List, ap, ar
 use Rattle.std.specs.String.{string_bytes}
 use Rattle.std.proofs.lemmas.List.{length-map}
 use Rattle.title_land.specs.Depth.{depth}
-use Rattle.title_land.specs.declared.place.Township.{Township}
+use Rattle.title_land.specs.declared.survey.Township.{Township}
 use Rattle.title_chain.specs.Alone.{IsSerial}
 use Rattle.title_chain.specs.declared.record.Record.{Record}
 use Rattle.title_store.specs.Plants.{IsEachOnce}
@@ -20,11 +20,11 @@ returns-in_err-script-clause-why g c = ended_by IsOwnTrouble _ c.from_residual.r
 
 pub run_day_on-requires-clause-townships : goal.run_day_on-requires-clause-townships
 run_day_on-requires-clause-townships g c κs within =
-    c.as_slice-places.ensures.value ∙ c.in_ok-script.ensures.script.townships ∙ sym c.requires.plant
+    c.as_slice-listed.ensures.value ∙ c.in_ok-script.ensures.script.townships ∙ sym c.requires.plant
 
 pub run_day_on-requires-clause-once : goal.run_day_on-requires-clause-once
 run_day_on-requires-clause-once g c κs within =
-    subst IsEachOnce (sym (c.as_slice-places.ensures.value ∙ c.in_ok-script.ensures.script.townships)) c.requires.once
+    subst IsEachOnce (sym (c.as_slice-listed.ensures.value ∙ c.in_ok-script.ensures.script.townships)) c.requires.once
 
 pub run_day_on-requires-clause-fits : goal.run_day_on-requires-clause-fits
 run_day_on-requires-clause-fits g c κs within =
@@ -40,7 +40,7 @@ returns-in_err-day-clause-why g c =
 pub day_block-requires : goal.day_block-requires
 day_block-requires g c =
     let script = c.in_ok-script.ensures.script in
-    let places = c.as_slice-places.ensures.value ∙ script.townships in
+    let listed = c.as_slice-listed.ensures.value ∙ script.townships in
     let names : length c.in_ok-script.script.parties.keys ≡ length c.args.plan.parties.keys =
     omega (
       arith,
@@ -49,7 +49,7 @@ day_block-requires g c =
       length-map c.args.plan.parties.keys string_bytes,
     ) in
     record {
-      townships = subst (λ (ts : List Township). c.args.stood.townships ≤ length ts) (sym places) c.requires.townships;
+      townships = subst (λ (ts : List Township). c.args.stood.townships ≤ length ts) (sym listed) c.requires.townships;
       parties = omega (arith, c.requires.parties, names);
       stood = c.requires.stood;
       kept = omega (arith, c.requires.kept, c.in_ok-day.ensures.counted, ap length c.as_slice-records.ensures.slice);
@@ -62,10 +62,10 @@ returns-in_err-block-clause-why g c =
 
 pub close_office_on-requires : goal.close_office_on-requires
 close_office_on-requires g c =
-    let places = c.as_slice-places.ensures.value ∙ c.in_ok-script.ensures.script.townships in
+    let listed = c.as_slice-listed.ensures.value ∙ c.in_ok-script.ensures.script.townships in
     record {
-      once = subst IsEachOnce (sym places) c.requires.once;
-      serial = subst (λ (ts : List Township). IsSerial depth ts (reverse c.in_ok-day.day.records)) (c.requires.plant ∙ sym places)
+      once = subst IsEachOnce (sym listed) c.requires.once;
+      serial = subst (λ (ts : List Township). IsSerial depth ts (reverse c.in_ok-day.day.records)) (c.requires.plant ∙ sym listed)
           c.in_ok-day.ensures.begins.serial;
     }
 
@@ -77,7 +77,7 @@ pub returns-clause-run : goal.returns-clause-run
 returns-clause-run g c =
     let script = c.in_ok-script.ensures.script in
     let asked = asked_in c.args.plan in
-    let places = c.as_slice-places.ensures.value ∙ script.townships in
+    let listed = c.as_slice-listed.ensures.value ∙ script.townships in
     let tallies = c.in_ok-day.day.tallies.items in
     let records = c.in_ok-day.day.records in
     let told = c.dealt_scripts_fit.ensures.tallies asked.lines c.in_ok-script.script.scripts.items tallies script.dealt
@@ -91,7 +91,7 @@ returns-clause-run g c =
       counted = c.in_ok-day.ensures.counted;
       report = c.in_ok-closing.ensures.text
           ∙ ap (λ (ts : List Township). closing_text_on ts (map string_bytes c.in_ok-script.script.parties.keys)
-          c.in_ok-script.script.steps tallies c.args.kept records) places
+          c.in_ok-script.script.steps tallies c.args.kept records) listed
           ∙ ap (λ (ns : List (List ℕ)). closing_text_on asked.townships ns c.in_ok-script.script.steps tallies c.args.kept records)
           script.names
           ∙ ap (λ (n : ℕ). closing_text_on asked.townships asked.names n tallies c.args.kept records) script.steps
@@ -99,5 +99,5 @@ returns-clause-run g c =
       adds = λ before on so_much.
           subst (λ (rs : List Record). IsNew (text_in c.in_ok-block.block) before (stands_on asked rs)) c.as_slice-records.ensures.slice
           (c.in_ok-block.ensures.adds before asked
-          (subst (λ (rs : List Record). Continues before asked rs) (sym c.as_slice-records.ensures.slice) on) so_much places script.names);
+          (subst (λ (rs : List Record). Continues before asked rs) (sym c.as_slice-records.ensures.slice) on) so_much listed script.names);
     }

@@ -4,7 +4,7 @@ use Rattle.std.specs.Prelude.{OnOk}
 use Rattle.title_land.specs.Depth.{depth}
 use Rattle.title_land.specs.declared.rectangle.TheConstants.{DEPTH}
 use Rattle.title_land.specs.declared.rectangle.Quarter.{Quarter}
-use Rattle.title_land.specs.declared.place.Cell.{Cell}
+use Rattle.title_land.specs.declared.survey.Cell.{Cell}
 use Rattle.title_land.specs.Lands.{has}
 use Rattle.title_land.specs.CellLists.{cells_below}
 use Rattle.title_land.specs.Laws.Sides.{depth_is}

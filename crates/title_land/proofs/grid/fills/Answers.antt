@@ -6,7 +6,7 @@ use Rattle.title_land.specs.declared.grid.Grid.{Grid}
 use Rattle.title_land.specs.declared.rectangle.Rectangle.{Rectangle}
 use Rattle.title_land.specs.Depth.{depth}
 use Rattle.title_land.specs.Grids.{row_fills, grid_has}
-use Rattle.title_land.specs.Places.{side}
+use Rattle.title_land.specs.Survey.{side}
 use Rattle.title_land.specs.Rectangles.{InSection}
 use Rattle.title_land.specs.RowBits.{grid_cells, HasColumns, IsRows}
 use Rattle.title_land.proofs.GridRows.{row_filled}

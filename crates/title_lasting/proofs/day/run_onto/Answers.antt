@@ -48,5 +48,5 @@ returns-clause-day g c =
     (g.R.Source.turns c.run_opened-outcome.new.source) (g.D.Disk.has_failed c.run_opened-outcome.new.disk)
     (g.R.Source.has_failed c.run_opened-outcome.new.source) (g.W.Sink.has_failed c.run_opened-outcome.new.sink)
     (expected_is c.args.after c.len-last.result _ last_is (c.if-is_unexpected.ensures.expected refl))
-    (at_rest_rests g.D.Disk.seen g.D.Disk.may_leave g.D.Disk.has_failed c.open.new.disk c.in-Ok.opened.gate.place c.in-Ok.ensures.rest)
+    (at_rest_rests g.D.Disk.seen g.D.Disk.may_leave g.D.Disk.has_failed c.open.new.disk c.in-Ok.opened.gate.offset c.in-Ok.ensures.rest)
     c.in-Ok.ensures.resting c.run_opened-outcome.result c.run_opened-outcome.ensures.day

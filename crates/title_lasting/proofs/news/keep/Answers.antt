@@ -113,7 +113,7 @@ returns g c =
           (text_in c.in_ok-block.block)
           c.in_ok-block.ensures.block in (
             record {
-              rest = subst (λ (gate : Gate). IsAtRest g.D.Disk.seen g.D.Disk.may_leave g.D.Disk.has_failed new gate.place)
+              rest = subst (λ (gate : Gate). IsAtRest g.D.Disk.seen g.D.Disk.may_leave g.D.Disk.has_failed new gate.offset)
                   (sym c.mark_at.ensures.gate) c.in_ok-put_news.ensures.rest;
               stands = has_then (g.D.Disk.seen disk) (g.D.Disk.seen new) was now (text_in c.in_ok-block.block) up.stands adds
                   (kept_serial c.kept_records_are_serial.ensures.law now c.is_sound.ensures.sound) c.in_ok-put_news.ensures.stands;

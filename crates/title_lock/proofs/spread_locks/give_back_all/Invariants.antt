@@ -6,16 +6,16 @@ use Rattle.std.specs.List.{list_any}
 use Rattle.title_land.specs.declared.node.Node.{Node}
 use Rattle.title_lock.specs.Overlaps.{without}
 use Rattle.title_lock.specs.Tables.{table_mode, is_asked_by, NoMoreIdle, TableUsed}
-use Rattle.title_lock.specs.Tables.{placed}
+use Rattle.title_lock.specs.Tables.{on_all}
 use Rattle.title_lock.proofs.spread_locks.give_back_all.Given as goal
 
 abbrev pub invariant-loop-entry : goal.invariant-loop-entry
 invariant-loop-entry l = record {
   others : without l.examiner l.book ≡ without l.examiner l.initial.book;
   modes : (f : ℕ) (n : Node) → cond (eqb f l.examiner && list_any (is_asked_by depth l.examiner n) l.book) None
-      (table_mode (placed l.table) f n)
-      ≡ cond (eqb f l.examiner && list_any (is_asked_by depth l.examiner n) l.initial.book) None (table_mode (placed l.initial.table) f n);
-  idle : NoMoreIdle (placed l.initial.table) (placed l.table);
+      (table_mode (on_all l.table) f n)
+      ≡ cond (eqb f l.examiner && list_any (is_asked_by depth l.examiner n) l.initial.book) None (table_mode (on_all l.initial.table) f n);
+  idle : NoMoreIdle (on_all l.initial.table) (on_all l.table);
   used : TableUsed l.initial.table → TableUsed l.table;
 }
 

@@ -3,7 +3,7 @@ use Rattle.std.proofs.Common.{◌≤◌, length, subst, arith}
 use Rattle.std.specs.List.{All}
 use Rattle.std.proofs.lemmas.List.Elements.{All-more}
 use Rattle.title_land.specs.CellLists.{sections_of}
-use Rattle.title_land.specs.declared.place.Township.{Township}
+use Rattle.title_land.specs.declared.survey.Township.{Township}
 use Rattle.title_plat.specs.Once.{IsOnceIn}
 use Rattle.title_plat.proofs.Walks.{all_walked}
 use Rattle.title_plat.proofs.once.townships_are_once.Goals as goal

@@ -7,9 +7,9 @@ use Rattle.title_report.specs.Fronts.{IsFront}
 use Rattle.title_report.specs.Replies.{sheet_row}
 use Rattle.title_report.proofs.answers.put_sheet_lines.Given as goal
 
-abbrev pub invariant-loop-place : goal.invariant-loop-place
-invariant-loop-place g l =
+abbrev pub invariant-loop-index : goal.invariant-loop-index
+invariant-loop-index g l =
     Written (g.S.Sink.taken l.fn.sink) l.fn.page (g.S.Sink.taken l.sink) l.page
-    (rows_text (map (sheet_row l.roster l.examiner) (take l.place (rows_in l.lines))))
+    (rows_text (map (sheet_row l.roster l.examiner) (take l.index (rows_in l.lines))))
     × (g.S.Sink.has_failed l.sink ≡ false)
     × IsFront l.examiner l.front

@@ -3,5 +3,5 @@ use Rattle.title_spelling.specs.Cells.{is_marked}
 use Rattle.title_spelling.proofs.Marked.{HasFirst}
 use Rattle.title_spelling.proofs.cells.marked.Given as goal
 
-abbrev pub invariant-loop-place : goal.invariant-loop-place
-invariant-loop-place l = HasFirst (is_marked l.rows) l.place l.cells
+abbrev pub invariant-loop-number : goal.invariant-loop-number
+invariant-loop-number l = HasFirst (is_marked l.rows) l.number l.cells

@@ -5,7 +5,7 @@ use Rattle.std.specs.List.{flat_map, range_with_len}
 use Rattle.std.specs.String.{string_bytes}
 use Rattle.title_land.specs.Depth.{depth}
 use Rattle.title_land.specs.Grids.{grid_has}
-use Rattle.title_land.specs.Places.{side}
+use Rattle.title_land.specs.Survey.{side}
 use Rattle.title_land.specs.Texts.{section_text}
 use Rattle.title_land.specs.Laws.Sides.{side_is}
 use Rattle.title_spelling.specs.Cells.{row_text}

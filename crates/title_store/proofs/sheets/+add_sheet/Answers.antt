@@ -3,7 +3,7 @@ use Rattle.std.proofs.Common.{◌++◌, ◌-◌, List, sym, ap, ◌∙◌}
 use Rattle.title_land.specs.Depth.{depth}
 use Rattle.std.proofs.lemmas.List.{take_all}
 use Rattle.std.specs.List.{flat_map}
-use Rattle.title_land.specs.declared.place.Cell.{Cell}
+use Rattle.title_land.specs.declared.survey.Cell.{Cell}
 use Rattle.title_land.specs.declared.node.Node.{Node}
 use Rattle.title_store.specs.declared.sheet_row.SheetRow.{SheetRow}
 use Rattle.title_store.specs.CellMaps.{content_of}

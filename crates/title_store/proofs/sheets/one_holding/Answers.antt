@@ -1,6 +1,6 @@
 -- The first cell's holding is all cells' where the loop meets no other.
 use Rattle.std.proofs.Common.{◌≡◌, ◌<◌, ◌≤◌, true, false, length, sym, ap, ◌∙◌, arith}
-use Rattle.title_land.specs.declared.place.Cell.{Cell}
+use Rattle.title_land.specs.declared.survey.Cell.{Cell}
 use Rattle.title_share.specs.Division.{Division}
 use Rattle.title_instrument.specs.Owners.{holding_of}
 use Rattle.title_store.specs.CellMaps.{content_of}

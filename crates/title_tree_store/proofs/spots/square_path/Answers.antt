@@ -1,4 +1,4 @@
--- From the inside: the square's quarters, the section's place, the township's.
+-- From the inside: the square's quarters, the section's number, the township's.
 use Rattle.title_tree_store.proofs.Squares.{square_from_inside}
 use Rattle.title_tree_store.proofs.spots.square_path.Goals as goal
 

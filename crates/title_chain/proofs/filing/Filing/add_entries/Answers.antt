@@ -1,15 +1,15 @@
--- The places found near the nodes of the tract's cover are those of the posts that share a cell with it.
+-- The spots found near the nodes of the tract's cover are those of the posts that share a cell with it.
 use Rattle.std.proofs.Common.{◌≡◌, ◌++◌, List, reverse, ap, subst, ◌∙◌}
 use Rattle.title_land.specs.Depth.{depth}
 use Rattle.std.specs.List.{list_any}
 use Rattle.title_land.specs.declared.node.Node.{Node}
 use Rattle.title_land.specs.Lands.{IsLand}
 use Rattle.title_chain.specs.declared.ask.Entry.{Entry}
-use Rattle.title_chain.specs.declared.place.Place.{Place}
-use Rattle.title_chain.specs.PostPlaces.{entry_at, entries_at, record_posts}
+use Rattle.title_chain.specs.declared.spot.Spot.{Spot}
+use Rattle.title_chain.specs.PostSpots.{entry_at, entries_at, record_posts}
 use Rattle.title_chain.specs.TractIndexes.{is_near}
 use Rattle.title_chain.proofs.Nearness.{near_meets}
-use Rattle.title_chain.proofs.PlaceEntries.{place_entries}
+use Rattle.title_chain.proofs.SpotEntries.{spot_entries}
 use Rattle.title_chain.proofs.filing.Filing.add_entries.Goals as goal
 
 pub returns : goal.returns
@@ -19,11 +19,11 @@ returns c =
     let land = c.args.tract.now in
     let sized : IsLand depth land = c.cover.ensures.sized in record {
       added = subst (λ (es : List Entry). c.add_entries_at.new.entries.items ≡ c.args.entries.now.items ++ es)
-          (place_entries records land c.in_ok-found.found.items c.in_ok-found.ensures.ordered
+          (spot_entries records land c.in_ok-found.found.items c.in_ok-found.ensures.ordered
           (λ p. c.in_ok-found.ensures.found p
           ∙ ap (λ (cover : List Node). list_any (is_near f p) cover) c.cover.ensures.cover
           ∙ near_meets f (record_posts (reverse records)) c.requires.filed land sized p))
-          (subst (λ (places : List Place).
-          c.add_entries_at.new.entries.items ≡ c.args.entries.now.items ++ entries_at (entry_at records) places)
+          (subst (λ (spots : List Spot).
+          c.add_entries_at.new.entries.items ≡ c.args.entries.now.items ++ entries_at (entry_at records) spots)
           c.deref.ensures.value c.in_ok-add_entries_at.ensures.added);
     }

@@ -1,4 +1,4 @@
--- The places found near the nodes of the tract's cover are those of the own posts that share a cell with it.
+-- The spots found near the nodes of the tract's cover are those of the own posts that share a cell with it.
 use Rattle.std.proofs.Common.{◌≡◌, ◌++◌, List, reverse, ap, subst, ◌∙◌}
 use Rattle.title_land.specs.Depth.{depth}
 use Rattle.std.specs.List.{list_any}
@@ -6,11 +6,11 @@ use Rattle.std.specs.Prelude.{OnOk}
 use Rattle.title_land.specs.declared.node.Node.{Node}
 use Rattle.title_land.specs.Lands.{IsLand}
 use Rattle.title_chain.specs.declared.ask.Entry.{Entry}
-use Rattle.title_chain.specs.declared.place.Place.{Place}
-use Rattle.title_chain.specs.PostPlaces.{own_entry_at, entries_at, step_posts}
+use Rattle.title_chain.specs.declared.spot.Spot.{Spot}
+use Rattle.title_chain.specs.PostSpots.{own_entry_at, entries_at, step_posts}
 use Rattle.title_chain.specs.TractIndexes.{is_near}
 use Rattle.title_chain.proofs.Nearness.{near_meets}
-use Rattle.title_chain.proofs.PlaceEntries.{own_entries}
+use Rattle.title_chain.proofs.SpotEntries.{own_entries}
 use Rattle.title_chain.proofs.filing.Filing.add_own_entries.Goals as goal
 
 pub returns : goal.returns
@@ -25,7 +25,7 @@ returns c =
           (λ p. c.in_ok-found.ensures.found p
           ∙ ap (λ (cover : List Node). list_any (is_near f p) cover) c.cover.ensures.cover
           ∙ near_meets f (step_posts 0 (reverse steps)) c.requires.filed land sized p))
-          (subst (λ (places : List Place). OnOk c.add_own_entries_at.result
-          (c.add_own_entries_at.new.entries.items ≡ c.args.entries.now.items ++ entries_at (own_entry_at steps) places))
+          (subst (λ (spots : List Spot). OnOk c.add_own_entries_at.result
+          (c.add_own_entries_at.new.entries.items ≡ c.args.entries.now.items ++ entries_at (own_entry_at steps) spots))
           c.deref.ensures.value c.add_own_entries_at.ensures.added);
     }

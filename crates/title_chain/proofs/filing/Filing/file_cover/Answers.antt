@@ -13,7 +13,7 @@ loop-node-preserved c =
     record {
       read = c.loop-node.invariant.read;
       at = λ n p. one_node_more (same_node n) nodes i k _ _ _ _ low c.node-item.is (c.loop-node.invariant.at n p)
-          (at_node c.loop-node.self.at c.file_under.new.lists c.number-number.result k c.args.place c.number-number.ensures.number
+          (at_node c.loop-node.self.at c.file_under.new.lists c.number-number.result k c.args.spot c.number-number.ensures.number
           c.in_ok-file_under.ensures.filed n p);
       below = λ n p. one_node_more (is_above n) nodes i k _ _ _ _ low c.node-item.is (c.loop-node.invariant.below n p)
           (c.in_ok-file_above.ensures.filed k c.number-number.ensures.number n p);

@@ -1,18 +1,18 @@
--- The place is filed under the nodes so far and those above them.
+-- The spot is filed under the nodes so far and those above them.
 use Rattle.std.proofs.Common.{◌≡◌, ◌&&◌, ◌||◌, take}
 use Rattle.std.specs.List.{list_any}
 use Rattle.title_land.specs.declared.node.Node.{Node}
 use Rattle.title_land.specs.Nodes.{same_node, is_above}
-use Rattle.title_chain.specs.declared.place.Place.{Place}
-use Rattle.title_chain.specs.PostPlaces.{same_place, is_listed}
-use Rattle.title_chain.specs.PlaceMaps.{places_under}
+use Rattle.title_chain.specs.declared.spot.Spot.{Spot}
+use Rattle.title_chain.specs.PostSpots.{same_spot, is_listed}
+use Rattle.title_chain.specs.SpotMaps.{spots_under}
 use Rattle.title_chain.proofs.filing.Filing.file_cover.Given as goal
 
 abbrev pub invariant-loop-node : goal.invariant-loop-node
 invariant-loop-node l = record {
   read : l.self.read ≡ l.fn.self.read;
-  at : (n : Node) (p : Place) → is_listed p (places_under l.self.at n)
-      ≡ (is_listed p (places_under l.fn.self.at n) || (list_any (same_node n) (take l.node-index l.cover) && same_place p l.place));
-  below : (n : Node) (p : Place) → is_listed p (places_under l.self.below n)
-      ≡ (is_listed p (places_under l.fn.self.below n) || (list_any (is_above n) (take l.node-index l.cover) && same_place p l.place));
+  at : (n : Node) (p : Spot) → is_listed p (spots_under l.self.at n)
+      ≡ (is_listed p (spots_under l.fn.self.at n) || (list_any (same_node n) (take l.node-index l.cover) && same_spot p l.spot));
+  below : (n : Node) (p : Spot) → is_listed p (spots_under l.self.below n)
+      ≡ (is_listed p (spots_under l.fn.self.below n) || (list_any (is_above n) (take l.node-index l.cover) && same_spot p l.spot));
 }

@@ -12,6 +12,6 @@ on_ok_both (Err e) f p q = tt
 pub returns-clause-filed : goal.returns-clause-filed
 returns-clause-filed c =
     on_ok_both c.file_cover.result
-    (post_filed depth c.args.self.now c.file_cover.new.self c.args.place c.args.tract.now c.cover.result.now c.cover.ensures.cover
+    (post_filed depth c.args.self.now c.file_cover.new.self c.args.spot c.args.tract.now c.cover.result.now c.cover.ensures.cover
     c.cover.ensures.sized)
     c.file_cover.ensures.at c.file_cover.ensures.below

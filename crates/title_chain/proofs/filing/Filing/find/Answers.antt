@@ -1,4 +1,4 @@
--- The places near one node of the cover more.
+-- The spots near one node of the cover more.
 use Rattle.std.proofs.Common.{◌<◌, ◌||◌, ◌∙◌, Bool, length, take, ap, sym, arith}
 use Rattle.std.specs.List.{list_any}
 use Rattle.std.proofs.lemmas.List.Folds.{list_any_more}

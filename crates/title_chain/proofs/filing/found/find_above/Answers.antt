@@ -1,7 +1,7 @@
--- The places under one node above more were found, up to the whole plant.
+-- The spots under one node above more were found, up to the whole plant.
 use Rattle.std.proofs.Common.{List, ap, ◌||◌, ◌∙◌}
-use Rattle.title_chain.specs.declared.place.Place.{Place}
-use Rattle.title_chain.specs.PostPlaces.{is_listed}
+use Rattle.title_chain.specs.declared.spot.Spot.{Spot}
+use Rattle.title_chain.specs.PostSpots.{is_listed}
 use Rattle.title_chain.proofs.FoundLaws.{found_further, found_to_the_top}
 use Rattle.title_chain.proofs.filing.found.find_above.Goals as goal
 
@@ -10,8 +10,8 @@ loop-reached-preserved c n is =
     found_further c.args.filing.now.at c.args.found.now.items c.loop-reached.found.items c.find_all.new.found.items n
     c.loop-reached.reached c.number_above-reached.result (c.loop-reached.invariant n is) c.loop-reached-test.true
     c.number_above-reached.ensures.above
-    (λ p. c.in_ok-find_all.ensures.found p ∙ ap (λ (places : List Place). is_listed p c.loop-reached.found.items || is_listed p places)
-    c.places_at.ensures.places)
+    (λ p. c.in_ok-find_all.ensures.found p ∙ ap (λ (spots : List Spot). is_listed p c.loop-reached.found.items || is_listed p spots)
+    c.spots_at.ensures.spots)
 
 pub returns : goal.returns
 returns c = record {

@@ -1,4 +1,4 @@
--- The places were found under the nodes from the one with the number up to the one that was reached.
+-- The spots were found under the nodes from the one with the number up to the one that was reached.
 use Rattle.std.proofs.Common.{◌≡◌}
 use Rattle.title_land.specs.declared.node.Node.{Node}
 use Rattle.title_land.specs.NodeNumbers.{node_number}

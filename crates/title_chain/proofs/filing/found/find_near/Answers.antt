@@ -1,7 +1,7 @@
 -- What is filed under the node and below it, and above it, or known from before.
 use Rattle.std.proofs.Common.{List, ap, ◌||◌, ◌∙◌}
-use Rattle.title_chain.specs.declared.place.Place.{Place}
-use Rattle.title_chain.specs.PostPlaces.{is_listed}
+use Rattle.title_chain.specs.declared.spot.Spot.{Spot}
+use Rattle.title_chain.specs.PostSpots.{is_listed}
 use Rattle.title_chain.proofs.FoundLaws.{near_known, near_found}
 use Rattle.title_chain.proofs.filing.found.find_near.Goals as goal
 
@@ -10,9 +10,9 @@ returns-then-is_known c = record {
   found = λ n is known p. near_known c.args.filing.now n c.args.number p (is_listed p c.args.found.now.items)
       (is_listed p c.find_all.new.found.items) (is_listed p c.find_all-2.new.found.items) is
       (c.in_ok-find_all.ensures.found p
-      ∙ ap (λ (places : List Place). is_listed p c.args.found.now.items || is_listed p places) c.places_at.ensures.places)
+      ∙ ap (λ (spots : List Spot). is_listed p c.args.found.now.items || is_listed p spots) c.spots_at.ensures.spots)
       (c.in_ok-find_all-2.ensures.found p
-      ∙ ap (λ (places : List Place). is_listed p c.find_all.new.found.items || is_listed p places) c.places_at-2.ensures.places)
+      ∙ ap (λ (spots : List Spot). is_listed p c.find_all.new.found.items || is_listed p spots) c.spots_at-2.ensures.spots)
       (known c.if-is_known.true p);
 }
 
@@ -21,8 +21,8 @@ returns c = record {
   found = λ n is known p. near_found c.args.filing.now n c.args.number p (is_listed p c.args.found.now.items)
       (is_listed p c.find_all.new.found.items) (is_listed p c.find_all-2.new.found.items) (is_listed p c.find_above.new.found.items) is
       (c.in_ok-find_all.ensures.found p
-      ∙ ap (λ (places : List Place). is_listed p c.args.found.now.items || is_listed p places) c.places_at.ensures.places)
+      ∙ ap (λ (spots : List Spot). is_listed p c.args.found.now.items || is_listed p spots) c.spots_at.ensures.spots)
       (c.in_ok-find_all-2.ensures.found p
-      ∙ ap (λ (places : List Place). is_listed p c.find_all.new.found.items || is_listed p places) c.places_at-2.ensures.places)
+      ∙ ap (λ (spots : List Spot). is_listed p c.find_all.new.found.items || is_listed p spots) c.spots_at-2.ensures.spots)
       (c.in_ok-find_above.ensures.found n is p);
 }

@@ -1,6 +1,6 @@
 -- A township is declared once, and not too many are, and none after the first step row.
 use Rattle.std.proofs.Common.{◌≡◌, ◌≤◌, ◌∙◌, List, length, subst, sym, true}
-use Rattle.title_land.specs.declared.place.Township.{Township}
+use Rattle.title_land.specs.declared.survey.Township.{Township}
 use Rattle.title_plan.specs.Townships.{each_once}
 use Rattle.title_trace.specs.Due.{MayOpen, most_townships}
 use Rattle.title_counter.specs.Views.{counter_of}

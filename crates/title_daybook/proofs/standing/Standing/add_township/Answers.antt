@@ -1,5 +1,5 @@
 use Rattle.std.proofs.Common.{refl, inr, ◌≡◌, ◌≤◌, ◌∙◌, sym, true, List, length}
-use Rattle.title_land.specs.declared.place.Township.{Township}
+use Rattle.title_land.specs.declared.survey.Township.{Township}
 use Rattle.title_trace.specs.Due.{most_townships}
 use Rattle.title_plan.specs.Townships.{each_once}
 use Rattle.std.proofs.lemmas.Bool.{or_parts}

@@ -5,7 +5,7 @@ use Rattle.std.proofs.lemmas.List.{take_all}
 use Rattle.std.proofs.lemmas.List.Sums.{sum_by_more}
 use Rattle.std.proofs.lemmas.Nat.{ones-le}
 use Rattle.title_land.specs.Depth.{depth}
-use Rattle.title_land.specs.Places.{side}
+use Rattle.title_land.specs.Survey.{side}
 use Rattle.title_land.proofs.GridCounts.{counts}
 use Rattle.title_land.proofs.GridRows.{rows_counted, rows_sized, count_more}
 use Rattle.title_land.proofs.grid.Grid.cell_count.Goals as goal

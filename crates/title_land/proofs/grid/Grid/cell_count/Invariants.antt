@@ -2,7 +2,7 @@
 use Rattle.std.proofs.Common.{◌≡◌, ◌≤◌, ◌*◌, take, sum_by}
 use Rattle.std.specs.Prelude.{count_ones}
 use Rattle.title_land.specs.Depth.{depth}
-use Rattle.title_land.specs.Places.{side}
+use Rattle.title_land.specs.Survey.{side}
 use Rattle.title_land.proofs.grid.Grid.cell_count.Given as goal
 
 abbrev pub invariant-loop-row : goal.invariant-loop-row

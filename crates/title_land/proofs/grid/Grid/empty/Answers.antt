@@ -3,7 +3,7 @@ use Rattle.std.proofs.Common.{sym, false}
 use Rattle.std.proofs.lemmas.Nat.{pow_pos}
 use Rattle.title_land.specs.declared.rectangle.TheConstants.{ROWS}
 use Rattle.title_land.specs.Depth.{depth}
-use Rattle.title_land.specs.Places.{side}
+use Rattle.title_land.specs.Survey.{side}
 use Rattle.title_land.specs.Laws.GridLaws.{has_none}
 use Rattle.title_land.proofs.GridRows.{one_rows, one_row}
 use Rattle.title_land.proofs.RowBits.{zero_clear}

@@ -3,7 +3,7 @@ use Rattle.std.proofs.Common.{sym, true, ◌+◌, subst, ◌∙◌, arith}
 use Rattle.std.proofs.lemmas.Bool.{and_from, le-leb, lt-ltb}
 use Rattle.title_land.specs.declared.rectangle.TheConstants.{ROWS}
 use Rattle.title_land.specs.Depth.{depth}
-use Rattle.title_land.specs.Places.{side}
+use Rattle.title_land.specs.Survey.{side}
 use Rattle.title_land.specs.RowBits.{HasColumns}
 use Rattle.title_land.specs.declared.rectangle.Rectangle.{Rectangle}
 use Rattle.title_land.specs.Laws.GridLaws.{has_every}

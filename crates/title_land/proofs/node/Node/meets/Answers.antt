@@ -3,8 +3,8 @@ use Rattle.std.proofs.Common.{◌≡◌, Bool, refl, subst, ◌∙◌, sym, ap}
 use Rattle.std.specs.Prelude.{◌||◌, true}
 use Rattle.title_land.specs.Depth.{depth}
 use Rattle.title_land.specs.declared.node.Node.{Node}
-use Rattle.title_land.specs.declared.place.Section.{Section}
-use Rattle.title_land.specs.Places.{same_section}
+use Rattle.title_land.specs.declared.survey.Section.{Section}
+use Rattle.title_land.specs.Survey.{same_section}
 use Rattle.title_land.specs.Nodes.{IsNode}
 use Rattle.title_land.specs.Nestings.{lies_in}
 use Rattle.title_land.specs.Laws.SameLand.{same_section-is, same_section-self}

@@ -6,7 +6,7 @@ use Rattle.title_lock.proofs.holders.Holders.drop_room.Goals as goal
 
 pub invariant_of-self : goal.invariant_of-self
 invariant_of-self c =
-    let h = c.self.inside.places in
+    let h = c.self.inside.slots in
     let g = c.erase.new.self in
     let e = c.args.examiner in
     counted_same c.self.inside.counts h g

@@ -7,10 +7,10 @@ use Rattle.title_lock.proofs.holders.Holders.way.Goals as goal
 pub returns-then-is_open : goal.returns-then-is_open
 returns-then-is_open c =
     let e = c.args.examiner in
-    let own = holder_mode c.self.inside.places e in
+    let own = holder_mode c.self.inside.slots e in
     record {
       way = subst (λ (h : Modes). (f : ℕ) → f ≢ e → clashes c.args.wanted (holder_mode h f) ≡ false) c.self.view_is
-          (clear_way c.self.inside.counts c.self.inside.places e own c.args.wanted c.self.invariant refl
+          (clear_way c.self.inside.counts c.self.inside.slots e own c.args.wanted c.self.invariant refl
           (clear_more c.self.inside.counts own c.args.wanted (sym c.is_open.ensures.open ∙ c.if-is_open.true)));
     }
 
@@ -19,7 +19,7 @@ returns-then-is_clear c =
     let e = c.args.examiner in
     record {
       way = subst (λ (h : Modes). (f : ℕ) → f ≢ e → clashes c.args.wanted (holder_mode h f) ≡ false) c.self.view_is
-          (clear_way c.self.inside.counts c.self.inside.places e c.mode.result c.args.wanted c.self.invariant
+          (clear_way c.self.inside.counts c.self.inside.slots e c.mode.result c.args.wanted c.self.invariant
           (c.mode.ensures.mode ∙ ap (λ (h : Modes). holder_mode h e) (sym c.self.view_is))
           (sym c.is_clear.ensures.clear ∙ c.if-is_clear.true));
     }

@@ -1,4 +1,4 @@
--- A place gets room, and a new place holds nobody and has room for one.
+-- A node's holders get room, and a new node's are nobody with room for one.
 use Rattle.std.proofs.Common.{◌≡◌, ◌∙◌, ap, sym, subst, refl, ℕ, List, Some, None, cond, eqb, ◌||◌, true≢false}
 use Rattle.std.specs.Prelude.{is_some}
 use Rattle.std.specs.Ordering.{nat_cmp}
@@ -6,8 +6,8 @@ use Rattle.std.specs.BTreeMap.{get, is_at}
 use Rattle.std.specs.Map.{lookup}
 use Rattle.title_land.specs.NodeNumbers.{node_number}
 use Rattle.title_lock.specs.Holders.{Modes}
-use Rattle.title_lock.specs.Tables.{place_at, mode_in, room_in, idle_in, unused_in, home_of}
-use Rattle.title_lock.proofs.TableLaws.{Places, node_writes, node_finds, is_found, same_everywhere, room_stays, idle_more, used_after}
+use Rattle.title_lock.specs.Tables.{holders_at, mode_in, room_in, idle_in, unused_in, home_of}
+use Rattle.title_lock.proofs.TableLaws.{NodeMap, node_writes, node_finds, is_found, same_everywhere, room_stays, idle_more, used_after}
 use Rattle.title_lock.proofs.IdleLaws.{idles_more, idles_first, rooms_used, room_used}
 use Rattle.title_lock.proofs.HomeLaws.{home_after}
 use Rattle.title_lock.proofs.shelf.Shelf.make_room.Goals as goal
@@ -17,10 +17,10 @@ returns-in-Some-clause-modes c f =
     let w = c.make_room.new.self in
     let code = c.args.spot.now.is.numbered in
     let found = c.in-Some.ensures.value in
-    let had = node_finds c.args.self.now.places c.args.spot.now.number c.args.spot.now.is.node (Some c.in-Some.place.now) code found in
-    let writes = node_writes c.args.self.now.places (c.get_mut.follows.lender w) c.args.spot.now.number c.args.spot.now.is.node (Some w)
+    let had = node_finds c.args.self.now.holders c.args.spot.now.number c.args.spot.now.is.node (Some c.in-Some.holders.now) code found in
+    let writes = node_writes c.args.self.now.holders (c.get_mut.follows.lender w) c.args.spot.now.number c.args.spot.now.is.node (Some w)
     code ((c.get_mut.follows.holds w).3 (is_found _ _ found)).0 in
-    same_everywhere c.args.self.now.places (c.get_mut.follows.lender w) c.args.spot.now.is.node (Some w)
+    same_everywhere c.args.self.now.holders (c.get_mut.follows.lender w) c.args.spot.now.is.node (Some w)
     writes (mode_in f) (c.make_room.ensures.modes f ∙ ap (mode_in f) had)
 
 pub returns-in-Some-clause-stays : goal.returns-in-Some-clause-stays
@@ -28,10 +28,10 @@ returns-in-Some-clause-stays c e =
     let w = c.make_room.new.self in
     let code = c.args.spot.now.is.numbered in
     let found = c.in-Some.ensures.value in
-    let had = node_finds c.args.self.now.places c.args.spot.now.number c.args.spot.now.is.node (Some c.in-Some.place.now) code found in
-    let writes = node_writes c.args.self.now.places (c.get_mut.follows.lender w) c.args.spot.now.number c.args.spot.now.is.node (Some w)
+    let had = node_finds c.args.self.now.holders c.args.spot.now.number c.args.spot.now.is.node (Some c.in-Some.holders.now) code found in
+    let writes = node_writes c.args.self.now.holders (c.get_mut.follows.lender w) c.args.spot.now.number c.args.spot.now.is.node (Some w)
     code ((c.get_mut.follows.holds w).3 (is_found _ _ found)).0 in
-    room_stays c.args.self.now.places (c.get_mut.follows.lender w) c.args.spot.now.is.node (Some w)
+    room_stays c.args.self.now.holders (c.get_mut.follows.lender w) c.args.spot.now.is.node (Some w)
     writes e
     (λ h. c.make_room.ensures.stays e (ap (room_in e) had ∙ h))
 
@@ -39,41 +39,41 @@ pub returns-clause-modes : goal.returns-clause-modes
 returns-clause-modes c f =
     let v = c.make_room-2.new.self in
     let code = c.args.spot.now.is.numbered in
-    let none = node_finds c.args.self.now.places c.args.spot.now.number c.args.spot.now.is.node None code c.in_default.ensures.value in
-    let writes = node_writes c.args.self.now.places c.insert.new.self c.args.spot.now.number c.args.spot.now.is.node (Some v) code
-    (subst (λ (m : Places). (q : ℕ) → get nat_cmp c.insert.new.self q
+    let none = node_finds c.args.self.now.holders c.args.spot.now.number c.args.spot.now.is.node None code c.in_default.ensures.value in
+    let writes = node_writes c.args.self.now.holders c.insert.new.self c.args.spot.now.number c.args.spot.now.is.node (Some v) code
+    (subst (λ (m : NodeMap). (q : ℕ) → get nat_cmp c.insert.new.self q
     ≡ cond (is_at (nat_cmp c.args.spot.now.number) q) (Some v) (get nat_cmp m q))
     c.get_mut.follows.holds-at-none c.in_ok-insert.ensures.updates.0) in
-    same_everywhere c.args.self.now.places c.insert.new.self c.args.spot.now.is.node (Some v)
+    same_everywhere c.args.self.now.holders c.insert.new.self c.args.spot.now.is.node (Some v)
     writes
     (mode_in f)
-    (c.make_room-2.ensures.modes f ∙ c.new-place.ensures.free f ∙ ap (mode_in f) none)
+    (c.make_room-2.ensures.modes f ∙ c.new-holders.ensures.free f ∙ ap (mode_in f) none)
 
 pub returns-clause-stays : goal.returns-clause-stays
 returns-clause-stays c e =
     let v = c.make_room-2.new.self in
     let code = c.args.spot.now.is.numbered in
-    let none = node_finds c.args.self.now.places c.args.spot.now.number c.args.spot.now.is.node None code c.in_default.ensures.value in
-    let writes = node_writes c.args.self.now.places c.insert.new.self c.args.spot.now.number c.args.spot.now.is.node (Some v) code
-    (subst (λ (m : Places). (q : ℕ) → get nat_cmp c.insert.new.self q
+    let none = node_finds c.args.self.now.holders c.args.spot.now.number c.args.spot.now.is.node None code c.in_default.ensures.value in
+    let writes = node_writes c.args.self.now.holders c.insert.new.self c.args.spot.now.number c.args.spot.now.is.node (Some v) code
+    (subst (λ (m : NodeMap). (q : ℕ) → get nat_cmp c.insert.new.self q
     ≡ cond (is_at (nat_cmp c.args.spot.now.number) q) (Some v) (get nat_cmp m q))
     c.get_mut.follows.holds-at-none c.in_ok-insert.ensures.updates.0) in
-    room_stays c.args.self.now.places c.insert.new.self c.args.spot.now.is.node (Some v)
+    room_stays c.args.self.now.holders c.insert.new.self c.args.spot.now.is.node (Some v)
     writes e
     (λ h. absurd (true≢false (sym h ∙ ap (room_in e) (sym none))))
 
 pub returns-in-Some-clause-idle : goal.returns-in-Some-clause-idle
 returns-in-Some-clause-idle c =
     let e = c.args.examiner in
-    let h = c.in-Some.place.now in
+    let h = c.in-Some.holders.now in
     let w = c.make_room.new.self in
     let code = c.args.spot.now.is.numbered in
     let found = c.in-Some.ensures.value in
-    let had = node_finds c.args.self.now.places c.args.spot.now.number c.args.spot.now.is.node (Some c.in-Some.place.now) code found in
-    let writes = node_writes c.args.self.now.places (c.get_mut.follows.lender w) c.args.spot.now.number c.args.spot.now.is.node (Some w)
+    let had = node_finds c.args.self.now.holders c.args.spot.now.number c.args.spot.now.is.node (Some c.in-Some.holders.now) code found in
+    let writes = node_writes c.args.self.now.holders (c.get_mut.follows.lender w) c.args.spot.now.number c.args.spot.now.is.node (Some w)
     code ((c.get_mut.follows.holds w).3 (is_found _ _ found)).0 in
     record {
-      more = λ f. idle_more c.args.self.now.places (c.get_mut.follows.lender w) c.args.spot.now.is.node (Some w)
+      more = λ f. idle_more c.args.self.now.holders (c.get_mut.follows.lender w) c.args.spot.now.is.node (Some w)
           writes (eqb f e) f
           (λ idle. ap (λ o. idle_in f o || eqb f e) (sym had)
           ∙ idles_more h w f e (c.make_room.ensures.modes f) (c.make_room.ensures.others f) idle);
@@ -84,13 +84,13 @@ returns-in-Some-clause-used c used =
     let w = c.make_room.new.self in
     let code = c.args.spot.now.is.numbered in
     let found = c.in-Some.ensures.value in
-    let had = node_finds c.args.self.now.places c.args.spot.now.number c.args.spot.now.is.node (Some c.in-Some.place.now) code found in
-    let writes = node_writes c.args.self.now.places (c.get_mut.follows.lender w) c.args.spot.now.number c.args.spot.now.is.node (Some w)
+    let had = node_finds c.args.self.now.holders c.args.spot.now.number c.args.spot.now.is.node (Some c.in-Some.holders.now) code found in
+    let writes = node_writes c.args.self.now.holders (c.get_mut.follows.lender w) c.args.spot.now.number c.args.spot.now.is.node (Some w)
     code ((c.get_mut.follows.holds w).3 (is_found _ _ found)).0 in
     record {
-      each = used_after c.args.self.now.places (c.get_mut.follows.lender w) c.args.spot.now.is.node (Some w)
+      each = used_after c.args.self.now.holders (c.get_mut.follows.lender w) c.args.spot.now.is.node (Some w)
           writes
-          (λ here. rooms_used c.in-Some.place.now w c.make_room.ensures.stays (ap unused_in had ∙ here)) used.each;
+          (λ here. rooms_used c.in-Some.holders.now w c.make_room.ensures.stays (ap unused_in had ∙ here)) used.each;
     }
 
 pub returns-clause-idle : goal.returns-clause-idle
@@ -98,16 +98,16 @@ returns-clause-idle c =
     let e = c.args.examiner in
     let v = c.make_room-2.new.self in
     let code = c.args.spot.now.is.numbered in
-    let none = node_finds c.args.self.now.places c.args.spot.now.number c.args.spot.now.is.node None code c.in_default.ensures.value in
-    let writes = node_writes c.args.self.now.places c.insert.new.self c.args.spot.now.number c.args.spot.now.is.node (Some v) code
-    (subst (λ (m : Places). (q : ℕ) → get nat_cmp c.insert.new.self q
+    let none = node_finds c.args.self.now.holders c.args.spot.now.number c.args.spot.now.is.node None code c.in_default.ensures.value in
+    let writes = node_writes c.args.self.now.holders c.insert.new.self c.args.spot.now.number c.args.spot.now.is.node (Some v) code
+    (subst (λ (m : NodeMap). (q : ℕ) → get nat_cmp c.insert.new.self q
     ≡ cond (is_at (nat_cmp c.args.spot.now.number) q) (Some v) (get nat_cmp m q))
     c.get_mut.follows.holds-at-none c.in_ok-insert.ensures.updates.0) in
     record {
-      more = λ f. idle_more c.args.self.now.places c.insert.new.self c.args.spot.now.is.node (Some v)
+      more = λ f. idle_more c.args.self.now.holders c.insert.new.self c.args.spot.now.is.node (Some v)
           writes (eqb f e) f
           (λ idle. ap (λ o. idle_in f o || eqb f e) (sym none)
-          ∙ idles_first c.new-place.result v f e (c.new-place.ensures.rooms f) (c.make_room-2.ensures.modes f)
+          ∙ idles_first c.new-holders.result v f e (c.new-holders.ensures.rooms f) (c.make_room-2.ensures.modes f)
           (c.make_room-2.ensures.others f) idle);
     }
 
@@ -115,27 +115,27 @@ pub returns-clause-used : goal.returns-clause-used
 returns-clause-used c used =
     let v = c.make_room-2.new.self in
     let code = c.args.spot.now.is.numbered in
-    let none = node_finds c.args.self.now.places c.args.spot.now.number c.args.spot.now.is.node None code c.in_default.ensures.value in
-    let writes = node_writes c.args.self.now.places c.insert.new.self c.args.spot.now.number c.args.spot.now.is.node (Some v) code
-    (subst (λ (m : Places). (q : ℕ) → get nat_cmp c.insert.new.self q
+    let none = node_finds c.args.self.now.holders c.args.spot.now.number c.args.spot.now.is.node None code c.in_default.ensures.value in
+    let writes = node_writes c.args.self.now.holders c.insert.new.self c.args.spot.now.number c.args.spot.now.is.node (Some v) code
+    (subst (λ (m : NodeMap). (q : ℕ) → get nat_cmp c.insert.new.self q
     ≡ cond (is_at (nat_cmp c.args.spot.now.number) q) (Some v) (get nat_cmp m q))
     c.get_mut.follows.holds-at-none c.in_ok-insert.ensures.updates.0) in
     record {
-      each = used_after c.args.self.now.places c.insert.new.self c.args.spot.now.is.node (Some v)
+      each = used_after c.args.self.now.holders c.insert.new.self c.args.spot.now.is.node (Some v)
           writes
           (λ here. room_used v c.args.examiner c.in_ok-make_room.ensures.room) used.each;
     }
 
 pub returns-in_err-make_room-clause-used : goal.returns-in_err-make_room-clause-used
 returns-in_err-make_room-clause-used c used = record {
-  each = λ n. ap (λ (m : Places). unused_in (place_at m n)) c.get_mut.follows.holds-at-none ∙ used.each n;
+  each = λ n. ap (λ (m : NodeMap). unused_in (holders_at m n)) c.get_mut.follows.holds-at-none ∙ used.each n;
 }
 
 pub returns-in_err-insert-clause-used : goal.returns-in_err-insert-clause-used
 returns-in_err-insert-clause-used c used = record {
   each = λ n.
       ap (λ (es : List (ℕ × Modes)). unused_in (lookup (is_at (nat_cmp (node_number n))) es))
-      (c.in_err-insert.ensures.err ∙ ap (λ (m : Places). m.entries) c.get_mut.follows.holds-at-none)
+      (c.in_err-insert.ensures.err ∙ ap (λ (m : NodeMap). m.entries) c.get_mut.follows.holds-at-none)
       ∙ used.each n;
 }
 
@@ -144,7 +144,7 @@ returns-in-Some-clause-homes c homes =
     let w = c.make_room.new.self in
     let k = c.args.spot.now.is.node in
     record {
-      each = home_after (home_of k) c.args.self.now.places (c.get_mut.follows.lender w) c.args.spot.now.number (Some w)
+      each = home_after (home_of k) c.args.self.now.holders (c.get_mut.follows.lender w) c.args.spot.now.number (Some w)
           ((c.get_mut.follows.holds w).3 (is_found _ _ c.in-Some.ensures.value)).0 (λ some. (k, refl, c.args.spot.now.is.numbered))
           homes.each;
     }
@@ -154,8 +154,8 @@ returns-clause-homes c homes =
     let v = c.make_room-2.new.self in
     let k = c.args.spot.now.is.node in
     record {
-      each = home_after (home_of k) c.args.self.now.places c.insert.new.self c.args.spot.now.number (Some v)
-          (subst (λ (m : Places). (q : ℕ) → get nat_cmp c.insert.new.self q
+      each = home_after (home_of k) c.args.self.now.holders c.insert.new.self c.args.spot.now.number (Some v)
+          (subst (λ (m : NodeMap). (q : ℕ) → get nat_cmp c.insert.new.self q
           ≡ cond (is_at (nat_cmp c.args.spot.now.number) q) (Some v) (get nat_cmp m q))
           c.get_mut.follows.holds-at-none c.in_ok-insert.ensures.updates.0)
           (λ some. (k, refl, c.args.spot.now.is.numbered)) homes.each;
@@ -163,12 +163,12 @@ returns-clause-homes c homes =
 
 pub returns-in_err-make_room-clause-homes : goal.returns-in_err-make_room-clause-homes
 returns-in_err-make_room-clause-homes c homes = record {
-  each = λ q has. homes.each q (sym (ap (λ (m : Places). is_some (get nat_cmp m q)) c.get_mut.follows.holds-at-none) ∙ has);
+  each = λ q has. homes.each q (sym (ap (λ (m : NodeMap). is_some (get nat_cmp m q)) c.get_mut.follows.holds-at-none) ∙ has);
 }
 
 pub returns-in_err-insert-clause-homes : goal.returns-in_err-insert-clause-homes
 returns-in_err-insert-clause-homes c homes = record {
   each = λ q has. homes.each q
       (sym (ap (λ (es : List (ℕ × Modes)). is_some (lookup (is_at (nat_cmp q)) es))
-      (c.in_err-insert.ensures.err ∙ ap (λ (m : Places). m.entries) c.get_mut.follows.holds-at-none)) ∙ has);
+      (c.in_err-insert.ensures.err ∙ ap (λ (m : NodeMap). m.entries) c.get_mut.follows.holds-at-none)) ∙ has);
 }

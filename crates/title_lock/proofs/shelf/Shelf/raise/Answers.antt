@@ -1,4 +1,4 @@
--- One place changes, and it keeps its room.
+-- One node's holders change, and they keep their room.
 use Rattle.std.proofs.Common.{◌∙◌, ◌&&◌, not, ap, Some, None, cond, eqb, Option}
 use Rattle.title_lock.specs.Holders.{Modes}
 use Rattle.title_lock.specs.Modes.{bound}
@@ -14,10 +14,10 @@ returns-in-Some-clause-modes c f =
     let w = c.raise.new.self in
     let code = c.args.spot.now.is.numbered in
     let found = c.in-Some.ensures.value in
-    let had = node_finds c.args.self.now.places c.args.spot.now.number c.args.spot.now.is.node (Some c.in-Some.place.now) code found in
-    let writes = node_writes c.args.self.now.places (c.get_mut.follows.lender w) c.args.spot.now.number c.args.spot.now.is.node (Some w)
+    let had = node_finds c.args.self.now.holders c.args.spot.now.number c.args.spot.now.is.node (Some c.in-Some.holders.now) code found in
+    let writes = node_writes c.args.self.now.holders (c.get_mut.follows.lender w) c.args.spot.now.number c.args.spot.now.is.node (Some w)
     code ((c.get_mut.follows.holds w).3 (is_found _ _ found)).0 in
-    raised c.args.self.now.places (c.get_mut.follows.lender w) c.args.spot.now.is.node (Some w) writes
+    raised c.args.self.now.holders (c.get_mut.follows.lender w) c.args.spot.now.is.node (Some w) writes
     e f c.args.mode
     (c.raise.ensures.modes f ∙ ap (λ (o : Option Modes). bound (mode_in f o) (cond (eqb f e) (Some c.args.mode) None)) had)
 
@@ -26,25 +26,25 @@ returns-in-Some-clause-stays c f =
     let w = c.raise.new.self in
     let code = c.args.spot.now.is.numbered in
     let found = c.in-Some.ensures.value in
-    let had = node_finds c.args.self.now.places c.args.spot.now.number c.args.spot.now.is.node (Some c.in-Some.place.now) code found in
-    let writes = node_writes c.args.self.now.places (c.get_mut.follows.lender w) c.args.spot.now.number c.args.spot.now.is.node (Some w)
+    let had = node_finds c.args.self.now.holders c.args.spot.now.number c.args.spot.now.is.node (Some c.in-Some.holders.now) code found in
+    let writes = node_writes c.args.self.now.holders (c.get_mut.follows.lender w) c.args.spot.now.number c.args.spot.now.is.node (Some w)
     code ((c.get_mut.follows.holds w).3 (is_found _ _ found)).0 in
-    room_stays c.args.self.now.places (c.get_mut.follows.lender w) c.args.spot.now.is.node (Some w)
+    room_stays c.args.self.now.holders (c.get_mut.follows.lender w) c.args.spot.now.is.node (Some w)
     writes f
     (λ h. c.raise.ensures.rooms f ∙ ap (room_in f) had ∙ h)
 
 pub returns-in-Some-clause-idle : goal.returns-in-Some-clause-idle
 returns-in-Some-clause-idle c =
     let e = c.args.examiner in
-    let h = c.in-Some.place.now in
+    let h = c.in-Some.holders.now in
     let w = c.raise.new.self in
     let code = c.args.spot.now.is.numbered in
     let found = c.in-Some.ensures.value in
-    let had = node_finds c.args.self.now.places c.args.spot.now.number c.args.spot.now.is.node (Some c.in-Some.place.now) code found in
-    let writes = node_writes c.args.self.now.places (c.get_mut.follows.lender w) c.args.spot.now.number c.args.spot.now.is.node (Some w)
+    let had = node_finds c.args.self.now.holders c.args.spot.now.number c.args.spot.now.is.node (Some c.in-Some.holders.now) code found in
+    let writes = node_writes c.args.self.now.holders (c.get_mut.follows.lender w) c.args.spot.now.number c.args.spot.now.is.node (Some w)
     code ((c.get_mut.follows.holds w).3 (is_found _ _ found)).0 in
     record {
-      less = λ f. idle_less c.args.self.now.places (c.get_mut.follows.lender w) c.args.spot.now.is.node (Some w)
+      less = λ f. idle_less c.args.self.now.holders (c.get_mut.follows.lender w) c.args.spot.now.is.node (Some w)
           writes (eqb f e) f
           (idles_raised h w f e c.args.mode (c.raise.ensures.modes f) (c.raise.ensures.rooms f)
           ∙ ap (λ (o : Option Modes). idle_in f o && not (eqb f e)) had);
@@ -55,13 +55,13 @@ returns-in-Some-clause-used c used =
     let w = c.raise.new.self in
     let code = c.args.spot.now.is.numbered in
     let found = c.in-Some.ensures.value in
-    let had = node_finds c.args.self.now.places c.args.spot.now.number c.args.spot.now.is.node (Some c.in-Some.place.now) code found in
-    let writes = node_writes c.args.self.now.places (c.get_mut.follows.lender w) c.args.spot.now.number c.args.spot.now.is.node (Some w)
+    let had = node_finds c.args.self.now.holders c.args.spot.now.number c.args.spot.now.is.node (Some c.in-Some.holders.now) code found in
+    let writes = node_writes c.args.self.now.holders (c.get_mut.follows.lender w) c.args.spot.now.number c.args.spot.now.is.node (Some w)
     code ((c.get_mut.follows.holds w).3 (is_found _ _ found)).0 in
     record {
-      each = used_after c.args.self.now.places (c.get_mut.follows.lender w) c.args.spot.now.is.node (Some w)
+      each = used_after c.args.self.now.holders (c.get_mut.follows.lender w) c.args.spot.now.is.node (Some w)
           writes
-          (λ here. rooms_used c.in-Some.place.now w (λ f room. c.raise.ensures.rooms f ∙ room) (ap unused_in had ∙ here)) used.each;
+          (λ here. rooms_used c.in-Some.holders.now w (λ f room. c.raise.ensures.rooms f ∙ room) (ap unused_in had ∙ here)) used.each;
     }
 
 pub returns-in-Some-clause-homes : goal.returns-in-Some-clause-homes
@@ -70,6 +70,6 @@ returns-in-Some-clause-homes c h homes =
     let k = c.args.spot.now.number in
     let found = c.in-Some.ensures.value in
     record {
-      each = home_after h c.args.self.now.places (c.get_mut.follows.lender w) k (Some w)
+      each = home_after h c.args.self.now.holders (c.get_mut.follows.lender w) k (Some w)
           ((c.get_mut.follows.holds w).3 (is_found _ _ found)).0 (λ some. homes.each k (found_some _ _ found)) homes.each;
     }

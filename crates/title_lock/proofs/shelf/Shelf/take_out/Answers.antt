@@ -1,12 +1,12 @@
--- One place loses an examiner, and is dropped where nobody is left.
+-- One node's holders lose an examiner, and are dropped where nobody is left.
 use Rattle.std.proofs.Common.{◌≡◌, ◌∙◌, refl, ap, sym, subst, true, false, true≢false, Some, None, cond, ◌&&◌, not, eqb, Option}
 use Rattle.std.specs.Prelude.{is_some}
 use Rattle.std.specs.Ordering.{nat_cmp}
 use Rattle.std.specs.BTreeMap.{get}
 use Rattle.title_land.specs.Nodes.{same_node}
 use Rattle.title_lock.specs.Holders.{Modes, is_mode, is_free}
-use Rattle.title_lock.specs.Tables.{place_at, mode_in, idle_in, unused_in}
-use Rattle.title_lock.proofs.TableLaws.{Places, Writes, node_writes, node_finds, is_found, mode_of, same_everywhere, released}
+use Rattle.title_lock.specs.Tables.{holders_at, mode_in, idle_in, unused_in}
+use Rattle.title_lock.proofs.TableLaws.{NodeMap, Writes, node_writes, node_finds, is_found, mode_of, same_everywhere, released}
 use Rattle.title_lock.proofs.TableLaws.{none_released, free_none}
 use Rattle.title_lock.proofs.TableLaws.{idle_less, none_idle, used_after, rewritten}
 use Rattle.title_lock.proofs.IdleLaws.{idles_taken, free_idles}
@@ -18,38 +18,38 @@ returns-in_default c =
     let e = c.args.examiner in
     let k = c.args.spot.now.is.node in
     let code = c.args.spot.now.is.numbered in
-    let none = sym (node_finds c.args.self.now.places c.args.spot.now.number k None code c.in_default.ensures.value) in
+    let none = sym (node_finds c.args.self.now.holders c.args.spot.now.number k None code c.in_default.ensures.value) in
     let now = c.get_mut.follows.holds-at-none in
-    let m = c.args.self.now.places in
+    let m = c.args.self.now.holders in
     record {
-      modes = λ f n. subst (λ (z : Places). mode_of z f n ≡ cond (is_mode c.args.taken && eqb f e && same_node n k) None (mode_of m f n))
+      modes = λ f n. subst (λ (z : NodeMap). mode_of z f n ≡ cond (is_mode c.args.taken && eqb f e && same_node n k) None (mode_of m f n))
           (sym now) (none_released m k none (is_mode c.args.taken && eqb f e) f n);
       idle = record {
-        less = λ f n. subst (λ (z : Places). idle_in f (place_at z n)
-            ≡ (idle_in f (place_at m n) && not (eqb f e && same_node n k))) (sym now) (none_idle m k none (eqb f e) f n);
+        less = λ f n. subst (λ (z : NodeMap). idle_in f (holders_at z n)
+            ≡ (idle_in f (holders_at m n) && not (eqb f e && same_node n k))) (sym now) (none_idle m k none (eqb f e) f n);
       };
-      dropped = ap (λ (z : Places). unused_in (place_at z k)) now ∙ ap unused_in none;
-      used = λ used. record { each = λ n. ap (λ (z : Places). unused_in (place_at z n)) now ∙ used.each n };
-      homes = λ h homes. record { each = λ q has. homes.each q (sym (ap (λ (z : Places). is_some (get nat_cmp z q)) now) ∙ has) };
+      dropped = ap (λ (z : NodeMap). unused_in (holders_at z k)) now ∙ ap unused_in none;
+      used = λ used. record { each = λ n. ap (λ (z : NodeMap). unused_in (holders_at z n)) now ∙ used.each n };
+      homes = λ h homes. record { each = λ q has. homes.each q (sym (ap (λ (z : NodeMap). is_some (get nat_cmp z q)) now) ∙ has) };
     }
 
 pub returns-then-take_out : goal.returns-then-take_out
 returns-then-take_out c =
     let e = c.args.examiner in
     let k = c.args.spot.now.is.node in
-    let h = c.in-Some.place.now in
+    let h = c.in-Some.holders.now in
     let w = c.take_out.new.self in
     let code = c.args.spot.now.is.numbered in
-    let m = c.args.self.now.places in
+    let m = c.args.self.now.holders in
     let mid = c.get_mut.follows.lender w in
     let found = c.in-Some.ensures.value in
     let had = node_finds m c.args.spot.now.number k (Some h) code found in
     let changes = (c.get_mut.follows.holds w).3 (is_found _ _ found) in
     let writes = node_writes m mid c.args.spot.now.number k (Some w) code changes.0 in
-    let left : Some w ≡ place_at mid k = node_finds mid c.args.spot.now.number k (Some w) code (sym changes.1) in
+    let left : Some w ≡ holders_at mid k = node_finds mid c.args.spot.now.number k (Some w) code (sym changes.1) in
     let free : is_free w ≡ true = sym c.take_out.ensures.free ∙ c.if-take_out.true in
     let removes = node_writes mid c.remove.new.self c.args.spot.now.number k None code c.remove.ensures.updates.0 in
-    let gone : None ≡ place_at c.remove.new.self k = node_finds c.remove.new.self c.args.spot.now.number k None code
+    let gone : None ≡ holders_at c.remove.new.self k = node_finds c.remove.new.self c.args.spot.now.number k None code
     (sym c.remove.ensures.updates.1) in
     let both : Writes m c.remove.new.self k None = rewritten m mid c.remove.new.self k (Some w) None writes removes in
     record {
@@ -78,16 +78,16 @@ pub returns-else-take_out : goal.returns-else-take_out
 returns-else-take_out c =
     let e = c.args.examiner in
     let k = c.args.spot.now.is.node in
-    let h = c.in-Some.place.now in
+    let h = c.in-Some.holders.now in
     let w = c.take_out.new.self in
     let code = c.args.spot.now.is.numbered in
-    let m = c.args.self.now.places in
+    let m = c.args.self.now.holders in
     let mid = c.get_mut.follows.lender w in
     let found = c.in-Some.ensures.value in
     let had = node_finds m c.args.spot.now.number k (Some h) code found in
     let changes = (c.get_mut.follows.holds w).3 (is_found _ _ found) in
     let writes = node_writes m mid c.args.spot.now.number k (Some w) code changes.0 in
-    let left : Some w ≡ place_at mid k = node_finds mid c.args.spot.now.number k (Some w) code (sym changes.1) in
+    let left : Some w ≡ holders_at mid k = node_finds mid c.args.spot.now.number k (Some w) code (sym changes.1) in
     let kept : is_free w ≡ false = sym c.take_out.ensures.free ∙ c.if-take_out.false in
     record {
       modes = λ f. released m mid k (Some w) writes (is_mode c.args.taken && eqb f e) f

@@ -7,7 +7,7 @@ use Rattle.title_land.specs.declared.node.Node.{Node}
 use Rattle.title_land.specs.Lands.{cover_of}
 use Rattle.title_lock.specs.Tables.{is_asked, IdleLess, TableIs}
 use Rattle.title_lock.specs.Locks.{Locks, granted, waiting, AreKept, IsLean}
-use Rattle.title_lock.specs.Tables.{placed}
+use Rattle.title_lock.specs.Tables.{on_all}
 use Rattle.title_lock.proofs.KeptLaws.{kept_table, table_same, prepared_taken, prepared_some, waiting_taken, lean_done}
 use Rattle.title_lock.proofs.spread_locks.SpreadLocks.forget.Goals as goal
 
@@ -23,14 +23,14 @@ invariant_of-self c =
     c.in-Some-take.ensures.taken in
     let own = c.in-Some-take.ensures.own in
     record {
-      kept = subst (λ (es : List Entry). TableIs depth es (placed c.take_out_all.new.self)) (sym left)
+      kept = subst (λ (es : List Entry). TableIs depth es (on_all c.take_out_all.new.self)) (sym left)
           (table_same depth (granted (Some e) book) table c.take_out_all.new.self c.take_out_all.ensures.modes (kept_table depth
           (Some e) book table kept));
       lean = lean_done depth x table c.take_out_all.new.self
           (subst (λ (w : Option Entry). IsLean depth w table) waits c.self.invariant.lean)
-          (subst (λ (f : ℕ). IdleLess (placed table) (placed c.take_out_all.new.self) f
+          (subst (λ (f : ℕ). IdleLess (on_all table) (on_all c.take_out_all.new.self) f
           (λ n. list_any (is_asked n) (cover_of depth x.tract))) (sym own)
-          (subst (λ (t : List Node). IdleLess (placed table) (placed c.take_out_all.new.self) e (λ n. list_any (is_asked n) t))
+          (subst (λ (t : List Node). IdleLess (on_all table) (on_all c.take_out_all.new.self) e (λ n. list_any (is_asked n) t))
           c.cover.ensures.cover
           c.take_out_all.ensures.idle))
           c.take_out_all.ensures.used;

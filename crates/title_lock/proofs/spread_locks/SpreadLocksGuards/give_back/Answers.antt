@@ -5,7 +5,7 @@ use Rattle.title_lock.specs.declared.guards.Entry.{Entry}
 use Rattle.title_lock.specs.Overlaps.{without}
 use Rattle.title_lock.specs.Tables.{TableIs}
 use Rattle.title_lock.specs.Locks.{Locks, granted, waiting, AreKept, IsLean, AreLocks}
-use Rattle.title_lock.specs.Tables.{placed}
+use Rattle.title_lock.specs.Tables.{on_all}
 use Rattle.title_lock.proofs.GiveBack.{table_fewer}
 use Rattle.title_lock.proofs.KeptLaws.{none_waiting, lean_same}
 use Rattle.title_lock.proofs.spread_locks.SpreadLocksGuards.give_back.Goals as goal
@@ -17,9 +17,9 @@ invariant_of-self c =
     let none : c.self.inside.prepared ≡ None = none_waiting depth c.self.inside.prepared book table c.self.invariant.kept
     (ap (λ (l : Locks). l.prepared) c.self.view_is ∙ c.forget.ensures.none) in
     let more = c.give_back_all.new.table in
-    let are : TableIs depth book (placed table) = subst (λ (p : Option ℕ). AreKept depth p book table) none c.self.invariant.kept in
+    let are : TableIs depth book (on_all table) = subst (λ (p : Option ℕ). AreKept depth p book table) none c.self.invariant.kept in
     subst (λ (p : Option ℕ). AreLocks depth p c.give_back_all.new.book more) (sym none) (record {
-      kept = subst (λ (es : List Entry). TableIs depth es (placed more)) (sym c.give_back_all.ensures.left)
+      kept = subst (λ (es : List Entry). TableIs depth es (on_all more)) (sym c.give_back_all.ensures.left)
           (table_fewer depth c.args.examiner book table more are c.give_back_all.ensures.modes);
       lean = lean_same depth None table more
           (subst (λ (p : Option ℕ). IsLean depth (waiting p book) table) none c.self.invariant.lean)

@@ -9,7 +9,7 @@ use Rattle.title_lock.specs.Overlaps.{is_post}
 use Rattle.title_lock.specs.Asking.{asked}
 use Rattle.title_lock.specs.Tables.{table_mode, is_asked, IdleLess, TableIs}
 use Rattle.title_lock.specs.Locks.{Locks, granted, IsLean}
-use Rattle.title_lock.specs.Tables.{placed}
+use Rattle.title_lock.specs.Tables.{on_all}
 use Rattle.title_lock.proofs.MeetLaws.{meet_by_covers}
 use Rattle.title_lock.proofs.GiveBack.{table_more}
 use Rattle.title_lock.proofs.KeptLaws.{kept_table, first_waits, lean_done}
@@ -30,16 +30,16 @@ invariant_of-self c =
     let first = first_waits depth c.self.inside.prepared c.self.inside.book table x c.self.invariant.kept
     (ap (λ (l : Locks). l.prepared) c.self.view_is ∙ c.requires.prepared) in
     record {
-      kept = subst (λ (t : List Entry). TableIs depth t (placed c.raise_all.new.self)) (sym first.first)
+      kept = subst (λ (t : List Entry). TableIs depth t (on_all c.raise_all.new.self)) (sym first.first)
           (table_more depth meet_by_covers es table c.raise_all.new.self x first.wide
           (kept_table depth c.self.inside.prepared c.self.inside.book table c.self.invariant.kept) first.free
           (λ f n. c.raise_all.ensures.modes f n
-          ∙ ap (λ (t : List Node). bound (table_mode (placed table) f n) (cond (eqb f x.examiner) (asked
+          ∙ ap (λ (t : List Node). bound (table_mode (on_all table) f n) (cond (eqb f x.examiner) (asked
           (is_post x.access) t n) None)) c.cover.ensures.cover));
       lean = lean_done depth x table c.raise_all.new.self
           (subst (λ (w : Option Entry). IsLean depth w table) (ap (λ (l : Locks). l.prepared) c.self.view_is ∙ c.requires.prepared)
           c.self.invariant.lean)
-          (subst (λ (t : List Node). IdleLess (placed table) (placed c.raise_all.new.self) x.examiner (λ n. list_any (is_asked n) t))
+          (subst (λ (t : List Node). IdleLess (on_all table) (on_all c.raise_all.new.self) x.examiner (λ n. list_any (is_asked n) t))
           c.cover.ensures.cover
           c.raise_all.ensures.idle)
           c.raise_all.ensures.used;

@@ -9,7 +9,7 @@ use Rattle.title_lock.specs.declared.guards.Entry.{Entry}
 use Rattle.title_lock.specs.Overlaps.{is_post, Stands}
 use Rattle.title_lock.specs.Tables.{is_asked, HasRoom, IdleMore, TableIs}
 use Rattle.title_lock.specs.Locks.{Locks, granted, waiting, AreKept, AreLocks, IsLean}
-use Rattle.title_lock.specs.Tables.{placed}
+use Rattle.title_lock.specs.Tables.{on_all}
 use Rattle.title_lock.proofs.KeptLaws.{none_waiting, table_same, lean_more, lean_same}
 use Rattle.title_lock.proofs.spread_locks.SpreadLocksGuards.prepare.Goals as goal
 
@@ -44,7 +44,7 @@ invariant_of-self-2 c =
     let es : granted p book ≡ c.forget.new.self.entries = ap (λ (l : Locks). l.entries) c.self.view_is in
     let all : granted p book ≡ book = ap (λ (q : Option ℕ). granted q book) none in
     let cover : c.cover.result.now ≡ cover_of depth c.in-Ok.copy = c.cover.ensures.cover ∙ ap (cover_of depth) (sym c.in-Ok.ensures.copy) in
-    let are : TableIs depth book (placed t) = subst (λ (q : Option ℕ). AreKept depth q book t) none c.self.invariant.kept in
+    let are : TableIs depth book (on_all t) = subst (λ (q : Option ℕ). AreKept depth q book t) none c.self.invariant.kept in
     subst (λ (b : List Entry). AreLocks depth (Some e) b u) (sym c.in-Ok-stage.ensures.ok) (record {
       kept = (
         table_same depth book t u c.stage.ensures.modes are,
@@ -54,11 +54,11 @@ invariant_of-self-2 c =
           free = subst (λ (l : Land). Stands book e l (is_post c.args.access) None) (sym c.in-Ok.ensures.copy)
               (subst (λ (b : List Entry). Stands b e c.args.tract.now (is_post c.args.access) None) (sym es ∙ all)
               c.in_default.ensures.would);
-          room = subst (λ (nodes : List Node). HasRoom (placed u) e (λ n. list_any (is_asked n) nodes)) cover c.in-Ok-stage.ensures.room;
+          room = subst (λ (nodes : List Node). HasRoom (on_all u) e (λ n. list_any (is_asked n) nodes)) cover c.in-Ok-stage.ensures.room;
         },
       );
       lean = lean_more depth x t u (subst (λ (q : Option ℕ). IsLean depth (waiting q book) t) none c.self.invariant.lean)
-          (subst (λ (nodes : List Node). IdleMore (placed t) (placed u) e (λ n. list_any (is_asked n) nodes)) cover
+          (subst (λ (nodes : List Node). IdleMore (on_all t) (on_all u) e (λ n. list_any (is_asked n) nodes)) cover
           c.in-Ok-stage.ensures.idle)
           c.stage.ensures.used;
     })

@@ -5,7 +5,7 @@ use Rattle.title_land.specs.declared.node.Node.{Node}
 use Rattle.title_lock.specs.declared.guards.Entry.{Entry}
 use Rattle.title_lock.specs.Overlaps.{IsLeast, Stands, is_post}
 use Rattle.title_lock.specs.Tables.{table_mode, clashes_with}
-use Rattle.title_lock.specs.Tables.{placed}
+use Rattle.title_lock.specs.Tables.{on_all}
 use Rattle.title_lock.proofs.MeetLaws.{meet_by_covers}
 use Rattle.title_lock.specs.Locks.{Locks, granted}
 use Rattle.title_lock.proofs.KeptLaws.{kept_table}
@@ -19,11 +19,11 @@ returns c =
     let p = is_post c.args.access in
     let table = c.self.inside.table in
     let wide = c.cover.ensures.sized in
-    let least = subst (λ (u : List Node). IsLeast (λ f. clashes_with p (λ n. table_mode (placed table) f n) u) e c.ways.result)
+    let least = subst (λ (u : List Node). IsLeast (λ f. clashes_with p (λ n. table_mode (on_all table) f n) u) e c.ways.result)
     c.cover.ensures.cover
     c.ways.ensures.way in
     record {
       would = subst (λ (z : List Entry). Stands z e t p c.ways.result) (ap (λ (l : Locks). l.entries) c.self.view_is)
-          (stands depth meet_by_covers (granted c.self.inside.prepared c.self.inside.book) (placed table) e p t c.ways.result wide
+          (stands depth meet_by_covers (granted c.self.inside.prepared c.self.inside.book) (on_all table) e p t c.ways.result wide
           (kept_table depth c.self.inside.prepared c.self.inside.book table c.self.invariant.kept) least);
     }

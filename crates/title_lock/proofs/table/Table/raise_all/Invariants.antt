@@ -1,15 +1,15 @@
--- What is left raised is all raised, and there is room for it; places stay used.
+-- What is left raised is all raised, and there is room for it; holders stay used.
 use Rattle.std.proofs.Common.{None, length}
 use Rattle.title_lock.specs.Overlaps.{is_post}
-use Rattle.title_lock.specs.Tables.{Placed, placed, HasRoom, TableUsed}
+use Rattle.title_lock.specs.Tables.{HeldAt, on_all, HasRoom, TableUsed}
 use Rattle.title_lock.specs.Walks.{asks_in, walk, walk_left, Raised}
 use Rattle.title_lock.proofs.table.Table.raise_all.Given as goal
 
 abbrev pub invariant-loop-climb : goal.invariant-loop-climb
 invariant-loop-climb l = record {
-  does : (v : Placed) → Raised (placed l.self) v l.examiner (is_post l.access) (walk_left l.walk)
-      → Raised (placed l.fn.self) v l.examiner (is_post l.access) (walk None l.cover);
-  room : HasRoom (placed l.self) l.examiner (asks_in (walk_left l.walk));
+  does : (v : HeldAt) → Raised (on_all l.self) v l.examiner (is_post l.access) (walk_left l.walk)
+      → Raised (on_all l.fn.self) v l.examiner (is_post l.access) (walk None l.cover);
+  room : HasRoom (on_all l.self) l.examiner (asks_in (walk_left l.walk));
   used : TableUsed l.fn.self → TableUsed l.self;
 }
 

@@ -2,7 +2,7 @@
 use Rattle.std.proofs.Common.{◌∙◌, ◌&&◌, Bool, List, None, cond, eqb, ap, subst}
 use Rattle.std.specs.List.{list_any}
 use Rattle.title_lock.specs.Holders.{is_mode}
-use Rattle.title_lock.specs.Tables.{placed, table_mode, is_asked}
+use Rattle.title_lock.specs.Tables.{on_all, table_mode, is_asked}
 use Rattle.title_lock.specs.Walks.{Asked, asks_in, walk, climb_asks, walk_left, TakenOut}
 use Rattle.title_lock.proofs.WalkLaws.{walk_shorter, walk_asks_in}
 use Rattle.title_lock.proofs.DoneLaws.{taken_then, taken_last, less_is}
@@ -10,19 +10,19 @@ use Rattle.title_lock.proofs.table.Table.take_out_all.Goals as goal
 
 pub loop-climb-init : goal.loop-climb-init
 loop-climb-init c = record {
-  does = λ v. subst (λ (z : List Asked). TakenOut (placed c.args.self.now) v c.args.examiner (is_mode c.args.taken) z) c.of-walk.ensures.of;
+  does = λ v. subst (λ (z : List Asked). TakenOut (on_all c.args.self.now) v c.args.examiner (is_mode c.args.taken) z) c.of-walk.ensures.of;
   used = λ used. used;
 }
 
 pub loop-climb-preserved : goal.loop-climb-preserved
 loop-climb-preserved c =
     let e = c.args.examiner in
-    let t = placed c.loop-climb.self in
-    let u = placed c.take_out_along.new.self in
+    let t = on_all c.loop-climb.self in
+    let u = on_all c.take_out_along.new.self in
     let one = climb_asks c.in-Some.climb in
     let rest = walk_left c.next.new.self in
     record {
-      does = taken_then t e one rest c.in-Some.ensures.next (placed c.args.self.now) u (is_mode c.args.taken)
+      does = taken_then t e one rest c.in-Some.ensures.next (on_all c.args.self.now) u (is_mode c.args.taken)
           (walk None c.args.cover.now) c.loop-climb.invariant.does c.take_out_along.ensures.taken;
       used = λ used. c.take_out_along.ensures.used (c.loop-climb.invariant.used used);
     }
@@ -35,8 +35,8 @@ returns c =
     let e = c.args.examiner in
     let m = is_mode c.args.taken in
     let cover = c.args.cover.now in
-    let t = placed c.args.self.now in
-    let u = placed c.loop-climb.self in
+    let t = on_all c.args.self.now in
+    let u = on_all c.loop-climb.self in
     let all = c.loop-climb.invariant.does u (taken_last u e m (walk_left c.loop-climb.walk) c.in_default.ensures.next) in
     record {
       modes = λ f n. all.gone f n ∙ ap (λ (z : Bool). cond (m && eqb f e && z) None (table_mode t f n)) (walk_asks_in cover n);

@@ -2,7 +2,7 @@
 use Rattle.std.proofs.Common.{Option, ℕ, None, sym, subst}
 use Rattle.title_land.specs.declared.node.Node.{Node}
 use Rattle.title_lock.specs.Overlaps.{is_post}
-use Rattle.title_lock.specs.Tables.{placed, table_mode, clashes_with}
+use Rattle.title_lock.specs.Tables.{on_all, table_mode, clashes_with}
 use Rattle.title_lock.specs.Walks.{clashes_in, walk, climb_asks, walk_left}
 use Rattle.title_lock.proofs.LeastLaws.{least_same}
 use Rattle.title_lock.proofs.WalkLaws.{walk_shorter, walk_clashes}
@@ -10,14 +10,14 @@ use Rattle.title_lock.proofs.DoneLaws.{IsSoFar, so_far_begins, so_far_goes, so_f
 use Rattle.title_lock.proofs.table.Table.ways.Goals as goal
 
 pub loop-climb-init : goal.loop-climb-init
-loop-climb-init c = so_far_begins (is_post c.args.access) (λ f n. table_mode (placed c.args.self.now) f n) c.args.examiner
+loop-climb-init c = so_far_begins (is_post c.args.access) (λ f n. table_mode (on_all c.args.self.now) f n) c.args.examiner
     (walk None c.args.cover.now) (walk_left c.of-walk.result) c.of-walk.ensures.of
 
 pub loop-climb-preserved : goal.loop-climb-preserved
 loop-climb-preserved c =
     let e = c.args.examiner in
     let p = is_post c.args.access in
-    let held = λ (f : ℕ) (n : Node). table_mode (placed c.args.self.now) f n in
+    let held = λ (f : ℕ) (n : Node). table_mode (on_all c.args.self.now) f n in
     let rest = walk_left c.next.new.self in
     let whole = walk None c.args.cover.now in
     subst (λ (w : Option ℕ). IsSoFar p held e whole rest w) (sym c.least-way.ensures.least)
@@ -31,7 +31,7 @@ pub returns : goal.returns
 returns c =
     let e = c.args.examiner in
     let p = is_post c.args.access in
-    let held = λ (f : ℕ) (n : Node). table_mode (placed c.args.self.now) f n in
+    let held = λ (f : ℕ) (n : Node). table_mode (on_all c.args.self.now) f n in
     let whole = walk None c.args.cover.now in
     record {
       way = least_same (λ f. clashes_in p (held f) whole) (λ f. clashes_with p (held f) c.args.cover.now) e c.loop-climb.way

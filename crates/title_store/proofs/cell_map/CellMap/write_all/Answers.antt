@@ -1,4 +1,4 @@
--- The last that is kept has a place, and its write leaves the others' places.
+-- The last that is kept has a slot, and its write leaves the others' slots.
 use Rattle.std.proofs.Common.{◌≡◌, ◌∙◌, ap, subst, true, List}
 use Rattle.std.specs.Prelude.{unwrap_or}
 use Rattle.std.specs.List.{AllByRecursion}

@@ -2,7 +2,7 @@
 use Rattle.std.proofs.Common.{◌≡◌, true, vec_len}
 use Rattle.std.specs.Prelude.{unwrap_or}
 use Rattle.std.specs.List.{AllByRecursion}
-use Rattle.title_land.specs.declared.place.Cell.{Cell}
+use Rattle.title_land.specs.declared.survey.Cell.{Cell}
 use Rattle.title_store.specs.CellMaps.{content_of, is_there, kept_at, kept_cells}
 use Rattle.title_store.proofs.cell_map.CellMap.write_all.Given as goal
 

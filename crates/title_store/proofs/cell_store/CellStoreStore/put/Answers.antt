@@ -2,8 +2,8 @@
 use Rattle.std.proofs.Common.{◌∙◌, ◌<◌, ℕ, None, refl, sym, ap, subst, List, arith}
 use Rattle.title_land.specs.Depth.{depth}
 use Rattle.std.specs.List.{AllByRecursion}
-use Rattle.title_land.specs.declared.place.Cell.{Cell}
-use Rattle.title_land.specs.declared.place.Township.{Township}
+use Rattle.title_land.specs.declared.survey.Cell.{Cell}
+use Rattle.title_land.specs.declared.survey.Township.{Township}
 use Rattle.title_land.specs.CellLists.{cells_of}
 use Rattle.title_instrument.specs.Effect.{cell_effect}
 use Rattle.title_store.specs.declared.kept.Lent.{Lent}
@@ -12,7 +12,7 @@ use Rattle.title_store.specs.Plants.{first_failing, done_or}
 use Rattle.title_store.specs.CellMaps.{content_of, keep_from, loans_of}
 use Rattle.title_store.specs.Laws.MapLaws.{refused_by, refused_content, post_content}
 use Rattle.title_store.specs.Laws.Backing.{backed_stays, backed_same}
-use Rattle.title_store.specs.Laws.Puts.{refused_put, below_after, taken, backed_after, places_kept}
+use Rattle.title_store.specs.Laws.Puts.{refused_put, below_after, taken, backed_after, slots_kept}
 use Rattle.title_store.proofs.cell_store.CellStoreStore.put.Goals as goal
 
 pub returns-in-Refused-clause-put : goal.returns-in-Refused-clause-put
@@ -38,8 +38,8 @@ invariant_of-self c =
     record {
       ordered = c.args.self.now.ordered;
       numbered = c.args.self.now.numbered;
-      backed = backed_stays c.args.self.now.townships.items c.args.self.now.map c.make_places.new.self c.args.self.now.lent
-          c.make_places.ensures.stays c.args.self.now.backed;
+      backed = backed_stays c.args.self.now.townships.items c.args.self.now.map c.make_slots.new.self c.args.self.now.lent
+          c.make_slots.ensures.stays c.args.self.now.backed;
     }
 
 pub invariant_of-self-in-Break-branch-5 : goal.invariant_of-self-in-Break-branch-5
@@ -48,20 +48,20 @@ invariant_of-self-in-Break-branch-5 c =
     record {
       ordered = c.insert.ensures.ordered;
       numbered = subst (λ (es : List (ℕ × Lent)). AllBelow c.args.self.now.next (loans_of es)) (sym same) c.args.self.now.numbered;
-      backed = backed_same c.args.self.now.townships.items c.make_places.new.self c.args.self.now.lent c.insert.new.self same
-          (backed_stays c.args.self.now.townships.items c.args.self.now.map c.make_places.new.self c.args.self.now.lent
-          c.make_places.ensures.stays c.args.self.now.backed);
+      backed = backed_same c.args.self.now.townships.items c.make_slots.new.self c.args.self.now.lent c.insert.new.self same
+          (backed_stays c.args.self.now.townships.items c.args.self.now.map c.make_slots.new.self c.args.self.now.lent
+          c.make_slots.ensures.stays c.args.self.now.backed);
     }
 
 pub write_all-requires : goal.write_all-requires
 write_all-requires c =
     let computed = rw c.in-Done.is at c.in_ok-rule.ensures.computed in
     record {
-      there = places_kept (λ x. done_or (content_of c.args.self.now.map x)
-          (cell_effect c.args.instrument.now (content_of c.args.self.now.map x))) c.make_places.new.self c.deref-2.result.now
+      there = slots_kept (λ x. done_or (content_of c.args.self.now.map x)
+          (cell_effect c.args.instrument.now (content_of c.args.self.now.map x))) c.make_slots.new.self c.deref-2.result.now
           c.in-Done.new.items computed.2
           (subst (AllByRecursion _) (c.deref-in-Done.ensures.value ∙ sym c.deref-2.ensures.value)
-          c.in_ok-make_places-in-Done.ensures.there);
+          c.in_ok-make_slots-in-Done.ensures.there);
     }
 
 pub invariant_of-self-in-Done : goal.invariant_of-self-in-Done
@@ -75,10 +75,10 @@ invariant_of-self-in-Done c =
       numbered = below_after c.args.self.now.lent c.insert.new.self c.args.self.now.next c.in-Some.next _ c.args.self.now.numbered more
           c.in_ok-insert-in-Done.ensures.entries;
       backed = backed_after (content_of c.args.self.now.map) c.args.self.now.townships.items c.args.tract.now c.deref-2.result.now
-          c.args.self.now.map c.make_places.new.self c.write_all.new.self
+          c.args.self.now.map c.make_slots.new.self c.write_all.new.self
           c.args.self.now.lent c.insert.new.self c.args.self.now.next _ listed c.land-land.ensures.land computed.1
-          c.make_places.ensures.stays
-          (subst (AllByRecursion _) (c.deref-in-Done.ensures.value ∙ sym c.deref-2.ensures.value) c.in_ok-make_places-in-Done.ensures.there)
+          c.make_slots.ensures.stays
+          (subst (AllByRecursion _) (c.deref-in-Done.ensures.value ∙ sym c.deref-2.ensures.value) c.in_ok-make_slots-in-Done.ensures.there)
           c.write_all.ensures.stays c.in_ok-insert-in-Done.ensures.updates.0 c.args.self.now.backed;
     }
 
@@ -101,8 +101,8 @@ returns-clause-content c x =
     let computed = rw c.in-Done.is at c.in_ok-rule.ensures.computed in
     c.write_all.ensures.content x
     ∙ post_content c.args.instrument.now (content_of c.args.self.now.map) c.args.self.now.townships.items c.args.tract.now
-    c.in-Done.new.items x (content_of c.make_places.new.self x)
+    c.in-Done.new.items x (content_of c.make_slots.new.self x)
     (ap (first_failing c.args.instrument.now (content_of c.args.self.now.map)) (sym listed) ∙ computed.0)
     (computed.2 ∙ ap (keep_from (λ (y : Cell). done_or (content_of c.args.self.now.map y)
     (cell_effect c.args.instrument.now (content_of c.args.self.now.map y)))) listed)
-    (c.make_places.ensures.content x)
+    (c.make_slots.ensures.content x)

@@ -1,4 +1,4 @@
--- The image that is found holds what its cells held, and each has a place.
+-- The image that is found holds what its cells held, and each has a slot.
 use Rattle.std.proofs.Common.{◌≡◌, ◌∙◌, true, refl, sym, ap, subst, List, Option}
 use Rattle.std.specs.Option.{IsSome}
 use Rattle.title_store.specs.declared.kept.Lent.{Lent}

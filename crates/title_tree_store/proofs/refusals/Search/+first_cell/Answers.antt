@@ -2,7 +2,7 @@
 use Rattle.std.proofs.Common.{◌∙◌, ◌-◌, ◌∷◌, List, ap, sym}
 use Rattle.std.specs.Prelude.{find}
 use Rattle.title_land.specs.Depth.{depth}
-use Rattle.title_land.specs.declared.place.Cell.{Cell}
+use Rattle.title_land.specs.declared.survey.Cell.{Cell}
 use Rattle.title_land.specs.declared.rectangle.Quarter.{Quarter}
 use Rattle.title_land.specs.declared.rectangle.Quarter.TheVariants.{Northeast}
 use Rattle.title_land.specs.Lands.{has}

@@ -1,7 +1,7 @@
 -- The quarters come in their order; none that has no cell of the tract, and none of a square that doesn't refuse.
 use Rattle.std.proofs.Common.{◌∙◌, ◌-◌, ◌∷◌, List, length, ap, sym, arith, refl}
 use Rattle.title_land.specs.Depth.{depth}
-use Rattle.title_land.specs.declared.place.Cell.{Cell}
+use Rattle.title_land.specs.declared.survey.Cell.{Cell}
 use Rattle.title_land.specs.declared.rectangle.Quarter.{Quarter}
 use Rattle.title_land.specs.declared.rectangle.Quarter.TheVariants.{Northeast}
 use Rattle.title_land.specs.Nodes.{quarters}

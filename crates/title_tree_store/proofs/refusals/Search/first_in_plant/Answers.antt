@@ -2,7 +2,7 @@
 use Rattle.std.proofs.Common.{◌∙◌, ap, sym, refl, List}
 use Rattle.title_land.specs.Depth.{depth}
 use Rattle.std.specs.List.{flat_map}
-use Rattle.title_land.specs.declared.place.Township.{Township}
+use Rattle.title_land.specs.declared.survey.Township.{Township}
 use Rattle.title_land.specs.CellLists.{township_cells}
 use Rattle.title_tree_store.specs.Forests.{plots}
 use Rattle.title_tree_store.specs.Refusing.{first_of}

@@ -2,8 +2,8 @@
 use Rattle.std.proofs.Common.{◌∙◌, List, ap, sym, subst, inl, inr, refl}
 use Rattle.std.specs.List.{flat_map}
 use Rattle.title_land.specs.Depth.{depth}
-use Rattle.title_land.specs.declared.place.Section.{Section}
-use Rattle.title_land.specs.declared.place.Township.{Township}
+use Rattle.title_land.specs.declared.survey.Section.{Section}
+use Rattle.title_land.specs.declared.survey.Township.{Township}
 use Rattle.title_land.specs.CellLists.{section_cells}
 use Rattle.title_land.specs.Laws.Members.{In}
 use Rattle.title_land.specs.Laws.CellMembers.{sections_of-in}

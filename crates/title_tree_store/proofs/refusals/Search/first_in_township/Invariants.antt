@@ -2,7 +2,7 @@
 use Rattle.std.proofs.Common.{◌≡◌}
 use Rattle.std.specs.List.{flat_map}
 use Rattle.title_land.specs.Depth.{depth}
-use Rattle.title_land.specs.declared.place.Section.{Section}
+use Rattle.title_land.specs.declared.survey.Section.{Section}
 use Rattle.title_land.specs.CellLists.{section_cells, township_cells}
 use Rattle.title_land.specs.Laws.Members.{In}
 use Rattle.title_tree_store.specs.Forests.{plots}

@@ -1,4 +1,4 @@
--- The image that is taken out has its pieces' places in the trees, and they hold what its cells held.
+-- The image that is taken out has its pieces' paths in the trees, and they hold what its cells held.
 use Rattle.std.proofs.Common.{◌≡◌, refl}
 use Rattle.title_instrument.specs.declared.parts.Estate.TheVariants.{S, O, M}
 use Rattle.title_tree.specs.Pieces.{swapped}

@@ -1,0 +1,26 @@
+-- Maps from the numbers of nodes to lists of spots, and the order of spots.
+use Rattle.std.specs.Prelude.{ℕ, List, [], Option, Some, None}
+use Rattle.std.specs.declared.cmp.Ordering.{Ordering}
+use Rattle.std.specs.Ordering.{nat_cmp, ordering_then}
+use Rattle.std.specs.Global.{Vec}
+use Rattle.std.specs.BTreeMap.{BTreeMap, get}
+use Rattle.title_land.specs.declared.node.Node.{Node}
+use Rattle.title_chain.specs.declared.spot.Spot.{Spot}
+use Rattle.title_land.specs.NodeNumbers.{node_number}
+
+-- the list, or none
+abbrev pub spots_in : Option (Vec Spot) → List Spot
+spots_in None = []
+spots_in (Some spots) = spots.items
+
+-- the spots under the node with this number
+abbrev pub spots_numbered : BTreeMap ℕ (Vec Spot) → ℕ → List Spot
+spots_numbered lists k = spots_in (get nat_cmp lists k)
+
+-- the spots under a node
+abbrev pub spots_under : BTreeMap ℕ (Vec Spot) → Node → List Spot
+spots_under lists n = spots_numbered lists (node_number n)
+
+-- spots by record, then by step
+abbrev pub spot_cmp : Spot → Spot → Ordering
+spot_cmp a b = ordering_then (nat_cmp a.record b.record) (nat_cmp a.step b.step)

@@ -1,6 +1,0 @@
--- At first all sections are left.
-use Rattle.title_land.proofs.Sections.{left_first}
-use Rattle.title_land.proofs.place.Township.sections.Goals as goal
-
-pub returns : goal.returns
-returns c = record { sections = left_first c.args.self }
