@@ -1,7 +1,5 @@
 -- What a source or a sink shows of itself that passes on the bytes of another.
-use Rattle.title_advice.specs.declared.heard.Heard.{Heard}
-use Rattle.title_advice.specs.declared.listened.Listened.{Listened}
-use Rattle.title_advice.specs.declared.spoken.Spoken.{Spoken}
+use Rattle.title_advice.specs.declared.{heard.Heard.{Heard}, listened.Listened.{Listened}, spoken.Spoken.{Spoken}}
 
 -- the source whose bytes it gives
 abbrev pub heard_source : {R : Type 0} → Heard R → R

@@ -1,21 +1,12 @@
 -- The area of a list of parts, entry by entry from its end.
 use Rattle.std.proofs.Common.{◌≡◌, ◌∙◌, ℕ, zero, suc, ◌+◌, ◌<◌, Bool, true, false, ◌&&◌, ◌||◌, List, [], ◌∷◌, length, drop, get_or, refl}
-use Rattle.std.proofs.Common.{sym, ap, arith, drop-cons, add-one, Option, Some, None}
-use Rattle.std.specs.Option.{is_some}
-use Rattle.std.specs.Prelude.{option_and_then}
+use Rattle.std.{proofs.Common.{sym, ap, arith, drop-cons, add-one, Option, Some, None}, specs.{Option.{is_some}, Prelude.{option_and_then}}}
 use Rattle.std.proofs.lemmas.Bool.Decides.{Decides-or}
-use Rattle.title_land.specs.declared.grid.Grid.{Grid}
-use Rattle.title_land.specs.declared.rectangle.Rectangle.{Rectangle}
-use Rattle.title_land.specs.declared.rectangle.Step.{Step}
-use Rattle.title_land.specs.Rectangles.{section_square, part_of, step_of, InSection}
-use Rattle.title_land.specs.Grids.{with_rectangle, grids_meet}
-use Rattle.title_aliquot.specs.declared.meaning.Area.{Area}
-use Rattle.title_aliquot.specs.declared.syntax.Entry.{Entry}
+use Rattle.title_land.specs.declared.{grid.Grid.{Grid}, rectangle.{Rectangle.{Rectangle}, Step.{Step}}}
+use Rattle.title_land.specs.{Rectangles.{section_square, part_of, step_of, InSection}, Grids.{with_rectangle, grids_meet}}
+use Rattle.title_aliquot.specs.{declared.{meaning.Area.{Area}, syntax.Entry.{Entry}}, Areas.{IsArea, IsAreaOf}, Entries.{leading, parts_in}}
+use Rattle.title_aliquot.specs.{Meaning.{parts_exist}, Laws.Shapes.{union_next, shared_decides}}
 use Rattle.title_aliquot.specs.declared.syntax.Entry.TheVariants as entry
-use Rattle.title_aliquot.specs.Areas.{IsArea, IsAreaOf}
-use Rattle.title_aliquot.specs.Entries.{leading, parts_in}
-use Rattle.title_aliquot.specs.Meaning.{parts_exist}
-use Rattle.title_aliquot.specs.Laws.Shapes.{union_next, shared_decides}
 
 -- ---- one more rectangle
 

@@ -1,9 +1,8 @@
 -- Lists of parts that grow at their end.
 use Rattle.std.proofs.Common.{◌≡◌, ◌∙◌, ◌<◌, List, [], ◌∷◌, ◌++◌, length, refl, ap, arith}
 use Rattle.title_land.specs.declared.rectangle.Step.{Step}
-use Rattle.title_aliquot.specs.declared.syntax.Entry.{Entry}
+use Rattle.title_aliquot.specs.{declared.syntax.Entry.{Entry}, Entries.{leading, parts_in, with_step}}
 use Rattle.title_aliquot.specs.declared.syntax.Entry.TheVariants as entry
-use Rattle.title_aliquot.specs.Entries.{leading, parts_in, with_step}
 
 -- ---- a part begins
 

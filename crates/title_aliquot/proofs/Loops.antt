@@ -1,16 +1,11 @@
 -- The loops of the readers.
 use Rattle.std.proofs.Common.{◌≡◌, ℕ, ◌+◌, ◌<◌, true, false, List, [], ◌∷◌, ◌++◌, length, fold, refl, sym, ap, ◌∙◌, arith, append_assoc}
-use Rattle.std.specs.Prelude.{codes}
-use Rattle.std.proofs.lemmas.List.{append-nil}
+use Rattle.std.{specs.Prelude.{codes}, proofs.lemmas.List.{append-nil}}
 use Rattle.title_land.specs.declared.rectangle.Step.{Step}
-use Rattle.title_grammar.specs.Reading.{Read, Got, Stuck, and_then, starts, gives_at, one_of_at, many_at}
-use Rattle.title_grammar.specs.Laws.Exact.{one_of_exact}
-use Rattle.title_grammar.specs.Laws.Repeat.{takes_some, many_next, many_ends, many_stops}
-use Rattle.title_grammar.specs.Laws.Words.{gives_by_word, gives_not_word}
-use Rattle.title_aliquot.specs.Grammar.{digits, more_digits, whole_section}
+use Rattle.title_grammar.specs.{Reading.{Read, Got, Stuck, and_then, starts, gives_at, one_of_at, many_at}, Laws.Exact.{one_of_exact}}
+use Rattle.title_grammar.specs.Laws.{Repeat.{takes_some, many_next, many_ends, many_stops}, Words.{gives_by_word, gives_not_word}}
+use Rattle.title_aliquot.{specs.{Grammar.{digits, more_digits, whole_section}, Entries.{with_step}}, proofs.Entries.{with_step-last}}
 use Rattle.title_aliquot.specs.Readers.{number_at, step_at, joined_at, part_at, parts_at, with_part, next_part_at}
-use Rattle.title_aliquot.specs.Entries.{with_step}
-use Rattle.title_aliquot.proofs.Entries.{with_step-last}
 use Rattle.title_aliquot.specs.Laws.Grammar.{joined_exact, next_part_exact}
 
 -- a number of which n was read

@@ -1,27 +1,13 @@
 -- The land of a node's text has that node alone as its cover.
 use Rattle.std.proofs.Common.{◌≡◌, ℕ, suc, ◌-◌, ◌*◌, ◌^◌, ◌≤◌, ◌%◌, true, List, [], ◌∷◌, length, Some, None, refl, ap}
-use Rattle.std.proofs.Common.{subst, inl, inr, arith}
-use Rattle.std.proofs.lemmas.Bool.{eq-eqb}
-use Rattle.std.proofs.Math.Bool.{or-false}
-use Rattle.title_land.specs.Depth.{depth}
-use Rattle.title_land.specs.declared.rectangle.Quarter.{Quarter}
-use Rattle.title_land.specs.declared.rectangle.Step.{Step}
+use Rattle.std.proofs.{Common.{subst, inl, inr, arith}, lemmas.Bool.{eq-eqb}, Math.Bool.{or-false}}
+use Rattle.title_land.specs.{Depth.{depth}, declared.{rectangle.{Quarter.{Quarter}, Step.{Step}, Rectangle.{Rectangle}}, grid.Grid.{Grid}}}
+use Rattle.title_land.specs.{declared.node.Node.{Node}, Nodes.{square, IsNode}, Rectangles.{part_of, is_even, exists, holds}}
+use Rattle.title_land.specs.{Grids.{grid_of}, Lands.{land_of}, Laws.{Squares.{sized}, NodeLands.{cover_of-land_of}}}
 use Rattle.title_land.specs.declared.rectangle.Step.TheVariants as step
-use Rattle.title_land.specs.declared.rectangle.Rectangle.{Rectangle}
-use Rattle.title_land.specs.declared.grid.Grid.{Grid}
-use Rattle.title_land.specs.declared.node.Node.{Node}
 use Rattle.title_land.specs.declared.node.Node.TheVariants as node
-use Rattle.title_land.specs.Nodes.{square, IsNode}
-use Rattle.title_land.specs.Rectangles.{part_of, is_even, exists, holds}
-use Rattle.title_land.specs.Grids.{grid_of}
-use Rattle.title_land.specs.Lands.{land_of}
-use Rattle.title_land.specs.Laws.Squares.{sized}
-use Rattle.title_land.specs.Laws.NodeLands.{cover_of-land_of}
-use Rattle.title_aliquot.specs.Meaning.{union, rectangles, Overlap, StandsFor}
-use Rattle.title_aliquot.specs.Grammar.{SectionSyntax}
-use Rattle.title_aliquot.specs.TextLaws.{ReadsBack}
-use Rattle.title_aliquot.specs.Laws.Lands.{township_stands, section_stands, PartsStand}
-use Rattle.title_aliquot.proofs.Spellings.{steps_of}
+use Rattle.title_aliquot.specs.{Meaning.{union, rectangles, Overlap, StandsFor}, Grammar.{SectionSyntax}, TextLaws.{ReadsBack}}
+use Rattle.title_aliquot.{specs.Laws.Lands.{township_stands, section_stands, PartsStand}, proofs.Spellings.{steps_of}}
 use Rattle.title_aliquot.proofs.NodeTexts.{node_syntax, parts_named, node_says}
 
 -- ---- its part is its square

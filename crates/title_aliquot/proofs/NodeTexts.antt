@@ -1,32 +1,17 @@
 -- The letters of a node's text are in the grammar, and say the node.
 use Rattle.std.proofs.Common.{◌≡◌, ◌∙◌, ℕ, zero, suc, ◌+◌, ◌*◌, ◌<◌, ◌≤◌, Bool, true, false, List, [], ◌∷◌, ◌++◌, length, Option, None}
-use Rattle.std.proofs.Common.{refl, sym, ap, subst, inl, inr, arith, append_assoc, cond, length-append}
-use Rattle.std.specs.Prelude.{codes, nat_lt}
-use Rattle.std.specs.List.{list_all}
-use Rattle.std.specs.Fmt.{decimal as decimal_text}
-use Rattle.std.specs.Str.{IsAscii}
-use Rattle.std.proofs.lemmas.Fmt.{IsAscii-decimal, length-decimal-le}
-use Rattle.std.proofs.lemmas.List.{append-nil}
-use Rattle.std.proofs.lemmas.Bool.{and_parts}
-use Rattle.std.proofs.lemmas.Bool.Decides.{nat_tests}
-use Rattle.std.proofs.lemmas.Str.{chars-IsAscii, IsAscii-append}
+use Rattle.std.{proofs.Common.{refl, sym, ap, subst, inl, inr, arith, append_assoc, cond, length-append}, specs.Prelude.{codes, nat_lt}}
+use Rattle.std.{specs.{List.{list_all}, Fmt.{decimal as decimal_text}, Str.{IsAscii}}, proofs.lemmas.{List.{append-nil}, Bool.{and_parts}}}
+use Rattle.std.proofs.lemmas.{Fmt.{IsAscii-decimal, length-decimal-le}, Bool.Decides.{nat_tests}, Str.{chars-IsAscii, IsAscii-append}}
 use Rattle.std.proofs.lemmas.Str.Ascii.{IsAscii-nil}
-use Rattle.title_land.specs.declared.rectangle.Quarter.{Quarter}
-use Rattle.title_land.specs.declared.rectangle.Quarter.TheVariants.{Northeast, Northwest, Southwest, Southeast}
-use Rattle.title_land.specs.declared.rectangle.Step.{Step}
-use Rattle.title_land.specs.declared.survey.Township.{Township}
-use Rattle.title_land.specs.declared.survey.Section.{Section}
-use Rattle.title_land.specs.declared.node.Node.{Node}
-use Rattle.title_land.specs.declared.node.Node.TheVariants as node
-use Rattle.title_land.specs.Depth.{depth}
-use Rattle.title_land.specs.Nodes.{IsNode}
+use Rattle.title_land.specs.declared.rectangle.{Quarter.{Quarter, TheVariants.{Northeast, Northwest, Southwest, Southeast}}, Step.{Step}}
+use Rattle.title_land.specs.{declared.{survey.{Township.{Township}, Section.{Section}}, node.Node.{Node}}, Depth.{depth}, Nodes.{IsNode}}
 use Rattle.title_land.specs.Laws.PathNumbers.{depth_fits}
 use Rattle.title_land.specs.Texts.{township_text, section_text, quarter_text, quarters_text, path_text, node_text}
+use Rattle.title_land.specs.declared.node.Node.TheVariants as node
 use Rattle.title_grammar.specs.Language.{Gives, ◌<|>◌}
 use Rattle.title_aliquot.specs.Grammar.{Syntax, Everything, SectionSyntax, Description, LandText, TownshipText, RangeText, SectionText}
-use Rattle.title_aliquot.specs.Grammar.{SectionParts, section_of, syntax_of}
-use Rattle.title_aliquot.specs.Letters.{letters}
-use Rattle.title_aliquot.specs.Describes.{Says}
+use Rattle.title_aliquot.specs.{Grammar.{SectionParts, section_of, syntax_of}, Letters.{letters}, Describes.{Says}}
 use Rattle.title_aliquot.proofs.Spellings.{letters-append, number_spelled, number_letters, path_spelling, path_letters, parts_spelled}
 use Rattle.title_aliquot.proofs.Spellings.{steps_of}
 

@@ -1,23 +1,13 @@
 -- The letters of numbers and quarters as a node's text has them, and that the grammar has these.
 use Rattle.std.proofs.Common.{◌≡◌, ◌∙◌, ℕ, ◌<◌, ◌==◌, ◌&&◌, Bool, true, false, List, [], ◌∷◌, ◌++◌, map, filter, refl, sym, ap, inl, inr}
-use Rattle.std.proofs.Common.{arith}
-use Rattle.std.specs.Prelude.{codes, not}
-use Rattle.std.specs.Char.{to_ascii_lowercase}
-use Rattle.std.specs.Fmt.{decimal as decimal_text, digits as base_digits}
-use Rattle.std.specs.List.{list_all}
-use Rattle.std.proofs.lemmas.Bool.{and_parts, eqb-true}
-use Rattle.std.proofs.lemmas.List.{append-nil, map-append}
-use Rattle.std.proofs.lemmas.List.Elements.{filter-append}
-use Rattle.title_land.specs.declared.rectangle.Quarter.{Quarter}
-use Rattle.title_land.specs.declared.rectangle.Quarter.TheVariants.{Northeast, Northwest, Southwest, Southeast}
-use Rattle.title_land.specs.declared.rectangle.Step.{Step}
+use Rattle.std.{proofs.Common.{arith}, specs.{Prelude.{codes, not}, Char.{to_ascii_lowercase}, List.{list_all}}}
+use Rattle.std.{specs.Fmt.{decimal as decimal_text, digits as base_digits}, proofs.lemmas.Bool.{and_parts, eqb-true}}
+use Rattle.std.proofs.lemmas.List.{append-nil, map-append, Elements.{filter-append}}
+use Rattle.title_land.specs.declared.rectangle.{Quarter.{Quarter, TheVariants.{Northeast, Northwest, Southwest, Southeast}}, Step.{Step}}
+use Rattle.title_land.specs.{Grids.{range_all}, Texts.{quarter_text, quarters_text, path_text}, Laws.Filling.{range_all_at}}
 use Rattle.title_land.specs.declared.rectangle.Step.TheVariants as step
-use Rattle.title_land.specs.Grids.{range_all}
-use Rattle.title_land.specs.Texts.{quarter_text, quarters_text, path_text}
-use Rattle.title_land.specs.Laws.Filling.{range_all_at}
 use Rattle.title_grammar.specs.Language.{Language, member, OneOf, Many, Word, Maybe, ◌*>◌}
-use Rattle.title_aliquot.specs.Grammar.{digits, decimal, Number, StepText, Part, Parts}
-use Rattle.title_aliquot.specs.Letters.{passed_over, letters}
+use Rattle.title_aliquot.specs.{Grammar.{digits, decimal, Number, StepText, Part, Parts}, Letters.{passed_over, letters}}
 
 pub letters-append : (xs ys : List ℕ) → letters (xs ++ ys) ≡ letters xs ++ letters ys
 letters-append xs ys =

@@ -1,19 +1,11 @@
 -- A list of one part whose steps are quarters is the square of these quarters.
 use Rattle.std.proofs.Common.{◌≡◌, ◌==◌, false, ◌<◌, ◌≤◌, List, [], ◌∷◌, length, drop, refl, sym, subst, arith}
-use Rattle.title_land.specs.Depth.{depth}
-use Rattle.title_land.specs.declared.grid.Grid.{Grid}
-use Rattle.title_land.specs.declared.rectangle.Quarter.{Quarter}
-use Rattle.title_land.specs.declared.rectangle.Step.{Step}
+use Rattle.title_land.specs.{Depth.{depth}, declared.{grid.Grid.{Grid}, rectangle.{Quarter.{Quarter}, Step.{Step}}}, Grids.{grid_of}}
+use Rattle.title_land.specs.{Nodes.{square}, Rectangles.{holds}}
 use Rattle.title_land.specs.declared.rectangle.Step.TheVariants as step
-use Rattle.title_land.specs.Grids.{grid_of}
-use Rattle.title_land.specs.Nodes.{square}
-use Rattle.title_land.specs.Rectangles.{holds}
-use Rattle.title_aliquot.specs.declared.syntax.Entry.{Entry}
+use Rattle.title_aliquot.specs.{declared.syntax.Entry.{Entry}, Entries.{leading, parts_in}, Laws.Lands.{PartsStand, parts_stand_as}}
+use Rattle.title_aliquot.proofs.{NodeCovers.{one_union, part_is_square, part_stands}, Spellings.{steps_of}}
 use Rattle.title_aliquot.specs.declared.syntax.Entry.TheVariants as entry
-use Rattle.title_aliquot.specs.Entries.{leading, parts_in}
-use Rattle.title_aliquot.specs.Laws.Lands.{PartsStand, parts_stand_as}
-use Rattle.title_aliquot.proofs.NodeCovers.{one_union, part_is_square, part_stands}
-use Rattle.title_aliquot.proofs.Spellings.{steps_of}
 
 -- entries that are steps alone: the quarters of a square
 pub record Squared (es : List Entry) (w : List Quarter) : Type 0 where

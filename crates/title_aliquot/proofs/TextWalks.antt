@@ -1,15 +1,11 @@
 -- Walks over a text's characters: its letters, and where one of them stands.
-use Rattle.std.proofs.Common.{◌≡◌, ◌∙◌, ℕ, zero, suc, ◌+◌, ◌-◌, ◌<◌, ◌⊎◌, inl, inr, true, false, ◌==◌, not}
+use Rattle.std.proofs.{Common.{◌≡◌, ◌∙◌, ℕ, zero, suc, ◌+◌, ◌-◌, ◌<◌, ◌⊎◌, inl, inr, true, false, ◌==◌, not}, lemmas.Bool.{and_parts}}
 use Rattle.std.proofs.Common.{List, [], ◌∷◌, ◌++◌, length, take, drop, refl, sym, ap, subst, arith, length-append}
-use Rattle.std.specs.Prelude.{Option, Some, None, MatchOption, codes, filter, encode_utf8, encode_utf8_all}
-use Rattle.std.specs.Char.{to_ascii_lowercase}
-use Rattle.std.specs.Str.{IsUtf8, IsCharBoundary, chars}
-use Rattle.std.proofs.lemmas.Bool.{and_parts}
-use Rattle.std.proofs.lemmas.List.{length-map, append-nil}
+use Rattle.std.specs.{Prelude.{Option, Some, None, MatchOption, codes, filter, encode_utf8, encode_utf8_all}, Char.{to_ascii_lowercase}}
+use Rattle.std.{specs.Str.{IsUtf8, IsCharBoundary, chars}, proofs.{lemmas.List.{length-map, append-nil}, Math.Utf8.{scalar, scalars}}}
 use Rattle.std.proofs.lemmas.Str.{chars_past_char, length-encode, encodes-chars, chars-encodes, scalars-chars}
 use Rattle.std.proofs.lemmas.Str.{chars-nil, encodes-append, IsCharBoundary-at_seam}
 use Rattle.std.proofs.Math.Seq.{take-nil, drop-nil, take-append_seam, drop-append_seam}
-use Rattle.std.proofs.Math.Utf8.{scalar, scalars}
 use Rattle.title_grammar.specs.Laws.Exact.{tells}
 use denote.Ref.{Bor}
 use Rattle.title_aliquot.specs.Letters.{passed_over, letters, letters_from, offset}

@@ -1,26 +1,14 @@
 -- A text where each section is quartered once more: the same parts, in rectangles of twice the side.
-use Rattle.std.proofs.Common.{◌≡◌, ℕ, suc, ◌*◌, ◌/◌, ◌<◌, true, ◌&&◌, ◌||◌, inl, inr, List, [], ◌∷◌, Option, Some}
-use Rattle.std.proofs.Common.{None, map, refl, sym, ap, subst, ◌∙◌, arith}
-use Rattle.std.specs.Option.{is_some}
-use Rattle.std.specs.List.{cons_option}
-use Rattle.std.proofs.lemmas.Bool.{and_parts}
-use Rattle.title_land.specs.declared.rectangle.Step.{Step}
-use Rattle.title_land.specs.declared.rectangle.Rectangle.{Rectangle}
-use Rattle.title_land.specs.declared.survey.Township.{Township}
-use Rattle.title_land.specs.declared.tract.Land.{Land}
-use Rattle.title_land.specs.declared.tract.Land.TheVariants as land
-use Rattle.title_land.specs.Survey.{side}
-use Rattle.title_land.specs.Rectangles.{part_of, holds, SharesCell}
-use Rattle.title_land.specs.Grids.{grid_has, grid_of}
-use Rattle.title_land.specs.Doubled.{double, doubled}
-use Rattle.title_land.specs.Laws.GridLaws.{grid_has-grid_of}
-use Rattle.title_land.specs.Laws.PartsDoubled.{part_double, two_pow}
-use Rattle.title_land.specs.Laws.SquaresDoubled.{holds_double}
+use Rattle.std.{proofs.Common.{◌≡◌, ℕ, suc, ◌*◌, ◌/◌, ◌<◌, true, ◌&&◌, ◌||◌, inl, inr, List, [], ◌∷◌, Option, Some}, specs.Option.{is_some}}
+use Rattle.std.{proofs.{Common.{None, map, refl, sym, ap, subst, ◌∙◌, arith}, lemmas.Bool.{and_parts}}, specs.List.{cons_option}}
+use Rattle.title_land.specs.declared.{rectangle.{Step.{Step}, Rectangle.{Rectangle}}, survey.Township.{Township}, tract.Land.{Land}}
+use Rattle.title_land.specs.{Survey.{side}, Rectangles.{part_of, holds, SharesCell}, Grids.{grid_has, grid_of}, Doubled.{double, doubled}}
+use Rattle.title_land.specs.Laws.{GridLaws.{grid_has-grid_of}, PartsDoubled.{part_double, two_pow}, SquaresDoubled.{holds_double}}
 use Rattle.title_land.specs.Laws.CoversDoubled.{grid_same}
+use Rattle.title_land.specs.declared.tract.Land.TheVariants as land
 use Rattle.title_aliquot.specs.declared.fault.DescFault.TheVariants as fault
-use Rattle.title_aliquot.specs.Grammar.{Syntax, Everything, InTownship, SectionSyntax}
+use Rattle.title_aliquot.specs.{Grammar.{Syntax, Everything, InTownship, SectionSyntax}, Meaning.{IsLandOf, StandsFor, IsOverlapping}}
 use Rattle.title_aliquot.specs.Meaning.{section_parts, parts_of, parts_exist, rectangles, SharesCellWithOne, Overlap, union, IsLandIn}
-use Rattle.title_aliquot.specs.Meaning.{IsLandOf, StandsFor, IsOverlapping}
 use Rattle.title_aliquot.specs.DepthLaws.{LandDoubles, FaultStays}
 
 -- ---- parts

@@ -1,16 +1,12 @@
 -- What a reader's answers say of the letters and texts that it read.
 use Rattle.std.specs.Prelude.{◌≡◌, ℕ, ◌≤◌, true, false, List, length, take, drop, Result, Ok, Err, ◌⊎◌}
 use Rattle.title_grammar.specs.Language.{FaultAt}
-use Rattle.title_land.specs.declared.rectangle.Step.{Step}
-use Rattle.title_land.specs.declared.tract.Land.{Land}
-use Rattle.title_aliquot.specs.declared.describe.Unread.{Unread}
-use Rattle.title_aliquot.specs.declared.describe.Unread.TheVariants as unread
-use Rattle.title_aliquot.specs.declared.fault.DescFault.{DescFault}
-use Rattle.title_aliquot.specs.declared.fault.DescFault.TheVariants as fault
-use Rattle.title_aliquot.specs.declared.syntax.Words.{Words}
+use Rattle.title_land.specs.declared.{rectangle.Step.{Step}, tract.Land.{Land}}
+use Rattle.title_aliquot.specs.{declared.{describe.Unread.{Unread}, fault.DescFault.{DescFault}, syntax.Words.{Words}}, Views.{words_view}}
 use Rattle.title_aliquot.specs.Grammar.{Syntax, Description}
 use Rattle.title_aliquot.specs.Meaning.{IsOutOfRange, IsTooSmall, IsOverlapping, parts_exist, rectangles, Overlap}
-use Rattle.title_aliquot.specs.Views.{words_view}
+use Rattle.title_aliquot.specs.declared.describe.Unread.TheVariants as unread
+use Rattle.title_aliquot.specs.declared.fault.DescFault.TheVariants as fault
 
 -- the index of the first letter that no text of the grammar has there, or want of memory
 abbrev pub Refused : Unread → List ℕ → Type 0

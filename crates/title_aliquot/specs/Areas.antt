@@ -1,11 +1,7 @@
 -- The area of rectangles: their cells, and whether two of them share one.
-use Rattle.std.specs.Prelude.{◌≡◌, ℕ, true, List}
-use Rattle.std.specs.Bool.{Decides}
-use Rattle.title_land.specs.declared.rectangle.Rectangle.{Rectangle}
-use Rattle.title_land.specs.declared.rectangle.Step.{Step}
-use Rattle.title_land.specs.Grids.{grid_of}
-use Rattle.title_aliquot.specs.declared.meaning.Area.{Area}
-use Rattle.title_aliquot.specs.Meaning.{parts_exist, rectangles, union, Overlap}
+use Rattle.std.specs.{Prelude.{◌≡◌, ℕ, true, List}, Bool.{Decides}}
+use Rattle.title_land.specs.{declared.rectangle.{Rectangle.{Rectangle}, Step.{Step}}, Grids.{grid_of}}
+use Rattle.title_aliquot.specs.{declared.meaning.Area.{Area}, Meaning.{parts_exist, rectangles, union, Overlap}}
 
 -- the area of rectangles
 pub record IsArea (depth : ℕ) (shapes : List Rectangle) (a : Area) : Type 0 where

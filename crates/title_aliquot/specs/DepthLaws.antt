@@ -1,10 +1,8 @@
 -- Laws between two depths: what a text says where each section is quartered once more.
 use Rattle.std.specs.Prelude.{◌≡◌, ℕ, suc, List}
-use Rattle.title_land.specs.declared.tract.Land.{Land}
-use Rattle.title_land.specs.Doubled.{doubled}
-use Rattle.title_aliquot.specs.declared.fault.DescFault.{DescFault}
+use Rattle.title_land.specs.{declared.tract.Land.{Land}, Doubled.{doubled}}
+use Rattle.title_aliquot.specs.{declared.fault.DescFault.{DescFault}, Describes.{Describes, FaultOf}}
 use Rattle.title_aliquot.specs.declared.fault.DescFault.TheVariants as fault
-use Rattle.title_aliquot.specs.Describes.{Describes, FaultOf}
 
 -- a text that describes a land describes the doubled land
 abbrev pub LandDoubles : Type 0

@@ -1,13 +1,10 @@
 -- The land that a text describes, and the fault of a text that describes none.
-use Rattle.std.specs.Prelude.{◌≡◌, ℕ, ◌≤◌, ◌<◌, List, ◌++◌, length, take, drop, codes, ◌⊎◌}
-use Rattle.std.specs.Str.{chars}
+use Rattle.std.specs.{Prelude.{◌≡◌, ℕ, ◌≤◌, ◌<◌, List, ◌++◌, length, take, drop, codes, ◌⊎◌}, Str.{chars}}
 use Rattle.title_grammar.specs.Language.{Begins, FaultAt}
 use Rattle.title_land.specs.declared.tract.Land.{Land}
-use Rattle.title_aliquot.specs.declared.fault.DescFault.{DescFault}
-use Rattle.title_aliquot.specs.declared.fault.DescFault.TheVariants as fault
-use Rattle.title_aliquot.specs.Grammar.{Syntax, Description}
-use Rattle.title_aliquot.specs.Letters.{letters, offset}
+use Rattle.title_aliquot.specs.{declared.fault.DescFault.{DescFault}, Grammar.{Syntax, Description}, Letters.{letters, offset}}
 use Rattle.title_aliquot.specs.Meaning.{StandsFor, IsOutOfRange, IsTooSmall, IsOverlapping}
+use Rattle.title_aliquot.specs.declared.fault.DescFault.TheVariants as fault
 
 -- the most bytes that a description has
 abbrev pub longest_text : ℕ

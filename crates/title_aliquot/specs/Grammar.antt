@@ -1,11 +1,8 @@
 -- The grammar of descriptions, over letters in lower case with spaces and periods left out, and what a text of it says.
 use Rattle.std.specs.Prelude.{ℕ, ◌+◌, ◌*◌, ◌-◌, Bool, true, false, min, fold, List, [], ◌∷◌, codes, Option, Some, None}
 use Rattle.title_grammar.specs.Language.{Language, Gives, OneOf, Then, Many, Word, Maybe, cons, ◌*>◌, ◌<|>◌}
-use Rattle.title_land.specs.declared.rectangle.Quarter.{Quarter}
-use Rattle.title_land.specs.declared.rectangle.Quarter.TheVariants.{Northeast, Northwest, Southwest, Southeast}
-use Rattle.title_land.specs.declared.rectangle.Half.{Half}
-use Rattle.title_land.specs.declared.rectangle.Half.TheVariants.{North, South, East, West}
-use Rattle.title_land.specs.declared.rectangle.Step.{Step}
+use Rattle.title_land.specs.declared.rectangle.{Quarter.{Quarter, TheVariants.{Northeast, Northwest, Southwest, Southeast}}, Half.{Half}}
+use Rattle.title_land.specs.declared.rectangle.{Half.TheVariants.{North, South, East, West}, Step.{Step}}
 use Rattle.title_land.specs.declared.rectangle.Step.TheVariants as step
 
 -- ---- what a text says

@@ -1,7 +1,6 @@
 -- The letters of a text: its characters without spaces and periods, in lower case.
 use Rattle.std.specs.Prelude.{ℕ, ◌+◌, ◌-◌, Bool, ◌||◌, ◌==◌, List, [], ◌∷◌, ◌++◌, map, filter, if◌then◌else◌, not, Option, Some, None}
-use Rattle.std.specs.Char.{to_ascii_lowercase, len_utf8}
-use Rattle.std.specs.Str.{chars}
+use Rattle.std.specs.{Char.{to_ascii_lowercase, len_utf8}, Str.{chars}}
 use denote.Ref.{Bor}
 
 -- a space or a period

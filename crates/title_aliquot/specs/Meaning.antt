@@ -1,16 +1,10 @@
 -- What a text's numbers and parts stand for. The depth is how often a section is quartered down to its cells.
-use Rattle.std.specs.Prelude.{◌≡◌, ℕ, true, false, Bool, List, [], ◌∷◌, Option, Some, None, ◌⊎◌}
-use Rattle.std.specs.Option.{is_some}
+use Rattle.std.specs.{Prelude.{◌≡◌, ℕ, true, false, Bool, List, [], ◌∷◌, Option, Some, None, ◌⊎◌}, Option.{is_some}}
 use Rattle.std.specs.List.{list_any, list_all, filter_map}
-use Rattle.title_land.specs.declared.rectangle.Step.{Step}
-use Rattle.title_land.specs.declared.rectangle.Rectangle.{Rectangle}
-use Rattle.title_land.specs.declared.survey.Township.{Township}
-use Rattle.title_land.specs.declared.survey.Section.{Section}
-use Rattle.title_land.specs.declared.tract.Land.{Land}
-use Rattle.title_land.specs.declared.tract.Land.TheVariants as land
-use Rattle.title_land.specs.Survey.{IsTownshipNumber, IsTownship, IsSectionNumber, IsSection}
+use Rattle.title_land.specs.declared.{rectangle.{Step.{Step}, Rectangle.{Rectangle}}, survey.{Township.{Township}, Section.{Section}}}
+use Rattle.title_land.specs.{declared.tract.Land.{Land}, Survey.{IsTownshipNumber, IsTownship, IsSectionNumber, IsSection}, Grids.{grid_of}}
 use Rattle.title_land.specs.Rectangles.{part_of, holds, SharesCell}
-use Rattle.title_land.specs.Grids.{grid_of}
+use Rattle.title_land.specs.declared.tract.Land.TheVariants as land
 use Rattle.title_aliquot.specs.Grammar.{Syntax, Everything, InTownship, SectionSyntax}
 
 -- ---- numbers

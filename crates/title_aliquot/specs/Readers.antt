@@ -1,13 +1,9 @@
 -- Readers of the grammar, one for each line.
 use Rattle.std.specs.Prelude.{ℕ, Bool, true, false, List, [], ◌∷◌, ◌++◌, codes, Option, None}
-use Rattle.title_grammar.specs.Language.{cons}
+use Rattle.title_grammar.specs.{Language.{cons}, Reading.{maybe_at}}
 use Rattle.title_grammar.specs.Reading.{Read, Got, and_then, gives_at, one_of_at, then_at, or_at, many_at, word_at, behind, as_at, choice}
-use Rattle.title_grammar.specs.Reading.{maybe_at}
-use Rattle.title_land.specs.declared.rectangle.Quarter.{Quarter}
-use Rattle.title_land.specs.declared.rectangle.Quarter.TheVariants.{Northeast, Northwest, Southwest, Southeast}
-use Rattle.title_land.specs.declared.rectangle.Half.{Half}
-use Rattle.title_land.specs.declared.rectangle.Half.TheVariants.{North, South, East, West}
-use Rattle.title_land.specs.declared.rectangle.Step.{Step}
+use Rattle.title_land.specs.declared.rectangle.{Quarter.{Quarter, TheVariants.{Northeast, Northwest, Southwest, Southeast}}, Half.{Half}}
+use Rattle.title_land.specs.declared.rectangle.{Half.TheVariants.{North, South, East, West}, Step.{Step}}
 use Rattle.title_land.specs.declared.rectangle.Step.TheVariants as step
 use Rattle.title_aliquot.specs.Grammar.{digits, decimal, quarter_sign, half_sign, SectionSyntax, Syntax, Everything, section_of, syntax_of}
 use Rattle.title_aliquot.specs.Grammar.{whole_section}

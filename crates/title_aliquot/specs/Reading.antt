@@ -1,9 +1,7 @@
 -- Readings: functions that give each text the land that it describes, or its fault.
-use Rattle.std.specs.Prelude.{◌≡◌, ◌↔◌, ℕ, List, Result, Ok, Err}
-use Rattle.std.proofs.Common.{inl, inr}
+use Rattle.std.{specs.Prelude.{◌≡◌, ◌↔◌, ℕ, List, Result, Ok, Err}, proofs.Common.{inl, inr}}
 use Rattle.title_land.specs.declared.tract.Land.{Land}
-use Rattle.title_aliquot.specs.declared.fault.DescFault.{DescFault}
-use Rattle.title_aliquot.specs.Describes.{Describes, FaultOf}
+use Rattle.title_aliquot.specs.{declared.fault.DescFault.{DescFault}, Describes.{Describes, FaultOf}}
 use Rattle.title_aliquot.specs.TextLaws.{LandOrFault, EachTextIsAnswered}
 
 -- a text is read aright: as the land that it describes, or as its fault

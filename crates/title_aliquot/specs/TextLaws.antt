@@ -1,16 +1,8 @@
 -- Laws of descriptions. The depth is how often a section is quartered down to its cells.
 use Rattle.std.specs.Prelude.{◌≡◌, ℕ, ◌<◌, List, [], ◌∷◌, ◌⊎◌}
-use Rattle.title_land.specs.declared.rectangle.Step.{Step}
-use Rattle.title_land.specs.declared.tract.Land.{Land}
-use Rattle.title_land.specs.declared.node.Node.{Node}
-use Rattle.title_land.specs.Texts.{node_text}
-use Rattle.title_land.specs.Lands.{cover_of}
-use Rattle.title_land.specs.Survey.{side}
-use Rattle.title_land.specs.Nodes.{IsNode}
-use Rattle.title_land.specs.Grids.{grid_has, grid_of}
-use Rattle.title_aliquot.specs.declared.fault.DescFault.{DescFault}
-use Rattle.title_aliquot.specs.Meaning.{rectangles, union}
-use Rattle.title_aliquot.specs.Describes.{Describes, FaultOf}
+use Rattle.title_land.specs.{declared.{rectangle.Step.{Step}, tract.Land.{Land}, node.Node.{Node}}, Texts.{node_text}, Lands.{cover_of}}
+use Rattle.title_land.specs.{Survey.{side}, Nodes.{IsNode}, Grids.{grid_has, grid_of}}
+use Rattle.title_aliquot.specs.{declared.fault.DescFault.{DescFault}, Meaning.{rectangles, union}, Describes.{Describes, FaultOf}}
 
 -- a text describes one land at most
 abbrev pub OneLand : ℕ → Type 0

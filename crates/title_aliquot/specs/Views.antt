@@ -1,10 +1,8 @@
 -- What the words that were read say, without where they lie in memory.
 use Rattle.std.specs.Option.{option_map}
-use Rattle.title_aliquot.specs.declared.syntax.SectionWords.{SectionWords}
-use Rattle.title_aliquot.specs.declared.syntax.LandWords.{LandWords}
-use Rattle.title_aliquot.specs.declared.syntax.Words.{Words}
-use Rattle.title_aliquot.specs.declared.syntax.Words.TheVariants as words
+use Rattle.title_aliquot.specs.declared.syntax.{SectionWords.{SectionWords}, LandWords.{LandWords}, Words.{Words}}
 use Rattle.title_aliquot.specs.Grammar.{SectionSyntax, LandSyntax, Syntax, Everything, InTownship}
+use Rattle.title_aliquot.specs.declared.syntax.Words.TheVariants as words
 
 abbrev pub section_view : SectionWords → SectionSyntax
 section_view s = record { number = s.number; parts = s.parts }

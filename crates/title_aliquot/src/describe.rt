@@ -1,18 +1,11 @@
 //! Reading descriptions.
 
-ghost use Rattle.std.specs.Bool.{Decides};
-ghost use Rattle.title_land.specs.Depth.{depth};
-ghost use Rattle.std.specs.Prelude.{◌≡◌, ◌≢◌, take, drop, IfOk, IfErr};
-ghost use Rattle.std.specs.Str.{chars};
-ghost use Rattle.title_aliquot.specs.Letters.{letters};
-ghost use Rattle.title_aliquot.specs.Answers.{Answers, IsTractOf, IsFault};
-ghost use Rattle.title_aliquot.specs.Grammar.{Description};
+ghost use Rattle.std.specs.{Bool.{Decides}, Prelude.{◌≡◌, ◌≢◌, take, drop, IfOk, IfErr}, Str.{chars}};
+ghost use Rattle.title_land.specs.{Depth.{depth}, declared.tract.Land.{Land}};
+ghost use Rattle.title_aliquot.specs.{Letters.{letters}, Answers.{Answers, IsTractOf, IsFault}, Grammar.{Description}, Views.{words_view}};
+ghost use Rattle.title_aliquot.specs.{Describes.{Describes, FaultOf, Says, StepMayBegin, IsLot}, declared.fault.DescFault.{DescFault}};
 ghost use Rattle.title_grammar.specs.Language.{Begins};
-ghost use Rattle.title_aliquot.specs.Describes.{Describes, FaultOf, Says, StepMayBegin, IsLot};
-ghost use Rattle.title_aliquot.specs.Views.{words_view};
 ghost use Rattle.title_aliquot.specs.declared.fault.DescFault.TheVariants as fault;
-ghost use Rattle.title_land.specs.declared.tract.Land.{Land};
-ghost use Rattle.title_aliquot.specs.declared.fault.DescFault.{DescFault};
 
 use crate::fault::DescFault;
 use crate::letters::{offset_of, split_at_letter};

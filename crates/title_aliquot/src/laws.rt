@@ -2,9 +2,8 @@
 
 ghost use Rattle.title_aliquot.specs.TextLaws.{OneLand, NoFaultBesideLand, OneFault, EachTextIsAnswered, PartsHaveTheirCells, ReadsBack};
 ghost use Rattle.title_aliquot.specs.Reading.{ThereIsAReading, ReadingsAgree, ReadingsGiveTheLand, ReadingsGiveTheFault};
+ghost use Rattle.title_aliquot.specs.{Describes.{longest_text}, declared.describe.TheConstants.{LONGEST}};
 ghost use Rattle.title_land.specs.Depth.{depth};
-ghost use Rattle.title_aliquot.specs.Describes.{longest_text};
-ghost use Rattle.title_aliquot.specs.declared.describe.TheConstants.{LONGEST};
 ghost use Rattle.std.specs.Prelude.{◌≡◌};
 
 /// A text describes one land at most.

@@ -1,8 +1,6 @@
 //! The letters of a text: its characters without spaces and periods, in lower case.
 
-ghost use Rattle.std.specs.Char.{to_ascii_lowercase};
-ghost use Rattle.std.specs.Prelude.{◌≡◌, true, false, [], ◌∷◌, length, take, drop, MatchOption};
-ghost use Rattle.std.specs.Str.{chars};
+ghost use Rattle.std.specs.{Char.{to_ascii_lowercase}, Prelude.{◌≡◌, true, false, [], ◌∷◌, length, take, drop, MatchOption}, Str.{chars}};
 ghost use Rattle.title_aliquot.specs.Letters.{passed_over, letters, offset};
 
 /// Whether a character is passed over.

@@ -1,16 +1,10 @@
 //! What the words of a text stand for.
 
 ghost use Rattle.std.specs.Prelude.{◌≡◌, true, false, List, [], ◌∷◌, MatchOption, IfOk, IfErr};
-ghost use Rattle.title_land.specs.Depth.{depth};
-ghost use Rattle.title_aliquot.specs.Answers.{FailsBy, PartsFailBy};
-ghost use Rattle.title_aliquot.specs.Areas.{IsArea, IsAreaOf};
-ghost use Rattle.title_aliquot.specs.Entries.{leading, parts_in};
-ghost use Rattle.title_aliquot.specs.Grammar.{InTownship};
-ghost use Rattle.title_aliquot.specs.Meaning.{parts_exist, rectangles, union, Overlap, StandsFor};
+ghost use Rattle.title_land.specs.{Depth.{depth}, Grids.{grid_of}, Rectangles.{InSection}, declared.rectangle.Rectangle.{Rectangle}};
+ghost use Rattle.title_aliquot.specs.{Answers.{FailsBy, PartsFailBy}, Areas.{IsArea, IsAreaOf}, Entries.{leading, parts_in}};
+ghost use Rattle.title_aliquot.specs.{Grammar.{InTownship}, Meaning.{parts_exist, rectangles, union, Overlap, StandsFor}};
 ghost use Rattle.title_aliquot.specs.Views.{words_view, land_view};
-ghost use Rattle.title_land.specs.Grids.{grid_of};
-ghost use Rattle.title_land.specs.Rectangles.{InSection};
-ghost use Rattle.title_land.specs.declared.rectangle.Rectangle.{Rectangle};
 
 use crate::fault::DescFault;
 use crate::syntax::{Entry, LandWords, Parts, Words};

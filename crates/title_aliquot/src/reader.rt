@@ -1,18 +1,13 @@
 //! Reading letters by the grammar, one method for each of its lines.
 
-ghost use Rattle.std.specs.Option.{option_map};
-ghost use Rattle.std.specs.Str.{chars};
+ghost use Rattle.std.specs.{Option.{option_map}, Str.{chars}};
 ghost use Rattle.std.specs.Prelude.{◌≡◌, ℕ, ◌+◌, ◌-◌, ◌<◌, ◌≤◌, ◌==◌, List, [], ◌∷◌, ◌++◌, true, false, length, codes, IfOk};
-ghost use Rattle.title_aliquot.specs.Grammar.{digits, InTownship};
-ghost use Rattle.title_aliquot.specs.Letters.{letters, letters_from};
-ghost use Rattle.title_aliquot.specs.Outcomes.{Reads};
+ghost use Rattle.title_aliquot.specs.{Grammar.{digits, InTownship}, Letters.{letters, letters_from}, Outcomes.{Reads}};
 ghost use Rattle.title_aliquot.specs.Readers.{number_at, quarter_mark_at, half_mark_at, behind_at, step_at, joined_at, part_at, with_part};
 ghost use Rattle.title_aliquot.specs.Readers.{next_part_at, parts_at, township_at, range_at, section_number_at, section_parts_at};
-ghost use Rattle.title_aliquot.specs.Readers.{section_at, land_at, description_at};
-ghost use Rattle.title_aliquot.specs.Views.{section_view, land_view, words_view};
+ghost use Rattle.title_aliquot.specs.{Readers.{section_at, land_at, description_at}, Views.{section_view, land_view, words_view}};
 ghost use Rattle.title_aliquot.specs.declared.reader.Stop.TheVariants.{Memory};
-ghost use Rattle.title_grammar.specs.Language.{member};
-ghost use Rattle.title_grammar.specs.Reading.{starts, one_of_at, word_at, as_at, choice};
+ghost use Rattle.title_grammar.specs.{Language.{member}, Reading.{starts, one_of_at, word_at, as_at, choice}};
 ghost use Rattle.title_land.specs.declared.rectangle.Step.TheVariants as step;
 
 use crate::letters::{count_letters, split_letter};

@@ -1,16 +1,9 @@
 //! Words that name a node of the tree of tracts: everything, a township, a section, or one square of it by its quarters.
 
 ghost use Rattle.std.specs.Prelude.{◌≡◌, [], IfSome};
-ghost use Rattle.title_land.specs.Depth.{depth};
-ghost use Rattle.title_aliquot.specs.Entries.{leading, parts_in};
-ghost use Rattle.title_aliquot.specs.Grammar.{InTownship};
-ghost use Rattle.title_aliquot.specs.Laws.Lands.{PartsStand};
-ghost use Rattle.title_aliquot.specs.Meaning.{StandsFor};
+ghost use Rattle.title_land.specs.{Depth.{depth}, Grids.{grid_of}, Lands.{land_of}, Nodes.{square}, Rectangles.{holds}};
+ghost use Rattle.title_aliquot.specs.{Entries.{leading, parts_in}, Grammar.{InTownship}, Laws.Lands.{PartsStand}, Meaning.{StandsFor}};
 ghost use Rattle.title_aliquot.specs.Views.{words_view, land_view};
-ghost use Rattle.title_land.specs.Grids.{grid_of};
-ghost use Rattle.title_land.specs.Lands.{land_of};
-ghost use Rattle.title_land.specs.Nodes.{square};
-ghost use Rattle.title_land.specs.Rectangles.{holds};
 
 use crate::syntax::{Entry, LandWords, Words};
 use title_land::{Node, Section, Step, Township, Within};

@@ -1,8 +1,7 @@
 //! What a text says.
 
 ghost use Rattle.std.specs.Prelude.{◌≡◌, ◌<◌, List, [], ◌∷◌, ◌++◌, length, IfOk};
-ghost use Rattle.title_aliquot.specs.Entries.{leading, parts_in, with_step};
-ghost use Rattle.title_aliquot.specs.Grammar.{whole_section};
+ghost use Rattle.title_aliquot.specs.{Entries.{leading, parts_in, with_step}, Grammar.{whole_section}};
 ghost use Rattle.title_land.specs.declared.rectangle.Step.{Step};
 
 use std::alloc::{AllocError, Global};

@@ -1,26 +1,13 @@
 -- A cover that has a node is that of one land alone.
 use Rattle.std.proofs.Common.{◌≡◌, ◌∙◌, ◌↔◌, ℕ, ◌<◌, Bool, true, false, ◌&&◌, All, List, [], ◌∷◌, length, map, get_or, arith}
-use Rattle.std.proofs.Common.{ap, sym, refl, subst, unwrap_or, ext_get_or}
-use Rattle.std.specs.Prelude.{nat_lt, slice_get, option_and_then}
-use Rattle.std.specs.List.{list_any}
-use Rattle.std.proofs.lemmas.Bool.{and_from, lt-ltb}
-use Rattle.std.proofs.lemmas.Option.{slice_get-get_or, unwrap_or-slice_get}
-use Rattle.title_land.specs.Depth.{depth}
-use Rattle.title_land.specs.declared.grid.Grid.{Grid}
-use Rattle.title_land.specs.declared.node.Node.{Node}
+use Rattle.std.{proofs.Common.{ap, sym, refl, subst, unwrap_or, ext_get_or}, specs.Prelude.{nat_lt, slice_get, option_and_then}}
+use Rattle.std.{specs.List.{list_any}, proofs.lemmas.{Bool.{and_from, lt-ltb}, Option.{slice_get-get_or, unwrap_or-slice_get}}}
+use Rattle.title_land.specs.{Depth.{depth}, declared.{grid.Grid.{Grid}, node.Node.{Node}, survey.Section.{Section}, tract.Land.{Land}}}
+use Rattle.title_land.specs.{declared.rectangle.Quarter.{Quarter}, Covers.{node_at}, Grids.{grid_has, IsGrid}, Laws.NodeSharing.{cell_at}}
+use Rattle.title_land.specs.{Lands.{cover_of, has, IsLand}, Laws.{LandSharing.{cover_has_its_cells}, SameLand.{same_section-self}}}
+use Rattle.title_land.specs.{Nodes.{node_has}, Survey.{is_on_grid, side}}
 use Rattle.title_land.specs.declared.node.Node.TheVariants as node
-use Rattle.title_land.specs.declared.survey.Section.{Section}
-use Rattle.title_land.specs.declared.rectangle.Quarter.{Quarter}
-use Rattle.title_land.specs.declared.tract.Land.{Land}
 use Rattle.title_land.specs.declared.tract.Land.TheVariants as land
-use Rattle.title_land.specs.Covers.{node_at}
-use Rattle.title_land.specs.Grids.{grid_has, IsGrid}
-use Rattle.title_land.specs.Lands.{cover_of, has, IsLand}
-use Rattle.title_land.specs.Laws.LandSharing.{cover_has_its_cells}
-use Rattle.title_land.specs.Laws.NodeSharing.{cell_at}
-use Rattle.title_land.specs.Laws.SameLand.{same_section-self}
-use Rattle.title_land.specs.Nodes.{node_has}
-use Rattle.title_land.specs.Survey.{is_on_grid, side}
 use Rattle.title_chain.specs.SoleNodes.{HasSoleNode}
 
 -- ---- sets of cells

@@ -1,30 +1,16 @@
 -- One spot more under a node, and one post more under the nodes of its cover and those above them.
 use Rattle.std.proofs.Common.{◌≡◌, ◌≢◌, ◌<◌, ◌+◌, ℕ, Bool, true, false, cond, ◌&&◌, ◌||◌, List, [], ◌∷◌, ◌++◌, Option, Some, length, get_or}
-use Rattle.std.proofs.Common.{take, reverse, append_assoc, arith, refl, sym, ap, subst, ◌∙◌, eqb}
-use Rattle.std.specs.Prelude.{IsSome}
-use Rattle.std.specs.Global.{Vec}
-use Rattle.std.specs.Ordering.{nat_cmp}
-use Rattle.std.specs.BTreeMap.{BTreeMap, get, is_at}
-use Rattle.std.specs.Cmp.{unsigned_tied}
-use Rattle.std.specs.List.{list_any}
-use Rattle.std.proofs.lemmas.List.{take_more, reverse-append, length-reverse, length-take-le}
-use Rattle.std.proofs.lemmas.List.Folds.{list_any_more, list_any-append}
-use Rattle.std.proofs.Math.Bool.{or-false}
-use Rattle.std.proofs.lemmas.Bool.{eqb-true}
-use Rattle.title_land.specs.declared.node.Node.{Node}
-use Rattle.title_land.specs.declared.tract.Land.{Land}
-use Rattle.title_land.specs.Nodes.{same_node, is_above}
-use Rattle.title_land.specs.Lands.{cover_of, IsLand}
-use Rattle.title_land.specs.Laws.CoverSet.{above_by_parent}
-use Rattle.title_store.specs.Laws.Each.{each_append}
-use Rattle.title_chain.specs.declared.ask.Step.{Step}
-use Rattle.title_chain.specs.declared.filing.Filing.{Filing}
-use Rattle.title_chain.specs.declared.spot.Spot.{Spot}
-use Rattle.title_chain.specs.PostSpots.{FiledPost, post_of, spot_at, step_posts, same_spot, is_listed, is_spot_where}
-use Rattle.title_land.specs.NodeNumbers.{node_number, number_above}
-use Rattle.title_chain.specs.SpotMaps.{spots_in, spots_numbered, spots_under}
-use Rattle.title_chain.specs.TractIndexes.{IsFiled, covers, covers_below}
+use Rattle.std.{proofs.Common.{take, reverse, append_assoc, arith, refl, sym, ap, subst, ◌∙◌, eqb}, specs.{Prelude.{IsSome}, Global.{Vec}}}
+use Rattle.std.specs.{Ordering.{nat_cmp}, BTreeMap.{BTreeMap, get, is_at}, Cmp.{unsigned_tied}, List.{list_any}}
+use Rattle.std.proofs.lemmas.List.{take_more, reverse-append, length-reverse, length-take-le, Folds.{list_any_more, list_any-append}}
+use Rattle.std.proofs.{Math.Bool.{or-false}, lemmas.Bool.{eqb-true}}
+use Rattle.title_land.specs.{declared.{node.Node.{Node}, tract.Land.{Land}}, Nodes.{same_node, is_above}, Lands.{cover_of, IsLand}}
+use Rattle.title_land.specs.{Laws.CoverSet.{above_by_parent}, NodeNumbers.{node_number, number_above}}
 use Rattle.title_land.specs.Laws.NodeNumbers.{number_at, node_above, whole_is}
+use Rattle.title_store.specs.Laws.Each.{each_append}
+use Rattle.title_chain.specs.declared.{ask.Step.{Step}, filing.Filing.{Filing}, spot.Spot.{Spot}}
+use Rattle.title_chain.specs.PostSpots.{FiledPost, post_of, spot_at, step_posts, same_spot, is_listed, is_spot_where}
+use Rattle.title_chain.specs.{SpotMaps.{spots_in, spots_numbered, spots_under}, TractIndexes.{IsFiled, covers, covers_below}}
 
 -- ---- one spot more under a node
 

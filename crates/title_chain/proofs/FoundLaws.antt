@@ -1,28 +1,14 @@
 -- Spots: one is found exactly where the same one stands; what is found above a node is found at its parent or above that.
-use Rattle.std.proofs.Common.{◌≡◌, ◌≢◌, ℕ, Bool, true, false, ◌||◌, List, refl, sym, ap, ◌∙◌}
-use Rattle.std.proofs.Common.{true≢false}
-use Rattle.std.proofs.lemmas.Bool.{and_parts, and_from, eqb-true, eq-eqb, or_right}
-use Rattle.std.proofs.lemmas.Map.Lookups.{exact_unsigned}
-use Rattle.std.specs.declared.cmp.Ordering.TheVariants.{Equal}
-use Rattle.std.specs.Ordering.{nat_cmp}
-use Rattle.std.specs.Prelude.{nat_eq}
-use Rattle.std.specs.Cmp.{tied_itself, nat_cmp_total}
-use Rattle.std.specs.BTreeMap.{is_at}
-use Rattle.std.specs.List.{list_any}
-use Rattle.title_land.specs.declared.node.Node.{Node}
-use Rattle.title_land.specs.Nodes.{above}
-use Rattle.title_land.specs.Laws.LandSharing.{equal_tests}
-use Rattle.title_land.specs.Laws.Keys.{found_at, then_parts}
-use Rattle.title_land.specs.Laws.CoverSet.{above_by_parent}
+use Rattle.std.{proofs.Common.{◌≡◌, ◌≢◌, ℕ, Bool, true, false, ◌||◌, List, refl, sym, ap, ◌∙◌, true≢false}, specs.Ordering.{nat_cmp}}
+use Rattle.std.{proofs.lemmas.{Bool.{and_parts, and_from, eqb-true, eq-eqb, or_right}, Map.Lookups.{exact_unsigned}}, specs.List.{list_any}}
+use Rattle.std.specs.{declared.cmp.Ordering.TheVariants.{Equal}, Prelude.{nat_eq}, Cmp.{tied_itself, nat_cmp_total}, BTreeMap.{is_at}}
 use Rattle.std.proofs.Math.Bool.{or-false}
-use Rattle.title_chain.specs.declared.filing.Filing.{Filing}
-use Rattle.title_chain.specs.declared.spot.Spot.{Spot}
-use Rattle.title_chain.specs.PostSpots.{same_spot, is_listed}
-use Rattle.title_land.specs.NodeNumbers.{node_number, number_above}
-use Rattle.title_chain.specs.SpotMaps.{spots_numbered, spots_under, spot_cmp}
-use Rattle.title_chain.specs.TractIndexes.{is_near, is_higher, KnowsAbove}
-use Rattle.title_chain.proofs.Filings.{Lists}
+use Rattle.title_land.specs.{declared.node.Node.{Node}, Nodes.{above}, Laws.{LandSharing.{equal_tests}, Keys.{found_at, then_parts}}}
+use Rattle.title_land.specs.{Laws.CoverSet.{above_by_parent}, NodeNumbers.{node_number, number_above}}
 use Rattle.title_land.specs.Laws.NodeNumbers.{node_above, whole_is, one_above}
+use Rattle.title_chain.specs.{declared.{filing.Filing.{Filing}, spot.Spot.{Spot}}, PostSpots.{same_spot, is_listed}}
+use Rattle.title_chain.specs.{SpotMaps.{spots_numbered, spots_under, spot_cmp}, TractIndexes.{is_near, is_higher, KnowsAbove}}
+use Rattle.title_chain.proofs.Filings.{Lists}
 
 -- spots that are one by their numbers are one value
 pub same_spot-is : (p q : Spot) → same_spot p q ≡ true → p ≡ q

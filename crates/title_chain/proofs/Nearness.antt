@@ -1,18 +1,10 @@
 -- The spots filed near the nodes of a tract's cover are those of the posts that share a cell with it.
 use Rattle.std.proofs.Common.{◌≡◌, ℕ, Bool, true, false, ◌&&◌, ◌||◌, List, [], ◌∷◌, refl, sym, ap, ◌∙◌}
 use Rattle.std.specs.List.{AllByRecursion, list_any}
-use Rattle.title_land.specs.Depth.{depth}
-use Rattle.title_land.specs.declared.node.Node.{Node}
-use Rattle.title_land.specs.declared.tract.Land.{Land}
-use Rattle.title_land.specs.Nodes.{same_node, above, is_above, are_related}
-use Rattle.title_land.specs.Lands.{cover_of, meets, IsLand}
-use Rattle.title_land.specs.CoverSets.{covers_meet, MeetsByCovers}
-use Rattle.title_land.specs.Laws.SameNode.{same_node-is}
-use Rattle.title_land.specs.Laws.LandSharing.{equal_tests}
-use Rattle.title_land.specs.Laws.CoversMeet.{meets_by_covers}
-use Rattle.title_chain.specs.declared.filing.Filing.{Filing}
-use Rattle.title_chain.specs.declared.spot.Spot.{Spot}
-use Rattle.title_chain.specs.PostSpots.{FiledPost, same_spot, is_spot_where}
+use Rattle.title_land.specs.{Depth.{depth}, declared.{node.Node.{Node}, tract.Land.{Land}}, Nodes.{same_node, above, is_above, are_related}}
+use Rattle.title_land.specs.{Lands.{cover_of, meets, IsLand}, CoverSets.{covers_meet, MeetsByCovers}, Laws.SameNode.{same_node-is}}
+use Rattle.title_land.specs.Laws.{LandSharing.{equal_tests}, CoversMeet.{meets_by_covers}}
+use Rattle.title_chain.specs.{declared.{filing.Filing.{Filing}, spot.Spot.{Spot}}, PostSpots.{FiledPost, same_spot, is_spot_where}}
 use Rattle.title_chain.specs.TractIndexes.{covers, covers_below, IsFiled, is_near}
 
 -- ---- tests of lists

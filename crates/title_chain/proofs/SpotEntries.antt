@@ -1,28 +1,17 @@
 -- The entries of the steps at the spots of posts are those of the records, or of a transaction's own steps.
 use Rattle.std.proofs.Common.{◌≡◌, ℕ, ◌+◌, ◌≤◌, ◌<◌, suc, Bool, true, false, cond, List, [], ◌∷◌, ◌++◌, length, reverse, Option, Some}
-use Rattle.std.proofs.Common.{refl, sym, ap, subst, ◌∙◌, append_assoc, add-one, drop, get_or}
-use Rattle.std.specs.Prelude.{slice_get}
-use Rattle.std.specs.List.Sorted.{IsStrictlySortedBy}
-use Rattle.std.specs.List.{AllByRecursion}
+use Rattle.std.{proofs.Common.{refl, sym, ap, subst, ◌∙◌, append_assoc, add-one, drop, get_or}, specs.Prelude.{slice_get}}
+use Rattle.std.{specs.List.{AllByRecursion, Sorted.{IsStrictlySortedBy}}, proofs.lemmas.Option.{slice_get_past}}
 use Rattle.std.proofs.lemmas.List.{append-nil, drop_more, reverse-append, reverse-reverse, length-reverse}
-use Rattle.std.proofs.lemmas.Option.{slice_get_past}
-use Rattle.title_land.specs.declared.tract.Land.{Land}
-use Rattle.title_land.specs.Lands.{meets}
+use Rattle.title_land.specs.{declared.tract.Land.{Land}, Lands.{meets}}
 use Rattle.title_store.specs.Laws.Each.{each_from, each_append}
-use Rattle.title_chain.specs.declared.ask.Ask.{Ask}
-use Rattle.title_chain.specs.declared.ask.Ask.TheVariants as ask
-use Rattle.title_chain.specs.declared.ask.Answer.{Answer}
-use Rattle.title_chain.specs.declared.ask.Answer.TheVariants as answer
-use Rattle.title_chain.specs.declared.ask.Entry.{Entry}
-use Rattle.title_chain.specs.declared.ask.Step.{Step}
-use Rattle.title_chain.specs.declared.spot.Spot.{Spot}
-use Rattle.title_chain.specs.declared.record.Record.{Record}
-use Rattle.title_chain.specs.StepEntries.{entry_of, step_entries}
-use Rattle.title_chain.specs.Chains.{record_entries}
-use Rattle.title_chain.specs.SpotMaps.{spot_cmp}
+use Rattle.title_chain.specs.declared.{ask.{Ask.{Ask}, Answer.{Answer}, Entry.{Entry}, Step.{Step}}, spot.Spot.{Spot}}
+use Rattle.title_chain.specs.{declared.record.Record.{Record}, StepEntries.{entry_of, step_entries}, Chains.{record_entries}}
+use Rattle.title_chain.{specs.SpotMaps.{spot_cmp}, proofs.SpotOrder.{IsAmong, steps_among, steps_ascend, records_ascend, keys_are}}
 use Rattle.title_chain.specs.PostSpots.{FiledPost, post_of, spot_at, step_posts, record_posts, spots_where, is_listed}
 use Rattle.title_chain.specs.PostSpots.{is_spot_where, step_entry, posted, entry_in, entry_at, own_entry_at, entries_at}
-use Rattle.title_chain.proofs.SpotOrder.{IsAmong, steps_among, steps_ascend, records_ascend, keys_are}
+use Rattle.title_chain.specs.declared.ask.Ask.TheVariants as ask
+use Rattle.title_chain.specs.declared.ask.Answer.TheVariants as answer
 
 -- a spot past the records, or past the steps of its record, gives no entry
 pub past_records : (records : List Record) (p : Spot) (entries : List Entry) → length records ≤ p.record

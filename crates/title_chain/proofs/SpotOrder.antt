@@ -1,27 +1,16 @@
 -- The spots of posts ascend, and a list of the spots of posts of a kind that ascends has them in their order.
 use Rattle.std.proofs.Common.{◌≡◌, ℕ, ◌<◌, suc, Bool, true, false, cond, ◌&&◌, ◌||◌, List, [], ◌∷◌, ◌++◌, length, reverse, refl, sym, ◌∙◌}
-use Rattle.std.proofs.Common.{arith}
-use Rattle.std.proofs.lemmas.Bool.{lt-ltb}
-use Rattle.std.proofs.lemmas.Map.Lookups.{btree_set_from_contains}
-use Rattle.std.specs.declared.cmp.Ordering.TheVariants.{Less}
-use Rattle.std.specs.Cmp.{nat_cmp_total, tied_itself}
-use Rattle.std.specs.BTreeMap.{is_at}
-use Rattle.std.specs.List.{AllByRecursion, list_any}
+use Rattle.std.{proofs.{Common.{arith}, lemmas.{Bool.{lt-ltb}, Map.Lookups.{btree_set_from_contains}}}, specs.BTreeMap.{is_at}}
+use Rattle.std.specs.{declared.cmp.Ordering.TheVariants.{Less}, Cmp.{nat_cmp_total, tied_itself}, List.{AllByRecursion, list_any}}
 use Rattle.std.specs.List.Sorted.{IsStrictlySortedBy}
 use Rattle.title_land.specs.declared.tract.Land.{Land}
 use Rattle.title_store.specs.Laws.Each.{each_from, each_append}
-use Rattle.title_chain.specs.declared.ask.Ask.{Ask}
-use Rattle.title_chain.specs.declared.ask.Ask.TheVariants as ask
-use Rattle.title_chain.specs.declared.ask.Answer.{Answer}
-use Rattle.title_chain.specs.declared.ask.Answer.TheVariants as answer
-use Rattle.title_chain.specs.declared.ask.Step.{Step}
-use Rattle.title_chain.specs.declared.spot.Spot.{Spot}
-use Rattle.title_chain.specs.declared.record.Record.{Record}
-use Rattle.title_chain.specs.contracts.spot.SpotOrd.TheImpl.Laws as spot_laws
-use Rattle.title_chain.specs.SpotMaps.{spot_cmp}
+use Rattle.title_chain.specs.declared.{ask.{Ask.{Ask}, Answer.{Answer}, Step.{Step}}, spot.Spot.{Spot}, record.Record.{Record}}
+use Rattle.title_chain.{specs.{SpotMaps.{spot_cmp}, PostSpots.{is_listed, is_spot_where}}, proofs.FoundLaws.{spot_tied, spot_at_is}}
 use Rattle.title_chain.specs.PostSpots.{FiledPost, post_of, spot_at, step_posts, record_posts, spots_where, same_spot}
-use Rattle.title_chain.specs.PostSpots.{is_listed, is_spot_where}
-use Rattle.title_chain.proofs.FoundLaws.{spot_tied, spot_at_is}
+use Rattle.title_chain.specs.declared.ask.Ask.TheVariants as ask
+use Rattle.title_chain.specs.declared.ask.Answer.TheVariants as answer
+use Rattle.title_chain.specs.contracts.spot.SpotOrd.TheImpl.Laws as spot_laws
 
 -- a spot of an earlier record stands before one of a later record
 before_record : (a b : Spot) → a.record < b.record → spot_cmp a b ≡ Less

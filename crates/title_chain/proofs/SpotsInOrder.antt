@@ -1,20 +1,13 @@
 -- Lists of spots in order, each spot once.
-use Rattle.std.proofs.Common.{◌≡◌, ℕ, ◌≤◌, ◌-◌, Bool, List, length, sym, subst, ◌∙◌, arith}
-use Rattle.std.specs.declared.cmp.Ordering.TheVariants.{Less}
-use Rattle.std.specs.Cmp.{IsEquivalence}
-use Rattle.std.specs.List.{dedup, AllAdjacentBelow}
-use Rattle.std.specs.List.Sorted.{IsPermutation, IsSorted, IsStrictlySortedBy}
-use Rattle.std.proofs.lemmas.Cmp.{eq_by_cmp_equiv}
+use Rattle.std.{proofs.Common.{◌≡◌, ℕ, ◌≤◌, ◌-◌, Bool, List, length, sym, subst, ◌∙◌, arith}, specs.Cmp.{IsEquivalence}}
+use Rattle.std.{specs.{declared.cmp.Ordering.TheVariants.{Less}, List.{dedup, AllAdjacentBelow}}, proofs.lemmas.Cmp.{eq_by_cmp_equiv}}
+use Rattle.std.{specs.List.Sorted.{IsPermutation, IsSorted, IsStrictlySortedBy}, proofs.lemmas.List.Sorted.{list_any-IsPermutation}}
 use Rattle.std.proofs.lemmas.List.Kept.{Contains-dedup, Contains-from_dedup, IsStrictlySortedBy-dedup}
-use Rattle.std.proofs.lemmas.List.Sorted.{list_any-IsPermutation}
-use Rattle.std.proofs.lemmas.Map.Keys.{sorted_from_all_adjacent}
-use Rattle.std.proofs.lemmas.Map.Views.{Contains-from_any, list_any-from_Contains}
+use Rattle.std.proofs.lemmas.Map.{Keys.{sorted_from_all_adjacent}, Views.{Contains-from_any, list_any-from_Contains}}
 use Rattle.title_land.specs.Laws.LandSharing.{equal_tests}
-use Rattle.title_chain.specs.declared.spot.Spot.{Spot}
-use Rattle.title_chain.specs.contracts.spot.SpotOrd.TheImpl.Laws as spot_laws
-use Rattle.title_chain.specs.SpotMaps.{spot_cmp}
-use Rattle.title_chain.specs.PostSpots.{spot_at, same_spot, is_listed}
+use Rattle.title_chain.specs.{declared.spot.Spot.{Spot}, SpotMaps.{spot_cmp}, PostSpots.{spot_at, same_spot, is_listed}}
 use Rattle.title_chain.proofs.FoundLaws.{spot_at_is, same_spot-is}
+use Rattle.title_chain.specs.contracts.spot.SpotOrd.TheImpl.Laws as spot_laws
 
 same_equiv : IsEquivalence same_spot
 same_equiv = subst (λ (e : Spot → Spot → Bool). IsEquivalence e) (λ i p q. spot_at_is p q i) (eq_by_cmp_equiv spot_laws.total-law)

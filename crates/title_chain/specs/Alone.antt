@@ -1,15 +1,10 @@
 -- Asks one after another, nothing else being open. Lists of steps and of records here have the newest first.
 use Rattle.std.specs.Prelude.{◌≡◌, ℕ, true, List, [], ◌∷◌, reverse, None}
-use Rattle.title_land.specs.declared.survey.Township.{Township}
-use Rattle.title_land.specs.Lands.{is_in_plant}
+use Rattle.title_land.specs.{declared.survey.Township.{Township}, Lands.{is_in_plant}}
 use Rattle.title_instrument.specs.Owners.{opening_owners}
 use Rattle.title_store.specs.Plants.{Plant}
-use Rattle.title_chain.specs.declared.ask.Ask.{Ask}
-use Rattle.title_chain.specs.declared.ask.Answer.{Answer}
-use Rattle.title_chain.specs.declared.ask.Step.{Step}
-use Rattle.title_chain.specs.declared.record.Record.{Record}
+use Rattle.title_chain.specs.{declared.{ask.{Ask.{Ask}, Answer.{Answer}, Step.{Step}}, record.Record.{Record}}, Chains.{chain_of}}
 use Rattle.title_chain.specs.Asks.{tract_of, cause_of, effect, answer_to}
-use Rattle.title_chain.specs.Chains.{chain_of}
 
 -- the opening plant: party 0 owns all of each estate in every cell
 abbrev pub opening_plant : Plant

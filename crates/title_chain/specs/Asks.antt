@@ -1,17 +1,11 @@
 -- What one ask is answered, and what it does to the plant.
 use Rattle.std.specs.Prelude.{ℕ, Bool, true, false, ◌&&◌, ◌||◌, List, Option, Some, None}
-use Rattle.title_land.specs.declared.survey.Township.{Township}
-use Rattle.title_land.specs.declared.tract.Land.{Land}
-use Rattle.title_land.specs.Lands.{meets}
-use Rattle.title_instrument.specs.declared.parts.Cause.{Cause}
-use Rattle.title_instrument.specs.Check.{first_cause}
-use Rattle.title_store.specs.Plants.{Plant, Refusal, refused_in, plant_effect}
-use Rattle.title_store.specs.Sheets.{sheet_of}
-use Rattle.title_chain.specs.declared.ask.Ask.{Ask}
+use Rattle.title_land.specs.{declared.{survey.Township.{Township}, tract.Land.{Land}}, Lands.{meets}}
+use Rattle.title_instrument.specs.{declared.parts.Cause.{Cause}, Check.{first_cause}}
+use Rattle.title_store.specs.{Plants.{Plant, Refusal, refused_in, plant_effect}, Sheets.{sheet_of}}
+use Rattle.title_chain.specs.declared.ask.{Ask.{Ask}, Answer.{Answer}, Entry.{Entry}}
 use Rattle.title_chain.specs.declared.ask.Ask.TheVariants as ask
-use Rattle.title_chain.specs.declared.ask.Answer.{Answer}
 use Rattle.title_chain.specs.declared.ask.Answer.TheVariants as answer
-use Rattle.title_chain.specs.declared.ask.Entry.{Entry}
 
 abbrev pub tract_of : Ask → Land
 tract_of (ask.Sheet t) = t

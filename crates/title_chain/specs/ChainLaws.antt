@@ -1,16 +1,10 @@
 -- The laws of asks: what an answer and an effect depend on, and what an ask leaves alone.
 use Rattle.std.specs.Prelude.{◌≡◌, ℕ, true, false, List, [], Some}
-use Rattle.title_land.specs.declared.survey.Cell.{Cell}
-use Rattle.title_land.specs.declared.survey.Township.{Township}
-use Rattle.title_land.specs.declared.tract.Land.{Land}
+use Rattle.title_land.specs.declared.{survey.{Cell.{Cell}, Township.{Township}}, tract.Land.{Land}}
 use Rattle.title_store.specs.Plants.{Plant, Refusal, is_cell_of, refused_in}
-use Rattle.title_chain.specs.declared.ask.Ask.{Ask}
-use Rattle.title_chain.specs.declared.ask.Ask.TheVariants as ask
-use Rattle.title_chain.specs.declared.ask.Answer.{Answer}
-use Rattle.title_chain.specs.declared.ask.Entry.{Entry}
-use Rattle.title_chain.specs.declared.ask.Posting.{Posting}
+use Rattle.title_chain.specs.{declared.ask.{Ask.{Ask}, Answer.{Answer}, Entry.{Entry}, Posting.{Posting}}, StepEntries.{entry_of}}
 use Rattle.title_chain.specs.Asks.{tract_of, is_post, effect, answer_to, overlap}
-use Rattle.title_chain.specs.StepEntries.{entry_of}
+use Rattle.title_chain.specs.declared.ask.Ask.TheVariants as ask
 
 -- two plants have the same owners in every cell of a tract
 abbrev pub SameIn : ℕ → List Township → Land → Plant → Plant → Type 0

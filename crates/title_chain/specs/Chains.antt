@@ -1,10 +1,7 @@
 -- Chains: the posted instruments of a tract. Lists of steps and of records here have the newest first.
 use Rattle.std.specs.Prelude.{suc, List, [], ◌∷◌, ◌++◌, length, reverse}
 use Rattle.title_land.specs.declared.tract.Land.{Land}
-use Rattle.title_chain.specs.declared.ask.Entry.{Entry}
-use Rattle.title_chain.specs.declared.ask.Step.{Step}
-use Rattle.title_chain.specs.declared.record.Record.{Record}
-use Rattle.title_chain.specs.StepEntries.{step_entries}
+use Rattle.title_chain.specs.{declared.{ask.{Entry.{Entry}, Step.{Step}}, record.Record.{Record}}, StepEntries.{step_entries}}
 
 -- the entries that these records give, in order, each with its record's number from 1
 abbrev pub record_entries : Land → List Record → List Entry

@@ -1,11 +1,9 @@
 -- Rows of sheets as they are kept.
 use Rattle.std.specs.Prelude.{List, map}
 use Rattle.title_store.specs.declared.sheet_row.SheetRow.{SheetRow}
-use Rattle.title_chain.specs.declared.lists.Lines.{Lines}
+use Rattle.title_chain.specs.{declared.lists.{Lines.{Lines}, Sheet.{Sheet}}, SquareRows.{row_in}}
 use Rattle.title_chain.specs.declared.lists.Lines.TheVariants as lines
-use Rattle.title_chain.specs.declared.lists.Sheet.{Sheet}
 use Rattle.title_chain.specs.declared.lists.Sheet.TheVariants as sheet
-use Rattle.title_chain.specs.SquareRows.{row_in}
 
 -- the rows that are kept
 abbrev pub rows_in : Lines → List SheetRow

@@ -1,9 +1,6 @@
 -- Steps that overlap an ask. Lists of steps here have the newest first.
 use Rattle.std.specs.Prelude.{◌≡◌, ℕ, Bool, false, ◌||◌, List, [], ◌∷◌, reverse}
-use Rattle.title_chain.specs.declared.ask.Ask.{Ask}
-use Rattle.title_chain.specs.declared.ask.Step.{Step}
-use Rattle.title_chain.specs.declared.record.Record.{Record}
-use Rattle.title_chain.specs.Asks.{overlap}
+use Rattle.title_chain.specs.{declared.{ask.{Ask.{Ask}, Step.{Step}}, record.Record.{Record}}, Asks.{overlap}}
 
 -- one of these steps overlaps the ask
 abbrev pub overlaps : Ask → List Step → Bool

@@ -3,15 +3,10 @@
 use Rattle.std.specs.Prelude.{ℕ, suc, Bool, cond, ◌&&◌, ◌==◌, List, [], ◌∷◌, ◌++◌, length, reverse, Option, Some, None, slice_get}
 use Rattle.std.specs.List.{list_any}
 use Rattle.title_land.specs.declared.tract.Land.{Land}
-use Rattle.title_chain.specs.declared.ask.Ask.{Ask}
-use Rattle.title_chain.specs.declared.ask.Ask.TheVariants as ask
-use Rattle.title_chain.specs.declared.ask.Answer.{Answer}
-use Rattle.title_chain.specs.declared.ask.Answer.TheVariants as answer
-use Rattle.title_chain.specs.declared.ask.Entry.{Entry}
-use Rattle.title_chain.specs.declared.ask.Posting.{Posting}
-use Rattle.title_chain.specs.declared.ask.Step.{Step}
-use Rattle.title_chain.specs.declared.spot.Spot.{Spot}
+use Rattle.title_chain.specs.declared.{ask.{Ask.{Ask}, Answer.{Answer}, Entry.{Entry}, Posting.{Posting}, Step.{Step}}, spot.Spot.{Spot}}
 use Rattle.title_chain.specs.declared.record.Record.{Record}
+use Rattle.title_chain.specs.declared.ask.Ask.TheVariants as ask
+use Rattle.title_chain.specs.declared.ask.Answer.TheVariants as answer
 
 -- a posted instrument with the spot of its step
 pub record FiledPost : Type 0 where

@@ -1,15 +1,10 @@
 -- Steps whose posts are made again. Lists of steps here have the newest first.
 use Rattle.std.specs.Prelude.{◌≡◌, ℕ, Bool, true, false, List, [], ◌∷◌}
-use Rattle.title_land.specs.declared.survey.Township.{Township}
-use Rattle.title_land.specs.Lands.{is_in_plant}
+use Rattle.title_land.specs.{declared.survey.Township.{Township}, Lands.{is_in_plant}}
 use Rattle.title_store.specs.Plants.{Plant, SameContent}
-use Rattle.title_chain.specs.declared.ask.Ask.{Ask}
+use Rattle.title_chain.specs.{declared.ask.{Ask.{Ask}, Answer.{Answer}, Step.{Step}}, Asks.{tract_of, effect}, Alone.{after_steps}}
 use Rattle.title_chain.specs.declared.ask.Ask.TheVariants as ask
-use Rattle.title_chain.specs.declared.ask.Answer.{Answer}
 use Rattle.title_chain.specs.declared.ask.Answer.TheVariants as answer
-use Rattle.title_chain.specs.declared.ask.Step.{Step}
-use Rattle.title_chain.specs.Asks.{tract_of, effect}
-use Rattle.title_chain.specs.Alone.{after_steps}
 
 -- the step is a post that was done
 abbrev pub was_posted : Ask → Answer → Bool

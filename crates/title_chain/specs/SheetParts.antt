@@ -1,6 +1,5 @@
 -- The rows of a sheet's parts.
-use Rattle.std.specs.Prelude.{List}
-use Rattle.std.specs.List.{flat_map}
+use Rattle.std.specs.{Prelude.{List}, List.{flat_map}}
 use Rattle.title_store.specs.declared.sheet_row.SheetRow.{SheetRow}
 
 -- the rows of parts, one part after another

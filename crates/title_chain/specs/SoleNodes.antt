@@ -1,9 +1,6 @@
 -- Tracts whose cover is one node.
 use Rattle.std.specs.Prelude.{◌≡◌, ◌≢◌, [], ◌∷◌}
-use Rattle.title_land.specs.Depth.{depth}
-use Rattle.title_land.specs.declared.node.Node.{Node}
-use Rattle.title_land.specs.declared.tract.Land.{Land}
-use Rattle.title_land.specs.Lands.{cover_of}
+use Rattle.title_land.specs.{Depth.{depth}, declared.{node.Node.{Node}, tract.Land.{Land}}, Lands.{cover_of}}
 
 -- the cover of a land is this node alone
 pub record HasSoleNode (land : Land) (n : Node) : Type 0 where

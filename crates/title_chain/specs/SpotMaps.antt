@@ -1,12 +1,8 @@
 -- Maps from the numbers of nodes to lists of spots, and the order of spots.
-use Rattle.std.specs.Prelude.{ℕ, List, [], Option, Some, None}
-use Rattle.std.specs.declared.cmp.Ordering.{Ordering}
-use Rattle.std.specs.Ordering.{nat_cmp, ordering_then}
-use Rattle.std.specs.Global.{Vec}
-use Rattle.std.specs.BTreeMap.{BTreeMap, get}
-use Rattle.title_land.specs.declared.node.Node.{Node}
+use Rattle.std.specs.{Prelude.{ℕ, List, [], Option, Some, None}, declared.cmp.Ordering.{Ordering}, Ordering.{nat_cmp, ordering_then}}
+use Rattle.std.specs.{Global.{Vec}, BTreeMap.{BTreeMap, get}}
+use Rattle.title_land.specs.{declared.node.Node.{Node}, NodeNumbers.{node_number}}
 use Rattle.title_chain.specs.declared.spot.Spot.{Spot}
-use Rattle.title_land.specs.NodeNumbers.{node_number}
 
 -- the list, or none
 abbrev pub spots_in : Option (Vec Spot) → List Spot

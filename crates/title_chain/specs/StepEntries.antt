@@ -1,13 +1,9 @@
 -- The entries that steps give to the chain of a tract. Lists of steps here have the newest first.
 use Rattle.std.specs.Prelude.{ℕ, cond, List, [], ◌∷◌, ◌++◌}
-use Rattle.title_land.specs.declared.tract.Land.{Land}
-use Rattle.title_land.specs.Lands.{meets}
-use Rattle.title_chain.specs.declared.ask.Ask.{Ask}
+use Rattle.title_land.specs.{declared.tract.Land.{Land}, Lands.{meets}}
+use Rattle.title_chain.specs.declared.ask.{Ask.{Ask}, Answer.{Answer}, Entry.{Entry}, Step.{Step}}
 use Rattle.title_chain.specs.declared.ask.Ask.TheVariants as ask
-use Rattle.title_chain.specs.declared.ask.Answer.{Answer}
 use Rattle.title_chain.specs.declared.ask.Answer.TheVariants as answer
-use Rattle.title_chain.specs.declared.ask.Entry.{Entry}
-use Rattle.title_chain.specs.declared.ask.Step.{Step}
 
 -- the entry that a step gives to the chain of a tract: it was posted, and its tract shares a cell
 abbrev pub entry_of : ℕ → Land → Ask → Answer → List Entry

@@ -1,17 +1,9 @@
 -- Records, and the steps of an open transaction, with an index of their posts by tract. Lists here have the oldest first.
-use Rattle.std.specs.Prelude.{ℕ, ◌≡◌, ◌≢◌, ◌≤◌, Bool, true, ◌||◌, List, length, take, reverse}
-use Rattle.std.specs.List.{AllByRecursion, list_any}
-use Rattle.title_land.specs.declared.node.Node.{Node}
-use Rattle.title_land.specs.declared.tract.Land.{Land}
-use Rattle.title_land.specs.Nodes.{same_node, above, is_above}
-use Rattle.title_land.specs.Lands.{cover_of, IsLand}
+use Rattle.std.specs.{Prelude.{ℕ, ◌≡◌, ◌≢◌, ◌≤◌, Bool, true, ◌||◌, List, length, take, reverse}, List.{AllByRecursion, list_any}}
+use Rattle.title_land.specs.{declared.{node.Node.{Node}, tract.Land.{Land}}, Nodes.{same_node, above, is_above}, Lands.{cover_of, IsLand}}
 use Rattle.title_land.specs.NodeNumbers.{node_number, number_above}
-use Rattle.title_chain.specs.declared.ask.Step.{Step}
-use Rattle.title_chain.specs.declared.filing.Filing.{Filing}
-use Rattle.title_chain.specs.declared.spot.Spot.{Spot}
-use Rattle.title_chain.specs.declared.record.Record.{Record}
-use Rattle.title_chain.specs.PostSpots.{FiledPost, step_posts, record_posts, is_listed, is_spot_where}
-use Rattle.title_chain.specs.SpotMaps.{spots_under}
+use Rattle.title_chain.specs.declared.{ask.Step.{Step}, filing.Filing.{Filing}, spot.Spot.{Spot}, record.Record.{Record}}
+use Rattle.title_chain.specs.{PostSpots.{FiledPost, step_posts, record_posts, is_listed, is_spot_where}, SpotMaps.{spots_under}}
 
 -- the records in the order of their commits, and whether one more can be added without memory
 pub record Recorded : Type 0 where

@@ -1,8 +1,7 @@
 //! Chains of tracts.
 
 ghost use Rattle.std.specs.Prelude.{◌≡◌, IfOk, ◌++◌, reverse, slice_get};
-ghost use Rattle.title_chain.specs.StepEntries.{entry_of, step_entries};
-ghost use Rattle.title_chain.specs.Chains.{record_entries, chain_of};
+ghost use Rattle.title_chain.specs.{StepEntries.{entry_of, step_entries}, Chains.{record_entries, chain_of}};
 ghost use Rattle.title_chain.specs.PostSpots.{posted, step_entry, entry_at, own_entry_at, entries_at};
 
 use crate::ask::{Answer, Ask, Entry, Step};

@@ -3,15 +3,11 @@
 mod found;
 
 ghost use Rattle.std.specs.Prelude.{◌≡◌, ◌≢◌, ℕ, ◌++◌, ◌∷◌, ◌&&◌, ◌||◌, ◌==◌, [], List, IfOk, OnOk, length, reverse, true};
-ghost use Rattle.title_land.specs.Depth.{depth};
-ghost use Rattle.std.specs.List.{list_any};
-ghost use Rattle.title_land.specs.declared.node.Node.{Node};
-ghost use Rattle.title_land.specs.Nodes.{same_node, above, is_above};
-ghost use Rattle.title_chain.specs.declared.spot.Spot.{Spot};
-ghost use Rattle.title_chain.specs.PostSpots.{same_spot, is_listed};
+ghost use Rattle.std.specs.List.{list_any, Sorted.{IsStrictlySortedBy}};
+ghost use Rattle.title_land.specs.{Depth.{depth}, declared.node.Node.{Node}, Nodes.{same_node, above, is_above}};
 ghost use Rattle.title_land.specs.NodeNumbers.{node_number, number_above};
+ghost use Rattle.title_chain.specs.{declared.spot.Spot.{Spot}, PostSpots.{same_spot, is_listed}};
 ghost use Rattle.title_chain.specs.SpotMaps.{spots_numbered, spots_under, spot_cmp};
-ghost use Rattle.std.specs.List.Sorted.{IsStrictlySortedBy};
 
 use crate::ask::{Answer, Ask, Entry, Step};
 use crate::chains::{add_entries_at, add_own_entries_at};
@@ -92,8 +88,7 @@ fn file_above(
 }
 
 impl Filing {
-    ghost use Rattle.title_chain.specs.Chains.{record_entries};
-    ghost use Rattle.title_chain.specs.StepEntries.{step_entries};
+    ghost use Rattle.title_chain.specs.{Chains.{record_entries}, StepEntries.{step_entries}};
     ghost use Rattle.title_chain.specs.PostSpots.{FiledPost, post_of, step_posts, record_posts};
     ghost use Rattle.title_chain.specs.TractIndexes.{IsFiled, IsReadFrom, AreReadFrom, is_near};
 

@@ -1,8 +1,7 @@
 //! Lists of rows, entries, steps and records, which contracts compare as lists.
 
 ghost use Rattle.std.specs.Prelude.{◌≡◌, ◌≤◌, [], IfOk, IfSome, length, slice_get};
-ghost use Rattle.title_chain.specs.SheetParts.{all_rows};
-ghost use Rattle.title_chain.specs.KeptRows.{rows_in, sheet_in};
+ghost use Rattle.title_chain.specs.{SheetParts.{all_rows}, KeptRows.{rows_in, sheet_in}};
 
 use crate::ask::{Entry, Step};
 use crate::record::Record;
@@ -29,8 +28,7 @@ pub struct Part {
 }
 
 impl Model for Part {
-    ghost use Rattle.std.specs.Arc.{arc_value};
-    ghost use Rattle.std.specs.Prelude.{List};
+    ghost use Rattle.std.specs.{Arc.{arc_value}, Prelude.{List}};
     ghost use Rattle.title_store.specs.declared.sheet_row.SheetRow.{SheetRow};
     ghost use Rattle.title_chain.specs.KeptRows.{rows_in};
 
@@ -72,8 +70,7 @@ pub struct SheetRows {
 }
 
 impl Model for SheetRows {
-    ghost use Rattle.std.specs.Arc.{arc_value};
-    ghost use Rattle.std.specs.Prelude.{List};
+    ghost use Rattle.std.specs.{Arc.{arc_value}, Prelude.{List}};
     ghost use Rattle.title_store.specs.declared.sheet_row.SheetRow.{SheetRow};
     ghost use Rattle.title_chain.specs.KeptRows.{sheet_in};
 
@@ -314,8 +311,7 @@ pub struct Entries {
 }
 
 impl Model for Entries {
-    ghost use Rattle.std.specs.Arc.{arc_slice_items};
-    ghost use Rattle.std.specs.Prelude.{List};
+    ghost use Rattle.std.specs.{Arc.{arc_slice_items}, Prelude.{List}};
     ghost use Rattle.title_chain.specs.declared.ask.Entry.{Entry};
 
     ghost Value = { List Entry };

@@ -1,13 +1,9 @@
 //! The sheet after a list of records, made from the posted instruments alone.
 
 ghost use Rattle.std.specs.Prelude.{◌≡◌, IfOk, OnOk, [], true, reverse};
-ghost use Rattle.title_land.specs.Depth.{depth};
-ghost use Rattle.title_land.specs.Lands.{is_in_plant};
-ghost use Rattle.title_store.specs.Plants.{SameContent, IsEachOnce};
-ghost use Rattle.title_store.specs.Sheets.{sheet_of};
-ghost use Rattle.title_chain.specs.Asks.{effect};
-ghost use Rattle.title_chain.specs.Alone.{opening_plant, after_steps, plant_after, IsSerial};
-ghost use Rattle.title_chain.specs.Replays.{CanReplay, Replays};
+ghost use Rattle.title_land.specs.{Depth.{depth}, Lands.{is_in_plant}};
+ghost use Rattle.title_store.specs.{Plants.{SameContent, IsEachOnce}, Sheets.{sheet_of}};
+ghost use Rattle.title_chain.specs.{Asks.{effect}, Alone.{opening_plant, after_steps, plant_after, IsSerial}, Replays.{CanReplay, Replays}};
 
 use crate::ask::{Answer, Ask, Step};
 use crate::lists::{Records, SheetRows};

@@ -1,8 +1,7 @@
 //! Whether two values of the crates below are one.
 
 ghost use Rattle.std.specs.Prelude.{◌≡◌, ◌↔◌, true, MatchOption};
-ghost use Rattle.title_land.specs.Depth.{depth};
-ghost use Rattle.title_land.specs.Lands.{IsLand};
+ghost use Rattle.title_land.specs.{Depth.{depth}, Lands.{IsLand}};
 ghost use Rattle.title_chain.specs.SoleNodes.{HasNoSoleNode, HasSoleNode};
 
 use title_instrument::{Estate, Rule};

@@ -1,8 +1,7 @@
 //! Whether two sheets are one.
 
 ghost use Rattle.std.specs.Prelude.{◌≡◌, ◌↔◌, true, length, slice_get};
-ghost use Rattle.title_chain.specs.SheetParts.{all_rows};
-ghost use Rattle.title_chain.specs.KeptRows.{rows_in, sheet_in};
+ghost use Rattle.title_chain.specs.{SheetParts.{all_rows}, KeptRows.{rows_in, sheet_in}};
 
 use crate::lists::{Lines, Part, Sheet, SheetRows};
 use crate::same_parts::{same_estate, same_row, same_rows};

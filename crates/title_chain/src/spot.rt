@@ -1,10 +1,7 @@
 //! Spots of steps in a list of records.
 
-ghost use Rattle.std.specs.Prelude.{◌≡◌};
-ghost use Rattle.std.specs.Prelude.{true};
-ghost use Rattle.std.specs.declared.cmp.Ordering.TheVariants.{Less};
-ghost use Rattle.title_chain.specs.PostSpots.{same_spot};
-ghost use Rattle.title_chain.specs.SpotMaps.{spot_cmp};
+ghost use Rattle.std.specs.{Prelude.{◌≡◌, true}, declared.cmp.Ordering.TheVariants.{Less}};
+ghost use Rattle.title_chain.specs.{PostSpots.{same_spot}, SpotMaps.{spot_cmp}};
 
 /// Where a step stands: the index of its record, and its own among the record's steps, each from 0.
 #[derive(Clone, Copy, Debug, PartialEq, Eq, PartialOrd, Ord, Drop)]

@@ -1,35 +1,18 @@
 -- What a parse of the program's command without a fault has, and which fault stands for an error.
 use Rattle.std.proofs.Common.{◌≡◌, ◌∙◌, inl, inr, ℕ, Bool, true, false, true≢false, List, [], ◌∷◌, Option, Some, None, refl, sym, ap, ap₂}
-use Rattle.std.proofs.Common.{◌<◌, ◌≤◌, ◌^◌, arith, subst, le_refl, option_map, is_some, codes}
-use Rattle.std.specs.Prelude.{Box, Result, if◌then◌else◌, find, unwrap_or}
-use Rattle.std.specs.Box.{box_value}
-use Rattle.std.specs.Option.{option_map_or}
-use Rattle.std.specs.List.{slice_index_or}
-use Rattle.std.specs.Str.{bytes_eq}
-use Rattle.std.specs.Str.Parse.{ExplainsUnsignedError, HasUnsignedDigitsIfOk, ParsesUnsigned}
-use Rattle.std.specs.declared.num.ParseIntError.{ParseIntError}
+use Rattle.std.{proofs.Common.{◌<◌, ◌≤◌, ◌^◌, arith, subst, le_refl, option_map, is_some, codes}, specs.{Box.{box_value}, Str.{bytes_eq}}}
+use Rattle.std.specs.{Prelude.{Box, Result, if◌then◌else◌, find, unwrap_or}, Option.{option_map_or}, List.{slice_index_or}}
+use Rattle.std.specs.{Str.Parse.{ExplainsUnsignedError, HasUnsignedDigitsIfOk, ParsesUnsigned}, declared.num.ParseIntError.{ParseIntError}}
 use Rattle.std.proofs.lemmas.Slice.Eq.{bytes_eq-Decides}
 use Rattle.clap.specs.Walk.{Row, Text, answers_to, first_of, has_row, nothing_held, rows_after, rows_of, stop_after, walk_from}
 use Rattle.clap.specs.Simple.{Shape, argument_words, built, entered, label_of, names_of, rows_at, subcommand_of, subcommand_rows}
-use Rattle.clap.specs.Simple.{subcommand_rows_of}
-use Rattle.clap.specs.Kinds.{HasKind, IsAmong, value_kinds}
-use Rattle.clap.specs.Takes.{is_given}
-use Rattle.clap.specs.Faults.{check_fault, entered_fault, fault_of, level_fault, walk_fault}
-use Rattle.clap.specs.Values.{IsUnsignedIn, bool_text, kind_of, refused_kind}
-use Rattle.clap.specs.ValueTests.{accepts}
-use Rattle.clap.proofs.WalkLemmas.{one_text-rows}
-use Rattle.clap.proofs.ValueTestLemmas.{accepts-Accepts}
-use Rattle.clap.specs.declared.builder.value_parser.ValueParser.TheVariants.{Unsigned}
-use Rattle.clap.specs.Matches.{ReadsOne, one_text, subcommand_name_of}
-use Rattle.clap.specs.declared.error.Error.{Error}
-use Rattle.clap.specs.declared.error.kind.ErrorKind.{ErrorKind}
-use Rattle.clap.specs.declared.error.kind.ErrorKind.TheVariants.{OutOfMemory}
-use Rattle.clap.specs.declared.parser.matches.Found.{Found}
-use Rattle.clap.specs.declared.parser.matches.ArgMatches.{ArgMatches}
-use Rattle.clap.specs.declared.parser.matches.SubCommand.{SubCommand}
-use Rattle.clap.specs.declared.parser.matches.ArgMatches.TheViews.{out-ArgMatches, out-SubCommand}
-use Rattle.title_command.specs.declared.choice.LineFault.{LineFault}
-use Rattle.title_command.specs.declared.choice.LineFault.TheVariants.{Help, Bad, Memory}
+use Rattle.clap.specs.{Simple.{subcommand_rows_of}, Kinds.{HasKind, IsAmong, value_kinds}, Takes.{is_given}, ValueTests.{accepts}}
+use Rattle.clap.{specs.Faults.{check_fault, entered_fault, fault_of, level_fault, walk_fault}, proofs.WalkLemmas.{one_text-rows}}
+use Rattle.clap.{specs.Values.{IsUnsignedIn, bool_text, kind_of, refused_kind}, proofs.ValueTestLemmas.{accepts-Accepts}}
+use Rattle.clap.specs.{declared.builder.value_parser.ValueParser.TheVariants.{Unsigned}, Matches.{ReadsOne, one_text, subcommand_name_of}}
+use Rattle.clap.specs.declared.{error.{Error.{Error}, kind.ErrorKind.{ErrorKind, TheVariants.{OutOfMemory}}}, parser.matches.Found.{Found}}
+use Rattle.clap.specs.declared.parser.matches.{ArgMatches.{ArgMatches, TheViews.{out-ArgMatches, out-SubCommand}}, SubCommand.{SubCommand}}
+use Rattle.title_command.specs.declared.choice.LineFault.{LineFault, TheVariants.{Help, Bad, Memory}}
 use Rattle.title_command.specs.CommandLine.{Explains, HasFlag, HasNumber, IsAfter, IsFaultFor, IsNumberOf, IsReadable, MayHavePlace}
 use Rattle.title_command.specs.CommandLine.{command, default_examiners, default_tries, most_examiners, most_place, most_tries, tract}
 use Rattle.title_command.proofs.ReadRows.{first_read, level_gives, maybe_read}

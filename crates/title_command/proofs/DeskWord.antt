@@ -1,14 +1,11 @@
 -- What the word `desk` says.
 use Rattle.std.proofs.Common.{◌≡◌, ◌∙◌, ◌∷◌, List, [], Some, None, refl, sym, codes}
-use Rattle.clap.proofs.OnLiterals.{clap_on_literals}
-use Rattle.clap.specs.Walk.{Row, Text, first_of, rows_after}
-use Rattle.title_command.specs.declared.choice.Line.{Line}
-use Rattle.title_command.specs.declared.choice.Line.TheVariants.{Run, Alone, Office, Desk, Tract, Kept, KeptDesk, KeptOffice}
-use Rattle.title_command.specs.declared.choice.Line.TheVariants.{Look, LookDesk, Check}
-use Rattle.title_command.specs.declared.choice.Work.TheVariants as work
+use Rattle.clap.{proofs.OnLiterals.{clap_on_literals}, specs.Walk.{Row, Text, first_of, rows_after}}
+use Rattle.title_command.specs.declared.choice.Line.{Line, TheVariants.{Run, Alone, Office, Desk, Tract, Kept, KeptDesk, KeptOffice}}
+use Rattle.title_command.{specs.declared.choice.Line.TheVariants.{Look, LookDesk, Check}, proofs.CommandLemmas.{at, differ}}
 use Rattle.title_command.specs.CommandLine.{DeskByWord, DeskOnPlant, DeskWithMore, IsDeskOn, IsLine, IsUnlooked}
-use Rattle.title_command.proofs.CommandLemmas.{at, differ}
 use Rattle.title_command.proofs.KeptWords.{named_is, not_both}
+use Rattle.title_command.specs.declared.choice.Work.TheVariants as work
 
 -- the line of the word is a desk, where no plant is named
 is_desk : (rows : List Row) → first_of (codes "plant") rows ≡ None → (line : Line) → IsLine (codes "desk") rows line → line ≡ Desk

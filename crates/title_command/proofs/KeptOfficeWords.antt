@@ -1,15 +1,10 @@
 -- What some words say of an office on a plant's file.
 use Rattle.std.proofs.Common.{◌≡◌, ◌∙◌, List, [], ◌∷◌, Some, None, refl, sym, codes}
-use Rattle.clap.proofs.OnLiterals.{clap_on_literals}
-use Rattle.clap.specs.Walk.{Row, Text, first_of, rows_after}
-use Rattle.title_command.specs.declared.choice.Line.{Line}
-use Rattle.title_command.specs.declared.choice.Line.TheVariants.{Run, Alone, Office, Desk, Tract, Kept, KeptDesk, KeptOffice}
-use Rattle.title_command.specs.declared.choice.Line.TheVariants.{Look, LookDesk, Check}
+use Rattle.clap.{proofs.OnLiterals.{clap_on_literals}, specs.Walk.{Row, Text, first_of, rows_after}}
+use Rattle.title_command.specs.declared.choice.Line.{Line, TheVariants.{Run, Alone, Office, Desk, Tract, Kept, KeptDesk, KeptOffice}}
+use Rattle.title_command.specs.{declared.choice.Line.TheVariants.{Look, LookDesk, Check}, CommandLine.{IsLine, IsOfficeOn, OfficeOnPlant}}
+use Rattle.title_command.proofs.{CommandLemmas.{at, differ}, KeptWords.{named_is, unsaid}, OfficeWords.{number, number_is}}
 use Rattle.title_command.specs.declared.choice.Work.TheVariants as work
-use Rattle.title_command.specs.CommandLine.{IsLine, IsOfficeOn, OfficeOnPlant}
-use Rattle.title_command.proofs.CommandLemmas.{at, differ}
-use Rattle.title_command.proofs.KeptWords.{named_is, unsaid}
-use Rattle.title_command.proofs.OfficeWords.{number, number_is}
 
 -- a line of `office` with a plant keeps its script there
 office_keeps : (rows : List Row) (plant examiners tries : Text) → first_of (codes "plant") rows ≡ Some plant

@@ -1,15 +1,11 @@
 -- What some words say of a plant's file.
-use Rattle.std.proofs.Common.{◌≡◌, ◌∙◌, List, [], ◌∷◌, Option, Some, None, ℕ, refl, sym, ap, codes, inl}
-use Rattle.std.specs.Prelude.{unwrap_or}
-use Rattle.clap.proofs.OnLiterals.{clap_on_literals}
-use Rattle.clap.specs.Walk.{Row, Text, first_of, rows_after}
-use Rattle.title_command.specs.declared.choice.Line.{Line}
-use Rattle.title_command.specs.declared.choice.Line.TheVariants.{Run, Alone, Office, Desk, Tract, Kept, KeptDesk, KeptOffice}
-use Rattle.title_command.specs.declared.choice.Line.TheVariants.{Look, LookDesk, Check}
-use Rattle.title_command.specs.declared.choice.Work.TheVariants as work
+use Rattle.std.{proofs.Common.{◌≡◌, ◌∙◌, List, [], ◌∷◌, Option, Some, None, ℕ, refl, sym, ap, codes, inl}, specs.Prelude.{unwrap_or}}
+use Rattle.clap.{proofs.OnLiterals.{clap_on_literals}, specs.Walk.{Row, Text, first_of, rows_after}}
+use Rattle.title_command.specs.declared.choice.Line.{Line, TheVariants.{Run, Alone, Office, Desk, Tract, Kept, KeptDesk, KeptOffice}}
+use Rattle.title_command.{specs.declared.choice.Line.TheVariants.{Look, LookDesk, Check}, proofs.CommandLemmas.{at, differ}}
 use Rattle.title_command.specs.CommandLine.{IsAfter, IsKept, IsLine, IsLooked, IsUnlooked, KeptByWords, PlaceAlone, SaysKept, most_place}
-use Rattle.title_command.proofs.CommandLemmas.{at, differ}
 use Rattle.title_command.proofs.OfficeWords.{number, number_is}
+use Rattle.title_command.specs.declared.choice.Work.TheVariants as work
 
 -- the name of a file is that of the option
 pub named_is : (rows : List Row) (text name : Text) → first_of (codes "plant") rows ≡ Some text → first_of (codes "plant") rows ≡ Some name

@@ -1,14 +1,11 @@
 -- What some words say that look at a plant's file.
 use Rattle.std.proofs.Common.{◌≡◌, List, [], ◌∷◌, Some, None, refl, codes, inr}
-use Rattle.clap.proofs.OnLiterals.{clap_on_literals}
-use Rattle.clap.specs.Walk.{Row, Text, first_of, rows_after}
-use Rattle.title_command.specs.declared.choice.Line.{Line}
-use Rattle.title_command.specs.declared.choice.Line.TheVariants.{Run, Alone, Office, Desk, Tract, Kept, KeptDesk, KeptOffice}
-use Rattle.title_command.specs.declared.choice.Line.TheVariants.{Look, LookDesk, Check}
-use Rattle.title_command.specs.declared.choice.Work.TheVariants as work
+use Rattle.clap.{proofs.OnLiterals.{clap_on_literals}, specs.Walk.{Row, Text, first_of, rows_after}}
+use Rattle.title_command.specs.declared.choice.Line.{Line, TheVariants.{Run, Alone, Office, Desk, Tract, Kept, KeptDesk, KeptOffice}}
+use Rattle.title_command.{specs.declared.choice.Line.TheVariants.{Look, LookDesk, Check}, proofs.CommandLemmas.{at, differ}}
 use Rattle.title_command.specs.CommandLine.{IsDeskLookAt, IsLine, IsLookAt, IsLooked, LookAlone, LookByWords, LookOfRun}
-use Rattle.title_command.proofs.CommandLemmas.{at, differ}
 use Rattle.title_command.proofs.KeptWords.{named_is, not_both, unsaid}
+use Rattle.title_command.specs.declared.choice.Work.TheVariants as work
 
 -- a line of `alone` with a plant and the flag looks at it
 alone_looks : (rows : List Row) (plant : Text) → first_of (codes "plant") rows ≡ Some plant → first_of (codes "after") rows ≡ None

@@ -1,14 +1,10 @@
 -- The rows at the end of a level of clap's parse: an argument with a default has one, and a getter reads a value of it that fits.
 use Rattle.std.proofs.Common.{◌≡◌, ◌<◌, ◌||◌, subst, true, false, true≢false, refl, sym, ap, arith, List, [], ◌∷◌, ◌++◌, Bool, length}
-use Rattle.std.proofs.Common.{◌⊎◌, inl, inr, Option, Some, None}
+use Rattle.std.{proofs.{Common.{◌⊎◌, inl, inr, Option, Some, None}, lemmas.Slice.Eq.{bytes_eq-Decides}}, specs.Str.{bytes_eq}}
 use Rattle.std.specs.Prelude.{if◌then◌else◌, find, fold, option_and_then, option_map, slice_get}
-use Rattle.std.specs.Str.{bytes_eq}
-use Rattle.std.proofs.lemmas.Slice.Eq.{bytes_eq-Decides}
-use Rattle.clap.specs.Walk.{Row, Rule, Text, default_rows, first_of, one_of, reading_by, row_text, has_row, more_values}
+use Rattle.clap.specs.{Walk.{Row, Rule, Text, default_rows, first_of, one_of, reading_by, row_text, has_row, more_values}, Values.{read_as}}
 use Rattle.clap.specs.Walk.{nothing_held, rows_after, settled, walk, with_default, with_values}
-use Rattle.clap.specs.declared.builder.value_parser.Reading.{Reading}
-use Rattle.clap.specs.Values.{read_as}
-use Rattle.clap.specs.declared.parser.matches.ValueSource.{ValueSource}
+use Rattle.clap.specs.declared.{builder.value_parser.Reading.{Reading}, parser.matches.ValueSource.{ValueSource}}
 use Rattle.clap.specs.declared.parser.matches.ValueSource.TheVariants.{DefaultValue}
 use Rattle.title_command.proofs.ValueRows.{Each, Fit, HasValues}
 

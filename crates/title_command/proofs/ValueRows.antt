@@ -1,14 +1,9 @@
 -- The rows of a level of clap's parse without a fault: each has a value that fits its argument, so a getter reads one.
-use Rattle.std.proofs.Common.{◌==◌, ◌≡◌, ◌<◌, ◌≤◌, ◌&&◌, ◌⊎◌, inl, inr, is_some, subst, ℕ, true}
-use Rattle.std.proofs.Common.{false, zero, suc, refl, sym, arith, List, []}
-use Rattle.std.proofs.Common.{◌∷◌, ◌++◌, Bool, length, drop, Option, Some, None, length-append}
-use Rattle.std.specs.Prelude.{if◌then◌else◌, nat_lt, find, fold, slice_get, encode_utf8}
-use Rattle.std.specs.Option.{option_map_or}
-use Rattle.std.specs.Str.{bytes_eq, chars}
-use Rattle.std.proofs.lemmas.Bool.{eqb-true, ltb-false}
-use Rattle.std.proofs.lemmas.Slice.Eq.{bytes_eq-Decides}
-use Rattle.clap.specs.Lexer.{long_of, short_of}
-use Rattle.clap.specs.Facts.{parser_of_value, unwrap_or_range}
+use Rattle.std.{proofs.Common.{◌==◌, ◌≡◌, ◌<◌, ◌≤◌, ◌&&◌, ◌⊎◌, inl, inr, is_some, subst, ℕ, true}, specs.Option.{option_map_or}}
+use Rattle.std.{proofs.Common.{false, zero, suc, refl, sym, arith, List, []}, specs.Str.{bytes_eq, chars}}
+use Rattle.std.proofs.{Common.{◌∷◌, ◌++◌, Bool, length, drop, Option, Some, None, length-append}, lemmas.Bool.{eqb-true, ltb-false}}
+use Rattle.std.{specs.Prelude.{if◌then◌else◌, nat_lt, find, fold, slice_get, encode_utf8}, proofs.lemmas.Slice.Eq.{bytes_eq-Decides}}
+use Rattle.clap.specs.{Lexer.{long_of, short_of}, Facts.{parser_of_value, unwrap_or_range}, Walk.{word_met}, Simple.{Shape}}
 use Rattle.clap.specs.Walk.{done, waits, plain, refused, idle, option, positional, next, trailing, subcommand, value, Held, Names}
 use Rattle.clap.specs.Walk.{Outcome, Row, Rule, Step, Text, Waiting, Walk, action_of, after_flag, after_step, arg_by_id, arg_by_index}
 use Rattle.clap.specs.Walk.{arg_by_long, arg_by_short, at_row, attached_value, bundle, bundle_met, bundle_step, default_rows, flag_met}
@@ -16,18 +11,13 @@ use Rattle.clap.specs.Walk.{reading_by, has_row, is_pending, long_met, long_or_o
 use Rattle.clap.specs.Walk.{option_word, plain_word, positional_held, reacted, rows_after, settled, settled_rows, short_met}
 use Rattle.clap.specs.Walk.{short_or_plain, subcommand_met, subcommand_or_other, takes_several, takes_values, to_positional, used}
 use Rattle.clap.specs.Walk.{used_as, values_or_missing, walk, walk_from, walked, walked_from, with_default, with_values, without}
-use Rattle.clap.specs.Walk.{word_met}
-use Rattle.clap.specs.Kinds.{Kinds, or_else, range_kinds, value_kinds, values_kinds}
+use Rattle.clap.specs.{Kinds.{Kinds, or_else, range_kinds, value_kinds, values_kinds}, declared.builder.action.ArgAction.{ArgAction}}
 use Rattle.clap.specs.Faults.{action_fault, bundle_fault, bundle_step_fault, check_fault, defaults_fault, flag_word_fault, flags_fault}
 use Rattle.clap.specs.Faults.{level_fault, long_fault, option_fault, other_fault, positional_fault, react_fault, repeat_fault, set_fault}
 use Rattle.clap.specs.Faults.{settle_fault, short_fault, step_fault, stray_fault, turn_fault, use_fault, walk_fault, word_fault}
-use Rattle.clap.specs.Simple.{Shape}
-use Rattle.clap.specs.declared.builder.action.ArgAction.{ArgAction}
-use Rattle.clap.specs.declared.builder.action.ArgAction.TheVariants.{Set, SetTrue, Help}
+use Rattle.clap.specs.declared.builder.{action.ArgAction.TheVariants.{Set, SetTrue, Help}, value_parser.Reading.{Reading}}
 use Rattle.clap.specs.declared.error.kind.ErrorKind.TheVariants.{TooManyValues, WrongNumberOfValues}
-use Rattle.clap.specs.declared.builder.value_parser.Reading.{Reading}
-use Rattle.clap.specs.declared.builder.value_parser.Reading.TheVariants.{AsWritten}
-use Rattle.clap.specs.declared.parser.matches.ValueSource.{ValueSource}
+use Rattle.clap.specs.declared.{builder.value_parser.Reading.TheVariants.{AsWritten}, parser.matches.ValueSource.{ValueSource}}
 use Rattle.clap.specs.declared.parser.matches.ValueSource.TheVariants.{CommandLine, DefaultValue}
 
 -- a fact of each element

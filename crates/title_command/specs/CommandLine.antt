@@ -1,23 +1,14 @@
 -- The program's command line, as clap sees it, what its matches mean, and why words are refused.
 use Rattle.std.specs.Prelude.{◌≡◌, ◌≢◌, ◌⊎◌, ◌∷◌, ◌≤◌, ℕ, List, [], Bool, Option, Some, None, ⊤, codes, is_some, true, false}
 use Rattle.std.specs.Str.Parse.{IsNumeral, digits_value, without_leading_plus}
-use Rattle.clap.specs.Kinds.{IsAmong, Kinds}
-use Rattle.clap.specs.Faults.{fault_of}
-use Rattle.clap.specs.Simple.{App, Shape, new_rule, new_shape, subcommand_of}
-use Rattle.clap.specs.Takes.{takes}
-use Rattle.clap.specs.Values.{IsUnsignedIn, bool_text}
-use Rattle.clap.specs.Walk.{Row, Rule, Text, first_of, one_of}
-use Rattle.clap.specs.declared.builder.action.ArgAction.TheVariants.{Set, SetTrue}
-use Rattle.clap.specs.declared.builder.value_parser.ValueParser.TheVariants.{Unsigned}
-use Rattle.clap.specs.declared.error.kind.ErrorKind.{ErrorKind}
-use Rattle.clap.specs.declared.error.kind.ErrorKind.TheVariants.{DisplayHelp, OutOfMemory, UnknownArgument}
-use Rattle.title_command.specs.declared.choice.Line.{Line}
-use Rattle.title_command.specs.declared.choice.Line.TheVariants.{Run, Alone, Office, Desk, Tract, Kept, KeptDesk, KeptOffice}
-use Rattle.title_command.specs.declared.choice.Line.TheVariants.{Look, LookDesk, Check}
-use Rattle.title_command.specs.declared.choice.Work.{Work}
-use Rattle.title_command.specs.declared.choice.Work.TheVariants as work
-use Rattle.title_command.specs.declared.choice.LineFault.{LineFault}
+use Rattle.clap.specs.{Kinds.{IsAmong, Kinds}, Faults.{fault_of}, Simple.{App, Shape, new_rule, new_shape, subcommand_of}, Takes.{takes}}
+use Rattle.clap.specs.{Values.{IsUnsignedIn, bool_text}, Walk.{Row, Rule, Text, first_of, one_of}}
+use Rattle.clap.specs.declared.builder.{action.ArgAction.TheVariants.{Set, SetTrue}, value_parser.ValueParser.TheVariants.{Unsigned}}
+use Rattle.clap.specs.declared.error.kind.ErrorKind.{ErrorKind, TheVariants.{DisplayHelp, OutOfMemory, UnknownArgument}}
+use Rattle.title_command.specs.declared.choice.Line.{Line, TheVariants.{Run, Alone, Office, Desk, Tract, Kept, KeptDesk, KeptOffice}}
+use Rattle.title_command.specs.declared.choice.{Line.TheVariants.{Look, LookDesk, Check}, Work.{Work}, LineFault.{LineFault}}
 use Rattle.title_command.specs.declared.choice.LineFault.TheVariants.{Help, Bad, Memory}
+use Rattle.title_command.specs.declared.choice.Work.TheVariants as work
 
 -- ---- the command
 

@@ -1,9 +1,7 @@
 //! The words of a command line, read by `clap`.
 
 ghost use Rattle.std.specs.Prelude.{◌≡◌, IfErr, IfOk, IfSome, List, None, OnOk, Some, codes, map, true, []};
-ghost use Rattle.clap.specs.Faults.{fault_of};
-ghost use Rattle.clap.specs.Walk.{Row, Text};
-ghost use Rattle.clap.specs.Words.{found_of, is_simple_and_free, kind_of, rows_of, subcommand_of};
+ghost use Rattle.clap.specs.{Faults.{fault_of}, Walk.{Row, Text}, Words.{found_of, is_simple_and_free, kind_of, rows_of, subcommand_of}};
 ghost use Rattle.title_command.specs.CommandLine.{Explains, HasFlag, HasNumber, IsFaultFor, IsInRange, IsKeeping, IsLine, IsLineOf};
 ghost use Rattle.title_command.specs.CommandLine.{IsLooked, IsPlantless, IsReadable, IsTaken, LacksPlant, MayHavePlace, command};
 ghost use Rattle.title_command.specs.CommandLine.{most_examiners, most_tries, name_of};

@@ -1,8 +1,7 @@
 //! The program's command, as `clap` is told it, with its help.
 
 ghost use Rattle.std.specs.Prelude.{◌≡◌, ◌∷◌, IfOk, false, true, []};
-ghost use Rattle.clap.specs.Words.{app_of, new_app, rule_of};
-ghost use Rattle.clap.specs.declared.builder.command.Command.TheViews.{out-Command};
+ghost use Rattle.clap.specs.{Words.{app_of, new_app, rule_of}, declared.builder.command.Command.TheViews.{out-Command}};
 ghost use Rattle.title_command.specs.CommandLine.{after_rule, alone, check, command, desk, file_rule, look_rule, number_rule, office};
 ghost use Rattle.title_command.specs.CommandLine.{plant_rule, run, script_rule, serving, text_rule, titleplant, tract};
 

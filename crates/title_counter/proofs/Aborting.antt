@@ -1,18 +1,12 @@
 -- Open transactions are aborted until none is open.
-use Rattle.std.proofs.Common.{◌≡◌, ◌≤◌, ◌<◌, ◌+◌, ◌++◌, ◌∷◌, ◌∙◌, [], refl, subst}
+use Rattle.std.proofs.{Common.{◌≡◌, ◌≤◌, ◌<◌, ◌+◌, ◌++◌, ◌∷◌, ◌∙◌, [], refl, subst}, lemmas.Bool.{cases_Bool, Decides.{nat_tests}}}
 use Rattle.std.proofs.Common.{sym, inl, inr, ℕ, List, Bool, true, false, cond, arith, eqb}
-use Rattle.std.proofs.lemmas.Bool.{cases_Bool}
-use Rattle.std.proofs.lemmas.Bool.Decides.{nat_tests}
-use Rattle.title_trace.specs.declared.call.Call.{Call}
+use Rattle.title_trace.specs.{declared.call.{Call.{Call}, Reply.{Reply}}, Due.{Setting}, Trace.{examiner_of, is_open, open_by}}
 use Rattle.title_trace.specs.declared.call.Request.TheVariants as request
-use Rattle.title_trace.specs.declared.call.Reply.{Reply}
 use Rattle.title_trace.specs.declared.call.Reply.TheVariants as reply
-use Rattle.title_trace.specs.Due.{Setting}
-use Rattle.title_trace.specs.Trace.{examiner_of, is_open, open_by}
 use Rattle.title_desk.specs.Told.{Books, Told}
 use Rattle.title_script.specs.Served.{after_call}
-use Rattle.title_counter.specs.Closings.{with_aborts}
-use Rattle.title_counter.proofs.AskedOnce.{asked}
+use Rattle.title_counter.{specs.Closings.{with_aborts}, proofs.AskedOnce.{asked}}
 
 -- one more transaction is aborted
 pub one_more : (setting : Setting) (trace : List Call) (e : ℕ) (es : List ℕ)

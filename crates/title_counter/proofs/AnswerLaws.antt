@@ -1,13 +1,8 @@
 -- Answers to lines one after another, through a page.
 use Rattle.std.proofs.Common.{◌≡◌, ◌<◌, ◌+◌, ◌∙◌, ◌++◌, ◌∷◌, [], refl, ap, sym, subst, ℕ, List, Option, append_assoc}
-use Rattle.std.proofs.Common.{drop, get_or, length, take}
-use Rattle.std.proofs.lemmas.List.{append-nil, take-append-drop, take_more}
-use Rattle.title_page.specs.Pages.{Stopped, Written}
-use Rattle.title_page.specs.Rows.{rows_text}
-use Rattle.title_page.specs.Laws.InTurn.{stopped_then, written_none, written_then}
-use Rattle.title_counter.specs.Counters.{Answered, Counter}
-use Rattle.title_counter.specs.Lines.{lines_from}
-use Rattle.title_counter.specs.Sessions.{Answers, GotAnswers, LostAnswers, MayAnswer}
+use Rattle.std.proofs.{Common.{drop, get_or, length, take}, lemmas.List.{append-nil, take-append-drop, take_more}}
+use Rattle.title_page.specs.{Pages.{Stopped, Written}, Rows.{rows_text}, Laws.InTurn.{stopped_then, written_none, written_then}}
+use Rattle.title_counter.specs.{Counters.{Answered, Counter}, Lines.{lines_from}, Sessions.{Answers, GotAnswers, LostAnswers, MayAnswer}}
 use Rattle.title_counter.proofs.LineLaws.{rest_more, whole_more}
 
 -- answers to lines, and to those that follow

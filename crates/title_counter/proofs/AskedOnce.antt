@@ -1,10 +1,8 @@
 -- What the desk's reply to a request is.
 use Rattle.std.proofs.Common.{◌≡◌, ◌∙◌, ◌∷◌, refl, ap}
 use Rattle.title_land.specs.Depth.{depth}
-use Rattle.title_trace.specs.declared.call.Request.{Request}
-use Rattle.title_trace.specs.declared.call.Reply.{Reply}
+use Rattle.title_trace.specs.{declared.call.{Request.{Request}, Reply.{Reply}}, Laws.OneReply.{one_due_reply}}
 use Rattle.title_trace.specs.declared.call.Reply.TheVariants as reply
-use Rattle.title_trace.specs.Laws.OneReply.{one_due_reply}
 use Rattle.title_desk.specs.Told.{Books, Added, Told}
 use Rattle.title_script.specs.Served.{after_call, reply_to}
 

@@ -1,9 +1,7 @@
 -- Answers that are passed on, and the end of a session.
-use Rattle.std.proofs.Common.{◌≡◌, ◌++◌, ◌∷◌, [], refl, sym, subst, inl, inr, ℕ, List, Option, take}
-use Rattle.std.specs.Io.KnownBytes.{Appends}
+use Rattle.std.{proofs.Common.{◌≡◌, ◌++◌, ◌∷◌, [], refl, sym, subst, inl, inr, ℕ, List, Option, take}, specs.Io.KnownBytes.{Appends}}
 use Rattle.std.proofs.lemmas.List.{append-nil}
-use Rattle.title_page.specs.Pages.{Stopped, Written}
-use Rattle.title_page.specs.Rows.{row, rows_text}
+use Rattle.title_page.specs.{Pages.{Stopped, Written}, Rows.{row, rows_text}}
 use Rattle.title_page.specs.Laws.InTurn.{all_given, part_given, stopped_as, stopped_then, written_as, written_then}
 use Rattle.title_report.specs.Replies.{end_row}
 use Rattle.title_counter.specs.Counters.{Counter}

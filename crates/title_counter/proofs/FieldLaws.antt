@@ -1,6 +1,5 @@
 -- Fields, one after another, and whether they go on over the end of their line.
-use Rattle.std.proofs.Common.{◌≡◌, ℕ, zero, suc, List, [], ◌∷◌, true, false, Option, refl, sym, ap, ◌∙◌, take}
-use Rattle.std.specs.List.{list_any}
+use Rattle.std.{proofs.Common.{◌≡◌, ℕ, zero, suc, List, [], ◌∷◌, true, false, Option, refl, sym, ap, ◌∙◌, take}, specs.List.{list_any}}
 use Rattle.std.proofs.lemmas.Bool.{or_parts, or_right}
 use Rattle.csv.specs.Records.{field_at}
 use Rattle.title_counter.specs.Founds.{has_line_feed, is_spoilt}

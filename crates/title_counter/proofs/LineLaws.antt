@@ -1,8 +1,6 @@
 -- Lines of bytes that come one after another.
-use Rattle.std.proofs.Common.{◌≡◌, ◌==◌, ◌++◌, ◌∷◌, [], refl, inl, inr, ap, ℕ, List, true, false}
-use Rattle.std.proofs.Common.{arith, length, nat_le}
-use Rattle.std.proofs.lemmas.Bool.{cases_Bool}
-use Rattle.std.proofs.lemmas.Bool.Decides.{nat_tests}
+use Rattle.std.proofs.Common.{◌≡◌, ◌==◌, ◌++◌, ◌∷◌, [], refl, inl, inr, ap, ℕ, List, true, false, arith, length, nat_le}
+use Rattle.std.proofs.lemmas.Bool.{cases_Bool, Decides.{nat_tests}}
 use Rattle.title_counter.specs.Lines.{Lines, and_lines, last_line, line_feed, lines_from, with_byte}
 
 -- lines, and those of bytes that come behind them

@@ -1,26 +1,16 @@
 -- Names and their bytes, rows that are text, and townships that are declared once.
 use Rattle.std.proofs.Common.{◌≡◌, ◌<◌, ◌≤◌, ◌∷◌, ◌++◌, ◌||◌, ◌∙◌, [], refl, sym, ℕ, List, Bool, true, false, map, arith}
-use Rattle.std.proofs.Common.{length, nat_le, inl, inr, Option, None}
-use Rattle.std.specs.List.{list_all, list_any}
-use Rattle.std.specs.Str.{bytes_eq, is_utf8}
-use Rattle.std.specs.String.{string_bytes, string_eq}
-use Rattle.std.specs.declared.string.String.{String}
-use Rattle.std.proofs.lemmas.List.{length-append, map-append}
-use Rattle.std.proofs.lemmas.List.Folds.{list_any-append}
-use Rattle.std.proofs.lemmas.Str.{IsUtf8-from_is_utf8, is_utf8-from_IsUtf8}
+use Rattle.std.{proofs.Common.{length, nat_le, inl, inr, Option, None}, specs.{List.{list_all, list_any}, Str.{bytes_eq, is_utf8}}}
+use Rattle.std.{specs.{String.{string_bytes, string_eq}, declared.string.String.{String}}, proofs.lemmas.List.{length-append, map-append}}
+use Rattle.std.proofs.lemmas.{List.Folds.{list_any-append}, Str.{IsUtf8-from_is_utf8, is_utf8-from_IsUtf8}, Bool.Decides.{nat_tests}}
 use Rattle.std.proofs.lemmas.Bool.{and_parts, cases_Bool, not-true, or_from, or_parts}
-use Rattle.std.proofs.lemmas.Bool.Decides.{nat_tests}
 use Rattle.csv.specs.Records.{AllText}
 use Rattle.indexmap.specs.IndexSet.{insert_key}
-use Rattle.title_land.specs.declared.survey.Township.{Township}
-use Rattle.title_land.specs.Survey.{same_township}
+use Rattle.title_land.specs.{declared.survey.Township.{Township}, Survey.{same_township}}
 use Rattle.title_store.specs.Plants.{IsEachOnce}
 use Rattle.title_chain.specs.Alone.{most_parties}
 use Rattle.title_trace.specs.Due.{most_townships}
-use Rattle.title_plan.specs.Plans.{understood}
-use Rattle.title_plan.specs.Rows.{row_in}
-use Rattle.title_plan.specs.Townships.{each_once}
-use Rattle.title_plan.specs.declared.row.Row.{Row}
+use Rattle.title_plan.specs.{Plans.{understood}, Rows.{row_in}, Townships.{each_once}, declared.row.Row.{Row}}
 
 -- a name among names, and among the texts that have them
 pub any_map : {X : Type 0} (f : X → List ℕ) (p : List ℕ → Bool) (xs : List X) → list_any p (map f xs) ≡ list_any (λ x. p (f x)) xs

@@ -1,20 +1,13 @@
 -- A record is read byte by byte, and the records of a text one after another.
 use Rattle.std.proofs.Common.{◌≡◌, ◌<◌, ◌≤◌, ◌+◌, ◌∷◌, ◌++◌, ◌∙◌, [], refl, sym, ap, subst, ℕ, zero, suc, List, Option, None, Some}
-use Rattle.std.proofs.Common.{true, false, Bool, add-one, cond, drop, get_or, length, nat_eq, take}
-use Rattle.std.specs.Prelude.{◌==◌, ◌&&◌, is_some, option_map}
-use Rattle.std.specs.Cmp.Lexicographic.{pointwise}
-use Rattle.std.proofs.lemmas.List.{drop_all, drop_more}
-use Rattle.std.specs.List.{list_any}
-use Rattle.csv.specs.Machine.{Read, next_record, step, is_end, fields_after, field_after, ends_at_end}
-use Rattle.csv.specs.Reading.{default_config, records, records_from, strip_bom}
-use Rattle.csv.specs.declared.parser.Action.{Action}
-use Rattle.csv.specs.declared.parser.State.{State}
+use Rattle.std.{proofs.Common.{true, false, Bool, add-one, cond, drop, get_or, length, nat_eq, take}, specs.Cmp.Lexicographic.{pointwise}}
+use Rattle.std.{specs.{Prelude.{◌==◌, ◌&&◌, is_some, option_map}, List.{list_any}}, proofs.lemmas.List.{drop_all, drop_more}}
+use Rattle.csv.specs.{Machine.{Read, next_record, step, is_end, fields_after, field_after, ends_at_end}, declared.parser.Action.{Action}}
+use Rattle.csv.specs.{Reading.{default_config, records, records_from, strip_bom}, declared.parser.State.{State}}
 use Rattle.csv.specs.declared.parser.State.TheVariants as st
 use Rattle.title_plan.specs.Plans.{rows_in}
-use Rattle.title_counter.specs.Founds.{found_among, has_line_feed}
-use Rattle.title_counter.specs.Positions.{read_in}
+use Rattle.title_counter.specs.{Founds.{found_among, has_line_feed}, Positions.{read_in}, declared.reading.Taken.{Taken}}
 use Rattle.title_counter.specs.declared.found.Found.TheVariants as found
-use Rattle.title_counter.specs.declared.reading.Taken.{Taken}
 
 -- ---- a byte order mark
 

@@ -1,35 +1,21 @@
 -- What a clerk's calls come to.
-use Rattle.std.proofs.Common.{◌≡◌, ◌+◌, ◌⊎◌, ◌++◌, ◌∷◌, ◌||◌, ◌∙◌, [], refl, ap, sym, subst, inl, inr, ℕ, List, true, false}
-use Rattle.std.proofs.Common.{arith, length}
-use Rattle.std.proofs.Common.{IfErr, IfOk, Result, Ok, Err, nat_le, not}
-use Rattle.std.specs.Prelude.{codes}
-use Rattle.std.specs.Fmt.{decimal}
-use Rattle.std.specs.List.{list_any}
+use Rattle.std.proofs.Common.{◌≡◌, ◌+◌, ◌⊎◌, ◌++◌, ◌∷◌, ◌||◌, ◌∙◌, [], refl, ap, sym, subst, inl, inr, ℕ, List, true, false, arith, length}
+use Rattle.std.{proofs.Common.{IfErr, IfOk, Result, Ok, Err, nat_le, not}, specs.{Prelude.{codes}, Fmt.{decimal}, List.{list_any}}}
 use Rattle.std.proofs.lemmas.Bool.{not-false, not-true}
-use Rattle.title_land.specs.declared.survey.Township.{Township}
-use Rattle.title_land.specs.Survey.{same_township}
+use Rattle.title_land.specs.{declared.survey.Township.{Township}, Survey.{same_township}}
 use Rattle.title_store.specs.Plants.{Plant}
 use Rattle.title_chain.specs.declared.record.Record.{Record}
-use Rattle.title_trace.specs.declared.call.Call.{Call}
-use Rattle.title_trace.specs.Due.{MayOpen, Setting, most_townships}
-use Rattle.title_desk.specs.Headline.{Headline}
-use Rattle.title_desk.specs.Singles.{IsIdle}
-use Rattle.title_plan.specs.Plans.{after_act, with_line, with_township}
-use Rattle.title_plan.specs.Townships.{each_once}
-use Rattle.title_plan.specs.declared.fault.ScriptFault.{ScriptFault}
+use Rattle.title_trace.specs.{declared.call.Call.{Call}, Due.{MayOpen, Setting, most_townships}}
+use Rattle.title_desk.specs.{Headline.{Headline}, Singles.{IsIdle}}
+use Rattle.title_plan.specs.{Plans.{after_act, with_line, with_township}, Townships.{each_once}, declared.fault.ScriptFault.{ScriptFault}}
+use Rattle.title_plan.specs.declared.{line.Line.{Line}, row.Act.{Act}}
 use Rattle.title_plan.specs.declared.fault.ScriptFault.TheVariants as fault
-use Rattle.title_plan.specs.declared.line.Line.{Line}
 use Rattle.title_plan.specs.declared.line.Line.TheVariants as line
 use Rattle.title_plan.specs.declared.line.Schedule.TheVariants as schedule
-use Rattle.title_plan.specs.declared.row.Act.{Act}
 use Rattle.title_plan.specs.declared.row.Row.TheVariants as row
 use Rattle.title_counter.specs.Counters.{Answered, Counter, aborted, asked_at, counted, due_answer, due_found, due_said, fault_number}
-use Rattle.title_counter.specs.Counters.{or_fault, passed_over, served, setting_at, township_answer}
-use Rattle.title_counter.specs.Founds.{found_in}
-use Rattle.title_counter.specs.Limits.{longest_line}
-use Rattle.title_counter.specs.Sessions.{Ends, MayAnswer}
-use Rattle.title_counter.specs.Views.{IsFault}
-use Rattle.title_counter.specs.declared.found.Found.{Found}
+use Rattle.title_counter.specs.{Counters.{or_fault, passed_over, served, setting_at, township_answer}, Founds.{found_in}, Views.{IsFault}}
+use Rattle.title_counter.specs.{Limits.{longest_line}, Sessions.{Ends, MayAnswer}, declared.found.Found.{Found}}
 use Rattle.title_counter.proofs.NamesText.{once_said, township_few, township_once}
 
 -- ---- results

@@ -1,19 +1,13 @@
 -- A session from pull to pull.
 use Rattle.std.proofs.Common.{◌≡◌, ◌<◌, ◌+◌, ◌++◌, ◌∙◌, [], refl, sym, ap, subst, inl, inr, ℕ, List, Option, Some, None}
-use Rattle.std.proofs.Common.{IfSome, append_assoc, arith, length, length-append, take, drop}
-use Rattle.std.specs.Io.KnownBytes.{Appends, Consumes, IsAtEnd, Keeps}
-use Rattle.std.proofs.lemmas.List.{append-nil, take-append-drop}
-use Rattle.std.proofs.Math.Seq.{take-append_seam}
+use Rattle.std.proofs.{Common.{IfSome, append_assoc, arith, length, length-append, take, drop}, lemmas.List.{append-nil, take-append-drop}}
+use Rattle.std.{specs.Io.KnownBytes.{Appends, Consumes, IsAtEnd, Keeps}, proofs.Math.Seq.{take-append_seam}}
 use Rattle.csv.proofs.WriteFacts.{appends-more, appends-none}
 use Rattle.title_page.specs.Rows.{row}
 use Rattle.title_report.specs.Replies.{end_row}
-use Rattle.title_counter.specs.Counters.{Counter, opening}
-use Rattle.title_counter.specs.Limits.{most_given}
-use Rattle.title_counter.specs.Lines.{all_lines, last_line, lines_from, lines_in}
+use Rattle.title_counter.specs.{Counters.{Counter, opening}, Limits.{most_given}, Lines.{all_lines, last_line, lines_from, lines_in}}
 use Rattle.title_counter.specs.Sessions.{Answers, AtOnce, BrokenOff, Ended, IsAnswered, IsBegun, IsBetween, IsSound, LostBatch}
-use Rattle.title_counter.specs.Sessions.{PassedBatch, Session}
-use Rattle.title_counter.proofs.AnswerLaws.{answers_then}
-use Rattle.title_counter.proofs.LineLaws.{rest_more, whole_more}
+use Rattle.title_counter.{specs.Sessions.{PassedBatch, Session}, proofs.{AnswerLaws.{answers_then}, LineLaws.{rest_more, whole_more}}}
 
 -- ---- bytes that are given
 

@@ -1,8 +1,7 @@
 -- How a desk's trace ends.
 use Rattle.std.specs.Prelude.{ℕ, List, [], ◌∷◌}
-use Rattle.title_trace.specs.declared.call.Call.{Call}
+use Rattle.title_trace.specs.{declared.call.Call.{Call}, Due.{Setting}}
 use Rattle.title_trace.specs.declared.call.Request.TheVariants as request
-use Rattle.title_trace.specs.Due.{Setting}
 use Rattle.title_script.specs.Served.{after_call}
 
 -- a trace after the transactions of these examiners are aborted, one after another

@@ -3,22 +3,14 @@ use Rattle.std.specs.Prelude.{ℕ, ◌+◌, Bool, true, false, cond, List, [], �
 use Rattle.std.specs.Fmt.{decimal}
 use Rattle.title_land.specs.declared.survey.Township.{Township}
 use Rattle.title_chain.specs.Alone.{most_parties}
-use Rattle.title_trace.specs.declared.call.Call.{Call}
-use Rattle.title_trace.specs.Due.{Setting}
-use Rattle.title_plan.specs.Asked.{Asked}
-use Rattle.title_plan.specs.Lands.{land_in}
-use Rattle.title_plan.specs.Plans.{after_step_row, after_township, understood, with_party}
-use Rattle.title_plan.specs.declared.fault.ScriptFault.{ScriptFault}
+use Rattle.title_trace.specs.{declared.call.Call.{Call}, Due.{Setting}}
+use Rattle.title_plan.specs.{Asked.{Asked}, Lands.{land_in}, Plans.{after_step_row, after_township, understood, with_party}}
+use Rattle.title_plan.specs.declared.{fault.ScriptFault.{ScriptFault}, line.Line.{Line}, row.Row.{Row}}
 use Rattle.title_plan.specs.declared.fault.ScriptFault.TheVariants as fault
-use Rattle.title_plan.specs.declared.line.Line.{Line}
 use Rattle.title_plan.specs.declared.line.Schedule.TheVariants as schedule
-use Rattle.title_plan.specs.declared.row.Row.{Row}
 use Rattle.title_plan.specs.declared.row.Row.TheVariants as row
 use Rattle.title_script.specs.Served.{after_line, line_rows}
-use Rattle.title_counter.specs.Closings.{with_aborts}
-use Rattle.title_counter.specs.Founds.{found_in}
-use Rattle.title_counter.specs.Limits.{longest_line}
-use Rattle.title_counter.specs.declared.found.Found.{Found}
+use Rattle.title_counter.specs.{Closings.{with_aborts}, Founds.{found_in}, Limits.{longest_line}, declared.found.Found.{Found}}
 use Rattle.title_counter.specs.declared.found.Found.TheVariants as found
 
 -- what rows have come to so far: the townships; the names of the parties, whose numbers are their indices from 0; how many rows there

@@ -1,11 +1,8 @@
 -- The row that a line is.
-use Rattle.std.specs.Prelude.{ℕ, ◌==◌, cond, Bool, false, List, [], ◌∷◌, ◌++◌, Option, Some, None}
-use Rattle.std.specs.List.{list_any}
-use Rattle.csv.specs.Records.{fields_of}
-use Rattle.csv.specs.declared.record.ByteRecord.{ByteRecord}
+use Rattle.std.specs.{Prelude.{ℕ, ◌==◌, cond, Bool, false, List, [], ◌∷◌, ◌++◌, Option, Some, None}, List.{list_any}}
+use Rattle.csv.specs.{Records.{fields_of}, declared.record.ByteRecord.{ByteRecord}}
 use Rattle.title_plan.specs.Plans.{rows_in}
-use Rattle.title_counter.specs.Lines.{line_feed}
-use Rattle.title_counter.specs.declared.found.Found.{Found}
+use Rattle.title_counter.specs.{Lines.{line_feed}, declared.found.Found.{Found}}
 use Rattle.title_counter.specs.declared.found.Found.TheVariants as found
 
 -- a field goes on over the end of its line: its quote isn't closed there

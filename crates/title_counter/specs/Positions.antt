@@ -1,16 +1,11 @@
 -- Where a reading of a line stands, as the machine of csv has it.
 use Rattle.std.specs.Prelude.{ℕ, List, drop}
-use Rattle.csv.specs.Machine.{Read}
-use Rattle.csv.specs.Records.{fields_of}
-use Rattle.csv.specs.declared.parser.State.{State}
+use Rattle.csv.specs.{Machine.{Read}, Records.{fields_of}, declared.parser.{State.{State}, Action.{Action}}}
 use Rattle.csv.specs.declared.parser.State.TheVariants as st
-use Rattle.csv.specs.declared.parser.Action.{Action}
 use Rattle.csv.specs.declared.parser.Action.TheVariants as action
-use Rattle.title_counter.specs.declared.reading.Position.{Position}
+use Rattle.title_counter.specs.declared.reading.{Position.{Position}, Act.{Act}, Taken.{Taken}}
 use Rattle.title_counter.specs.declared.reading.Position.TheVariants as position
-use Rattle.title_counter.specs.declared.reading.Act.{Act}
 use Rattle.title_counter.specs.declared.reading.Act.TheVariants as act
-use Rattle.title_counter.specs.declared.reading.Taken.{Taken}
 
 abbrev pub state_of : Position → State
 state_of position.RecordStart = st.StartRecord

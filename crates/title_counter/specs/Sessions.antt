@@ -3,20 +3,14 @@ use Rattle.std.specs.Prelude.{◌≡◌, ◌<◌, ◌⊎◌, ℕ, Bool, true, Li
 use Rattle.std.specs.Io.KnownBytes.{Appends, Consumes, IsAtEnd, Keeps}
 use Rattle.title_land.specs.Depth.{depth}
 use Rattle.title_store.specs.Plants.{Plant}
-use Rattle.title_chain.specs.declared.record.Record.{Record}
-use Rattle.title_chain.specs.Alone.{IsSerial}
-use Rattle.title_trace.specs.Trace.{committed}
-use Rattle.title_trace.specs.Due.{IsDue}
-use Rattle.title_desk.specs.Headline.{Headline}
-use Rattle.title_desk.specs.Singles.{IsIdle}
-use Rattle.title_page.specs.Pages.{Stopped, Written}
-use Rattle.title_page.specs.Rows.{row, rows_text}
+use Rattle.title_chain.specs.{declared.record.Record.{Record}, Alone.{IsSerial}}
+use Rattle.title_trace.specs.{Trace.{committed}, Due.{IsDue}}
+use Rattle.title_desk.specs.{Headline.{Headline}, Singles.{IsIdle}}
+use Rattle.title_page.specs.{Pages.{Stopped, Written}, Rows.{row, rows_text}}
 use Rattle.title_plan.specs.declared.fault.ScriptFault.TheVariants as script
 use Rattle.title_report.specs.Replies.{end_row}
 use Rattle.title_counter.specs.Counters.{Answered, Counter, aborted, counted, due_answer, opening, passed_over, setting_at}
-use Rattle.title_counter.specs.Limits.{most_given}
-use Rattle.title_counter.specs.Lines.{all_lines, lines_in}
-use Rattle.title_counter.specs.declared.fault.CounterFault.{CounterFault}
+use Rattle.title_counter.specs.{Limits.{most_given}, Lines.{all_lines, lines_in}, declared.fault.CounterFault.{CounterFault}}
 use Rattle.title_counter.specs.declared.fault.CounterFault.TheVariants as fault
 
 -- ---- answers

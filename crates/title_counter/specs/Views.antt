@@ -1,20 +1,13 @@
 -- What the code has, as definitions speak of it.
-use Rattle.std.specs.Prelude.{◌≡◌, ◌⊎◌, ℕ, List, [], ◌∷◌, codes, map, Result, Err}
-use Rattle.std.specs.Fmt.{decimal}
-use Rattle.std.specs.String.{string_bytes}
-use Rattle.title_plan.specs.Asked.{Asked}
-use Rattle.title_plan.specs.Onto.{asked_on, before_in}
-use Rattle.title_plan.specs.declared.fault.ScriptFault.{ScriptFault}
-use Rattle.title_plan.specs.declared.fault.ScriptFault.TheVariants as fault
-use Rattle.title_plan.specs.declared.line.Line.{Line}
-use Rattle.title_plan.specs.declared.line.Line.TheVariants as line
+use Rattle.std.specs.{Prelude.{◌≡◌, ◌⊎◌, ℕ, List, [], ◌∷◌, codes, map, Result, Err}, Fmt.{decimal}, String.{string_bytes}}
+use Rattle.title_plan.specs.{Asked.{Asked}, Onto.{asked_on, before_in}, declared.{fault.ScriptFault.{ScriptFault}, line.Line.{Line}}}
 use Rattle.title_plan.specs.declared.onto.Declared.{Declared}
+use Rattle.title_plan.specs.declared.fault.ScriptFault.TheVariants as fault
+use Rattle.title_plan.specs.declared.line.Line.TheVariants as line
 use Rattle.title_report.specs.Replies.{described_row, reply_rows}
-use Rattle.title_counter.specs.Counters.{Answered, Counter, fault_number}
-use Rattle.title_counter.specs.declared.answer.Answer.{Answer}
-use Rattle.title_counter.specs.declared.answer.Answer.TheVariants as answer
-use Rattle.title_counter.specs.declared.clerk.Clerk.{Clerk}
+use Rattle.title_counter.specs.{Counters.{Answered, Counter, fault_number}, declared.{answer.Answer.{Answer}, clerk.Clerk.{Clerk}}}
 use Rattle.title_counter.specs.declared.wish.Wish.{Wish}
+use Rattle.title_counter.specs.declared.answer.Answer.TheVariants as answer
 use Rattle.title_counter.specs.declared.wish.Wish.TheVariants as wish
 
 -- what is declared, and no step

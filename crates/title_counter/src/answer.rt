@@ -1,10 +1,7 @@
 //! What is answered to a line.
 
-ghost use Rattle.std.specs.Prelude.{◌≡◌, ◌∷◌, [], codes, true, false, map, OnOk, OnErr};
-ghost use Rattle.std.specs.Fmt.{decimal};
-ghost use Rattle.std.specs.String.{string_bytes};
-ghost use Rattle.title_page.specs.Pages.{Stopped, Written};
-ghost use Rattle.title_page.specs.Rows.{rows_text};
+ghost use Rattle.std.specs.{Prelude.{◌≡◌, ◌∷◌, [], codes, true, false, map, OnOk, OnErr}, Fmt.{decimal}, String.{string_bytes}};
+ghost use Rattle.title_page.specs.{Pages.{Stopped, Written}, Rows.{rows_text}};
 ghost use Rattle.title_counter.specs.Counters.{fault_number};
 
 use indexmap::IndexSet;

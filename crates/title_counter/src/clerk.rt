@@ -5,15 +5,11 @@ ghost use Rattle.std.specs.String.{string_bytes};
 ghost use Rattle.csv.specs.Records.{fields_of};
 ghost use Rattle.title_chain.specs.Alone.{most_parties};
 ghost use Rattle.title_plan.specs.declared.fault.ScriptFault.TheVariants as fault;
-ghost use Rattle.title_plan.specs.Lands.{land_in};
-ghost use Rattle.title_plan.specs.Plans.{understood, with_township};
+ghost use Rattle.title_plan.specs.{Lands.{land_in}, Plans.{understood, with_township}, Rows.{done, said}};
 ghost use Rattle.title_plan.specs.Plans as plans;
-ghost use Rattle.title_plan.specs.Rows.{done, said};
 ghost use Rattle.title_script.specs.Served.{after_call, reply_to};
-ghost use Rattle.title_counter.specs.Counters.{asked_at, counted, due_found, due_said, due_understood, opening, served};
-ghost use Rattle.title_counter.specs.Counters.{setting_at, township_answer};
-ghost use Rattle.title_counter.specs.Counters.{passed_over};
-ghost use Rattle.title_counter.specs.Founds.{found_of};
+ghost use Rattle.title_counter.specs.Counters.{asked_at, counted, due_found, due_said, due_understood, opening, served, passed_over};
+ghost use Rattle.title_counter.specs.{Counters.{setting_at, township_answer}, Founds.{found_of}};
 ghost use Rattle.title_counter.specs.declared.found.Found.TheVariants as found;
 ghost use Rattle.title_plan.specs.declared.row.Row.TheVariants as row;
 
@@ -65,8 +61,7 @@ fn ask<S: Store + Drop, G: Guards + Drop>(
 }
 
 impl Clerk {
-    ghost use Rattle.title_counter.specs.Sessions.{MayAnswer};
-    ghost use Rattle.title_counter.specs.Views.{answered, counter_of, line_in, IsFault};
+    ghost use Rattle.title_counter.specs.{Sessions.{MayAnswer}, Views.{answered, counter_of, line_in, IsFault}};
 
     /// Nothing but UNITED STATES as party 0, and a desk with no call.
     pub(crate) fn open(alloc: Global) -> Result<Clerk, AllocError>

@@ -22,8 +22,7 @@ fn abort_all<S: Store + Drop, G: Guards + Drop>(desk: &mut Desk<S, G>)
 }
 
 impl Clerk {
-    ghost use Rattle.title_counter.specs.Sessions.{Ends, IsSound};
-    ghost use Rattle.title_counter.specs.Views.{counter_of};
+    ghost use Rattle.title_counter.specs.{Sessions.{Ends, IsSound}, Views.{counter_of}};
 
     /// The desk is as it has to be. It does nothing: the desk's type says so.
     pub fn is_sound(&self)

@@ -1,7 +1,6 @@
 //! Townships and parties that are declared.
 
-ghost use Rattle.std.specs.Prelude.{◌≡◌, ◌⊎◌, ◌∷◌, ◌++◌, ◌||◌, [], Ok, Err, IfErr, IfOk, OnErr, length, nat_le};
-ghost use Rattle.std.specs.List.{list_any};
+ghost use Rattle.std.specs.{Prelude.{◌≡◌, ◌⊎◌, ◌∷◌, ◌++◌, ◌||◌, [], Ok, Err, IfErr, IfOk, OnErr, length, nat_le}, List.{list_any}};
 ghost use Rattle.title_land.specs.Survey.{same_township};
 ghost use Rattle.title_plan.specs.declared.fault.ScriptFault.TheVariants as fault;
 ghost use Rattle.title_plan.specs.Plans.{with_party};

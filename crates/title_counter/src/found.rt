@@ -1,7 +1,6 @@
 //! The row that a line is.
 
-ghost use Rattle.std.specs.Prelude.{◌≡◌, IfOk, option_map};
-ghost use Rattle.std.specs.List.{list_any};
+ghost use Rattle.std.specs.{Prelude.{◌≡◌, IfOk, option_map}, List.{list_any}};
 ghost use Rattle.csv.specs.Records.{fields_of};
 ghost use Rattle.title_plan.specs.Plans.{rows_in};
 ghost use Rattle.title_counter.specs.Founds.{found_among, found_of, has_line_feed, is_spoilt};

@@ -1,8 +1,7 @@
 //! Laws of counters. Each function does nothing: its clauses are the law, proved.
 
 ghost use Rattle.std.specs.Prelude.{◌≡◌};
-ghost use Rattle.title_counter.specs.Limits.{longest_line, most_given};
-ghost use Rattle.title_counter.specs.declared.line_start.TheConstants.{LINE_LIMIT};
+ghost use Rattle.title_counter.specs.{Limits.{longest_line, most_given}, declared.line_start.TheConstants.{LINE_LIMIT}};
 ghost use Rattle.title_counter.specs.declared.session.TheConstants.{GIVEN_LIMIT};
 
 /// The limits that the code has are those of the definitions.

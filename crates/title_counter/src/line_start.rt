@@ -1,8 +1,7 @@
 //! The beginning of a line, while the rest of it hasn't come.
 
 ghost use Rattle.std.specs.Prelude.{◌≡◌, ◌≤◌, ◌∷◌, ◌++◌, [], length, nat_le, not};
-ghost use Rattle.title_counter.specs.Limits.{longest_line};
-ghost use Rattle.title_counter.specs.Lines.{line_feed, with_byte};
+ghost use Rattle.title_counter.specs.{Limits.{longest_line}, Lines.{line_feed, with_byte}};
 
 use arrayvec::ArrayVec;
 use std::marker::Model;

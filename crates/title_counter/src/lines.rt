@@ -1,9 +1,8 @@
 //! Lines, answered one after another.
 
 ghost use Rattle.std.specs.Prelude.{◌≡◌, ◌<◌, ◌≤◌, ◌+◌, ◌^◌, ◌∷◌, ℕ, List, [], false, length, true, OnErr, OnOk};
-ghost use Rattle.title_counter.specs.Lines.{last_line, lines_from};
+ghost use Rattle.title_counter.specs.{Lines.{last_line, lines_from}, Views.{counter_of}};
 ghost use Rattle.title_counter.specs.Sessions.{BrokenOff, Ended, GotAnswers, IsSound, LostAnswers, LostBatch, PassedBatch};
-ghost use Rattle.title_counter.specs.Views.{counter_of};
 
 use crate::clerk::Clerk;
 use crate::line_start::LineStart;

@@ -1,10 +1,8 @@
 //! The records of a line, read byte by byte as csv reads them: no reader is made for a line.
 
 ghost use Rattle.std.specs.Prelude.{◌≡◌, ◌≤◌, ◌++◌, ◌∷◌, [], IfOk, IfSome, OnOk, drop, length, option_map};
-ghost use Rattle.csv.specs.Machine.{ends_at_end, field_after, fields_after, in_field, is_end, next_record, start_field};
-ghost use Rattle.csv.specs.Machine.{start_record, step};
-ghost use Rattle.csv.specs.Reading.{default_config, strip_bom};
-ghost use Rattle.csv.specs.Records.{fields_of, partial_of};
+ghost use Rattle.csv.specs.Machine.{ends_at_end, field_after, fields_after, in_field, is_end, next_record, start_field, start_record, step};
+ghost use Rattle.csv.specs.{Reading.{default_config, strip_bom}, Records.{fields_of, partial_of}};
 ghost use Rattle.csv.specs.declared.parser.State.TheVariants as st;
 ghost use Rattle.title_counter.specs.Positions.{action_of, read_in, state_of};
 

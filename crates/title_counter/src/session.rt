@@ -1,9 +1,7 @@
 //! A session at the counter.
 
 ghost use Rattle.std.specs.Prelude.{◌≡◌, ◌<◌, ◌≤◌, ◌+◌, ◌^◌, [], false, length, true, OnErr, OnOk};
-ghost use Rattle.title_counter.specs.Counters.{opening};
-ghost use Rattle.title_counter.specs.Lines.{lines_from};
-ghost use Rattle.title_counter.specs.Sessions.{IsAttended, IsSound, LostBatch, PassedBatch};
+ghost use Rattle.title_counter.specs.{Counters.{opening}, Lines.{lines_from}, Sessions.{IsAttended, IsSound, LostBatch, PassedBatch}};
 ghost use Rattle.title_counter.specs.Views.{counter_of};
 
 use crate::clerk::Clerk;

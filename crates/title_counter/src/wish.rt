@@ -3,9 +3,8 @@
 ghost use Rattle.std.specs.Prelude.{◌≡◌, ◌⊎◌, [], Ok, Err, IfErr, IfOk, false};
 ghost use Rattle.title_plan.specs.declared.fault.ScriptFault.TheVariants as fault;
 ghost use Rattle.title_plan.specs.declared.line.Schedule.TheVariants as schedule;
-ghost use Rattle.title_plan.specs.Plans.{after_act, line_of, post, with_line};
+ghost use Rattle.title_plan.specs.{Plans.{after_act, line_of, post, with_line}, Rows.{done}};
 ghost use Rattle.title_plan.specs.Plans as plans;
-ghost use Rattle.title_plan.specs.Rows.{done};
 ghost use Rattle.title_counter.specs.Views.{asked_of, line_in};
 
 use std::alloc::{AllocError, Global};

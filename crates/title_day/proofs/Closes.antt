@@ -1,16 +1,10 @@
 -- The closing sheet, and the text of a report from its parts.
-use Rattle.std.proofs.Common.{◌≡◌, List, [], ◌∷◌, true, reverse, ap}
-use Rattle.std.proofs.lemmas.Bool.{false≢true}
-use Rattle.title_land.specs.Depth.{depth}
-use Rattle.title_land.specs.Lands.{is_in_plant}
-use Rattle.title_land.specs.declared.survey.Township.{Township}
+use Rattle.std.proofs.{Common.{◌≡◌, List, [], ◌∷◌, true, reverse, ap}, lemmas.Bool.{false≢true}}
+use Rattle.title_land.specs.{Depth.{depth}, Lands.{is_in_plant}, declared.survey.Township.{Township}}
 use Rattle.title_land.specs.declared.tract.Land.TheVariants as land
-use Rattle.title_store.specs.declared.sheet_row.SheetRow.{SheetRow}
-use Rattle.title_store.specs.Sheets.{sheet_of}
-use Rattle.title_chain.specs.declared.record.Record.{Record}
+use Rattle.title_store.specs.{declared.sheet_row.SheetRow.{SheetRow}, Sheets.{sheet_of}}
+use Rattle.title_chain.specs.{declared.record.Record.{Record}, Alone.{plant_after}, Asks.{answer_to}}
 use Rattle.title_chain.specs.declared.ask.Answer.TheVariants as answer
-use Rattle.title_chain.specs.Alone.{plant_after}
-use Rattle.title_chain.specs.Asks.{answer_to}
 use Rattle.title_trace.specs.declared.call.Reply.TheVariants as reply
 use Rattle.title_day.specs.OfficeReports.{closing_sheet}
 

@@ -1,18 +1,14 @@
 -- Steps dealt to hands, one after another.
 use Rattle.std.proofs.Common.{◌≡◌, ◌∙◌, ◌<◌, ◌+◌, ◌-◌, ◌==◌, ℕ, zero, suc, Bool, true, false, cond, refl, sym, ap, subst, arith}
-use Rattle.std.proofs.Common.{List, [], ◌∷◌, ◌++◌, length, set, get_or, replicate, map, filter}
-use Rattle.std.proofs.lemmas.List.{length-replicate}
+use Rattle.std.proofs.{Common.{List, [], ◌∷◌, ◌++◌, length, set, get_or, replicate, map, filter}, lemmas.List.{length-replicate}}
 use Rattle.std.proofs.lemmas.Bool.{cond-false, cond-true, eq-eqb, ne_eqb}
-use Rattle.title_day.specs.Turns.{IsAskedBy}
+use Rattle.title_day.specs.{Turns.{IsAskedBy}, OfficeReports.{is_begin_of}, Dealing.{AreDealt, told_by, told_of, transactions_of}}
+use Rattle.title_day.specs.Dealing.{Hand, empty_hand, hand_of, with_line, with_line_each, with_lines_each, with_request}
 use Rattle.title_plan.specs.declared.line.Line.{Line}
 use Rattle.title_plan.specs.declared.line.Line.TheVariants as line
-use Rattle.title_trace.specs.declared.call.Request.{Request}
+use Rattle.title_trace.specs.{declared.call.Request.{Request}, Trace.{examiner_of}}
 use Rattle.title_trace.specs.declared.call.Request.TheVariants as request
-use Rattle.title_trace.specs.Trace.{examiner_of}
 use Rattle.title_office.specs.declared.workers.Script.{Script}
-use Rattle.title_day.specs.OfficeReports.{is_begin_of}
-use Rattle.title_day.specs.Dealing.{Hand, empty_hand, hand_of, with_line, with_line_each, with_lines_each, with_request}
-use Rattle.title_day.specs.Dealing.{AreDealt, told_by, told_of, transactions_of}
 
 -- the last step comes before what the hands have
 last_dealt : (e : ℕ) (lines : List Line) (l : Line) (hands : List Hand) →

@@ -1,16 +1,10 @@
 -- Examiners are numbered from 1.
 use Rattle.std.proofs.Common.{◌≡◌, ◌≤◌, ◌+◌, ◌*◌, ◌&&◌, ℕ, List, [], ◌∷◌, Bool, true, false, Option, None, Some, cond, IfSome, option_map}
-use Rattle.std.proofs.Common.{codes, refl, arith, leb, length, ◌==◌}
-use Rattle.std.specs.Char.{digit_value}
-use Rattle.std.specs.Str.{all_ascii_digits, bytes_eq}
-use Rattle.std.specs.Str.Parse.{digits_value, digits_value_after}
-use Rattle.std.proofs.lemmas.Bool.{and_parts, leb-true}
-use Rattle.std.proofs.lemmas.Bool.Decides.{nat_tests}
+use Rattle.std.{proofs.Common.{codes, refl, arith, leb, length, ◌==◌}, specs.{Char.{digit_value}, Str.{all_ascii_digits, bytes_eq}}}
+use Rattle.std.{specs.Str.Parse.{digits_value, digits_value_after}, proofs.lemmas.Bool.{and_parts, leb-true, Decides.{nat_tests}}}
 use Rattle.title_share.specs.Texts.{is_number, number_in}
-use Rattle.title_plan.specs.declared.row.Row.{Row}
+use Rattle.title_plan.specs.{declared.row.Row.{Row}, Fields.{examiner_in, field, given, name_in}, Rows.{act_in, row_in}}
 use Rattle.title_plan.specs.declared.row.Row.TheVariants as row
-use Rattle.title_plan.specs.Fields.{examiner_in, field, given, name_in}
-use Rattle.title_plan.specs.Rows.{act_in, row_in}
 
 -- a step is one of an examiner from 1
 abbrev pub FromOne : Row (List ℕ) → Type 0

@@ -1,15 +1,11 @@
 -- Why there is no report of an office's script.
-use Rattle.std.proofs.Common.{◌≡◌, ◌⊎◌, inl, inr, ℕ, List, Result, Ok, Err, IfErr, sym, ap, subst}
-use Rattle.std.specs.Result.{IsErrAnd}
-use Rattle.title_plan.specs.declared.fault.ScriptFault.{ScriptFault}
+use Rattle.std.{proofs.Common.{◌≡◌, ◌⊎◌, inl, inr, ℕ, List, Result, Ok, Err, IfErr, sym, ap, subst}, specs.Result.{IsErrAnd}}
+use Rattle.title_plan.specs.{declared.fault.ScriptFault.{ScriptFault}, Plans.{script_of}}
 use Rattle.title_plan.specs.declared.fault.ScriptFault.TheVariants as script_fault
 use Rattle.title_plan.specs.declared.line.Schedule.TheVariants as schedule
-use Rattle.title_plan.specs.Plans.{script_of}
-use Rattle.title_day.specs.declared.office_fault.OfficeFault.{OfficeFault}
+use Rattle.title_day.specs.{declared.office_fault.OfficeFault.{OfficeFault}, OfficeRuns.{IsOwnCause}}
 use Rattle.title_day.specs.declared.office_fault.OfficeFault.TheVariants as office
-use Rattle.title_script.specs.Faults.{of_script}
-use Rattle.title_script.specs.Reports.{report_of, report_or_fault}
-use Rattle.title_day.specs.OfficeRuns.{IsOwnCause}
+use Rattle.title_script.specs.{Faults.{of_script}, Reports.{report_of, report_or_fault}}
 
 -- the first fault of the script is one
 pub script_is_own : (number : ℕ) (script : List ℕ) (e : ScriptFault) →

@@ -1,21 +1,13 @@
 -- The tallies of an office's day tell what came of each transaction that its script asks for.
 use Rattle.std.proofs.Common.{◌≡◌, ◌∙◌, ◌+◌, ℕ, suc, List, [], ◌∷◌, ◌++◌, length, map, filter, refl, sym, ap, arith}
-use Rattle.std.proofs.Common.{Option, Some, None, length-append}
-use Rattle.std.proofs.lemmas.List.{append_assoc, length-map}
-use Rattle.std.proofs.lemmas.List.Sums.{sum_by-cons}
+use Rattle.std.proofs.{Common.{Option, Some, None, length-append}, lemmas.List.{append_assoc, length-map, Sums.{sum_by-cons}}}
 use Rattle.std.specs.List.{flat_map}
 use Rattle.title_plan.specs.declared.line.Line.{Line}
 use Rattle.title_chain.specs.declared.record.Record.{Record}
-use Rattle.title_settle.specs.Settling.{IsSettled}
-use Rattle.title_settle.specs.declared.outcome.Outcome.{Outcome}
-use Rattle.title_office.specs.declared.fault.Fault.{Fault}
-use Rattle.title_office.specs.declared.workers.Script.{Script}
-use Rattle.title_office.specs.Workers.{AreCounted, examiners_of}
-use Rattle.title_day.specs.declared.tally.Tally.{Tally}
-use Rattle.title_day.specs.Dealing.{dealt_in, AreDealt, IsDealt}
-use Rattle.title_day.specs.OfficeReports.{is_begin_of, AreTallies}
-use Rattle.title_day.specs.OfficeDays.{AreTold, committed_by, first_there, tally_of}
-use Rattle.title_day.proofs.DealingLaws.{as_many_as_begun}
+use Rattle.title_settle.specs.{Settling.{IsSettled}, declared.outcome.Outcome.{Outcome}}
+use Rattle.title_office.specs.{declared.{fault.Fault.{Fault}, workers.Script.{Script}}, Workers.{AreCounted, examiners_of}}
+use Rattle.title_day.specs.{declared.tally.Tally.{Tally}, Dealing.{dealt_in, AreDealt, IsDealt}, OfficeReports.{is_begin_of, AreTallies}}
+use Rattle.title_day.{specs.OfficeDays.{AreTold, committed_by, first_there, tally_of}, proofs.DealingLaws.{as_many_as_begun}}
 use Rattle.title_day.proofs.OneOutcomeEach.{as_many_outcomes_as_records}
 
 -- a script that was dealt has a transaction for each begin of its examiner

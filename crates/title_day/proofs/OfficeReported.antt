@@ -1,16 +1,9 @@
 -- What is written of an office's day is a report of its script.
-use Rattle.std.proofs.Common.{◌≡◌, ◌∙◌, ℕ, List, length, map, reverse, ap, subst}
-use Rattle.std.specs.String.{string_bytes}
-use Rattle.title_land.specs.Depth.{depth}
-use Rattle.title_land.specs.declared.survey.Township.{Township}
-use Rattle.title_chain.specs.declared.record.Record.{Record}
-use Rattle.title_chain.specs.Alone.{IsSerial}
-use Rattle.title_day.specs.declared.tally.Tally.{Tally}
-use Rattle.title_day.specs.declared.office_script.OfficeScript.{OfficeScript}
-use Rattle.title_day.specs.OfficeDays.{AreTold, committed_by}
-use Rattle.title_day.specs.OfficeReports.{closing_text}
-use Rattle.title_day.specs.OfficeRuns.{IsReportOf}
-use Rattle.title_day.specs.OfficeScripts.{IsOfficeScript}
+use Rattle.std.{proofs.Common.{◌≡◌, ◌∙◌, ℕ, List, length, map, reverse, ap, subst}, specs.String.{string_bytes}}
+use Rattle.title_land.specs.{Depth.{depth}, declared.survey.Township.{Township}}
+use Rattle.title_chain.specs.{declared.record.Record.{Record}, Alone.{IsSerial}}
+use Rattle.title_day.specs.{declared.{tally.Tally.{Tally}, office_script.OfficeScript.{OfficeScript}}, OfficeDays.{AreTold, committed_by}}
+use Rattle.title_day.specs.{OfficeReports.{closing_text}, OfficeRuns.{IsReportOf}, OfficeScripts.{IsOfficeScript}}
 use Rattle.title_day.proofs.OfficeCounts.{told_many, told_tallies}
 
 pub reported : (number : ℕ) (bytes : List ℕ) (script : OfficeScript) (plant : List Township) (seen tallies : List Tally)

@@ -1,12 +1,8 @@
 -- Where each record has one outcome with its place, and each outcome the place of a record, there are as many outcomes as records.
 use Rattle.std.proofs.Common.{◌≡◌, ◌∙◌, ◌+◌, ◌<◌, ◌≤◌, ◌≢◌, ◌⊎◌, inl, inr, ℕ, zero, suc, eqb, cond, Bool, true, false, refl, sym, ap, arith}
-use Rattle.std.proofs.Common.{List, [], ◌∷◌, length}
-use Rattle.std.proofs.lemmas.Bool.{ne_eqb}
-use Rattle.std.proofs.lemmas.Bool.Decides.{eqb_tells}
-use Rattle.std.proofs.lemmas.List.Elements.{All-head, All-tail}
+use Rattle.std.proofs.{Common.{List, [], ◌∷◌, length}, lemmas.{Bool.{ne_eqb, Decides.{eqb_tells}}, List.Elements.{All-head, All-tail}}}
 use Rattle.title_chain.specs.declared.record.Record.{Record}
-use Rattle.title_settle.specs.declared.outcome.Outcome.{Outcome}
-use Rattle.title_settle.specs.Settling.{outcomes_at, AreKnown, IsPlace, IsSettled}
+use Rattle.title_settle.specs.{declared.outcome.Outcome.{Outcome}, Settling.{outcomes_at, AreKnown, IsPlace, IsSettled}}
 
 -- how many outcomes have a place from 1 to this one
 abbrev placed : List Outcome → ℕ → ℕ

@@ -1,15 +1,10 @@
 -- Where an office is settled by outcomes of which the first are what stood, its records begin with that.
 use Rattle.std.proofs.Common.{◌≡◌, ◌∙◌, ◌+◌, ◌<◌, ℕ, zero, suc, eqb, cond, Bool, true, false, refl, sym, ap, ap₂, subst, arith}
-use Rattle.std.proofs.Common.{List, [], ◌∷◌, ◌++◌, get_or, length, reverse, take, Some}
-use Rattle.std.proofs.lemmas.Bool.{eq-eqb, ne_eqb}
-use Rattle.std.proofs.lemmas.List.{reverse-append, take_more, length-take}
-use Rattle.std.specs.List.{All}
-use Rattle.std.specs.Prelude.{slice_get}
-use Rattle.std.proofs.lemmas.List.Elements.{All-head, All-tail}
+use Rattle.std.{proofs.{Common.{List, [], ◌∷◌, ◌++◌, get_or, length, reverse, take, Some}, lemmas.Bool.{eq-eqb, ne_eqb}}, specs.List.{All}}
+use Rattle.std.{proofs.lemmas.List.{reverse-append, take_more, length-take, Elements.{All-head, All-tail}}, specs.Prelude.{slice_get}}
 use mathlib.Core.List.{IsPrefix}
 use Rattle.title_chain.specs.declared.record.Record.{Record}
-use Rattle.title_settle.specs.declared.outcome.Outcome.{Outcome}
-use Rattle.title_settle.specs.Settling.{IsPlace, IsSettled, outcomes_at}
+use Rattle.title_settle.specs.{declared.outcome.Outcome.{Outcome}, Settling.{IsPlace, IsSettled, outcomes_at}}
 use Rattle.title_day.specs.DaysOn.{placed}
 
 -- ---- placing

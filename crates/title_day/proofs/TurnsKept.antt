@@ -1,40 +1,26 @@
 -- What the rows of an office ask for.
 use Rattle.std.proofs.Common.{All, ◌≡◌, ◌≤◌, ◌+◌, ◌∙◌, sym, ap, refl, ℕ, List, [], ◌∷◌, Bool, true, false, not, cond, ◌==◌, ◌||◌, ◌&&◌}
-use Rattle.std.proofs.Common.{Option, None, Some, Result, Ok, Err, nat_le, nat_lt, length, subst, arith}
-use Rattle.std.specs.List.{list_all, list_any}
-use Rattle.std.specs.Str.{bytes_eq, is_utf8}
-use Rattle.std.proofs.lemmas.Bool.Decides.{nat_tests}
-use Rattle.std.proofs.lemmas.List.Elements.{All-nil, All-push}
+use Rattle.std.{proofs.Common.{Option, None, Some, Result, Ok, Err, nat_le, nat_lt, length, subst, arith}, specs.List.{list_all, list_any}}
+use Rattle.std.{specs.Str.{bytes_eq, is_utf8}, proofs.lemmas.{Bool.Decides.{nat_tests}, List.Elements.{All-nil, All-push}}}
 use Rattle.std.proofs.lemmas.List.Sums.{fold-append}
-use Rattle.title_land.specs.declared.survey.Township.{Township}
-use Rattle.title_land.specs.declared.tract.Land.{Land}
+use Rattle.title_land.specs.{declared.{survey.Township.{Township}, tract.Land.{Land}}, Survey.{same_township}}
 use Rattle.title_land.specs.declared.tract.Land.TheVariants as land
-use Rattle.title_land.specs.Survey.{same_township}
 use Rattle.title_aliquot.specs.declared.fault.DescFault.{DescFault}
 use Rattle.title_instrument.specs.declared.instrument.Instrument.{Instrument}
-use Rattle.title_chain.specs.Alone.{most_parties}
-use Rattle.title_chain.specs.declared.ask.Ask.{Ask}
+use Rattle.title_chain.specs.{Alone.{most_parties}, declared.ask.Ask.{Ask}}
 use Rattle.title_chain.specs.declared.ask.Ask.TheVariants as ask
-use Rattle.title_trace.specs.Due.{most_townships}
-use Rattle.title_trace.specs.Trace.{examiner_of}
-use Rattle.title_trace.specs.declared.call.Request.{Request}
+use Rattle.title_trace.specs.{Due.{most_townships}, Trace.{examiner_of}, declared.call.Request.{Request}}
 use Rattle.title_trace.specs.declared.call.Request.TheVariants as request
-use Rattle.title_plan.specs.declared.fault.ScriptFault.{ScriptFault}
+use Rattle.title_plan.specs.{declared.{fault.ScriptFault.{ScriptFault}, row.{Act.{Act}, Row.{Row}}}, Asked.{Asked, nothing_asked}}
+use Rattle.title_plan.specs.{Lands.{land_in}, Limits.{most_rows}, Plans.{with_begun, with_ended, with_line, with_party}}
+use Rattle.title_plan.specs.Plans.{after_act, after_asked, after_post, after_row, after_rows, after_step_row, after_township}
+use Rattle.title_plan.specs.Plans.{after_understood, asked_of, going_on, is_inside, is_out_of_turn, numbered, post, rows_in, script_of}
 use Rattle.title_plan.specs.declared.fault.ScriptFault.TheVariants as fault
 use Rattle.title_plan.specs.declared.line.Line.TheVariants as line
 use Rattle.title_plan.specs.declared.line.Schedule.TheVariants as schedule
-use Rattle.title_plan.specs.declared.row.Act.{Act}
 use Rattle.title_plan.specs.declared.row.Act.TheVariants as act
-use Rattle.title_plan.specs.declared.row.Row.{Row}
 use Rattle.title_plan.specs.declared.row.Row.TheVariants as row
-use Rattle.title_plan.specs.Asked.{Asked, nothing_asked}
-use Rattle.title_plan.specs.Lands.{land_in}
-use Rattle.title_plan.specs.Limits.{most_rows}
-use Rattle.title_plan.specs.Plans.{after_act, after_asked, after_post, after_row, after_rows, after_step_row, after_township}
-use Rattle.title_plan.specs.Plans.{after_understood, asked_of, going_on, is_inside, is_out_of_turn, numbered, post, rows_in, script_of}
-use Rattle.title_plan.specs.Plans.{with_begun, with_ended, with_line, with_party}
-use Rattle.title_day.specs.Turns.{IsAskedBy, IsOffice, OfficesKeepTurns, turn_on}
-use Rattle.title_day.proofs.FromOne.{FromOne, Has, found_low}
+use Rattle.title_day.{specs.Turns.{IsAskedBy, IsOffice, OfficesKeepTurns, turn_on}, proofs.FromOne.{FromOne, Has, found_low}}
 use Rattle.title_day.proofs.TurnsOfOne.{begun, ended, stays, turned}
 
 -- ---- tests that a result has passed

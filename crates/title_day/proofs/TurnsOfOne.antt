@@ -1,9 +1,7 @@
 -- Who is inside a transaction after one has begun or ended.
 use Rattle.std.proofs.Common.{◌≡◌, ◌∙◌, sym, ap, refl, ℕ, List, [], ◌∷◌, Bool, true, false, cond, ◌==◌, ◌||◌, eqb, Some, inl, inr}
-use Rattle.std.proofs.lemmas.Bool.{cases_Bool, eqb-true}
-use Rattle.std.proofs.lemmas.List.Folds.{list_any-append}
-use Rattle.title_trace.specs.declared.call.Request.{Request}
-use Rattle.title_trace.specs.Trace.{examiner_of}
+use Rattle.std.proofs.lemmas.{Bool.{cases_Bool, eqb-true}, List.Folds.{list_any-append}}
+use Rattle.title_trace.specs.{declared.call.Request.{Request}, Trace.{examiner_of}}
 use Rattle.title_plan.specs.declared.line.Line.TheVariants as line
 use Rattle.title_plan.specs.declared.line.Schedule.TheVariants as schedule
 use Rattle.title_plan.specs.Plans.{is_inside, with_begun, with_ended}

@@ -1,21 +1,12 @@
 -- What the rows of an office ask for on top of what stands.
 use Rattle.std.proofs.Common.{◌≡◌, ◌+◌, ◌==◌, ◌&&◌, refl, subst, ℕ, List, [], ◌∷◌, Bool, true, false, cond, length, nat_le}
-use Rattle.std.proofs.Common.{Option, None, Some, Result, Ok}
-use Rattle.std.specs.List.{list_all}
-use Rattle.std.specs.Str.{is_utf8}
-use Rattle.std.proofs.lemmas.List.Elements.{All-nil}
-use Rattle.title_plan.specs.declared.fault.ScriptFault.{ScriptFault}
-use Rattle.title_plan.specs.declared.line.Schedule.TheVariants as schedule
-use Rattle.title_plan.specs.declared.row.Row.{Row}
-use Rattle.title_plan.specs.declared.row.Row.TheVariants as row
-use Rattle.title_plan.specs.Asked.{Asked}
-use Rattle.title_plan.specs.Lands.{land_in}
-use Rattle.title_plan.specs.Limits.{most_rows}
+use Rattle.std.{proofs.{Common.{Option, None, Some, Result, Ok}, lemmas.List.Elements.{All-nil}}, specs.{List.{list_all}, Str.{is_utf8}}}
+use Rattle.title_plan.specs.{declared.{fault.ScriptFault.{ScriptFault}, row.Row.{Row}}, Asked.{Asked}, Lands.{land_in}, Limits.{most_rows}}
 use Rattle.title_plan.specs.Onto.{Before, after_row_onto, after_rows_onto, after_understood_onto, asked_on, is_party_of, is_township_of}
 use Rattle.title_plan.specs.Plans.{after_township, rows_in, with_party}
-use Rattle.title_day.specs.DaysOn.{OfficesKeepTurnsOnto}
-use Rattle.title_day.specs.Turns.{IsAskedBy, IsOffice}
-use Rattle.title_day.proofs.FromOne.{FromOne, Has, found_low}
+use Rattle.title_plan.specs.declared.line.Schedule.TheVariants as schedule
+use Rattle.title_plan.specs.declared.row.Row.TheVariants as row
+use Rattle.title_day.{specs.{DaysOn.{OfficesKeepTurnsOnto}, Turns.{IsAskedBy, IsOffice}}, proofs.FromOne.{FromOne, Has, found_low}}
 use Rattle.title_day.proofs.TurnsKept.{kept_party, kept_step, kept_township, same_ok, went_on}
 
 -- a declaration is passed over, or it is made

@@ -1,10 +1,8 @@
 -- The report of a settled office, of what it shows.
-use Rattle.std.specs.Prelude.{ℕ, List, ◌∷◌, ◌++◌, map}
-use Rattle.std.specs.String.{string_bytes}
+use Rattle.std.specs.{Prelude.{ℕ, List, ◌∷◌, ◌++◌, map}, String.{string_bytes}}
 use Rattle.title_page.specs.Rows.{row, rows_text}
 use Rattle.title_report.specs.Replies.{end_row, reply_rows}
-use Rattle.title_day.specs.declared.closing.Closing.{Closing}
-use Rattle.title_day.specs.Tallies.{settled_row, tally_row}
+use Rattle.title_day.specs.{declared.closing.Closing.{Closing}, Tallies.{settled_row, tally_row}}
 
 -- the rows: the tallies, how many records there are, and the closing sheet as a reply to nobody's number, 0
 abbrev pub closed_rows : Closing → List (List (List ℕ))

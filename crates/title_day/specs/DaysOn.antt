@@ -1,31 +1,17 @@
 -- An office's day on top of records that stood. A list of what stood has the newest record first; the records of a day, and outcomes,
 -- have the oldest first.
-use Rattle.std.specs.Prelude.{◌≡◌, ◌+◌, ◌-◌, ℕ, suc, List, [], ◌∷◌, ◌++◌, length, map, reverse, sum, Ok}
-use Rattle.std.specs.String.{string_bytes}
-use Rattle.title_land.specs.Depth.{depth}
-use Rattle.title_land.specs.declared.survey.Township.{Township}
-use Rattle.title_chain.specs.declared.record.Record.{Record}
-use Rattle.title_chain.specs.Alone.{IsSerial}
-use Rattle.title_trace.specs.declared.call.Call.{Call}
-use Rattle.title_trace.specs.Trace.{committed}
-use Rattle.title_trace.specs.Due.{IsDue, Setting}
+use Rattle.std.specs.{Prelude.{◌≡◌, ◌+◌, ◌-◌, ℕ, suc, List, [], ◌∷◌, ◌++◌, length, map, reverse, sum, Ok}, String.{string_bytes}}
+use Rattle.title_land.specs.{Depth.{depth}, declared.survey.Township.{Township}}
+use Rattle.title_chain.specs.{declared.record.Record.{Record}, Alone.{IsSerial}}
+use Rattle.title_trace.specs.{declared.call.Call.{Call}, Trace.{committed}, Due.{IsDue, Setting}}
 use Rattle.title_settle.specs.declared.outcome.Outcome.{Outcome}
-use Rattle.title_office.specs.declared.workers.Script.{Script}
-use Rattle.title_office.specs.Offices.{opening_seats}
-use Rattle.title_office.specs.Workers.{examiners_of, seat_examiners}
-use Rattle.title_plan.specs.declared.line.Line.{Line}
+use Rattle.title_office.specs.{declared.workers.Script.{Script}, Offices.{opening_seats}, Workers.{examiners_of, seat_examiners}}
+use Rattle.title_plan.specs.{declared.line.Line.{Line}, Asked.{Asked}, Onto.{Before, script_onto}}
 use Rattle.title_plan.specs.declared.line.Schedule.TheVariants as schedule
-use Rattle.title_plan.specs.Asked.{Asked}
-use Rattle.title_plan.specs.Onto.{Before, script_onto}
 use Rattle.title_report.specs.Replies.{end_row, reply_rows}
 use Rattle.title_page.specs.Rows.{row, rows_text}
-use Rattle.title_day.specs.declared.office_script.OfficeScript.{OfficeScript}
-use Rattle.title_day.specs.declared.tally.Tally.{Tally}
-use Rattle.title_day.specs.Dealing.{AreDealt}
-use Rattle.title_day.specs.OfficeDays.{AreTold}
-use Rattle.title_day.specs.OfficeReports.{AreTallies, closing_sheet}
-use Rattle.title_day.specs.Tallies.{settled_row, tally_row}
-use Rattle.title_day.specs.Turns.{IsOffice}
+use Rattle.title_day.specs.{declared.{office_script.OfficeScript.{OfficeScript}, tally.Tally.{Tally}}, Dealing.{AreDealt}, Turns.{IsOffice}}
+use Rattle.title_day.specs.{OfficeDays.{AreTold}, OfficeReports.{AreTallies, closing_sheet}, Tallies.{settled_row, tally_row}}
 
 -- ---- scripts
 

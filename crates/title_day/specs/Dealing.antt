@@ -1,13 +1,11 @@
 -- The steps of an office's script, dealt to its examiners as transactions.
 use Rattle.std.specs.Prelude.{◌≡◌, ◌==◌, ℕ, suc, Bool, true, false, cond, List, [], ◌∷◌, map}
 use Rattle.title_chain.specs.declared.ask.Ask.{Ask}
-use Rattle.title_trace.specs.declared.call.Request.{Request}
+use Rattle.title_trace.specs.{declared.call.Request.{Request}, Trace.{examiner_of}}
 use Rattle.title_trace.specs.declared.call.Request.TheVariants as request
-use Rattle.title_trace.specs.Trace.{examiner_of}
 use Rattle.title_plan.specs.declared.line.Line.{Line}
 use Rattle.title_plan.specs.declared.line.Line.TheVariants as line
-use Rattle.title_office.specs.declared.workers.Script.{Script}
-use Rattle.title_office.specs.declared.workers.Transaction.{Transaction}
+use Rattle.title_office.specs.declared.workers.{Script.{Script}, Transaction.{Transaction}}
 
 -- a transaction: its asks in order, and whether it is committed
 pub record Dealt : Type 0 where

@@ -1,23 +1,18 @@
 -- The report of an office's script. Which transactions are committed, and in which order, the threads' timing decides; so a text is a
 -- report of the script where serial records stand behind it.
 use Rattle.std.specs.Prelude.{◌≡◌, ◌+◌, ◌==◌, ℕ, suc, Bool, false, cond, List, [], ◌∷◌, ◌++◌, length, reverse, map, filter, sum}
-use Rattle.title_land.specs.Depth.{depth}
-use Rattle.title_land.specs.Lands.{is_in_plant}
-use Rattle.title_land.specs.declared.survey.Township.{Township}
+use Rattle.title_land.specs.{Depth.{depth}, Lands.{is_in_plant}, declared.survey.Township.{Township}}
 use Rattle.title_land.specs.declared.tract.Land.TheVariants as land
 use Rattle.title_chain.specs.declared.ask.Ask.TheVariants as ask
-use Rattle.title_chain.specs.declared.record.Record.{Record}
-use Rattle.title_chain.specs.Alone.{alone, IsSerial}
+use Rattle.title_chain.specs.{declared.record.Record.{Record}, Alone.{alone, IsSerial}}
 use Rattle.title_trace.specs.declared.call.Request.TheVariants as request
 use Rattle.title_trace.specs.declared.call.Reply.{Reply}
 use Rattle.title_trace.specs.declared.call.Reply.TheVariants as reply
 use Rattle.title_trace.specs.declared.denial.Denial.TheVariants as denial
-use Rattle.title_plan.specs.declared.line.Line.{Line}
+use Rattle.title_plan.specs.{declared.line.Line.{Line}, Asked.{Asked}}
 use Rattle.title_plan.specs.declared.line.Line.TheVariants as line
-use Rattle.title_plan.specs.Asked.{Asked}
-use Rattle.title_day.specs.declared.tally.Tally.{Tally}
+use Rattle.title_day.specs.{declared.tally.Tally.{Tally}, Tallies.{settled_row, tally_row}}
 use Rattle.title_report.specs.Replies.{reply_rows, end_row}
-use Rattle.title_day.specs.Tallies.{settled_row, tally_row}
 use Rattle.title_page.specs.Rows.{row, rows_text}
 
 -- the sheet of the whole plant after all records; a plant without townships has none

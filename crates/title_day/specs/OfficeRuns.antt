@@ -2,12 +2,10 @@
 use Rattle.std.specs.Prelude.{◌≡◌, ℕ, List, Bool, false, Option, IfSome, Result, Ok, IfErr, OnOk, take}
 use Rattle.std.specs.Io.KnownBytes.{Appends, IsAtEnd, Keeps}
 use Rattle.title_plan.specs.declared.line.Schedule.TheVariants as schedule
-use Rattle.title_plan.specs.Asked.{Asked}
-use Rattle.title_plan.specs.Plans.{script_of}
+use Rattle.title_plan.specs.{Asked.{Asked}, Plans.{script_of}}
 use Rattle.title_script.specs.declared.fault.RunFault.TheVariants as fault
-use Rattle.title_day.specs.declared.office_fault.OfficeFault.{OfficeFault}
+use Rattle.title_day.specs.{declared.office_fault.OfficeFault.{OfficeFault}, OfficeReports.{IsOfficeReport}}
 use Rattle.title_day.specs.declared.office_fault.OfficeFault.TheVariants as office
-use Rattle.title_day.specs.OfficeReports.{IsOfficeReport}
 use Rattle.title_script.specs.Runs.{IsCause, IsReadWithin}
 
 -- the script is one of an office of this number of examiners, and this is a report of it

@@ -1,11 +1,8 @@
 -- What an office's script asks for, dealt to its examiners.
-use Rattle.std.specs.Prelude.{◌≡◌, ℕ, List, length, map, Ok}
-use Rattle.std.specs.String.{string_bytes}
+use Rattle.std.specs.{Prelude.{◌≡◌, ℕ, List, length, map, Ok}, String.{string_bytes}}
 use Rattle.title_plan.specs.declared.line.Schedule.TheVariants as schedule
-use Rattle.title_plan.specs.Asked.{Asked}
-use Rattle.title_plan.specs.Plans.{script_of}
-use Rattle.title_day.specs.declared.office_script.OfficeScript.{OfficeScript}
-use Rattle.title_day.specs.Dealing.{AreDealt}
+use Rattle.title_plan.specs.{Asked.{Asked}, Plans.{script_of}}
+use Rattle.title_day.specs.{declared.office_script.OfficeScript.{OfficeScript}, Dealing.{AreDealt}}
 
 -- this is what the bytes of the script of an office of so many examiners ask for: its townships, its parties' names, each examiner's
 -- transactions, and how many step rows there are

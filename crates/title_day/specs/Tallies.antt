@@ -1,6 +1,5 @@
 -- The rows of an office's report that tell what came of its transactions.
-use Rattle.std.specs.Prelude.{ℕ, List, [], ◌∷◌, codes}
-use Rattle.std.specs.Fmt.{decimal}
+use Rattle.std.specs.{Prelude.{ℕ, List, [], ◌∷◌, codes}, Fmt.{decimal}}
 use Rattle.title_day.specs.declared.tally.Tally.{Tally}
 
 -- the row of a tally: `E,done,COMMITTED,ABORTED,GIVENUP`

@@ -1,13 +1,10 @@
 -- What an office's script asks for: each step is one of its examiners', and each examiner's transactions come one after another.
 use Rattle.std.specs.Prelude.{◌≡◌, ◌≤◌, ℕ, ◌==◌, cond, Bool, true, false, List, Option, Some, None, Ok, All, fold}
-use Rattle.title_trace.specs.declared.call.Request.{Request}
+use Rattle.title_trace.specs.{declared.call.Request.{Request}, Trace.{examiner_of}}
 use Rattle.title_trace.specs.declared.call.Request.TheVariants as request
-use Rattle.title_trace.specs.Trace.{examiner_of}
-use Rattle.title_plan.specs.declared.line.Line.{Line}
+use Rattle.title_plan.specs.{declared.line.Line.{Line}, Asked.{Asked}, Plans.{is_inside, script_of}}
 use Rattle.title_plan.specs.declared.line.Line.TheVariants as line
 use Rattle.title_plan.specs.declared.line.Schedule.TheVariants as schedule
-use Rattle.title_plan.specs.Asked.{Asked}
-use Rattle.title_plan.specs.Plans.{is_inside, script_of}
 
 -- a step asks as it stands, and its examiner is one from 1 to this number
 abbrev pub IsAskedBy : ℕ → Line → Type 0

@@ -1,15 +1,12 @@
 //! The report of an office that is settled.
 
-ghost use Rattle.std.specs.Prelude.{◌≡◌, ◌++◌, ℕ, true, false, IfOk, OnOk, OnErr, map, reverse, take};
-ghost use Rattle.std.specs.String.{string_bytes};
+ghost use Rattle.std.specs.{Prelude.{◌≡◌, ◌++◌, ℕ, true, false, IfOk, OnOk, OnErr, map, reverse, take}, String.{string_bytes}};
 ghost use Rattle.std.specs.Io.KnownBytes.{Appends};
 ghost use Rattle.title_land.specs.Depth.{depth};
 ghost use Rattle.title_chain.specs.Alone.{IsSerial};
 ghost use Rattle.title_store.specs.Plants.{IsEachOnce};
-ghost use Rattle.title_page.specs.Pages.{Stopped, Written};
-ghost use Rattle.title_page.specs.Rows.{rows_text};
-ghost use Rattle.title_day.specs.Closings.{closed_rows, closed_text};
-ghost use Rattle.title_day.specs.DaysOn.{closing_text_on};
+ghost use Rattle.title_page.specs.{Pages.{Stopped, Written}, Rows.{rows_text}};
+ghost use Rattle.title_day.specs.{Closings.{closed_rows, closed_text}, DaysOn.{closing_text_on}};
 ghost use Rattle.title_day.specs.OfficeReports.{closing_sheet, closing_text};
 
 use crate::tally::{Tally, put_settled, put_tallies};

@@ -1,7 +1,6 @@
 //! Laws of offices' scripts. Each function does nothing: its clause is the law, proved.
 
-ghost use Rattle.title_day.specs.DaysOn.{OfficesKeepTurnsOnto, SeatsFit, ToldAreTallies};
-ghost use Rattle.title_day.specs.Turns.{OfficesKeepTurns};
+ghost use Rattle.title_day.specs.{DaysOn.{OfficesKeepTurnsOnto, SeatsFit, ToldAreTallies}, Turns.{OfficesKeepTurns}};
 
 /// Each step that the script of an office asks for is one of its examiners', and each examiner's transactions come one after
 /// another.

@@ -1,12 +1,10 @@
 //! An office's day: it is opened, its scripts are run, and it is settled.
 
-ghost use Rattle.std.specs.Prelude.{◌≡◌, ◌≤◌, ◌++◌, IfErr, IfOk, OnOk, length, map, reverse};
-ghost use Rattle.std.specs.List.{flat_map};
+ghost use Rattle.std.specs.{Prelude.{◌≡◌, ◌≤◌, ◌++◌, IfErr, IfOk, OnOk, length, map, reverse}, List.{flat_map}};
 ghost use Rattle.title_land.specs.Depth.{depth};
 ghost use Rattle.title_chain.specs.Alone.{IsSerial};
 ghost use Rattle.title_trace.specs.Due.{MayOpen};
-ghost use Rattle.title_office.specs.Offices.{most_seats, opening_seats};
-ghost use Rattle.title_office.specs.Workers.{examiners_of, seat_examiners};
+ghost use Rattle.title_office.specs.{Offices.{most_seats, opening_seats}, Workers.{examiners_of, seat_examiners}};
 ghost use Rattle.title_day.specs.OfficeDays.{AreTold, IsOfficeTrouble, committed_by, first_there, tally_of};
 
 use crate::office_fault::OfficeFault;

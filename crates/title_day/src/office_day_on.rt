@@ -1,14 +1,11 @@
 //! An office's day on top of what stands: it is opened on a desk that has served that, its scripts are run, and it is settled.
 
-ghost use Rattle.std.specs.Prelude.{◌≡◌, ◌≤◌, ◌+◌, ◌++◌, IfErr, IfOk, List, length, map, reverse};
-ghost use Rattle.std.specs.List.{flat_map};
+ghost use Rattle.std.specs.{Prelude.{◌≡◌, ◌≤◌, ◌+◌, ◌++◌, IfErr, IfOk, List, length, map, reverse}, List.{flat_map}};
 ghost use Rattle.title_chain.specs.declared.record.Record.{Record as RecordOf};
 ghost use Rattle.title_store.specs.Plants.{IsEachOnce};
 ghost use Rattle.title_trace.specs.Trace.{committed};
-ghost use Rattle.title_office.specs.Offices.{most_seats, opening_seats};
-ghost use Rattle.title_office.specs.Workers.{examiners_of, seat_examiners};
-ghost use Rattle.title_day.specs.DaysOn.{GoesOnFrom, placed};
-ghost use Rattle.title_day.specs.OfficeDays.{AreTold, IsOfficeTrouble, committed_by, tally_of};
+ghost use Rattle.title_office.specs.{Offices.{most_seats, opening_seats}, Workers.{examiners_of, seat_examiners}};
+ghost use Rattle.title_day.specs.{DaysOn.{GoesOnFrom, placed}, OfficeDays.{AreTold, IsOfficeTrouble, committed_by, tally_of}};
 
 use crate::office_day::{Day, OFFICE, VIEWERS, gather, move_behind, run_scripts, tallies};
 use crate::office_fault::OfficeFault;

@@ -2,8 +2,7 @@
 
 ghost use Rattle.std.specs.Prelude.{◌≡◌, ◌≤◌, false, IfErr, IfOk};
 ghost use Rattle.title_office.specs.Offices.{most_seats};
-ghost use Rattle.title_day.specs.Closings.{closed_text};
-ghost use Rattle.title_day.specs.OfficeRuns.{IsOfficeRun, IsOwnCause, IsReportOf};
+ghost use Rattle.title_day.specs.{Closings.{closed_text}, OfficeRuns.{IsOfficeRun, IsOwnCause, IsReportOf}};
 
 use crate::closing::{Closing, close_office, write_closing};
 use crate::office_day::run_day;

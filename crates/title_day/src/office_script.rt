@@ -4,11 +4,8 @@ ghost use Rattle.std.specs.Prelude.{◌≡◌, ◌⊎◌, All, Err, IfErr, IfOk,
 ghost use Rattle.title_trace.specs.Due.{MayOpen};
 ghost use Rattle.title_plan.specs.declared.fault.ScriptFault.TheVariants as fault;
 ghost use Rattle.title_plan.specs.declared.line.Schedule.TheVariants as schedule;
-ghost use Rattle.title_plan.specs.Asked.{asked_in};
-ghost use Rattle.title_plan.specs.Plans.{script_of};
-ghost use Rattle.title_day.specs.DaysOn.{IsDealtOf};
-ghost use Rattle.title_day.specs.OfficeScripts.{IsOfficeScript};
-ghost use Rattle.title_day.specs.Turns.{IsAskedBy};
+ghost use Rattle.title_plan.specs.{Asked.{asked_in}, Plans.{script_of}};
+ghost use Rattle.title_day.specs.{DaysOn.{IsDealtOf}, OfficeScripts.{IsOfficeScript}, Turns.{IsAskedBy}};
 
 use crate::dealing::deal;
 use indexmap::IndexSet;

@@ -1,8 +1,7 @@
 //! The rows of an office's report that tell what came of its transactions.
 
 ghost use Rattle.std.specs.Prelude.{◌≡◌, ◌∷◌, [], true, false, OnOk, OnErr, map};
-ghost use Rattle.title_page.specs.Pages.{Stopped, Written};
-ghost use Rattle.title_page.specs.Rows.{rows_text};
+ghost use Rattle.title_page.specs.{Pages.{Stopped, Written}, Rows.{rows_text}};
 ghost use Rattle.title_day.specs.Tallies.{settled_row, tally_row};
 
 use title_device::{Failed, Sink};

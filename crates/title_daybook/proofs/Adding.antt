@@ -1,28 +1,17 @@
 -- A block that adds is one, and stands for what it was written from.
-use Rattle.std.proofs.Common.{◌≡◌, ◌∙◌, ◌<◌, ◌+◌, ◌^◌, ℕ, Bool, true, false, cond, List, [], ◌∷◌, ◌++◌, length}
-use Rattle.std.proofs.Common.{drop}
-use Rattle.std.proofs.Common.{Option, Some, None, Result, Ok, Err, refl, sym, ap, subst, inl, inr, append_assoc}
-use Rattle.std.specs.Prelude.{codes, is_none}
-use Rattle.std.specs.Fmt.{decimal}
-use Rattle.std.specs.List.{list_all, AllByRecursion}
-use Rattle.std.specs.Str.{bytes_eq, is_utf8}
-use Rattle.std.proofs.lemmas.Bool.{and_parts, cases_Bool}
-use Rattle.std.proofs.lemmas.Bool.Decides.{Decides-eqb}
-use Rattle.std.proofs.lemmas.Grind.{flat_map-append}
-use Rattle.std.proofs.lemmas.List.{append-nil}
+use Rattle.std.{proofs.Common.{◌≡◌, ◌∙◌, ◌<◌, ◌+◌, ◌^◌, ℕ, Bool, true, false, cond, List, [], ◌∷◌, ◌++◌, length, drop}, specs.Fmt.{decimal}}
+use Rattle.std.proofs.{Common.{Option, Some, None, Result, Ok, Err, refl, sym, ap, subst, inl, inr, append_assoc}, lemmas.List.{append-nil}}
+use Rattle.std.specs.{Prelude.{codes, is_none}, List.{list_all, AllByRecursion}, Str.{bytes_eq, is_utf8}}
+use Rattle.std.proofs.lemmas.{Bool.{and_parts, cases_Bool, Decides.{Decides-eqb}}, Grind.{flat_map-append}}
 use Rattle.std.proofs.lemmas.Slice.Eq.{bytes_eq-Decides, starts_is}
 use Rattle.title_journal.specs.Blocks.{ends_block, line_feed, lines, IsBlock, IsRow}
 use Rattle.title_page.specs.Rows.{row}
 use Rattle.title_plan.specs.Fields.{given}
 use Rattle.title_spelling.specs.Laws.{MarksReadBack, OnlyEndsEnd, PostsReadBack, RowsAreLines}
 use Rattle.title_spelling.specs.Rows.{are_names, fields_of, End, IsPlantRow, PlantRow}
-use Rattle.title_daybook.specs.Added.{text_of}
-use Rattle.title_daybook.specs.Files.{after_blocks, and_then}
+use Rattle.title_daybook.{specs.{Added.{text_of}, Files.{after_blocks, and_then}, Lines.{lines_of, said_by}}, proofs.FirstLines.{lines_at}}
 use Rattle.title_daybook.specs.KeptRows.{after_kept_row, after_last_row, after_rows, after_said, going_on, is_end, Progress}
-use Rattle.title_daybook.specs.Lines.{lines_of, said_by}
-use Rattle.title_daybook.proofs.FirstLines.{lines_at}
-use Rattle.title_daybook.proofs.RowLines.{end_line, line_of}
-use Rattle.title_daybook.proofs.Taking.{IsInner, Takes}
+use Rattle.title_daybook.proofs.{RowLines.{end_line, line_of}, Taking.{IsInner, Takes}}
 
 -- the same line feed is taken off both ends
 same_front : (xs ys : List ℕ) (a : ℕ) → xs ++ a ∷ [] ≡ ys ++ a ∷ [] → xs ≡ ys

@@ -1,17 +1,12 @@
 -- What the rows of a block come to, as they are read one by one.
 use Rattle.std.proofs.Common.{◌≡◌, ◌≤◌, ◌<◌, ◌+◌, ◌^◌, ℕ, List, [], ◌∷◌, length, take, drop, Option, Some, None, Result, Ok, Err}
-use Rattle.std.proofs.Common.{refl, sym, ap, ◌∙◌, arith, length-drop}
-use Rattle.std.proofs.Common.{get_or, length-append, map, Vec}
-use Rattle.std.specs.List.{flat_map}
-use Rattle.std.specs.declared.alloc.Global.{Global}
-use Rattle.std.proofs.lemmas.List.{drop-drop, drop_all, drop_more}
+use Rattle.std.{proofs.Common.{refl, sym, ap, ◌∙◌, arith, length-drop, get_or, length-append, map, Vec}, specs.List.{flat_map}}
+use Rattle.std.{specs.declared.alloc.Global.{Global}, proofs.lemmas.List.{drop-drop, drop_all, drop_more}}
 use Rattle.title_journal.specs.Blocks.{blocks_in, counted, front, head}
 use Rattle.title_plan.specs.Fields.{given}
-use Rattle.title_daybook.specs.Files.{after_blocks, and_then, standing_after, standing_in, what_stands}
-use Rattle.title_daybook.specs.Standing.{nothing_standing}
+use Rattle.title_daybook.specs.{Files.{after_blocks, and_then, standing_after, standing_in, what_stands}, Standing.{nothing_standing}}
 use Rattle.title_daybook.specs.KeptRows.{between, after_kept_row, after_last_row, after_rows, after_said, going_on, Progress}
-use Rattle.title_daybook.specs.Lines.{fields_in, lines_of, said_by, IsFirstLine}
-use Rattle.title_daybook.proofs.FirstLines.{some_line}
+use Rattle.title_daybook.{specs.Lines.{fields_in, lines_of, said_by, IsFirstLine}, proofs.FirstLines.{some_line}}
 
 -- rows of a text were read up to one of them: what is left comes to what the whole does
 pub record IsUpTo (first : ℕ) (text : List ℕ) (start : Progress) (n at : ℕ) (p : Progress) : Type 0 where

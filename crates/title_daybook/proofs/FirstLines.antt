@@ -1,15 +1,10 @@
 -- The rows of a text, one after another.
-use Rattle.std.proofs.Common.{◌≡◌, ◌<◌, ◌≤◌, ◌+◌, ℕ, zero, suc, List, [], ◌∷◌, ◌++◌, true, false, Option, Some, None, length}
-use Rattle.std.proofs.Common.{take, drop}
-use Rattle.std.proofs.Common.{get_or, refl, sym, ap, ◌∙◌, arith, append_assoc, take-append-drop, inl, inr}
-use Rattle.std.specs.Prelude.{◌==◌, nat_lt}
-use Rattle.std.specs.List.{list_any, position, position_or_len}
-use Rattle.std.proofs.lemmas.Bool.{cases_Bool, cond-true, cond-false, or_parts, or_right}
+use Rattle.std.proofs.Common.{◌≡◌, ◌<◌, ◌≤◌, ◌+◌, ℕ, zero, suc, List, [], ◌∷◌, ◌++◌, true, false, Option, Some, None, length, take, drop}
+use Rattle.std.{proofs.Common.{get_or, refl, sym, ap, ◌∙◌, arith, append_assoc, take-append-drop, inl, inr}, specs.Prelude.{◌==◌, nat_lt}}
+use Rattle.std.{specs.List.{list_any, position, position_or_len}, proofs.lemmas.List.{append-nil, drop_all, drop_more, take_all}}
+use Rattle.std.proofs.lemmas.Bool.{cases_Bool, cond-true, cond-false, or_parts, or_right, Decides.{nat_tests}}
+use Rattle.std.proofs.lemmas.List.{Quantifiers.{position-Some}, Sums.{fails_before_first}}
 use Rattle.csv.specs.Records.{field_at}
-use Rattle.std.proofs.lemmas.List.{append-nil, drop_all, drop_more, take_all}
-use Rattle.std.proofs.lemmas.Bool.Decides.{nat_tests}
-use Rattle.std.proofs.lemmas.List.Quantifiers.{position-Some}
-use Rattle.std.proofs.lemmas.List.Sums.{fails_before_first}
 use Rattle.title_journal.specs.Blocks.{line_feed}
 use Rattle.title_daybook.specs.Lines.{has_line_feed, is_spoilt, last_line, lines_from, lines_of, IsFirstLine}
 

@@ -1,25 +1,17 @@
 -- With a block that adds behind them, the blocks that stand for the old stand for the new.
-use Rattle.std.proofs.Common.{◌≡◌, ◌∙◌, ◌≤◌, ◌+◌, ◌-◌, ℕ, true, List, [], ◌∷◌, ◌++◌, length, length-append, map, reverse}
-use Rattle.std.proofs.Common.{take, drop}
-use Rattle.std.proofs.Common.{Result, Ok, Err, refl, sym, ap, subst, arith}
-use Rattle.std.specs.List.{flat_map, AllByRecursion}
-use Rattle.std.proofs.lemmas.List.{reverse-append, reverse-reverse, take_at}
-use Rattle.std.proofs.Math.Seq.{drop-append_seam}
+use Rattle.std.proofs.Common.{◌≡◌, ◌∙◌, ◌≤◌, ◌+◌, ◌-◌, ℕ, true, List, [], ◌∷◌, ◌++◌, length, length-append, map, reverse, take, drop}
+use Rattle.std.{proofs.Common.{Result, Ok, Err, refl, sym, ap, subst, arith}, specs.List.{flat_map, AllByRecursion}}
+use Rattle.std.proofs.{lemmas.List.{reverse-append, reverse-reverse, take_at}, Math.Seq.{drop-append_seam}}
 use Rattle.title_land.specs.declared.survey.Township.{Township as SurveyTownship}
 use Rattle.title_chain.specs.declared.record.Record.{Record}
 use Rattle.title_journal.specs.Blocks.{IsBlock}
-use Rattle.title_spelling.specs.Laws.{MarksReadBack, OnlyEndsEnd, PostsReadBack, RowsAreLines}
+use Rattle.title_spelling.specs.{Laws.{MarksReadBack, OnlyEndsEnd, PostsReadBack, RowsAreLines}, Rows.{End, Party, PlantRow, Township}}
 use Rattle.title_plan.specs.Townships.{each_once}
 use Rattle.title_trace.specs.Due.{most_townships}
-use Rattle.title_spelling.specs.Rows.{End, Party, PlantRow, Township}
-use Rattle.title_daybook.specs.Added.{added_block, added_rows, record_rows, rows_of, text_of, IsOn}
-use Rattle.title_daybook.specs.AddedLaws.{AddedReadsBack, CanBeWritten, IsKept}
-use Rattle.title_daybook.specs.Files.{after_blocks, and_then, standing_after, what_stands}
-use Rattle.title_daybook.specs.KeptRows.{after_rows, between, Progress}
-use Rattle.title_daybook.specs.Lines.{lines_of}
-use Rattle.title_daybook.specs.Standing.{Standing, nothing_standing}
-use Rattle.title_daybook.proofs.Adding.{all_rows, is_block, one_block_more}
-use Rattle.title_daybook.proofs.Taking.{parties, records, takes_both, townships, Takes}
+use Rattle.title_daybook.specs.{Added.{added_block, added_rows, record_rows, rows_of, text_of, IsOn}, Lines.{lines_of}}
+use Rattle.title_daybook.specs.{AddedLaws.{AddedReadsBack, CanBeWritten, IsKept}, KeptRows.{after_rows, between, Progress}}
+use Rattle.title_daybook.specs.{Files.{after_blocks, and_then, standing_after, what_stands}, Standing.{Standing, nothing_standing}}
+use Rattle.title_daybook.proofs.{Adding.{all_rows, is_block, one_block_more}, Taking.{parties, records, takes_both, townships, Takes}}
 
 all_front : {X : Type 0} (P : X → Type 0) (xs ys : List X) → AllByRecursion P (xs ++ ys) → AllByRecursion P xs
 all_front P [] ys h = tt

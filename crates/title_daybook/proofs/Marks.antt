@@ -1,25 +1,16 @@
 -- A block that begins with a byte order mark is at fault in its first row.
-use Rattle.std.proofs.Common.{◌≡◌, ◌∙◌, refl, ap, ℕ, List, [], ◌∷◌, ◌++◌, Bool, true, false, Option, Some, None, Err, inl, inr}
-use Rattle.std.proofs.Common.{length, drop, suc, cond, add-one}
-use Rattle.title_plan.specs.declared.row.Row.{Row}
-use Rattle.std.specs.Prelude.{◌==◌, ◌&&◌, is_none, nat_eq}
-use Rattle.std.specs.List.{list_any, starts_with}
-use Rattle.std.proofs.lemmas.Bool.{cases_Bool, cond-true, cond-false}
+use Rattle.std.proofs.Common.{◌≡◌, ◌∙◌, refl, ap, ℕ, List, [], ◌∷◌, ◌++◌, Bool, true, false, Option, Some, None, Err, inl, inr, arith}
+use Rattle.std.{proofs.Common.{length, drop, suc, cond, add-one}, specs.Prelude.{◌==◌, ◌&&◌, is_none, nat_eq}}
+use Rattle.std.{specs.List.{list_any, starts_with}, proofs.lemmas.{Bool.{cases_Bool, cond-true, cond-false}, Slice.Eq.{starts_is}}}
 use Rattle.std.proofs.lemmas.Bool.Decides.{Decides-eqb, nat_tests}
-use Rattle.std.proofs.lemmas.Slice.Eq.{starts_is}
-use Rattle.std.proofs.Common.{arith}
-use Rattle.csv.specs.Machine.{Read, step, is_end, next_record, fields_after, field_after, ends_at_end}
-use Rattle.csv.specs.Reading.{default_config, is_bom, records_from, records_next, strip_bom}
-use Rattle.csv.specs.declared.parser.Action.{Action}
+use Rattle.title_plan.specs.{declared.row.Row.{Row}, Rows.{row_in}, Fields.{given}}
+use Rattle.csv.specs.{Machine.{Read, step, is_end, next_record, fields_after, field_after, ends_at_end}, declared.parser.Action.{Action}}
+use Rattle.csv.specs.{Reading.{default_config, is_bom, records_from, records_next, strip_bom}, declared.parser.State.{State}}
 use Rattle.csv.specs.declared.parser.Action.TheVariants as act
-use Rattle.csv.specs.declared.parser.State.{State}
 use Rattle.csv.specs.declared.parser.State.TheVariants as st
 use Rattle.title_journal.specs.Blocks.{line_feed}
-use Rattle.title_plan.specs.Rows.{row_in}
-use Rattle.title_plan.specs.Fields.{given}
-use Rattle.title_daybook.specs.KeptRows.{after_last_row, after_rows, Progress}
+use Rattle.title_daybook.specs.{KeptRows.{after_last_row, after_rows, Progress}, Readers.{byte_order_mark}}
 use Rattle.title_daybook.specs.Lines.{closed, has_line_feed, has_return, lines_from, lines_of, only, row_said, said_by}
-use Rattle.title_daybook.specs.Readers.{byte_order_mark}
 
 -- ---- without a mark nothing is taken off
 

@@ -1,12 +1,7 @@
 -- Names and their bytes, and rows that are text.
-use Rattle.std.proofs.Common.{◌≡◌, ◌∷◌, ◌++◌, [], refl, sym, ℕ, List, Bool, true, false, map, not}
-use Rattle.std.specs.List.{list_all, list_any, position, prefix_len}
-use Rattle.std.specs.Str.{bytes_eq, is_utf8}
-use Rattle.std.specs.String.{string_bytes, string_eq}
-use Rattle.std.specs.declared.string.String.{String}
-use Rattle.std.proofs.lemmas.List.{length-map, map-append}
-use Rattle.std.proofs.lemmas.Str.{IsUtf8-from_is_utf8, is_utf8-from_IsUtf8}
-use Rattle.std.proofs.lemmas.Bool.{and_parts}
+use Rattle.std.{proofs.Common.{◌≡◌, ◌∷◌, ◌++◌, [], refl, sym, ℕ, List, Bool, true, false, map, not}, specs.Str.{bytes_eq, is_utf8}}
+use Rattle.std.specs.{List.{list_all, list_any, position, prefix_len}, String.{string_bytes, string_eq}, declared.string.String.{String}}
+use Rattle.std.proofs.lemmas.{List.{length-map, map-append}, Str.{IsUtf8-from_is_utf8, is_utf8-from_IsUtf8}, Bool.{and_parts}}
 use Rattle.csv.specs.Records.{AllText}
 use Rattle.indexmap.specs.IndexSet.{insert_key}
 

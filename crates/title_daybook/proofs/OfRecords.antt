@@ -1,24 +1,16 @@
 -- Of records a block has what is kept of them.
-use Rattle.std.proofs.Common.{◌≡◌, ◌∙◌, ◌+◌, ◌-◌, ℕ, false, List, [], ◌∷◌, ◌++◌, drop, filter, length, length-append}
-use Rattle.std.proofs.Common.{map, reverse, take}
-use Rattle.std.proofs.Common.{None, refl, sym, ap, arith, inl, inr}
-use Rattle.std.specs.List.{flat_map}
-use Rattle.std.proofs.lemmas.Bool.{cases_Bool}
+use Rattle.std.proofs.Common.{◌≡◌, ◌∙◌, ◌+◌, ◌-◌, ℕ, false, List, [], ◌∷◌, ◌++◌, drop, filter, length, length-append, map, reverse, take}
+use Rattle.std.{proofs.{Common.{None, refl, sym, ap, arith, inl, inr}, lemmas.Bool.{cases_Bool}}, specs.List.{flat_map}}
 use Rattle.std.proofs.lemmas.List.{length-map, length-reverse, map-append, reverse-append, reverse-reverse, take_at}
-use Rattle.title_chain.specs.declared.ask.Answer.{Answer}
+use Rattle.title_chain.specs.declared.{ask.{Answer.{Answer}, Ask.{Ask}, Step.{Step}, Terms.{Terms}}, record.Record.{Record}}
 use Rattle.title_chain.specs.declared.ask.Answer.TheVariants as answer
-use Rattle.title_chain.specs.declared.ask.Ask.{Ask}
 use Rattle.title_chain.specs.declared.ask.Ask.TheVariants as ask
-use Rattle.title_chain.specs.declared.ask.Step.{Step}
-use Rattle.title_chain.specs.declared.ask.Terms.{Terms}
-use Rattle.title_chain.specs.declared.record.Record.{Record}
 use Rattle.title_desk.specs.Images.{is_posted}
 use Rattle.title_standing.specs.Standing.{kept}
 use Rattle.title_spelling.specs.Rows.{PlantRow}
 use Rattle.title_spelling.specs.Rows as plant
 use Rattle.title_daybook.specs.Added.{added_block, at_most_one, posted, posts_of, record_rows, rows_of, text_of, transaction_rows}
-use Rattle.title_daybook.specs.AddedLaws.{KeptAreWritten}
-use Rattle.title_daybook.specs.Standing.{Standing}
+use Rattle.title_daybook.specs.{AddedLaws.{KeptAreWritten}, Standing.{Standing}}
 
 -- a step that wasn't posted
 not_posted : (a : Ask) (b : Answer) → is_posted a b ≡ false → posted a b ≡ None

@@ -1,22 +1,14 @@
 -- What a reader of a whole block takes from where a row begins, and the fields of the row.
-use Rattle.std.proofs.Common.{◌≡◌, ◌∙◌, refl, sym, ap, ℕ, zero, suc, List, [], ◌∷◌, ◌++◌, Bool, true, false, Option}
-use Rattle.std.proofs.Common.{Some, None, length}
-use Rattle.std.proofs.Common.{Bor, subst, ◌⊎◌, inl, inr, add-one}
-use Rattle.std.specs.Prelude.{◌==◌, ◌||◌}
-use Rattle.std.specs.List.{list_any}
-use Rattle.std.proofs.lemmas.Bool.{cases_Bool, ne_eqb, or_left, or_right}
-use Rattle.std.proofs.lemmas.List.Folds.{list_any-append}
+use Rattle.std.proofs.Common.{◌≡◌, ◌∙◌, refl, sym, ap, ℕ, zero, suc, List, [], ◌∷◌, ◌++◌, Bool, true, false, Option, Some, None, length}
+use Rattle.std.{proofs.Common.{Bor, subst, ◌⊎◌, inl, inr, add-one}, specs.{Prelude.{◌==◌, ◌||◌}, List.{list_any}}}
+use Rattle.std.proofs.lemmas.{Bool.{cases_Bool, ne_eqb, or_left, or_right}, List.Folds.{list_any-append}}
 use Rattle.csv.specs.Machine.{Read, step, in_field, is_end, next_record, fields_after, field_after, ends_at_end}
-use Rattle.csv.proofs.ReadFacts.{rows-end, rows-more}
+use Rattle.csv.{proofs.ReadFacts.{rows-end, rows-more}, specs.declared.{parser.{Action.{Action}, State.{State}}, reader.Reader.{Reader}}}
 use Rattle.csv.specs.Reading.{default_config, records, records_from, took_first, Reached, ReadRecord}
-use Rattle.csv.specs.declared.parser.Action.{Action}
 use Rattle.csv.specs.declared.parser.Action.TheVariants as act
-use Rattle.csv.specs.declared.reader.Reader.{Reader}
-use Rattle.csv.specs.declared.parser.State.{State}
 use Rattle.csv.specs.declared.parser.State.TheVariants as st
 use Rattle.title_journal.specs.Blocks.{line_feed}
-use Rattle.title_daybook.specs.Readers.{IsAt, Took}
-use Rattle.title_daybook.specs.Lines.{closed, fields_in, has_line_feed, has_return, only}
+use Rattle.title_daybook.specs.{Readers.{IsAt, Took}, Lines.{closed, fields_in, has_line_feed, has_return, only}}
 
 -- ---- within a row
 

@@ -1,26 +1,16 @@
 -- The text of a row is a line, whose fields are the row's.
-use Rattle.std.proofs.Common.{◌≡◌, ◌∙◌, ℕ, ◌<◌, ◌≤◌, ◌^◌, Bool, true, false, List, [], ◌∷◌, ◌++◌, refl, sym, ap, subst}
-use Rattle.std.proofs.Common.{Some, arith}
-use Rattle.std.proofs.Common.{append_assoc}
-use Rattle.std.specs.Prelude.{codes, nat_le, ◌==◌, ◌&&◌}
-use Rattle.std.specs.Fmt.{decimal}
-use Rattle.std.specs.List.{list_all, list_any}
-use Rattle.std.specs.Str.Parse.{AllDigits}
-use Rattle.std.proofs.lemmas.Bool.{and_parts, leb-true, ne_eqb}
-use Rattle.std.proofs.lemmas.Fmt.{decimal_is_IsNumeral}
-use Rattle.std.proofs.lemmas.List.{append-nil}
-use Rattle.std.proofs.lemmas.Str.Parse.{digit_at}
-use Rattle.csv.proofs.RoundTrip.{read-write-many}
-use Rattle.csv.specs.Machine.{next_record}
-use Rattle.csv.specs.Reading.{default_config}
+use Rattle.std.proofs.Common.{◌≡◌, ◌∙◌, ℕ, ◌<◌, ◌≤◌, ◌^◌, Bool, true, false, List, [], ◌∷◌, ◌++◌, refl, sym, ap, subst, Some, arith}
+use Rattle.std.{proofs.Common.{append_assoc}, specs.{Prelude.{codes, nat_le, ◌==◌, ◌&&◌}, Fmt.{decimal}, List.{list_all, list_any}}}
+use Rattle.std.{specs.Str.Parse.{AllDigits}, proofs.lemmas.{Bool.{and_parts, leb-true, ne_eqb}, Fmt.{decimal_is_IsNumeral}}}
+use Rattle.std.proofs.lemmas.{List.{append-nil}, Str.Parse.{digit_at}}
+use Rattle.csv.{proofs.RoundTrip.{read-write-many}, specs.{Machine.{next_record}, Reading.{default_config}}}
 use Rattle.csv.specs.Writing.{default_writer, escaped, field_text, fields_text, is_blank, needs_byte, row_text}
 use Rattle.csv.specs.declared.parser.State.TheVariants as st
 use Rattle.title_journal.specs.Blocks.{line_feed, IsRow}
 use Rattle.title_page.specs.Rows.{row, row_writer}
 use Rattle.title_spelling.specs.Laws.{is_shown, RowsAreLines}
 use Rattle.title_spelling.specs.Rows.{are_names, end_fields, fields_of, Begin, Commit, End, IsPlantRow, Party, PlantRow, Post, Township}
-use Rattle.title_daybook.specs.Lines.{fields_in, has_line_feed}
-use Rattle.title_daybook.proofs.RowFields.{fields_by}
+use Rattle.title_daybook.{specs.Lines.{fields_in, has_line_feed}, proofs.RowFields.{fields_by}}
 
 -- ---- rows of any lengths are written as the default writer writes them
 

@@ -1,40 +1,21 @@
 -- The rows of a block, taken one after another, make what they were written from.
-use Rattle.std.proofs.Common.{◌≡◌, ◌∙◌, ◌≤◌, ◌<◌, ◌+◌, ℕ, suc, Bool, true, false, not, List, [], ◌∷◌, ◌++◌}
-use Rattle.std.proofs.Common.{length, length-append, map, reverse}
-use Rattle.std.proofs.Common.{Some, refl, sym, ap, subst, arith, inl, inr, append_assoc}
-use Rattle.std.specs.Prelude.{◌==◌, nat_le, nat_lt}
-use Rattle.std.specs.List.{flat_map, list_all, list_any, AllByRecursion}
-use Rattle.std.specs.Str.{bytes_eq, is_utf8}
-use Rattle.std.proofs.lemmas.Bool.{and_parts, cases_Bool, ne_eqb, not-true, or_parts}
-use Rattle.std.proofs.lemmas.Bool.Decides.{nat_tests}
-use Rattle.std.proofs.lemmas.List.{append-nil, reverse-append}
-use Rattle.std.proofs.lemmas.List.Folds.{list_any-append}
-use Rattle.std.proofs.lemmas.Slice.Eq.{bytes_eq-Decides}
-use Rattle.title_land.specs.declared.survey.Township.{Township as SurveyTownship}
-use Rattle.title_land.specs.Survey.{same_township}
-use Rattle.title_land.specs.Texts.{township_text}
-use Rattle.title_chain.specs.declared.ask.Terms.{Terms}
-use Rattle.title_chain.specs.declared.ask.Step.{Step}
-use Rattle.title_chain.specs.declared.record.Record.{Record}
-use Rattle.title_chain.specs.Alone.{most_parties}
+use Rattle.std.{proofs.Common.{◌≡◌, ◌∙◌, ◌≤◌, ◌<◌, ◌+◌, ℕ, suc, Bool, true, false, not, List, [], ◌∷◌, ◌++◌}, specs.Str.{bytes_eq, is_utf8}}
+use Rattle.std.proofs.Common.{length, length-append, map, reverse, Some, refl, sym, ap, subst, arith, inl, inr, append_assoc}
+use Rattle.std.specs.{Prelude.{◌==◌, nat_le, nat_lt}, List.{flat_map, list_all, list_any, AllByRecursion}}
+use Rattle.std.proofs.lemmas.{Bool.{and_parts, cases_Bool, ne_eqb, not-true, or_parts, Decides.{nat_tests}}, List.Folds.{list_any-append}}
+use Rattle.std.proofs.lemmas.{List.{append-nil, reverse-append}, Slice.Eq.{bytes_eq-Decides}}
+use Rattle.title_land.specs.{declared.survey.Township.{Township as SurveyTownship}, Survey.{same_township}, Texts.{township_text}}
+use Rattle.title_chain.specs.{declared.{ask.{Terms.{Terms}, Step.{Step}}, record.Record.{Record}}, Alone.{most_parties}}
 use Rattle.title_trace.specs.Due.{most_steps, most_townships}
 use Rattle.title_plan.specs.declared.row.Act.TheVariants as act
-use Rattle.title_plan.specs.declared.row.Row.{Row}
+use Rattle.title_plan.specs.{declared.row.Row.{Row}, Fields.{given, is_name}, Rows.{row_in}, Townships.{each_once}}
 use Rattle.title_plan.specs.declared.row.Row.TheVariants as said
-use Rattle.title_plan.specs.Fields.{given, is_name}
-use Rattle.title_plan.specs.Rows.{row_in}
-use Rattle.title_plan.specs.Townships.{each_once}
-use Rattle.title_spelling.specs.Laws.{among, MarksReadBack, PostsReadBack}
-use Rattle.title_spelling.specs.Lands.{spelling}
-use Rattle.title_spelling.specs.Posts.{IsExaminer, IsPost}
+use Rattle.title_spelling.specs.{Laws.{among, MarksReadBack, PostsReadBack}, Lands.{spelling}, Posts.{IsExaminer, IsPost}}
 use Rattle.title_spelling.specs.Rows.{are_names, fields_of, Begin, Commit, End, IsPlantRow, Party, PlantRow, Post, Township}
 use Rattle.title_spelling.specs.Rows as plant
 use Rattle.title_standing.specs.Records.{posted_step}
-use Rattle.title_daybook.specs.Added.{posts_of, post_rows, record_rows, transaction_rows}
-use Rattle.title_daybook.specs.AddedLaws.{IsKept}
-use Rattle.title_daybook.specs.KeptRows.{after_said, between, posts, with_record, Progress}
-use Rattle.title_daybook.specs.Lines.{said_by}
-use Rattle.title_daybook.specs.Standing.{Standing}
+use Rattle.title_daybook.specs.{Added.{posts_of, post_rows, record_rows, transaction_rows}, AddedLaws.{IsKept}, Lines.{said_by}}
+use Rattle.title_daybook.specs.{KeptRows.{after_said, between, posts, with_record, Progress}, Standing.{Standing}}
 use Rattle.title_daybook.proofs.Utf8Fields.{fields_text}
 
 -- ---- nothing is declared twice

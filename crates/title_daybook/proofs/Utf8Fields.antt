@@ -1,48 +1,25 @@
 -- The fields of rows are UTF-8.
-use Rattle.std.proofs.Common.{◌≡◌, ℕ, ◌<◌, ◌^◌, Bool, true, false, List, [], ◌∷◌, ◌++◌, cond, refl, arith}
-use Rattle.std.proofs.Common.{Option, Some, None, zero, suc, length}
-use Rattle.std.proofs.lemmas.Bool.{and_parts}
-use Rattle.title_instrument.specs.declared.instrument.Instrument.{Instrument}
+use Rattle.std.proofs.{Common.{◌≡◌, ℕ, ◌<◌, ◌^◌, Bool, true, false, List, [], ◌∷◌, ◌++◌, cond, refl, arith}, lemmas.Bool.{and_parts}}
+use Rattle.std.{proofs.Common.{Option, Some, None, zero, suc, length}, specs.{Prelude.{codes, nat_lt}, Char.{digit_char}, Fmt.{decimal}}}
+use Rattle.std.{specs.{List.{flat_map, join_by, list_all}, Str.{IsAscii, IsUtf8, is_utf8}}, proofs.lemmas.Bool.Decides.{nat_tests}}
+use Rattle.std.proofs.lemmas.{Fmt.{IsAscii-decimal}, Str.{IsUtf8-append, IsUtf8-from_ascii, IsUtf8-from_is_utf8, is_utf8-from_IsUtf8}}
+use Rattle.title_instrument.specs.{declared.{instrument.Instrument.{Instrument}, kind.Kind.{Kind}}, Kinds.{kind_of}, Parties.{estates_of}}
+use Rattle.title_instrument.specs.declared.parts.{Estate.{Estate, TheVariants.{S, O, M}}, Estates.{Estates}, Quantum.{Quantum}}
+use Rattle.title_instrument.specs.{Estates.{estate_text, estates_text, letter_if, letter_of}, Kinds.{kind_word}}
 use Rattle.title_instrument.specs.declared.instrument.Instrument.TheVariants as i
-use Rattle.title_instrument.specs.Kinds.{kind_of}
-use Rattle.title_instrument.specs.Parties.{estates_of}
 use Rattle.title_spelling.specs.Rows.{fields_of, Begin, Commit, End, IsPlantRow, Party, PlantRow, Post, Township as TownshipRow}
-use Rattle.std.specs.Prelude.{codes, nat_lt}
-use Rattle.std.specs.Char.{digit_char}
-use Rattle.std.specs.Fmt.{decimal}
-use Rattle.std.specs.List.{flat_map, join_by, list_all}
-use Rattle.std.specs.Str.{IsAscii, IsUtf8, is_utf8}
-use Rattle.std.proofs.lemmas.Bool.Decides.{nat_tests}
-use Rattle.std.proofs.lemmas.Fmt.{IsAscii-decimal}
-use Rattle.std.proofs.lemmas.Str.{IsUtf8-append, IsUtf8-from_ascii, IsUtf8-from_is_utf8, is_utf8-from_IsUtf8}
-use Rattle.title_share.specs.Share.{share_text}
-use Rattle.title_share.specs.Laws.ShareLaws.{lowest_fraction, part_fits}
-use Rattle.title_instrument.specs.declared.kind.Kind.{Kind}
-use Rattle.title_instrument.specs.declared.kind.Kind.TheVariants as kind
-use Rattle.title_instrument.specs.declared.parts.Estate.{Estate}
-use Rattle.title_instrument.specs.declared.parts.Estate.TheVariants.{S, O, M}
-use Rattle.title_instrument.specs.declared.parts.Estates.{Estates}
-use Rattle.title_instrument.specs.declared.parts.Quantum.{Quantum}
-use Rattle.title_instrument.specs.declared.parts.Quantum.TheVariants as quantum
-use Rattle.title_instrument.specs.Estates.{estate_text, estates_text, letter_if, letter_of}
-use Rattle.title_instrument.specs.Kinds.{kind_word}
-use Rattle.title_land.specs.declared.grid.Grid.{Grid}
-use Rattle.title_land.specs.declared.node.Node.{Node}
-use Rattle.title_land.specs.declared.node.Node.TheVariants as node
-use Rattle.title_land.specs.declared.survey.Section.{Section}
-use Rattle.title_land.specs.declared.survey.Township.{Township}
-use Rattle.title_land.specs.declared.rectangle.Quarter.{Quarter}
-use Rattle.title_land.specs.declared.rectangle.Quarter.TheVariants.{Northeast, Northwest, Southwest, Southeast}
-use Rattle.title_land.specs.declared.tract.Land.{Land}
-use Rattle.title_land.specs.declared.tract.Land.TheVariants as land
-use Rattle.title_land.specs.Depth.{depth}
-use Rattle.title_land.specs.Grids.{grid_has, indices}
-use Rattle.title_land.specs.Lands.{cover_of}
-use Rattle.title_land.specs.Texts.{node_text, path_text, quarter_text, quarters_text, section_text, township_text}
-use Rattle.title_spelling.specs.Cells.{digit_at, number_of, row_text, spelled_cells}
-use Rattle.title_spelling.specs.Lands.{part_spelling, path_of, spelling}
+use Rattle.title_spelling.specs.{Cells.{digit_at, number_of, row_text, spelled_cells}, Lands.{part_spelling, path_of, spelling}}
 use Rattle.title_spelling.specs.Posts.{and_item, item_text, name_of, quantum_text, reserve_text, terms_fields, HasShares, IsQuantum}
 use Rattle.title_spelling.specs.Posts.{IsReserve, IsReserved, IsShare}
+use Rattle.title_share.specs.{Share.{share_text}, Laws.ShareLaws.{lowest_fraction, part_fits}}
+use Rattle.title_instrument.specs.declared.kind.Kind.TheVariants as kind
+use Rattle.title_instrument.specs.declared.parts.Quantum.TheVariants as quantum
+use Rattle.title_land.specs.{declared.{grid.Grid.{Grid}, node.Node.{Node}, survey.{Section.{Section}, Township.{Township}}}, Depth.{depth}}
+use Rattle.title_land.specs.declared.rectangle.Quarter.{Quarter, TheVariants.{Northeast, Northwest, Southwest, Southeast}}
+use Rattle.title_land.specs.{declared.tract.Land.{Land}, Grids.{grid_has, indices}, Lands.{cover_of}}
+use Rattle.title_land.specs.Texts.{node_text, path_text, quarter_text, quarters_text, section_text, township_text}
+use Rattle.title_land.specs.declared.node.Node.TheVariants as node
+use Rattle.title_land.specs.declared.tract.Land.TheVariants as land
 
 -- a text
 pub record IsText (text : List ℕ) : Type 0 where

@@ -1,11 +1,8 @@
 -- Rows are written one behind the other.
-use Rattle.std.proofs.Common.{◌≡◌, ◌∙◌, ◌≤◌, ◌<◌, ◌+◌, ℕ, List, [], ◌∷◌, ◌++◌, length, take, drop}
-use Rattle.std.proofs.Common.{get_or, length-take, append_assoc, refl, sym, ap, arith}
-use Rattle.std.proofs.lemmas.Bool.{ne_eqb}
-use Rattle.std.proofs.lemmas.Grind.{flat_map-append}
+use Rattle.std.proofs.{Common.{◌≡◌, ◌∙◌, ◌≤◌, ◌<◌, ◌+◌, ℕ, List, [], ◌∷◌, ◌++◌, length, take, drop}, lemmas.Bool.{ne_eqb}}
+use Rattle.std.proofs.{Common.{get_or, length-take, append_assoc, refl, sym, ap, arith}, lemmas.Grind.{flat_map-append}}
 use Rattle.std.proofs.lemmas.List.{append-nil, length-append, drop-append-le, map-append, take_all, take_more}
-use Rattle.title_chain.specs.declared.ask.Step.{Step}
-use Rattle.title_chain.specs.declared.ask.Terms.{Terms}
+use Rattle.title_chain.specs.declared.ask.{Step.{Step}, Terms.{Terms}}
 use Rattle.title_page.specs.Rows.{row}
 use Rattle.title_spelling.specs.Rows.{fields_of, PlantRow}
 use Rattle.title_spelling.specs.Rows as plant

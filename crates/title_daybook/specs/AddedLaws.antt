@@ -1,20 +1,13 @@
 -- The law of blocks that add: with one behind the blocks that stand for the old, they stand for the new.
-use Rattle.std.specs.Prelude.{◌≡◌, ◌≤◌, ◌<◌, ◌+◌, ◌^◌, ℕ, true, List, [], ◌∷◌, ◌++◌, drop, length, map, reverse, Ok}
+use Rattle.std.specs.{Prelude.{◌≡◌, ◌≤◌, ◌<◌, ◌+◌, ◌^◌, ℕ, true, List, [], ◌∷◌, ◌++◌, drop, length, map, reverse, Ok}, Str.{is_utf8}}
 use Rattle.std.specs.List.{list_all, AllByRecursion}
-use Rattle.std.specs.Str.{is_utf8}
-use Rattle.title_chain.specs.declared.ask.Terms.{Terms}
-use Rattle.title_chain.specs.declared.record.Record.{Record}
-use Rattle.title_chain.specs.Alone.{most_parties}
+use Rattle.title_chain.specs.{declared.{ask.Terms.{Terms}, record.Record.{Record}}, Alone.{most_parties}}
 use Rattle.title_journal.specs.Blocks.{IsBlock}
 use Rattle.title_plan.specs.Townships.{each_once}
-use Rattle.title_spelling.specs.Posts.{IsExaminer, IsPost}
-use Rattle.title_spelling.specs.Rows.{are_names}
-use Rattle.title_standing.specs.Records.{posted_step}
-use Rattle.title_standing.specs.Standing.{kept}
+use Rattle.title_spelling.specs.{Posts.{IsExaminer, IsPost}, Rows.{are_names}}
+use Rattle.title_standing.specs.{Records.{posted_step}, Standing.{kept}}
 use Rattle.title_trace.specs.Due.{most_steps, most_townships}
-use Rattle.title_daybook.specs.Added.{added_block, rows_of, text_of, IsOn}
-use Rattle.title_daybook.specs.Files.{standing_after}
-use Rattle.title_daybook.specs.Standing.{Standing}
+use Rattle.title_daybook.specs.{Added.{added_block, rows_of, text_of, IsOn}, Files.{standing_after}, Standing.{Standing}}
 
 -- a record among parties with these names: each of its steps was posted, and can be written
 pub record IsKept (names : List (List ℕ)) (r : Record) : Type 0 where

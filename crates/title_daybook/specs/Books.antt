@@ -1,13 +1,9 @@
 -- What the code has, as definitions speak of it.
-use Rattle.std.specs.Prelude.{◌≡◌, ◌⊎◌, ℕ, map, reverse, Option, None, option_map}
-use Rattle.std.specs.String.{string_bytes}
+use Rattle.std.specs.{Prelude.{◌≡◌, ◌⊎◌, ℕ, map, reverse, Option, None, option_map}, String.{string_bytes}}
 use Rattle.title_standing.specs.Records.{record_of}
-use Rattle.title_daybook.specs.declared.book.Book.{Book}
-use Rattle.title_daybook.specs.declared.fault.PlantFault.{PlantFault}
+use Rattle.title_daybook.specs.{declared.{book.Book.{Book}, fault.PlantFault.{PlantFault}}, KeptRows.{Progress}, Standing.{Standing}}
 use Rattle.title_daybook.specs.declared.fault.PlantFault.TheVariants as fault
 use Rattle.title_daybook.specs.declared.standing.Standing as declared
-use Rattle.title_daybook.specs.KeptRows.{Progress}
-use Rattle.title_daybook.specs.Standing.{Standing}
 
 -- what stands; deeds have the oldest first
 abbrev pub standing_of : declared.Standing → Standing

@@ -1,11 +1,9 @@
 -- Where transactions end, row by row. The rows of a plant's file are told apart by how they begin and by their commas, as quotes that
 -- needn't be there change neither.
-use Rattle.std.specs.Prelude.{ℕ, ◌+◌, ◌-◌, ◌^◌, ◌==◌, ◌&&◌, not, cond, min, nat_le, Bool, false, List, [], ◌∷◌, count_by}
+use Rattle.std.specs.{Prelude.{ℕ, ◌+◌, ◌-◌, ◌^◌, ◌==◌, ◌&&◌, not, cond, min, nat_le, Bool, false, List, [], ◌∷◌, count_by}, List.{find}}
 use Rattle.std.specs.Prelude.{Option, Some, None}
-use Rattle.std.specs.List.{find}
 use Rattle.title_journal.specs.Blocks.{open_gate}
-use Rattle.title_daybook.specs.Lines.{lines_of}
-use Rattle.title_daybook.specs.declared.ending.Walk.{Walk}
+use Rattle.title_daybook.specs.{Lines.{lines_of}, declared.ending.Walk.{Walk}}
 
 -- ---- a row
 

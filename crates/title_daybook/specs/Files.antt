@@ -4,9 +4,7 @@ use Rattle.std.specs.Prelude.{◌≡◌, ℕ, ◌+◌, List, [], ◌∷◌, leng
 use Rattle.title_land.specs.Depth.{depth}
 use Rattle.title_chain.specs.Alone.{IsSerial}
 use Rattle.title_journal.specs.Blocks.{blocks_in}
-use Rattle.title_daybook.specs.Ends.{at_head, past_blocks, stays_at}
-use Rattle.title_daybook.specs.KeptRows.{Progress, after_rows, between}
-use Rattle.title_daybook.specs.Lines.{lines_of}
+use Rattle.title_daybook.specs.{Ends.{at_head, past_blocks, stays_at}, KeptRows.{Progress, after_rows, between}, Lines.{lines_of}}
 use Rattle.title_daybook.specs.Standing.{Standing, nothing_standing}
 
 -- goes on where rows could be read; the first fault stands, whatever follows

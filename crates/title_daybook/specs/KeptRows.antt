@@ -1,30 +1,18 @@
 -- What the rows of a block come to, one after another.
-use Rattle.std.specs.Prelude.{ℕ, ◌+◌, ◌==◌, ◌&&◌, ◌||◌, cond, is_none, List, [], ◌∷◌, ◌++◌, codes, length, nat_le, nat_lt}
-use Rattle.std.specs.Prelude.{Option, Some, None, Result, Ok, Err, Bool}
-use Rattle.std.specs.Fmt.{decimal}
-use Rattle.std.specs.List.{list_any}
-use Rattle.std.specs.Str.{bytes_eq}
-use Rattle.title_land.specs.declared.survey.Township.{Township}
-use Rattle.title_land.specs.declared.tract.Land.{Land}
+use Rattle.std.specs.{Prelude.{ℕ, ◌+◌, ◌==◌, ◌&&◌, ◌||◌, cond, is_none, List, [], ◌∷◌, ◌++◌, codes, length, nat_le, nat_lt}, Fmt.{decimal}}
+use Rattle.std.specs.{Prelude.{Option, Some, None, Result, Ok, Err, Bool}, List.{list_any}, Str.{bytes_eq}}
+use Rattle.title_land.specs.{declared.{survey.Township.{Township}, tract.Land.{Land}}, Survey.{same_township}}
 use Rattle.title_land.specs.declared.tract.Land.TheVariants as land
-use Rattle.title_land.specs.Survey.{same_township}
 use Rattle.title_aliquot.specs.declared.fault.DescFault.{DescFault}
 use Rattle.title_instrument.specs.declared.instrument.Instrument.{Instrument}
-use Rattle.title_chain.specs.declared.ask.Step.{Step}
-use Rattle.title_chain.specs.declared.record.Record.{Record}
-use Rattle.title_chain.specs.Alone.{most_parties}
+use Rattle.title_chain.specs.{declared.{ask.Step.{Step}, record.Record.{Record}}, Alone.{most_parties}}
 use Rattle.title_trace.specs.Due.{most_steps, most_townships}
-use Rattle.title_plan.specs.declared.row.Act.{Act}
+use Rattle.title_plan.specs.{declared.row.{Act.{Act}, Row.{Row}}, Fields.{given}, Lands.{land_in}, Plans.{numbered}}
 use Rattle.title_plan.specs.declared.row.Act.TheVariants as act
-use Rattle.title_plan.specs.declared.row.Row.{Row}
 use Rattle.title_plan.specs.declared.row.Row.TheVariants as row
-use Rattle.title_plan.specs.Fields.{given}
-use Rattle.title_plan.specs.Lands.{land_in}
-use Rattle.title_plan.specs.Plans.{numbered}
 use Rattle.title_standing.specs.Records.{posted_step}
 use Rattle.title_spelling.specs.Lands.{kept_land_in}
-use Rattle.title_daybook.specs.Lines.{row_said}
-use Rattle.title_daybook.specs.Standing.{Standing}
+use Rattle.title_daybook.specs.{Lines.{row_said}, Standing.{Standing}}
 
 -- between two rows: what stands, and the transaction that has begun, with what it has posted so far
 pub record Progress : Type 0 where

@@ -1,13 +1,9 @@
 -- The rows of a block, and the fields of a row.
 use Rattle.std.specs.Prelude.{◌≡◌, ◌≤◌, ◌<◌, ℕ, ◌+◌, ◌==◌, cond, false, length, take, drop, List, [], ◌∷◌, ◌++◌, Bool, Option, Some}
-use Rattle.std.specs.Prelude.{None, if◌then◌else◌}
-use Rattle.std.specs.List.{list_all, list_any}
-use Rattle.std.specs.Str.{is_utf8}
+use Rattle.std.specs.{Prelude.{None, if◌then◌else◌}, List.{list_all, list_any}, Str.{is_utf8}}
 use Rattle.csv.specs.Reading.{default_config, records}
 use Rattle.title_journal.specs.Blocks.{line_feed}
-use Rattle.title_plan.specs.Fields.{given}
-use Rattle.title_plan.specs.Rows.{row_in}
-use Rattle.title_plan.specs.declared.row.Row.{Row}
+use Rattle.title_plan.specs.{Fields.{given}, Rows.{row_in}, declared.row.Row.{Row}}
 
 -- what is left of a row at the end of a text: a row of its own, or nothing
 abbrev pub last_line : List ℕ → List (List ℕ)

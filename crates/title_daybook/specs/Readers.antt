@@ -1,10 +1,8 @@
 -- A reader of the rows of a block.
-use Rattle.std.specs.Prelude.{◌≡◌, ℕ, List, [], ◌∷◌, Bool, true, false, Some, None}
-use Rattle.std.specs.Borrow.{Bor}
-use Rattle.csv.specs.Machine.{Read, next_record}
-use Rattle.csv.specs.Reading.{Ready, default_config, reader_config, reader_state, reader_trim, source_of}
-use Rattle.csv.specs.declared.parser.State.TheVariants as st
+use Rattle.std.specs.{Prelude.{◌≡◌, ℕ, List, [], ◌∷◌, Bool, true, false, Some, None}, Borrow.{Bor}}
+use Rattle.csv.specs.{Machine.{Read, next_record}, Reading.{Ready, default_config, reader_config, reader_state, reader_trim, source_of}}
 use Rattle.csv.specs.declared.reader.Reader.{Reader}
+use Rattle.csv.specs.declared.parser.State.TheVariants as st
 use Rattle.csv.specs.declared.reader.Trim.TheVariants as trim
 
 -- U+FEFF in UTF-8

@@ -2,13 +2,9 @@
 
 ghost use Rattle.std.specs.Prelude.{◌≡◌, ◌⊎◌, ◌∷◌, [], IfErr, IfOk, OnOk, None, Some};
 ghost use Rattle.csv.specs.Records.{fields_of};
-ghost use Rattle.title_daybook.specs.KeptRows.{inside, said_land, said_township};
-ghost use Rattle.title_daybook.specs.Lines.{said_by};
+ghost use Rattle.title_daybook.specs.{KeptRows.{inside, said_land, said_township}, Lines.{said_by}};
 ghost use Rattle.title_daybook.specs.declared.fault.PlantFault.TheVariants as fault;
-ghost use Rattle.title_plan.specs.Fields.{given};
-ghost use Rattle.title_plan.specs.Lands.{land_in};
-ghost use Rattle.title_plan.specs.Plans.{numbered};
-ghost use Rattle.title_plan.specs.Rows.{done, named, said};
+ghost use Rattle.title_plan.specs.{Fields.{given}, Lands.{land_in}, Plans.{numbered}, Rows.{done, named, said}};
 ghost use Rattle.title_spelling.specs.Lands.{kept_land_in};
 ghost use Rattle.title_standing.specs.Records.{posted_step, record_of};
 
@@ -91,10 +87,9 @@ fn post_inside(
 }
 
 impl Book {
-    ghost use Rattle.title_daybook.specs.Books.{progress_of, standing_of, IsFaultAt};
+    ghost use Rattle.title_daybook.specs.{Books.{progress_of, standing_of, IsFaultAt}, Standing.{nothing_standing}};
     ghost use Rattle.title_daybook.specs.KeptRows.{after_act, after_begin, after_last_row, after_party, after_post, after_said};
     ghost use Rattle.title_daybook.specs.KeptRows.{after_township, between, commits, declares, is_end, posts};
-    ghost use Rattle.title_daybook.specs.Standing.{nothing_standing};
 
     /// Nothing but UNITED STATES as party 0.
     pub(crate) fn new(alloc: Global) -> Result<Book, AllocError>

@@ -1,10 +1,7 @@
 //! The row of a file in which a transaction ends.
 
-ghost use Rattle.std.specs.Prelude.{◌≡◌, ◌==◌, ℕ, List, not};
-ghost use Rattle.std.specs.List.{find};
-ghost use Rattle.title_daybook.specs.Ends.{is_mark, is_step, past_row, past_rows, quote};
-ghost use Rattle.title_daybook.specs.Files.{row_of};
-ghost use Rattle.title_daybook.specs.Lines.{lines_of};
+ghost use Rattle.std.specs.{Prelude.{◌≡◌, ◌==◌, ℕ, List, not}, List.{find}};
+ghost use Rattle.title_daybook.specs.{Ends.{is_mark, is_step, past_row, past_rows, quote}, Files.{row_of}, Lines.{lines_of}};
 ghost use Rattle.title_journal.specs.Rest.{IsReadFrom};
 
 use crate::lines::line_len;

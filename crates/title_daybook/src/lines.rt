@@ -1,8 +1,7 @@
 //! The rows of a block, and their fields.
 
 ghost use Rattle.std.specs.Prelude.{◌≡◌, ◌<◌, ◌==◌, ◌⊎◌, ◌∷◌, ◌++◌, ℕ, List, IfErr, IfOk, OnOk, None, Some, false, length, nat_eq};
-ghost use Rattle.std.specs.Prelude.{option_map};
-ghost use Rattle.std.specs.List.{list_any, position, starts_with};
+ghost use Rattle.std.specs.{Prelude.{option_map}, List.{list_any, position, starts_with}};
 ghost use Rattle.csv.specs.Records.{fields_of};
 ghost use Rattle.title_daybook.specs.Lines.{fields_in, has_line_feed, has_return, is_spoilt, IsFirstLine};
 ghost use Rattle.title_daybook.specs.Readers.{IsAt, Took, byte_order_mark};

@@ -1,13 +1,9 @@
 //! What stands in a plant's file, from its blocks.
 
 ghost use Rattle.std.specs.Prelude.{◌≡◌, ◌⊎◌, ◌≤◌, ◌<◌, ◌+◌, ◌^◌, ℕ, List, Ok, Err, IfErr, IfOk, length};
-ghost use Rattle.title_daybook.specs.Books.{standing_of};
-ghost use Rattle.title_daybook.specs.Files.{standing_in};
-ghost use Rattle.title_daybook.specs.KeptRows.{after_rows};
-ghost use Rattle.title_daybook.specs.Lines.{lines_of};
+ghost use Rattle.title_daybook.specs.{Books.{standing_of}, Files.{standing_in}, KeptRows.{after_rows}, Lines.{lines_of}};
 ghost use Rattle.title_daybook.specs.declared.fault.PlantFault.TheVariants as fault;
-ghost use Rattle.title_journal.specs.Blocks.{front};
-ghost use Rattle.title_journal.specs.Rest.{IsReadFrom, texts_of};
+ghost use Rattle.title_journal.specs.{Blocks.{front}, Rest.{IsReadFrom, texts_of}};
 
 use crate::book::Book;
 use crate::fault::PlantFault;

@@ -54,8 +54,7 @@ fn push(townships: &mut Vec<Township>, township: Township) -> Result<(), AllocEr
 }
 
 impl Standing {
-    ghost use Rattle.title_daybook.specs.Books.{standing_of, IsFaultAt};
-    ghost use Rattle.title_daybook.specs.KeptRows.{after_party, between, with_record, with_township};
+    ghost use Rattle.title_daybook.specs.{Books.{standing_of, IsFaultAt}, KeptRows.{after_party, between, with_record, with_township}};
     ghost use Rattle.title_daybook.specs.Standing.{nothing_standing};
     ghost use Rattle.title_standing.specs.Records.{record_of};
 

@@ -1,8 +1,7 @@
 //! A block that adds to what stands.
 
 ghost use Rattle.std.specs.Prelude.{◌≡◌, ◌≤◌, ◌<◌, ◌+◌, ◌^◌, ◌++◌, ◌∷◌, [], IfOk, OnOk, List, ℕ, drop, length, map, option_map};
-ghost use Rattle.std.specs.List.{flat_map};
-ghost use Rattle.std.specs.String.{string_bytes};
+ghost use Rattle.std.specs.{List.{flat_map}, String.{string_bytes}};
 ghost use Rattle.indexmap.specs.IndexSet.{index_set_len};
 ghost use Rattle.title_daybook.specs.Added.{post_rows, posted, posts_of, record_rows, rows_of, text_of};
 ghost use Rattle.title_spelling.specs.Posts.{name_of};

@@ -1,23 +1,14 @@
 -- What the store holds answers as the definitions do.
 use Rattle.std.proofs.Common.{◌≡◌, ◌≢◌, ℕ, Bool, true, false, ◌&&◌, List, [], ◌∷◌, refl, ap, ◌∙◌, sym, eqb, inl, inr}
-use Rattle.title_land.specs.Depth.{depth}
 use Rattle.std.proofs.lemmas.Bool.{eqb-true, eqb-false, and_parts, and_from, or_parts, or_from, or_right, false_from_ne_true, both_ways}
 use Rattle.std.proofs.lemmas.Bool.{cases_eq, cases_Bool}
-use Rattle.title_land.specs.declared.survey.Township.{Township}
-use Rattle.title_land.specs.declared.survey.Cell.{Cell}
-use Rattle.title_store.specs.Plants.{Plant, is_cell_of}
-use Rattle.title_store.specs.Loans.{Loan}
-use Rattle.title_chain.specs.declared.ask.Ask.{Ask}
-use Rattle.title_chain.specs.declared.ask.Ask.TheVariants as ask
-use Rattle.title_chain.specs.declared.ask.Answer.{Answer}
-use Rattle.title_chain.specs.declared.ask.Step.{Step}
-use Rattle.title_chain.specs.Asks.{tract_of, is_post, overlap, effect}
-use Rattle.title_chain.specs.Alone.{after_steps}
-use Rattle.title_chain.specs.Overlaps.{overlaps, Clear}
-use Rattle.title_chain.specs.ChainLaws.{SameIn}
+use Rattle.title_land.specs.{Depth.{depth}, declared.survey.{Township.{Township}, Cell.{Cell}}}
+use Rattle.title_store.specs.{Plants.{Plant, is_cell_of}, Loans.{Loan}}
+use Rattle.title_chain.specs.{declared.ask.{Ask.{Ask}, Answer.{Answer}, Step.{Step}}, Asks.{tract_of, is_post, overlap, effect}}
+use Rattle.title_chain.specs.{Alone.{after_steps}, Overlaps.{overlaps, Clear}, ChainLaws.{SameIn}}
 use Rattle.title_chain.specs.Laws.AskLaws.{cell_meets, effect_outside}
-use Rattle.title_desk.specs.Images.{is_posted, posted_at, Peels, Backed}
-use Rattle.title_desk.specs.Keeps.{State, plant_of, plant_for, Facts}
+use Rattle.title_chain.specs.declared.ask.Ask.TheVariants as ask
+use Rattle.title_desk.specs.{Images.{is_posted, posted_at, Peels, Backed}, Keeps.{State, plant_of, plant_for, Facts}}
 
 case_at : (P : Bool → Type 0) (f e : ℕ) → (f ≡ e → P true) → (f ≢ e → P false) → (b : Bool) → eqb f e ≡ b → P b
 case_at P f e same other true h = same (eqb-true f e h)

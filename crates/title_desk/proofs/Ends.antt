@@ -1,33 +1,20 @@
 -- The end of a transaction: its images go back, or its steps become a record.
 use Rattle.std.proofs.Common.{◌≡◌, ◌≢◌, ℕ, suc, Bool, true, false, cond, not, ◌&&◌, ◌||◌, List, [], ◌∷◌, reverse, length, refl}
-use Rattle.std.proofs.Common.{ap, ◌∙◌, sym, subst, eqb, inl, inr}
-use Rattle.title_land.specs.Depth.{depth}
-use Rattle.std.proofs.lemmas.Bool.{cases_Bool, cases_eq, or_cases, and_parts, ne_eqb}
+use Rattle.std.proofs.{Common.{ap, ◌∙◌, sym, subst, eqb, inl, inr}, lemmas.Bool.{cases_Bool, cases_eq, or_cases, and_parts, ne_eqb}}
 use Rattle.std.proofs.lemmas.List.{reverse-reverse}
-use Rattle.title_land.specs.declared.survey.Township.{Township}
-use Rattle.title_land.specs.declared.survey.Cell.{Cell}
-use Rattle.title_land.specs.declared.tract.Land.{Land}
-use Rattle.title_store.specs.Plants.{Plant, is_cell_of}
-use Rattle.title_store.specs.Loans.{Loan, IsAmong}
-use Rattle.title_chain.specs.declared.ask.Ask.{Ask}
-use Rattle.title_chain.specs.declared.ask.Step.{Step}
-use Rattle.title_chain.specs.Asks.{tract_of, is_post, effect}
-use Rattle.title_chain.specs.Alone.{after_steps}
-use Rattle.title_chain.specs.Overlaps.{overlaps, Clear, record_of}
-use Rattle.title_chain.specs.ChainLaws.{SameIn}
-use Rattle.title_chain.specs.Laws.AskLaws.{effect_same, effect_outside}
+use Rattle.title_land.specs.{Depth.{depth}, declared.{survey.{Township.{Township}, Cell.{Cell}}, tract.Land.{Land}}}
+use Rattle.title_store.specs.{Plants.{Plant, is_cell_of}, Loans.{Loan, IsAmong}}
+use Rattle.title_chain.specs.{declared.ask.{Ask.{Ask}, Step.{Step}}, Asks.{tract_of, is_post, effect}, Alone.{after_steps}}
+use Rattle.title_chain.specs.{Overlaps.{overlaps, Clear, record_of}, ChainLaws.{SameIn}, Laws.AskLaws.{effect_same, effect_outside}}
 use Rattle.title_chain.specs.Laws.Past.{SameAt, clear_same, steps_same}
-use Rattle.title_lock.specs.declared.guards.Entry.{Entry}
-use Rattle.title_lock.specs.Overlaps.{against, overlap, without, is_post as is_post_access}
+use Rattle.title_lock.specs.{declared.guards.Entry.{Entry}, Overlaps.{against, overlap, without, is_post as is_post_access}}
 use Rattle.title_trace.specs.declared.call.Request.TheVariants as request
 use Rattle.title_trace.specs.declared.call.Reply.TheVariants as reply
 use Rattle.title_trace.specs.Laws.Law.{kept}
 use Rattle.title_desk.specs.Images.{is_posted, posted_at, IsOf, Peels, Backed, IsRestored, without_all, Restorable, Forgettable}
-use Rattle.title_desk.specs.Keeps.{State, plant_of, plant_for, Facts, Keeps}
-use Rattle.title_desk.proofs.Content.{case_eqb, steps_keep, posted_apart}
+use Rattle.title_desk.{specs.Keeps.{State, plant_of, plant_for, Facts, Keeps}, proofs.Content.{case_eqb, steps_keep, posted_apart}}
 use Rattle.title_desk.proofs.Loaned.{Remain, Apart, IsFor, out_all, into_all, backed_in, backed_for, images_apart, falling, restorable}
-use Rattle.title_desk.proofs.Loaned.{forgettable, rising_reverse, of_reverse, into_reverse}
-use Rattle.title_desk.proofs.Loaned.{restored_back, restored_outside}
+use Rattle.title_desk.proofs.Loaned.{forgettable, rising_reverse, of_reverse, into_reverse, restored_back, restored_outside}
 use Rattle.title_desk.proofs.States.{told}
 
 -- locks given back

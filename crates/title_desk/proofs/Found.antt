@@ -1,17 +1,11 @@
 -- What each examiner has open, and what is seen of it after one's was set.
 use Rattle.std.proofs.Common.{◌≡◌, ℕ, Bool, true, false, cond, [], ◌∷◌, ◌++◌, map, reverse, refl, ap, ◌∙◌, sym, subst, eqb, Option, Some}
-use Rattle.std.proofs.Common.{List, None, is_some, Result, Ok, Err, OnOk, OnErr}
-use Rattle.std.proofs.Math.Path.{fun_ext}
-use Rattle.std.proofs.lemmas.Bool.{eqb-true, eqb-false, false_from_ne_true}
-use Rattle.std.proofs.lemmas.List.{map-append, reverse-append, reverse-reverse}
-use Rattle.std.proofs.lemmas.Map.Lookups.{exact_unsigned}
-use Rattle.std.specs.Ordering.{nat_cmp}
-use Rattle.std.specs.Option.{IsSome}
-use Rattle.std.specs.Cmp.{Equal-is, tied_itself, nat_cmp_total}
+use Rattle.std.proofs.{Common.{List, None, is_some, Result, Ok, Err, OnOk, OnErr}, Math.Path.{fun_ext}, lemmas.Map.Lookups.{exact_unsigned}}
+use Rattle.std.proofs.lemmas.{Bool.{eqb-true, eqb-false, false_from_ne_true}, List.{map-append, reverse-append, reverse-reverse}}
+use Rattle.std.specs.{Ordering.{nat_cmp}, Option.{IsSome}, Cmp.{Equal-is, tied_itself, nat_cmp_total}}
 use Rattle.std.specs.BTreeMap.{BTreeMap, WritesThrough, is_at}
 use Rattle.title_chain.specs.declared.ask.Step.{Step}
-use Rattle.title_desk.specs.Opened.{IsFirst, Opened, found, held, nothing, set, with_post, with_step}
-use Rattle.title_desk.proofs.Content.{case_eqb}
+use Rattle.title_desk.{specs.Opened.{IsFirst, Opened, found, held, nothing, set, with_post, with_step}, proofs.Content.{case_eqb}}
 
 at_examiner : (e f : ℕ) → is_at (nat_cmp e) f ≡ eqb f e
 at_examiner e f = go (eqb f e) refl

@@ -1,47 +1,25 @@
 -- What stands under the numbers of homes, and what is left there after a post.
 use Rattle.std.proofs.Common.{◌≡◌, ◌≢◌, ◌⊎◌, ◌<◌, ◌+◌, ℕ, Bool, true, false, not, ◌&&◌, ◌||◌, cond, eqb, List, [], ◌∷◌, ◌++◌, map}
-use Rattle.std.proofs.Common.{Option, Some, get_or}
-use Rattle.std.proofs.Common.{Result, Ok, Err, OnOk, OnErr, inl, inr, arith, refl, sym, ap, subst, ◌∙◌}
-use Rattle.std.specs.List.{All, AllByRecursion, filter}
-use Rattle.std.specs.Ordering.{nat_cmp}
-use Rattle.std.specs.BTreeMap.{BTreeMap, get, is_at, Updates, IsUnchanged}
-use Rattle.std.specs.Map.{lookup}
-use Rattle.std.specs.Cmp.{unsigned_tied}
+use Rattle.std.proofs.Common.{Option, Some, get_or, Result, Ok, Err, OnOk, OnErr, inl, inr, arith, refl, sym, ap, subst, ◌∙◌}
+use Rattle.std.specs.{List.{All, AllByRecursion, filter}, Ordering.{nat_cmp}, BTreeMap.{BTreeMap, get, is_at, Updates, IsUnchanged}}
+use Rattle.std.specs.{Map.{lookup}, Cmp.{unsigned_tied}}
 use Rattle.std.proofs.lemmas.Bool.{false_from_ne_true, both_ways, and_parts, or_parts, eqb-true, eqb-false, eq-eqb, cases_eq, cases_Bool}
 use Rattle.std.proofs.lemmas.List.Elements.{All-nil, All-same, All-weaker, All-filter, All-append, All-map}
 use Rattle.std.proofs.lemmas.List.Elements.{All-from_recursion, recursion_from_All, filter_passes, filter-append}
-use Rattle.title_instrument.specs.declared.parts.Estates.{Estates}
-use Rattle.title_instrument.specs.Estates.{names}
-use Rattle.title_instrument.specs.Owners.{holding_of}
-use Rattle.title_land.specs.Depth.{depth}
-use Rattle.title_land.specs.Lands.{home_of, meets}
-use Rattle.title_land.specs.Grids.{has_some, grids_meet}
-use Rattle.title_land.specs.NodeNumbers.{node_number}
-use Rattle.title_land.specs.Survey.{same_township, same_section}
-use Rattle.title_land.specs.Laws.NodeNumbers.{number_at, same_square_number}
-use Rattle.title_land.specs.Laws.SameLand.{same_township-is, same_township-self, same_section-is}
-use Rattle.title_land.specs.Laws.SameNode.{same_node-is}
-use Rattle.title_land.specs.Nodes.{same_node, is_above, are_related}
-use Rattle.title_land.specs.declared.node.Node.{Node}
+use Rattle.title_instrument.specs.{declared.parts.Estates.{Estates}, Estates.{names}, Owners.{holding_of}}
+use Rattle.title_land.specs.{Depth.{depth}, Lands.{home_of, meets}, Grids.{has_some, grids_meet}, NodeNumbers.{node_number}}
+use Rattle.title_land.specs.{Survey.{same_township, same_section}, Laws.NodeNumbers.{number_at, same_square_number}}
+use Rattle.title_land.specs.Laws.{SameLand.{same_township-is, same_township-self, same_section-is}, SameNode.{same_node-is}}
+use Rattle.title_land.specs.{Nodes.{same_node, is_above, are_related}, declared.{node.Node.{Node}, survey.{Cell.{Cell}, Section.{Section}}}}
+use Rattle.title_land.specs.declared.{survey.Township.{Township}, tract.Land.{Land}}
 use Rattle.title_land.specs.declared.node.Node.TheVariants as node
-use Rattle.title_land.specs.declared.survey.Cell.{Cell}
-use Rattle.title_land.specs.declared.survey.Section.{Section}
-use Rattle.title_land.specs.declared.survey.Township.{Township}
-use Rattle.title_land.specs.declared.tract.Land.{Land}
 use Rattle.title_land.specs.declared.tract.Land.TheVariants as land
-use Rattle.title_store.specs.Plants.{Plant, is_cell_of}
-use Rattle.title_store.specs.Laws.SheetLaws.{sheet_same}
-use Rattle.title_store.specs.Laws.SheetParts.{part_same}
+use Rattle.title_store.specs.{Plants.{Plant, is_cell_of}, Laws.{SheetLaws.{sheet_same}, SheetParts.{part_same}}}
 use Rattle.title_chain.specs.Laws.AskLaws.{cell_meets}
-use Rattle.title_desk.specs.declared.kept_sheets.Kept.{Kept}
+use Rattle.title_desk.specs.declared.kept_sheets.{Kept.{Kept}, Home.{Home}, Quartered.{Quartered}, KeptSheets.{KeptSheets}}
+use Rattle.title_desk.specs.Shown.{IsQuarter, IsTrue, land_in, is_left, all_kept, kept_in, kept_under, IsSetUnder, IsKept, AreKept}
+use Rattle.title_desk.specs.Shown.{SameOutside, SameBut, AreLeft, OthersStay, ApartStay}
 use Rattle.title_desk.specs.declared.kept_sheets.Kept.TheVariants as what
-use Rattle.title_desk.specs.declared.kept_sheets.Home.{Home}
-use Rattle.title_desk.specs.declared.kept_sheets.Quartered.{Quartered}
-use Rattle.title_desk.specs.declared.kept_sheets.KeptSheets.{KeptSheets}
-use Rattle.title_desk.specs.Shown.{IsQuarter, IsTrue, land_in, is_left, all_kept, kept_in, kept_under}
-use Rattle.title_desk.specs.Shown.{IsSetUnder, IsKept, AreKept}
-use Rattle.title_desk.specs.Shown.{SameOutside, SameBut, AreLeft}
-use Rattle.title_desk.specs.Shown.{OthersStay, ApartStay}
 
 -- ---- what stands under a number
 

@@ -1,23 +1,13 @@
 -- Images that are out, those of a transaction that go back or are let go in their turn, and what the plant holds then.
 use Rattle.std.proofs.Common.{◌≡◌, ◌≢◌, ◌<◌, ℕ, Bool, true, false, cond, ◌&&◌, ◌||◌, List, [], ◌∷◌, ◌++◌, reverse, refl, ap, ◌∙◌, sym}
-use Rattle.std.proofs.Common.{subst, ◌⊎◌, inl, inr, arith, map}
-use Rattle.title_land.specs.Depth.{depth}
-use Rattle.std.proofs.lemmas.Bool.{or_parts, cond_both, cond-false}
+use Rattle.std.proofs.{Common.{subst, ◌⊎◌, inl, inr, arith, map}, lemmas.Bool.{or_parts, cond_both, cond-false}}
 use Rattle.std.proofs.lemmas.List.{reverse-append, reverse-reverse}
-use Rattle.title_land.specs.declared.survey.Township.{Township}
-use Rattle.title_land.specs.Lands.{meets}
-use Rattle.title_store.specs.Plants.{Plant, SameContent, is_cell_of}
-use Rattle.title_store.specs.Loans.{Loan, IsAmong, IsLentAs, IsOut, without, IsLast, IsFirst}
-use Rattle.title_chain.specs.declared.ask.Ask.{Ask}
-use Rattle.title_chain.specs.declared.ask.Step.{Step}
-use Rattle.title_chain.specs.Asks.{tract_of, is_post, overlap, effect}
-use Rattle.title_chain.specs.Alone.{after_steps}
-use Rattle.title_chain.specs.Overlaps.{overlaps, Clear}
+use Rattle.title_land.specs.{Depth.{depth}, declared.survey.{Township.{Township}, Cell.{Cell}}, Lands.{meets}}
+use Rattle.title_store.specs.{Plants.{Plant, SameContent, is_cell_of}, Loans.{Loan, IsAmong, IsLentAs, IsOut, without, IsLast, IsFirst}}
+use Rattle.title_chain.specs.{declared.ask.{Ask.{Ask}, Step.{Step}}, Asks.{tract_of, is_post, overlap, effect}, Alone.{after_steps}}
+use Rattle.title_chain.specs.{Overlaps.{overlaps, Clear}, Laws.AskLaws.{effect_outside}}
 use Rattle.title_desk.specs.Images.{is_posted, IsOf, Backs, Peels, Backed, without_all, Restorable, Forgettable, posted_at, put_back}
-use Rattle.title_desk.specs.Images.{IsRestored}
-use Rattle.title_desk.proofs.Content.{case_eqb, post_of}
-use Rattle.title_land.specs.declared.survey.Cell.{Cell}
-use Rattle.title_chain.specs.Laws.AskLaws.{effect_outside}
+use Rattle.title_desk.{specs.Images.{IsRestored}, proofs.Content.{case_eqb, post_of}}
 
 -- what is out without one number
 pub out_without : (n : ℕ) (x : Loan) (out : List Loan) → IsAmong x (without n out) → IsAmong x out × (x.number ≢ n)

@@ -1,22 +1,13 @@
 -- The sheet of a section is put together of parts.
 use Rattle.std.proofs.Common.{◌≡◌, ◌∙◌, ◌≤◌, false, List, [], ◌++◌, Option, Some, None, ap, sym, refl, arith, append_assoc}
-use Rattle.std.specs.Prelude.{is_some}
-use Rattle.std.proofs.lemmas.List.{append-nil}
-use Rattle.title_land.specs.Depth.{depth}
-use Rattle.title_land.specs.Laws.Sides.{depth_is}
-use Rattle.title_land.specs.declared.survey.Section.{Section}
-use Rattle.title_land.specs.declared.survey.Township.{Township}
-use Rattle.title_land.specs.declared.rectangle.Quarter.TheVariants.{Northeast, Northwest, Southwest, Southeast}
+use Rattle.std.{specs.Prelude.{is_some}, proofs.lemmas.List.{append-nil}}
+use Rattle.title_land.specs.{Depth.{depth}, Laws.Sides.{depth_is}, declared.survey.{Section.{Section}, Township.{Township}}}
+use Rattle.title_land.specs.declared.{rectangle.Quarter.TheVariants.{Northeast, Northwest, Southwest, Southeast}, tract.Land.{Land}}
+use Rattle.title_land.specs.{CellLists.{node_cells}, Lands.{land_of}}
 use Rattle.title_land.specs.declared.node.Node.TheVariants as node
-use Rattle.title_land.specs.declared.tract.Land.{Land}
-use Rattle.title_land.specs.CellLists.{node_cells}
-use Rattle.title_land.specs.Lands.{land_of}
-use Rattle.title_instrument.specs.declared.parts.Estate.{Estate}
-use Rattle.title_instrument.specs.declared.parts.Estate.TheVariants.{S, O, M}
+use Rattle.title_instrument.specs.declared.parts.Estate.{Estate, TheVariants.{S, O, M}}
 use Rattle.title_share.specs.Division.{Division}
-use Rattle.title_store.specs.declared.sheet_row.SheetRow.{SheetRow}
-use Rattle.title_store.specs.Plants.{Plant}
-use Rattle.title_store.specs.Sheets.{estate_sheet, one_holding, sheet_of}
+use Rattle.title_store.specs.{declared.sheet_row.SheetRow.{SheetRow}, Plants.{Plant}, Sheets.{estate_sheet, one_holding, sheet_of}}
 use Rattle.title_store.specs.Laws.SheetParts.{section_parts}
 use Rattle.title_chain.specs.SheetParts.{all_rows}
 use Rattle.title_desk.specs.QuarterRows.{quarter_rows}

@@ -1,17 +1,9 @@
 -- Sheets that are kept stay the sheets of the plant.
-use Rattle.std.proofs.Common.{◌≡◌, ℕ, List, [], ap, sym, subst, ◌∙◌}
-use Rattle.title_land.specs.Depth.{depth}
-use Rattle.std.proofs.Math.Path.{fun_ext}
-use Rattle.std.proofs.lemmas.List.Elements.{All-nil}
-use Rattle.title_land.specs.declared.survey.Township.{Township}
-use Rattle.title_land.specs.declared.tract.Land.{Land}
-use Rattle.title_instrument.specs.declared.instrument.Instrument.{Instrument}
-use Rattle.title_instrument.specs.Owners.{holding_of}
-use Rattle.title_instrument.specs.Parties.{estates_of}
-use Rattle.title_store.specs.Plants.{Plant, SameContent, plant_effect}
-use Rattle.title_store.specs.Laws.EffectLaws.{effect_outside, effect_unnamed}
-use Rattle.title_desk.specs.declared.kept_sheets.KeptSheets.{KeptSheets}
-use Rattle.title_desk.specs.Shown.{IsSetUnder, IsKept, AreKept, AreLeft}
+use Rattle.std.proofs.{Common.{◌≡◌, ℕ, List, [], ap, sym, subst, ◌∙◌}, Math.Path.{fun_ext}, lemmas.List.Elements.{All-nil}}
+use Rattle.title_land.specs.{Depth.{depth}, declared.{survey.Township.{Township}, tract.Land.{Land}}}
+use Rattle.title_instrument.specs.{declared.instrument.Instrument.{Instrument}, Owners.{holding_of}, Parties.{estates_of}}
+use Rattle.title_store.specs.{Plants.{Plant, SameContent, plant_effect}, Laws.EffectLaws.{effect_outside, effect_unnamed}}
+use Rattle.title_desk.specs.{declared.kept_sheets.KeptSheets.{KeptSheets}, Shown.{IsSetUnder, IsKept, AreKept, AreLeft}}
 use Rattle.title_desk.proofs.Homes.{kept_set}
 
 -- where no cell changes

@@ -1,39 +1,22 @@
 -- A transaction of one step where nobody is open: begun, asked and ended, each by the lemma of that call.
 use Rattle.std.proofs.Common.{◌≡◌, ℕ, suc, true, false, cond, List, [], ◌∷◌, ◌++◌, reverse, refl, ap, ◌∙◌, sym, subst, eqb, None, length}
-use Rattle.std.specs.Prelude.{nat_le, is_some}
+use Rattle.std.{specs.Prelude.{nat_le, is_some}, proofs.lemmas.List.{reverse-append, length-reverse}}
 use Rattle.title_land.specs.Depth.{depth}
-use Rattle.std.proofs.lemmas.List.{reverse-append, length-reverse}
-use Rattle.title_lock.specs.declared.guards.Entry.{Entry}
-use Rattle.title_lock.specs.Overlaps.{without}
-use Rattle.title_store.specs.Plants.{Plant, SameContent, plant_effect, refused_in}
-use Rattle.title_store.specs.Loans.{Loan, IsAmong, IsTaken}
-use Rattle.title_chain.specs.declared.ask.Ask.{Ask}
+use Rattle.title_lock.specs.{declared.guards.Entry.{Entry}, Overlaps.{without}}
+use Rattle.title_store.specs.{Plants.{Plant, SameContent, plant_effect, refused_in}, Loans.{Loan, IsAmong, IsTaken}}
+use Rattle.title_chain.specs.declared.{ask.{Ask.{Ask}, Answer.{Answer}, Posting.{Posting}, Step.{Step}}, record.Record.{Record}}
+use Rattle.title_chain.specs.{Alone.{alone}, Overlaps.{overlaps, record_of}}
 use Rattle.title_chain.specs.declared.ask.Ask.TheVariants as ask
-use Rattle.title_chain.specs.declared.ask.Answer.{Answer}
 use Rattle.title_chain.specs.declared.ask.Answer.TheVariants as answer
-use Rattle.title_chain.specs.declared.ask.Posting.{Posting}
-use Rattle.title_chain.specs.declared.ask.Step.{Step}
-use Rattle.title_chain.specs.declared.record.Record.{Record}
-use Rattle.title_chain.specs.Alone.{alone}
-use Rattle.title_chain.specs.Overlaps.{overlaps, record_of}
-use Rattle.title_trace.specs.declared.call.Call.{Call}
-use Rattle.title_trace.specs.declared.call.Request.TheVariants as request
-use Rattle.title_trace.specs.declared.call.Reply.{Reply}
-use Rattle.title_trace.specs.declared.call.Reply.TheVariants as reply
-use Rattle.title_trace.specs.declared.denial.Denial.{Denial}
-use Rattle.title_trace.specs.Trace.{is_open, open_steps, committed}
+use Rattle.title_trace.specs.{declared.{call.{Call.{Call}, Reply.{Reply}}, denial.Denial.{Denial}}, Trace.{is_open, open_steps, committed}}
 use Rattle.title_trace.specs.Due.{Setting, most_steps, InTheWay, IsDue}
-use Rattle.title_desk.specs.Opened.{Opened, found, held}
-use Rattle.title_desk.specs.Images.{is_posted, IsRestored, without_all}
-use Rattle.title_desk.specs.Keeps.{State, Keeps}
-use Rattle.title_desk.specs.Told.{Books, Passes}
-use Rattle.title_desk.specs.Admissions.{entry_of}
-use Rattle.title_desk.specs.Singles.{IsIdle, Stands, Bars, after_single}
-use Rattle.title_desk.proofs.Content.{case_eqb}
-use Rattle.title_desk.proofs.Found.{nothing_from}
+use Rattle.title_trace.specs.declared.call.Request.TheVariants as request
+use Rattle.title_trace.specs.declared.call.Reply.TheVariants as reply
+use Rattle.title_desk.specs.{Opened.{Opened, found, held}, Images.{is_posted, IsRestored, without_all}, Keeps.{State, Keeps}}
+use Rattle.title_desk.specs.{Told.{Books, Passes}, Admissions.{entry_of}, Singles.{IsIdle, Stands, Bars, after_single}}
+use Rattle.title_desk.proofs.{Content.{case_eqb}, Found.{nothing_from}, Steps.{bars_due, longer, keeps_answered, with_image, keeps_posted}}
 use Rattle.title_desk.proofs.States.{told, books_of, keeps_told, keeps_opened, keeps_store, keeps_locks, keeps_refused, keeps_began}
 use Rattle.title_desk.proofs.Ends.{Gone, gone_newest, nothing_out, keeps_aborted, keeps_committed}
-use Rattle.title_desk.proofs.Steps.{bars_due, longer, keeps_answered, with_image, keeps_posted}
 
 is_self : (e : ℕ) → eqb e e ≡ true
 is_self e = case_eqb (λ b. b ≡ true) e e (λ _. refl) (λ ne. absurd (ne refl))

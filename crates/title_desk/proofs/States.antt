@@ -1,27 +1,14 @@
 -- States of a desk that look the same, and where a call stands in the trace.
-use Rattle.std.proofs.Common.{◌≡◌, ℕ, Bool, true, false, cond, List, [], ◌∷◌, refl, ap, ◌∙◌, sym, subst, eqb, None}
-use Rattle.std.proofs.Math.Path.{fun_ext}
-use Rattle.title_land.specs.declared.survey.Township.{Township}
-use Rattle.title_store.specs.Plants.{Plant, SameContent}
-use Rattle.title_store.specs.Loans.{Loan}
-use Rattle.title_lock.specs.declared.guards.Entry.{Entry}
-use Rattle.title_lock.specs.Overlaps.{against}
-use Rattle.title_chain.specs.declared.ask.Ask.{Ask}
-use Rattle.title_chain.specs.declared.ask.Step.{Step}
-use Rattle.title_chain.specs.declared.record.Record.{Record}
-use Rattle.title_chain.specs.Asks.{tract_of, is_post}
-use Rattle.title_land.specs.Depth.{depth}
-use Rattle.title_trace.specs.declared.call.Call.{Call}
-use Rattle.title_trace.specs.declared.call.Request.{Request}
-use Rattle.title_trace.specs.declared.call.Request.TheVariants as request
-use Rattle.title_trace.specs.declared.call.Reply.{Reply}
-use Rattle.title_trace.specs.declared.call.Reply.TheVariants as reply
-use Rattle.title_trace.specs.declared.denial.Denial.{Denial}
-use Rattle.title_trace.specs.Trace.{open_steps}
+use Rattle.std.proofs.{Common.{◌≡◌, ℕ, Bool, true, false, cond, List, [], ◌∷◌, refl, ap, ◌∙◌, sym, subst, eqb, None}, Math.Path.{fun_ext}}
+use Rattle.title_land.specs.{declared.survey.Township.{Township}, Depth.{depth}}
+use Rattle.title_store.specs.{Plants.{Plant, SameContent}, Loans.{Loan}}
+use Rattle.title_lock.specs.{declared.guards.Entry.{Entry}, Overlaps.{against}}
+use Rattle.title_chain.specs.{declared.{ask.{Ask.{Ask}, Step.{Step}}, record.Record.{Record}}, Asks.{tract_of, is_post}}
+use Rattle.title_trace.specs.{declared.{call.{Call.{Call}, Request.{Request}, Reply.{Reply}}, denial.Denial.{Denial}}, Trace.{open_steps}}
 use Rattle.title_trace.specs.Due.{Setting, DueReply}
-use Rattle.title_desk.specs.Headline.{ShowsOpenPosts, ShowsCommitted}
-use Rattle.title_desk.specs.Told.{Books}
-use Rattle.title_desk.specs.Keeps.{State, Facts, Keeps}
+use Rattle.title_trace.specs.declared.call.Request.TheVariants as request
+use Rattle.title_trace.specs.declared.call.Reply.TheVariants as reply
+use Rattle.title_desk.specs.{Headline.{ShowsOpenPosts, ShowsCommitted}, Told.{Books}, Keeps.{State, Facts, Keeps}}
 use Rattle.title_desk.proofs.Found.{cond_same}
 
 -- what a caller sees of a state

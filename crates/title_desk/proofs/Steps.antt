@@ -1,45 +1,26 @@
 -- Steps: what is due to them, and what an answered one makes of a state, a post that was done too, or one that is taken back.
 use Rattle.std.proofs.Common.{◌≡◌, ◌≢◌, ℕ, Bool, true, false, cond, ◌&&◌, ◌||◌, List, ◌∷◌, refl, ap, ◌∙◌, sym, subst, eqb, Option, Some}
 use Rattle.std.proofs.Common.{None, Result, Ok, Err, is_err, OnOk, OnErr, ◌<◌, [], ◌++◌, ◌⊎◌, inl, inr, arith}
-use Rattle.title_land.specs.Depth.{depth}
-use Rattle.title_land.specs.declared.survey.Township.{Township}
-use Rattle.title_land.specs.declared.survey.Cell.{Cell}
-use Rattle.title_land.specs.declared.tract.Land.{Land}
-use Rattle.title_land.specs.Lands.{meets}
-use Rattle.title_store.specs.Plants.{Plant, Refusal, is_cell_of, refused_in, SameContent, plant_effect}
-use Rattle.title_store.specs.Sheets.{sheet_of}
-use Rattle.title_chain.specs.declared.ask.Ask.{Ask}
-use Rattle.title_chain.specs.declared.ask.Ask.TheVariants as ask
-use Rattle.title_chain.specs.declared.ask.Answer.{Answer}
-use Rattle.title_chain.specs.declared.ask.Answer.TheVariants as answer
-use Rattle.title_chain.specs.declared.ask.Posting.{Posting}
-use Rattle.title_chain.specs.declared.ask.Step.{Step}
-use Rattle.title_chain.specs.Asks.{tract_of, is_post, effect, post_answer}
-use Rattle.title_chain.specs.Chains.{chain_of}
-use Rattle.title_chain.specs.Alone.{after_steps, alone}
-use Rattle.title_chain.specs.Overlaps.{overlaps}
+use Rattle.std.proofs.lemmas.Bool.{or_parts, false_from_ne_true, both_ways, cases_Bool, cond_both}
+use Rattle.title_land.specs.{Depth.{depth}, declared.{survey.{Township.{Township}, Cell.{Cell}}, tract.Land.{Land}}, Lands.{meets}}
+use Rattle.title_store.specs.{Plants.{Plant, Refusal, is_cell_of, refused_in, SameContent, plant_effect}, Sheets.{sheet_of}}
+use Rattle.title_store.specs.Loans.{Loan, IsAmong, IsLentAs, IsOut, IsLast, IsFirst, IsTaken, without}
+use Rattle.title_chain.specs.{declared.ask.{Ask.{Ask}, Answer.{Answer}, Posting.{Posting}, Step.{Step}}, Chains.{chain_of}}
+use Rattle.title_chain.specs.{Asks.{tract_of, is_post, effect, post_answer}, Alone.{after_steps, alone}, Overlaps.{overlaps}}
 use Rattle.title_chain.specs.Laws.AskLaws.{answer_same, answer_sheet, answer_chain, answer_post, effect_read, effect_refused, effect_same}
-use Rattle.title_chain.specs.Laws.AskLaws.{effect_outside, effect_post}
+use Rattle.title_chain.specs.{Laws.AskLaws.{effect_outside, effect_post}, ChainLaws.{SameIn}}
+use Rattle.title_chain.specs.declared.ask.Ask.TheVariants as ask
+use Rattle.title_chain.specs.declared.ask.Answer.TheVariants as answer
 use Rattle.title_lock.specs.Overlaps.{against, Stands, is_post as is_post_access}
 use Rattle.title_trace.specs.declared.call.Request.TheVariants as request
 use Rattle.title_trace.specs.declared.call.Reply.TheVariants as reply
-use Rattle.title_trace.specs.declared.denial.Denial.{Denial}
+use Rattle.title_trace.specs.{declared.denial.Denial.{Denial}, Trace.{is_open, open_steps, committed}, Due.{InTheWay, DueReply}}
 use Rattle.title_trace.specs.declared.denial.Denial.TheVariants as denial
-use Rattle.title_trace.specs.Trace.{is_open, open_steps, committed}
-use Rattle.title_trace.specs.Due.{InTheWay, DueReply}
-use Rattle.title_desk.specs.Images.{is_posted, posted_at, Peels, Backed, IsOf, Backs, put_back}
-use Rattle.title_desk.specs.Keeps.{State, plant_of, plant_for, Facts, Keeps}
-use Rattle.title_desk.specs.Singles.{Bars}
-use Rattle.title_desk.specs.Told.{Books, Passes}
-use Rattle.title_desk.specs.Admissions.{IsFit, access_of, entry_of}
-use Rattle.title_desk.proofs.Content.{case_eqb, content_is, unposted}
-use Rattle.title_desk.proofs.States.{told, books_of}
-use Rattle.std.proofs.lemmas.Bool.{or_parts, false_from_ne_true, both_ways, cases_Bool, cond_both}
+use Rattle.title_desk.specs.{Images.{is_posted, posted_at, Peels, Backed, IsOf, Backs, put_back}, Singles.{Bars}, Told.{Books, Passes}}
+use Rattle.title_desk.specs.{Keeps.{State, plant_of, plant_for, Facts, Keeps}, Admissions.{IsFit, access_of, entry_of}}
+use Rattle.title_desk.proofs.{Content.{case_eqb, content_is, unposted}, States.{told, books_of}, Loaned.{Remain, backed_in, backed_for}}
 use Rattle.title_instrument.specs.declared.instrument.Instrument.{Instrument}
-use Rattle.title_store.specs.Loans.{Loan, IsAmong, IsLentAs, IsOut, IsLast, IsFirst, IsTaken, without}
 use Rattle.title_store.specs.Laws.EffectLaws as store
-use Rattle.title_chain.specs.ChainLaws.{SameIn}
-use Rattle.title_desk.proofs.Loaned.{Remain, backed_in, backed_for}
 
 -- what bars an ask is due to who is open
 pub bars_due : (books : Books) (e : ℕ) (a : Ask) (why : Denial) → is_open e books.trace ≡ true → Bars books.setting a why

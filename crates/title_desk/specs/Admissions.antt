@@ -1,20 +1,14 @@
 -- What becomes of a step: denied, or passed with its lock prepared.
 use Rattle.std.specs.Prelude.{◌≡◌, ℕ, true, false, nat_le, length, Some, None}
-use Rattle.title_land.specs.Depth.{depth}
-use Rattle.title_land.specs.Lands.{is_in_plant}
-use Rattle.title_lock.specs.declared.guards.Access.{Access}
+use Rattle.title_land.specs.{Depth.{depth}, Lands.{is_in_plant}}
+use Rattle.title_lock.specs.declared.guards.{Access.{Access}, Entry.{Entry}}
 use Rattle.title_lock.specs.declared.guards.Access.TheVariants as access
-use Rattle.title_lock.specs.declared.guards.Entry.{Entry}
-use Rattle.title_chain.specs.declared.ask.Ask.{Ask}
+use Rattle.title_chain.specs.{declared.ask.Ask.{Ask}, Asks.{tract_of, cause_of}}
 use Rattle.title_chain.specs.declared.ask.Ask.TheVariants as ask
-use Rattle.title_chain.specs.Asks.{tract_of, cause_of}
-use Rattle.title_trace.specs.declared.call.Reply.TheVariants.{Denied}
-use Rattle.title_trace.specs.declared.call.Request.TheVariants.{Step}
-use Rattle.title_trace.specs.Trace.{is_open, open_steps}
+use Rattle.title_trace.specs.{declared.call.{Reply.TheVariants.{Denied}, Request.TheVariants.{Step}}, Trace.{is_open, open_steps}}
 use Rattle.title_trace.specs.Due.{most_steps, DueReply}
-use Rattle.title_desk.specs.declared.admission.Admission.{Admission}
+use Rattle.title_desk.specs.{declared.admission.Admission.{Admission}, Told.{Books, Passes}}
 use Rattle.title_desk.specs.declared.admission.Admission.TheVariants as admission
-use Rattle.title_desk.specs.Told.{Books, Passes}
 
 -- what an ask wants of its tract
 abbrev pub access_of : Ask → Access

@@ -1,19 +1,11 @@
 -- The headline: what is true of a desk after any list of requests. Lists of calls and records here have the newest first.
 use Rattle.std.specs.Prelude.{◌≡◌, ℕ, true, false, List, ◌∷◌}
-use Rattle.title_land.specs.Depth.{depth}
-use Rattle.title_land.specs.declared.survey.Cell.{Cell}
-use Rattle.title_land.specs.declared.survey.Township.{Township}
-use Rattle.title_share.specs.Rows.{total, whole_units}
-use Rattle.title_share.specs.Division.{rows_of}
-use Rattle.title_instrument.specs.declared.parts.Estate.{Estate}
-use Rattle.title_instrument.specs.Owners.{holding_of}
+use Rattle.title_land.specs.{Depth.{depth}, declared.survey.{Cell.{Cell}, Township.{Township}}}
+use Rattle.title_share.specs.{Rows.{total, whole_units}, Division.{rows_of}}
+use Rattle.title_instrument.specs.{declared.parts.Estate.{Estate}, Owners.{holding_of}}
 use Rattle.title_store.specs.Plants.{Plant}
-use Rattle.title_chain.specs.declared.record.Record.{Record}
-use Rattle.title_chain.specs.Alone.{after_steps, plant_after, IsSerial}
-use Rattle.title_chain.specs.Overlaps.{record_of}
-use Rattle.title_trace.specs.declared.call.Call.{Call}
-use Rattle.title_trace.specs.Trace.{is_open, open_steps, committed}
-use Rattle.title_trace.specs.Due.{Setting, IsDue}
+use Rattle.title_chain.specs.{declared.record.Record.{Record}, Alone.{after_steps, plant_after, IsSerial}, Overlaps.{record_of}}
+use Rattle.title_trace.specs.{declared.call.Call.{Call}, Trace.{is_open, open_steps, committed}, Due.{Setting, IsDue}}
 use Rattle.title_desk.specs.Images.{posted_at}
 
 -- the shares of each estate in each cell sum to the whole

@@ -1,13 +1,8 @@
 -- Before-images of open transactions, by their numbers. Lists of steps and of images here have the newest first.
 use Rattle.std.specs.Prelude.{◌≡◌, ℕ, ◌<◌, Bool, true, false, cond, ◌&&◌, ◌||◌, List, [], ◌∷◌, ◌⊎◌}
-use Rattle.title_land.specs.Depth.{depth}
-use Rattle.title_land.specs.declared.survey.Township.{Township}
-use Rattle.title_land.specs.declared.survey.Cell.{Cell}
-use Rattle.title_store.specs.Plants.{Plant, SameContent, is_cell_of}
-use Rattle.title_store.specs.Loans.{Loan, IsLentAs, IsOut, IsLast, IsFirst, without}
-use Rattle.title_chain.specs.declared.ask.Step.{Step}
-use Rattle.title_chain.specs.Asks.{tract_of, effect}
-use Rattle.title_chain.specs.Alone.{after_steps}
+use Rattle.title_land.specs.{Depth.{depth}, declared.survey.{Township.{Township}, Cell.{Cell}}}
+use Rattle.title_store.specs.{Plants.{Plant, SameContent, is_cell_of}, Loans.{Loan, IsLentAs, IsOut, IsLast, IsFirst, without}}
+use Rattle.title_chain.specs.{declared.ask.Step.{Step}, Asks.{tract_of, effect}, Alone.{after_steps}}
 pub use Rattle.title_chain.specs.Replays.{was_posted as is_posted}
 
 -- one of these steps was posted at the cell

@@ -1,21 +1,11 @@
 -- A desk's state, and what its parts have to do with each other and with its trace.
 use Rattle.std.specs.Prelude.{◌≡◌, ℕ, ◌≤◌, Bool, true, false, List}
-use Rattle.title_land.specs.Depth.{depth}
-use Rattle.title_land.specs.declared.survey.Township.{Township}
-use Rattle.title_land.specs.declared.survey.Cell.{Cell}
-use Rattle.title_lock.specs.declared.guards.Entry.{Entry}
-use Rattle.title_lock.specs.Overlaps.{against}
-use Rattle.title_store.specs.Plants.{Plant}
-use Rattle.title_store.specs.Loans.{Loan, IsAmong}
-use Rattle.title_chain.specs.declared.ask.Ask.{Ask}
-use Rattle.title_chain.specs.declared.ask.Step.{Step}
-use Rattle.title_chain.specs.declared.record.Record.{Record}
-use Rattle.title_chain.specs.Asks.{tract_of, is_post}
-use Rattle.title_chain.specs.Alone.{after_steps, plant_after, most_parties}
-use Rattle.title_chain.specs.Overlaps.{overlaps}
-use Rattle.title_trace.specs.declared.call.Call.{Call}
-use Rattle.title_trace.specs.Trace.{is_open, open_steps, committed}
-use Rattle.title_trace.specs.Due.{Setting, IsDue}
+use Rattle.title_land.specs.{Depth.{depth}, declared.survey.{Township.{Township}, Cell.{Cell}}}
+use Rattle.title_lock.specs.{declared.guards.Entry.{Entry}, Overlaps.{against}}
+use Rattle.title_store.specs.{Plants.{Plant}, Loans.{Loan, IsAmong}}
+use Rattle.title_chain.specs.{declared.{ask.{Ask.{Ask}, Step.{Step}}, record.Record.{Record}}, Asks.{tract_of, is_post}}
+use Rattle.title_chain.specs.{Alone.{after_steps, plant_after, most_parties}, Overlaps.{overlaps}}
+use Rattle.title_trace.specs.{declared.call.Call.{Call}, Trace.{is_open, open_steps, committed}, Due.{Setting, IsDue}}
 use Rattle.title_desk.specs.Images.{Backed, IsOf, posted_at}
 
 -- All that a desk has: what it was opened with and its calls; its records; of each examiner whether it has begun, its steps and

@@ -1,8 +1,6 @@
 -- The open transactions, by examiner. Lists have the newest first.
-use Rattle.std.specs.Prelude.{◌≡◌, ℕ, ◌<◌, Bool, true, false, cond, List, [], ◌∷◌, Option, Some, None, eqb}
-use Rattle.std.specs.Ordering.{nat_cmp}
-use Rattle.std.specs.BTreeMap.{is_at}
-use Rattle.std.specs.Map.{lookup}
+use Rattle.std.specs.{Prelude.{◌≡◌, ℕ, ◌<◌, Bool, true, false, cond, List, [], ◌∷◌, Option, Some, None, eqb}, Ordering.{nat_cmp}}
+use Rattle.std.specs.{BTreeMap.{is_at}, Map.{lookup}}
 use Rattle.title_chain.specs.declared.ask.Step.{Step}
 
 -- what an examiner has open: its steps, and the numbers of its before-images

@@ -1,30 +1,13 @@
 -- Sheets that are kept of a plant, and parts of sheets.
-use Rattle.std.specs.Prelude.{◌≡◌, ℕ, Bool, false, not, ◌&&◌, cond, eqb, List, [], ◌++◌, map, Option, Some, None}
-use Rattle.std.specs.List.{All, filter}
-use Rattle.std.specs.Ordering.{nat_cmp}
-use Rattle.std.specs.BTreeMap.{get}
-use Rattle.title_instrument.specs.declared.parts.Estate.{Estate}
-use Rattle.title_instrument.specs.declared.parts.Estates.{Estates}
-use Rattle.title_instrument.specs.Estates.{names}
-use Rattle.title_instrument.specs.Owners.{holding_of}
-use Rattle.title_land.specs.Depth.{depth}
-use Rattle.title_land.specs.Lands.{home_of, meets}
-use Rattle.title_land.specs.NodeNumbers.{node_number}
-use Rattle.title_land.specs.Nodes.{are_related}
-use Rattle.title_land.specs.declared.node.Node.{Node}
+use Rattle.std.specs.{Prelude.{◌≡◌, ℕ, Bool, false, not, ◌&&◌, cond, eqb, List, [], ◌++◌, map, Option, Some, None}, List.{All, filter}}
+use Rattle.std.specs.{Ordering.{nat_cmp}, BTreeMap.{get}}
+use Rattle.title_instrument.specs.{declared.parts.{Estate.{Estate}, Estates.{Estates}}, Estates.{names}, Owners.{holding_of}}
+use Rattle.title_land.specs.{Depth.{depth}, Lands.{home_of, meets}, NodeNumbers.{node_number}, Nodes.{are_related}}
+use Rattle.title_land.specs.declared.{node.Node.{Node}, survey.{Cell.{Cell}, Section.{Section}, Township.{Township}}, tract.Land.{Land}}
 use Rattle.title_land.specs.declared.node.Node.TheVariants as node
-use Rattle.title_land.specs.declared.survey.Cell.{Cell}
-use Rattle.title_land.specs.declared.survey.Section.{Section}
-use Rattle.title_land.specs.declared.survey.Township.{Township}
-use Rattle.title_land.specs.declared.tract.Land.{Land}
-use Rattle.title_store.specs.Plants.{Plant, is_cell_of}
-use Rattle.title_store.specs.Sheets.{estate_sheet, sheet_of}
-use Rattle.title_desk.specs.declared.kept_sheets.Quartered.{Quartered}
-use Rattle.title_desk.specs.declared.kept_sheets.Shown.{Shown}
-use Rattle.title_desk.specs.declared.kept_sheets.Kept.{Kept}
+use Rattle.title_store.specs.{Plants.{Plant, is_cell_of}, Sheets.{estate_sheet, sheet_of}}
+use Rattle.title_desk.specs.declared.kept_sheets.{Quartered.{Quartered}, Shown.{Shown}, Kept.{Kept}, Home.{Home}, KeptSheets.{KeptSheets}}
 use Rattle.title_desk.specs.declared.kept_sheets.Kept.TheVariants as kept
-use Rattle.title_desk.specs.declared.kept_sheets.Home.{Home}
-use Rattle.title_desk.specs.declared.kept_sheets.KeptSheets.{KeptSheets}
 
 -- its rows are the sheet of its tract
 abbrev pub IsShown : List Township → Plant → Shown → Type 0

@@ -1,19 +1,13 @@
 -- A transaction of one step, which is begun, asked and ended in one call. Traces have the newest call first.
 use Rattle.std.specs.Prelude.{◌≡◌, ℕ, suc, true, false, List, ◌∷◌, length, Option, Some, None}
-use Rattle.title_land.specs.Depth.{depth}
-use Rattle.title_land.specs.Lands.{is_in_plant}
+use Rattle.title_land.specs.{Depth.{depth}, Lands.{is_in_plant}}
 use Rattle.title_store.specs.Plants as plants
-use Rattle.title_chain.specs.declared.ask.Ask.{Ask}
-use Rattle.title_chain.specs.declared.ask.Answer.{Answer}
-use Rattle.title_chain.specs.Asks.{tract_of, cause_of, post_answer}
-use Rattle.title_trace.specs.declared.call.Call.{Call}
-use Rattle.title_trace.specs.declared.call.Request.TheVariants as request
-use Rattle.title_trace.specs.declared.call.Reply.{Reply}
-use Rattle.title_trace.specs.declared.call.Reply.TheVariants as reply
-use Rattle.title_trace.specs.declared.denial.Denial.{Denial}
-use Rattle.title_trace.specs.declared.denial.Denial.TheVariants as denial
-use Rattle.title_trace.specs.Trace.{is_open, committed}
+use Rattle.title_chain.specs.{declared.ask.{Ask.{Ask}, Answer.{Answer}}, Asks.{tract_of, cause_of, post_answer}}
+use Rattle.title_trace.specs.{declared.{call.{Call.{Call}, Reply.{Reply}}, denial.Denial.{Denial}}, Trace.{is_open, committed}}
 use Rattle.title_trace.specs.Due.{Setting, IsDue}
+use Rattle.title_trace.specs.declared.call.Request.TheVariants as request
+use Rattle.title_trace.specs.declared.call.Reply.TheVariants as reply
+use Rattle.title_trace.specs.declared.denial.Denial.TheVariants as denial
 use Rattle.title_desk.specs.Told.{Books, Stays}
 
 -- nobody has a transaction open

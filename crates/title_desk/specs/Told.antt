@@ -1,16 +1,11 @@
 -- What a call of the desk tells.
 use Rattle.std.specs.Prelude.{◌≡◌, ℕ, Bool, true, false, nat_le, List, ◌∷◌, length, Option, None}
-use Rattle.title_land.specs.Depth.{depth}
-use Rattle.title_land.specs.Lands.{is_in_plant}
+use Rattle.title_land.specs.{Depth.{depth}, Lands.{is_in_plant}}
 use Rattle.title_lock.specs.declared.guards.Entry.{Entry}
-use Rattle.title_chain.specs.declared.ask.Ask.{Ask}
-use Rattle.title_chain.specs.Asks.{tract_of, cause_of}
-use Rattle.title_trace.specs.declared.call.Call.{Call}
-use Rattle.title_trace.specs.declared.call.Request.{Request}
-use Rattle.title_trace.specs.declared.call.Reply.{Reply}
-use Rattle.title_trace.specs.declared.call.Reply.TheVariants as reply
-use Rattle.title_trace.specs.Trace.{is_open, open_steps}
+use Rattle.title_chain.specs.{declared.ask.Ask.{Ask}, Asks.{tract_of, cause_of}}
+use Rattle.title_trace.specs.{declared.call.{Call.{Call}, Request.{Request}, Reply.{Reply}}, Trace.{is_open, open_steps}}
 use Rattle.title_trace.specs.Due.{Setting, most_steps, InTheWay, DueReply}
+use Rattle.title_trace.specs.declared.call.Reply.TheVariants as reply
 use Rattle.title_desk.specs.Opened.{IsFirst}
 
 -- a desk as its callers see it: what it was opened with, its trace, the newest call first, and whether it has room for

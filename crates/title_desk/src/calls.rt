@@ -1,7 +1,6 @@
 //! The calls of a desk, which only clauses read.
 
-ghost use Rattle.std.specs.Prelude.{◌≡◌, List, [], ◌∷◌};
-ghost use Rattle.std.specs.Borrow.{ftrue};
+ghost use Rattle.std.specs.{Prelude.{◌≡◌, List, [], ◌∷◌}, Borrow.{ftrue}};
 ghost use Rattle.title_trace.specs.declared.call.Call.{Call};
 
 use std::marker::Model;

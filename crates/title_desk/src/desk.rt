@@ -1,22 +1,14 @@
 //! The desk.
 
 ghost use Rattle.std.specs.Prelude.{MatchOption, None, Some, ◌≡◌, ◌≢◌, ◌+◌, ◌≤◌, ℕ, List, [], ◌∷◌, IfOk, OnOk, ◌↔◌, reverse, true, false};
-ghost use Rattle.title_land.specs.Depth.{depth};
-ghost use Rattle.title_land.specs.Lands.{is_in_plant};
+ghost use Rattle.title_land.specs.{Depth.{depth}, Lands.{is_in_plant}, declared.survey.Cell.{Cell}};
 ghost use Rattle.title_store.specs.Plants.{IsEachOnce};
-ghost use Rattle.title_land.specs.declared.survey.Cell.{Cell};
-ghost use Rattle.title_trace.specs.declared.call.Request.TheVariants.{Begin, Step, Commit, Abort};
-ghost use Rattle.title_trace.specs.declared.call.Reply.TheVariants.{Aborted, Denied, Memory};
-ghost use Rattle.title_chain.specs.declared.ask.Ask.TheVariants.{Post};
-ghost use Rattle.title_chain.specs.Asks.{is_post, tract_of};
+ghost use Rattle.title_trace.specs.{declared.call.Request.TheVariants.{Begin, Step, Commit, Abort}, Trace.{is_open, open_steps, committed}};
+ghost use Rattle.title_trace.specs.{declared.call.Reply.TheVariants.{Aborted, Denied, Memory}, Due.{DueReply, InTheWay, IsDue, MayOpen}};
+ghost use Rattle.title_chain.specs.{declared.ask.Ask.TheVariants.{Post}, Asks.{is_post, tract_of}, Overlaps.{record_of}};
 ghost use Rattle.title_chain.specs.Alone.{alone, after_steps, plant_after, most_parties, IsSerial};
-ghost use Rattle.title_chain.specs.Overlaps.{record_of};
-ghost use Rattle.title_trace.specs.Trace.{is_open, open_steps, committed};
-ghost use Rattle.title_trace.specs.Due.{DueReply, InTheWay, IsDue, MayOpen};
-ghost use Rattle.title_desk.specs.Images.{is_posted, posted_at};
-ghost use Rattle.title_desk.specs.Told.{Books, IsFirstOpen, Passes, Stays, Told};
+ghost use Rattle.title_desk.specs.{Images.{is_posted, posted_at}, Told.{Books, IsFirstOpen, Passes, Stays, Told}, Singles.{Bars, Stands}};
 ghost use Rattle.title_desk.specs.Admissions.{Admits, IsFit, entry_of};
-ghost use Rattle.title_desk.specs.Singles.{Bars, Stands};
 
 use crate::admission::Admission;
 use crate::asks::{access_in, cause_in, lock, step_of, tract_in};
@@ -74,9 +66,7 @@ pub struct Desk<S: Store + Drop, G: Guards + Drop> {
 
 impl<S: Store + Drop, G: Guards + Drop> Model for Desk<S, G> {
     ghost use Rattle.std.specs.Prelude.{is_some, reverse};
-    ghost use Rattle.title_desk.specs.Told.{Books};
-    ghost use Rattle.title_desk.specs.Opened.{found, held};
-    ghost use Rattle.title_desk.specs.Keeps.{Keeps};
+    ghost use Rattle.title_desk.specs.{Told.{Books}, Opened.{found, held}, Keeps.{Keeps}};
 
     ghost Value = { Books };
 

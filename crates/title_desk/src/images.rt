@@ -1,8 +1,7 @@
 //! The before-images of a transaction that ends.
 
 ghost use Rattle.std.specs.Prelude.{◌≡◌, [], map, reverse};
-ghost use Rattle.title_store.specs.Loans.{IsFirst, IsOut, without};
-ghost use Rattle.title_store.specs.Plants.{SameContent};
+ghost use Rattle.title_store.specs.{Loans.{IsFirst, IsOut, without}, Plants.{SameContent}};
 ghost use Rattle.title_desk.specs.Images.{IsRestored, without_all, Restorable, Forgettable};
 
 use crate::open_transactions::OpenTransactions;

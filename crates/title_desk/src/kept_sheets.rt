@@ -1,16 +1,10 @@
 //! Sheets that are kept of a plant, and parts of sheets, by where their tracts lie.
 
-ghost use Rattle.std.specs.Prelude.{◌≡◌, ℕ, List, [], filter, IfOk, IfSome};
-ghost use Rattle.std.specs.List.{All};
+ghost use Rattle.std.specs.{Prelude.{◌≡◌, ℕ, List, [], filter, IfOk, IfSome}, List.{All}};
 ghost use Rattle.title_instrument.specs.declared.parts.Estates.{Estates as Named};
-ghost use Rattle.title_land.specs.Depth.{depth};
-ghost use Rattle.title_land.specs.Lands.{home_of, land_of};
-ghost use Rattle.title_land.specs.NodeNumbers.{node_number};
-ghost use Rattle.title_land.specs.declared.node.Node.TheVariants.{Part as Square};
-ghost use Rattle.title_land.specs.declared.survey.Township.{Township};
-ghost use Rattle.title_land.specs.declared.tract.Land.TheVariants.{Township as WholeTownship};
-ghost use Rattle.title_store.specs.Plants.{Plant as Content};
-ghost use Rattle.title_store.specs.Sheets.{estate_sheet, sheet_of};
+ghost use Rattle.title_land.specs.{Depth.{depth}, Lands.{home_of, land_of}, NodeNumbers.{node_number}, declared.survey.Township.{Township}};
+ghost use Rattle.title_land.specs.declared.{node.Node.TheVariants.{Part as Square}, tract.Land.TheVariants.{Township as WholeTownship}};
+ghost use Rattle.title_store.specs.{Plants.{Plant as Content}, Sheets.{estate_sheet, sheet_of}};
 ghost use Rattle.title_desk.specs.Shown.{IsShown, IsQuarter, IsTrue, is_left, land_in, all_kept, kept_under, IsKept, AreKept};
 ghost use Rattle.title_desk.specs.Shown.{AreLeft, IsSetUnder, ApartStay, OthersStay};
 ghost use Rattle.title_desk.specs.declared.kept_sheets.Kept.TheVariants.{Quarter as OfQuarter, Sheet as OfSheet};

@@ -1,9 +1,7 @@
 //! Sections and their quarters as tracts.
 
 ghost use Rattle.std.specs.Prelude.{◌≡◌, ◌++◌, ◌∷◌, [], OnOk};
-ghost use Rattle.title_land.specs.Depth.{depth};
-ghost use Rattle.title_land.specs.Lands.{land_of};
-ghost use Rattle.title_land.specs.declared.node.Node.TheVariants.{Part as Square};
+ghost use Rattle.title_land.specs.{Depth.{depth}, Lands.{land_of}, declared.node.Node.TheVariants.{Part as Square}};
 ghost use Rattle.title_chain.specs.SheetParts.{all_rows};
 
 use std::alloc::AllocError;

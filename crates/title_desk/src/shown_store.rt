@@ -1,9 +1,7 @@
 //! The store of a desk, with sheets that were made of it.
 
 ghost use Rattle.std.specs.Prelude.{◌≡◌, ◌++◌, ◌∷◌, [], true, IfOk, IfSome, OnOk};
-ghost use Rattle.title_land.specs.Depth.{depth};
-ghost use Rattle.title_land.specs.Lands.{is_in_plant, land_of};
-ghost use Rattle.title_land.specs.declared.node.Node.TheVariants.{Part as Square};
+ghost use Rattle.title_land.specs.{Depth.{depth}, Lands.{is_in_plant, land_of}, declared.node.Node.TheVariants.{Part as Square}};
 ghost use Rattle.title_land.specs.declared.rectangle.Quarter.TheVariants.{Northeast, Northwest, Southwest, Southeast};
 ghost use Rattle.title_store.specs.Sheets.{estate_sheet, sheet_of};
 ghost use Rattle.title_chain.specs.SheetParts.{all_rows};

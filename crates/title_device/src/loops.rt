@@ -1,8 +1,7 @@
 //! A script is read whole by one loop, and a report is written by another.
 
 ghost use Rattle.std.specs.Prelude.{◌≡◌, ◌≤◌, ◌<◌, ◌+◌, ◌⊎◌, ℕ, List, [], Bool, true, false, Option, None, Some};
-ghost use Rattle.std.specs.Prelude.{IfOk, IfErr, IfSome, OnOk, OnErr, length, take};
-ghost use Rattle.std.specs.Io.KnownBytes.{Appends, Consumes, IsAtEnd};
+ghost use Rattle.std.specs.{Prelude.{IfOk, IfErr, IfSome, OnOk, OnErr, length, take}, Io.KnownBytes.{Appends, Consumes, IsAtEnd}};
 
 use crate::fault::{Failed, ReadFault};
 use crate::sink::Sink;

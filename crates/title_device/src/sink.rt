@@ -1,7 +1,6 @@
 //! What a report is written to.
 
-ghost use Rattle.std.specs.Prelude.{◌≡◌, ◌≤◌, ◌<◌, ◌+◌, ℕ, List, Bool, true, Option, None, IfOk, length, if◌then◌else◌};
-ghost use Rattle.std.specs.Result.{is_err};
+ghost use Rattle.std.specs.{Prelude.{◌≡◌, ◌≤◌, ◌<◌, ◌+◌, ℕ, List, Bool, true, Option, None, IfOk, length, if◌then◌else◌}, Result.{is_err}};
 ghost use Rattle.std.specs.Io.KnownBytes.{WriteAppends};
 
 use crate::fault::Failed;

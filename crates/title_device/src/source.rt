@@ -1,7 +1,6 @@
 //! What a script is read from.
 
-ghost use Rattle.std.specs.Prelude.{◌≡◌, ◌≤◌, ◌+◌, ℕ, List, Bool, true, Option, None, IfOk, length, if◌then◌else◌};
-ghost use Rattle.std.specs.Result.{is_err};
+ghost use Rattle.std.specs.{Prelude.{◌≡◌, ◌≤◌, ◌+◌, ℕ, List, Bool, true, Option, None, IfOk, length, if◌then◌else◌}, Result.{is_err}};
 ghost use Rattle.std.specs.Io.KnownBytes.{ReadConsumes};
 
 use crate::fault::Failed;

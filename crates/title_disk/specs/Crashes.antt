@@ -1,7 +1,6 @@
 -- What the calls of a disk do to its file, and what a crash may leave of them until the next sync.
 use Rattle.std.specs.Prelude.{◌≡◌, ◌⊎◌, ℕ, ◌+◌, ◌≤◌, min, max, Bool, true, false, List, ◌++◌, length, take, drop, Result, Ok, Err}
-use Rattle.title_disk.specs.declared.fault.DiskFault.{DiskFault}
-use Rattle.title_disk.specs.declared.fault.DiskFault.TheVariants.{Memory, Failed}
+use Rattle.title_disk.specs.declared.fault.DiskFault.{DiskFault, TheVariants.{Memory, Failed}}
 
 -- new is old with these bytes at this offset
 abbrev pub Holds : List ℕ → ℕ → List ℕ → List ℕ → Type 0

@@ -1,9 +1,7 @@
 -- What a crash may leave of a disk in memory, by the calls that it keeps. Lists of calls have the newest first.
 use Rattle.std.specs.Prelude.{◌≡◌, ◌⊎◌, ℕ, ◌≤◌, List, [], ◌∷◌, ◌++◌, length}
-use Rattle.title_disk.specs.Crashes.{Torn, Cut}
-use Rattle.title_disk.specs.declared.call.DiskCall.{DiskCall}
+use Rattle.title_disk.specs.{Crashes.{Torn, Cut}, declared.call.{DiskCall.{DiskCall}, KeptCall.{KeptCall}}}
 use Rattle.title_disk.specs.declared.call.DiskCall.TheVariants as call
-use Rattle.title_disk.specs.declared.call.KeptCall.{KeptCall}
 
 -- what a call may make of a content until the next sync
 abbrev pub Leaves : DiskCall → List ℕ → List ℕ → Type 0

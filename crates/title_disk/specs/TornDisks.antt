@@ -1,8 +1,6 @@
 -- What a disk in memory shows of itself.
 use Rattle.std.specs.Prelude.{ℕ, Bool, List, reverse}
-use Rattle.title_disk.specs.Kept.{MayLeave, LeftSince}
-use Rattle.title_disk.specs.declared.call.KeptCall.{KeptCall}
-use Rattle.title_disk.specs.declared.torn_disk.TornDisk.{TornDisk}
+use Rattle.title_disk.specs.{Kept.{MayLeave, LeftSince}, declared.{call.KeptCall.{KeptCall}, torn_disk.TornDisk.{TornDisk}}}
 
 -- the bytes that a read returns
 abbrev pub bytes_of : TornDisk → List ℕ

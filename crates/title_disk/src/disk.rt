@@ -1,7 +1,6 @@
 //! A file on a disk.
 
-ghost use Rattle.std.specs.Prelude.{◌≡◌, ◌≤◌, ◌<◌, ◌^◌, ℕ, List, Bool, false, length, take, IfOk, OnOk};
-ghost use Rattle.std.specs.Result.{is_err};
+ghost use Rattle.std.specs.{Prelude.{◌≡◌, ◌≤◌, ◌<◌, ◌^◌, ℕ, List, Bool, false, length, take, IfOk, OnOk}, Result.{is_err}};
 ghost use Rattle.title_disk.specs.Crashes.{Holds, Torn, Cut, Follows, Only, Elapses, is_failure};
 
 use crate::fault::{DiskFailed, DiskFault};

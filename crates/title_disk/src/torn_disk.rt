@@ -1,9 +1,8 @@
 //! A disk in memory, for tests: it keeps each call, tells what a crash might have left, and can refuse a call.
 
 ghost use Rattle.std.specs.Prelude.{◌≡◌, ◌⊎◌, ◌≤◌, ◌<◌, ◌^◌, false, length, reverse, take, drop, IfOk, OnOk, OnErr};
-ghost use Rattle.title_disk.specs.Crashes.{Holds, Torn, Cut, Follows, Only, Elapses};
+ghost use Rattle.title_disk.specs.{Crashes.{Holds, Torn, Cut, Follows, Only, Elapses}, Laws.KeptCalls.{counts_now, only_now}};
 ghost use Rattle.title_disk.specs.Kept.{MayLeave, LeftSince, Leaves, Notes, content_between};
-ghost use Rattle.title_disk.specs.Laws.KeptCalls.{counts_now, only_now};
 ghost use Rattle.title_disk.specs.TornDisks.{bytes_of, calls_of, torn_may_leave, torn_left_since, torn_has_failed};
 
 use crate::call::{DiskCall, KeptCall};

@@ -1,8 +1,7 @@
 //! What a person is told on the errors where a command failed, by why it ended.
 #![tactic(auto)]
 
-ghost use Rattle.std.specs.Prelude.{◌≡◌, ℕ, List, None};
-ghost use Rattle.std.specs.Io.KnownBytes.{Appends};
+ghost use Rattle.std.specs.{Prelude.{◌≡◌, ℕ, List, None}, Io.KnownBytes.{Appends}};
 
 use std::alloc::{AllocError, Global};
 use title_advice::{

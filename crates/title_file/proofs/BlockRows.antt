@@ -1,8 +1,6 @@
 -- How a block is read, row by row.
 use Rattle.std.proofs.Common.{◌≡◌, ℕ, ◌+◌, ◌<◌, List, [], ◌∷◌, ◌++◌, length, get_or, take, drop, true, false, refl, sym, ◌∙◌, ap, arith}
-use Rattle.std.proofs.Common.{take-append-drop}
-use Rattle.std.specs.List.{AllByRecursion}
-use Rattle.std.proofs.lemmas.List.{append-nil, take_more, take-take, drop-take}
+use Rattle.std.{proofs.{Common.{take-append-drop}, lemmas.List.{append-nil, take_more, take-take, drop-take}}, specs.List.{AllByRecursion}}
 use Rattle.std.proofs.lemmas.Grind.{flat_map-append}
 use Rattle.title_journal.specs.Blocks.{lines, ends_block, line_feed, IsRow, IsBlock, IsUnfinished}
 

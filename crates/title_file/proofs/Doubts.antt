@@ -1,21 +1,14 @@
 -- What is in doubt is what is read once it is written again, and stands for what stood meanwhile.
 use Rattle.std.proofs.Common.{◌≡◌, ◌⊎◌, inl, inr, ℕ, zero, suc, ◌+◌, ◌≤◌, List, [], ◌∷◌, ◌++◌, length, take, drop, true, Result, Ok}
 use Rattle.std.proofs.Common.{refl, sym, ◌∙◌, ap, subst, arith, length-append, append_assoc, length-take, Option, None, Some}
-use Rattle.std.specs.List.{AllByRecursion, starts_with, flat_map}
-use Rattle.std.specs.Prelude.{nat_eq, IfSome, IfNone}
-use Rattle.std.proofs.lemmas.List.{append-nil, take_at, drop_at, drop_all, flat_map_more}
-use Rattle.std.proofs.lemmas.Slice.Eq.{starts_is}
-use Rattle.std.proofs.lemmas.Bool.{cases_eq, cond-true}
+use Rattle.std.{specs.{List.{AllByRecursion, starts_with, flat_map}, Prelude.{nat_eq, IfSome, IfNone}}, proofs.lemmas.Slice.Eq.{starts_is}}
+use Rattle.std.proofs.lemmas.{List.{append-nil, take_at, drop_at, drop_all, flat_map_more}, Bool.{cases_eq, cond-true}}
 use Rattle.std.proofs.lemmas.Bool.Decides.{Decides-eqb}
-use Rattle.title_journal.specs.Blocks.{AtGate, blocks_from, rows_in, counted, line_feed, open_gate, closed_gate, IsBlock}
-use Rattle.title_journal.specs.Rest.{IsTail}
+use Rattle.title_journal.specs.{Blocks.{AtGate, blocks_from, rows_in, counted, line_feed, open_gate, closed_gate, IsBlock}, Rest.{IsTail}}
 use Rattle.title_journal.specs.Laws.Reading.{all_before, some_blocks}
-use Rattle.title_file.specs.Calls.{written, after}
-use Rattle.title_file.specs.Fronts.{AreGates, blocks_behind, front_of}
-use Rattle.title_file.specs.InDoubt.{UnderWay, Putting, Opening, Cutting, Closing}
+use Rattle.title_file.specs.{Calls.{written, after}, Fronts.{AreGates, blocks_behind, front_of}, declared.gates.Gates.{Gates}}
+use Rattle.title_file.specs.InDoubt.{UnderWay, Putting, Opening, Cutting, Closing, IsInDoubt, with_gate, with_tail, written_again}
 use Rattle.title_file.specs.InDoubt.{behind_gate, read_of, kept_of, CanBe, MayBecome, with_opened}
-use Rattle.title_file.specs.InDoubt.{IsInDoubt, with_gate, with_tail, written_again}
-use Rattle.title_file.specs.declared.gates.Gates.{Gates}
 use Rattle.title_file.proofs.Walking.{tail_is_nothing, short_tail, all_and_one}
 
 -- ---- what stands

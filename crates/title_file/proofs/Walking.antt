@@ -1,14 +1,10 @@
 -- How a file's gates are found, block by block.
 use Rattle.std.proofs.Common.{◌≡◌, ℕ, ◌+◌, ◌≤◌, ◌<◌, List, [], ◌∷◌, ◌++◌, length, get_or, length-drop, take, drop, true, Ok}
 use Rattle.std.proofs.Common.{refl, sym, ◌∙◌, ap, subst, arith, length-append, take-append-drop, append_assoc, Option, None, Some}
-use Rattle.std.specs.List.{AllByRecursion, starts_with, flat_map}
-use Rattle.std.specs.Prelude.{◌==◌, nat_eq, IfSome, IfNone, IsErr}
-use Rattle.std.proofs.lemmas.List.{append-nil, drop_more, drop-drop, length-take-le, flat_map_more}
-use Rattle.std.proofs.lemmas.Slice.Eq.{starts_is}
-use Rattle.std.proofs.lemmas.Bool.{cond-true, cond-false, ne_eqb}
-use Rattle.std.proofs.lemmas.Bool.Decides.{Decides-eqb}
-use Rattle.title_journal.specs.Blocks.{AtGate, blocks_from, rows_in, counted, line_feed, open_gate, IsBlock, IsUnfinished}
-use Rattle.title_journal.specs.Rest.{IsTail}
+use Rattle.std.specs.{List.{AllByRecursion, starts_with, flat_map}, Prelude.{◌==◌, nat_eq, IfSome, IfNone, IsErr}}
+use Rattle.std.proofs.lemmas.{List.{append-nil, drop_more, drop-drop, length-take-le, flat_map_more}, Slice.Eq.{starts_is}}
+use Rattle.std.proofs.lemmas.Bool.{cond-true, cond-false, ne_eqb, Decides.{Decides-eqb}}
+use Rattle.title_journal.specs.{Blocks.{AtGate, blocks_from, rows_in, counted, line_feed, open_gate, IsBlock, IsUnfinished}, Rest.{IsTail}}
 use Rattle.title_journal.specs.Laws.Reading.{all_before, some_blocks, unfinished_block}
 use Rattle.title_file.specs.Fronts.{AreGates, blocks_behind, front_of}
 

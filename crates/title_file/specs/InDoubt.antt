@@ -1,11 +1,7 @@
 -- What the disk may have of a plant's file that is read otherwise, since the call that was under way failed.
-use Rattle.std.specs.Prelude.{◌≡◌, ◌≤◌, ℕ, true, List, [], ◌∷◌, ◌++◌, length, take, drop, Option, Some, None}
-use Rattle.std.specs.List.{AllByRecursion}
-use Rattle.title_journal.specs.Blocks.{line_feed, open_gate, closed_gate, IsBlock}
-use Rattle.title_journal.specs.Rest.{IsTail}
-use Rattle.title_file.specs.Calls.{written, after}
-use Rattle.title_file.specs.Fronts.{front_of}
-use Rattle.title_file.specs.declared.gates.Gates.{Gates}
+use Rattle.std.specs.{Prelude.{◌≡◌, ◌≤◌, ℕ, true, List, [], ◌∷◌, ◌++◌, length, take, drop, Option, Some, None}, List.{AllByRecursion}}
+use Rattle.title_journal.specs.{Blocks.{line_feed, open_gate, closed_gate, IsBlock}, Rest.{IsTail}}
+use Rattle.title_file.specs.{Calls.{written, after}, Fronts.{front_of}, declared.gates.Gates.{Gates}}
 
 -- What was under way, with what is read behind the blocks and what the disk has there.
 pub data UnderWay : Type 0 where

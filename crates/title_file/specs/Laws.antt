@@ -1,8 +1,6 @@
 -- How what a crash may leave goes on with each call.
-use Rattle.std.specs.Prelude.{ℕ, ◌≤◌, true, false, List, [], ◌∷◌, length}
-use Rattle.std.proofs.Common.{inl, inr, refl, sym, subst, arith}
-use Rattle.title_disk.specs.Crashes.{Torn, Cut, Follows}
-use Rattle.title_disk.specs.Laws.KeptCalls.{torn_from_Holds, cut_by_itself}
+use Rattle.std.{specs.Prelude.{ℕ, ◌≤◌, true, false, List, [], ◌∷◌, length}, proofs.Common.{inl, inr, refl, sym, subst, arith}}
+use Rattle.title_disk.specs.{Crashes.{Torn, Cut, Follows}, Laws.KeptCalls.{torn_from_Holds, cut_by_itself}}
 use Rattle.title_file.specs.Calls.{Call, written, cut, after, seen, Leaves, MayLeave, LeftSince}
 
 -- a crash may leave what is there

@@ -1,6 +1,5 @@
 -- What a note says.
-use Rattle.title_file.specs.Calls.{Call, opened, written, cut, synced, kept, unread}
-use Rattle.title_file.specs.declared.record.Note.{Note}
+use Rattle.title_file.specs.{Calls.{Call, opened, written, cut, synced, kept, unread}, declared.record.Note.{Note}}
 use Rattle.title_file.specs.declared.record.Note.TheVariants as note
 
 abbrev pub call_of : Note → Call

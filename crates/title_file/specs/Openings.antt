@@ -2,8 +2,7 @@
 use Rattle.std.specs.Prelude.{◌≡◌, ℕ, Bool, true, List, [], ◌∷◌, drop, Option, Some, None, IfSome, IfNone, IsErr, if◌then◌else◌}
 use Rattle.std.specs.Str.{bytes_eq}
 use Rattle.title_journal.specs.Blocks.{open_gate, closed_gate}
-use Rattle.title_file.specs.Calls.{Call, opened, kept, written, cut, synced}
-use Rattle.title_file.specs.Fronts.{AreGates, blocks_behind}
+use Rattle.title_file.specs.{Calls.{Call, opened, kept, written, cut, synced}, Fronts.{AreGates, blocks_behind}}
 use Rattle.title_file.specs.declared.gates.Gates.{Gates}
 
 -- what lies behind the blocks and will be cut off: all of it, but a closed gate alone

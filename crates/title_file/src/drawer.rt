@@ -1,7 +1,6 @@
 //! Where plants' files lie: the file system.
 
-ghost use Rattle.std.specs.Prelude.{◌≡◌, ◌≤◌, ◌<◌, ◌-◌, ◌^◌, false, length, take, drop, true, IfOk, OnOk};
-ghost use Rattle.std.specs.IoError.{error_kind};
+ghost use Rattle.std.specs.{Prelude.{◌≡◌, ◌≤◌, ◌<◌, ◌-◌, ◌^◌, false, length, take, drop, true, IfOk, OnOk}, IoError.{error_kind}};
 ghost use Rattle.title_disk.specs.Crashes.{Only};
 ghost use Rattle.title_disk.specs.declared.cabinet.OpenFault.TheVariants as fault;
 ghost use Rattle.title_file.specs.Files.{calls_of, file_seen, file_may_leave, file_has_failed, hold_of, shared_has_failed};

@@ -1,11 +1,9 @@
 //! Laws of files that are opened. Each function does nothing: its clauses are the law, proved.
 
 ghost use Rattle.std.specs.Prelude.{◌≡◌, ◌⊎◌, ◌++◌, List, ℕ, Ok, take};
-ghost use Rattle.title_journal.specs.Blocks.{head};
-ghost use Rattle.title_journal.specs.Rest.{StandsAlike};
-ghost use Rattle.title_file.specs.Fronts.{AreGates, blocks_behind, front_of};
+ghost use Rattle.title_journal.specs.{Blocks.{head}, Rest.{StandsAlike}};
+ghost use Rattle.title_file.specs.{Fronts.{AreGates, blocks_behind, front_of}, declared.gates.Gates.{Gates}};
 ghost use Rattle.title_file.specs.InDoubt.{UnderWay, IsInDoubt, MayBecome, with_opened, written_again};
-ghost use Rattle.title_file.specs.declared.gates.Gates.{Gates};
 
 use title_journal::laws::blocks_stand_where_they_are;
 

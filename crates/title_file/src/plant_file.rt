@@ -1,7 +1,6 @@
 //! A plant's file of the operating system, as a disk.
 
-ghost use Rattle.std.specs.Prelude.{◌≡◌, ◌+◌, ◌<◌, ◌^◌, ◌∷◌, false, length, IfSome, IsTrue};
-ghost use Rattle.std.proofs.Props.{props};
+ghost use Rattle.std.{specs.Prelude.{◌≡◌, ◌+◌, ◌<◌, ◌^◌, ◌∷◌, false, length, IfSome, IsTrue}, proofs.Props.{props}};
 ghost use Rattle.title_file.specs.Calls.{seen};
 
 use crate::record::{Note, Record};
@@ -26,8 +25,7 @@ pub struct PlantFile {
 
 impl PlantFile {
     ghost use Rattle.title_disk.specs.Crashes.{Only};
-    ghost use Rattle.title_file.specs.Calls.{opened};
-    ghost use Rattle.title_file.specs.Files.{calls_of, file_seen, file_may_leave, file_has_failed};
+    ghost use Rattle.title_file.specs.{Calls.{opened}, Files.{calls_of, file_seen, file_may_leave, file_has_failed}};
 
     /// A file that was read, and then synced, by these calls.
     pub(crate) fn opened(file: File, bytes: Vec<u8>, earlier: &Record) -> PlantFile

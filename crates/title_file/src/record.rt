@@ -1,9 +1,7 @@
 //! The calls on a file, which only clauses read.
 
-ghost use Rattle.std.specs.Prelude.{◌≡◌, List, [], ◌∷◌};
-ghost use Rattle.std.specs.Borrow.{ftrue};
-ghost use Rattle.title_file.specs.Calls.{Call};
-ghost use Rattle.title_file.specs.Codes.{calls_code};
+ghost use Rattle.std.specs.{Prelude.{◌≡◌, List, [], ◌∷◌}, Borrow.{ftrue}};
+ghost use Rattle.title_file.specs.{Calls.{Call}, Codes.{calls_code}};
 
 use std::marker::Model;
 

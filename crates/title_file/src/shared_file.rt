@@ -1,9 +1,7 @@
 //! A plant's file of the operating system that is shared by those who read it, as a disk.
 
-ghost use Rattle.std.specs.Prelude.{◌≡◌, true, IfSome};
-ghost use Rattle.std.proofs.Props.{props};
-ghost use Rattle.title_file.specs.Calls.{seen};
-ghost use Rattle.title_file.specs.Holds.{keeps_writers_off};
+ghost use Rattle.std.{specs.Prelude.{◌≡◌, true, IfSome}, proofs.Props.{props}};
+ghost use Rattle.title_file.specs.{Calls.{seen}, Holds.{keeps_writers_off}};
 
 use crate::holding::Held;
 use crate::record::{Note, Record};

@@ -1,6 +1,5 @@
 -- Grammars: a language says which texts spell which values. A text is a list of characters.
-use Rattle.std.specs.Prelude.{◌≡◌, ℕ, Bool, true, ◌==◌, List, [], ◌∷◌, ◌++◌, ◌⊎◌}
-use Rattle.std.specs.List.{list_any}
+use Rattle.std.specs.{Prelude.{◌≡◌, ℕ, Bool, true, ◌==◌, List, [], ◌∷◌, ◌++◌, ◌⊎◌}, List.{list_any}}
 
 abbrev pub Language : Type 0 → Type 1
 Language V = V → List ℕ → Type 0

@@ -2,8 +2,7 @@
 
 ghost use Rattle.std.specs.Prelude.{◌≡◌, ◌≤◌, IfOk};
 ghost use Rattle.title_trace.specs.Due.{MayOpen};
-ghost use Rattle.title_office.specs.Offices.{most_seats};
-ghost use Rattle.title_office.specs.Workers.{examiners_of, seat_examiners};
+ghost use Rattle.title_office.specs.{Offices.{most_seats}, Workers.{examiners_of, seat_examiners}};
 
 use crate::gate::Yielding;
 use crate::plain::{Disagreement, Plain};

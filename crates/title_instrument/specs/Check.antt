@@ -1,14 +1,10 @@
 -- The causes why an instrument can't stand.
 use Rattle.std.specs.Prelude.{ℕ, Bool, false, cond, not, ◌||◌, ◌&&◌, List, [], ◌∷◌, Option, Some, None, is_some, leb, eqb}
-use Rattle.title_instrument.specs.declared.parts.Estate.{Estate}
-use Rattle.title_instrument.specs.declared.parts.Estate.TheVariants.{S, O, M}
-use Rattle.title_instrument.specs.declared.parts.Cause.{Cause}
-use Rattle.title_instrument.specs.declared.parts.Cause.TheVariants.{Party, SameParty, NoEstate, Reservation}
-use Rattle.title_instrument.specs.declared.instrument.Deed.{Deed}
+use Rattle.title_instrument.specs.declared.{parts.{Estate.{Estate, TheVariants.{S, O, M}}, Cause.{Cause}}, instrument.Deed.{Deed}}
+use Rattle.title_instrument.specs.{declared.parts.Cause.TheVariants.{Party, SameParty, NoEstate, Reservation}, Estates.{names, names_none}}
 use Rattle.title_instrument.specs.declared.instrument.Instrument.{Instrument}
-use Rattle.title_instrument.specs.declared.instrument.Instrument.TheVariants as i
-use Rattle.title_instrument.specs.Estates.{names, names_none}
 use Rattle.title_instrument.specs.Parties.{grantor_of, grantee_of, estates_of, reservation_of}
+use Rattle.title_instrument.specs.declared.instrument.Instrument.TheVariants as i
 
 -- a deed has a reservation for an estate that it doesn't name
 abbrev pub reserves_unnamed : Deed ℕ → Estate → Bool

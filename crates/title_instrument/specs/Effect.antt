@@ -1,17 +1,9 @@
 -- What an instrument does to the owners of one cell.
 use Rattle.std.specs.Prelude.{ℕ, ◌≡◌, false, Result, Ok, Err}
 use Rattle.title_share.specs.Division.{Division, moved, units_of}
-use Rattle.title_instrument.specs.declared.parts.Estate.{Estate}
-use Rattle.title_instrument.specs.declared.parts.Estate.TheVariants.{S, O, M}
-use Rattle.title_instrument.specs.declared.parts.Rule.{Rule}
-use Rattle.title_instrument.specs.declared.instrument.Instrument.{Instrument}
-use Rattle.title_instrument.specs.declared.owners.Owners.{Owners}
-use Rattle.title_instrument.specs.declared.owners.Effect.{Effect}
-use Rattle.title_instrument.specs.declared.owners.Effect.TheVariants.{Done, Refused}
-use Rattle.title_instrument.specs.Estates.{names}
-use Rattle.title_instrument.specs.Owners.{holding_of}
-use Rattle.title_instrument.specs.Parties.{grantor_of, grantee_of, estates_of}
-use Rattle.title_instrument.specs.Passing.{passes}
+use Rattle.title_instrument.specs.declared.{parts.{Estate.{Estate, TheVariants.{S, O, M}}, Rule.{Rule}}, instrument.Instrument.{Instrument}}
+use Rattle.title_instrument.specs.{declared.owners.{Owners.{Owners}, Effect.{Effect, TheVariants.{Done, Refused}}}, Estates.{names}}
+use Rattle.title_instrument.specs.{Owners.{holding_of}, Parties.{grantor_of, grantee_of, estates_of}, Passing.{passes}}
 
 -- a holding after units have passed from grantor to grantee, where a number of units passes
 abbrev pub after_passing : Instrument ℕ → Division → Result ℕ Rule → Result Division Rule

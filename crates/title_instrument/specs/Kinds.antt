@@ -1,10 +1,7 @@
 -- The kinds of instruments, and their words.
-use Rattle.std.specs.Prelude.{ℕ, Bool, true, false, List, [], ◌∷◌, Option, codes}
-use Rattle.std.specs.List.{find}
-use Rattle.std.specs.Str.{bytes_eq}
-use Rattle.title_instrument.specs.declared.kind.Kind.{Kind}
+use Rattle.std.specs.{Prelude.{ℕ, Bool, true, false, List, [], ◌∷◌, Option, codes}, List.{find}, Str.{bytes_eq}}
+use Rattle.title_instrument.specs.declared.{kind.Kind.{Kind}, instrument.Instrument.{Instrument}}
 use Rattle.title_instrument.specs.declared.kind.Kind.TheVariants as kind
-use Rattle.title_instrument.specs.declared.instrument.Instrument.{Instrument}
 use Rattle.title_instrument.specs.declared.instrument.Instrument.TheVariants as i
 
 -- the word of a kind, as scripts and reports write it

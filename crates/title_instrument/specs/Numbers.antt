@@ -1,8 +1,6 @@
 -- The numbers of refusals.
 use Rattle.std.specs.Prelude.{ℕ}
-use Rattle.title_instrument.specs.declared.parts.Rule.{Rule}
-use Rattle.title_instrument.specs.declared.parts.Rule.TheVariants.{ShortTitle, TooFine, OverReserved}
-use Rattle.title_instrument.specs.declared.parts.Cause.{Cause}
+use Rattle.title_instrument.specs.declared.parts.{Rule.{Rule, TheVariants.{ShortTitle, TooFine, OverReserved}}, Cause.{Cause}}
 use Rattle.title_instrument.specs.declared.parts.Cause.TheVariants.{Party, SameParty, NoEstate, Reservation}
 
 -- the number of a rule by which a cell refuses an instrument

@@ -1,8 +1,6 @@
 -- The owners of one cell: a division of each estate.
 use Rattle.title_share.specs.Division.{Division, all_to}
-use Rattle.title_instrument.specs.declared.parts.Estate.{Estate}
-use Rattle.title_instrument.specs.declared.parts.Estate.TheVariants.{S, O, M}
-use Rattle.title_instrument.specs.declared.owners.Owners.{Owners}
+use Rattle.title_instrument.specs.declared.{parts.Estate.{Estate, TheVariants.{S, O, M}}, owners.Owners.{Owners}}
 
 -- the holding of an estate
 abbrev pub holding_of : Estate → Owners → Division

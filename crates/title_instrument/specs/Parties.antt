@@ -1,11 +1,8 @@
 -- Who passes units to whom by an instrument, in which estates, and what it reserves.
 use Rattle.std.specs.Prelude.{ℕ, Option, None, slice_index_or}
-use Rattle.title_instrument.specs.declared.parts.Estate.{Estate}
-use Rattle.title_instrument.specs.declared.parts.Estates.{Estates}
-use Rattle.title_instrument.specs.declared.instrument.Instrument.{Instrument}
-use Rattle.title_instrument.specs.declared.instrument.Instrument.TheVariants as i
-use Rattle.title_instrument.specs.declared.instrument.Deed.{Deed}
+use Rattle.title_instrument.specs.declared.{parts.{Estate.{Estate}, Estates.{Estates}}, instrument.{Instrument.{Instrument}, Deed.{Deed}}}
 use Rattle.title_instrument.specs.Estates.{estate_index}
+use Rattle.title_instrument.specs.declared.instrument.Instrument.TheVariants as i
 
 -- the party that passes units: a deed's grantor, or the releasor
 abbrev pub grantor_of : {P : Type 0} → Instrument P → P

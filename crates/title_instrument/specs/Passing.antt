@@ -1,16 +1,10 @@
 -- How many units an instrument passes in an estate of one cell, of which the party that passes them holds g units.
 use Rattle.std.specs.Prelude.{ℕ, Bool, true, false, ◌≡◌, ◌*◌, ◌-◌, ◌/◌, ◌%◌, cond, Option, Some, None, Result, Ok, Err, ltb, eqb}
 use Rattle.title_share.specs.Rows.{whole_units}
-use Rattle.title_instrument.specs.declared.parts.Estate.{Estate}
-use Rattle.title_instrument.specs.declared.parts.Quantum.{Quantum}
-use Rattle.title_instrument.specs.declared.parts.Quantum.TheVariants.{Whole, Interest}
-use Rattle.title_instrument.specs.declared.parts.Rule.{Rule}
-use Rattle.title_instrument.specs.declared.parts.Rule.TheVariants.{ShortTitle, TooFine, OverReserved}
-use Rattle.title_instrument.specs.declared.instrument.Deed.{Deed}
-use Rattle.title_instrument.specs.declared.instrument.Instrument.{Instrument}
+use Rattle.title_instrument.specs.declared.parts.{Estate.{Estate}, Quantum.{Quantum, TheVariants.{Whole, Interest}}, Rule.{Rule}}
+use Rattle.title_instrument.specs.declared.{parts.Rule.TheVariants.{ShortTitle, TooFine, OverReserved}, instrument.Deed.{Deed}}
+use Rattle.title_instrument.specs.{declared.instrument.Instrument.{Instrument}, Estates.{names}, Parties.{reservation_of}}
 use Rattle.title_instrument.specs.declared.instrument.Instrument.TheVariants as i
-use Rattle.title_instrument.specs.Estates.{names}
-use Rattle.title_instrument.specs.Parties.{reservation_of}
 
 -- m units are the interest of a units of the whole in g units: their exact product
 abbrev pub IsInterest : ℕ → ℕ → ℕ → Type 0

@@ -1,9 +1,8 @@
 //! Deeds and releases.
 
 ghost use Rattle.std.specs.Prelude.{◌≡◌, ◌≤◌, Some, None, MatchResult, IfOk};
-ghost use Rattle.title_instrument.specs.Kinds.{kind_of};
+ghost use Rattle.title_instrument.specs.{Kinds.{kind_of}, Passing.{reserved, passed, passed_of, passed_yielding, passes}};
 ghost use Rattle.title_instrument.specs.Parties.{between, deed_between, grantor_of, grantee_of, estates_of, reservation_of};
-ghost use Rattle.title_instrument.specs.Passing.{reserved, passed, passed_of, passed_yielding, passes};
 ghost use Rattle.title_instrument.specs.Check.{reserves_unnamed, has_stray, first_cause};
 
 use crate::kind::Kind;

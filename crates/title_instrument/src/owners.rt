@@ -1,8 +1,7 @@
 //! The owners of one cell, and what an instrument does to them.
 
 ghost use Rattle.std.specs.Prelude.{◌≡◌, ◌↔◌, IsTrue, IfOk};
-ghost use Rattle.title_instrument.specs.Owners.{holding_of, opening_owners};
-ghost use Rattle.title_instrument.specs.Effect.{holding_effect, cell_effect, KeepsUnnamed};
+ghost use Rattle.title_instrument.specs.{Owners.{holding_of, opening_owners}, Effect.{holding_effect, cell_effect, KeepsUnnamed}};
 
 use crate::instrument::Instrument;
 use crate::parts::{Estate, Rule};

@@ -1,8 +1,7 @@
 //! The parts of an instrument, and of the answers that it gets.
 
 ghost use Rattle.std.specs.Prelude.{◌≡◌, ◌≤◌, ◌↔◌, ℕ, IsTrue, IfOk, IfSome, MatchOption, Some};
-ghost use Rattle.title_instrument.specs.Estates.{names, names_none, estate_text, estates_text};
-ghost use Rattle.title_instrument.specs.Numbers.{rule_number, cause_number};
+ghost use Rattle.title_instrument.specs.{Estates.{names, names_none, estate_text, estates_text}, Numbers.{rule_number, cause_number}};
 ghost use Rattle.title_instrument.specs.Passing.{IsNamed, units_named};
 
 use std::fmt;

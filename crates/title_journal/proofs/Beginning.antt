@@ -1,18 +1,11 @@
 -- What the first bytes of a file stand for.
 use Rattle.std.proofs.Common.{◌≡◌, ◌⊎◌, inl, inr, ⊎_elim, ℕ, zero, suc, ◌+◌, ◌-◌, ◌≤◌, ◌<◌, false, List, [], ◌∷◌, ◌++◌, length, take}
 use Rattle.std.proofs.Common.{drop, Result, Ok, Err, refl, sym, ◌∙◌, ap, subst, arith, append_assoc, length-append, length-take}
-use Rattle.std.specs.Prelude.{IsErr, nat_eq}
-use Rattle.std.specs.List.{AllByRecursion, flat_map, starts_with}
-use Rattle.std.proofs.lemmas.List.{take-append-le}
-use Rattle.std.proofs.lemmas.Bool.{cases_lt, cases_Bool, cond-false}
-use Rattle.std.proofs.lemmas.Bool.Decides.{Decides-eqb}
-use Rattle.std.proofs.lemmas.Slice.Eq.{starts_is}
+use Rattle.std.{specs.{Prelude.{IsErr, nat_eq}, List.{AllByRecursion, flat_map, starts_with}}, proofs.lemmas.List.{take-append-le}}
+use Rattle.std.proofs.lemmas.{Bool.{cases_lt, cases_Bool, cond-false, Decides.{Decides-eqb}}, Slice.Eq.{starts_is}}
 use Rattle.title_journal.specs.Blocks.{AtGate, InRow, blocks_from, blocks_in, before_others, counted, head, lines, rows_in, ends_block}
-use Rattle.title_journal.specs.Blocks.{line_feed, IsRow, IsBlock, IsUnfinished}
-use Rattle.title_journal.specs.Rest.{IsTail, Stands}
-use Rattle.title_journal.specs.Beginnings.{BeginsAs}
-use Rattle.title_journal.specs.Laws.Reading.{one_block, unfinished_block}
-use Rattle.title_journal.proofs.Standing.{tail_is_nothing}
+use Rattle.title_journal.specs.{Blocks.{line_feed, IsRow, IsBlock, IsUnfinished}, Rest.{IsTail, Stands}, Beginnings.{BeginsAs}}
+use Rattle.title_journal.{specs.Laws.Reading.{one_block, unfinished_block}, proofs.Standing.{tail_is_nothing}}
 use Rattle.title_journal.proofs.Repairing.{front_of_tail, take_past}
 
 -- ---- a block that breaks off

@@ -1,7 +1,6 @@
 -- What a crash leaves while a block is put.
 use Rattle.std.proofs.Common.{◌≡◌, ℕ, ◌+◌, ◌≤◌, List, [], ◌∷◌, ◌++◌, length, get_or, take, drop, Ok, refl, sym, ◌∙◌, ap, subst, arith}
-use Rattle.std.proofs.Common.{append_assoc, length-append, take-append-drop}
-use Rattle.std.specs.List.{AllByRecursion}
+use Rattle.std.{proofs.Common.{append_assoc, length-append, take-append-drop}, specs.List.{AllByRecursion}}
 use Rattle.std.proofs.lemmas.List.{take_at, drop_at, drop_more, take-take, take_all}
 use Rattle.title_disk.specs.Crashes.{Holds, Torn, Follows}
 use Rattle.title_journal.specs.Blocks.{blocks_in, front, open_gate, closed_gate, line_feed, IsBlock}

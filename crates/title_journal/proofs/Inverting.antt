@@ -1,14 +1,10 @@
 -- What stands in a file says how the file is made.
 use Rattle.std.proofs.Common.{◌≡◌, ◌≢◌, inl, inr, ℕ, ◌+◌, List, [], ◌∷◌, ◌++◌, length, drop, Result, Ok, Err, cond, refl, sym, ◌∙◌, ap}
-use Rattle.std.proofs.Common.{subst, append_assoc}
-use Rattle.std.specs.Prelude.{◌==◌, nat_eq}
-use Rattle.std.specs.List.{AllByRecursion, flat_map, starts_with}
-use Rattle.std.proofs.lemmas.Bool.{cases_eq, cases_Bool, cond-true, cond-false, eq-eqb, ne_eqb}
-use Rattle.std.proofs.lemmas.Bool.Decides.{Decides-eqb}
+use Rattle.std.{proofs.Common.{subst, append_assoc}, specs.{Prelude.{◌==◌, nat_eq}, List.{AllByRecursion, flat_map, starts_with}}}
+use Rattle.std.proofs.lemmas.Bool.{cases_eq, cases_Bool, cond-true, cond-false, eq-eqb, ne_eqb, Decides.{Decides-eqb}}
 use Rattle.std.proofs.lemmas.Slice.Eq.{starts_is}
 use Rattle.title_journal.specs.Blocks.{State, AtGate, InRow, blocks_from, blocks_in, before_others, counted, head, ends_block, line_feed}
-use Rattle.title_journal.specs.Blocks.{open_gate, IsRow, IsBlock}
-use Rattle.title_journal.specs.Rest.{IsTail, Stands}
+use Rattle.title_journal.specs.{Blocks.{open_gate, IsRow, IsBlock}, Rest.{IsTail, Stands}}
 use Rattle.title_journal.proofs.Splitting.{SomeRows, no_rows, one_row_more, last_row_more}
 
 Stood : Type 0

@@ -1,6 +1,5 @@
 -- What is known of a call that went well, behind a `map_err`.
-use Rattle.std.proofs.Common.{◌≡◌, Bool, true, false, Result, Ok, Err, OnOk, refl}
-use Rattle.std.specs.Result.{is_ok, is_err}
+use Rattle.std.{proofs.Common.{◌≡◌, Bool, true, false, Result, Ok, Err, OnOk, refl}, specs.Result.{is_ok, is_err}}
 use Rattle.std.proofs.lemmas.Bool.{true≢false}
 
 pub went_well : {T E P : Type 0} (r : Result T E) → true ≡ is_ok r → OnOk r P → P

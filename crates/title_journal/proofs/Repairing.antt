@@ -1,11 +1,9 @@
 -- What a crash leaves while the end of a file is repaired.
 use Rattle.std.proofs.Common.{◌≡◌, ℕ, zero, suc, ◌+◌, ◌-◌, ◌≤◌, List, [], ◌∷◌, ◌++◌, length, take, drop, Ok, refl, sym, ◌∙◌, ap, arith}
-use Rattle.std.proofs.Common.{length-append, length-drop, take-append-drop}
-use Rattle.std.specs.List.{AllByRecursion}
+use Rattle.std.{proofs.Common.{length-append, length-drop, take-append-drop}, specs.List.{AllByRecursion}}
 use Rattle.std.proofs.lemmas.List.{append-nil, take_at, take_all, drop_all}
 use Rattle.title_disk.specs.Crashes.{Holds, Torn, Cut}
-use Rattle.title_journal.specs.Blocks.{blocks_in, front, closed_gate, IsBlock}
-use Rattle.title_journal.specs.Rest.{IsTail, at_rest, StandsAlike}
+use Rattle.title_journal.specs.{Blocks.{blocks_in, front, closed_gate, IsBlock}, Rest.{IsTail, at_rest, StandsAlike}}
 use Rattle.title_journal.proofs.Standing.{stands, short_tail}
 
 -- a beginning of a tail is one

@@ -1,18 +1,11 @@
 -- How a file is split, row by row and block by block.
 use Rattle.std.proofs.Common.{◌≡◌, ℕ, ◌+◌, ◌≤◌, ◌<◌, List, [], ◌∷◌, ◌++◌, length, get_or, length-drop, take, drop, map, Vec, true, false}
-use Rattle.std.proofs.Common.{Err, refl, sym, ◌∙◌, ap, subst, arith, length-append, take-append-drop}
-use Rattle.std.specs.List.{AllByRecursion}
-use Rattle.std.specs.declared.alloc.Global.{Global}
-use Rattle.std.specs.Prelude.{◌==◌, nat_eq}
-use Rattle.std.specs.List.{starts_with}
+use Rattle.std.{proofs.Common.{Err, refl, sym, ◌∙◌, ap, subst, arith, length-append, take-append-drop}, specs.List.{AllByRecursion}}
+use Rattle.std.{specs.{declared.alloc.Global.{Global}, Prelude.{◌==◌, nat_eq}, List.{starts_with}}, proofs.lemmas.Grind.{flat_map-append}}
 use Rattle.std.proofs.lemmas.List.{append-nil, take_at, take_more, take-take, drop_more, drop-drop, drop-take, length-take-le}
-use Rattle.std.proofs.lemmas.Grind.{flat_map-append}
-use Rattle.std.proofs.lemmas.Slice.Eq.{starts_is}
-use Rattle.std.proofs.lemmas.Bool.{cond-false, ne_eqb}
-use Rattle.std.proofs.lemmas.Bool.Decides.{Decides-eqb}
+use Rattle.std.proofs.lemmas.{Slice.Eq.{starts_is}, Bool.{cond-false, ne_eqb, Decides.{Decides-eqb}}}
 use Rattle.title_journal.specs.Blocks.{AtGate, blocks_from, blocks_in, rows_in, head, front, lines, ends_block, line_feed, open_gate}
-use Rattle.title_journal.specs.Blocks.{IsRow, IsBlock, IsUnfinished}
-use Rattle.title_journal.specs.Rest.{IsTail}
+use Rattle.title_journal.specs.{Blocks.{IsRow, IsBlock, IsUnfinished}, Rest.{IsTail}}
 use Rattle.title_journal.specs.Laws.Reading.{all_before, front_and_rest, unfinished_block, rows_in-append}
 use Rattle.title_journal.proofs.Standing.{short_tail, front_more, length-front_more, all_and_one}
 

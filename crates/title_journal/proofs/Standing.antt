@@ -1,13 +1,9 @@
 -- What files of blocks stand for, whatever lies behind a gate that isn't open.
 use Rattle.std.proofs.Common.{◌≡◌, inl, inr, ℕ, ◌+◌, ◌≤◌, List, [], ◌∷◌, ◌++◌, length, Ok, refl, sym, ◌∙◌, ap, arith, append_assoc}
-use Rattle.std.proofs.Common.{length-append}
-use Rattle.std.specs.Prelude.{◌==◌}
-use Rattle.std.specs.List.{AllByRecursion}
-use Rattle.std.proofs.lemmas.List.{append-nil, flat_map_more}
+use Rattle.std.{proofs.{Common.{length-append}, lemmas.List.{append-nil, flat_map_more}}, specs.{Prelude.{◌==◌}, List.{AllByRecursion}}}
 use Rattle.std.proofs.lemmas.Bool.{cases_eq, ne_eqb, cond-false}
 use Rattle.title_journal.specs.Blocks.{AtGate, blocks_from, blocks_in, front, counted, head, open_gate, closed_gate, line_feed, IsBlock}
-use Rattle.title_journal.specs.Rest.{IsTail, IsBeforeOrAfter, with_block}
-use Rattle.title_journal.specs.Laws.Reading.{all_before, front_and_rest}
+use Rattle.title_journal.specs.{Rest.{IsTail, IsBeforeOrAfter, with_block}, Laws.Reading.{all_before, front_and_rest}}
 
 -- a tail stands for nothing
 pub tail_is_nothing : (number : ℕ) (tail : List ℕ) → IsTail tail → blocks_from number AtGate tail ≡ Ok []

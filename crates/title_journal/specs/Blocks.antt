@@ -1,7 +1,6 @@
 -- What a plant's file stands for: blocks of whole rows, each behind a gate of one byte.
 use Rattle.std.specs.Prelude.{◌≡◌, ◌≢◌, ℕ, ◌+◌, Bool, true, false, List, [], ◌∷◌, ◌++◌, length, drop, Result, Ok, Err, if◌then◌else◌}
-use Rattle.std.specs.Prelude.{◌==◌, nat_eq, codes, count_by}
-use Rattle.std.specs.List.{starts_with, flat_map, AllByRecursion}
+use Rattle.std.specs.{Prelude.{◌==◌, nat_eq, codes, count_by}, List.{starts_with, flat_map, AllByRecursion}}
 use Rattle.title_disk.specs.declared.fault.DiskFault.{DiskFault}
 use Rattle.title_disk.specs.declared.fault.DiskFault.TheVariants as disk
 use Rattle.title_journal.specs.declared.fault.JournalFault.{JournalFault}

@@ -1,12 +1,8 @@
 -- A plant's file at rest, what stands there, and what a block more makes of it.
 use Rattle.std.specs.Prelude.{◌≡◌, ◌≢◌, ◌⊎◌, ◌<◌, ◌^◌, ℕ, List, [], ◌∷◌, ◌++◌, length, drop, map, Bool, false, Result, Ok, Err}
-use Rattle.std.specs.Prelude.{if◌then◌else◌}
-use Rattle.std.specs.List.{AllByRecursion}
-use Rattle.std.specs.Str.{bytes_eq}
+use Rattle.std.specs.{Prelude.{if◌then◌else◌}, List.{AllByRecursion}, Str.{bytes_eq}}
 use Rattle.title_disk.specs.Crashes.{Only}
-use Rattle.title_journal.specs.declared.blocks.Blocks.{Blocks}
-use Rattle.title_journal.specs.declared.blocks.Tail.{Tail}
-use Rattle.title_journal.specs.declared.blocks.Tail.TheVariants.{Closed, Torn}
+use Rattle.title_journal.specs.declared.blocks.{Blocks.{Blocks}, Tail.{Tail, TheVariants.{Closed, Torn}}}
 use Rattle.title_journal.specs.Blocks.{front, blocks_in, closed_gate, open_gate, IsBlock}
 
 -- what doesn't count: at most one byte, or bytes behind a gate that isn't open

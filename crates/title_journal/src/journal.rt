@@ -1,8 +1,7 @@
 //! Reading, repairing, and putting a block.
 
 ghost use Rattle.std.specs.Prelude.{◌≡◌, ◌≤◌, ◌<◌, ◌^◌, ◌++◌, ◌∷◌, [], ℕ, List, false, true, length, IfOk, IfErr, OnOk, OnErr, IsErrOf};
-ghost use Rattle.std.specs.Prelude.{Err};
-ghost use Rattle.std.specs.Result.{is_err};
+ghost use Rattle.std.specs.{Prelude.{Err}, Result.{is_err}};
 ghost use Rattle.title_disk.specs.Crashes.{Only, Elapses, LeavesOnly};
 ghost use Rattle.title_journal.specs.Blocks.{blocks_in, line_feed, closed_gate, IsBlock};
 ghost use Rattle.title_journal.specs.Rest.{IsReadFrom, IsAtRest, StandsAlike, IsBeforeOrAfter, with_block};

@@ -1,10 +1,7 @@
 //! Laws of blocks. Each function does nothing: its clauses are the law, proved.
 
-ghost use Rattle.std.specs.Prelude.{◌≡◌, ◌≤◌, ◌<◌, ℕ, List, Ok, Err, length, take};
-ghost use Rattle.std.specs.List.{AllByRecursion};
-ghost use Rattle.title_journal.specs.Beginnings.{BeginsAs};
-ghost use Rattle.title_journal.specs.Blocks.{blocks_in, head, IsBlock};
-ghost use Rattle.title_journal.specs.Rest.{Stands, at_rest};
+ghost use Rattle.std.specs.{Prelude.{◌≡◌, ◌≤◌, ◌<◌, ℕ, List, Ok, Err, length, take}, List.{AllByRecursion}};
+ghost use Rattle.title_journal.specs.{Beginnings.{BeginsAs}, Blocks.{blocks_in, head, IsBlock}, Rest.{Stands, at_rest}};
 
 /// Blocks stand in a file exactly where it is the head, these blocks behind open gates, and an end that doesn't count.
 pub fn blocks_stand_where_they_are()

@@ -1,8 +1,7 @@
 //! A file is split into its blocks.
 
 ghost use Rattle.std.specs.Prelude.{◌≡◌, ◌≢◌, ◌≤◌, ◌<◌, ◌+◌, ◌^◌, ℕ, length, take, IfOk, IfErr, IfSome, IfNone, slice_index};
-ghost use Rattle.title_journal.specs.Blocks.{blocks_in, rows_in, line_feed, IsRow, IsBlock, IsUnfinished};
-ghost use Rattle.title_journal.specs.Rest.{IsReadFrom, tail_of};
+ghost use Rattle.title_journal.specs.{Blocks.{blocks_in, rows_in, line_feed, IsRow, IsBlock, IsUnfinished}, Rest.{IsReadFrom, tail_of}};
 ghost use Rattle.title_journal.specs.declared.fault.JournalFault.TheVariants as fault;
 
 use crate::blocks::{Blocks, Gate, Tail};

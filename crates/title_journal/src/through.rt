@@ -1,7 +1,6 @@
 //! Single changes of a file, each on the disk before it is answered.
 
-ghost use Rattle.std.specs.Prelude.{◌≡◌, ◌≤◌, ◌<◌, ◌^◌, false, length, take, OnOk};
-ghost use Rattle.std.specs.Result.{is_err};
+ghost use Rattle.std.specs.{Prelude.{◌≡◌, ◌≤◌, ◌<◌, ◌^◌, false, length, take, OnOk}, Result.{is_err}};
 ghost use Rattle.title_disk.specs.Crashes.{Holds, Torn, Cut, Only, LeavesOnly};
 
 use title_disk::{Disk, DiskFailed};

@@ -1,32 +1,20 @@
 -- What an office comes to on a desk that has served what stood is a day on top of that.
-use Rattle.std.proofs.Common.{◌≡◌, ◌∙◌, ◌≤◌, ℕ, List, Bool, true, Option, ap, subst, arith, length, length-append}
-use Rattle.std.proofs.Common.{Ok, reverse}
+use Rattle.std.proofs.Common.{◌≡◌, ◌∙◌, ◌≤◌, ℕ, List, Bool, true, Option, ap, subst, arith, length, length-append, Ok, reverse}
 use mathlib.Core.List.{IsPrefix}
-use Rattle.title_land.specs.Depth.{depth}
-use Rattle.title_land.specs.declared.survey.Township.{Township}
-use Rattle.title_chain.specs.declared.record.Record.{Record}
-use Rattle.title_chain.specs.Alone.{IsSerial, most_parties}
-use Rattle.title_trace.specs.Trace.{committed}
-use Rattle.title_trace.specs.Due.{Setting, most_townships}
+use Rattle.title_land.specs.{Depth.{depth}, declared.survey.Township.{Township}}
+use Rattle.title_chain.specs.{declared.record.Record.{Record}, Alone.{IsSerial, most_parties}}
+use Rattle.title_trace.specs.{Trace.{committed}, Due.{Setting, most_townships}}
 use Rattle.title_desk.specs.Told.{Books}
-use Rattle.title_plan.specs.Asked.{Asked}
-use Rattle.title_plan.specs.Townships.{each_once}
+use Rattle.title_plan.specs.{Asked.{Asked}, Townships.{each_once}}
 use Rattle.title_plan.specs.declared.line.Schedule.TheVariants as schedule
 use Rattle.title_standing.specs.StandingLaws.{KeptAreSerial, ReplayedAreCommitted}
-use Rattle.title_daybook.specs.Files.{standing_in}
-use Rattle.title_daybook.specs.Standing.{Standing}
-use Rattle.title_daybook.specs.declared.writing.Stood.{Stood}
+use Rattle.title_daybook.specs.{Files.{standing_in}, Standing.{Standing}, declared.writing.Stood.{Stood}}
 use Rattle.title_day.specs.DaysOn.{GoesOnFrom, office_text_on}
-use Rattle.title_lasting.specs.Days.{declared_in}
-use Rattle.title_lasting.specs.Footings.{Continues, HasStood}
-use Rattle.title_lasting.specs.Made.{IsAsked, IsUnmade}
-use Rattle.title_lasting.specs.Replays.{HasServed}
+use Rattle.title_lasting.specs.{Days.{declared_in}, Footings.{Continues, HasStood}, Made.{IsAsked, IsUnmade}, Replays.{HasServed}}
 use Rattle.title_lasting.specs.declared.fault.LastingFault.{LastingFault}
 use Rattle.title_lasting.specs.declared.fault.LastingFault.TheVariants as fault
-use Rattle.title_kept_office.specs.declared.fault.KeptOfficeFault.{KeptOfficeFault}
-use Rattle.title_kept_office.specs.declared.fault.KeptOfficeFault.TheVariants.{Kept, Worker, Unsettled}
-use Rattle.title_kept_office.specs.declared.making.Made.{Made}
-use Rattle.title_kept_office.specs.Makings.{IsRunOn}
+use Rattle.title_kept_office.specs.declared.fault.KeptOfficeFault.{KeptOfficeFault, TheVariants.{Kept, Worker, Unsettled}}
+use Rattle.title_kept_office.specs.{declared.making.Made.{Made}, Makings.{IsRunOn}}
 use Rattle.title_kept_office.specs.OfficeDays.{CanServe, IsOfficeMade, IsOfficeUnmade, IsOwnTrouble}
 
 -- a list is no longer than one that begins with it

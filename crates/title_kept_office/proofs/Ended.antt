@@ -1,14 +1,11 @@
 -- A call that ends with the fault of another.
-use Rattle.std.proofs.Common.{◌≡◌, Result, Ok, Err, IfErr, sym, subst}
-use Rattle.std.specs.Result.{IsErrAnd}
+use Rattle.std.{proofs.Common.{◌≡◌, Result, Ok, Err, IfErr, sym, subst}, specs.Result.{IsErrAnd}}
 use Rattle.title_script.specs.declared.fault.RunFault.TheVariants as run
-use Rattle.title_day.specs.declared.office_fault.OfficeFault.{OfficeFault}
+use Rattle.title_day.specs.{declared.office_fault.OfficeFault.{OfficeFault}, OfficeDays.{IsOfficeTrouble}}
 use Rattle.title_day.specs.declared.office_fault.OfficeFault.TheVariants as office
-use Rattle.title_day.specs.OfficeDays.{IsOfficeTrouble}
 use Rattle.title_lasting.specs.declared.writable.Unwritten.{Unwritten}
 use Rattle.title_lasting.specs.declared.writable.Unwritten.TheVariants as unwritten
-use Rattle.title_kept_office.specs.declared.fault.KeptOfficeFault.{KeptOfficeFault}
-use Rattle.title_kept_office.specs.Faults.{of_office, of_unwritten}
+use Rattle.title_kept_office.specs.{declared.fault.KeptOfficeFault.{KeptOfficeFault}, Faults.{of_office, of_unwritten}}
 use Rattle.title_kept_office.specs.OfficeDays.{IsOwnTrouble}
 
 pub ended_by : {T : Type 0} (P : KeptOfficeFault → Type 0) (why : KeptOfficeFault) (r : Result T KeptOfficeFault)

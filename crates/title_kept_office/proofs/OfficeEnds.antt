@@ -1,34 +1,21 @@
 -- How a day of an office on a plant's file ends.
 use Rattle.std.proofs.Common.{◌≡◌, ◌∙◌, ◌≢◌, ◌⊎◌, ℕ, List, Bool, true, Option, Some, None, IfSome, Result, Ok, Err, inl, inr, ⊎_elim}
-use Rattle.std.proofs.Common.{refl, sym, ap, subst, length, arith}
-use Rattle.std.specs.Io.KnownBytes.{Appends, IsAtEnd, Keeps}
-use Rattle.title_disk.specs.Crashes.{LeavesOnly, Only}
-use Rattle.title_disk.specs.Laws.Moments.{joined, weakened}
-use Rattle.title_journal.specs.Blocks.{IsBlock, blocks_in}
-use Rattle.title_journal.specs.Rest.{StandsAlike}
-use Rattle.title_journal.specs.declared.fault.PutFault.{PutFault}
+use Rattle.std.{proofs.Common.{refl, sym, ap, subst, length, arith}, specs.{Io.KnownBytes.{Appends, IsAtEnd, Keeps}, Global.{Vec}}}
+use Rattle.title_disk.specs.{Crashes.{LeavesOnly, Only}, Laws.Moments.{joined, weakened}}
+use Rattle.title_journal.specs.{Blocks.{IsBlock, blocks_in}, Rest.{StandsAlike}, declared.fault.PutFault.{PutFault}}
 use Rattle.title_journal.specs.declared.fault.PutFault.TheVariants as put
-use Rattle.std.specs.Global.{Vec}
 use Rattle.title_plan.specs.declared.fault.ScriptFault.{ScriptFault}
 use Rattle.title_plan.specs.declared.line.Schedule.TheVariants as schedule
 use Rattle.title_script.specs.Runs.{IsReadWithin}
-use Rattle.title_daybook.specs.Files.{IsPlant, standing_after, standing_in}
-use Rattle.title_daybook.specs.Standing.{Standing}
+use Rattle.title_daybook.specs.{Files.{IsPlant, standing_after, standing_in}, Standing.{Standing}}
 use Rattle.title_day.specs.Closings.{closed_text}
-use Rattle.title_lasting.specs.Days.{declared_in}
-use Rattle.title_lasting.specs.Faults.{of_put}
-use Rattle.title_lasting.specs.Kept.{IsWithOrWithout, text_in, with_text}
-use Rattle.title_lasting.specs.Lastings.{Begins, IsExpected, Refuses, Stays}
-use Rattle.title_lasting.specs.Made.{Adds, IsAtFault}
-use Rattle.title_lasting.specs.Opened.{IsUnopened, LeavesUnopened}
-use Rattle.title_lasting.specs.Openings.{StandsAs}
+use Rattle.title_lasting.specs.{Days.{declared_in}, Faults.{of_put}, Kept.{IsWithOrWithout, text_in, with_text}, Made.{Adds, IsAtFault}}
+use Rattle.title_lasting.specs.{Lastings.{Begins, IsExpected, Refuses, Stays}, Opened.{IsUnopened, LeavesUnopened}, Openings.{StandsAs}}
 use Rattle.title_lasting.specs.declared.fault.LastingFault.{LastingFault}
 use Rattle.title_lasting.specs.declared.fault.LastingFault.TheVariants as fault
-use Rattle.title_kept_office.specs.declared.fault.KeptOfficeFault.{KeptOfficeFault}
-use Rattle.title_kept_office.specs.declared.fault.KeptOfficeFault.TheVariants.{Kept, Worker, Unsettled}
-use Rattle.title_kept_office.specs.declared.making.Made.{Made}
+use Rattle.title_kept_office.specs.declared.fault.KeptOfficeFault.{KeptOfficeFault, TheVariants.{Kept, Worker, Unsettled}}
+use Rattle.title_kept_office.specs.{declared.making.Made.{Made}, OfficeDays.{stands_after}}
 use Rattle.title_kept_office.specs.OfficeDays.{CanServe, IsEither, IsOfficeMade, IsOfficeServed, IsOfficeUnmade, OfficeDay}
-use Rattle.title_kept_office.specs.OfficeDays.{stands_after}
 use Rattle.title_kept_office.specs.OfficeLastings.{CameToRest, CanServeOn, IsOfficeCause, LastingOffice, LeavesOffice, OfficeCounts}
 
 keeps_itself : (known : Option (List ℕ)) → Keeps known known

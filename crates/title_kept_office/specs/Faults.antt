@@ -6,8 +6,7 @@ use Rattle.title_day.specs.declared.office_fault.OfficeFault.TheVariants as offi
 use Rattle.title_lasting.specs.declared.fault.LastingFault.TheVariants as fault
 use Rattle.title_lasting.specs.declared.writable.Unwritten.{Unwritten}
 use Rattle.title_lasting.specs.declared.writable.Unwritten.TheVariants as unwritten
-use Rattle.title_kept_office.specs.declared.fault.KeptOfficeFault.{KeptOfficeFault}
-use Rattle.title_kept_office.specs.declared.fault.KeptOfficeFault.TheVariants.{Kept, Worker, Unsettled}
+use Rattle.title_kept_office.specs.declared.fault.KeptOfficeFault.{KeptOfficeFault, TheVariants.{Kept, Worker, Unsettled}}
 
 -- the office's day isn't kept
 abbrev pub of_office : OfficeFault → KeptOfficeFault

@@ -4,14 +4,10 @@ use Rattle.title_chain.specs.declared.record.Record.{Record}
 use Rattle.title_trace.specs.Trace.{committed}
 use Rattle.title_desk.specs.Told.{Books}
 use Rattle.title_plan.specs.Asked.{Asked}
-use Rattle.title_daybook.specs.Standing.{Standing}
-use Rattle.title_daybook.specs.declared.writing.Stood.{Stood}
-use Rattle.title_day.specs.declared.tally.Tally.{Tally}
-use Rattle.title_day.specs.Closings.{closed_text}
-use Rattle.title_day.specs.DaysOn.{GoesOnFrom, office_text_on}
+use Rattle.title_daybook.specs.{Standing.{Standing}, declared.writing.Stood.{Stood}}
+use Rattle.title_day.specs.{declared.tally.Tally.{Tally}, Closings.{closed_text}, DaysOn.{GoesOnFrom, office_text_on}}
 use Rattle.title_day.specs.OfficeReports.{AreTallies}
-use Rattle.title_lasting.specs.Footings.{Continues, HasStood, IsNew, stands_on}
-use Rattle.title_lasting.specs.Kept.{text_in}
+use Rattle.title_lasting.specs.{Footings.{Continues, HasStood, IsNew, stands_on}, Kept.{text_in}}
 use Rattle.title_kept_office.specs.declared.making.Made.{Made}
 
 pub record IsRunOn (number : ℕ) (asked : Asked) (desk : Books) (stood : Stood) (made : Made) : Type 0 where

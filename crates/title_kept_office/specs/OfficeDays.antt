@@ -1,25 +1,16 @@
 -- A day of an office on a plant's file. A list of what stands has the newest record first; the records of a day have the oldest first.
 use Rattle.std.specs.Prelude.{◌≡◌, ◌⊎◌, Bool, ℕ, List, Option, Ok, length, map, reverse}
 use Rattle.title_land.specs.Depth.{depth}
-use Rattle.title_chain.specs.declared.record.Record.{Record}
-use Rattle.title_chain.specs.Alone.{IsSerial}
-use Rattle.title_plan.specs.Asked.{Asked}
-use Rattle.title_plan.specs.Onto.{script_onto}
+use Rattle.title_chain.specs.{declared.record.Record.{Record}, Alone.{IsSerial}}
+use Rattle.title_plan.specs.{Asked.{Asked}, Onto.{script_onto}}
 use Rattle.title_plan.specs.declared.line.Schedule.TheVariants as schedule
 use Rattle.title_standing.specs.Standing.{kept}
-use Rattle.title_daybook.specs.Files.{IsPlant}
-use Rattle.title_daybook.specs.Standing.{Standing}
-use Rattle.title_day.specs.declared.tally.Tally.{Tally}
-use Rattle.title_day.specs.Closings.{closed_text}
-use Rattle.title_day.specs.DaysOn.{IsDayOn, office_text_on}
-use Rattle.title_lasting.specs.Days.{declared_in}
-use Rattle.title_lasting.specs.Footings.{IsNew, stands_on}
-use Rattle.title_lasting.specs.Kept.{text_in}
-use Rattle.title_lasting.specs.Lastings.{IsExpected, IsLeft}
+use Rattle.title_daybook.specs.{Files.{IsPlant}, Standing.{Standing}}
+use Rattle.title_day.specs.{declared.tally.Tally.{Tally}, Closings.{closed_text}, DaysOn.{IsDayOn, office_text_on}}
+use Rattle.title_lasting.specs.{Days.{declared_in}, Footings.{IsNew, stands_on}, Kept.{text_in}, Lastings.{IsExpected, IsLeft}}
 use Rattle.title_lasting.specs.Made.{IsAsked, IsUnmade}
 use Rattle.title_lasting.specs.declared.fault.LastingFault.TheVariants as fault
-use Rattle.title_kept_office.specs.declared.fault.KeptOfficeFault.{KeptOfficeFault}
-use Rattle.title_kept_office.specs.declared.fault.KeptOfficeFault.TheVariants.{Kept, Worker, Unsettled}
+use Rattle.title_kept_office.specs.declared.fault.KeptOfficeFault.{KeptOfficeFault, TheVariants.{Kept, Worker, Unsettled}}
 use Rattle.title_kept_office.specs.declared.making.Made.{Made}
 
 -- what stood before, what is asked for on top of it, the tallies of the examiners, and the records, of which those that stood come first

@@ -1,23 +1,17 @@
 -- What a run of an office's script on top of a plant's file does, as a whole. A file is seen by its bytes, before and after; by what a
 -- crash may leave of it after; and by what a crash at any moment of the run leaves.
-use Rattle.std.specs.Prelude.{◌≡◌, ℕ, List, Bool, Option, Ok, Result, IfErr, OnOk}
-use Rattle.std.specs.Io.KnownBytes.{Appends, IsAtEnd, Keeps}
+use Rattle.std.specs.{Prelude.{◌≡◌, ℕ, List, Bool, Option, Ok, Result, IfErr, OnOk}, Io.KnownBytes.{Appends, IsAtEnd, Keeps}}
 use Rattle.title_land.specs.Depth.{depth}
 use Rattle.title_chain.specs.Alone.{IsSerial}
 use Rattle.title_disk.specs.Crashes.{LeavesOnly, Only}
 use Rattle.title_journal.specs.Rest.{StandsAlike}
-use Rattle.title_plan.specs.Asked.{Asked}
-use Rattle.title_plan.specs.Onto.{script_onto}
+use Rattle.title_plan.specs.{Asked.{Asked}, Onto.{script_onto}}
 use Rattle.title_plan.specs.declared.line.Schedule.TheVariants as schedule
 use Rattle.title_script.specs.Runs.{IsReadWithin}
-use Rattle.title_daybook.specs.Files.{IsPlant}
-use Rattle.title_daybook.specs.Standing.{Standing}
-use Rattle.title_lasting.specs.Days.{declared_in}
-use Rattle.title_lasting.specs.Lastings.{Begins, IsCause, IsExpected, IsLeft, Stays}
-use Rattle.title_lasting.specs.Openings.{IsResting, StandsAs}
+use Rattle.title_daybook.specs.{Files.{IsPlant}, Standing.{Standing}}
+use Rattle.title_lasting.specs.{Days.{declared_in}, Lastings.{Begins, IsCause, IsExpected, IsLeft, Stays}, Openings.{IsResting, StandsAs}}
 use Rattle.title_lasting.specs.declared.fault.LastingFault.TheVariants as fault
-use Rattle.title_kept_office.specs.declared.fault.KeptOfficeFault.{KeptOfficeFault}
-use Rattle.title_kept_office.specs.declared.fault.KeptOfficeFault.TheVariants.{Kept, Worker, Unsettled}
+use Rattle.title_kept_office.specs.declared.fault.KeptOfficeFault.{KeptOfficeFault, TheVariants.{Kept, Worker, Unsettled}}
 use Rattle.title_kept_office.specs.OfficeDays.{IsEither, IsOfficeServed, OfficeDay, report_of, stands_after}
 
 -- The day counts, whole: what stands after it is on the disk, a crash at any moment left that or what stood before, a file at rest has its

@@ -1,20 +1,17 @@
 //! A day of an office is made: its script is read on top of what stands and run there by threads, and the block that it adds is put
 //! together. Nothing is written.
 
-ghost use Rattle.std.specs.Prelude.{◌≡◌, ◌≤◌, All, ℕ, List, Ok, false, IfErr, IfOk, OnOk, length};
-ghost use Rattle.std.specs.Io.KnownBytes.{IsAtEnd};
+ghost use Rattle.std.specs.{Prelude.{◌≡◌, ◌≤◌, All, ℕ, List, Ok, false, IfErr, IfOk, OnOk, length}, Io.KnownBytes.{IsAtEnd}};
 ghost use Rattle.indexmap.specs.IndexSet.{index_set_len};
 ghost use Rattle.title_store.specs.Plants.{IsEachOnce};
 ghost use Rattle.title_trace.specs.Trace.{committed};
 ghost use Rattle.title_office.specs.Offices.{most_seats};
 ghost use Rattle.title_plan.specs.Asked.{asked_in};
 ghost use Rattle.title_script.specs.Runs.{IsReadWithin};
-ghost use Rattle.title_daybook.specs.Books.{standing_of};
-ghost use Rattle.title_daybook.specs.Files.{standing_in};
+ghost use Rattle.title_daybook.specs.{Books.{standing_of}, Files.{standing_in}};
 ghost use Rattle.title_day.specs.Turns.{IsAskedBy};
 ghost use Rattle.title_lasting.specs.Replays.{HasServed};
-ghost use Rattle.title_kept_office.specs.Makings.{IsRunOn};
-ghost use Rattle.title_kept_office.specs.OfficeDays.{IsOfficeMade, IsOfficeUnmade, IsOwnTrouble};
+ghost use Rattle.title_kept_office.specs.{Makings.{IsRunOn}, OfficeDays.{IsOfficeMade, IsOfficeUnmade, IsOwnTrouble}};
 
 use crate::fault::KeptOfficeFault;
 use std::alloc::Global;

@@ -4,11 +4,8 @@ ghost use Rattle.std.specs.Prelude.{◌≡◌, ◌≤◌, ◌⊎◌, ℕ, Ok, Op
 ghost use Rattle.title_disk.specs.Crashes.{LeavesOnly, Only};
 ghost use Rattle.title_journal.specs.Rest.{IsAtRest};
 ghost use Rattle.title_office.specs.Offices.{most_seats};
-ghost use Rattle.title_daybook.specs.Books.{standing_of};
-ghost use Rattle.title_daybook.specs.Files.{standing_in};
-ghost use Rattle.title_lasting.specs.Lastings.{IsExpected};
-ghost use Rattle.title_lasting.specs.Openings.{cut_in};
-ghost use Rattle.title_lasting.specs.Replays.{HasServed};
+ghost use Rattle.title_daybook.specs.{Books.{standing_of}, Files.{standing_in}};
+ghost use Rattle.title_lasting.specs.{Lastings.{IsExpected}, Openings.{cut_in}, Replays.{HasServed}};
 ghost use Rattle.title_kept_office.specs.OfficeLastings.{CameToRest, LastingOffice};
 
 use crate::fault::KeptOfficeFault;

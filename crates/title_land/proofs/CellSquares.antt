@@ -1,15 +1,8 @@
 -- The cells of a square, by its quarters.
 use Rattle.std.proofs.Common.{◌≡◌, ℕ, zero, suc, ◌-◌, ◌<◌, ◌≤◌, Bool, List, [], ◌∷◌, ◌++◌, take, refl, sym, ap, ◌∙◌, arith}
-use Rattle.std.proofs.lemmas.List.{take_all}
-use Rattle.std.proofs.lemmas.List.Elements.{filter-append}
-use Rattle.std.specs.List.{filter, flat_map}
-use Rattle.std.specs.Prelude.{Result, Ok, Err, OnOk}
-use Rattle.title_land.specs.declared.survey.Section.{Section}
-use Rattle.title_land.specs.declared.survey.Cell.{Cell}
-use Rattle.title_land.specs.declared.rectangle.Quarter.{Quarter}
-use Rattle.title_land.specs.CellLists.{cells_below}
-use Rattle.title_land.specs.Depth.{depth}
-use Rattle.title_land.specs.Nodes.{quarters}
+use Rattle.std.{proofs.lemmas.List.{take_all, Elements.{filter-append}}, specs.{List.{filter, flat_map}, Prelude.{Result, Ok, Err, OnOk}}}
+use Rattle.title_land.specs.{declared.{survey.{Section.{Section}, Cell.{Cell}}, rectangle.Quarter.{Quarter}}, CellLists.{cells_below}}
+use Rattle.title_land.specs.{Depth.{depth}, Nodes.{quarters}}
 
 -- what passes of lists one after another
 filter_flat : {X Y : Type 0} (p : Y → Bool) (f : X → List Y) (xs : List X) → flat_map (λ x. filter p (f x)) xs ≡ filter p (flat_map f xs)

@@ -1,12 +1,8 @@
 -- The cells of a set, counted by rows and columns.
 use Rattle.std.proofs.Common.{◌≡◌, ℕ, suc, ◌+◌, Bool, false, List, [], ◌∷◌, Option, Some, length, cond, sum_by, count_by, refl}
-use Rattle.std.proofs.Common.{sym, ap, ◌∙◌, arith}
-use Rattle.std.specs.Prelude.{slice_get, option_and_then, unwrap_or}
-use Rattle.std.specs.List.{fold, range_with_len}
-use Rattle.std.proofs.lemmas.Option.{slice_get_within, get_or_from_slice_get}
-use Rattle.std.proofs.lemmas.List.Elements.{All-get_or}
-use Rattle.title_land.specs.declared.grid.Grid.{Grid}
-use Rattle.title_land.specs.Survey.{side}
+use Rattle.std.{proofs.Common.{sym, ap, ◌∙◌, arith}, specs.{Prelude.{slice_get, option_and_then, unwrap_or}, List.{fold, range_with_len}}}
+use Rattle.std.proofs.lemmas.{Option.{slice_get_within, get_or_from_slice_get}, List.Elements.{All-get_or}}
+use Rattle.title_land.specs.{declared.grid.Grid.{Grid}, Survey.{side}}
 use Rattle.title_land.specs.Grids.{grid_has, IsGrid, row_count, cell_count, cells_counted, indices}
 
 -- a sum over a list is one over its indices

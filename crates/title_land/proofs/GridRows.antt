@@ -1,27 +1,16 @@
 -- Sets of cells by their rows' numbers: what the program computes of the numbers, it computes of the cells.
 use Rattle.std.proofs.Common.{◌≡◌, ℕ, ◌+◌, ◌*◌, ◌^◌, ◌<◌, ◌≤◌, Bool, true, false, not, ◌&&◌, ◌||◌, cond, List, [], ◌∷◌, Option, map}
-use Rattle.std.proofs.Common.{length, get_or, sum_by, refl, sym, ap, ◌∙◌, arith}
+use Rattle.std.{proofs.{Common.{length, get_or, sum_by, refl, sym, ap, ◌∙◌, arith}, lemmas.Nat.{or_lt}}, specs.Prelude.{count_ones}}
 use Rattle.std.specs.Prelude.{◌↔◌, ◌==◌, nat_eq, nat_le, nat_lt, slice_get, option_and_then, option_map, unwrap_or, bit_and, bit_or}
-use Rattle.std.specs.Prelude.{count_ones}
-use Rattle.std.specs.List.{All, list_any, zip, range_with_len, fold}
-use Rattle.std.specs.Cmp.Lexicographic.{pointwise}
-use Rattle.std.proofs.lemmas.Bool.{and_parts, and_from, leb-true, ltb-true, le-leb, lt-ltb, eqb-true, eq-eqb}
-use Rattle.std.proofs.lemmas.List.{length-map, get_or-map}
+use Rattle.std.{specs.{List.{All, list_any, zip, range_with_len, fold}, Cmp.Lexicographic.{pointwise}}, proofs.Math.ListN.{replicate}}
+use Rattle.std.proofs.lemmas.{Bool.{and_parts, and_from, leb-true, ltb-true, le-leb, lt-ltb, eqb-true, eq-eqb}, List.FromFn.{fill_by_all}}
+use Rattle.std.proofs.lemmas.List.{length-map, get_or-map, length-replicate, get_or-replicate}
 use Rattle.std.proofs.lemmas.List.Elements.{All-head, All-tail, All-map, All-get_or, All-from_get_or, All-replicate}
-use Rattle.std.proofs.lemmas.List.FromFn.{fill_by_all}
-use Rattle.std.proofs.lemmas.Nat.{or_lt}
-use Rattle.std.proofs.Math.ListN.{replicate}
-use Rattle.std.proofs.lemmas.List.{length-replicate, get_or-replicate}
 use Rattle.std.proofs.lemmas.Option.{slice_get-map, slice_get-get_or, slice_get_past, unwrap_or-slice_get}
-use Rattle.title_land.specs.declared.grid.Grid.{Grid}
-use Rattle.title_land.specs.declared.rectangle.Rectangle.{Rectangle}
+use Rattle.title_land.specs.{declared.{grid.Grid.{Grid}, rectangle.Rectangle.{Rectangle}}, Grids.{with_rectangle, grid_of}, Survey.{side}}
 use Rattle.title_land.specs.Grids.{grid_has, has_some, rows_meet, grids_meet, row_count, cell_count, IsGrid, indices, row_fills}
-use Rattle.title_land.specs.Grids.{with_rectangle, grid_of}
-use Rattle.title_land.specs.Survey.{side}
-use Rattle.title_land.specs.Rectangles.{holds, InSection}
-use Rattle.title_land.specs.RowBits.{is_set, row_cells, grid_cells, row_numbers, HasColumns, IsRows}
-use Rattle.title_land.specs.RowNumbers.{length-row_cells, get_or-row_cells, rows_back}
-use Rattle.title_land.specs.Laws.Filling.{range_all_at, range_all_from}
+use Rattle.title_land.specs.{Rectangles.{holds, InSection}, RowBits.{is_set, row_cells, grid_cells, row_numbers, HasColumns, IsRows}}
+use Rattle.title_land.specs.{RowNumbers.{length-row_cells, get_or-row_cells, rows_back}, Laws.Filling.{range_all_at, range_all_from}}
 use Rattle.title_land.proofs.RowBits.{same_test, set_or, row_some, row_meets, row_counts, covers_mask, covered_mask}
 
 -- a set has as many rows and columns as its section

@@ -1,14 +1,9 @@
 -- Nodes of one section are related exactly where one's square lies in the other's.
-use Rattle.std.proofs.Common.{◌≡◌, Bool, true, false, ◌&&◌, ◌||◌, List, [], ◌∷◌, ◌++◌, refl, sym, ap, ap₂, ◌∙◌}
-use Rattle.std.specs.List.{list_any}
+use Rattle.std.{proofs.Common.{◌≡◌, Bool, true, false, ◌&&◌, ◌||◌, List, [], ◌∷◌, ◌++◌, refl, sym, ap, ap₂, ◌∙◌}, specs.List.{list_any}}
 use Rattle.std.proofs.lemmas.Bool.{both_ways, false_from_ne_true}
-use Rattle.title_land.specs.declared.survey.Section.{Section}
-use Rattle.title_land.specs.declared.rectangle.Quarter.{Quarter}
+use Rattle.title_land.specs.{declared.{survey.Section.{Section}, rectangle.Quarter.{Quarter}}, Survey.{same_section}, Nestings.{lies_in}}
+use Rattle.title_land.specs.{Nodes.{same_path, same_node, above_in, are_related}, Laws.SameNode.{same_path-is, same_path-self}}
 use Rattle.title_land.specs.declared.node.Node.TheVariants as node
-use Rattle.title_land.specs.Survey.{same_section}
-use Rattle.title_land.specs.Nodes.{same_path, same_node, above_in, are_related}
-use Rattle.title_land.specs.Nestings.{lies_in}
-use Rattle.title_land.specs.Laws.SameNode.{same_path-is, same_path-self}
 
 -- a square of more quarters lies in the first
 abbrev pub lies_below : List Quarter → List Quarter → Bool

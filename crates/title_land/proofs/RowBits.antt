@@ -1,24 +1,13 @@
 -- Rows of cells as numbers: what `&`, `|`, `!= 0` and the count of a number's ones say of its cells.
 use Rattle.std.proofs.Common.{◌≡◌, ℕ, ◌+◌, ◌-◌, ◌*◌, ◌%◌, ◌^◌, ◌<◌, ◌≤◌, Bool, true, false, not, ◌&&◌, ◌||◌, inl, inr, List, [], ◌∷◌, map}
-use Rattle.std.proofs.Common.{refl, sym, ap, ◌∙◌, arith}
-use Rattle.std.specs.Prelude.{◌==◌, nat_le, nat_lt, bit_and, bit_or, count_ones}
-use Rattle.std.specs.Int.{bit_at}
-use Rattle.std.specs.Int.Bits.{and_lt}
-use Rattle.std.specs.List.{range_with_len, list_any, zip}
+use Rattle.std.{proofs.Common.{refl, sym, ap, ◌∙◌, arith}, specs.Prelude.{◌==◌, nat_le, nat_lt, bit_and, bit_or, count_ones}}
+use Rattle.std.{specs.{Int.{bit_at, Bits.{and_lt}}, List.{range_with_len, list_any, zip}}, proofs.lemmas.Bool.Decides.{nat_tests}}
 use Rattle.std.proofs.lemmas.Bool.{both_ways, eqb-true, cases_lt, le-leb, lt-leb, le-ltb, lt-ltb, and_from, and_left, and_parts, and_right}
-use Rattle.std.proofs.lemmas.Bool.Decides.{nat_tests}
-use Rattle.std.proofs.lemmas.List.{map-id}
-use Rattle.std.proofs.lemmas.List.Folds.{list_any_at, Any-from_list_any}
-use Rattle.std.proofs.lemmas.List.FromFn.{length-range_with_len, get_or-range_with_len}
-use Rattle.std.proofs.lemmas.Nat.{pow_pos, one_shl, shl_whole, and_le_r}
-use Rattle.std.proofs.Math.Pow.{ones_lt, high_ones, pow-sub-lt, pow_mono}
+use Rattle.std.proofs.lemmas.List.{map-id, Folds.{list_any_at, Any-from_list_any}, FromFn.{length-range_with_len, get_or-range_with_len}}
+use Rattle.std.proofs.{lemmas.Nat.{pow_pos, one_shl, shl_whole, and_le_r}, Math.Pow.{ones_lt, high_ones, pow-sub-lt, pow_mono}}
 use Rattle.std.proofs.lemmas.Nat.Bits.{bit_at-lt, bit_at-zero, bit_at_and, bit_at_or, bit_at_mask_below, bit_at_mask_inside}
-use Rattle.std.proofs.lemmas.Nat.Bits.{bit_at_mask_above, same_from_bits_below}
-use Rattle.std.proofs.lemmas.Simd.{ones-mask_l}
-use Rattle.std.specs.Simd.Lanes.{mask_l}
-use Rattle.title_land.specs.Grids.{rows_meet, row_count}
-use Rattle.title_land.specs.RowBits.{is_set, row_cells, HasColumns}
-use Rattle.title_land.specs.RowNumbers.{number_back}
+use Rattle.std.{proofs.lemmas.{Nat.Bits.{bit_at_mask_above, same_from_bits_below}, Simd.{ones-mask_l}}, specs.Simd.Lanes.{mask_l}}
+use Rattle.title_land.specs.{Grids.{rows_meet, row_count}, RowBits.{is_set, row_cells, HasColumns}, RowNumbers.{number_back}}
 
 -- two tests that follow from one another are one
 pub same_test : (a b : Bool) → (a ≡ true → b ≡ true) → (b ≡ true → a ≡ true) → a ≡ b

@@ -1,11 +1,7 @@
 -- A township's sections, from a number on.
-use Rattle.std.proofs.Common.{◌≡◌, ℕ, suc, ◌+◌, ◌-◌, ◌≤◌, List, [], ◌∷◌, ◌++◌, refl, ap, ◌∙◌, arith}
-use Rattle.std.specs.Prelude.{nat_le, ◌&&◌}
-use Rattle.title_land.specs.declared.survey.Township.{Township}
-use Rattle.title_land.specs.declared.survey.Section.{Section}
-use Rattle.title_land.specs.Survey.{IsSection, IsSectionNumber}
-use Rattle.title_land.specs.CellLists.{sections_from, sections_of, sections_left}
-use Rattle.title_land.specs.Laws.CellMembers.{section_if-is}
+use Rattle.std.{proofs.Common.{◌≡◌, ℕ, suc, ◌+◌, ◌-◌, ◌≤◌, List, [], ◌∷◌, ◌++◌, refl, ap, ◌∙◌, arith}, specs.Prelude.{nat_le, ◌&&◌}}
+use Rattle.title_land.specs.{declared.survey.{Township.{Township}, Section.{Section}}, Survey.{IsSection, IsSectionNumber}}
+use Rattle.title_land.specs.{CellLists.{sections_from, sections_of, sections_left}, Laws.CellMembers.{section_if-is}}
 
 -- all are left at first
 pub left_first : (t : Township) → sections_left t 1 ≡ sections_of t

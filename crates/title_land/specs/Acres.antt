@@ -1,11 +1,8 @@
 -- Nominal acres, counted in half acres: a section has 640 acres (BLM, Manual of Surveying Instructions, 2009).
-use Rattle.std.specs.Prelude.{ℕ, ◌*◌, ◌/◌, ◌%◌, ◌==◌, List, [], ◌++◌, Option, Some, None, codes, if◌then◌else◌}
-use Rattle.std.specs.Option.{option_map}
+use Rattle.std.specs.{Prelude.{ℕ, ◌*◌, ◌/◌, ◌%◌, ◌==◌, List, [], ◌++◌, Option, Some, None, codes, if◌then◌else◌}, Option.{option_map}}
 use Rattle.std.specs.Fmt.{decimal}
-use Rattle.title_land.specs.declared.tract.Land.{Land}
+use Rattle.title_land.specs.{declared.tract.Land.{Land}, Survey.{side}, Grids.{grid_has, cells_counted}}
 use Rattle.title_land.specs.declared.tract.Land.TheVariants as land
-use Rattle.title_land.specs.Survey.{side}
-use Rattle.title_land.specs.Grids.{grid_has, cells_counted}
 
 -- the cells of a section, and the half acres of one of them
 abbrev pub cells_in_section : ℕ → ℕ

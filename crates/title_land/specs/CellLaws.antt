@@ -1,13 +1,7 @@
 -- Laws of cells in their order.
-use Rattle.std.specs.Prelude.{◌≡◌, ℕ, true, ◌&&◌, ◌↔◌, List}
-use Rattle.std.specs.List.{list_any}
-use Rattle.title_land.specs.declared.survey.Township.{Township}
-use Rattle.title_land.specs.declared.survey.Cell.{Cell}
-use Rattle.title_land.specs.declared.node.Node.{Node}
-use Rattle.title_land.specs.declared.tract.Land.{Land}
-use Rattle.title_land.specs.Lands.{has, is_plant_cell}
-use Rattle.title_land.specs.Nodes.{node_has}
-use Rattle.title_land.specs.CellLists.{same_cell, plant_cells, cells_of, node_cells}
+use Rattle.std.specs.{Prelude.{◌≡◌, ℕ, true, ◌&&◌, ◌↔◌, List}, List.{list_any}}
+use Rattle.title_land.specs.{declared.{survey.{Township.{Township}, Cell.{Cell}}, node.Node.{Node}, tract.Land.{Land}}, Nodes.{node_has}}
+use Rattle.title_land.specs.{Lands.{has, is_plant_cell}, CellLists.{same_cell, plant_cells, cells_of, node_cells}}
 
 -- a test of cells is their equality
 abbrev pub SameCellsAreEqual : Type 0

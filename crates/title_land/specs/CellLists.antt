@@ -1,19 +1,10 @@
 -- Cells and nodes in their order: townships as declared, sections 1 to 36, quarters NE, NW, SW, SE.
 use Rattle.std.specs.Prelude.{◌≡◌, ℕ, zero, suc, ◌+◌, ◌-◌, Bool, true, false, ◌&&◌, ◌==◌, List, [], ◌∷◌, ◌++◌, map, filter, length}
-use Rattle.std.specs.Prelude.{nat_le, nat_lt, refl, if◌then◌else◌}
-use Rattle.std.specs.List.{flat_map}
-use Rattle.std.proofs.lemmas.Bool.{leb-true}
-use Rattle.title_land.specs.declared.survey.Township.{Township}
-use Rattle.title_land.specs.declared.survey.Section.{Section}
-use Rattle.title_land.specs.declared.survey.Cell.{Cell}
-use Rattle.title_land.specs.declared.rectangle.Quarter.{Quarter}
-use Rattle.title_land.specs.declared.rectangle.Rectangle.{Rectangle}
-use Rattle.title_land.specs.declared.node.Node.{Node}
+use Rattle.std.{specs.{Prelude.{nat_le, nat_lt, refl, if◌then◌else◌}, List.{flat_map}}, proofs.lemmas.Bool.{leb-true}}
+use Rattle.title_land.specs.declared.{survey.{Township.{Township}, Section.{Section}, Cell.{Cell}}, rectangle.Quarter.{Quarter}}
+use Rattle.title_land.specs.{declared.{rectangle.Rectangle.{Rectangle}, node.Node.{Node}, tract.Land.{Land}}, Survey.{same_section}}
+use Rattle.title_land.specs.{Nodes.{square, quarters, node_has}, Lands.{has}}
 use Rattle.title_land.specs.declared.node.Node.TheVariants as node
-use Rattle.title_land.specs.declared.tract.Land.{Land}
-use Rattle.title_land.specs.Survey.{same_section}
-use Rattle.title_land.specs.Nodes.{square, quarters, node_has}
-use Rattle.title_land.specs.Lands.{has}
 
 -- the cells are one
 abbrev pub same_cell : Cell → Cell → Bool

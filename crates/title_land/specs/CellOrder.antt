@@ -1,13 +1,7 @@
 -- The order of a tract's cells is that of the nodes of its cover.
-use Rattle.std.specs.Prelude.{◌≡◌, ℕ, Bool, true, false, not, ◌&&◌, ◌||◌, List, [], ◌∷◌}
-use Rattle.std.specs.List.{list_any}
-use Rattle.title_land.specs.declared.survey.Township.{Township}
-use Rattle.title_land.specs.declared.survey.Cell.{Cell}
-use Rattle.title_land.specs.declared.node.Node.{Node}
-use Rattle.title_land.specs.declared.tract.Land.{Land}
-use Rattle.title_land.specs.Nodes.{same_node, node_has}
-use Rattle.title_land.specs.Lands.{cover_of, is_plant_cell}
-use Rattle.title_land.specs.CellLists.{same_cell, cells_of}
+use Rattle.std.specs.{Prelude.{◌≡◌, ℕ, Bool, true, false, not, ◌&&◌, ◌||◌, List, [], ◌∷◌}, List.{list_any}}
+use Rattle.title_land.specs.declared.{survey.{Township.{Township}, Cell.{Cell}}, node.Node.{Node}, tract.Land.{Land}}
+use Rattle.title_land.specs.{Nodes.{same_node, node_has}, Lands.{cover_of, is_plant_cell}, CellLists.{same_cell, cells_of}}
 
 -- who goes through the list meets x before the first y
 abbrev pub is_met_before : {A : Type 0} → (A → A → Bool) → List A → A → A → Bool

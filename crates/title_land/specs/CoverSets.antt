@@ -1,15 +1,11 @@
 -- The cover of a set of cells, as a set of nodes, and its laws.
 use Rattle.std.specs.Prelude.{◌≡◌, ℕ, Bool, true, false, ◌&&◌, ◌||◌, ◌↔◌, List, [], ◌∷◌, Some, reverse, is_some, find}
 use Rattle.std.specs.List.{list_any, list_all, All}
-use Rattle.title_land.specs.declared.survey.Cell.{Cell}
-use Rattle.title_land.specs.declared.rectangle.Quarter.{Quarter}
+use Rattle.title_land.specs.declared.{survey.Cell.{Cell}, rectangle.Quarter.{Quarter}, node.Node.{Node}, tract.Land.{Land}}
 use Rattle.title_land.specs.declared.rectangle.Quarter.TheVariants.{Northeast, Northwest, Southwest, Southeast}
-use Rattle.title_land.specs.declared.node.Node.{Node}
-use Rattle.title_land.specs.declared.node.Node.TheVariants as node
-use Rattle.title_land.specs.declared.tract.Land.{Land}
-use Rattle.title_land.specs.Survey.{is_on_grid, same_section}
+use Rattle.title_land.specs.{Survey.{is_on_grid, same_section}, Lands.{has, cover_of, meets, Meets, IsLand}}
 use Rattle.title_land.specs.Nodes.{in_quarter, same_quarter, same_node, are_related, parent_of, node_has, is_above, IsNode}
-use Rattle.title_land.specs.Lands.{has, cover_of, meets, Meets, IsLand}
+use Rattle.title_land.specs.declared.node.Node.TheVariants as node
 
 -- all cells of the node lie in the land; the whole plant has those of every township that has a name
 abbrev pub LiesIn : ℕ → Land → Node → Type 0

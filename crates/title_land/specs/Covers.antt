@@ -1,12 +1,8 @@
 -- Covers: the nodes that list a set of cells.
 use Rattle.std.specs.Prelude.{ℕ, zero, suc, Bool, List, [], ◌∷◌, ◌++◌, map, if◌then◌else◌}
-use Rattle.title_land.specs.declared.rectangle.Quarter.{Quarter}
-use Rattle.title_land.specs.declared.rectangle.Quarter.TheVariants.{Northeast, Northwest, Southwest, Southeast}
-use Rattle.title_land.specs.declared.survey.Section.{Section}
-use Rattle.title_land.specs.declared.node.Node.{Node}
+use Rattle.title_land.specs.{declared.rectangle.Quarter.{Quarter, TheVariants.{Northeast, Northwest, Southwest, Southeast}}, Nodes.{square}}
+use Rattle.title_land.specs.{declared.{survey.Section.{Section}, node.Node.{Node}}, Grids.{fills}}
 use Rattle.title_land.specs.declared.node.Node.TheVariants as node
-use Rattle.title_land.specs.Nodes.{square}
-use Rattle.title_land.specs.Grids.{fills}
 
 -- the squares that list a set within one square that still has levels below it, each by its quarters
 abbrev pub cover_below : ℕ → (ℕ → ℕ → Bool) → ℕ → List Quarter → List (List Quarter)

@@ -1,20 +1,10 @@
 -- A section that is quartered once more: each cell becomes four of half the side, and what lies where stays.
-use Rattle.std.specs.Prelude.{◌≡◌, ℕ, suc, ◌+◌, ◌*◌, ◌/◌, true, List, [], ◌∷◌, Some}
-use Rattle.std.specs.List.{list_any, flat_map}
-use Rattle.title_land.specs.declared.survey.Township.{Township}
-use Rattle.title_land.specs.declared.survey.Section.{Section}
-use Rattle.title_land.specs.declared.survey.Cell.{Cell}
-use Rattle.title_land.specs.declared.rectangle.Step.{Step}
-use Rattle.title_land.specs.declared.rectangle.Rectangle.{Rectangle}
-use Rattle.title_land.specs.declared.node.Node.{Node}
-use Rattle.title_land.specs.declared.tract.Land.{Land}
-use Rattle.title_land.specs.declared.tract.Land.TheVariants as land
-use Rattle.title_land.specs.Survey.{is_on_grid}
-use Rattle.title_land.specs.Rectangles.{part_of}
-use Rattle.title_land.specs.Nodes.{node_has, IsNode}
-use Rattle.title_land.specs.Grids.{grid_has, grid_of}
-use Rattle.title_land.specs.Lands.{has, cover_of, land_of, meets, IsLand}
+use Rattle.std.specs.{Prelude.{◌≡◌, ℕ, suc, ◌+◌, ◌*◌, ◌/◌, true, List, [], ◌∷◌, Some}, List.{list_any, flat_map}}
+use Rattle.title_land.specs.declared.{survey.{Township.{Township}, Section.{Section}, Cell.{Cell}}, rectangle.Step.{Step}, node.Node.{Node}}
+use Rattle.title_land.specs.{declared.{rectangle.Rectangle.{Rectangle}, tract.Land.{Land}}, Survey.{is_on_grid}, Rectangles.{part_of}}
+use Rattle.title_land.specs.{Nodes.{node_has, IsNode}, Grids.{grid_has, grid_of}, Lands.{has, cover_of, land_of, meets, IsLand}}
 use Rattle.title_land.specs.CellLists.{same_cell, cells_of, node_cells}
+use Rattle.title_land.specs.declared.tract.Land.TheVariants as land
 
 -- the rectangle in cells of half the side
 abbrev pub double : Rectangle → Rectangle

@@ -1,13 +1,9 @@
 -- What a tract keeps: one node, or a set of a section's cells beside its cover.
-use Rattle.std.specs.Prelude.{◌≡◌}
-use Rattle.std.specs.Arc.{arc_value}
-use Rattle.title_land.specs.Depth.{depth}
-use Rattle.title_land.specs.declared.tract.Extent.{Extent}
-use Rattle.title_land.specs.declared.tract.Extent.TheVariants as extent
-use Rattle.title_land.specs.declared.tract.Land.{Land}
-use Rattle.title_land.specs.declared.tract.Land.TheVariants as land
-use Rattle.title_land.specs.Nodes.{IsNode}
+use Rattle.std.specs.{Prelude.{◌≡◌}, Arc.{arc_value}}
+use Rattle.title_land.specs.{Depth.{depth}, declared.tract.{Extent.{Extent}, Land.{Land}}, Nodes.{IsNode}}
 use Rattle.title_land.specs.Lands.{land_of, cover_of, IsLand}
+use Rattle.title_land.specs.declared.tract.Extent.TheVariants as extent
+use Rattle.title_land.specs.declared.tract.Land.TheVariants as land
 
 -- the land that is kept
 abbrev pub kept_land : Extent → Land

@@ -1,11 +1,7 @@
 -- Sets of a section's cells.
 use Rattle.std.specs.Prelude.{◌≡◌, ◌<◌, ℕ, zero, suc, ◌+◌, Bool, true, false, ◌&&◌, ◌||◌, List, map, length, slice_get, unwrap_or}
-use Rattle.std.specs.Prelude.{option_and_then, sum_by, count_by}
-use Rattle.std.specs.List.{list_any, range_with_len, zip, All}
-use Rattle.title_land.specs.Survey.{side}
-use Rattle.title_land.specs.Rectangles.{holds}
-use Rattle.title_land.specs.declared.grid.Grid.{Grid}
-use Rattle.title_land.specs.declared.rectangle.Rectangle.{Rectangle}
+use Rattle.std.specs.{Prelude.{option_and_then, sum_by, count_by}, List.{list_any, range_with_len, zip, All}}
+use Rattle.title_land.specs.{Survey.{side}, Rectangles.{holds}, declared.{grid.Grid.{Grid}, rectangle.Rectangle.{Rectangle}}}
 
 -- the cell of this row and column lies in the set; off the grid no cell does
 abbrev pub grid_has : Grid → ℕ → ℕ → Bool

@@ -1,18 +1,10 @@
 -- What a tract is: every cell, a township, or a set of one section's cells.
-use Rattle.std.specs.Prelude.{◌≡◌, ℕ, Bool, true, false, ◌&&◌, List, [], ◌∷◌, not}
-use Rattle.std.specs.List.{list_any}
-use Rattle.title_land.specs.declared.survey.Township.{Township}
-use Rattle.title_land.specs.declared.survey.Cell.{Cell}
-use Rattle.title_land.specs.declared.node.Node.{Node}
+use Rattle.std.specs.{Prelude.{◌≡◌, ℕ, Bool, true, false, ◌&&◌, List, [], ◌∷◌, not}, List.{list_any}}
+use Rattle.title_land.specs.{declared.{survey.{Township.{Township}, Cell.{Cell}}, node.Node.{Node}, tract.Land.{Land}}, Survey.{is_on_grid}}
+use Rattle.title_land.specs.{Grids.{grid_has, grid_of, has_some, grids_meet, IsGrid}, Rectangles.{holds}, Nodes.{square}}
+use Rattle.title_land.specs.{Survey.{same_township, same_section}, Covers.{section_cover}}
 use Rattle.title_land.specs.declared.node.Node.TheVariants as node
-use Rattle.title_land.specs.declared.tract.Land.{Land}
 use Rattle.title_land.specs.declared.tract.Land.TheVariants as land
-use Rattle.title_land.specs.Survey.{is_on_grid}
-use Rattle.title_land.specs.Grids.{grid_has, grid_of, has_some, grids_meet, IsGrid}
-use Rattle.title_land.specs.Rectangles.{holds}
-use Rattle.title_land.specs.Nodes.{square}
-use Rattle.title_land.specs.Survey.{same_township, same_section}
-use Rattle.title_land.specs.Covers.{section_cover}
 
 -- the cell lies in the tract
 unfoldable pub has : Land → Cell → Bool

@@ -1,7 +1,6 @@
 -- Squares that lie in one another, by their quarters, the innermost first.
 use Rattle.std.specs.Prelude.{Bool, List, [], ◌∷◌, ◌||◌}
-use Rattle.title_land.specs.declared.rectangle.Quarter.{Quarter}
-use Rattle.title_land.specs.Nodes.{same_path}
+use Rattle.title_land.specs.{declared.rectangle.Quarter.{Quarter}, Nodes.{same_path}}
 
 -- the second square lies in the first: it is that one, or a quarter of a square that lies in it
 abbrev pub lies_in : List Quarter → List Quarter → Bool

@@ -1,10 +1,8 @@
 -- Laws of nodes.
 use Rattle.std.specs.Prelude.{◌≡◌, ℕ, true, ◌↔◌, [], ◌∷◌, Some}
-use Rattle.title_land.specs.declared.survey.Cell.{Cell}
-use Rattle.title_land.specs.declared.node.Node.{Node}
-use Rattle.title_land.specs.declared.node.Node.TheVariants as node
-use Rattle.title_land.specs.Survey.{is_on_grid}
+use Rattle.title_land.specs.{declared.{survey.Cell.{Cell}, node.Node.{Node}}, Survey.{is_on_grid}}
 use Rattle.title_land.specs.Nodes.{same_node, parent_of, above, is_above, are_related, node_has, IsNode}
+use Rattle.title_land.specs.declared.node.Node.TheVariants as node
 
 -- a test of nodes is their equality: the same numbers and quarters make one node
 abbrev pub SameNodesAreEqual : Type 0

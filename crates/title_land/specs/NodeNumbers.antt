@@ -1,11 +1,8 @@
 -- A node as a number, by which maps find it: from above its square's, its township's and its section's.
 use Rattle.std.specs.Prelude.{ℕ, ◌≡◌, ◌+◌, ◌*◌, ◌/◌, ◌%◌, nat_lt, if◌then◌else◌, Some, Bool, true, false}
-use Rattle.title_land.specs.declared.survey.Township.{Township}
-use Rattle.title_land.specs.declared.survey.Section.{Section}
-use Rattle.title_land.specs.declared.node.Node.{Node}
-use Rattle.title_land.specs.declared.node.Node.TheVariants as node
-use Rattle.title_land.specs.Nodes.{parent_of}
+use Rattle.title_land.specs.{declared.{survey.{Township.{Township}, Section.{Section}}, node.Node.{Node}}, Nodes.{parent_of}}
 use Rattle.title_land.specs.Paths.{path_number}
+use Rattle.title_land.specs.declared.node.Node.TheVariants as node
 
 -- from one township's number to the next; those between are its sections'
 abbrev pub township_step : ℕ

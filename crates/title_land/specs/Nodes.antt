@@ -1,15 +1,9 @@
 -- Nodes of the tree of tracts, and the cells that each has. A square of a section is seen as its quarters, the innermost first.
-use Rattle.std.specs.Prelude.{ℕ, ◌≤◌, Bool, true, false, ◌&&◌, ◌||◌, List, [], ◌∷◌, ◌++◌, length, Option, Some, None}
-use Rattle.std.specs.List.{list_any}
-use Rattle.title_land.specs.declared.survey.Section.{Section}
-use Rattle.title_land.specs.declared.survey.Cell.{Cell}
-use Rattle.title_land.specs.declared.rectangle.Quarter.{Quarter}
-use Rattle.title_land.specs.declared.rectangle.Quarter.TheVariants.{Northeast, Northwest, Southwest, Southeast}
-use Rattle.title_land.specs.declared.rectangle.Rectangle.{Rectangle}
-use Rattle.title_land.specs.declared.node.Node.{Node}
+use Rattle.std.specs.{Prelude.{ℕ, ◌≤◌, Bool, true, false, ◌&&◌, ◌||◌, List, [], ◌∷◌, ◌++◌, length, Option, Some, None}, List.{list_any}}
+use Rattle.title_land.specs.declared.{survey.{Section.{Section}, Cell.{Cell}}, rectangle.{Quarter.{Quarter}, Rectangle.{Rectangle}}}
+use Rattle.title_land.specs.declared.{rectangle.Quarter.TheVariants.{Northeast, Northwest, Southwest, Southeast}, node.Node.{Node}}
+use Rattle.title_land.specs.{Survey.{same_township, same_section}, Rectangles.{section_square, quarter_of, holds}}
 use Rattle.title_land.specs.declared.node.Node.TheVariants as node
-use Rattle.title_land.specs.Survey.{same_township, same_section}
-use Rattle.title_land.specs.Rectangles.{section_square, quarter_of, holds}
 
 -- the cells of the square with these quarters
 abbrev pub square : ℕ → List Quarter → Rectangle

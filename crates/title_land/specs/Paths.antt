@@ -1,8 +1,6 @@
 -- A square of a section as a number: the section's own is 1, and the quarters of square n are 4 n to 4 n + 3, in their order.
 use Rattle.std.specs.Prelude.{◌≡◌, ℕ, zero, suc, ◌+◌, ◌*◌, ◌/◌, ◌%◌, ◌==◌, List, [], ◌∷◌, if◌then◌else◌}
-use Rattle.title_land.specs.Depth.{depth}
-use Rattle.title_land.specs.declared.rectangle.Quarter.{Quarter}
-use Rattle.title_land.specs.declared.rectangle.Quarter.TheVariants.{Northeast, Northwest, Southwest, Southeast}
+use Rattle.title_land.specs.{Depth.{depth}, declared.rectangle.Quarter.{Quarter, TheVariants.{Northeast, Northwest, Southwest, Southeast}}}
 
 -- the number of a quarter among the four
 abbrev pub quarter_number : Quarter → ℕ

@@ -1,14 +1,9 @@
 -- Rectangles of a section's cells. The depth is how often a section is quartered: its side is 2 ^ depth cells.
 use Rattle.std.specs.Prelude.{◌≡◌, ℕ, ◌+◌, ◌/◌, ◌%◌, ◌≤◌, Bool, true, ◌&&◌, List, [], ◌∷◌, Option, Some, None, option_and_then, nat_lt}
 use Rattle.std.specs.Prelude.{nat_le, ◌==◌, if◌then◌else◌, max, min}
-use Rattle.title_land.specs.Survey.{side}
-use Rattle.title_land.specs.declared.rectangle.Quarter.{Quarter}
-use Rattle.title_land.specs.declared.rectangle.Quarter.TheVariants.{Northeast, Northwest, Southwest, Southeast}
-use Rattle.title_land.specs.declared.rectangle.Half.{Half}
-use Rattle.title_land.specs.declared.rectangle.Half.TheVariants.{North, South, East, West}
-use Rattle.title_land.specs.declared.rectangle.Step.{Step}
+use Rattle.title_land.specs.{Survey.{side}, declared.rectangle.Quarter.{Quarter, TheVariants.{Northeast, Northwest, Southwest, Southeast}}}
+use Rattle.title_land.specs.declared.rectangle.{Half.{Half, TheVariants.{North, South, East, West}}, Step.{Step}, Rectangle.{Rectangle}}
 use Rattle.title_land.specs.declared.rectangle.Step.TheVariants as step
-use Rattle.title_land.specs.declared.rectangle.Rectangle.{Rectangle}
 
 -- the whole section
 abbrev pub section_square : ℕ → Rectangle

@@ -1,8 +1,6 @@
 -- A row of cells as a number, and a grid of cells as its rows' numbers.
-use Rattle.std.specs.Prelude.{◌≡◌, ◌<◌, ℕ, ◌+◌, ◌^◌, ◌==◌, nat_le, nat_lt, Bool, ◌&&◌, List, map, length}
-use Rattle.std.specs.Int.{bit_at}
-use Rattle.std.specs.List.{range_with_len, All}
-use Rattle.std.specs.Simd.Lanes.{mask_l}
+use Rattle.std.specs.{Prelude.{◌≡◌, ◌<◌, ℕ, ◌+◌, ◌^◌, ◌==◌, nat_le, nat_lt, Bool, ◌&&◌, List, map, length}, Int.{bit_at}}
+use Rattle.std.specs.{List.{range_with_len, All}, Simd.Lanes.{mask_l}}
 use Rattle.title_land.specs.Survey.{side}
 
 -- the cell of this column is set in a row's number

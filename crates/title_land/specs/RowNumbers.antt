@@ -1,16 +1,9 @@
 -- A grid's numbers are made back from its cells: the law behind copies and comparisons of sets of cells.
-use Rattle.std.proofs.Common.{◌≡◌, ℕ, ◌^◌, ◌<◌, Bool, false, cond, List, length, get_or, ap, subst, ◌∙◌, arith}
-use Rattle.std.specs.Prelude.{◌==◌}
-use Rattle.std.specs.Int.{bit_at}
-use Rattle.std.specs.Simd.Lanes.{mask_l}
-use Rattle.std.proofs.lemmas.Bool.Decides.{nat_tests}
-use Rattle.std.proofs.lemmas.Nat.Bits.{bit_at-lt, same_from_bits_below}
-use Rattle.std.proofs.lemmas.Simd.{mask_l-lt, bit_mask_l, map-map}
-use Rattle.std.proofs.lemmas.List.Elements.{All-weaker}
-use Rattle.std.proofs.lemmas.List.Folds.{map_fixed}
+use Rattle.std.{proofs.Common.{◌≡◌, ℕ, ◌^◌, ◌<◌, Bool, false, cond, List, length, get_or, ap, subst, ◌∙◌, arith}, specs.Prelude.{◌==◌}}
+use Rattle.std.{specs.{Int.{bit_at}, Simd.Lanes.{mask_l}}, proofs.lemmas.{Bool.Decides.{nat_tests}, Simd.{mask_l-lt, bit_mask_l, map-map}}}
+use Rattle.std.proofs.lemmas.{Nat.Bits.{bit_at-lt, same_from_bits_below}, List.{Elements.{All-weaker}, Folds.{map_fixed}}}
 use Rattle.std.proofs.lemmas.List.FromFn.{length-map-range_with_len, get_or-map-range_with_len}
-use Rattle.title_land.specs.Survey.{side}
-use Rattle.title_land.specs.RowBits.{is_set, row_cells, grid_cells, row_numbers, IsRows}
+use Rattle.title_land.specs.{Survey.{side}, RowBits.{is_set, row_cells, grid_cells, row_numbers, IsRows}}
 
 -- a row has as many cells as are asked for
 pub length-row_cells : (n row : ℕ) → length (row_cells n row) ≡ n

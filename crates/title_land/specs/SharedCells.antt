@@ -1,8 +1,6 @@
 -- Laws of tracts that share a cell.
 use Rattle.std.specs.Prelude.{◌≡◌, ◌↔◌, ℕ, true}
-use Rattle.title_land.specs.declared.survey.Cell.{Cell}
-use Rattle.title_land.specs.declared.tract.Land.{Land}
-use Rattle.title_land.specs.Lands.{has, meets, Meets, IsLand}
+use Rattle.title_land.specs.{declared.{survey.Cell.{Cell}, tract.Land.{Land}}, Lands.{has, meets, Meets, IsLand}}
 
 -- the test of tracts is true exactly where some cell of the grid lies in both
 abbrev pub MeetsAtACell : ℕ → Type 0

@@ -1,8 +1,6 @@
 -- Townships, sections and cells (BLM, Manual of Surveying Instructions, 2009; the grid of cells is this project's).
 use Rattle.std.specs.Prelude.{◌≡◌, ◌≤◌, ℕ, ◌^◌, Bool, true, false, ◌&&◌, ◌==◌, nat_lt}
-use Rattle.title_land.specs.declared.survey.Township.{Township}
-use Rattle.title_land.specs.declared.survey.Section.{Section}
-use Rattle.title_land.specs.declared.survey.Cell.{Cell}
+use Rattle.title_land.specs.declared.survey.{Township.{Township}, Section.{Section}, Cell.{Cell}}
 
 -- a township's number, or its range number
 abbrev pub IsTownshipNumber : ℕ → Type 0

@@ -1,11 +1,7 @@
 -- The canonical texts of townships, sections, quarters and nodes.
-use Rattle.std.specs.Prelude.{ℕ, cond, List, [], ◌∷◌, ◌++◌, codes}
-use Rattle.std.specs.Fmt.{decimal}
-use Rattle.title_land.specs.declared.survey.Township.{Township}
-use Rattle.title_land.specs.declared.survey.Section.{Section}
-use Rattle.title_land.specs.declared.rectangle.Quarter.{Quarter}
+use Rattle.std.specs.{Prelude.{ℕ, cond, List, [], ◌∷◌, ◌++◌, codes}, Fmt.{decimal}}
+use Rattle.title_land.specs.declared.{survey.{Township.{Township}, Section.{Section}}, rectangle.Quarter.{Quarter}, node.Node.{Node}}
 use Rattle.title_land.specs.declared.rectangle.Quarter.TheVariants.{Northeast, Northwest, Southwest, Southeast}
-use Rattle.title_land.specs.declared.node.Node.{Node}
 use Rattle.title_land.specs.declared.node.Node.TheVariants as node
 
 -- a township: its number with N or S, its range number with E or W, as `T3N R2W`

@@ -1,13 +1,8 @@
 //! Cells of tracts in their order: townships as declared, sections 1 to 36, quarters as they are listed.
 
-ghost use Rattle.std.specs.Prelude.{◌≡◌, ◌≤◌, ◌+◌, ◌++◌, OnOk, IfOk, filter, find, length};
-ghost use Rattle.title_land.specs.Depth.{depth};
-ghost use Rattle.std.specs.List.{list_any};
-ghost use Rattle.title_land.specs.Survey.{same_township};
-ghost use Rattle.title_land.specs.Rectangles.{InSection};
-ghost use Rattle.title_land.specs.Nodes.{square, node_has, are_related};
-ghost use Rattle.title_land.specs.Nestings.{lies_in};
-ghost use Rattle.title_land.specs.Lands.{has, cover_of, is_in_plant};
+ghost use Rattle.std.specs.{Prelude.{◌≡◌, ◌≤◌, ◌+◌, ◌++◌, OnOk, IfOk, filter, find, length}, List.{list_any}};
+ghost use Rattle.title_land.specs.{Depth.{depth}, Survey.{same_township}, Rectangles.{InSection}, Nodes.{square, node_has, are_related}};
+ghost use Rattle.title_land.specs.{Nestings.{lies_in}, Lands.{has, cover_of, is_in_plant}};
 ghost use Rattle.title_land.specs.CellLists.{same_cell, cells_below, section_cells, township_cells, cells_of};
 
 use crate::node::{Node, Within};

@@ -1,11 +1,8 @@
 //! Covers of sets of a section's cells.
 
 ghost use Rattle.std.specs.Prelude.{◌≡◌, ◌+◌, ◌++◌, ◌≤◌, OnOk, IfOk, IfSome, length, map};
-ghost use Rattle.title_land.specs.Depth.{depth};
-ghost use Rattle.title_land.specs.Covers.{cover_below, section_cover, node_at};
-ghost use Rattle.title_land.specs.Grids.{grid_has, grid_of, IsGrid};
-ghost use Rattle.title_land.specs.Nodes.{square};
-ghost use Rattle.title_land.specs.Rectangles.{holds, InSection};
+ghost use Rattle.title_land.specs.{Depth.{depth}, Covers.{cover_below, section_cover, node_at}, Grids.{grid_has, grid_of, IsGrid}};
+ghost use Rattle.title_land.specs.{Nodes.{square}, Rectangles.{holds, InSection}};
 
 use crate::grid::{Grid, fills};
 use crate::node::{Node, Within};

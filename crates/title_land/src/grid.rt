@@ -1,12 +1,8 @@
 //! Sets of a section's cells.
 
-ghost use Rattle.std.specs.List.{list_any, zip};
-ghost use Rattle.std.specs.Prelude.{◌==◌, not, bit_and, ◌≡◌, ◌↔◌, ◌<◌, ◌≤◌, ◌+◌, ◌*◌, ◌^◌, ◌&&◌, ℕ, true, false};
-ghost use Rattle.title_land.specs.Depth.{depth};
+ghost use Rattle.std.specs.{List.{list_any, zip}, Prelude.{◌==◌, not, bit_and, ◌≡◌, ◌↔◌, ◌<◌, ◌≤◌, ◌+◌, ◌*◌, ◌^◌, ◌&&◌, ℕ, true, false}};
+ghost use Rattle.title_land.specs.{Depth.{depth}, Grids.{with_rectangle, AddsRectangle}, Survey.{side}, Rectangles.{InSection, holds}};
 ghost use Rattle.title_land.specs.Grids.{IsGrid, grid_has, grid_of, fills, has_some, cell_count, cells_counted, grids_meet};
-ghost use Rattle.title_land.specs.Grids.{with_rectangle, AddsRectangle};
-ghost use Rattle.title_land.specs.Survey.{side};
-ghost use Rattle.title_land.specs.Rectangles.{InSection, holds};
 ghost use Rattle.title_land.specs.RowBits.{HasColumns};
 
 use crate::rectangle::{ROWS, Rectangle, SIDE};
@@ -19,14 +15,11 @@ pub struct Grid {
 }
 
 impl Model for Grid {
-    ghost use Rattle.std.specs.List.{list_any, zip};
-    ghost use Rattle.std.specs.Prelude.{◌==◌, not, bit_and, Bool, List};
+    ghost use Rattle.std.specs.{List.{list_any, zip}, Prelude.{◌==◌, not, bit_and, Bool, List}};
 
     ghost Value = { List (List Bool) };
 
-    ghost use Rattle.title_land.specs.Depth.{depth};
-    ghost use Rattle.title_land.specs.RowBits.{grid_cells, row_numbers, IsRows};
-    ghost use Rattle.title_land.specs.RowNumbers.{rows_back};
+    ghost use Rattle.title_land.specs.{Depth.{depth}, RowBits.{grid_cells, row_numbers, IsRows}, RowNumbers.{rows_back}};
 
     ghost view = { λ g. grid_cells depth g.rows };
 

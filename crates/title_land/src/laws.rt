@@ -1,9 +1,7 @@
 //! Laws of land, for the crates above. Each function does nothing: its clause is the law, proved.
 
-ghost use Rattle.title_land.specs.CellOrder.{CellsFollowTheCover};
+ghost use Rattle.title_land.specs.{CellOrder.{CellsFollowTheCover}, Constants.{DepthIsSaidOnce}, Depth.{depth}};
 ghost use Rattle.title_land.specs.CellLaws.{SameCellsAreEqual, PlantHasItsCells, ListHasTheCells, NodeListHasTheCells};
-ghost use Rattle.title_land.specs.Constants.{DepthIsSaidOnce};
-ghost use Rattle.title_land.specs.Depth.{depth};
 ghost use Rattle.title_land.specs.CoverSets.{CoverNodesLieApart, CoverFindsTheNode, CoverHasItsCells, LandsShareACell, MeetsByCovers};
 ghost use Rattle.title_land.specs.NodeNumbers.{NumbersTellNodes, NumbersGoUp};
 ghost use Rattle.title_land.specs.NodeLaws.{AboveByParent, SameNodesAreEqual, AboveIsTransitive, AboveHasTheCells, NodesShareACell};

@@ -1,9 +1,8 @@
 //! The cells of nodes in the plant, and the nodes right below them, in their order.
 
 ghost use Rattle.std.specs.Prelude.{◌≡◌, ◌++◌, [], IfOk, OnOk, map};
-ghost use Rattle.title_land.specs.Depth.{depth};
+ghost use Rattle.title_land.specs.{Depth.{depth}, CellLists.{sections_of, node_cells, children_of}};
 ghost use Rattle.title_land.specs.declared.node.Node.TheVariants as node;
-ghost use Rattle.title_land.specs.CellLists.{sections_of, node_cells, children_of};
 
 use crate::cells::cells_of;
 use crate::node::{Node, Within};

@@ -1,13 +1,8 @@
 //! Nodes of the tree of tracts.
 
-ghost use Rattle.std.specs.Prelude.{◌≡◌, ◌↔◌, ◌≤◌, ◌<◌, ◌∷◌, [], length, nat_le, Some, MatchOption, true};
-ghost use Rattle.title_land.specs.Depth.{depth};
-ghost use Rattle.title_land.specs.declared.node.Node.TheVariants.{Part};
-ghost use Rattle.title_land.specs.Lands.{home_of, land_of};
-ghost use Rattle.title_land.specs.Nodes.{parent_of, IsNode};
-ghost use Rattle.title_land.specs.Paths.{path_number};
-ghost use Rattle.title_land.specs.Texts.{path_text, quarters_text, node_text};
-ghost use Rattle.std.specs.Fmt.{WritesOnOk};
+ghost use Rattle.std.specs.{Prelude.{◌≡◌, ◌↔◌, ◌≤◌, ◌<◌, ◌∷◌, [], length, nat_le, Some, MatchOption, true}, Fmt.{WritesOnOk}};
+ghost use Rattle.title_land.specs.{Depth.{depth}, declared.node.Node.TheVariants.{Part}, Lands.{home_of, land_of}, Paths.{path_number}};
+ghost use Rattle.title_land.specs.{Nodes.{parent_of, IsNode}, Texts.{path_text, quarters_text, node_text}};
 
 use crate::rectangle::{DEPTH, Quarter};
 use crate::survey::{Section, Township};
@@ -27,8 +22,7 @@ pub struct Within {
 
 impl Model for Within {
     ghost use Rattle.std.specs.Prelude.{List};
-    ghost use Rattle.title_land.specs.declared.rectangle.Quarter.{Quarter};
-    ghost use Rattle.title_land.specs.Paths.{path_number, quarters_in, IsPathNumber};
+    ghost use Rattle.title_land.specs.{declared.rectangle.Quarter.{Quarter}, Paths.{path_number, quarters_in, IsPathNumber}};
 
     ghost Value = { List Quarter };
 

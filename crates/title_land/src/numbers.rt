@@ -2,12 +2,9 @@
 //! those before them the square's; a township has no section and no square, and the whole plant is 0. No code elsewhere knows this.
 
 ghost use Rattle.std.specs.Prelude.{◌≡◌, ◌<◌, ◌^◌, List};
-ghost use Rattle.title_land.specs.declared.survey.Section.{Section};
-ghost use Rattle.title_land.specs.declared.rectangle.Quarter.{Quarter};
-ghost use Rattle.title_land.specs.declared.node.Node.{Node};
-ghost use Rattle.title_land.specs.declared.node.Node.TheVariants as node;
-ghost use Rattle.title_land.specs.Nodes.{is_square};
+ghost use Rattle.title_land.specs.{declared.{survey.Section.{Section}, rectangle.Quarter.{Quarter}, node.Node.{Node}}, Nodes.{is_square}};
 ghost use Rattle.title_land.specs.NodeNumbers.{flag_number, township_number, section_number, node_number, number_above};
+ghost use Rattle.title_land.specs.declared.node.Node.TheVariants as node;
 
 use crate::node::Node;
 use crate::survey::{Section, Township};

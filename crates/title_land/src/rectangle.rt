@@ -1,11 +1,9 @@
 //! Rectangles of a section's cells, their halves and quarters.
 
 ghost use Rattle.std.specs.Prelude.{◌≡◌, ◌↔◌, ◌<◌, IfSome, Some, true};
-ghost use Rattle.title_land.specs.Depth.{depth};
-ghost use Rattle.title_land.specs.Paths.{quarter_number, quarter_at};
+ghost use Rattle.title_land.specs.{Depth.{depth}, Paths.{quarter_number, quarter_at}, Texts.{quarter_text}};
 ghost use Rattle.title_land.specs.Rectangles.{section_square, half_of, quarter_of, step_of, is_even};
 ghost use Rattle.title_land.specs.Rectangles.{holds, InSection, rectangles_meet, SharesCell};
-ghost use Rattle.title_land.specs.Texts.{quarter_text};
 
 use std::fmt;
 

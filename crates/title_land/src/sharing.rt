@@ -1,7 +1,6 @@
 //! Laws of tracts that share a cell, for the crates above. Each function does nothing: its clause is the law, proved.
 
-ghost use Rattle.title_land.specs.SharedCells.{MeetsAtACell, CommonCellMeets, MeetsEitherWay};
-ghost use Rattle.title_land.specs.Depth.{depth};
+ghost use Rattle.title_land.specs.{SharedCells.{MeetsAtACell, CommonCellMeets, MeetsEitherWay}, Depth.{depth}};
 
 /// The test of two tracts is true exactly where some cell of the grid lies in both.
 pub fn meets_at_a_cell()

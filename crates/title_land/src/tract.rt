@@ -1,11 +1,7 @@
 //! Tracts.
 
 ghost use Rattle.std.specs.Prelude.{◌≡◌, ◌↔◌, ◌≤◌, IfOk, IfSome, true, length};
-ghost use Rattle.title_land.specs.Depth.{depth};
-ghost use Rattle.title_land.specs.declared.tract.Land.{Land};
-ghost use Rattle.title_land.specs.CoverSets.{IsCover};
-ghost use Rattle.title_land.specs.Acres.{half_acres_of};
-ghost use Rattle.title_land.specs.Nodes.{IsNode};
+ghost use Rattle.title_land.specs.{Depth.{depth}, declared.tract.Land.{Land}, CoverSets.{IsCover}, Acres.{half_acres_of}, Nodes.{IsNode}};
 ghost use Rattle.title_land.specs.Lands.{has, cover_of, home_of, land_of, meets, Meets, IsLand};
 
 use crate::acres::{CELL_HALF_ACRES, TOWNSHIP_HALF_ACRES};
@@ -83,8 +79,7 @@ impl Drop for Tract {
 }
 
 impl Model for Tract {
-    ghost use Rattle.title_land.specs.declared.tract.Land.{Land};
-    ghost use Rattle.title_land.specs.Extents.{kept_land, IsExtent};
+    ghost use Rattle.title_land.specs.{declared.tract.Land.{Land}, Extents.{kept_land, IsExtent}};
 
     ghost Value = { Land };
 

@@ -1,8 +1,7 @@
 //! Walks over the nodes above a node, and over the sections of a township.
 
 ghost use Rattle.std.specs.Prelude.{◌≡◌};
-ghost use Rattle.title_land.specs.CellLists.{sections_of};
-ghost use Rattle.title_land.specs.Nodes.{above};
+ghost use Rattle.title_land.specs.{CellLists.{sections_of}, Nodes.{above}};
 
 use crate::node::Node;
 use crate::survey::{Section, Township};
@@ -17,8 +16,7 @@ pub struct Ancestors {
 
 impl Model for Ancestors {
     ghost use Rattle.std.specs.Prelude.{List};
-    ghost use Rattle.title_land.specs.Nodes.{above};
-    ghost use Rattle.title_land.specs.declared.node.Node.{Node};
+    ghost use Rattle.title_land.specs.{Nodes.{above}, declared.node.Node.{Node}};
 
     ghost Value = { List Node };
 
@@ -59,8 +57,7 @@ pub struct Sections {
 
 impl Model for Sections {
     ghost use Rattle.std.specs.Prelude.{List, ◌≤◌};
-    ghost use Rattle.title_land.specs.CellLists.{sections_left};
-    ghost use Rattle.title_land.specs.declared.survey.Section.{Section};
+    ghost use Rattle.title_land.specs.{CellLists.{sections_left}, declared.survey.Section.{Section}};
 
     ghost Value = { List Section };
 

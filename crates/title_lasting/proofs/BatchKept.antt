@@ -1,37 +1,21 @@
 -- A batch that is put into a plant's file, and what a crash leaves meanwhile.
-use Rattle.std.proofs.Common.{◌≡◌, ◌≤◌, ◌<◌, ◌^◌, ℕ, Bool, true, List, length}
+use Rattle.std.{proofs.{Common.{◌≡◌, ◌≤◌, ◌<◌, ◌^◌, ℕ, Bool, true, List, length}, lemmas.List.{length-append}}, specs.Global.{Vec}}
 use Rattle.std.proofs.Common.{Option, Some, None, IfSome, Err, refl, sym, ap, subst, arith, inl, inr, ⊎_elim}
-use Rattle.std.specs.Global.{Vec}
-use Rattle.std.proofs.lemmas.List.{length-append}
 use Rattle.title_land.specs.Depth.{depth}
 use Rattle.title_chain.specs.Alone.{most_parties}
-use Rattle.title_trace.specs.Trace.{committed}
-use Rattle.title_trace.specs.Due.{most_townships}
-use Rattle.title_trace.specs.Serial.{IdleHaveNoSteps}
-use Rattle.title_disk.specs.Crashes.{LeavesOnly, Only}
-use Rattle.title_disk.specs.Laws.Moments.{started, weakened}
-use Rattle.title_journal.specs.declared.fault.PutFault.{PutFault}
+use Rattle.title_trace.specs.{Trace.{committed}, Due.{most_townships}, Serial.{IdleHaveNoSteps}}
+use Rattle.title_disk.specs.{Crashes.{LeavesOnly, Only}, Laws.Moments.{started, weakened}}
+use Rattle.title_journal.specs.{declared.fault.PutFault.{PutFault}, Blocks.{IsBlock}, Rest.{StandsAlike}}
 use Rattle.title_journal.specs.declared.fault.PutFault.TheVariants as put
-use Rattle.title_journal.specs.Blocks.{IsBlock}
-use Rattle.title_journal.specs.Rest.{StandsAlike}
-use Rattle.title_plan.specs.Lands.{land_in}
-use Rattle.title_plan.specs.Townships.{each_once}
+use Rattle.title_plan.specs.{Lands.{land_in}, Townships.{each_once}}
 use Rattle.title_standing.specs.StandingLaws.{KeptAreSerial, ReplayedAreCommitted}
 use Rattle.title_spelling.specs.Lands.{kept_land_in}
-use Rattle.title_daybook.specs.AddedLaws.{CanBeWritten}
-use Rattle.title_daybook.specs.Standing.{Standing}
-use Rattle.title_counter.specs.Counters.{Counter}
-use Rattle.title_counter.specs.Sessions.{IsSound}
-use Rattle.title_lasting.specs.Faults.{of_put}
-use Rattle.title_lasting.specs.Kept.{IsWithOrWithout, text_in}
-use Rattle.title_lasting.specs.Made.{Adds}
-use Rattle.title_lasting.specs.Sittings.{ComesTo, HasAt, HasAtEither, IsKeptTo, Now, opening_on, stands_at}
-use Rattle.title_lasting.specs.declared.mark.Mark.{Mark}
-use Rattle.title_lasting.proofs.BatchMade.{has_still, has_then, kept_serial, opens_fine, writable}
-use Rattle.title_lasting.proofs.FineBooks.{IsWritten, stands_written}
-use Rattle.title_lasting.proofs.FineCounters.{Fares, GoesOnFrom, answers_fare, on_from}
-use Rattle.title_lasting.proofs.FineRows.{LandsHaveCells}
-use Rattle.title_lasting.proofs.GoingOn.{commits_more}
+use Rattle.title_daybook.specs.{AddedLaws.{CanBeWritten}, Standing.{Standing}}
+use Rattle.title_counter.specs.{Counters.{Counter}, Sessions.{IsSound}}
+use Rattle.title_lasting.specs.{Faults.{of_put}, Kept.{IsWithOrWithout, text_in}, Made.{Adds}, declared.mark.Mark.{Mark}}
+use Rattle.title_lasting.{specs.Sittings.{ComesTo, HasAt, HasAtEither, IsKeptTo, Now, opening_on, stands_at}, proofs.GoingOn.{commits_more}}
+use Rattle.title_lasting.proofs.{BatchMade.{has_still, has_then, kept_serial, opens_fine, writable}, FineBooks.{IsWritten, stands_written}}
+use Rattle.title_lasting.proofs.{FineCounters.{Fares, GoesOnFrom, answers_fare, on_from}, FineRows.{LandsHaveCells}}
 
 -- what is added is a block
 pub block_is : (block : Option (Vec ℕ)) (before after : Standing) → Adds (text_in block) before after

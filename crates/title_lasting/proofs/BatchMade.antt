@@ -1,41 +1,22 @@
 -- What a batch of rows adds to a plant's file: with its block behind what stood at the one counter stands what stands at the other.
 use Rattle.std.proofs.Common.{◌≡◌, ◌∙◌, ◌≤◌, ◌<◌, ◌+◌, ◌^◌, ℕ, true, List, [], ◌++◌, length, map, reverse, drop}
-use Rattle.std.proofs.Common.{Option, Some, None, Result, Ok, sym, ap, subst, arith}
-use Rattle.std.specs.List.{AllByRecursion}
+use Rattle.std.{proofs.Common.{Option, Some, None, Result, Ok, sym, ap, subst, arith}, specs.List.{AllByRecursion}}
 use Rattle.std.proofs.lemmas.List.{length-map, length-reverse, map-append, reverse-append, reverse-reverse}
-use Rattle.title_land.specs.Depth.{depth}
-use Rattle.title_land.specs.declared.survey.Township.{Township}
-use Rattle.title_chain.specs.declared.record.Record.{Record}
-use Rattle.title_chain.specs.Alone.{IsSerial, most_parties}
-use Rattle.title_trace.specs.Trace.{committed, open_steps}
-use Rattle.title_trace.specs.Due.{IsDue, most_townships}
-use Rattle.title_trace.specs.Serial.{IdleHaveNoSteps}
-use Rattle.title_journal.specs.Blocks.{IsBlock, blocks_in}
-use Rattle.title_journal.specs.Rest.{with_block}
+use Rattle.title_land.specs.{Depth.{depth}, declared.survey.Township.{Township}}
+use Rattle.title_chain.specs.{declared.record.Record.{Record}, Alone.{IsSerial, most_parties}}
+use Rattle.title_trace.specs.{Trace.{committed, open_steps}, Due.{IsDue, most_townships}, Serial.{IdleHaveNoSteps}}
+use Rattle.title_journal.specs.{Blocks.{IsBlock, blocks_in}, Rest.{with_block}}
 use Rattle.title_plan.specs.Townships.{each_once}
-use Rattle.title_standing.specs.Standing.{kept, replayed}
-use Rattle.title_standing.specs.StandingLaws.{KeptAreSerial, ReplayedAreCommitted}
+use Rattle.title_standing.specs.{Standing.{kept, replayed}, StandingLaws.{KeptAreSerial, ReplayedAreCommitted}}
 use Rattle.title_spelling.specs.Posts.{IsExaminer}
-use Rattle.title_daybook.specs.Added.{IsOn, added_block, rows_of, text_of}
-use Rattle.title_daybook.specs.AddedLaws.{AddedReadsBack, CanBeWritten, IsKept, KeptAreWritten}
-use Rattle.title_daybook.specs.Files.{standing_after}
-use Rattle.title_daybook.specs.Standing.{Standing}
-use Rattle.title_daybook.specs.declared.writing.Stood.{Stood}
-use Rattle.title_counter.specs.Counters.{Counter, asked_at, setting_at}
-use Rattle.title_counter.specs.Sessions.{IsSound}
-use Rattle.title_lasting.specs.Kept.{with_text}
-use Rattle.title_lasting.specs.Made.{Adds, IsAddedBlock}
-use Rattle.title_lasting.specs.Replays.{AreShort}
-use Rattle.title_lasting.specs.Sittings.{HasAt, opening_on, stands_at}
-use Rattle.title_lasting.proofs.CallsMore.{none_more}
+use Rattle.title_daybook.specs.{Added.{IsOn, added_block, rows_of, text_of}, Files.{standing_after}, Standing.{Standing}}
+use Rattle.title_daybook.specs.{AddedLaws.{AddedReadsBack, CanBeWritten, IsKept, KeptAreWritten}, declared.writing.Stood.{Stood}}
+use Rattle.title_counter.specs.{Counters.{Counter, asked_at, setting_at}, Sessions.{IsSound}}
+use Rattle.title_lasting.specs.{Kept.{with_text}, Made.{Adds, IsAddedBlock}, Replays.{AreShort}, Sittings.{HasAt, opening_on, stands_at}}
+use Rattle.title_lasting.proofs.{CallsMore.{none_more}, FineBooks.{IsWritten, all_wider}, FineCounters.{GoesOnFrom, IsFineAt}}
 use Rattle.title_lasting.proofs.DayMade.{all_kept, drop_front, due_before, first_short, kept_again, no_longer, none_left, ok_blocks}
-use Rattle.title_lasting.proofs.FineBooks.{IsWritten, all_wider}
-use Rattle.title_lasting.proofs.FineCounters.{GoesOnFrom, IsFineAt}
-use Rattle.title_lasting.proofs.FineScripts.{FineAsk}
-use Rattle.title_lasting.proofs.FineTraces.{FineNews, FineSteps, all_joined, fine_news}
-use Rattle.title_lasting.proofs.GoingOn.{commits_more}
-use Rattle.title_lasting.proofs.Lasts.{adds_stand}
-use Rattle.title_lasting.proofs.ShortRecords.{committed_are_short}
+use Rattle.title_lasting.proofs.{FineScripts.{FineAsk}, FineTraces.{FineNews, FineSteps, all_joined, fine_news}, GoingOn.{commits_more}}
+use Rattle.title_lasting.proofs.{Lasts.{adds_stand}, ShortRecords.{committed_are_short}}
 
 -- before the first row a counter has what can be written
 pub opens_fine : (s : Standing) → IsWritten s → IsFineAt s (opening_on s)

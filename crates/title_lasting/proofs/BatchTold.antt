@@ -1,14 +1,9 @@
 -- How a batch ends: its answers can't be held, what it adds isn't kept, or its answers are written, or aren't.
-use Rattle.std.proofs.Common.{◌≡◌, ℕ, Bool, true, false, List, Option, Ok, Err}
-use Rattle.std.specs.Io.KnownBytes.{Appends}
-use Rattle.title_counter.specs.Counters.{Counter}
-use Rattle.title_counter.specs.Sessions.{Answers}
-use Rattle.title_lasting.specs.Lastings.{Begins}
-use Rattle.title_lasting.specs.Sittings.{ComesTo, HasAtEither, HasCome, IsBatch, IsKeptTo, IsUpTo}
-use Rattle.title_lasting.specs.declared.fault.LastingFault.{LastingFault}
+use Rattle.std.{proofs.Common.{◌≡◌, ℕ, Bool, true, false, List, Option, Ok, Err}, specs.Io.KnownBytes.{Appends}}
+use Rattle.title_counter.specs.{Counters.{Counter}, Sessions.{Answers}}
+use Rattle.title_lasting.specs.{Lastings.{Begins}, Sittings.{ComesTo, HasAtEither, HasCome, IsBatch, IsKeptTo, IsUpTo}}
+use Rattle.title_lasting.{specs.declared.{fault.LastingFault.{LastingFault}, mark.Mark.{Mark}}, proofs.Endings.{keeps_itself}}
 use Rattle.title_lasting.specs.declared.fault.LastingFault.TheVariants as fault
-use Rattle.title_lasting.specs.declared.mark.Mark.{Mark}
-use Rattle.title_lasting.proofs.Endings.{keeps_itself}
 
 -- further rows came
 pub comes_on : (c d : Counter) (lines : List (List ℕ)) (text : List ℕ) → HasCome c → Answers c lines text d → ComesTo c d

@@ -1,48 +1,27 @@
 -- Between declared parties an instrument can stand where there may be more, so no reply goes by that.
-use Rattle.std.proofs.Common.{◌≡◌, ◌∙◌, ◌≤◌, ◌<◌, ◌||◌, ℕ, Bool, false, cond}
-use Rattle.std.proofs.Common.{List, [], ◌∷◌, ◌++◌, length, refl, sym, ap, ap₂, subst, arith}
-use Rattle.std.proofs.Common.{Option, Some, Ok}
-use Rattle.std.proofs.lemmas.Bool.{lt-leb}
-use Rattle.std.specs.List.{AllByRecursion}
-use Rattle.title_land.specs.Depth.{depth}
-use Rattle.title_land.specs.declared.survey.Township.{Township}
-use Rattle.title_instrument.specs.declared.instrument.Instrument.{Instrument}
-use Rattle.title_instrument.specs.declared.parts.Cause.{Cause}
+use Rattle.std.proofs.Common.{◌≡◌, ◌∙◌, ◌≤◌, ◌<◌, ◌||◌, ℕ, Bool, false, cond, List, [], ◌∷◌, ◌++◌, length, refl, sym, ap, ap₂, subst, arith}
+use Rattle.std.{proofs.{Common.{Option, Some, Ok}, lemmas.Bool.{lt-leb}}, specs.{List.{AllByRecursion}, Prelude.{nat_le}}}
+use Rattle.title_land.specs.{Depth.{depth}, declared.survey.Township.{Township}, Lands.{is_in_plant}}
+use Rattle.title_instrument.specs.{declared.{instrument.Instrument.{Instrument}, parts.Cause.{Cause}}, Parties.{grantee_of, grantor_of}}
 use Rattle.title_instrument.specs.declared.parts.Cause.TheVariants.{Party, SameParty, NoEstate, Reservation}
 use Rattle.title_instrument.specs.Check.{first_cause, first_of_causes, holds}
-use Rattle.title_instrument.specs.Parties.{grantee_of, grantor_of}
-use Rattle.title_chain.specs.declared.ask.Ask.{Ask}
+use Rattle.title_chain.specs.{declared.ask.Ask.{Ask}, Asks.{cause_of, tract_of}, Alone.{most_parties}}
 use Rattle.title_chain.specs.declared.ask.Ask.TheVariants as ask
-use Rattle.title_chain.specs.Asks.{cause_of, tract_of}
-use Rattle.title_chain.specs.Alone.{most_parties}
-use Rattle.title_trace.specs.declared.call.Call.{Call}
-use Rattle.title_trace.specs.declared.call.Request.{Request}
-use Rattle.title_trace.specs.declared.call.Request.TheVariants as request
-use Rattle.title_trace.specs.declared.call.Reply.{Reply}
-use Rattle.title_trace.specs.Trace.{examiner_of, is_open, open_steps}
+use Rattle.title_trace.specs.{declared.call.{Call.{Call}, Request.{Request}, Reply.{Reply}}, Trace.{examiner_of, is_open, open_steps}}
 use Rattle.title_trace.specs.Due.{Setting, due_step, most_steps}
-use Rattle.title_land.specs.Lands.{is_in_plant}
-use Rattle.std.specs.Prelude.{nat_le}
-use Rattle.title_plan.specs.declared.line.Line.{Line}
+use Rattle.title_trace.specs.declared.call.Request.TheVariants as request
+use Rattle.title_plan.specs.{declared.line.Line.{Line}, Asked.{Asked}, Lands.{land_in}, Onto.{OntoNothing, nothing_before, script_onto}}
+use Rattle.title_plan.specs.Plans.{script_of}
 use Rattle.title_plan.specs.declared.line.Line.TheVariants as line
-use Rattle.title_script.specs.ReportLaws.{after_lines}
-use Rattle.title_script.specs.Served.{after_call, after_line, due_rows, ending, line_rows, reply_to}
+use Rattle.title_script.specs.{ReportLaws.{after_lines}, Served.{after_call, after_line, due_rows, ending, line_rows, reply_to}}
+use Rattle.title_script.specs.Reports.{report_of, report_onto, report_or_fault, setting_of}
 use Rattle.title_report.specs.Replies.{end_row, reply_rows}
 use Rattle.title_spelling.specs.Posts.{IsExaminer}
 use Rattle.title_page.specs.Rows.{row, rows_text}
-use Rattle.title_plan.specs.Asked.{Asked}
-use Rattle.title_plan.specs.Lands.{land_in}
-use Rattle.title_plan.specs.Onto.{OntoNothing, nothing_before, script_onto}
-use Rattle.title_plan.specs.Plans.{script_of}
-use Rattle.title_script.specs.Reports.{report_of, report_onto, report_or_fault, setting_of}
-use Rattle.title_standing.specs.Standing.{replayed}
-use Rattle.title_standing.specs.StandingLaws.{widest}
+use Rattle.title_standing.specs.{Standing.{replayed}, StandingLaws.{widest}}
 use Rattle.title_daybook.specs.Standing.{Standing}
-use Rattle.title_lasting.specs.DayLaws.{FirstDaysAreAlone, ReportsGoByDeclared}
-use Rattle.title_lasting.specs.Days.{declared_in, setting_on}
-use Rattle.title_lasting.proofs.CallsMore.{ends}
-use Rattle.title_lasting.proofs.FineRows.{LandsHaveCells, first_is_text}
-use Rattle.title_lasting.proofs.FineScripts.{FineAsk, FineStep, script_fine}
+use Rattle.title_lasting.{specs.{DayLaws.{FirstDaysAreAlone, ReportsGoByDeclared}, Days.{declared_in, setting_on}}, proofs.CallsMore.{ends}}
+use Rattle.title_lasting.proofs.{FineRows.{LandsHaveCells, first_is_text}, FineScripts.{FineAsk, FineStep, script_fine}}
 use Rattle.title_lasting.proofs.FineTraces.{FineRequest}
 
 module _ (names : List (List ℕ)) (townships : List Township) (most : ℕ) (few : length names ≤ most) where

@@ -1,17 +1,12 @@
 -- What a script's steps add to a trace: calls, of which each request is one of the script's. Lists of calls have the newest first.
-use Rattle.std.proofs.Common.{◌≡◌, ◌∙◌, ℕ, List, [], ◌∷◌, ◌++◌, refl, sym, ap, append_assoc}
-use Rattle.std.specs.List.{AllByRecursion}
+use Rattle.std.{proofs.Common.{◌≡◌, ◌∙◌, ℕ, List, [], ◌∷◌, ◌++◌, refl, sym, ap, append_assoc}, specs.List.{AllByRecursion}}
 use Rattle.title_chain.specs.declared.ask.Ask.{Ask}
-use Rattle.title_trace.specs.declared.call.Call.{Call}
-use Rattle.title_trace.specs.declared.call.Request.{Request}
+use Rattle.title_trace.specs.{declared.call.{Call.{Call}, Request.{Request}, Reply.{Reply}}, Due.{Setting}}
 use Rattle.title_trace.specs.declared.call.Request.TheVariants as request
-use Rattle.title_trace.specs.declared.call.Reply.{Reply}
 use Rattle.title_trace.specs.declared.call.Reply.TheVariants as reply
-use Rattle.title_trace.specs.Due.{Setting}
 use Rattle.title_plan.specs.declared.line.Line.{Line}
 use Rattle.title_plan.specs.declared.line.Line.TheVariants as line
-use Rattle.title_script.specs.ReportLaws.{after_lines}
-use Rattle.title_script.specs.Served.{after_call, after_line, ending, reply_to}
+use Rattle.title_script.specs.{ReportLaws.{after_lines}, Served.{after_call, after_line, ending, reply_to}}
 use Rattle.title_lasting.proofs.FineTraces.{FineCall, FineRequest, all_joined}
 
 -- a call is the request with its reply

@@ -1,35 +1,20 @@
 -- A day whose records come from elsewhere adds a block, where each of them can be written.
-use Rattle.std.proofs.Common.{◌≡◌, ◌∙◌, ◌<◌, ◌+◌, ◌^◌, ℕ, List, [], ◌∷◌, ◌++◌, length, map, reverse, drop}
+use Rattle.std.{proofs.Common.{◌≡◌, ◌∙◌, ◌<◌, ◌+◌, ◌^◌, ℕ, List, [], ◌∷◌, ◌++◌, length, map, reverse, drop}, specs.List.{AllByRecursion}}
 use Rattle.std.proofs.Common.{Option, Some, None, Result, Ok, refl, sym, ap, subst, arith}
-use Rattle.std.specs.List.{AllByRecursion}
 use Rattle.std.proofs.lemmas.List.{length-append, length-map, length-reverse, map-append, reverse-append, reverse-reverse}
-use Rattle.title_land.specs.declared.survey.Township.{Township}
-use Rattle.title_chain.specs.declared.ask.Ask.{Ask}
+use Rattle.title_land.specs.{declared.survey.Township.{Township}, Depth.{depth}}
+use Rattle.title_chain.specs.declared.{ask.{Ask.{Ask}, Step.{Step}}, record.Record.{Record}}
 use Rattle.title_chain.specs.declared.ask.Ask.TheVariants as ask
-use Rattle.title_chain.specs.declared.ask.Step.{Step}
-use Rattle.title_chain.specs.declared.record.Record.{Record}
-use Rattle.title_land.specs.Depth.{depth}
-use Rattle.title_journal.specs.Blocks.{IsBlock}
-use Rattle.title_journal.specs.Rest.{with_block}
-use Rattle.title_plan.specs.Asked.{Asked}
-use Rattle.title_plan.specs.Onto.{BeginsWith}
+use Rattle.title_journal.specs.{Blocks.{IsBlock, blocks_in}, Rest.{with_block}}
+use Rattle.title_plan.specs.{Asked.{Asked}, Onto.{BeginsWith}}
 use Rattle.title_standing.specs.Standing.{kept}
 use Rattle.title_spelling.specs.Posts.{IsExaminer}
-use Rattle.title_daybook.specs.Added.{IsOn, added_block, rows_of, text_of}
-use Rattle.title_daybook.specs.AddedLaws.{AddedReadsBack, CanBeWritten, IsKept, KeptAreWritten}
-use Rattle.title_daybook.specs.Files.{standing_after}
-use Rattle.title_daybook.specs.Standing.{Standing}
-use Rattle.title_daybook.specs.declared.writing.Stood.{Stood}
-use Rattle.title_journal.specs.Blocks.{blocks_in}
-use Rattle.title_lasting.specs.Days.{declared_in}
-use Rattle.title_lasting.specs.Footings.{CanAsk, CanWrite, Continues, HasStood, IsNew, stands_on}
-use Rattle.title_lasting.specs.Made.{Adds, IsAddedBlock}
-use Rattle.title_lasting.specs.Replays.{AreShort}
+use Rattle.title_daybook.specs.{Added.{IsOn, added_block, rows_of, text_of}, Files.{standing_after}, Standing.{Standing}}
+use Rattle.title_daybook.specs.{AddedLaws.{AddedReadsBack, CanBeWritten, IsKept, KeptAreWritten}, declared.writing.Stood.{Stood}}
+use Rattle.title_lasting.specs.{Days.{declared_in}, Footings.{CanAsk, CanWrite, Continues, HasStood, IsNew, stands_on}, Replays.{AreShort}}
+use Rattle.title_lasting.{specs.Made.{Adds, IsAddedBlock}, proofs.{FineBooks.{IsWritten, all_wider}, FineScripts.{FineAsk, IsFine}}}
 use Rattle.title_lasting.proofs.DayMade.{all_kept, drop_front, empty, first_short, kept_again, no_longer, none_left, ok_blocks}
-use Rattle.title_lasting.proofs.FineBooks.{IsWritten, all_wider}
-use Rattle.title_lasting.proofs.FineScripts.{FineAsk, IsFine}
-use Rattle.title_lasting.proofs.FineTraces.{FineRecord, FineSteps, all_joined, all_reversed}
-use Rattle.title_lasting.proofs.ShortRecords.{committed_are_short}
+use Rattle.title_lasting.proofs.{FineTraces.{FineRecord, FineSteps, all_joined, all_reversed}, ShortRecords.{committed_are_short}}
 
 -- ---- records that can be written
 

@@ -1,19 +1,13 @@
 -- How a run on a plant's file ends: the file isn't opened, another place was expected, or a day was tried on it.
 use Rattle.std.proofs.Common.{◌≡◌, ◌∙◌, ◌≢◌, ℕ, List, Bool, Option, Some, None, IfSome, Result, Ok, Err, sym, ap, subst, length, arith}
-use Rattle.title_disk.specs.Crashes.{LeavesOnly, Only}
-use Rattle.title_disk.specs.Laws.Moments.{joined, weakened}
+use Rattle.title_disk.specs.{Crashes.{LeavesOnly, Only}, Laws.Moments.{joined, weakened}}
 use Rattle.title_journal.specs.Rest.{IsAtRest, StandsAlike}
 use Rattle.title_plan.specs.declared.line.Schedule.{Schedule}
-use Rattle.title_daybook.specs.Files.{IsPlant, standing_after, standing_in}
-use Rattle.title_daybook.specs.Standing.{Standing}
-use Rattle.title_lasting.specs.Lastings.{IsCause, IsExpected, Lasting, Stays}
-use Rattle.title_lasting.specs.Opened.{IsUnopened, LeavesUnopened}
-use Rattle.title_lasting.specs.Openings.{IsNoPlant, IsResting, StandsAs}
-use Rattle.title_lasting.specs.declared.fault.LastingFault.{LastingFault}
+use Rattle.title_daybook.specs.{Files.{IsPlant, standing_after, standing_in}, Standing.{Standing}}
+use Rattle.title_lasting.specs.{Lastings.{IsCause, IsExpected, Lasting, Stays}, Opened.{IsUnopened, LeavesUnopened}}
+use Rattle.title_lasting.specs.{Openings.{IsNoPlant, IsResting, StandsAs}, declared.fault.LastingFault.{LastingFault}}
+use Rattle.title_lasting.proofs.{Endings.{keeps_itself}, Lasts.{cause_there, counts_there, leaves_there}, Plants.{plants_are_not_refused}}
 use Rattle.title_lasting.specs.declared.fault.LastingFault.TheVariants as fault
-use Rattle.title_lasting.proofs.Endings.{keeps_itself}
-use Rattle.title_lasting.proofs.Lasts.{cause_there, counts_there, leaves_there}
-use Rattle.title_lasting.proofs.Plants.{plants_are_not_refused}
 
 -- where the same blocks stand, the same stands
 pub alike_stands : (old c : List ℕ) → StandsAlike old c → StandsAs old c

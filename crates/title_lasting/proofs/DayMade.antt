@@ -1,46 +1,27 @@
 -- A script that was served at a desk which has served what stood makes a day, and its block adds what the day has added.
-use Rattle.std.proofs.Common.{◌≡◌, ◌∙◌, ◌≤◌, ◌<◌, ◌+◌, ◌^◌, ℕ, zero, suc, true}
+use Rattle.std.{proofs.Common.{◌≡◌, ◌∙◌, ◌≤◌, ◌<◌, ◌+◌, ◌^◌, ℕ, zero, suc, true}, specs.List.{AllByRecursion}}
 use Rattle.std.proofs.Common.{cond, List, [], ◌∷◌, ◌++◌, filter, length, map, reverse, drop}
 use Rattle.std.proofs.Common.{Option, Some, None, Result, Ok, Err, refl, sym, ap, ap₂, subst, arith}
-use Rattle.std.specs.List.{AllByRecursion}
 use Rattle.std.proofs.lemmas.List.{append-nil, length-append, length-map, length-reverse, map-append, reverse-append, reverse-reverse}
 use mathlib.Core.List.{IsPrefix}
-use Rattle.title_land.specs.Depth.{depth}
-use Rattle.title_land.specs.declared.survey.Township.{Township}
-use Rattle.title_chain.specs.declared.ask.Answer.{Answer}
-use Rattle.title_chain.specs.declared.ask.Answer.TheVariants as answer
-use Rattle.title_chain.specs.declared.ask.Ask.{Ask}
-use Rattle.title_chain.specs.declared.ask.Ask.TheVariants as ask
-use Rattle.title_chain.specs.declared.ask.Step.{Step}
-use Rattle.title_chain.specs.declared.ask.Terms.{Terms}
-use Rattle.title_chain.specs.declared.record.Record.{Record}
+use Rattle.title_land.specs.{Depth.{depth}, declared.survey.Township.{Township}}
+use Rattle.title_chain.specs.declared.{ask.{Answer.{Answer}, Ask.{Ask}, Step.{Step}, Terms.{Terms}}, record.Record.{Record}}
 use Rattle.title_chain.specs.Alone.{most_parties}
-use Rattle.title_trace.specs.declared.call.Call.{Call}
-use Rattle.title_trace.specs.Trace.{committed, open_steps}
-use Rattle.title_trace.specs.Due.{IsDue, Setting, most_steps, most_townships}
+use Rattle.title_chain.specs.declared.ask.Answer.TheVariants as answer
+use Rattle.title_chain.specs.declared.ask.Ask.TheVariants as ask
+use Rattle.title_trace.specs.{declared.call.Call.{Call}, Trace.{committed, open_steps}, Due.{IsDue, Setting, most_steps, most_townships}}
 use Rattle.title_trace.specs.Serial.{IdleHaveNoSteps}
 use Rattle.title_desk.specs.Images.{is_posted}
-use Rattle.title_journal.specs.Blocks.{IsBlock}
-use Rattle.title_journal.specs.Rest.{with_block}
-use Rattle.title_plan.specs.Asked.{Asked}
-use Rattle.title_plan.specs.Townships.{each_once}
-use Rattle.title_standing.specs.Records.{posted_step}
-use Rattle.title_standing.specs.Standing.{kept}
-use Rattle.title_standing.specs.StandingLaws.{ReplayedAreCommitted}
+use Rattle.title_journal.specs.{Blocks.{IsBlock}, Rest.{with_block}}
+use Rattle.title_plan.specs.{Asked.{Asked}, Townships.{each_once}}
+use Rattle.title_standing.specs.{Records.{posted_step}, Standing.{kept}, StandingLaws.{ReplayedAreCommitted}}
 use Rattle.title_spelling.specs.Posts.{IsExaminer, IsPost}
-use Rattle.title_daybook.specs.Added.{added_block, at_most_one, posted, posts_of, rows_of, text_of, IsOn}
-use Rattle.title_daybook.specs.AddedLaws.{AddedReadsBack, CanBeWritten, IsKept, KeptAreWritten}
-use Rattle.title_daybook.specs.Files.{standing_after}
-use Rattle.title_daybook.specs.Standing.{Standing}
+use Rattle.title_daybook.specs.{Added.{added_block, at_most_one, posted, posts_of, rows_of, text_of, IsOn}, Files.{standing_after}}
+use Rattle.title_daybook.specs.{AddedLaws.{AddedReadsBack, CanBeWritten, IsKept, KeptAreWritten}, Standing.{Standing}}
 use Rattle.title_daybook.specs.declared.writing.Stood.{Stood}
-use Rattle.title_lasting.specs.Days.{Day, evening, morning, setting_on, stands_after}
-use Rattle.title_lasting.specs.Made.{Adds, IsAddedBlock}
-use Rattle.title_lasting.specs.Replays.{AreShort}
-use Rattle.title_lasting.proofs.CallsMore.{CallsMore, lines_more}
-use Rattle.title_lasting.proofs.FineBooks.{all_wider, IsWritten}
-use Rattle.title_lasting.proofs.FineScripts.{FineAsk, IsFine}
-use Rattle.title_lasting.proofs.FineTraces.{FineNews, FineRecord, FineSteps, all_joined, fine_news}
-use Rattle.title_lasting.proofs.ShortRecords.{committed_are_short}
+use Rattle.title_lasting.specs.{Days.{Day, evening, morning, setting_on, stands_after}, Made.{Adds, IsAddedBlock}, Replays.{AreShort}}
+use Rattle.title_lasting.proofs.{CallsMore.{CallsMore, lines_more}, FineBooks.{all_wider, IsWritten}, FineScripts.{FineAsk, IsFine}}
+use Rattle.title_lasting.proofs.{FineTraces.{FineNews, FineRecord, FineSteps, all_joined, fine_news}, ShortRecords.{committed_are_short}}
 
 -- ---- what is kept of records can be written
 

@@ -3,42 +3,21 @@ use Rattle.std.proofs.Common.{◌≡◌, ◌∙◌, ◌≤◌, ◌<◌, ◌^◌,
 use Rattle.std.proofs.Common.{Option, Some, None, Result, Ok, refl, sym, ap, subst, arith}
 use Rattle.std.proofs.lemmas.List.{length-append, length-map, length-reverse, reverse-reverse, take_at}
 use mathlib.Core.List.{IsPrefix}
-use Rattle.title_land.specs.Depth.{depth}
-use Rattle.title_land.specs.declared.survey.Township.{Township}
+use Rattle.title_land.specs.{Depth.{depth}, declared.survey.Township.{Township}}
 use Rattle.title_store.specs.Plants.{Plant}
-use Rattle.title_chain.specs.declared.record.Record.{Record}
-use Rattle.title_chain.specs.Alone.{most_parties}
-use Rattle.title_trace.specs.declared.call.Call.{Call}
-use Rattle.title_trace.specs.Trace.{committed}
-use Rattle.title_trace.specs.Due.{IsDue, MayOpen, Setting, most_townships}
+use Rattle.title_chain.specs.{declared.record.Record.{Record}, Alone.{most_parties}}
+use Rattle.title_trace.specs.{declared.call.Call.{Call}, Trace.{committed}, Due.{IsDue, MayOpen, Setting, most_townships}}
 use Rattle.title_trace.specs.Serial.{IdleHaveNoSteps}
-use Rattle.title_desk.specs.Headline.{Headline}
-use Rattle.title_desk.specs.Told.{Books}
-use Rattle.title_plan.specs.Asked.{Asked, asked_in}
-use Rattle.title_plan.specs.Onto.{BeginsWith}
-use Rattle.title_plan.specs.Townships.{each_once}
-use Rattle.title_plan.specs.declared.line.Line.{Line}
-use Rattle.title_plan.specs.declared.line.Schedule.{Schedule}
-use Rattle.title_plan.specs.declared.plan.Plan.{Plan}
-use Rattle.title_script.specs.ReportLaws.{after_lines}
-use Rattle.title_script.specs.Reports.{report_onto}
-use Rattle.title_script.specs.Told.{served_text}
-use Rattle.title_standing.specs.declared.deeds.Deeds.{Deeds}
-use Rattle.title_standing.specs.Records.{record_of}
-use Rattle.title_standing.specs.StandingLaws.{KeptAreSerial, ReplayedAreCommitted}
-use Rattle.title_daybook.specs.AddedLaws.{AddedReadsBack, KeptAreWritten}
-use Rattle.title_daybook.specs.Files.{standing_after}
-use Rattle.title_daybook.specs.Standing.{Standing}
+use Rattle.title_desk.specs.{Headline.{Headline}, Told.{Books}}
+use Rattle.title_plan.specs.{Asked.{Asked, asked_in}, Onto.{BeginsWith}, Townships.{each_once}, declared.line.Line.{Line}}
+use Rattle.title_plan.specs.declared.{line.Schedule.{Schedule}, plan.Plan.{Plan}}
+use Rattle.title_script.specs.{ReportLaws.{after_lines}, Reports.{report_onto}, Told.{served_text}}
+use Rattle.title_standing.specs.{declared.deeds.Deeds.{Deeds}, Records.{record_of}, StandingLaws.{KeptAreSerial, ReplayedAreCommitted}}
+use Rattle.title_daybook.specs.{AddedLaws.{AddedReadsBack, KeptAreWritten}, Files.{standing_after}, Standing.{Standing}}
 use Rattle.title_daybook.specs.declared.writing.Stood.{Stood}
-use Rattle.title_lasting.specs.Days.{Day, declared_in, evening, morning, setting_on}
-use Rattle.title_lasting.specs.Kept.{text_in}
-use Rattle.title_lasting.specs.Made.{IsAddedBlock, IsAsked, IsMade, IsServedAt, served_at}
-use Rattle.title_lasting.specs.Replays.{HasServed}
-use Rattle.title_lasting.specs.declared.serving.Made.{Made}
-use Rattle.title_lasting.proofs.CallsMore.{steps_go_on}
-use Rattle.title_lasting.proofs.DayMade.{adds, goes_on, news, quiet}
-use Rattle.title_lasting.proofs.FineBooks.{IsWritten}
-use Rattle.title_lasting.proofs.FineScripts.{IsFine}
+use Rattle.title_lasting.specs.{Days.{Day, declared_in, evening, morning, setting_on}, Kept.{text_in}, Replays.{HasServed}}
+use Rattle.title_lasting.specs.{Made.{IsAddedBlock, IsAsked, IsMade, IsServedAt, served_at}, declared.serving.Made.{Made}}
+use Rattle.title_lasting.proofs.{CallsMore.{steps_go_on}, DayMade.{adds, goes_on, news, quiet}, FineBooks.{IsWritten}, FineScripts.{IsFine}}
 use Rattle.title_lasting.proofs.GoingOn.{commits_more}
 
 -- ---- what stood is the beginning

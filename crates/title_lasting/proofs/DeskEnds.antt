@@ -1,35 +1,21 @@
 -- How a desk on a plant's file begins and ends: the file isn't opened, or what a desk comes to on the file at rest it comes to for the file
 -- before its end was repaired.
-use Rattle.std.proofs.Common.{◌≡◌, ◌∙◌, ◌==◌, ℕ, List, [], ◌∷◌, Bool, false, not, Option, Result, Ok, Err}
-use Rattle.std.proofs.Common.{arith, refl, sym, ap, subst, inl, inr, ⊎_elim, length, true}
-use Rattle.std.proofs.lemmas.Bool.{not-false}
-use Rattle.std.proofs.lemmas.Bool.Decides.{nat_tests}
+use Rattle.std.proofs.{Common.{◌≡◌, ◌∙◌, ◌==◌, ℕ, List, [], ◌∷◌, Bool, false, not, Option, Result, Ok, Err}, lemmas.Bool.{not-false}}
+use Rattle.std.proofs.{Common.{arith, refl, sym, ap, subst, inl, inr, ⊎_elim, length, true}, lemmas.Bool.Decides.{nat_tests}}
 use Rattle.title_chain.specs.declared.record.Record.{Record}
 use Rattle.title_trace.specs.declared.call.Call.{Call}
-use Rattle.title_disk.specs.Crashes.{LeavesOnly, Only}
-use Rattle.title_disk.specs.Laws.Moments.{joined, weakened}
+use Rattle.title_disk.specs.{Crashes.{LeavesOnly, Only}, Laws.Moments.{joined, weakened}}
 use Rattle.title_journal.specs.Rest.{StandsAlike}
-use Rattle.title_standing.specs.Standing.{replayed}
-use Rattle.title_standing.specs.StandingLaws.{ReplayedAreCommitted}
+use Rattle.title_standing.specs.{Standing.{replayed}, StandingLaws.{ReplayedAreCommitted}}
 use Rattle.title_spelling.specs.Lands.{kept_land_in}
-use Rattle.title_daybook.specs.Files.{IsPlant, standing_after, standing_in}
-use Rattle.title_daybook.specs.Standing.{Standing}
-use Rattle.title_counter.specs.Counters.{Counter}
-use Rattle.title_counter.specs.Sessions.{Answers}
+use Rattle.title_daybook.specs.{Files.{IsPlant, standing_after, standing_in}, Standing.{Standing}}
+use Rattle.title_counter.specs.{Counters.{Counter}, Sessions.{Answers}}
 use Rattle.title_lasting.specs.Desks.{IsAnsweredOnto, IsAtOnceOnto, IsBegunOnto, IsDeskCause, IsServedOn, IsUnsureOnto, IsUntold}
-use Rattle.title_lasting.specs.Desks.{LastingDesk, LeavesDesk}
-use Rattle.title_lasting.specs.Lastings.{Stays}
-use Rattle.title_lasting.specs.Opened.{IsUnopened, LeavesUnopened}
-use Rattle.title_lasting.specs.Openings.{IsNoPlant, StandsAs}
-use Rattle.title_lasting.specs.Sittings.{HasAt, HasPart, opening_on}
-use Rattle.title_lasting.specs.declared.fault.LastingFault.{LastingFault}
+use Rattle.title_lasting.specs.{Desks.{LastingDesk, LeavesDesk}, Lastings.{Stays}, Opened.{IsUnopened, LeavesUnopened}}
+use Rattle.title_lasting.{specs.{Openings.{IsNoPlant, StandsAs}, Sittings.{HasAt, HasPart, opening_on}}, proofs.BatchMade.{opening_stands}}
+use Rattle.title_lasting.{specs.declared.fault.LastingFault.{LastingFault}, proofs.{DayEnds.{alike_stands}, Endings.{keeps_itself}}}
+use Rattle.title_lasting.proofs.{FineBooks.{stands_written}, FineRows.{LandsHaveCells}, Plants.{plants_are_not_refused}}
 use Rattle.title_lasting.specs.declared.fault.LastingFault.TheVariants as fault
-use Rattle.title_lasting.proofs.BatchMade.{opening_stands}
-use Rattle.title_lasting.proofs.DayEnds.{alike_stands}
-use Rattle.title_lasting.proofs.Endings.{keeps_itself}
-use Rattle.title_lasting.proofs.FineBooks.{stands_written}
-use Rattle.title_lasting.proofs.FineRows.{LandsHaveCells}
-use Rattle.title_lasting.proofs.Plants.{plants_are_not_refused}
 
 -- ---- the counter before the first row
 

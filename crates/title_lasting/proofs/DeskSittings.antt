@@ -1,38 +1,24 @@
 -- A desk on a plant's file from pull to pull.
-use Rattle.std.proofs.Common.{◌≡◌, ◌==◌, ◌⊎◌, ◌<◌, ◌+◌, ◌++◌, ◌∙◌, [], ◌∷◌, refl, sym, ap, subst, inl, inr, ⊎_elim}
+use Rattle.std.proofs.Common.{◌≡◌, ◌==◌, ◌⊎◌, ◌<◌, ◌+◌, ◌++◌, ◌∙◌, [], ◌∷◌, refl, sym, ap, subst, inl, inr, ⊎_elim, length-append}
 use Rattle.std.proofs.Common.{ℕ, Bool, false, List, Option, Some, None, IfSome, Err, append_assoc, arith, length}
-use Rattle.std.proofs.Common.{length-append}
-use Rattle.std.specs.Io.KnownBytes.{Appends, Consumes, Keeps}
-use Rattle.std.proofs.lemmas.Bool.{cases_Bool}
-use Rattle.std.proofs.lemmas.List.{append-nil}
+use Rattle.std.{specs.Io.KnownBytes.{Appends, Consumes, Keeps}, proofs.lemmas.{Bool.{cases_Bool}, List.{append-nil}}}
 use Rattle.csv.proofs.WriteFacts.{appends-more, appends-none}
 use Rattle.title_chain.specs.declared.record.Record.{Record}
 use Rattle.title_trace.specs.Trace.{committed}
-use Rattle.title_disk.specs.Crashes.{LeavesOnly}
-use Rattle.title_disk.specs.Laws.Moments.{joined, weakened}
+use Rattle.title_disk.specs.{Crashes.{LeavesOnly}, Laws.Moments.{joined, weakened}}
 use Rattle.title_page.specs.Rows.{rows_text}
 use Rattle.title_plan.specs.Lands.{land_in}
 use Rattle.title_standing.specs.StandingLaws.{ReplayedAreCommitted}
 use Rattle.title_spelling.specs.Lands.{kept_land_in}
-use Rattle.title_daybook.specs.Files.{IsPlant}
-use Rattle.title_daybook.specs.Standing.{Standing}
-use Rattle.title_counter.specs.Counters.{Counter}
-use Rattle.title_counter.specs.Limits.{most_given}
+use Rattle.title_daybook.specs.{Files.{IsPlant}, Standing.{Standing}}
+use Rattle.title_counter.specs.{Counters.{Counter}, Limits.{most_given}, Sessions.{Answers, Ends, IsSound}}
 use Rattle.title_counter.specs.Lines.{Lines, all_lines, and_lines, last_line, line_feed, lines_from, lines_in, with_byte}
-use Rattle.title_counter.specs.Sessions.{Answers, Ends, IsSound}
-use Rattle.title_lasting.specs.Desks.{IsAnsweredOnto, IsAtOnceOnto, IsBegunOnto, IsDeskCause, IsServedOn, IsUntold}
-use Rattle.title_lasting.specs.Desks.{LeavesDesk}
-use Rattle.title_lasting.specs.Lastings.{Begins}
+use Rattle.title_lasting.specs.Desks.{IsAnsweredOnto, IsAtOnceOnto, IsBegunOnto, IsDeskCause, IsServedOn, IsUntold, LeavesDesk}
+use Rattle.title_lasting.specs.{Lastings.{Begins}, declared.{fault.LastingFault.{LastingFault}, mark.Mark.{Mark}}}
 use Rattle.title_lasting.specs.Sittings.{HasAt, HasAtEither, HasCome, HasPart, IsBatch, IsEnded, IsUpTo, end_text, opening_on}
-use Rattle.title_lasting.specs.declared.fault.LastingFault.{LastingFault}
+use Rattle.title_lasting.proofs.{BatchMade.{opens_fine}, FineBooks.{stands_written}, FineCounters.{answers_fare}, FineRows.{LandsHaveCells}}
+use Rattle.title_lasting.proofs.{GoingOn.{commits_more}, RowsEnded.{begins_then}}
 use Rattle.title_lasting.specs.declared.fault.LastingFault.TheVariants as fault
-use Rattle.title_lasting.specs.declared.mark.Mark.{Mark}
-use Rattle.title_lasting.proofs.BatchMade.{opens_fine}
-use Rattle.title_lasting.proofs.FineBooks.{stands_written}
-use Rattle.title_lasting.proofs.FineCounters.{answers_fare}
-use Rattle.title_lasting.proofs.FineRows.{LandsHaveCells}
-use Rattle.title_lasting.proofs.GoingOn.{commits_more}
-use Rattle.title_lasting.proofs.RowsEnded.{begins_then}
 
 -- ---- answers and lines that follow one another
 

@@ -2,25 +2,16 @@
 use Rattle.std.proofs.Common.{◌≡◌, ◌∙◌, ℕ, List, Bool, true, Option, Some, None, Ok, Err, refl, ap, subst}
 use Rattle.std.specs.Io.KnownBytes.{Appends, IsAtEnd, Keeps}
 use Rattle.title_disk.specs.Crashes.{Only}
-use Rattle.title_journal.specs.declared.fault.PutFault.{PutFault}
+use Rattle.title_journal.specs.{declared.fault.PutFault.{PutFault}, Blocks.{blocks_in}, Rest.{StandsAlike}}
 use Rattle.title_journal.specs.declared.fault.PutFault.TheVariants as put
-use Rattle.title_journal.specs.Blocks.{blocks_in}
-use Rattle.title_journal.specs.Rest.{StandsAlike}
 use Rattle.title_plan.specs.declared.line.Schedule.{Schedule}
-use Rattle.title_script.specs.Runs.{IsReadWithin}
-use Rattle.title_script.specs.Told.{served_text}
-use Rattle.title_daybook.specs.Files.{IsPlant, standing_after}
-use Rattle.title_daybook.specs.Standing.{Standing}
-use Rattle.title_lasting.specs.Days.{IsBeforeOrAfter}
-use Rattle.title_lasting.specs.Faults.{of_put}
-use Rattle.title_lasting.specs.Kept.{IsWithOrWithout, text_in, with_text}
-use Rattle.title_lasting.specs.Lastings.{Begins, Counts, Lasting, Stays}
-use Rattle.title_lasting.specs.Made.{IsMade, IsUnmade}
-use Rattle.title_lasting.specs.Openings.{StandsAs}
+use Rattle.title_script.specs.{Runs.{IsReadWithin}, Told.{served_text}}
+use Rattle.title_daybook.specs.{Files.{IsPlant, standing_after}, Standing.{Standing}}
+use Rattle.title_lasting.specs.{Days.{IsBeforeOrAfter}, Faults.{of_put}, Kept.{IsWithOrWithout, text_in, with_text}, Openings.{StandsAs}}
+use Rattle.title_lasting.specs.{Lastings.{Begins, Counts, Lasting, Stays}, Made.{IsMade, IsUnmade}, declared.serving.Made.{Made}}
 use Rattle.title_lasting.specs.declared.fault.LastingFault.{LastingFault}
-use Rattle.title_lasting.specs.declared.fault.LastingFault.TheVariants as fault
-use Rattle.title_lasting.specs.declared.serving.Made.{Made}
 use Rattle.title_lasting.proofs.Lasts.{at_any_moment, is_served, stands_then, unmade_cause, unmade_leaves}
+use Rattle.title_lasting.specs.declared.fault.LastingFault.TheVariants as fault
 
 pub keeps_itself : (known : Option (List ℕ)) → Keeps known known
 keeps_itself None = tt

@@ -1,38 +1,23 @@
 -- What the opening of a plant's file finds, and how it fails.
-use Rattle.std.proofs.Common.{◌≡◌, ◌∙◌, ◌≤◌, ℕ, Bool, true, false, not, List, [], ◌∷◌, drop, length, Ok, Err}
-use Rattle.std.proofs.Common.{refl, sym, ap, subst, arith, inl, inr}
-use Rattle.std.specs.List.{AllByRecursion, list_any}
-use Rattle.std.proofs.lemmas.Bool.{and_parts}
-use Rattle.std.proofs.lemmas.List.{length-map}
-use Rattle.title_land.specs.declared.survey.Township.{Township}
-use Rattle.title_land.specs.Survey.{same_township}
+use Rattle.std.proofs.{Common.{◌≡◌, ◌∙◌, ◌≤◌, ℕ, Bool, true, false, not, List, [], ◌∷◌, drop, length, Ok, Err}, lemmas.Bool.{and_parts}}
+use Rattle.std.{proofs.{Common.{refl, sym, ap, subst, arith, inl, inr}, lemmas.List.{length-map}}, specs.List.{AllByRecursion, list_any}}
+use Rattle.title_land.specs.{declared.survey.Township.{Township}, Survey.{same_township}}
 use Rattle.title_store.specs.Plants.{IsEachOnce}
-use Rattle.title_chain.specs.declared.record.Record.{Record}
-use Rattle.title_chain.specs.Alone.{most_parties}
+use Rattle.title_chain.specs.{declared.record.Record.{Record}, Alone.{most_parties}}
 use Rattle.title_trace.specs.Due.{MayOpen, most_townships}
-use Rattle.title_disk.specs.Crashes.{Elapses, LeavesOnly, Only}
-use Rattle.title_disk.specs.Laws.Moments.{goes_on, joined, started}
-use Rattle.title_journal.specs.declared.fault.JournalFault.{JournalFault}
-use Rattle.title_journal.specs.declared.fault.JournalFault.TheVariants as journal
-use Rattle.title_journal.specs.Blocks.{blocks_in, front}
+use Rattle.title_disk.specs.{Crashes.{Elapses, LeavesOnly, Only}, Laws.Moments.{goes_on, joined, started}}
+use Rattle.title_journal.specs.{declared.fault.JournalFault.{JournalFault}, Blocks.{blocks_in, front}}
 use Rattle.title_journal.specs.Rest.{StandsAlike, tail_of, texts_of}
+use Rattle.title_journal.specs.declared.fault.JournalFault.TheVariants as journal
 use Rattle.title_plan.specs.Townships.{each_once}
 use Rattle.title_standing.specs.Records.{posted_step}
-use Rattle.title_daybook.specs.declared.fault.PlantFault.{PlantFault}
-use Rattle.title_daybook.specs.declared.fault.PlantFault.TheVariants as plant
-use Rattle.title_daybook.specs.AddedLaws.{IsKept}
-use Rattle.title_daybook.specs.Books.{standing_of}
+use Rattle.title_daybook.specs.{declared.fault.PlantFault.{PlantFault}, AddedLaws.{IsKept}, Books.{standing_of}, Standing.{Standing}}
 use Rattle.title_daybook.specs.Files.{row_of, standing_after, standing_in}
-use Rattle.title_daybook.specs.Standing.{Standing}
+use Rattle.title_daybook.specs.declared.fault.PlantFault.TheVariants as plant
 use Rattle.title_spelling.specs.Lands.{kept_land_in}
-use Rattle.title_lasting.specs.Faults.{of_journal, of_plant}
-use Rattle.title_lasting.specs.Opened.{IsFoundIn, IsUnopened}
-use Rattle.title_lasting.specs.Openings.{IsNoPlant, bytes_of, cut_behind, cut_in}
-use Rattle.title_lasting.specs.Refusals.{IsFirstRefused}
-use Rattle.title_lasting.specs.Replays.{AreShort}
-use Rattle.title_lasting.specs.declared.opening.Found.{Found}
-use Rattle.title_lasting.proofs.FineBooks.{stands_written}
-use Rattle.title_lasting.proofs.FineRows.{LandsHaveCells}
+use Rattle.title_lasting.specs.{Faults.{of_journal, of_plant}, Opened.{IsFoundIn, IsUnopened}, Refusals.{IsFirstRefused}}
+use Rattle.title_lasting.specs.{Openings.{IsNoPlant, bytes_of, cut_behind, cut_in}, Replays.{AreShort}, declared.opening.Found.{Found}}
+use Rattle.title_lasting.proofs.{FineBooks.{stands_written}, FineRows.{LandsHaveCells}}
 
 -- ---- reading
 

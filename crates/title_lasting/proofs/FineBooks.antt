@@ -1,46 +1,26 @@
 -- What stands in a plant's file can be written there once more, since it was read from rows.
-use Rattle.std.proofs.Common.{◌≡◌, ◌∙◌, ◌+◌, ◌&&◌, ◌||◌, ◌==◌, ℕ, Bool}
-use Rattle.std.proofs.Common.{true, false, cond, is_none, List, [], ◌∷◌, ◌++◌, length}
+use Rattle.std.proofs.Common.{◌≡◌, ◌∙◌, ◌+◌, ◌&&◌, ◌||◌, ◌==◌, ℕ, Bool, true, false, cond, is_none, List, [], ◌∷◌, ◌++◌, length}
 use Rattle.std.proofs.Common.{Option, Some, None, IfSome, Result, Ok, Err, IfOk, refl, ap, subst, sym, arith}
-use Rattle.std.specs.List.{AllByRecursion, list_all, list_any}
-use Rattle.std.specs.Prelude.{nat_le, nat_lt}
-use Rattle.std.specs.Str.{bytes_eq, is_utf8}
-use Rattle.std.proofs.lemmas.Bool.{and_parts, eqb-true, ltb-true}
-use Rattle.std.proofs.lemmas.List.{length-append, length-map, map-append}
-use Rattle.title_land.specs.declared.survey.Township.{Township}
-use Rattle.title_land.specs.declared.tract.Land.{Land}
-use Rattle.title_land.specs.Survey.{same_township}
+use Rattle.std.specs.{List.{AllByRecursion, list_all, list_any}, Prelude.{nat_le, nat_lt}, Str.{bytes_eq, is_utf8}}
+use Rattle.std.proofs.lemmas.{Bool.{and_parts, eqb-true, ltb-true}, List.{length-append, length-map, map-append}}
+use Rattle.title_land.specs.{declared.{survey.Township.{Township}, tract.Land.{Land}}, Survey.{same_township}}
 use Rattle.title_aliquot.specs.declared.fault.DescFault.{DescFault}
 use Rattle.title_instrument.specs.declared.instrument.Instrument.{Instrument}
-use Rattle.title_chain.specs.declared.ask.Step.{Step}
-use Rattle.title_chain.specs.declared.ask.Terms.{Terms}
-use Rattle.title_chain.specs.declared.record.Record.{Record}
-use Rattle.title_chain.specs.Alone.{most_parties}
+use Rattle.title_chain.specs.{declared.{ask.{Step.{Step}, Terms.{Terms}}, record.Record.{Record}}, Alone.{most_parties}}
 use Rattle.title_trace.specs.Due.{most_steps, most_townships}
 use Rattle.title_journal.specs.Blocks.{blocks_in}
-use Rattle.title_plan.specs.declared.row.Act.{Act}
+use Rattle.title_plan.specs.{declared.row.{Act.{Act}, Row.{Row}}, Fields.{given, is_name}, Lands.{land_in}, Plans.{numbered}, Rows.{row_in}}
 use Rattle.title_plan.specs.declared.row.Act.TheVariants as act
-use Rattle.title_plan.specs.declared.row.Row.{Row}
 use Rattle.title_plan.specs.declared.row.Row.TheVariants as row
-use Rattle.title_plan.specs.Fields.{given, is_name}
-use Rattle.title_plan.specs.Lands.{land_in}
-use Rattle.title_plan.specs.Plans.{numbered}
-use Rattle.title_plan.specs.Rows.{row_in}
 use Rattle.title_standing.specs.Records.{posted_step}
-use Rattle.title_spelling.specs.Lands.{kept_land_in}
-use Rattle.title_spelling.specs.Posts.{IsExaminer, IsPost}
-use Rattle.title_spelling.specs.Rows.{are_names}
-use Rattle.title_daybook.specs.AddedLaws.{IsKept}
-use Rattle.title_daybook.specs.Files.{after_blocks, and_then, standing_after, standing_in, what_stands}
+use Rattle.title_spelling.specs.{Lands.{kept_land_in}, Posts.{IsExaminer, IsPost}, Rows.{are_names}}
+use Rattle.title_daybook.specs.{AddedLaws.{IsKept}, Files.{after_blocks, and_then, standing_after, standing_in, what_stands}}
 use Rattle.title_daybook.specs.KeptRows.{Progress, after_act, after_begin, after_kept_row, after_last_row, after_party, after_post}
-use Rattle.title_daybook.specs.KeptRows.{after_rows, after_said, between, commits}
-use Rattle.title_daybook.specs.KeptRows.{going_on, inside, is_end, posts}
-use Rattle.title_daybook.specs.KeptRows.{said_land, said_township, with_record, with_township}
-use Rattle.title_daybook.specs.Lines.{fields_in, lines_of, said_by}
+use Rattle.title_daybook.specs.KeptRows.{after_rows, after_said, between, commits, going_on, inside, is_end, posts}
+use Rattle.title_daybook.specs.{KeptRows.{said_land, said_township, with_record, with_township}, Lines.{fields_in, lines_of, said_by}}
 use Rattle.title_daybook.specs.Standing.{Standing, nothing_standing}
 use Rattle.title_lasting.proofs.FineRows.{IsFineAct, IsFinePost, IsSaid, LandsHaveCells, first_is_text, names_pushed, numbered_is}
-use Rattle.title_lasting.proofs.FineRows.{row_said as row_may_say, texts_pushed, where_true}
-use Rattle.title_lasting.proofs.FineScripts.{post_wider}
+use Rattle.title_lasting.proofs.{FineRows.{row_said as row_may_say, texts_pushed, where_true}, FineScripts.{post_wider}}
 use Rattle.title_lasting.proofs.FineTraces.{all_joined}
 
 -- the names are names, each of one party, and text; and the records can be written

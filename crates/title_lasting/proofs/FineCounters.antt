@@ -1,51 +1,34 @@
 -- What rows bring a counter to, on top of what stood: names that are names, and calls that can be written; and it goes on from what it was.
 -- Lists of calls have the newest first.
-use Rattle.std.proofs.Common.{◌≡◌, ◌∙◌, ◌&&◌, ◌||◌, ℕ, Bool, true, false, cond, List, [], ◌∷◌, ◌++◌, length}
+use Rattle.std.{proofs.Common.{◌≡◌, ◌∙◌, ◌&&◌, ◌||◌, ℕ, Bool, true, false, cond, List, [], ◌∷◌, ◌++◌, length}, specs.Prelude.{nat_le}}
 use Rattle.std.proofs.Common.{Option, Some, None, Result, Ok, Err, IfOk, ⊎_elim, inl, inr, refl, sym, ap, subst, append_assoc}
-use Rattle.std.specs.Prelude.{nat_le}
-use Rattle.std.specs.List.{AllByRecursion, list_all, list_any}
-use Rattle.std.specs.Str.{bytes_eq, is_utf8}
-use Rattle.std.proofs.lemmas.Bool.{and_parts, cases_Bool}
+use Rattle.std.{specs.{List.{AllByRecursion, list_all, list_any}, Str.{bytes_eq, is_utf8}}, proofs.lemmas.Bool.{and_parts, cases_Bool}}
 use Rattle.std.proofs.lemmas.List.{append-nil}
-use Rattle.title_land.specs.declared.survey.Township.{Township}
-use Rattle.title_land.specs.declared.tract.Land.{Land}
+use Rattle.title_land.specs.{declared.{survey.Township.{Township}, tract.Land.{Land}}, Survey.{same_township}}
 use Rattle.title_land.specs.declared.tract.Land.TheVariants as land
-use Rattle.title_land.specs.Survey.{same_township}
 use Rattle.title_aliquot.specs.declared.fault.DescFault.{DescFault}
 use Rattle.title_instrument.specs.declared.instrument.Instrument.{Instrument}
 use Rattle.title_chain.specs.Alone.{most_parties}
 use Rattle.title_chain.specs.declared.ask.Ask.TheVariants as ask
-use Rattle.title_trace.specs.declared.call.Call.{Call}
-use Rattle.title_trace.specs.declared.call.Request.{Request}
+use Rattle.title_trace.specs.{declared.call.{Call.{Call}, Request.{Request}}, Due.{most_townships}}
 use Rattle.title_trace.specs.declared.call.Request.TheVariants as request
-use Rattle.title_trace.specs.Due.{most_townships}
-use Rattle.title_plan.specs.declared.fault.ScriptFault.{ScriptFault}
+use Rattle.title_plan.specs.{declared.{fault.ScriptFault.{ScriptFault}, line.Line.{Line}, row.{Act.{Act}, Row.{Row}}}, Fields.{is_name}}
+use Rattle.title_plan.specs.{Lands.{land_in}, Limits.{most_rows}, Rows.{row_in}}
+use Rattle.title_plan.specs.Plans.{after_act, after_post, after_township, asked_of, line_of, numbered, post, rows_in, understood}
 use Rattle.title_plan.specs.declared.fault.ScriptFault.TheVariants as fault
-use Rattle.title_plan.specs.declared.line.Line.{Line}
 use Rattle.title_plan.specs.declared.line.Line.TheVariants as line
 use Rattle.title_plan.specs.declared.line.Schedule.TheVariants as schedule
-use Rattle.title_plan.specs.declared.row.Act.{Act}
 use Rattle.title_plan.specs.declared.row.Act.TheVariants as act
-use Rattle.title_plan.specs.declared.row.Row.{Row}
 use Rattle.title_plan.specs.declared.row.Row.TheVariants as row
-use Rattle.title_plan.specs.Fields.{is_name}
-use Rattle.title_plan.specs.Lands.{land_in}
-use Rattle.title_plan.specs.Limits.{most_rows}
-use Rattle.title_plan.specs.Plans.{after_act, after_post, after_township, asked_of, line_of, numbered, post, rows_in, understood}
-use Rattle.title_plan.specs.Rows.{row_in}
-use Rattle.title_spelling.specs.Posts.{IsExaminer}
-use Rattle.title_spelling.specs.Rows.{are_names}
+use Rattle.title_spelling.specs.{Posts.{IsExaminer}, Rows.{are_names}}
 use Rattle.title_standing.specs.Standing.{replayed}
 use Rattle.title_daybook.specs.Standing.{Standing}
 use Rattle.title_counter.specs.Counters.{Answered, Counter, asked_at, counted, due_answer, due_found, due_said, due_understood, or_fault}
 use Rattle.title_counter.specs.Counters.{party_answer, passed_over, served, setting_at, step_answer, township_answer, with_townships}
-use Rattle.title_counter.specs.Founds.{found_among, found_in, has_line_feed}
-use Rattle.title_counter.specs.Limits.{longest_line}
-use Rattle.title_counter.specs.Lines.{line_feed}
+use Rattle.title_counter.specs.{Founds.{found_among, found_in, has_line_feed}, Limits.{longest_line}, Lines.{line_feed}}
 use Rattle.title_counter.specs.Sessions.{Answers, MayAnswer}
-use Rattle.title_lasting.proofs.CallsMore.{CallsMore, further, line_more}
+use Rattle.title_lasting.proofs.{CallsMore.{CallsMore, further, line_more}, FineRows.{texts_pushed, where_true}}
 use Rattle.title_lasting.proofs.FineRows.{IsFineAct, IsFinePost, IsSaid, LandsHaveCells, names_pushed, numbered_is, row_said}
-use Rattle.title_lasting.proofs.FineRows.{texts_pushed, where_true}
 use Rattle.title_lasting.proofs.FineScripts.{FineAsk, FineStep, ask_wider, chain_asks, post_asks, sheet_asks, step_fine}
 use Rattle.title_lasting.proofs.FineTraces.{FineCall, FineRequest}
 

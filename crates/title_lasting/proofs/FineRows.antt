@@ -1,46 +1,28 @@
 -- What the rows of a script post: documents, shares and estates are within their limits.
 use Rattle.std.proofs.Common.{◌≡◌, ◌∙◌, ◌⊎◌, ◌≤◌, ◌<◌, ℕ, zero, suc, Bool, true, false, cond, List, [], ◌∷◌, refl, sym, ap, subst}
-use Rattle.std.proofs.Common.{Option, Some, None, arith, inl, inr, ⊎_elim, not, ◌&&◌, ◌||◌, ◌++◌, Result, Ok}
-use Rattle.std.proofs.lemmas.Bool.{and_from, and_parts, cases_Bool, cases_lt, leb-true, ltb-true, or_parts}
-use Rattle.std.proofs.lemmas.List.Folds.{list_all-append, list_any-append}
-use Rattle.std.proofs.lemmas.Slice.Eq.{bytes_eq-Decides}
-use Rattle.std.proofs.lemmas.List.Quantifiers.{position-Some}
-use Rattle.std.proofs.lemmas.Nat.{mul-le}
-use Rattle.std.proofs.lemmas.Str.{IsUtf8-from_ascii, IsUtf8-nil, is_utf8-from_IsUtf8}
+use Rattle.std.proofs.{Common.{Option, Some, None, arith, inl, inr, ⊎_elim, not, ◌&&◌, ◌||◌, ◌++◌, Result, Ok}, lemmas.Nat.{mul-le}}
+use Rattle.std.proofs.lemmas.{Bool.{and_from, and_parts, cases_Bool, cases_lt, leb-true, ltb-true, or_parts}, Slice.Eq.{bytes_eq-Decides}}
+use Rattle.std.proofs.lemmas.List.{Folds.{list_all-append, list_any-append}, Quantifiers.{position-Some}}
+use Rattle.std.{proofs.lemmas.Str.{IsUtf8-from_ascii, IsUtf8-nil, is_utf8-from_IsUtf8}, specs.Str.{IsAscii, bytes_eq, is_utf8}}
 use Rattle.std.specs.List.{AllByRecursion, find, list_all, list_any, slice_split}
 use Rattle.std.specs.Prelude.{◌==◌, codes, length, nat_le, nat_lt, option_map, slice_set}
-use Rattle.std.specs.Str.{IsAscii, bytes_eq, is_utf8}
-use Rattle.title_land.specs.Depth.{depth}
-use Rattle.title_land.specs.declared.tract.Land.{Land}
-use Rattle.title_land.specs.Lands.{IsLand}
+use Rattle.title_land.specs.{Depth.{depth}, declared.tract.Land.{Land}, Lands.{IsLand}}
 use Rattle.title_aliquot.specs.declared.fault.DescFault.{DescFault}
-use Rattle.title_share.specs.Rows.{whole_units}
-use Rattle.title_share.specs.Share.{IsFraction}
-use Rattle.title_share.specs.Texts.{number_in, share_in}
-use Rattle.title_share.specs.Laws.ShareLaws.{number_some}
+use Rattle.title_share.specs.{Rows.{whole_units}, Share.{IsFraction}, Texts.{number_in, share_in}, Laws.ShareLaws.{number_some}}
 use Rattle.title_share.specs.Laws.Texts.{numbers_read, shares_read}
-use Rattle.title_instrument.specs.declared.instrument.Instrument.{Instrument}
+use Rattle.title_instrument.specs.declared.{instrument.Instrument.{Instrument}, parts.Estate.{Estate, TheVariants.{S, O, M}}}
+use Rattle.title_instrument.specs.{declared.parts.{Estates.{Estates}, Quantum.{Quantum}}, Estates.{estates_text, names_none, estate_index}}
+use Rattle.title_instrument.specs.{Kinds.{kind_in}, Parties.{between, estates_of, grantee_of, grantor_of}}
 use Rattle.title_instrument.specs.declared.instrument.Instrument.TheVariants as i
-use Rattle.title_instrument.specs.declared.parts.Estate.{Estate}
-use Rattle.title_instrument.specs.declared.parts.Estate.TheVariants.{S, O, M}
-use Rattle.title_instrument.specs.declared.parts.Estates.{Estates}
-use Rattle.title_instrument.specs.declared.parts.Quantum.{Quantum}
 use Rattle.title_instrument.specs.declared.parts.Quantum.TheVariants as quantum
-use Rattle.title_instrument.specs.Estates.{estates_text, names_none, estate_index}
-use Rattle.title_instrument.specs.Kinds.{kind_in}
-use Rattle.title_instrument.specs.Parties.{between, estates_of, grantee_of, grantor_of}
-use Rattle.title_plan.specs.declared.row.Act.{Act}
-use Rattle.title_plan.specs.declared.row.Act.TheVariants as act
-use Rattle.title_plan.specs.declared.row.Row.{Row}
-use Rattle.title_plan.specs.declared.row.Row.TheVariants as row
+use Rattle.title_plan.specs.{declared.row.{Act.{Act}, Row.{Row}}, Fields.{is_name, is_semicolon}, Limits.{last_document, last_examiner}}
 use Rattle.title_plan.specs.Fields.{given, field, number_up_to, examiner_in, document_in, name_in, estates_in, named_sets, quantum_in}
-use Rattle.title_plan.specs.Fields.{is_name, is_semicolon}
 use Rattle.title_plan.specs.Fields.{estate_of, nothing_reserved, reserve_in, reserving, with_item, with_items}
-use Rattle.title_plan.specs.Limits.{last_document, last_examiner}
 use Rattle.title_plan.specs.Plans.{number_of, numbered}
 use Rattle.title_plan.specs.Rows.{act_in, deed_in, if_release, reading_in, release_in, row_in, warranty_of, word_in}
-use Rattle.title_spelling.specs.Lands.{has_a_cell}
-use Rattle.title_spelling.specs.Rows.{are_names, each_once}
+use Rattle.title_plan.specs.declared.row.Act.TheVariants as act
+use Rattle.title_plan.specs.declared.row.Row.TheVariants as row
+use Rattle.title_spelling.specs.{Lands.{has_a_cell}, Rows.{are_names, each_once}}
 use Rattle.title_spelling.specs.Posts.{HasShares, IsExaminer, IsQuantum, IsReserve, IsShare}
 
 -- ---- values that are there

@@ -1,52 +1,30 @@
 -- What a script posts on top of what stands can be written: its examiners, documents, shares and parties are such as a plant's file has,
 -- and the names are names, each of one party.
-use Rattle.std.proofs.Common.{◌≡◌, ◌+◌, ◌&&◌, ◌||◌, ◌==◌, ℕ, Bool, true, false, cond, List, [], ◌∷◌, ◌++◌, length}
-use Rattle.std.proofs.Common.{Option, Some, None, Result, Ok, Err, IfOk, refl, subst, arith, ◌≤◌, leb-false}
-use Rattle.std.specs.Prelude.{nat_le}
-use Rattle.std.specs.List.{AllByRecursion, list_all, list_any}
-use Rattle.std.specs.Str.{bytes_eq, is_utf8}
-use Rattle.std.proofs.lemmas.Bool.{and_parts}
-use Rattle.std.proofs.lemmas.List.{length-append}
-use Rattle.title_land.specs.Depth.{depth}
-use Rattle.title_land.specs.declared.tract.Land.{Land}
+use Rattle.std.{proofs.Common.{◌≡◌, ◌+◌, ◌&&◌, ◌||◌, ◌==◌, ℕ, Bool, true, false, cond, List, [], ◌∷◌, ◌++◌, length}, specs.Prelude.{nat_le}}
+use Rattle.std.proofs.{Common.{Option, Some, None, Result, Ok, Err, IfOk, refl, subst, arith, ◌≤◌, leb-false}, lemmas.Bool.{and_parts}}
+use Rattle.std.{specs.{List.{AllByRecursion, list_all, list_any}, Str.{bytes_eq, is_utf8}}, proofs.lemmas.List.{length-append}}
+use Rattle.title_land.specs.{Depth.{depth}, declared.tract.Land.{Land}, Lands.{IsLand}, Survey.{same_township}}
 use Rattle.title_land.specs.declared.tract.Land.TheVariants as land
-use Rattle.title_land.specs.Lands.{IsLand}
-use Rattle.title_land.specs.Survey.{same_township}
 use Rattle.title_aliquot.specs.declared.fault.DescFault.{DescFault}
 use Rattle.title_instrument.specs.declared.instrument.Instrument.{Instrument}
-use Rattle.title_chain.specs.Alone.{most_parties}
-use Rattle.title_chain.specs.declared.ask.Ask.{Ask}
+use Rattle.title_chain.specs.{Alone.{most_parties}, declared.ask.{Ask.{Ask}, Terms.{Terms}}}
 use Rattle.title_chain.specs.declared.ask.Ask.TheVariants as ask
-use Rattle.title_chain.specs.declared.ask.Terms.{Terms}
 use Rattle.title_trace.specs.Due.{most_townships}
 use Rattle.title_trace.specs.declared.call.Request.TheVariants as request
-use Rattle.title_plan.specs.declared.fault.ScriptFault.{ScriptFault}
-use Rattle.title_plan.specs.declared.fault.ScriptFault.TheVariants as fault
-use Rattle.title_plan.specs.declared.line.Line.{Line}
-use Rattle.title_plan.specs.declared.line.Line.TheVariants as line
-use Rattle.title_plan.specs.declared.line.Schedule.{Schedule}
-use Rattle.title_plan.specs.declared.line.Schedule.TheVariants as schedule
-use Rattle.title_plan.specs.declared.row.Act.{Act}
-use Rattle.title_plan.specs.declared.row.Act.TheVariants as act
-use Rattle.title_plan.specs.declared.row.Row.{Row}
-use Rattle.title_plan.specs.declared.row.Row.TheVariants as row
-use Rattle.title_plan.specs.Asked.{Asked}
-use Rattle.title_plan.specs.Fields.{is_name}
-use Rattle.title_plan.specs.Lands.{land_in}
-use Rattle.title_plan.specs.Limits.{most_rows}
+use Rattle.title_plan.specs.declared.{fault.ScriptFault.{ScriptFault}, line.{Line.{Line}, Schedule.{Schedule}}, row.{Act.{Act}, Row.{Row}}}
+use Rattle.title_plan.specs.{Asked.{Asked}, Fields.{is_name}, Lands.{land_in}, Limits.{most_rows}, Plans.{with_line, with_party}}
 use Rattle.title_plan.specs.Onto.{Before, after_row_onto, after_rows_onto, after_said_onto, after_understood_onto, asked_on}
-use Rattle.title_plan.specs.Onto.{is_party_of, is_township_of, script_onto}
+use Rattle.title_plan.specs.{Onto.{is_party_of, is_township_of, script_onto}, Rows.{row_in}}
 use Rattle.title_plan.specs.Plans.{after_act, after_asked, after_post, after_township, asked_of, going_on, is_beyond}
 use Rattle.title_plan.specs.Plans.{is_out_of_turn, line_of, numbered, post, rows_in, stands_alone, understood}
-use Rattle.title_plan.specs.Plans.{with_line, with_party}
-use Rattle.title_plan.specs.Rows.{row_in}
-use Rattle.title_spelling.specs.Lands.{has_a_cell}
-use Rattle.title_spelling.specs.Posts.{IsExaminer, IsPost}
-use Rattle.title_spelling.specs.Rows.{are_names}
-use Rattle.title_lasting.proofs.CallsMore.{FineLine}
-use Rattle.title_lasting.proofs.FineRows.{IsFineAct, IsFinePost, numbered_is}
+use Rattle.title_plan.specs.declared.fault.ScriptFault.TheVariants as fault
+use Rattle.title_plan.specs.declared.line.Line.TheVariants as line
+use Rattle.title_plan.specs.declared.line.Schedule.TheVariants as schedule
+use Rattle.title_plan.specs.declared.row.Act.TheVariants as act
+use Rattle.title_plan.specs.declared.row.Row.TheVariants as row
+use Rattle.title_spelling.specs.{Lands.{has_a_cell}, Posts.{IsExaminer, IsPost}, Rows.{are_names}}
+use Rattle.title_lasting.proofs.{CallsMore.{FineLine}, FineRows.{IsFineAct, IsFinePost, numbered_is}, FineTraces.{all_joined}}
 use Rattle.title_lasting.proofs.FineRows.{IsSaid, LandsHaveCells, names_pushed, row_said, texts_pushed, where_true}
-use Rattle.title_lasting.proofs.FineTraces.{all_joined}
 
 -- what is asked can be written, if it is a post
 abbrev pub FineAsk : List (List ℕ) → ℕ → Ask → Type 0

@@ -1,14 +1,9 @@
 -- Records that come to those that were committed. Lists have the newest first.
-use Rattle.std.proofs.Common.{◌≡◌, ◌∙◌, ℕ, List, [], ◌∷◌, ◌++◌, refl, sym, ap, append_assoc}
-use Rattle.std.specs.List.{AllByRecursion}
+use Rattle.std.{proofs.Common.{◌≡◌, ◌∙◌, ℕ, List, [], ◌∷◌, ◌++◌, refl, sym, ap, append_assoc}, specs.List.{AllByRecursion}}
 use Rattle.title_land.specs.declared.survey.Township.{Township}
-use Rattle.title_chain.specs.declared.record.Record.{Record}
-use Rattle.title_chain.specs.Alone.{IsSerial}
-use Rattle.title_chain.specs.Overlaps.{record_of}
-use Rattle.title_trace.specs.declared.call.Call.{Call}
-use Rattle.title_trace.specs.declared.call.Reply.{Reply}
+use Rattle.title_chain.specs.{declared.record.Record.{Record}, Alone.{IsSerial}, Overlaps.{record_of}}
+use Rattle.title_trace.specs.{declared.call.{Call.{Call}, Reply.{Reply}}, Trace.{committed, committed_by, examiner_of, open_steps}}
 use Rattle.title_trace.specs.declared.call.Reply.TheVariants as reply
-use Rattle.title_trace.specs.Trace.{committed, committed_by, examiner_of, open_steps}
 
 -- a reply commits a record, or none
 by_reply : (r : Reply) (x : Record) (records : List Record) → (news : List Record) × (committed_by r x records ≡ news ++ records)

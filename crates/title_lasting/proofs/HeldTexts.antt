@@ -1,7 +1,6 @@
 -- Answers that are held.
 use Rattle.std.proofs.Common.{◌≡◌, ◌∙◌, ◌++◌, ℕ, List, [], Some, ap, subst, sym}
-use Rattle.title_counter.specs.Counters.{Counter}
-use Rattle.title_counter.specs.Sessions.{Answers, PassedBatch}
+use Rattle.title_counter.specs.{Counters.{Counter}, Sessions.{Answers, PassedBatch}}
 
 -- what was passed on to an empty sink in memory are the answers
 pub held_text : (c d : Counter) (lines : List (List ℕ)) (before after : List ℕ) → before ≡ []

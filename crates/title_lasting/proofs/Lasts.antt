@@ -1,26 +1,17 @@
 -- How a run on a file that was opened comes out, and what it comes to for the file before its end was repaired.
-use Rattle.std.proofs.Common.{◌≡◌, ◌∙◌, ℕ, List, Bool, Option, Some, None, Result, Ok, refl, sym, ap, subst}
-use Rattle.std.proofs.Common.{inl, inr, ⊎_elim, ◌++◌}
+use Rattle.std.proofs.Common.{◌≡◌, ◌∙◌, ℕ, List, Bool, Option, Some, None, Result, Ok, refl, sym, ap, subst, inl, inr, ⊎_elim, ◌++◌}
 use Rattle.std.specs.Io.KnownBytes.{Keeps}
 use Rattle.title_land.specs.Depth.{depth}
-use Rattle.title_chain.specs.declared.record.Record.{Record}
-use Rattle.title_chain.specs.Alone.{IsSerial}
+use Rattle.title_chain.specs.{declared.record.Record.{Record}, Alone.{IsSerial}}
 use Rattle.title_trace.specs.Trace.{committed}
 use Rattle.title_journal.specs.Blocks.{blocks_in}
-use Rattle.title_plan.specs.declared.fault.ScriptFault.{ScriptFault}
-use Rattle.title_plan.specs.declared.line.Schedule.{Schedule}
-use Rattle.title_plan.specs.Onto.{script_onto}
-use Rattle.title_daybook.specs.Files.{IsPlant, standing_after, standing_in}
-use Rattle.title_daybook.specs.Standing.{Standing}
-use Rattle.title_lasting.specs.Days.{Day, IsBeforeOrAfter, declared_in, evening, stands_after}
-use Rattle.title_lasting.specs.Kept.{IsWithOrWithout, text_in, with_text}
+use Rattle.title_plan.specs.{declared.{fault.ScriptFault.{ScriptFault}, line.Schedule.{Schedule}}, Onto.{script_onto}}
+use Rattle.title_daybook.specs.{Files.{IsPlant, standing_after, standing_in}, Standing.{Standing}}
+use Rattle.title_lasting.specs.{Days.{Day, IsBeforeOrAfter, declared_in, evening, stands_after}, Kept.{IsWithOrWithout, text_in, with_text}}
 use Rattle.title_lasting.specs.Lastings.{Counts, IsCause, IsExpected, IsServed, IsUnsure, Leaves, Refuses, Stays}
-use Rattle.title_lasting.specs.Made.{Adds, IsAtFault, IsMade, IsUnmade}
-use Rattle.title_lasting.specs.Openings.{IsResting, StandsAs}
-use Rattle.title_lasting.specs.declared.fault.LastingFault.{LastingFault}
+use Rattle.title_lasting.specs.{Made.{Adds, IsAtFault, IsMade, IsUnmade}, Openings.{IsResting, StandsAs}, declared.serving.Made.{Made}}
+use Rattle.title_lasting.{specs.declared.fault.LastingFault.{LastingFault}, proofs.Plants.{one_stands}}
 use Rattle.title_lasting.specs.declared.fault.LastingFault.TheVariants as fault
-use Rattle.title_lasting.specs.declared.serving.Made.{Made}
-use Rattle.title_lasting.proofs.Plants.{one_stands}
 
 -- with its block, or with none, what stands after the day stands
 pub adds_stand : (block : Option (List ℕ)) (before after : Standing) → Adds block before after → (stood : Result (List (List ℕ)) ℕ)

@@ -1,26 +1,17 @@
 -- How a look ends: the file isn't read, another place was expected, or there was a look at what stood.
-use Rattle.std.proofs.Common.{◌≡◌, ◌≢◌, ℕ, List, Bool, true, Option, Some, Result, Ok, Err, inl, inr, ⊎_elim, subst, length}
-use Rattle.std.proofs.Common.{arith}
+use Rattle.std.proofs.Common.{◌≡◌, ◌≢◌, ℕ, List, Bool, true, Option, Some, Result, Ok, Err, inl, inr, ⊎_elim, subst, length, arith}
 use Rattle.std.specs.Io.KnownBytes.{Appends, IsAtEnd}
-use Rattle.title_disk.specs.Crashes.{Elapses, LeavesOnly}
-use Rattle.title_disk.specs.Laws.Moments.{goes_on, started}
+use Rattle.title_disk.specs.{Crashes.{Elapses, LeavesOnly}, Laws.Moments.{goes_on, started}}
 use Rattle.title_plan.specs.declared.fault.ScriptFault.{ScriptFault}
 use Rattle.title_plan.specs.declared.fault.ScriptFault.TheVariants as script_fault
 use Rattle.title_plan.specs.declared.line.Schedule.TheVariants as schedule
-use Rattle.title_script.specs.declared.told.Served.{Served}
-use Rattle.title_script.specs.Runs.{IsReadWithin}
-use Rattle.title_script.specs.Told.{served_text}
-use Rattle.title_daybook.specs.Files.{IsPlant}
-use Rattle.title_daybook.specs.Standing.{Standing}
-use Rattle.title_lasting.specs.Days.{declared_in}
-use Rattle.title_lasting.specs.Lastings.{Begins, IsExpected, Refuses}
+use Rattle.title_script.specs.{declared.told.Served.{Served}, Runs.{IsReadWithin}, Told.{served_text}}
+use Rattle.title_daybook.specs.{Files.{IsPlant}, Standing.{Standing}}
+use Rattle.title_lasting.specs.{Days.{declared_in}, Lastings.{Begins, IsExpected, Refuses}, Looks.{Looking, LooksAt, Sees, look_day}}
 use Rattle.title_lasting.specs.Looks.{IsLookCause, IsLookMade, IsLookStop, IsLookTold, IsLookUnread, LeavesLook, LeavesStanding}
-use Rattle.title_lasting.specs.Looks.{Looking, LooksAt, Sees, look_day}
-use Rattle.title_lasting.specs.Made.{IsAtFault}
-use Rattle.title_lasting.specs.Opened.{IsUnopened}
-use Rattle.title_lasting.specs.declared.fault.LastingFault.{LastingFault}
-use Rattle.title_lasting.specs.declared.fault.LastingFault.TheVariants as fault
+use Rattle.title_lasting.specs.{Made.{IsAtFault}, Opened.{IsUnopened}, declared.fault.LastingFault.{LastingFault}}
 use Rattle.title_lasting.proofs.Endings.{keeps_itself}
+use Rattle.title_lasting.specs.declared.fault.LastingFault.TheVariants as fault
 
 -- ---- a look at what stood
 

@@ -1,15 +1,9 @@
 -- Lines as what they count as at a look: served as a text they are these lines.
 use Rattle.std.proofs.Common.{◌≡◌, ◌∙◌, ◌==◌, ◌+◌, ◌++◌, ◌∷◌, ◌<◌, ◌≤◌, [], refl, sym, ap, inl, inr, ℕ, Bool, true, false, List}
-use Rattle.std.proofs.Common.{append_assoc, arith, codes, cond, get_or, length, length-append, map, nat_le, take}
-use Rattle.std.proofs.Common.{Result, Ok, Err, OnOk}
-use Rattle.std.proofs.lemmas.Bool.{cases_Bool, leb-true, ne_eqb, or_from, or_parts}
-use Rattle.std.proofs.lemmas.Bool.Decides.{nat_tests}
-use Rattle.std.proofs.lemmas.List.{append-nil, map-append, take_more}
-use Rattle.std.proofs.lemmas.List.Folds.{list_any-append}
-use Rattle.std.specs.Prelude.{is_some}
-use Rattle.std.specs.List.{AllByRecursion, list_any}
-use Rattle.title_counter.specs.Limits.{longest_line}
-use Rattle.title_counter.specs.Lines.{Lines, and_lines, last_line, line_feed, lines_from, with_byte}
+use Rattle.std.proofs.Common.{append_assoc, arith, codes, cond, get_or, length, length-append, map, nat_le, take, Result, Ok, Err, OnOk}
+use Rattle.std.proofs.lemmas.{Bool.{cases_Bool, leb-true, ne_eqb, or_from, or_parts, Decides.{nat_tests}}, List.Folds.{list_any-append}}
+use Rattle.std.{proofs.lemmas.List.{append-nil, map-append, take_more}, specs.{Prelude.{is_some}, List.{AllByRecursion, list_any}}}
+use Rattle.title_counter.specs.{Limits.{longest_line}, Lines.{Lines, and_lines, last_line, line_feed, lines_from, with_byte}}
 use Rattle.title_lasting.specs.LookRows.{IsStart, as_look, lines_text, nothing_said, other_in}
 use Rattle.title_lasting.proofs.DeskSittings.{joined_lines, lines_more, rest_more, whole_more}
 

@@ -1,31 +1,21 @@
 -- A script whose rows only look declares no township.
 use Rattle.std.proofs.Common.{◌≡◌, ◌∙◌, ◌+◌, ◌∷◌, ◌&&◌, [], refl, sym, ap, ℕ, zero, suc, Bool, true, false, List, cond, take, nat_le, arith}
-use Rattle.std.proofs.Common.{Option, Some, None, Result, Ok, Err}
-use Rattle.std.proofs.lemmas.Bool.{false≢true}
-use Rattle.std.proofs.lemmas.Bool.Decides.{nat_tests}
-use Rattle.std.specs.List.{list_all}
+use Rattle.std.{proofs.{Common.{Option, Some, None, Result, Ok, Err}, lemmas.Bool.{false≢true, Decides.{nat_tests}}}, specs.List.{list_all}}
 use Rattle.std.specs.Str.{is_utf8}
 use Rattle.title_land.specs.declared.survey.Township.{Township}
 use Rattle.title_aliquot.specs.declared.fault.DescFault.{DescFault}
 use Rattle.title_chain.specs.declared.ask.Ask.{Ask}
 use Rattle.title_chain.specs.declared.ask.Ask.TheVariants as ask
 use Rattle.title_trace.specs.declared.call.Request.TheVariants as request
-use Rattle.title_plan.specs.declared.fault.ScriptFault.{ScriptFault}
-use Rattle.title_plan.specs.declared.fault.ScriptFault.TheVariants as fault
-use Rattle.title_plan.specs.declared.line.Line.{Line}
-use Rattle.title_plan.specs.declared.line.Line.TheVariants as line
-use Rattle.title_plan.specs.declared.line.Schedule.TheVariants as schedule
-use Rattle.title_plan.specs.declared.row.Act.{Act}
-use Rattle.title_plan.specs.declared.row.Act.TheVariants as act
-use Rattle.title_plan.specs.declared.row.Row.{Row}
-use Rattle.title_plan.specs.declared.row.Row.TheVariants as row
-use Rattle.title_plan.specs.Asked.{Asked}
-use Rattle.title_plan.specs.Lands.{land_in}
-use Rattle.title_plan.specs.Limits.{most_rows}
+use Rattle.title_plan.specs.{declared.{fault.ScriptFault.{ScriptFault}, line.Line.{Line}, row.{Act.{Act}, Row.{Row}}}, Asked.{Asked}}
+use Rattle.title_plan.specs.{Lands.{land_in}, Limits.{most_rows}, Plans.{with_begun, with_ended, with_line}, Rows.{row_in}}
 use Rattle.title_plan.specs.Onto.{Before, after_row_onto, after_rows_onto, after_said_onto, after_understood_onto, asked_on, script_onto}
 use Rattle.title_plan.specs.Plans.{after_act, after_asked, asked_of, going_on, is_out_of_turn, line_of, rows_in, stands_alone}
-use Rattle.title_plan.specs.Plans.{with_begun, with_ended, with_line}
-use Rattle.title_plan.specs.Rows.{row_in}
+use Rattle.title_plan.specs.declared.fault.ScriptFault.TheVariants as fault
+use Rattle.title_plan.specs.declared.line.Line.TheVariants as line
+use Rattle.title_plan.specs.declared.line.Schedule.TheVariants as schedule
+use Rattle.title_plan.specs.declared.row.Act.TheVariants as act
+use Rattle.title_plan.specs.declared.row.Row.TheVariants as row
 use Rattle.title_lasting.specs.LookRows.{first_other, is_look, looks_if, only_looks, other_in, says_look}
 
 -- ---- a row

@@ -1,24 +1,16 @@
 -- A desk that only looks, from pull to pull.
 use Rattle.std.proofs.Common.{◌≡◌, ◌∙◌, ◌<◌, ◌+◌, ◌++◌, ◌⊎◌, [], refl, sym, ap, subst, inl, inr, ⊎_elim, ℕ, Bool, true, List, Option}
-use Rattle.std.proofs.Common.{IfSome, Err, append_assoc, length, length-append, map}
-use Rattle.std.specs.Io.KnownBytes.{Appends, Consumes, Keeps}
+use Rattle.std.{proofs.Common.{IfSome, Err, append_assoc, length, length-append, map}, specs.Io.KnownBytes.{Appends, Consumes, Keeps}}
 use Rattle.std.proofs.lemmas.List.{append-nil, map-append}
 use Rattle.csv.proofs.WriteFacts.{appends-more, appends-none}
-use Rattle.title_counter.specs.Counters.{Counter}
-use Rattle.title_counter.specs.Limits.{most_given}
-use Rattle.title_counter.specs.Lines.{all_lines, last_line, lines_from, lines_in}
+use Rattle.title_counter.specs.{Counters.{Counter}, Limits.{most_given}, Lines.{all_lines, last_line, lines_from, lines_in}}
 use Rattle.title_counter.specs.Sessions.{Answers, Ends, IsSound, LostBatch, PassedBatch}
-use Rattle.title_lasting.specs.Lastings.{Begins}
+use Rattle.title_lasting.specs.{Lastings.{Begins}, LookDesks.{IsLooksCause, IsUntoldLook, LeavesLooks}, LookRows.{IsStart, as_look}}
 use Rattle.title_lasting.specs.LookDesks.{BrokenLooks, EndedLooks, IsAnsweredLook, IsAtOnceLook, IsBegunLook, IsLookBatch, IsLookEnd}
-use Rattle.title_lasting.specs.LookDesks.{IsLooksCause, IsUntoldLook, LeavesLooks}
-use Rattle.title_lasting.specs.LookRows.{IsStart, as_look}
-use Rattle.title_lasting.specs.Sittings.{end_text}
-use Rattle.title_lasting.specs.declared.fault.LastingFault.{LastingFault}
-use Rattle.title_lasting.specs.declared.fault.LastingFault.TheVariants as fault
+use Rattle.title_lasting.{specs.{Sittings.{end_text}, declared.fault.LastingFault.{LastingFault}}, proofs.LookLines.{no_start, starts_on}}
 use Rattle.title_lasting.proofs.DeskSittings.{answers_then, appends_kept, consumes_kept, consumes_last, consumes_more, consumes_none}
-use Rattle.title_lasting.proofs.DeskSittings.{more_given, rest_more, whole_more}
-use Rattle.title_lasting.proofs.LookLines.{no_start, starts_on}
-use Rattle.title_lasting.proofs.RowsEnded.{begins_then}
+use Rattle.title_lasting.proofs.{DeskSittings.{more_given, rest_more, whole_more}, RowsEnded.{begins_then}}
+use Rattle.title_lasting.specs.declared.fault.LastingFault.TheVariants as fault
 
 -- ---- batches
 

@@ -4,37 +4,21 @@ use Rattle.std.proofs.Common.{length, reverse}
 use Rattle.title_land.specs.declared.survey.Township.{Township}
 use Rattle.title_store.specs.Plants.{Plant}
 use Rattle.title_chain.specs.declared.record.Record.{Record}
-use Rattle.title_trace.specs.declared.call.Call.{Call}
-use Rattle.title_trace.specs.Trace.{committed}
-use Rattle.title_trace.specs.Due.{Setting}
-use Rattle.title_desk.specs.Headline.{Headline}
-use Rattle.title_desk.specs.Told.{Books}
-use Rattle.title_device.specs.Limits.{most_bytes}
-use Rattle.title_device.specs.declared.fault.ReadFault.{ReadFault}
+use Rattle.title_trace.specs.{declared.call.Call.{Call}, Trace.{committed}, Due.{Setting}}
+use Rattle.title_desk.specs.{Headline.{Headline}, Told.{Books}}
+use Rattle.title_device.specs.{Limits.{most_bytes}, declared.fault.ReadFault.{ReadFault}}
 use Rattle.title_device.specs.declared.fault.ReadFault.TheVariants as reading
-use Rattle.title_plan.specs.Asked.{Asked}
-use Rattle.title_plan.specs.Onto.{Before, script_onto}
-use Rattle.title_plan.specs.declared.fault.ScriptFault.{ScriptFault}
+use Rattle.title_plan.specs.{Asked.{Asked}, Onto.{Before, script_onto}, declared.fault.ScriptFault.{ScriptFault}}
 use Rattle.title_plan.specs.declared.fault.ScriptFault.TheVariants as script_fault
 use Rattle.title_plan.specs.declared.line.Schedule.TheVariants as schedule
-use Rattle.title_script.specs.declared.told.Served.{Served}
-use Rattle.title_script.specs.ReportLaws.{after_lines}
-use Rattle.title_script.specs.Reports.{report_onto}
-use Rattle.title_script.specs.Told.{served_text}
+use Rattle.title_script.specs.{declared.told.Served.{Served}, ReportLaws.{after_lines}, Reports.{report_onto}, Told.{served_text}}
 use Rattle.title_standing.specs.StandingLaws.{ReplayedAreCommitted}
 use Rattle.title_daybook.specs.Standing.{Standing}
-use Rattle.title_lasting.specs.Days.{declared_in, evening, morning, report_on_day, setting_on}
-use Rattle.title_lasting.specs.Faults.{of_reading, of_script}
-use Rattle.title_lasting.specs.Lastings.{IsLeft}
-use Rattle.title_lasting.specs.Looks.{IsLookAsked, IsLookOn, IsLookServed, IsLookUnread, IsOtherText, look_day}
-use Rattle.title_lasting.specs.Made.{served_at}
-use Rattle.title_lasting.specs.Replays.{HasServed}
-use Rattle.title_lasting.specs.declared.fault.LastingFault.{LastingFault}
+use Rattle.title_lasting.specs.{Days.{declared_in, evening, morning, report_on_day, setting_on}, Faults.{of_reading, of_script}}
+use Rattle.title_lasting.specs.{Lastings.{IsLeft}, Looks.{IsLookAsked, IsLookOn, IsLookServed, IsLookUnread, IsOtherText, look_day}}
+use Rattle.title_lasting.specs.{Made.{served_at}, Replays.{HasServed}, declared.fault.LastingFault.{LastingFault}}
+use Rattle.title_lasting.proofs.{CallsMore.{steps_go_on}, DayServed.{at_same}, GoingOn.{commits_more}, LookScripts.{declares_none}}
 use Rattle.title_lasting.specs.declared.fault.LastingFault.TheVariants as fault
-use Rattle.title_lasting.proofs.CallsMore.{steps_go_on}
-use Rattle.title_lasting.proofs.DayServed.{at_same}
-use Rattle.title_lasting.proofs.GoingOn.{commits_more}
-use Rattle.title_lasting.proofs.LookScripts.{declares_none}
 
 -- ---- what was served
 

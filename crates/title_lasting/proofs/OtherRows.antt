@@ -1,15 +1,9 @@
 -- Rows that only look, and the first that doesn't.
-use Rattle.std.proofs.Common.{◌≡◌, ◌∙◌, ◌+◌, ◌∷◌, [], refl, ap, inl, inr, ℕ, zero, suc, Bool, true, false, List}
-use Rattle.std.proofs.Common.{Option, Some, None, cond, take, arith}
-use Rattle.std.proofs.lemmas.Bool.{cases_Bool}
-use Rattle.std.proofs.lemmas.Str.{IsUtf8-from_is_utf8, is_utf8-from_IsUtf8}
-use Rattle.std.proofs.lemmas.Bool.{and_parts}
-use Rattle.std.specs.List.{list_all}
-use Rattle.std.specs.Str.{is_utf8}
+use Rattle.std.proofs.{Common.{◌≡◌, ◌∙◌, ◌+◌, ◌∷◌, [], refl, ap, inl, inr, ℕ, zero, suc, Bool, true, false, List}, lemmas.Bool.{cases_Bool}}
+use Rattle.std.proofs.{Common.{Option, Some, None, cond, take, arith}, lemmas.Str.{IsUtf8-from_is_utf8, is_utf8-from_IsUtf8}}
+use Rattle.std.{proofs.lemmas.Bool.{and_parts}, specs.{List.{list_all}, Str.{is_utf8}}}
 use Rattle.csv.specs.Records.{AllText}
-use Rattle.title_plan.specs.Plans.{understood}
-use Rattle.title_plan.specs.Rows.{row_in}
-use Rattle.title_plan.specs.declared.row.Row.{Row}
+use Rattle.title_plan.specs.{Plans.{understood}, Rows.{row_in}, declared.row.Row.{Row}}
 use Rattle.title_lasting.specs.LookRows.{first_other, is_look}
 
 -- ---- fields that are text

@@ -1,15 +1,10 @@
 -- A file that is a plant is refused by no row.
 use Rattle.std.proofs.Common.{◌≡◌, ◌∙◌, ℕ, List, ◌++◌, Result, Ok, Err, sym, ap, subst, take, drop, reverse, ⊎_elim}
 use Rattle.std.proofs.lemmas.List.{reverse-append, reverse-reverse, take-append-drop}
-use Rattle.title_land.specs.Depth.{depth}
-use Rattle.title_land.specs.declared.survey.Township.{Township}
-use Rattle.title_chain.specs.declared.record.Record.{Record}
-use Rattle.title_chain.specs.Alone.{IsSerial}
-use Rattle.title_daybook.specs.Files.{row_of, standing_in}
-use Rattle.title_daybook.specs.Standing.{Standing}
-use Rattle.title_lasting.specs.DayLaws.{PlantsAreNotRefused}
-use Rattle.title_lasting.specs.Refusals.{IsFirstRefused, oldest}
-use Rattle.title_lasting.proofs.GoingOn.{earlier_serial}
+use Rattle.title_land.specs.{Depth.{depth}, declared.survey.Township.{Township}}
+use Rattle.title_chain.specs.{declared.record.Record.{Record}, Alone.{IsSerial}}
+use Rattle.title_daybook.specs.{Files.{row_of, standing_in}, Standing.{Standing}}
+use Rattle.title_lasting.{specs.{DayLaws.{PlantsAreNotRefused}, Refusals.{IsFirstRefused, oldest}}, proofs.GoingOn.{earlier_serial}}
 
 -- with those behind them the first so many are all
 all_of : (n : ℕ) (records : List Record) → records ≡ reverse (drop n (reverse records)) ++ oldest n records

@@ -1,13 +1,10 @@
 -- Records are read one by one from a text.
 use Rattle.std.proofs.Common.{◌≡◌, ◌<◌, ◌+◌, ◌++◌, ◌∷◌, ◌∙◌, [], refl, inl, inr, ℕ, zero, suc, List, None, Some, Bool, true, false}
-use Rattle.std.proofs.Common.{Bor, length, arith}
-use Rattle.std.proofs.lemmas.Bool.{cases_Bool}
-use Rattle.csv.specs.Machine.{Read, next_record, step, is_end, fields_after, field_after, ends_at_end}
-use Rattle.csv.specs.Reading.{Reached, ReadRecord, default_config, records_from, took_first}
-use Rattle.csv.specs.declared.parser.State.{State}
-use Rattle.csv.specs.declared.parser.State.TheVariants as st
-use Rattle.csv.specs.declared.reader.Reader.{Reader}
+use Rattle.std.proofs.{Common.{Bor, length, arith}, lemmas.Bool.{cases_Bool}}
+use Rattle.csv.specs.{Machine.{Read, next_record, step, is_end, fields_after, field_after, ends_at_end}, declared.parser.State.{State}}
+use Rattle.csv.specs.{Reading.{Reached, ReadRecord, default_config, records_from, took_first}, declared.reader.Reader.{Reader}}
 use Rattle.csv.proofs.ReadFacts.{rows-end, rows-more}
+use Rattle.csv.specs.declared.parser.State.TheVariants as st
 use Rattle.title_lasting.specs.Readers.{IsCounted, RowsLeft, TookRow}
 
 -- a record takes a byte or more, or ends the text

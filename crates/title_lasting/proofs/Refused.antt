@@ -1,19 +1,12 @@
 -- A replay that stops tells the first record that can't stand.
 use Rattle.std.proofs.Common.{◌≡◌, ◌≤◌, ◌-◌, ◌∙◌, ℕ, List, ◌++◌, Option, Some, sym, ap, subst, take, drop, reverse, length, arith}
 use Rattle.std.proofs.lemmas.List.{length-reverse, reverse-append, reverse-reverse, take-append-drop}
-use Rattle.title_land.specs.Depth.{depth}
-use Rattle.title_land.specs.declared.survey.Township.{Township}
-use Rattle.title_chain.specs.declared.record.Record.{Record}
-use Rattle.title_chain.specs.Alone.{IsSerial}
-use Rattle.title_trace.specs.declared.call.Call.{Call}
-use Rattle.title_trace.specs.Trace.{committed}
-use Rattle.title_trace.specs.Due.{Setting, most_steps}
+use Rattle.title_land.specs.{Depth.{depth}, declared.survey.Township.{Township}}
+use Rattle.title_chain.specs.{declared.record.Record.{Record}, Alone.{IsSerial}}
+use Rattle.title_trace.specs.{declared.call.Call.{Call}, Trace.{committed}, Due.{Setting, most_steps}}
 use Rattle.title_desk.specs.Told.{Books}
-use Rattle.title_standing.specs.Replays.{ToldReplay}
-use Rattle.title_standing.specs.Standing.{replayed}
-use Rattle.title_standing.specs.StandingLaws.{ReplayedAreCommitted, SerialAreServed, widest}
-use Rattle.title_lasting.specs.Refusals.{IsFirstRefused, oldest}
-use Rattle.title_lasting.specs.Replays.{AreShort}
+use Rattle.title_standing.specs.{Replays.{ToldReplay}, Standing.{replayed}, StandingLaws.{ReplayedAreCommitted, SerialAreServed, widest}}
+use Rattle.title_lasting.specs.{Refusals.{IsFirstRefused, oldest}, Replays.{AreShort}}
 use Rattle.title_lasting.proofs.GoingOn.{all_earlier, commits_more, earlier_serial}
 
 -- the first so many of some records, the oldest first

@@ -1,17 +1,12 @@
 -- How a desk's rows end: the last line's batch isn't told, or the last row isn't written; or all is written.
 use Rattle.std.proofs.Common.{◌≡◌, ◌∙◌, ◌++◌, ℕ, Bool, true, false, List, Option, Ok, Err, ap, sym, subst, inl, inr, append_assoc}
-use Rattle.std.proofs.Common.{drop, length, take}
-use Rattle.std.specs.Io.KnownBytes.{Appends}
-use Rattle.std.proofs.lemmas.List.{take-append-drop}
+use Rattle.std.{proofs.{Common.{drop, length, take}, lemmas.List.{take-append-drop}}, specs.Io.KnownBytes.{Appends}}
 use Rattle.std.proofs.Math.Seq.{take-append_seam}
 use Rattle.csv.proofs.WriteFacts.{appends-more}
-use Rattle.title_counter.specs.Counters.{Counter}
-use Rattle.title_counter.specs.Sessions.{Answers, Ends, IsSound}
-use Rattle.title_lasting.specs.Lastings.{Begins}
-use Rattle.title_lasting.specs.Sittings.{HasAtEither, IsBatch, IsEnded, IsUpTo, end_text}
+use Rattle.title_counter.specs.{Counters.{Counter}, Sessions.{Answers, Ends, IsSound}}
+use Rattle.title_lasting.specs.{Lastings.{Begins}, Sittings.{HasAtEither, IsBatch, IsEnded, IsUpTo, end_text}, declared.mark.Mark.{Mark}}
 use Rattle.title_lasting.specs.declared.fault.LastingFault.{LastingFault}
 use Rattle.title_lasting.specs.declared.fault.LastingFault.TheVariants as fault
-use Rattle.title_lasting.specs.declared.mark.Mark.{Mark}
 
 -- a beginning of a text behind another that was written whole
 pub begins_then : (a b d : Option (List ℕ)) (t u : List ℕ) → Appends a b t → Begins b d u → Begins a d (t ++ u)

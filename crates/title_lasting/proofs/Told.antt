@@ -1,13 +1,9 @@
 -- What stands, told in numbers: rows in turn through a page, and the page given to the sink at the end.
-use Rattle.std.proofs.Common.{◌≡◌, ◌∙◌, ℕ, List, [], ◌∷◌, Option, sym, subst}
-use Rattle.std.proofs.Common.{length, map, reverse}
+use Rattle.std.proofs.Common.{◌≡◌, ◌∙◌, ℕ, List, [], ◌∷◌, Option, sym, subst, length, map, reverse}
 use Rattle.std.proofs.lemmas.List.{append-nil, length-map, length-reverse}
-use Rattle.title_page.specs.Pages.{Stopped, Written}
-use Rattle.title_page.specs.Rows.{rows_text}
-use Rattle.title_page.specs.Laws.InTurn.{part_given, stopped_as, stopped_then}
+use Rattle.title_page.specs.{Pages.{Stopped, Written}, Rows.{rows_text}, Laws.InTurn.{part_given, stopped_as, stopped_then}}
 use Rattle.title_page.specs.Laws.Rows.{rows_stopped_before, rows_stopped_then, rows_then}
-use Rattle.title_lasting.specs.Lastings.{Begins}
-use Rattle.title_lasting.specs.Tells.{count_row}
+use Rattle.title_lasting.specs.{Lastings.{Begins}, Tells.{count_row}}
 
 -- ---- rows of a word and a number
 

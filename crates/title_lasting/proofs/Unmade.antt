@@ -1,11 +1,8 @@
 -- Why no day is made of what stood.
-use Rattle.std.proofs.Common.{◌≡◌, ℕ, List, Bool, Option, Result, Ok, Err, IfErr, sym, subst}
-use Rattle.std.specs.Result.{IsErrAnd}
-use Rattle.title_plan.specs.declared.line.Schedule.{Schedule}
-use Rattle.title_plan.specs.Asked.{Asked}
+use Rattle.std.{proofs.Common.{◌≡◌, ℕ, List, Bool, Option, Result, Ok, Err, IfErr, sym, subst}, specs.Result.{IsErrAnd}}
+use Rattle.title_plan.specs.{declared.line.Schedule.{Schedule}, Asked.{Asked}}
 use Rattle.title_daybook.specs.Standing.{Standing}
-use Rattle.title_lasting.specs.Days.{declared_in}
-use Rattle.title_lasting.specs.Made.{IsAsked, IsUnjoined, IsUnmade, IsUnread}
+use Rattle.title_lasting.specs.{Days.{declared_in}, Made.{IsAsked, IsUnjoined, IsUnmade, IsUnread}}
 use Rattle.title_lasting.specs.declared.fault.LastingFault.{LastingFault}
 use Rattle.title_lasting.specs.declared.fault.LastingFault.TheVariants as fault
 

@@ -1,20 +1,13 @@
 -- Laws of days. Traces have the newest call first.
-use Rattle.std.specs.Prelude.{◌≡◌, ◌≤◌, ℕ, List, true, length, Ok}
-use Rattle.std.specs.List.{list_all}
-use Rattle.std.specs.Str.{is_utf8}
+use Rattle.std.specs.{Prelude.{◌≡◌, ◌≤◌, ℕ, List, true, length, Ok}, List.{list_all}, Str.{is_utf8}}
 use Rattle.title_chain.specs.Alone.{most_parties}
 use Rattle.title_trace.specs.declared.call.Call.{Call}
-use Rattle.title_plan.specs.declared.line.Schedule.{Schedule}
-use Rattle.title_plan.specs.Asked.{Asked}
-use Rattle.title_plan.specs.Onto.{Before, script_onto}
+use Rattle.title_plan.specs.{declared.line.Schedule.{Schedule}, Asked.{Asked}, Onto.{Before, script_onto}}
 use Rattle.title_standing.specs.StandingLaws.{widest}
-use Rattle.title_script.specs.ReportLaws.{after_lines}
-use Rattle.title_script.specs.Reports.{report_of, report_onto, setting_of}
+use Rattle.title_script.specs.{ReportLaws.{after_lines}, Reports.{report_of, report_onto, setting_of}}
 use Rattle.title_spelling.specs.Rows.{are_names}
-use Rattle.title_daybook.specs.Files.{IsPlant}
-use Rattle.title_daybook.specs.Standing.{Standing, nothing_standing}
-use Rattle.title_lasting.specs.Days.{Day, IsDay, report_on_day}
-use Rattle.title_lasting.specs.Openings.{IsNoPlant}
+use Rattle.title_daybook.specs.{Files.{IsPlant}, Standing.{Standing, nothing_standing}}
+use Rattle.title_lasting.specs.{Days.{Day, IsDay, report_on_day}, Openings.{IsNoPlant}}
 
 -- Among parties whose names are names and text, each of one party, a script posts between parties that are declared. So at a desk with
 -- room for the most parties it has the report, and leaves the trace, that it has at one for the declared ones alone.

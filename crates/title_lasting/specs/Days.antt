@@ -2,18 +2,11 @@
 use Rattle.std.specs.Prelude.{◌≡◌, ◌⊎◌, ℕ, List, map, Ok}
 use Rattle.title_land.specs.Depth.{depth}
 use Rattle.title_chain.specs.Alone.{IsSerial}
-use Rattle.title_trace.specs.declared.call.Call.{Call}
-use Rattle.title_trace.specs.Trace.{committed}
-use Rattle.title_trace.specs.Due.{Setting}
-use Rattle.title_plan.specs.declared.line.Schedule.{Schedule}
-use Rattle.title_plan.specs.Asked.{Asked}
-use Rattle.title_plan.specs.Onto.{Before, script_onto}
-use Rattle.title_standing.specs.Standing.{kept, replayed}
-use Rattle.title_standing.specs.StandingLaws.{widest}
-use Rattle.title_script.specs.ReportLaws.{after_lines}
-use Rattle.title_script.specs.Reports.{report_onto}
-use Rattle.title_daybook.specs.Files.{IsPlant}
-use Rattle.title_daybook.specs.Standing.{Standing}
+use Rattle.title_trace.specs.{declared.call.Call.{Call}, Trace.{committed}, Due.{Setting}}
+use Rattle.title_plan.specs.{declared.line.Schedule.{Schedule}, Asked.{Asked}, Onto.{Before, script_onto}}
+use Rattle.title_standing.specs.{Standing.{kept, replayed}, StandingLaws.{widest}}
+use Rattle.title_script.specs.{ReportLaws.{after_lines}, Reports.{report_onto}}
+use Rattle.title_daybook.specs.{Files.{IsPlant}, Standing.{Standing}}
 
 -- what stood before, and what is asked on top of it
 pub record Day : Type 0 where

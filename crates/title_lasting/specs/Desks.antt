@@ -1,21 +1,14 @@
 -- What a desk does whose rows come by and by on top of a plant's file, as a whole. The file is seen by its bytes, before and after; by
 -- what a crash may leave of it after; and by what a crash at any moment of the run leaves.
-use Rattle.std.specs.Prelude.{◌≡◌, ◌⊎◌, ◌<◌, ◌++◌, ℕ, List, Bool, true}
-use Rattle.std.specs.Prelude.{Option, IfSome, Result, IfErr, OnOk, length, take}
+use Rattle.std.specs.Prelude.{◌≡◌, ◌⊎◌, ◌<◌, ◌++◌, ℕ, List, Bool, true, Option, IfSome, Result, IfErr, OnOk, length, take}
 use Rattle.std.specs.Io.KnownBytes.{Appends, Consumes, IsAtEnd, Keeps}
 use Rattle.title_chain.specs.declared.record.Record.{Record}
 use Rattle.title_trace.specs.Trace.{committed}
 use Rattle.title_disk.specs.Crashes.{Only}
-use Rattle.title_daybook.specs.Files.{IsPlant}
-use Rattle.title_daybook.specs.Standing.{Standing}
-use Rattle.title_counter.specs.Counters.{Counter}
-use Rattle.title_counter.specs.Limits.{most_given}
-use Rattle.title_counter.specs.Lines.{all_lines, lines_in}
-use Rattle.title_counter.specs.Sessions.{Answers, Ends, IsSound}
-use Rattle.title_lasting.specs.Lastings.{Stays}
-use Rattle.title_lasting.specs.Openings.{IsNoPlant, StandsAs}
+use Rattle.title_daybook.specs.{Files.{IsPlant}, Standing.{Standing}}
+use Rattle.title_counter.specs.{Counters.{Counter}, Limits.{most_given}, Lines.{all_lines, lines_in}, Sessions.{Answers, Ends, IsSound}}
+use Rattle.title_lasting.specs.{Lastings.{Stays}, Openings.{IsNoPlant, StandsAs}, declared.fault.LastingFault.{LastingFault}}
 use Rattle.title_lasting.specs.Sittings.{HasAt, HasAtEither, HasPart, end_text, opening_on}
-use Rattle.title_lasting.specs.declared.fault.LastingFault.{LastingFault}
 use Rattle.title_lasting.specs.declared.fault.LastingFault.TheVariants as fault
 
 -- Lines were served on top of what stood, and answered by this text. At each moment a crash left a file that has what the first so many

@@ -3,16 +3,14 @@ use Rattle.title_daybook.specs.declared.fault.PlantFault.{PlantFault}
 use Rattle.title_daybook.specs.declared.fault.PlantFault.TheVariants as plant
 use Rattle.title_device.specs.declared.fault.ReadFault.{ReadFault}
 use Rattle.title_device.specs.declared.fault.ReadFault.TheVariants as reading
-use Rattle.title_journal.specs.declared.fault.JournalFault.{JournalFault}
+use Rattle.title_journal.specs.declared.fault.{JournalFault.{JournalFault}, PutFault.{PutFault}}
 use Rattle.title_journal.specs.declared.fault.JournalFault.TheVariants as journal
-use Rattle.title_journal.specs.declared.fault.PutFault.{PutFault}
 use Rattle.title_journal.specs.declared.fault.PutFault.TheVariants as put
 use Rattle.title_plan.specs.declared.fault.ScriptFault.{ScriptFault}
 use Rattle.title_plan.specs.declared.fault.ScriptFault.TheVariants as script
-use Rattle.title_lasting.specs.declared.checking.TellFault.{TellFault}
-use Rattle.title_lasting.specs.declared.checking.TellFault.TheVariants as tell
-use Rattle.title_lasting.specs.declared.fault.LastingFault.{LastingFault}
+use Rattle.title_lasting.specs.declared.{checking.TellFault.{TellFault}, fault.LastingFault.{LastingFault}}
 use Rattle.title_lasting.specs.declared.fault.LastingFault.TheVariants.{Disk, Memory, NotAPlant, Order, Party, Read, Row, Unsure}
+use Rattle.title_lasting.specs.declared.checking.TellFault.TheVariants as tell
 
 -- the blocks of the file aren't read
 abbrev pub of_journal : JournalFault → LastingFault

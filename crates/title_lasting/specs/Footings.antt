@@ -1,34 +1,17 @@
 -- Days that are made elsewhere, on top of what stood in a plant's file. A list of what stood has the newest record first; the records of
 -- a day have the oldest first.
-use Rattle.std.specs.Prelude.{◌≡◌, ◌≤◌, ◌<◌, ◌++◌, ℕ, List, true, false, Option, None, Ok, length, map, reverse}
-use Rattle.std.specs.List.{AllByRecursion}
-use Rattle.title_land.specs.Depth.{depth}
-use Rattle.title_land.specs.Lands.{IsLand}
-use Rattle.title_instrument.specs.Estates.{names_none}
-use Rattle.title_instrument.specs.Parties.{estates_of, grantee_of, grantor_of}
-use Rattle.title_chain.specs.declared.ask.Ask.{Ask}
+use Rattle.std.specs.{Prelude.{◌≡◌, ◌≤◌, ◌<◌, ◌++◌, ℕ, List, true, false, Option, None, Ok, length, map, reverse}, List.{AllByRecursion}}
+use Rattle.title_land.specs.{Depth.{depth}, Lands.{IsLand}}
+use Rattle.title_instrument.specs.{Estates.{names_none}, Parties.{estates_of, grantee_of, grantor_of}}
+use Rattle.title_chain.specs.{declared.{ask.{Ask.{Ask}, Terms.{Terms}}, record.Record.{Record}}, Alone.{most_parties}}
 use Rattle.title_chain.specs.declared.ask.Ask.TheVariants as ask
-use Rattle.title_chain.specs.declared.ask.Terms.{Terms}
-use Rattle.title_chain.specs.declared.record.Record.{Record}
-use Rattle.title_chain.specs.Alone.{most_parties}
-use Rattle.title_trace.specs.declared.call.Call.{Call}
-use Rattle.title_trace.specs.Trace.{committed}
-use Rattle.title_trace.specs.Due.{IsDue, MayOpen, Setting, most_townships}
-use Rattle.title_plan.specs.Asked.{Asked, asked_in}
-use Rattle.title_plan.specs.Limits.{last_document}
-use Rattle.title_plan.specs.Onto.{script_onto}
-use Rattle.title_plan.specs.Townships.{each_once}
+use Rattle.title_trace.specs.{declared.call.Call.{Call}, Trace.{committed}, Due.{IsDue, MayOpen, Setting, most_townships}}
+use Rattle.title_plan.specs.{Asked.{Asked, asked_in}, Limits.{last_document}, Onto.{script_onto}, Townships.{each_once}}
 use Rattle.title_plan.specs.declared.line.Schedule.{Schedule}
 use Rattle.title_standing.specs.Standing.{kept}
-use Rattle.title_spelling.specs.Lands.{has_a_cell}
-use Rattle.title_spelling.specs.Posts.{HasShares, IsExaminer}
-use Rattle.title_daybook.specs.Files.{standing_in}
-use Rattle.title_daybook.specs.Standing.{Standing}
-use Rattle.title_daybook.specs.declared.writing.Stood.{Stood}
-use Rattle.title_lasting.specs.Days.{declared_in}
-use Rattle.title_lasting.specs.Made.{Adds, IsAsked}
-use Rattle.title_lasting.specs.Replays.{HasServed}
-use Rattle.title_lasting.specs.declared.footing.Footing.{Footing}
+use Rattle.title_spelling.specs.{Lands.{has_a_cell}, Posts.{HasShares, IsExaminer}}
+use Rattle.title_daybook.specs.{Files.{standing_in}, Standing.{Standing}, declared.writing.Stood.{Stood}}
+use Rattle.title_lasting.specs.{Days.{declared_in}, Made.{Adds, IsAsked}, Replays.{HasServed}, declared.footing.Footing.{Footing}}
 
 -- ---- what a day goes on from
 

@@ -1,8 +1,6 @@
 -- What a block makes of a file, where there is one.
-use Rattle.std.specs.Prelude.{◌≡◌, ◌⊎◌, ℕ, List, Option, Some, None, Result, option_map}
-use Rattle.std.specs.Global.{Vec}
-use Rattle.title_journal.specs.Blocks.{blocks_in}
-use Rattle.title_journal.specs.Rest.{with_block}
+use Rattle.std.specs.{Prelude.{◌≡◌, ◌⊎◌, ℕ, List, Option, Some, None, Result, option_map}, Global.{Vec}}
+use Rattle.title_journal.specs.{Blocks.{blocks_in}, Rest.{with_block}}
 
 -- the bytes of a block, where there is one
 abbrev pub text_in : Option (Vec ℕ) → Option (List ℕ)

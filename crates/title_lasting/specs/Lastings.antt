@@ -1,25 +1,19 @@
 -- What a run of a script on top of a plant's file does, as a whole. A file is seen by its bytes, before and after; by what a crash may
 -- leave of it after; and by what a crash at any moment of the run leaves.
-use Rattle.std.specs.Prelude.{◌≡◌, ◌≢◌, ◌⊎◌, ◌<◌, ◌++◌, ℕ, List, Bool, true}
+use Rattle.std.specs.{Prelude.{◌≡◌, ◌≢◌, ◌⊎◌, ◌<◌, ◌++◌, ℕ, List, Bool, true}, Io.KnownBytes.{Appends, IsAtEnd, Keeps}}
 use Rattle.std.specs.Prelude.{Option, Some, IfSome, Result, Ok, Err, IfErr, OnOk, length, take}
-use Rattle.std.specs.Io.KnownBytes.{Appends, IsAtEnd, Keeps}
 use Rattle.title_chain.specs.declared.record.Record.{Record}
 use Rattle.title_device.specs.Limits.{most_bytes}
 use Rattle.title_disk.specs.Crashes.{Only}
 use Rattle.title_store.specs.Plants.{Plant}
 use Rattle.title_trace.specs.Trace.{committed}
 use Rattle.title_desk.specs.Headline.{Headline}
-use Rattle.title_plan.specs.Asked.{Asked}
-use Rattle.title_plan.specs.declared.fault.ScriptFault.{ScriptFault}
+use Rattle.title_plan.specs.{Asked.{Asked}, declared.{fault.ScriptFault.{ScriptFault}, line.Schedule.{Schedule}}, Onto.{script_onto}}
 use Rattle.title_plan.specs.declared.fault.ScriptFault.TheVariants as script_fault
-use Rattle.title_plan.specs.declared.line.Schedule.{Schedule}
-use Rattle.title_plan.specs.Onto.{script_onto}
 use Rattle.title_script.specs.Runs.{IsReadWithin}
-use Rattle.title_daybook.specs.Files.{IsPlant}
-use Rattle.title_daybook.specs.Standing.{Standing}
+use Rattle.title_daybook.specs.{Files.{IsPlant}, Standing.{Standing}}
 use Rattle.title_lasting.specs.Days.{Day, IsBeforeOrAfter, IsDay, declared_in, evening, report_on_day, setting_on, stands_after}
-use Rattle.title_lasting.specs.Openings.{IsNoPlant, IsResting, StandsAs}
-use Rattle.title_lasting.specs.Refusals.{IsFirstRefused}
+use Rattle.title_lasting.specs.{Openings.{IsNoPlant, IsResting, StandsAs}, Refusals.{IsFirstRefused}}
 use Rattle.title_lasting.specs.declared.fault.LastingFault.{LastingFault}
 use Rattle.title_lasting.specs.declared.fault.LastingFault.TheVariants as fault
 

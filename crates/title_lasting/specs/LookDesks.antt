@@ -1,16 +1,10 @@
 -- What a desk does that only looks, on top of a plant's file: each line is answered as what it counts as at a look.
 use Rattle.std.specs.Prelude.{◌≡◌, ◌⊎◌, ◌<◌, ◌++◌, ℕ, List, [], Bool, true, false, Option, IfSome, Result, Ok, Err, IfErr, OnOk}
-use Rattle.std.specs.Prelude.{length, map, take}
-use Rattle.std.specs.Io.KnownBytes.{Appends, Consumes, IsAtEnd, Keeps}
-use Rattle.title_daybook.specs.Files.{IsPlant}
-use Rattle.title_daybook.specs.Standing.{Standing}
-use Rattle.title_counter.specs.Counters.{Counter}
-use Rattle.title_counter.specs.Limits.{most_given}
-use Rattle.title_counter.specs.Lines.{all_lines, lines_in}
+use Rattle.std.specs.{Prelude.{length, map, take}, Io.KnownBytes.{Appends, Consumes, IsAtEnd, Keeps}}
+use Rattle.title_daybook.specs.{Files.{IsPlant}, Standing.{Standing}}
+use Rattle.title_counter.specs.{Counters.{Counter}, Limits.{most_given}, Lines.{all_lines, lines_in}}
 use Rattle.title_counter.specs.Sessions.{Answers, Ends, IsSound, LostBatch, PassedBatch}
-use Rattle.title_lasting.specs.Desks.{IsDeskCause}
-use Rattle.title_lasting.specs.LookRows.{as_look}
-use Rattle.title_lasting.specs.Sittings.{end_text, opening_on}
+use Rattle.title_lasting.specs.{Desks.{IsDeskCause}, LookRows.{as_look}, Sittings.{end_text, opening_on}}
 use Rattle.title_lasting.specs.declared.fault.LastingFault.{LastingFault}
 use Rattle.title_lasting.specs.declared.fault.LastingFault.TheVariants as fault
 

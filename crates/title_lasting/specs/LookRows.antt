@@ -1,15 +1,10 @@
 -- Rows that only look: at a look nothing is declared, posted or committed.
 use Rattle.std.specs.Prelude.{◌≡◌, ◌≤◌, ◌==◌, ℕ, ◌+◌, cond, length, Bool, true, false, List, [], ◌∷◌, ◌++◌, Option, Some, None, codes}
-use Rattle.std.specs.Prelude.{is_some, take}
-use Rattle.std.specs.List.{flat_map, list_any}
-use Rattle.title_plan.specs.declared.row.Act.{Act}
+use Rattle.std.specs.{Prelude.{is_some, take}, List.{flat_map, list_any}}
+use Rattle.title_plan.specs.{declared.row.{Act.{Act}, Row.{Row}}, Limits.{most_rows}, Plans.{rows_in, understood}}
 use Rattle.title_plan.specs.declared.row.Act.TheVariants as act
-use Rattle.title_plan.specs.declared.row.Row.{Row}
 use Rattle.title_plan.specs.declared.row.Row.TheVariants as row
-use Rattle.title_plan.specs.Limits.{most_rows}
-use Rattle.title_plan.specs.Plans.{rows_in, understood}
-use Rattle.title_counter.specs.Limits.{longest_line}
-use Rattle.title_counter.specs.Lines.{line_feed}
+use Rattle.title_counter.specs.{Limits.{longest_line}, Lines.{line_feed}}
 
 -- what an examiner does only looks
 abbrev pub only_looks : Act (List ℕ) → Bool

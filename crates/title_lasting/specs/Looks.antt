@@ -4,26 +4,17 @@ use Rattle.std.specs.Prelude.{◌≡◌, ◌⊎◌, ◌++◌, ℕ, List, Bool, t
 use Rattle.std.specs.Io.KnownBytes.{Appends, IsAtEnd, Keeps}
 use Rattle.title_land.specs.Depth.{depth}
 use Rattle.title_store.specs.Plants.{Plant}
-use Rattle.title_chain.specs.declared.record.Record.{Record}
-use Rattle.title_chain.specs.Alone.{IsSerial}
+use Rattle.title_chain.specs.{declared.record.Record.{Record}, Alone.{IsSerial}}
 use Rattle.title_trace.specs.Trace.{committed}
-use Rattle.title_desk.specs.Headline.{Headline}
-use Rattle.title_desk.specs.Told.{Books}
-use Rattle.title_plan.specs.Asked.{Asked}
+use Rattle.title_desk.specs.{Headline.{Headline}, Told.{Books}}
+use Rattle.title_plan.specs.{Asked.{Asked}, Onto.{Before}}
 use Rattle.title_plan.specs.declared.fault.ScriptFault.TheVariants as script_fault
 use Rattle.title_plan.specs.declared.line.Schedule.TheVariants as schedule
-use Rattle.title_plan.specs.Onto.{Before}
-use Rattle.title_script.specs.declared.told.Served.{Served}
-use Rattle.title_script.specs.Reports.{report_onto}
-use Rattle.title_script.specs.Runs.{IsReadWithin}
-use Rattle.title_script.specs.Told.{served_text}
-use Rattle.title_daybook.specs.Files.{IsPlant}
-use Rattle.title_daybook.specs.Standing.{Standing}
-use Rattle.title_lasting.specs.Days.{Day, declared_in, evening, report_on_day, setting_on}
+use Rattle.title_script.specs.{declared.told.Served.{Served}, Reports.{report_onto}, Runs.{IsReadWithin}, Told.{served_text}}
+use Rattle.title_daybook.specs.{Files.{IsPlant}, Standing.{Standing}}
+use Rattle.title_lasting.specs.{Days.{Day, declared_in, evening, report_on_day, setting_on}, LookRows.{other_in}}
 use Rattle.title_lasting.specs.Lastings.{Begins, IsCause, IsExpected, IsLeft, IsServed, Refuses}
-use Rattle.title_lasting.specs.LookRows.{other_in}
-use Rattle.title_lasting.specs.Made.{IsAsked, IsAtFault, IsUnread, served_at}
-use Rattle.title_lasting.specs.declared.fault.LastingFault.{LastingFault}
+use Rattle.title_lasting.specs.{Made.{IsAsked, IsAtFault, IsUnread, served_at}, declared.fault.LastingFault.{LastingFault}}
 use Rattle.title_lasting.specs.declared.fault.LastingFault.TheVariants as fault
 
 -- ---- scripts

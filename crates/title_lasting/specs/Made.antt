@@ -1,37 +1,21 @@
 -- What a day has made before any of it is written.
 use Rattle.std.specs.Prelude.{◌≡◌, ◌⊎◌, ◌<◌, ◌++◌, ℕ, List, Bool, true, Option, Some, None, IfSome}
 use Rattle.std.specs.Prelude.{Result, Ok, Err, [], ◌+◌, drop, length, reverse}
-use Rattle.title_land.specs.Depth.{depth}
-use Rattle.title_land.specs.declared.survey.Township.{Township}
+use Rattle.title_land.specs.{Depth.{depth}, declared.survey.Township.{Township}}
 use Rattle.title_device.specs.Limits.{most_bytes}
 use Rattle.title_store.specs.Plants.{Plant}
-use Rattle.title_chain.specs.declared.record.Record.{Record}
-use Rattle.title_chain.specs.Alone.{IsSerial}
-use Rattle.title_trace.specs.declared.call.Call.{Call}
-use Rattle.title_trace.specs.Trace.{committed}
-use Rattle.title_desk.specs.Headline.{Headline}
-use Rattle.title_desk.specs.Told.{Books}
-use Rattle.title_journal.specs.Blocks.{IsBlock}
-use Rattle.title_journal.specs.Rest.{with_block}
-use Rattle.title_plan.specs.Asked.{Asked}
-use Rattle.title_plan.specs.declared.fault.ScriptFault.{ScriptFault}
-use Rattle.title_plan.specs.declared.fault.ScriptFault.TheVariants as script_fault
-use Rattle.title_plan.specs.declared.line.Schedule.{Schedule}
+use Rattle.title_chain.specs.{declared.record.Record.{Record}, Alone.{IsSerial}}
+use Rattle.title_trace.specs.{declared.call.Call.{Call}, Trace.{committed}}
+use Rattle.title_desk.specs.{Headline.{Headline}, Told.{Books}}
+use Rattle.title_journal.specs.{Blocks.{IsBlock}, Rest.{with_block}}
+use Rattle.title_plan.specs.{Asked.{Asked}, declared.{fault.ScriptFault.{ScriptFault}, line.Schedule.{Schedule}}}
 use Rattle.title_plan.specs.Onto.{Before, script_onto}
-use Rattle.title_script.specs.ReportLaws.{after_lines}
-use Rattle.title_script.specs.Reports.{report_onto}
-use Rattle.title_script.specs.Told.{served_text}
-use Rattle.title_daybook.specs.Added.{rows_of, text_of}
-use Rattle.title_daybook.specs.Files.{standing_after}
-use Rattle.title_daybook.specs.Standing.{Standing}
-use Rattle.title_daybook.specs.declared.writing.Stood.{Stood}
-use Rattle.title_lasting.specs.Days.{Day, declared_in, evening, report_on_day, setting_on, stands_after}
-use Rattle.title_lasting.specs.Refusals.{IsFirstRefused}
-use Rattle.title_lasting.specs.declared.fault.LastingFault.{LastingFault}
+use Rattle.title_plan.specs.declared.fault.ScriptFault.TheVariants as script_fault
+use Rattle.title_script.specs.{ReportLaws.{after_lines}, Reports.{report_onto}, Told.{served_text}}
+use Rattle.title_daybook.specs.{Added.{rows_of, text_of}, Files.{standing_after}, Standing.{Standing}, declared.writing.Stood.{Stood}}
+use Rattle.title_lasting.specs.{Days.{Day, declared_in, evening, report_on_day, setting_on, stands_after}, Refusals.{IsFirstRefused}}
+use Rattle.title_lasting.specs.{declared.{fault.LastingFault.{LastingFault}, serving.Made.{Made}}, Kept.{text_in}, Lastings.{IsLeft}}
 use Rattle.title_lasting.specs.declared.fault.LastingFault.TheVariants as fault
-use Rattle.title_lasting.specs.declared.serving.Made.{Made}
-use Rattle.title_lasting.specs.Kept.{text_in}
-use Rattle.title_lasting.specs.Lastings.{IsLeft}
 
 -- with the block, or with none, what stands after the day stands behind what stood before
 abbrev pub Adds : Option (List ℕ) → Standing → Standing → Type 0

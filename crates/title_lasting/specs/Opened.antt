@@ -2,14 +2,10 @@
 use Rattle.std.specs.Prelude.{◌≡◌, ℕ, List, Bool, true, Ok}
 use Rattle.title_disk.specs.Crashes.{Only}
 use Rattle.title_journal.specs.Rest.{IsReadFrom}
-use Rattle.title_daybook.specs.Books.{standing_of}
-use Rattle.title_daybook.specs.Files.{standing_in}
-use Rattle.title_lasting.specs.Openings.{IsNoPlant, cut_in}
-use Rattle.title_lasting.specs.Replays.{HasServed}
-use Rattle.title_lasting.specs.declared.fault.LastingFault.{LastingFault}
+use Rattle.title_daybook.specs.{Books.{standing_of}, Files.{standing_in}}
+use Rattle.title_lasting.specs.{Openings.{IsNoPlant, cut_in}, Replays.{HasServed}, declared.fault.LastingFault.{LastingFault}}
+use Rattle.title_lasting.specs.declared.opening.{Found.{Found}, Opened.{Opened}}
 use Rattle.title_lasting.specs.declared.fault.LastingFault.TheVariants as fault
-use Rattle.title_lasting.specs.declared.opening.Found.{Found}
-use Rattle.title_lasting.specs.declared.opening.Opened.{Opened}
 
 -- a file isn't opened: it is no plant, memory ran out, or the disk has failed
 abbrev pub IsUnopened : List ℕ → Bool → LastingFault → Type 0

@@ -1,11 +1,8 @@
 -- What an opening finds in a plant's file. Lists of records have the newest first.
 use Rattle.std.specs.Prelude.{◌≡◌, ◌⊎◌, ℕ, List, drop, length, Result, Ok, Err}
-use Rattle.title_journal.specs.declared.blocks.Tail.{Tail}
+use Rattle.title_journal.specs.{declared.blocks.Tail.{Tail}, Blocks.{blocks_in, front}, Rest.{at_rest, tail_of}}
 use Rattle.title_journal.specs.declared.blocks.Tail.TheVariants as tail
-use Rattle.title_journal.specs.Blocks.{blocks_in, front}
-use Rattle.title_journal.specs.Rest.{at_rest, tail_of}
-use Rattle.title_daybook.specs.Files.{row_of, standing_in}
-use Rattle.title_daybook.specs.Standing.{Standing}
+use Rattle.title_daybook.specs.{Files.{row_of, standing_in}, Standing.{Standing}}
 use Rattle.title_lasting.specs.Refusals.{IsFirstRefused}
 
 -- a file is no plant, by this row: the row doesn't stand there rightly, or a transaction ends in it that can't stand

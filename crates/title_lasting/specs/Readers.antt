@@ -1,9 +1,6 @@
 -- A reader of the records of a text.
-use Rattle.std.specs.Prelude.{◌≡◌, ◌<◌, ◌⊎◌, ℕ, Bool, true, false, List, [], ◌∷◌, Some, None, length}
-use Rattle.std.specs.Borrow.{Bor}
-use Rattle.csv.specs.Machine.{next_record}
-use Rattle.csv.specs.Reading.{Ready, default_config, records_from, source_of}
-use Rattle.csv.specs.declared.parser.State.{State}
+use Rattle.std.specs.{Prelude.{◌≡◌, ◌<◌, ◌⊎◌, ℕ, Bool, true, false, List, [], ◌∷◌, Some, None, length}, Borrow.{Bor}}
+use Rattle.csv.specs.{Machine.{next_record}, Reading.{Ready, default_config, records_from, source_of}, declared.parser.State.{State}}
 use Rattle.csv.specs.declared.reader.Reader.{Reader}
 use Rattle.csv.specs.declared.reader.Trim.TheVariants as trim
 

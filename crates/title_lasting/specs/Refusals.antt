@@ -1,9 +1,7 @@
 -- The first record of many that can't stand. Lists of records have the newest first.
 use Rattle.std.specs.Prelude.{◌≤◌, ◌-◌, ℕ, List, length, reverse, take}
-use Rattle.title_land.specs.Depth.{depth}
-use Rattle.title_land.specs.declared.survey.Township.{Township}
-use Rattle.title_chain.specs.declared.record.Record.{Record}
-use Rattle.title_chain.specs.Alone.{IsSerial}
+use Rattle.title_land.specs.{Depth.{depth}, declared.survey.Township.{Township}}
+use Rattle.title_chain.specs.{declared.record.Record.{Record}, Alone.{IsSerial}}
 
 -- the first records, as many as this
 abbrev pub oldest : ℕ → List Record → List Record

@@ -1,16 +1,11 @@
 -- What a replay of what stood comes to. Lists of records have the newest first.
-use Rattle.std.specs.Prelude.{◌≡◌, ◌≤◌, List, length}
-use Rattle.std.specs.List.{AllByRecursion}
-use Rattle.title_land.specs.Depth.{depth}
-use Rattle.title_land.specs.declared.survey.Township.{Township}
-use Rattle.title_chain.specs.declared.record.Record.{Record}
-use Rattle.title_chain.specs.Alone.{IsSerial}
+use Rattle.std.specs.{Prelude.{◌≡◌, ◌≤◌, List, length}, List.{AllByRecursion}}
+use Rattle.title_land.specs.{Depth.{depth}, declared.survey.Township.{Township}}
+use Rattle.title_chain.specs.{declared.record.Record.{Record}, Alone.{IsSerial}}
 use Rattle.title_trace.specs.Due.{most_steps}
 use Rattle.title_desk.specs.Told.{Books}
-use Rattle.title_standing.specs.Standing.{replayed}
-use Rattle.title_standing.specs.StandingLaws.{widest}
-use Rattle.title_lasting.specs.Refusals.{IsFirstRefused}
-use Rattle.title_lasting.specs.declared.replaying.Replayed.{Replayed}
+use Rattle.title_standing.specs.{Standing.{replayed}, StandingLaws.{widest}}
+use Rattle.title_lasting.specs.{Refusals.{IsFirstRefused}, declared.replaying.Replayed.{Replayed}}
 use Rattle.title_lasting.specs.declared.replaying.Replayed.TheVariants as replayed_as
 
 -- no record has more steps than a transaction may have

@@ -7,14 +7,10 @@ use Rattle.title_journal.specs.Rest.{IsAtRest}
 use Rattle.title_page.specs.Rows.{rows_text}
 use Rattle.title_report.specs.Replies.{end_row}
 use Rattle.title_standing.specs.Standing.{kept, replayed}
-use Rattle.title_daybook.specs.Files.{IsPlant, standing_in}
-use Rattle.title_daybook.specs.Standing.{Standing}
-use Rattle.title_counter.specs.Counters.{Counter}
-use Rattle.title_counter.specs.Sessions.{Answers, Ends, IsSound}
-use Rattle.title_lasting.specs.declared.fault.LastingFault.{LastingFault}
+use Rattle.title_daybook.specs.{Files.{IsPlant, standing_in}, Standing.{Standing}}
+use Rattle.title_counter.specs.{Counters.{Counter}, Sessions.{Answers, Ends, IsSound}}
+use Rattle.title_lasting.specs.{declared.{fault.LastingFault.{LastingFault}, mark.Mark.{Mark}}, Lastings.{Begins}}
 use Rattle.title_lasting.specs.declared.fault.LastingFault.TheVariants as fault
-use Rattle.title_lasting.specs.declared.mark.Mark.{Mark}
-use Rattle.title_lasting.specs.Lastings.{Begins}
 
 -- ---- what stands at a counter
 

@@ -1,28 +1,19 @@
 -- What stands in a plant's file, told in numbers or as a script.
 use Rattle.std.specs.Prelude.{◌≡◌, ◌⊎◌, ◌<◌, ◌+◌, ◌++◌, suc, ℕ, List, [], ◌∷◌, Bool, true, Option, Some, None, Result, Ok, Err, IfErr, OnOk}
-use Rattle.std.specs.Prelude.{◌-◌, ◌^◌, codes, drop, length, map, min, reverse, sum, take}
-use Rattle.std.specs.Fmt.{decimal}
-use Rattle.std.specs.List.{flat_map}
+use Rattle.std.specs.{Prelude.{◌-◌, ◌^◌, codes, drop, length, map, min, reverse, sum, take}, Fmt.{decimal}, List.{flat_map}}
 use Rattle.std.specs.Io.KnownBytes.{Appends, Keeps}
 use Rattle.title_chain.specs.declared.record.Record.{Record}
 use Rattle.title_device.specs.Limits.{most_bytes}
 use Rattle.title_journal.specs.Blocks.{rows_in}
 use Rattle.title_page.specs.Rows.{rows_text}
-use Rattle.title_plan.specs.declared.fault.ScriptFault.{ScriptFault}
+use Rattle.title_plan.specs.{declared.{fault.ScriptFault.{ScriptFault}, line.Line.{Line}}, Asked.{Asked}, Plans.{script_of}}
 use Rattle.title_plan.specs.declared.fault.ScriptFault.TheVariants as script_fault
-use Rattle.title_plan.specs.declared.line.Line.{Line}
 use Rattle.title_plan.specs.declared.line.Line.TheVariants as line
 use Rattle.title_plan.specs.declared.line.Schedule.TheVariants as schedule
-use Rattle.title_plan.specs.Asked.{Asked}
-use Rattle.title_plan.specs.Plans.{script_of}
 use Rattle.title_spelling.specs.Rows.{PlantRow}
 use Rattle.title_spelling.specs.Rows as plant
-use Rattle.title_daybook.specs.Added.{record_rows, text_of}
-use Rattle.title_daybook.specs.Files.{IsPlant}
-use Rattle.title_daybook.specs.Standing.{Standing}
-use Rattle.title_lasting.specs.Lastings.{Begins}
-use Rattle.title_lasting.specs.Openings.{IsNoPlant, cut_in}
-use Rattle.title_lasting.specs.declared.checking.TellFault.{TellFault}
+use Rattle.title_daybook.specs.{Added.{record_rows, text_of}, Files.{IsPlant}, Standing.{Standing}}
+use Rattle.title_lasting.specs.{Lastings.{Begins}, Openings.{IsNoPlant, cut_in}, declared.checking.TellFault.{TellFault}}
 use Rattle.title_lasting.specs.declared.checking.TellFault.TheVariants as fault
 
 -- ---- in numbers

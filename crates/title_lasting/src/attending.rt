@@ -3,14 +3,9 @@
 ghost use Rattle.std.specs.Prelude.{◌≡◌, ◌⊎◌, ◌==◌, ◌<◌, ◌+◌, ◌^◌, Ok, false, not, OnOk};
 ghost use Rattle.title_disk.specs.Crashes.{LeavesOnly, Only};
 ghost use Rattle.title_journal.specs.Rest.{IsAtRest};
-ghost use Rattle.title_daybook.specs.Books.{standing_of};
-ghost use Rattle.title_daybook.specs.Files.{IsPlant, standing_in};
-ghost use Rattle.title_daybook.specs.Standing.{Standing as StandingOf};
-ghost use Rattle.title_counter.specs.Lines.{last_line};
-ghost use Rattle.title_counter.specs.Views.{counter_of};
-ghost use Rattle.title_lasting.specs.Desks.{LastingDesk};
-ghost use Rattle.title_lasting.specs.Openings.{cut_in};
-ghost use Rattle.title_lasting.specs.Replays.{HasServed};
+ghost use Rattle.title_daybook.specs.{Books.{standing_of}, Files.{IsPlant, standing_in}, Standing.{Standing as StandingOf}};
+ghost use Rattle.title_counter.specs.{Lines.{last_line}, Views.{counter_of}};
+ghost use Rattle.title_lasting.specs.{Desks.{LastingDesk}, Openings.{cut_in}, Replays.{HasServed}};
 ghost use Rattle.title_lasting.specs.Sittings.{HasCome, IsEnded, IsUpTo, opening_on};
 
 use crate::day::Ended;

@@ -1,21 +1,15 @@
 //! What stands in a plant's file, told in numbers or as a script. Nothing is written to the file.
 
 ghost use Rattle.std.specs.Prelude.{◌≡◌, ◌⊎◌, ◌≤◌, ◌<◌, ◌+◌, ◌^◌, ◌∷◌, [], ℕ, suc, List, Some, true, false, cond, IfErr, IfOk, OnOk, OnErr};
-ghost use Rattle.std.specs.Prelude.{length, map, reverse, take};
-ghost use Rattle.std.specs.Io.KnownBytes.{Appends};
+ghost use Rattle.std.specs.{Prelude.{length, map, reverse, take}, Io.KnownBytes.{Appends}};
 ghost use Rattle.title_plan.specs.declared.line.Line.{Line as LineOf};
 ghost use Rattle.title_journal.specs.Blocks.{rows_in};
 ghost use Rattle.title_standing.specs.Records.{record_of};
-ghost use Rattle.title_page.specs.Pages.{Stopped, Written};
-ghost use Rattle.title_page.specs.Rows.{rows_text};
-ghost use Rattle.title_daybook.specs.Books.{standing_of};
-ghost use Rattle.title_daybook.specs.Files.{IsPlant};
-ghost use Rattle.title_daybook.specs.Standing.{Standing as StandingOf};
+ghost use Rattle.title_page.specs.{Pages.{Stopped, Written}, Rows.{rows_text}};
+ghost use Rattle.title_daybook.specs.{Books.{standing_of}, Files.{IsPlant}, Standing.{Standing as StandingOf}};
 ghost use Rattle.title_lasting.specs.Tells.{IsNoScript, IsScript, Telling, count_row, posts_in, script_text, standing_rows, standing_text};
-ghost use Rattle.title_lasting.specs.Tells.{told_number, undescribed};
-ghost use Rattle.title_lasting.specs.Lastings.{Begins};
+ghost use Rattle.title_lasting.specs.{Tells.{told_number, undescribed}, Lastings.{Begins}, Faults.{of_opening}};
 ghost use Rattle.title_lasting.specs.declared.checking.TellFault.TheVariants as fault;
-ghost use Rattle.title_lasting.specs.Faults.{of_opening};
 
 use crate::fault::LastingFault;
 use crate::opening::{Found, find, stand, tail_len};

@@ -3,11 +3,8 @@
 ghost use Rattle.std.specs.Prelude.{◌≡◌, ◌⊎◌, ◌≢◌, ℕ, List, Ok, false, true, IfSome, OnOk};
 ghost use Rattle.title_disk.specs.Crashes.{LeavesOnly, Only};
 ghost use Rattle.title_journal.specs.Rest.{IsAtRest};
-ghost use Rattle.title_daybook.specs.Books.{standing_of};
-ghost use Rattle.title_daybook.specs.Files.{standing_in};
-ghost use Rattle.title_lasting.specs.Lastings.{Lasting};
-ghost use Rattle.title_lasting.specs.Openings.{cut_in};
-ghost use Rattle.title_lasting.specs.Replays.{HasServed};
+ghost use Rattle.title_daybook.specs.{Books.{standing_of}, Files.{standing_in}};
+ghost use Rattle.title_lasting.specs.{Lastings.{Lasting}, Openings.{cut_in}, Replays.{HasServed}};
 
 use crate::fault::LastingFault;
 use crate::keeping::put_block;

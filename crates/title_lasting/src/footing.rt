@@ -1,13 +1,9 @@
 //! What a script goes on from whose steps are served elsewhere, as an office serves them.
 
-ghost use Rattle.std.specs.Prelude.{◌≡◌, ℕ, List, Ok, false, IfErr, IfOk, OnOk};
-ghost use Rattle.std.specs.Io.KnownBytes.{IsAtEnd};
+ghost use Rattle.std.specs.{Prelude.{◌≡◌, ℕ, List, Ok, false, IfErr, IfOk, OnOk}, Io.KnownBytes.{IsAtEnd}};
 ghost use Rattle.title_script.specs.Runs.{IsReadWithin};
-ghost use Rattle.title_daybook.specs.Books.{standing_of};
-ghost use Rattle.title_daybook.specs.Files.{standing_in};
-ghost use Rattle.title_lasting.specs.Footings.{IsFooting};
-ghost use Rattle.title_lasting.specs.Made.{IsUnmade};
-ghost use Rattle.title_lasting.specs.Replays.{HasServed};
+ghost use Rattle.title_daybook.specs.{Books.{standing_of}, Files.{standing_in}};
+ghost use Rattle.title_lasting.specs.{Footings.{IsFooting}, Made.{IsUnmade}, Replays.{HasServed}};
 
 use crate::fault::LastingFault;
 use crate::serving::{join, read_plan};

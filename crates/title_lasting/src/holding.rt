@@ -1,9 +1,7 @@
 //! Answers that are held back until what they tell is on the disk.
 
 ghost use Rattle.std.specs.Prelude.{◌≡◌, ◌≤◌, ◌<◌, ◌+◌, ◌^◌, [], Some, false, IfOk, OnOk, length};
-ghost use Rattle.title_counter.specs.Lines.{last_line, lines_from};
-ghost use Rattle.title_counter.specs.Sessions.{Answers, IsSound};
-ghost use Rattle.title_counter.specs.Views.{counter_of};
+ghost use Rattle.title_counter.specs.{Lines.{last_line, lines_from}, Sessions.{Answers, IsSound}, Views.{counter_of}};
 
 use std::alloc::{AllocError, Global};
 use title_counter::{Clerk, LineStart, answer_batch, answer_rest};

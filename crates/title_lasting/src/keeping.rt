@@ -2,8 +2,7 @@
 
 ghost use Rattle.std.specs.Prelude.{◌≡◌, None, IfSome, OnOk, OnErr, IsErrOf, true};
 ghost use Rattle.title_disk.specs.Crashes.{LeavesOnly, Only};
-ghost use Rattle.title_journal.specs.Blocks.{IsBlock, blocks_in};
-ghost use Rattle.title_journal.specs.Rest.{IsAtRest, StandsAlike};
+ghost use Rattle.title_journal.specs.{Blocks.{IsBlock, blocks_in}, Rest.{IsAtRest, StandsAlike}};
 ghost use Rattle.title_lasting.specs.Kept.{IsWithOrWithout, text_in, with_text};
 
 use title_disk::Disk;

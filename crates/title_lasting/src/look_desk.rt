@@ -3,13 +3,10 @@
 ghost use Rattle.std.specs.Prelude.{◌≡◌, ◌<◌, ◌≤◌, ◌+◌, ◌^◌, OnErr, OnOk, false, length, map, true};
 ghost use Rattle.title_disk.specs.Crashes.{LeavesOnly};
 ghost use Rattle.title_daybook.specs.Books.{standing_of};
-ghost use Rattle.title_counter.specs.Lines.{last_line, lines_from, lines_in};
-ghost use Rattle.title_counter.specs.Sessions.{IsSound, LostBatch, PassedBatch};
+ghost use Rattle.title_counter.specs.{Lines.{last_line, lines_from, lines_in}, Sessions.{IsSound, LostBatch, PassedBatch}};
 ghost use Rattle.title_counter.specs.Views.{counter_of};
-ghost use Rattle.title_lasting.specs.LookDesks.{IsLookBatch, IsLookEnd, LookingDesk, LooksFrom};
-ghost use Rattle.title_lasting.specs.LookRows.{IsStart, as_look};
-ghost use Rattle.title_lasting.specs.Replays.{HasServed};
-ghost use Rattle.title_lasting.specs.Sittings.{opening_on};
+ghost use Rattle.title_lasting.specs.{LookDesks.{IsLookBatch, IsLookEnd, LookingDesk, LooksFrom}, LookRows.{IsStart, as_look}};
+ghost use Rattle.title_lasting.specs.{Replays.{HasServed}, Sittings.{opening_on}};
 
 use crate::attending::any_stand;
 use crate::fault::LastingFault;

@@ -2,10 +2,8 @@
 
 ghost use Rattle.std.specs.Prelude.{◌≡◌, ℕ, List, IfOk};
 ghost use Rattle.csv.specs.Records.{fields_of};
-ghost use Rattle.title_plan.specs.Plans.{rows_in};
-ghost use Rattle.title_plan.specs.Rows.{done, row_in, said};
-ghost use Rattle.title_lasting.specs.LookRows.{is_look, looks_if, only_looks, other_in, says_look};
-ghost use Rattle.title_lasting.specs.Readers.{RowsLeft, TookRow};
+ghost use Rattle.title_plan.specs.{Plans.{rows_in}, Rows.{done, row_in, said}};
+ghost use Rattle.title_lasting.specs.{LookRows.{is_look, looks_if, only_looks, other_in, says_look}, Readers.{RowsLeft, TookRow}};
 
 use csv::{ByteRecord, Reader, ReaderBuilder, StringRecord};
 use std::alloc::{AllocError, Global};

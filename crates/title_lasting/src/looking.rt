@@ -1,16 +1,12 @@
 //! A look at a plant's file: a script that keeps nothing, on top of what stands there.
 
-ghost use Rattle.std.specs.Prelude.{◌≡◌, None, false, IfErr, IfOk, OnOk};
-ghost use Rattle.std.specs.Io.KnownBytes.{IsAtEnd};
+ghost use Rattle.std.specs.{Prelude.{◌≡◌, None, false, IfErr, IfOk, OnOk}, Io.KnownBytes.{IsAtEnd}};
 ghost use Rattle.title_disk.specs.Crashes.{LeavesOnly};
-ghost use Rattle.title_plan.specs.Asked.{asked_in};
-ghost use Rattle.title_plan.specs.Onto.{before_in};
+ghost use Rattle.title_plan.specs.{Asked.{asked_in}, Onto.{before_in}};
 ghost use Rattle.title_script.specs.Runs.{IsReadWithin};
 ghost use Rattle.title_daybook.specs.Books.{standing_of};
-ghost use Rattle.title_lasting.specs.Days.{declared_in};
-ghost use Rattle.title_lasting.specs.LookRows.{other_in};
+ghost use Rattle.title_lasting.specs.{Days.{declared_in}, LookRows.{other_in}, Replays.{HasServed}};
 ghost use Rattle.title_lasting.specs.Looks.{IsLookAsked, IsLookMade, IsLookServed, IsLookUnread, IsOtherText, Looking, LooksAt};
-ghost use Rattle.title_lasting.specs.Replays.{HasServed};
 
 use crate::day::is_unexpected;
 use crate::fault::LastingFault;

@@ -4,12 +4,9 @@ ghost use Rattle.std.specs.Prelude.{◌≡◌, ◌≤◌, ◌<◌, ◌+◌, ◌^
 ghost use Rattle.indexmap.specs.IndexSet.{index_set_len};
 ghost use Rattle.title_trace.specs.Trace.{committed};
 ghost use Rattle.title_disk.specs.Crashes.{LeavesOnly};
-ghost use Rattle.title_journal.specs.Blocks.{IsBlock, blocks_in};
-ghost use Rattle.title_journal.specs.Rest.{IsAtRest, StandsAlike};
-ghost use Rattle.title_counter.specs.Counters.{Counter, asked_at};
-ghost use Rattle.title_counter.specs.Views.{asked_of, counter_of};
-ghost use Rattle.title_lasting.specs.Kept.{IsWithOrWithout, text_in, with_text};
-ghost use Rattle.title_lasting.specs.Made.{IsAddedBlock};
+ghost use Rattle.title_journal.specs.{Blocks.{IsBlock, blocks_in}, Rest.{IsAtRest, StandsAlike}};
+ghost use Rattle.title_counter.specs.{Counters.{Counter, asked_at}, Views.{asked_of, counter_of}};
+ghost use Rattle.title_lasting.specs.{Kept.{IsWithOrWithout, text_in, with_text}, Made.{IsAddedBlock}};
 ghost use Rattle.title_lasting.specs.Sittings.{ComesTo, IsKeptTo, IsUpTo};
 
 use crate::fault::LastingFault;

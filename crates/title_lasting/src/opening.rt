@@ -4,8 +4,7 @@ ghost use Rattle.std.specs.Prelude.{◌≡◌, ◌<◌, ◌^◌, ℕ, List, fals
 ghost use Rattle.title_disk.specs.Crashes.{Elapses, LeavesOnly, Only};
 ghost use Rattle.title_journal.specs.Rest.{IsAtRest, StandsAlike};
 ghost use Rattle.title_daybook.specs.Books.{standing_of};
-ghost use Rattle.title_lasting.specs.Openings.{IsResting, bytes_of};
-ghost use Rattle.title_lasting.specs.Opened.{IsFoundIn, IsOpened, IsUnopened, LeavesUnopened};
+ghost use Rattle.title_lasting.specs.{Openings.{IsResting, bytes_of}, Opened.{IsFoundIn, IsOpened, IsUnopened, LeavesUnopened}};
 ghost use Rattle.title_lasting.specs.Replays.{HasServed};
 
 use crate::fault::LastingFault;

@@ -5,17 +5,13 @@ ghost use Rattle.std.specs.Prelude.{◌≡◌, ◌≤◌, ◌<◌, ◌+◌, ◌^
 ghost use Rattle.std.specs.Io.KnownBytes.{IsAtEnd};
 ghost use Rattle.indexmap.specs.IndexSet.{index_set_len};
 ghost use Rattle.title_chain.specs.Alone.{most_parties};
-ghost use Rattle.title_trace.specs.Trace.{committed};
-ghost use Rattle.title_trace.specs.Due.{MayOpen};
-ghost use Rattle.title_plan.specs.Asked.{asked_in};
-ghost use Rattle.title_plan.specs.Onto.{before_in};
+ghost use Rattle.title_trace.specs.{Trace.{committed}, Due.{MayOpen}};
+ghost use Rattle.title_plan.specs.{Asked.{asked_in}, Onto.{before_in}};
 ghost use Rattle.title_script.specs.Runs.{IsReadWithin};
 ghost use Rattle.title_standing.specs.Records.{record_of};
-ghost use Rattle.title_daybook.specs.Books.{standing_of};
-ghost use Rattle.title_daybook.specs.Files.{standing_in};
-ghost use Rattle.title_lasting.specs.Kept.{text_in};
+ghost use Rattle.title_daybook.specs.{Books.{standing_of}, Files.{standing_in}};
+ghost use Rattle.title_lasting.specs.{Kept.{text_in}, Replays.{AreShort, HasServed}};
 ghost use Rattle.title_lasting.specs.Made.{IsAddedBlock, IsAsked, IsMade, IsServedAt, IsUnjoined, IsUnmade, IsUnread, served_at};
-ghost use Rattle.title_lasting.specs.Replays.{AreShort, HasServed};
 
 use crate::fault::LastingFault;
 use crate::replaying::{Replayed, replay_deeds};

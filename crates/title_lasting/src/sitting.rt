@@ -1,15 +1,11 @@
 //! A batch at a desk that keeps what it commits.
 
-ghost use Rattle.std.specs.Prelude.{◌≡◌, ◌≤◌, ◌<◌, ◌+◌, ◌^◌, ◌∷◌, [], true, false, OnErr, OnOk, length};
-ghost use Rattle.std.specs.Io.KnownBytes.{Appends};
+ghost use Rattle.std.specs.{Prelude.{◌≡◌, ◌≤◌, ◌<◌, ◌+◌, ◌^◌, ◌∷◌, [], true, false, OnErr, OnOk, length}, Io.KnownBytes.{Appends}};
 ghost use Rattle.title_disk.specs.Crashes.{LeavesOnly};
 ghost use Rattle.title_page.specs.Rows.{rows_text};
 ghost use Rattle.title_report.specs.Replies.{end_row};
-ghost use Rattle.title_counter.specs.Lines.{last_line, lines_from};
-ghost use Rattle.title_counter.specs.Sessions.{IsSound};
-ghost use Rattle.title_counter.specs.Views.{counter_of};
-ghost use Rattle.title_lasting.specs.Lastings.{Begins};
-ghost use Rattle.title_lasting.specs.Sittings.{HasCome, IsBatch, IsUpTo};
+ghost use Rattle.title_counter.specs.{Lines.{last_line, lines_from}, Sessions.{IsSound}, Views.{counter_of}};
+ghost use Rattle.title_lasting.specs.{Lastings.{Begins}, Sittings.{HasCome, IsBatch, IsUpTo}};
 
 use crate::fault::LastingFault;
 use crate::holding::{hold_batch, hold_rest};

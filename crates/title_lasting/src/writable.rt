@@ -1,17 +1,12 @@
 //! Records that come from elsewhere, as an office makes them: whether they can be written, and the block that adds them.
 
-ghost use Rattle.std.specs.Prelude.{◌≡◌, ◌≤◌, ◌<◌, ◌+◌, ◌^◌, IfOk, None, length, map, true};
-ghost use Rattle.std.specs.List.{AllByRecursion};
-ghost use Rattle.std.specs.String.{string_bytes};
+ghost use Rattle.std.specs.{Prelude.{◌≡◌, ◌≤◌, ◌<◌, ◌+◌, ◌^◌, IfOk, None, length, map, true}, List.{AllByRecursion}, String.{string_bytes}};
 ghost use Rattle.indexmap.specs.IndexSet.{index_set_len};
-ghost use Rattle.title_land.specs.Depth.{depth};
-ghost use Rattle.title_land.specs.Lands.{IsLand};
+ghost use Rattle.title_land.specs.{Depth.{depth}, Lands.{IsLand}};
 ghost use Rattle.title_plan.specs.Asked.{Asked};
-ghost use Rattle.title_spelling.specs.Lands.{has_a_cell};
-ghost use Rattle.title_spelling.specs.Posts.{HasShares, IsQuantum, IsReserve, IsReserved, IsShare};
+ghost use Rattle.title_spelling.specs.{Lands.{has_a_cell}, Posts.{HasShares, IsQuantum, IsReserve, IsReserved, IsShare}};
 ghost use Rattle.title_daybook.specs.Standing.{Standing as StandingOf};
-ghost use Rattle.title_lasting.specs.Footings.{CanAsk, CanPost, CanWrite, Continues, HasStood, IsNew, stands_on};
-ghost use Rattle.title_lasting.specs.Kept.{text_in};
+ghost use Rattle.title_lasting.specs.{Footings.{CanAsk, CanPost, CanWrite, Continues, HasStood, IsNew, stands_on}, Kept.{text_in}};
 ghost use Rattle.title_lasting.specs.Made.{IsAddedBlock};
 
 use crate::serving::new_records;

@@ -1,13 +1,10 @@
 -- The exchange that adds an entry keeps the rule.
 use Rattle.std.proofs.Common.{◌≡◌, ℕ, ◌+◌, ◌<◌, ◌==◌, Bool, true, false, List, [], ◌∷◌, ◌++◌, length, refl, ap, sym, subst, arith, inl}
-use Rattle.std.proofs.Common.{length-append, None}
-use Rattle.std.proofs.lemmas.List.{append-nil}
-use Rattle.std.proofs.lemmas.Bool.Decides.{nat_tests}
+use Rattle.std.proofs.{Common.{length-append, None}, lemmas.{List.{append-nil}, Bool.Decides.{nat_tests}}}
 use mathlib.Core.List.{IsPrefix}
 use prog.Atomic.{either}
 use Rattle.logbook.specs.Pages.{Cell, cell, keeps, no_nib, step, Moves, Goes}
-use Rattle.title_ledger.specs.Ledgers.{IsKept, Adds}
-use Rattle.title_ledger.specs.Laws.Beginnings.{prefix_whole}
+use Rattle.title_ledger.specs.{Ledgers.{IsKept, Adds}, Laws.Beginnings.{prefix_whole}}
 
 -- clients see nothing of the entries
 abbrev pub shown : {E : Type 0} → List E → List E

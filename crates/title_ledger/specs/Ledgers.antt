@@ -1,10 +1,8 @@
 -- The ledger: a list of entries that only grows. Lists of entries and of records here have the oldest first.
 use Rattle.std.specs.Prelude.{◌≡◌, ℕ, ◌==◌, true, List, [], ◌∷◌, ◌++◌, length, fold, reverse, ◌⊎◌, MatchBool}
 use Rattle.logbook.specs.Pages.{Cell, Step, View, Book, Named}
-use Rattle.title_land.specs.Depth.{depth}
-use Rattle.title_land.specs.declared.survey.Township.{Township}
-use Rattle.title_chain.specs.declared.record.Record.{Record}
-use Rattle.title_chain.specs.Alone.{IsSerial}
+use Rattle.title_land.specs.{Depth.{depth}, declared.survey.Township.{Township}}
+use Rattle.title_chain.specs.{declared.record.Record.{Record}, Alone.{IsSerial}}
 use Rattle.title_ledger.specs.declared.entry.Entry.{Entry}
 use Rattle.title_ledger.specs.declared.entry.Entry.TheVariants as entry
 

@@ -22,8 +22,7 @@ pub struct Front<B: Room> {
 
 impl<B: Room> Model for Front<B> {
     ghost use Rattle.std.specs.Prelude.{◌≡◌, List};
-    ghost use Rattle.title_ledger.specs.declared.entry.Entry.{Entry};
-    ghost use Rattle.title_ledger.specs.Ledgers.{AreSerial, shown_of, sure_of};
+    ghost use Rattle.title_ledger.specs.{declared.entry.Entry.{Entry}, Ledgers.{AreSerial, shown_of, sure_of}};
 
     ghost Value = { List Entry };
 

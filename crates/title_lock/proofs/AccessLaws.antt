@@ -1,8 +1,6 @@
 -- What an access asks for at nodes, added up.
 use Rattle.std.proofs.Common.{◌≡◌, Bool, true, false, cond, ◌&&◌, ◌||◌, Option, None, refl, sym}
-use Rattle.title_lock.specs.declared.modes.Mode.{Mode}
-use Rattle.title_lock.specs.Modes.{bound}
-use Rattle.title_lock.proofs.ModeLaws.{bound_none, bound_assoc}
+use Rattle.title_lock.{specs.{declared.modes.Mode.{Mode}, Modes.{bound}}, proofs.ModeLaws.{bound_none, bound_assoc}}
 
 -- one node of the cover, and the rest
 pub rest_join : (b : Bool) (r x y : Option Mode) → bound (bound r (cond b x None)) (cond b y None) ≡ bound r (cond b (bound x y) None)

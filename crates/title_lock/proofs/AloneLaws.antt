@@ -1,20 +1,10 @@
 -- Entries of one examiner alone.
 use Rattle.std.proofs.Common.{◌≡◌, ◌≢◌, ◌&&◌, ◌||◌, ℕ, Bool, false, cond, not, List, [], ◌∷◌, Option, Some, None, eqb, refl, sym}
-use Rattle.std.proofs.Common.{ap, subst, ◌∙◌, arith}
-use Rattle.std.proofs.lemmas.Bool.{ne_eqb}
-use Rattle.std.proofs.lemmas.List.Elements.{All-head, All-tail, All-same, All-filter}
-use Rattle.title_land.specs.declared.node.Node.{Node}
-use Rattle.title_land.specs.declared.tract.Land.{Land}
-use Rattle.title_land.specs.Lands.{cover_of}
-use Rattle.title_lock.specs.declared.guards.Entry.{Entry}
-use Rattle.title_lock.specs.declared.modes.Mode.{Mode}
-use Rattle.title_lock.specs.Modes.{bound}
-use Rattle.title_lock.specs.Overlaps.{is_post, overlap, against, Stands, without}
-use Rattle.title_lock.specs.Asking.{asked, mode_at}
-use Rattle.title_lock.specs.Counts.{IsCount}
-use Rattle.title_lock.specs.Holders.{own_part}
-use Rattle.title_lock.specs.Locks.{Locks, shown, AreOwn, AreInOne}
-use Rattle.title_lock.proofs.CountLaws.{count_none, count_moved}
+use Rattle.std.proofs.{Common.{ap, subst, ◌∙◌, arith}, lemmas.{Bool.{ne_eqb}, List.Elements.{All-head, All-tail, All-same, All-filter}}}
+use Rattle.title_land.specs.{declared.{node.Node.{Node}, tract.Land.{Land}}, Lands.{cover_of}}
+use Rattle.title_lock.specs.{declared.{guards.Entry.{Entry}, modes.Mode.{Mode}}, Modes.{bound}, Asking.{asked, mode_at}, Counts.{IsCount}}
+use Rattle.title_lock.specs.{Overlaps.{is_post, overlap, against, Stands, without}, Holders.{own_part}}
+use Rattle.title_lock.{specs.Locks.{Locks, shown, AreOwn, AreInOne}, proofs.CountLaws.{count_none, count_moved}}
 
 -- the first is not f's where it is another's
 first_other : (e f : ℕ) (x : Entry) (es : List Entry) → AreOwn e (x ∷ es) → f ≢ e → eqb f x.examiner ≡ false

@@ -1,25 +1,14 @@
 -- A book's entries by number: one put at the end, and an examiner's last one taken out.
 use Rattle.std.proofs.Common.{◌≡◌, ◌≢◌, ℕ, ◌<◌, Bool, true, false, cond, not, ◌&&◌, List, [], ◌∷◌, ◌++◌, All, filter, reverse, Option}
-use Rattle.std.proofs.Common.{None, Some, IfSome, IfNone, eqb, refl, sym, ap, ◌∙◌, subst, append_assoc, arith}
-use Rattle.std.specs.Prelude.{vec_len}
-use Rattle.std.specs.Global.{Vec}
-use Rattle.std.proofs.lemmas.Bool.{eqb-true, eqb-false, ne_eqb}
-use Rattle.std.proofs.lemmas.Bool.Decides.{nat_tests}
-use Rattle.std.proofs.lemmas.List.{nil_from_length, append-nil, reverse-append, map-append}
-use Rattle.std.proofs.lemmas.List.Elements.{All-head, All-tail}
-use Rattle.std.proofs.lemmas.Map.{NonePasses}
-use Rattle.std.specs.List.{AllByRecursion}
-use mathlib.Core.List.{reverse_aux}
-use Rattle.std.specs.List.Sorted.{IsStrictlySortedBy}
-use Rattle.std.specs.declared.cmp.Ordering.{Ordering}
-use Rattle.std.specs.declared.cmp.Ordering.TheVariants.{Less, Greater}
-use Rattle.std.specs.Ordering.{nat_cmp, match_ordering}
-use Rattle.std.specs.Map.{keys_of, values_of, lookup, remove_entry}
+use Rattle.std.{proofs.Common.{None, Some, IfSome, IfNone, eqb, refl, sym, ap, ◌∙◌, subst, append_assoc, arith}, specs.Prelude.{vec_len}}
+use Rattle.std.{specs.Global.{Vec}, proofs.lemmas.{Bool.{eqb-true, eqb-false, ne_eqb, Decides.{nat_tests}}, Map.{NonePasses}}}
+use Rattle.std.proofs.lemmas.List.{nil_from_length, append-nil, reverse-append, map-append, Elements.{All-head, All-tail}}
+use Rattle.std.specs.{List.{AllByRecursion, Sorted.{IsStrictlySortedBy}}, declared.cmp.Ordering.{Ordering, TheVariants.{Less, Greater}}}
+use Rattle.std.specs.{Ordering.{nat_cmp, match_ordering}, Map.{keys_of, values_of, lookup, remove_entry}}
 use Rattle.std.specs.BTreeMap.{BTreeMap, get, insert_entry, is_at}
-use Rattle.title_lock.specs.declared.guards.Entry.{Entry}
-use Rattle.title_lock.specs.Overlaps.{without}
+use mathlib.Core.List.{reverse_aux}
+use Rattle.title_lock.{specs.{declared.guards.Entry.{Entry}, Overlaps.{without}}, proofs.Overlap.{and_none}}
 use Rattle.title_lock.specs.Books.{numbers_in, numbers_of, empty_in, is_empty_kept, own_keys, IsNewest}
-use Rattle.title_lock.proofs.Overlap.{and_none}
 
 -- ---- one entry more
 

@@ -1,15 +1,10 @@
 -- How many examiners have a mode: after one examiner's mode has changed, and what a small number tells of the others.
 use Rattle.std.proofs.Common.{◌≡◌, ◌≢◌, ◌+◌, ◌≤◌, ◌<◌, ◌^◌, ℕ, zero, suc, Bool, true, false, cond, not, ◌&&◌, ◌||◌, List, [], ◌∷◌}
-use Rattle.std.proofs.Common.{filter, length, inl, inr}
-use Rattle.std.proofs.Common.{Option, Some, None, is_some, eqb, refl, sym, ap, subst, ◌∙◌, arith, ◌↔◌}
+use Rattle.std.proofs.Common.{filter, length, inl, inr, Option, Some, None, is_some, eqb, refl, sym, ap, subst, ◌∙◌, arith, ◌↔◌}
 use Rattle.std.proofs.lemmas.Bool.{eqb-true, eqb-false, eq-eqb, ne_eqb, false_from_ne_true, both_ways, and_parts, or_left}
-use Rattle.title_lock.specs.declared.modes.Mode.{Mode}
-use Rattle.title_lock.specs.declared.modes.Mode.TheVariants.{Is, Ix, S, Six, X}
-use Rattle.title_lock.specs.Counts.{member, NoRepeat, IsCount}
-use Rattle.std.specs.Prelude.{nat_le}
-use Rattle.std.proofs.lemmas.Bool.{leb-true, le-leb, and_from, or_cases, or_right}
-use Rattle.title_lock.specs.declared.counts.Counts.{Counts}
-use Rattle.title_lock.specs.Modes.{compat}
+use Rattle.std.{specs.Prelude.{nat_le}, proofs.lemmas.Bool.{leb-true, le-leb, and_from, or_cases, or_right}}
+use Rattle.title_lock.specs.{declared.modes.Mode.{Mode, TheVariants.{Is, Ix, S, Six, X}}, Counts.{member, NoRepeat, IsCount}}
+use Rattle.title_lock.specs.{declared.counts.Counts.{Counts}, Modes.{compat}}
 use Rattle.title_lock.specs.Holders.{Modes, holder_mode, clashes, same_mode, has_mode, own_part, count_in, leaves, is_clear, AreCounted}
 
 -- ---- modes

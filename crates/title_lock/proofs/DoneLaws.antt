@@ -1,20 +1,13 @@
 -- What is done at one node, and along one part of a walk and then another, is done along both.
 use Rattle.std.proofs.Common.{◌≡◌, ℕ, Bool, true, false, cond, not, ◌&&◌, ◌||◌, List, [], ◌∷◌, ◌++◌, Option, Some, None, eqb, refl, sym, ap}
-use Rattle.std.proofs.Common.{subst, ◌∙◌, inl, inr, true≢false, append_assoc, append-nil}
-use Rattle.std.proofs.lemmas.Bool.{or_cases, or_left, or_right}
+use Rattle.std.proofs.{Common.{subst, ◌∙◌, inl, inr, true≢false, append_assoc, append-nil}, lemmas.Bool.{or_cases, or_left, or_right}}
 use Rattle.std.proofs.lemmas.List.Folds.{list_any-append}
-use Rattle.title_land.specs.declared.node.Node.{Node}
-use Rattle.title_land.specs.Nodes.{same_node}
-use Rattle.title_lock.specs.declared.modes.Mode.{Mode}
-use Rattle.title_lock.specs.Modes.{bound}
-use Rattle.title_lock.specs.Holders.{clashes}
-use Rattle.title_lock.specs.Overlaps.{IsLeast, least}
+use Rattle.title_land.specs.{declared.node.Node.{Node}, Nodes.{same_node}}
+use Rattle.title_lock.specs.{declared.modes.Mode.{Mode}, Modes.{bound}, Holders.{clashes}, Overlaps.{IsLeast, least}}
 use Rattle.title_lock.specs.Tables.{HeldAt, table_mode, table_room, is_idle, KeepsRoom, HasRoom, IdleMore, IdleLess}
 use Rattle.title_lock.specs.Walks.{Asked, mode_for, asked_in, asks_in, clashes_in, Roomed, Raised, TakenOut}
-use Rattle.title_lock.proofs.AccessLaws.{rest_none, rest_join, gone_join}
-use Rattle.title_lock.proofs.IdleLaws.{less_same, less_join, more_same, more_join, more_wider}
-use Rattle.title_lock.proofs.LeastLaws.{least_join, least_same}
-use Rattle.title_lock.proofs.NodeLaws.{same_self, same_true}
+use Rattle.title_lock.proofs.{AccessLaws.{rest_none, rest_join, gone_join}, LeastLaws.{least_join, least_same}}
+use Rattle.title_lock.proofs.{IdleLaws.{less_same, less_join, more_same, more_join, more_wider}, NodeLaws.{same_self, same_true}}
 use Rattle.title_lock.proofs.WalkLaws.{asked_append, asks_append}
 
 or_none : (a : Bool) → (a || false) ≡ a

@@ -1,23 +1,12 @@
 -- The least other examiner in the way among the holders of a node, which stand in the order of their numbers.
 use Rattle.std.proofs.Common.{◌≡◌, ◌≢◌, ◌<◌, ◌≤◌, ℕ, Bool, true, false, cond, List, [], ◌∷◌, Option, Some, None, eqb, refl, sym, ap, subst}
-use Rattle.std.proofs.Common.{◌||◌, ◌&&◌, not, filter, ltb, lt-ltb, le-ltb}
-use Rattle.std.specs.declared.cmp.Ordering.{Ordering}
-use Rattle.std.specs.Ordering.{is_le}
-use Rattle.std.specs.declared.ops.Bound.TheVariants.{Excluded, Unbounded}
-use Rattle.std.specs.BTreeMap.Range.{range_contains, entries_between}
-use Rattle.std.proofs.lemmas.Map.Entries.{lookup-filter-keys}
-use Rattle.std.proofs.lemmas.List.Kept.{IsStrictlySortedBy-filter}
-use Rattle.std.proofs.Common.{◌∙◌, arith}
-use Rattle.std.specs.Ordering.{nat_cmp, MatchOrdering}
-use Rattle.std.specs.declared.cmp.Ordering.TheVariants.{Less, Equal, Greater}
-use Rattle.std.specs.Cmp.{ranks, unsigned_tied}
-use Rattle.std.specs.Map.{keys_of, lookup}
-use Rattle.std.specs.BTreeMap.{is_at}
-use Rattle.std.specs.List.Sorted.{IsStrictlySortedBy}
+use Rattle.std.{proofs.Common.{◌||◌, ◌&&◌, not, filter, ltb, lt-ltb, le-ltb}, specs.{declared.cmp.Ordering.{Ordering}, Ordering.{is_le}}}
+use Rattle.std.specs.{declared.ops.Bound.TheVariants.{Excluded, Unbounded}, BTreeMap.{is_at, Range.{range_contains, entries_between}}}
+use Rattle.std.proofs.{lemmas.{Map.Entries.{lookup-filter-keys}, List.Kept.{IsStrictlySortedBy-filter}}, Common.{◌∙◌, arith}}
+use Rattle.std.specs.{Ordering.{nat_cmp, MatchOrdering}, declared.cmp.Ordering.TheVariants.{Less, Equal, Greater}, Map.{keys_of, lookup}}
+use Rattle.std.specs.{Cmp.{ranks, unsigned_tied}, List.Sorted.{IsStrictlySortedBy}}
 use Rattle.std.proofs.lemmas.Bool.{ne_eqb, eq-eqb, eqb-true, eqb-false, ltb-true, or_left, or_right, or_from, and_parts, true≢false}
-use Rattle.title_lock.specs.Overlaps.{IsLeast}
-use Rattle.title_lock.specs.declared.modes.Mode.{Mode}
-use Rattle.title_lock.specs.Holders.{mode_of_slot, holder_mode, clashes, first_way}
+use Rattle.title_lock.specs.{Overlaps.{IsLeast}, declared.modes.Mode.{Mode}, Holders.{mode_of_slot, holder_mode, clashes, first_way}}
 
 abbrev Held : Type 0
 Held = List (ℕ × Option Mode)

@@ -1,22 +1,12 @@
 -- Tables and entries after an entry more, and after an examiner's are given back.
 use Rattle.std.proofs.Common.{◌≡◌, ℕ, Bool, true, false, cond, not, ◌&&◌, ◌||◌, List, [], ◌∷◌, ◌++◌, Option, Some, None, eqb, refl, sym, ap}
-use Rattle.std.proofs.Common.{◌∙◌}
-use Rattle.std.proofs.lemmas.Bool.{or_parts, eqb-true, eqb-false, ne_eqb, eq-eqb}
-use Rattle.std.specs.List.{list_any}
-use Rattle.title_lock.specs.declared.modes.Mode.{Mode}
-use Rattle.title_lock.specs.declared.table.Table.{Table}
-use Rattle.title_lock.specs.declared.guards.Entry.{Entry}
+use Rattle.std.{proofs.{Common.{◌∙◌}, lemmas.Bool.{or_parts, eqb-true, eqb-false, ne_eqb, eq-eqb}}, specs.List.{list_any}}
 use Rattle.std.proofs.lemmas.List.Elements.{All-cons, All-filter}
-use Rattle.title_land.specs.declared.node.Node.{Node}
-use Rattle.title_land.specs.Nodes.{same_node, is_above}
-use Rattle.title_land.specs.Lands.{cover_of, IsLand}
-use Rattle.title_lock.specs.Modes.{bound, allows}
-use Rattle.title_lock.specs.Overlaps.{Stands, is_post, without}
-use Rattle.title_lock.specs.Asking.{own_mode, above_mode, asked_for, asked, mode_at}
-use Rattle.title_lock.specs.Tables.{on_all, table_mode, is_asked, is_asked_by, TableIs}
-use Rattle.title_lock.specs.Books.{IsNewest}
-use Rattle.title_lock.proofs.ModeLaws.{bound_turn}
+use Rattle.title_lock.specs.{declared.{modes.Mode.{Mode}, table.Table.{Table}, guards.Entry.{Entry}}, Modes.{bound, allows}}
+use Rattle.title_lock.specs.{Overlaps.{Stands, is_post, without}, Asking.{own_mode, above_mode, asked_for, asked, mode_at}}
+use Rattle.title_lock.{specs.{Tables.{on_all, table_mode, is_asked, is_asked_by, TableIs}, Books.{IsNewest}}, proofs.ModeLaws.{bound_turn}}
 use Rattle.title_lock.proofs.Overlap.{MeetByCovers, apart_more, entries_fit}
+use Rattle.title_land.specs.{declared.node.Node.{Node}, Nodes.{same_node, is_above}, Lands.{cover_of, IsLand}}
 
 -- ---- one entry more
 

@@ -1,15 +1,9 @@
 -- The entries that are left after an examiner gives its own back were all granted, too.
-use Rattle.std.proofs.Common.{ℕ, Bool, cond, List, [], ◌∷◌, Option, None, eqb, refl, sym, ap, ◌∙◌}
-use Rattle.std.proofs.lemmas.Bool.{eq-eqb}
-use Rattle.title_lock.specs.declared.modes.Mode.{Mode}
-use Rattle.title_lock.specs.declared.guards.Entry.{Entry}
-use Rattle.title_land.specs.declared.node.Node.{Node}
-use Rattle.title_land.specs.Lands.{cover_of}
-use Rattle.title_lock.specs.Modes.{allows}
-use Rattle.title_lock.specs.Overlaps.{is_post, without}
-use Rattle.title_lock.specs.Asking.{asked, mode_at, AllGranted}
+use Rattle.std.proofs.{Common.{ℕ, Bool, cond, List, [], ◌∷◌, Option, None, eqb, refl, sym, ap, ◌∙◌}, lemmas.Bool.{eq-eqb}}
+use Rattle.title_lock.specs.{declared.{modes.Mode.{Mode}, guards.Entry.{Entry}}, Modes.{allows}, Overlaps.{is_post, without}}
+use Rattle.title_lock.{specs.Asking.{asked, mode_at, AllGranted}, proofs.GiveBack.{modes_without, allows_fewer}}
 use Rattle.title_lock.proofs.Overlap.{Allow, Apart, allow_turn, allow_parts, granted_apart, fit_granted}
-use Rattle.title_lock.proofs.GiveBack.{modes_without, allows_fewer}
+use Rattle.title_land.specs.{declared.node.Node.{Node}, Lands.{cover_of}}
 
 own_part : ℕ → Entry → ℕ → Node → Option Mode
 own_part depth x e n = cond (eqb e x.examiner) (asked (is_post x.access) (cover_of depth x.tract) n) None

@@ -1,14 +1,8 @@
 -- Shelves whose holders are each those of a node which stands there.
-use Rattle.std.proofs.Common.{◌≡◌, ◌≢◌, ◌∙◌, ℕ, Bool, true, false, cond, Option, Some, eqb, refl, sym, ap, subst}
-use Rattle.std.proofs.Common.{true≢false, arith}
-use Rattle.std.proofs.lemmas.Bool.{eqb-true, eqb-false}
-use Rattle.std.proofs.lemmas.Bool.Decides.{nat_tests}
-use Rattle.std.specs.Prelude.{is_some}
-use Rattle.std.specs.Ordering.{nat_cmp}
+use Rattle.std.proofs.Common.{◌≡◌, ◌≢◌, ◌∙◌, ℕ, Bool, true, false, cond, Option, Some, eqb, refl, sym, ap, subst, true≢false, arith}
+use Rattle.std.{proofs.lemmas.Bool.{eqb-true, eqb-false, Decides.{nat_tests}}, specs.{Prelude.{is_some}, Ordering.{nat_cmp}}}
 use Rattle.std.specs.BTreeMap.{get, is_at}
-use Rattle.title_lock.specs.Holders.{Modes}
-use Rattle.title_lock.specs.Tables.{IsNumberOn}
-use Rattle.title_lock.proofs.TableLaws.{NodeMap}
+use Rattle.title_lock.{specs.{Holders.{Modes}, Tables.{IsNumberOn}}, proofs.TableLaws.{NodeMap}}
 
 miss : (k j : ℕ) → j ≢ k → is_at (nat_cmp k) j ≡ false
 miss k j other = grind (arith, nat_tests)

@@ -1,15 +1,9 @@
 -- Who is idle at a node, and which holders are used, after one change and after several.
-use Rattle.std.proofs.Common.{◌≡◌, ◌≢◌, ℕ, Bool, true, false, cond, not, ◌&&◌, ◌||◌, [], ◌∷◌, length, Option}
-use Rattle.std.proofs.Common.{Some, None, is_some, eqb, refl, sym, ap, ◌∙◌, inl, inr, true≢false, arith}
-use Rattle.std.proofs.lemmas.Bool.{eqb-false, ne_eqb, or_cases, or_left, or_right}
-use Rattle.std.proofs.lemmas.Bool.Decides.{nat_tests}
-use Rattle.std.specs.Map.{lookup}
-use Rattle.std.specs.Ordering.{nat_cmp}
-use Rattle.std.specs.BTreeMap.{is_at}
+use Rattle.std.{proofs.Common.{◌≡◌, ◌≢◌, ℕ, Bool, true, false, cond, not, ◌&&◌, ◌||◌, [], ◌∷◌, length, Option}, specs.Map.{lookup}}
+use Rattle.std.proofs.{Common.{Some, None, is_some, eqb, refl, sym, ap, ◌∙◌, inl, inr, true≢false, arith}, lemmas.Bool.Decides.{nat_tests}}
+use Rattle.std.{proofs.lemmas.Bool.{eqb-false, ne_eqb, or_cases, or_left, or_right}, specs.{Ordering.{nat_cmp}, BTreeMap.{is_at}}}
 use Rattle.title_land.specs.declared.node.Node.{Node}
-use Rattle.title_lock.specs.declared.modes.Mode.{Mode}
-use Rattle.title_lock.specs.Modes.{bound}
-use Rattle.title_lock.specs.Holders.{Modes, holder_mode, has_room, idles, is_free}
+use Rattle.title_lock.specs.{declared.modes.Mode.{Mode}, Modes.{bound}, Holders.{Modes, holder_mode, has_room, idles, is_free}}
 use Rattle.title_lock.specs.Tables.{HeldAt, is_idle, IdleMore, IdleLess, NoMoreIdle}
 
 -- ---- the holders of one node

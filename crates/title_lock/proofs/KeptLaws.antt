@@ -1,17 +1,11 @@
 -- The locks with an access that is prepared, and without.
 use Rattle.std.proofs.Common.{◌≡◌, ◌≤◌, ◌+◌, ℕ, Bool, true, false, cond, not, ◌&&◌, List, [], ◌∷◌, ◌++◌, length, Option, Some, None, eqb}
-use Rattle.std.proofs.Common.{refl, sym, ap, subst, ◌∙◌, arith, inl, inr, true≢false}
-use Rattle.std.specs.List.{list_any}
+use Rattle.std.{proofs.Common.{refl, sym, ap, subst, ◌∙◌, arith, inl, inr, true≢false}, specs.List.{list_any}}
 use Rattle.std.proofs.lemmas.Bool.{eq-eqb, or_cases}
-use Rattle.title_land.specs.declared.node.Node.{Node}
-use Rattle.title_land.specs.Lands.{cover_of, IsLand}
-use Rattle.title_lock.specs.declared.guards.Entry.{Entry}
-use Rattle.title_lock.specs.declared.table.Table.{Table}
-use Rattle.title_lock.specs.Overlaps.{is_post, Stands, without}
-use Rattle.title_lock.specs.Books.{IsNewest}
+use Rattle.title_land.specs.{declared.node.Node.{Node}, Lands.{cover_of, IsLand}}
+use Rattle.title_lock.specs.{declared.{guards.Entry.{Entry}, table.Table.{Table}}, Overlaps.{is_post, Stands, without}, Books.{IsNewest}}
 use Rattle.title_lock.specs.Tables.{on_all, table_mode, is_asked, is_asked_by, HasRoom, is_idle, IdleMore, IdleLess, NoMoreIdle}
-use Rattle.title_lock.specs.Tables.{TableIs, TableUsed}
-use Rattle.title_lock.specs.Locks.{granted, waiting, IsReady, AreKept, IsLean}
+use Rattle.title_lock.specs.{Tables.{TableIs, TableUsed}, Locks.{granted, waiting, IsReady, AreKept, IsLean}}
 
 -- the table tells the modes of the entries, whether or not an access is prepared
 pub kept_table : (depth : ℕ) (p : Option ℕ) (book : List Entry) (t : Table) → AreKept depth p book t

@@ -1,7 +1,5 @@
 -- Tracts share a cell exactly where two nodes of their covers are one or lie one above the other.
-use Rattle.title_land.specs.Lands.{cover_of, meets}
-use Rattle.title_land.specs.Depth.{depth}
-use Rattle.title_land.specs.Laws.LandSharing.{equal_tests, lands_share}
+use Rattle.title_land.specs.{Lands.{cover_of, meets}, Depth.{depth}, Laws.LandSharing.{equal_tests, lands_share}}
 use Rattle.title_land.specs.Laws.TractSharing.{meets_at_a_cell}
 use Rattle.title_lock.proofs.Overlap.{MeetByCovers, related_any}
 

@@ -1,9 +1,6 @@
 -- The finite laws of the tables.
-use Rattle.std.proofs.Common.{◌≡◌, Bool, true, false, ◌&&◌, Option, Some, None, refl, sym, ap}
-use Rattle.std.proofs.lemmas.Bool.{and_parts}
-use Rattle.title_lock.specs.declared.modes.Mode.{Mode}
-use Rattle.title_lock.specs.declared.modes.Mode.TheVariants.{Is, Ix, S, Six, X}
-use Rattle.title_lock.specs.Modes.{compat, sup, bound, allows}
+use Rattle.std.proofs.{Common.{◌≡◌, Bool, true, false, ◌&&◌, Option, Some, None, refl, sym, ap}, lemmas.Bool.{and_parts}}
+use Rattle.title_lock.specs.{declared.modes.Mode.{Mode, TheVariants.{Is, Ix, S, Six, X}}, Modes.{compat, sup, bound, allows}}
 
 -- a test at each mode
 abbrev pub at_all : (Mode → Bool) → Bool

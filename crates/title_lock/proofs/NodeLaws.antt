@@ -1,16 +1,10 @@
 -- Nodes: the test of sameness is equality, and what lies above a node is its parent and what lies above that.
-use Rattle.std.proofs.Common.{◌≡◌, ◌+◌, ◌<◌, ◌≤◌, ℕ, suc, true, false, List}
-use Rattle.std.proofs.Common.{[], ◌∷◌, ◌++◌, length, Some, refl, sym, ap, subst, arith, inl}
-use Rattle.std.proofs.Common.{inr}
-use Rattle.std.specs.List.{list_any}
-use Rattle.std.proofs.lemmas.Bool.{or_cases, false_from_ne_true, both_ways}
-use Rattle.title_land.specs.declared.survey.Section.{Section}
-use Rattle.title_land.specs.declared.rectangle.Quarter.{Quarter}
-use Rattle.title_land.specs.declared.node.Node.{Node}
-use Rattle.title_land.specs.declared.node.Node.TheVariants as node
-use Rattle.title_land.specs.Nodes.{same_node, parent_of, above_in, above, is_above}
-use Rattle.title_land.specs.Laws.SameNode.{same_node-is, same_node-self}
+use Rattle.std.proofs.Common.{◌≡◌, ◌+◌, ◌<◌, ◌≤◌, ℕ, suc, true, false, List, [], ◌∷◌, ◌++◌, length, Some, refl, sym, ap, subst, arith, inl}
+use Rattle.std.{proofs.{Common.{inr}, lemmas.Bool.{or_cases, false_from_ne_true, both_ways}}, specs.List.{list_any}}
+use Rattle.title_land.specs.declared.{survey.Section.{Section}, rectangle.Quarter.{Quarter}, node.Node.{Node}}
+use Rattle.title_land.specs.{Nodes.{same_node, parent_of, above_in, above, is_above}, Laws.SameNode.{same_node-is, same_node-self}}
 use Rattle.title_land.specs.Laws.CoverSet.{above_by_parent}
+use Rattle.title_land.specs.declared.node.Node.TheVariants as node
 
 pub same_self : (n : Node) → same_node n n ≡ true
 same_self n = same_node-self n

@@ -1,11 +1,7 @@
 -- A node lies above another exactly where it is met on the way up by numbers.
-use Rattle.std.proofs.Common.{◌≡◌, ◌≢◌, ◌<◌, ◌≤◌, ℕ, Bool, true, false, ◌||◌, List, eqb, refl, sym, ap, ◌∙◌}
-use Rattle.std.proofs.Common.{arith}
+use Rattle.std.{proofs.Common.{◌≡◌, ◌≢◌, ◌<◌, ◌≤◌, ℕ, Bool, true, false, ◌||◌, List, eqb, refl, sym, ap, ◌∙◌, arith}, specs.List.{list_any}}
 use Rattle.std.proofs.lemmas.Bool.{or_from, or_left, false_from_ne_true, eqb-true, eqb-false}
-use Rattle.std.specs.List.{list_any}
-use Rattle.title_land.specs.declared.node.Node.{Node}
-use Rattle.title_land.specs.Nodes.{same_node, is_above}
-use Rattle.title_land.specs.NodeNumbers.{node_number, number_above}
+use Rattle.title_land.specs.{declared.node.Node.{Node}, Nodes.{same_node, is_above}, NodeNumbers.{node_number, number_above}}
 use Rattle.title_land.specs.Laws.NodeNumbers.{numbers_tell_nodes, node_above, above_less}
 use Rattle.title_lock.proofs.NodeLaws.{same_self, same_true, above_of}
 

@@ -1,22 +1,13 @@
 -- An entry is granted by modes exactly where no other examiner's entry overlaps it.
 use Rattle.std.proofs.Common.{◌≡◌, ◌≢◌, ℕ, Bool, true, false, cond, ◌&&◌, ◌||◌, List, [], ◌∷◌, Option, Some, None, is_some, eqb, refl, sym}
-use Rattle.std.proofs.Common.{ap, subst, ◌∙◌, inl, inr}
-use Rattle.std.specs.List.{list_any}
+use Rattle.std.{proofs.{Common.{ap, subst, ◌∙◌, inl, inr}, lemmas.Bool.{eqb-true}}, specs.List.{list_any}}
 use Rattle.std.proofs.lemmas.Bool.{and_parts, and_from, or_parts, or_from, or_left, or_right, or_cases, false_from_ne_true, both_ways}
-use Rattle.std.proofs.lemmas.Bool.{eqb-true}
 use Rattle.std.proofs.lemmas.List.Elements.{All-head, All-tail}
-use Rattle.title_land.specs.declared.node.Node.{Node}
-use Rattle.title_land.specs.declared.tract.Land.{Land}
-use Rattle.title_land.specs.Nodes.{same_node, is_above, are_related}
+use Rattle.title_land.specs.{declared.{node.Node.{Node}, tract.Land.{Land}}, Nodes.{same_node, is_above, are_related}}
 use Rattle.title_land.specs.Lands.{cover_of, meets, IsLand}
-use Rattle.title_lock.specs.declared.modes.Mode.{Mode}
-use Rattle.title_lock.specs.declared.modes.Mode.TheVariants.{Is, S}
-use Rattle.title_lock.specs.declared.guards.Entry.{Entry}
-use Rattle.title_lock.specs.Modes.{bound, allows}
-use Rattle.title_lock.specs.Overlaps.{is_post, against}
+use Rattle.title_lock.specs.{declared.{modes.Mode.{Mode, TheVariants.{Is, S}}, guards.Entry.{Entry}}, Modes.{bound, allows}}
+use Rattle.title_lock.{specs.{Overlaps.{is_post, against}, Asking.{ModesDecideOverlap}}, proofs.ModeLaws.{bound_allows, allows_turn}}
 use Rattle.title_lock.specs.Asking.{own_mode, above_mode, asked_for, asked, mode_at, GrantedByModes, AllGranted, AreSized}
-use Rattle.title_lock.specs.Asking.{ModesDecideOverlap}
-use Rattle.title_lock.proofs.ModeLaws.{bound_allows, allows_turn}
 use Rattle.title_lock.proofs.NodeLaws.{same_self, same_true, same_turned}
 
 -- two lists of nodes have two that are one or lie one above the other

@@ -1,8 +1,7 @@
 -- A list of entries gone through from the oldest to the newest.
 use Rattle.std.proofs.Common.{◌≡◌, ◌<◌, ◌+◌, ℕ, Bool, List, [], ◌∷◌, filter, reverse, length, take, get_or, ap, ◌∙◌}
 use Rattle.std.proofs.lemmas.List.{take_more, reverse-append}
-use Rattle.title_lock.specs.declared.guards.Entry.{Entry}
-use Rattle.title_lock.proofs.BookLaws.{filter_turned}
+use Rattle.title_lock.{specs.declared.guards.Entry.{Entry}, proofs.BookLaws.{filter_turned}}
 
 -- one entry more stands before those so far
 pub turned_more : (rows : List Entry) (i : ℕ) (d : Entry) → i < length rows → reverse (take (i + 1) rows)

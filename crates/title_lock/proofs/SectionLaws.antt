@@ -1,16 +1,9 @@
 -- Tables whose squares stand on a shelf for each section, and the plant and its townships on another.
-use Rattle.std.proofs.Common.{◌≡◌, ℕ, true, false, List, [], ◌∷◌, length, Option, Some, None, eqb, refl, sym, ap}
-use Rattle.std.proofs.Common.{subst, ◌∙◌, arith, true≢false}
-use Rattle.std.proofs.lemmas.Bool.{ne_eqb, false_from_ne_true}
-use Rattle.std.specs.Map.{lookup}
-use Rattle.std.specs.Ordering.{nat_cmp}
-use Rattle.std.specs.BTreeMap.{get, is_at}
-use Rattle.std.specs.Prelude.{IsSome}
-use Rattle.title_land.specs.declared.node.Node.{Node}
-use Rattle.title_land.specs.NodeNumbers.{node_number}
-use Rattle.title_lock.specs.declared.shelf.Shelf.{Shelf}
-use Rattle.title_lock.specs.Holders.{Modes}
-use Rattle.title_lock.specs.Tables.{HeldAt, on_shelf, on_some, is_bare}
+use Rattle.std.{proofs.Common.{◌≡◌, ℕ, true, false, List, [], ◌∷◌, length, Option, Some, None, eqb, refl, sym, ap}, specs.Map.{lookup}}
+use Rattle.std.{proofs.{Common.{subst, ◌∙◌, arith, true≢false}, lemmas.Bool.{ne_eqb, false_from_ne_true}}, specs.Ordering.{nat_cmp}}
+use Rattle.std.specs.{BTreeMap.{get, is_at}, Prelude.{IsSome}}
+use Rattle.title_land.specs.{declared.node.Node.{Node}, NodeNumbers.{node_number}}
+use Rattle.title_lock.specs.{declared.shelf.Shelf.{Shelf}, Holders.{Modes}, Tables.{HeldAt, on_shelf, on_some, is_bare}}
 use Rattle.title_lock.specs.Tables.{holders_at, table_room}
 
 -- what holds of a shelf holds where it stands

@@ -1,27 +1,15 @@
 -- What is done on the one shelf where nodes stand, told of the whole table.
 use Rattle.std.proofs.Common.{◌≡◌, ◌≢◌, ℕ, Bool, true, false, cond, not, ◌&&◌, ◌||◌, List, [], ◌∷◌, Option, Some, None, eqb, refl}
-use Rattle.std.proofs.Common.{sym, ap, subst, ◌∙◌, true≢false}
-use Rattle.std.proofs.lemmas.Bool.{eqb-true, eqb-false, false_from_ne_true, or_left}
-use Rattle.std.specs.Ordering.{nat_cmp}
-use Rattle.std.specs.BTreeMap.{get}
-use Rattle.title_land.specs.declared.node.Node.{Node}
+use Rattle.std.proofs.{Common.{sym, ap, subst, ◌∙◌, true≢false}, lemmas.Bool.{eqb-true, eqb-false, false_from_ne_true, or_left}}
+use Rattle.std.specs.{Ordering.{nat_cmp}, BTreeMap.{get}}
+use Rattle.title_land.specs.{declared.node.Node.{Node}, Nodes.{same_node}}
 use Rattle.title_land.specs.declared.node.Node.TheVariants as node
-use Rattle.title_land.specs.Nodes.{same_node}
-use Rattle.title_lock.specs.declared.modes.Mode.{Mode}
-use Rattle.title_lock.specs.declared.walks.Climb.{Climb}
-use Rattle.title_lock.specs.declared.shelf.Shelf.{Shelf}
-use Rattle.title_lock.specs.declared.table.Table.{Table}
-use Rattle.title_lock.specs.Modes.{bound}
-use Rattle.title_lock.specs.Overlaps.{IsLeast}
-use Rattle.title_lock.specs.Holders.{Modes}
-use Rattle.title_lock.specs.Tables.{HeldAt, on_shelf, on_some, nowhere, on_all, mode_in, room_in, idle_in}
-use Rattle.title_lock.specs.Tables.{table_mode, is_idle, shelf_above, home_of}
-use Rattle.title_lock.specs.Tables.{HasRoom, IdleLess, AllUsed, IsStocked, AreAtHome, IsAtHome, TableUsed}
+use Rattle.title_lock.specs.{declared.{modes.Mode.{Mode}, walks.Climb.{Climb}, shelf.Shelf.{Shelf}, table.Table.{Table}}, Modes.{bound}}
+use Rattle.title_lock.specs.{Overlaps.{IsLeast}, Holders.{Modes}, Tables.{table_mode, is_idle, shelf_above, home_of}}
+use Rattle.title_lock.{specs.Tables.{HeldAt, on_shelf, on_some, nowhere, on_all, mode_in, room_in, idle_in}, proofs.AccessLaws.{rest_none}}
+use Rattle.title_lock.{specs.Tables.{HasRoom, IdleLess, AllUsed, IsStocked, AreAtHome, IsAtHome, TableUsed}, proofs.LeastLaws.{least_same}}
 use Rattle.title_lock.specs.Walks.{Asked, asks_above, node_of, asked_in, asks_in, clashes_in, climb_asks, Roomed, Raised, TakenOut}
-use Rattle.title_lock.proofs.AccessLaws.{rest_none}
-use Rattle.title_lock.proofs.WalkLaws.{asked_nowhere, StandOn, on_home, clash_at_home, climb_stands}
-use Rattle.title_lock.proofs.LeastLaws.{least_same}
-use Rattle.title_lock.proofs.NodeLaws.{same_self}
+use Rattle.title_lock.proofs.{WalkLaws.{asked_nowhere, StandOn, on_home, clash_at_home, climb_stands}, NodeLaws.{same_self}}
 
 -- ---- homes
 

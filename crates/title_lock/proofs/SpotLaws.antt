@@ -1,15 +1,9 @@
 -- What a node's number tells of it.
 use Rattle.std.proofs.Common.{◌≡◌, ℕ, true, List, [], ◌∷◌, Some, refl, sym, ap, ◌∙◌}
-use Rattle.title_land.specs.declared.survey.Section.{Section}
-use Rattle.title_land.specs.declared.survey.Township.{Township}
-use Rattle.title_land.specs.declared.rectangle.Quarter.{Quarter}
-use Rattle.title_land.specs.declared.node.Node.{Node}
+use Rattle.title_land.specs.declared.{survey.{Section.{Section}, Township.{Township}}, rectangle.Quarter.{Quarter}, node.Node.{Node}}
+use Rattle.title_land.specs.{Nodes.{is_square}, NodeNumbers.{section_number, node_number}, Laws.NodeNumbers.{numbers_tell_nodes}}
 use Rattle.title_land.specs.declared.node.Node.TheVariants as node
-use Rattle.title_land.specs.Nodes.{is_square}
-use Rattle.title_land.specs.NodeNumbers.{section_number, node_number}
-use Rattle.title_land.specs.Laws.NodeNumbers.{numbers_tell_nodes}
-use Rattle.title_lock.specs.Spots.{IsNumber}
-use Rattle.title_lock.specs.Tables.{home_of, upper_above}
+use Rattle.title_lock.specs.{Spots.{IsNumber}, Tables.{home_of, upper_above}}
 
 -- a node is told by its number
 pub told : {k : ℕ} (s : IsNumber k) (n : Node) → k ≡ node_number n → s.node ≡ n

@@ -1,14 +1,9 @@
 -- Entries that stand without overlap are granted by modes, and the other way round.
-use Rattle.std.proofs.Common.{◌≡◌, ℕ, Bool, false, not, ◌&&◌, List, [], ◌∷◌, eqb, refl}
-use Rattle.std.proofs.lemmas.Bool.{or_parts, or_from, cases_Bool}
-use Rattle.std.proofs.lemmas.List.Elements.{All-head, All-tail}
-use Rattle.std.proofs.Common.{inl, inr}
-use Rattle.title_land.specs.declared.tract.Land.{Land}
-use Rattle.title_land.specs.Lands.{IsLand}
-use Rattle.title_lock.specs.declared.guards.Entry.{Entry}
-use Rattle.title_lock.specs.Overlaps.{is_post, overlap, against, without}
-use Rattle.title_lock.specs.Standing.{FreeAreGranted, GrantedAreFree, LeftStandFree}
-use Rattle.title_lock.proofs.Overlap.{MeetByCovers, modes_decide}
+use Rattle.std.proofs.{Common.{◌≡◌, ℕ, Bool, false, not, ◌&&◌, List, [], ◌∷◌, eqb, refl}, lemmas.Bool.{or_parts, or_from, cases_Bool}}
+use Rattle.std.proofs.{lemmas.List.Elements.{All-head, All-tail}, Common.{inl, inr}}
+use Rattle.title_land.specs.{declared.tract.Land.{Land}, Lands.{IsLand}}
+use Rattle.title_lock.specs.{declared.guards.Entry.{Entry}, Overlaps.{is_post, overlap, against, without}}
+use Rattle.title_lock.{specs.Standing.{FreeAreGranted, GrantedAreFree, LeftStandFree}, proofs.Overlap.{MeetByCovers, modes_decide}}
 
 pub free_granted : (depth : ℕ) → MeetByCovers depth → FreeAreGranted depth
 free_granted depth by [] sized free = tt

@@ -1,23 +1,11 @@
 -- Tables of locks, one node's holders changed at a time.
-use Rattle.std.proofs.Common.{◌≡◌, ℕ, Bool, true, false, cond, ◌&&◌, [], Option, Some, None, length, not}
-use Rattle.std.proofs.Common.{eqb, refl, sym, ap, subst, ◌∙◌}
-use Rattle.std.proofs.Common.{◌||◌, true≢false}
-use Rattle.std.proofs.lemmas.Bool.{eqb-true, or_left}
-use Rattle.std.specs.Prelude.{IsSome}
-use Rattle.std.specs.Ordering.{nat_cmp}
-use Rattle.std.specs.BTreeMap.{BTreeMap, get, is_at}
-use Rattle.std.proofs.lemmas.List.{nil_from_length}
-use Rattle.title_land.specs.declared.node.Node.{Node}
-use Rattle.title_land.specs.Nodes.{same_node}
-use Rattle.title_lock.specs.declared.modes.Mode.{Mode}
-use Rattle.title_lock.specs.Modes.{bound}
-use Rattle.title_lock.specs.Holders.{Modes, holder_mode, is_free}
-use Rattle.title_lock.specs.Tables.{holders_at, mode_in, room_in, idle_in, unused_in}
-use Rattle.title_lock.proofs.ModeLaws.{and_true, bound_none}
+use Rattle.std.proofs.Common.{◌≡◌, ℕ, Bool, true, false, cond, ◌&&◌, [], Option, Some, None, length, not, eqb, refl, sym, ap, subst, ◌∙◌}
+use Rattle.std.{proofs.{Common.{◌||◌, true≢false}, lemmas.Bool.{eqb-true, or_left}}, specs.{Prelude.{IsSome}, Ordering.{nat_cmp}}}
+use Rattle.std.{specs.BTreeMap.{BTreeMap, get, is_at}, proofs.lemmas.List.{nil_from_length}}
+use Rattle.title_land.specs.{declared.node.Node.{Node}, Nodes.{same_node}, NodeNumbers.{node_number}, Laws.NodeNumbers.{numbered_at}}
+use Rattle.title_lock.{specs.{declared.modes.Mode.{Mode}, Modes.{bound}, Holders.{Modes, holder_mode, is_free}}, proofs.Overlap.{and_none}}
+use Rattle.title_lock.{specs.Tables.{holders_at, mode_in, room_in, idle_in, unused_in}, proofs.ModeLaws.{and_true, bound_none}}
 use Rattle.title_lock.proofs.NodeLaws.{same_true}
-use Rattle.title_land.specs.NodeNumbers.{node_number}
-use Rattle.title_land.specs.Laws.NodeNumbers.{numbered_at}
-use Rattle.title_lock.proofs.Overlap.{and_none}
 
 abbrev pub NodeMap : Type 0
 NodeMap = BTreeMap ℕ Modes

@@ -1,32 +1,19 @@
 -- What a walk asks is what its access asks for, and what is done along its parts is done along the whole.
 use Rattle.std.proofs.Common.{◌≡◌, ℕ, Bool, true, false, cond, not, ◌&&◌, ◌||◌, List, [], ◌∷◌, ◌++◌, Option, Some, None, is_some}
 use Rattle.std.proofs.Common.{refl, sym, ap, subst, ◌∙◌, true≢false, inl, inr, suc, ◌+◌, ◌<◌, length, length-append, append_assoc}
-use Rattle.std.proofs.Common.{eqb, arith}
+use Rattle.std.{proofs.{Common.{eqb, arith}, lemmas.List.Elements.{All-nil, All-cons, All-head, All-tail}}, specs.Prelude.{All}}
 use Rattle.std.proofs.lemmas.Bool.{eqb-true, or_cases, or_left, or_right, or_from, or_parts, cond_both, not-false, not_from_true}
-use Rattle.std.specs.Prelude.{All}
-use Rattle.std.proofs.lemmas.List.Elements.{All-nil, All-cons, All-head, All-tail}
-use Rattle.std.proofs.lemmas.List.Folds.{list_any-append}
-use Rattle.std.specs.List.{list_any}
-use Rattle.title_land.specs.declared.survey.Section.{Section}
-use Rattle.title_land.specs.declared.rectangle.Quarter.{Quarter}
-use Rattle.title_land.specs.declared.node.Node.{Node}
+use Rattle.std.{proofs.lemmas.List.Folds.{list_any-append}, specs.List.{list_any}}
+use Rattle.title_land.specs.declared.{survey.Section.{Section}, rectangle.Quarter.{Quarter}, node.Node.{Node}}
+use Rattle.title_land.specs.{Nodes.{same_node, above_in, above, is_above}, Laws.NodeSharing.{above_is_transitive}}
+use Rattle.title_land.specs.{NodeNumbers.{section_number}, Laws.NodeNumbers.{numbers_tell_nodes}}
 use Rattle.title_land.specs.declared.node.Node.TheVariants as node
-use Rattle.title_land.specs.Nodes.{same_node, above_in, above, is_above}
-use Rattle.title_land.specs.Laws.NodeSharing.{above_is_transitive}
-use Rattle.title_lock.specs.declared.modes.Mode.{Mode}
-use Rattle.title_lock.specs.Modes.{bound, allows}
-use Rattle.title_lock.specs.Asking.{own_mode, above_mode, asked_for, asked}
-use Rattle.title_lock.specs.Holders.{clashes}
-use Rattle.title_land.specs.NodeNumbers.{section_number}
-use Rattle.title_land.specs.Laws.NodeNumbers.{numbers_tell_nodes}
-use Rattle.title_lock.specs.declared.spots.Spot.{Spot}
-use Rattle.title_lock.specs.declared.walks.Climb.{Climb}
+use Rattle.title_lock.specs.{declared.modes.Mode.{Mode}, Modes.{bound, allows}, Asking.{own_mode, above_mode, asked_for, asked}}
+use Rattle.title_lock.specs.{Holders.{clashes}, declared.{spots.Spot.{Spot}, walks.Climb.{Climb}}, Walks.{node_of, climb_asks, climb_left}}
 use Rattle.title_lock.specs.Tables.{clashes_with, is_asked, shelf_above, upper_above, home_of}
 use Rattle.title_lock.specs.Walks.{Asked, mode_for, is_known, asks_above, walk, asked_in, asks_in, clashes_in}
-use Rattle.title_lock.specs.Walks.{node_of, climb_asks, climb_left}
 use Rattle.title_lock.proofs.ModeLaws.{bound_none, bound_assoc, bound_turn, bound_right, sup_self}
-use Rattle.title_lock.proofs.NodeLaws.{same_self, same_true, above_apart}
-use Rattle.title_lock.proofs.Overlap.{Allow, allow_bound, allow_parts}
+use Rattle.title_lock.proofs.{NodeLaws.{same_self, same_true, above_apart}, Overlap.{Allow, allow_bound, allow_parts}}
 use Rattle.title_lock.proofs.WayLaws.{fits_all, clear_all, same_when_false}
 
 -- ---- parts in turn

@@ -1,21 +1,12 @@
 -- What a table of locks says of who is in the way is what the entries say.
 use Rattle.std.proofs.Common.{◌≡◌, ℕ, Bool, true, false, cond, List, [], ◌∷◌, Option, Some, None, refl, sym, ap, subst, ◌∙◌, inl, inr}
 use Rattle.std.proofs.lemmas.Bool.{or_parts, or_cases, or_from, or_left, or_right, false_from_ne_true, both_ways, cond_both, not-false}
-use Rattle.std.proofs.lemmas.Bool.{not_from_true}
-use Rattle.std.specs.List.{list_any}
-use Rattle.title_land.specs.declared.node.Node.{Node}
-use Rattle.title_land.specs.declared.tract.Land.{Land}
-use Rattle.title_land.specs.Nodes.{same_node, above, is_above}
-use Rattle.title_land.specs.Lands.{cover_of, IsLand}
-use Rattle.title_lock.specs.declared.modes.Mode.{Mode}
-use Rattle.title_lock.specs.declared.guards.Entry.{Entry}
-use Rattle.title_lock.specs.Modes.{allows}
-use Rattle.title_lock.specs.Overlaps.{IsLeast, against}
-use Rattle.title_lock.specs.Asking.{own_mode, above_mode, asked_for, asked}
-use Rattle.title_lock.specs.Holders.{clashes}
+use Rattle.std.{proofs.lemmas.Bool.{not_from_true}, specs.List.{list_any}}
+use Rattle.title_land.specs.{declared.{node.Node.{Node}, tract.Land.{Land}}, Nodes.{same_node, above, is_above}, Lands.{cover_of, IsLand}}
+use Rattle.title_lock.specs.{declared.{modes.Mode.{Mode}, guards.Entry.{Entry}}, Modes.{allows}, Overlaps.{IsLeast, against}}
+use Rattle.title_lock.{specs.{Asking.{own_mode, above_mode, asked_for, asked}, Holders.{clashes}}, proofs.LeastLaws.{least_same}}
 use Rattle.title_lock.specs.Tables.{HeldAt, table_mode, clashes_above, clashes_for, clashes_with, TableIs}
 use Rattle.title_lock.proofs.NodeLaws.{same_self, same_true, above_apart}
-use Rattle.title_lock.proofs.LeastLaws.{least_same}
 use Rattle.title_lock.proofs.Overlap.{MeetByCovers, Allow, allow_bound, allow_parts, entries_fit, entries_clear}
 
 -- ---- in the way exactly where the modes don't stand beside each other

@@ -2,14 +2,8 @@
 -- Putzolu, Traiger, Granularity of Locks and Degrees of Consistency in a Shared Data Base, 1976). The depth is how often
 -- a section is quartered.
 use Rattle.std.specs.Prelude.{ℕ, ◌≡◌, ◌≢◌, ◌↔◌, ◌==◌, Bool, true, false, if◌then◌else◌, List, [], ◌∷◌, Option, Some, None, is_some, All}
-use Rattle.title_land.specs.declared.node.Node.{Node}
-use Rattle.title_land.specs.declared.tract.Land.{Land}
-use Rattle.title_land.specs.Nodes.{same_node, is_above}
-use Rattle.title_land.specs.Lands.{cover_of, IsLand}
-use Rattle.title_lock.specs.declared.modes.Mode.{Mode}
-use Rattle.title_lock.specs.declared.modes.Mode.TheVariants.{Is, Ix, S, X}
-use Rattle.title_lock.specs.declared.guards.Entry.{Entry}
-use Rattle.title_lock.specs.Modes.{bound, allows}
+use Rattle.title_land.specs.{declared.{node.Node.{Node}, tract.Land.{Land}}, Nodes.{same_node, is_above}, Lands.{cover_of, IsLand}}
+use Rattle.title_lock.specs.{declared.{modes.Mode.{Mode, TheVariants.{Is, Ix, S, X}}, guards.Entry.{Entry}}, Modes.{bound, allows}}
 use Rattle.title_lock.specs.Overlaps.{is_post, against, without}
 
 -- what is asked at a node of the cover: S by a read, X by a post

@@ -1,11 +1,7 @@
 -- Entries by the numbers of their coming, and which are whose.
 use Rattle.std.specs.Prelude.{ℕ, ◌≡◌, ◌<◌, ◌==◌, nat_lt, Bool, false, if◌then◌else◌, List, [], ◌∷◌, ◌++◌, Option, Some, None, All, length}
-use Rattle.std.specs.Prelude.{vec_len, vec_capacity}
-use Rattle.std.specs.Global.{Vec}
-use Rattle.std.specs.Ordering.{nat_cmp}
-use Rattle.std.specs.BTreeMap.{BTreeMap, get, keys, IsOrdered}
-use Rattle.title_lock.specs.declared.guards.Entry.{Entry}
-use Rattle.title_lock.specs.Overlaps.{without}
+use Rattle.std.specs.{Prelude.{vec_len, vec_capacity}, Global.{Vec}, Ordering.{nat_cmp}, BTreeMap.{BTreeMap, get, keys, IsOrdered}}
+use Rattle.title_lock.specs.{declared.guards.Entry.{Entry}, Overlaps.{without}}
 
 -- there is no entry
 abbrev pub is_nothing : List Entry → Bool

@@ -1,6 +1,5 @@
 -- How many examiners have a mode.
-use Rattle.std.specs.Prelude.{ℕ, ◌≡◌, ◌↔◌, ◌==◌, Bool, true, false, List, [], ◌∷◌, length, Option, Some}
-use Rattle.std.specs.List.{list_any}
+use Rattle.std.specs.{Prelude.{ℕ, ◌≡◌, ◌↔◌, ◌==◌, Bool, true, false, List, [], ◌∷◌, length, Option, Some}, List.{list_any}}
 use Rattle.title_lock.specs.declared.modes.Mode.{Mode}
 
 abbrev pub member : ℕ → List ℕ → Bool

@@ -1,16 +1,9 @@
 -- The holders of one node: the mode of each, who has room for one, and how many have each mode.
 use Rattle.std.specs.Prelude.{ℕ, ◌≡◌, ◌<◌, ◌^◌, ◌==◌, nat_le, Bool, true, false, ◌&&◌, ◌||◌, not, if◌then◌else◌, Option, Some, None}
-use Rattle.std.specs.Prelude.{is_some, List, ◌∷◌, length}
-use Rattle.std.specs.Ordering.{nat_cmp}
-use Rattle.std.specs.Map.{lookup}
-use Rattle.std.specs.BTreeMap.{is_at}
-use Rattle.title_lock.specs.declared.modes.Mode.{Mode}
-use Rattle.title_lock.specs.declared.modes.Mode.TheVariants.{Is, Ix, S, Six, X}
-use Rattle.title_lock.specs.declared.counts.Counts.{Counts}
-use Rattle.title_lock.specs.declared.holders.Taken.{Taken}
+use Rattle.std.specs.{Prelude.{is_some, List, ◌∷◌, length}, Ordering.{nat_cmp}, Map.{lookup}, BTreeMap.{is_at}}
+use Rattle.title_lock.specs.declared.{modes.Mode.{Mode, TheVariants.{Is, Ix, S, Six, X}}, counts.Counts.{Counts}, holders.Taken.{Taken}}
+use Rattle.title_lock.specs.{Modes.{in_row, compat, allows}, Counts.{IsCount}}
 use Rattle.title_lock.specs.declared.holders.Taken.TheVariants as taken
-use Rattle.title_lock.specs.Modes.{in_row, compat, allows}
-use Rattle.title_lock.specs.Counts.{IsCount}
 
 -- the slots among the holders of a node, by examiners, with the mode of each that holds the node
 abbrev pub Modes : Type 0

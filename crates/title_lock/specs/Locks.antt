@@ -1,14 +1,8 @@
 -- What locks show: the entries, and the access that there is room for.
-use Rattle.std.specs.Prelude.{ℕ, ◌≡◌, ◌==◌, List, [], ◌∷◌, Bool, true, false, if◌then◌else◌, Option, Some, None, All}
-use Rattle.std.specs.List.{list_any}
-use Rattle.title_land.specs.declared.node.Node.{Node}
-use Rattle.title_land.specs.Lands.{cover_of, IsLand}
-use Rattle.title_lock.specs.declared.guards.Entry.{Entry}
-use Rattle.title_lock.specs.declared.table.Table.{Table}
-use Rattle.title_lock.specs.Overlaps.{is_post, Stands}
-use Rattle.title_lock.specs.Asking.{AreSized}
-use Rattle.title_lock.specs.Standing.{StandFree}
-use Rattle.title_lock.specs.Tables.{on_all, is_asked, is_asked_by, HasRoom, is_idle, TableIs, TableUsed}
+use Rattle.std.specs.{Prelude.{ℕ, ◌≡◌, ◌==◌, List, [], ◌∷◌, Bool, true, false, if◌then◌else◌, Option, Some, None, All}, List.{list_any}}
+use Rattle.title_land.specs.{declared.node.Node.{Node}, Lands.{cover_of, IsLand}}
+use Rattle.title_lock.specs.{declared.{guards.Entry.{Entry}, table.Table.{Table}}, Overlaps.{is_post, Stands}, Asking.{AreSized}}
+use Rattle.title_lock.specs.{Standing.{StandFree}, Tables.{on_all, is_asked, is_asked_by, HasRoom, is_idle, TableIs, TableUsed}}
 
 -- the entries, the newest first, and the one that there is room for, if there is one
 pub record Locks : Type 0 where

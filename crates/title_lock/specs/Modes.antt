@@ -1,8 +1,7 @@
 -- Modes of locks: which stand beside each other, and their least upper bounds (Gray, Lorie, Putzolu, Traiger,
 -- Granularity of Locks and Degrees of Consistency in a Shared Data Base, 1976).
 use Rattle.std.specs.Prelude.{◌≡◌, Bool, true, false, ◌&&◌, Option, Some, None}
-use Rattle.title_lock.specs.declared.modes.Mode.{Mode}
-use Rattle.title_lock.specs.declared.modes.Mode.TheVariants.{Is, Ix, S, Six, X}
+use Rattle.title_lock.specs.declared.modes.Mode.{Mode, TheVariants.{Is, Ix, S, Six, X}}
 
 -- one row of a table, from IS to X
 abbrev pub in_row : {V : Type 0} → V → V → V → V → V → Mode → V

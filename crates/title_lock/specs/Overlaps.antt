@@ -1,12 +1,8 @@
 -- Entries, who is in whose way by cells, and what is left when an examiner gives its locks back.
 use Rattle.std.specs.Prelude.{ℕ, ◌≡◌, ◌≢◌, ◌<◌, Bool, true, false, ◌&&◌, ◌||◌, ◌==◌, nat_lt, if◌then◌else◌, List, [], ◌∷◌, Option}
 use Rattle.std.specs.Prelude.{Some, None, filter, not}
-use Rattle.title_land.specs.declared.tract.Land.{Land}
-use Rattle.title_land.specs.Lands.{meets}
-use Rattle.title_lock.specs.declared.guards.Access.{Access}
-use Rattle.title_lock.specs.declared.guards.Access.TheVariants.{Read, Post}
-use Rattle.title_lock.specs.declared.guards.Entry.{Entry}
-use Rattle.title_lock.specs.declared.guards.LockFault.{LockFault}
+use Rattle.title_land.specs.{declared.tract.Land.{Land}, Lands.{meets}}
+use Rattle.title_lock.specs.declared.guards.{Access.{Access, TheVariants.{Read, Post}}, Entry.{Entry}, LockFault.{LockFault}}
 use Rattle.title_lock.specs.declared.guards.LockFault.TheVariants.{Conflict, Memory}
 
 abbrev pub is_post : Access → Bool

@@ -1,10 +1,6 @@
 -- Nodes by their numbers.
-use Rattle.std.specs.Prelude.{ℕ, ◌≡◌}
-use Rattle.std.proofs.Common.{sym, ◌∙◌, ap, subst}
-use Rattle.std.proofs.Math.Nat.{ℕ_set}
-use Rattle.title_land.specs.declared.node.Node.{Node}
-use Rattle.title_land.specs.NodeNumbers.{node_number}
-use Rattle.title_land.specs.Laws.NodeNumbers.{numbers_tell_nodes}
+use Rattle.std.{specs.Prelude.{ℕ, ◌≡◌}, proofs.{Common.{sym, ◌∙◌, ap, subst}, Math.Nat.{ℕ_set}}}
+use Rattle.title_land.specs.{declared.node.Node.{Node}, NodeNumbers.{node_number}, Laws.NodeNumbers.{numbers_tell_nodes}}
 
 -- a node has this number
 pub record IsNumber (k : ℕ) : Type 0 where

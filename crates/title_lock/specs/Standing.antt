@@ -1,8 +1,6 @@
 -- Entries that stand without overlap, and that they are granted by modes.
 use Rattle.std.specs.Prelude.{ℕ, List, [], ◌∷◌, None}
-use Rattle.title_lock.specs.declared.guards.Entry.{Entry}
-use Rattle.title_lock.specs.Overlaps.{is_post, Stands, without}
-use Rattle.title_lock.specs.Asking.{AllGranted, AreSized}
+use Rattle.title_lock.specs.{declared.guards.Entry.{Entry}, Overlaps.{is_post, Stands, without}, Asking.{AllGranted, AreSized}}
 
 -- nobody was in the way of any entry when it came
 abbrev pub StandFree : List Entry → Type 0

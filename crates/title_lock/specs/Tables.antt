@@ -1,19 +1,10 @@
 -- What a table of locks says: who holds each node, and who is in the way of an access by these modes.
-use Rattle.std.specs.Prelude.{ℕ, ◌≡◌, ◌≢◌, ◌==◌, Bool, true, false, ◌&&◌, ◌||◌, not, List, [], ◌∷◌, length}
-use Rattle.std.specs.Prelude.{Option, Some, None, is_some, IfSome}
-use Rattle.std.specs.List.{list_any}
-use Rattle.std.specs.Ordering.{nat_cmp}
-use Rattle.std.specs.BTreeMap.{BTreeMap, get}
-use Rattle.title_land.specs.declared.node.Node.{Node}
-use Rattle.title_land.specs.declared.node.Node.TheVariants as node
-use Rattle.title_land.specs.Nodes.{same_node, above, above_in, is_above}
-use Rattle.title_land.specs.Lands.{cover_of}
-use Rattle.title_lock.specs.declared.modes.Mode.{Mode}
-use Rattle.title_lock.specs.declared.shelf.Shelf.{Shelf}
-use Rattle.title_lock.specs.declared.table.Table.{Table}
-use Rattle.title_lock.specs.declared.guards.Entry.{Entry}
+use Rattle.std.specs.{Prelude.{ℕ, ◌≡◌, ◌≢◌, ◌==◌, Bool, true, false, ◌&&◌, ◌||◌, not, List, [], ◌∷◌, length}, List.{list_any}}
+use Rattle.std.specs.{Prelude.{Option, Some, None, is_some, IfSome}, Ordering.{nat_cmp}, BTreeMap.{BTreeMap, get}}
+use Rattle.title_land.specs.{declared.node.Node.{Node}, Nodes.{same_node, above, above_in, is_above}, Lands.{cover_of}}
 use Rattle.title_land.specs.NodeNumbers.{node_number, section_number}
-use Rattle.title_lock.specs.Modes.{allows}
+use Rattle.title_land.specs.declared.node.Node.TheVariants as node
+use Rattle.title_lock.specs.{declared.{modes.Mode.{Mode}, shelf.Shelf.{Shelf}, table.Table.{Table}, guards.Entry.{Entry}}, Modes.{allows}}
 use Rattle.title_lock.specs.Asking.{own_mode, above_mode, mode_at, AreSized}
 use Rattle.title_lock.specs.Holders.{Modes, holder_mode, has_room, idles, is_free, clashes}
 

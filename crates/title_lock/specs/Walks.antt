@@ -2,15 +2,9 @@
 -- node before too. And what is done along it.
 use Rattle.std.specs.Prelude.{ℕ, ◌≡◌, ◌==◌, Bool, true, false, ◌&&◌, if◌then◌else◌, List, [], ◌∷◌, ◌++◌, Option, Some, None}
 use Rattle.std.specs.List.{list_any}
-use Rattle.title_land.specs.declared.node.Node.{Node}
-use Rattle.title_land.specs.Nodes.{same_node, above, is_above}
-use Rattle.title_lock.specs.declared.modes.Mode.{Mode}
-use Rattle.title_lock.specs.declared.spots.Spot.{Spot}
-use Rattle.title_lock.specs.declared.walks.Climb.{Climb}
-use Rattle.title_lock.specs.declared.walks.Walk.{Walk}
-use Rattle.title_lock.specs.Modes.{bound}
-use Rattle.title_lock.specs.Asking.{own_mode, above_mode}
-use Rattle.title_lock.specs.Holders.{clashes}
+use Rattle.title_land.specs.{declared.node.Node.{Node}, Nodes.{same_node, above, is_above}}
+use Rattle.title_lock.specs.{declared.{modes.Mode.{Mode}, spots.Spot.{Spot}, walks.{Climb.{Climb}, Walk.{Walk}}}, Modes.{bound}}
+use Rattle.title_lock.specs.{Asking.{own_mode, above_mode}, Holders.{clashes}}
 use Rattle.title_lock.specs.Tables.{HeldAt, shelf_above, table_mode, KeepsRoom, IdleMore, IdleLess}
 
 -- a node that is asked for, and whether it is one of the cover; else it lies above one

@@ -2,8 +2,7 @@
 
 ghost use Rattle.std.specs.Prelude.{◌≡◌, ◌≢◌, ◌==◌, ◌&&◌, not, ℕ, true, List, [], ◌∷◌, ◌++◌, reverse, OnOk, OnErr, IfSome, IfNone};
 ghost use Rattle.std.specs.BTreeMap.{values};
-ghost use Rattle.title_lock.specs.declared.guards.Entry.{Entry};
-ghost use Rattle.title_lock.specs.Overlaps.{without};
+ghost use Rattle.title_lock.specs.{declared.guards.Entry.{Entry}, Overlaps.{without}};
 ghost use Rattle.title_lock.specs.Books.{is_nothing, numbers_of, number_room, is_empty_kept, IsBook, IsNewest};
 
 use crate::guards::Entry;

@@ -1,8 +1,7 @@
 //! How many examiners hold a node in each mode.
 
 ghost use Rattle.std.specs.Prelude.{◌≡◌, ◌+◌, ◌<◌, ◌≤◌, ◌^◌, Some};
-ghost use Rattle.title_lock.specs.declared.modes.Mode.{Mode};
-ghost use Rattle.title_lock.specs.Holders.{count_in, own_part};
+ghost use Rattle.title_lock.specs.{declared.modes.Mode.{Mode}, Holders.{count_in, own_part}};
 
 use crate::modes::Mode;
 

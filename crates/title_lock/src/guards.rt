@@ -2,9 +2,7 @@
 
 ghost use Rattle.std.specs.Prelude.{◌≡◌, List, [], ◌∷◌, Option, Some, None, OnOk, OnErr, IfErr};
 ghost use Rattle.title_land.specs.Depth.{depth};
-ghost use Rattle.title_lock.specs.declared.guards.Entry.{Entry};
-ghost use Rattle.title_lock.specs.Overlaps.{is_post, Stands, RefusedBy, without};
-ghost use Rattle.title_lock.specs.Asking.{mode_at};
+ghost use Rattle.title_lock.specs.{declared.guards.Entry.{Entry}, Overlaps.{is_post, Stands, RefusedBy, without}, Asking.{mode_at}};
 
 use crate::modes::Mode;
 use std::alloc::Global;

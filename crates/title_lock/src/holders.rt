@@ -1,10 +1,7 @@
 //! The holders of one node.
 
 ghost use Rattle.std.specs.Prelude.{◌≡◌, ℕ, true, not, ◌==◌, ◌&&◌, ◌||◌, ◌≢◌, false, if◌then◌else◌, Some, None, OnOk, is_some, slice_index};
-ghost use Rattle.title_lock.specs.declared.modes.Mode.{Mode};
-ghost use Rattle.title_lock.specs.declared.modes.Mode.TheVariants.{Is, Ix, S, Six, X};
-ghost use Rattle.title_lock.specs.Modes.{bound};
-ghost use Rattle.title_lock.specs.Overlaps.{IsLeast};
+ghost use Rattle.title_lock.specs.{declared.modes.Mode.{Mode, TheVariants.{Is, Ix, S, Six, X}}, Modes.{bound}, Overlaps.{IsLeast}};
 ghost use Rattle.title_lock.specs.Counts.{IsCount};
 ghost use Rattle.title_lock.specs.Holders.{Modes, holder_mode, has_room, is_free, clashes, is_mode, own_part, leaves, is_clear, AreCounted};
 

@@ -1,9 +1,8 @@
 //! Laws of the definitions. Each function does nothing: its clause is the law, proved.
 
-ghost use Rattle.title_lock.specs.Modes.{BoundStandsBeside};
-ghost use Rattle.title_land.specs.Depth.{depth};
-ghost use Rattle.title_lock.specs.Asking.{ModesDecideOverlap, LeftAreGranted};
+ghost use Rattle.title_lock.specs.{Modes.{BoundStandsBeside}, Asking.{ModesDecideOverlap, LeftAreGranted}};
 ghost use Rattle.title_lock.specs.Standing.{FreeAreGranted, GrantedAreFree, LeftStandFree};
+ghost use Rattle.title_land.specs.Depth.{depth};
 
 /// The law of the two tables: a mode stands beside the bound of two modes exactly where it stands beside both.
 pub fn bound_stands_beside()

@@ -2,12 +2,8 @@
 
 ghost use Rattle.std.specs.Prelude.{◌≡◌, [], reverse, OnOk, OnErr, IfOk, slice_index};
 ghost use Rattle.title_land.specs.Depth.{depth};
-ghost use Rattle.title_lock.specs.declared.modes.Mode.TheVariants.{Is, Ix, S, Six, X};
-ghost use Rattle.title_lock.specs.Books.{is_nothing};
-ghost use Rattle.title_lock.specs.Asking.{mode_at, AllGranted, AreSized};
-ghost use Rattle.title_lock.specs.Counts.{IsCount};
-ghost use Rattle.title_lock.specs.Holders.{own_part};
-ghost use Rattle.title_lock.specs.Standing.{StandFree};
+ghost use Rattle.title_lock.specs.{declared.modes.Mode.TheVariants.{Is, Ix, S, Six, X}, Books.{is_nothing}, Counts.{IsCount}};
+ghost use Rattle.title_lock.specs.{Asking.{mode_at, AllGranted, AreSized}, Holders.{own_part}, Standing.{StandFree}};
 ghost use Rattle.title_lock.specs.Locks.{Locks, shown, AreInOne};
 
 use crate::guards::{Access, Entry, Guards, LockFault};

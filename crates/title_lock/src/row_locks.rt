@@ -1,13 +1,9 @@
 //! Locks as a plain list of entries.
 
 ghost use Rattle.std.specs.Prelude.{◌≡◌, ◌&&◌, ◌==◌, if◌then◌else◌, Some, None, List, reverse, filter, not, OnOk};
-ghost use Rattle.title_land.specs.Depth.{depth};
-ghost use Rattle.title_land.specs.Nodes.{same_node, is_above};
-ghost use Rattle.title_land.specs.Lands.{cover_of};
-ghost use Rattle.title_lock.specs.declared.guards.Entry.{Entry};
-ghost use Rattle.title_lock.specs.Overlaps.{is_post, overlap, Stands, IsLeast};
+ghost use Rattle.title_land.specs.{Depth.{depth}, Nodes.{same_node, is_above}, Lands.{cover_of}};
+ghost use Rattle.title_lock.specs.{declared.guards.Entry.{Entry}, Overlaps.{is_post, overlap, Stands, IsLeast}, Standing.{StandFree}};
 ghost use Rattle.title_lock.specs.Asking.{asked_for, asked, mode_at, AllGranted, AreSized};
-ghost use Rattle.title_lock.specs.Standing.{StandFree};
 
 use crate::guards::{Access, Entry, Guards, LockFault};
 use crate::least::least;

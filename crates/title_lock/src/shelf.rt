@@ -1,13 +1,9 @@
 //! A shelf of a table of locks: the holders of nodes that stand together.
 
 ghost use Rattle.std.specs.Prelude.{◌≡◌, ℕ, true, false, None, Some, ◌&&◌, ◌==◌, if◌then◌else◌, Option, OnOk, slice_index};
-ghost use Rattle.title_land.specs.declared.node.Node.{Node};
-ghost use Rattle.title_land.specs.Nodes.{same_node};
-ghost use Rattle.title_lock.specs.Modes.{bound};
-ghost use Rattle.title_lock.specs.Overlaps.{is_post, IsLeast};
-ghost use Rattle.title_lock.specs.declared.modes.Mode.TheVariants.{Is, Ix, S, Six, X};
-ghost use Rattle.title_lock.specs.Counts.{IsCount};
-ghost use Rattle.title_lock.specs.Holders.{clashes, is_mode};
+ghost use Rattle.title_land.specs.{declared.node.Node.{Node}, Nodes.{same_node}};
+ghost use Rattle.title_lock.specs.{Modes.{bound}, Overlaps.{is_post, IsLeast}, declared.modes.Mode.TheVariants.{Is, Ix, S, Six, X}};
+ghost use Rattle.title_lock.specs.{Counts.{IsCount}, Holders.{clashes, is_mode}};
 ghost use Rattle.title_lock.specs.Tables.{on_shelf, table_mode, table_room, KeepsRoom, HasRoom, is_idle, is_unused};
 ghost use Rattle.title_lock.specs.Tables.{IdleMore, IdleLess, AllUsed, is_bare, home_of, AreAtHome};
 ghost use Rattle.title_lock.specs.Walks.{asks_in, clashes_in, climb_asks, Roomed, Raised, TakenOut};

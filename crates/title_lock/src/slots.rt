@@ -1,8 +1,7 @@
 //! The slots of one node's holders.
 
 ghost use Rattle.std.specs.Prelude.{◌≡◌, ℕ, true, false, not, ◌==◌, ◌&&◌, ◌≢◌, nat_lt, if◌then◌else◌, Some, None, OnOk};
-ghost use Rattle.title_lock.specs.Modes.{bound};
-ghost use Rattle.title_lock.specs.Overlaps.{IsLeast};
+ghost use Rattle.title_lock.specs.{Modes.{bound}, Overlaps.{IsLeast}};
 ghost use Rattle.title_lock.specs.Holders.{Modes, holder_mode, has_room, is_free, clashes, listed, first_way, IsApart};
 
 use crate::modes::{Mode, bound, compat};

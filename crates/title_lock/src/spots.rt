@@ -2,8 +2,7 @@
 
 ghost use Rattle.std.specs.Prelude.{◌≡◌, [], ◌∷◌, Some, None, MatchOption};
 ghost use Rattle.title_land.specs.Nodes.{is_square, parent_of, is_above};
-ghost use Rattle.title_lock.specs.Spots.{IsNumber, number_prop};
-ghost use Rattle.title_lock.specs.Tables.{home_of, shelf_above, upper_above, shelf_parent};
+ghost use Rattle.title_lock.specs.{Spots.{IsNumber, number_prop}, Tables.{home_of, shelf_above, upper_above, shelf_parent}};
 
 use title_land::{Node, is_square_number, number_above, section_of_square, township_of_section};
 

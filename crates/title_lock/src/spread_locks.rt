@@ -1,16 +1,10 @@
 //! Locks as a table of the holders of each node.
 
 ghost use Rattle.std.specs.Prelude.{◌≡◌, ℕ, List, None, ◌∷◌, ◌==◌, ◌&&◌, if◌then◌else◌, OnOk, OnErr, is_some, not, slice_index};
-ghost use Rattle.title_land.specs.Depth.{depth};
 ghost use Rattle.std.specs.List.{list_any};
-ghost use Rattle.title_land.specs.declared.node.Node.{Node};
-ghost use Rattle.title_lock.specs.declared.guards.Entry.{Entry};
-ghost use Rattle.title_lock.specs.declared.modes.Mode.TheVariants.{Is, Ix, S, Six, X};
-ghost use Rattle.title_lock.specs.Overlaps.{without};
-ghost use Rattle.title_lock.specs.Books.{is_nothing};
-ghost use Rattle.title_lock.specs.Asking.{mode_at, AllGranted, AreSized};
-ghost use Rattle.title_lock.specs.Counts.{IsCount};
-ghost use Rattle.title_lock.specs.Standing.{StandFree};
+ghost use Rattle.title_land.specs.{Depth.{depth}, declared.node.Node.{Node}};
+ghost use Rattle.title_lock.specs.{declared.{guards.Entry.{Entry}, modes.Mode.TheVariants.{Is, Ix, S, Six, X}}, Overlaps.{without}};
+ghost use Rattle.title_lock.specs.{Books.{is_nothing}, Asking.{mode_at, AllGranted, AreSized}, Counts.{IsCount}, Standing.{StandFree}};
 ghost use Rattle.title_lock.specs.Tables.{on_all, table_mode, is_asked, is_asked_by, HasRoom, IdleMore, NoMoreIdle, TableUsed};
 ghost use Rattle.title_lock.specs.Locks.{Locks, granted, waiting, AreLocks};
 

@@ -1,16 +1,10 @@
 //! A table of locks: the holders of each node.
 
 ghost use Rattle.std.specs.Prelude.{◌≡◌, ◌≢◌, ℕ, true, false, Option, Some, None, ◌&&◌, ◌==◌, if◌then◌else◌, OnOk, slice_index};
-ghost use Rattle.std.specs.BTreeMap.{get};
-ghost use Rattle.std.specs.List.{list_any};
-ghost use Rattle.std.specs.Ordering.{nat_cmp};
+ghost use Rattle.std.specs.{BTreeMap.{get}, List.{list_any}, Ordering.{nat_cmp}};
 ghost use Rattle.title_land.specs.declared.node.Node.{Node};
-ghost use Rattle.title_lock.specs.Modes.{bound};
-ghost use Rattle.title_lock.specs.Overlaps.{is_post, IsLeast};
-ghost use Rattle.title_lock.specs.Asking.{asked};
+ghost use Rattle.title_lock.specs.{Modes.{bound}, Overlaps.{is_post, IsLeast}, Asking.{asked}, Counts.{IsCount}, Holders.{is_mode}};
 ghost use Rattle.title_lock.specs.declared.modes.Mode.TheVariants.{Is, Ix, S, Six, X};
-ghost use Rattle.title_lock.specs.Counts.{IsCount};
-ghost use Rattle.title_lock.specs.Holders.{is_mode};
 ghost use Rattle.title_lock.specs.Tables.{on_section, on_all, table_mode, clashes_with, HasRoom, is_asked, is_idle, IdleMore, IdleLess};
 ghost use Rattle.title_lock.specs.Tables.{AllUsed, IsStocked, TableUsed, home_of, IsAtHome};
 ghost use Rattle.title_lock.specs.Walks.{asks_in, clashes_in, climb_asks, Roomed, Raised, TakenOut};

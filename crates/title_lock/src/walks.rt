@@ -1,9 +1,7 @@
 //! The walk over what an access asks for.
 
 ghost use Rattle.std.specs.Prelude.{◌≡◌, true, ◌∷◌, ◌++◌, [], List, None, MatchOption};
-ghost use Rattle.title_lock.specs.Overlaps.{is_post};
-ghost use Rattle.title_lock.specs.Asking.{own_mode, above_mode};
-ghost use Rattle.title_lock.specs.Tables.{shelf_above, upper_above};
+ghost use Rattle.title_lock.specs.{Overlaps.{is_post}, Asking.{own_mode, above_mode}, Tables.{shelf_above, upper_above}};
 ghost use Rattle.title_lock.specs.Walks.{mode_for, is_known, asks_above, walk, node_of, climb_asks, climb_left, walk_left};
 
 use crate::guards::Access;

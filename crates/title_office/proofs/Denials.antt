@@ -1,18 +1,12 @@
 -- What a Begin or a Commit is denied with ends a worker.
-use Rattle.std.proofs.Common.{ℕ, suc, List, sym, subst, length}
-use Rattle.std.proofs.lemmas.Bool.{cond_both}
-use Rattle.title_trace.specs.declared.call.Call.{Call}
-use Rattle.title_trace.specs.declared.call.Request.TheVariants as request
-use Rattle.title_trace.specs.declared.call.Reply.{Reply}
-use Rattle.title_trace.specs.declared.call.Reply.TheVariants as reply
-use Rattle.title_trace.specs.declared.denial.Denial.{Denial}
-use Rattle.title_trace.specs.declared.denial.Denial.TheVariants as denial
-use Rattle.title_trace.specs.Trace.{is_open, committed}
+use Rattle.std.proofs.{Common.{ℕ, suc, List, sym, subst, length}, lemmas.Bool.{cond_both}}
+use Rattle.title_trace.specs.{declared.{call.{Call.{Call}, Reply.{Reply}}, denial.Denial.{Denial}}, Trace.{is_open, committed}}
 use Rattle.title_trace.specs.Due.{Setting}
-use Rattle.title_office.specs.declared.fault.Fault.{Fault}
+use Rattle.title_trace.specs.declared.call.Request.TheVariants as request
+use Rattle.title_trace.specs.declared.call.Reply.TheVariants as reply
+use Rattle.title_trace.specs.declared.denial.Denial.TheVariants as denial
+use Rattle.title_office.specs.{declared.fault.Fault.{Fault}, Offices.{IsLast, IsRefused}, Turns.{EndsWorker}}
 use Rattle.title_office.specs.declared.fault.Fault.TheVariants as fault
-use Rattle.title_office.specs.Offices.{IsLast, IsRefused}
-use Rattle.title_office.specs.Turns.{EndsWorker}
 
 -- a reply that ends a worker where it is a denial
 EndsIfDenied : Reply → Type 0

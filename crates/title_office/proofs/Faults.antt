@@ -1,7 +1,6 @@
 -- Where memory was refused there was no want of a place.
 use Rattle.std.proofs.Common.{◌≡◌, ◌∙◌, ◌<◌, ℕ, sym, Result, Ok, Err, IfErr, IsErrAnd}
-use Rattle.title_office.specs.declared.unopened.Unopened.{Unopened}
-use Rattle.title_office.specs.declared.unopened.Unopened.TheVariants.{Memory, NoPlace}
+use Rattle.title_office.specs.declared.unopened.Unopened.{Unopened, TheVariants.{Memory, NoPlace}}
 
 -- a fault that is Memory isn't NoPlace
 pub no_want_of_place : {T : Type 0} (viewers : ℕ) (r : Result T Unopened) → IsErrAnd r (λ e. e ≡ Memory)

@@ -1,6 +1,5 @@
 -- Lists that lose their last item together.
-use Rattle.std.proofs.Common.{◌≡◌, List, [], ◌∷◌, ◌++◌, length, map, refl, sym, ap, ◌∙◌, arith, length-append}
-use Rattle.std.proofs.lemmas.List.{map-append}
+use Rattle.std.proofs.{Common.{◌≡◌, List, [], ◌∷◌, ◌++◌, length, map, refl, sym, ap, ◌∙◌, arith, length-append}, lemmas.List.{map-append}}
 
 -- lists with an item more at their ends are equal only where the lists and the items are
 pub unsnoc : {A : Type 0} (xs ys : List A) (x y : A) → xs ++ x ∷ [] ≡ ys ++ y ∷ [] → (xs ≡ ys) × (x ≡ y)

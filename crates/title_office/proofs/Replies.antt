@@ -3,20 +3,14 @@ use Rattle.std.proofs.Common.{◌≡◌, ℕ, suc, Bool, true, false, List, ◌�
 use Rattle.std.proofs.lemmas.Bool.{cond_both}
 use Rattle.title_land.specs.Depth.{depth}
 use Rattle.title_instrument.specs.declared.parts.Cause.{Cause}
-use Rattle.title_chain.specs.declared.ask.Ask.{Ask}
-use Rattle.title_chain.specs.declared.ask.Answer.{Answer}
-use Rattle.title_trace.specs.declared.call.Call.{Call}
-use Rattle.title_trace.specs.declared.call.Request.{Request}
+use Rattle.title_chain.specs.declared.ask.{Ask.{Ask}, Answer.{Answer}}
+use Rattle.title_trace.specs.declared.{call.{Call.{Call}, Request.{Request}, Reply.{Reply}}, denial.Denial.{Denial}}
+use Rattle.title_trace.specs.{Trace.{is_open, committed}, Due.{Setting, DueReply, DueStep, IsDue, reply_past}}
 use Rattle.title_trace.specs.declared.call.Request.TheVariants as request
-use Rattle.title_trace.specs.declared.call.Reply.{Reply}
 use Rattle.title_trace.specs.declared.call.Reply.TheVariants as reply
-use Rattle.title_trace.specs.declared.denial.Denial.{Denial}
 use Rattle.title_trace.specs.declared.denial.Denial.TheVariants as denial
-use Rattle.title_trace.specs.Trace.{is_open, committed}
-use Rattle.title_trace.specs.Due.{Setting, DueReply, DueStep, IsDue, reply_past}
-use Rattle.title_office.specs.declared.fault.Fault.{Fault}
+use Rattle.title_office.specs.{declared.fault.Fault.{Fault}, Offices.{IsLast, IsServed, IsRefused, IsToStep, refusal_of}}
 use Rattle.title_office.specs.declared.fault.Fault.TheVariants as fault
-use Rattle.title_office.specs.Offices.{IsLast, IsServed, IsRefused, IsToStep, refusal_of}
 
 -- a request that nothing refuses was added to the trace, with the due reply
 pub added : (setting : Setting) (before after : List Call) (q : Request) (r : Reply) → IsServed setting before q r after

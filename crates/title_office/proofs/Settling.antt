@@ -2,13 +2,9 @@
 use Rattle.std.proofs.Common.{◌≡◌, List, sym, subst, reverse}
 use Rattle.title_land.specs.Depth.{depth}
 use Rattle.title_chain.specs.declared.record.Record.{Record}
-use Rattle.title_trace.specs.declared.call.Call.{Call}
-use Rattle.title_trace.specs.Trace.{committed}
-use Rattle.title_trace.specs.Due.{Setting, IsDue}
-use Rattle.title_settle.specs.declared.outcome.Outcome.{Outcome}
-use Rattle.title_settle.specs.declared.outcome.Unsettled.{Unsettled}
+use Rattle.title_trace.specs.{declared.call.Call.{Call}, Trace.{committed}, Due.{Setting, IsDue}}
+use Rattle.title_settle.specs.{declared.outcome.{Outcome.{Outcome}, Unsettled.{Unsettled}}, Settling.{IsUneven}}
 use Rattle.title_settle.specs.declared.outcome.Unsettled.TheVariants as unsettled
-use Rattle.title_settle.specs.Settling.{IsUneven}
 use Rattle.title_office.specs.Offices.{IsQuiet, IsUnsettled}
 
 -- nobody being open, what is wrong with the outcomes is why

@@ -1,32 +1,21 @@
 -- Slips that stand or don't, and their calls.
 use Rattle.std.proofs.Common.{◌≡◌, ◌≤◌, ◌++◌, ℕ, suc, Bool, true, false, Option, None, cond, List, [], ◌∷◌, length, reverse}
-use Rattle.std.proofs.Common.{refl, sym, ap, ◌∙◌, subst}
-use Rattle.std.proofs.lemmas.Bool.{eq-eqb}
-use Rattle.std.proofs.Math.Nat.{le_refl}
+use Rattle.std.proofs.{Common.{refl, sym, ap, ◌∙◌, subst}, lemmas.Bool.{eq-eqb}, Math.Nat.{le_refl}}
 use Rattle.std.proofs.lemmas.List.{reverse-append, reverse-reverse, length-reverse}
 use Rattle.title_land.specs.Depth.{depth}
 use Rattle.title_instrument.specs.declared.parts.Cause.{Cause}
-use Rattle.title_chain.specs.declared.ask.Ask.{Ask}
-use Rattle.title_chain.specs.declared.ask.Answer.{Answer}
-use Rattle.title_chain.specs.declared.ask.Step.{Step}
-use Rattle.title_chain.specs.declared.record.Record.{Record}
+use Rattle.title_chain.specs.{declared.{ask.{Ask.{Ask}, Answer.{Answer}, Step.{Step}}, record.Record.{Record}}, Overlaps.{record_of}}
 use Rattle.title_chain.specs.Alone.{most_parties, IsSerial}
-use Rattle.title_chain.specs.Overlaps.{record_of}
-use Rattle.title_trace.specs.declared.call.Call.{Call}
-use Rattle.title_trace.specs.declared.call.Request.{Request}
+use Rattle.title_trace.specs.{declared.call.{Call.{Call}, Request.{Request}, Reply.{Reply}}, Trace.{is_open, open_steps, committed}}
+use Rattle.title_trace.specs.{Due.{Setting, IsDue, DueReply, DueStep}, Laws.Law.{committed_serial}}
 use Rattle.title_trace.specs.declared.call.Request.TheVariants as request
-use Rattle.title_trace.specs.declared.call.Reply.{Reply}
 use Rattle.title_trace.specs.declared.call.Reply.TheVariants as reply
 use Rattle.title_trace.specs.declared.denial.Denial.TheVariants as denial
-use Rattle.title_trace.specs.Trace.{is_open, open_steps, committed}
-use Rattle.title_trace.specs.Due.{Setting, IsDue, DueReply, DueStep}
-use Rattle.title_trace.specs.Laws.Law.{committed_serial}
-use Rattle.title_office.specs.declared.fault.Fault.{Fault}
-use Rattle.title_office.specs.declared.fault.Fault.TheVariants as fault
+use Rattle.title_office.specs.{declared.fault.Fault.{Fault}, Offices.{seeing, receipt_for, with_step, with_steps, having_seen}}
 use Rattle.title_office.specs.Offices.{IsServed, IsRefused, refusal_of, SlipState, SeatState, Stands, Falls, Answers, Commits, IsLast}
-use Rattle.title_office.specs.Offices.{seeing, receipt_for, with_step, with_steps, having_seen}
-use Rattle.title_views.specs.Views.{Shows}
 use Rattle.title_office.proofs.Replies.{added, committed_at}
+use Rattle.title_office.specs.declared.fault.Fault.TheVariants as fault
+use Rattle.title_views.specs.Views.{Shows}
 
 abbrev pub call : Request → Reply → Call
 call q r = record { request = q; reply = r }

@@ -2,24 +2,15 @@
 -- in which the call is the last. Traces have the newest call first.
 use Rattle.std.specs.Prelude.{◌≡◌, ◌≤◌, ◌∷◌, ◌++◌, ℕ, zero, suc, Bool, true, false, cond, List, [], length, reverse, Option, None, Some}
 use Rattle.title_land.specs.Depth.{depth}
-use Rattle.title_chain.specs.declared.ask.Ask.{Ask}
-use Rattle.title_chain.specs.declared.ask.Answer.{Answer}
-use Rattle.title_chain.specs.declared.ask.Step.{Step}
-use Rattle.title_chain.specs.declared.record.Record.{Record}
-use Rattle.title_chain.specs.Alone.{IsSerial}
-use Rattle.title_trace.specs.declared.call.Call.{Call}
-use Rattle.title_trace.specs.declared.call.Request.{Request}
+use Rattle.title_chain.specs.{declared.{ask.{Ask.{Ask}, Answer.{Answer}, Step.{Step}}, record.Record.{Record}}, Alone.{IsSerial}}
+use Rattle.title_trace.specs.{declared.call.{Call.{Call}, Request.{Request}, Reply.{Reply}}, Trace.{is_open, open_steps, committed}}
+use Rattle.title_trace.specs.Due.{Setting, DueReply, IsDue}
 use Rattle.title_trace.specs.declared.call.Request.TheVariants as request
-use Rattle.title_trace.specs.declared.call.Reply.{Reply}
 use Rattle.title_trace.specs.declared.call.Reply.TheVariants as reply
 use Rattle.title_trace.specs.declared.denial.Denial.TheVariants as denial
-use Rattle.title_trace.specs.Trace.{is_open, open_steps, committed}
-use Rattle.title_trace.specs.Due.{Setting, DueReply, IsDue}
 use Rattle.title_desk.specs.Told.{IsFirstOpen}
-use Rattle.title_settle.specs.declared.outcome.Outcome.{Outcome}
-use Rattle.title_settle.specs.declared.outcome.Unsettled.{Unsettled}
+use Rattle.title_settle.specs.{declared.outcome.{Outcome.{Outcome}, Unsettled.{Unsettled}}, Settling.{IsSettled, IsUneven}}
 use Rattle.title_settle.specs.declared.outcome.Unsettled.TheVariants as unsettled
-use Rattle.title_settle.specs.Settling.{IsSettled, IsUneven}
 use Rattle.title_views.specs.Views.{Shows, Sight}
 use Rattle.title_office.specs.declared.fault.Fault.{Fault}
 use Rattle.title_office.specs.declared.fault.Fault.TheVariants as fault

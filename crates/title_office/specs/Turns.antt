@@ -2,14 +2,10 @@
 use Rattle.std.specs.Prelude.{◌≡◌, ◌+◌, ◌∷◌, ◌++◌, ℕ, Bool, true, false, List, [], length, map, Option, None, IfSome, IsSome}
 use Rattle.title_settle.specs.declared.outcome.Outcome.{Outcome}
 use Rattle.title_trace.specs.declared.denial.Denial.TheVariants as denial
-use Rattle.title_office.specs.declared.fault.Fault.{Fault}
+use Rattle.title_office.specs.declared.{fault.Fault.{Fault}, workers.{came.Came.{Came}, Script.{Script}, Worked.{Worked}}}
+use Rattle.title_office.specs.{Offices.{SeatState}, Workers.{Ended}}
 use Rattle.title_office.specs.declared.fault.Fault.TheVariants as fault
-use Rattle.title_office.specs.declared.workers.came.Came.{Came}
 use Rattle.title_office.specs.declared.workers.came.Came.TheVariants as came
-use Rattle.title_office.specs.declared.workers.Script.{Script}
-use Rattle.title_office.specs.declared.workers.Worked.{Worked}
-use Rattle.title_office.specs.Offices.{SeatState}
-use Rattle.title_office.specs.Workers.{Ended}
 
 -- the faults that end a worker: after any other the transaction is begun again, or the step is passed over
 abbrev pub EndsWorker : Fault → Type 0

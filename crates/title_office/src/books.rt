@@ -2,8 +2,7 @@
 
 ghost use Rattle.std.specs.Prelude.{◌≡◌, ℕ, true, false, IfOk};
 ghost use Rattle.title_chain.specs.Overlaps.{record_of};
-ghost use Rattle.title_trace.specs.declared.call.Request.TheVariants.{Abort, Commit};
-ghost use Rattle.title_trace.specs.declared.call.Reply.TheVariants.{Aborted};
+ghost use Rattle.title_trace.specs.declared.call.{Request.TheVariants.{Abort, Commit}, Reply.TheVariants.{Aborted}};
 ghost use Rattle.title_trace.specs.Trace.{is_open, open_steps};
 ghost use Rattle.title_office.specs.Offices.{IsServed, PublishesNothing, Sweeps, receipt_for};
 
@@ -34,9 +33,7 @@ impl<B: Room> Model for Books<B> {
     ghost use Rattle.std.specs.Prelude.{◌≡◌, ◌≤◌, List, reverse};
     ghost use Rattle.title_land.specs.Depth.{depth};
     ghost use Rattle.title_chain.specs.Alone.{most_parties};
-    ghost use Rattle.title_trace.specs.declared.call.Call.{Call};
-    ghost use Rattle.title_trace.specs.Trace.{committed};
-    ghost use Rattle.title_trace.specs.Due.{IsDue};
+    ghost use Rattle.title_trace.specs.{declared.call.Call.{Call}, Trace.{committed}, Due.{IsDue}};
 
     ghost Value = { List Call };
 

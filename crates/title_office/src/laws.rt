@@ -2,8 +2,7 @@
 
 ghost use Rattle.std.specs.Prelude.{◌≡◌};
 ghost use Rattle.title_views.specs.Views.{most_viewers};
-ghost use Rattle.title_office.specs.Offices.{most_seats};
-ghost use Rattle.title_office.specs.declared.opening.TheConstants.{MOST_SEATS, MOST_VIEWERS};
+ghost use Rattle.title_office.specs.{Offices.{most_seats}, declared.opening.TheConstants.{MOST_SEATS, MOST_VIEWERS}};
 
 /// The limits that the code has are those of the definitions.
 pub fn limits_are_said()

@@ -5,8 +5,7 @@ ghost use Rattle.title_ledger.specs.Ledgers.{AreSerial};
 ghost use Rattle.title_store.specs.Plants.{IsEachOnce};
 ghost use Rattle.title_trace.specs.Trace.{committed};
 ghost use Rattle.title_views.specs.Views.{most_viewers};
-ghost use Rattle.title_office.specs.declared.unopened.Unopened.TheVariants.{NoPlace};
-ghost use Rattle.title_office.specs.Offices.{most_seats, opening_seats, sight_on};
+ghost use Rattle.title_office.specs.{declared.unopened.Unopened.TheVariants.{NoPlace}, Offices.{most_seats, opening_seats, sight_on}};
 
 use crate::books::Books;
 use crate::office::Office;

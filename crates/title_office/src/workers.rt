@@ -12,8 +12,7 @@ mod worker;
 
 ghost use Rattle.std.specs.Prelude.{◌≡◌, All, IfErr, IfOk, IfSome, IsSome, None, map};
 ghost use Rattle.title_office.specs.declared.fault.Fault.TheVariants as fault;
-ghost use Rattle.title_office.specs.Turns.{EndsWorker};
-ghost use Rattle.title_office.specs.Workers.{AreCounted, examiners_of, seat_examiners};
+ghost use Rattle.title_office.specs.{Turns.{EndsWorker}, Workers.{AreCounted, examiners_of, seat_examiners}};
 
 use crate::fault::Fault;
 use crate::gate::Gate;

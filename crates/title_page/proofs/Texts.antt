@@ -1,10 +1,8 @@
 -- The texts of quoted fields and of rows, in parts.
-use Rattle.std.proofs.Common.{◌≡◌, ◌∙◌, ◌++◌, ◌∷◌, [], ◌<◌, ◌+◌, ℕ, suc, List}
+use Rattle.std.proofs.{Common.{◌≡◌, ◌∙◌, ◌++◌, ◌∷◌, [], ◌<◌, ◌+◌, ℕ, suc, List}, lemmas.List.{take-append-drop, take_more}}
 use Rattle.std.proofs.Common.{length, take, drop, get_or, refl, sym, ap, append_assoc, arith}
-use Rattle.std.proofs.lemmas.List.{take-append-drop, take_more}
-use Rattle.csv.proofs.WriteFacts.{escaped-append, escaped-double, escaped-other}
+use Rattle.csv.{proofs.WriteFacts.{escaped-append, escaped-double, escaped-other}, specs.declared.writer.WriterBuilder.{WriterBuilder}}
 use Rattle.csv.specs.Writing.{escaped, field_text, fields_text, is_blank, row_body, row_text}
-use Rattle.csv.specs.declared.writer.WriterBuilder.{WriterBuilder}
 use Rattle.title_page.specs.Rows.{row_writer}
 
 -- a quote is written twice

@@ -1,6 +1,5 @@
 -- What is written through a page: the bytes that the sink has taken, before and after, and those that stand on the page.
-use Rattle.std.specs.Prelude.{◌≡◌, ◌++◌, ℕ, List, Option}
-use Rattle.std.specs.Io.KnownBytes.{Appends}
+use Rattle.std.specs.{Prelude.{◌≡◌, ◌++◌, ℕ, List, Option}, Io.KnownBytes.{Appends}}
 
 -- a text was written behind what stood on the page: of both, the sink took a beginning, and the page has the rest
 pub record Written (taken : Option (List ℕ)) (page : List ℕ) (taken_after : Option (List ℕ)) (page_after text : List ℕ) : Type 0 where

@@ -1,8 +1,6 @@
 -- The text of rows, in the csv crate's own words.
-use Rattle.std.specs.Prelude.{ℕ, true, List}
-use Rattle.std.specs.List.{flat_map}
-use Rattle.csv.specs.Writing.{default_writer, row_text, with_flexible}
-use Rattle.csv.specs.declared.writer.WriterBuilder.{WriterBuilder}
+use Rattle.std.specs.{Prelude.{ℕ, true, List}, List.{flat_map}}
+use Rattle.csv.specs.{Writing.{default_writer, row_text, with_flexible}, declared.writer.WriterBuilder.{WriterBuilder}}
 
 -- rows have any lengths, are quoted where they have to be, and each ends with a line feed
 abbrev pub row_writer : WriterBuilder

@@ -2,8 +2,7 @@
 
 ghost use Rattle.std.specs.Prelude.{◌≡◌, ℕ, List, true, false, OnOk, OnErr};
 ghost use Rattle.csv.specs.Writing.{field_text};
-ghost use Rattle.title_page.specs.Pages.{Stopped, Written};
-ghost use Rattle.title_page.specs.Rows.{row_writer};
+ghost use Rattle.title_page.specs.{Pages.{Stopped, Written}, Rows.{row_writer}};
 
 use crate::page::Page;
 use title_device::{Failed, Sink};

@@ -1,12 +1,9 @@
 //! The page through which rows are written.
 
-ghost use Rattle.std.specs.Prelude.{◌≡◌, ◌≤◌, ◌<◌, ◌+◌, ◌++◌, ◌∷◌, [], true, false, nat_le, length, map, take, drop};
+ghost use Rattle.std.specs.{Prelude.{◌≡◌, ◌≤◌, ◌<◌, ◌+◌, ◌++◌, ◌∷◌, [], true, false, nat_le, length, map, take, drop}, List.{concat}};
 ghost use Rattle.std.specs.Prelude.{IfNone, IfSome, OnOk, OnErr};
-ghost use Rattle.csv.specs.Writing.{escaped, field_text, needs_quotes, quoted};
-ghost use Rattle.csv.specs.Quoting.{needs_byte};
-ghost use Rattle.std.specs.List.{concat};
-ghost use Rattle.title_page.specs.Pages.{Stopped, Written};
-ghost use Rattle.title_page.specs.Rows.{row_writer};
+ghost use Rattle.csv.specs.{Writing.{escaped, field_text, needs_quotes, quoted}, Quoting.{needs_byte}};
+ghost use Rattle.title_page.specs.{Pages.{Stopped, Written}, Rows.{row_writer}};
 
 use arrayvec::ArrayVec;
 use std::marker::Model;

@@ -2,8 +2,7 @@
 
 ghost use Rattle.std.specs.Prelude.{◌≡◌, ◌<◌, ◌++◌, true, false, map, length, OnOk, OnErr};
 ghost use Rattle.csv.specs.Writing.{field_text, next_sep, row_body};
-ghost use Rattle.title_page.specs.Pages.{Stopped, Written};
-ghost use Rattle.title_page.specs.Rows.{row, row_writer};
+ghost use Rattle.title_page.specs.{Pages.{Stopped, Written}, Rows.{row, row_writer}};
 
 use crate::field::Field;
 use crate::page::Page;

@@ -4,15 +4,11 @@ use Rattle.std.proofs.lemmas.Bool.{and_right}
 use Rattle.title_land.specs.declared.tract.Land.{Land}
 use Rattle.title_land.specs.declared.tract.Land.TheVariants as land
 use Rattle.title_aliquot.specs.declared.fault.DescFault.{DescFault}
-use Rattle.title_plan.specs.declared.fault.ScriptFault.{ScriptFault}
-use Rattle.title_plan.specs.declared.line.Schedule.{Schedule}
-use Rattle.title_plan.specs.declared.row.Row.{Row}
-use Rattle.title_plan.specs.declared.row.Row.TheVariants as row
-use Rattle.title_plan.specs.Asked.{Asked}
-use Rattle.title_plan.specs.Lands.{land_in}
+use Rattle.title_plan.specs.{declared.{fault.ScriptFault.{ScriptFault}, line.Schedule.{Schedule}, row.Row.{Row}}, Asked.{Asked}}
+use Rattle.title_plan.specs.{Lands.{land_in}, Onto.{is_party_of, is_township_of, nothing_before, party_onto, township_onto}}
 use Rattle.title_plan.specs.Onto.{Before, OntoNothing, after_row_onto, after_rows_onto, after_understood_onto, asked_on, first_of}
-use Rattle.title_plan.specs.Onto.{is_party_of, is_township_of, nothing_before, party_onto, township_onto}
 use Rattle.title_plan.specs.Plans.{after_row, after_rows, after_township, after_understood, going_on, rows_in, understood, with_party}
+use Rattle.title_plan.specs.declared.row.Row.TheVariants as row
 
 -- nothing stands that a row could declare again
 pub record IsNothing (before : Before) : Type 0 where

@@ -1,36 +1,25 @@
 -- What stands keeps its indices, row by row.
 use Rattle.std.proofs.Common.{◌≡◌, ◌≤◌, ◌+◌, ◌∙◌, refl, ap, sym, ℕ, List, [], ◌∷◌, ◌++◌, ◌==◌, ◌&&◌, Bool, true, false, cond, Option, Some}
-use Rattle.std.proofs.Common.{None, Result, Ok, Err, IfOk, subst}
-use Rattle.std.proofs.Common.{append_assoc, length, nat_le, take, ◌||◌, arith}
-use Rattle.std.proofs.lemmas.List.{append-nil, length-append, take-append-le}
-use Rattle.std.specs.List.{list_any}
-use Rattle.std.specs.Str.{bytes_eq}
+use Rattle.std.{proofs.Common.{None, Result, Ok, Err, IfOk, subst, append_assoc, length, nat_le, take, ◌||◌, arith}, specs.List.{list_any}}
+use Rattle.std.{proofs.lemmas.List.{append-nil, length-append, take-append-le}, specs.Str.{bytes_eq}}
 use mathlib.Core.List.{IsPrefix}
-use Rattle.title_land.specs.declared.survey.Township.{Township}
-use Rattle.title_land.specs.Survey.{same_township}
-use Rattle.title_land.specs.declared.tract.Land.{Land}
+use Rattle.title_land.specs.{declared.{survey.Township.{Township}, tract.Land.{Land}}, Survey.{same_township}}
 use Rattle.title_land.specs.declared.tract.Land.TheVariants as land
 use Rattle.title_aliquot.specs.declared.fault.DescFault.{DescFault}
-use Rattle.title_chain.specs.Alone.{most_parties}
-use Rattle.title_chain.specs.declared.ask.Ask.{Ask}
+use Rattle.title_chain.specs.{Alone.{most_parties}, declared.ask.Ask.{Ask}}
 use Rattle.title_chain.specs.declared.ask.Ask.TheVariants as ask
 use Rattle.title_instrument.specs.declared.instrument.Instrument.{Instrument}
 use Rattle.title_trace.specs.Due.{most_townships}
-use Rattle.title_plan.specs.declared.fault.ScriptFault.{ScriptFault}
-use Rattle.title_plan.specs.declared.fault.ScriptFault.TheVariants as fault
-use Rattle.title_plan.specs.declared.line.Schedule.{Schedule}
-use Rattle.title_plan.specs.declared.line.Schedule.TheVariants as schedule
-use Rattle.title_plan.specs.declared.onto.Stood.{Stood}
-use Rattle.title_plan.specs.declared.row.Act.{Act}
-use Rattle.title_plan.specs.declared.row.Act.TheVariants as act
-use Rattle.title_plan.specs.declared.row.Row.{Row}
-use Rattle.title_plan.specs.declared.row.Row.TheVariants as row
-use Rattle.title_plan.specs.Asked.{Asked}
-use Rattle.title_plan.specs.Lands.{land_in}
+use Rattle.title_plan.specs.declared.{fault.ScriptFault.{ScriptFault}, line.Schedule.{Schedule}, onto.Stood.{Stood}, row.Act.{Act}}
+use Rattle.title_plan.specs.{declared.row.Row.{Row}, Asked.{Asked}, Lands.{land_in}}
 use Rattle.title_plan.specs.Onto.{Before, ScriptsBegin, after_row_onto, after_rows_onto, after_understood_onto, asked_on, first_of}
 use Rattle.title_plan.specs.Onto.{is_party_of, is_township_of, party_onto, township_onto}
 use Rattle.title_plan.specs.Plans.{after_act, after_asked, after_post, after_step_row, after_township, asked_of, going_on, numbered, post}
 use Rattle.title_plan.specs.Plans.{is_beyond, is_out_of_turn, rows_in, understood, with_party, with_township}
+use Rattle.title_plan.specs.declared.fault.ScriptFault.TheVariants as fault
+use Rattle.title_plan.specs.declared.line.Schedule.TheVariants as schedule
+use Rattle.title_plan.specs.declared.row.Act.TheVariants as act
+use Rattle.title_plan.specs.declared.row.Row.TheVariants as row
 
 -- the townships and the names begin with those of before
 abbrev pub Grows : Asked → Asked → Type 0

@@ -1,14 +1,8 @@
 -- Which names stand behind the first of those that stood, by their numbers.
 use Rattle.std.proofs.Common.{◌≡◌, ◌∙◌, ◌+◌, ◌&&◌, cond, refl, ℕ, zero, suc, List, [], ◌∷◌, Bool, true, false, Some, None, map}
-use Rattle.std.proofs.Common.{drop, take, length}
-use Rattle.std.proofs.Common.{nat_lt, arith, inl, inr}
-use Rattle.std.specs.List.{AllByRecursion, IsDistinct, list_any, position, position_or_len}
-use Rattle.std.specs.Str.{bytes_eq}
-use Rattle.std.specs.String.{string_bytes, string_eq}
-use Rattle.std.specs.declared.string.String.{String}
-use Rattle.std.proofs.lemmas.Bool.{and_right, cases_Bool, or_from, or_parts}
-use Rattle.std.proofs.lemmas.Bool.Decides.{nat_tests}
-use Rattle.std.proofs.lemmas.Slice.Eq.{bytes_eq-Decides}
+use Rattle.std.{proofs.Common.{drop, take, length, nat_lt, arith, inl, inr}, specs.{Str.{bytes_eq}, String.{string_bytes, string_eq}}}
+use Rattle.std.specs.{List.{AllByRecursion, IsDistinct, list_any, position, position_or_len}, declared.string.String.{String}}
+use Rattle.std.proofs.lemmas.{Bool.{and_right, cases_Bool, or_from, or_parts, Decides.{nat_tests}}, Slice.Eq.{bytes_eq-Decides}}
 
 -- the first is found nowhere behind it
 abbrev pub IsFirstAlone : (List ℕ → Bool) → List (List ℕ) → Type 0

@@ -1,15 +1,10 @@
 -- What a declaration does, case by case, and that no township stands twice.
 use Rattle.std.proofs.Common.{◌≡◌, ◌<◌, ◌≤◌, ◌+◌, List, [], ◌∷◌, ◌++◌, Bool, true, false, ◌||◌, ◌∙◌, Result, Ok, Err}
-use Rattle.std.proofs.Common.{MatchResult, length, nat_le, refl, arith}
-use Rattle.std.specs.List.{list_any}
-use Rattle.std.proofs.lemmas.Bool.{and_parts, not-true, or_parts, or_from}
-use Rattle.std.proofs.lemmas.Bool.Decides.{nat_tests}
-use Rattle.std.proofs.lemmas.List.Folds.{list_any-append}
-use Rattle.title_land.specs.declared.survey.Township.{Township}
-use Rattle.title_land.specs.Survey.{same_township}
+use Rattle.std.{proofs.{Common.{MatchResult, length, nat_le, refl, arith}, lemmas.Bool.Decides.{nat_tests}}, specs.List.{list_any}}
+use Rattle.std.proofs.lemmas.{Bool.{and_parts, not-true, or_parts, or_from}, List.Folds.{list_any-append}}
+use Rattle.title_land.specs.{declared.survey.Township.{Township}, Survey.{same_township}}
 use Rattle.title_store.specs.Plants.{IsEachOnce}
-use Rattle.title_plan.specs.Asked.{Asked}
-use Rattle.title_plan.specs.Townships.{each_once}
+use Rattle.title_plan.specs.{Asked.{Asked}, Townships.{each_once}}
 use Rattle.title_chain.specs.Alone.{most_parties}
 use Rattle.title_trace.specs.Due.{most_townships}
 

@@ -1,20 +1,10 @@
 -- Fields and their texts.
-use Rattle.std.proofs.Common.{◌≡◌, ◌≢◌, ◌<◌, ◌≤◌, ◌^◌, ◌∷◌, [], refl, ap, ℕ, zero, suc, List, Option, None, Some}
-use Rattle.std.proofs.Common.{cond, option_map, arith, nat_le, inl, inr}
-use Rattle.std.specs.Borrow.{Bor}
-use Rattle.std.specs.Iterator.{AlwaysYields}
-use Rattle.std.specs.Option.{unwrap_or}
-use Rattle.std.specs.Str.Iter.{split_steps}
-use Rattle.std.specs.Str.Pattern.{FindsChar}
-use Rattle.std.specs.declared.str.Split.{Split}
-use Rattle.std.proofs.lemmas.Bool.{cases_Bool, ne_eqb}
+use Rattle.std.{proofs.Common.{◌≡◌, ◌≢◌, ◌<◌, ◌≤◌, ◌^◌, ◌∷◌, [], refl, ap, ℕ, zero, suc, List, Option, None, Some}, specs.Borrow.{Bor}}
+use Rattle.std.{proofs.Common.{cond, option_map, arith, nat_le, inl, inr}, specs.{Iterator.{AlwaysYields}, Option.{unwrap_or}}}
+use Rattle.std.{specs.{Str.{Iter.{split_steps}, Pattern.{FindsChar}}, declared.str.Split.{Split}}, proofs.lemmas.Bool.{cases_Bool, ne_eqb}}
 use Rattle.csv.specs.Records.{field_at}
-use Rattle.title_share.specs.Share.{IsNumber}
-use Rattle.title_share.specs.Texts.{number_in}
-use Rattle.title_share.specs.Laws.Texts.{numbers_read}
-use Rattle.title_instrument.specs.declared.parts.Estate.{Estate}
-use Rattle.title_instrument.specs.declared.parts.Estate.TheVariants.{S, O, M}
-use Rattle.title_instrument.specs.Estates.{letter_of}
+use Rattle.title_share.specs.{Share.{IsNumber}, Texts.{number_in}, Laws.Texts.{numbers_read}}
+use Rattle.title_instrument.specs.{declared.parts.Estate.{Estate, TheVariants.{S, O, M}}, Estates.{letter_of}}
 use Rattle.title_plan.specs.Fields.{field, given, number_up_to, quantum_in, with_item, with_items}
 
 -- the field of this number, or an empty one

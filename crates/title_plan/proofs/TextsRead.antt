@@ -1,8 +1,6 @@
 -- What texts say.
 use Rattle.title_land.specs.Depth.{depth}
-use Rattle.title_aliquot.specs.Reading.{reading}
-use Rattle.title_aliquot.specs.Laws.Readings.{gives_the_land, gives_the_fault}
-use Rattle.title_aliquot.specs.Laws.Total.{each_text}
+use Rattle.title_aliquot.specs.{Reading.{reading}, Laws.{Readings.{gives_the_land, gives_the_fault}, Total.{each_text}}}
 use Rattle.title_plan.specs.Lands.{FaultsAreRead, LandsAreRead, land_in}
 
 pub lands_read : LandsAreRead

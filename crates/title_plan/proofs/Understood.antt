@@ -1,18 +1,10 @@
 -- Rows that are understood, and rows that are not.
-use Rattle.std.proofs.Common.{◌≡◌, ◌≤◌, refl, ℕ, List, true, Option, Err, nat_le, arith, inl, inr}
-use Rattle.std.specs.List.{list_all}
-use Rattle.std.specs.Str.{is_utf8}
-use Rattle.std.proofs.lemmas.Bool.{and_right, cases_Bool}
-use Rattle.std.proofs.lemmas.Bool.Decides.{nat_tests}
+use Rattle.std.{proofs.Common.{◌≡◌, ◌≤◌, refl, ℕ, List, true, Option, Err, nat_le, arith, inl, inr}, specs.{List.{list_all}, Str.{is_utf8}}}
+use Rattle.std.proofs.lemmas.Bool.{and_right, cases_Bool, Decides.{nat_tests}}
 use Rattle.csv.specs.Records.{AllText}
 use Rattle.title_plan.specs.declared.fault.ScriptFault.TheVariants as fault
-use Rattle.title_plan.specs.declared.line.Schedule.{Schedule}
-use Rattle.title_plan.specs.declared.row.Row.{Row}
-use Rattle.title_plan.specs.Asked.{Asked}
-use Rattle.title_plan.specs.Limits.{most_rows}
-use Rattle.title_plan.specs.Onto.{Before, after_row_onto, after_understood_onto}
-use Rattle.title_plan.specs.Rows.{row_in}
-use Rattle.title_plan.proofs.Names.{texts_true}
+use Rattle.title_plan.specs.{declared.{line.Schedule.{Schedule}, row.Row.{Row}}, Asked.{Asked}, Limits.{most_rows}, Rows.{row_in}}
+use Rattle.title_plan.{specs.Onto.{Before, after_row_onto, after_understood_onto}, proofs.Names.{texts_true}}
 
 -- a row that isn't text
 pub not_text : (schedule : Schedule) (before : Before) (n : ℕ) (asked : Asked) (fields : List (List ℕ))

@@ -1,9 +1,7 @@
 -- What the rows of a script have declared and asked for.
-use Rattle.std.specs.Prelude.{ℕ, List, [], ◌∷◌, map, codes}
-use Rattle.std.specs.String.{string_bytes}
+use Rattle.std.specs.{Prelude.{ℕ, List, [], ◌∷◌, map, codes}, String.{string_bytes}}
 use Rattle.title_land.specs.declared.survey.Township.{Township}
-use Rattle.title_plan.specs.declared.line.Line.{Line}
-use Rattle.title_plan.specs.declared.plan.Plan.{Plan}
+use Rattle.title_plan.specs.declared.{line.Line.{Line}, plan.Plan.{Plan}}
 
 -- the townships; the names of the parties, whose numbers are their indices from 0; the steps; and the examiners whose
 -- transactions are open, none where transactions are interleaved

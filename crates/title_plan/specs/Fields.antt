@@ -1,16 +1,10 @@
 -- The fields of a row: what each says by its text, where it has its form.
 use Rattle.std.specs.Prelude.{ℕ, ◌==◌, eqb, ◌&&◌, not, cond, Bool, true, false, List, [], ◌∷◌, Option, Some, None, codes, length, nat_le}
-use Rattle.std.specs.Prelude.{is_none}
-use Rattle.std.specs.Prelude.{option_map, slice_index_or, slice_set}
-use Rattle.std.specs.List.{find, list_all, slice_split}
-use Rattle.std.specs.Str.{bytes_eq}
+use Rattle.std.specs.{Prelude.{is_none, option_map, slice_index_or, slice_set}, List.{find, list_all, slice_split}, Str.{bytes_eq}}
 use Rattle.title_share.specs.Texts.{number_in, share_in}
-use Rattle.title_instrument.specs.declared.parts.Estate.{Estate}
-use Rattle.title_instrument.specs.declared.parts.Estate.TheVariants.{S, O, M}
-use Rattle.title_instrument.specs.declared.parts.Estates.{Estates}
-use Rattle.title_instrument.specs.declared.parts.Quantum.{Quantum}
-use Rattle.title_instrument.specs.declared.parts.Quantum.TheVariants as quantum
+use Rattle.title_instrument.specs.declared.parts.{Estate.{Estate, TheVariants.{S, O, M}}, Estates.{Estates}, Quantum.{Quantum}}
 use Rattle.title_instrument.specs.Estates.{estates_text, letter_of, estate_index}
+use Rattle.title_instrument.specs.declared.parts.Quantum.TheVariants as quantum
 use Rattle.title_plan.specs.Limits.{longest_name, last_examiner, last_document}
 
 -- what comes of a value, where there is one

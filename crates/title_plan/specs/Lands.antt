@@ -1,10 +1,7 @@
 -- The land that a text describes, or its fault: each text has one of them, and only one.
 use Rattle.std.specs.Prelude.{◌≡◌, ◌↔◌, ℕ, List, Result, Ok, Err}
-use Rattle.title_land.specs.Depth.{depth}
-use Rattle.title_land.specs.declared.tract.Land.{Land}
-use Rattle.title_aliquot.specs.declared.fault.DescFault.{DescFault}
-use Rattle.title_aliquot.specs.Describes.{Describes, FaultOf}
-use Rattle.title_aliquot.specs.Reading.{reading}
+use Rattle.title_land.specs.{Depth.{depth}, declared.tract.Land.{Land}}
+use Rattle.title_aliquot.specs.{declared.fault.DescFault.{DescFault}, Describes.{Describes, FaultOf}, Reading.{reading}}
 use Rattle.title_aliquot.specs.Laws.Total.{each_text}
 
 -- what a text says, as the law that each text is answered gives it

@@ -1,25 +1,15 @@
 -- What a script asks for on top of what stands before it: what stands may be declared once more.
 use Rattle.std.specs.Prelude.{◌≡◌, ◌≤◌, ℕ, ◌+◌, ◌==◌, ◌&&◌, cond, Bool, false, List, [], ◌∷◌, codes, drop, length, map, take}
-use Rattle.std.specs.Prelude.{Option, Some, None, Result, Ok, Err}
-use Rattle.std.specs.List.{list_any}
-use Rattle.std.specs.Str.{bytes_eq}
-use Rattle.std.specs.String.{string_bytes}
+use Rattle.std.specs.{Prelude.{Option, Some, None, Result, Ok, Err}, List.{list_any}, Str.{bytes_eq}, String.{string_bytes}}
 use mathlib.Core.List.{IsPrefix}
-use Rattle.title_land.specs.declared.survey.Township.{Township}
-use Rattle.title_land.specs.declared.tract.Land.{Land}
+use Rattle.title_land.specs.{declared.{survey.Township.{Township}, tract.Land.{Land}}, Survey.{same_township}}
 use Rattle.title_land.specs.declared.tract.Land.TheVariants as land
-use Rattle.title_land.specs.Survey.{same_township}
 use Rattle.title_aliquot.specs.declared.fault.DescFault.{DescFault}
-use Rattle.title_plan.specs.declared.fault.ScriptFault.{ScriptFault}
-use Rattle.title_plan.specs.declared.fault.ScriptFault.TheVariants as fault
-use Rattle.title_plan.specs.declared.line.Schedule.{Schedule}
-use Rattle.title_plan.specs.declared.onto.Declared.{Declared}
-use Rattle.title_plan.specs.declared.onto.Stood.{Stood}
-use Rattle.title_plan.specs.declared.row.Row.{Row}
-use Rattle.title_plan.specs.declared.row.Row.TheVariants as row
-use Rattle.title_plan.specs.Asked.{Asked}
-use Rattle.title_plan.specs.Lands.{land_in}
+use Rattle.title_plan.specs.declared.{fault.ScriptFault.{ScriptFault}, line.Schedule.{Schedule}, onto.{Declared.{Declared}, Stood.{Stood}}}
+use Rattle.title_plan.specs.{declared.row.Row.{Row}, Asked.{Asked}, Lands.{land_in}}
 use Rattle.title_plan.specs.Plans.{after_step_row, after_township, going_on, rows_in, script_of, understood, with_party}
+use Rattle.title_plan.specs.declared.fault.ScriptFault.TheVariants as fault
+use Rattle.title_plan.specs.declared.row.Row.TheVariants as row
 
 -- what stands before a script: its townships, and the names of its parties, whose numbers are their indices from 0; the first
 -- party is UNITED STATES

@@ -1,36 +1,23 @@
 -- What a script asks for, or the first fault among its rows.
 use Rattle.std.specs.Prelude.{ℕ, ◌+◌, ◌==◌, ◌&&◌, ◌||◌, not, cond, Bool, true, false, List, [], ◌∷◌, ◌++◌, filter, length, nat_le, nat_lt}
-use Rattle.std.specs.Prelude.{Option, Some, None, Result, Ok, Err}
-use Rattle.std.specs.List.{list_all, list_any, position}
-use Rattle.std.specs.Str.{bytes_eq, is_utf8}
+use Rattle.std.specs.{Prelude.{Option, Some, None, Result, Ok, Err}, List.{list_all, list_any, position}, Str.{bytes_eq, is_utf8}}
 use Rattle.csv.specs.Reading.{default_config, records, strip_bom}
-use Rattle.title_land.specs.declared.survey.Township.{Township}
-use Rattle.title_land.specs.declared.tract.Land.{Land}
+use Rattle.title_land.specs.{declared.{survey.Township.{Township}, tract.Land.{Land}}, Survey.{same_township}}
 use Rattle.title_land.specs.declared.tract.Land.TheVariants as land
-use Rattle.title_land.specs.Survey.{same_township}
 use Rattle.title_aliquot.specs.declared.fault.DescFault.{DescFault}
-use Rattle.title_plan.specs.Lands.{land_in}
-use Rattle.title_instrument.specs.declared.instrument.Instrument.{Instrument}
-use Rattle.title_instrument.specs.Parties.{between, grantor_of, grantee_of}
-use Rattle.title_chain.specs.declared.ask.Ask.{Ask}
+use Rattle.title_plan.specs.{Lands.{land_in}, declared.{fault.ScriptFault.{ScriptFault}, line.{Line.{Line}, Schedule.{Schedule}}}}
+use Rattle.title_plan.specs.{declared.row.{Act.{Act}, Row.{Row}}, Asked.{Asked, nothing_asked}, Fields.{given}, Limits.{most_rows}}
+use Rattle.title_plan.specs.Rows.{row_in}
+use Rattle.title_instrument.specs.{declared.instrument.Instrument.{Instrument}, Parties.{between, grantor_of, grantee_of}}
+use Rattle.title_chain.specs.{declared.ask.Ask.{Ask}, Alone.{most_parties}}
 use Rattle.title_chain.specs.declared.ask.Ask.TheVariants as ask
 use Rattle.title_trace.specs.declared.call.Request.TheVariants as request
-use Rattle.title_plan.specs.declared.fault.ScriptFault.{ScriptFault}
 use Rattle.title_plan.specs.declared.fault.ScriptFault.TheVariants as fault
-use Rattle.title_plan.specs.declared.line.Line.{Line}
 use Rattle.title_plan.specs.declared.line.Line.TheVariants as line
-use Rattle.title_plan.specs.declared.line.Schedule.{Schedule}
 use Rattle.title_plan.specs.declared.line.Schedule.TheVariants as schedule
-use Rattle.title_plan.specs.declared.row.Act.{Act}
 use Rattle.title_plan.specs.declared.row.Act.TheVariants as act
-use Rattle.title_plan.specs.declared.row.Row.{Row}
 use Rattle.title_plan.specs.declared.row.Row.TheVariants as row
-use Rattle.title_plan.specs.Asked.{Asked, nothing_asked}
-use Rattle.title_plan.specs.Fields.{given}
-use Rattle.title_chain.specs.Alone.{most_parties}
 use Rattle.title_trace.specs.Due.{most_townships}
-use Rattle.title_plan.specs.Limits.{most_rows}
-use Rattle.title_plan.specs.Rows.{row_in}
 
 -- ---- declarations
 

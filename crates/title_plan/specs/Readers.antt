@@ -1,9 +1,7 @@
 -- A reader of a script's rows before the first of them.
-use Rattle.std.specs.Prelude.{◌≡◌, ℕ, List, [], Option, Some, None, true}
-use Rattle.std.specs.Borrow.{Bor}
-use Rattle.csv.specs.Reading.{Ready, default_config, is_flexible, source_of}
+use Rattle.std.specs.{Prelude.{◌≡◌, ℕ, List, [], Option, Some, None, true}, Borrow.{Bor}}
+use Rattle.csv.specs.{Reading.{Ready, default_config, is_flexible, source_of}, declared.reader.Reader.{Reader}}
 use Rattle.csv.specs.declared.parser.State.TheVariants as st
-use Rattle.csv.specs.declared.reader.Reader.{Reader}
 use Rattle.csv.specs.declared.reader.Trim.TheVariants as trim
 
 abbrev pub or_none : Option (List ℕ) → List ℕ

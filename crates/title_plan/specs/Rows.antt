@@ -1,18 +1,14 @@
 -- What a row of a script says, by its fields.
-use Rattle.std.specs.Prelude.{ℕ, ◌==◌, ◌&&◌, cond, Bool, true, false, List, Option, Some, None, codes, length, option_map}
-use Rattle.std.specs.Borrow.{Bor}
+use Rattle.std.specs.{Prelude.{ℕ, ◌==◌, ◌&&◌, cond, Bool, true, false, List, Option, Some, None, codes, length, option_map}, Borrow.{Bor}}
 use Rattle.std.specs.Str.{bytes_eq}
-use Rattle.title_instrument.specs.declared.instrument.Instrument.{Instrument}
-use Rattle.title_instrument.specs.declared.instrument.Instrument.TheVariants as i
-use Rattle.title_instrument.specs.declared.kind.Kind.{Kind}
-use Rattle.title_instrument.specs.declared.kind.Kind.TheVariants as kind
-use Rattle.title_instrument.specs.Kinds.{kind_in}
+use Rattle.title_instrument.specs.{declared.{instrument.Instrument.{Instrument}, kind.Kind.{Kind}}, Kinds.{kind_in}}
 use Rattle.title_instrument.specs.Parties.{between, grantor_of, grantee_of}
-use Rattle.title_plan.specs.declared.row.Act.{Act}
-use Rattle.title_plan.specs.declared.row.Act.TheVariants as act
-use Rattle.title_plan.specs.declared.row.Row.{Row}
-use Rattle.title_plan.specs.declared.row.Row.TheVariants as row
+use Rattle.title_instrument.specs.declared.instrument.Instrument.TheVariants as i
+use Rattle.title_instrument.specs.declared.kind.Kind.TheVariants as kind
+use Rattle.title_plan.specs.declared.row.{Act.{Act}, Row.{Row}}
 use Rattle.title_plan.specs.Fields.{given, field, examiner_in, document_in, name_in, estates_in, quantum_in, reserve_in}
+use Rattle.title_plan.specs.declared.row.Act.TheVariants as act
+use Rattle.title_plan.specs.declared.row.Row.TheVariants as row
 
 -- what an examiner does by a word alone
 abbrev pub word_in : List ℕ → Option (Act (List ℕ))

@@ -1,8 +1,6 @@
 -- Lists of townships.
-use Rattle.std.specs.Prelude.{◌&&◌, not, Bool, true, List, [], ◌∷◌}
-use Rattle.std.specs.List.{list_any}
-use Rattle.title_land.specs.declared.survey.Township.{Township}
-use Rattle.title_land.specs.Survey.{same_township}
+use Rattle.std.specs.{Prelude.{◌&&◌, not, Bool, true, List, [], ◌∷◌}, List.{list_any}}
+use Rattle.title_land.specs.{declared.survey.Township.{Township}, Survey.{same_township}}
 
 -- no township stands twice, as a test
 abbrev pub each_once : List Township → Bool

@@ -1,7 +1,6 @@
 //! The fields of a row.
 
-ghost use Rattle.std.specs.Prelude.{◌≡◌, option_map};
-ghost use Rattle.std.specs.List.{list_all};
+ghost use Rattle.std.specs.{Prelude.{◌≡◌, option_map}, List.{list_all}};
 ghost use Rattle.csv.specs.Records.{fields_of};
 ghost use Rattle.title_plan.specs.Fields.{document_in, estates_in, examiner_in, field, is_name_byte, name_in, number_up_to};
 

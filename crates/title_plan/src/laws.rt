@@ -1,10 +1,8 @@
 //! Laws of scripts. Each function does nothing: its clauses are the law, proved.
 
 ghost use Rattle.std.specs.Prelude.{◌≡◌};
-ghost use Rattle.title_plan.specs.Lands.{FaultsAreRead, LandsAreRead};
-ghost use Rattle.title_plan.specs.Limits.{last_document, last_examiner, longest_name, most_rows};
-ghost use Rattle.title_plan.specs.Onto.{OntoNothing, ScriptsBegin};
-ghost use Rattle.title_plan.specs.declared.fields.TheConstants.{DOCUMENTS, EXAMINERS, NAME_LIMIT};
+ghost use Rattle.title_plan.specs.{Lands.{FaultsAreRead, LandsAreRead}, Limits.{last_document, last_examiner, longest_name, most_rows}};
+ghost use Rattle.title_plan.specs.{Onto.{OntoNothing, ScriptsBegin}, declared.fields.TheConstants.{DOCUMENTS, EXAMINERS, NAME_LIMIT}};
 ghost use Rattle.title_plan.specs.declared.plan.TheConstants.{ROWS};
 
 /// A text is read as the land that it describes, or as its fault.

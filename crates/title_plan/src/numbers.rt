@@ -1,11 +1,9 @@
 //! The numbers of parties.
 
-ghost use Rattle.std.specs.Prelude.{◌≡◌, ◌≤◌, map};
-ghost use Rattle.std.specs.String.{string_bytes};
+ghost use Rattle.std.specs.{Prelude.{◌≡◌, ◌≤◌, map}, String.{string_bytes}};
 ghost use Rattle.indexmap.specs.IndexSet.{index_set_len};
 ghost use Rattle.title_chain.specs.Alone.{most_parties};
-ghost use Rattle.title_plan.specs.Plans.{number_of, numbered};
-ghost use Rattle.title_plan.specs.Rows.{named};
+ghost use Rattle.title_plan.specs.{Plans.{number_of, numbered}, Rows.{named}};
 
 use indexmap::IndexSet;
 use title_instrument::Instrument;

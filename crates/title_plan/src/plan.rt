@@ -6,9 +6,7 @@ ghost use Rattle.indexmap.specs.IndexSet.{index_set_len};
 ghost use Rattle.title_plan.specs.declared.fault.ScriptFault.TheVariants as fault;
 ghost use Rattle.title_chain.specs.Alone.{most_parties};
 ghost use Rattle.title_trace.specs.Due.{most_townships};
-ghost use Rattle.title_plan.specs.Limits.{most_rows};
-ghost use Rattle.title_plan.specs.Rows.{done, said};
-ghost use Rattle.title_plan.specs.Townships.{each_once};
+ghost use Rattle.title_plan.specs.{Limits.{most_rows}, Rows.{done, said}, Townships.{each_once}};
 
 use crate::fault::ScriptFault;
 use crate::line::{Line, Schedule};
@@ -46,9 +44,8 @@ pub struct Plan {
 }
 
 impl Plan {
-    ghost use Rattle.title_plan.specs.Asked.{asked_in, nothing_asked};
+    ghost use Rattle.title_plan.specs.{Asked.{asked_in, nothing_asked}, Plans.{after_row, after_step_row}};
     ghost use Rattle.title_plan.specs.Onto.{after_row_onto, after_said_onto, asked_on, before_in, first_of};
-    ghost use Rattle.title_plan.specs.Plans.{after_row, after_step_row};
 
     /// What is declared, and no step. Takes no memory.
     pub(crate) fn onto(alloc: Global, declared: Declared) -> Plan

@@ -1,7 +1,6 @@
 //! Descriptions that were read, and what each says.
 
-ghost use Rattle.std.specs.Prelude.{◌≡◌, IfOk, IfSome};
-ghost use Rattle.std.specs.String.{string_bytes};
+ghost use Rattle.std.specs.{Prelude.{◌≡◌, IfOk, IfSome}, String.{string_bytes}};
 ghost use Rattle.title_plan.specs.Lands.{land_in};
 
 use crate::lands::read_tract;

@@ -2,14 +2,9 @@
 
 ghost use Rattle.std.specs.Prelude.{◌≡◌, ◌≤◌, ◌⊎◌, Ok, Err, IfErr, IfOk, OnOk, length};
 ghost use Rattle.title_trace.specs.Due.{MayOpen};
-ghost use Rattle.title_plan.specs.Asked.{asked_in};
-ghost use Rattle.csv.specs.Reading.{default_config, error_kind, records, strip_bom};
-ghost use Rattle.csv.specs.Records.{fields_of};
-ghost use Rattle.title_plan.specs.Faults.{IsWant};
-ghost use Rattle.title_plan.specs.Limits.{most_rows};
+ghost use Rattle.title_plan.specs.{Asked.{asked_in}, Faults.{IsWant}, Limits.{most_rows}, Plans.{script_of}, Readers.{IsAtFirst, left_of}};
 ghost use Rattle.title_plan.specs.Onto.{StandIn, after_row_onto, after_rows_onto, asked_on, before_in, first_of, script_onto};
-ghost use Rattle.title_plan.specs.Plans.{script_of};
-ghost use Rattle.title_plan.specs.Readers.{IsAtFirst, left_of};
+ghost use Rattle.csv.specs.{Reading.{default_config, error_kind, records, strip_bom}, Records.{fields_of}};
 ghost use Rattle.title_plan.specs.declared.fault.ScriptFault.TheVariants as fault;
 
 use crate::fault::ScriptFault;

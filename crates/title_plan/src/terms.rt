@@ -1,8 +1,7 @@
 //! The terms of instruments, by their fields.
 
 ghost use Rattle.std.specs.Prelude.{◌≡◌, ◌∷◌, ℕ, List, MatchOption};
-ghost use Rattle.title_instrument.specs.declared.parts.Estate.{Estate};
-ghost use Rattle.title_instrument.specs.Estates.{letter_of};
+ghost use Rattle.title_instrument.specs.{declared.parts.Estate.{Estate}, Estates.{letter_of}};
 ghost use Rattle.title_plan.specs.Fields.{quantum_in, reserve_in, reserving, with_item};
 
 use title_instrument::{Estate, Quantum};

@@ -1,8 +1,7 @@
 //! Files of plants that were written by hand.
 
 ghost use Rattle.std.specs.Prelude.{◌<◌, ◌^◌, length};
-ghost use Rattle.title_journal.specs.Blocks.{front};
-ghost use Rattle.title_journal.specs.Rest.{texts_of};
+ghost use Rattle.title_journal.specs.{Blocks.{front}, Rest.{texts_of}};
 
 use indexmap::IndexSet;
 use std::alloc::{AllocError, Global};

@@ -1,14 +1,8 @@
 -- Walks over rows and parts.
-use Rattle.std.proofs.Common.{◌≡◌, ◌≤◌, ◌<◌, ◌+◌, ◌-◌, ◌++◌, ◌∙◌, ℕ, suc, List, [], ◌∷◌, length, take, drop}
-use Rattle.std.proofs.Common.{get_or, subst, sym, ap, ap₂, arith, add-one, take_all}
-use Rattle.std.specs.List.{All, flat_map}
-use Rattle.std.proofs.lemmas.Grind.{common_steps, flat_map-append}
-use Rattle.std.proofs.lemmas.List.{append-nil, take-append-drop, drop-take}
-use Rattle.std.proofs.lemmas.List.Elements.{All-cons}
-use Rattle.std.proofs.Math.Seq.{drop-cons}
-use Rattle.title_plat.specs.declared.parts.Part.{Part}
-use Rattle.title_plat.specs.declared.row.Row.{Row}
-use Rattle.title_plat.specs.Parts.{owners_of}
+use Rattle.std.{proofs.Common.{◌≡◌, ◌≤◌, ◌<◌, ◌+◌, ◌-◌, ◌++◌, ◌∙◌, ℕ, suc, List, [], ◌∷◌, length, take, drop}, specs.List.{All, flat_map}}
+use Rattle.std.proofs.{Common.{get_or, subst, sym, ap, ap₂, arith, add-one, take_all}, lemmas.Grind.{common_steps, flat_map-append}}
+use Rattle.std.proofs.{lemmas.List.{append-nil, take-append-drop, drop-take, Elements.{All-cons}}, Math.Seq.{drop-cons}}
+use Rattle.title_plat.specs.{declared.{parts.Part.{Part}, row.Row.{Row}}, Parts.{owners_of}}
 
 -- a walk that has come to the end has seen all
 pub all_walked : {X : Type 0} (P : X → Type 0) (xs : List X) (i : ℕ) → length xs ≤ i → All P (take i xs) → All P xs

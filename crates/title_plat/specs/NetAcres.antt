@@ -1,14 +1,9 @@
 -- Net acres, in units of which a half acre has as many as a whole share.
-use Rattle.std.specs.Prelude.{ℕ, ◌+◌, ◌*◌, ◌/◌, ◌^◌, ◌&&◌, Bool, List, sum_by, unwrap_or, if◌then◌else◌}
-use Rattle.std.specs.Str.{bytes_eq}
+use Rattle.std.specs.{Prelude.{ℕ, ◌+◌, ◌*◌, ◌/◌, ◌^◌, ◌&&◌, Bool, List, sum_by, unwrap_or, if◌then◌else◌}, Str.{bytes_eq}}
 use Rattle.std.specs.String.{string_bytes}
 use Rattle.title_instrument.specs.declared.parts.Estate.{Estate}
-use Rattle.title_land.specs.declared.node.Node.{Node}
-use Rattle.title_land.specs.Acres.{half_acres_of}
-use Rattle.title_land.specs.Depth.{depth}
-use Rattle.title_land.specs.Lands.{land_of}
-use Rattle.title_plat.specs.declared.row.Row.{Row}
-use Rattle.title_plat.specs.Parts.{same_estate}
+use Rattle.title_land.specs.{declared.node.Node.{Node}, Acres.{half_acres_of}, Depth.{depth}, Lands.{land_of}}
+use Rattle.title_plat.specs.{declared.row.Row.{Row}, Parts.{same_estate}}
 
 -- the half acres of a node: those of so many townships, 46,080 each, for the whole plant
 abbrev pub node_half_acres : ℕ → Node → ℕ

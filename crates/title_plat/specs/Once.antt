@@ -1,19 +1,11 @@
 -- What a sheet promises of its parts: each cell lies in one part of every estate, or in none of any.
 use Rattle.std.specs.Prelude.{◌≡◌, ◌<◌, ◌&&◌, ◌==◌, ℕ, Bool, true, List, count_by, nat_le, sum_by, All}
-use Rattle.title_instrument.specs.declared.parts.Estate.{Estate}
-use Rattle.title_instrument.specs.declared.parts.Estate.TheVariants.{S, O, M}
-use Rattle.title_land.specs.declared.survey.Cell.{Cell}
-use Rattle.title_land.specs.declared.survey.Section.{Section}
-use Rattle.title_land.specs.Depth.{depth}
-use Rattle.title_land.specs.Nodes.{node_has}
-use Rattle.title_land.specs.Survey.{side}
-use Rattle.title_share.specs.Rows.{whole_units}
+use Rattle.title_instrument.specs.declared.parts.Estate.{Estate, TheVariants.{S, O, M}}
+use Rattle.title_land.specs.{declared.survey.{Cell.{Cell}, Section.{Section}}, Depth.{depth}, Nodes.{node_has}, Survey.{side}}
 use Rattle.title_land.specs.CellLists.{sections_of}
-use Rattle.title_plat.specs.declared.frame.Frame.{Frame}
+use Rattle.title_share.specs.Rows.{whole_units}
+use Rattle.title_plat.specs.{declared.{frame.Frame.{Frame}, parts.Part.{Part}, row.Row.{Row}}, Parts.{same_estate, owners_of}}
 use Rattle.title_plat.specs.declared.frame.Frame.TheVariants as frame
-use Rattle.title_plat.specs.declared.parts.Part.{Part}
-use Rattle.title_plat.specs.declared.row.Row.{Row}
-use Rattle.title_plat.specs.Parts.{same_estate, owners_of}
 
 -- a part is one of this estate and has the cell
 abbrev pub has_cell : Estate → Cell → Part → Bool

@@ -1,10 +1,8 @@
 -- The parts of a sheet: a node, an estate, and the rows that say who owns it there.
 use Rattle.std.specs.Prelude.{◌≡◌, ◌≤◌, ◌<◌, ◌-◌, Bool, true, false, List, flat_map, length, take, drop, All}
-use Rattle.title_instrument.specs.declared.parts.Estate.{Estate}
-use Rattle.title_instrument.specs.declared.parts.Estate.TheVariants.{S, O, M}
+use Rattle.title_instrument.specs.declared.parts.Estate.{Estate, TheVariants.{S, O, M}}
 use Rattle.title_land.specs.declared.node.Node.{Node}
-use Rattle.title_plat.specs.declared.parts.Part.{Part}
-use Rattle.title_plat.specs.declared.row.Row.{Row}
+use Rattle.title_plat.specs.declared.{parts.Part.{Part}, row.Row.{Row}}
 
 -- the estates are one
 abbrev pub same_estate : Estate → Estate → Bool

@@ -1,7 +1,6 @@
 -- Which sheet of a report is wanted.
 use Rattle.std.specs.Prelude.{ℕ, zero, suc, List, Option, None, length, slice_get}
-use Rattle.title_plat.specs.declared.sheet.Extent.{Extent}
-use Rattle.title_plat.specs.declared.sheet.Wanted.{Wanted}
+use Rattle.title_plat.specs.declared.sheet.{Extent.{Extent}, Wanted.{Wanted}}
 use Rattle.title_plat.specs.declared.sheet.Wanted.TheVariants as wanted
 
 -- the sheet with this number, counted from 1

@@ -1,8 +1,6 @@
 //! Text as it stands in XML.
 
-ghost use Rattle.std.specs.Prelude.{◌≡◌, ◌++◌, IfOk, OnOk};
-ghost use Rattle.std.specs.Str.{chars};
-ghost use Rattle.std.specs.String.{string_bytes};
+ghost use Rattle.std.specs.{Prelude.{◌≡◌, ◌++◌, IfOk, OnOk}, Str.{chars}, String.{string_bytes}};
 ghost use Rattle.title_plat.specs.Escapes.{escape_of, escapes, is_forbidden};
 
 use std::alloc::{AllocError, Global};

@@ -3,9 +3,8 @@
 ghost use Rattle.std.specs.Prelude.{◌≡◌, true, All, IfOk, count_by, sum_by};
 ghost use Rattle.title_instrument.specs.declared.parts.Estate.{Estate};
 ghost use Rattle.title_land.specs.CellLists.{sections_of};
-ghost use Rattle.title_plat.specs.Parts.{same_estate};
+ghost use Rattle.title_plat.specs.{Parts.{same_estate}, Once.{is_once, parts_at, IsOnceIn, IsOnceInRow, IsOnceOn, IsWhole}};
 ghost use Rattle.title_share.specs.Rows.{whole_units};
-ghost use Rattle.title_plat.specs.Once.{is_once, parts_at, IsOnceIn, IsOnceInRow, IsOnceOn, IsWhole};
 
 use crate::frame::Frame;
 use crate::parts::Part;

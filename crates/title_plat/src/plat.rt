@@ -1,8 +1,7 @@
 //! The parts of a sheet, with the land that is drawn for them.
 
 ghost use Rattle.std.specs.Prelude.{All, IfOk};
-ghost use Rattle.title_plat.specs.Once.{IsOnceOn, IsWhole};
-ghost use Rattle.title_plat.specs.Parts.{ArePartsOf};
+ghost use Rattle.title_plat.specs.{Once.{IsOnceOn, IsWhole}, Parts.{ArePartsOf}};
 
 use crate::fault::PlatFault;
 use crate::frame::{Frame, frame_of};

@@ -2,10 +2,7 @@
 use Rattle.std.proofs.Common.{◌≡◌, ◌≢◌, refl, List, ℕ, Bool, Option, Err}
 use Rattle.title_counter.specs.declared.fault.CounterFault.{CounterFault}
 use Rattle.title_counter.specs.declared.fault.CounterFault.TheVariants as fault
-use Rattle.title_program.specs.declared.status.Status.{Status}
-use Rattle.title_program.specs.declared.status.Status.TheVariants.{Failure}
-use Rattle.title_program.specs.DeskServing.{ClosesBy}
-use Rattle.title_program.specs.Faults.{of_desk}
+use Rattle.title_program.specs.{declared.status.Status.{Status, TheVariants.{Failure}}, DeskServing.{ClosesBy}, Faults.{of_desk}}
 use Rattle.title_program.specs.Printing.{TellsFault}
 
 -- rows that weren't attended to their end are closed so

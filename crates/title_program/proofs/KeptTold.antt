@@ -1,16 +1,11 @@
 -- The fault that is told of a script on top of a plant's file, or of what stands in one, follows what was written.
 use Rattle.std.proofs.Common.{◌≡◌, ◌≢◌, ◌∙◌, refl, ap, arith, List, [], ◌∷◌, ◌++◌, ℕ, Bool, Option, Err, codes, decimal, lit<}
 use Rattle.std.proofs.lemmas.Fmt.{decimal_digit, decimal_step}
-use Rattle.title_lasting.specs.declared.checking.TellFault.{TellFault}
+use Rattle.title_lasting.specs.declared.{checking.TellFault.{TellFault}, fault.LastingFault.{LastingFault}}
 use Rattle.title_lasting.specs.declared.checking.TellFault.TheVariants as untold
-use Rattle.title_lasting.specs.declared.fault.LastingFault.{LastingFault}
 use Rattle.title_lasting.specs.declared.fault.LastingFault.TheVariants as fault
-use Rattle.title_program.specs.declared.status.Status.{Status}
-use Rattle.title_program.specs.declared.status.Status.TheVariants.{Failure}
-use Rattle.title_program.specs.Checking.{ChecksBy}
-use Rattle.title_program.specs.Faults.{fault_line, of_lasting, of_telling}
-use Rattle.title_program.specs.Keeping.{EndsBy}
-use Rattle.title_program.specs.Printing.{Prints, TellsFault}
+use Rattle.title_program.specs.{declared.status.Status.{Status, TheVariants.{Failure}}, Checking.{ChecksBy}, Keeping.{EndsBy}}
+use Rattle.title_program.specs.{Faults.{fault_line, of_lasting, of_telling}, Printing.{Prints, TellsFault}}
 
 -- a run that was stopped ends so
 pub ends_by : (e : LastingFault) (before after : Option (List ℕ)) (then_failed sink_failed : Bool) (status : Status)

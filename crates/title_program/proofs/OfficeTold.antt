@@ -2,14 +2,10 @@
 use Rattle.std.proofs.Common.{◌≡◌, ◌≢◌, ◌⊎◌, inl, inr, refl, sym, subst, ℕ, List, Bool, Option, None, Some}
 use Rattle.title_script.specs.declared.fault.RunFault.TheVariants as fault
 use Rattle.title_script.specs.declared.fault.RunFault.TheVariants.{Row, Read, Write, Party, Order, Memory}
-use Rattle.title_day.specs.declared.office_fault.OfficeFault.{OfficeFault}
-use Rattle.title_day.specs.declared.office_fault.OfficeFault.TheVariants.{Run, Worker, Unsettled}
+use Rattle.title_day.specs.declared.office_fault.OfficeFault.{OfficeFault, TheVariants.{Run, Worker, Unsettled}}
 use Rattle.title_day.specs.OfficeRuns.{ExplainsOffice, LeavesOffice}
-use Rattle.title_program.specs.declared.status.Status.{Status}
-use Rattle.title_program.specs.declared.status.Status.TheVariants.{Failure}
-use Rattle.title_program.specs.Faults.{of_office}
+use Rattle.title_program.specs.{declared.status.Status.{Status, TheVariants.{Failure}}, Faults.{of_office}, Printing.{TellsFault}}
 use Rattle.title_program.specs.OfficeServing.{IsOfficeServed, IsOfficeTold, write_fault}
-use Rattle.title_program.specs.Printing.{TellsFault}
 
 -- a fault is the sink's or it isn't
 pub is_write_or_not : (e : OfficeFault) → (e ≡ write_fault) ⊎ (e ≢ write_fault)

@@ -1,8 +1,7 @@
 -- What was printed of a text is a beginning of it.
 use Rattle.std.proofs.Common.{ℕ, List, Bool, true, false, Option, length, take, take_all, sym, subst, arith}
 use Rattle.std.specs.Io.KnownBytes.{Appends}
-use Rattle.title_program.specs.declared.status.Status.{Status}
-use Rattle.title_program.specs.Printing.{Prints}
+use Rattle.title_program.specs.{declared.status.Status.{Status}, Printing.{Prints}}
 
 -- a beginning of the text, or all of it
 pub printed_part : (text : List ℕ) (wanted : Status) (before after : Option (List ℕ)) (failed : Bool) (status : Status)

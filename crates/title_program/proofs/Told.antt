@@ -1,14 +1,10 @@
 -- The fault that is told of a run explains it, and follows what the run left.
 use Rattle.std.proofs.Common.{◌≡◌, ◌≢◌, ◌⊎◌, inl, inr, refl, sym, subst, ℕ, List, Bool, Option, None, Some}
 use Rattle.title_plan.specs.declared.line.Schedule.{Schedule}
-use Rattle.title_script.specs.declared.fault.RunFault.{RunFault}
-use Rattle.title_script.specs.declared.fault.RunFault.TheVariants as fault
-use Rattle.title_script.specs.declared.fault.RunFault.TheVariants.{Row, Read, Write, Party, Order, Memory}
+use Rattle.title_script.specs.declared.fault.RunFault.{RunFault, TheVariants.{Row, Read, Write, Party, Order, Memory}}
 use Rattle.title_script.specs.Runs.{Explains, LeavesWritten}
-use Rattle.title_program.specs.declared.status.Status.{Status}
-use Rattle.title_program.specs.declared.status.Status.TheVariants.{Failure}
-use Rattle.title_program.specs.Faults.{of_run}
-use Rattle.title_program.specs.Printing.{TellsFault}
+use Rattle.title_script.specs.declared.fault.RunFault.TheVariants as fault
+use Rattle.title_program.specs.{declared.status.Status.{Status, TheVariants.{Failure}}, Faults.{of_run}, Printing.{TellsFault}}
 use Rattle.title_program.specs.Serving.{IsServed, IsTold}
 
 -- a fault is the sink's or it isn't

@@ -1,14 +1,10 @@
 -- What a look at a plant's file leaves.
 use Rattle.std.specs.Prelude.{◌≡◌, ℕ, List, Bool, true, false, Option, Result, Ok, Err, OnOk}
 use Rattle.title_disk.specs.declared.cabinet.OpenFault.{OpenFault}
-use Rattle.title_daybook.specs.Files.{IsPlant}
-use Rattle.title_daybook.specs.Standing.{Standing}
-use Rattle.title_lasting.specs.declared.checking.TellFault.{TellFault}
+use Rattle.title_daybook.specs.{Files.{IsPlant}, Standing.{Standing}}
+use Rattle.title_lasting.specs.{declared.checking.TellFault.{TellFault}, Tells.{IsScript, Telling, script_text, standing_text}}
 use Rattle.title_lasting.specs.declared.checking.TellFault.TheVariants as fault
-use Rattle.title_lasting.specs.Tells.{IsScript, Telling, script_text, standing_text}
-use Rattle.title_program.specs.declared.status.Status.{Status}
-use Rattle.title_program.specs.declared.status.Status.TheVariants.{Success, Failure}
-use Rattle.title_program.specs.Faults.{of_open, of_telling}
+use Rattle.title_program.specs.{declared.status.Status.{Status, TheVariants.{Success, Failure}}, Faults.{of_open, of_telling}}
 use Rattle.title_program.specs.Printing.{TellsFault}
 
 -- a file can't be looked at: its fault is told

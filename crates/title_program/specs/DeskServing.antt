@@ -1,12 +1,8 @@
 -- What serving rows at a desk leaves.
 use Rattle.std.specs.Prelude.{◌≡◌, List, ℕ, Bool, Option, Result, Ok, Err}
-use Rattle.title_counter.specs.Sessions.{IsAttended}
-use Rattle.title_counter.specs.declared.fault.CounterFault.{CounterFault}
+use Rattle.title_counter.specs.{Sessions.{IsAttended}, declared.fault.CounterFault.{CounterFault}}
 use Rattle.title_counter.specs.declared.fault.CounterFault.TheVariants as fault
-use Rattle.title_program.specs.declared.status.Status.{Status}
-use Rattle.title_program.specs.declared.status.Status.TheVariants.{Success, Failure}
-use Rattle.title_program.specs.Faults.{of_desk}
-use Rattle.title_program.specs.Printing.{TellsFault}
+use Rattle.title_program.specs.{declared.status.Status.{Status, TheVariants.{Success, Failure}}, Faults.{of_desk}, Printing.{TellsFault}}
 
 -- nothing follows the answers on the output, where all rows were attended to or the output has failed; else the fault is told by its line
 -- behind them, or want of memory in its place

@@ -1,10 +1,8 @@
 -- The lines of faults: `fault,N`, or `fault,N,DETAIL` where the fault stands at a row of a script, at a byte of a text, at an examiner
 -- or at the place of a record.
-use Rattle.std.specs.Prelude.{ℕ, List, ◌++◌, Option, None, Some, codes}
-use Rattle.std.specs.Fmt.{decimal}
-use Rattle.title_aliquot.specs.declared.fault.DescFault.{DescFault}
+use Rattle.std.specs.{Prelude.{ℕ, List, ◌++◌, Option, None, Some, codes}, Fmt.{decimal}}
+use Rattle.title_aliquot.specs.{declared.fault.DescFault.{DescFault}, Faults.{number_of}}
 use Rattle.title_aliquot.specs.declared.fault.DescFault.TheVariants as description
-use Rattle.title_aliquot.specs.Faults.{number_of}
 use Rattle.title_trace.specs.declared.denial.Denial.{Denial}
 use Rattle.title_trace.specs.declared.denial.Denial.TheVariants as denial
 use Rattle.title_settle.specs.declared.outcome.Unsettled.{Unsettled}
@@ -15,9 +13,8 @@ use Rattle.title_counter.specs.declared.fault.CounterFault.{CounterFault}
 use Rattle.title_counter.specs.declared.fault.CounterFault.TheVariants as desk
 use Rattle.title_disk.specs.declared.cabinet.OpenFault.{OpenFault}
 use Rattle.title_disk.specs.declared.cabinet.OpenFault.TheVariants as opening
-use Rattle.title_lasting.specs.declared.checking.TellFault.{TellFault}
+use Rattle.title_lasting.specs.declared.{checking.TellFault.{TellFault}, fault.LastingFault.{LastingFault}}
 use Rattle.title_lasting.specs.declared.checking.TellFault.TheVariants as telling
-use Rattle.title_lasting.specs.declared.fault.LastingFault.{LastingFault}
 use Rattle.title_lasting.specs.declared.fault.LastingFault.TheVariants as lasting
 use Rattle.title_script.specs.declared.fault.RunFault.{RunFault}
 use Rattle.title_script.specs.declared.fault.RunFault.TheVariants as run

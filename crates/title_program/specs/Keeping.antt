@@ -1,16 +1,11 @@
 -- What serving a script on top of a plant's file leaves. A file is seen by its bytes, by what a crash may leave of it, and by what a
 -- crash since an earlier moment might have left.
 use Rattle.std.specs.Prelude.{◌≡◌, ◌⊎◌, ℕ, List, Bool, Option, Result, Ok, Err}
-use Rattle.title_disk.specs.Crashes.{LeavesOnly, Only}
-use Rattle.title_disk.specs.declared.cabinet.OpenFault.{OpenFault}
+use Rattle.title_disk.specs.{Crashes.{LeavesOnly, Only}, declared.cabinet.OpenFault.{OpenFault}}
 use Rattle.title_plan.specs.declared.line.Schedule.{Schedule}
-use Rattle.title_lasting.specs.declared.fault.LastingFault.{LastingFault}
+use Rattle.title_lasting.specs.{declared.fault.LastingFault.{LastingFault}, Lastings.{Lasting}, Openings.{cut_in}}
 use Rattle.title_lasting.specs.declared.fault.LastingFault.TheVariants as fault
-use Rattle.title_lasting.specs.Lastings.{Lasting}
-use Rattle.title_lasting.specs.Openings.{cut_in}
-use Rattle.title_program.specs.declared.status.Status.{Status}
-use Rattle.title_program.specs.declared.status.Status.TheVariants.{Success, Failure}
-use Rattle.title_program.specs.Faults.{fault_line, of_lasting, of_open}
+use Rattle.title_program.specs.{declared.status.Status.{Status, TheVariants.{Success, Failure}}, Faults.{fault_line, of_lasting, of_open}}
 use Rattle.title_program.specs.Printing.{Prints, TellsFault}
 
 -- a file isn't opened: its fault is told, and the source isn't read

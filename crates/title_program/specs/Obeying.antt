@@ -1,29 +1,21 @@
 -- What each command line makes the program do.
 use Rattle.std.specs.Prelude.{◌≡◌, ◌⊎◌, ℕ, List, [], Bool, true, false, Option, Result, Ok, Err, codes, take}
 use Rattle.std.specs.Io.KnownBytes.{Appends, IsAtEnd, Keeps}
-use Rattle.clap.specs.Faults.{fault_of}
-use Rattle.clap.specs.Words.{subcommand_of}
+use Rattle.clap.specs.{Faults.{fault_of}, Words.{subcommand_of}}
 use Rattle.title_land.specs.Depth.{depth}
 use Rattle.title_plan.specs.Lands.{land_in}
 use Rattle.title_plan.specs.declared.line.Schedule.TheVariants as schedule
-use Rattle.title_command.specs.declared.choice.Line.{Line}
-use Rattle.title_command.specs.declared.choice.Line.TheVariants.{Run, Alone, Office, Desk, Tract, Kept, KeptDesk, KeptOffice}
-use Rattle.title_command.specs.declared.choice.Line.TheVariants.{Look, LookDesk, Check}
-use Rattle.title_command.specs.declared.choice.LineFault.{LineFault}
+use Rattle.title_command.specs.declared.choice.Line.{Line, TheVariants.{Run, Alone, Office, Desk, Tract, Kept, KeptDesk, KeptOffice}}
+use Rattle.title_command.specs.declared.choice.{Line.TheVariants.{Look, LookDesk, Check}, LineFault.{LineFault}}
 use Rattle.title_command.specs.declared.choice.LineFault.TheVariants.{Help, Bad, Memory}
 use Rattle.title_command.specs.CommandLine.{Explains, IsLineOf, IsTaken, command}
 use Rattle.title_disk.specs.declared.cabinet.OpenFault.TheVariants as opening
 use Rattle.title_script.specs.Runs.{IsReadWithin}
-use Rattle.title_program.specs.declared.words.WordsFault.{WordsFault}
-use Rattle.title_program.specs.declared.words.WordsFault.TheVariants as untaken
-use Rattle.title_program.specs.declared.status.Status.{Status}
-use Rattle.title_program.specs.declared.status.Status.TheVariants.{Success, Failure, Misunderstood}
-use Rattle.title_program.specs.DeskServing.{IsDeskServed}
-use Rattle.title_program.specs.Faults.{fault_line, memory, of_open}
-use Rattle.title_program.specs.OfficeServing.{IsOfficeServed}
-use Rattle.title_program.specs.Printing.{Prints, TellsFault}
-use Rattle.title_program.specs.Serving.{IsServed}
+use Rattle.title_program.specs.{declared.{words.WordsFault.{WordsFault}, status.Status.{Status}}, DeskServing.{IsDeskServed}}
+use Rattle.title_program.specs.{declared.status.Status.TheVariants.{Success, Failure, Misunderstood}, Faults.{fault_line, memory, of_open}}
+use Rattle.title_program.specs.{OfficeServing.{IsOfficeServed}, Printing.{Prints, TellsFault}, Serving.{IsServed}}
 use Rattle.title_program.specs.Tracts.{tract_status, tract_text}
+use Rattle.title_program.specs.declared.words.WordsFault.TheVariants as untaken
 
 -- ---- a command
 

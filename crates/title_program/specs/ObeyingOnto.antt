@@ -2,18 +2,12 @@
 use Rattle.std.specs.Prelude.{◌≡◌, ◌⊎◌, ℕ, List, Bool, Option, Result, Ok, Err}
 use Rattle.title_plan.specs.declared.line.Schedule.{Schedule}
 use Rattle.title_plan.specs.declared.line.Schedule.TheVariants as schedule
-use Rattle.title_command.specs.declared.choice.Line.{Line}
-use Rattle.title_command.specs.declared.choice.Line.TheVariants.{Kept, KeptDesk, KeptOffice, Look, LookDesk, Check}
+use Rattle.title_command.specs.declared.choice.{Line.{Line, TheVariants.{Kept, KeptDesk, KeptOffice, Look, LookDesk, Check}}, Work.{Work}}
 use Rattle.title_command.specs.declared.choice.LineFault.{LineFault}
-use Rattle.title_command.specs.declared.choice.Work.{Work}
 use Rattle.title_command.specs.declared.choice.Work.TheVariants as work
-use Rattle.title_program.specs.declared.status.Status.{Status}
-use Rattle.title_program.specs.Checking.{IsSeen, IsUnseen}
-use Rattle.title_program.specs.DeskKeeping.{IsKeptDeskServed}
-use Rattle.title_program.specs.Keeping.{IsDayServed, IsUnopened}
-use Rattle.title_program.specs.LookServing.{IsLookDeskServed, IsLookServed}
-use Rattle.title_program.specs.OfficeKeeping.{IsKeptOfficeServed}
-use Rattle.title_program.specs.Obeying.{IsObeyed, IsRefused, ReadsFor}
+use Rattle.title_program.specs.{declared.status.Status.{Status}, Checking.{IsSeen, IsUnseen}, DeskKeeping.{IsKeptDeskServed}}
+use Rattle.title_program.specs.{Keeping.{IsDayServed, IsUnopened}, LookServing.{IsLookDeskServed, IsLookServed}}
+use Rattle.title_program.specs.{OfficeKeeping.{IsKeptOfficeServed}, Obeying.{IsObeyed, IsRefused, ReadsFor}}
 
 -- how the transactions of a script come that is kept
 abbrev pub schedule_of : Work → Schedule

@@ -2,15 +2,11 @@
 -- by what a crash since an earlier moment might have left.
 use Rattle.std.specs.Prelude.{◌≡◌, ◌⊎◌, ℕ, List, Bool, Option, Result, Ok, Err}
 use Rattle.title_disk.specs.Crashes.{LeavesOnly, Only}
-use Rattle.title_kept_office.specs.declared.fault.KeptOfficeFault.{KeptOfficeFault}
+use Rattle.title_kept_office.specs.{declared.fault.KeptOfficeFault.{KeptOfficeFault}, OfficeLastings.{LastingOffice}}
 use Rattle.title_kept_office.specs.declared.fault.KeptOfficeFault.TheVariants as kept
-use Rattle.title_kept_office.specs.OfficeLastings.{LastingOffice}
 use Rattle.title_lasting.specs.Openings.{cut_in}
-use Rattle.title_program.specs.declared.status.Status.{Status}
-use Rattle.title_program.specs.declared.status.Status.TheVariants.{Success}
-use Rattle.title_program.specs.Faults.{of_unsettled, of_worker}
-use Rattle.title_program.specs.Keeping.{EndsBy, IsUnopened}
-use Rattle.title_program.specs.Printing.{TellsFault}
+use Rattle.title_program.specs.{declared.status.Status.{Status, TheVariants.{Success}}, Faults.{of_unsettled, of_worker}}
+use Rattle.title_program.specs.{Keeping.{EndsBy, IsUnopened}, Printing.{TellsFault}}
 
 -- the fault is told by its line behind what the run left, as that of any script on top of a file is
 abbrev pub FailsBy : KeptOfficeFault → (before after : Option (List ℕ)) → (then_failed sink_failed : Bool) → Status → Type 0

@@ -1,13 +1,10 @@
 -- What serving the script of an office leaves.
 use Rattle.std.specs.Prelude.{◌≢◌, ◌⊎◌, List, ℕ, Bool, Option}
 use Rattle.title_script.specs.declared.fault.RunFault.TheVariants as fault
-use Rattle.title_day.specs.declared.office_fault.OfficeFault.{OfficeFault}
+use Rattle.title_day.specs.{declared.office_fault.OfficeFault.{OfficeFault}, OfficeRuns.{ExplainsOffice, LeavesOffice, ReportsOffice}}
 use Rattle.title_day.specs.declared.office_fault.OfficeFault.TheVariants as office
-use Rattle.title_day.specs.OfficeRuns.{ExplainsOffice, LeavesOffice, ReportsOffice}
-use Rattle.title_program.specs.declared.status.Status.{Status}
-use Rattle.title_program.specs.declared.status.Status.TheVariants.{Success, Failure, Misunderstood}
+use Rattle.title_program.specs.{declared.status.Status.{Status, TheVariants.{Success, Failure, Misunderstood}}, Printing.{Prints}}
 use Rattle.title_program.specs.Faults.{fault_line, of_office}
-use Rattle.title_program.specs.Printing.{Prints}
 
 -- the output has failed
 abbrev pub write_fault : OfficeFault

@@ -1,10 +1,6 @@
 -- What a command leaves on an output.
-use Rattle.std.specs.Prelude.{◌≡◌, ◌⊎◌, ℕ, List, Bool, true, false, Option, take}
-use Rattle.std.specs.Io.KnownBytes.{Appends}
-use Rattle.title_program.specs.declared.fault.Fault.{Fault}
-use Rattle.title_program.specs.declared.status.Status.{Status}
-use Rattle.title_program.specs.declared.status.Status.TheVariants.{Failure}
-use Rattle.title_program.specs.Faults.{fault_line, memory}
+use Rattle.std.specs.{Prelude.{◌≡◌, ◌⊎◌, ℕ, List, Bool, true, false, Option, take}, Io.KnownBytes.{Appends}}
+use Rattle.title_program.specs.{declared.{fault.Fault.{Fault}, status.Status.{Status, TheVariants.{Failure}}}, Faults.{fault_line, memory}}
 
 -- the text was written and the program ends so; where the output has failed, a beginning of the text was written, which is a failure
 abbrev pub Prints : (text : List ℕ) (wanted : Status) (before after : Option (List ℕ)) (failed : Bool) → Status → Type 0

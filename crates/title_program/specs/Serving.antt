@@ -1,12 +1,9 @@
 -- What serving a script leaves.
 use Rattle.std.specs.Prelude.{◌≢◌, ◌⊎◌, List, ℕ, Bool, Option}
 use Rattle.title_plan.specs.declared.line.Schedule.{Schedule}
-use Rattle.title_script.specs.declared.fault.RunFault.{RunFault}
+use Rattle.title_script.specs.{declared.fault.RunFault.{RunFault}, Runs.{Explains, LeavesWritten, Reports}}
 use Rattle.title_script.specs.declared.fault.RunFault.TheVariants as fault
-use Rattle.title_script.specs.Runs.{Explains, LeavesWritten, Reports}
-use Rattle.title_program.specs.declared.status.Status.{Status}
-use Rattle.title_program.specs.declared.status.Status.TheVariants.{Success, Failure, Misunderstood}
-use Rattle.title_program.specs.Faults.{fault_line, of_run}
+use Rattle.title_program.specs.{declared.status.Status.{Status, TheVariants.{Success, Failure, Misunderstood}}, Faults.{fault_line, of_run}}
 use Rattle.title_program.specs.Printing.{Prints}
 
 -- the output has failed: nothing follows what the run left there

@@ -1,15 +1,9 @@
 -- What `tract` prints.
-use Rattle.std.specs.Prelude.{ℕ, List, ◌++◌, Option, None, Some, Result, Ok, Err, codes}
-use Rattle.std.specs.List.{flat_map}
-use Rattle.title_land.specs.declared.node.Node.{Node}
-use Rattle.title_land.specs.declared.tract.Land.{Land}
-use Rattle.title_land.specs.Acres.{acres_text, half_acres_of}
-use Rattle.title_land.specs.Lands.{cover_of}
+use Rattle.std.specs.{Prelude.{ℕ, List, ◌++◌, Option, None, Some, Result, Ok, Err, codes}, List.{flat_map}}
+use Rattle.title_land.specs.{declared.{node.Node.{Node}, tract.Land.{Land}}, Acres.{acres_text, half_acres_of}, Lands.{cover_of}}
 use Rattle.title_land.specs.Texts.{node_text}
 use Rattle.title_aliquot.specs.declared.fault.DescFault.{DescFault}
-use Rattle.title_program.specs.declared.status.Status.{Status}
-use Rattle.title_program.specs.declared.status.Status.TheVariants.{Success, Failure}
-use Rattle.title_program.specs.Faults.{fault_line, of_description}
+use Rattle.title_program.specs.{declared.status.Status.{Status, TheVariants.{Success, Failure}}, Faults.{fault_line, of_description}}
 
 -- the line of a node
 abbrev pub node_line : Node → List ℕ

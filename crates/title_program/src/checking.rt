@@ -1,13 +1,10 @@
 //! What stands in a plant's file, told on the output.
 
 ghost use Rattle.std.specs.Prelude.{◌≡◌, ◌≢◌, ◌⊎◌, Bool, OnOk, false, true};
-ghost use Rattle.title_daybook.specs.Files.{IsPlant};
-ghost use Rattle.title_daybook.specs.Standing.{Standing};
+ghost use Rattle.title_daybook.specs.{Files.{IsPlant}, Standing.{Standing}};
 ghost use Rattle.title_lasting.specs.Tells.{IsScript, Telling, script_text};
 ghost use Rattle.title_lasting.specs.declared.checking.TellFault.TheVariants as fault;
-ghost use Rattle.title_program.specs.Checking.{IsSeen, IsUnseen, telling_text};
-ghost use Rattle.title_program.specs.Endings.{IsQuiet};
-ghost use Rattle.title_program.specs.Faults.{of_telling};
+ghost use Rattle.title_program.specs.{Checking.{IsSeen, IsUnseen, telling_text}, Endings.{IsQuiet}, Faults.{of_telling}};
 ghost use Rattle.title_program.specs.Printing.{TellsFault};
 ghost use Rattle.title_program.specs.declared.status.Status.TheVariants as status;
 

@@ -1,12 +1,8 @@
 //! From the words of the command line to the status of the program.
 
-ghost use Rattle.std.specs.Prelude.{◌≡◌, false, map, IfOk, None, Result};
-ghost use Rattle.std.specs.String.{string_bytes};
-ghost use Rattle.title_command.specs.CommandLine.{IsInRange};
-ghost use Rattle.title_command.specs.declared.choice.Line.{Line};
-ghost use Rattle.title_command.specs.declared.choice.LineFault.{LineFault};
-ghost use Rattle.title_program.specs.Endings.{IsQuiet};
-ghost use Rattle.title_program.specs.ObeyingOnto.{IsAnsweredOnto, IsObeyedOnto, schedule_of};
+ghost use Rattle.std.specs.{Prelude.{◌≡◌, false, map, IfOk, None, Result}, String.{string_bytes}};
+ghost use Rattle.title_command.specs.{CommandLine.{IsInRange}, declared.choice.{Line.{Line}, LineFault.{LineFault}}};
+ghost use Rattle.title_program.specs.{Endings.{IsQuiet}, ObeyingOnto.{IsAnsweredOnto, IsObeyedOnto, schedule_of}};
 ghost use Rattle.title_program.specs.Obeying.{Complains, IsAnswered, IsAsked, IsObeyed, PrintsTract, Reads, ReadsFor, Tells};
 ghost use Rattle.title_program.specs.Obeying.{Turns, TurnsFor};
 

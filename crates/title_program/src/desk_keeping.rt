@@ -1,10 +1,8 @@
 //! Rows at a desk that a plant's file keeps, answered from the source to the output as they come.
 
-ghost use Rattle.std.specs.Prelude.{◌≡◌, ◌⊎◌, false};
-ghost use Rattle.std.specs.Io.KnownBytes.{IsAtEnd};
+ghost use Rattle.std.specs.{Prelude.{◌≡◌, ◌⊎◌, false}, Io.KnownBytes.{IsAtEnd}};
 ghost use Rattle.title_disk.specs.Crashes.{Only};
-ghost use Rattle.title_program.specs.DeskKeeping.{IsKeptDeskServed, IsSittingServed};
-ghost use Rattle.title_program.specs.Endings.{IsQuiet};
+ghost use Rattle.title_program.specs.{DeskKeeping.{IsKeptDeskServed, IsSittingServed}, Endings.{IsQuiet}};
 ghost use Rattle.title_program.specs.declared.status.Status.TheVariants as status;
 
 use crate::ending::{Ending, Why};

@@ -1,12 +1,8 @@
 //! Rows at a desk, answered from the source to the output as they come.
 
-ghost use Rattle.std.specs.Prelude.{◌≡◌, ◌≢◌, false};
-ghost use Rattle.std.specs.Io.KnownBytes.{IsAtEnd};
+ghost use Rattle.std.specs.{Prelude.{◌≡◌, ◌≢◌, false}, Io.KnownBytes.{IsAtEnd}};
 ghost use Rattle.title_counter.specs.declared.fault.CounterFault.TheVariants as fault;
-ghost use Rattle.title_program.specs.DeskServing.{IsDeskServed};
-ghost use Rattle.title_program.specs.Endings.{IsQuiet};
-ghost use Rattle.title_program.specs.Faults.{of_desk};
-ghost use Rattle.title_program.specs.Printing.{TellsFault};
+ghost use Rattle.title_program.specs.{DeskServing.{IsDeskServed}, Endings.{IsQuiet}, Faults.{of_desk}, Printing.{TellsFault}};
 ghost use Rattle.title_program.specs.declared.status.Status.TheVariants as status;
 
 use crate::ending::{Ending, Why};

@@ -1,7 +1,6 @@
 //! The line of a fault.
 
-ghost use Rattle.std.specs.Prelude.{◌≡◌, IfOk, Some};
-ghost use Rattle.std.specs.String.{string_bytes};
+ghost use Rattle.std.specs.{Prelude.{◌≡◌, IfOk, Some}, String.{string_bytes}};
 ghost use Rattle.title_program.specs.Faults.{number_of_denial, number_of_worker};
 
 use std::alloc::{AllocError, Global};

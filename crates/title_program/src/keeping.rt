@@ -1,15 +1,11 @@
 //! Scripts that a plant's file keeps, served from the source to the output.
 
-ghost use Rattle.std.specs.Prelude.{◌≡◌, ◌≢◌, ◌⊎◌, false};
-ghost use Rattle.std.specs.Io.KnownBytes.{IsAtEnd};
+ghost use Rattle.std.specs.{Prelude.{◌≡◌, ◌≢◌, ◌⊎◌, false}, Io.KnownBytes.{IsAtEnd}};
 ghost use Rattle.title_script.specs.Runs.{IsReadWithin};
 ghost use Rattle.title_lasting.specs.declared.fault.LastingFault.TheVariants as fault;
-ghost use Rattle.title_program.specs.Faults.{fault_line, of_lasting, of_open};
-ghost use Rattle.title_program.specs.Endings.{IsQuiet};
+ghost use Rattle.title_program.specs.{Faults.{fault_line, of_lasting, of_open}, Endings.{IsQuiet}, Keeping.{IsDayServed}};
+ghost use Rattle.title_program.specs.{ObeyingOnto.{IsKeptServed}, Printing.{Prints, TellsFault}};
 ghost use Rattle.title_disk.specs.Crashes.{Only};
-ghost use Rattle.title_program.specs.Keeping.{IsDayServed};
-ghost use Rattle.title_program.specs.ObeyingOnto.{IsKeptServed};
-ghost use Rattle.title_program.specs.Printing.{Prints, TellsFault};
 ghost use Rattle.title_program.specs.declared.status.Status.TheVariants as status;
 
 use crate::ending::{Ending, Why};

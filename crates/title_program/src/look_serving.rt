@@ -1,10 +1,8 @@
 //! Looks at a plant's file, served from the source to the output: nothing is kept.
 
-ghost use Rattle.std.specs.Prelude.{◌≡◌, false};
-ghost use Rattle.std.specs.Io.KnownBytes.{IsAtEnd};
+ghost use Rattle.std.specs.{Prelude.{◌≡◌, false}, Io.KnownBytes.{IsAtEnd}};
 ghost use Rattle.title_script.specs.Runs.{IsReadWithin};
-ghost use Rattle.title_program.specs.Endings.{IsQuiet};
-ghost use Rattle.title_program.specs.LookServing.{IsLookDeskServed, IsLookServed, IsLookTaken, IsLookSat};
+ghost use Rattle.title_program.specs.{Endings.{IsQuiet}, LookServing.{IsLookDeskServed, IsLookServed, IsLookTaken, IsLookSat}};
 ghost use Rattle.title_program.specs.declared.status.Status.TheVariants as status;
 
 use crate::ending::{Ending, Why};

@@ -1,12 +1,10 @@
 //! Scripts of offices that a plant's file keeps, served by threads from the source to the output.
 
-ghost use Rattle.std.specs.Prelude.{◌≡◌, ◌≤◌, false};
-ghost use Rattle.std.specs.Io.KnownBytes.{IsAtEnd};
+ghost use Rattle.std.specs.{Prelude.{◌≡◌, ◌≤◌, false}, Io.KnownBytes.{IsAtEnd}};
 ghost use Rattle.title_disk.specs.Crashes.{Only};
 ghost use Rattle.title_office.specs.Offices.{most_seats};
 ghost use Rattle.title_script.specs.Runs.{IsReadWithin};
-ghost use Rattle.title_program.specs.Endings.{IsQuiet};
-ghost use Rattle.title_program.specs.OfficeKeeping.{FailsBy, IsKeptOfficeServed, IsOfficeDayServed};
+ghost use Rattle.title_program.specs.{Endings.{IsQuiet}, OfficeKeeping.{FailsBy, IsKeptOfficeServed, IsOfficeDayServed}};
 ghost use Rattle.title_program.specs.declared.status.Status.TheVariants as status;
 
 use crate::ending::{Ending, Why};

@@ -1,12 +1,9 @@
 //! Scripts of offices, served by threads from the source to the output.
 
-ghost use Rattle.std.specs.Prelude.{◌≡◌, ◌≢◌, ◌≤◌, false};
-ghost use Rattle.std.specs.Io.KnownBytes.{IsAtEnd};
+ghost use Rattle.std.specs.{Prelude.{◌≡◌, ◌≢◌, ◌≤◌, false}, Io.KnownBytes.{IsAtEnd}};
 ghost use Rattle.title_office.specs.Offices.{most_seats};
 ghost use Rattle.title_script.specs.Runs.{IsReadWithin};
-ghost use Rattle.title_program.specs.Faults.{of_office};
-ghost use Rattle.title_program.specs.OfficeServing.{IsOfficeServed, write_fault};
-ghost use Rattle.title_program.specs.Endings.{IsQuiet};
+ghost use Rattle.title_program.specs.{Faults.{of_office}, OfficeServing.{IsOfficeServed, write_fault}, Endings.{IsQuiet}};
 ghost use Rattle.title_program.specs.Printing.{TellsFault};
 ghost use Rattle.title_program.specs.declared.status.Status.TheVariants as status;
 

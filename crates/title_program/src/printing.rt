@@ -1,9 +1,7 @@
 //! Printing.
 
 ghost use Rattle.std.specs.Prelude.{◌≡◌};
-ghost use Rattle.title_program.specs.Faults.{fault_line, memory};
-ghost use Rattle.title_program.specs.Obeying.{Complains};
-ghost use Rattle.title_program.specs.Printing.{Prints, TellsFault};
+ghost use Rattle.title_program.specs.{Faults.{fault_line, memory}, Obeying.{Complains}, Printing.{Prints, TellsFault}};
 ghost use Rattle.title_program.specs.declared.status.Status.TheVariants as status;
 
 use crate::fault::Fault;

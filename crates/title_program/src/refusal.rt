@@ -1,9 +1,7 @@
 //! Words of the command line that are no command.
 
-ghost use Rattle.std.specs.Prelude.{◌≡◌, ℕ, List};
-ghost use Rattle.std.specs.Io.KnownBytes.{Appends};
-ghost use Rattle.title_program.specs.Endings.{IsQuiet};
-ghost use Rattle.title_program.specs.Obeying.{IsRefused, PrintsHelp, Warns};
+ghost use Rattle.std.specs.{Prelude.{◌≡◌, ℕ, List}, Io.KnownBytes.{Appends}};
+ghost use Rattle.title_program.specs.{Endings.{IsQuiet}, Obeying.{IsRefused, PrintsHelp, Warns}};
 
 use crate::ending::{Ending, Why};
 use crate::printing::{complain, print, tell_memory};

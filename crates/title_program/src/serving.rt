@@ -1,13 +1,9 @@
 //! Scripts, served from the source to the output.
 
-ghost use Rattle.std.specs.Prelude.{◌≡◌, ◌≢◌, false};
-ghost use Rattle.std.specs.Io.KnownBytes.{IsAtEnd};
+ghost use Rattle.std.specs.{Prelude.{◌≡◌, ◌≢◌, false}, Io.KnownBytes.{IsAtEnd}};
 ghost use Rattle.title_script.specs.Runs.{IsReadWithin};
 ghost use Rattle.title_script.specs.declared.fault.RunFault.TheVariants as fault;
-ghost use Rattle.title_program.specs.Faults.{of_run};
-ghost use Rattle.title_program.specs.Endings.{IsQuiet};
-ghost use Rattle.title_program.specs.Printing.{TellsFault};
-ghost use Rattle.title_program.specs.Serving.{IsServed};
+ghost use Rattle.title_program.specs.{Faults.{of_run}, Endings.{IsQuiet}, Printing.{TellsFault}, Serving.{IsServed}};
 ghost use Rattle.title_program.specs.declared.status.Status.TheVariants as status;
 
 use crate::ending::{Ending, Why};

@@ -1,11 +1,7 @@
 //! What `tract` prints.
 
-ghost use Rattle.std.specs.Prelude.{◌≡◌, ◌++◌, IfOk, None, OnOk};
-ghost use Rattle.std.specs.List.{flat_map};
-ghost use Rattle.std.specs.String.{string_bytes};
-ghost use Rattle.title_land.specs.Acres.{half_acres_of};
-ghost use Rattle.title_land.specs.Depth.{depth};
-ghost use Rattle.title_land.specs.Lands.{cover_of};
+ghost use Rattle.std.specs.{Prelude.{◌≡◌, ◌++◌, IfOk, None, OnOk}, List.{flat_map}, String.{string_bytes}};
+ghost use Rattle.title_land.specs.{Acres.{half_acres_of}, Depth.{depth}, Lands.{cover_of}};
 ghost use Rattle.title_plan.specs.Lands.{land_in};
 ghost use Rattle.title_program.specs.declared.status.Status.TheVariants as status;
 ghost use Rattle.title_program.specs.Tracts.{acres_line, node_line, tract_status, tract_text};

@@ -1,15 +1,12 @@
 -- Units in lowest terms, by the zeros at their binary end.
 use Rattle.std.proofs.Common.{◌≡◌, ◌∙◌, ◌≤◌, ◌<◌, ◌^◌, ◌-◌, ◌/◌, ◌%◌, ◌++◌, ◌∷◌, [], ℕ, List, zero, suc, refl, sym, ap, append_assoc, arith}
-use Rattle.std.proofs.Math.Nat.{div-div-eq-div-mul, div-le_self, div-one, pow-succ'}
-use Rattle.std.proofs.Math.Pow.{pow_mono}
-use Rattle.std.proofs.lemmas.Bool.{ne_eqb}
-use lib.Count.{count_trailing_zeros, under}
+use Rattle.std.proofs.{Math.{Nat.{div-div-eq-div-mul, div-le_self, div-one, pow-succ'}, Pow.{pow_mono}}, lemmas.Bool.{ne_eqb}}
 use Rattle.std.specs.Fmt.{decimal}
+use lib.Count.{count_trailing_zeros, under}
 use Rattle.csv.specs.Writing.{field_text}
 use Rattle.title_share.specs.Share.{lowest, share_text}
 use Rattle.title_page.specs.Rows.{row_writer}
-use Rattle.title_report.specs.Fronts.{tail_text}
-use Rattle.title_report.proofs.Plain.{both_plain, plain_field, plain_number}
+use Rattle.title_report.{specs.Fronts.{tail_text}, proofs.Plain.{both_plain, plain_field, plain_number}}
 
 first_by : (r a b k : ℕ) → (b ≤ k → a ≡ b) → under r b ≤ suc k → under r a ≡ under r b
 first_by zero a b k h le = ap (λ (x : ℕ). suc x) (h (omega (arith, le)))

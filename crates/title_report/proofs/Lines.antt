@@ -1,26 +1,17 @@
 -- A sheet's row in the parts in which it is written.
-use Rattle.std.proofs.Common.{◌≡◌, ◌∙◌, ◌++◌, ◌∷◌, [], ◌<◌, ◌^◌, ℕ, List, Option, None, Some}
-use Rattle.std.proofs.Common.{OnSome, Bool, true, false, refl, sym, ap, subst, codes, append_assoc}
-use Rattle.std.specs.Option.{is_some}
-use Rattle.std.proofs.lemmas.List.{append-nil}
-use Rattle.std.specs.Fmt.{decimal}
+use Rattle.std.{proofs.Common.{◌≡◌, ◌∙◌, ◌++◌, ◌∷◌, [], ◌<◌, ◌^◌, ℕ, List, Option, None, Some}, specs.{Option.{is_some}, Fmt.{decimal}}}
+use Rattle.std.proofs.{Common.{OnSome, Bool, true, false, refl, sym, ap, subst, codes, append_assoc}, lemmas.List.{append-nil}}
 use Rattle.csv.specs.Writing.{field_text, fields_text, is_blank}
 use Rattle.title_share.specs.Share.{share_text}
 use Rattle.title_land.specs.Texts.{node_text}
-use Rattle.title_instrument.specs.declared.parts.Estate.{Estate}
-use Rattle.title_instrument.specs.declared.parts.Estate.TheVariants.{S, O, M}
-use Rattle.title_instrument.specs.declared.kind.Kind.{Kind}
-use Rattle.title_instrument.specs.declared.kind.Kind.TheVariants.{Deed, Warranty, Release}
-use Rattle.title_instrument.specs.Estates.{estate_text, estates_text, letter_if}
-use Rattle.title_instrument.specs.Kinds.{kind_of, kind_word}
+use Rattle.title_instrument.specs.{declared.{parts.Estate.{Estate, TheVariants.{S, O, M}}, kind.Kind.{Kind}}, Kinds.{kind_of, kind_word}}
+use Rattle.title_instrument.specs.{declared.kind.Kind.TheVariants.{Deed, Warranty, Release}, Estates.{estate_text, estates_text, letter_if}}
 use Rattle.title_instrument.specs.Parties.{estates_of, grantee_of, grantor_of}
 use Rattle.title_chain.specs.declared.ask.Entry.{Entry}
 use Rattle.title_store.specs.declared.sheet_row.SheetRow.{SheetRow}
 use Rattle.title_page.specs.Rows.{row, row_writer, rows_text}
-use Rattle.title_report.specs.declared.entry_line.EntryKey.{EntryKey}
-use Rattle.title_report.specs.EntryTexts.{entry_front, entry_text, key_of}
-use Rattle.title_report.specs.Fronts.{entry_start, front_text, tail_text}
-use Rattle.title_report.specs.Replies.{entry_row, name_of, sheet_row}
+use Rattle.title_report.specs.{declared.entry_line.EntryKey.{EntryKey}, EntryTexts.{entry_front, entry_text, key_of}}
+use Rattle.title_report.specs.{Fronts.{entry_start, front_text, tail_text}, Replies.{entry_row, name_of, sheet_row}}
 use Rattle.title_report.proofs.Plain.{node_field, plain_field, plain_number}
 
 -- an estate's letter is its own field

@@ -1,9 +1,6 @@
 -- The texts of townships and sections, in parts.
-use Rattle.std.proofs.Common.{◌≡◌, ◌∙◌, ◌++◌, ℕ, List, cond, codes, sym, ap, append_assoc}
-use Rattle.std.specs.Fmt.{decimal}
-use Rattle.title_land.specs.declared.survey.Township.{Township}
-use Rattle.title_land.specs.declared.survey.Section.{Section}
-use Rattle.title_land.specs.Texts.{section_text, township_text}
+use Rattle.std.{proofs.Common.{◌≡◌, ◌∙◌, ◌++◌, ℕ, List, cond, codes, sym, ap, append_assoc}, specs.Fmt.{decimal}}
+use Rattle.title_land.specs.{declared.survey.{Township.{Township}, Section.{Section}}, Texts.{section_text, township_text}}
 
 -- a township's number with its side
 abbrev pub side_text : Township → List ℕ

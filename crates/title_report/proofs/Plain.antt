@@ -1,20 +1,12 @@
 -- Texts that stand in a row without quotes.
 use Rattle.std.proofs.Common.{◌≡◌, ◌∙◌, ◌++◌, ◌∷◌, [], ◌<◌, ◌≤◌, ◌^◌, ℕ, List, Bool, true, false, cond, refl, sym, subst, codes, arith}
-use Rattle.std.proofs.lemmas.Bool.{ne_eqb}
-use Rattle.std.proofs.lemmas.Fmt.{decimal_is_IsNumeral}
-use Rattle.std.proofs.lemmas.List.Folds.{list_any-append}
-use Rattle.std.proofs.lemmas.Str.Parse.{digit_from_value}
-use Rattle.std.specs.Fmt.{decimal}
-use Rattle.std.specs.Str.Parse.{AllDigits}
-use Rattle.csv.specs.Writing.{field_text, needs_quotes}
-use Rattle.csv.specs.Quoting.{needs_byte}
-use Rattle.title_land.specs.declared.survey.Township.{Township}
-use Rattle.title_land.specs.declared.survey.Section.{Section}
-use Rattle.title_land.specs.declared.rectangle.Quarter.{Quarter}
+use Rattle.std.proofs.lemmas.{Bool.{ne_eqb}, Fmt.{decimal_is_IsNumeral}, List.Folds.{list_any-append}, Str.Parse.{digit_from_value}}
+use Rattle.std.specs.{Fmt.{decimal}, Str.Parse.{AllDigits}}
+use Rattle.csv.specs.{Writing.{field_text, needs_quotes}, Quoting.{needs_byte}}
+use Rattle.title_land.specs.declared.{survey.{Township.{Township}, Section.{Section}}, rectangle.Quarter.{Quarter}, node.Node.{Node}}
 use Rattle.title_land.specs.declared.rectangle.Quarter.TheVariants.{Northeast, Northwest, Southwest, Southeast}
-use Rattle.title_land.specs.declared.node.Node.{Node}
-use Rattle.title_land.specs.declared.node.Node.TheVariants as node
 use Rattle.title_land.specs.Texts.{node_text, path_text, quarter_text, quarters_text, section_text, township_text}
+use Rattle.title_land.specs.declared.node.Node.TheVariants as node
 use Rattle.title_page.specs.Rows.{row_writer}
 use Rattle.title_report.proofs.Parts.{number_text, range_text, section_parts, side_text, township_parts}
 

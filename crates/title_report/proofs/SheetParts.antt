@@ -1,7 +1,5 @@
 -- The rows of a sheet's parts are those of the sheet.
-use Rattle.std.proofs.Common.{◌≡◌, ◌∙◌, ◌++◌, ◌∷◌, [], ℕ, List, ap, map, refl, sym}
-use Rattle.std.proofs.lemmas.List.{map-append}
-use Rattle.std.specs.List.{flat_map}
+use Rattle.std.{proofs.{Common.{◌≡◌, ◌∙◌, ◌++◌, ◌∷◌, [], ℕ, List, ap, map, refl, sym}, lemmas.List.{map-append}}, specs.List.{flat_map}}
 use Rattle.title_store.specs.declared.sheet_row.SheetRow.{SheetRow}
 use Rattle.title_chain.specs.SheetParts.{all_rows}
 use Rattle.title_page.specs.Rows.{rows_text}

@@ -1,16 +1,10 @@
 -- The text of a chain's row behind its examiner, as it is kept for further rows of the entry.
-use Rattle.std.specs.Prelude.{◌≡◌, ℕ, List, Option, [], ◌∷◌, ◌++◌, codes, IfSome}
-use Rattle.std.specs.List.{All}
-use Rattle.std.specs.Fmt.{decimal}
+use Rattle.std.specs.{Prelude.{◌≡◌, ℕ, List, Option, [], ◌∷◌, ◌++◌, codes, IfSome}, List.{All}, Fmt.{decimal}}
 use Rattle.csv.specs.Writing.{field_text}
-use Rattle.title_instrument.specs.Estates.{estates_text}
-use Rattle.title_instrument.specs.Kinds.{kind_of, kind_word}
-use Rattle.title_instrument.specs.Parties.{grantor_of, grantee_of, estates_of}
+use Rattle.title_instrument.specs.{Estates.{estates_text}, Kinds.{kind_of, kind_word}, Parties.{grantor_of, grantee_of, estates_of}}
 use Rattle.title_chain.specs.declared.ask.Entry.{Entry}
 use Rattle.title_page.specs.Rows.{row_writer}
-use Rattle.title_report.specs.Replies.{name_of}
-use Rattle.title_report.specs.declared.entry_line.EntryKey.{EntryKey}
-use Rattle.title_report.specs.declared.entry_line.EntryLine.{EntryLine}
+use Rattle.title_report.specs.{Replies.{name_of}, declared.entry_line.{EntryKey.{EntryKey}, EntryLine.{EntryLine}}}
 use Rattle.title_report.specs.declared.entry_lines.KeptLines.{KeptLines}
 
 -- what a chain's row shows of an entry

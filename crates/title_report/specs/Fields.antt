@@ -1,6 +1,5 @@
 -- What stands in the rows of a report, as text.
-use Rattle.std.specs.Prelude.{ℕ, List}
-use Rattle.std.specs.Fmt.{decimal}
+use Rattle.std.specs.{Prelude.{ℕ, List}, Fmt.{decimal}}
 use Rattle.title_land.specs.Texts.{node_text}
 use Rattle.title_report.specs.declared.field.ReportField.{ReportField}
 use Rattle.title_report.specs.declared.field.ReportField.TheVariants as field

@@ -1,16 +1,11 @@
 -- A sheet's row in the parts in which it is written: the text up to the name, the name, and the text behind it.
-use Rattle.std.specs.Prelude.{◌≡◌, ◌≤◌, ℕ, List, [], ◌∷◌, ◌++◌, codes, length, IfSome}
-use Rattle.std.specs.Fmt.{decimal}
+use Rattle.std.specs.{Prelude.{◌≡◌, ◌≤◌, ℕ, List, [], ◌∷◌, ◌++◌, codes, length, IfSome}, Fmt.{decimal}}
 use Rattle.csv.specs.Writing.{field_text}
 use Rattle.title_share.specs.Share.{share_text}
-use Rattle.title_land.specs.declared.node.Node.{Node}
-use Rattle.title_land.specs.declared.survey.Section.{Section}
-use Rattle.title_land.specs.Texts.{node_text, section_text}
-use Rattle.title_instrument.specs.declared.parts.Estate.{Estate}
-use Rattle.title_instrument.specs.Estates.{estate_text}
+use Rattle.title_land.specs.{declared.{node.Node.{Node}, survey.Section.{Section}}, Texts.{node_text, section_text}}
+use Rattle.title_instrument.specs.{declared.parts.Estate.{Estate}, Estates.{estate_text}}
 use Rattle.title_page.specs.Rows.{row_writer}
-use Rattle.title_report.specs.declared.front.Front.{Front}
-use Rattle.title_report.specs.declared.front.Head.{Head}
+use Rattle.title_report.specs.declared.front.{Front.{Front}, Head.{Head}}
 
 -- with which a row begins: `E,WORD,`
 abbrev pub start_text : ℕ → List ℕ → List ℕ

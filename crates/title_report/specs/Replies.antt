@@ -1,26 +1,18 @@
 -- The rows of a report: those of each reply, of a description that is none, and the last.
-use Rattle.std.specs.Prelude.{ℕ, List, [], ◌∷◌, length, map, codes, slice_index_or}
-use Rattle.std.specs.Fmt.{decimal}
+use Rattle.std.specs.{Prelude.{ℕ, List, [], ◌∷◌, length, map, codes, slice_index_or}, Fmt.{decimal}}
 use Rattle.title_share.specs.Share.{share_text}
-use Rattle.title_land.specs.declared.node.Node.{Node}
-use Rattle.title_land.specs.Texts.{node_text}
-use Rattle.title_instrument.specs.declared.parts.Estate.{Estate}
-use Rattle.title_instrument.specs.declared.parts.Rule.{Rule}
-use Rattle.title_instrument.specs.Estates.{estate_text, estates_text}
-use Rattle.title_instrument.specs.Kinds.{kind_of, kind_word}
-use Rattle.title_instrument.specs.Numbers.{rule_number, cause_number}
+use Rattle.title_land.specs.{declared.node.Node.{Node}, Texts.{node_text}}
+use Rattle.title_instrument.specs.{declared.parts.{Estate.{Estate}, Rule.{Rule}}, Estates.{estate_text, estates_text}}
+use Rattle.title_instrument.specs.{Kinds.{kind_of, kind_word}, Numbers.{rule_number, cause_number}}
 use Rattle.title_instrument.specs.Parties.{grantor_of, grantee_of, estates_of}
 use Rattle.title_store.specs.declared.sheet_row.SheetRow.{SheetRow}
-use Rattle.title_chain.specs.declared.ask.Entry.{Entry}
-use Rattle.title_chain.specs.declared.ask.Answer.{Answer}
+use Rattle.title_chain.specs.declared.ask.{Entry.{Entry}, Answer.{Answer}}
 use Rattle.title_chain.specs.declared.ask.Answer.TheVariants as answer
-use Rattle.title_trace.specs.declared.call.Reply.{Reply}
+use Rattle.title_trace.specs.declared.{call.Reply.{Reply}, denial.Denial.{Denial}}
 use Rattle.title_trace.specs.declared.call.Reply.TheVariants as reply
-use Rattle.title_trace.specs.declared.denial.Denial.{Denial}
 use Rattle.title_trace.specs.declared.denial.Denial.TheVariants as denial
-use Rattle.title_aliquot.specs.declared.fault.DescFault.{DescFault}
+use Rattle.title_aliquot.specs.{declared.fault.DescFault.{DescFault}, Faults.{number_of}}
 use Rattle.title_aliquot.specs.declared.fault.DescFault.TheVariants as fault
-use Rattle.title_aliquot.specs.Faults.{number_of}
 
 -- the name of the party of this number
 abbrev pub name_of : List (List ℕ) → ℕ → List ℕ

@@ -1,6 +1,5 @@
 -- Names of which it is known whether they are quoted.
-use Rattle.std.specs.Prelude.{◌≡◌, ◌<◌, ◌*◌, ◌==◌, ℕ, List, drop, length, slice_index}
-use Rattle.std.specs.Int.{bit_at}
+use Rattle.std.specs.{Prelude.{◌≡◌, ◌<◌, ◌*◌, ◌==◌, ℕ, List, drop, length, slice_index}, Int.{bit_at}}
 use Rattle.csv.specs.Writing.{needs_quotes}
 use Rattle.title_page.specs.Rows.{row_writer}
 use Rattle.title_report.specs.Replies.{name_of}

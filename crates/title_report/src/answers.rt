@@ -1,12 +1,9 @@
 //! The rows of answers.
 
-ghost use Rattle.std.specs.Prelude.{◌≡◌, ◌<◌, ◌∷◌, [], true, false, OnOk, OnErr, codes, get_or, length, map};
-ghost use Rattle.std.specs.List.{flat_map};
+ghost use Rattle.std.specs.{Prelude.{◌≡◌, ◌<◌, ◌∷◌, [], true, false, OnOk, OnErr, codes, get_or, length, map}, List.{flat_map}};
 ghost use Rattle.title_chain.specs.KeptRows.{rows_in, sheet_in};
-ghost use Rattle.title_page.specs.Pages.{Stopped, Written};
-ghost use Rattle.title_page.specs.Rows.{rows_text};
-ghost use Rattle.title_report.specs.EntryTexts.{entry_text, AreMade, IsMade};
-ghost use Rattle.title_report.specs.Fronts.{entry_start, IsFront};
+ghost use Rattle.title_page.specs.{Pages.{Stopped, Written}, Rows.{rows_text}};
+ghost use Rattle.title_report.specs.{EntryTexts.{entry_text, AreMade, IsMade}, Fronts.{entry_start, IsFront}};
 ghost use Rattle.title_report.specs.Replies.{answer_rows, entry_row, number_row, refused_row, sheet_row};
 
 use crate::entries::{make_start, put_entry_in_parts};

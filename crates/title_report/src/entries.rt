@@ -1,11 +1,9 @@
 //! A chain's rows, put together from texts that are made once or known.
 
 ghost use Rattle.std.specs.Prelude.{◌≡◌, ◌≤◌, ◌++◌, ◌∷◌, [], true, false, length, OnOk, OnErr};
-ghost use Rattle.title_instrument.specs.Estates.{estates_text};
-ghost use Rattle.title_instrument.specs.Kinds.{kind_word};
+ghost use Rattle.title_instrument.specs.{Estates.{estates_text}, Kinds.{kind_word}};
 ghost use Rattle.title_page.specs.Pages.{Stopped, Written};
-ghost use Rattle.title_report.specs.EntryTexts.{entry_front, entry_text};
-ghost use Rattle.title_report.specs.Fronts.{entry_start};
+ghost use Rattle.title_report.specs.{EntryTexts.{entry_front, entry_text}, Fronts.{entry_start}};
 
 use crate::entry_line::EntryKey;
 use crate::nodes::{add, add_number, start_row};

@@ -1,11 +1,9 @@
 //! The texts of numbers and nodes, put together on lines.
 
-ghost use Rattle.std.specs.Prelude.{◌≡◌, ◌≤◌, ◌+◌, ◌*◌, ◌++◌, true, false, cond, codes, length, OnOk, OnErr};
-ghost use Rattle.std.specs.Fmt.{decimal};
+ghost use Rattle.std.specs.{Prelude.{◌≡◌, ◌≤◌, ◌+◌, ◌*◌, ◌++◌, true, false, cond, codes, length, OnOk, OnErr}, Fmt.{decimal}};
 ghost use Rattle.csv.specs.Writing.{field_text};
 ghost use Rattle.title_land.specs.Texts.{node_text, path_text, quarter_text, quarters_text, section_text, township_text};
-ghost use Rattle.title_page.specs.Pages.{Stopped, Written};
-ghost use Rattle.title_page.specs.Rows.{row_writer};
+ghost use Rattle.title_page.specs.{Pages.{Stopped, Written}, Rows.{row_writer}};
 ghost use Rattle.title_report.specs.Fronts.{start_text};
 
 use itoa::{Buffer, Integer};

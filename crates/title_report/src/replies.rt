@@ -1,11 +1,8 @@
 //! The rows of replies.
 
-ghost use Rattle.std.specs.Prelude.{◌≡◌, ◌<◌, ◌∷◌, [], true, false, OnOk, OnErr, length, map};
-ghost use Rattle.std.specs.String.{string_bytes};
-ghost use Rattle.title_page.specs.Pages.{Stopped, Written};
-ghost use Rattle.title_page.specs.Rows.{rows_text};
-ghost use Rattle.title_report.specs.EntryTexts.{AreMade};
-ghost use Rattle.title_report.specs.Fields.{text_of};
+ghost use Rattle.std.specs.{Prelude.{◌≡◌, ◌<◌, ◌∷◌, [], true, false, OnOk, OnErr, length, map}, String.{string_bytes}};
+ghost use Rattle.title_page.specs.{Pages.{Stopped, Written}, Rows.{rows_text}};
+ghost use Rattle.title_report.specs.{EntryTexts.{AreMade}, Fields.{text_of}};
 ghost use Rattle.title_report.specs.Replies.{denial_row, described_row, end_row, number_row, reply_rows, word_row};
 
 use crate::answers::put_answer;

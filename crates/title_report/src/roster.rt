@@ -1,12 +1,9 @@
 //! The names of a report's parties.
 
-ghost use Rattle.std.specs.Prelude.{◌≡◌, ◌++◌, false, map, OnErr, OnOk, OnSome, true};
-ghost use Rattle.std.specs.String.{string_bytes};
+ghost use Rattle.std.specs.{Prelude.{◌≡◌, ◌++◌, false, map, OnErr, OnOk, OnSome, true}, String.{string_bytes}};
 ghost use Rattle.csv.specs.Writing.{field_text, needs_quotes};
-ghost use Rattle.title_page.specs.Pages.{Stopped, Written};
-ghost use Rattle.title_page.specs.Rows.{row_writer};
-ghost use Rattle.title_report.specs.Replies.{name_of};
-ghost use Rattle.title_report.specs.Rosters.{AreJudged, IsJudged};
+ghost use Rattle.title_page.specs.{Pages.{Stopped, Written}, Rows.{row_writer}};
+ghost use Rattle.title_report.specs.{Replies.{name_of}, Rosters.{AreJudged, IsJudged}};
 
 use crate::replies::Names;
 use crate::row_text::{RowText, add_field};
@@ -25,8 +22,7 @@ pub struct Roster<'a> {
 }
 
 impl<'a> Model for Roster<'a> {
-    ghost use Rattle.std.specs.Prelude.{ℕ, List, map, IfSome};
-    ghost use Rattle.std.specs.String.{string_bytes};
+    ghost use Rattle.std.specs.{Prelude.{ℕ, List, map, IfSome}, String.{string_bytes}};
     ghost use Rattle.title_report.specs.Rosters.{AreJudged};
 
     ghost Value = { List (List ℕ) };

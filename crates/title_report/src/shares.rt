@@ -1,11 +1,9 @@
 //! What stands behind the name in a row of a sheet: its share, and the line's end.
 
-ghost use Rattle.std.specs.Prelude.{◌≡◌, ◌≤◌, ◌+◌, ◌++◌, ◌∷◌, [], ◌^◌, ◌/◌, ◌-◌, true, false, length, OnOk, OnErr};
-ghost use Rattle.std.specs.Fmt.{decimal};
+ghost use Rattle.std.specs.{Prelude.{◌≡◌, ◌≤◌, ◌+◌, ◌++◌, ◌∷◌, [], ◌^◌, ◌/◌, ◌-◌, true, false, length, OnOk, OnErr}, Fmt.{decimal}};
 ghost use Rattle.csv.specs.Writing.{field_text};
 ghost use Rattle.title_share.specs.Share.{share_text};
-ghost use Rattle.title_page.specs.Pages.{Stopped, Written};
-ghost use Rattle.title_page.specs.Rows.{row_writer};
+ghost use Rattle.title_page.specs.{Pages.{Stopped, Written}, Rows.{row_writer}};
 ghost use Rattle.title_report.specs.Fronts.{tail_text};
 
 use crate::nodes::{add, add_number};

@@ -2,15 +2,11 @@
 use Rattle.std.proofs.Common.{◌≡◌, ◌∙◌, ◌∷◌, ℕ, List, refl, ap}
 use Rattle.title_land.specs.Depth.{depth}
 use Rattle.title_chain.specs.declared.ask.Ask.{Ask}
-use Rattle.title_trace.specs.declared.call.Call.{Call}
-use Rattle.title_trace.specs.declared.call.Request.{Request}
-use Rattle.title_trace.specs.declared.call.Request.TheVariants as request
-use Rattle.title_trace.specs.declared.call.Reply.{Reply}
-use Rattle.title_trace.specs.declared.call.Reply.TheVariants as reply
-use Rattle.title_trace.specs.Due.{Setting, DueReply, IsDue}
+use Rattle.title_trace.specs.{declared.call.{Call.{Call}, Request.{Request}, Reply.{Reply}}, Due.{Setting, DueReply, IsDue}}
 use Rattle.title_trace.specs.Laws.OneReply.{one_due_reply}
-use Rattle.title_desk.specs.Told.{Books}
-use Rattle.title_desk.specs.Singles.{AddedSingle, ToldSingle, after_single, last_call}
+use Rattle.title_trace.specs.declared.call.Request.TheVariants as request
+use Rattle.title_trace.specs.declared.call.Reply.TheVariants as reply
+use Rattle.title_desk.specs.{Told.{Books}, Singles.{AddedSingle, ToldSingle, after_single, last_call}}
 use Rattle.title_script.specs.Served.{after_alone, after_call, ending, reply_to}
 
 -- a reply other than Memory is added

@@ -1,19 +1,13 @@
 -- The rows of step rows one after another.
-use Rattle.std.proofs.Common.{◌≡◌, ◌∙◌, ℕ, List, [], ◌∷◌, ◌++◌, length, refl, sym, ap, ap₂, subst}
-use Rattle.std.proofs.lemmas.List.{append-nil, append_assoc}
+use Rattle.std.proofs.{Common.{◌≡◌, ◌∙◌, ℕ, List, [], ◌∷◌, ◌++◌, length, refl, sym, ap, ap₂, subst}, lemmas.List.{append-nil, append_assoc}}
 use Rattle.std.specs.List.{flat_map}
-use Rattle.title_trace.specs.declared.call.Call.{Call}
-use Rattle.title_trace.specs.Due.{Setting}
-use Rattle.title_plan.specs.Asked.{Asked}
-use Rattle.title_plan.specs.declared.line.Line.{Line}
+use Rattle.title_trace.specs.{declared.call.Call.{Call}, Due.{Setting}}
+use Rattle.title_plan.specs.{Asked.{Asked}, declared.line.Line.{Line}}
 use Rattle.title_plan.specs.declared.line.Line.TheVariants as line
-use Rattle.title_script.specs.declared.told.Told.{Told}
+use Rattle.title_script.specs.{declared.told.Told.{Told}, Served.{after_line, due_rows, line_rows}, ReportLaws.{after_lines}}
+use Rattle.title_script.specs.{Told.{all_due_told, due_told, told_rows}, Reports.{report_on, report_onto, setting_of}}
 use Rattle.title_page.specs.Rows.{row, rows_text}
 use Rattle.title_report.specs.Replies.{end_row}
-use Rattle.title_script.specs.Served.{after_line, due_rows, line_rows}
-use Rattle.title_script.specs.Told.{all_due_told, due_told, told_rows}
-use Rattle.title_script.specs.ReportLaws.{after_lines}
-use Rattle.title_script.specs.Reports.{report_on, report_onto, setting_of}
 
 pub rows_in_order : (setting : Setting) (names : List (List ℕ)) (before : List Call) (lines more : List Line) →
     due_rows setting names before (lines ++ more)

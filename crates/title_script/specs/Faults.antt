@@ -3,8 +3,7 @@ use Rattle.title_device.specs.declared.fault.ReadFault.{ReadFault}
 use Rattle.title_device.specs.declared.fault.ReadFault.TheVariants as reading
 use Rattle.title_plan.specs.declared.fault.ScriptFault.{ScriptFault}
 use Rattle.title_plan.specs.declared.fault.ScriptFault.TheVariants as script
-use Rattle.title_script.specs.declared.fault.RunFault.{RunFault}
-use Rattle.title_script.specs.declared.fault.RunFault.TheVariants.{Row, Read, Party, Order, Memory}
+use Rattle.title_script.specs.declared.fault.RunFault.{RunFault, TheVariants.{Row, Read, Party, Order, Memory}}
 
 -- the fault of a run whose source wasn't read to its end
 abbrev pub of_reading : ReadFault → RunFault

@@ -1,7 +1,6 @@
 -- The law of reports.
 use Rattle.std.specs.Prelude.{◌≡◌, ℕ, List, [], ◌∷◌, ◌++◌}
-use Rattle.title_trace.specs.declared.call.Call.{Call}
-use Rattle.title_trace.specs.Due.{Setting}
+use Rattle.title_trace.specs.{declared.call.Call.{Call}, Due.{Setting}}
 use Rattle.title_plan.specs.declared.line.Line.{Line}
 use Rattle.title_script.specs.Served.{after_line, due_rows}
 

@@ -1,11 +1,7 @@
 -- The report of a script.
 use Rattle.std.specs.Prelude.{ℕ, List, [], ◌++◌, length, Result, Ok, Err}
-use Rattle.title_trace.specs.declared.call.Call.{Call}
-use Rattle.title_trace.specs.Due.{Setting}
-use Rattle.title_plan.specs.declared.fault.ScriptFault.{ScriptFault}
-use Rattle.title_plan.specs.declared.line.Schedule.{Schedule}
-use Rattle.title_plan.specs.Asked.{Asked}
-use Rattle.title_plan.specs.Plans.{script_of}
+use Rattle.title_trace.specs.{declared.call.Call.{Call}, Due.{Setting}}
+use Rattle.title_plan.specs.{declared.{fault.ScriptFault.{ScriptFault}, line.Schedule.{Schedule}}, Asked.{Asked}, Plans.{script_of}}
 use Rattle.title_report.specs.Replies.{end_row}
 use Rattle.title_page.specs.Rows.{row, rows_text}
 use Rattle.title_script.specs.Served.{due_rows}

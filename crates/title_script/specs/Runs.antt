@@ -4,9 +4,8 @@ use Rattle.std.specs.Io.KnownBytes.{Appends, IsAtEnd, Keeps}
 use Rattle.title_device.specs.Limits.{most_bytes}
 use Rattle.title_plan.specs.declared.fault.ScriptFault.TheVariants as script_fault
 use Rattle.title_plan.specs.declared.line.Schedule.{Schedule}
-use Rattle.title_script.specs.declared.fault.RunFault.{RunFault}
+use Rattle.title_script.specs.{declared.fault.RunFault.{RunFault}, Reports.{report_of}}
 use Rattle.title_script.specs.declared.fault.RunFault.TheVariants as fault
-use Rattle.title_script.specs.Reports.{report_of}
 
 -- the report of the script was written, and nothing else
 abbrev pub Reports : Schedule → Option (List ℕ) → Option (List ℕ) → Option (List ℕ) → Type 0

@@ -2,13 +2,9 @@
 use Rattle.std.specs.Prelude.{ℕ, List, [], ◌∷◌, ◌++◌}
 use Rattle.title_land.specs.Depth.{depth}
 use Rattle.title_chain.specs.declared.ask.Ask.{Ask}
-use Rattle.title_trace.specs.declared.call.Call.{Call}
-use Rattle.title_trace.specs.declared.call.Request.{Request}
+use Rattle.title_trace.specs.{declared.call.{Call.{Call}, Request.{Request}, Reply.{Reply}}, Trace.{examiner_of}, Due.{Setting, due_reply}}
 use Rattle.title_trace.specs.declared.call.Request.TheVariants as request
-use Rattle.title_trace.specs.declared.call.Reply.{Reply}
 use Rattle.title_trace.specs.declared.call.Reply.TheVariants as reply
-use Rattle.title_trace.specs.Trace.{examiner_of}
-use Rattle.title_trace.specs.Due.{Setting, due_reply}
 use Rattle.title_plan.specs.declared.line.Line.{Line}
 use Rattle.title_plan.specs.declared.line.Line.TheVariants as line
 use Rattle.title_report.specs.Replies.{reply_rows, described_row}

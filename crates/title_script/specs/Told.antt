@@ -1,19 +1,13 @@
 -- What comes of a script's steps, before it is written.
-use Rattle.std.specs.Prelude.{ℕ, List, [], ◌∷◌, ◌++◌, map}
-use Rattle.std.specs.List.{flat_map}
-use Rattle.std.specs.String.{string_bytes}
-use Rattle.title_trace.specs.declared.call.Call.{Call}
+use Rattle.std.specs.{Prelude.{ℕ, List, [], ◌∷◌, ◌++◌, map}, List.{flat_map}, String.{string_bytes}}
+use Rattle.title_trace.specs.{declared.call.Call.{Call}, Trace.{examiner_of}, Due.{Setting}}
 use Rattle.title_trace.specs.declared.call.Request.TheVariants as request
-use Rattle.title_trace.specs.Trace.{examiner_of}
-use Rattle.title_trace.specs.Due.{Setting}
 use Rattle.title_plan.specs.declared.line.Line.{Line}
 use Rattle.title_plan.specs.declared.line.Line.TheVariants as line
 use Rattle.title_page.specs.Rows.{row, rows_text}
 use Rattle.title_report.specs.Replies.{described_row, end_row, reply_rows}
-use Rattle.title_script.specs.declared.told.Told.{Told}
+use Rattle.title_script.specs.{declared.told.{Told.{Told}, Served.{Served}}, Served.{after_call, after_line, reply_to}}
 use Rattle.title_script.specs.declared.told.Told.TheVariants as told
-use Rattle.title_script.specs.declared.told.Served.{Served}
-use Rattle.title_script.specs.Served.{after_call, after_line, reply_to}
 
 -- what comes of a step row after a trace: the due reply, of a transaction of its own that of the step; or why the description is none
 abbrev pub due_told : Setting → List Call → Line → Told

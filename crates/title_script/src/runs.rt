@@ -3,9 +3,7 @@
 ghost use Rattle.std.specs.Prelude.{◌≡◌, ◌⊎◌, false, Ok, Err, IfErr, IfOk};
 ghost use Rattle.title_plan.specs.declared.fault.ScriptFault.TheVariants as script_fault;
 ghost use Rattle.title_plan.specs.declared.line.Schedule.TheVariants as schedule;
-ghost use Rattle.title_script.specs.Reports.{report_of};
-ghost use Rattle.title_script.specs.Runs.{IsRun};
-ghost use Rattle.title_script.specs.Told.{served_text};
+ghost use Rattle.title_script.specs.{Reports.{report_of}, Runs.{IsRun}, Told.{served_text}};
 
 use crate::fault::RunFault;
 use crate::serving::serve_plan;

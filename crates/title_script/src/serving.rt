@@ -5,10 +5,8 @@ ghost use Rattle.title_trace.specs.declared.call.Request.TheVariants as request;
 ghost use Rattle.title_trace.specs.Due.{MayOpen};
 ghost use Rattle.title_desk.specs.Singles.{IsIdle};
 ghost use Rattle.title_plan.specs.Asked.{asked_in};
-ghost use Rattle.title_script.specs.Served.{after_alone, after_call, after_line, ending, reply_to};
-ghost use Rattle.title_script.specs.ReportLaws.{after_lines};
-ghost use Rattle.title_script.specs.Reports.{report_on, report_onto, setting_of};
-ghost use Rattle.title_script.specs.Told.{all_due_told, due_told, served_text};
+ghost use Rattle.title_script.specs.{Served.{after_alone, after_call, after_line, ending, reply_to}, ReportLaws.{after_lines}};
+ghost use Rattle.title_script.specs.{Reports.{report_on, report_onto, setting_of}, Told.{all_due_told, due_told, served_text}};
 
 use crate::told::{Served, Told};
 use crate::watch::Watch;

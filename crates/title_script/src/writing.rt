@@ -1,10 +1,7 @@
 //! What came of a script's steps, written as a report.
 
-ghost use Rattle.std.specs.Prelude.{◌≡◌, ◌++◌, ℕ, true, false, OnOk, OnErr, take};
-ghost use Rattle.std.specs.List.{flat_map};
-ghost use Rattle.std.specs.Io.KnownBytes.{Appends};
-ghost use Rattle.title_page.specs.Pages.{Stopped, Written};
-ghost use Rattle.title_page.specs.Rows.{rows_text};
+ghost use Rattle.std.specs.{Prelude.{◌≡◌, ◌++◌, ℕ, true, false, OnOk, OnErr, take}, List.{flat_map}, Io.KnownBytes.{Appends}};
+ghost use Rattle.title_page.specs.{Pages.{Stopped, Written}, Rows.{rows_text}};
 ghost use Rattle.title_script.specs.Told.{served_text, told_rows};
 
 use crate::told::{Served, Told};

@@ -1,11 +1,9 @@
 -- Settled outcomes are as many as the records: they are counted place by place.
 use Rattle.std.proofs.Common.{◌≡◌, ℕ, ◌<◌, ◌≤◌, ◌+◌, zero, suc, eqb, List, [], ◌∷◌, length, refl, sym, ◌∙◌, ap, arith, inl, inr}
-use Rattle.std.proofs.lemmas.Bool.{cases_eq, eq-eqb, ne_eqb, cond-true, cond-false}
-use Rattle.std.proofs.lemmas.List.Elements.{All-head, All-tail}
+use Rattle.std.proofs.lemmas.{Bool.{cases_eq, eq-eqb, ne_eqb, cond-true, cond-false}, List.Elements.{All-head, All-tail}}
 use Rattle.std.specs.List.{All}
 use Rattle.title_chain.specs.declared.record.Record.{Record}
-use Rattle.title_settle.specs.declared.outcome.Outcome.{Outcome}
-use Rattle.title_settle.specs.Settling.{outcomes_at, IsSettled}
+use Rattle.title_settle.specs.{declared.outcome.Outcome.{Outcome}, Settling.{outcomes_at, IsSettled}}
 
 -- how many outcomes have one of so many places
 abbrev total : ℕ → List Outcome → ℕ

@@ -1,15 +1,10 @@
 -- The marks once one more outcome is seen.
 use Rattle.std.proofs.Common.{◌≡◌, ℕ, ◌<◌, ◌≤◌, ◌-◌, suc, List, [], ◌∷◌, ◌++◌, length, get_or, set, Some, inl, inr}
-use Rattle.std.proofs.Common.{sym, ◌∙◌, ap, subst, arith}
-use Rattle.std.proofs.lemmas.Bool.{cases_eq}
+use Rattle.std.{proofs.{Common.{sym, ◌∙◌, ap, subst, arith}, lemmas.Bool.{cases_eq}}, specs.List.{slice_get}}
 use Rattle.std.proofs.lemmas.List.{length_push, length-set, get_or-set_same, get_or-set_other}
-use Rattle.std.specs.List.{slice_get}
-use Rattle.title_settle.specs.declared.marks.Mark.{Mark}
+use Rattle.title_settle.specs.{declared.{marks.Mark.{Mark}, outcome.Outcome.{Outcome}}, Settling.{outcomes_at}}
+use Rattle.title_settle.{specs.Marks.{mark_after, IsMark, AreMarks}, proofs.Seen.{seen_here, seen_elsewhere}}
 use Rattle.title_settle.specs.declared.marks.Mark.TheVariants as mark
-use Rattle.title_settle.specs.declared.outcome.Outcome.{Outcome}
-use Rattle.title_settle.specs.Settling.{outcomes_at}
-use Rattle.title_settle.specs.Marks.{mark_after, IsMark, AreMarks}
-use Rattle.title_settle.proofs.Seen.{seen_here, seen_elsewhere}
 
 -- the mark of a place once one more outcome has it
 pub mark_more : (outcomes seen : List Outcome) (place index : ℕ) (o : Outcome) (m : Mark) →

@@ -1,14 +1,10 @@
 -- What the places so far say of all.
 use Rattle.std.proofs.Common.{◌≡◌, ℕ, ◌<◌, ◌≤◌, ◌+◌, zero, suc, List, [], ◌∷◌, length, Some, sym, ◌∙◌, subst, arith, inl, inr}
-use Rattle.std.proofs.lemmas.Bool.{cases_lt}
-use Rattle.std.proofs.lemmas.Option.{slice_get_within}
-use Rattle.std.specs.List.{slice_get}
+use Rattle.std.{proofs.lemmas.{Bool.{cases_lt}, Option.{slice_get_within}}, specs.List.{slice_get}}
 use Rattle.title_chain.specs.declared.record.Record.{Record}
-use Rattle.title_settle.specs.declared.outcome.Outcome.{Outcome}
-use Rattle.title_settle.specs.declared.outcome.Unsettled.{Unsettled}
-use Rattle.title_settle.specs.declared.outcome.Unsettled.TheVariants as unsettled
+use Rattle.title_settle.specs.{declared.outcome.{Outcome.{Outcome}, Unsettled.{Unsettled}}, Marks.{IsWrongAt}}
 use Rattle.title_settle.specs.Settling.{outcomes_at, AreKnown, IsRight, IsSettled, IsFirstWrong, IsUneven}
-use Rattle.title_settle.specs.Marks.{IsWrongAt}
+use Rattle.title_settle.specs.declared.outcome.Unsettled.TheVariants as unsettled
 
 -- so many places are right
 abbrev pub AreRight : List Record → List Outcome → ℕ → Type 0

@@ -1,11 +1,7 @@
 -- The outcomes with a place once one more is seen.
 use Rattle.std.proofs.Common.{◌≡◌, ℕ, eqb, cond, List, [], ◌∷◌, ◌++◌, ◌<◌, ◌+◌, length, take, get_or, sym, subst, ◌∙◌, ap}
-use Rattle.std.proofs.lemmas.Bool.{eq-eqb, ne_eqb}
-use Rattle.std.proofs.lemmas.List.{append-nil, take_more}
-use Rattle.std.proofs.lemmas.List.Elements.{filter-append}
-use Rattle.std.specs.List.{All}
-use Rattle.title_settle.specs.declared.outcome.Outcome.{Outcome}
-use Rattle.title_settle.specs.Settling.{outcomes_at}
+use Rattle.std.{proofs.lemmas.{Bool.{eq-eqb, ne_eqb}, List.{append-nil, take_more, Elements.{filter-append}}}, specs.List.{All}}
+use Rattle.title_settle.specs.{declared.outcome.Outcome.{Outcome}, Settling.{outcomes_at}}
 
 pub seen_more : (seen : List Outcome) (o : Outcome) (place : ℕ) →
     outcomes_at (seen ++ o ∷ []) place ≡ outcomes_at seen place ++ cond (eqb o.place place) (o ∷ []) []

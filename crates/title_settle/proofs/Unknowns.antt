@@ -1,13 +1,10 @@
 -- The least unknown place once one more outcome is seen.
-use Rattle.std.proofs.Common.{◌≡◌, ◌≢◌, ℕ, ◌≤◌, ◌&&◌, List, [], ◌∷◌, ◌++◌, length, Option, Some, None, refl, sym, ◌∙◌, arith}
-use Rattle.std.proofs.Common.{leb}
+use Rattle.std.proofs.Common.{◌≡◌, ◌≢◌, ℕ, ◌≤◌, ◌&&◌, List, [], ◌∷◌, ◌++◌, length, Option, Some, None, refl, sym, ◌∙◌, arith, leb}
 use Rattle.std.proofs.lemmas.Bool.{leb-true, leb-false, le-leb, and_parts, and_from, both_ways, cond_both}
 use Rattle.std.proofs.lemmas.List.Elements.{All-push, All-weaker}
 use Rattle.title_chain.specs.declared.record.Record.{Record}
-use Rattle.title_settle.specs.declared.outcome.Outcome.{Outcome}
-use Rattle.title_settle.specs.Settling.{outcomes_at, IsPlace}
+use Rattle.title_settle.{specs.{declared.outcome.Outcome.{Outcome}, Settling.{outcomes_at, IsPlace}}, proofs.Seen.{seen_more, seen_here}}
 use Rattle.title_settle.specs.Marks.{IsLeastUnknown, lesser, least_with}
-use Rattle.title_settle.proofs.Seen.{seen_more, seen_here}
 
 not_nil : (xs ys : List Outcome) → (xs ≡ [] → ⊥) → xs ++ ys ≡ [] → ⊥
 not_nil [] ys n e = n refl

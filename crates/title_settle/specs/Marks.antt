@@ -2,12 +2,10 @@
 use Rattle.std.specs.Prelude.{◌≡◌, ◌≢◌, ◌≤◌, ◌<◌, ℕ, suc, List, [], ◌∷◌, length, All, Option, Some, None, slice_get, cond, nat_le, ◌&&◌}
 use Rattle.std.specs.List.{slice_index_or}
 use Rattle.title_chain.specs.declared.record.Record.{Record}
-use Rattle.title_settle.specs.declared.marks.Mark.{Mark}
-use Rattle.title_settle.specs.declared.marks.Mark.TheVariants as mark
-use Rattle.title_settle.specs.declared.outcome.Outcome.{Outcome}
-use Rattle.title_settle.specs.declared.outcome.Unsettled.{Unsettled}
-use Rattle.title_settle.specs.declared.outcome.Unsettled.TheVariants as unsettled
+use Rattle.title_settle.specs.declared.{marks.Mark.{Mark}, outcome.{Outcome.{Outcome}, Unsettled.{Unsettled}}}
 use Rattle.title_settle.specs.Settling.{outcomes_at, IsPlace, AreKnown}
+use Rattle.title_settle.specs.declared.marks.Mark.TheVariants as mark
+use Rattle.title_settle.specs.declared.outcome.Unsettled.TheVariants as unsettled
 
 -- no outcome has a place that no record has; or this is the least such place
 abbrev pub IsLeastUnknown : List Record → List Outcome → Option ℕ → Type 0

@@ -1,8 +1,7 @@
 -- The law of settled outcomes.
 use Rattle.std.specs.Prelude.{◌≡◌, List, length}
 use Rattle.title_chain.specs.declared.record.Record.{Record}
-use Rattle.title_settle.specs.declared.outcome.Outcome.{Outcome}
-use Rattle.title_settle.specs.Settling.{IsSettled}
+use Rattle.title_settle.specs.{declared.outcome.Outcome.{Outcome}, Settling.{IsSettled}}
 
 -- outcomes that are the records, each once, are as many as the records
 abbrev pub AsMany : Type 0

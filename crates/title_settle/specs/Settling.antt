@@ -1,8 +1,7 @@
 -- Outcomes held against records, both in order, the records' places being their numbers from 1.
 use Rattle.std.specs.Prelude.{◌≡◌, ◌≢◌, ◌≤◌, ◌<◌, ℕ, zero, suc, eqb, List, [], ◌∷◌, length, filter, All, Some, slice_get}
 use Rattle.title_chain.specs.declared.record.Record.{Record}
-use Rattle.title_settle.specs.declared.outcome.Outcome.{Outcome}
-use Rattle.title_settle.specs.declared.outcome.Unsettled.{Unsettled}
+use Rattle.title_settle.specs.declared.outcome.{Outcome.{Outcome}, Unsettled.{Unsettled}}
 use Rattle.title_settle.specs.declared.outcome.Unsettled.TheVariants as unsettled
 
 -- the outcomes with this place

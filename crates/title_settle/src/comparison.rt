@@ -1,8 +1,7 @@
 //! Outcomes held against records.
 
 ghost use Rattle.std.specs.Prelude.{◌≡◌, ◌∷◌, [], length, IfErr, OnOk};
-ghost use Rattle.title_settle.specs.declared.outcome.Outcome.{Outcome};
-ghost use Rattle.title_settle.specs.Marks.{least_with, AreMarks, IsLeastUnknown, IsMark, IsWrongAt};
+ghost use Rattle.title_settle.specs.{declared.outcome.Outcome.{Outcome}, Marks.{least_with, AreMarks, IsLeastUnknown, IsMark, IsWrongAt}};
 ghost use Rattle.title_settle.specs.Settling.{outcomes_at, AreKnown, IsSettled, IsUneven};
 
 use crate::marks::{Mark, marks_of};

@@ -1,7 +1,6 @@
 //! How often each place is seen among outcomes.
 
-ghost use Rattle.std.specs.Prelude.{◌≡◌, ◌≤◌, ◌-◌, IfOk, All, length};
-ghost use Rattle.std.specs.List.{slice_index_or, slice_set};
+ghost use Rattle.std.specs.{Prelude.{◌≡◌, ◌≤◌, ◌-◌, IfOk, All, length}, List.{slice_index_or, slice_set}};
 ghost use Rattle.title_settle.specs.declared.marks.Mark.TheVariants as mark;
 ghost use Rattle.title_settle.specs.Marks.{mark_after, AreMarks};
 

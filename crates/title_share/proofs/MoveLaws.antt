@@ -2,11 +2,8 @@
 use Rattle.std.proofs.Common.{◌≡◌, ◌<◌, ◌≤◌, ◌+◌, ◌-◌, ◌&&◌, ◌||◌, ◌++◌, ◌∙◌, ℕ, zero, suc, length, get_or, Bool, true, false, not}
 use Rattle.std.proofs.Common.{cond, refl, sym, ap, eqb, leb, List, [], ◌∷◌, drop, append-nil, add-one, arith, inl, inr}
 use Rattle.std.proofs.lemmas.Bool.{cond-false, or_from, le-leb, lt-leb, lt-ltb, le-ltb, eq-eqb, ne_eqb, cases_order, cases_eq}
-use Rattle.std.proofs.lemmas.List.{append_assoc}
-use Rattle.std.proofs.Math.ListN.{drop_of_length-le}
-use Rattle.std.proofs.Math.Seq.{drop-cons}
-use Rattle.title_share.specs.Rows.{units_in, total, in_order, with_front, with_units, moved_rows}
-use Rattle.title_share.specs.Laws.Cases.{case_eqb}
+use Rattle.std.proofs.{lemmas.List.{append_assoc}, Math.{ListN.{drop_of_length-le}, Seq.{drop-cons}}}
+use Rattle.title_share.specs.{Rows.{units_in, total, in_order, with_front, with_units, moved_rows}, Laws.Cases.{case_eqb}}
 use Rattle.title_share.specs.Laws.RowLaws.{row_fits, units_absent}
 
 -- what a row has left

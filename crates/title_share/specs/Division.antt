@@ -1,10 +1,8 @@
 -- How a whole is divided among parties: a finite map from parties to units above 0 whose sum is the whole.
-use Rattle.std.specs.Prelude.{ℕ, ◌≡◌, ◌+◌, ◌-◌, ◌&&◌, Bool, true, false, cond, eqb, List, [], ◌∷◌, refl}
-use Rattle.std.proofs.Common.{ap}
-use Rattle.std.proofs.Math.Dec.{leb-zero}
+use Rattle.std.{specs.Prelude.{ℕ, ◌≡◌, ◌+◌, ◌-◌, ◌&&◌, Bool, true, false, cond, eqb, List, [], ◌∷◌, refl}, proofs.Common.{ap}}
+use Rattle.std.proofs.Math.{Dec.{leb-zero}, Bool.{Bool-set}}
 use base.Stored.{Coded, coded_via, coded_list, coded×, coded_ℕ}
 use mathlib.Core.HLevel.{Σ_prop_path}
-use Rattle.std.proofs.Math.Bool.{Bool-set}
 use Rattle.title_share.specs.Rows.{is_division, units_in, moved_rows, whole_units}
 
 -- rows that divide the whole

@@ -1,7 +1,6 @@
 -- Shares of a whole of 2^32 units, and their texts.
 use Rattle.std.specs.Prelude.{ℕ, ◌≡◌, ◌≢◌, ◌≤◌, ◌<◌, ◌*◌, ◌^◌, ◌++◌, ◌∷◌, ◌/◌, ◌%◌, ◌==◌, cond, List, slice_index, zero, suc}
-use Rattle.std.specs.Str.Parse.{IsNumeral, digits_value}
-use Rattle.std.specs.Fmt.{decimal}
+use Rattle.std.specs.{Str.Parse.{IsNumeral, digits_value}, Fmt.{decimal}}
 use Rattle.title_share.specs.Rows.{whole_units}
 
 -- a power of two up to the whole

@@ -1,7 +1,6 @@
 -- Laws of numbers and shares in texts, and what they say of some texts.
 use Rattle.std.specs.Prelude.{◌≡◌, ◌↔◌, ℕ, List, [], codes, Some, None}
-use Rattle.title_share.specs.Share.{IsNumber, IsShareText}
-use Rattle.title_share.specs.Texts.{number_in, share_in}
+use Rattle.title_share.specs.{Share.{IsNumber, IsShareText}, Texts.{number_in, share_in}}
 
 -- a text is read as a number exactly where it writes that number
 abbrev pub NumbersAreRead : Type 0

@@ -1,9 +1,6 @@
 -- Numbers and shares as functions of their texts.
-use Rattle.std.specs.Prelude.{ℕ, suc, zero, ◌*◌, ◌/◌, ◌^◌, Bool, false, cond}
-use Rattle.std.specs.Prelude.{◌&&◌, ◌||◌, eqb, leb, List, [], ◌∷◌, Option, Some, None}
-use Rattle.std.specs.Str.{all_ascii_digits}
-use Rattle.std.specs.Str.Parse.{digits_value}
-use Rattle.std.specs.List.{before_first, after_first}
+use Rattle.std.specs.Prelude.{ℕ, suc, zero, ◌*◌, ◌/◌, ◌^◌, Bool, false, cond, ◌&&◌, ◌||◌, eqb, leb, List, [], ◌∷◌, Option, Some, None}
+use Rattle.std.specs.{Str.{all_ascii_digits, Parse.{digits_value}}, List.{before_first, after_first}}
 use Rattle.title_share.specs.Rows.{whole_units}
 
 -- the first byte is a digit from 1 to 9, and the others are digits

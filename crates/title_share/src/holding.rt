@@ -18,8 +18,7 @@ pub struct Holding {
 
 impl Model for Holding {
     ghost use Rattle.std.specs.Prelude.{◌≡◌, true};
-    ghost use Rattle.title_share.specs.Rows.{is_division};
-    ghost use Rattle.title_share.specs.Division.{Division, division_code, division_of};
+    ghost use Rattle.title_share.specs.{Rows.{is_division}, Division.{Division, division_code, division_of}};
 
     ghost Value = { Division };
 

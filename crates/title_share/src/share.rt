@@ -1,9 +1,7 @@
 //! Shares of a whole.
 
-ghost use Rattle.std.specs.Prelude.{◌≡◌, ◌≤◌, ◌<◌, ◌*◌, ◌^◌, ◌++◌, ◌∷◌, ℕ, MatchOption, Some};
-ghost use Rattle.std.specs.Fmt.{decimal};
-ghost use Rattle.title_share.specs.Rows.{whole_units};
-ghost use Rattle.title_share.specs.Share.{IsFraction, IsLowest, IsNumber, IsPart, IsShareText, lowest, share_text};
+ghost use Rattle.std.specs.{Prelude.{◌≡◌, ◌≤◌, ◌<◌, ◌*◌, ◌^◌, ◌++◌, ◌∷◌, ℕ, MatchOption, Some}, Fmt.{decimal}};
+ghost use Rattle.title_share.specs.{Rows.{whole_units}, Share.{IsFraction, IsLowest, IsNumber, IsPart, IsShareText, lowest, share_text}};
 ghost use Rattle.title_share.specs.Texts.{share_in};
 
 use crate::holding::WHOLE;
@@ -18,8 +16,7 @@ pub struct Share {
 }
 
 impl Model for Share {
-    ghost use Rattle.std.specs.Prelude.{ℕ, ◌+◌, ◌-◌};
-    ghost use Rattle.std.proofs.Math.Nat.{add-sub_cancel};
+    ghost use Rattle.std.{specs.Prelude.{ℕ, ◌+◌, ◌-◌}, proofs.Math.Nat.{add-sub_cancel}};
 
     ghost Value = { ℕ };
 

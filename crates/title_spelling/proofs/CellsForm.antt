@@ -1,17 +1,9 @@
 -- The rows of a set in the cells form mark the cells of the set.
 use Rattle.std.proofs.Common.{◌≡◌, ◌∙◌, ℕ, suc, zero, ◌+◌, ◌*◌, ◌-◌, ◌/◌, ◌%◌, ◌<◌, ◌==◌, Bool, true, false, List, [], ◌∷◌, ◌++◌, length}
-use Rattle.std.proofs.Common.{get_or}
-use Rattle.std.proofs.Common.{◌≤◌, append_assoc, take, length-take, refl, sym, ap, arith, length-append}
-use Rattle.std.specs.List.{flat_map, range_with_len}
-use Rattle.std.specs.Char.{digit_char}
-use Rattle.std.specs.Int.{bit_at}
-use Rattle.std.proofs.lemmas.List.{append-nil}
-use Rattle.std.proofs.lemmas.List.Concat.{get_or-flat_map}
+use Rattle.std.{proofs.Common.{get_or, ◌≤◌, append_assoc, take, length-take, refl, sym, ap, arith, length-append}, specs.Char.{digit_char}}
+use Rattle.std.{specs.{List.{flat_map, range_with_len}, Int.{bit_at}}, proofs.lemmas.List.{append-nil, Concat.{get_or-flat_map}}}
 use Rattle.std.proofs.lemmas.List.FromFn.{length-range_with_len, get_or-range_with_len}
-use Rattle.title_land.specs.Depth.{depth}
-use Rattle.title_land.specs.Grids.{indices}
-use Rattle.title_land.specs.Survey.{side}
-use Rattle.title_land.specs.Laws.Sides.{side_is}
+use Rattle.title_land.specs.{Depth.{depth}, Grids.{indices}, Survey.{side}, Laws.Sides.{side_is}}
 use Rattle.title_spelling.specs.Cells.{number_of, row_text, rows_text, value_of, is_marked}
 
 -- ---- one digit

@@ -1,34 +1,17 @@
 -- What is spelled in the cells form is read back, and is no description.
 use Rattle.std.proofs.Common.{◌≡◌, ◌∙◌, ℕ, ◌-◌, ◌&&◌, true, List, [], ◌++◌, length, take, drop, refl, sym, ap, subst, arith}
-use Rattle.std.proofs.Common.{append_assoc, length-append, Option, Some, None}
-use Rattle.std.specs.Prelude.{codes, Ok}
-use Rattle.std.specs.Str.{bytes_eq}
-use Rattle.std.proofs.lemmas.Bool.{and_from, cond-true}
-use Rattle.std.proofs.lemmas.List.{append-nil, take_at, drop_at}
-use Rattle.std.proofs.lemmas.Slice.Eq.{bytes_eq-Decides}
-use Rattle.title_land.specs.declared.grid.Grid.{Grid}
-use Rattle.title_land.specs.declared.node.Node.{Node}
+use Rattle.std.{proofs.Common.{append_assoc, length-append, Option, Some, None}, specs.{Prelude.{codes, Ok}, Str.{bytes_eq}}}
+use Rattle.std.proofs.lemmas.{Bool.{and_from, cond-true}, List.{append-nil, take_at, drop_at}, Slice.Eq.{bytes_eq-Decides}}
+use Rattle.title_land.specs.{declared.{grid.Grid.{Grid}, node.Node.{Node}, survey.Section.{Section}, tract.Land.{Land}}, Depth.{depth}}
+use Rattle.title_land.specs.{Grids.{grid_has, grid_of, has_some, IsGrid}, Lands.{land_of, IsLand}, Nodes.{IsNode}}
+use Rattle.title_land.specs.{Texts.{node_text, section_text}, Laws.NodeLands.{is_grid-grid_of}, declared.survey.Township.{Township}}
 use Rattle.title_land.specs.declared.node.Node.TheVariants as node
-use Rattle.title_land.specs.declared.survey.Section.{Section}
-use Rattle.title_land.specs.declared.tract.Land.{Land}
 use Rattle.title_land.specs.declared.tract.Land.TheVariants as land
-use Rattle.title_land.specs.Depth.{depth}
-use Rattle.title_land.specs.Grids.{grid_has, grid_of, has_some, IsGrid}
-use Rattle.title_land.specs.Lands.{land_of, IsLand}
-use Rattle.title_land.specs.Nodes.{IsNode}
-use Rattle.title_land.specs.Texts.{node_text, section_text}
-use Rattle.title_land.specs.Laws.NodeLands.{is_grid-grid_of}
-use Rattle.title_aliquot.specs.Describes.{Describes}
-use Rattle.title_aliquot.specs.Grammar.{Everything, InTownship, SectionSyntax, Syntax}
+use Rattle.title_aliquot.specs.{Describes.{Describes}, Grammar.{Everything, InTownship, SectionSyntax, Syntax}, TextLaws.{ReadsBack}}
 use Rattle.title_aliquot.specs.Meaning.{IsLandIn, IsLandOf}
-use Rattle.title_aliquot.specs.TextLaws.{ReadsBack}
-use Rattle.title_land.specs.declared.survey.Township.{Township}
 use Rattle.title_plan.specs.Lands.{land_in, LandsAreRead}
 use Rattle.title_spelling.specs.Cells.{cells_in, if_spelled, is_marked, marked_in, rows_text, section_of, spelled_cells}
-use Rattle.title_spelling.proofs.CellsForm.{rows_length, rows_mark}
-use Rattle.title_spelling.proofs.Grids.{grid_is}
-use Rattle.title_spelling.proofs.SectionTexts.{no_cells}
-use Rattle.title_spelling.proofs.SoleNodes.{sole_node}
+use Rattle.title_spelling.proofs.{CellsForm.{rows_length, rows_mark}, Grids.{grid_is}, SectionTexts.{no_cells}, SoleNodes.{sole_node}}
 
 -- ---- lands of descriptions
 

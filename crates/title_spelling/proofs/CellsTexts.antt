@@ -1,21 +1,12 @@
 -- What the bytes of a text in the cells form are.
 use Rattle.std.proofs.Common.{◌≡◌, ◌∙◌, ℕ, ◌+◌, ◌-◌, ◌<◌, false, List, ◌++◌, length, take, drop, get_or, refl, ap, arith}
-use Rattle.std.proofs.Common.{length-append, Option, None, eqb}
-use Rattle.std.specs.Prelude.{codes}
-use Rattle.std.specs.List.{starts_with}
-use Rattle.std.specs.Str.{IsCharBoundary}
-use Rattle.std.proofs.lemmas.List.{drop_at, length-drop, take_all}
-use Rattle.std.proofs.Math.Seq.{get_or-append_seam}
-use Rattle.title_land.specs.declared.grid.Grid.{Grid}
-use Rattle.title_land.specs.declared.survey.Section.{Section}
-use Rattle.title_land.specs.Depth.{depth}
-use Rattle.title_land.specs.Grids.{grid_has, grid_of}
+use Rattle.std.{proofs.Common.{length-append, Option, None, eqb}, specs.{Prelude.{codes}, List.{starts_with}, Str.{IsCharBoundary}}}
+use Rattle.std.proofs.{lemmas.List.{drop_at, length-drop, take_all}, Math.Seq.{get_or-append_seam}}
+use Rattle.title_land.specs.{declared.{grid.Grid.{Grid}, survey.Section.{Section}}, Depth.{depth}, Grids.{grid_has, grid_of}}
 use Rattle.title_land.specs.Texts.{section_text}
 use Rattle.title_plan.specs.Lands.{land_in}
-use Rattle.title_spelling.specs.Cells.{cells_in, if_spelled, is_marked, marked_in, rows_text, section_of}
-use Rattle.title_spelling.proofs.CellsForm.{rows_length}
-use Rattle.title_spelling.proofs.CellsRead.{two_parts}
-use Rattle.title_spelling.proofs.Spelled.{no_form, IsCellsForm}
+use Rattle.title_spelling.{specs.Cells.{cells_in, if_spelled, is_marked, marked_in, rows_text, section_of}, proofs.CellsForm.{rows_length}}
+use Rattle.title_spelling.proofs.{CellsRead.{two_parts}, Spelled.{no_form, IsCellsForm}}
 
 abbrev behind : Grid → List ℕ
 behind g = codes " cells" ++ rows_text (grid_has g)

@@ -1,12 +1,8 @@
 -- Sets of cells that are equal, and the set of a sole node.
 use Rattle.std.proofs.Common.{◌≡◌, ◌∙◌, ℕ, ◌<◌, Bool, false, List, [], Option, length, map, get_or, sym, ap, arith}
-use Rattle.std.specs.Prelude.{slice_get, option_and_then, unwrap_or}
-use Rattle.std.proofs.lemmas.List.Elements.{All-get_or}
-use Rattle.std.proofs.lemmas.List.FromFn.{fill_by_all}
+use Rattle.std.{specs.Prelude.{slice_get, option_and_then, unwrap_or}, proofs.lemmas.List.{Elements.{All-get_or}, FromFn.{fill_by_all}}}
 use Rattle.std.proofs.lemmas.Option.{slice_get-get_or}
-use Rattle.title_land.specs.declared.grid.Grid.{Grid}
-use Rattle.title_land.specs.Grids.{grid_has, grid_of, indices, IsGrid}
-use Rattle.title_land.specs.Survey.{side}
+use Rattle.title_land.specs.{declared.grid.Grid.{Grid}, Grids.{grid_has, grid_of, indices, IsGrid}, Survey.{side}}
 
 abbrev cell_of : Option (List Bool) → ℕ → Bool
 cell_of row column = unwrap_or (option_and_then (λ cells. slice_get cells column) row) false

@@ -1,22 +1,14 @@
 -- Rows are lines.
 use Rattle.std.proofs.Common.{◌≡◌, ◌∙◌, ℕ, ◌<◌, ◌^◌, ◌==◌, true, List, [], ◌∷◌, ◌++◌, length, refl, sym, ap, subst, arith, inl, inr}
-use Rattle.std.specs.Prelude.{codes, nat_le}
-use Rattle.std.specs.List.{list_all, list_any}
-use Rattle.std.specs.Fmt.{decimal}
+use Rattle.std.{specs.{Prelude.{codes, nat_le}, List.{list_all, list_any}, Fmt.{decimal}}, proofs.lemmas.Fmt.{decimal_nonempty}}
 use Rattle.std.proofs.lemmas.Bool.{and_parts, cases_Bool, leb-true, ne_eqb}
-use Rattle.std.proofs.lemmas.Fmt.{decimal_nonempty}
 use Rattle.csv.specs.Writing.{escaped, field_text, fields_text, needs_byte}
-use Rattle.title_instrument.specs.declared.instrument.Instrument.{Instrument}
+use Rattle.title_instrument.specs.{declared.instrument.Instrument.{Instrument}, Kinds.{kind_of}, Parties.{estates_of}}
 use Rattle.title_instrument.specs.declared.instrument.Instrument.TheVariants as i
-use Rattle.title_instrument.specs.Kinds.{kind_of}
-use Rattle.title_instrument.specs.Parties.{estates_of}
 use Rattle.title_page.specs.Rows.{row, row_writer}
-use Rattle.title_spelling.specs.Lands.{spelling}
-use Rattle.title_spelling.specs.Laws.{is_shown, OnlyEndsEnd, RowsAreLines}
-use Rattle.title_spelling.specs.Posts.{terms_fields, HasShares}
+use Rattle.title_spelling.specs.{Lands.{spelling}, Laws.{is_shown, OnlyEndsEnd, RowsAreLines}, Posts.{terms_fields, HasShares}}
 use Rattle.title_spelling.specs.Rows.{are_names, fields_of, Begin, Commit, End, IsPlantRow, Party, PlantRow, Post, Township}
-use Rattle.title_spelling.proofs.NamesRead.{named}
-use Rattle.title_spelling.proofs.RowsRead.{first_byte, is_digit, number_digits, row_begins, row_ends, several}
+use Rattle.title_spelling.proofs.{NamesRead.{named}, RowsRead.{first_byte, is_digit, number_digits, row_begins, row_ends, several}}
 use Rattle.title_spelling.proofs.Shown.{both, estates, kind_shown, land_shown, more, name, number, quantum_shown, reserve, township, word}
 use Rattle.title_spelling.proofs.Shown.{Shown}
 

@@ -1,16 +1,8 @@
 -- One more cell of a set that is read from its text.
 use Rattle.std.proofs.Common.{◌≡◌, ◌∙◌, ℕ, ◌+◌, ◌*◌, ◌/◌, ◌%◌, ◌<◌, ◌≤◌, Bool, true, false, ◌&&◌, ◌||◌, refl, arith, inl, inr}
-use Rattle.std.specs.Prelude.{nat_lt}
-use Rattle.std.proofs.lemmas.Bool.{cases_Bool, cases_eq}
-use Rattle.std.proofs.lemmas.Bool.Decides.{nat_tests}
-use Rattle.title_land.specs.declared.grid.Grid.{Grid}
-use Rattle.title_land.specs.declared.rectangle.Rectangle.{Rectangle}
-use Rattle.title_land.specs.Depth.{depth}
-use Rattle.title_land.specs.Grids.{grid_has, grid_of, AddsRectangle, IsGrid}
-use Rattle.title_land.specs.Survey.{side}
-use Rattle.title_land.specs.Rectangles.{holds}
-use Rattle.title_land.specs.Laws.Sides.{side_is}
-use Rattle.title_land.specs.Laws.Squares.{inside}
+use Rattle.std.{specs.Prelude.{nat_lt}, proofs.lemmas.Bool.{cases_Bool, cases_eq, Decides.{nat_tests}}}
+use Rattle.title_land.specs.{declared.{grid.Grid.{Grid}, rectangle.Rectangle.{Rectangle}}, Depth.{depth}, Survey.{side}, Rectangles.{holds}}
+use Rattle.title_land.specs.{Grids.{grid_has, grid_of, AddsRectangle, IsGrid}, Laws.{Sides.{side_is}, Squares.{inside}}}
 use Rattle.title_spelling.proofs.Grids.{grid_is}
 
 -- the set has those of the first cells, row by row, at which a test holds

@@ -1,15 +1,9 @@
 -- Names and the numbers of their parties.
 use Rattle.std.proofs.Common.{◌≡◌, ◌∙◌, ℕ, zero, suc, ◌+◌, ◌<◌, Bool, true, false, not, List, [], ◌∷◌, length, get_or, refl, sym, arith}
-use Rattle.std.proofs.Common.{inl, inr}
-use Rattle.std.proofs.Common.{Some, None, nat_lt}
-use Rattle.std.specs.List.{list_all, list_any, position_or_len}
-use Rattle.std.specs.Str.{bytes_eq}
-use Rattle.std.proofs.lemmas.Bool.{and_parts, cond-true, cases_Bool, lt-ltb, or_left, or_right}
-use Rattle.std.proofs.lemmas.Slice.Eq.{bytes_eq-Decides}
-use Rattle.title_plan.specs.Fields.{is_name}
-use Rattle.title_plan.specs.Plans.{number_of}
-use Rattle.title_spelling.specs.Posts.{name_of}
-use Rattle.title_spelling.specs.Rows.{are_names, each_once}
+use Rattle.std.{proofs.Common.{inl, inr, Some, None, nat_lt}, specs.{List.{list_all, list_any, position_or_len}, Str.{bytes_eq}}}
+use Rattle.std.proofs.lemmas.{Bool.{and_parts, cond-true, cases_Bool, lt-ltb, or_left, or_right}, Slice.Eq.{bytes_eq-Decides}}
+use Rattle.title_plan.specs.{Fields.{is_name}, Plans.{number_of}}
+use Rattle.title_spelling.specs.{Posts.{name_of}, Rows.{are_names, each_once}}
 
 -- what holds of each element holds of one
 all_at : (p : List ℕ → Bool) (xs : List (List ℕ)) (i : ℕ) → list_all p xs ≡ true → i < length xs → p (get_or xs i []) ≡ true

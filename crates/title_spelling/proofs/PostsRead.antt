@@ -1,31 +1,18 @@
 -- The fields of a post are read back.
 use Rattle.std.proofs.Common.{◌≡◌, ◌∙◌, ℕ, ◌<◌, ◌≤◌, ◌^◌, ◌==◌, Bool, true, false, List, [], ◌∷◌, ◌++◌, length, get_or, refl, ap, arith}
-use Rattle.std.proofs.Common.{append_assoc, Option, Some, None, nat_le}
-use Rattle.std.specs.Prelude.{option_map}
-use Rattle.std.specs.Fmt.{decimal}
-use Rattle.std.specs.List.{All, slice_split}
-use Rattle.std.proofs.lemmas.Bool.{ne_eqb, le-leb, cond-true}
-use Rattle.std.proofs.lemmas.Fmt.{decimal_is_IsNumeral, first_decimal}
-use Rattle.std.proofs.lemmas.List.Elements.{All-append, All-cons, All-from_get_or}
-use Rattle.std.proofs.lemmas.List.Splits.{slice_split_at, slice_split_none}
+use Rattle.std.{proofs.Common.{append_assoc, Option, Some, None, nat_le}, specs.{Prelude.{option_map}, Fmt.{decimal}}}
+use Rattle.std.{specs.List.{All, slice_split}, proofs.lemmas.{Bool.{ne_eqb, le-leb, cond-true}, Fmt.{decimal_is_IsNumeral, first_decimal}}}
+use Rattle.std.proofs.lemmas.List.{Elements.{All-append, All-cons, All-from_get_or}, Splits.{slice_split_at, slice_split_none}}
 use Rattle.std.proofs.lemmas.Str.Parse.{not_in_digits, numerals_by_value, tells_digits}
-use Rattle.title_share.specs.Share.{share_text, IsNumber}
-use Rattle.title_share.specs.Texts.{share_in}
-use Rattle.title_share.specs.Laws.ShareLaws.{text_named}
+use Rattle.title_share.specs.{Share.{share_text, IsNumber}, Texts.{share_in}, Laws.ShareLaws.{text_named}}
 use Rattle.title_share.specs.Laws.Texts.{numbers_read, shares_read}
-use Rattle.title_instrument.specs.declared.kind.Kind.{Kind}
-use Rattle.title_instrument.specs.declared.kind.Kind.TheVariants as kind
-use Rattle.title_instrument.specs.declared.parts.Estate.{Estate}
-use Rattle.title_instrument.specs.declared.parts.Estate.TheVariants.{S, O, M}
-use Rattle.title_instrument.specs.declared.parts.Estates.{Estates}
-use Rattle.title_instrument.specs.declared.parts.Quantum.{Quantum}
-use Rattle.title_instrument.specs.declared.parts.Quantum.TheVariants as quantum
-use Rattle.title_instrument.specs.Estates.{estates_text, letter_of, names_none}
+use Rattle.title_instrument.specs.declared.{kind.Kind.{Kind}, parts.{Estate.{Estate, TheVariants.{S, O, M}}, Estates.{Estates}}}
+use Rattle.title_instrument.specs.{declared.parts.Quantum.{Quantum}, Estates.{estates_text, letter_of, names_none}}
 use Rattle.title_instrument.specs.Kinds.{deed_kind, kind_in, kind_word}
+use Rattle.title_instrument.specs.declared.kind.Kind.TheVariants as kind
+use Rattle.title_instrument.specs.declared.parts.Quantum.TheVariants as quantum
 use Rattle.title_plan.specs.Fields.{document_in, estates_in, examiner_in, given, is_name, is_semicolon, name_in, nothing_reserved}
-use Rattle.title_plan.specs.Fields.{number_up_to}
-use Rattle.title_plan.specs.Fields.{quantum_in, reserve_in, reserving, with_item, with_items}
-use Rattle.title_plan.specs.Rows.{warranty_of}
+use Rattle.title_plan.specs.{Fields.{number_up_to, quantum_in, reserve_in, reserving, with_item, with_items}, Rows.{warranty_of}}
 use Rattle.title_spelling.specs.Posts.{item_text, quantum_text, reserve_text, IsExaminer, IsQuantum, IsReserve, IsReserved, IsShare}
 
 -- ---- numbers and shares

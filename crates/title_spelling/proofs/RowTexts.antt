@@ -1,8 +1,6 @@
 -- The texts of fields and rows, part by part.
-use Rattle.std.proofs.Common.{◌≡◌, ◌++◌, ◌∷◌, [], ◌<◌, ◌+◌, ℕ, List, length, take, get_or, refl, arith}
-use Rattle.std.proofs.lemmas.List.{take_more}
-use Rattle.csv.proofs.WriteFacts.{escaped-append, escaped-double, escaped-other}
-use Rattle.csv.specs.Writing.{escaped, is_blank, row_body, row_text}
+use Rattle.std.proofs.{Common.{◌≡◌, ◌++◌, ◌∷◌, [], ◌<◌, ◌+◌, ℕ, List, length, take, get_or, refl, arith}, lemmas.List.{take_more}}
+use Rattle.csv.{proofs.WriteFacts.{escaped-append, escaped-double, escaped-other}, specs.Writing.{escaped, is_blank, row_body, row_text}}
 use Rattle.title_page.specs.Rows.{row_writer}
 
 -- a quote is written twice

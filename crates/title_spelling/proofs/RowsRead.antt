@@ -1,24 +1,15 @@
 -- The texts of rows are read as their fields.
 use Rattle.std.proofs.Common.{◌≡◌, ◌∙◌, ℕ, zero, suc, ◌+◌, ◌<◌, ◌≤◌, ◌&&◌, Bool, true, false, List, [], ◌∷◌, ◌++◌, length, map, refl, sym}
-use Rattle.std.proofs.Common.{ap, subst, arith}
-use Rattle.std.proofs.Common.{◌^◌, append_assoc, length-append, Some}
-use Rattle.std.specs.List.{list_all, list_any, All}
-use Rattle.std.specs.Fmt.{decimal}
-use Rattle.std.specs.Prelude.{codes, nat_le}
-use Rattle.std.proofs.lemmas.Bool.{and_parts, and_from, ne_eqb, le-leb, leb-true}
-use Rattle.std.proofs.lemmas.Bool.Decides.{nat_tests}
-use Rattle.std.proofs.lemmas.Fmt.{decimal_is_IsNumeral, decimal_nonempty}
-use Rattle.std.proofs.lemmas.List.Elements.{All-head}
-use Rattle.std.proofs.lemmas.Str.Parse.{digit_at}
-use Rattle.std.specs.Str.Parse.{AllDigits}
-use Rattle.csv.proofs.RoundTrip.{read-write-many}
-use Rattle.csv.specs.Machine.{next_record}
+use Rattle.std.{proofs.Common.{ap, subst, arith, ◌^◌, append_assoc, length-append, Some}, specs.List.{list_all, list_any, All}}
+use Rattle.std.{specs.{Fmt.{decimal}, Prelude.{codes, nat_le}}, proofs.lemmas.Bool.{and_parts, and_from, ne_eqb, le-leb, leb-true}}
+use Rattle.std.proofs.lemmas.{Bool.Decides.{nat_tests}, Fmt.{decimal_is_IsNumeral, decimal_nonempty}, List.Elements.{All-head}}
+use Rattle.std.{proofs.lemmas.Str.Parse.{digit_at}, specs.Str.Parse.{AllDigits}}
+use Rattle.csv.{proofs.RoundTrip.{read-write-many}, specs.Machine.{next_record}}
 use Rattle.csv.specs.Reading.{default_config, records_from, records_next, strip_bom}
 use Rattle.csv.specs.Writing.{default_writer, escaped, field_text, fields_text, is_blank, needs_byte, row_text}
 use Rattle.csv.specs.declared.parser.State.TheVariants as st
 use Rattle.title_page.specs.Rows.{row, row_writer, rows_text}
-use Rattle.title_spelling.specs.Laws.{RowsReadBack}
-use Rattle.title_spelling.specs.Rows.{fields_of, Begin, Commit, End, IsPlantRow, Party, PlantRow, Post, Township}
+use Rattle.title_spelling.specs.{Laws.{RowsReadBack}, Rows.{fields_of, Begin, Commit, End, IsPlantRow, Party, PlantRow, Post, Township}}
 
 -- ---- rows of any lengths are written as the default writer writes them
 

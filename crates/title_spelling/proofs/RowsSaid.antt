@@ -1,39 +1,25 @@
 -- The rows of a plant's file say what was written.
 use Rattle.std.proofs.Common.{◌≡◌, ◌∙◌, ℕ, ◌≤◌, ◌<◌, Bool, true, false, List, [], ◌∷◌, length, refl, sym, ap, subst, Option, Some, None}
-use Rattle.std.specs.Prelude.{codes}
-use Rattle.std.specs.Fmt.{decimal}
-use Rattle.std.specs.Str.{bytes_eq}
-use Rattle.std.proofs.lemmas.Bool.{false_from_ne_true}
+use Rattle.std.{specs.{Prelude.{codes}, Fmt.{decimal}, Str.{bytes_eq}}, proofs.lemmas.Bool.{false_from_ne_true}}
 use Rattle.std.proofs.lemmas.Slice.Eq.{bytes_eq-Decides}
-use Rattle.title_instrument.specs.declared.instrument.Instrument.{Instrument}
+use Rattle.title_instrument.specs.declared.{instrument.Instrument.{Instrument}, parts.{Estates.{Estates}, Quantum.{Quantum}}}
+use Rattle.title_instrument.specs.{Kinds.{deed_kind, kind_in, kind_word}, Parties.{estates_of, grantee_of, grantor_of}}
+use Rattle.title_instrument.specs.Estates.{estates_text, names_none}
 use Rattle.title_instrument.specs.declared.instrument.Instrument.TheVariants as i
 use Rattle.title_instrument.specs.declared.kind.Kind.TheVariants as kind
-use Rattle.title_instrument.specs.declared.parts.Estates.{Estates}
-use Rattle.title_instrument.specs.declared.parts.Quantum.{Quantum}
-use Rattle.title_instrument.specs.Kinds.{deed_kind, kind_in, kind_word}
-use Rattle.title_instrument.specs.Parties.{estates_of, grantee_of, grantor_of}
-use Rattle.title_instrument.specs.Estates.{estates_text, names_none}
 use Rattle.title_land.specs.declared.node.Node.TheVariants as node
-use Rattle.title_land.specs.declared.survey.Township.{Township as SurveyTownship}
-use Rattle.title_land.specs.declared.tract.Land.{Land}
-use Rattle.title_land.specs.Depth.{depth}
+use Rattle.title_land.specs.{declared.{survey.Township.{Township as SurveyTownship}, tract.Land.{Land}}, Depth.{depth}}
 use Rattle.title_land.specs.Texts.{township_text}
 use Rattle.title_aliquot.specs.TextLaws.{ReadsBack}
 use Rattle.title_plan.specs.declared.row.Act.TheVariants as act
 use Rattle.title_plan.specs.declared.row.Row.TheVariants as row
-use Rattle.title_plan.specs.Fields.{document_in, estates_in, examiner_in, is_name, name_in, quantum_in, reserve_in}
-use Rattle.title_plan.specs.Lands.{LandsAreRead}
-use Rattle.title_plan.specs.Plans.{numbered}
-use Rattle.title_plan.specs.Rows.{row_in}
-use Rattle.title_spelling.specs.Laws.{among, MarksReadBack, PostsReadBack}
+use Rattle.title_plan.specs.{Fields.{document_in, estates_in, examiner_in, is_name, name_in, quantum_in, reserve_in}, Lands.{LandsAreRead}}
+use Rattle.title_plan.specs.{Plans.{numbered}, Rows.{row_in}}
+use Rattle.title_spelling.{specs.{Laws.{among, MarksReadBack, PostsReadBack}, Lands.{spelling}}, proofs.CellsRead.{node_read}}
 use Rattle.title_spelling.specs.Posts.{name_of, post_fields, quantum_text, reserve_text, HasShares, IsExaminer}
-use Rattle.title_spelling.specs.Lands.{spelling}
 use Rattle.title_spelling.specs.Rows.{are_names, begin_fields, commit_fields, party_fields, township_fields}
-use Rattle.title_spelling.proofs.CellsRead.{node_read}
-use Rattle.title_spelling.proofs.NamesRead.{named, numbered_as}
+use Rattle.title_spelling.proofs.{NamesRead.{named, numbered_as}, PostsRead.{warranty_read}, Spelled.{spellings_back}}
 use Rattle.title_spelling.proofs.PostsRead.{document_read, estates_read, examiner_read, kind_read, name_read, quantum_read, reserve_read}
-use Rattle.title_spelling.proofs.PostsRead.{warranty_read}
-use Rattle.title_spelling.proofs.Spelled.{spellings_back}
 
 -- ---- rows of posts, by their fields
 

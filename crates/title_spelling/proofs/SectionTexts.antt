@@ -1,23 +1,11 @@
 -- The text of a section, with more letters behind it, is no description.
 use Rattle.std.proofs.Common.{◌≡◌, ◌∙◌, ℕ, zero, suc, ◌<◌, Bool, true, false, List, [], ◌∷◌, ◌++◌, map, filter, cond, refl, sym, ap, arith}
-use Rattle.std.specs.Prelude.{codes, nat_lt, not}
-use Rattle.std.specs.List.{list_all}
-use Rattle.std.specs.Char.{to_ascii_lowercase}
-use Rattle.std.specs.Fmt.{decimal}
-use Rattle.std.specs.Str.{chars, IsAscii}
-use Rattle.std.proofs.lemmas.Bool.{and_parts, ltb-true}
-use Rattle.std.proofs.lemmas.Fmt.{IsAscii-decimal}
-use Rattle.std.proofs.lemmas.List.{append-nil, map-append}
-use Rattle.std.proofs.lemmas.List.Elements.{filter-append}
-use Rattle.std.proofs.lemmas.Str.{chars-append, IsAscii-append, IsUtf8-from_ascii}
-use Rattle.std.proofs.lemmas.Str.Ascii.{IsAscii-nil}
-use Rattle.title_land.specs.declared.survey.Section.{Section}
-use Rattle.title_land.specs.declared.survey.Township.{Township}
-use Rattle.title_land.specs.Texts.{section_text, township_text}
+use Rattle.std.specs.{Prelude.{codes, nat_lt, not}, List.{list_all}, Char.{to_ascii_lowercase}, Fmt.{decimal}, Str.{chars, IsAscii}}
+use Rattle.std.proofs.lemmas.{Bool.{and_parts, ltb-true}, Fmt.{IsAscii-decimal}, List.{append-nil, map-append, Elements.{filter-append}}}
+use Rattle.std.proofs.lemmas.Str.{chars-append, IsAscii-append, IsUtf8-from_ascii, Ascii.{IsAscii-nil}}
+use Rattle.title_land.specs.{declared.survey.{Section.{Section}, Township.{Township}}, Texts.{section_text, township_text}}
 use Rattle.title_grammar.specs.Reading.{Got}
-use Rattle.title_aliquot.specs.Describes.{Says}
-use Rattle.title_aliquot.specs.Grammar.{Syntax, Description}
-use Rattle.title_aliquot.specs.Letters.{letters, passed_over}
+use Rattle.title_aliquot.specs.{Describes.{Says}, Grammar.{Syntax, Description}, Letters.{letters, passed_over}}
 use Rattle.title_aliquot.specs.Laws.Grammar.{description_exact}
 
 -- ---- its bytes are ASCII

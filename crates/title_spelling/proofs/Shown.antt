@@ -1,41 +1,21 @@
 -- Texts without control bytes.
-use Rattle.std.proofs.Common.{◌≡◌, ◌∙◌, ℕ, ◌<◌, ◌^◌, Bool, true, false, List, [], ◌∷◌, ◌++◌, cond, refl, arith}
-use Rattle.std.proofs.Common.{Option, Some, None}
-use Rattle.std.specs.Prelude.{codes, nat_le}
-use Rattle.std.specs.Char.{digit_char}
-use Rattle.std.specs.Fmt.{decimal}
-use Rattle.std.specs.List.{flat_map, join_by, list_all}
-use Rattle.std.proofs.lemmas.Bool.{and_parts, and_from}
-use Rattle.std.proofs.lemmas.Bool.Decides.{nat_tests}
-use Rattle.std.proofs.lemmas.List.Folds.{list_all-append}
-use Rattle.title_share.specs.Share.{share_text}
-use Rattle.title_share.specs.Laws.ShareLaws.{lowest_fraction, part_fits}
-use Rattle.title_instrument.specs.declared.kind.Kind.{Kind}
-use Rattle.title_instrument.specs.declared.kind.Kind.TheVariants as kind
-use Rattle.title_instrument.specs.declared.parts.Estate.{Estate}
-use Rattle.title_instrument.specs.declared.parts.Estate.TheVariants.{S, O, M}
-use Rattle.title_instrument.specs.declared.parts.Estates.{Estates}
-use Rattle.title_instrument.specs.declared.parts.Quantum.{Quantum}
-use Rattle.title_instrument.specs.declared.parts.Quantum.TheVariants as quantum
-use Rattle.title_instrument.specs.Estates.{estate_text, estates_text, letter_if, letter_of}
+use Rattle.std.proofs.Common.{◌≡◌, ◌∙◌, ℕ, ◌<◌, ◌^◌, Bool, true, false, List, [], ◌∷◌, ◌++◌, cond, refl, arith, Option, Some, None}
+use Rattle.std.specs.{Prelude.{codes, nat_le}, Char.{digit_char}, Fmt.{decimal}, List.{flat_map, join_by, list_all}}
+use Rattle.std.proofs.lemmas.{Bool.{and_parts, and_from, Decides.{nat_tests}}, List.Folds.{list_all-append}}
+use Rattle.title_share.specs.{Share.{share_text}, Laws.ShareLaws.{lowest_fraction, part_fits}}
+use Rattle.title_instrument.specs.declared.{kind.Kind.{Kind}, parts.{Estate.{Estate, TheVariants.{S, O, M}}, Estates.{Estates}}}
+use Rattle.title_instrument.specs.{declared.parts.Quantum.{Quantum}, Estates.{estate_text, estates_text, letter_if, letter_of}}
 use Rattle.title_instrument.specs.Kinds.{kind_word}
-use Rattle.title_land.specs.declared.grid.Grid.{Grid}
-use Rattle.title_land.specs.declared.node.Node.{Node}
-use Rattle.title_land.specs.declared.node.Node.TheVariants as node
-use Rattle.title_land.specs.declared.survey.Section.{Section}
-use Rattle.title_land.specs.declared.survey.Township.{Township}
-use Rattle.title_land.specs.declared.rectangle.Quarter.{Quarter}
-use Rattle.title_land.specs.declared.rectangle.Quarter.TheVariants.{Northeast, Northwest, Southwest, Southeast}
-use Rattle.title_land.specs.declared.tract.Land.{Land}
-use Rattle.title_land.specs.declared.tract.Land.TheVariants as land
-use Rattle.title_land.specs.Depth.{depth}
-use Rattle.title_land.specs.Grids.{grid_has, indices}
-use Rattle.title_land.specs.Lands.{cover_of}
+use Rattle.title_instrument.specs.declared.kind.Kind.TheVariants as kind
+use Rattle.title_instrument.specs.declared.parts.Quantum.TheVariants as quantum
+use Rattle.title_land.specs.{declared.{grid.Grid.{Grid}, node.Node.{Node}, survey.{Section.{Section}, Township.{Township}}}, Depth.{depth}}
+use Rattle.title_land.specs.declared.rectangle.Quarter.{Quarter, TheVariants.{Northeast, Northwest, Southwest, Southeast}}
+use Rattle.title_land.specs.{declared.tract.Land.{Land}, Grids.{grid_has, indices}, Lands.{cover_of}}
 use Rattle.title_land.specs.Texts.{node_text, path_text, quarter_text, quarters_text, section_text, township_text}
+use Rattle.title_land.specs.declared.node.Node.TheVariants as node
+use Rattle.title_land.specs.declared.tract.Land.TheVariants as land
 use Rattle.title_plan.specs.Fields.{is_name, is_name_byte}
-use Rattle.title_spelling.specs.Cells.{digit_at, row_text, spelled_cells}
-use Rattle.title_spelling.specs.Lands.{part_spelling, path_of, spelling}
-use Rattle.title_spelling.specs.Laws.{is_shown}
+use Rattle.title_spelling.specs.{Cells.{digit_at, row_text, spelled_cells}, Lands.{part_spelling, path_of, spelling}, Laws.{is_shown}}
 use Rattle.title_spelling.specs.Posts.{and_item, item_text, quantum_text, reserve_text, IsQuantum, IsReserve, IsReserved, IsShare}
 use Rattle.title_spelling.proofs.RowsRead.{is_digit, number_digits}
 

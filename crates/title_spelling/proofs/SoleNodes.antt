@@ -1,28 +1,13 @@
 -- A land whose cover is one node is the land of that node.
-use Rattle.std.proofs.Common.{◌≡◌, ◌∙◌, ℕ, ◌<◌, true, List, [], ◌∷◌, map, refl, sym, ap, subst}
-use Rattle.std.proofs.lemmas.Bool.{and_from, lt-ltb}
-use Rattle.std.proofs.Math.Bool.{or-false}
-use Rattle.std.proofs.lemmas.List.Elements.{All-head}
-use Rattle.std.specs.Prelude.{nat_lt}
-use Rattle.std.specs.List.{All}
-use Rattle.title_land.specs.declared.grid.Grid.{Grid}
-use Rattle.title_land.specs.declared.node.Node.{Node}
-use Rattle.title_land.specs.declared.node.Node.TheVariants as node
-use Rattle.title_land.specs.declared.survey.Cell.{Cell}
-use Rattle.title_land.specs.declared.survey.Section.{Section}
-use Rattle.title_land.specs.declared.rectangle.Quarter.{Quarter}
-use Rattle.title_land.specs.declared.tract.Land.{Land}
-use Rattle.title_land.specs.declared.tract.Land.TheVariants as land
-use Rattle.title_land.specs.Covers.{cover_below, node_at}
-use Rattle.title_land.specs.Depth.{depth}
-use Rattle.title_land.specs.Grids.{grid_has, IsGrid}
-use Rattle.title_land.specs.Lands.{cover_of, has, land_of, IsLand}
-use Rattle.title_land.specs.Nodes.{node_has, square, IsNode}
-use Rattle.title_land.specs.Survey.{is_on_grid, side}
-use Rattle.title_land.specs.Rectangles.{holds}
-use Rattle.title_land.specs.Laws.CoverSet.{cover_is_cover}
-use Rattle.title_land.specs.Laws.LandSharing.{cover_has_its_cells}
+use Rattle.std.proofs.{Common.{◌≡◌, ◌∙◌, ℕ, ◌<◌, true, List, [], ◌∷◌, map, refl, sym, ap, subst}, lemmas.Bool.{and_from, lt-ltb}}
+use Rattle.std.{proofs.{Math.Bool.{or-false}, lemmas.List.Elements.{All-head}}, specs.{Prelude.{nat_lt}, List.{All}}}
+use Rattle.title_land.specs.declared.{grid.Grid.{Grid}, node.Node.{Node}, survey.{Cell.{Cell}, Section.{Section}}, tract.Land.{Land}}
+use Rattle.title_land.specs.{declared.rectangle.Quarter.{Quarter}, Covers.{cover_below, node_at}, Depth.{depth}, Grids.{grid_has, IsGrid}}
+use Rattle.title_land.specs.{Lands.{cover_of, has, land_of, IsLand}, Nodes.{node_has, square, IsNode}, Survey.{is_on_grid, side}}
+use Rattle.title_land.specs.{Rectangles.{holds}, Laws.{CoverSet.{cover_is_cover}, LandSharing.{cover_has_its_cells}}}
 use Rattle.title_land.specs.Laws.SameLand.{same_section-self}
+use Rattle.title_land.specs.declared.node.Node.TheVariants as node
+use Rattle.title_land.specs.declared.tract.Land.TheVariants as land
 use Rattle.title_spelling.proofs.Grids.{grid_is}
 
 -- ---- a part of a section

@@ -1,35 +1,18 @@
 -- A land that a text says has a cell.
-use Rattle.std.proofs.Common.{◌≡◌, ◌∙◌, ℕ, ◌+◌, ◌%◌, ◌<◌, ◌≤◌, Bool, true, List, [], ◌∷◌, length, refl, sym, ap}
-use Rattle.std.proofs.Common.{subst, arith, inl, inr, Option, Some, None}
-use Rattle.std.specs.Option.{is_some}
-use Rattle.std.specs.Prelude.{option_and_then, Result, Ok}
+use Rattle.std.{proofs.Common.{◌≡◌, ◌∙◌, ℕ, ◌+◌, ◌%◌, ◌<◌, ◌≤◌, Bool, true, List, [], ◌∷◌, length, refl, sym, ap}, specs.Option.{is_some}}
+use Rattle.std.{proofs.Common.{subst, arith, inl, inr, Option, Some, None}, specs.Prelude.{option_and_then, Result, Ok}}
 use Rattle.std.proofs.lemmas.Bool.{and_parts, cases_Bool, eqb-true, or_left}
-use Rattle.title_land.specs.declared.survey.Township.{Township}
-use Rattle.title_land.specs.declared.rectangle.Half.{Half}
-use Rattle.title_land.specs.declared.rectangle.Half.TheVariants.{North, South, East, West}
-use Rattle.title_land.specs.declared.rectangle.Quarter.TheVariants.{Northeast, Northwest, Southwest, Southeast}
-use Rattle.title_land.specs.declared.rectangle.Rectangle.{Rectangle}
-use Rattle.title_land.specs.declared.rectangle.Step.{Step}
+use Rattle.title_land.specs.declared.{survey.Township.{Township}, rectangle.Half.{Half, TheVariants.{North, South, East, West}}}
+use Rattle.title_land.specs.declared.rectangle.{Quarter.TheVariants.{Northeast, Northwest, Southwest, Southeast}, Rectangle.{Rectangle}}
+use Rattle.title_land.specs.{declared.{rectangle.Step.{Step}, tract.Land.{Land}}, Depth.{depth}, Grids.{grid_of, has_some}, Lands.{IsLand}}
+use Rattle.title_land.specs.{Survey.{side}, Rectangles.{exists, half_of, holds, is_even, part_of, section_square, step_of, taken_of}}
+use Rattle.title_land.specs.Laws.{GridLaws.{grid_has-grid_of}, GridSharing.{some_from}, Squares.{holds_from, pow_positive}}
 use Rattle.title_land.specs.declared.rectangle.Step.TheVariants as step
-use Rattle.title_land.specs.declared.tract.Land.{Land}
-use Rattle.title_land.specs.Depth.{depth}
-use Rattle.title_land.specs.Grids.{grid_of, has_some}
-use Rattle.title_land.specs.Lands.{IsLand}
-use Rattle.title_land.specs.Survey.{side}
-use Rattle.title_land.specs.Rectangles.{exists, half_of, holds, is_even, part_of, section_square, step_of, taken_of}
-use Rattle.title_land.specs.Laws.GridLaws.{grid_has-grid_of}
-use Rattle.title_land.specs.Laws.GridSharing.{some_from}
-use Rattle.title_land.specs.Laws.Squares.{holds_from, pow_positive}
-use Rattle.title_aliquot.specs.declared.fault.DescFault.{DescFault}
-use Rattle.title_aliquot.specs.Describes.{Describes}
+use Rattle.title_aliquot.specs.{declared.fault.DescFault.{DescFault}, Describes.{Describes}, Grammar.{SectionText, Syntax}}
 use Rattle.title_aliquot.specs.Grammar.{Description, Everything, InTownship, Parts, LandText, SectionParts, SectionSyntax}
-use Rattle.title_aliquot.specs.Grammar.{SectionText, Syntax}
 use Rattle.title_aliquot.specs.Meaning.{parts_exist, parts_of, rectangles, section_parts, union, IsLandIn, IsLandOf}
 use Rattle.title_plan.specs.Lands.{land_in, LandsAreRead}
-use Rattle.title_spelling.specs.Cells.{cells_in}
-use Rattle.title_spelling.specs.Lands.{has_a_cell, kept_or}
-use Rattle.title_spelling.specs.Laws.{LandsHaveCells}
-use Rattle.title_spelling.proofs.CellsRead.{described_sized}
+use Rattle.title_spelling.{specs.{Cells.{cells_in}, Lands.{has_a_cell, kept_or}, Laws.{LandsHaveCells}}, proofs.CellsRead.{described_sized}}
 use Rattle.title_spelling.proofs.Spelled.{form_of}
 
 -- ---- rectangles that a part's steps leave

@@ -1,33 +1,18 @@
 -- What is spelled is read back.
 use Rattle.std.proofs.Common.{◌≡◌, ◌∙◌, ℕ, ◌&&◌, Bool, true, false, List, [], ◌∷◌, length, refl, sym, ap, subst, inl, inr, Option, Some}
-use Rattle.std.proofs.Common.{None}
-use Rattle.std.specs.Prelude.{nat_le, Result, Ok, Err}
-use Rattle.std.specs.Str.{bytes_eq}
+use Rattle.std.{proofs.{Common.{None}, lemmas.Slice.Eq.{bytes_eq-Decides}}, specs.{Prelude.{nat_le, Result, Ok, Err}, Str.{bytes_eq}}}
 use Rattle.std.proofs.lemmas.Bool.{and_parts, and_from, cases_Bool, cond-true, cond-false}
-use Rattle.std.proofs.lemmas.Slice.Eq.{bytes_eq-Decides}
-use Rattle.title_land.specs.declared.grid.Grid.{Grid}
-use Rattle.title_land.specs.declared.node.Node.{Node}
+use Rattle.title_land.specs.{declared.{grid.Grid.{Grid}, node.Node.{Node}, survey.Section.{Section}, tract.Land.{Land}}, Depth.{depth}}
+use Rattle.title_land.specs.{Grids.{has_some, IsGrid}, Lands.{cover_of, land_of, IsLand}, Survey.{same_flag, same_section}}
+use Rattle.title_land.specs.{Texts.{node_text}, Laws.{LandSharing.{equal_tests}, NodeLands.{is_grid-grid_of}, SameLand.{same_section-is}}}
 use Rattle.title_land.specs.declared.node.Node.TheVariants as node
-use Rattle.title_land.specs.declared.survey.Section.{Section}
-use Rattle.title_land.specs.declared.tract.Land.{Land}
 use Rattle.title_land.specs.declared.tract.Land.TheVariants as land
-use Rattle.title_land.specs.Depth.{depth}
-use Rattle.title_land.specs.Grids.{has_some, IsGrid}
-use Rattle.title_land.specs.Lands.{cover_of, land_of, IsLand}
-use Rattle.title_land.specs.Survey.{same_flag, same_section}
-use Rattle.title_land.specs.Texts.{node_text}
-use Rattle.title_land.specs.Laws.LandSharing.{equal_tests}
-use Rattle.title_land.specs.Laws.NodeLands.{is_grid-grid_of}
-use Rattle.title_land.specs.Laws.SameLand.{same_section-is}
-use Rattle.title_aliquot.specs.declared.fault.DescFault.{DescFault}
-use Rattle.title_aliquot.specs.TextLaws.{ReadsBack}
+use Rattle.title_aliquot.specs.{declared.fault.DescFault.{DescFault}, TextLaws.{ReadsBack}}
 use Rattle.title_plan.specs.Lands.{land_in, LandsAreRead}
-use Rattle.title_spelling.specs.Cells.{cells_in, if_spelled, marked_in, spelled_cells}
+use Rattle.title_spelling.specs.{Cells.{cells_in, if_spelled, marked_in, spelled_cells}, Lands.{union_or_cells, union_text}}
 use Rattle.title_spelling.specs.Lands.{is_part, kept_land_in, kept_or, longest_union, part_spelling, same_cells, same_row}
-use Rattle.title_spelling.specs.Lands.{union_or_cells, union_text}
 use Rattle.title_spelling.specs.Laws.{CellsAreNoDescription, CellsAreRead, CellsArePartsAlone, DescriptionsStay, SpellingsReadBack}
-use Rattle.title_spelling.proofs.CellsRead.{cells_read, cells_unsaid, node_read}
-use Rattle.title_spelling.proofs.SoleNodes.{sole_in_tree, sole_node}
+use Rattle.title_spelling.proofs.{CellsRead.{cells_read, cells_unsaid, node_read}, SoleNodes.{sole_in_tree, sole_node}}
 
 -- ---- equal sets
 

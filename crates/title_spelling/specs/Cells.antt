@@ -1,18 +1,11 @@
 -- The cells form of a part of a section: the section's text, ` cells`, and for each row from the north a word of four
 -- hexadecimal digits, a bit a cell. The west cell of four has the highest bit.
 use Rattle.std.specs.Prelude.{ℕ, ◌+◌, ◌*◌, ◌-◌, ◌/◌, ◌%◌, ◌==◌, ◌&&◌, cond, nat_lt, Bool, List, [], ◌∷◌, ◌++◌, codes, length, take, drop}
-use Rattle.std.specs.Prelude.{Option, Some, None, Result, Ok, slice_index_or}
-use Rattle.std.specs.Char.{digit_char}
-use Rattle.std.specs.Int.{bit_at}
-use Rattle.std.specs.List.{flat_map}
+use Rattle.std.specs.{Prelude.{Option, Some, None, Result, Ok, slice_index_or}, Char.{digit_char}, Int.{bit_at}, List.{flat_map}}
 use Rattle.std.specs.Str.{bytes_eq}
-use Rattle.title_land.specs.declared.grid.Grid.{Grid}
-use Rattle.title_land.specs.declared.survey.Section.{Section}
-use Rattle.title_land.specs.declared.tract.Land.{Land}
-use Rattle.title_land.specs.declared.tract.Land.TheVariants as land
-use Rattle.title_land.specs.Depth.{depth}
+use Rattle.title_land.specs.{declared.{grid.Grid.{Grid}, survey.Section.{Section}, tract.Land.{Land}}, Depth.{depth}, Texts.{section_text}}
 use Rattle.title_land.specs.Grids.{grid_has, grid_of, has_some, indices}
-use Rattle.title_land.specs.Texts.{section_text}
+use Rattle.title_land.specs.declared.tract.Land.TheVariants as land
 use Rattle.title_aliquot.specs.declared.fault.DescFault.{DescFault}
 use Rattle.title_plan.specs.Lands.{land_in}
 

@@ -1,17 +1,11 @@
 -- What the text of a plant's file says of land, and how a land is spelled there.
 use Rattle.std.specs.Prelude.{ℕ, ◌&&◌, cond, nat_le, Bool, true, false, List, [], ◌∷◌, ◌++◌, codes, length, Option, Some, None, Result, Ok}
 use Rattle.std.specs.List.{join_by}
-use Rattle.title_land.specs.declared.grid.Grid.{Grid}
-use Rattle.title_land.specs.declared.node.Node.{Node}
-use Rattle.title_land.specs.declared.node.Node.TheVariants as node
-use Rattle.title_land.specs.declared.survey.Section.{Section}
-use Rattle.title_land.specs.declared.tract.Land.{Land}
-use Rattle.title_land.specs.declared.tract.Land.TheVariants as land
-use Rattle.title_land.specs.Depth.{depth}
-use Rattle.title_land.specs.Grids.{has_some}
-use Rattle.title_land.specs.Lands.{cover_of}
-use Rattle.title_land.specs.Survey.{same_flag, same_section}
+use Rattle.title_land.specs.{declared.{grid.Grid.{Grid}, node.Node.{Node}, survey.Section.{Section}, tract.Land.{Land}}, Depth.{depth}}
+use Rattle.title_land.specs.{Grids.{has_some}, Lands.{cover_of}, Survey.{same_flag, same_section}}
 use Rattle.title_land.specs.Texts.{node_text, path_text, section_text}
+use Rattle.title_land.specs.declared.node.Node.TheVariants as node
+use Rattle.title_land.specs.declared.tract.Land.TheVariants as land
 use Rattle.title_aliquot.specs.declared.fault.DescFault.{DescFault}
 use Rattle.title_spelling.specs.Cells.{cells_in, spelled_cells}
 use Rattle.title_plan.specs.Lands.{land_in}

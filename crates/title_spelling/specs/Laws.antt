@@ -1,31 +1,19 @@
 -- Laws of what is spelled.
 use Rattle.std.specs.Prelude.{◌≡◌, ◌↔◌, ◌==◌, ◌||◌, ◌++◌, ◌∷◌, [], ℕ, nat_le, Bool, true, false, List, map, codes, Some, Ok, Err}
 use Rattle.std.specs.List.{All, list_all}
-use Rattle.title_instrument.specs.declared.instrument.Instrument.{Instrument}
-use Rattle.title_instrument.specs.Parties.{between, grantee_of, grantor_of}
-use Rattle.title_land.specs.declared.grid.Grid.{Grid}
-use Rattle.title_land.specs.declared.survey.Section.{Section}
-use Rattle.title_land.specs.declared.survey.Township.{Township}
-use Rattle.title_land.specs.declared.tract.Land.{Land}
+use Rattle.title_instrument.specs.{declared.instrument.Instrument.{Instrument}, Parties.{between, grantee_of, grantor_of}}
+use Rattle.title_land.specs.{declared.{grid.Grid.{Grid}, survey.{Section.{Section}, Township.{Township}}, tract.Land.{Land}}, Depth.{depth}}
+use Rattle.title_land.specs.{Grids.{has_some, IsGrid}, Lands.{IsLand}, Texts.{township_text}}
 use Rattle.title_land.specs.declared.tract.Land.TheVariants as land
-use Rattle.title_land.specs.Depth.{depth}
-use Rattle.title_land.specs.Grids.{has_some, IsGrid}
-use Rattle.title_land.specs.Lands.{IsLand}
-use Rattle.title_land.specs.Texts.{township_text}
 use Rattle.title_aliquot.specs.declared.fault.DescFault.{DescFault}
 use Rattle.title_chain.specs.declared.ask.Terms.{Terms}
 use Rattle.title_plan.specs.declared.row.Act.TheVariants as act
 use Rattle.title_plan.specs.declared.row.Row.TheVariants as said
-use Rattle.title_plan.specs.Fields.{is_name}
-use Rattle.title_plan.specs.Lands.{land_in}
+use Rattle.title_plan.specs.{Fields.{is_name}, Lands.{land_in}, Plans.{numbered, rows_in}, Rows.{row_in}}
 use Rattle.title_page.specs.Rows.{row, rows_text}
-use Rattle.title_plan.specs.Plans.{numbered, rows_in}
-use Rattle.title_plan.specs.Rows.{row_in}
-use Rattle.title_spelling.specs.Cells.{cells_in, spelled_cells}
-use Rattle.title_spelling.specs.Lands.{has_a_cell, kept_land_in, spelling}
+use Rattle.title_spelling.specs.{Cells.{cells_in, spelled_cells}, Lands.{has_a_cell, kept_land_in, spelling}, Rows.{PlantRow}}
 use Rattle.title_spelling.specs.Posts.{name_of, post_fields, IsExaminer, IsPost}
 use Rattle.title_spelling.specs.Rows.{are_names, begin_fields, commit_fields, fields_of, party_fields, township_fields, End, IsPlantRow}
-use Rattle.title_spelling.specs.Rows.{PlantRow}
 
 -- a land that has a cell, and whose set is as large as the grid, is spelled as a text that says it
 abbrev pub SpellingsReadBack : Type 0

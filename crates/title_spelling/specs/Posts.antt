@@ -1,19 +1,13 @@
 -- The fields of a post's row in a plant's file.
 use Rattle.std.specs.Prelude.{ℕ, ◌≤◌, ◌<◌, ◌≡◌, true, false, List, [], ◌∷◌, ◌++◌, codes, length, Option, Some, None, slice_index_or}
 use Rattle.std.specs.Fmt.{decimal}
-use Rattle.title_share.specs.Rows.{whole_units}
-use Rattle.title_share.specs.Share.{share_text}
-use Rattle.title_instrument.specs.declared.instrument.Instrument.{Instrument}
+use Rattle.title_share.specs.{Rows.{whole_units}, Share.{share_text}}
+use Rattle.title_instrument.specs.declared.{instrument.Instrument.{Instrument}, parts.Estate.{Estate, TheVariants.{S, O, M}}}
+use Rattle.title_instrument.specs.{declared.parts.Quantum.{Quantum}, Estates.{estates_text, letter_of, names_none}}
+use Rattle.title_instrument.specs.{Kinds.{kind_of, kind_word}, Parties.{estates_of, grantee_of, grantor_of}}
 use Rattle.title_instrument.specs.declared.instrument.Instrument.TheVariants as i
-use Rattle.title_instrument.specs.declared.parts.Estate.{Estate}
-use Rattle.title_instrument.specs.declared.parts.Estate.TheVariants.{S, O, M}
-use Rattle.title_instrument.specs.declared.parts.Quantum.{Quantum}
 use Rattle.title_instrument.specs.declared.parts.Quantum.TheVariants as quantum
-use Rattle.title_instrument.specs.Estates.{estates_text, letter_of, names_none}
-use Rattle.title_instrument.specs.Kinds.{kind_of, kind_word}
-use Rattle.title_instrument.specs.Parties.{estates_of, grantee_of, grantor_of}
-use Rattle.title_land.specs.Depth.{depth}
-use Rattle.title_land.specs.Lands.{IsLand}
+use Rattle.title_land.specs.{Depth.{depth}, Lands.{IsLand}}
 use Rattle.title_chain.specs.declared.ask.Terms.{Terms}
 use Rattle.title_plan.specs.Limits.{last_document, last_examiner}
 use Rattle.title_spelling.specs.Lands.{has_a_cell, spelling}

@@ -1,10 +1,7 @@
 -- The rows of a plant's file.
-use Rattle.std.specs.Prelude.{ℕ, ◌<◌, ◌^◌, ◌≡◌, ◌&&◌, not, Bool, true, List, [], ◌∷◌, codes}
-use Rattle.std.specs.Fmt.{decimal}
-use Rattle.std.specs.List.{list_all, list_any}
+use Rattle.std.specs.{Prelude.{ℕ, ◌<◌, ◌^◌, ◌≡◌, ◌&&◌, not, Bool, true, List, [], ◌∷◌, codes}, Fmt.{decimal}, List.{list_all, list_any}}
 use Rattle.std.specs.Str.{bytes_eq}
-use Rattle.title_land.specs.declared.survey.Township.{Township as SurveyTownship}
-use Rattle.title_land.specs.Texts.{township_text}
+use Rattle.title_land.specs.{declared.survey.Township.{Township as SurveyTownship}, Texts.{township_text}}
 use Rattle.title_chain.specs.declared.ask.Terms.{Terms}
 use Rattle.title_plan.specs.Fields.{is_name}
 use Rattle.title_spelling.specs.Posts.{post_fields, IsExaminer, IsPost}

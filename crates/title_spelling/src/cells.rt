@@ -1,9 +1,7 @@
 //! Parts of sections in the cells form: the section's text, ` cells`, and a word of four hexadecimal digits for each row.
 
-ghost use Rattle.std.specs.Prelude.{◌≡◌, ◌≤◌, ◌<◌, ◌++◌, ◌∷◌, [], Some, IfOk, OnOk, length};
-ghost use Rattle.std.specs.String.{string_bytes};
-ghost use Rattle.title_land.specs.Depth.{depth};
-ghost use Rattle.title_land.specs.Grids.{grid_has, grid_of};
+ghost use Rattle.std.specs.{Prelude.{◌≡◌, ◌≤◌, ◌<◌, ◌++◌, ◌∷◌, [], Some, IfOk, OnOk, length}, String.{string_bytes}};
+ghost use Rattle.title_land.specs.{Depth.{depth}, Grids.{grid_has, grid_of}};
 ghost use Rattle.title_plan.specs.Lands.{land_in};
 ghost use Rattle.title_spelling.specs.Cells.{cells_in, digit_at, if_spelled, is_marked, row_text, section_of, spelled_cells, value_of};
 

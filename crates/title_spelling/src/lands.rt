@@ -1,7 +1,6 @@
 //! Texts of land in a plant's file.
 
-ghost use Rattle.std.specs.Prelude.{◌≡◌, ◌++◌, IfOk, OnOk};
-ghost use Rattle.std.specs.String.{string_bytes};
+ghost use Rattle.std.specs.{Prelude.{◌≡◌, ◌++◌, IfOk, OnOk}, String.{string_bytes}};
 ghost use Rattle.title_spelling.specs.Lands.{is_part, kept_land_in, part_spelling, path_of, same_cells, spelling, union_text};
 
 use crate::cells::{read_cells, spell_cells};

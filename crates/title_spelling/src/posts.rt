@@ -1,7 +1,6 @@
 //! The fields of posts.
 
-ghost use Rattle.std.specs.Prelude.{◌≡◌, ◌++◌, IfOk, OnOk};
-ghost use Rattle.std.specs.String.{string_bytes};
+ghost use Rattle.std.specs.{Prelude.{◌≡◌, ◌++◌, IfOk, OnOk}, String.{string_bytes}};
 ghost use Rattle.title_instrument.specs.Kinds.{kind_of, kind_word};
 ghost use Rattle.title_spelling.specs.Posts.{and_item, quantum_text, reserve_text};
 

@@ -1,7 +1,6 @@
 //! Rows of a plant's file. Each function adds one row; `Err` is Memory, and nothing was added then.
 
-ghost use Rattle.std.specs.Prelude.{◌≡◌, ◌<◌, ◌++◌, ◌∷◌, [], IfOk, OnErr, OnOk, length, map};
-ghost use Rattle.std.specs.String.{string_bytes};
+ghost use Rattle.std.specs.{Prelude.{◌≡◌, ◌<◌, ◌++◌, ◌∷◌, [], IfOk, OnErr, OnOk, length, map}, String.{string_bytes}};
 ghost use Rattle.csv.specs.Writing.{escaped, field_text, next_sep};
 ghost use Rattle.title_instrument.specs.Parties.{grantee_of, grantor_of};
 ghost use Rattle.title_page.specs.Rows.{row, row_writer};

@@ -1,28 +1,17 @@
 -- Records served again: what a call of a replay leaves, from what stood before it.
 use Rattle.std.proofs.Common.{◌≡◌, ◌↔◌, ℕ, ◌+◌, ◌-◌, ◌<◌, Bool, true, false, List, [], ◌∷◌, ◌++◌, map, reverse, take, drop, length}
-use Rattle.std.proofs.Common.{get_or, refl, sym, ap, subst, ◌∙◌, arith, Some}
-use Rattle.std.proofs.lemmas.Bool.{false≢true}
+use Rattle.std.proofs.{Common.{get_or, refl, sym, ap, subst, ◌∙◌, arith, Some}, lemmas.Bool.{false≢true}}
 use Rattle.std.proofs.lemmas.List.{append_assoc, map-append, map_more, reverse-append, take-append-drop, take-map, length-map}
 use Rattle.title_land.specs.Depth.{depth}
-use Rattle.title_chain.specs.declared.ask.Ask.{Ask}
+use Rattle.title_chain.specs.declared.{ask.{Ask.{Ask}, Posting.{Posting}, Step.{Step}}, record.Record.{Record}}
 use Rattle.title_chain.specs.declared.ask.Ask.TheVariants as ask
 use Rattle.title_chain.specs.declared.ask.Answer.TheVariants as answer
-use Rattle.title_chain.specs.declared.ask.Posting.{Posting}
-use Rattle.title_chain.specs.declared.ask.Step.{Step}
-use Rattle.title_chain.specs.declared.record.Record.{Record}
-use Rattle.title_trace.specs.declared.call.Call.{Call}
-use Rattle.title_trace.specs.declared.call.Request.{Request}
-use Rattle.title_trace.specs.declared.call.Request.TheVariants as request
-use Rattle.title_trace.specs.declared.call.Reply.{Reply}
-use Rattle.title_trace.specs.declared.call.Reply.TheVariants as reply
-use Rattle.title_trace.specs.Trace.{is_open}
+use Rattle.title_trace.specs.{declared.call.{Call.{Call}, Request.{Request}, Reply.{Reply}}, Trace.{is_open}, Laws.OneReply.{one_due_reply}}
 use Rattle.title_trace.specs.Due.{Setting, DueReply, IsDue}
-use Rattle.title_trace.specs.Laws.OneReply.{one_due_reply}
-use Rattle.title_desk.specs.Told.{Books, Added, Told}
-use Rattle.title_desk.specs.Singles.{AddedSingle, IsIdle, ToldSingle, after_single, last_call}
-use Rattle.title_standing.specs.declared.deeds.Deeds.{Deeds}
-use Rattle.title_standing.specs.Standing.{asked_by, replayed}
-use Rattle.title_standing.specs.Records.{posted_step, record_of}
+use Rattle.title_trace.specs.declared.call.Request.TheVariants as request
+use Rattle.title_trace.specs.declared.call.Reply.TheVariants as reply
+use Rattle.title_desk.specs.{Told.{Books, Added, Told}, Singles.{AddedSingle, IsIdle, ToldSingle, after_single, last_call}}
+use Rattle.title_standing.specs.{declared.deeds.Deeds.{Deeds}, Standing.{asked_by, replayed}, Records.{posted_step, record_of}}
 use Rattle.title_standing.specs.Replays.{after_record, begun, GoesOn, Serves, ToldReplay}
 use Rattle.title_standing.proofs.Recalled.{open_still, replayed_are_committed, replayed_next}
 

@@ -1,31 +1,18 @@
 -- The calls that serve serial records are due.
 use Rattle.std.proofs.Common.{◌≡◌, ℕ, suc, ◌≤◌, Bool, true, false, cond, List, [], ◌∷◌, map, reverse, length, refl, sym, ap, ap₂}
-use Rattle.std.proofs.Common.{subst, ◌∙◌, arith, eqb, ne_eqb, Option, None}
-use Rattle.std.proofs.lemmas.Bool.{lt-leb}
-use Rattle.std.specs.Prelude.{nat_le}
+use Rattle.std.{proofs.{Common.{subst, ◌∙◌, arith, eqb, ne_eqb, Option, None}, lemmas.Bool.{lt-leb}}, specs.Prelude.{nat_le}}
 use Rattle.std.proofs.lemmas.List.{length-reverse}
-use Rattle.title_land.specs.declared.survey.Township.{Township}
-use Rattle.title_land.specs.Lands.{is_in_plant}
+use Rattle.title_land.specs.{declared.survey.Township.{Township}, Lands.{is_in_plant}}
 use Rattle.title_instrument.specs.declared.parts.Cause.{Cause}
-use Rattle.title_chain.specs.declared.ask.Ask.{Ask}
-use Rattle.title_chain.specs.declared.ask.Step.{Step}
-use Rattle.title_chain.specs.declared.record.Record.{Record}
-use Rattle.title_chain.specs.Asks.{tract_of, cause_of}
-use Rattle.title_chain.specs.Alone.{alone, most_parties, Plays}
-use Rattle.title_chain.specs.Overlaps.{overlaps}
-use Rattle.title_trace.specs.declared.call.Call.{Call}
-use Rattle.title_trace.specs.declared.call.Reply.{Reply}
+use Rattle.title_chain.specs.{declared.{ask.{Ask.{Ask}, Step.{Step}}, record.Record.{Record}}, Asks.{tract_of, cause_of}}
+use Rattle.title_chain.specs.{Alone.{alone, most_parties, Plays}, Overlaps.{overlaps}}
+use Rattle.title_trace.specs.{declared.call.{Call.{Call}, Reply.{Reply}}, Trace.{is_open, open_steps, committed}}
+use Rattle.title_trace.specs.{Due.{Setting, most_steps, InTheWay, DueStep, IsDue}, Laws.Law.{committed_serial}}
 use Rattle.title_trace.specs.declared.call.Reply.TheVariants as reply
 use Rattle.title_trace.specs.declared.denial.Denial.TheVariants as denial
-use Rattle.title_trace.specs.Trace.{is_open, open_steps, committed}
-use Rattle.title_trace.specs.Due.{Setting, most_steps, InTheWay, DueStep, IsDue}
-use Rattle.title_trace.specs.Laws.Law.{committed_serial}
-use Rattle.title_standing.specs.Standing.{asked_by, kept, replayed}
-use Rattle.title_standing.specs.StandingLaws.{CommittedAreServed, SerialAreServed, widest}
-use Rattle.title_standing.specs.Replays.{begun}
-use Rattle.title_standing.proofs.KeptRecords.{serial_kept}
+use Rattle.title_standing.specs.{Standing.{asked_by, kept, replayed}, StandingLaws.{CommittedAreServed, SerialAreServed, widest}}
+use Rattle.title_standing.{specs.Replays.{begun}, proofs.{KeptRecords.{serial_kept}, ShortRecords.{committed_are_short, kept_are_short}}}
 use Rattle.title_standing.proofs.Recalled.{done_before, open_still, own_steps, replayed_are_committed}
-use Rattle.title_standing.proofs.ShortRecords.{committed_are_short, kept_are_short}
 
 -- nobody has a step
 abbrev HaveNone : List Call → Type 0

@@ -1,30 +1,17 @@
 -- Reads and refused posts change neither plant nor chain, so they can be left out of serial records.
 use Rattle.std.proofs.Common.{◌≡◌, ℕ, suc, Bool, true, false, cond, List, [], ◌∷◌, ◌++◌, map, reverse, length, refl, sym, ap, ap₂}
-use Rattle.std.proofs.Common.{subst, ◌∙◌, Option, Some, None}
-use Rattle.std.specs.Prelude.{filter}
-use Rattle.std.proofs.Math.Path.{fun_ext}
-use Rattle.std.proofs.lemmas.List.{append-nil, reverse-append, length-map}
-use Rattle.std.proofs.lemmas.List.Elements.{filter-append}
-use Rattle.title_land.specs.declared.survey.Cell.{Cell}
-use Rattle.title_land.specs.declared.survey.Township.{Township}
-use Rattle.title_land.specs.declared.tract.Land.{Land}
+use Rattle.std.{proofs.{Common.{subst, ◌∙◌, Option, Some, None}, Math.Path.{fun_ext}}, specs.Prelude.{filter}}
+use Rattle.std.proofs.lemmas.List.{append-nil, reverse-append, length-map, Elements.{filter-append}}
+use Rattle.title_land.specs.declared.{survey.{Cell.{Cell}, Township.{Township}}, tract.Land.{Land}}
 use Rattle.title_store.specs.Plants.{Plant, Refusal, refused_in}
-use Rattle.title_chain.specs.declared.ask.Ask.{Ask}
+use Rattle.title_chain.specs.declared.ask.{Ask.{Ask}, Answer.{Answer}, Entry.{Entry}, Posting.{Posting}, Step.{Step}}
+use Rattle.title_chain.specs.{declared.record.Record.{Record}, Asks.{tract_of, effect, answer_to, post_answer}}
+use Rattle.title_chain.specs.{Alone.{after_steps, plant_after, Plays, IsSerial}, StepEntries.{entry_of, step_entries}}
+use Rattle.title_chain.specs.{Chains.{record_entries, chain_of}, Laws.AskLaws.{effect_read, effect_refused, answer_post}}
 use Rattle.title_chain.specs.declared.ask.Ask.TheVariants as ask
-use Rattle.title_chain.specs.declared.ask.Answer.{Answer}
 use Rattle.title_chain.specs.declared.ask.Answer.TheVariants as answer
-use Rattle.title_chain.specs.declared.ask.Entry.{Entry}
-use Rattle.title_chain.specs.declared.ask.Posting.{Posting}
-use Rattle.title_chain.specs.declared.ask.Step.{Step}
-use Rattle.title_chain.specs.declared.record.Record.{Record}
-use Rattle.title_chain.specs.Asks.{tract_of, effect, answer_to, post_answer}
-use Rattle.title_chain.specs.Alone.{after_steps, plant_after, Plays, IsSerial}
-use Rattle.title_chain.specs.StepEntries.{entry_of, step_entries}
-use Rattle.title_chain.specs.Chains.{record_entries, chain_of}
-use Rattle.title_chain.specs.Laws.AskLaws.{effect_read, effect_refused, answer_post}
 use Rattle.title_desk.specs.Images.{is_posted}
-use Rattle.title_standing.specs.Standing.{kept}
-use Rattle.title_standing.specs.StandingLaws.{KeptAreSerial}
+use Rattle.title_standing.specs.{Standing.{kept}, StandingLaws.{KeptAreSerial}}
 
 -- the step was posted
 abbrev was_posted : Step → Bool

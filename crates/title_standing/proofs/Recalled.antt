@@ -1,18 +1,12 @@
 -- What calls that serve records leave behind.
 use Rattle.std.proofs.Common.{◌≡◌, ℕ, suc, Bool, true, false, cond, List, [], ◌∷◌, reverse, length, refl, sym, ap, ap₂, subst, ◌∙◌}
-use Rattle.std.proofs.Common.{eqb, eq-eqb}
-use Rattle.std.proofs.lemmas.List.{reverse-reverse}
-use Rattle.title_chain.specs.declared.ask.Step.{Step}
-use Rattle.title_chain.specs.declared.record.Record.{Record}
-use Rattle.title_chain.specs.Overlaps.{record_of}
-use Rattle.title_trace.specs.declared.call.Call.{Call}
+use Rattle.std.proofs.{Common.{eqb, eq-eqb}, lemmas.List.{reverse-reverse}}
+use Rattle.title_chain.specs.{declared.{ask.Step.{Step}, record.Record.{Record}}, Overlaps.{record_of}}
+use Rattle.title_trace.specs.{declared.call.Call.{Call}, Trace.{is_open, open_steps, committed}}
 use Rattle.title_trace.specs.declared.call.Request.TheVariants as request
 use Rattle.title_trace.specs.declared.call.Reply.TheVariants as reply
-use Rattle.title_trace.specs.Trace.{is_open, open_steps, committed}
 use Rattle.title_desk.specs.Singles.{IsIdle}
-use Rattle.title_standing.specs.Standing.{asked_by, replayed}
-use Rattle.title_standing.specs.StandingLaws.{ReplayedAreCommitted}
-use Rattle.title_standing.specs.Replays.{begun, after_record}
+use Rattle.title_standing.specs.{Standing.{asked_by, replayed}, StandingLaws.{ReplayedAreCommitted}, Replays.{begun, after_record}}
 
 is_self : (e : ℕ) → eqb e e ≡ true
 is_self e = eq-eqb e e refl

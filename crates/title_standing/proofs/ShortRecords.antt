@@ -1,25 +1,15 @@
 -- In a due trace no transaction has more steps than it may have, by induction on the trace.
 use Rattle.std.proofs.Common.{◌≡◌, ℕ, suc, ◌<◌, ◌≤◌, Bool, true, false, cond, List, [], ◌∷◌, map, length, sym, subst, arith, eqb, leb-false}
-use Rattle.std.proofs.Common.{Option, Some, None, refl}
-use Rattle.std.specs.List.{AllByRecursion}
-use Rattle.std.specs.Prelude.{nat_le}
-use Rattle.std.proofs.lemmas.Bool.{cond_both, eqb-true}
-use Rattle.std.proofs.lemmas.List.{length-reverse}
-use Rattle.std.proofs.lemmas.List.Sums.{count_by-le-length, length-filter}
+use Rattle.std.{proofs.{Common.{Option, Some, None, refl}, lemmas.List.{length-reverse}}, specs.{List.{AllByRecursion}, Prelude.{nat_le}}}
+use Rattle.std.proofs.lemmas.{Bool.{cond_both, eqb-true}, List.Sums.{count_by-le-length, length-filter}}
 use Rattle.title_instrument.specs.declared.parts.Cause.{Cause}
-use Rattle.title_chain.specs.declared.ask.Ask.{Ask}
-use Rattle.title_chain.specs.declared.ask.Step.{Step}
-use Rattle.title_chain.specs.declared.record.Record.{Record}
-use Rattle.title_chain.specs.Alone.{alone}
-use Rattle.title_chain.specs.Overlaps.{record_of}
-use Rattle.title_trace.specs.declared.call.Call.{Call}
-use Rattle.title_trace.specs.declared.call.Request.{Request}
-use Rattle.title_trace.specs.declared.call.Request.TheVariants as request
-use Rattle.title_trace.specs.declared.call.Reply.{Reply}
-use Rattle.title_trace.specs.declared.call.Reply.TheVariants as reply
-use Rattle.title_trace.specs.declared.denial.Denial.TheVariants as denial
+use Rattle.title_chain.specs.{declared.{ask.{Ask.{Ask}, Step.{Step}}, record.Record.{Record}}, Alone.{alone}, Overlaps.{record_of}}
+use Rattle.title_trace.specs.declared.call.{Call.{Call}, Request.{Request}, Reply.{Reply}}
 use Rattle.title_trace.specs.Trace.{examiner_of, is_open, steps_by, open_steps, committed_by, committed}
 use Rattle.title_trace.specs.Due.{Setting, most_steps, reply_past, DueStep, DueReply, IsDue}
+use Rattle.title_trace.specs.declared.call.Request.TheVariants as request
+use Rattle.title_trace.specs.declared.call.Reply.TheVariants as reply
+use Rattle.title_trace.specs.declared.denial.Denial.TheVariants as denial
 use Rattle.title_desk.specs.Images.{is_posted}
 use Rattle.title_standing.specs.Standing.{kept}
 

@@ -1,10 +1,8 @@
 -- Deeds as a record.
 use Rattle.std.specs.Prelude.{map}
-use Rattle.title_chain.specs.declared.ask.Posting.{Posting}
+use Rattle.title_chain.specs.declared.{ask.{Posting.{Posting}, Step.{Step}}, record.Record.{Record}}
 use Rattle.title_chain.specs.declared.ask.Ask.TheVariants as ask
 use Rattle.title_chain.specs.declared.ask.Answer.TheVariants as answer
-use Rattle.title_chain.specs.declared.ask.Step.{Step}
-use Rattle.title_chain.specs.declared.record.Record.{Record}
 use Rattle.title_standing.specs.declared.deeds.Deeds.{Deeds}
 
 -- a step that was posted

@@ -2,11 +2,9 @@
 use Rattle.std.specs.Prelude.{◌≡◌, ◌≤◌, ◌-◌, ℕ, suc, Bool, true, false, List, ◌∷◌, ◌++◌, length, reverse, take, Option, Some, None}
 use Rattle.title_land.specs.Depth.{depth}
 use Rattle.title_chain.specs.declared.record.Record.{Record}
-use Rattle.title_trace.specs.declared.call.Call.{Call}
+use Rattle.title_trace.specs.{declared.call.Call.{Call}, Trace.{committed}, Due.{Setting, IsDue}}
 use Rattle.title_trace.specs.declared.call.Request.TheVariants as request
 use Rattle.title_trace.specs.declared.call.Reply.TheVariants as reply
-use Rattle.title_trace.specs.Trace.{committed}
-use Rattle.title_trace.specs.Due.{Setting, IsDue}
 use Rattle.title_standing.specs.Standing.{asked_by, replayed}
 
 -- the trace after an examiner has begun

@@ -1,8 +1,7 @@
 -- What is kept of records, and the calls that serve records again. Lists of records, of calls and of steps have the newest first; a
 -- record has its steps the oldest first.
 use Rattle.std.specs.Prelude.{ℕ, suc, List, [], ◌∷◌, filter, length, reverse}
-use Rattle.title_chain.specs.declared.ask.Step.{Step}
-use Rattle.title_chain.specs.declared.record.Record.{Record}
+use Rattle.title_chain.specs.declared.{ask.Step.{Step}, record.Record.{Record}}
 use Rattle.title_trace.specs.declared.call.Call.{Call}
 use Rattle.title_trace.specs.declared.call.Request.TheVariants as request
 use Rattle.title_trace.specs.declared.call.Reply.TheVariants as reply

@@ -1,16 +1,9 @@
 -- What is kept of records is serial where they are, calls that serve records commit them, and what was committed can be served again.
 -- Lists of records and of calls have the newest first.
-use Rattle.std.specs.Prelude.{◌≡◌, ◌≤◌, ℕ, List, map, length}
-use Rattle.std.specs.List.{AllByRecursion}
-use Rattle.title_land.specs.declared.survey.Cell.{Cell}
-use Rattle.title_land.specs.declared.survey.Township.{Township}
-use Rattle.title_land.specs.declared.tract.Land.{Land}
-use Rattle.title_chain.specs.declared.record.Record.{Record}
-use Rattle.title_chain.specs.Alone.{most_parties, plant_after, IsSerial}
-use Rattle.title_chain.specs.Chains.{record_entries}
-use Rattle.title_trace.specs.declared.call.Call.{Call}
-use Rattle.title_trace.specs.Trace.{committed}
-use Rattle.title_trace.specs.Due.{most_steps, IsDue, Setting}
+use Rattle.std.specs.{Prelude.{◌≡◌, ◌≤◌, ℕ, List, map, length}, List.{AllByRecursion}}
+use Rattle.title_land.specs.declared.{survey.{Cell.{Cell}, Township.{Township}}, tract.Land.{Land}}
+use Rattle.title_chain.specs.{declared.record.Record.{Record}, Alone.{most_parties, plant_after, IsSerial}, Chains.{record_entries}}
+use Rattle.title_trace.specs.{declared.call.Call.{Call}, Trace.{committed}, Due.{most_steps, IsDue, Setting}}
 use Rattle.title_desk.specs.Singles.{IsIdle}
 use Rattle.title_standing.specs.Standing.{kept, replayed}
 

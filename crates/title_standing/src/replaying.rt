@@ -2,11 +2,9 @@
 
 ghost use Rattle.std.specs.Prelude.{◌≡◌, ◌↔◌, ◌∷◌, [], IfOk, OnOk, false, map, reverse, true};
 ghost use Rattle.title_chain.specs.declared.ask.Answer.TheVariants.{Posted};
-ghost use Rattle.title_trace.specs.declared.call.Reply.TheVariants.{Answered};
-ghost use Rattle.title_trace.specs.Trace.{is_open};
+ghost use Rattle.title_trace.specs.{declared.call.Reply.TheVariants.{Answered}, Trace.{is_open}};
 ghost use Rattle.title_desk.specs.Singles.{IsIdle};
-ghost use Rattle.title_standing.specs.Standing.{asked_by};
-ghost use Rattle.title_standing.specs.Records.{posted_step, record_of};
+ghost use Rattle.title_standing.specs.{Standing.{asked_by}, Records.{posted_step, record_of}};
 ghost use Rattle.title_standing.specs.Replays.{after_record, begun, ended, Serves, ToldReplay};
 
 use crate::deeds::Deeds;

@@ -1,35 +1,20 @@
 -- The nodes right below a node come in the order of their cells.
 use Rattle.std.proofs.Common.{◌≡◌, ◌⊎◌, ℕ, zero, suc, ◌+◌, ◌<◌, ◌≤◌, Bool, true, false, not, ◌&&◌, ◌||◌, inl, inr, List, [], ◌∷◌, ◌++◌}
-use Rattle.std.proofs.Common.{length, map, refl, sym, ap, subst, ◌∙◌, arith}
-use Rattle.std.specs.Prelude.{reverse, nat_le, nat_lt}
-use Rattle.std.specs.List.{list_any, flat_map}
-use Rattle.std.proofs.lemmas.List.{reverse-append, length-reverse}
+use Rattle.std.{proofs.Common.{length, map, refl, sym, ap, subst, ◌∙◌, arith}, specs.Prelude.{reverse, nat_le, nat_lt}}
+use Rattle.std.{specs.List.{list_any, flat_map}, proofs.lemmas.List.{reverse-append, length-reverse}}
 use Rattle.std.proofs.lemmas.Bool.{and_from, and_parts, or_left, or_right, cases_Bool, both_ways, ltb-true}
-use Rattle.title_land.specs.declared.survey.Township.{Township}
-use Rattle.title_land.specs.declared.survey.Section.{Section}
-use Rattle.title_land.specs.declared.survey.Cell.{Cell}
-use Rattle.title_land.specs.declared.rectangle.Quarter.{Quarter}
-use Rattle.title_land.specs.declared.rectangle.Quarter.TheVariants.{Northeast, Northwest, Southwest, Southeast}
-use Rattle.title_land.specs.declared.node.Node.{Node}
-use Rattle.title_land.specs.declared.node.Node.TheVariants as node
-use Rattle.title_land.specs.declared.node.Within.{Within}
-use Rattle.title_land.specs.Survey.{is_on_grid, same_township, same_section}
-use Rattle.title_land.specs.Rectangles.{holds, quarter_of}
-use Rattle.title_land.specs.Nodes.{square, quarters, node_has}
-use Rattle.title_land.specs.Lands.{is_plant_cell}
+use Rattle.title_land.specs.declared.{survey.{Township.{Township}, Section.{Section}, Cell.{Cell}}, rectangle.Quarter.{Quarter}}
+use Rattle.title_land.specs.declared.{rectangle.Quarter.TheVariants.{Northeast, Northwest, Southwest, Southeast}, node.Node.{Node}}
+use Rattle.title_land.specs.{declared.node.Within.{Within}, Survey.{is_on_grid, same_township, same_section}, Lands.{is_plant_cell}}
+use Rattle.title_land.specs.{Rectangles.{holds, quarter_of}, Nodes.{square, quarters, node_has}, CoverSets.{quarter_before, path_before}}
 use Rattle.title_land.specs.CellLists.{section_if, sections_from, sections_of, section_cells, township_cells, plant_cells, children_of}
-use Rattle.title_land.specs.CoverSets.{quarter_before, path_before}
-use Rattle.title_land.specs.CellOrder.{is_met_before}
+use Rattle.title_land.specs.{CellOrder.{is_met_before}, Laws.{Squares.{inside, quarters_apart}, Members.{In, any_from, any_found}}}
 use Rattle.title_land.specs.Laws.SameLand.{same_township-is, same_township-self, same_section-is, same_section-self}
-use Rattle.title_land.specs.Laws.Squares.{inside, quarters_apart}
-use Rattle.title_land.specs.Laws.Members.{In, any_from, any_found}
-use Rattle.title_land.specs.Laws.CoverOrder.{branch_before}
+use Rattle.title_land.specs.Laws.{CoverOrder.{branch_before}, CellMembers.{township_cells-has, township_cells-in}}
 use Rattle.title_land.specs.Laws.CellMembers.{section_if-in, sections_from-in, sections_of-in, section_cells-has, section_cells-in}
-use Rattle.title_land.specs.Laws.CellMembers.{township_cells-has, township_cells-in}
-use Rattle.title_land.specs.Laws.MetBefore.{Met, not_from, flat_before, flat_at}
-use Rattle.title_land.specs.Laws.CellsInOrder.{met_section, met_plant}
-use Rattle.title_store.specs.Plants.{IsEachOnce}
-use Rattle.title_store.proofs.Turns.{Pairs, pairs_append, pairs_map, pairs_more}
+use Rattle.title_land.specs.Laws.{MetBefore.{Met, not_from, flat_before, flat_at}, CellsInOrder.{met_section, met_plant}}
+use Rattle.title_land.specs.declared.node.Node.TheVariants as node
+use Rattle.title_store.{specs.Plants.{IsEachOnce}, proofs.Turns.{Pairs, pairs_append, pairs_map, pairs_more}}
 
 -- the plant's cells in the first node are listed before those in the second
 abbrev pub Before : ℕ → List Township → Node → Node → Type 0

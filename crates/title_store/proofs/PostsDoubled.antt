@@ -1,33 +1,17 @@
 -- A post on the finer grid: the first of its cells that refuses lies in the cell that refused.
 use Rattle.std.proofs.Common.{◌≡◌, ℕ, suc, ◌+◌, ◌*◌, Bool, false, cond, ◌&&◌, inl, inr, List, [], ◌∷◌, Option, Some, None, is_some}
-use Rattle.std.proofs.Common.{refl, sym, ap, ◌∙◌}
-use Rattle.std.specs.Prelude.{find, unwrap_or}
-use Rattle.std.specs.Option.{option_map}
-use Rattle.std.specs.List.{flat_map, list_any}
-use Rattle.std.proofs.lemmas.Bool.{and_right, cases_Bool}
-use Rattle.std.proofs.Math.Path.{fun_ext}
-use Rattle.title_land.specs.declared.survey.Township.{Township}
-use Rattle.title_land.specs.declared.survey.Cell.{Cell}
-use Rattle.title_land.specs.declared.node.Node.{Node}
-use Rattle.title_land.specs.declared.node.Node.TheVariants as node
-use Rattle.title_land.specs.declared.tract.Land.{Land}
-use Rattle.title_land.specs.Survey.{same_township, is_on_grid}
-use Rattle.title_land.specs.Nodes.{node_has}
-use Rattle.title_land.specs.Lands.{has, cover_of}
-use Rattle.title_land.specs.CellLists.{cells_of}
-use Rattle.title_land.specs.Doubled.{halved, cell_in, four_cells, doubled}
-use Rattle.title_land.specs.Laws.Members.{In}
-use Rattle.title_land.specs.Laws.LandSharing.{cover_in_tree}
-use Rattle.title_land.specs.Laws.CoversDoubled.{cover_doubles}
+use Rattle.std.{proofs.Common.{refl, sym, ap, ◌∙◌}, specs.{Prelude.{find, unwrap_or}, Option.{option_map}, List.{flat_map, list_any}}}
+use Rattle.std.proofs.{lemmas.Bool.{and_right, cases_Bool}, Math.Path.{fun_ext}}
+use Rattle.title_land.specs.{declared.{survey.{Township.{Township}, Cell.{Cell}}, node.Node.{Node}, tract.Land.{Land}}, Nodes.{node_has}}
+use Rattle.title_land.specs.{Survey.{same_township, is_on_grid}, Lands.{has, cover_of}, CellLists.{cells_of}, Laws.Members.{In}}
+use Rattle.title_land.specs.{Doubled.{halved, cell_in, four_cells, doubled}, Laws.LandSharing.{cover_in_tree}}
+use Rattle.title_land.specs.Laws.{CoversDoubled.{cover_doubles}, ListsDoubled.{cells_double}}
 use Rattle.title_land.specs.Laws.CellsDoubled.{four_halved, grid_double, doubled_has_the_cells, nodes_have_the_cells}
-use Rattle.title_land.specs.Laws.ListsDoubled.{cells_double}
-use Rattle.title_instrument.specs.declared.instrument.Instrument.{Instrument}
-use Rattle.title_instrument.specs.declared.owners.Effect.{Effect}
-use Rattle.title_instrument.specs.declared.owners.Effect.TheVariants.{Done, Refused}
+use Rattle.title_land.specs.declared.node.Node.TheVariants as node
+use Rattle.title_instrument.specs.declared.{instrument.Instrument.{Instrument}, owners.Effect.{Effect, TheVariants.{Done, Refused}}}
 use Rattle.title_instrument.specs.Effect.{cell_effect}
 use Rattle.title_store.specs.Plants.{Plant, Failing, is_cell_of, failing_or, first_failing, node_of, refusal_of, refused_in, done_or}
-use Rattle.title_store.specs.Plants.{plant_effect}
-use Rattle.title_store.specs.DepthLaws.{finer, RefusedDoubles, EffectDoubles}
+use Rattle.title_store.specs.{Plants.{plant_effect}, DepthLaws.{finer, RefusedDoubles, EffectDoubles}}
 
 -- the first of a cell's four
 abbrev first_of_four : Cell → Cell

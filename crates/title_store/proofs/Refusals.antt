@@ -1,31 +1,16 @@
 -- A refusal is that of the first failing cell, at the node of the cover in which the cell lies.
-use Rattle.std.proofs.Common.{◌≡◌, ℕ, true, not, ◌||◌, inl, inr, List, [], ◌∷◌}
-use Rattle.std.proofs.Common.{Option, Some, None, is_some, unwrap_or, find, refl, sym, ap}
-use Rattle.std.proofs.Common.{subst, ◌∙◌}
-use Rattle.std.proofs.lemmas.Bool.{and_parts, or_cases, cases_Bool, both_ways, or_left, or_right}
+use Rattle.std.proofs.Common.{◌≡◌, ℕ, true, not, ◌||◌, inl, inr, List, [], ◌∷◌, Option, Some, None, is_some, unwrap_or, find, refl, sym, ap}
+use Rattle.std.proofs.{Common.{subst, ◌∙◌}, lemmas.Bool.{and_parts, or_cases, cases_Bool, both_ways, or_left, or_right}}
 use Rattle.std.specs.List.{AllByRecursion, list_any}
-use Rattle.title_land.specs.declared.survey.Cell.{Cell}
-use Rattle.title_land.specs.declared.node.Node.{Node}
+use Rattle.title_land.specs.{declared.{survey.Cell.{Cell}, node.Node.{Node}, tract.Land.{Land}}, Survey.{is_on_grid, same_township}}
+use Rattle.title_land.specs.{Nodes.{same_node, node_has}, Lands.{has, cover_of, is_plant_cell}, CellLists.{same_cell, cells_of}}
+use Rattle.title_land.specs.{CellOrder.{is_met_before}, Laws.{Members.{In}, MetBefore.{false_from}, SameNode.{same_node-self}}}
+use Rattle.title_land.specs.Laws.{CellMembers.{same_cells_are_equal}, CoverSet.{cover_finds}}
 use Rattle.title_land.specs.declared.node.Node.TheVariants as node
-use Rattle.title_land.specs.declared.tract.Land.{Land}
-use Rattle.title_land.specs.Survey.{is_on_grid, same_township}
-use Rattle.title_land.specs.Nodes.{same_node, node_has}
-use Rattle.title_land.specs.Lands.{has, cover_of, is_plant_cell}
-use Rattle.title_land.specs.CellLists.{same_cell, cells_of}
-use Rattle.title_land.specs.CellOrder.{is_met_before}
-use Rattle.title_land.specs.Laws.Members.{In}
-use Rattle.title_land.specs.Laws.MetBefore.{false_from}
-use Rattle.title_land.specs.Laws.SameNode.{same_node-self}
-use Rattle.title_land.specs.Laws.CellMembers.{same_cells_are_equal}
-use Rattle.title_land.specs.Laws.CoverSet.{cover_finds}
-use Rattle.title_instrument.specs.declared.instrument.Instrument.{Instrument}
-use Rattle.title_instrument.specs.declared.owners.Owners.{Owners}
-use Rattle.title_instrument.specs.declared.owners.Effect.{Effect}
-use Rattle.title_instrument.specs.declared.owners.Effect.TheVariants.{Done, Refused}
-use Rattle.title_instrument.specs.Effect.{cell_effect}
+use Rattle.title_instrument.specs.declared.{instrument.Instrument.{Instrument}, owners.{Owners.{Owners}, Effect.{Effect}}}
+use Rattle.title_instrument.specs.{declared.owners.Effect.TheVariants.{Done, Refused}, Effect.{cell_effect}}
 use Rattle.title_store.specs.Plants.{Plant, Failing, Refusal, is_cell_of, failing_or, first_failing, node_of, refusal_of, refused_in}
-use Rattle.title_store.specs.RefusalLaws.{IsRefusedAt, RefusedAtTheFirst}
-use Rattle.title_store.specs.Laws.PlantCells.{cells_each}
+use Rattle.title_store.specs.{RefusalLaws.{IsRefusedAt, RefusedAtTheFirst}, Laws.PlantCells.{cells_each}}
 
 -- the cell of a list that fails first
 record FailsFirst (i : Instrument ℕ) (p : Plant) (cells : List Cell) (f : Failing) : Type 0 where

@@ -1,34 +1,17 @@
 -- The rows of a sheet come in the order of their nodes' cells.
-use Rattle.std.proofs.Common.{◌≡◌, ◌⊎◌, ℕ, zero, suc, ◌+◌, Bool, true, ◌&&◌, ◌||◌, false, inl, inr, List, [], ◌∷◌}
-use Rattle.std.proofs.Common.{refl, sym, ap, subst, ◌∙◌}
-use Rattle.std.specs.List.{flat_map}
-use Rattle.title_land.specs.declared.survey.Township.{Township}
-use Rattle.title_land.specs.declared.node.Node.{Node}
-use Rattle.title_land.specs.declared.tract.Land.{Land}
-use Rattle.title_land.specs.Lands.{cover_of}
-use Rattle.title_land.specs.CellLists.{node_cells, children_of}
-use Rattle.std.specs.List.{list_all}
-use Rattle.std.specs.Prelude.{reverse}
+use Rattle.std.{proofs.Common.{◌≡◌, ◌⊎◌, ℕ, zero, suc, ◌+◌, Bool, true, ◌&&◌, ◌||◌, false, inl, inr, List, [], ◌∷◌}, specs.List.{flat_map}}
+use Rattle.std.{proofs.Common.{refl, sym, ap, subst, ◌∙◌}, specs.{List.{list_all}, Prelude.{reverse}}}
 use Rattle.std.proofs.lemmas.Bool.{and_parts, or_cases, or_from, both_ways}
-use Rattle.title_land.specs.declared.rectangle.Quarter.{Quarter}
+use Rattle.title_land.specs.{declared.{survey.Township.{Township}, node.Node.{Node}, tract.Land.{Land}}, Lands.{cover_of}}
+use Rattle.title_land.specs.{CellLists.{node_cells, children_of}, declared.rectangle.Quarter.{Quarter}, Survey.{same_section}}
+use Rattle.title_land.specs.{Nodes.{same_quarter, node_has}, CoverSets.{quarter_before, path_before, comes_before, are_in_order}}
+use Rattle.title_land.specs.Laws.{Members.{In, in_flat_mapped}, CoverSet.{cover_is_cover}, CellsInOrder.{met_nodes}}
 use Rattle.title_land.specs.declared.node.Node.TheVariants as node
-use Rattle.title_land.specs.Survey.{same_section}
-use Rattle.title_land.specs.Nodes.{same_quarter, node_has}
-use Rattle.title_land.specs.CoverSets.{quarter_before, path_before, comes_before, are_in_order}
-use Rattle.title_land.specs.Laws.Members.{In, in_flat_mapped}
-use Rattle.title_land.specs.Laws.CoverSet.{cover_is_cover}
-use Rattle.title_land.specs.Laws.CellsInOrder.{met_nodes}
-use Rattle.title_instrument.specs.declared.parts.Estate.{Estate}
-use Rattle.title_instrument.specs.declared.parts.Estate.TheVariants.{S, O, M}
-use Rattle.title_store.specs.declared.sheet_row.SheetRow.{SheetRow}
-use Rattle.title_store.specs.Plants.{Plant, IsEachOnce}
-use Rattle.title_store.specs.Sheets.{one_holding, holding_rows, sheet_below, estates, sheet_of}
-use Rattle.title_store.specs.SheetOrder.{InTurn, IsFirst, SheetIsInOrder}
-use Rattle.title_store.specs.Laws.SheetSteps.{sheet_one, sheet_none}
-use Rattle.title_store.specs.Laws.SheetNodes.{option_cases, sheet_split, row_of, row_node}
-use Rattle.title_store.specs.Laws.SheetShows.{in_from, cover_apart}
-use Rattle.title_store.proofs.Turns.{Pairs, pairs_flat, pairs_more, pairs_all}
-use Rattle.title_store.proofs.NodesInTurn.{Before, never_before, children_in_turn}
+use Rattle.title_instrument.specs.declared.parts.Estate.{Estate, TheVariants.{S, O, M}}
+use Rattle.title_store.specs.{declared.sheet_row.SheetRow.{SheetRow}, Plants.{Plant, IsEachOnce}, Laws.SheetSteps.{sheet_one, sheet_none}}
+use Rattle.title_store.specs.{Sheets.{one_holding, holding_rows, sheet_below, estates, sheet_of}, Laws.SheetShows.{in_from, cover_apart}}
+use Rattle.title_store.specs.{SheetOrder.{InTurn, IsFirst, SheetIsInOrder}, Laws.SheetNodes.{option_cases, sheet_split, row_of, row_node}}
+use Rattle.title_store.proofs.{Turns.{Pairs, pairs_flat, pairs_more, pairs_all}, NodesInTurn.{Before, never_before, children_in_turn}}
 
 -- the rows of a node whose cells come first come first
 rows_first : (levels d : ℕ) (ts : List Township) (p : Plant) (e : Estate) (a b : Node) → Before d ts a b → (x y : SheetRow)

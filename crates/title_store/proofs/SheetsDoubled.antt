@@ -1,37 +1,20 @@
 -- A sheet on the finer grid has the same rows.
 use Rattle.std.proofs.Common.{◌≡◌, ℕ, zero, suc, ◌+◌, ◌<◌, ◌≤◌, Bool, true, false, cond, ◌&&◌, inl, inr, List, [], ◌∷◌, ◌++◌, map}
-use Rattle.std.proofs.Common.{length, Option, Some, None, refl, sym, ap, subst, ◌∙◌, arith, if◌then◌else◌}
-use Rattle.std.specs.Prelude.{nat_lt}
+use Rattle.std.{proofs.Common.{length, Option, Some, None, refl, sym, ap, subst, ◌∙◌, arith, if◌then◌else◌}, specs.Prelude.{nat_lt}}
 use Rattle.std.specs.List.{flat_map, list_all}
 use Rattle.std.proofs.lemmas.Bool.{and_parts, and_from, lt-ltb, ltb-true, le-ltb, ltb-false, cases_Bool, false_from_ne_true}
 use Rattle.title_share.specs.Division.{Division}
-use Rattle.title_land.specs.declared.survey.Township.{Township}
-use Rattle.title_land.specs.declared.survey.Section.{Section}
-use Rattle.title_land.specs.declared.survey.Cell.{Cell}
-use Rattle.title_land.specs.declared.rectangle.Quarter.{Quarter}
-use Rattle.title_land.specs.declared.node.Node.{Node}
+use Rattle.title_land.specs.declared.{survey.{Township.{Township}, Section.{Section}, Cell.{Cell}}, rectangle.Quarter.{Quarter}}
+use Rattle.title_land.specs.{declared.node.Node.{Node}, Survey.{same_section}, Rectangles.{holds}, Lands.{cover_of}}
+use Rattle.title_land.specs.{Nodes.{square, quarters, node_has, IsNode}, CellLists.{sections_of, plant_cells, node_cells, children_of}}
+use Rattle.title_land.specs.{Doubled.{cell_in, four_cells, doubled}, Laws.Members.{In, in_mapped, in_filter, in_filtered, filter_none}}
+use Rattle.title_land.specs.Laws.{SameLand.{same_section-is}, Squares.{inside, sized}, LandSharing.{cover_in_tree}}
+use Rattle.title_land.specs.Laws.{CoversDoubled.{cover_doubles}, CellsDoubled.{four_halved}, ListsDoubled.{node_cells_double}}
 use Rattle.title_land.specs.declared.node.Node.TheVariants as node
-use Rattle.title_land.specs.Survey.{same_section}
-use Rattle.title_land.specs.Rectangles.{holds}
-use Rattle.title_land.specs.Nodes.{square, quarters, node_has, IsNode}
-use Rattle.title_land.specs.Lands.{cover_of}
-use Rattle.title_land.specs.CellLists.{sections_of, plant_cells, node_cells, children_of}
-use Rattle.title_land.specs.Doubled.{cell_in, four_cells, doubled}
-use Rattle.title_land.specs.Laws.Members.{In, in_mapped, in_filter, in_filtered, filter_none}
-use Rattle.title_land.specs.Laws.SameLand.{same_section-is}
-use Rattle.title_land.specs.Laws.Squares.{inside, sized}
-use Rattle.title_land.specs.Laws.LandSharing.{cover_in_tree}
-use Rattle.title_land.specs.Laws.CoversDoubled.{cover_doubles}
-use Rattle.title_land.specs.Laws.CellsDoubled.{four_halved}
-use Rattle.title_land.specs.Laws.ListsDoubled.{node_cells_double}
-use Rattle.title_instrument.specs.declared.parts.Estate.{Estate}
-use Rattle.title_instrument.specs.Owners.{holding_of}
-use Rattle.title_store.specs.declared.sheet_row.SheetRow.{SheetRow}
-use Rattle.title_store.specs.Plants.{Plant}
-use Rattle.title_store.specs.Sheets.{same_division, one_holding, rows_or, sheet_below, estates, sheet_of}
-use Rattle.title_store.specs.DepthLaws.{finer, SheetDoubles}
+use Rattle.title_instrument.specs.{declared.parts.Estate.{Estate}, Owners.{holding_of}}
+use Rattle.title_store.specs.{declared.sheet_row.SheetRow.{SheetRow}, Plants.{Plant}, DepthLaws.{finer, SheetDoubles}}
+use Rattle.title_store.specs.{Sheets.{same_division, one_holding, rows_or, sheet_below, estates, sheet_of}, Laws.TractNodes.{quarter_in}}
 use Rattle.title_store.specs.Laws.SheetLaws.{same_divisions_are_equal}
-use Rattle.title_store.specs.Laws.TractNodes.{quarter_in}
 
 -- ---- one holding
 

@@ -1,23 +1,12 @@
 -- Maps from cells to owners, what is kept of cells, and the images that a map of them lends.
-use Rattle.std.specs.Prelude.{◌≡◌, ℕ, Bool, true, cond, List, [], ◌∷◌, Option, Some, None, is_some, unwrap_or, map}
-use Rattle.title_land.specs.Depth.{depth}
-use Rattle.std.specs.Ordering.{nat_cmp}
+use Rattle.std.specs.{Prelude.{◌≡◌, ℕ, Bool, true, cond, List, [], ◌∷◌, Option, Some, None, is_some, unwrap_or, map}, Ordering.{nat_cmp}}
 use Rattle.std.specs.BTreeMap.{BTreeMap, get, is_at}
-use Rattle.title_land.specs.declared.survey.Township.{Township}
-use Rattle.title_land.specs.declared.survey.Cell.{Cell}
-use Rattle.title_land.specs.CellLists.{same_cell}
-use Rattle.title_land.specs.Orders.{cell_cmp}
-use Rattle.title_instrument.specs.declared.instrument.Instrument.{Instrument}
-use Rattle.title_instrument.specs.declared.owners.Owners.{Owners}
-use Rattle.title_instrument.specs.Owners.{opening_owners}
+use Rattle.title_land.specs.{Depth.{depth}, declared.survey.{Township.{Township}, Cell.{Cell}}, CellLists.{same_cell}, Orders.{cell_cmp}}
+use Rattle.title_instrument.specs.{declared.{instrument.Instrument.{Instrument}, owners.Owners.{Owners}}, Owners.{opening_owners}}
 use Rattle.title_instrument.specs.Effect.{cell_effect}
-use Rattle.title_store.specs.declared.cell_map.CellMap.{CellMap}
-use Rattle.title_store.specs.declared.kept.Kept.{Kept}
-use Rattle.title_store.specs.declared.kept.Lent.{Lent}
-use Rattle.title_store.specs.declared.posts.Computed.{Computed}
+use Rattle.title_store.specs.declared.{cell_map.CellMap.{CellMap}, kept.{Kept.{Kept}, Lent.{Lent}}, posts.Computed.{Computed}}
+use Rattle.title_store.specs.{Plants.{Plant, is_cell_of, first_failing, done_or}, Loans.{Loan}}
 use Rattle.title_store.specs.declared.posts.Computed.TheVariants as computed
-use Rattle.title_store.specs.Plants.{Plant, is_cell_of, first_failing, done_or}
-use Rattle.title_store.specs.Loans.{Loan}
 
 -- what a map has at each cell: a cell that it doesn't hold has the opening owners
 abbrev pub content_of : CellMap → Plant

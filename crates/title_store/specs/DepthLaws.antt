@@ -1,11 +1,8 @@
 -- Laws between two depths: a plant where each section is quartered once more, the four cells owned as the one was.
 use Rattle.std.specs.Prelude.{◌≡◌, ℕ, suc, List}
-use Rattle.title_land.specs.declared.survey.Township.{Township}
-use Rattle.title_land.specs.declared.tract.Land.{Land}
-use Rattle.title_land.specs.Doubled.{halved, doubled}
+use Rattle.title_land.specs.{declared.{survey.Township.{Township}, tract.Land.{Land}}, Doubled.{halved, doubled}}
 use Rattle.title_instrument.specs.declared.instrument.Instrument.{Instrument}
-use Rattle.title_store.specs.Plants.{Plant, refused_in, plant_effect}
-use Rattle.title_store.specs.Sheets.{sheet_of}
+use Rattle.title_store.specs.{Plants.{Plant, refused_in, plant_effect}, Sheets.{sheet_of}}
 
 -- the plant on the finer grid: each cell has the owners of the cell that it lies in
 abbrev pub finer : Plant → Plant

@@ -1,13 +1,8 @@
 -- Before-images that are out of a store.
 use Rattle.std.specs.Prelude.{◌≡◌, ℕ, ◌<◌, true, false, cond, eqb, List, [], ◌∷◌, ◌++◌, ◌⊎◌, Option, Some, None}
-use Rattle.title_land.specs.Depth.{depth}
-use Rattle.title_land.specs.declared.survey.Cell.{Cell}
-use Rattle.title_land.specs.declared.survey.Township.{Township}
-use Rattle.title_land.specs.declared.tract.Land.{Land}
-use Rattle.title_land.specs.Lands.{meets}
-use Rattle.title_store.specs.declared.store.Put.{Put}
+use Rattle.title_land.specs.{Depth.{depth}, declared.{survey.{Cell.{Cell}, Township.{Township}}, tract.Land.{Land}}, Lands.{meets}}
+use Rattle.title_store.specs.{declared.store.Put.{Put}, Plants.{Plant, Refusal, is_cell_of}}
 use Rattle.title_store.specs.declared.store.Put.TheVariants as put
-use Rattle.title_store.specs.Plants.{Plant, Refusal, is_cell_of}
 
 -- an image that is out: its number, its tract, and what each cell of the tract held before the put
 pub record Loan : Type 0 where

@@ -1,22 +1,11 @@
 -- A plant: the owners of each cell; and what an instrument does to a tract of it.
 use Rattle.std.specs.Prelude.{◌≡◌, ℕ, Bool, false, cond, ◌&&◌, List, [], ◌∷◌, Option, Some, None, find, unwrap_or, is_some}
 use Rattle.std.specs.List.{list_any}
-use Rattle.title_land.specs.declared.survey.Cell.{Cell}
-use Rattle.title_land.specs.declared.survey.Township.{Township}
-use Rattle.title_land.specs.declared.node.Node.{Node}
+use Rattle.title_land.specs.{declared.{survey.{Cell.{Cell}, Township.{Township}}, node.Node.{Node}, tract.Land.{Land}}, Nodes.{node_has}}
+use Rattle.title_land.specs.{Survey.{same_township}, Lands.{has, cover_of, is_plant_cell}, CellLists.{cells_of}}
 use Rattle.title_land.specs.declared.node.Node.TheVariants as node
-use Rattle.title_land.specs.declared.tract.Land.{Land}
-use Rattle.title_land.specs.Survey.{same_township}
-use Rattle.title_land.specs.Nodes.{node_has}
-use Rattle.title_land.specs.Lands.{has, cover_of, is_plant_cell}
-use Rattle.title_land.specs.CellLists.{cells_of}
-use Rattle.title_instrument.specs.declared.parts.Estate.{Estate}
-use Rattle.title_instrument.specs.declared.parts.Rule.{Rule}
-use Rattle.title_instrument.specs.declared.instrument.Instrument.{Instrument}
-use Rattle.title_instrument.specs.declared.owners.Owners.{Owners}
-use Rattle.title_instrument.specs.declared.owners.Effect.{Effect}
-use Rattle.title_instrument.specs.declared.owners.Effect.TheVariants.{Done, Refused}
-use Rattle.title_instrument.specs.Effect.{cell_effect}
+use Rattle.title_instrument.specs.declared.{parts.{Estate.{Estate}, Rule.{Rule}}, instrument.Instrument.{Instrument}}
+use Rattle.title_instrument.specs.{declared.owners.{Owners.{Owners}, Effect.{Effect, TheVariants.{Done, Refused}}}, Effect.{cell_effect}}
 
 -- the owners of each cell
 abbrev pub Plant : Type 0

@@ -1,17 +1,9 @@
 -- What a post's refusal names, said of the tract's cells alone.
-use Rattle.std.specs.Prelude.{◌≡◌, ℕ, true, List, Some}
-use Rattle.std.specs.List.{list_any}
-use Rattle.title_land.specs.declared.survey.Cell.{Cell}
-use Rattle.title_land.specs.declared.survey.Township.{Township}
-use Rattle.title_land.specs.declared.tract.Land.{Land}
-use Rattle.title_land.specs.Nodes.{same_node, node_has}
-use Rattle.title_land.specs.Lands.{cover_of}
-use Rattle.title_land.specs.CellLists.{same_cell, cells_of}
-use Rattle.title_land.specs.CellOrder.{is_met_before}
-use Rattle.title_instrument.specs.declared.instrument.Instrument.{Instrument}
-use Rattle.title_instrument.specs.declared.owners.Owners.{Owners}
+use Rattle.std.specs.{Prelude.{◌≡◌, ℕ, true, List, Some}, List.{list_any}}
+use Rattle.title_land.specs.{declared.{survey.{Cell.{Cell}, Township.{Township}}, tract.Land.{Land}}, Nodes.{same_node, node_has}}
+use Rattle.title_land.specs.{Lands.{cover_of}, CellLists.{same_cell, cells_of}, CellOrder.{is_met_before}}
+use Rattle.title_instrument.specs.{declared.{instrument.Instrument.{Instrument}, owners.Owners.{Owners}}, Effect.{cell_effect}}
 use Rattle.title_instrument.specs.declared.owners.Effect.TheVariants.{Done, Refused}
-use Rattle.title_instrument.specs.Effect.{cell_effect}
 use Rattle.title_store.specs.Plants.{Plant, Refusal, is_cell_of, refused_in}
 
 -- a cell of the tract in the plant refuses by the named rule for the named estate, it lies in the named node, which is one

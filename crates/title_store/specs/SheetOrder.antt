@@ -1,16 +1,8 @@
 -- The order of a sheet's rows is that of the plant's cells.
 use Rattle.std.specs.Prelude.{◌≡◌, ◌⊎◌, ℕ, true, List, [], ◌∷◌}
-use Rattle.title_land.specs.declared.survey.Cell.{Cell}
-use Rattle.title_land.specs.declared.survey.Township.{Township}
-use Rattle.title_land.specs.declared.tract.Land.{Land}
-use Rattle.title_land.specs.Nodes.{node_has}
-use Rattle.title_land.specs.Lands.{is_plant_cell}
-use Rattle.title_land.specs.CellLists.{same_cell, plant_cells}
-use Rattle.title_land.specs.CellOrder.{is_met_before}
-use Rattle.title_store.specs.declared.sheet_row.SheetRow.{SheetRow}
-use Rattle.title_store.specs.Plants.{Plant, IsEachOnce}
-use Rattle.title_store.specs.Sheets.{sheet_of}
-use Rattle.title_store.specs.SheetShows.{Lists}
+use Rattle.title_land.specs.{declared.{survey.{Cell.{Cell}, Township.{Township}}, tract.Land.{Land}}, Nodes.{node_has}}
+use Rattle.title_land.specs.{Lands.{is_plant_cell}, CellLists.{same_cell, plant_cells}, CellOrder.{is_met_before}}
+use Rattle.title_store.specs.{declared.sheet_row.SheetRow.{SheetRow}, Plants.{Plant, IsEachOnce}, Sheets.{sheet_of}, SheetShows.{Lists}}
 
 -- each element stands so to all after it
 abbrev pub InTurn : {A : Type 0} → (A → A → Type 0) → List A → Type 0

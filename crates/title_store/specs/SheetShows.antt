@@ -1,18 +1,10 @@
 -- What a sheet shows of the tract's cells, one by one.
 use Rattle.std.specs.Prelude.{◌≡◌, ◌⊎◌, ◌↔◌, ℕ, true, List, [], ◌∷◌, Some}
 use Rattle.title_share.specs.Division.{Division, rows_of}
-use Rattle.title_land.specs.declared.survey.Cell.{Cell}
-use Rattle.title_land.specs.declared.survey.Township.{Township}
-use Rattle.title_land.specs.declared.node.Node.{Node}
-use Rattle.title_land.specs.declared.tract.Land.{Land}
-use Rattle.title_land.specs.Nodes.{node_has, parent_of}
-use Rattle.title_land.specs.Lands.{has, is_plant_cell}
-use Rattle.title_land.specs.CoverSets.{LiesIn}
-use Rattle.title_instrument.specs.declared.parts.Estate.{Estate}
-use Rattle.title_instrument.specs.Owners.{holding_of}
-use Rattle.title_store.specs.declared.sheet_row.SheetRow.{SheetRow}
-use Rattle.title_store.specs.Plants.{Plant, is_cell_of}
-use Rattle.title_store.specs.Sheets.{sheet_of}
+use Rattle.title_land.specs.{declared.{survey.{Cell.{Cell}, Township.{Township}}, node.Node.{Node}, tract.Land.{Land}}, CoverSets.{LiesIn}}
+use Rattle.title_land.specs.{Nodes.{node_has, parent_of}, Lands.{has, is_plant_cell}}
+use Rattle.title_instrument.specs.{declared.parts.Estate.{Estate}, Owners.{holding_of}}
+use Rattle.title_store.specs.{declared.sheet_row.SheetRow.{SheetRow}, Plants.{Plant, is_cell_of}, Sheets.{sheet_of}}
 
 -- the list has this element
 abbrev pub Lists : {A : Type 0} → List A → A → Type 0

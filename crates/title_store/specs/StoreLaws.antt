@@ -1,12 +1,9 @@
 -- Laws of plants, posts and sheets.
 use Rattle.std.specs.Prelude.{◌≡◌, ℕ, ◌↔◌, true, false, List, Some}
 use Rattle.title_share.specs.Division.{Division}
-use Rattle.title_land.specs.declared.survey.Cell.{Cell}
-use Rattle.title_land.specs.declared.survey.Township.{Township}
-use Rattle.title_land.specs.declared.tract.Land.{Land}
+use Rattle.title_land.specs.declared.{survey.{Cell.{Cell}, Township.{Township}}, tract.Land.{Land}}
 use Rattle.title_instrument.specs.declared.instrument.Instrument.{Instrument}
-use Rattle.title_store.specs.Plants.{Plant, Refusal, is_cell_of, refused_in, plant_effect}
-use Rattle.title_store.specs.Sheets.{sheet_of, same_division}
+use Rattle.title_store.specs.{Plants.{Plant, Refusal, is_cell_of, refused_in, plant_effect}, Sheets.{sheet_of, same_division}}
 
 -- the plants have the same owners in each of a tract's cells
 abbrev pub SameOn : ℕ → List Township → Land → Plant → Plant → Type 0

@@ -18,11 +18,8 @@ pub(crate) struct CellMap {
 }
 
 impl CellMap {
-    ghost use Rattle.std.specs.Prelude.{◌∷◌, true, cond, Some, unwrap_or, IfOk, OnOk};
-    ghost use Rattle.std.specs.List.{AllByRecursion};
-    ghost use Rattle.std.specs.BTreeMap.{get};
-    ghost use Rattle.title_land.specs.declared.survey.Cell.{Cell};
-    ghost use Rattle.title_land.specs.CellLists.{same_cell};
+    ghost use Rattle.std.specs.{Prelude.{◌∷◌, true, cond, Some, unwrap_or, IfOk, OnOk}, List.{AllByRecursion}, BTreeMap.{get}};
+    ghost use Rattle.title_land.specs.{declared.survey.Cell.{Cell}, CellLists.{same_cell}};
     ghost use Rattle.title_store.specs.CellMaps.{content_of, is_there, IsWritten, kept_at, kept_cells};
 
     /// The map that holds no cell.

@@ -1,14 +1,8 @@
 //! The plant as an ordered map by cell.
 
-ghost use Rattle.std.proofs.Math.Bool.{Bool-set};
+ghost use Rattle.std.{proofs.{Math.Bool.{Bool-set}, Props.{props}}, specs.{Ordering.{nat_cmp}, BTreeMap.{IsOrdered}, Prelude.{◌≡◌}}};
 ghost use Rattle.title_land.specs.Depth.{depth};
-ghost use Rattle.std.proofs.Props.{props};
-ghost use Rattle.std.specs.Ordering.{nat_cmp};
-ghost use Rattle.std.specs.BTreeMap.{IsOrdered};
-ghost use Rattle.std.specs.Prelude.{◌≡◌};
-ghost use Rattle.title_store.specs.Plants.{node_of};
-ghost use Rattle.title_store.specs.Loans.{AllBelow};
-ghost use Rattle.title_store.specs.CellMaps.{content_of, loans_of, AreBacked};
+ghost use Rattle.title_store.specs.{Plants.{node_of}, Loans.{AllBelow}, CellMaps.{content_of, loans_of, AreBacked}};
 
 use crate::cell_map::CellMap;
 use crate::kept::Lent;

@@ -1,8 +1,7 @@
 //! Laws of plants, posts and sheets.
 
 ghost use Rattle.title_land.specs.Depth.{depth};
-ghost use Rattle.title_store.specs.RefusalLaws.{RefusedAtTheFirst};
-ghost use Rattle.title_store.specs.SheetOrder.{SheetIsInOrder};
+ghost use Rattle.title_store.specs.{RefusalLaws.{RefusedAtTheFirst}, SheetOrder.{SheetIsInOrder}};
 ghost use Rattle.title_store.specs.SheetShows.{SheetShowsEachCell, SheetStaysInside, SheetNodesLieApart, SheetNodesAreLargest};
 ghost use Rattle.title_store.specs.StoreLaws.{SheetSame, RefusedSame, EffectSame, EffectOutside, EffectRefused, SameDivisionsAreEqual};
 

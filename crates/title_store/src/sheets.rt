@@ -1,12 +1,8 @@
 //! Rows of sheets, made from a map of owners.
 
-ghost use Rattle.std.specs.Prelude.{◌≡◌, ◌+◌, ◌++◌, Some, None, IfOk, OnOk, MatchOption, is_some};
-ghost use Rattle.title_land.specs.Depth.{depth};
-ghost use Rattle.std.specs.List.{flat_map};
-ghost use Rattle.title_land.specs.CellLists.{node_cells};
-ghost use Rattle.title_land.specs.Lands.{cover_of};
-ghost use Rattle.title_store.specs.CellMaps.{content_of};
-ghost use Rattle.title_store.specs.Sheets.{one_holding, holding_rows, sheet_below};
+ghost use Rattle.std.specs.{Prelude.{◌≡◌, ◌+◌, ◌++◌, Some, None, IfOk, OnOk, MatchOption, is_some}, List.{flat_map}};
+ghost use Rattle.title_land.specs.{Depth.{depth}, CellLists.{node_cells}, Lands.{cover_of}};
+ghost use Rattle.title_store.specs.{CellMaps.{content_of}, Sheets.{one_holding, holding_rows, sheet_below}};
 
 use crate::cell_map::CellMap;
 use crate::sheet_row::SheetRow;

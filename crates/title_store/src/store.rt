@@ -1,12 +1,9 @@
 //! What every store of a plant promises.
 
 ghost use Rattle.std.specs.Prelude.{◌≡◌, ℕ, IfOk, OnOk, OnErr, List, [], true, cond, is_some};
-ghost use Rattle.title_land.specs.Depth.{depth};
-ghost use Rattle.title_land.specs.declared.survey.Cell.{Cell};
-ghost use Rattle.title_land.specs.declared.node.Node.TheVariants as node;
-ghost use Rattle.title_land.specs.declared.survey.Township.{Township};
-ghost use Rattle.title_land.specs.CellLists.{node_cells};
+ghost use Rattle.title_land.specs.{Depth.{depth}, declared.survey.{Cell.{Cell}, Township.{Township}}, CellLists.{node_cells}};
 ghost use Rattle.title_land.specs.Lands.{is_in_plant, land_of};
+ghost use Rattle.title_land.specs.declared.node.Node.TheVariants as node;
 ghost use Rattle.title_instrument.specs.Owners.{opening_owners};
 ghost use Rattle.title_store.specs.Plants.{Plant, SameContent, IsEachOnce, is_cell_of, plant_effect, refused_in};
 ghost use Rattle.title_store.specs.Loans.{Loan, IsOut, IsLentAs, IsLast, IsFirst, IsTaken, PutBy, without};

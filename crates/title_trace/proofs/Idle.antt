@@ -1,18 +1,14 @@
 -- An examiner that isn't open has no open steps, by induction on a due trace.
 use Rattle.std.proofs.Common.{◌≡◌, ℕ, suc, Bool, true, false, cond, List, [], ◌∷◌, refl, ap, ◌∙◌, sym, subst, length, eqb, Option}
-use Rattle.std.proofs.Common.{Some, None}
-use Rattle.std.proofs.lemmas.Bool.{cond_both, eqb-true}
+use Rattle.std.proofs.{Common.{Some, None}, lemmas.Bool.{cond_both, eqb-true}}
 use Rattle.title_instrument.specs.declared.parts.Cause.{Cause}
-use Rattle.title_chain.specs.declared.ask.Step.{Step}
-use Rattle.title_chain.specs.Alone.{alone}
-use Rattle.title_trace.specs.declared.call.Call.{Call}
-use Rattle.title_trace.specs.declared.call.Request.{Request}
-use Rattle.title_trace.specs.declared.call.Request.TheVariants as request
-use Rattle.title_trace.specs.declared.call.Reply.{Reply}
-use Rattle.title_trace.specs.declared.call.Reply.TheVariants as reply
-use Rattle.title_trace.specs.declared.denial.Denial.TheVariants as denial
+use Rattle.title_chain.specs.{declared.ask.Step.{Step}, Alone.{alone}}
+use Rattle.title_trace.specs.declared.call.{Call.{Call}, Request.{Request}, Reply.{Reply}}
 use Rattle.title_trace.specs.Trace.{examiner_of, open_by, is_open, steps_by, open_steps, committed}
 use Rattle.title_trace.specs.Due.{Setting, reply_past, DueStep, DueReply, IsDue}
+use Rattle.title_trace.specs.declared.call.Request.TheVariants as request
+use Rattle.title_trace.specs.declared.call.Reply.TheVariants as reply
+use Rattle.title_trace.specs.declared.denial.Denial.TheVariants as denial
 
 -- where it isn't open it has no steps
 abbrev IsQuiet : Bool → List Step → Type 0

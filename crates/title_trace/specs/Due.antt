@@ -1,21 +1,15 @@
 -- The due reply to a request after a trace, with no lock and no undo in it. Lists of calls and steps have the newest first.
 use Rattle.std.specs.Prelude.{◌≡◌, ◌≢◌, ◌↔◌, ℕ, suc, ◌<◌, ◌≤◌, Bool, true, false, cond, not, ◌&&◌, eqb, nat_le, min}
 use Rattle.std.specs.Prelude.{List, [], ◌∷◌, length, map, filter, Option, Some, None}
-use Rattle.title_land.specs.declared.survey.Township.{Township}
-use Rattle.title_land.specs.Lands.{is_in_plant}
+use Rattle.title_land.specs.{declared.survey.Township.{Township}, Lands.{is_in_plant}}
 use Rattle.title_instrument.specs.declared.parts.Cause.{Cause}
 use Rattle.title_store.specs.Plants.{IsEachOnce}
-use Rattle.title_chain.specs.declared.ask.Ask.{Ask}
-use Rattle.title_chain.specs.Asks.{tract_of, cause_of}
-use Rattle.title_chain.specs.Alone.{alone, most_parties}
-use Rattle.title_chain.specs.Overlaps.{overlaps}
-use Rattle.title_trace.specs.declared.call.Call.{Call}
-use Rattle.title_trace.specs.declared.call.Request.{Request}
+use Rattle.title_chain.specs.{declared.ask.Ask.{Ask}, Asks.{tract_of, cause_of}, Alone.{alone, most_parties}, Overlaps.{overlaps}}
+use Rattle.title_trace.specs.declared.call.{Call.{Call}, Request.{Request}, Reply.{Reply}}
+use Rattle.title_trace.specs.Trace.{examiner_of, is_open, open_steps, committed}
 use Rattle.title_trace.specs.declared.call.Request.TheVariants as request
-use Rattle.title_trace.specs.declared.call.Reply.{Reply}
 use Rattle.title_trace.specs.declared.call.Reply.TheVariants as reply
 use Rattle.title_trace.specs.declared.denial.Denial.TheVariants as denial
-use Rattle.title_trace.specs.Trace.{examiner_of, is_open, open_steps, committed}
 
 -- the most steps that a transaction has
 abbrev pub most_steps : ℕ

@@ -1,10 +1,7 @@
 -- The headline as a law over all due traces.
 use Rattle.std.specs.Prelude.{◌≡◌, ℕ, ◌≤◌, false, List, [], ◌∷◌}
-use Rattle.title_chain.specs.Alone.{IsSerial, most_parties}
-use Rattle.title_chain.specs.Overlaps.{record_of}
-use Rattle.title_trace.specs.declared.call.Call.{Call}
-use Rattle.title_trace.specs.Trace.{is_open, committed, open_steps}
-use Rattle.title_trace.specs.Due.{Setting, IsDue}
+use Rattle.title_chain.specs.{Alone.{IsSerial, most_parties}, Overlaps.{record_of}}
+use Rattle.title_trace.specs.{declared.call.Call.{Call}, Trace.{is_open, committed, open_steps}, Due.{Setting, IsDue}}
 
 -- in every due trace the committed transactions are serial: run alone, in the order of their commits, they get their answers
 abbrev pub CommittedAreSerial : ℕ → Type 0

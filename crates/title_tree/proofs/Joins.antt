@@ -1,7 +1,6 @@
 -- Where quarters aren't leaves that have the same division, joining changes nothing.
 use Rattle.std.proofs.Common.{◌≡◌, false, cond, refl, sym}
-use Rattle.title_tree.specs.Joins.{is_joinable}
-use Rattle.title_tree.specs.Plots.{Plot, Same, Four, joined}
+use Rattle.title_tree.specs.{Joins.{is_joinable}, Plots.{Plot, Same, Four, joined}}
 
 pub not_joined : (t : Plot) → is_joinable t ≡ false → t ≡ joined t
 not_joined (Same held) h = refl

@@ -1,9 +1,7 @@
 -- Paths by their numbers.
-use Rattle.std.proofs.Common.{◌≡◌, ◌∙◌, ap, sym, append_assoc, ℕ, suc, ◌+◌, ◌/◌, ◌%◌, ◌≤◌, arith}
-use Rattle.std.proofs.Common.{List, [], ◌∷◌, ◌++◌, length}
+use Rattle.std.proofs.Common.{◌≡◌, ◌∙◌, ap, sym, append_assoc, ℕ, suc, ◌+◌, ◌/◌, ◌%◌, ◌≤◌, arith, List, [], ◌∷◌, ◌++◌, length}
 use Rattle.std.proofs.lemmas.List.{reverse-append}
-use Rattle.title_land.specs.declared.rectangle.Quarter.{Quarter}
-use Rattle.title_land.specs.Paths.{quarter_at, path_number}
+use Rattle.title_land.specs.{declared.rectangle.Quarter.{Quarter}, Paths.{quarter_at, path_number}}
 use Rattle.title_land.specs.Laws.PathNumbers.{path_at-number, path_positive}
 use Rattle.title_tree.specs.Paths.{quarters_of, IsPath, way, number_path}
 

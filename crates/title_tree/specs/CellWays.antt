@@ -1,11 +1,7 @@
 -- The way from a section down to a cell.
 use Rattle.std.specs.Prelude.{◌≡◌, ℕ, zero, suc, ◌<◌, ◌≤◌, Bool, true, false, List, [], ◌∷◌, length}
-use Rattle.title_land.specs.declared.rectangle.Quarter.{Quarter}
-use Rattle.title_land.specs.declared.rectangle.Quarter.TheVariants.{Northeast, Northwest, Southwest, Southeast}
-use Rattle.title_land.specs.declared.rectangle.Rectangle.{Rectangle}
-use Rattle.title_land.specs.Survey.{side}
-use Rattle.title_land.specs.Rectangles.{quarter_of, holds}
-use Rattle.title_land.specs.Nodes.{square}
+use Rattle.title_land.specs.{declared.rectangle.Quarter.{Quarter, TheVariants.{Northeast, Northwest, Southwest, Southeast}}, Survey.{side}}
+use Rattle.title_land.specs.{declared.rectangle.Rectangle.{Rectangle}, Rectangles.{quarter_of, holds}, Nodes.{square}}
 use Rattle.title_tree.specs.Paths.{way, begins}
 
 -- the first quarter that has a cell, or else the last

@@ -1,9 +1,6 @@
 -- The cells of a square in their order.
-use Rattle.std.specs.Prelude.{ℕ, zero, suc, List, [], ◌∷◌, map, Option, None}
-use Rattle.std.specs.List.{flat_map}
-use Rattle.std.specs.Option.{option_or}
-use Rattle.title_land.specs.declared.rectangle.Quarter.{Quarter}
-use Rattle.title_land.specs.Nodes.{quarters}
+use Rattle.std.specs.{Prelude.{ℕ, zero, suc, List, [], ◌∷◌, map, Option, None}, List.{flat_map}, Option.{option_or}}
+use Rattle.title_land.specs.{declared.rectangle.Quarter.{Quarter}, Nodes.{quarters}}
 
 -- the paths of the cells of a square with so many levels below it, in the order of its quarters
 abbrev pub cell_paths : ℕ → List (List Quarter)

@@ -2,8 +2,7 @@
 use Rattle.std.specs.Prelude.{◌≢◌, ℕ, suc, List, [], ◌∷◌, ◌++◌}
 use Rattle.title_share.specs.Division.{Division}
 use Rattle.title_land.specs.declared.rectangle.Quarter.{Quarter}
-use Rattle.title_tree.specs.Plots.{Plot}
-use Rattle.title_tree.specs.Pieces.{In, swapped, taken, split_all, fresh, Disjoint, Refines}
+use Rattle.title_tree.specs.{Plots.{Plot}, Pieces.{In, swapped, taken, split_all, fresh, Disjoint, Refines}}
 use Rattle.title_tree.specs.Lendings.{Lending, Keeps, LaterClear}
 
 -- after a put, whose image is out under the next number

@@ -1,7 +1,5 @@
 -- Parts as pieces.
-use Rattle.title_tree.specs.declared.part.Part.{Part}
-use Rattle.title_tree.specs.Pieces.{Piece}
-use Rattle.title_tree.specs.Trees.{plot}
+use Rattle.title_tree.specs.{declared.part.Part.{Part}, Pieces.{Piece}, Trees.{plot}}
 
 -- a part's tree, as a plot, at its path
 abbrev pub piece : Part → Piece

@@ -1,8 +1,6 @@
 -- Paths in a tree of quarters, the outermost quarter first.
 use Rattle.std.specs.Prelude.{◌≡◌, ℕ, zero, suc, ◌/◌, ◌%◌, Bool, true, false, ◌&&◌, List, [], ◌∷◌, ◌++◌, reverse}
-use Rattle.title_land.specs.declared.rectangle.Quarter.{Quarter}
-use Rattle.title_land.specs.Nodes.{same_quarter}
-use Rattle.title_land.specs.Paths.{quarter_at, path_number, path_at}
+use Rattle.title_land.specs.{declared.rectangle.Quarter.{Quarter}, Nodes.{same_quarter}, Paths.{quarter_at, path_number, path_at}}
 
 -- a path's quarters from its number: with q before the path of number n it is 4 n and the number of q
 abbrev pub quarters_of : ℕ → List Quarter

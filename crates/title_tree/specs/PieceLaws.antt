@@ -2,8 +2,7 @@
 use Rattle.std.specs.Prelude.{◌≡◌, ℕ, true, cond, List, length, Some, None, Result}
 use Rattle.title_share.specs.Division.{Division}
 use Rattle.title_land.specs.declared.rectangle.Quarter.{Quarter}
-use Rattle.title_tree.specs.Changes.{why_of}
-use Rattle.title_tree.specs.Plots.{Plot, value_at, fits}
+use Rattle.title_tree.specs.{Changes.{why_of}, Plots.{Plot, value_at, fits}}
 use Rattle.title_tree.specs.Pieces.{Piece, paths, has, held, swapped, taken, split_all, fresh, refusal_at, Disjoint, Ready, Short, Refines}
 
 -- after the exchange the cells of the pieces hold what the pieces held, and all others what they held

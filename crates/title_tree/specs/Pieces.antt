@@ -1,6 +1,5 @@
 -- Plots that are to stand at paths of another plot, or that stood there.
-use Rattle.std.specs.Prelude.{◌≡◌, ℕ, ◌≤◌, Bool, true, false, cond, ◌||◌, ◌⊎◌, List, [], ◌∷◌, ◌++◌, length}
-use Rattle.std.specs.Prelude.{Option, Some, None, Result}
+use Rattle.std.specs.Prelude.{◌≡◌, ℕ, ◌≤◌, Bool, true, false, cond, ◌||◌, ◌⊎◌, List, [], ◌∷◌, ◌++◌, length, Option, Some, None, Result}
 use Rattle.std.specs.Option.{option_or}
 use Rattle.title_share.specs.Division.{Division, all_to}
 use Rattle.title_land.specs.declared.rectangle.Quarter.{Quarter}

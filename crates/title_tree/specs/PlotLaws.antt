@@ -2,11 +2,8 @@
 use Rattle.std.specs.Prelude.{◌≡◌, ℕ, ◌≤◌, true, cond, List, [], ◌++◌, length, Some, None, Result}
 use Rattle.title_share.specs.Division.{Division}
 use Rattle.title_land.specs.declared.rectangle.Quarter.{Quarter}
-use Rattle.title_tree.specs.Changes.{why_of}
-use Rattle.title_tree.specs.Paths.{begins, rest}
+use Rattle.title_tree.specs.{Changes.{why_of}, Paths.{begins, rest}, Plots.{tidied, tidied_all, fits}, Cells.{cell_paths, first_some}}
 use Rattle.title_tree.specs.Plots.{Plot, value_at, has_path, plot_at, graft, split, changed, first_refusal, uniform}
-use Rattle.title_tree.specs.Plots.{tidied, tidied_all, fits}
-use Rattle.title_tree.specs.Cells.{cell_paths, first_some}
 
 -- after a graft the cells below the path hold what the new plot holds, and all others what they held
 abbrev pub GraftShows : Type 0

@@ -2,8 +2,7 @@
 use Rattle.std.specs.Prelude.{ℕ, zero, suc, Bool, true, false, cond, ◌&&◌, not, ◌==◌, List, [], ◌∷◌, Option, Some, None, Result}
 use Rattle.std.specs.Option.{option_or}
 use Rattle.title_share.specs.Division.{Division, rows_of}
-use Rattle.title_land.specs.declared.rectangle.Quarter.{Quarter}
-use Rattle.title_land.specs.declared.rectangle.Quarter.TheVariants.{Northeast, Northwest, Southwest, Southeast}
+use Rattle.title_land.specs.declared.rectangle.Quarter.{Quarter, TheVariants.{Northeast, Northwest, Southwest, Southeast}}
 use Rattle.title_tree.specs.Changes.{why_of}
 
 -- one division in all cells, or the plots of the four quarters in their order

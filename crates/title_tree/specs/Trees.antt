@@ -1,8 +1,6 @@
 -- Trees as plots.
 use Rattle.std.specs.Arc.{arc_value}
-use Rattle.title_tree.specs.declared.tree.Tree.{Tree}
-use Rattle.title_tree.specs.declared.tree.Tree.TheVariants.{Leaf, Quarters'}
-use Rattle.title_tree.specs.Plots.{Plot, Same, Four}
+use Rattle.title_tree.specs.{declared.tree.Tree.{Tree, TheVariants.{Leaf, Quarters'}}, Plots.{Plot, Same, Four}}
 
 -- what a tree holds, without where its nodes lie in memory
 abbrev pub plot : Tree → Plot

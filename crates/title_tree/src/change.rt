@@ -1,10 +1,8 @@
 //! What a change does to a holding.
 
-ghost use Rattle.std.specs.Prelude.{◌≡◌, IfOk, IfErr, Result, Ok};
-ghost use Rattle.std.specs.Arc.{arc_value};
+ghost use Rattle.std.specs.{Prelude.{◌≡◌, IfOk, IfErr, Result, Ok}, Arc.{arc_value}};
 ghost use Rattle.title_share.specs.Division.{Division};
-ghost use Rattle.title_tree.specs.Changes.{why_of};
-ghost use Rattle.title_tree.specs.Faults.{Tells};
+ghost use Rattle.title_tree.specs.{Changes.{why_of}, Faults.{Tells}};
 
 use std::alloc::{AllocError, Global};
 use std::sync::Arc;

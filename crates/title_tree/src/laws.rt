@@ -1,11 +1,10 @@
 //! Laws of plots, pieces and images, for the crates above. Each function does nothing: its clause is the law, proved.
 
 ghost use Rattle.title_land.specs.Depth.{depth};
-ghost use Rattle.title_tree.specs.CellWays.{SquaresByPaths, CellWaysAreWhole};
+ghost use Rattle.title_tree.specs.{CellWays.{SquaresByPaths, CellWaysAreWhole}, PieceLaws.{NoneRefusesThere, ACellRefuses}};
 ghost use Rattle.title_tree.specs.DepthLaws.{GraftFits, PlotAtFits, SplitFits, ChangedFits, TidiedFits, TidiedAllFits};
 ghost use Rattle.title_tree.specs.LendingLaws.{PutKeeps, RestoreKeeps, ForgetKeeps, RefineKeeps, NoneIsKept};
 ghost use Rattle.title_tree.specs.PieceLaws.{SwappedShows, TakenHolds, PutShows, PutTakes, MadeBeforeTheSplit, SplitAllReaches};
-ghost use Rattle.title_tree.specs.PieceLaws.{NoneRefusesThere, ACellRefuses};
 ghost use Rattle.title_tree.specs.PlotLaws.{GraftShows, PlotAtShows, SplitShows, TidiedShows, TidiedAllShows, ChangedShows};
 ghost use Rattle.title_tree.specs.PlotLaws.{FirstLeafRefuses, NoneRefuses, SplitReaches, SplitKeeps, GraftKeeps, ChangedKeeps, NodesBelow};
 ghost use Rattle.title_tree.specs.PlotLaws.{SplitElsewhere, UniformIsHeld, UniformIsFound};

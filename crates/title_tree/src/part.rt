@@ -1,14 +1,9 @@
 //! Trees with the paths to where they belong.
 
-ghost use Rattle.std.specs.Prelude.{◌≡◌, ◌++◌, ◌∷◌, [], true, None, map, OnOk, OnErr, IfErr};
-ghost use Rattle.std.specs.Option.{option_map};
-ghost use Rattle.title_tree.specs.Changes.{after};
-ghost use Rattle.title_tree.specs.Faults.{Tells};
-ghost use Rattle.title_tree.specs.Parts.{piece};
-ghost use Rattle.title_tree.specs.Pieces.{Disjoint, Ready, Refines, StaysWithin, paths, swapped, taken};
-ghost use Rattle.title_tree.specs.Pieces.{split_all, fresh, refusal_at, uniform_at};
+ghost use Rattle.std.specs.{Prelude.{◌≡◌, ◌++◌, ◌∷◌, [], true, None, map, OnOk, OnErr, IfErr}, Option.{option_map}};
+ghost use Rattle.title_tree.specs.{Changes.{after}, Faults.{Tells}, Parts.{piece}, Pieces.{split_all, fresh, refusal_at, uniform_at}};
+ghost use Rattle.title_tree.specs.{Pieces.{Disjoint, Ready, Refines, StaysWithin, paths, swapped, taken}, Trees.{plot}};
 ghost use Rattle.title_tree.specs.Plots.{has_path, plot_at, graft, split, tidied_all};
-ghost use Rattle.title_tree.specs.Trees.{plot};
 
 use crate::change::{Change, Fault};
 use crate::path::Path;

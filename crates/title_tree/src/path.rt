@@ -20,8 +20,7 @@ pub struct Path {
 
 impl Model for Path {
     ghost use Rattle.std.specs.Prelude.{List};
-    ghost use Rattle.title_land.specs.declared.rectangle.Quarter.{Quarter};
-    ghost use Rattle.title_land.specs.Paths.{path_number};
+    ghost use Rattle.title_land.specs.{declared.rectangle.Quarter.{Quarter}, Paths.{path_number}};
     ghost use Rattle.title_tree.specs.Paths.{quarters_of, IsPath};
 
     ghost Value = { List Quarter };

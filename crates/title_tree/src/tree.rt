@@ -1,14 +1,9 @@
 //! A square as a tree of quarters.
 
-ghost use Rattle.std.specs.Prelude.{◌≡◌, ◌∷◌, [], true, None, IfOk, IfErr, OnOk, OnErr};
-ghost use Rattle.std.specs.Option.{option_map};
-ghost use Rattle.std.specs.Arc.{arc_value};
-ghost use Rattle.title_tree.specs.Changes.{after};
-ghost use Rattle.title_tree.specs.Faults.{Tells};
-ghost use Rattle.title_tree.specs.Joins.{is_joinable};
+ghost use Rattle.std.specs.{Prelude.{◌≡◌, ◌∷◌, [], true, None, IfOk, IfErr, OnOk, OnErr}, Option.{option_map}, Arc.{arc_value}};
+ghost use Rattle.title_tree.specs.{Changes.{after}, Faults.{Tells}, Joins.{is_joinable}, Trees.{plot}};
 ghost use Rattle.title_tree.specs.Plots.{Same, Four, value_at, has_path, plot_at, graft, split, changed, first_refusal};
 ghost use Rattle.title_tree.specs.Plots.{same_division, uniform, same_leaf, joined, is_tidy, tidied, tidied_at};
-ghost use Rattle.title_tree.specs.Trees.{plot};
 
 use crate::change::{Change, Fault};
 use crate::path::Path;

@@ -1,36 +1,20 @@
 -- No two paths of a tract lie one below the other.
 use Rattle.std.proofs.Common.{◌≡◌, ◌∙◌, ap, sym, refl, subst, ℕ, ◌+◌, ◌-◌, ◌^◌, ◌≤◌, arith, Bool, true, false, ◌&&◌}
-use Rattle.std.proofs.Common.{inl, inr, List, [], ◌∷◌, ◌++◌, length}
-use Rattle.std.specs.Prelude.{reverse}
-use Rattle.std.specs.List.{flat_map, list_any, list_all}
+use Rattle.std.{proofs.Common.{inl, inr, List, [], ◌∷◌, ◌++◌, length}, specs.{Prelude.{reverse}, List.{flat_map, list_any, list_all}}}
 use Rattle.std.proofs.lemmas.Bool.{and_parts, both_ways}
-use Rattle.title_land.specs.Depth.{depth}
-use Rattle.title_land.specs.declared.survey.Township.{Township}
-use Rattle.title_land.specs.declared.rectangle.Quarter.{Quarter}
-use Rattle.title_land.specs.declared.rectangle.Quarter.TheVariants.{Northeast, Northwest, Southwest, Southeast}
-use Rattle.title_land.specs.declared.node.Node.{Node}
+use Rattle.title_land.specs.{Depth.{depth}, declared.{survey.Township.{Township}, rectangle.Quarter.{Quarter}, node.Node.{Node}}}
+use Rattle.title_land.specs.declared.{rectangle.Quarter.TheVariants.{Northeast, Northwest, Southwest, Southeast}, tract.Land.{Land}}
+use Rattle.title_land.specs.{Survey.{same_township, same_section}, Nodes.{same_quarter}, Lands.{is_in_plant, cover_of}}
+use Rattle.title_land.specs.{CoverSets.{quarter_before, path_before, comes_before, are_in_order}, Laws.Members.{any_from}}
+use Rattle.title_land.specs.Laws.{SameLand.{same_township-self}, CoverSet.{cover_is_cover}}
 use Rattle.title_land.specs.declared.node.Node.TheVariants as node
-use Rattle.title_land.specs.declared.tract.Land.{Land}
-use Rattle.title_land.specs.Survey.{same_township, same_section}
-use Rattle.title_land.specs.Nodes.{same_quarter}
-use Rattle.title_land.specs.Lands.{is_in_plant, cover_of}
-use Rattle.title_land.specs.CoverSets.{quarter_before, path_before, comes_before, are_in_order}
 use Rattle.title_land.specs.Laws.Members as members
-use Rattle.title_land.specs.Laws.Members.{any_from}
-use Rattle.title_land.specs.Laws.SameLand.{same_township-self}
-use Rattle.title_land.specs.Laws.CoverSet.{cover_is_cover}
-use Rattle.title_store.specs.Plants.{IsEachOnce}
-use Rattle.title_store.specs.Laws.SheetShows.{cover_apart}
-use Rattle.title_tree.specs.Paths.{begins}
+use Rattle.title_store.specs.{Plants.{IsEachOnce}, Laws.SheetShows.{cover_apart}}
+use Rattle.title_tree.specs.{Paths.{begins}, Pieces.{In, Disjoint}, Laws.{Beginnings.{begins_append}, Uniform.{corner, length-corner}}}
 use Rattle.title_tree.specs.Pieces as pieces
-use Rattle.title_tree.specs.Pieces.{In, Disjoint}
-use Rattle.title_tree.specs.Laws.Beginnings.{begins_append}
-use Rattle.title_tree.specs.Laws.Uniform.{corner, length-corner}
-use Rattle.title_tree_store.specs.Spots.{index_of, township_path, blocks, township_spots, spots, tract_spots}
-use Rattle.title_tree_store.specs.Keeping.{height}
+use Rattle.title_tree_store.specs.{Spots.{index_of, township_path, blocks, township_spots, spots, tract_spots}, Keeping.{height}}
 use Rattle.title_tree_store.proofs.Paths.{begins_parts, begins_on, has_from, disjoint_under, disjoint_join, in_join, length-number_path}
-use Rattle.title_tree_store.proofs.CellPaths.{IsOf, township_is, in_spots, spots_have, cover_declared}
-use Rattle.title_tree_store.proofs.Images.{in_mapped}
+use Rattle.title_tree_store.proofs.{CellPaths.{IsOf, township_is, in_spots, spots_have, cover_declared}, Images.{in_mapped}}
 use Rattle.title_tree_store.proofs.Keeps.{spots_short}
 
 false_from : (b : Bool) → (b ≡ true → ⊥) → b ≡ false

@@ -1,41 +1,24 @@
 -- Which cells lie below which paths.
-use Rattle.std.proofs.Common.{◌≡◌, ◌∙◌, ap, sym, refl, subst, ℕ, zero, suc, ◌+◌}
+use Rattle.std.{proofs.Common.{◌≡◌, ◌∙◌, ap, sym, refl, subst, ℕ, zero, suc, ◌+◌}, specs.{Prelude.{nat_lt}, List.{flat_map, list_any}}}
 use Rattle.std.proofs.Common.{◌-◌, ◌*◌, ◌^◌, ◌<◌, ◌≤◌, arith, Bool, true, false, ◌&&◌, ◌||◌}
 use Rattle.std.proofs.Common.{inl, inr, List, [], ◌∷◌, ◌++◌, length, length-append, append_assoc, reverse}
-use Rattle.std.specs.Prelude.{nat_lt}
-use Rattle.std.specs.List.{flat_map, list_any}
 use Rattle.std.proofs.lemmas.List.{length-reverse, reverse-append, reverse-reverse, append-nil}
 use Rattle.std.proofs.lemmas.Bool.{and_from, and_parts, or_left, or_right, cases_Bool, eq-eqb, cases_eq, ltb-true}
-use Rattle.title_land.specs.Depth.{depth}
-use Rattle.title_land.specs.declared.survey.Township.{Township}
-use Rattle.title_land.specs.declared.survey.Section.{Section}
-use Rattle.title_land.specs.declared.survey.Cell.{Cell}
-use Rattle.title_land.specs.declared.rectangle.Quarter.{Quarter}
-use Rattle.title_land.specs.declared.rectangle.Quarter.TheVariants.{Northeast, Northwest, Southwest}
-use Rattle.title_land.specs.declared.node.Node.{Node}
-use Rattle.title_land.specs.declared.node.Node.TheVariants as node
-use Rattle.title_land.specs.declared.tract.Land.{Land}
-use Rattle.title_land.specs.declared.tract.Land.TheVariants as land
-use Rattle.title_land.specs.Survey.{side, same_township, same_section, is_on_grid}
-use Rattle.title_land.specs.Rectangles.{holds}
-use Rattle.title_land.specs.Nodes.{square, node_has}
-use Rattle.title_land.specs.Lands.{has, cover_of, is_in_plant, is_plant_cell}
-use Rattle.title_land.specs.Paths.{quarter_number}
-use Rattle.title_land.specs.Laws.PathNumbers.{quarter_below}
-use Rattle.title_land.specs.Laws.SameLand.{same_township-is, same_township-self, same_section-is}
-use Rattle.title_land.specs.Laws.Squares.{holds_from, has_corner}
-use Rattle.title_land.specs.Laws.CoverSet.{cell_in_grid}
-use Rattle.title_land.specs.Laws.LandSharing.{cover_has_its_cells, part_found, equal_tests}
+use Rattle.title_land.specs.{Depth.{depth}, declared.{survey.{Township.{Township}, Section.{Section}, Cell.{Cell}}, node.Node.{Node}}}
+use Rattle.title_land.specs.declared.{rectangle.Quarter.{Quarter, TheVariants.{Northeast, Northwest, Southwest}}, tract.Land.{Land}}
+use Rattle.title_land.specs.{Survey.{side, same_township, same_section, is_on_grid}, Rectangles.{holds}, Nodes.{square, node_has}}
+use Rattle.title_land.specs.{Lands.{has, cover_of, is_in_plant, is_plant_cell}, Paths.{quarter_number}, Laws.PathNumbers.{quarter_below}}
+use Rattle.title_land.specs.Laws.{SameLand.{same_township-is, same_township-self, same_section-is}, Squares.{holds_from, has_corner}}
+use Rattle.title_land.specs.Laws.{CoverSet.{cell_in_grid}, LandSharing.{cover_has_its_cells, part_found, equal_tests}}
 use Rattle.title_land.specs.Laws.Members.{any_found, any_from}
+use Rattle.title_land.specs.declared.node.Node.TheVariants as node
+use Rattle.title_land.specs.declared.tract.Land.TheVariants as land
 use Rattle.title_land.specs.Laws.Members as members
-use Rattle.title_tree.specs.Paths.{way, begins, number_path}
-use Rattle.title_tree.specs.CellWays.{cell_way}
-use Rattle.title_tree.specs.Pieces as pieces
-use Rattle.title_tree.specs.Pieces.{In}
+use Rattle.title_tree.specs.{Paths.{way, begins, number_path}, CellWays.{cell_way}, Pieces.{In}}
 use Rattle.title_tree.specs.Laws.CellSquares.{squares_by_paths, cell_ways_are_whole}
-use Rattle.title_tree_store.specs.Spots.{index_of, township_path, section_path, square_path}
+use Rattle.title_tree.specs.Pieces as pieces
+use Rattle.title_tree_store.specs.{Spots.{index_of, township_path, section_path, square_path}, Keeping.{height}}
 use Rattle.title_tree_store.specs.Spots.{cell_path, blocks, township_spots, spots, tract_spots}
-use Rattle.title_tree_store.specs.Keeping.{height}
 use Rattle.title_tree_store.proofs.Paths.{begins_under, begins_parts, begins_whole, has_on}
 use Rattle.title_tree_store.proofs.Paths.{has_under, has_parts, has_flat, append_parts, in_join}
 use Rattle.title_tree_store.proofs.Paths.{length-number_path, number_is, number_of, path_of_number, parted}

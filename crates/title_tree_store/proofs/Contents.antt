@@ -1,24 +1,13 @@
 -- What the trees of a plant hold, cell by cell.
-use Rattle.std.proofs.Common.{◌≡◌, ◌∙◌, ap, refl, ℕ}
-use Rattle.std.proofs.Common.{◌^◌, ◌≤◌, Bool, true, false, ◌&&◌, cond}
-use Rattle.std.proofs.Common.{List, length}
+use Rattle.std.proofs.Common.{◌≡◌, ◌∙◌, ap, refl, ℕ, ◌^◌, ◌≤◌, Bool, true, false, ◌&&◌, cond, List, length}
 use Rattle.title_share.specs.Division.{Division}
-use Rattle.title_land.specs.Depth.{depth}
-use Rattle.title_land.specs.declared.survey.Township.{Township}
-use Rattle.title_land.specs.declared.survey.Cell.{Cell}
-use Rattle.title_land.specs.declared.rectangle.Quarter.{Quarter}
-use Rattle.title_land.specs.declared.tract.Land.{Land}
-use Rattle.title_land.specs.Lands.{has, is_in_plant, is_plant_cell}
-use Rattle.title_instrument.specs.declared.parts.Estate.{Estate}
-use Rattle.title_instrument.specs.declared.parts.Estate.TheVariants.{S, O, M}
-use Rattle.title_instrument.specs.declared.owners.Owners.{Owners}
-use Rattle.title_instrument.specs.Owners.{opening_owners}
+use Rattle.title_land.specs.{Depth.{depth}, declared.{survey.{Township.{Township}, Cell.{Cell}}, rectangle.Quarter.{Quarter}}}
+use Rattle.title_land.specs.{declared.tract.Land.{Land}, Lands.{has, is_in_plant, is_plant_cell}}
+use Rattle.title_instrument.specs.{declared.{parts.Estate.{Estate, TheVariants.{S, O, M}}, owners.Owners.{Owners}}, Owners.{opening_owners}}
 use Rattle.title_store.specs.Plants.{is_cell_of}
 use Rattle.title_tree.specs.Plots.{Plot, value_at}
 use Rattle.title_tree.specs.Pieces as pieces
-use Rattle.title_tree_store.specs.Spots.{cell_path, tract_spots}
-use Rattle.title_tree_store.specs.Forests.{owners_at}
-use Rattle.title_tree_store.specs.Keeping.{content_of}
+use Rattle.title_tree_store.specs.{Spots.{cell_path, tract_spots}, Forests.{owners_at}, Keeping.{content_of}}
 use Rattle.title_tree_store.proofs.CellPaths.{tract_has}
 
 -- the owners of a cell from what each estate's tree has

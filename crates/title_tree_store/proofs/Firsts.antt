@@ -1,38 +1,19 @@
 -- The first of a tract's cells that refuses, list after list.
 use Rattle.std.proofs.Common.{◌≡◌, ◌∙◌, ap, sym, refl, subst, ℕ, zero, suc, ◌+◌, ◌-◌, ◌<◌, ◌≤◌, arith, true, false}
 use Rattle.std.proofs.Common.{List, [], ◌∷◌, ◌++◌, length, drop, get_or, Option, Some, None, is_some, inl, inr, ◌⊎◌, Bool}
-use Rattle.std.specs.Prelude.{filter, find}
-use Rattle.std.specs.List.{flat_map, list_any}
-use Rattle.std.specs.Option.{option_or}
-use Rattle.std.proofs.lemmas.Bool.{cases_Bool}
-use Rattle.std.proofs.lemmas.List.{drop_more, drop_all}
-use Rattle.std.proofs.lemmas.List.Elements.{filter-append}
-use Rattle.title_land.specs.Depth.{depth}
-use Rattle.title_land.specs.declared.survey.Township.{Township}
-use Rattle.title_land.specs.declared.survey.Section.{Section}
-use Rattle.title_land.specs.declared.survey.Cell.{Cell}
-use Rattle.title_land.specs.declared.rectangle.Quarter.{Quarter}
-use Rattle.title_land.specs.declared.rectangle.Rectangle.{Rectangle}
-use Rattle.title_land.specs.declared.tract.Land.{Land}
-use Rattle.title_land.specs.Nodes.{square, quarters}
-use Rattle.title_land.specs.Lands.{has, is_in_plant}
+use Rattle.std.{specs.{Prelude.{filter, find}, List.{flat_map, list_any}, Option.{option_or}}, proofs.lemmas.Bool.{cases_Bool}}
+use Rattle.std.proofs.lemmas.List.{drop_more, drop_all, Elements.{filter-append}}
+use Rattle.title_land.specs.{Depth.{depth}, declared.{survey.{Township.{Township}, Section.{Section}, Cell.{Cell}}, tract.Land.{Land}}}
+use Rattle.title_land.specs.{declared.{rectangle.{Quarter.{Quarter}, Rectangle.{Rectangle}}, grid.Grid.{Grid}}, Nodes.{square, quarters}}
+use Rattle.title_land.specs.{Lands.{has, is_in_plant}, Survey.{same_township}, Laws.SameLand.{same_township-is}}
 use Rattle.title_land.specs.CellLists.{corner_of, cells_below, section_cells, township_cells, plant_cells, cells_of}
-use Rattle.title_land.specs.Survey.{same_township}
-use Rattle.title_land.specs.declared.grid.Grid.{Grid}
-use Rattle.title_land.specs.declared.tract.Land.TheVariants as land
-use Rattle.title_land.specs.Laws.SameLand.{same_township-is}
 use Rattle.title_land.specs.Laws.CellFilters.{township_elsewhere, part_elsewhere, part_in_township}
-use Rattle.title_instrument.specs.declared.parts.Estate.{Estate}
-use Rattle.title_instrument.specs.declared.parts.Rule.{Rule}
-use Rattle.title_instrument.specs.declared.instrument.Instrument.{Instrument}
-use Rattle.title_instrument.specs.declared.owners.Effect.{Effect}
-use Rattle.title_instrument.specs.declared.owners.Effect.TheVariants.{Done, Refused}
-use Rattle.title_instrument.specs.Effect.{cell_effect}
+use Rattle.title_land.specs.declared.tract.Land.TheVariants as land
+use Rattle.title_instrument.specs.declared.{parts.{Estate.{Estate}, Rule.{Rule}}, instrument.Instrument.{Instrument}}
+use Rattle.title_instrument.specs.{declared.owners.Effect.{Effect, TheVariants.{Done, Refused}}, Effect.{cell_effect}}
 use Rattle.title_store.specs.Plants.{Plant, Failing, failing_or, first_failing}
 use Rattle.title_tree.specs.Plots.{Plot}
-use Rattle.title_tree_store.specs.Spots.{cell_path}
-use Rattle.title_tree_store.specs.Forests.{owners_at}
-use Rattle.title_tree_store.specs.Refusing.{first_in, first_of, triple}
+use Rattle.title_tree_store.specs.{Spots.{cell_path}, Forests.{owners_at}, Refusing.{first_in, first_of, triple}}
 
 failing_or_join : (c : Cell) (e : Effect) (x y : Option Failing) → failing_or c e (option_or x y) ≡ option_or (failing_or c e x) y
 failing_or_join c (Done w) x y = refl

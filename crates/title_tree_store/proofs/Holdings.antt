@@ -1,51 +1,26 @@
 -- What a tree has at a node's paths is what the node's cells have.
-use Rattle.std.proofs.Common.{◌≡◌, ◌∙◌, ap, sym, refl, subst, ℕ, zero, suc, ◌+◌}
-use Rattle.std.proofs.Common.{◌-◌, ◌^◌, ◌≤◌, arith, Bool, true, false, ◌||◌, cond}
-use Rattle.std.proofs.Common.{inl, inr, List, [], ◌∷◌, ◌++◌, length, length-append, map, Option, Some, None}
-use Rattle.std.specs.Prelude.{nat_lt, is_some}
-use Rattle.std.specs.Option.{option_map}
-use Rattle.std.specs.List.{flat_map}
-use Rattle.std.proofs.lemmas.Bool.{or_left, or_right, or_cases, cases_Bool, ltb-true}
+use Rattle.std.proofs.Common.{◌≡◌, ◌∙◌, ap, sym, refl, subst, ℕ, zero, suc, ◌+◌, ◌-◌, ◌^◌, ◌≤◌, arith, Bool, true, false, ◌||◌, cond}
+use Rattle.std.{proofs.Common.{inl, inr, List, [], ◌∷◌, ◌++◌, length, length-append, map, Option, Some, None}, specs.Option.{option_map}}
+use Rattle.std.{specs.{Prelude.{nat_lt, is_some}, List.{flat_map}}, proofs.lemmas.Bool.{or_left, or_right, or_cases, cases_Bool, ltb-true}}
 use Rattle.std.proofs.lemmas.List.{append-nil}
 use Rattle.title_share.specs.Division.{Division}
-use Rattle.title_land.specs.Depth.{depth}
-use Rattle.title_land.specs.declared.survey.Township.{Township}
-use Rattle.title_land.specs.declared.survey.Section.{Section}
-use Rattle.title_land.specs.declared.survey.Cell.{Cell}
-use Rattle.title_land.specs.declared.rectangle.Quarter.{Quarter}
-use Rattle.title_land.specs.declared.node.Node.{Node}
+use Rattle.title_land.specs.{Depth.{depth}, declared.{survey.{Township.{Township}, Section.{Section}, Cell.{Cell}}, node.Node.{Node}}}
+use Rattle.title_land.specs.{declared.{rectangle.Quarter.{Quarter}, tract.Land.{Land}}, Survey.{same_township}, Nodes.{quarters}}
+use Rattle.title_land.specs.{Lands.{is_in_plant, is_plant_cell, cover_of}, CellLists.{sections_of, node_cells, children_of}}
+use Rattle.title_land.specs.Laws.{SameLand.{same_township-self}, Members.{any_from}, CellMembers.{sections_of-in}}
 use Rattle.title_land.specs.declared.node.Node.TheVariants as node
-use Rattle.title_land.specs.declared.tract.Land.{Land}
-use Rattle.title_land.specs.Survey.{same_township}
-use Rattle.title_land.specs.Nodes.{quarters}
-use Rattle.title_land.specs.Lands.{is_in_plant, is_plant_cell, cover_of}
-use Rattle.title_land.specs.CellLists.{sections_of, node_cells, children_of}
-use Rattle.title_land.specs.Laws.SameLand.{same_township-self}
 use Rattle.title_land.specs.Laws.Members as members
-use Rattle.title_land.specs.Laws.Members.{any_from}
-use Rattle.title_land.specs.Laws.CellMembers.{sections_of-in}
-use Rattle.title_instrument.specs.declared.parts.Estate.{Estate}
-use Rattle.title_instrument.specs.declared.parts.Estate.TheVariants.{S, O, M}
-use Rattle.title_instrument.specs.Owners.{holding_of, opening_owners}
-use Rattle.title_store.specs.declared.sheet_row.SheetRow.{SheetRow}
+use Rattle.title_instrument.specs.{declared.parts.Estate.{Estate, TheVariants.{S, O, M}}, Owners.{holding_of, opening_owners}}
+use Rattle.title_store.specs.{declared.sheet_row.SheetRow.{SheetRow}, Laws.SheetHoldings.{one_found, one_from, one_some, in_node, of_node}}
 use Rattle.title_store.specs.Sheets.{one_holding, rows_or, sheet_below, estate_sheet, estates, sheet_of}
-use Rattle.title_store.specs.Laws.SheetHoldings.{one_found, one_from, one_some, in_node, of_node}
-use Rattle.title_tree.specs.Paths.{begins, rest}
-use Rattle.title_tree.specs.Plots.{Plot, value_at, plot_at, uniform, same_division, fits}
-use Rattle.title_tree.specs.Pieces as pieces
-use Rattle.title_tree.specs.Pieces.{In, Short, both_have, uniform_at}
-use Rattle.title_tree.specs.Laws.Beginnings.{begins_append, begins_is, rest_append}
-use Rattle.title_tree.specs.Laws.Depths.{fits_plot_at}
-use Rattle.title_tree.specs.Laws.Grafts.{value_plot_at}
-use Rattle.title_tree.specs.Laws.SameDivisions.{same_is, same_self}
+use Rattle.title_tree.specs.{Paths.{begins, rest}, Plots.{Plot, value_at, plot_at, uniform, same_division, fits}}
+use Rattle.title_tree.specs.{Pieces.{In, Short, both_have, uniform_at}, Laws.Beginnings.{begins_append, begins_is, rest_append}}
+use Rattle.title_tree.specs.Laws.{Depths.{fits_plot_at}, Grafts.{value_plot_at}, SameDivisions.{same_is, same_self}}
 use Rattle.title_tree.specs.Laws.Uniform.{uniform_is_held, uniform_is_found, corner, length-corner}
-use Rattle.title_tree_store.specs.Spots.{cell_path, section_path, spots}
-use Rattle.title_tree_store.specs.Forests.{owners_at}
-use Rattle.title_tree_store.specs.Keeping.{height, content_of}
-use Rattle.title_tree_store.specs.TreeSheets.{tree_sheet}
-use Rattle.title_tree_store.proofs.Paths.{has_in, has_from}
+use Rattle.title_tree.specs.Pieces as pieces
+use Rattle.title_tree_store.specs.{Spots.{cell_path, section_path, spots}, Forests.{owners_at}, Keeping.{height, content_of}}
+use Rattle.title_tree_store.{specs.TreeSheets.{tree_sheet}, proofs.{Paths.{has_in, has_from}, Keeps.{spots_short}}}
 use Rattle.title_tree_store.proofs.CellPaths.{IsOf, IsDeclared, in_spots, spots_have, cover_declared}
-use Rattle.title_tree_store.proofs.Keeps.{spots_short}
 
 -- ---- the one holding at some paths
 

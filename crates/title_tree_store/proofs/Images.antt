@@ -1,9 +1,7 @@
 -- Images that are out, in the order of their numbers.
-use Rattle.std.proofs.Common.{◌≡◌, ◌≢◌, ◌∙◌, ap, sym, refl, subst, ◌<◌, arith, inl, inr, ◌⊎◌}
-use Rattle.std.proofs.Common.{List, [], ◌∷◌, ◌++◌, map}
+use Rattle.std.proofs.Common.{◌≡◌, ◌≢◌, ◌∙◌, ap, sym, refl, subst, ◌<◌, arith, inl, inr, ◌⊎◌, List, [], ◌∷◌, ◌++◌, map}
 use Rattle.title_tree.specs.Pieces.{In}
-use Rattle.title_tree_store.specs.declared.lent.Lent.{Lent}
-use Rattle.title_tree_store.specs.Keeping.{Rises}
+use Rattle.title_tree_store.specs.{declared.lent.Lent.{Lent}, Keeping.{Rises}}
 
 pub in_map : {A B : Type 0} (f : A → B) (x : A) (xs : List A) → In x xs → In (f x) (map f xs)
 in_map f x [] i = i

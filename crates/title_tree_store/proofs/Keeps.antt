@@ -1,41 +1,26 @@
 -- What a store keeps, through each of its operations.
-use Rattle.std.proofs.Common.{◌≡◌, ◌≢◌, ◌∙◌, ap, sym, refl, subst, ℕ, ◌+◌, ◌-◌}
-use Rattle.std.proofs.Common.{◌^◌, ◌<◌, ◌≤◌, arith, Bool, true, false, true≢false}
-use Rattle.std.proofs.Common.{inl, inr, List, [], ◌∷◌, ◌++◌, length, map, length-append}
-use Rattle.std.proofs.lemmas.Bool.{and_from, and_parts, or_cases}
-use Rattle.title_land.specs.Depth.{depth}
-use Rattle.title_land.specs.declared.survey.Township.{Township}
-use Rattle.title_land.specs.declared.rectangle.Quarter.{Quarter}
-use Rattle.title_land.specs.declared.tract.Land.{Land}
-use Rattle.title_land.specs.Nodes.{same_path}
-use Rattle.title_land.specs.Lands.{is_in_plant, cover_of, meets}
-use Rattle.std.specs.List.{flat_map}
-use Rattle.std.proofs.lemmas.List.{length-reverse}
-use Rattle.title_land.specs.Laws.SameNode.{same_path-is, same_path-self}
-use Rattle.title_land.specs.Laws.TractSharing.{common_meets}
-use Rattle.title_land.specs.Laws.Members as members
-use Rattle.title_land.specs.declared.node.Node.{Node}
-use Rattle.title_land.specs.declared.node.Node.TheVariants as node
+use Rattle.std.proofs.Common.{◌≡◌, ◌≢◌, ◌∙◌, ap, sym, refl, subst, ℕ, ◌+◌, ◌-◌, ◌^◌, ◌<◌, ◌≤◌, arith, Bool, true, false, true≢false}
+use Rattle.std.proofs.{Common.{inl, inr, List, [], ◌∷◌, ◌++◌, length, map, length-append}, lemmas.Bool.{and_from, and_parts, or_cases}}
+use Rattle.std.{specs.List.{flat_map}, proofs.lemmas.List.{length-reverse}}
+use Rattle.title_land.specs.{Depth.{depth}, declared.{survey.Township.{Township}, rectangle.Quarter.{Quarter}, tract.Land.{Land}}}
+use Rattle.title_land.specs.{Nodes.{same_path}, Lands.{is_in_plant, cover_of, meets}, Laws.SameNode.{same_path-is, same_path-self}}
+use Rattle.title_land.specs.{Laws.TractSharing.{common_meets}, declared.node.Node.{Node}}
 use Rattle.title_land.specs.declared.rectangle.Quarter.TheVariants.{Northeast, Northwest, Southwest}
-use Rattle.title_instrument.specs.declared.parts.Estate.{Estate}
-use Rattle.title_instrument.specs.declared.parts.Estate.TheVariants.{S, O, M}
-use Rattle.title_tree.specs.Paths.{way, begins}
-use Rattle.title_tree.specs.Plots.{Plot, graft, fits, tidied_all}
-use Rattle.title_tree.specs.Pieces as pieces
-use Rattle.title_tree.specs.Pieces.{In, Piece, paths, Disjoint, Ready, Short, Refines, swapped, taken}
-use Rattle.title_tree.specs.Lendings.{Lending, Keeps, LaterClear, Clear}
-use Rattle.title_tree.specs.Laws.Beginnings.{begins_append}
-use Rattle.title_tree.specs.Laws.Uniform.{corner, length-corner}
-use Rattle.title_tree.specs.Laws.Depths.{fits_graft, fits_plot_at, fits_tidied_all}
+use Rattle.title_land.specs.Laws.Members as members
+use Rattle.title_land.specs.declared.node.Node.TheVariants as node
+use Rattle.title_instrument.specs.declared.parts.Estate.{Estate, TheVariants.{S, O, M}}
+use Rattle.title_tree.specs.{Paths.{way, begins}, Plots.{Plot, graft, fits, tidied_all}, Lendings.{Lending, Keeps, LaterClear, Clear}}
+use Rattle.title_tree.specs.{Pieces.{In, Piece, paths, Disjoint, Ready, Short, Refines, swapped, taken}, Laws.Beginnings.{begins_append}}
+use Rattle.title_tree.specs.Laws.{Uniform.{corner, length-corner}, Depths.{fits_graft, fits_plot_at, fits_tidied_all}}
 use Rattle.title_tree.specs.Laws.Images.{keeps_less, keeps_restored, keeps_refined}
-use Rattle.title_tree_store.specs.declared.lent.Lent.{Lent}
+use Rattle.title_tree.specs.Pieces as pieces
+use Rattle.title_tree_store.specs.{declared.lent.Lent.{Lent}, Forests.{tidied_written}}
 use Rattle.title_tree_store.specs.Spots.{index_of, township_path, section_path, cell_path, township_spots, spots, tract_spots}
-use Rattle.title_tree_store.specs.Forests as forests
-use Rattle.title_tree_store.specs.Forests.{tidied_written}
 use Rattle.title_tree_store.specs.Keeping.{height, lending, loans_of, same_ways, PiecesFit, IsBacked, IsKept, Rises, IsTakenOut}
 use Rattle.title_tree_store.proofs.Paths.{has_from, begins_on, length-number_path}
 use Rattle.title_tree_store.proofs.CellPaths.{IsDeclared, in_tract, tract_has, cover_declared, length-section_path}
 use Rattle.title_tree_store.proofs.Images.{in_map, in_mapped, in_joined, in_more, in_middle, rises_less, rises_apart}
+use Rattle.title_tree_store.specs.Forests as forests
 
 pub same_ways-is : (ps qs : List (List Quarter)) → same_ways ps qs ≡ true → ps ≡ qs
 same_ways-is [] [] h = refl

@@ -1,32 +1,16 @@
 -- Images that are out, as loans: what an image holds is read off it, the images after it and the trees.
-use Rattle.std.proofs.Common.{◌≡◌, ◌≢◌, ◌∙◌, ap, sym, refl, subst, ℕ, ◌^◌, ◌≤◌, ◌<◌, arith}
-use Rattle.std.proofs.Common.{Bool, true, false, true≢false, cond, eqb, inl, inr}
-use Rattle.std.proofs.Common.{List, [], ◌∷◌, ◌++◌, length}
-use Rattle.std.proofs.lemmas.Bool.{cases_Bool, eqb-true, eq-eqb, and_parts}
+use Rattle.std.proofs.Common.{◌≡◌, ◌≢◌, ◌∙◌, ap, sym, refl, subst, ℕ, ◌^◌, ◌≤◌, ◌<◌, arith, List, [], ◌∷◌, ◌++◌, length}
+use Rattle.std.proofs.{Common.{Bool, true, false, true≢false, cond, eqb, inl, inr}, lemmas.Bool.{cases_Bool, eqb-true, eq-eqb, and_parts}}
 use Rattle.title_share.specs.Division.{Division}
-use Rattle.title_land.specs.Depth.{depth}
-use Rattle.title_land.specs.declared.survey.Township.{Township}
-use Rattle.title_land.specs.declared.survey.Cell.{Cell}
-use Rattle.title_land.specs.declared.rectangle.Quarter.{Quarter}
-use Rattle.title_land.specs.declared.tract.Land.{Land}
-use Rattle.title_land.specs.Lands.{has, is_plant_cell, meets}
-use Rattle.title_land.specs.Laws.TractSharing.{common_meets}
-use Rattle.title_instrument.specs.declared.parts.Estate.{Estate}
-use Rattle.title_instrument.specs.declared.parts.Estate.TheVariants.{S, O, M}
-use Rattle.title_instrument.specs.Owners.{opening_owners}
-use Rattle.title_store.specs.Plants.{is_cell_of}
-use Rattle.title_store.specs.Loans.{Loan, IsAmong, IsLentAs, IsLast, IsFirst, without}
-use Rattle.title_tree.specs.Plots.{Plot, value_at}
-use Rattle.title_tree.specs.Pieces.{In, paths, held, Refines}
-use Rattle.title_tree_store.specs.declared.lent.Lent.{Lent}
-use Rattle.title_tree_store.specs.Spots.{cell_path, tract_spots}
-use Rattle.title_tree_store.specs.Forests as forests
+use Rattle.title_land.specs.{Depth.{depth}, declared.{survey.{Township.{Township}, Cell.{Cell}}, rectangle.Quarter.{Quarter}}}
+use Rattle.title_land.specs.{declared.tract.Land.{Land}, Lands.{has, is_plant_cell, meets}, Laws.TractSharing.{common_meets}}
+use Rattle.title_instrument.specs.{declared.parts.Estate.{Estate, TheVariants.{S, O, M}}, Owners.{opening_owners}}
+use Rattle.title_store.specs.{Plants.{is_cell_of}, Loans.{Loan, IsAmong, IsLentAs, IsLast, IsFirst, without}}
+use Rattle.title_tree.specs.{Plots.{Plot, value_at}, Pieces.{In, paths, held, Refines}}
+use Rattle.title_tree_store.{specs.{declared.lent.Lent.{Lent}, Spots.{cell_path, tract_spots}}, proofs.Paths.{has_in, has_from}}
 use Rattle.title_tree_store.specs.Keeping.{height, Rises, lies_in, held_before, owners_before, loan_of, loans_of, IsBacked, IsKept}
-use Rattle.title_tree_store.proofs.CellPaths.{length-cell_path, tract_has}
-use Rattle.title_tree_store.proofs.Paths.{has_in, has_from}
-use Rattle.title_tree_store.proofs.Contents.{owners_same}
-use Rattle.title_tree_store.proofs.Images.{in_middle}
-use Rattle.title_tree_store.proofs.Keeps.{in_spots}
+use Rattle.title_tree_store.proofs.{CellPaths.{length-cell_path, tract_has}, Contents.{owners_same}, Images.{in_middle}, Keeps.{in_spots}}
+use Rattle.title_tree_store.specs.Forests as forests
 
 -- the same loan, where its cells held the same
 loan_same : (levels : ℕ) (ts : List Township) (ps qs : Estate → Plot) (l : Lent) (later less : List Lent)

@@ -1,36 +1,22 @@
 -- The operations of a store, cell by cell.
-use Rattle.std.proofs.Common.{◌≡◌, ◌∙◌, ap, sym, refl, subst, ℕ, ◌≤◌, Bool, true, false, cond}
-use Rattle.std.proofs.Common.{List, [], ◌∷◌, ◌++◌, length, Option, Some, None}
-use Rattle.std.specs.Prelude.{MatchOption}
-use Rattle.std.specs.Option.{IsSome}
+use Rattle.std.{proofs.Common.{◌≡◌, ◌∙◌, ap, sym, refl, subst, ℕ, ◌≤◌, Bool, true, false, cond}, specs.Prelude.{MatchOption}}
+use Rattle.std.{proofs.Common.{List, [], ◌∷◌, ◌++◌, length, Option, Some, None}, specs.Option.{IsSome}}
 use Rattle.title_share.specs.Division.{all_to}
-use Rattle.title_land.specs.Depth.{depth}
-use Rattle.title_land.specs.declared.survey.Township.{Township}
-use Rattle.title_land.specs.declared.survey.Cell.{Cell}
-use Rattle.title_land.specs.declared.rectangle.Quarter.{Quarter}
+use Rattle.title_land.specs.{Depth.{depth}, declared.{survey.{Township.{Township}, Cell.{Cell}}, rectangle.Quarter.{Quarter}}}
 use Rattle.title_land.specs.Lands.{has, is_plant_cell}
-use Rattle.title_instrument.specs.declared.parts.Estate.{Estate}
-use Rattle.title_instrument.specs.declared.parts.Estate.TheVariants.{S, O, M}
-use Rattle.title_instrument.specs.Owners.{opening_owners}
-use Rattle.title_store.specs.Plants.{is_cell_of}
-use Rattle.title_store.specs.Loans.{Loan, IsLentAs, IsOut, IsLast, IsFirst, without}
-use Rattle.title_tree.specs.Plots.{Plot, Same, value_at, tidied_all}
-use Rattle.title_tree.specs.Pieces as pieces
-use Rattle.title_tree.specs.Pieces.{In, held, swapped}
-use Rattle.title_tree.specs.Laws.Swaps.{value_swapped}
+use Rattle.title_instrument.specs.{declared.parts.Estate.{Estate, TheVariants.{S, O, M}}, Owners.{opening_owners}}
+use Rattle.title_store.specs.{Plants.{is_cell_of}, Loans.{Loan, IsLentAs, IsOut, IsLast, IsFirst, without}}
+use Rattle.title_tree.specs.{Plots.{Plot, Same, value_at, tidied_all}, Pieces.{In, held, swapped}, Laws.Swaps.{value_swapped}}
 use Rattle.title_tree.specs.Laws.Uniform.{tidied_all_shows}
-use Rattle.title_tree_store.specs.declared.lent.Lent.{Lent}
-use Rattle.title_tree_store.specs.Spots.{cell_path, tract_spots}
-use Rattle.title_tree_store.specs.Forests as forests
-use Rattle.title_tree_store.specs.Forests.{owners_at, tidied_written}
+use Rattle.title_tree.specs.Pieces as pieces
+use Rattle.title_tree_store.specs.{declared.lent.Lent.{Lent}, Spots.{cell_path, tract_spots}, Forests.{owners_at, tidied_written}}
 use Rattle.title_tree_store.specs.Keeping.{height, content_of, lies_in, held_before, owners_before, loan_of, loans_of}
-use Rattle.title_tree_store.specs.Keeping.{IsAbsent, IsTakenOut, IsKept, IsBacked}
-use Rattle.title_tree_store.proofs.CellPaths.{length-cell_path, tract_has}
-use Rattle.title_tree_store.proofs.Contents.{owners_same, content_agrees, content_changes}
-use Rattle.title_tree_store.proofs.Images.{in_middle}
+use Rattle.title_tree_store.{specs.Keeping.{IsAbsent, IsTakenOut, IsKept, IsBacked}, proofs.CellPaths.{length-cell_path, tract_has}}
+use Rattle.title_tree_store.proofs.{Contents.{owners_same, content_agrees, content_changes}, Images.{in_middle}}
 use Rattle.title_tree_store.proofs.Keeps.{goes_back, in_spots, kept_less, kept_restored, tract_short}
 use Rattle.title_tree_store.proofs.Loans.{among_lent, loan_under, loans_gone, last_apart, lies_has, lies_not}
 use Rattle.title_tree_store.proofs.Loans.{none_later, later_not, before_not}
+use Rattle.title_tree_store.specs.Forests as forests
 
 -- the plant of trees in which party 0 has the whole of each cell
 pub opens : (levels : ℕ) (ts : List Township) (ps : Estate → Plot) → ((e : Estate) → ps e ≡ Same (all_to 0)) → (c : Cell)

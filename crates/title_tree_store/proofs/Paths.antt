@@ -1,17 +1,12 @@
 -- Paths that are joined of parts.
-use Rattle.std.proofs.Common.{◌≡◌, ◌∙◌, ap, sym, refl, subst, ℕ, zero, suc, ◌+◌, ◌*◌}
-use Rattle.std.proofs.Common.{◌/◌, ◌%◌, ◌^◌, ◌<◌, arith, Bool, true, false, ◌&&◌, ◌||◌}
+use Rattle.std.{proofs.Common.{◌≡◌, ◌∙◌, ap, sym, refl, subst, ℕ, zero, suc, ◌+◌, ◌*◌}, specs.List.{flat_map, list_any}}
+use Rattle.std.proofs.{Common.{◌/◌, ◌%◌, ◌^◌, ◌<◌, arith, Bool, true, false, ◌&&◌, ◌||◌}, lemmas.List.{reverse-append}}
 use Rattle.std.proofs.Common.{inl, inr, ◌⊎◌, List, [], ◌∷◌, ◌++◌, length, map, length-append, reverse}
-use Rattle.std.specs.List.{flat_map, list_any}
-use Rattle.std.proofs.lemmas.List.{reverse-append}
 use Rattle.std.proofs.lemmas.Bool.{and_from, and_parts, or_left, or_right, or_cases}
-use Rattle.title_land.specs.declared.rectangle.Quarter.{Quarter}
-use Rattle.title_land.specs.Nodes.{same_quarter}
-use Rattle.title_land.specs.Paths.{quarter_at, quarter_number}
+use Rattle.title_land.specs.{declared.rectangle.Quarter.{Quarter}, Nodes.{same_quarter}, Paths.{quarter_at, quarter_number}}
 use Rattle.title_land.specs.Laws.PathNumbers.{quarter_below, quarter_at-number, quarter_number-at}
 use Rattle.title_land.specs.Laws.SameNode.{same_quarter-is, same_quarter-self}
-use Rattle.title_tree.specs.Paths.{begins, number_path}
-use Rattle.title_tree.specs.Pieces.{In, has, Apart, Disjoint}
+use Rattle.title_tree.specs.{Paths.{begins, number_path}, Pieces.{In, has, Apart, Disjoint}}
 
 -- ---- beginnings
 

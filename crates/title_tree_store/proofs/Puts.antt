@@ -3,60 +3,31 @@ use Rattle.std.proofs.Common.{◌≡◌, ◌∙◌, ap, sym, refl, subst, ℕ, s
 use Rattle.std.proofs.Common.{List, [], ◌∷◌, ◌++◌, length, length-append, map, Option, Some, None, Result, Ok, Err, is_some}
 use Rattle.std.proofs.lemmas.Bool.{and_parts, and_from, or_right}
 use Rattle.title_share.specs.Division.{Division}
-use Rattle.title_land.specs.Depth.{depth}
-use Rattle.title_land.specs.declared.survey.Township.{Township}
-use Rattle.title_land.specs.declared.survey.Cell.{Cell}
-use Rattle.title_land.specs.declared.rectangle.Quarter.{Quarter}
-use Rattle.title_land.specs.declared.tract.Land.{Land}
-use Rattle.title_land.specs.Lands.{has, is_in_plant, is_plant_cell}
-use Rattle.title_land.specs.CellLists.{cells_of}
-use Rattle.title_land.specs.Laws.Members as members
+use Rattle.title_land.specs.{Depth.{depth}, declared.{survey.{Township.{Township}, Cell.{Cell}}, rectangle.Quarter.{Quarter}}}
+use Rattle.title_land.specs.{declared.tract.Land.{Land}, Lands.{has, is_in_plant, is_plant_cell}, CellLists.{cells_of}}
 use Rattle.title_land.specs.Laws.CellMembers.{listed, listed_from, list_has_the_cells}
-use Rattle.title_instrument.specs.declared.parts.Estate.{Estate}
-use Rattle.title_instrument.specs.declared.parts.Estate.TheVariants.{S, O, M}
-use Rattle.title_instrument.specs.declared.parts.Rule.{Rule}
-use Rattle.title_instrument.specs.declared.instrument.Instrument.{Instrument}
-use Rattle.title_instrument.specs.declared.owners.Owners.{Owners}
-use Rattle.title_instrument.specs.declared.owners.Effect.{Effect}
-use Rattle.title_instrument.specs.declared.owners.Effect.TheVariants.{Done, Refused}
-use Rattle.title_instrument.specs.Effect.{holding_effect, cell_effect, joined}
-use Rattle.title_instrument.specs.Owners.{opening_owners}
-use Rattle.title_instrument.specs.Estates.{names}
-use Rattle.title_instrument.specs.Parties.{estates_of}
+use Rattle.title_land.specs.Laws.Members as members
+use Rattle.title_instrument.specs.declared.{parts.{Estate.{Estate, TheVariants.{S, O, M}}, Rule.{Rule}}, instrument.Instrument.{Instrument}}
+use Rattle.title_instrument.specs.{declared.owners.{Owners.{Owners}, Effect.{Effect, TheVariants.{Done, Refused}}}, Owners.{opening_owners}}
+use Rattle.title_instrument.specs.{Effect.{holding_effect, cell_effect, joined}, Estates.{names}, Parties.{estates_of}}
 use Rattle.title_instrument.specs.Laws.EffectLaws.{holding_unnamed}
 use Rattle.title_store.specs.Plants.{Plant, Failing, IsEachOnce, is_cell_of, failing_or, first_failing, done_or, plant_effect, refused_in}
-use Rattle.title_store.specs.Plants.{refusal_of}
-use Rattle.title_store.specs.Loans.{IsTaken}
-use Rattle.title_tree.specs.declared.change.Fault.{Fault}
+use Rattle.title_store.specs.{Plants.{refusal_of}, Loans.{IsTaken}}
+use Rattle.title_tree.specs.{declared.change.Fault.{Fault}, Changes.{why_of, new_or, after}, Faults.{Tells}, Lendings.{Lending, Keeps}}
+use Rattle.title_tree.specs.{Plots.{Plot, value_at, plot_at, fits}, Pieces.{In, Piece, Disjoint, Ready, Short, paths, held}, Paths.{rest}}
+use Rattle.title_tree.specs.{Pieces.{swapped, taken, split_all, fresh, refusal_at, Refines, StaysWithin}, Laws.Beginnings.{begins_is}}
+use Rattle.title_tree.specs.Laws.{Depths.{fits_plot_at, fits_changed, split_all_fits}, Images.{put_ready, put_keeps, put_content, put_held}}
+use Rattle.title_tree.specs.Laws.{Refusals.{none_refuses_at, some_refuses_at}, Swaps.{paths_taken, paths_fresh}}
 use Rattle.title_tree.specs.declared.change.Fault.TheVariants as fault
-use Rattle.title_tree.specs.Changes.{why_of, new_or, after}
-use Rattle.title_tree.specs.Faults.{Tells}
-use Rattle.title_tree.specs.Plots.{Plot, value_at, plot_at, fits}
 use Rattle.title_tree.specs.Pieces as pieces
-use Rattle.title_tree.specs.Pieces.{In, Piece, Disjoint, Ready, Short, paths, held}
-use Rattle.title_tree.specs.Pieces.{swapped, taken, split_all, fresh, refusal_at, Refines, StaysWithin}
-use Rattle.title_tree.specs.Lendings.{Lending, Keeps}
-use Rattle.title_tree.specs.Paths.{rest}
-use Rattle.title_tree.specs.Laws.Beginnings.{begins_is}
-use Rattle.title_tree.specs.Laws.Depths.{fits_plot_at, fits_changed, split_all_fits}
-use Rattle.title_tree.specs.Laws.Images.{put_ready, put_keeps, put_content, put_held}
-use Rattle.title_tree.specs.Laws.Refusals.{none_refuses_at, some_refuses_at}
-use Rattle.title_tree.specs.Laws.Swaps.{paths_taken, paths_fresh}
-use Rattle.title_tree_store.specs.declared.lent.Lent.{Lent}
-use Rattle.title_tree_store.specs.Spots.{cell_path, tract_spots}
-use Rattle.title_tree_store.specs.Forests as forests
-use Rattle.title_tree_store.specs.Forests.{owners_at, named_spots, IsChange}
+use Rattle.title_tree_store.specs.{declared.lent.Lent.{Lent}, Spots.{cell_path, tract_spots}, Forests.{owners_at, named_spots, IsChange}}
 use Rattle.title_tree_store.specs.Keeping.{height, content_of, lending, lies_in, owners_before, loan_of, loans_of, same_ways, is_whole}
-use Rattle.title_tree_store.specs.Keeping.{PiecesFit, IsBacked, IsKept}
-use Rattle.title_tree_store.specs.Refusing.{why_cell, first_in, triple}
-use Rattle.title_tree_store.proofs.CellPaths.{in_tract, tract_has, length-cell_path}
-use Rattle.title_tree_store.proofs.Paths.{has_in}
-use Rattle.title_tree_store.proofs.Contents.{owners_same, content_changes}
-use Rattle.title_tree_store.proofs.Images.{in_map, in_last, map_push, rises_more}
-use Rattle.title_tree_store.proofs.Loans.{among_lent, loans_push}
+use Rattle.title_tree_store.{specs.{Keeping.{PiecesFit, IsBacked, IsKept}, Refusing.{why_cell, first_in, triple}}, proofs.Paths.{has_in}}
+use Rattle.title_tree_store.proofs.{CellPaths.{in_tract, tract_has, length-cell_path}, Contents.{owners_same, content_changes}}
+use Rattle.title_tree_store.proofs.{Images.{in_map, in_last, map_push, rises_more}, Loans.{among_lent, loans_push}, Apart.{tract_apart}}
 use Rattle.title_tree_store.proofs.Keeps.{same_ways-self, tract_short, fits_swapped, taken_fit, kept_refined}
 use Rattle.title_tree_store.proofs.Steps.{named_or, named_short}
-use Rattle.title_tree_store.proofs.Apart.{tract_apart}
+use Rattle.title_tree_store.specs.Forests as forests
 
 -- the steps of a put in each estate's tree: what was made, the tree quartered, the exchange, the image
 pub record IsPut (i : Instrument ℕ) (ps : List (List Quarter)) (e : Estate) (t u v : Plot) (xs ys : List Piece) : Type 0 where

@@ -3,9 +3,7 @@ use Rattle.std.proofs.Common.{◌≡◌, ◌≢◌, ◌∙◌, ap, sym, refl, su
 use Rattle.std.proofs.Common.{List, [], ◌∷◌, ◌++◌, length, length-append, set, get_or, drop, Option, Some, None}
 use Rattle.std.specs.Prelude.{MatchOption}
 use Rattle.title_tree.specs.Pieces.{In}
-use Rattle.title_tree_store.specs.declared.lent.Lent.{Lent}
-use Rattle.title_tree_store.specs.Slots.{filled, IsNumbered}
-use Rattle.title_tree_store.specs.Keeping.{IsAbsent, IsTakenOut}
+use Rattle.title_tree_store.specs.{declared.lent.Lent.{Lent}, Slots.{filled, IsNumbered}, Keeping.{IsAbsent, IsTakenOut}}
 
 pub filled_push : (xs : List (Option Lent)) (l : Lent) → filled (xs ++ Some l ∷ []) ≡ filled xs ++ l ∷ []
 filled_push [] l = refl

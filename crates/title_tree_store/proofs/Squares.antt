@@ -1,34 +1,19 @@
 -- Sheets by what stands in a square are those that are read off the whole tree.
-use Rattle.std.proofs.Common.{◌≡◌, ◌∙◌, ap, sym, refl, subst, ℕ, zero, suc, ◌+◌, ◌-◌, ◌≤◌, arith, false, inl, inr}
-use Rattle.std.proofs.Common.{List, [], ◌∷◌, ◌++◌, length, map, append_assoc, cond, Bool}
-use Rattle.std.specs.Prelude.{nat_lt}
-use Rattle.std.specs.List.{flat_map}
-use Rattle.std.proofs.lemmas.Bool.{cases_Bool}
-use Rattle.std.proofs.lemmas.List.{append-nil}
-use Rattle.title_land.specs.Depth.{depth}
-use Rattle.title_land.specs.declared.survey.Township.{Township}
-use Rattle.title_land.specs.declared.survey.Section.{Section}
-use Rattle.title_land.specs.declared.rectangle.Quarter.{Quarter}
-use Rattle.title_land.specs.declared.rectangle.Quarter.TheVariants.{Northeast, Northwest, Southwest, Southeast}
-use Rattle.title_land.specs.declared.node.Node.{Node}
+use Rattle.std.{proofs.Common.{◌≡◌, ◌∙◌, ap, sym, refl, subst, ℕ, zero, suc, ◌+◌, ◌-◌, ◌≤◌, arith, false, inl, inr}, specs.Prelude.{nat_lt}}
+use Rattle.std.{proofs.Common.{List, [], ◌∷◌, ◌++◌, length, map, append_assoc, cond, Bool}, specs.List.{flat_map}}
+use Rattle.std.proofs.lemmas.{Bool.{cases_Bool}, List.{append-nil}}
+use Rattle.title_land.specs.{Depth.{depth}, declared.{survey.{Township.{Township}, Section.{Section}}, rectangle.Quarter.{Quarter}}}
+use Rattle.title_land.specs.declared.{rectangle.Quarter.TheVariants.{Northeast, Northwest, Southwest, Southeast}, node.Node.{Node}}
+use Rattle.title_land.specs.{declared.tract.Land.{Land}, Lands.{cover_of}, CellLists.{sections_of, children_of}, Laws.Members.{In}}
+use Rattle.title_land.specs.Laws.{CellMembers.{sections_of-in}, LandSharing.{part_found}}
 use Rattle.title_land.specs.declared.node.Node.TheVariants as node
-use Rattle.title_land.specs.declared.tract.Land.{Land}
 use Rattle.title_land.specs.declared.tract.Land.TheVariants as land
-use Rattle.title_land.specs.Lands.{cover_of}
-use Rattle.title_land.specs.CellLists.{sections_of, children_of}
-use Rattle.title_land.specs.Laws.CellMembers.{sections_of-in}
-use Rattle.title_land.specs.Laws.LandSharing.{part_found}
-use Rattle.title_land.specs.Laws.Members.{In}
 use Rattle.title_instrument.specs.declared.parts.Estate.{Estate}
-use Rattle.title_store.specs.declared.sheet_row.SheetRow.{SheetRow}
-use Rattle.title_store.specs.Sheets.{rows_or}
-use Rattle.title_tree.specs.Paths.{way, number_path}
-use Rattle.title_tree.specs.Plots.{Plot, Same, Four, plot_at, uniform}
-use Rattle.title_tree.specs.Pieces.{uniform_at, both_have}
+use Rattle.title_store.specs.{declared.sheet_row.SheetRow.{SheetRow}, Sheets.{rows_or}}
+use Rattle.title_tree.specs.{Paths.{way, number_path}, Plots.{Plot, Same, Four, plot_at, uniform}, Pieces.{uniform_at, both_have}}
 use Rattle.title_tree_store.specs.Spots.{index_of, blocks, township_path, section_path, square_path, township_spots}
 use Rattle.title_tree_store.specs.SquareSheets.{square_sheet, part_sheet, section_sheet, township_sheet, plant_sheet}
-use Rattle.title_tree_store.specs.TreeSheets.{tree_sheet}
-use Rattle.title_tree_store.proofs.Standing.{plot_at_join, square_down, section_down}
+use Rattle.title_tree_store.{specs.TreeSheets.{tree_sheet}, proofs.Standing.{plot_at_join, square_down, section_down}}
 
 -- ---- squares
 

@@ -1,54 +1,25 @@
 -- What stands in a square of each estate's tree, and what refuses there.
 use Rattle.std.proofs.Common.{◌≡◌, ◌∙◌, ap, sym, refl, subst, ℕ, zero, suc, ◌+◌, ◌-◌, ◌/◌, ◌%◌, ◌<◌, ◌≤◌, arith, Bool, true, false, ◌&&◌}
 use Rattle.std.proofs.Common.{inl, inr, List, [], ◌∷◌, ◌++◌, length, append_assoc, Option, Some, None, Result, Ok, Err, not}
-use Rattle.std.specs.Prelude.{filter, find, ◌↔◌, ◌==◌, ◌||◌}
+use Rattle.std.{specs.Prelude.{filter, find, ◌↔◌, ◌==◌, ◌||◌}, proofs.lemmas.List.{reverse-append, append-nil}}
 use Rattle.std.proofs.lemmas.Bool.{and_from, or_cases, cases_Bool, eqb-true, false_from_ne_true}
-use Rattle.std.proofs.lemmas.List.{reverse-append, append-nil}
 use Rattle.title_share.specs.Division.{Division}
-use Rattle.title_land.specs.Depth.{depth}
-use Rattle.title_land.specs.declared.survey.Township.{Township}
-use Rattle.title_land.specs.declared.survey.Section.{Section}
-use Rattle.title_land.specs.declared.survey.Cell.{Cell}
-use Rattle.title_land.specs.declared.rectangle.Quarter.{Quarter}
-use Rattle.title_land.specs.declared.rectangle.Quarter.TheVariants.{Northeast, Northwest, Southwest, Southeast}
+use Rattle.title_land.specs.{Depth.{depth}, declared.{survey.{Township.{Township}, Section.{Section}, Cell.{Cell}}, tract.Land.{Land}}}
+use Rattle.title_land.specs.{declared.rectangle.Quarter.{Quarter, TheVariants.{Northeast, Northwest, Southwest, Southeast}}, Nodes.{square}}
+use Rattle.title_land.specs.{Survey.{same_section}, Paths.{quarter_at}, Rectangles.{holds}, Lands.{has, land_of, Meets}}
+use Rattle.title_land.specs.{CellLists.{corner_of, cells_below}, Laws.{CellMembers.{cells_below-in}, CoverSet.{cell_in_grid}}}
+use Rattle.title_land.specs.Laws.{Members.{In, filter_none}, NodeLands.{has-land_of}, SameLand.{same_section-self}, Squares.{holds_from}}
 use Rattle.title_land.specs.declared.node.Node.TheVariants as node
-use Rattle.title_land.specs.declared.tract.Land.{Land}
-use Rattle.title_land.specs.Survey.{same_section}
-use Rattle.title_land.specs.Paths.{quarter_at}
-use Rattle.title_land.specs.Rectangles.{holds}
-use Rattle.title_land.specs.Nodes.{square}
-use Rattle.title_land.specs.Lands.{has, land_of, Meets}
-use Rattle.title_land.specs.CellLists.{corner_of, cells_below}
-use Rattle.title_land.specs.Laws.CellMembers.{cells_below-in}
-use Rattle.title_land.specs.Laws.CoverSet.{cell_in_grid}
-use Rattle.title_land.specs.Laws.Members.{In, filter_none}
-use Rattle.title_land.specs.Laws.NodeLands.{has-land_of}
-use Rattle.title_land.specs.Laws.SameLand.{same_section-self}
-use Rattle.title_land.specs.Laws.Squares.{holds_from}
-use Rattle.title_instrument.specs.declared.parts.Estate.{Estate}
-use Rattle.title_instrument.specs.declared.parts.Estate.TheVariants.{S, O, M}
-use Rattle.title_instrument.specs.declared.parts.Rule.{Rule}
-use Rattle.title_instrument.specs.declared.instrument.Instrument.{Instrument}
-use Rattle.title_instrument.specs.declared.owners.Owners.{Owners}
-use Rattle.title_instrument.specs.declared.owners.Effect.{Effect}
-use Rattle.title_instrument.specs.declared.owners.Effect.TheVariants.{Done, Refused}
-use Rattle.title_instrument.specs.Effect.{holding_effect, cell_effect, joined}
-use Rattle.title_instrument.specs.Estates.{names}
-use Rattle.title_instrument.specs.Parties.{estates_of}
-use Rattle.title_instrument.specs.Laws.EffectLaws.{holding_unnamed}
+use Rattle.title_instrument.specs.declared.{parts.{Estate.{Estate, TheVariants.{S, O, M}}, Rule.{Rule}}, instrument.Instrument.{Instrument}}
+use Rattle.title_instrument.specs.{declared.owners.{Owners.{Owners}, Effect.{Effect, TheVariants.{Done, Refused}}}, Estates.{names}}
+use Rattle.title_instrument.specs.{Effect.{holding_effect, cell_effect, joined}, Parties.{estates_of}, Laws.EffectLaws.{holding_unnamed}}
 use Rattle.title_store.specs.Plants.{Plant, Failing, failing_or, first_failing}
-use Rattle.title_tree.specs.Changes.{why_of}
-use Rattle.title_tree.specs.CellWays.{cell_way}
-use Rattle.title_tree.specs.Paths.{way, begins, rest, number_path}
-use Rattle.title_tree.specs.Plots.{Plot, Same, Four, value_at, plot_at}
-use Rattle.title_tree.specs.Laws.CellSquares.{squares_by_paths}
+use Rattle.title_tree.specs.{Changes.{why_of}, CellWays.{cell_way}, Paths.{way, begins, rest, number_path}}
+use Rattle.title_tree.specs.{Plots.{Plot, Same, Four, value_at, plot_at}, Laws.CellSquares.{squares_by_paths}}
 use Rattle.title_tree.specs.Laws.Grafts.{value_plot_at, plot_at_same}
-use Rattle.title_tree_store.specs.Spots.{township_path, section_path, square_path, cell_path}
-use Rattle.title_tree_store.specs.Forests.{owners_at}
+use Rattle.title_tree_store.specs.{Spots.{township_path, section_path, square_path, cell_path}, Forests.{owners_at}}
 use Rattle.title_tree_store.specs.Refusing.{why_cell, why_first, is_settled, refused_at, StandsAt, first_in, first_of, triple}
-use Rattle.title_tree_store.proofs.Contents.{owners_same}
-use Rattle.title_tree_store.proofs.Firsts.{find_yes, find_no}
-use Rattle.title_tree_store.proofs.Paths.{begins_under}
+use Rattle.title_tree_store.proofs.{Contents.{owners_same}, Firsts.{find_yes, find_no}, Paths.{begins_under}}
 use Rattle.title_tree_store.proofs.CellPaths.{corner_way, grid_parts}
 
 -- ---- going down

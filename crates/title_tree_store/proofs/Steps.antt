@@ -1,19 +1,12 @@
 -- Steps of the code, and what a put wrote: it is noted for the estates that its instrument names.
-use Rattle.std.proofs.Common.{◌≡◌, ◌∙◌, ap, sym, subst, ℕ, Bool, true, false, cond}
-use Rattle.std.proofs.Common.{List, [], ◌∷◌, ◌++◌, map, Result, Ok, Err, OnOk, OnErr}
+use Rattle.std.proofs.Common.{◌≡◌, ◌∙◌, ap, sym, subst, ℕ, Bool, true, false, cond, List, [], ◌∷◌, ◌++◌, map, Result, Ok, Err, OnOk, OnErr}
 use Rattle.std.proofs.lemmas.List.{map-append}
 use Rattle.title_land.specs.declared.rectangle.Quarter.{Quarter}
-use Rattle.title_instrument.specs.declared.parts.Estate.{Estate}
-use Rattle.title_instrument.specs.declared.instrument.Instrument.{Instrument}
-use Rattle.title_instrument.specs.Estates.{names}
+use Rattle.title_instrument.specs.{declared.{parts.Estate.{Estate}, instrument.Instrument.{Instrument}}, Estates.{names}}
 use Rattle.title_instrument.specs.Parties.{estates_of}
-use Rattle.title_tree.specs.Plots.{Plot, fits}
-use Rattle.title_tree.specs.Pieces.{split_all, Short, Refines, StaysWithin}
-use Rattle.title_tree_store.specs.declared.forest.Written.{Written}
-use Rattle.title_tree_store.specs.Spots.{paths_in}
-use Rattle.title_tree_store.specs.Forests.{put_ways, named_spots}
-use Rattle.title_tree.specs.Laws.Depths.{split_all_fits}
+use Rattle.title_tree.specs.{Plots.{Plot, fits}, Pieces.{split_all, Short, Refines, StaysWithin}, Laws.Depths.{split_all_fits}}
 use Rattle.title_tree.specs.Laws.Swaps.{split_all_reaches}
+use Rattle.title_tree_store.specs.{declared.forest.Written.{Written}, Spots.{paths_in}, Forests.{put_ways, named_spots}}
 
 -- what was quartered has the same cells and all nodes
 pub split_stays : {A E : Type 0} (r : Result A E) (ps : List (List Quarter)) (t u : Plot) → u ≡ split_all ps t → OnErr r (Refines t u)

@@ -1,27 +1,12 @@
 -- The trees of a plant as plots, by estate.
 use Rattle.std.specs.Prelude.{◌≡◌, ℕ, List, [], ◌∷◌, ◌++◌, ◌⊎◌, cond, None, map}
 use Rattle.title_land.specs.declared.rectangle.Quarter.{Quarter}
-use Rattle.title_instrument.specs.declared.parts.Estate.{Estate}
-use Rattle.title_instrument.specs.declared.parts.Estate.TheVariants.{S, O, M}
-use Rattle.title_instrument.specs.declared.parts.Rule.{Rule}
-use Rattle.title_instrument.specs.declared.instrument.Instrument.{Instrument}
-use Rattle.title_instrument.specs.declared.owners.Owners.{Owners}
-use Rattle.title_instrument.specs.Effect.{holding_effect}
-use Rattle.title_instrument.specs.Estates.{names}
-use Rattle.title_instrument.specs.Parties.{estates_of}
-use Rattle.title_tree.specs.declared.change.Fault.{Fault}
-use Rattle.title_tree.specs.Changes.{after}
-use Rattle.title_tree.specs.Faults.{Tells}
-use Rattle.title_tree.specs.Plots.{Plot, value_at, tidied_all}
-use Rattle.title_tree.specs.Parts.{piece}
-use Rattle.title_tree.specs.Pieces.{Piece, fresh, refusal_at}
-use Rattle.title_tree.specs.Trees.{plot}
-use Rattle.title_tree_store.specs.declared.forest.Forest.{Forest}
-use Rattle.title_tree_store.specs.declared.forest.Subtrees.{Subtrees}
-use Rattle.title_tree_store.specs.declared.forest.Parts.{Parts}
-use Rattle.title_tree_store.specs.declared.forest.Parts.TheVariants.{Nothing, One, Many}
-use Rattle.title_tree_store.specs.declared.forest.Written.{Written}
-use Rattle.title_tree_store.specs.Spots.{paths_in}
+use Rattle.title_instrument.specs.declared.{parts.{Estate.{Estate, TheVariants.{S, O, M}}, Rule.{Rule}}, instrument.Instrument.{Instrument}}
+use Rattle.title_instrument.specs.{declared.owners.Owners.{Owners}, Effect.{holding_effect}, Estates.{names}, Parties.{estates_of}}
+use Rattle.title_tree.specs.{declared.change.Fault.{Fault}, Changes.{after}, Faults.{Tells}, Plots.{Plot, value_at, tidied_all}}
+use Rattle.title_tree.specs.{Parts.{piece}, Pieces.{Piece, fresh, refusal_at}, Trees.{plot}}
+use Rattle.title_tree_store.specs.declared.forest.{Forest.{Forest}, Subtrees.{Subtrees}, Parts.{Parts, TheVariants.{Nothing, One, Many}}}
+use Rattle.title_tree_store.specs.{declared.forest.Written.{Written}, Spots.{paths_in}}
 
 -- the plot of each estate
 abbrev pub plots : Forest → Estate → Plot

@@ -1,23 +1,12 @@
 -- What a store of trees keeps.
 use Rattle.std.specs.Prelude.{◌≡◌, ◌≢◌, ℕ, ◌+◌, ◌<◌, ◌≤◌, ◌^◌, Bool, true, false, ◌&&◌, ◌||◌, cond, List, [], ◌∷◌, ◌++◌, length, map}
-use Rattle.title_land.specs.Depth.{depth}
-use Rattle.title_land.specs.declared.survey.Township.{Township}
-use Rattle.title_land.specs.declared.rectangle.Quarter.{Quarter}
-use Rattle.title_land.specs.Nodes.{same_path}
+use Rattle.title_land.specs.{Depth.{depth}, declared.{survey.Township.{Township}, rectangle.Quarter.{Quarter}}, Nodes.{same_path}}
 use Rattle.title_land.specs.Lands.{is_in_plant, is_plant_cell}
 use Rattle.title_share.specs.Division.{Division}
-use Rattle.title_instrument.specs.declared.parts.Estate.{Estate}
-use Rattle.title_instrument.specs.declared.parts.Estate.TheVariants.{S, O, M}
-use Rattle.title_instrument.specs.declared.owners.Owners.{Owners}
-use Rattle.title_instrument.specs.Owners.{opening_owners}
-use Rattle.title_store.specs.Plants.{Plant, is_cell_of}
-use Rattle.title_store.specs.Loans.{Loan}
-use Rattle.title_tree.specs.Plots.{Plot, value_at, fits}
-use Rattle.title_tree.specs.Pieces.{In, Piece, paths, has, held}
-use Rattle.title_tree.specs.Lendings.{Lending, Keeps}
-use Rattle.title_tree_store.specs.declared.lent.Lent.{Lent}
-use Rattle.title_tree_store.specs.Spots.{cell_path, tract_spots}
-use Rattle.title_tree_store.specs.Forests.{pieces, owners_at}
+use Rattle.title_instrument.specs.{declared.{parts.Estate.{Estate, TheVariants.{S, O, M}}, owners.Owners.{Owners}}, Owners.{opening_owners}}
+use Rattle.title_store.specs.{Plants.{Plant, is_cell_of}, Loans.{Loan}}
+use Rattle.title_tree.specs.{Plots.{Plot, value_at, fits}, Pieces.{In, Piece, paths, has, held}, Lendings.{Lending, Keeps}}
+use Rattle.title_tree_store.specs.{declared.lent.Lent.{Lent}, Spots.{cell_path, tract_spots}, Forests.{pieces, owners_at}}
 
 -- the levels of a tree from the root down to a cell, where townships lie so many levels below the root
 abbrev pub height : ℕ → ℕ

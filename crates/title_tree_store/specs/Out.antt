@@ -1,9 +1,6 @@
 -- The images that are out of a store.
-use Rattle.std.specs.Prelude.{◌+◌, ◌<◌, ◌^◌, List}
-use Rattle.std.specs.VecDeque.{deque_len, deque_capacity}
-use Rattle.title_tree_store.specs.declared.lent.Lent.{Lent}
-use Rattle.title_tree_store.specs.declared.lent.Images.{Images}
-use Rattle.title_tree_store.specs.Slots.{filled}
+use Rattle.std.specs.{Prelude.{◌+◌, ◌<◌, ◌^◌, List}, VecDeque.{deque_len, deque_capacity}}
+use Rattle.title_tree_store.specs.{declared.lent.{Lent.{Lent}, Images.{Images}}, Slots.{filled}}
 
 -- in the order of their numbers
 abbrev pub images : Images → List Lent

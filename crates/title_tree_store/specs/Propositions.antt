@@ -1,15 +1,10 @@
 -- What a store keeps are facts: each holds in one way.
-use Rattle.std.proofs.Math.Bool.{Bool-set}
-use Rattle.std.proofs.Math.Bridge.{le_prop}
-use Rattle.std.specs.Prelude.{ℕ, List, [], ◌∷◌}
-use Rattle.title_land.specs.declared.survey.Township.{Township}
-use Rattle.title_land.specs.declared.rectangle.Quarter.{Quarter}
+use Rattle.std.{proofs.Math.{Bool.{Bool-set}, Bridge.{le_prop}}, specs.Prelude.{ℕ, List, [], ◌∷◌}}
+use Rattle.title_land.specs.declared.{survey.Township.{Township}, rectangle.Quarter.{Quarter}}
 use Rattle.title_instrument.specs.declared.parts.Estate.{Estate}
 use Rattle.title_store.specs.Plants.{IsEachOnce}
-use Rattle.title_tree.specs.Plots.{Plot}
-use Rattle.title_tree.specs.Pieces.{Disjoint}
-use Rattle.title_tree_store.specs.declared.lent.Lent.{Lent}
-use Rattle.title_tree_store.specs.Keeping.{Rises, IsKept}
+use Rattle.title_tree.specs.{Plots.{Plot}, Pieces.{Disjoint}}
+use Rattle.title_tree_store.specs.{declared.lent.Lent.{Lent}, Keeping.{Rises, IsKept}}
 
 pub once_prop : (ts : List Township) → IsProp (IsEachOnce ts)
 once_prop [] = hlevel Bool-set

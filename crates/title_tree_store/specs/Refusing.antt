@@ -1,25 +1,14 @@
 -- Which cell refuses an instrument.
 use Rattle.std.specs.Prelude.{◌≡◌, ℕ, Bool, true, not, List, [], filter, Option, Some, None}
 use Rattle.title_share.specs.Division.{Division}
-use Rattle.title_land.specs.declared.survey.Township.{Township}
-use Rattle.title_land.specs.declared.survey.Cell.{Cell}
-use Rattle.title_land.specs.declared.rectangle.Quarter.{Quarter}
-use Rattle.title_land.specs.declared.tract.Land.{Land}
+use Rattle.title_land.specs.declared.{survey.{Township.{Township}, Cell.{Cell}}, rectangle.Quarter.{Quarter}, tract.Land.{Land}}
 use Rattle.title_land.specs.Lands.{has}
-use Rattle.title_instrument.specs.declared.parts.Estate.{Estate}
-use Rattle.title_instrument.specs.declared.parts.Estate.TheVariants.{S, O, M}
-use Rattle.title_instrument.specs.declared.parts.Rule.{Rule}
-use Rattle.title_instrument.specs.declared.instrument.Instrument.{Instrument}
-use Rattle.title_instrument.specs.declared.owners.Effect.{Effect}
-use Rattle.title_instrument.specs.declared.owners.Effect.TheVariants.{Done, Refused}
-use Rattle.title_instrument.specs.Effect.{holding_effect, cell_effect}
-use Rattle.title_instrument.specs.Estates.{names}
-use Rattle.title_instrument.specs.Parties.{estates_of}
+use Rattle.title_instrument.specs.declared.{parts.{Estate.{Estate, TheVariants.{S, O, M}}, Rule.{Rule}}, instrument.Instrument.{Instrument}}
+use Rattle.title_instrument.specs.{declared.owners.Effect.{Effect, TheVariants.{Done, Refused}}, Effect.{holding_effect, cell_effect}}
+use Rattle.title_instrument.specs.{Estates.{names}, Parties.{estates_of}}
 use Rattle.title_store.specs.Plants.{Failing, first_failing}
-use Rattle.title_tree.specs.Changes.{why_of}
-use Rattle.title_tree.specs.Plots.{Plot, Same, Four, value_at, plot_at}
-use Rattle.title_tree_store.specs.Spots.{cell_path}
-use Rattle.title_tree_store.specs.Forests.{owners_at}
+use Rattle.title_tree.specs.{Changes.{why_of}, Plots.{Plot, Same, Four, value_at, plot_at}}
+use Rattle.title_tree_store.specs.{Spots.{cell_path}, Forests.{owners_at}}
 
 -- why the instrument is refused by a holding of an estate
 abbrev pub why_holding : Instrument ℕ → Estate → Division → Option Rule

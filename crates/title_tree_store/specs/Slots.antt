@@ -1,6 +1,5 @@
 -- Slots of images that are out: each lies so far before the end as its number is below the next.
-use Rattle.std.proofs.Math.Nat.{ℕ_set}
-use Rattle.std.specs.Prelude.{◌≡◌, ℕ, suc, ◌+◌, List, [], ◌∷◌, length, Option, Some, None}
+use Rattle.std.{proofs.Math.Nat.{ℕ_set}, specs.Prelude.{◌≡◌, ℕ, suc, ◌+◌, List, [], ◌∷◌, length, Option, Some, None}}
 use Rattle.title_tree_store.specs.declared.lent.Lent.{Lent}
 
 -- the images that slots have

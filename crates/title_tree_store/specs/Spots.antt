@@ -1,22 +1,12 @@
 -- Where nodes and cells lie in a tree of the plant. Below the root lie the paths of townships, so many levels down; three
 -- levels below a township its sections, of whose 64 paths 36 are taken; below a section its squares.
-use Rattle.std.specs.Prelude.{ℕ, ◌+◌, ◌-◌, cond, List, [], ◌∷◌, ◌++◌, map}
-use Rattle.std.specs.List.{flat_map}
-use Rattle.title_land.specs.Depth.{depth}
-use Rattle.title_land.specs.declared.survey.Township.{Township}
-use Rattle.title_land.specs.declared.survey.Section.{Section}
-use Rattle.title_land.specs.declared.survey.Cell.{Cell}
-use Rattle.title_land.specs.declared.rectangle.Quarter.{Quarter}
-use Rattle.title_land.specs.declared.rectangle.Quarter.TheVariants.{Northeast, Northwest, Southwest}
-use Rattle.title_land.specs.declared.node.Node.{Node}
+use Rattle.std.specs.{Prelude.{ℕ, ◌+◌, ◌-◌, cond, List, [], ◌∷◌, ◌++◌, map}, List.{flat_map}}
+use Rattle.title_land.specs.{Depth.{depth}, declared.{survey.{Township.{Township}, Section.{Section}, Cell.{Cell}}, node.Node.{Node}}}
+use Rattle.title_land.specs.declared.{rectangle.Quarter.{Quarter, TheVariants.{Northeast, Northwest, Southwest}}, tract.Land.{Land}}
+use Rattle.title_land.specs.{Survey.{same_township}, Lands.{cover_of}}
 use Rattle.title_land.specs.declared.node.Node.TheVariants as node
-use Rattle.title_land.specs.declared.tract.Land.{Land}
-use Rattle.title_land.specs.Survey.{same_township}
-use Rattle.title_land.specs.Lands.{cover_of}
-use Rattle.title_tree.specs.Paths.{way, number_path}
-use Rattle.title_tree.specs.CellWays.{cell_quarters}
-use Rattle.title_tree_store.specs.declared.spots.Paths.{Paths}
-use Rattle.title_tree_store.specs.declared.spots.Paths.TheVariants.{Nothing, One, Many}
+use Rattle.title_tree.specs.{Paths.{way, number_path}, CellWays.{cell_quarters}}
+use Rattle.title_tree_store.specs.declared.spots.Paths.{Paths, TheVariants.{Nothing, One, Many}}
 
 -- the index of a township in a list
 abbrev pub index_of : List Township → Township → ℕ

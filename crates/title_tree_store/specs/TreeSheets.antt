@@ -1,15 +1,9 @@
 -- Sheets, read off a tree.
-use Rattle.std.specs.Prelude.{ℕ, zero, suc, List, []}
-use Rattle.std.specs.List.{flat_map}
-use Rattle.title_land.specs.Depth.{depth}
-use Rattle.title_land.specs.declared.survey.Township.{Township}
-use Rattle.title_land.specs.declared.node.Node.{Node}
-use Rattle.title_land.specs.CellLists.{children_of}
+use Rattle.std.specs.{Prelude.{ℕ, zero, suc, List, []}, List.{flat_map}}
+use Rattle.title_land.specs.{Depth.{depth}, declared.{survey.Township.{Township}, node.Node.{Node}}, CellLists.{children_of}}
 use Rattle.title_instrument.specs.declared.parts.Estate.{Estate}
-use Rattle.title_store.specs.declared.sheet_row.SheetRow.{SheetRow}
-use Rattle.title_store.specs.Sheets.{rows_or}
-use Rattle.title_tree.specs.Plots.{Plot}
-use Rattle.title_tree.specs.Pieces.{uniform_at}
+use Rattle.title_store.specs.{declared.sheet_row.SheetRow.{SheetRow}, Sheets.{rows_or}}
+use Rattle.title_tree.specs.{Plots.{Plot}, Pieces.{uniform_at}}
 use Rattle.title_tree_store.specs.Spots.{spots}
 
 -- the sheet of a node with so many levels of nodes below it: its rows where its leaves have one holding, else its children's sheets

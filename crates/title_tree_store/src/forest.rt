@@ -2,15 +2,11 @@
 
 ghost use Rattle.std.specs.Prelude.{◌≡◌, ◌++◌, ◌∷◌, [], ◌&&◌, map, IfOk, OnOk, OnErr, IfErr};
 ghost use Rattle.title_share.specs.Division.{all_to};
-ghost use Rattle.title_instrument.specs.Estates.{names};
-ghost use Rattle.title_instrument.specs.Parties.{estates_of};
-ghost use Rattle.title_instrument.specs.declared.parts.Estate.TheVariants.{S, O, M};
-ghost use Rattle.title_tree.specs.Pieces.{Disjoint, Ready, Refines, StaysWithin, paths, swapped, taken, split_all};
+ghost use Rattle.title_instrument.specs.{Estates.{names}, Parties.{estates_of}, declared.parts.Estate.TheVariants.{S, O, M}};
+ghost use Rattle.title_tree.specs.{Pieces.{Disjoint, Ready, Refines, StaysWithin, paths, swapped, taken, split_all}, Trees.{plot}};
 ghost use Rattle.title_tree.specs.Plots.{Same, is_tidy, tidied_all};
-ghost use Rattle.title_tree.specs.Trees.{plot};
-ghost use Rattle.title_tree_store.specs.Spots.{paths_in};
+ghost use Rattle.title_tree_store.specs.{Spots.{paths_in}, Forests.{IsChange, IsRefusedIn}};
 ghost use Rattle.title_tree_store.specs.Forests.{parts_in, plots, named_spots, put_ways, written, tidied_written, IsNoted};
-ghost use Rattle.title_tree_store.specs.Forests.{IsChange, IsRefusedIn};
 
 use crate::passing::Passing;
 use crate::spots::Paths;

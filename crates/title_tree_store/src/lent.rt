@@ -1,8 +1,7 @@
 //! Images that are out.
 
 ghost use Rattle.std.specs.Prelude.{◌≡◌, ℕ, ◌+◌, ◌<◌, ◌++◌, ◌∷◌, [], length, OnOk, MatchOption};
-ghost use Rattle.title_tree_store.specs.Slots.{IsNumbered, filled, numbered_prop};
-ghost use Rattle.title_tree_store.specs.Keeping.{IsTakenOut, IsAbsent};
+ghost use Rattle.title_tree_store.specs.{Slots.{IsNumbered, filled, numbered_prop}, Keeping.{IsTakenOut, IsAbsent}};
 
 use crate::forest::Subtrees;
 use std::alloc::{AllocError, Global};

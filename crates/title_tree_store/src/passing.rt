@@ -1,7 +1,6 @@
 //! What an instrument does to one estate's holding, as a change of trees.
 
-ghost use Rattle.std.specs.Prelude.{◌≡◌, Ok, Err, Result, IfOk};
-ghost use Rattle.std.specs.Arc.{arc_value};
+ghost use Rattle.std.specs.{Prelude.{◌≡◌, Ok, Err, Result, IfOk}, Arc.{arc_value}};
 ghost use Rattle.title_instrument.specs.Effect.{holding_effect};
 
 use std::alloc::{AllocError, Global};

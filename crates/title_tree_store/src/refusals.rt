@@ -1,16 +1,12 @@
 //! The first cell of a tract that refuses an instrument.
 
 ghost use Rattle.std.specs.Prelude.{◌≡◌, ◌+◌, ◌∷◌, [], ◌&&◌, ◌||◌, ◌==◌, ◌↔◌, length, find, true};
-ghost use Rattle.title_land.specs.Depth.{depth};
-ghost use Rattle.title_land.specs.declared.node.Node.TheVariants as node;
-ghost use Rattle.title_land.specs.CellLists.{cells_below, section_cells, township_cells, cells_of};
+ghost use Rattle.title_land.specs.{Depth.{depth}, CellLists.{cells_below, section_cells, township_cells, cells_of}};
 ghost use Rattle.title_land.specs.Lands.{has, Meets, land_of, is_in_plant};
-ghost use Rattle.title_instrument.specs.Effect.{cell_effect};
-ghost use Rattle.title_instrument.specs.declared.parts.Estate.TheVariants.{S, O, M};
-ghost use Rattle.title_tree.specs.Plots.{value_at, plot_at};
-ghost use Rattle.title_tree.specs.Trees.{plot};
-ghost use Rattle.title_tree_store.specs.Spots.{township_path, square_path};
-ghost use Rattle.title_tree_store.specs.Forests.{plots};
+ghost use Rattle.title_land.specs.declared.node.Node.TheVariants as node;
+ghost use Rattle.title_instrument.specs.{Effect.{cell_effect}, declared.parts.Estate.TheVariants.{S, O, M}};
+ghost use Rattle.title_tree.specs.{Plots.{value_at, plot_at}, Trees.{plot}};
+ghost use Rattle.title_tree_store.specs.{Spots.{township_path, square_path}, Forests.{plots}};
 ghost use Rattle.title_tree_store.specs.Refusing.{why_holding, why_first, is_settled, refused_at, StandsAt, first_in, first_of, triple};
 
 use crate::forest::{Forest, names};

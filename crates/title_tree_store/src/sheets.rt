@@ -1,18 +1,12 @@
 //! Rows of sheets, read off a tree.
 
-ghost use Rattle.std.specs.Prelude.{◌≡◌, ◌+◌, ◌++◌, ◌∷◌, [], OnOk, IfOk};
-ghost use Rattle.std.specs.List.{flat_map};
-ghost use Rattle.std.specs.Option.{option_map};
-ghost use Rattle.title_land.specs.Depth.{depth};
-ghost use Rattle.title_land.specs.Lands.{cover_of};
-ghost use Rattle.title_tree.specs.Pieces.{uniform_at};
-ghost use Rattle.title_tree.specs.Plots.{agreed, uniform};
-ghost use Rattle.title_tree.specs.Trees.{plot};
+ghost use Rattle.std.specs.{Prelude.{◌≡◌, ◌+◌, ◌++◌, ◌∷◌, [], OnOk, IfOk}, List.{flat_map}, Option.{option_map}};
+ghost use Rattle.title_land.specs.{Depth.{depth}, Lands.{cover_of}};
+ghost use Rattle.title_tree.specs.{Pieces.{uniform_at}, Plots.{agreed, uniform}, Trees.{plot}};
 ghost use Rattle.title_land.specs.declared.node.Node.TheVariants as node;
 ghost use Rattle.title_store.specs.Sheets.{holding_rows, rows_or};
-ghost use Rattle.title_tree_store.specs.Spots.{blocks, spots};
+ghost use Rattle.title_tree_store.specs.{Spots.{blocks, spots}, TreeSheets.{tree_sheet}};
 ghost use Rattle.title_tree_store.specs.SquareSheets.{part_sheet, plant_sheet, section_sheet, square_sheet, township_sheet};
-ghost use Rattle.title_tree_store.specs.TreeSheets.{tree_sheet};
 
 use crate::spots::{Paths, SECTION_LEVELS, add_spots};
 use crate::townships::Townships;

@@ -1,7 +1,6 @@
 //! Where nodes and cells lie in a tree of the plant.
 
-ghost use Rattle.std.specs.Prelude.{◌≡◌, ◌++◌, ◌∷◌, [], OnOk, IfOk};
-ghost use Rattle.std.specs.List.{flat_map};
+ghost use Rattle.std.specs.{Prelude.{◌≡◌, ◌++◌, ◌∷◌, [], OnOk, IfOk}, List.{flat_map}};
 ghost use Rattle.title_tree_store.specs.Spots.{township_path, square_path, township_spots, spots, tract_spots, paths_in};
 
 use crate::townships::Townships;

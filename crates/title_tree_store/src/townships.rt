@@ -2,8 +2,7 @@
 
 ghost use Rattle.std.specs.Prelude.{◌≡◌, ◌≤◌, ◌<◌, ◌+◌, length, get_or, IfOk};
 ghost use Rattle.title_land.specs.declared.survey.Township.{Township};
-ghost use Rattle.title_tree_store.specs.Spots.{index_of};
-ghost use Rattle.title_tree_store.specs.TownshipTable.{number_of, AreIndexed};
+ghost use Rattle.title_tree_store.specs.{Spots.{index_of}, TownshipTable.{number_of, AreIndexed}};
 
 use std::alloc::{AllocError, Global};
 use std::marker::Model;

@@ -3,9 +3,7 @@
 ghost use Rattle.std.specs.Prelude.{◌≡◌, ◌≤◌, ◌^◌};
 ghost use Rattle.title_land.specs.Depth.{depth};
 ghost use Rattle.title_store.specs.Plants.{IsEachOnce, node_of};
-ghost use Rattle.title_tree_store.specs.Forests.{plots};
-ghost use Rattle.title_tree_store.specs.Keeping.{content_of, loans_of, IsKept};
-ghost use Rattle.title_tree_store.specs.Out.{images};
+ghost use Rattle.title_tree_store.specs.{Forests.{plots}, Keeping.{content_of, loans_of, IsKept}, Out.{images}};
 ghost use Rattle.title_tree_store.specs.Propositions.{once_prop, kept_prop};
 
 use crate::forest::Forest;

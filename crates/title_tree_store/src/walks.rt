@@ -1,9 +1,7 @@
 //! Walks down a tree to what stands in a square. None takes memory.
 
 ghost use Rattle.std.specs.Prelude.{◌≡◌, IfOk};
-ghost use Rattle.title_tree.specs.Paths.{way, number_path};
-ghost use Rattle.title_tree.specs.Plots.{plot_at};
-ghost use Rattle.title_tree.specs.Trees.{plot};
+ghost use Rattle.title_tree.specs.{Paths.{way, number_path}, Plots.{plot_at}, Trees.{plot}};
 ghost use Rattle.title_tree_store.specs.Spots.{township_path, section_path};
 
 use crate::spots::SECTION_LEVELS;

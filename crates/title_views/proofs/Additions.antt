@@ -1,18 +1,14 @@
 -- What the writer's operations make of what is published.
 use Rattle.std.proofs.Common.{◌≡◌, ℕ, ◌+◌, ◌-◌, zero, suc, List, [], ◌∷◌, ◌++◌, length, take, fold, Result, Ok, Err, inr, ap, sym}
-use Rattle.std.proofs.Common.{◌∙◌, subst, arith}
-use Rattle.std.specs.Prelude.{All, MatchResult, is_ok, if◌then◌else◌}
-use Rattle.std.proofs.lemmas.List.Sums.{fold-append}
+use Rattle.std.{proofs.{Common.{◌∙◌, subst, arith}, lemmas.List.Sums.{fold-append}}, specs.Prelude.{All, MatchResult, is_ok, if◌then◌else◌}}
 use Rattle.std.proofs.Math.Seq.{take-append_seam, take-length}
 use Rattle.logbook.specs.Pages.{Book}
 use Rattle.title_land.specs.declared.survey.Township.{Township}
 use Rattle.title_chain.specs.declared.record.Record.{Record}
-use Rattle.title_ledger.specs.declared.entry.Entry.{Entry}
-use Rattle.title_ledger.specs.declared.entry.Entry.TheVariants as entry
-use Rattle.title_ledger.specs.Ledgers.{AreSerial, lists_of, sure_of, shown_of, IsSettled}
+use Rattle.title_ledger.specs.{declared.entry.Entry.{Entry}, Ledgers.{AreSerial, lists_of, sure_of, shown_of, IsSettled}}
 use Rattle.title_ledger.specs.Laws.Entries.{lists_snoc}
-use Rattle.title_views.specs.declared.published.Addition.{Addition}
-use Rattle.title_views.specs.Views.{Shown, placed, IsOf}
+use Rattle.title_ledger.specs.declared.entry.Entry.TheVariants as entry
+use Rattle.title_views.specs.{declared.published.Addition.{Addition}, Views.{Shown, placed, IsOf}}
 
 -- what is published after an operation
 abbrev pub added : Shown → Addition → Shown

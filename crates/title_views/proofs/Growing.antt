@@ -8,8 +8,7 @@ use Rattle.atomic_table.proofs.Lists.{at_set, at_snoc}
 use Rattle.logbook.specs.Pages.{Book}
 use Rattle.title_land.specs.declared.survey.Township.{Township}
 use Rattle.title_chain.specs.declared.record.Record.{Record}
-use Rattle.title_ledger.specs.declared.entry.Entry.{Entry}
-use Rattle.title_ledger.specs.Ledgers.{AreSerial, lists_of, shown_of, sure_of}
+use Rattle.title_ledger.specs.{declared.entry.Entry.{Entry}, Ledgers.{AreSerial, lists_of, shown_of, sure_of}}
 use Rattle.title_ledger.specs.Laws.Beginnings.{prefix_self, prefix_trans}
 use Rattle.title_views.specs.Views.{Shown, IsOf, Grows, SeesAll}
 

@@ -1,17 +1,9 @@
 -- A plant that is made of records, one after another, and the sheets that it shows.
 use Rattle.std.proofs.Common.{◌≡◌, ◌<◌, ◌+◌, ℕ, List, [], length, take, reverse, get_or, ap, ◌∙◌, sym, subst, arith}
 use Rattle.std.proofs.Math.Seq.{take-length}
-use Rattle.title_land.specs.Depth.{depth}
-use Rattle.title_land.specs.declared.survey.Township.{Township}
-use Rattle.title_land.specs.declared.tract.Land.{Land}
-use Rattle.title_store.specs.declared.sheet_row.SheetRow.{SheetRow}
-use Rattle.title_store.specs.Plants.{Plant, SameContent}
-use Rattle.title_store.specs.Loans.{Loan}
-use Rattle.title_store.specs.Sheets.{sheet_of}
-use Rattle.title_chain.specs.declared.record.Record.{Record}
-use Rattle.title_chain.specs.declared.ask.Step.{Step}
-use Rattle.title_chain.specs.Alone.{after_steps, IsSerial}
-use Rattle.title_chain.specs.Replays.{Replays}
+use Rattle.title_land.specs.{Depth.{depth}, declared.{survey.Township.{Township}, tract.Land.{Land}}}
+use Rattle.title_store.specs.{declared.sheet_row.SheetRow.{SheetRow}, Plants.{Plant, SameContent}, Loans.{Loan}, Sheets.{sheet_of}}
+use Rattle.title_chain.specs.{declared.{record.Record.{Record}, ask.Step.{Step}}, Alone.{after_steps, IsSerial}, Replays.{Replays}}
 use Rattle.title_chain.specs.Laws.PostsAgain.{same_plant, can_replay_record, record_content}
 use Rattle.title_views.specs.Views.{IsMade, sheet_after}
 

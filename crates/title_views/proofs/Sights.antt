@@ -1,9 +1,6 @@
 -- What a viewer has seen.
 use Rattle.std.proofs.Common.{◌≡◌, ◌⊎◌, ⊎_elim, ℕ, ◌≤◌, ◌<◌, Bool, true, false, List, length, take, drop, ap, ◌∙◌, sym, subst}
-use Rattle.std.proofs.Common.{arith, length-append}
-use Rattle.std.specs.Prelude.{nat_lt}
-use Rattle.std.proofs.lemmas.Bool.Decides.{nat_tests}
-use Rattle.std.proofs.lemmas.List.{take-append-drop}
+use Rattle.std.{proofs.{Common.{arith, length-append}, lemmas.{Bool.Decides.{nat_tests}, List.{take-append-drop}}}, specs.Prelude.{nat_lt}}
 use Rattle.std.proofs.Math.Seq.{take-length}
 use mathlib.Core.List.{IsPrefix}
 use Rattle.title_chain.specs.declared.record.Record.{Record}

@@ -5,19 +5,11 @@ use mathlib.Core.Option.{some}
 use mathlib.Core.List.{IsPrefix}
 use lib.ListN.{get_elem?}
 use Rattle.logbook.specs.Pages.{Book}
-use Rattle.title_land.specs.Depth.{depth}
-use Rattle.title_land.specs.Lands.{is_in_plant}
-use Rattle.title_land.specs.declared.survey.Township.{Township}
-use Rattle.title_land.specs.declared.tract.Land.{Land}
-use Rattle.title_store.specs.declared.sheet_row.SheetRow.{SheetRow}
-use Rattle.title_store.specs.Plants.{Plant, SameContent}
-use Rattle.title_store.specs.Loans.{Loan}
-use Rattle.title_store.specs.Sheets.{sheet_of}
-use Rattle.title_chain.specs.declared.record.Record.{Record}
-use Rattle.title_chain.specs.Alone.{plant_after}
+use Rattle.title_land.specs.{Depth.{depth}, Lands.{is_in_plant}, declared.{survey.Township.{Township}, tract.Land.{Land}}}
+use Rattle.title_store.specs.{declared.sheet_row.SheetRow.{SheetRow}, Plants.{Plant, SameContent}, Loans.{Loan}, Sheets.{sheet_of}}
+use Rattle.title_chain.specs.{declared.record.Record.{Record}, Alone.{plant_after}}
 use Rattle.title_ledger.specs.Ledgers.{AreSerial, PageState, shown_of}
-use Rattle.title_views.specs.declared.kept.Made.{Made}
-use Rattle.title_views.specs.declared.unseen.Unseen.{Unseen}
+use Rattle.title_views.specs.declared.{kept.Made.{Made}, unseen.Unseen.{Unseen}}
 use Rattle.title_views.specs.declared.unseen.Unseen.TheVariants as unseen
 
 -- the most viewers of an office

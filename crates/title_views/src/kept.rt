@@ -1,10 +1,8 @@
 //! The plant that a viewer keeps.
 
 ghost use Rattle.std.specs.Prelude.{◌≡◌, IfOk, OnOk, IfSome, true, reverse, length};
-ghost use Rattle.title_land.specs.Depth.{depth};
-ghost use Rattle.title_land.specs.Lands.{is_in_plant};
-ghost use Rattle.title_store.specs.Plants.{IsEachOnce};
-ghost use Rattle.title_store.specs.Sheets.{sheet_of};
+ghost use Rattle.title_land.specs.{Depth.{depth}, Lands.{is_in_plant}};
+ghost use Rattle.title_store.specs.{Plants.{IsEachOnce}, Sheets.{sheet_of}};
 ghost use Rattle.title_chain.specs.Alone.{IsSerial};
 ghost use Rattle.title_views.specs.Views.{IsKept, IsMade, IsSheetIn};
 

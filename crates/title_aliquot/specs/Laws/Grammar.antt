@@ -1,23 +1,16 @@
 -- The readers read the grammar.
-use Rattle.std.proofs.Common.{◌≡◌, ℕ, true, false, List, [], ◌∷◌, ◌++◌, refl, ap, ◌∙◌, inl, inr, None}
-use Rattle.std.specs.Prelude.{codes}
-use Rattle.title_land.specs.declared.rectangle.Quarter.{Quarter}
-use Rattle.title_land.specs.declared.rectangle.Quarter.TheVariants.{Northeast, Northwest, Southwest, Southeast}
-use Rattle.title_land.specs.declared.rectangle.Half.{Half}
-use Rattle.title_land.specs.declared.rectangle.Half.TheVariants.{North, South, East, West}
-use Rattle.title_land.specs.declared.rectangle.Step.{Step}
+use Rattle.std.{proofs.Common.{◌≡◌, ℕ, true, false, List, [], ◌∷◌, ◌++◌, refl, ap, ◌∙◌, inl, inr, None}, specs.Prelude.{codes}}
+use Rattle.title_land.specs.declared.rectangle.{Quarter.{Quarter, TheVariants.{Northeast, Northwest, Southwest, Southeast}}, Half.{Half}}
+use Rattle.title_land.specs.declared.rectangle.{Half.TheVariants.{North, South, East, West}, Step.{Step}}
 use Rattle.title_land.specs.declared.rectangle.Step.TheVariants as step
-use Rattle.title_grammar.specs.Language.{Language, Gives, Then, Word, Maybe, cons, ◌*>◌, ◌<|>◌}
-use Rattle.title_grammar.specs.Reading.{as_at}
-use Rattle.title_grammar.specs.Laws.Exact.{Exact, one_of_exact}
-use Rattle.title_grammar.specs.Laws.Repeat.{gives_exact}
+use Rattle.title_grammar.specs.{Language.{Language, Gives, Then, Word, Maybe, cons, ◌*>◌, ◌<|>◌}, Reading.{as_at}}
+use Rattle.title_grammar.specs.Laws.{Exact.{Exact, one_of_exact}, Repeat.{gives_exact}}
 use Rattle.title_grammar.specs.Laws.Combine.{sequence, choose, repeat, word, same_language, maybe_exact, un_word}
 use Rattle.title_aliquot.specs.Grammar.{SectionText, SectionParts, LandText, Description, SectionNumber, RangeText, TownshipText, digits}
 use Rattle.title_aliquot.specs.Grammar.{decimal, Everything, section_of, syntax_of, whole_section, Number, QuarterMark, HalfMark}
-use Rattle.title_aliquot.specs.Grammar.{QuarterName, HalfName, StepText, Part, Parts}
+use Rattle.title_aliquot.specs.{Grammar.{QuarterName, HalfName, StepText, Part, Parts}, Readers.{next_part_at}}
 use Rattle.title_aliquot.specs.Readers.{section_number_at, range_at, township_at, section_parts_at, section_at, land_at, description_at}
 use Rattle.title_aliquot.specs.Readers.{number_at, quarter_mark_at, half_mark_at, behind_at, step_at, joined_at, part_at, parts_at}
-use Rattle.title_aliquot.specs.Readers.{next_part_at}
 
 pub number_exact : Exact number_at Number digits digits false
 unfolding number_at

@@ -1,18 +1,11 @@
 -- The land that words stand for, and that there is one at most.
-use Rattle.std.proofs.Common.{◌≡◌, ◌∙◌, ℕ, Bool, true, List, Option, Some, None, refl, sym, ap, subst}
-use Rattle.title_land.specs.Depth.{depth}
-use Rattle.std.proofs.Math.Bridge.{le_prop}
-use Rattle.title_land.specs.declared.rectangle.Step.{Step}
-use Rattle.title_land.specs.declared.grid.Grid.{Grid}
-use Rattle.title_land.specs.declared.survey.Township.{Township}
-use Rattle.title_land.specs.declared.survey.Section.{Section}
-use Rattle.title_land.specs.declared.tract.Land.{Land}
-use Rattle.title_land.specs.declared.tract.Land.TheVariants as land
+use Rattle.std.proofs.{Common.{◌≡◌, ◌∙◌, ℕ, Bool, true, List, Option, Some, None, refl, sym, ap, subst}, Math.Bridge.{le_prop}}
+use Rattle.title_land.specs.{Depth.{depth}, declared.{rectangle.Step.{Step}, grid.Grid.{Grid}, survey.Township.{Township}}, Grids.{grid_of}}
+use Rattle.title_land.specs.declared.{survey.Section.{Section}, tract.Land.{Land}}
 use Rattle.title_land.specs.Survey.{IsTownshipNumber, IsSectionNumber, IsTownship, IsSection}
-use Rattle.title_land.specs.Grids.{grid_of}
-use Rattle.title_aliquot.specs.Grammar.{Syntax, Everything, InTownship, LandSyntax, SectionSyntax}
+use Rattle.title_land.specs.declared.tract.Land.TheVariants as land
+use Rattle.title_aliquot.specs.{Grammar.{Syntax, Everything, InTownship, LandSyntax, SectionSyntax}, Meaning.{StandsFor}}
 use Rattle.title_aliquot.specs.Meaning.{SectionIsNumbered, section_parts, parts_exist, rectangles, Overlap, union, IsLandIn, IsLandOf}
-use Rattle.title_aliquot.specs.Meaning.{StandsFor}
 
 -- ---- lands in townships
 

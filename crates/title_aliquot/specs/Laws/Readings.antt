@@ -1,9 +1,7 @@
 -- Readings are one, and give what the relations say.
 use Rattle.std.proofs.Common.{◌≡◌, ◌↔◌, ℕ, List, Result, Ok, Err, refl, sym, ap, subst}
 use Rattle.title_land.specs.declared.tract.Land.{Land}
-use Rattle.title_aliquot.specs.declared.fault.DescFault.{DescFault}
-use Rattle.title_aliquot.specs.Describes.{Describes, FaultOf}
-use Rattle.title_aliquot.specs.Reading.{IsReadAs, Reading}
+use Rattle.title_aliquot.specs.{declared.fault.DescFault.{DescFault}, Describes.{Describes, FaultOf}, Reading.{IsReadAs, Reading}}
 use Rattle.title_aliquot.specs.Laws.Unique.{one_land, no_fault, one_fault}
 
 -- what a text is read as, aright, is one

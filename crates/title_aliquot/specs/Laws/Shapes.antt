@@ -1,17 +1,11 @@
 -- Rectangles that share cells, and the cells of several.
 use Rattle.std.proofs.Common.{◌≡◌, ◌∙◌, ℕ, zero, suc, ◌+◌, ◌<◌, ◌≤◌, Bool, true, false, ◌||◌, inl, inr, List, [], ◌∷◌, map, max, refl, sym}
-use Rattle.std.proofs.Common.{ap, arith}
-use Rattle.std.specs.Bool.{Decides}
-use Rattle.std.specs.List.{list_any, range_with_len}
-use Rattle.std.proofs.lemmas.Bool.{and_parts, or_cases, or_left, or_right}
-use Rattle.std.proofs.lemmas.Bool.Decides.{nat_tests, Decides-or}
-use Rattle.title_land.specs.declared.grid.Grid.{Grid}
-use Rattle.title_land.specs.declared.rectangle.Rectangle.{Rectangle}
-use Rattle.title_land.specs.Survey.{side}
-use Rattle.title_land.specs.Rectangles.{holds, rectangles_meet, SharesCell, InSection}
+use Rattle.std.{proofs.Common.{ap, arith}, specs.{Bool.{Decides}, List.{list_any, range_with_len}}}
+use Rattle.std.proofs.lemmas.Bool.{and_parts, or_cases, or_left, or_right, Decides.{nat_tests, Decides-or}}
+use Rattle.title_land.specs.{declared.{grid.Grid.{Grid}, rectangle.Rectangle.{Rectangle}}, Survey.{side}}
+use Rattle.title_land.specs.{Rectangles.{holds, rectangles_meet, SharesCell, InSection}, Laws.GridSharing.{grids_found, grids_from}}
 use Rattle.title_land.specs.Grids.{grid_has, grid_of, with_rectangle, grids_meet, indices}
 use Rattle.title_land.specs.Laws.GridLaws.{grid_has-grid_of, grid_has-everywhere, on_side}
-use Rattle.title_land.specs.Laws.GridSharing.{grids_found, grids_from}
 use Rattle.title_aliquot.specs.Meaning.{SharesCellWithOne, Overlap, union}
 
 -- ---- sharing a cell

@@ -1,13 +1,8 @@
 -- What a text says, and the index of its fault, from its letters.
 use Rattle.std.proofs.Common.{◌≡◌, ◌∙◌, ℕ, ◌≤◌, Bool, true, false, List, [], ◌∷◌, ◌++◌, take, drop, refl, sym, ap, subst, inr}
-use Rattle.std.specs.Bool.{Decides}
-use Rattle.std.specs.Str.{chars}
-use Rattle.std.specs.Prelude.{length, codes, IfOk, Result, Ok, Err}
-use Rattle.title_grammar.specs.Reading.{Got, Stuck, starts, word_at}
-use Rattle.title_grammar.specs.Laws.Combine.{word}
-use Rattle.title_grammar.specs.Laws.Faults.{FaultAfter}
-use Rattle.title_aliquot.specs.Grammar.{Syntax, Description}
-use Rattle.title_aliquot.specs.Letters.{letters, offset}
+use Rattle.std.specs.{Bool.{Decides}, Str.{chars}, Prelude.{length, codes, IfOk, Result, Ok, Err}}
+use Rattle.title_grammar.specs.{Reading.{Got, Stuck, starts, word_at}, Laws.{Combine.{word}, Faults.{FaultAfter}}}
+use Rattle.title_aliquot.specs.{Grammar.{Syntax, Description}, Letters.{letters, offset}}
 use Rattle.title_aliquot.specs.Describes.{Says, BadLetter, LotAt, IsLot, StepMayBegin, BeginsWithLot, IsLots, IsBadText}
 
 pub says_from : (text : List ℕ) (v : Syntax) → length text ≤ 1000 → Description v (letters (chars text)) → Says text v

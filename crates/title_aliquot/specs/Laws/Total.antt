@@ -1,34 +1,18 @@
 -- Each text describes a land or has a fault.
 use Rattle.std.proofs.Common.{◌≡◌, ◌∙◌, ℕ, ◌-◌, ◌==◌, ◌<◌, ◌≤◌, ◌⊎◌, inl, inr, Bool, true, false, ◌||◌, List, [], ◌∷◌, ◌++◌, length, take}
-use Rattle.title_land.specs.Depth.{depth}
-use Rattle.std.proofs.Common.{drop, Option, Some, None, refl, sym, arith}
-use Rattle.std.specs.Bool.{Decides}
-use Rattle.std.specs.List.{list_any}
-use Rattle.std.specs.Prelude.{codes}
-use Rattle.std.specs.Str.{chars}
-use Rattle.std.proofs.lemmas.Bool.Decides.{nat_tests}
-use Rattle.title_grammar.specs.Language.{Begins}
-use Rattle.title_grammar.specs.Reading.{Read, Got, Stuck, word_at}
-use Rattle.title_grammar.specs.Laws.Exact.{tells}
+use Rattle.std.{proofs.Common.{drop, Option, Some, None, refl, sym, arith}, specs.{Bool.{Decides}, List.{list_any}, Prelude.{codes}}}
+use Rattle.std.{specs.Str.{chars}, proofs.lemmas.Bool.Decides.{nat_tests}}
+use Rattle.title_land.specs.{Depth.{depth}, declared.{rectangle.Rectangle.{Rectangle}, survey.{Township.{Township}, Section.{Section}}}}
+use Rattle.title_land.specs.{declared.tract.Land.{Land}, Rectangles.{rectangles_meet}, Grids.{grid_of}}
+use Rattle.title_grammar.specs.{Language.{Begins}, Reading.{Read, Got, Stuck, word_at}, Laws.Exact.{tells}}
 use Rattle.title_grammar.specs.Laws.Faults.{FaultAfter, begins_decided}
-use Rattle.title_land.specs.declared.rectangle.Rectangle.{Rectangle}
-use Rattle.title_land.specs.declared.survey.Township.{Township}
-use Rattle.title_land.specs.declared.survey.Section.{Section}
-use Rattle.title_land.specs.declared.tract.Land.{Land}
 use Rattle.title_land.specs.declared.tract.Land.TheVariants as land
-use Rattle.title_land.specs.Rectangles.{rectangles_meet}
-use Rattle.title_land.specs.Grids.{grid_of}
 use Rattle.title_aliquot.specs.declared.fault.DescFault.TheVariants as fault
-use Rattle.title_aliquot.specs.Grammar.{Syntax, Everything, InTownship, SectionSyntax, Description}
-use Rattle.title_aliquot.specs.Letters.{letters, offset}
+use Rattle.title_aliquot.specs.{Grammar.{Syntax, Everything, InTownship, SectionSyntax, Description}, Letters.{letters, offset}}
 use Rattle.title_aliquot.specs.Meaning.{IsNumbered, SectionIsNumbered, IsLandIn, IsLandOf, parts_of, parts_exist, rectangles, union}
-use Rattle.title_aliquot.specs.Meaning.{Overlap}
-use Rattle.title_aliquot.specs.Describes.{Says, BadLetter, BeginsWithLot, IsLot}
-use Rattle.title_aliquot.specs.Readers.{description_at}
-use Rattle.title_aliquot.specs.TextLaws.{LandOrFault, EachTextIsAnswered}
-use Rattle.title_aliquot.specs.Laws.Shapes.{overlap_none, overlap_next}
-use Rattle.title_aliquot.specs.Laws.Texts.{lot_word, no_lot_word}
-use Rattle.title_aliquot.specs.Laws.Whole.{words_found, left_after, stuck_after, found_begins}
+use Rattle.title_aliquot.specs.{Meaning.{Overlap}, Describes.{Says, BadLetter, BeginsWithLot, IsLot}, Readers.{description_at}}
+use Rattle.title_aliquot.specs.{TextLaws.{LandOrFault, EachTextIsAnswered}, Laws.Shapes.{overlap_none, overlap_next}}
+use Rattle.title_aliquot.specs.Laws.{Texts.{lot_word, no_lot_word}, Whole.{words_found, left_after, stuck_after, found_begins}}
 
 -- ---- what letters say
 

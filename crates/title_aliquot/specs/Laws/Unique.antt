@@ -1,20 +1,13 @@
 -- A text describes one land at most, or has one fault.
-use Rattle.std.proofs.Common.{◌≡◌, ◌≢◌, ◌∙◌, ℕ, ◌⊎◌, inl, inr, true, false, List, drop, refl, sym, ap, subst, arith}
-use Rattle.title_land.specs.Depth.{depth}
+use Rattle.std.{proofs.Common.{◌≡◌, ◌≢◌, ◌∙◌, ℕ, ◌⊎◌, inl, inr, true, false, List, drop, refl, sym, ap, subst, arith}, specs.Str.{chars}}
 use Rattle.std.specs.Prelude.{Result, Ok, Err, IfOk, IfErr}
-use Rattle.std.specs.Str.{chars}
-use Rattle.title_grammar.specs.Laws.Repeat.{fault_none}
-use Rattle.title_grammar.specs.Laws.Faults.{FaultAfter, fault_there, one_fault_index, one_value}
-use Rattle.title_land.specs.declared.tract.Land.{Land}
-use Rattle.title_aliquot.specs.declared.fault.DescFault.{DescFault}
-use Rattle.title_aliquot.specs.declared.fault.DescFault.TheVariants as fault
-use Rattle.title_aliquot.specs.Grammar.{Syntax, Description}
-use Rattle.title_aliquot.specs.Letters.{letters, offset}
-use Rattle.title_aliquot.specs.Meaning.{IsNumbered, parts_of, parts_exist, StandsFor}
-use Rattle.title_aliquot.specs.Describes.{Says, Describes, FaultOf, BadLetter, LotAt, IsBadText, IsLots}
-use Rattle.title_aliquot.specs.Answers.{IsTractOf, IsFault}
-use Rattle.title_aliquot.specs.Laws.Grammar.{description_exact}
+use Rattle.title_land.specs.{Depth.{depth}, declared.tract.Land.{Land}}
+use Rattle.title_grammar.specs.Laws.{Repeat.{fault_none}, Faults.{FaultAfter, fault_there, one_fault_index, one_value}}
+use Rattle.title_aliquot.specs.{declared.fault.DescFault.{DescFault}, Grammar.{Syntax, Description}, Letters.{letters, offset}}
+use Rattle.title_aliquot.specs.{Meaning.{IsNumbered, parts_of, parts_exist, StandsFor}, Answers.{IsTractOf, IsFault}}
+use Rattle.title_aliquot.specs.{Describes.{Says, Describes, FaultOf, BadLetter, LotAt, IsBadText, IsLots}, Laws.Grammar.{description_exact}}
 use Rattle.title_aliquot.specs.Laws.Lands.{one_land_of}
+use Rattle.title_aliquot.specs.declared.fault.DescFault.TheVariants as fault
 
 -- what a text says is one thing
 same_words : (text : List ℕ) (s t : Syntax) → Says text s → Says text t → s ≡ t

@@ -1,16 +1,9 @@
 -- Whole texts: what was read to its end, and the letter at which reading stopped.
 use Rattle.std.proofs.Common.{◌≡◌, ℕ, ◌-◌, ◌≤◌, ◌<◌, ◌==◌, Bool, false, List, [], ◌∷◌, length, refl, sym, subst, arith}
-use Rattle.std.specs.Bool.{Decides}
-use Rattle.std.specs.Prelude.{true}
-use Rattle.std.proofs.lemmas.Bool.Decides.{nat_tests}
-use Rattle.std.proofs.lemmas.List.{append-nil}
-use Rattle.title_grammar.specs.Language.{Begins}
-use Rattle.title_grammar.specs.Reading.{Got, Stuck}
-use Rattle.title_grammar.specs.Laws.Repeat.{Fault, whole_found, whole_left, whole_stuck}
+use Rattle.std.{specs.{Bool.{Decides}, Prelude.{true}}, proofs.lemmas.{Bool.Decides.{nat_tests}, List.{append-nil}}}
+use Rattle.title_grammar.specs.{Language.{Begins}, Reading.{Got, Stuck}, Laws.Repeat.{Fault, whole_found, whole_left, whole_stuck}}
 use Rattle.title_grammar.specs.Laws.Faults.{nothing_left, fault_shorter, FaultAfter, fault_after, begins_decided}
-use Rattle.title_aliquot.specs.Grammar.{Syntax, Description}
-use Rattle.title_aliquot.specs.Readers.{description_at}
-use Rattle.title_aliquot.specs.Laws.Grammar.{description_exact}
+use Rattle.title_aliquot.specs.{Grammar.{Syntax, Description}, Readers.{description_at}, Laws.Grammar.{description_exact}}
 
 pub words_found : (s : List ℕ) (v : Syntax) (r : List ℕ) → description_at s ≡ Got v r → length r ≡ 0 → Description v s
 words_found s v r h l =

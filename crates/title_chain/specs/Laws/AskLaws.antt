@@ -1,25 +1,15 @@
 -- What an answer and an effect depend on, and what an ask leaves alone.
 use Rattle.std.proofs.Common.{◌≡◌, ℕ, Bool, true, false, List, [], ◌&&◌, ◌||◌, Some, refl, ap, ◌∙◌}
 use Rattle.std.proofs.lemmas.Bool.{and_from, and_parts, or_right, false_from_ne_true, both_ways}
-use Rattle.title_land.specs.declared.survey.Cell.{Cell}
-use Rattle.title_land.specs.declared.survey.Township.{Township}
-use Rattle.title_land.specs.declared.tract.Land.{Land}
-use Rattle.title_land.specs.Lands.{meets}
-use Rattle.title_store.specs.Plants.{Plant, Refusal, is_cell_of, refused_in, plant_effect}
-use Rattle.title_store.specs.Sheets.{sheet_of}
+use Rattle.title_land.specs.{declared.{survey.{Cell.{Cell}, Township.{Township}}, tract.Land.{Land}}, Lands.{meets}}
 use Rattle.title_land.specs.Laws.TractSharing.{common_meets, meets_either_way}
-use Rattle.title_store.specs.Laws.EffectLaws as store
+use Rattle.title_store.specs.{Plants.{Plant, Refusal, is_cell_of, refused_in, plant_effect}, Sheets.{sheet_of}, Laws.SheetLaws.{sheet_same}}
 use Rattle.title_store.specs.Laws.EffectLaws.{refused_same}
-use Rattle.title_store.specs.Laws.SheetLaws.{sheet_same}
-use Rattle.title_chain.specs.declared.ask.Ask.{Ask}
+use Rattle.title_store.specs.Laws.EffectLaws as store
+use Rattle.title_chain.specs.{declared.ask.{Ask.{Ask}, Answer.{Answer}, Entry.{Entry}, Posting.{Posting}}, StepEntries.{entry_of}}
+use Rattle.title_chain.specs.{Asks.{tract_of, is_post, effect, answer_to, post_answer, overlap}, ChainLaws.{SameIn}}
 use Rattle.title_chain.specs.declared.ask.Ask.TheVariants as ask
-use Rattle.title_chain.specs.declared.ask.Answer.{Answer}
 use Rattle.title_chain.specs.declared.ask.Answer.TheVariants as answer
-use Rattle.title_chain.specs.declared.ask.Entry.{Entry}
-use Rattle.title_chain.specs.declared.ask.Posting.{Posting}
-use Rattle.title_chain.specs.Asks.{tract_of, is_post, effect, answer_to, post_answer, overlap}
-use Rattle.title_chain.specs.StepEntries.{entry_of}
-use Rattle.title_chain.specs.ChainLaws.{SameIn}
 
 -- an answer depends on the tract's cells and on the chain alone
 pub answer_same :

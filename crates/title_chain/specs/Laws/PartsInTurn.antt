@@ -1,6 +1,5 @@
 -- One part more.
-use Rattle.std.specs.Prelude.{◌≡◌, ◌+◌, List, [], ◌∷◌, ◌++◌, length}
-use Rattle.std.proofs.Common.{ap, sym, ◌∙◌, length-append}
+use Rattle.std.{specs.Prelude.{◌≡◌, ◌+◌, List, [], ◌∷◌, ◌++◌, length}, proofs.Common.{ap, sym, ◌∙◌, length-append}}
 use Rattle.std.proofs.lemmas.List.{flat_map_more}
 use Rattle.title_store.specs.declared.sheet_row.SheetRow.{SheetRow}
 use Rattle.title_chain.specs.SheetParts.{all_rows}

@@ -1,20 +1,11 @@
 -- Steps past a record that none of them overlaps.
-use Rattle.std.proofs.Common.{◌≡◌, ℕ, suc, false, List, [], ◌∷◌, ◌++◌, refl, ◌∙◌, sym, length}
-use Rattle.std.proofs.lemmas.Bool.{or_parts, or_from}
+use Rattle.std.proofs.{Common.{◌≡◌, ℕ, suc, false, List, [], ◌∷◌, ◌++◌, refl, ◌∙◌, sym, length}, lemmas.Bool.{or_parts, or_from}}
 use Rattle.std.proofs.lemmas.List.{append-nil, reverse-reverse}
-use Rattle.title_land.specs.declared.survey.Cell.{Cell}
-use Rattle.title_land.specs.declared.survey.Township.{Township}
-use Rattle.title_land.specs.declared.tract.Land.{Land}
+use Rattle.title_land.specs.declared.{survey.{Cell.{Cell}, Township.{Township}}, tract.Land.{Land}}
 use Rattle.title_store.specs.Plants.{Plant}
-use Rattle.title_chain.specs.declared.ask.Ask.{Ask}
-use Rattle.title_chain.specs.declared.ask.Step.{Step}
-use Rattle.title_chain.specs.declared.record.Record.{Record}
-use Rattle.title_chain.specs.Asks.{tract_of, overlap}
-use Rattle.title_chain.specs.StepEntries.{step_entries}
-use Rattle.title_chain.specs.Chains.{record_entries, chain_of}
-use Rattle.title_chain.specs.Alone.{after_steps, plant_after, Plays}
+use Rattle.title_chain.specs.{declared.{ask.{Ask.{Ask}, Step.{Step}}, record.Record.{Record}}, Asks.{tract_of, overlap}, ChainLaws.{SameIn}}
+use Rattle.title_chain.specs.{StepEntries.{step_entries}, Chains.{record_entries, chain_of}, Alone.{after_steps, plant_after, Plays}}
 use Rattle.title_chain.specs.Overlaps.{overlaps, Clear, record_of}
-use Rattle.title_chain.specs.ChainLaws.{SameIn}
 use Rattle.title_chain.specs.Laws.AskLaws.{answer_same, effect_same, effect_past, entry_past, overlap_symmetric}
 
 pub clear_nothing : (own : List Step) → Clear own []

@@ -1,25 +1,15 @@
 -- Posts made again, one after another, have the effects of the asks.
 use Rattle.std.proofs.Common.{◌≡◌, ℕ, ◌+◌, ◌<◌, false, List, [], ◌∷◌, ◌++◌, Option, Some, None, length, reverse, take, drop, get_or, refl}
-use Rattle.std.proofs.Common.{ap, ◌∙◌, sym, subst, inl}
-use Rattle.std.proofs.Math.Path.{fun_ext}
-use Rattle.std.proofs.lemmas.Bool.{both_ways}
+use Rattle.std.proofs.{Common.{ap, ◌∙◌, sym, subst, inl}, Math.Path.{fun_ext}, lemmas.Bool.{both_ways}}
 use Rattle.std.proofs.lemmas.List.{reverse-append, take_more, take-append-drop}
-use Rattle.title_land.specs.declared.survey.Township.{Township}
-use Rattle.title_land.specs.declared.tract.Land.{Land}
-use Rattle.title_store.specs.Plants.{Plant, SameContent, Refusal, refused_in, plant_effect}
-use Rattle.title_store.specs.Loans.{Loan, IsTaken, IsOut}
-use Rattle.title_chain.specs.declared.ask.Ask.{Ask}
-use Rattle.title_chain.specs.declared.ask.Ask.TheVariants as ask
-use Rattle.title_chain.specs.declared.ask.Answer.{Answer}
-use Rattle.title_chain.specs.declared.ask.Answer.TheVariants as answer
-use Rattle.title_chain.specs.declared.ask.Entry.{Entry}
-use Rattle.title_chain.specs.declared.ask.Posting.{Posting}
-use Rattle.title_chain.specs.declared.ask.Step.{Step}
-use Rattle.title_chain.specs.declared.record.Record.{Record}
-use Rattle.title_chain.specs.Asks.{effect, answer_to, post_answer}
-use Rattle.title_chain.specs.Alone.{after_steps, plant_after, Plays, IsSerial}
-use Rattle.title_chain.specs.Replays.{was_posted, CanReplay, Replays}
+use Rattle.title_land.specs.declared.{survey.Township.{Township}, tract.Land.{Land}}
+use Rattle.title_store.specs.{Plants.{Plant, SameContent, Refusal, refused_in, plant_effect}, Loans.{Loan, IsTaken, IsOut}}
+use Rattle.title_chain.specs.declared.ask.{Ask.{Ask}, Answer.{Answer}, Entry.{Entry}, Posting.{Posting}, Step.{Step}}
+use Rattle.title_chain.specs.{declared.record.Record.{Record}, Asks.{effect, answer_to, post_answer}}
+use Rattle.title_chain.specs.{Alone.{after_steps, plant_after, Plays, IsSerial}, Replays.{was_posted, CanReplay, Replays}}
 use Rattle.title_chain.specs.Laws.AskLaws.{effect_read, effect_refused, effect_post, answer_post}
+use Rattle.title_chain.specs.declared.ask.Ask.TheVariants as ask
+use Rattle.title_chain.specs.declared.ask.Answer.TheVariants as answer
 
 -- the one image that is out is out
 pub taken_out :

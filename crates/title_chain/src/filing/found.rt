@@ -1,13 +1,8 @@
 //! What is found in a filing along a cover.
 
-ghost use Rattle.std.proofs.Math.Bool.{Bool-set};
-ghost use Rattle.std.specs.Prelude.{◌≡◌, ◌||◌, [], OnOk, true};
-ghost use Rattle.std.specs.List.Sorted.{IsStrictlySortedBy};
-ghost use Rattle.title_land.specs.declared.node.Node.{Node};
-ghost use Rattle.title_land.specs.NodeNumbers.{node_number, number_above};
-ghost use Rattle.title_chain.specs.declared.spot.Spot.{Spot};
-ghost use Rattle.title_chain.specs.PostSpots.{is_listed};
-ghost use Rattle.title_chain.specs.SpotMaps.{spot_cmp};
+ghost use Rattle.std.{proofs.Math.Bool.{Bool-set}, specs.{Prelude.{◌≡◌, ◌||◌, [], OnOk, true}, List.Sorted.{IsStrictlySortedBy}}};
+ghost use Rattle.title_land.specs.{declared.node.Node.{Node}, NodeNumbers.{node_number, number_above}};
+ghost use Rattle.title_chain.specs.{declared.spot.Spot.{Spot}, PostSpots.{is_listed}, SpotMaps.{spot_cmp}};
 ghost use Rattle.title_chain.specs.TractIndexes.{is_near, is_higher, KnowsAbove};
 
 use crate::filing::{Filing, spots_at};

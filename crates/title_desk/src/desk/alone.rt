@@ -1,18 +1,12 @@
 //! Transactions of one step, where nobody is open: no open transaction, no lock and no before-image is kept for them.
 
 ghost use Rattle.std.specs.Prelude.{◌≡◌, ◌++◌, ◌∷◌, [], IfOk, OnOk, OnErr, true, false, length};
-ghost use Rattle.title_land.specs.Depth.{depth};
-ghost use Rattle.title_land.specs.Lands.{is_in_plant};
+ghost use Rattle.title_land.specs.{Depth.{depth}, Lands.{is_in_plant}};
 ghost use Rattle.title_store.specs.Plants.{SameContent, plant_effect, refused_in};
-ghost use Rattle.title_chain.specs.declared.ask.Ask.TheVariants.{Post};
-ghost use Rattle.title_chain.specs.Alone.{alone};
-ghost use Rattle.title_chain.specs.Asks.{is_post};
-ghost use Rattle.title_chain.specs.declared.ask.Answer.TheVariants.{Posted};
-ghost use Rattle.title_trace.specs.declared.call.Request.TheVariants.{Begin, Commit, Step};
-ghost use Rattle.title_trace.specs.declared.call.Reply.TheVariants.{Began, Committed};
+ghost use Rattle.title_chain.specs.{declared.ask.{Ask.TheVariants.{Post}, Answer.TheVariants.{Posted}}, Alone.{alone}, Asks.{is_post}};
+ghost use Rattle.title_trace.specs.declared.call.{Request.TheVariants.{Begin, Commit, Step}, Reply.TheVariants.{Began, Committed}};
 ghost use Rattle.title_trace.specs.Trace.{committed, open_steps};
-ghost use Rattle.title_desk.specs.Images.{is_posted};
-ghost use Rattle.title_desk.specs.Singles.{Bars, IsDeed, IsIdle, Stands, ToldSingle};
+ghost use Rattle.title_desk.specs.{Images.{is_posted}, Singles.{Bars, IsDeed, IsIdle, Stands, ToldSingle}};
 
 use crate::asks::step_of;
 use crate::calls::Calls;

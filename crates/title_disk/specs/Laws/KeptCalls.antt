@@ -1,14 +1,11 @@
 -- How what a crash may leave goes on with each call that is kept.
 use Rattle.std.specs.Prelude.{◌≡◌, ◌⊎◌, ℕ, ◌+◌, ◌-◌, ◌<◌, ◌≤◌, List, [], ◌∷◌, ◌++◌, length, get_or, take, drop, reverse}
 use Rattle.std.proofs.Common.{inl, inr, ⊎_elim, refl, sym, ◌∙◌, ap, subst, arith, get_or, take-append-drop, length-append, length-take}
-use Rattle.std.proofs.Common.{length-drop}
+use Rattle.std.proofs.{Common.{length-drop}, lemmas.List.{append_assoc, length-take-le}}
 use Rattle.std.proofs.lemmas.List.{reverse-append, length-reverse, take_at, drop_at, take_all, take_min, take_more, drop_more, drop-drop}
-use Rattle.std.proofs.lemmas.List.{append_assoc, length-take-le}
-use Rattle.title_disk.specs.Crashes.{Holds, Torn, Cut, Follows, Only, Elapses}
-use Rattle.title_disk.specs.Kept.{Leaves, MayLeave, LeftSince, Notes, content_between}
-use Rattle.title_disk.specs.declared.call.DiskCall.{DiskCall}
+use Rattle.title_disk.specs.{Crashes.{Holds, Torn, Cut, Follows, Only, Elapses}, Kept.{Leaves, MayLeave, LeftSince, Notes, content_between}}
+use Rattle.title_disk.specs.declared.call.{DiskCall.{DiskCall}, KeptCall.{KeptCall}}
 use Rattle.title_disk.specs.declared.call.DiskCall.TheVariants as call
-use Rattle.title_disk.specs.declared.call.KeptCall.{KeptCall}
 
 -- a crash may leave what is there
 pub stays : (now : List ℕ) (calls : List KeptCall) → MayLeave now calls now

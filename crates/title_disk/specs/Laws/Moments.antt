@@ -1,6 +1,5 @@
 -- How a run of a disk's calls goes on, and what may be left at its end.
-use Rattle.std.specs.Prelude.{ℕ, List}
-use Rattle.std.proofs.Common.{inl, inr, ⊎_elim, arith}
+use Rattle.std.{specs.Prelude.{ℕ, List}, proofs.Common.{inl, inr, ⊎_elim, arith}}
 use Rattle.title_disk.specs.Crashes.{Elapses, LeavesOnly}
 
 module _ {D : Type 0} (moment : D → ℕ) (left_since : D → ℕ → List ℕ → Type 0) where

@@ -1,9 +1,7 @@
 -- The readers' exactness, built along the lines of a grammar.
 use Rattle.std.proofs.Common.{◌≡◌, ℕ, Bool, true, false, ◌&&◌, List, [], ◌++◌, refl}
-use Rattle.title_grammar.specs.Language.{Language, Then, Or, Many, Word, Maybe, ◌*>◌}
-use Rattle.title_grammar.specs.Reading.{Read, then_at, or_at, many_at, word_at, maybe_at}
-use Rattle.title_grammar.specs.Laws.Heads.{disjoint}
-use Rattle.title_grammar.specs.Laws.Exact.{Exact, when, then_exact, or_exact}
+use Rattle.title_grammar.specs.{Language.{Language, Then, Or, Many, Word, Maybe, ◌*>◌}, Laws.Heads.{disjoint}}
+use Rattle.title_grammar.specs.{Reading.{Read, then_at, or_at, many_at, word_at, maybe_at}, Laws.Exact.{Exact, when, then_exact, or_exact}}
 use Rattle.title_grammar.specs.Laws.Repeat.{many_exact, gives_exact, front, is_empty}
 
 pub sequence : {U V W : Type 0} (f : U → V → W) {a : List ℕ → Read U} {A : Language U} {fa ma : List ℕ} {ea : Bool}

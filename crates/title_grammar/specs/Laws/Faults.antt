@@ -1,15 +1,9 @@
 -- The index of a fault: how many letters stand before it.
 use Rattle.std.proofs.Common.{◌≡◌, ℕ, suc, ◌-◌, ◌≤◌, ◌<◌, ◌==◌, ◌⊎◌, inl, inr, Bool, List, [], ◌∷◌, ◌++◌, length, take, drop, refl, sym, ap}
-use Rattle.std.proofs.Common.{subst, ◌∙◌, arith, append_assoc, length-append, drop-cons}
-use Rattle.std.specs.Bool.{Decides}
-use Rattle.std.proofs.lemmas.Bool.{eqb-true, eq-eqb}
-use Rattle.std.proofs.lemmas.Bool.Decides.{nat_tests}
-use Rattle.std.proofs.lemmas.List.{take-append-drop, take-take, take_all}
+use Rattle.std.{proofs.Common.{subst, ◌∙◌, arith, append_assoc, length-append, drop-cons}, specs.Bool.{Decides}}
+use Rattle.std.proofs.lemmas.{Bool.{eqb-true, eq-eqb, Decides.{nat_tests}}, List.{take-append-drop, take-take, take_all}}
 use Rattle.std.proofs.Math.Seq.{take-append_seam, drop-append_seam, take-suc}
-use Rattle.title_grammar.specs.Language.{Language, Begins, FaultAt}
-use Rattle.title_grammar.specs.Reading.{Read, Got}
-use Rattle.title_grammar.specs.Laws.Exact.{Exact}
-use Rattle.title_grammar.specs.Laws.Repeat.{Fault, whole_only}
+use Rattle.title_grammar.specs.{Language.{Language, Begins, FaultAt}, Reading.{Read, Got}, Laws.{Exact.{Exact}, Repeat.{Fault, whole_only}}}
 
 pub nothing_left : (r : List ℕ) → length r ≡ 0 → r ≡ []
 nothing_left [] h = refl

@@ -1,7 +1,6 @@
 -- What a text begins with.
 use Rattle.std.proofs.Common.{◌≡◌, ℕ, Bool, true, false, List, [], ◌∷◌, ◌++◌, refl, ap}
-use Rattle.title_grammar.specs.Language.{member}
-use Rattle.title_grammar.specs.Reading.{starts}
+use Rattle.title_grammar.specs.{Language.{member}, Reading.{starts}}
 
 -- both are empty, or both have the same first character
 abbrev pub SameHead : List ℕ → List ℕ → Type 0

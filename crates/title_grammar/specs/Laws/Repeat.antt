@@ -1,15 +1,11 @@
 -- Fixed texts, repetition, and whole texts.
 use Rattle.std.proofs.Common.{◌≡◌, ℕ, zero, suc, ◌-◌, ◌≤◌, ◌<◌, Bool, true, false, ◌==◌, List, [], ◌∷◌, ◌++◌, length, refl, sym, ap, subst}
-use Rattle.std.proofs.Common.{◌∙◌, inl, inr, arith, append_assoc, length-append}
-use Rattle.std.proofs.lemmas.List.{append-nil}
-use Rattle.std.proofs.lemmas.Bool.{eqb-true}
-use Rattle.title_grammar.specs.Language.{Language, Gives, Many, Begins, NoText, FaultAt}
+use Rattle.std.proofs.{Common.{◌∙◌, inl, inr, arith, append_assoc, length-append}, lemmas.{List.{append-nil}, Bool.{eqb-true}}}
+use Rattle.title_grammar.specs.{Language.{Language, Gives, Many, Begins, NoText, FaultAt}, Laws.Sets.{starts-split}}
 use Rattle.title_grammar.specs.Reading.{Read, Got, Stuck, and_then, starts, gives_at, many_from, many_at}
 use Rattle.title_grammar.specs.Laws.Heads.{SameHead, SameHead-refl, SameHead-front, SameHead-starts, disjoint}
-use Rattle.title_grammar.specs.Laws.Sets.{starts-split}
-use Rattle.title_grammar.specs.Laws.Exact.{HeadsIn, GotBy, StuckBy, Exact, both_got}
+use Rattle.title_grammar.specs.Laws.Exact.{HeadsIn, GotBy, StuckBy, Exact, both_got, same_end, same_choice, starts_of}
 use Rattle.title_grammar.specs.Laws.Exact.{either_stuck, got_not_stuck, follow_then, tells, same_next}
-use Rattle.title_grammar.specs.Laws.Exact.{same_end, same_choice, starts_of}
 
 -- ---- any number of times
 

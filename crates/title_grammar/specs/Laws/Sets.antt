@@ -1,9 +1,7 @@
 -- Sets of characters, as lists.
 use Rattle.std.proofs.Common.{◌≡◌, ℕ, Bool, true, false, ◌||◌, ◌==◌, List, [], ◌∷◌, ◌++◌, refl, ap, ◌∙◌, inl, inr, ◌⊎◌}
 use Rattle.std.proofs.lemmas.Bool.{eqb-true}
-use Rattle.title_grammar.specs.Language.{member}
-use Rattle.title_grammar.specs.Reading.{starts}
-use Rattle.title_grammar.specs.Laws.Heads.{disjoint, disjoint_one}
+use Rattle.title_grammar.specs.{Language.{member}, Reading.{starts}, Laws.Heads.{disjoint, disjoint_one}}
 
 or_left : (b m n : Bool) → (m ≡ true → n ≡ true) → (b || m) ≡ true → (b || n) ≡ true
 or_left true m n f h = refl

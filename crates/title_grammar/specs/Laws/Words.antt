@@ -1,8 +1,7 @@
 -- Fixed words, letter by letter.
 use Rattle.std.proofs.Common.{◌≡◌, ℕ, suc, ◌+◌, ◌<◌, Bool, true, false, ◌==◌, List, [], ◌∷◌, length, get_or, drop, refl, ap, drop-cons}
 use Rattle.std.proofs.Common.{add-one, cond}
-use Rattle.title_grammar.specs.Reading.{Got, Stuck, and_then, gives_at}
-use Rattle.title_grammar.specs.Reading.{word_at}
+use Rattle.title_grammar.specs.Reading.{Got, Stuck, and_then, gives_at, word_at}
 
 word_cons_at : (b : Bool) (c d : ℕ) (w s : List ℕ) → (d == c) ≡ b
     → word_at (c ∷ w) (d ∷ s) ≡ and_then (word_at (c ∷ []) (d ∷ s)) (λ u r. word_at w r)

@@ -1,20 +1,11 @@
 -- Laws of what an instrument does to a cell.
-use Rattle.std.proofs.Common.{◌≡◌, ◌∙◌, ℕ, false, ap, refl, Result, Ok, Err}
-use Rattle.std.proofs.lemmas.Bool.{cond-false}
-use Rattle.title_share.specs.Division.{Division, units_of}
-use Rattle.title_share.specs.Laws.DivisionLaws.{moved_none}
-use Rattle.title_instrument.specs.declared.parts.Estate.{Estate}
-use Rattle.title_instrument.specs.declared.parts.Estate.TheVariants.{S, O, M}
-use Rattle.title_instrument.specs.declared.parts.Rule.{Rule}
-use Rattle.title_instrument.specs.declared.instrument.Instrument.{Instrument}
-use Rattle.title_instrument.specs.declared.instrument.Instrument.TheVariants as i
-use Rattle.title_instrument.specs.declared.owners.Owners.{Owners}
-use Rattle.title_instrument.specs.declared.owners.Effect.{Effect}
-use Rattle.title_instrument.specs.Estates.{names}
-use Rattle.title_instrument.specs.Parties.{grantor_of, grantee_of, estates_of}
-use Rattle.title_instrument.specs.Passing.{passes}
-use Rattle.title_instrument.specs.Owners.{holding_of}
+use Rattle.std.proofs.{Common.{◌≡◌, ◌∙◌, ℕ, false, ap, refl, Result, Ok, Err}, lemmas.Bool.{cond-false}}
+use Rattle.title_share.specs.{Division.{Division, units_of}, Laws.DivisionLaws.{moved_none}}
+use Rattle.title_instrument.specs.declared.{parts.{Estate.{Estate, TheVariants.{S, O, M}}, Rule.{Rule}}, instrument.Instrument.{Instrument}}
+use Rattle.title_instrument.specs.{declared.owners.{Owners.{Owners}, Effect.{Effect}}, Estates.{names}, Passing.{passes}}
+use Rattle.title_instrument.specs.{Parties.{grantor_of, grantee_of, estates_of}, Owners.{holding_of}}
 use Rattle.title_instrument.specs.Effect.{after_passing, holding_effect, joined, cell_effect, owners_after, KeepsUnnamed}
+use Rattle.title_instrument.specs.declared.instrument.Instrument.TheVariants as i
 
 -- nothing passes in an estate that isn't named
 pub passes_unnamed : (d : Instrument ℕ) (e : Estate) (g : ℕ) → names (estates_of d) e ≡ false → passes d e g ≡ Ok 0

@@ -1,9 +1,6 @@
 -- A file of blocks that count is read as those blocks and whatever the rest stands for.
-use Rattle.std.specs.Prelude.{◌≡◌, ℕ, ◌+◌, true, false, List, [], ◌∷◌, ◌++◌, Result, Ok, Err, ◌==◌}
-use Rattle.std.specs.List.{flat_map, AllByRecursion}
-use Rattle.std.proofs.Common.{refl, sym, ◌∙◌, ap, arith, append_assoc, zero-add, cond}
-use Rattle.std.proofs.lemmas.List.{append-nil}
-use Rattle.std.proofs.lemmas.List.Sums.{sum_by-append}
+use Rattle.std.specs.{Prelude.{◌≡◌, ℕ, ◌+◌, true, false, List, [], ◌∷◌, ◌++◌, Result, Ok, Err, ◌==◌}, List.{flat_map, AllByRecursion}}
+use Rattle.std.proofs.{Common.{refl, sym, ◌∙◌, ap, arith, append_assoc, zero-add, cond}, lemmas.List.{append-nil, Sums.{sum_by-append}}}
 use Rattle.std.proofs.lemmas.Bool.{ne_eqb, cond-true, cond-false}
 use Rattle.title_journal.specs.Blocks.{AtGate, InRow, blocks_from, blocks_in, before_others, front, counted, head, lines, IsRow, IsBlock}
 use Rattle.title_journal.specs.Blocks.{IsUnfinished, ends_block, rows_in, line_feed, open_gate}

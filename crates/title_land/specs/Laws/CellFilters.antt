@@ -1,27 +1,15 @@
 -- What a land keeps of a township's cells.
 use Rattle.std.proofs.Common.{◌≡◌, ℕ, zero, suc, ◌+◌, ◌<◌, ◌≤◌, Bool, true, false, ◌&&◌, inl, inr, List, [], ◌∷◌, ◌++◌, length}
-use Rattle.std.proofs.Common.{get_or, take, refl, sym, ap, subst, ◌∙◌, arith}
-use Rattle.title_land.specs.Depth.{depth}
-use Rattle.std.specs.Prelude.{nat_le}
-use Rattle.std.specs.List.{flat_map, filter}
-use Rattle.std.proofs.lemmas.Bool.{and_parts, false_from_ne_true, both_ways, cases_eq}
-use Rattle.std.proofs.lemmas.List.{append-nil, take_more, take_all, flat_map_more}
-use Rattle.std.proofs.lemmas.List.Elements.{filter-append}
-use Rattle.std.proofs.lemmas.Grind.{flat_map-append}
-use Rattle.title_land.specs.declared.survey.Township.{Township}
-use Rattle.title_land.specs.declared.survey.Section.{Section}
-use Rattle.title_land.specs.declared.survey.Cell.{Cell}
-use Rattle.title_land.specs.declared.grid.Grid.{Grid}
-use Rattle.title_land.specs.declared.tract.Land.{Land}
-use Rattle.title_land.specs.declared.tract.Land.TheVariants as land
-use Rattle.title_land.specs.Survey.{same_township, same_section, IsSection, IsSectionNumber}
-use Rattle.title_land.specs.Grids.{grid_has}
-use Rattle.title_land.specs.Lands.{has}
+use Rattle.std.{proofs.Common.{get_or, take, refl, sym, ap, subst, ◌∙◌, arith}, specs.{Prelude.{nat_le}, List.{flat_map, filter}}}
+use Rattle.std.proofs.lemmas.{Bool.{and_parts, false_from_ne_true, both_ways, cases_eq}, List.Elements.{filter-append}}
+use Rattle.std.proofs.lemmas.{List.{append-nil, take_more, take_all, flat_map_more}, Grind.{flat_map-append}}
+use Rattle.title_land.specs.{Depth.{depth}, declared.{survey.{Township.{Township}, Section.{Section}, Cell.{Cell}}, grid.Grid.{Grid}}}
+use Rattle.title_land.specs.{declared.tract.Land.{Land}, Survey.{same_township, same_section, IsSection, IsSectionNumber}, Grids.{grid_has}}
+use Rattle.title_land.specs.{Lands.{has}, Laws.SameLand.{same_township-is, same_township-self, same_section-is}}
 use Rattle.title_land.specs.CellLists.{section_if, sections_from, sections_of, section_cells, township_cells, plant_cells, cells_of}
-use Rattle.title_land.specs.Laws.SameLand.{same_township-is, same_township-self, same_section-is}
-use Rattle.title_land.specs.Laws.Members.{in_flat_mapped, filter_none}
+use Rattle.title_land.specs.Laws.{Members.{in_flat_mapped, filter_none}, CellMembers.{township_cells-in}}
 use Rattle.title_land.specs.Laws.CellMembers.{section_if-is, section_if-none, section_if-in, sections_from-in, section_cells-in}
-use Rattle.title_land.specs.Laws.CellMembers.{township_cells-in}
+use Rattle.title_land.specs.declared.tract.Land.TheVariants as land
 
 -- the cells of the sections from a number on: those of that number, then the rest
 pub cells_from : (d : ℕ) (p : Cell → Bool) (t : Township) (n count : ℕ)

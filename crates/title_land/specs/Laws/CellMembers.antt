@@ -1,28 +1,17 @@
 -- Which cells the lists of a section's, a township's, the plant's and a land's cells have.
 use Rattle.std.proofs.Common.{◌≡◌, ℕ, zero, suc, ◌+◌, ◌<◌, ◌≤◌, Bool, true, false, ◌&&◌, ◌==◌, inl, inr, List, [], ◌∷◌, length, refl, sym}
-use Rattle.std.proofs.Common.{ap, subst, ◌∙◌, arith}
-use Rattle.std.specs.Prelude.{nat_le}
-use Rattle.std.specs.List.{list_any, filter}
+use Rattle.std.{proofs.Common.{ap, subst, ◌∙◌, arith}, specs.{Prelude.{nat_le}, List.{list_any, filter}}}
 use Rattle.std.proofs.lemmas.Bool.{and_parts, and_from, both_ways, eqb-true, eq-eqb, le-leb, leb-true, cases_eq}
-use Rattle.title_land.specs.declared.survey.Township.{Township}
-use Rattle.title_land.specs.declared.survey.Section.{Section}
-use Rattle.title_land.specs.declared.survey.Cell.{Cell}
-use Rattle.title_land.specs.declared.rectangle.Quarter.{Quarter}
+use Rattle.title_land.specs.declared.{survey.{Township.{Township}, Section.{Section}, Cell.{Cell}}, rectangle.Quarter.{Quarter}}
 use Rattle.title_land.specs.declared.rectangle.Quarter.TheVariants.{Northeast, Northwest, Southwest, Southeast}
-use Rattle.title_land.specs.Survey.{is_on_grid, same_township, same_section, IsSection, IsSectionNumber}
-use Rattle.title_land.specs.Nodes.{square, quarters, node_has}
-use Rattle.title_land.specs.Lands.{has, is_plant_cell}
+use Rattle.title_land.specs.{Survey.{is_on_grid, same_township, same_section, IsSection, IsSectionNumber}, Lands.{has, is_plant_cell}}
+use Rattle.title_land.specs.{Nodes.{square, quarters, node_has}, CellLists.{plant_cells, cells_of, node_cells}, Laws.Members.{in_filtered}}
 use Rattle.title_land.specs.CellLists.{same_cell, section_if, sections_from, sections_of, cells_below, section_cells, township_cells}
-use Rattle.title_land.specs.CellLists.{plant_cells, cells_of, node_cells}
 use Rattle.title_land.specs.CellLaws.{SameCellsAreEqual, PlantHasItsCells, ListHasTheCells, NodeListHasTheCells}
 use Rattle.title_land.specs.Laws.SameLand.{same_township-is, same_township-self, same_section-is, same_section-self}
-use Rattle.title_land.specs.Laws.Squares.{Inside, sized, quarter_inside, has_corner}
+use Rattle.title_land.specs.Laws.{Squares.{Inside, sized, quarter_inside, has_corner}, CoverCells.{in_a_quarter}, NodeSharing.{cell_at}}
 use Rattle.title_land.specs.Laws.Members.{In, any_found, any_from, in_left, in_right, in_append, in_flat_map, in_flat_mapped, in_filter}
-use Rattle.title_land.specs.Laws.Members.{in_filtered}
-use Rattle.title_land.specs.Laws.CoverCells.{in_a_quarter}
-use Rattle.title_land.specs.Laws.NodeSharing.{cell_at}
-use Rattle.title_land.specs.Laws.LandSharing.{equal_tests, whole_section}
-use Rattle.title_land.specs.Laws.CoverSet.{cell_in_grid}
+use Rattle.title_land.specs.Laws.{LandSharing.{equal_tests, whole_section}, CoverSet.{cell_in_grid}}
 
 -- a section by its township and number
 section_parts : (s u : Section) → s.township ≡ u.township → s.number ≡ u.number → s ≡ u

@@ -1,21 +1,12 @@
 -- The four cells that a cell is quartered into, and the land and the nodes in which they lie.
-use Rattle.std.proofs.Common.{◌≡◌, ℕ, suc, ◌+◌, ◌*◌, ◌/◌, ◌%◌, Bool, ◌&&◌, inl, inr, refl, ap, subst, ◌∙◌, arith}
-use Rattle.std.specs.Prelude.{nat_lt}
-use Rattle.std.specs.List.{list_any}
-use Rattle.std.proofs.lemmas.Bool.{and_parts, ltb-true, lt-ltb, cases_eq}
-use Rattle.title_land.specs.declared.survey.Cell.{Cell}
+use Rattle.std.{proofs.Common.{◌≡◌, ℕ, suc, ◌+◌, ◌*◌, ◌/◌, ◌%◌, Bool, ◌&&◌, inl, inr, refl, ap, subst, ◌∙◌, arith}, specs.Prelude.{nat_lt}}
+use Rattle.std.{specs.List.{list_any}, proofs.lemmas.Bool.{and_parts, ltb-true, lt-ltb, cases_eq}}
+use Rattle.title_land.specs.{declared.survey.Cell.{Cell}, Survey.{side, is_on_grid, same_section}, Lands.{has}, CellLists.{same_cell}}
+use Rattle.title_land.specs.Doubled.{halved, cell_in, four_cells, doubled, FourCellsLieIn, DoubledHasTheCells, NodesHaveTheCells}
+use Rattle.title_land.specs.Laws.{PartsDoubled.{two_pow}, Members.{In}, LandSharing.{equal_tests}, SquaresDoubled.{square_holds}}
+use Rattle.title_land.specs.Laws.{CellMembers.{same_cells_are_equal, listed, listed_from}, CoversDoubled.{refines}}
 use Rattle.title_land.specs.declared.node.Node.TheVariants as node
 use Rattle.title_land.specs.declared.tract.Land.TheVariants as land
-use Rattle.title_land.specs.Survey.{side, is_on_grid, same_section}
-use Rattle.title_land.specs.Lands.{has}
-use Rattle.title_land.specs.CellLists.{same_cell}
-use Rattle.title_land.specs.Doubled.{halved, cell_in, four_cells, doubled, FourCellsLieIn, DoubledHasTheCells, NodesHaveTheCells}
-use Rattle.title_land.specs.Laws.PartsDoubled.{two_pow}
-use Rattle.title_land.specs.Laws.Members.{In}
-use Rattle.title_land.specs.Laws.LandSharing.{equal_tests}
-use Rattle.title_land.specs.Laws.CellMembers.{same_cells_are_equal, listed, listed_from}
-use Rattle.title_land.specs.Laws.SquaresDoubled.{square_holds}
-use Rattle.title_land.specs.Laws.CoversDoubled.{refines}
 
 lies_in : (a b : Cell) (row column : ℕ) → a ≡ cell_in b.section row column → row / 2 ≡ b.row → column / 2 ≡ b.column → halved a ≡ b
 lies_in a b row column e r c = ap halved e ∙ (λ k. cell_in b.section (r k) (c k))

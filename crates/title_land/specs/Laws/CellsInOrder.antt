@@ -1,35 +1,21 @@
 -- The cells of an earlier node of a cover are listed before those of a later one.
 use Rattle.std.proofs.Common.{◌≡◌, ℕ, zero, suc, ◌+◌, ◌≤◌, true, ◌&&◌, ◌||◌, inl, inr, List, [], ◌∷◌, ◌++◌, length, refl, sym}
-use Rattle.std.proofs.Common.{ap, subst, ◌∙◌, arith}
-use Rattle.std.specs.Prelude.{reverse}
-use Rattle.std.specs.List.{list_any}
-use Rattle.std.proofs.lemmas.List.{reverse-append, length-reverse}
-use Rattle.std.proofs.lemmas.Bool.{and_parts, and_from, or_cases, both_ways}
-use Rattle.title_land.specs.declared.survey.Township.{Township}
-use Rattle.title_land.specs.declared.survey.Section.{Section}
-use Rattle.title_land.specs.declared.survey.Cell.{Cell}
-use Rattle.title_land.specs.declared.rectangle.Quarter.{Quarter}
-use Rattle.title_land.specs.declared.rectangle.Quarter.TheVariants.{Northeast, Northwest, Southwest, Southeast}
-use Rattle.title_land.specs.declared.node.Node.{Node}
-use Rattle.title_land.specs.declared.node.Node.TheVariants as node
-use Rattle.title_land.specs.declared.tract.Land.{Land}
-use Rattle.title_land.specs.Survey.{is_on_grid, same_township, same_section}
-use Rattle.title_land.specs.Rectangles.{holds}
-use Rattle.title_land.specs.Nodes.{square, quarters, same_quarter, same_node, is_above, node_has}
-use Rattle.title_land.specs.Lands.{has, cover_of, is_plant_cell}
+use Rattle.std.{proofs.Common.{ap, subst, ◌∙◌, arith}, specs.{Prelude.{reverse}, List.{list_any}}}
+use Rattle.std.proofs.lemmas.{List.{reverse-append, length-reverse}, Bool.{and_parts, and_from, or_cases, both_ways}}
+use Rattle.title_land.specs.declared.{survey.{Township.{Township}, Section.{Section}, Cell.{Cell}}, rectangle.Quarter.{Quarter}}
+use Rattle.title_land.specs.declared.{rectangle.Quarter.TheVariants.{Northeast, Northwest, Southwest, Southeast}, node.Node.{Node}}
+use Rattle.title_land.specs.{declared.tract.Land.{Land}, Survey.{is_on_grid, same_township, same_section}, Rectangles.{holds}}
+use Rattle.title_land.specs.{Nodes.{square, quarters, same_quarter, same_node, is_above, node_has}, Lands.{has, cover_of, is_plant_cell}}
 use Rattle.title_land.specs.CellLists.{cells_below, section_cells, sections_of, township_cells, plant_cells, cells_of}
-use Rattle.title_land.specs.CoverSets.{quarter_before, path_before, comes_before}
-use Rattle.title_land.specs.CellOrder.{is_met_before, CellsFollowTheCover}
-use Rattle.title_land.specs.Laws.SameLand.{same_township-is, same_section-is, same_section-self}
-use Rattle.title_land.specs.Laws.SameNode.{same_quarter-is, same_quarter-self, same_node-self}
+use Rattle.title_land.specs.{CoverSets.{quarter_before, path_before, comes_before}, CellOrder.{is_met_before, CellsFollowTheCover}}
+use Rattle.title_land.specs.Laws.{SameLand.{same_township-is, same_section-is, same_section-self}, Members.{In, any_found, any_from}}
+use Rattle.title_land.specs.Laws.{SameNode.{same_quarter-is, same_quarter-self, same_node-self}, LandSharing.{cover_has, cover_in_tree}}
 use Rattle.title_land.specs.Laws.Squares.{Inside, inside, holds_from, quarter_inside, quarters_apart}
-use Rattle.title_land.specs.Laws.Members.{In, any_found, any_from}
-use Rattle.title_land.specs.Laws.NodeSharing.{equal_from_same, related_from_cell}
-use Rattle.title_land.specs.Laws.LandSharing.{cover_has, cover_in_tree}
-use Rattle.title_land.specs.Laws.CoverSet.{cover_is_cover, cover_nodes_apart}
+use Rattle.title_land.specs.Laws.{NodeSharing.{equal_from_same, related_from_cell}, CoverSet.{cover_is_cover, cover_nodes_apart}}
 use Rattle.title_land.specs.Laws.CellMembers.{cells_below-has, cells_below-in, in_quarters}
 use Rattle.title_land.specs.Laws.CellMembers.{in_sections_of, section_cells-in, township_cells-in}
 use Rattle.title_land.specs.Laws.MetBefore.{Met, flat_before, flat_at, met_filter, met_member, met_apart, met_in_order}
+use Rattle.title_land.specs.declared.node.Node.TheVariants as node
 
 quarters_met : (a b : Quarter) → quarter_before a b ≡ true → is_met_before same_quarter quarters a b ≡ true
 quarters_met Northeast Northeast h = absurd cc

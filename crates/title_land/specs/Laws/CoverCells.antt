@@ -1,22 +1,12 @@
 -- The cells of a cover are those of its land.
 use Rattle.std.proofs.Common.{◌≡◌, ℕ, zero, suc, ◌+◌, ◌-◌, ◌*◌, ◌/◌, ◌<◌, ◌≤◌, ◌^◌, Bool, true, false, ◌⊎◌, inl, inr, List, [], ◌∷◌, ◌++◌}
-use Rattle.std.proofs.Common.{length, refl, sym, ap, subst, ◌∙◌, arith, append_assoc}
-use Rattle.std.proofs.lemmas.Bool.{both_ways, cases_Bool, cases_lt}
-use Rattle.title_land.specs.declared.rectangle.Quarter.{Quarter}
-use Rattle.title_land.specs.declared.rectangle.Quarter.TheVariants.{Northeast, Northwest, Southwest, Southeast}
-use Rattle.title_land.specs.declared.rectangle.Rectangle.{Rectangle}
-use Rattle.title_land.specs.declared.grid.Grid.{Grid}
-use Rattle.title_land.specs.Rectangles.{quarter_of, holds}
-use Rattle.title_land.specs.Nodes.{square}
-use Rattle.title_land.specs.Survey.{side}
-use Rattle.title_land.specs.Grids.{fills, grid_has, grid_of, grids_meet}
-use Rattle.title_land.specs.Laws.GridLaws.{grid_has-grid_of}
-use Rattle.title_land.specs.Laws.GridSharing.{grids_from}
-use Rattle.title_land.specs.Covers.{cover_below}
-use Rattle.title_land.specs.Laws.CoverLaws.{cover_filled, cover_cell, cover_split}
+use Rattle.std.proofs.{Common.{length, refl, sym, ap, subst, ◌∙◌, arith, append_assoc}, lemmas.Bool.{both_ways, cases_Bool, cases_lt}}
+use Rattle.title_land.specs.{declared.rectangle.Quarter.{Quarter, TheVariants.{Northeast, Northwest, Southwest, Southeast}}, Nodes.{square}}
+use Rattle.title_land.specs.{declared.{rectangle.Rectangle.{Rectangle}, grid.Grid.{Grid}}, Rectangles.{quarter_of, holds}, Survey.{side}}
+use Rattle.title_land.specs.{Grids.{fills, grid_has, grid_of, grids_meet}, Laws.{GridLaws.{grid_has-grid_of}, GridSharing.{grids_from}}}
+use Rattle.title_land.specs.{Covers.{cover_below}, Laws.{CoverLaws.{cover_filled, cover_cell, cover_split}, Filling.{fills_at, fills_from}}}
 use Rattle.title_land.specs.Laws.Squares.{Inside, Sized, sized, has_corner, holds_from, square_inside}
 use Rattle.title_land.specs.Laws.Members.{In, in_left, in_right, in_append}
-use Rattle.title_land.specs.Laws.Filling.{fills_at, fills_from}
 
 -- a list in four pieces
 in_four : (p : List Quarter) (a b c d : List (List Quarter)) → In p (a ++ b ++ c ++ d) → In p a ⊎ (In p b ⊎ (In p c ⊎ In p d))

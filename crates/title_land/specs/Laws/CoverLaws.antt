@@ -1,17 +1,9 @@
 -- Covers by squares.
 use Rattle.std.proofs.Common.{◌≡◌, ℕ, zero, suc, ◌-◌, ◌<◌, ◌≤◌, Bool, true, false, List, [], ◌∷◌, ◌++◌, refl, ap, ◌∙◌, append_assoc, arith}
-use Rattle.title_land.specs.declared.rectangle.Quarter.{Quarter}
-use Rattle.title_land.specs.declared.rectangle.Quarter.TheVariants.{Northeast, Northwest, Southwest, Southeast}
-use Rattle.std.proofs.Common.{map}
-use Rattle.std.proofs.Common.{◌+◌, get_or, length, take, sym}
+use Rattle.std.{proofs.Common.{map, ◌+◌, get_or, length, take, sym}, specs.List.{flat_map}}
 use Rattle.std.proofs.lemmas.List.{append-nil, flat_map_more, map-append, take_all, take_more}
-use Rattle.std.specs.List.{flat_map}
-use Rattle.title_land.specs.declared.node.Node.{Node}
-use Rattle.title_land.specs.declared.survey.Section.{Section}
-use Rattle.title_land.specs.Nodes.{quarters}
-use Rattle.title_land.specs.Covers.{cover_below, node_at}
-use Rattle.title_land.specs.Grids.{fills}
-use Rattle.title_land.specs.Nodes.{square}
+use Rattle.title_land.specs.{declared.rectangle.Quarter.{Quarter, TheVariants.{Northeast, Northwest, Southwest, Southeast}}, Grids.{fills}}
+use Rattle.title_land.specs.{declared.{node.Node.{Node}, survey.Section.{Section}}, Nodes.{quarters, square}, Covers.{cover_below, node_at}}
 
 pub cover_filled : (depth : ℕ) (has : ℕ → ℕ → Bool) (levels : ℕ) (path : List Quarter) → fills has (square depth path) ≡ true
     → cover_below depth has levels path ≡ path ∷ []

@@ -1,23 +1,12 @@
 -- A cover lists its nodes in order.
 use Rattle.std.proofs.Common.{◌≡◌, ℕ, zero, suc, ◌-◌, Bool, true, ◌&&◌, inl, inr, List, [], ◌∷◌, ◌++◌, map, refl, sym, ap}
-use Rattle.std.proofs.Common.{subst, ◌∙◌, arith, append_assoc}
-use Rattle.std.specs.Prelude.{reverse}
-use Rattle.std.specs.List.{list_all}
+use Rattle.std.{proofs.{Common.{subst, ◌∙◌, arith, append_assoc}, lemmas.List.{reverse-append}}, specs.{Prelude.{reverse}, List.{list_all}}}
 use Rattle.std.proofs.lemmas.Bool.{and_from, or_right, cases_Bool}
-use Rattle.std.proofs.lemmas.List.{reverse-append}
-use Rattle.title_land.specs.declared.survey.Section.{Section}
-use Rattle.title_land.specs.declared.rectangle.Quarter.{Quarter}
-use Rattle.title_land.specs.declared.rectangle.Quarter.TheVariants.{Northeast, Northwest, Southwest, Southeast}
-use Rattle.title_land.specs.declared.node.Node.{Node}
-use Rattle.title_land.specs.Survey.{same_section}
-use Rattle.title_land.specs.Nodes.{square, same_quarter}
-use Rattle.title_land.specs.Grids.{fills}
-use Rattle.title_land.specs.Covers.{cover_below, node_at}
-use Rattle.title_land.specs.CoverSets.{quarter_before, path_before, comes_before, are_in_order}
-use Rattle.title_land.specs.Laws.SameLand.{same_section-self}
-use Rattle.title_land.specs.Laws.SameNode.{same_quarter-self}
-use Rattle.title_land.specs.Laws.Members.{In, in_append, in_mapped}
-use Rattle.title_land.specs.Laws.CoverLaws.{cover_filled, cover_cell, cover_split}
+use Rattle.title_land.specs.{declared.{survey.Section.{Section}, rectangle.Quarter.{Quarter}, node.Node.{Node}}, Survey.{same_section}}
+use Rattle.title_land.specs.{declared.rectangle.Quarter.TheVariants.{Northeast, Northwest, Southwest, Southeast}, Grids.{fills}}
+use Rattle.title_land.specs.{Nodes.{square, same_quarter}, Covers.{cover_below, node_at}, Laws.SameLand.{same_section-self}}
+use Rattle.title_land.specs.{CoverSets.{quarter_before, path_before, comes_before, are_in_order}, Laws.SameNode.{same_quarter-self}}
+use Rattle.title_land.specs.Laws.{Members.{In, in_append, in_mapped}, CoverLaws.{cover_filled, cover_cell, cover_split}}
 use Rattle.title_land.specs.Laws.CoverCells.{cover_found}
 
 -- each element stands before all after it

@@ -1,35 +1,20 @@
 -- A land's cover is exactly the nodes whose cells all lie in the land and whose parent's don't, in order.
 use Rattle.std.proofs.Common.{cond, ◌≡◌, ℕ, suc, ◌+◌, ◌-◌, ◌≤◌, Bool, true, false, not, ◌&&◌, ◌||◌, inl, inr, List, [], ◌∷◌, length, Some}
-use Rattle.std.proofs.Common.{refl, sym, ap, subst, ◌∙◌, arith, lit≤}
-use Rattle.std.specs.List.{All}
-use Rattle.std.proofs.lemmas.List.Elements.{All-nil, All-cons}
-use Rattle.std.specs.Prelude.{is_some, nat_lt}
-use Rattle.std.specs.List.{list_any, find}
+use Rattle.std.{proofs.{Common.{refl, sym, ap, subst, ◌∙◌, arith, lit≤}, lemmas.List.Elements.{All-nil, All-cons}}, specs.List.{All}}
+use Rattle.std.specs.{Prelude.{is_some, nat_lt}, List.{list_any, find}}
 use Rattle.std.proofs.lemmas.Bool.{false_from_ne_true, cases_Bool, and_parts, and_from, or_cases, both_ways, lt-ltb}
-use Rattle.title_land.specs.declared.survey.Township.{Township}
-use Rattle.title_land.specs.declared.survey.Section.{Section}
-use Rattle.title_land.specs.declared.survey.Cell.{Cell}
-use Rattle.title_land.specs.declared.rectangle.Quarter.{Quarter}
-use Rattle.title_land.specs.declared.grid.Grid.{Grid}
-use Rattle.title_land.specs.declared.node.Node.{Node}
-use Rattle.title_land.specs.declared.node.Node.TheVariants as node
-use Rattle.title_land.specs.declared.tract.Land.{Land}
-use Rattle.title_land.specs.declared.tract.Land.TheVariants as land
-use Rattle.title_land.specs.Survey.{side, is_on_grid, same_township, same_section}
-use Rattle.title_land.specs.Rectangles.{holds}
-use Rattle.title_land.specs.Nodes.{square, node_has, same_node, is_above, above, parent_of, parent_in, IsNode}
-use Rattle.title_land.specs.Grids.{grid_has, fills}
-use Rattle.title_land.specs.Lands.{has, cover_of}
-use Rattle.title_land.specs.NodeLaws.{AboveByParent}
+use Rattle.title_land.specs.declared.{survey.{Township.{Township}, Section.{Section}, Cell.{Cell}}, rectangle.Quarter.{Quarter}}
+use Rattle.title_land.specs.{declared.{grid.Grid.{Grid}, node.Node.{Node}, tract.Land.{Land}}, Rectangles.{holds}, Grids.{grid_has, fills}}
+use Rattle.title_land.specs.{Survey.{side, is_on_grid, same_township, same_section}, Lands.{has, cover_of}, NodeLaws.{AboveByParent}}
+use Rattle.title_land.specs.{Nodes.{square, node_has, same_node, is_above, above, parent_of, parent_in, IsNode}, Laws.Filling.{fills_from}}
 use Rattle.title_land.specs.CoverSets.{CoverNodesLieApart, CoverFindsTheNode, LiesIn, IsCoverNode, IsCover, are_in_order}
 use Rattle.title_land.specs.Laws.SameLand.{same_township-is, same_township-self, same_section-is, same_section-self}
-use Rattle.title_land.specs.Laws.Squares.{Inside, holds_from, sized, pow_positive}
-use Rattle.title_land.specs.Laws.Members.{In, any_found, any_from}
-use Rattle.title_land.specs.Laws.Filling.{fills_from}
-use Rattle.title_land.specs.Laws.CoverOrder.{section_in_order}
+use Rattle.title_land.specs.Laws.{Squares.{Inside, holds_from, sized, pow_positive}, Members.{In, any_found, any_from}}
+use Rattle.title_land.specs.Laws.{CoverOrder.{section_in_order}, NodeSharing.{related_from_cell, cell_of, cell_at, first_section}}
 use Rattle.title_land.specs.Laws.NodeSharing.{equal_from_same, same_from_equal, in_from_above, above_from_in, above_has_the_cells}
-use Rattle.title_land.specs.Laws.NodeSharing.{related_from_cell, cell_of, cell_at, first_section}
 use Rattle.title_land.specs.Laws.LandSharing.{cover_has_its_cells, Part, part_found, cover_has, cover_has_each, cover_in_tree}
+use Rattle.title_land.specs.declared.node.Node.TheVariants as node
+use Rattle.title_land.specs.declared.tract.Land.TheVariants as land
 
 -- what lies above a node is its parent and what lies above that
 above_parent : (n p : Node) → parent_of n ≡ Some p → above n ≡ p ∷ above p

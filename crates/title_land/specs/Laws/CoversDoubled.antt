@@ -1,29 +1,17 @@
 -- Land where each section is quartered once more: its cover, its size, and what it meets.
 use Rattle.std.proofs.Common.{◌≡◌, ℕ, zero, suc, ◌+◌, ◌/◌, ◌<◌, ◌≤◌, Bool, false, inl, inr, List, [], ◌∷◌, ◌++◌, map, length, refl, sym, ap}
-use Rattle.std.proofs.Common.{subst, ◌∙◌, arith, if◌then◌else◌}
-use Rattle.std.proofs.lemmas.Bool.{cases_Bool, both_ways, false_from_ne_true}
-use Rattle.title_land.specs.declared.grid.Grid.{Grid}
-use Rattle.title_land.specs.declared.rectangle.Quarter.{Quarter}
-use Rattle.title_land.specs.declared.rectangle.Quarter.TheVariants.{Northeast, Northwest, Southwest, Southeast}
-use Rattle.title_land.specs.declared.rectangle.Rectangle.{Rectangle}
-use Rattle.title_land.specs.declared.node.Node.TheVariants as node
-use Rattle.title_land.specs.declared.tract.Land.TheVariants as land
-use Rattle.title_land.specs.Rectangles.{holds}
-use Rattle.title_land.specs.Nodes.{square, are_related}
-use Rattle.title_land.specs.Survey.{side}
-use Rattle.title_land.specs.Grids.{grid_has, grid_of, fills, indices}
-use Rattle.title_land.specs.Covers.{cover_below, node_at}
-use Rattle.title_land.specs.Lands.{cover_of}
+use Rattle.std.proofs.{Common.{subst, ◌∙◌, arith, if◌then◌else◌}, lemmas.Bool.{cases_Bool, both_ways, false_from_ne_true}}
 use Rattle.std.specs.List.{list_any, range_with_len}
-use Rattle.title_land.specs.Doubled.{doubled, DoubledIsLand, NodeLandDoubles, CoverDoubles, MeetsDoubles}
-use Rattle.title_land.specs.Laws.Squares.{Inside, sized, has_corner, quarter_inside}
-use Rattle.title_land.specs.Laws.Filling.{fills_at}
-use Rattle.title_land.specs.Laws.CoverLaws.{cover_filled, cover_cell}
-use Rattle.title_land.specs.Laws.CoverCells.{fills_one}
-use Rattle.title_land.specs.Laws.CoversMeet.{meets_by_covers}
-use Rattle.title_land.specs.Laws.GridLaws.{grid_has-grid_of}
+use Rattle.title_land.specs.{declared.{grid.Grid.{Grid}, rectangle.{Quarter.{Quarter}, Rectangle.{Rectangle}}}, Rectangles.{holds}}
+use Rattle.title_land.specs.{declared.rectangle.Quarter.TheVariants.{Northeast, Northwest, Southwest, Southeast}, Survey.{side}}
+use Rattle.title_land.specs.{Nodes.{square, are_related}, Grids.{grid_has, grid_of, fills, indices}, Covers.{cover_below, node_at}}
+use Rattle.title_land.specs.{Lands.{cover_of}, Doubled.{doubled, DoubledIsLand, NodeLandDoubles, CoverDoubles, MeetsDoubles}}
+use Rattle.title_land.specs.Laws.{Squares.{Inside, sized, has_corner, quarter_inside}, Filling.{fills_at}, CoverCells.{fills_one}}
+use Rattle.title_land.specs.Laws.{CoverLaws.{cover_filled, cover_cell}, CoversMeet.{meets_by_covers}, GridLaws.{grid_has-grid_of}}
 use Rattle.title_land.specs.Laws.NodeLands.{square_has, square_in_section, is_grid-grid_of}
 use Rattle.title_land.specs.Laws.SquaresDoubled.{Refines, inside_doubled, square_double, square_holds, fills_double}
+use Rattle.title_land.specs.declared.node.Node.TheVariants as node
+use Rattle.title_land.specs.declared.tract.Land.TheVariants as land
 
 -- a cell that the set doesn't have has no quarter that the finer set fills
 quarter_empty : (d : ℕ) (set finer : ℕ → ℕ → Bool) (w : List Quarter) (q : Quarter) → zero + length w ≡ d → Refines d set finer

@@ -1,8 +1,6 @@
 -- Two lands meet exactly where their covers do.
 use Rattle.std.proofs.Common.{ℕ}
-use Rattle.title_land.specs.Lands.{meets}
-use Rattle.title_land.specs.CoverSets.{covers_meet, MeetsByCovers}
-use Rattle.title_land.specs.Laws.TractSharing.{meets_at_a_cell}
+use Rattle.title_land.specs.{Lands.{meets}, CoverSets.{covers_meet, MeetsByCovers}, Laws.TractSharing.{meets_at_a_cell}}
 use Rattle.title_land.specs.Laws.LandSharing.{equal_tests, lands_share}
 
 pub meets_by_covers : (d : ℕ) → MeetsByCovers d

@@ -1,9 +1,7 @@
 -- A set fills a rectangle exactly where it has each of its cells.
 use Rattle.std.proofs.Common.{◌≡◌, ℕ, zero, suc, ◌+◌, ◌<◌, ◌≤◌, Bool, true, inl, inr, refl, subst, arith}
 use Rattle.std.proofs.lemmas.Bool.{and_parts, and_from, cases_eq}
-use Rattle.title_land.specs.declared.rectangle.Rectangle.{Rectangle}
-use Rattle.title_land.specs.Grids.{range_all, row_fills, fills}
-use Rattle.title_land.specs.Laws.Squares.{Inside}
+use Rattle.title_land.specs.{declared.rectangle.Rectangle.{Rectangle}, Grids.{range_all, row_fills, fills}, Laws.Squares.{Inside}}
 
 -- a test that holds at each number of a range holds at this one
 pub range_all_at : (test : ℕ → Bool) (start n k : ℕ) → range_all test start n ≡ true → start ≤ k → k < start + n → test k ≡ true

@@ -1,16 +1,9 @@
 -- Sets of cells made from a test, and a rectangle added to a set.
 use Rattle.std.proofs.Common.{◌≡◌, ℕ, ◌<◌, ◌≤◌, Bool, true, false, ◌&&◌, ◌||◌, List, Option, Some, None, map, length, nat_lt, refl, ap}
-use Rattle.std.proofs.Common.{◌∙◌, arith}
-use Rattle.std.specs.Prelude.{slice_get, option_and_then, unwrap_or}
-use Rattle.std.specs.List.{range_with_len}
-use Rattle.std.proofs.lemmas.Bool.{and_right}
-use Rattle.std.proofs.lemmas.Bool.Decides.{nat_tests}
-use Rattle.std.proofs.lemmas.Option.{slice_get-get_or, slice_get_past}
+use Rattle.std.{proofs.Common.{◌∙◌, arith}, specs.{Prelude.{slice_get, option_and_then, unwrap_or}, List.{range_with_len}}}
+use Rattle.std.proofs.lemmas.{Bool.{and_right, Decides.{nat_tests}}, Option.{slice_get-get_or, slice_get_past}}
 use Rattle.std.proofs.lemmas.List.FromFn.{length-map-range_with_len, get_or-map-range_with_len}
-use Rattle.title_land.specs.declared.grid.Grid.{Grid}
-use Rattle.title_land.specs.declared.rectangle.Rectangle.{Rectangle}
-use Rattle.title_land.specs.Survey.{side}
-use Rattle.title_land.specs.Rectangles.{holds, InSection}
+use Rattle.title_land.specs.{declared.{grid.Grid.{Grid}, rectangle.Rectangle.{Rectangle}}, Survey.{side}, Rectangles.{holds, InSection}}
 use Rattle.title_land.specs.Grids.{grid_has, grid_of, with_rectangle, indices, AddsRectangle}
 
 -- a list made from the numbers below n, at one of them

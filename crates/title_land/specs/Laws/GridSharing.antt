@@ -1,14 +1,9 @@
 -- Two sets of cells meet exactly where they share a cell.
 use Rattle.std.proofs.Common.{◌≡◌, ℕ, zero, suc, ◌<◌, Bool, true, false, ◌&&◌, inl, inr, List, [], ◌∷◌, Option, Some, None, length, refl}
-use Rattle.std.proofs.Common.{sym, ap, ◌∙◌, arith}
-use Rattle.std.specs.Prelude.{slice_get, option_and_then, unwrap_or}
-use Rattle.std.specs.List.{list_any, zip}
-use Rattle.std.proofs.lemmas.Bool.{and_parts, or_cases, or_left, or_right}
-use Rattle.std.proofs.lemmas.Option.{slice_get_within, get_or_from_slice_get}
+use Rattle.std.{proofs.Common.{sym, ap, ◌∙◌, arith}, specs.{Prelude.{slice_get, option_and_then, unwrap_or}, List.{list_any, zip}}}
+use Rattle.std.proofs.lemmas.{Bool.{and_parts, or_cases, or_left, or_right}, Option.{slice_get_within, get_or_from_slice_get}}
 use Rattle.std.proofs.lemmas.List.Elements.{All-get_or}
-use Rattle.title_land.specs.declared.grid.Grid.{Grid}
-use Rattle.title_land.specs.Survey.{side}
-use Rattle.title_land.specs.Grids.{grid_has, has_some, rows_meet, grids_meet, IsGrid}
+use Rattle.title_land.specs.{declared.grid.Grid.{Grid}, Survey.{side}, Grids.{grid_has, has_some, rows_meet, grids_meet, IsGrid}}
 
 -- an element of each list at one index, of which a test holds
 record Pair {X Y : Type 0} (f : X → Y → Bool) (xs : List X) (ys : List Y) : Type 0 where

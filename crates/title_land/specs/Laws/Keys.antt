@@ -1,18 +1,10 @@
 -- Townships, sections and cells that compare alike are one, so that a map finds one exactly there.
-use Rattle.std.proofs.Common.{◌≡◌, ℕ, Bool, true, false, ◌&&◌, refl, sym, ap, ◌∙◌}
-use Rattle.std.proofs.lemmas.Bool.{and_parts, and_from, eqb-true, eq-eqb, false_from_ne_true, true≢false}
-use Rattle.std.proofs.lemmas.Map.Lookups.{exact_unsigned}
-use Rattle.std.specs.declared.cmp.Ordering.{Ordering}
-use Rattle.std.specs.declared.cmp.Ordering.TheVariants.{Less, Equal, Greater}
-use Rattle.std.specs.Ordering.{nat_cmp, bool_cmp, ordering_then}
+use Rattle.std.proofs.{Common.{◌≡◌, ℕ, Bool, true, false, ◌&&◌, refl, sym, ap, ◌∙◌}, lemmas.Map.Lookups.{exact_unsigned}}
+use Rattle.std.{proofs.lemmas.Bool.{and_parts, and_from, eqb-true, eq-eqb, false_from_ne_true, true≢false}, specs.BTreeMap.{is_at}}
+use Rattle.std.specs.{declared.cmp.Ordering.{Ordering, TheVariants.{Less, Equal, Greater}}, Ordering.{nat_cmp, bool_cmp, ordering_then}}
 use Rattle.std.specs.Cmp.{Equal-is, tied_itself, nat_cmp_total, bool_cmp_total}
-use Rattle.std.specs.BTreeMap.{is_at}
-use Rattle.title_land.specs.declared.survey.Township.{Township}
-use Rattle.title_land.specs.declared.survey.Section.{Section}
-use Rattle.title_land.specs.declared.survey.Cell.{Cell}
-use Rattle.title_land.specs.Survey.{same_flag, same_township, same_section}
-use Rattle.title_land.specs.CellLists.{same_cell}
-use Rattle.title_land.specs.Orders.{township_cmp, section_cmp, cell_cmp}
+use Rattle.title_land.specs.{declared.survey.{Township.{Township}, Section.{Section}, Cell.{Cell}}, CellLists.{same_cell}}
+use Rattle.title_land.specs.{Survey.{same_flag, same_township, same_section}, Orders.{township_cmp, section_cmp, cell_cmp}}
 use Rattle.title_land.specs.Laws.SameLand.{same_township-is, same_township-self, same_section-is, same_section-self}
 
 -- a map whose order ties only equal keys finds a key exactly there

@@ -1,28 +1,15 @@
 -- A land's cells are those of its cover, and two lands share a cell exactly where their covers meet.
 use Rattle.std.proofs.Common.{◌≡◌, ℕ, ◌+◌, ◌≤◌, Bool, true, false, ◌&&◌, inl, inr, List, [], length, refl, sym, subst, arith}
-use Rattle.std.specs.Prelude.{nat_lt}
-use Rattle.std.specs.List.{list_any}
-use Rattle.std.proofs.lemmas.Bool.{and_parts, and_from, ltb-true}
-use Rattle.title_land.specs.declared.survey.Section.{Section}
-use Rattle.title_land.specs.declared.survey.Cell.{Cell}
-use Rattle.title_land.specs.declared.rectangle.Quarter.{Quarter}
-use Rattle.title_land.specs.declared.grid.Grid.{Grid}
-use Rattle.title_land.specs.declared.node.Node.{Node}
-use Rattle.title_land.specs.declared.node.Node.TheVariants as node
-use Rattle.title_land.specs.declared.tract.Land.{Land}
-use Rattle.title_land.specs.declared.tract.Land.TheVariants as land
-use Rattle.title_land.specs.Survey.{side, is_on_grid, same_section}
-use Rattle.title_land.specs.Rectangles.{holds}
-use Rattle.title_land.specs.Nodes.{square, node_has, are_related, IsNode}
-use Rattle.title_land.specs.Grids.{grid_has}
-use Rattle.title_land.specs.Covers.{cover_below, node_at, section_cover}
-use Rattle.title_land.specs.Lands.{has, cover_of, Meets}
-use Rattle.title_land.specs.CoverSets.{CoverHasItsCells, LandsShareACell, covers_meet}
-use Rattle.title_land.specs.Laws.Squares.{Inside, inside, holds_from}
-use Rattle.title_land.specs.Laws.Members.{In, any_found, any_from, in_map, in_mapped}
-use Rattle.title_land.specs.Laws.Filling.{fills_at}
-use Rattle.title_land.specs.Laws.CoverCells.{Found, cover_found, cover_complete}
+use Rattle.std.{specs.{Prelude.{nat_lt}, List.{list_any}}, proofs.lemmas.Bool.{and_parts, and_from, ltb-true}}
+use Rattle.title_land.specs.declared.{survey.{Section.{Section}, Cell.{Cell}}, rectangle.Quarter.{Quarter}, grid.Grid.{Grid}}
+use Rattle.title_land.specs.{declared.{node.Node.{Node}, tract.Land.{Land}}, Survey.{side, is_on_grid, same_section}, Rectangles.{holds}}
+use Rattle.title_land.specs.{Nodes.{square, node_has, are_related, IsNode}, Grids.{grid_has}, Covers.{cover_below, node_at, section_cover}}
+use Rattle.title_land.specs.{Lands.{has, cover_of, Meets}, CoverSets.{CoverHasItsCells, LandsShareACell, covers_meet}}
+use Rattle.title_land.specs.Laws.{Squares.{Inside, inside, holds_from}, Members.{In, any_found, any_from, in_map, in_mapped}}
+use Rattle.title_land.specs.Laws.{Filling.{fills_at}, CoverCells.{Found, cover_found, cover_complete}}
 use Rattle.title_land.specs.Laws.NodeSharing.{related_from_cell, nodes_share}
+use Rattle.title_land.specs.declared.node.Node.TheVariants as node
+use Rattle.title_land.specs.declared.tract.Land.TheVariants as land
 
 -- two tests are equal where each follows from the other
 pub equal_tests : (a b : Bool) → (a ≡ true → b ≡ true) → (b ≡ true → a ≡ true) → a ≡ b

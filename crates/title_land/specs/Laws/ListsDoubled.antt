@@ -1,25 +1,12 @@
 -- The cells in their order, where each section is quartered once more.
 use Rattle.std.proofs.Common.{◌≡◌, ℕ, zero, suc, ◌+◌, ◌*◌, ◌/◌, ◌≤◌, Bool, true, false, cond, inl, inr, List, [], ◌∷◌, ◌++◌, map, length}
-use Rattle.std.proofs.Common.{refl, sym, ap, ◌∙◌, arith}
-use Rattle.std.specs.List.{list_any, flat_map, filter}
-use Rattle.std.proofs.lemmas.Bool.{and_parts}
-use Rattle.std.proofs.lemmas.List.Elements.{filter-append}
-use Rattle.std.proofs.lemmas.Grind.{flat_map-append}
-use Rattle.title_land.specs.declared.survey.Township.{Township}
-use Rattle.title_land.specs.declared.survey.Section.{Section}
-use Rattle.title_land.specs.declared.survey.Cell.{Cell}
-use Rattle.title_land.specs.declared.rectangle.Quarter.{Quarter}
-use Rattle.title_land.specs.declared.rectangle.Rectangle.{Rectangle}
-use Rattle.title_land.specs.Survey.{same_township, is_on_grid}
-use Rattle.title_land.specs.Rectangles.{quarter_of}
-use Rattle.title_land.specs.Nodes.{square, quarters, node_has}
-use Rattle.title_land.specs.Lands.{has}
+use Rattle.std.{proofs.{Common.{refl, sym, ap, ◌∙◌, arith}, lemmas.Bool.{and_parts}}, specs.List.{list_any, flat_map, filter}}
+use Rattle.std.proofs.lemmas.{List.Elements.{filter-append}, Grind.{flat_map-append}}
+use Rattle.title_land.specs.declared.{survey.{Township.{Township}, Section.{Section}, Cell.{Cell}}, rectangle.Quarter.{Quarter}}
+use Rattle.title_land.specs.{declared.rectangle.Rectangle.{Rectangle}, Survey.{same_township, is_on_grid}, Rectangles.{quarter_of}}
+use Rattle.title_land.specs.{Nodes.{square, quarters, node_has}, Lands.{has}, CellLists.{node_cells}, Laws.{Members.{In}, Squares.{sized}}}
 use Rattle.title_land.specs.CellLists.{sections_of, corner_of, cells_below, section_cells, township_cells, plant_cells, cells_of}
-use Rattle.title_land.specs.CellLists.{node_cells}
-use Rattle.title_land.specs.Doubled.{cell_in, four_cells, doubled, CellsDouble, NodeCellsDouble}
-use Rattle.title_land.specs.Laws.Members.{In}
-use Rattle.title_land.specs.Laws.Squares.{sized}
-use Rattle.title_land.specs.Laws.CellMembers.{plant_cells-in}
+use Rattle.title_land.specs.{Doubled.{cell_in, four_cells, doubled, CellsDouble, NodeCellsDouble}, Laws.CellMembers.{plant_cells-in}}
 use Rattle.title_land.specs.Laws.SquaresDoubled.{square_double}
 use Rattle.title_land.specs.Laws.CellsDoubled.{four_halved, grid_double, doubled_has_the_cells, nodes_have_the_cells}
 

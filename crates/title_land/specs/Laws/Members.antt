@@ -1,7 +1,6 @@
 -- Members of lists.
 use Rattle.std.proofs.Common.{cond, ◌≡◌, Bool, true, false, ◌⊎◌, inl, inr, List, [], ◌∷◌, ◌++◌, map, refl, sym, ap, subst, ◌∙◌}
-use Rattle.std.proofs.lemmas.Bool.{or_cases, or_left, or_right, cases_Bool}
-use Rattle.std.specs.List.{list_any, flat_map, filter}
+use Rattle.std.{proofs.lemmas.Bool.{or_cases, or_left, or_right, cases_Bool}, specs.List.{list_any, flat_map, filter}}
 
 -- x stands in the list
 abbrev pub In : {X : Type 0} → X → List X → Type 0

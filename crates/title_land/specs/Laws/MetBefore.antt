@@ -2,15 +2,9 @@
 use Rattle.std.proofs.Common.{◌≡◌, Bool, true, false, not, ◌||◌, inl, inr, List, [], ◌∷◌, ◌++◌, refl, sym, ap, subst, ◌∙◌}
 use Rattle.std.proofs.lemmas.Bool.{and_parts, and_from, or_cases, or_left, or_right, cases_Bool, both_ways}
 use Rattle.std.specs.List.{list_any, list_all, flat_map, filter}
-use Rattle.title_land.specs.declared.survey.Cell.{Cell}
-use Rattle.title_land.specs.declared.node.Node.{Node}
-use Rattle.title_land.specs.Nodes.{same_node}
-use Rattle.title_land.specs.CellLists.{same_cell}
-use Rattle.title_land.specs.CoverSets.{comes_before, are_in_order}
-use Rattle.title_land.specs.CellOrder.{is_met_before}
-use Rattle.title_land.specs.Laws.Members.{In}
-use Rattle.title_land.specs.Laws.NodeSharing.{equal_from_same, same_from_equal}
-use Rattle.title_land.specs.Laws.CellMembers.{same_cells_are_equal, listed, listed_from}
+use Rattle.title_land.specs.{declared.{survey.Cell.{Cell}, node.Node.{Node}}, Nodes.{same_node}, CellLists.{same_cell}, Laws.Members.{In}}
+use Rattle.title_land.specs.{CoverSets.{comes_before, are_in_order}, CellOrder.{is_met_before}}
+use Rattle.title_land.specs.Laws.{NodeSharing.{equal_from_same, same_from_equal}, CellMembers.{same_cells_are_equal, listed, listed_from}}
 
 pub not_from : (b : Bool) → (b ≡ true → ⊥) → not b ≡ true
 not_from true h = absurd (h refl)

@@ -1,21 +1,12 @@
 -- Nodes that compare alike are one, so that a map finds a node exactly at that node.
-use Rattle.std.proofs.Common.{◌≡◌, refl, ap}
-use Rattle.std.specs.declared.cmp.Ordering.{Ordering}
-use Rattle.std.specs.declared.cmp.Ordering.TheVariants.{Equal}
-use Rattle.std.specs.Cmp.{tied_itself}
-use Rattle.std.specs.BTreeMap.{is_at}
-use Rattle.std.proofs.lemmas.Map.Lookups.{exact_unsigned}
-use Rattle.title_land.specs.declared.node.Within.{Within}
-use Rattle.title_land.specs.declared.node.Node.{Node}
+use Rattle.std.{proofs.Common.{◌≡◌, refl, ap}, specs.{declared.cmp.Ordering.{Ordering, TheVariants.{Equal}}, Cmp.{tied_itself}}}
+use Rattle.std.{specs.BTreeMap.{is_at}, proofs.lemmas.Map.Lookups.{exact_unsigned}}
+use Rattle.title_land.specs.{declared.node.{Within.{Within}, Node.{Node}}, Nodes.{same_node}, Orders.{section_cmp, node_cmp}}
+use Rattle.title_land.specs.{Paths.{path_number}, Laws.{PathNumbers.{path_number-is}, SameNode.{same_node-self, same_node-is}}}
+use Rattle.title_land.specs.Laws.Keys.{found_at, then_parts, township_tied, section_tied}
 use Rattle.title_land.specs.declared.node.Node.TheVariants as node
 use Rattle.title_land.specs.contracts.node.WithinOrd.TheImpl as within_ord
 use Rattle.title_land.specs.contracts.node.NodeOrd.TheImpl.Laws as node_laws
-use Rattle.title_land.specs.Nodes.{same_node}
-use Rattle.title_land.specs.Orders.{section_cmp, node_cmp}
-use Rattle.title_land.specs.Paths.{path_number}
-use Rattle.title_land.specs.Laws.PathNumbers.{path_number-is}
-use Rattle.title_land.specs.Laws.Keys.{found_at, then_parts, township_tied, section_tied}
-use Rattle.title_land.specs.Laws.SameNode.{same_node-self, same_node-is}
 
 -- ---- squares
 

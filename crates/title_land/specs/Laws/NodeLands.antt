@@ -1,34 +1,18 @@
 -- A node as a land: its cells, and a cover of that node alone.
 use Rattle.std.proofs.Common.{◌≡◌, ℕ, suc, ◌-◌, ◌<◌, ◌≤◌, Bool, true, false, ◌&&◌, ◌⊎◌, inl, inr, List, [], ◌∷◌, ◌++◌, map}
-use Rattle.std.proofs.Common.{length, refl, sym, ap, subst, ◌∙◌, arith}
-use Rattle.std.specs.Prelude.{reverse}
-use Rattle.std.proofs.lemmas.Bool.{cases_lt, both_ways}
-use Rattle.std.proofs.lemmas.List.{append-nil}
-use Rattle.std.proofs.lemmas.List.Elements.{All-map}
-use Rattle.std.proofs.lemmas.List.FromFn.{length-map-range_with_len}
-use Rattle.std.proofs.Math.Bool.{or-false}
-use Rattle.title_land.specs.declared.survey.Section.{Section}
-use Rattle.title_land.specs.declared.survey.Cell.{Cell}
-use Rattle.title_land.specs.declared.grid.Grid.{Grid}
-use Rattle.title_land.specs.declared.rectangle.Quarter.{Quarter}
-use Rattle.title_land.specs.declared.rectangle.Quarter.TheVariants.{Northeast, Northwest, Southwest, Southeast}
-use Rattle.title_land.specs.declared.node.Node.{Node}
+use Rattle.std.{proofs.{Common.{length, refl, sym, ap, subst, ◌∙◌, arith}, lemmas.Bool.{cases_lt, both_ways}}, specs.Prelude.{reverse}}
+use Rattle.std.proofs.{lemmas.List.{append-nil, Elements.{All-map}, FromFn.{length-map-range_with_len}}, Math.Bool.{or-false}}
+use Rattle.title_land.specs.declared.{survey.{Section.{Section}, Cell.{Cell}}, grid.Grid.{Grid}, rectangle.Quarter.{Quarter}}
+use Rattle.title_land.specs.declared.{rectangle.Quarter.TheVariants.{Northeast, Northwest, Southwest, Southeast}, node.Node.{Node}}
+use Rattle.title_land.specs.{Survey.{side, same_section}, Rectangles.{holds, InSection}, Grids.{grid_has, grid_of, fills, indices, IsGrid}}
+use Rattle.title_land.specs.{Nodes.{square, same_quarter, node_has, are_related, IsNode}, Covers.{cover_below, section_cover, node_at}}
+use Rattle.title_land.specs.{CoverSets.{quarter_before, path_before}, Lands.{has, cover_of, land_of, meets, IsLand}, Laws.Members.{In}}
+use Rattle.title_land.specs.Laws.{GridLaws.{grid_has-everywhere, inside_holds, on_side, both_off}, Filling.{fills_at, fills_from}}
+use Rattle.title_land.specs.Laws.Squares.{Inside, inside, holds_from, quarters_apart, nested, square_inside, sized, has_corner}
+use Rattle.title_land.specs.Laws.{CoverCells.{cover_found, cover_complete}, CoversMeet.{meets_by_covers}}
+use Rattle.title_land.specs.Laws.CoverOrder.{Ordered, inner_before, cover_ordered}
 use Rattle.title_land.specs.declared.node.Node.TheVariants as node
 use Rattle.title_land.specs.declared.tract.Land.TheVariants as land
-use Rattle.title_land.specs.Survey.{side, same_section}
-use Rattle.title_land.specs.Rectangles.{holds, InSection}
-use Rattle.title_land.specs.Nodes.{square, same_quarter, node_has, are_related, IsNode}
-use Rattle.title_land.specs.Grids.{grid_has, grid_of, fills, indices, IsGrid}
-use Rattle.title_land.specs.Covers.{cover_below, section_cover, node_at}
-use Rattle.title_land.specs.CoverSets.{quarter_before, path_before}
-use Rattle.title_land.specs.Lands.{has, cover_of, land_of, meets, IsLand}
-use Rattle.title_land.specs.Laws.GridLaws.{grid_has-everywhere, inside_holds, on_side, both_off}
-use Rattle.title_land.specs.Laws.Squares.{Inside, inside, holds_from, quarters_apart, nested, square_inside, sized, has_corner}
-use Rattle.title_land.specs.Laws.Members.{In}
-use Rattle.title_land.specs.Laws.Filling.{fills_at, fills_from}
-use Rattle.title_land.specs.Laws.CoverCells.{cover_found, cover_complete}
-use Rattle.title_land.specs.Laws.CoversMeet.{meets_by_covers}
-use Rattle.title_land.specs.Laws.CoverOrder.{Ordered, inner_before, cover_ordered}
 
 -- a square with a cell lies in the section
 pub square_in_section : (d : ℕ) (w : List Quarter) → length w ≤ d → InSection d (square d w)

@@ -1,27 +1,15 @@
 -- Nodes have one number exactly where they are one, and the number of the node above comes from a node's own and is less.
-use Rattle.std.proofs.Common.{◌≡◌, ◌≢◌, ◌<◌, ◌+◌, ◌*◌, ◌/◌, ◌%◌, ◌||◌, ℕ, Bool, true, false, eqb, lt-ltb, le-ltb}
-use Rattle.std.proofs.Common.{List, [], ◌∷◌, Option, Some, unwrap_or, inl, inr, refl, sym, ap, ◌∙◌, arith}
-use Rattle.std.specs.Prelude.{nat_le}
+use Rattle.std.{proofs.Common.{◌≡◌, ◌≢◌, ◌<◌, ◌+◌, ◌*◌, ◌/◌, ◌%◌, ◌||◌, ℕ, Bool, true, false, eqb, lt-ltb, le-ltb}, specs.Prelude.{nat_le}}
+use Rattle.std.{proofs.Common.{List, [], ◌∷◌, Option, Some, unwrap_or, inl, inr, refl, sym, ap, ◌∙◌, arith}, specs.Ordering.{nat_cmp}}
 use Rattle.std.proofs.lemmas.Bool.{and_from, or_cases, eqb-true, eq-eqb, leb-true, le-leb, false_from_ne_true, true≢false}
-use Rattle.title_land.specs.declared.survey.Township.{Township}
-use Rattle.title_land.specs.declared.survey.Section.{Section}
-use Rattle.title_land.specs.declared.rectangle.Quarter.{Quarter}
-use Rattle.title_land.specs.declared.node.Node.{Node}
-use Rattle.title_land.specs.declared.node.Node.TheVariants as node
-use Rattle.title_land.specs.Survey.{same_flag, same_township, same_section}
-use Rattle.title_land.specs.Nodes.{same_node, is_square, parent_of, above, is_above}
-use Rattle.title_land.specs.Laws.PathNumbers.{quarter_below, path_positive, path_number-is}
-use Rattle.std.proofs.lemmas.Map.Lookups.{exact_unsigned}
-use Rattle.std.specs.Ordering.{nat_cmp}
-use Rattle.std.specs.Cmp.{tied_itself, nat_cmp_total}
-use Rattle.std.specs.BTreeMap.{is_at}
-use Rattle.title_land.specs.Laws.Keys.{found_at}
-use Rattle.title_land.specs.Laws.SameNode.{same_node-is, same_node-self, same_path-self}
-use Rattle.title_land.specs.Laws.CoverSet.{above_by_parent}
-use Rattle.title_land.specs.Paths.{path_number, quarter_number}
+use Rattle.std.{proofs.lemmas.Map.Lookups.{exact_unsigned}, specs.{Cmp.{tied_itself, nat_cmp_total}, BTreeMap.{is_at}}}
+use Rattle.title_land.specs.declared.{survey.{Township.{Township}, Section.{Section}}, rectangle.Quarter.{Quarter}, node.Node.{Node}}
+use Rattle.title_land.specs.{Survey.{same_flag, same_township, same_section}, Nodes.{same_node, is_square, parent_of, above, is_above}}
+use Rattle.title_land.specs.Laws.{PathNumbers.{quarter_below, path_positive, path_number-is}, Keys.{found_at}, CoverSet.{above_by_parent}}
+use Rattle.title_land.specs.{Laws.SameNode.{same_node-is, same_node-self, same_path-self}, Paths.{path_number, quarter_number}}
 use Rattle.title_land.specs.NodeNumbers.{township_step, square_step, flag_number, township_number, section_number, node_number}
-use Rattle.title_land.specs.NodeNumbers.{number_above}
-use Rattle.title_land.specs.NodeNumbers.{NumbersTellNodes, NumbersGoUp}
+use Rattle.title_land.specs.NodeNumbers.{number_above, NumbersTellNodes, NumbersGoUp}
+use Rattle.title_land.specs.declared.node.Node.TheVariants as node
 
 flag_below : (b : Bool) → flag_number b < 2
 flag_below true = omega arith

@@ -1,23 +1,16 @@
 -- Two nodes share a cell exactly where they are related.
 use Rattle.std.proofs.Common.{◌≡◌, ℕ, ◌+◌, ◌-◌, ◌<◌, ◌≤◌, ◌^◌, Bool, true, false, ◌&&◌, ◌||◌, inl, inr, List, [], ◌∷◌, ◌++◌, length, refl}
-use Rattle.std.proofs.Common.{sym, ap, subst, ◌∙◌, arith, lit≤}
-use Rattle.std.specs.Prelude.{nat_lt, ◌↔◌}
+use Rattle.std.{proofs.Common.{sym, ap, subst, ◌∙◌, arith, lit≤}, specs.Prelude.{nat_lt, ◌↔◌}}
 use Rattle.std.proofs.lemmas.Bool.{and_parts, and_from, or_cases, or_left, or_right, lt-ltb, cases_lt, false≢true}
-use Rattle.title_land.specs.declared.survey.Township.{Township}
-use Rattle.title_land.specs.declared.survey.Section.{Section}
-use Rattle.title_land.specs.declared.survey.Cell.{Cell}
-use Rattle.title_land.specs.declared.rectangle.Quarter.{Quarter}
-use Rattle.title_land.specs.declared.node.Within.{Within}
-use Rattle.title_land.specs.declared.node.Node.{Node}
-use Rattle.title_land.specs.declared.node.Node.TheVariants as node
-use Rattle.title_land.specs.Survey.{side, is_on_grid, same_township, same_section}
-use Rattle.title_land.specs.Rectangles.{holds, SharesCell}
+use Rattle.title_land.specs.declared.{survey.{Township.{Township}, Section.{Section}, Cell.{Cell}}, rectangle.Quarter.{Quarter}}
+use Rattle.title_land.specs.{declared.node.{Within.{Within}, Node.{Node}}, Survey.{side, is_on_grid, same_township, same_section}}
+use Rattle.title_land.specs.{Rectangles.{holds, SharesCell}, Laws.SameNode.{same_node-is}}
 use Rattle.title_land.specs.Nodes.{square, same_node, above_in, above, is_above, are_related, node_has, IsNode}
 use Rattle.title_land.specs.NodeLaws.{NodesShareACell, AboveIsTransitive, AboveHasTheCells, SameNodesAreEqual}
 use Rattle.title_land.specs.Laws.SameLand.{same_township-is, same_township-self, same_section-is, same_section-self}
-use Rattle.title_land.specs.Laws.SameNode.{same_node-is}
 use Rattle.title_land.specs.Laws.Squares.{Inside, inside, holds_from, quarter_inside, nested, has_corner, sized, pow_positive}
 use Rattle.title_land.specs.Laws.Members.{In, any_found, any_from, in_left, in_right, in_append}
+use Rattle.title_land.specs.declared.node.Node.TheVariants as node
 
 pub equal_from_same : (a b : Node) → same_node a b ≡ true → a ≡ b
 equal_from_same a b = (same_node-is a b).0

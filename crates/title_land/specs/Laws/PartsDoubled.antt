@@ -1,18 +1,11 @@
 -- A section with twice the side: a part that is not too small is the same part, doubled.
 use Rattle.std.proofs.Common.{◌≡◌, ℕ, suc, ◌+◌, ◌*◌, ◌/◌, ◌%◌, ◌^◌, Bool, true, false, ◌&&◌, List, [], ◌∷◌, Option, Some, None, refl, ap}
-use Rattle.std.proofs.Common.{◌∙◌, arith, cond}
-use Rattle.title_land.specs.Depth.{depth}
-use Rattle.std.specs.Prelude.{option_and_then}
-use Rattle.std.proofs.lemmas.Bool.{eqb-true, eq-eqb}
-use Rattle.title_land.specs.declared.rectangle.Quarter.{Quarter}
-use Rattle.title_land.specs.declared.rectangle.Quarter.TheVariants.{Northeast, Northwest, Southwest, Southeast}
-use Rattle.title_land.specs.declared.rectangle.Half.{Half}
-use Rattle.title_land.specs.declared.rectangle.Half.TheVariants.{North, South, East, West}
-use Rattle.title_land.specs.declared.rectangle.Step.{Step}
-use Rattle.title_land.specs.declared.rectangle.Step.TheVariants as step
-use Rattle.title_land.specs.declared.rectangle.Rectangle.{Rectangle}
+use Rattle.std.{proofs.{Common.{◌∙◌, arith, cond}, lemmas.Bool.{eqb-true, eq-eqb}}, specs.Prelude.{option_and_then}}
+use Rattle.title_land.specs.{Depth.{depth}, declared.rectangle.Quarter.{Quarter, TheVariants.{Northeast, Northwest, Southwest, Southeast}}}
+use Rattle.title_land.specs.declared.rectangle.{Half.{Half, TheVariants.{North, South, East, West}}, Step.{Step}, Rectangle.{Rectangle}}
 use Rattle.title_land.specs.Doubled.{double, APartDoubles}
 use Rattle.title_land.specs.Rectangles.{section_square, half_of, quarter_of, taken_of, exists, is_even, step_of, part_of}
+use Rattle.title_land.specs.declared.rectangle.Step.TheVariants as step
 
 abbrev record_of : ℕ → ℕ → ℕ → ℕ → Rectangle
 record_of t l h w = record { top = t; left = l; height = h; width = w }

@@ -1,12 +1,8 @@
 -- Squares by their numbers: a number's quarters are those of the square that it numbers.
 use Rattle.std.proofs.Common.{◌≡◌, ℕ, zero, suc, ◌+◌, ◌*◌, ◌/◌, ◌%◌, ◌^◌, ◌<◌, ◌≤◌, Bool, true, false, inl, inr, List, [], ◌∷◌, length}
-use Rattle.std.proofs.Common.{refl, sym, ap, ◌∙◌, arith, lit≤, cond}
-use Rattle.std.proofs.Math.Pow.{pow_mono}
-use Rattle.std.specs.Prelude.{nat_le, ◌==◌}
+use Rattle.std.{proofs.{Common.{refl, sym, ap, ◌∙◌, arith, lit≤, cond}, Math.Pow.{pow_mono}}, specs.Prelude.{nat_le, ◌==◌}}
 use Rattle.std.proofs.lemmas.Bool.{cases_lt, false_from_ne_true, eqb-true, leb-true, le-leb}
-use Rattle.title_land.specs.declared.rectangle.Quarter.{Quarter}
-use Rattle.title_land.specs.declared.rectangle.Quarter.TheVariants.{Northeast, Northwest, Southwest, Southeast}
-use Rattle.title_land.specs.Depth.{depth}
+use Rattle.title_land.specs.{declared.rectangle.Quarter.{Quarter, TheVariants.{Northeast, Northwest, Southwest, Southeast}}, Depth.{depth}}
 use Rattle.title_land.specs.declared.node.TheConstants.{FIRST_CELL}
 use Rattle.title_land.specs.Paths.{quarter_number, quarter_at, path_number, path_at, quarters_in, IsPathNumber}
 

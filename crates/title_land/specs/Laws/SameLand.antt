@@ -1,10 +1,7 @@
 -- Equal fields make equal townships, sections, squares and nodes.
-use Rattle.std.proofs.Common.{◌≡◌, ℕ, ◌≤◌, Bool, true, false, refl, subst}
-use Rattle.std.proofs.Math.Bridge.{le_prop}
+use Rattle.std.proofs.{Common.{◌≡◌, ℕ, ◌≤◌, Bool, true, false, refl, subst}, Math.Bridge.{le_prop}}
 use Rattle.std.proofs.lemmas.Bool.{and_parts, and_from, eqb-true, eq-eqb}
-use Rattle.title_land.specs.declared.survey.Township.{Township}
-use Rattle.title_land.specs.declared.survey.Section.{Section}
-use Rattle.title_land.specs.Survey.{same_flag, same_township, same_section}
+use Rattle.title_land.specs.{declared.survey.{Township.{Township}, Section.{Section}}, Survey.{same_flag, same_township, same_section}}
 
 abbrev Numbered : ℕ → ℕ → Type 0
 Numbered top n = (1 ≤ n) × (n ≤ top)

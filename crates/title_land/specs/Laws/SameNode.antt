@@ -1,14 +1,9 @@
 -- Nodes that are the same by their parts are one value.
-use Rattle.std.proofs.Common.{◌≡◌, true, List, [], ◌∷◌, refl, ap, ◌∙◌}
-use Rattle.std.proofs.lemmas.Bool.{and_parts, and_from}
-use Rattle.std.specs.Prelude.{◌↔◌}
-use Rattle.title_land.specs.declared.rectangle.Quarter.{Quarter}
-use Rattle.title_land.specs.declared.rectangle.Quarter.TheVariants.{Northeast, Northwest, Southwest, Southeast}
-use Rattle.title_land.specs.declared.node.Node.{Node}
-use Rattle.title_land.specs.declared.node.Node.TheVariants as node
-use Rattle.title_land.specs.Nodes.{same_quarter, same_path, same_node}
-use Rattle.title_land.specs.Survey.{same_section}
+use Rattle.std.{proofs.{Common.{◌≡◌, true, List, [], ◌∷◌, refl, ap, ◌∙◌}, lemmas.Bool.{and_parts, and_from}}, specs.Prelude.{◌↔◌}}
+use Rattle.title_land.specs.declared.rectangle.Quarter.{Quarter, TheVariants.{Northeast, Northwest, Southwest, Southeast}}
+use Rattle.title_land.specs.{declared.node.Node.{Node}, Nodes.{same_quarter, same_path, same_node}, Survey.{same_section}}
 use Rattle.title_land.specs.Laws.SameLand.{same_township-is, same_township-self, same_section-is, same_section-self}
+use Rattle.title_land.specs.declared.node.Node.TheVariants as node
 
 pub same_quarter-is : (a b : Quarter) → same_quarter a b ≡ true → a ≡ b
 same_quarter-is Northeast Northeast h = refl

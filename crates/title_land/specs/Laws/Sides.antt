@@ -1,14 +1,9 @@
 -- The code's numbers of the grid are those of the definitions. These lemmas and those of PathNumbers alone know the depth.
 use Rattle.std.proofs.Common.{◌≡◌, ℕ, ◌*◌, Some, ◌≤◌, refl, sym, ap, arith, lit≤}
-use Rattle.title_land.specs.declared.rectangle.Rectangle.{Rectangle}
-use Rattle.title_land.specs.declared.acres.TheConstants.{CELL_HALF_ACRES, TOWNSHIP_HALF_ACRES}
-use Rattle.title_land.specs.declared.survey.Township.{Township}
+use Rattle.title_land.specs.declared.{rectangle.Rectangle.{Rectangle}, acres.TheConstants.{CELL_HALF_ACRES, TOWNSHIP_HALF_ACRES}}
+use Rattle.title_land.specs.{declared.survey.Township.{Township}, Acres.{half_acres_of, cell_half_acres}, Depth.{depth}, Survey.{side}}
+use Rattle.title_land.specs.{Rectangles.{section_square, InSection}, declared.rectangle.TheConstants.{DEPTH, SIDE, ROWS}}
 use Rattle.title_land.specs.declared.tract.Land.TheVariants as land
-use Rattle.title_land.specs.Acres.{half_acres_of, cell_half_acres}
-use Rattle.title_land.specs.Depth.{depth}
-use Rattle.title_land.specs.Survey.{side}
-use Rattle.title_land.specs.Rectangles.{section_square, InSection}
-use Rattle.title_land.specs.declared.rectangle.TheConstants.{DEPTH, SIDE, ROWS}
 
 pub depth_is : depth ≡ DEPTH
 unfolding depth

@@ -1,19 +1,11 @@
 -- A square of a section that is quartered once more: the same square, with its sides doubled.
 use Rattle.std.proofs.Common.{◌≡◌, ℕ, suc, ◌-◌, ◌*◌, ◌/◌, ◌^◌, ◌<◌, ◌≤◌, Bool, true, List, [], ◌∷◌, length, sym, ap, subst, ◌∙◌, arith}
 use Rattle.std.proofs.lemmas.Bool.{and_from}
-use Rattle.title_land.specs.declared.rectangle.Quarter.{Quarter}
+use Rattle.title_land.specs.{declared.rectangle.{Quarter.{Quarter}, Rectangle.{Rectangle}}, Survey.{side}, Nodes.{square}, Grids.{fills}}
+use Rattle.title_land.specs.{Rectangles.{is_even, exists, quarter_of, holds}, Doubled.{double}, Laws.Filling.{fills_at, fills_from}}
+use Rattle.title_land.specs.Laws.{PartsDoubled.{two_pow, even_double, quarter_double, section_double}, LandSharing.{equal_tests}}
+use Rattle.title_land.specs.Laws.{Squares.{Inside, inside, holds_from, sized}, NodeLands.{square_in_section}}
 use Rattle.title_land.specs.declared.rectangle.Step.TheVariants as step
-use Rattle.title_land.specs.declared.rectangle.Rectangle.{Rectangle}
-use Rattle.title_land.specs.Survey.{side}
-use Rattle.title_land.specs.Rectangles.{is_even, exists, quarter_of, holds}
-use Rattle.title_land.specs.Nodes.{square}
-use Rattle.title_land.specs.Grids.{fills}
-use Rattle.title_land.specs.Doubled.{double}
-use Rattle.title_land.specs.Laws.PartsDoubled.{two_pow, even_double, quarter_double, section_double}
-use Rattle.title_land.specs.Laws.Squares.{Inside, inside, holds_from, sized}
-use Rattle.title_land.specs.Laws.Filling.{fills_at, fills_from}
-use Rattle.title_land.specs.Laws.LandSharing.{equal_tests}
-use Rattle.title_land.specs.Laws.NodeLands.{square_in_section}
 
 -- a cell lies in a doubled rectangle where the cell that it lies in lies in the rectangle
 pub inside_doubled : (r : Rectangle) (row column : ℕ) → Inside (double r) row column → Inside r (row / 2) (column / 2)

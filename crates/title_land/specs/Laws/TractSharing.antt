@@ -1,22 +1,13 @@
 -- Two tracts meet exactly where they share a cell.
-use Rattle.std.proofs.Common.{◌≡◌, ◌↔◌, ℕ, ◌<◌, Bool, true, ◌&&◌, refl}
-use Rattle.std.specs.Prelude.{nat_lt}
+use Rattle.std.{proofs.Common.{◌≡◌, ◌↔◌, ℕ, ◌<◌, Bool, true, ◌&&◌, refl}, specs.Prelude.{nat_lt}}
 use Rattle.std.proofs.lemmas.Bool.{and_parts, and_from, lt-ltb}
-use Rattle.title_land.specs.declared.survey.Township.{Township}
-use Rattle.title_land.specs.declared.survey.Section.{Section}
-use Rattle.title_land.specs.declared.survey.Cell.{Cell}
-use Rattle.title_land.specs.declared.grid.Grid.{Grid}
-use Rattle.title_land.specs.declared.tract.Land.{Land}
-use Rattle.title_land.specs.declared.tract.Land.TheVariants as land
-use Rattle.title_land.specs.Survey.{side, is_on_grid, same_township, same_section}
-use Rattle.title_land.specs.Grids.{grid_has, has_some, grids_meet}
-use Rattle.title_land.specs.Lands.{has, meets, Meets, IsLand}
-use Rattle.title_land.specs.SharedCells.{MeetsAtACell, CommonCellMeets, MeetsEitherWay}
+use Rattle.title_land.specs.declared.{survey.{Township.{Township}, Section.{Section}, Cell.{Cell}}, grid.Grid.{Grid}, tract.Land.{Land}}
+use Rattle.title_land.specs.{Survey.{side, is_on_grid, same_township, same_section}, Grids.{grid_has, has_some, grids_meet}}
+use Rattle.title_land.specs.{Lands.{has, meets, Meets, IsLand}, SharedCells.{MeetsAtACell, CommonCellMeets, MeetsEitherWay}}
 use Rattle.title_land.specs.Laws.SameLand.{same_township-is, same_township-self, same_section-is, same_section-self}
-use Rattle.title_land.specs.Laws.Squares.{pow_positive}
-use Rattle.title_land.specs.Laws.NodeSharing.{some_township, first_section, cell_at}
-use Rattle.title_land.specs.Laws.LandSharing.{equal_tests}
+use Rattle.title_land.specs.Laws.{Squares.{pow_positive}, NodeSharing.{some_township, first_section, cell_at}, LandSharing.{equal_tests}}
 use Rattle.title_land.specs.Laws.GridSharing.{grids_found, grids_from, some_found, some_from, grid_within}
+use Rattle.title_land.specs.declared.tract.Land.TheVariants as land
 
 -- a cell that lies in both, on the grid where both are as large as it
 record Common (a b : Land) : Type 0 where

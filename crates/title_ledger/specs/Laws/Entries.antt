@@ -1,14 +1,13 @@
 -- What the entries of a ledger say.
-use Rattle.std.proofs.Common.{◌≡◌, ⊎_elim, ◌+◌, List, [], ◌∷◌, ◌++◌, length, fold, ap, sym, ◌∙◌, subst, arith}
-use Rattle.std.proofs.Common.{length-append}
+use Rattle.std.proofs.Common.{◌≡◌, ⊎_elim, ◌+◌, List, [], ◌∷◌, ◌++◌, length, fold, ap, sym, ◌∙◌, subst, arith, length-append}
 use Rattle.std.proofs.lemmas.List.Sums.{fold-append}
 use mathlib.Core.List.{IsPrefix}
 use Rattle.title_land.specs.declared.survey.Township.{Township}
 use Rattle.title_chain.specs.declared.record.Record.{Record}
 use Rattle.title_ledger.specs.declared.entry.Entry.{Entry}
-use Rattle.title_ledger.specs.declared.entry.Entry.TheVariants as entry
 use Rattle.title_ledger.specs.Ledgers.{AreSerial, next_lists, no_lists, lists_of, sure_of, shown_of, IsSettled}
 use Rattle.title_ledger.specs.Laws.Beginnings.{prefix_self, prefix_more, prefix_trans, prefix_shorter, prefix_whole}
+use Rattle.title_ledger.specs.declared.entry.Entry.TheVariants as entry
 
 -- one entry more
 pub lists_snoc : (log : List Entry) (e : Entry) → lists_of (log ++ e ∷ []) ≡ next_lists (lists_of log) e

@@ -3,8 +3,7 @@
 ghost use Rattle.std.specs.Prelude.{◌≡◌, ◌++◌, ◌∷◌, [], MatchResult, IfOk, OnOk, false};
 ghost use Rattle.title_chain.specs.declared.ask.Answer.{Answer};
 ghost use Rattle.title_trace.specs.declared.call.Request.TheVariants as request;
-ghost use Rattle.title_trace.specs.declared.call.Reply.TheVariants.{Answered};
-ghost use Rattle.title_trace.specs.Trace.{is_open};
+ghost use Rattle.title_trace.specs.{declared.call.Reply.TheVariants.{Answered}, Trace.{is_open}};
 ghost use Rattle.title_office.specs.declared.fault.Fault.TheVariants as fault;
 ghost use Rattle.title_office.specs.Offices.{Aborts, Answers, Begins, Commits, HasSeen, IsLast, IsRefused, Refuses, Stands};
 

@@ -3,8 +3,7 @@
 ghost use Rattle.std.specs.Prelude.{◌≡◌, ◌≤◌, length, reverse, MatchResult, true};
 ghost use Rattle.title_land.specs.Depth.{depth};
 ghost use Rattle.title_chain.specs.Alone.{most_parties};
-ghost use Rattle.title_trace.specs.Trace.{committed, open_steps};
-ghost use Rattle.title_trace.specs.Due.{IsDue};
+ghost use Rattle.title_trace.specs.{Trace.{committed, open_steps}, Due.{IsDue}};
 ghost use Rattle.title_office.specs.Offices.{Falls, HasSeen, Stands};
 
 use crate::books::Books;

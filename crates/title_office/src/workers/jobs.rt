@@ -1,8 +1,7 @@
 //! The jobs that are still to be started.
 
 ghost use Rattle.std.specs.Prelude.{◌≡◌, ◌+◌, ◌++◌, ◌∷◌, [], IfOk, MatchOption, MatchResult, map, vec_len};
-ghost use Rattle.title_office.specs.Turns.{task_of, tasks_of};
-ghost use Rattle.title_office.specs.Workers.{examiners_of, seat_examiners};
+ghost use Rattle.title_office.specs.{Turns.{task_of, tasks_of}, Workers.{examiners_of, seat_examiners}};
 
 use crate::seat::Seat;
 use crate::workers::Script;

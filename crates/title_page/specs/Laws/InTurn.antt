@@ -1,8 +1,6 @@
 -- Texts that are written one after another through a page, and the whole at its end.
 use Rattle.std.proofs.Common.{◌≡◌, ◌∙◌, ◌++◌, [], ℕ, List, Option, Result, Ok, Err, OnErr, take, drop, length, subst, sym, ap, append_assoc}
-use Rattle.std.specs.Io.KnownBytes.{Appends}
-use Rattle.std.proofs.lemmas.List.{append-nil, take-append-drop}
-use Rattle.std.proofs.Math.Seq.{take-append_seam}
+use Rattle.std.{specs.Io.KnownBytes.{Appends}, proofs.{lemmas.List.{append-nil, take-append-drop}, Math.Seq.{take-append_seam}}}
 use Rattle.csv.proofs.WriteFacts.{appends-more, appends-none}
 use Rattle.title_page.specs.Pages.{Stopped, Written}
 

@@ -1,11 +1,7 @@
 -- Rows that are written one after another.
 use Rattle.std.proofs.Common.{◌≡◌, ◌∙◌, ◌++◌, ◌∷◌, [], ◌<◌, ◌+◌, ℕ, List, Option, length, map, take, drop, get_or, sym, ap, subst}
-use Rattle.std.proofs.lemmas.List.{append-nil, map-append, take-append-drop, take_more}
-use Rattle.std.proofs.lemmas.Grind.{flat_map-append}
-use Rattle.std.specs.List.{flat_map}
-use Rattle.title_page.specs.Pages.{Stopped, Written}
-use Rattle.title_page.specs.Rows.{row, rows_text}
-use Rattle.title_page.specs.Laws.InTurn.{stopped_before, stopped_then, written_then}
+use Rattle.std.{proofs.lemmas.{List.{append-nil, map-append, take-append-drop, take_more}, Grind.{flat_map-append}}, specs.List.{flat_map}}
+use Rattle.title_page.specs.{Pages.{Stopped, Written}, Rows.{row, rows_text}, Laws.InTurn.{stopped_before, stopped_then, written_then}}
 
 -- rows written behind others
 pub rows_then : {a b c : Option (List ℕ)} {p q r : List ℕ} (xs ys : List (List (List ℕ)))

@@ -1,9 +1,7 @@
 -- A text of rows and a last row, written from an empty page, and the page given to the sink at the end.
-use Rattle.std.proofs.Common.{◌≡◌, ◌++◌, ◌∷◌, [], ℕ, List, Option, take, subst, sym, ap}
-use Rattle.std.proofs.lemmas.List.{append-nil}
+use Rattle.std.proofs.{Common.{◌≡◌, ◌++◌, ◌∷◌, [], ℕ, List, Option, take, subst, sym, ap}, lemmas.List.{append-nil}}
 use Rattle.std.specs.Io.KnownBytes.{Appends}
-use Rattle.title_page.specs.Pages.{Stopped, Written}
-use Rattle.title_page.specs.Rows.{row, rows_text}
+use Rattle.title_page.specs.{Pages.{Stopped, Written}, Rows.{row, rows_text}}
 use Rattle.title_page.specs.Laws.InTurn.{all_given, part_given, stopped_as, stopped_before, stopped_then, written_as, written_then}
 
 -- rows and a last row

@@ -1,16 +1,12 @@
 //! Rows that declare.
 
-ghost use Rattle.std.specs.Prelude.{◌≡◌, ◌≤◌, ◌==◌, ◌⊎◌, ◌&&◌, ◌||◌, ◌∷◌, ◌++◌, [], Ok, Err, IfErr, MatchResult, OnOk};
-ghost use Rattle.std.specs.Prelude.{drop, length, nat_le, take};
-ghost use Rattle.std.specs.List.{list_any};
-ghost use Rattle.std.specs.Str.{bytes_eq};
+ghost use Rattle.std.specs.{Prelude.{◌≡◌, ◌≤◌, ◌==◌, ◌⊎◌, ◌&&◌, ◌||◌, ◌∷◌, ◌++◌, [], Ok, Err, IfErr, MatchResult, OnOk}, List.{list_any}};
+ghost use Rattle.std.specs.{Prelude.{drop, length, nat_le, take}, Str.{bytes_eq}};
 ghost use Rattle.title_land.specs.Survey.{same_township};
 ghost use Rattle.title_plan.specs.declared.fault.ScriptFault.TheVariants as fault;
-ghost use Rattle.title_plan.specs.Asked.{asked_in};
-ghost use Rattle.title_plan.specs.Lands.{land_in};
-ghost use Rattle.title_trace.specs.Due.{most_townships};
-ghost use Rattle.title_plan.specs.Onto.{first_of, party_onto, township_onto};
+ghost use Rattle.title_plan.specs.{Asked.{asked_in}, Lands.{land_in}, Onto.{first_of, party_onto, township_onto}};
 ghost use Rattle.title_plan.specs.Plans.{with_party, with_township};
+ghost use Rattle.title_trace.specs.Due.{most_townships};
 
 use crate::fault::ScriptFault;
 use crate::lands::read_tract;

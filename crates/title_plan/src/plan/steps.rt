@@ -4,10 +4,8 @@ ghost use Rattle.std.specs.Prelude.{◌≡◌, ◌⊎◌, Ok, Err, IfErr, IfOk, 
 ghost use Rattle.title_plan.specs.declared.fault.ScriptFault.TheVariants as fault;
 ghost use Rattle.title_trace.specs.declared.call.Request.TheVariants as request;
 ghost use Rattle.title_plan.specs.declared.line.Line.TheVariants as line;
-ghost use Rattle.title_plan.specs.Asked.{asked_in};
-ghost use Rattle.title_plan.specs.Plans.{after_act, after_asked, asked_of, line_of, post};
+ghost use Rattle.title_plan.specs.{Asked.{asked_in}, Plans.{after_act, after_asked, asked_of, line_of, post}, Rows.{done}};
 ghost use Rattle.title_plan.specs.Plans.{with_begun, with_ended, with_line};
-ghost use Rattle.title_plan.specs.Rows.{done};
 
 use crate::fault::ScriptFault;
 use crate::line::{Line, Schedule};

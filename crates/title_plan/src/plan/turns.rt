@@ -1,9 +1,8 @@
 //! Examiners and the turns of their steps.
 
 ghost use Rattle.std.specs.Prelude.{◌≡◌, OnOk};
-ghost use Rattle.title_plan.specs.Asked.{asked_in};
+ghost use Rattle.title_plan.specs.{Asked.{asked_in}, Rows.{done}};
 ghost use Rattle.title_plan.specs.Plans.{is_begin, is_beyond, is_other_inside, is_out_of_turn, stands_alone, with_begun, with_ended};
-ghost use Rattle.title_plan.specs.Rows.{done};
 
 use crate::line::Schedule;
 use crate::plan::Plan;

@@ -1,6 +1,5 @@
 -- Cases of a test on numbers, and parts of a test joined by `&&`.
-use Rattle.std.proofs.Common.{◌≡◌, ◌<◌, ◌≤◌, ℕ, Bool, true, false, refl, eqb, ltb}
-use Rattle.std.proofs.lemmas.Bool.{eqb-true, eqb-false, ltb-true, ltb-false}
+use Rattle.std.proofs.{Common.{◌≡◌, ◌<◌, ◌≤◌, ℕ, Bool, true, false, refl, eqb, ltb}, lemmas.Bool.{eqb-true, eqb-false, ltb-true, ltb-false}}
 
 -- by cases of a test `<`
 pub case_ltb : (P : Bool → Type 0) (a b : ℕ) → (a < b → P true) → (b ≤ a → P false) → P (ltb a b)

@@ -1,12 +1,10 @@
 -- Laws of divisions.
 use Rattle.std.proofs.Common.{◌≡◌, ◌↔◌, ◌≤◌, ◌+◌, ◌-◌, ◌∙◌, ◌||◌, ℕ, Bool, true, false, cond, refl, sym, ap, subst, eqb, List, [], ◌∷◌}
-use Rattle.std.proofs.Common.{arith}
+use Rattle.std.proofs.{Common.{arith}, lemmas.Bool.Decides.{nat_tests}}
 use Rattle.std.proofs.lemmas.Bool.{and_parts, and_from, eqb-true, eq-eqb, ne_eqb, or_parts, eqb-false, cond-false, cond-true}
-use Rattle.std.proofs.lemmas.Bool.Decides.{nat_tests}
 use Rattle.title_share.specs.Rows.{units_in, total, in_order, is_division, with_units, moved_rows, whole_units}
 use Rattle.title_share.specs.Division.{Division, rows_of, rows_divide, same_rows, all_to, checked, division_or, division_of, units_of}
-use Rattle.title_share.specs.Division.{units_after, moved}
-use Rattle.title_share.specs.Laws.RowLaws.{order_with, total_with, units_with, units_within, rows_same}
+use Rattle.title_share.specs.{Division.{units_after, moved}, Laws.RowLaws.{order_with, total_with, units_with, units_within, rows_same}}
 
 -- the rows of the division in which a party has the whole
 pub rows-all_to : (party : ℕ) → rows_of (all_to party) ≡ (party, whole_units) ∷ []

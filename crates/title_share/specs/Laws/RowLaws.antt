@@ -1,8 +1,7 @@
 -- Laws of rows.
 use Rattle.std.proofs.Common.{◌≡◌, ◌<◌, ◌≤◌, ◌+◌, ℕ, suc, true, cond, refl, sym, ap, ◌∙◌, subst, eqb, List, [], ◌∷◌, arith, inl, inr}
 use Rattle.std.proofs.lemmas.Bool.{and_parts, and_from, le-leb, leb-true, lt-ltb, ltb-true, eq-eqb, ne_eqb, cases_order, cases_eq}
-use Rattle.title_share.specs.Rows.{units_in, total, in_order, with_front, with_units}
-use Rattle.title_share.specs.Laws.Cases.{case_ltb, case_eqb}
+use Rattle.title_share.specs.{Rows.{units_in, total, in_order, with_front, with_units}, Laws.Cases.{case_ltb, case_eqb}}
 
 -- what it is for a first row to fit the order
 pub record RowFits (least : ℕ) (r : ℕ × ℕ) (rs : List (ℕ × ℕ)) : Type 0 where

@@ -1,17 +1,13 @@
 -- Laws of shares and their texts.
 use Rattle.std.proofs.Common.{◌≡◌, ◌≢◌, ◌<◌, ◌≤◌, ◌+◌, ◌-◌, ◌*◌, ◌^◌, ◌%◌, ◌/◌, ◌∙◌, ◌&&◌, ℕ, zero, suc, Bool, true, refl, sym, ap, subst}
-use Rattle.std.proofs.Common.{eqb, ltb, leb, List, [], ◌∷◌, length, get_or, arith, rules, Option, inl, inr}
-use Rattle.std.specs.Prelude.{MatchOption}
-use Rattle.std.specs.Str.Parse.{AllDigits, digits_value}
+use Rattle.std.{proofs.Common.{eqb, ltb, leb, List, [], ◌∷◌, length, get_or, arith, rules, Option, inl, inr}, specs.Prelude.{MatchOption}}
+use Rattle.std.{specs.{Str.Parse.{AllDigits, digits_value}, Fmt.{decimal}}, proofs.lemmas.Str.Pattern.{IsSplitOnceResult, split_after}}
 use Rattle.std.proofs.lemmas.Bool.{cond-true, cond-false, eq-eqb, ne_eqb, agree_below_at, and_parts, eqb-true, ltb-true, leb-true, cases_eq}
 use Rattle.std.proofs.lemmas.Str.Parse.{IsNumeralModel, numerals_by_fold, tells_digits, not_in_digits, digit_at}
-use Rattle.std.proofs.lemmas.Str.Pattern.{IsSplitOnceResult, split_after}
-use denote.Ref.{Bor}
 use Rattle.std.proofs.Math.Nat.{mul_assoc, mul-le-mul, mul-le-mul_right, mul_left_comm, pow-succ', two-pow-succ}
-use Rattle.std.specs.Fmt.{decimal}
 use Rattle.std.proofs.lemmas.Fmt.{decimal_is_IsNumeral, first_decimal}
-use Rattle.title_share.specs.Rows.{whole_units}
-use Rattle.title_share.specs.Share.{IsFraction, IsLowest, IsNumber, IsPart, IsShareText, lowest, share_text}
+use denote.Ref.{Bor}
+use Rattle.title_share.specs.{Rows.{whole_units}, Share.{IsFraction, IsLowest, IsNumber, IsPart, IsShareText, lowest, share_text}}
 
 -- 2^k goes that often into the whole, and at least once
 abbrev weighs : ℕ → Bool

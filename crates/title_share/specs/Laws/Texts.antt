@@ -1,19 +1,14 @@
 -- A text is read as a number or a share exactly where it is the text of one.
 use Rattle.std.proofs.Common.{◌≡◌, ◌≢◌, ◌↔◌, ◌<◌, ◌≤◌, ◌+◌, ◌-◌, ◌*◌, ◌/◌, ◌%◌, ◌^◌, ◌∙◌, ◌&&◌, ◌||◌, ◌++◌, ℕ, zero, suc, Bool, true, false}
-use Rattle.std.proofs.Common.{cond, inl, inr, refl, sym, ap, eqb, get_or, leb, List, [], ◌∷◌, length, take, drop}
-use Rattle.std.proofs.Common.{Option, Some, None, arith}
-use Rattle.std.specs.Str.{all_ascii_digits}
-use Rattle.std.specs.Str.Parse.{digits_value}
-use Rattle.std.specs.List.{position_or_len, before_first, after_first}
-use Rattle.std.proofs.Math.Nat.{mul-div_cancel}
-use Rattle.std.proofs.Math.Seq.{get_or-append_seam, drop-append-add}
+use Rattle.std.proofs.Common.{cond, inl, inr, refl, sym, ap, eqb, get_or, leb, List, [], ◌∷◌, length, take, drop, Option, Some, None, arith}
+use Rattle.std.specs.{Str.{all_ascii_digits, Parse.{digits_value}}, List.{position_or_len, before_first, after_first}}
+use Rattle.std.proofs.Math.{Nat.{mul-div_cancel}, Seq.{get_or-append_seam, drop-append-add}}
 use Rattle.std.proofs.lemmas.Bool.{and_parts, and_from, or_left, or_right, cases_Bool, cases_lt}
 use Rattle.std.proofs.lemmas.Bool.{eqb-true, eq-eqb, ne_eqb, leb-true, le-leb, cond-true}
 use Rattle.std.proofs.lemmas.List.{take_at, get_or_append_left, length-append, length-drop}
 use Rattle.std.proofs.lemmas.List.Sums.{split_at_first, passes_at_first, position_or_len_is}
 use Rattle.std.proofs.lemmas.Str.Parse.{IsNumeralModel, numerals_by_value, tells_all_ascii_digits, tells_digits, not_in_digits}
-use Rattle.title_share.specs.Rows.{whole_units}
-use Rattle.title_share.specs.Share.{IsFraction, IsNumber, IsPart, IsShareText}
+use Rattle.title_share.specs.{Rows.{whole_units}, Share.{IsFraction, IsNumber, IsPart, IsShareText}}
 use Rattle.title_share.specs.Texts.{is_number, number_in, is_power_to, is_fraction, units_of_fraction, is_slash, share_in}
 use Rattle.title_share.specs.Laws.ShareLaws.{weight_is, units_product}
 

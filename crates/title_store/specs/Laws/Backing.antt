@@ -1,26 +1,13 @@
 -- Every image that is out can go back without memory.
 use Rattle.std.proofs.Common.{◌≡◌, ℕ, Bool, true, false, cond, List, [], ◌∷◌, Option, Some, None, is_some, refl, sym, ap, subst, ◌∙◌}
-use Rattle.title_land.specs.Depth.{depth}
-use Rattle.std.specs.Prelude.{unwrap_or}
-use Rattle.std.specs.List.{AllByRecursion}
-use Rattle.std.specs.Ordering.{nat_cmp}
-use Rattle.std.specs.Map.{lookup}
+use Rattle.std.specs.{Prelude.{unwrap_or}, List.{AllByRecursion}, Ordering.{nat_cmp}, Map.{lookup}}
 use Rattle.std.specs.BTreeMap.{BTreeMap, get, is_at, IsOrdered}
-use Rattle.title_land.specs.declared.survey.Cell.{Cell}
-use Rattle.title_land.specs.declared.survey.Township.{Township}
-use Rattle.title_land.specs.declared.tract.Land.{Land}
-use Rattle.title_land.specs.CellLists.{same_cell, cells_of}
-use Rattle.title_instrument.specs.declared.owners.Owners.{Owners}
-use Rattle.title_instrument.specs.Owners.{opening_owners}
-use Rattle.title_store.specs.declared.cell_map.CellMap.{CellMap}
-use Rattle.title_store.specs.declared.kept.Kept.{Kept}
-use Rattle.title_store.specs.declared.kept.Lent.{Lent}
-use Rattle.title_store.specs.Plants.{Plant, is_cell_of}
-use Rattle.title_store.specs.Loans.{Loan, IsLentAs}
+use Rattle.title_land.specs.{Depth.{depth}, declared.{survey.{Cell.{Cell}, Township.{Township}}, tract.Land.{Land}}}
+use Rattle.title_land.specs.{CellLists.{same_cell, cells_of}, Laws.Keys.{same_cell-self}}
+use Rattle.title_instrument.specs.{declared.owners.Owners.{Owners}, Owners.{opening_owners}}
+use Rattle.title_store.specs.{declared.{cell_map.CellMap.{CellMap}, kept.{Kept.{Kept}, Lent.{Lent}}}, Plants.{Plant, is_cell_of}}
+use Rattle.title_store.specs.{Loans.{Loan, IsLentAs}, Laws.{LoanLaws.{found_as}, MapLaws.{lists, kept_from, listed_is, each_listed}}}
 use Rattle.title_store.specs.CellMaps.{content_of, is_there, kept_at, kept_cells, keep_from, keeps, loan_of, loans_of, IsBacked, AreBacked}
-use Rattle.title_land.specs.Laws.Keys.{same_cell-self}
-use Rattle.title_store.specs.Laws.LoanLaws.{found_as}
-use Rattle.title_store.specs.Laws.MapLaws.{lists, kept_from, listed_is, each_listed}
 
 -- a fact at each cell for which owners are kept, at each of the list
 pub each_kept : (P : Cell → Type 0) (ks : List Kept) → ((c : Cell) → keeps ks c ≡ true → P c) → AllByRecursion P (kept_cells ks)

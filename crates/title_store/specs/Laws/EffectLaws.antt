@@ -1,23 +1,11 @@
 -- A post depends on the cells of its tract, and changes no others.
-use Rattle.std.proofs.Common.{◌≡◌, ℕ, Bool, true, false, cond, List, [], ◌∷◌, Option, is_some, refl, ap, ◌∙◌}
-use Rattle.std.specs.List.{AllByRecursion}
-use Rattle.title_land.specs.declared.survey.Cell.{Cell}
-use Rattle.title_land.specs.CellLists.{cells_of}
-use Rattle.title_instrument.specs.declared.instrument.Instrument.{Instrument}
-use Rattle.title_instrument.specs.declared.owners.Effect.{Effect}
-use Rattle.title_instrument.specs.declared.owners.Effect.TheVariants.{Done, Refused}
-use Rattle.title_instrument.specs.declared.owners.Owners.{Owners}
-use Rattle.title_instrument.specs.declared.parts.Estate.{Estate}
-use Rattle.title_instrument.specs.Effect.{cell_effect, owners_after}
-use Rattle.title_instrument.specs.Estates.{names}
-use Rattle.title_instrument.specs.Owners.{holding_of}
-use Rattle.title_instrument.specs.Parties.{estates_of}
-use Rattle.title_instrument.specs.Laws.EffectLaws.{unnamed_in}
-use Rattle.title_land.specs.declared.survey.Township.{Township}
-use Rattle.title_land.specs.declared.tract.Land.{Land}
+use Rattle.std.{proofs.Common.{◌≡◌, ℕ, Bool, true, false, cond, List, [], ◌∷◌, Option, is_some, refl, ap, ◌∙◌}, specs.List.{AllByRecursion}}
+use Rattle.title_land.specs.{declared.{survey.{Cell.{Cell}, Township.{Township}}, tract.Land.{Land}}, CellLists.{cells_of}}
+use Rattle.title_instrument.specs.declared.{instrument.Instrument.{Instrument}, owners.Effect.{Effect, TheVariants.{Done, Refused}}}
+use Rattle.title_instrument.specs.{declared.{owners.Owners.{Owners}, parts.Estate.{Estate}}, Effect.{cell_effect, owners_after}}
+use Rattle.title_instrument.specs.{Estates.{names}, Owners.{holding_of}, Parties.{estates_of}, Laws.EffectLaws.{unnamed_in}}
 use Rattle.title_store.specs.Plants.{Plant, Refusal, is_cell_of, failing_or, first_failing, refusal_of, refused_in, done_or, plant_effect}
-use Rattle.title_store.specs.StoreLaws.{RefusedSame, EffectSame, EffectOutside, EffectRefused}
-use Rattle.title_store.specs.Laws.Each.{each_from}
+use Rattle.title_store.specs.{StoreLaws.{RefusedSame, EffectSame, EffectOutside, EffectRefused}, Laws.Each.{each_from}}
 use Rattle.title_store.specs.Laws.PlantCells.{cells_each}
 
 failing_same : (i : Instrument ℕ) (p q : Plant) (cells : List Cell) → AllByRecursion (λ c. p c ≡ q c) cells

@@ -1,21 +1,11 @@
 -- Laws of the images that are out, kept under their numbers.
 use Rattle.std.proofs.Common.{◌≡◌, ℕ, ◌<◌, Bool, true, false, cond, List, [], ◌∷◌, ◌++◌, Some, refl, sym, ap, subst, ◌∙◌, inl, inr, ◌⊎◌}
-use Rattle.std.proofs.Common.{eqb, arith, true≢false}
-use Rattle.std.proofs.lemmas.Bool.{eqb-true, eq-eqb, eqb-false, false_from_ne_true}
-use Rattle.std.specs.List.{AllByRecursion}
-use Rattle.std.specs.declared.cmp.Ordering.{Ordering}
-use Rattle.std.specs.declared.cmp.Ordering.TheVariants.{Less, Greater}
-use Rattle.std.specs.Ordering.{nat_cmp, is_eq, match_ordering}
-use Rattle.std.specs.Cmp.{Equal-is, tied_itself, nat_cmp_total}
-use Rattle.std.proofs.lemmas.Cmp.{by_ranked, ranked}
-use Rattle.std.specs.Map.{lookup, remove_entry, keys_of}
-use Rattle.std.specs.BTreeMap.{is_at, insert_entry}
-use Rattle.std.specs.List.Sorted.{IsStrictlySortedBy}
-use Rattle.std.proofs.lemmas.Map.Keys.{sorted_head, sorted_tail}
-use Rattle.std.proofs.lemmas.Map.Lookups.{exact_unsigned}
-use Rattle.title_store.specs.declared.kept.Lent.{Lent}
-use Rattle.title_store.specs.Loans.{Loan, IsAmong, IsLentAs, AllBelow, without}
-use Rattle.title_store.specs.CellMaps.{loan_of, loans_of}
+use Rattle.std.proofs.{Common.{eqb, arith, true≢false}, lemmas.Bool.{eqb-true, eq-eqb, eqb-false, false_from_ne_true}}
+use Rattle.std.specs.{List.{AllByRecursion}, declared.cmp.Ordering.{Ordering, TheVariants.{Less, Greater}}, BTreeMap.{is_at, insert_entry}}
+use Rattle.std.specs.{Ordering.{nat_cmp, is_eq, match_ordering}, Cmp.{Equal-is, tied_itself, nat_cmp_total}}
+use Rattle.std.{proofs.lemmas.Cmp.{by_ranked, ranked}, specs.{Map.{lookup, remove_entry, keys_of}, List.Sorted.{IsStrictlySortedBy}}}
+use Rattle.std.proofs.lemmas.Map.{Keys.{sorted_head, sorted_tail}, Lookups.{exact_unsigned}}
+use Rattle.title_store.specs.{declared.kept.Lent.{Lent}, Loans.{Loan, IsAmong, IsLentAs, AllBelow, without}, CellMaps.{loan_of, loans_of}}
 
 at_number : (n k : ℕ) → is_at (nat_cmp n) k ≡ eqb n k
 at_number n k = go (eqb n k) refl

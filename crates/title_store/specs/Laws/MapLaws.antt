@@ -1,27 +1,14 @@
 -- Laws of maps from cells to owners, and of what is kept of cells.
 use Rattle.std.proofs.Common.{◌≡◌, ℕ, ◌+◌, ◌<◌, Bool, true, false, cond, List, [], ◌∷◌, ◌++◌, Option, Some, None, is_some, take, get_or}
-use Rattle.std.proofs.Common.{length, refl, sym, ap, ◌∙◌, true≢false, subst, inl, inr, ◌||◌}
-use Rattle.title_land.specs.Depth.{depth}
-use Rattle.std.specs.Prelude.{unwrap_or}
-use Rattle.std.proofs.lemmas.List.{take_more}
-use Rattle.std.proofs.lemmas.Bool.{or_cases}
-use Rattle.std.specs.List.{AllByRecursion, list_any}
-use Rattle.std.specs.BTreeMap.{BTreeMap, get, is_at}
-use Rattle.title_land.specs.declared.survey.Cell.{Cell}
-use Rattle.title_land.specs.CellLists.{same_cell, cells_of}
-use Rattle.title_instrument.specs.declared.owners.Owners.{Owners}
-use Rattle.title_instrument.specs.Owners.{opening_owners}
-use Rattle.title_store.specs.declared.kept.Kept.{Kept}
-use Rattle.title_store.specs.Plants.{Plant, Failing, is_cell_of, first_failing, refusal_of, refused_in, done_or, plant_effect}
-use Rattle.title_land.specs.declared.survey.Township.{Township}
-use Rattle.title_land.specs.declared.tract.Land.{Land}
-use Rattle.title_instrument.specs.declared.instrument.Instrument.{Instrument}
-use Rattle.title_instrument.specs.Effect.{cell_effect}
-use Rattle.title_land.specs.Orders.{cell_cmp}
-use Rattle.title_store.specs.CellMaps.{kept_at, kept_cells, keep_from}
-use Rattle.title_land.specs.Laws.CellMembers.{list_has_the_cells}
+use Rattle.std.{proofs.Common.{length, refl, sym, ap, ◌∙◌, true≢false, subst, inl, inr, ◌||◌}, specs.Prelude.{unwrap_or}}
+use Rattle.std.{proofs.lemmas.{List.{take_more}, Bool.{or_cases}}, specs.{List.{AllByRecursion, list_any}, BTreeMap.{BTreeMap, get, is_at}}}
+use Rattle.title_land.specs.{Depth.{depth}, declared.survey.{Cell.{Cell}, Township.{Township}}, CellLists.{same_cell, cells_of}}
+use Rattle.title_land.specs.{declared.tract.Land.{Land}, Orders.{cell_cmp}, Laws.CellMembers.{list_has_the_cells}}
 use Rattle.title_land.specs.Laws.Keys.{cell_is, cell_at}
-use Rattle.title_store.specs.Laws.Each.{each_append}
+use Rattle.title_instrument.specs.{declared.{owners.Owners.{Owners}, instrument.Instrument.{Instrument}}, Owners.{opening_owners}}
+use Rattle.title_instrument.specs.Effect.{cell_effect}
+use Rattle.title_store.specs.{declared.kept.Kept.{Kept}, CellMaps.{kept_at, kept_cells, keep_from}, Laws.Each.{each_append}}
+use Rattle.title_store.specs.Plants.{Plant, Failing, is_cell_of, first_failing, refusal_of, refused_in, done_or, plant_effect}
 
 -- the second map is the first with these owners written at a cell
 abbrev pub Writes : BTreeMap Cell Owners → BTreeMap Cell Owners → Cell → Owners → Type 0

@@ -1,24 +1,13 @@
 -- The listed cells of a plant are its cells.
 use Rattle.std.proofs.Common.{◌≡◌, ℕ, zero, suc, ◌+◌, ◌^◌, Bool, true, false, ◌&&◌, List, [], ◌∷◌, length, refl, ap, ◌∙◌, arith}
-use Rattle.std.proofs.lemmas.Bool.{lt-ltb, and_from, or_left, or_right}
-use Rattle.std.specs.Prelude.{nat_le}
-use Rattle.std.specs.List.{AllByRecursion, list_any}
-use Rattle.title_land.specs.declared.survey.Township.{Township}
-use Rattle.title_land.specs.declared.survey.Section.{Section}
-use Rattle.title_land.specs.declared.survey.Cell.{Cell}
-use Rattle.title_land.specs.declared.rectangle.Quarter.{Quarter}
-use Rattle.title_land.specs.declared.rectangle.Quarter.TheVariants.{Northeast, Northwest, Southwest, Southeast}
-use Rattle.title_land.specs.declared.node.Node.{Node}
-use Rattle.title_land.specs.declared.tract.Land.{Land}
-use Rattle.title_land.specs.Survey.{same_township, is_on_grid}
-use Rattle.title_land.specs.Nodes.{square, quarters, node_has}
-use Rattle.title_land.specs.Lands.{has, is_plant_cell}
+use Rattle.std.{proofs.lemmas.Bool.{lt-ltb, and_from, or_left, or_right}, specs.{Prelude.{nat_le}, List.{AllByRecursion, list_any}}}
+use Rattle.title_land.specs.declared.{survey.{Township.{Township}, Section.{Section}, Cell.{Cell}}, rectangle.Quarter.{Quarter}}
+use Rattle.title_land.specs.declared.{rectangle.Quarter.TheVariants.{Northeast, Northwest, Southwest, Southeast}, node.Node.{Node}}
+use Rattle.title_land.specs.{declared.tract.Land.{Land}, Survey.{same_township, is_on_grid}, Nodes.{square, quarters, node_has}}
+use Rattle.title_land.specs.{Lands.{has, is_plant_cell}, CellLists.{plant_cells, cells_of, node_cells}, Laws.Squares.{sized}}
 use Rattle.title_land.specs.CellLists.{section_if, sections_from, sections_of, corner_of, cells_below, section_cells, township_cells}
-use Rattle.title_land.specs.CellLists.{plant_cells, cells_of, node_cells}
-use Rattle.title_store.specs.Plants.{is_cell_of}
-use Rattle.title_store.specs.Laws.Each.{each_from, each_append, each_flat, each_filter}
-use Rattle.title_land.specs.Laws.Squares.{sized}
 use Rattle.title_land.specs.Laws.SameLand.{same_township-self}
+use Rattle.title_store.specs.{Plants.{is_cell_of}, Laws.Each.{each_from, each_append, each_flat, each_filter}}
 
 -- a cell of this section, on its grid
 abbrev InSectionOf : ℕ → Section → Cell → Type 0

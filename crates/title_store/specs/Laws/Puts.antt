@@ -1,25 +1,13 @@
 -- What a put leaves.
-use Rattle.std.proofs.Common.{◌≡◌, ℕ, ◌<◌, true, cond, List, [], ◌∷◌, ◌++◌, Some, sym, ap, subst, ◌∙◌}
-use Rattle.title_land.specs.Depth.{depth}
-use Rattle.std.specs.Prelude.{unwrap_or}
-use Rattle.std.specs.List.{AllByRecursion}
-use Rattle.std.specs.Ordering.{nat_cmp}
-use Rattle.std.specs.BTreeMap.{BTreeMap, get, is_at, insert_entry}
-use Rattle.title_land.specs.declared.survey.Township.{Township}
-use Rattle.title_land.specs.declared.survey.Cell.{Cell}
-use Rattle.title_land.specs.declared.node.Node.{Node}
-use Rattle.title_land.specs.declared.tract.Land.{Land}
+use Rattle.std.{proofs.Common.{◌≡◌, ℕ, ◌<◌, true, cond, List, [], ◌∷◌, ◌++◌, Some, sym, ap, subst, ◌∙◌}, specs.Prelude.{unwrap_or}}
+use Rattle.std.specs.{List.{AllByRecursion}, Ordering.{nat_cmp}, BTreeMap.{BTreeMap, get, is_at, insert_entry}}
+use Rattle.title_land.specs.{Depth.{depth}, declared.{survey.{Township.{Township}, Cell.{Cell}}, node.Node.{Node}, tract.Land.{Land}}}
 use Rattle.title_land.specs.CellLists.{cells_of}
-use Rattle.title_instrument.specs.declared.instrument.Instrument.{Instrument}
-use Rattle.title_instrument.specs.Owners.{opening_owners}
-use Rattle.title_store.specs.declared.cell_map.CellMap.{CellMap}
-use Rattle.title_store.specs.declared.kept.Kept.{Kept}
-use Rattle.title_store.specs.declared.kept.Lent.{Lent}
+use Rattle.title_instrument.specs.{declared.instrument.Instrument.{Instrument}, Owners.{opening_owners}}
+use Rattle.title_store.specs.{declared.{cell_map.CellMap.{CellMap}, kept.{Kept.{Kept}, Lent.{Lent}}}, Loans.{AllBelow, IsTaken}}
 use Rattle.title_store.specs.Plants.{Plant, Failing, is_cell_of, node_of, first_failing, refused_in}
-use Rattle.title_store.specs.Loans.{AllBelow, IsTaken}
 use Rattle.title_store.specs.CellMaps.{is_there, kept_at, kept_cells, keep_from, loans_of, AreBacked}
-use Rattle.title_store.specs.Laws.LoanLaws.{insert_last, loans_push, below_push}
-use Rattle.title_store.specs.Laws.MapLaws.{cells_kept, held_from, listed_is, refused_by}
+use Rattle.title_store.specs.Laws.{LoanLaws.{insert_last, loans_push, below_push}, MapLaws.{cells_kept, held_from, listed_is, refused_by}}
 use Rattle.title_store.specs.Laws.Backing.{keeps_from, slots_for, backed_stays, backed_more}
 
 -- why a put is refused, from the first failing cell

@@ -1,34 +1,19 @@
 -- The one holding of a node's cells, and the nodes right below a node.
 use Rattle.std.proofs.Common.{◌≡◌, ℕ, zero, suc, ◌+◌, ◌<◌, ◌≤◌, Bool, true, false, cond, ◌&&◌, inl, inr, List, [], ◌∷◌, length, map}
-use Rattle.std.proofs.Common.{Option, Some, None, refl, sym, ap, subst, ◌∙◌, arith, if◌then◌else◌}
-use Rattle.std.proofs.lemmas.Bool.{and_from, and_parts, cases_Bool, eq-eqb, lt-ltb}
-use Rattle.std.specs.Prelude.{nat_lt}
-use Rattle.std.specs.List.{list_all, list_any}
+use Rattle.std.{proofs.Common.{Option, Some, None, refl, sym, ap, subst, ◌∙◌, arith, if◌then◌else◌}, specs.Prelude.{nat_lt}}
+use Rattle.std.{proofs.lemmas.Bool.{and_from, and_parts, cases_Bool, eq-eqb, lt-ltb}, specs.List.{list_all, list_any}}
 use Rattle.title_share.specs.Division.{Division}
-use Rattle.title_land.specs.declared.survey.Township.{Township}
-use Rattle.title_land.specs.declared.survey.Section.{Section}
-use Rattle.title_land.specs.declared.survey.Cell.{Cell}
-use Rattle.title_land.specs.declared.rectangle.Quarter.{Quarter}
-use Rattle.title_land.specs.declared.node.Node.{Node}
-use Rattle.title_land.specs.declared.node.Node.TheVariants as node
-use Rattle.title_land.specs.declared.node.Within.{Within}
-use Rattle.title_land.specs.Survey.{is_on_grid, same_township, same_section}
-use Rattle.title_land.specs.Rectangles.{holds, quarter_of}
-use Rattle.title_land.specs.Nodes.{square, quarters, node_has, parent_of}
-use Rattle.title_land.specs.Lands.{is_plant_cell}
-use Rattle.title_land.specs.CellLists.{same_cell, sections_of, node_cells, children_of}
+use Rattle.title_land.specs.declared.{survey.{Township.{Township}, Section.{Section}, Cell.{Cell}}, rectangle.Quarter.{Quarter}}
+use Rattle.title_land.specs.{declared.node.{Node.{Node}, Within.{Within}}, Survey.{is_on_grid, same_township, same_section}}
+use Rattle.title_land.specs.{Rectangles.{holds, quarter_of}, Nodes.{square, quarters, node_has, parent_of}, Lands.{is_plant_cell}}
+use Rattle.title_land.specs.{CellLists.{same_cell, sections_of, node_cells, children_of}, Laws.Members.{In, any_found, in_map, in_mapped}}
 use Rattle.title_land.specs.Laws.SameLand.{same_township-is, same_section-is, same_section-self, same_township-self}
-use Rattle.title_land.specs.Laws.Squares.{Inside, inside, holds_from, sized, quarters_apart}
-use Rattle.title_land.specs.Laws.Members.{In, any_found, in_map, in_mapped}
-use Rattle.title_land.specs.Laws.CoverCells.{in_a_quarter}
-use Rattle.title_land.specs.Laws.LandSharing.{whole_section}
+use Rattle.title_land.specs.Laws.{Squares.{Inside, inside, holds_from, sized, quarters_apart}, CoverCells.{in_a_quarter}}
+use Rattle.title_land.specs.Laws.{LandSharing.{whole_section}, CellMembers.{in_sections_of, in_quarters}}
 use Rattle.title_land.specs.Laws.CellMembers.{same_cells_are_equal, listed, listed_from, node_list_has_the_cells, sections_of-in}
-use Rattle.title_land.specs.Laws.CellMembers.{in_sections_of, in_quarters}
-use Rattle.title_instrument.specs.declared.parts.Estate.{Estate}
-use Rattle.title_instrument.specs.Owners.{holding_of}
-use Rattle.title_store.specs.Plants.{Plant}
-use Rattle.title_store.specs.Sheets.{same_division, one_holding}
-use Rattle.title_store.specs.Laws.SheetLaws.{same_divisions_are_equal}
+use Rattle.title_land.specs.declared.node.Node.TheVariants as node
+use Rattle.title_instrument.specs.{declared.parts.Estate.{Estate}, Owners.{holding_of}}
+use Rattle.title_store.specs.{Plants.{Plant}, Sheets.{same_division, one_holding}, Laws.SheetLaws.{same_divisions_are_equal}}
 
 all_at : (test : Cell → Bool) (cells : List Cell) (c : Cell) → list_all test cells ≡ true → In c cells → test c ≡ true
 all_at test [] c h i = absurd i

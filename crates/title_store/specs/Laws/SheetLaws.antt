@@ -1,24 +1,13 @@
 -- A sheet depends on the cells of its tract alone.
 use Rattle.std.proofs.Common.{◌≡◌, ℕ, zero, suc, ◌+◌, true, cond, ◌&&◌, ◌==◌, List, [], ◌∷◌, ◌++◌, Option, Some, None, refl, sym, ap, ◌∙◌}
-use Rattle.std.proofs.lemmas.Bool.{and_from, and_parts, eqb-true, eq-eqb}
-use Rattle.std.specs.List.{AllByRecursion, flat_map, list_all}
+use Rattle.std.{proofs.lemmas.Bool.{and_from, and_parts, eqb-true, eq-eqb}, specs.List.{AllByRecursion, flat_map, list_all}}
 use Rattle.title_share.specs.Division.{Division, rows_of, same_rows}
-use Rattle.title_land.specs.declared.survey.Township.{Township}
-use Rattle.title_land.specs.declared.survey.Cell.{Cell}
-use Rattle.title_land.specs.declared.node.Node.{Node}
-use Rattle.title_land.specs.declared.tract.Land.{Land}
-use Rattle.title_land.specs.Nodes.{node_has}
-use Rattle.title_land.specs.Lands.{has, cover_of, is_plant_cell}
-use Rattle.title_land.specs.CellLists.{node_cells, children_of}
-use Rattle.title_instrument.specs.declared.parts.Estate.{Estate}
-use Rattle.title_instrument.specs.Owners.{holding_of}
-use Rattle.title_store.specs.declared.sheet_row.SheetRow.{SheetRow}
-use Rattle.title_store.specs.Plants.{Plant}
+use Rattle.title_land.specs.{declared.{survey.{Township.{Township}, Cell.{Cell}}, node.Node.{Node}, tract.Land.{Land}}, Nodes.{node_has}}
+use Rattle.title_land.specs.{Lands.{has, cover_of, is_plant_cell}, CellLists.{node_cells, children_of}}
+use Rattle.title_instrument.specs.{declared.parts.Estate.{Estate}, Owners.{holding_of}}
+use Rattle.title_store.specs.{declared.sheet_row.SheetRow.{SheetRow}, Plants.{Plant}, StoreLaws.{SheetSame, SameDivisionsAreEqual}}
 use Rattle.title_store.specs.Sheets.{same_entries, same_division, one_holding, rows_or, sheet_below, estates, sheet_of}
-use Rattle.title_store.specs.StoreLaws.{SheetSame, SameDivisionsAreEqual}
-use Rattle.title_store.specs.Laws.Each.{each_from, flat_map_same}
-use Rattle.title_store.specs.Laws.PlantCells.{node_each}
-use Rattle.title_store.specs.Laws.TractNodes.{cover_within, children_within}
+use Rattle.title_store.specs.Laws.{Each.{each_from, flat_map_same}, PlantCells.{node_each}, TractNodes.{cover_within, children_within}}
 
 all_same : (e : Estate) (p q : Plant) (x y : Division) (cells : List Cell) → x ≡ y
     → AllByRecursion (λ c. holding_of e (p c) ≡ holding_of e (q c)) cells

@@ -1,27 +1,14 @@
 -- Parts of sheets: a section's part for one estate is put together of its quarters' parts, where its cells have no one holding.
 use Rattle.std.proofs.Common.{◌≡◌, ℕ, zero, suc, ◌+◌, ◌<◌, ◌≤◌, true, ◌&&◌, inl, inr, List, [], ◌∷◌, ◌++◌, length, map}
-use Rattle.std.proofs.Common.{None, refl, sym, ap, ◌∙◌, arith}
-use Rattle.std.specs.Prelude.{nat_lt}
-use Rattle.std.specs.List.{flat_map}
+use Rattle.std.{proofs.{Common.{None, refl, sym, ap, ◌∙◌, arith}, lemmas.List.{append-nil}}, specs.{Prelude.{nat_lt}, List.{flat_map}}}
 use Rattle.std.proofs.lemmas.Bool.{cases_Bool, lt-ltb, ltb-true}
-use Rattle.std.proofs.lemmas.List.{append-nil}
-use Rattle.title_land.specs.declared.survey.Township.{Township}
-use Rattle.title_land.specs.declared.survey.Section.{Section}
-use Rattle.title_land.specs.declared.survey.Cell.{Cell}
-use Rattle.title_land.specs.declared.rectangle.Quarter.{Quarter}
-use Rattle.title_land.specs.declared.rectangle.Quarter.TheVariants.{Northeast, Northwest, Southwest, Southeast}
-use Rattle.title_land.specs.declared.node.Node.{Node}
+use Rattle.title_land.specs.declared.{survey.{Township.{Township}, Section.{Section}, Cell.{Cell}}, rectangle.Quarter.{Quarter}}
+use Rattle.title_land.specs.declared.{rectangle.Quarter.TheVariants.{Northeast, Northwest, Southwest, Southeast}, node.Node.{Node}}
+use Rattle.title_land.specs.{declared.tract.Land.{Land}, Nodes.{quarters}, Lands.{has, is_plant_cell, land_of}}
+use Rattle.title_land.specs.{CellLists.{node_cells, children_of}, Laws.NodeLands.{cover_of-land_of}}
 use Rattle.title_land.specs.declared.node.Node.TheVariants as node
-use Rattle.title_land.specs.declared.tract.Land.{Land}
-use Rattle.title_land.specs.Nodes.{quarters}
-use Rattle.title_land.specs.Lands.{has, is_plant_cell, land_of}
-use Rattle.title_land.specs.CellLists.{node_cells, children_of}
-use Rattle.title_land.specs.Laws.NodeLands.{cover_of-land_of}
-use Rattle.title_instrument.specs.declared.parts.Estate.{Estate}
-use Rattle.title_instrument.specs.Owners.{holding_of}
-use Rattle.title_store.specs.Plants.{Plant}
-use Rattle.title_store.specs.Sheets.{one_holding, rows_or, sheet_below, estate_sheet}
-use Rattle.title_store.specs.Laws.SheetLaws.{holding_same}
+use Rattle.title_instrument.specs.{declared.parts.Estate.{Estate}, Owners.{holding_of}}
+use Rattle.title_store.specs.{Plants.{Plant}, Sheets.{one_holding, rows_or, sheet_below, estate_sheet}, Laws.SheetLaws.{holding_same}}
 use Rattle.title_store.specs.Laws.SheetNodes.{sheet_split}
 
 -- a part depends on the holdings of its estate in the cells of its tract alone

@@ -1,18 +1,11 @@
 -- Steps of the loops that make sheets.
 use Rattle.std.proofs.Common.{◌≡◌, ℕ, zero, suc, ◌+◌, ◌-◌, ◌<◌, ◌≤◌, Bool, true, false, cond, ◌&&◌, List, [], ◌∷◌, drop, get_or, length}
-use Rattle.std.proofs.Common.{Option, Some, None, refl, sym, ap, ◌∙◌, ◌↔◌, arith, true≢false}
-use Rattle.std.proofs.lemmas.Bool.{false_from_ne_true}
-use Rattle.std.proofs.lemmas.List.{drop_more, drop_all}
-use Rattle.std.specs.List.{list_all, flat_map}
+use Rattle.std.proofs.{Common.{Option, Some, None, refl, sym, ap, ◌∙◌, ◌↔◌, arith, true≢false}, lemmas.Bool.{false_from_ne_true}}
+use Rattle.std.{proofs.lemmas.List.{drop_more, drop_all}, specs.List.{list_all, flat_map}}
 use Rattle.title_share.specs.Division.{Division}
-use Rattle.title_land.specs.declared.survey.Township.{Township}
-use Rattle.title_land.specs.declared.survey.Cell.{Cell}
-use Rattle.title_land.specs.declared.node.Node.{Node}
-use Rattle.title_land.specs.CellLists.{node_cells, children_of}
-use Rattle.title_instrument.specs.declared.parts.Estate.{Estate}
-use Rattle.title_instrument.specs.Owners.{holding_of}
-use Rattle.title_store.specs.Plants.{Plant}
-use Rattle.title_store.specs.Sheets.{same_division, one_holding, holding_rows, rows_or, sheet_below}
+use Rattle.title_land.specs.{declared.{survey.{Township.{Township}, Cell.{Cell}}, node.Node.{Node}}, CellLists.{node_cells, children_of}}
+use Rattle.title_instrument.specs.{declared.parts.Estate.{Estate}, Owners.{holding_of}}
+use Rattle.title_store.specs.{Plants.{Plant}, Sheets.{same_division, one_holding, holding_rows, rows_or, sheet_below}}
 use Rattle.title_store.specs.Laws.SheetLaws.{same_divisions_are_equal}
 
 -- a test that answers whether two divisions are equal is the sheet's

@@ -1,31 +1,16 @@
 -- The nodes of a tract's cover have cells of the tract alone, and a node's children cells of the node.
 use Rattle.std.proofs.Common.{◌≡◌, ℕ, zero, suc, ◌+◌, ◌<◌, ◌≤◌, Bool, true, false, ◌&&◌, List, [], ◌∷◌, ◌++◌, length, map, refl, sym, ap}
-use Rattle.std.proofs.Common.{◌∙◌, arith, if◌then◌else◌}
-use Rattle.std.proofs.lemmas.Bool.{and_from, and_parts, cases_eq}
-use Rattle.std.specs.Prelude.{nat_lt}
-use Rattle.std.proofs.Common.{inl, inr}
+use Rattle.std.{proofs.{Common.{◌∙◌, arith, if◌then◌else◌, inl, inr}, lemmas.Bool.{and_from, and_parts, cases_eq}}, specs.Prelude.{nat_lt}}
 use Rattle.std.specs.List.{AllByRecursion}
-use Rattle.title_land.specs.declared.survey.Township.{Township}
-use Rattle.title_land.specs.declared.survey.Section.{Section}
-use Rattle.title_land.specs.declared.survey.Cell.{Cell}
-use Rattle.title_land.specs.declared.rectangle.Quarter.{Quarter}
-use Rattle.title_land.specs.declared.rectangle.Quarter.TheVariants.{Northeast, Northwest, Southwest, Southeast}
-use Rattle.title_land.specs.declared.rectangle.Rectangle.{Rectangle}
-use Rattle.title_land.specs.declared.node.Node.{Node}
-use Rattle.title_land.specs.declared.node.Node.TheVariants as node
-use Rattle.title_land.specs.declared.node.Within.{Within}
-use Rattle.title_land.specs.declared.tract.Land.{Land}
-use Rattle.title_land.specs.declared.tract.Land.TheVariants as land
-use Rattle.title_land.specs.Survey.{same_township, same_section}
-use Rattle.title_land.specs.Rectangles.{holds, quarter_of}
-use Rattle.title_land.specs.Nodes.{square, quarters, node_has}
-use Rattle.title_land.specs.Grids.{grid_has, range_all, row_fills, fills}
-use Rattle.title_land.specs.Covers.{cover_below, node_at}
-use Rattle.title_land.specs.Lands.{has, cover_of}
-use Rattle.title_land.specs.CellLists.{sections_of, children_of}
-use Rattle.title_store.specs.Laws.Each.{each_from, each_append, each_map}
+use Rattle.title_land.specs.declared.{survey.{Township.{Township}, Section.{Section}, Cell.{Cell}}, rectangle.Quarter.{Quarter}}
+use Rattle.title_land.specs.declared.rectangle.{Quarter.TheVariants.{Northeast, Northwest, Southwest, Southeast}, Rectangle.{Rectangle}}
+use Rattle.title_land.specs.{declared.{node.{Node.{Node}, Within.{Within}}, tract.Land.{Land}}, Survey.{same_township, same_section}}
+use Rattle.title_land.specs.{Rectangles.{holds, quarter_of}, Nodes.{square, quarters, node_has}, Covers.{cover_below, node_at}}
+use Rattle.title_land.specs.{Grids.{grid_has, range_all, row_fills, fills}, Lands.{has, cover_of}, CellLists.{sections_of, children_of}}
 use Rattle.title_land.specs.Laws.Squares.{inside, quarter_inside, holds_from}
-use Rattle.title_store.specs.Laws.PlantCells.{sections_each}
+use Rattle.title_land.specs.declared.node.Node.TheVariants as node
+use Rattle.title_land.specs.declared.tract.Land.TheVariants as land
+use Rattle.title_store.specs.Laws.{Each.{each_from, each_append, each_map}, PlantCells.{sections_each}}
 
 range_at : (test : ℕ → Bool) (start n k : ℕ) → range_all test start n ≡ true → start ≤ k → k < start + n → test k ≡ true
 range_at test start zero k h a b = absurd (omega arith)

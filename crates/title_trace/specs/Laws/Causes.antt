@@ -1,15 +1,11 @@
 -- An instrument that can stand among some parties can stand among more.
-use Rattle.std.proofs.Common.{◌≡◌, ℕ, ◌≤◌, Bool, true, false, ◌||◌, cond, refl, arith, Option, Some, None, leb}
-use Rattle.std.proofs.Common.{◌<◌}
+use Rattle.std.proofs.Common.{◌≡◌, ℕ, ◌≤◌, Bool, true, false, ◌||◌, cond, refl, arith, Option, Some, None, leb, ◌<◌}
 use Rattle.std.proofs.lemmas.Bool.{leb-false, lt-leb}
-use Rattle.title_instrument.specs.declared.instrument.Instrument.{Instrument}
-use Rattle.title_instrument.specs.declared.parts.Cause.{Cause}
+use Rattle.title_instrument.specs.{declared.{instrument.Instrument.{Instrument}, parts.Cause.{Cause}}, Check.{first_cause, holds}}
 use Rattle.title_instrument.specs.declared.parts.Cause.TheVariants.{Party, SameParty, NoEstate, Reservation}
-use Rattle.title_instrument.specs.Check.{first_cause, holds}
 use Rattle.title_instrument.specs.Parties.{grantor_of, grantee_of}
-use Rattle.title_chain.specs.declared.ask.Ask.{Ask}
+use Rattle.title_chain.specs.{declared.ask.Ask.{Ask}, Asks.{cause_of}}
 use Rattle.title_chain.specs.declared.ask.Ask.TheVariants as ask
-use Rattle.title_chain.specs.Asks.{cause_of}
 
 -- a number that is not below some number isn't below a smaller one
 above_more : (p q n : ℕ) → p ≤ q → leb p n ≡ false → leb q n ≡ false

@@ -1,27 +1,17 @@
 -- The law of due traces, by induction on the trace.
 use Rattle.std.proofs.Common.{◌≡◌, ◌≢◌, ℕ, suc, ◌≤◌, Bool, true, false, cond, List, [], ◌∷◌, refl, ap, ◌∙◌, sym, subst, length, eqb, Option}
-use Rattle.std.proofs.Common.{Some, None}
-use Rattle.std.proofs.lemmas.Bool.{cond_both, eqb-true, eqb-false}
-use Rattle.std.proofs.lemmas.List.{reverse-reverse}
-use Rattle.title_land.specs.declared.survey.Township.{Township}
-use Rattle.title_land.specs.Lands.{is_in_plant}
+use Rattle.std.proofs.{Common.{Some, None}, lemmas.{Bool.{cond_both, eqb-true, eqb-false}, List.{reverse-reverse}}}
+use Rattle.title_land.specs.{declared.survey.Township.{Township}, Lands.{is_in_plant}}
 use Rattle.title_instrument.specs.declared.parts.Cause.{Cause}
-use Rattle.title_chain.specs.declared.ask.Ask.{Ask}
-use Rattle.title_chain.specs.declared.ask.Step.{Step}
-use Rattle.title_chain.specs.declared.record.Record.{Record}
-use Rattle.title_chain.specs.Asks.{tract_of, cause_of}
-use Rattle.title_chain.specs.Alone.{alone, CanStand, Plays, IsSerial, most_parties}
-use Rattle.title_chain.specs.Overlaps.{overlaps, Clear, record_of}
+use Rattle.title_chain.specs.{declared.{ask.{Ask.{Ask}, Step.{Step}}, record.Record.{Record}}, Asks.{tract_of, cause_of}}
+use Rattle.title_chain.specs.{Alone.{alone, CanStand, Plays, IsSerial, most_parties}, Overlaps.{overlaps, Clear, record_of}}
 use Rattle.title_chain.specs.Laws.Past.{clear_nothing, clear_later, plays_past}
-use Rattle.title_trace.specs.declared.call.Call.{Call}
-use Rattle.title_trace.specs.declared.call.Request.{Request}
-use Rattle.title_trace.specs.declared.call.Request.TheVariants as request
-use Rattle.title_trace.specs.declared.call.Reply.{Reply}
-use Rattle.title_trace.specs.declared.call.Reply.TheVariants as reply
-use Rattle.title_trace.specs.declared.denial.Denial.TheVariants as denial
+use Rattle.title_trace.specs.{declared.call.{Call.{Call}, Request.{Request}, Reply.{Reply}}, Laws.Causes.{cause_among_more}}
 use Rattle.title_trace.specs.Trace.{examiner_of, is_open, steps_by, open_steps, committed_by, committed}
 use Rattle.title_trace.specs.Due.{Setting, InTheWay, reply_past, DueStep, DueReply, IsDue}
-use Rattle.title_trace.specs.Laws.Causes.{cause_among_more}
+use Rattle.title_trace.specs.declared.call.Request.TheVariants as request
+use Rattle.title_trace.specs.declared.call.Reply.TheVariants as reply
+use Rattle.title_trace.specs.declared.denial.Denial.TheVariants as denial
 
 -- what holds of the committed records and of the open steps of each examiner
 pub record Kept (depth : ℕ) (townships : List Township) (records : List Record) (own : ℕ → List Step) : Type 0 where

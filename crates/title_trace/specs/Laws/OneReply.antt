@@ -1,20 +1,14 @@
 -- The due reply is one, and the function gives it.
 use Rattle.std.proofs.Common.{◌≡◌, ◌≢◌, ◌⊎◌, ◌↔◌, ◌<◌, ◌∙◌, ℕ, Bool, true, false, cond, not, inl, inr, refl, sym, ap, subst, eqb, min}
-use Rattle.std.proofs.Common.{List, [], ◌∷◌, filter, Option, Some, None, arith}
-use Rattle.std.proofs.Math.Nat.{min-eq_left, min-eq_right}
+use Rattle.std.proofs.{Common.{List, [], ◌∷◌, filter, Option, Some, None, arith}, Math.Nat.{min-eq_left, min-eq_right}}
 use Rattle.std.proofs.lemmas.Bool.{cases_Bool, cases_lt, cases_eq, and_parts, and_from, eqb-false, ne_eqb}
 use Rattle.title_instrument.specs.declared.parts.Cause.{Cause}
-use Rattle.title_chain.specs.declared.ask.Ask.{Ask}
-use Rattle.title_chain.specs.declared.ask.Step.{Step}
-use Rattle.title_chain.specs.Overlaps.{overlaps}
-use Rattle.title_trace.specs.declared.call.Call.{Call}
-use Rattle.title_trace.specs.declared.call.Request.{Request}
-use Rattle.title_trace.specs.declared.call.Request.TheVariants as request
-use Rattle.title_trace.specs.declared.call.Reply.{Reply}
-use Rattle.title_trace.specs.declared.call.Reply.TheVariants as reply
-use Rattle.title_trace.specs.Trace.{examiner_of, steps_by, open_steps}
+use Rattle.title_chain.specs.{declared.ask.{Ask.{Ask}, Step.{Step}}, Overlaps.{overlaps}}
+use Rattle.title_trace.specs.{declared.call.{Call.{Call}, Request.{Request}, Reply.{Reply}}, Trace.{examiner_of, steps_by, open_steps}}
 use Rattle.title_trace.specs.Due.{Setting, InTheWay, reply_past, DueStep, DueReply}
 use Rattle.title_trace.specs.Due.{lesser, least, examiners, stops, in_the_way, due_step, due_reply}
+use Rattle.title_trace.specs.declared.call.Request.TheVariants as request
+use Rattle.title_trace.specs.declared.call.Reply.TheVariants as reply
 
 -- ---- the least of the numbers that pass a test
 

@@ -1,17 +1,10 @@
 -- A cell lies in a square exactly where the square's path begins the cell's.
 use Rattle.std.proofs.Common.{◌≡◌, ℕ, zero, suc, ◌+◌, ◌<◌, ◌≤◌, Bool, true, false, List, [], ◌∷◌, ◌++◌, length, reverse}
-use Rattle.std.proofs.Common.{refl, sym, ap, subst, ◌∙◌, arith, true≢false}
-use Rattle.std.proofs.lemmas.List.{reverse-append, reverse-reverse, length-reverse}
-use Rattle.title_land.specs.declared.rectangle.Quarter.{Quarter}
-use Rattle.title_land.specs.declared.rectangle.Quarter.TheVariants.{Northeast, Northwest, Southwest, Southeast}
-use Rattle.title_land.specs.declared.rectangle.Rectangle.{Rectangle}
-use Rattle.title_land.specs.Survey.{side}
-use Rattle.title_land.specs.Rectangles.{quarter_of, holds}
-use Rattle.title_land.specs.Nodes.{square}
-use Rattle.title_land.specs.Laws.Squares.{Inside, inside, holds_from, Sized, sized, nested, square_inside}
-use Rattle.title_land.specs.Laws.CoverCells.{in_a_quarter}
-use Rattle.title_tree.specs.Paths.{way, begins, rest}
-use Rattle.title_tree.specs.CellWays.{quarter_by, quarter_in, cell_quarters, cell_way}
+use Rattle.std.proofs.{Common.{refl, sym, ap, subst, ◌∙◌, arith, true≢false}, lemmas.List.{reverse-append, reverse-reverse, length-reverse}}
+use Rattle.title_land.specs.{declared.rectangle.Quarter.{Quarter, TheVariants.{Northeast, Northwest, Southwest, Southeast}}, Survey.{side}}
+use Rattle.title_land.specs.{declared.rectangle.Rectangle.{Rectangle}, Rectangles.{quarter_of, holds}, Nodes.{square}}
+use Rattle.title_land.specs.Laws.{Squares.{Inside, inside, holds_from, Sized, sized, nested, square_inside}, CoverCells.{in_a_quarter}}
+use Rattle.title_tree.specs.{Paths.{way, begins, rest}, CellWays.{quarter_by, quarter_in, cell_quarters, cell_way}}
 use Rattle.title_tree.specs.Laws.Beginnings.{begins_append, begins_is}
 
 found_by : (r : Rectangle) (row column : ℕ) (a b c : Bool) → holds (quarter_of Northeast r) row column ≡ a

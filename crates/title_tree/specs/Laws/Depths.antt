@@ -1,12 +1,10 @@
 -- How deep plots are after grafts, splits and changes.
 use Rattle.std.proofs.Common.{◌≡◌, ℕ, zero, suc, ◌+◌, ◌≤◌, Bool, true, false, ◌&&◌, List, [], ◌∷◌, length, refl, ap, subst, ◌∙◌, arith}
 use Rattle.std.proofs.Common.{inl, inr, Result, Ok, Err, OnErr}
-use Rattle.title_tree.specs.Pieces.{Short, StaysWithin, split_all}
-use Rattle.title_share.specs.Division.{Division}
-use Rattle.title_land.specs.declared.rectangle.Quarter.{Quarter}
-use Rattle.title_land.specs.declared.rectangle.Quarter.TheVariants.{Northeast, Northwest, Southwest, Southeast}
+use Rattle.title_tree.specs.{Pieces.{Short, StaysWithin, split_all}, Laws.Uniform.{four_all}}
 use Rattle.title_tree.specs.Plots.{Plot, Same, Four, plot_at, graft, split, changed, same_leaf, joined, tidied, tidied_at, tidied_all, fits}
-use Rattle.title_tree.specs.Laws.Uniform.{four_all}
+use Rattle.title_share.specs.Division.{Division}
+use Rattle.title_land.specs.declared.rectangle.Quarter.{Quarter, TheVariants.{Northeast, Northwest, Southwest, Southeast}}
 
 all_four : (a b c d : Bool) → a ≡ true → b ≡ true → c ≡ true → d ≡ true → (a && b && c && d) ≡ true
 all_four a b c d e f g h = rw (e, f, g, h) refl

@@ -1,10 +1,8 @@
 -- Plots after grafts, splits and changes.
 use Rattle.std.proofs.Common.{◌≡◌, ◌≤◌, true, cond, List, [], ◌∷◌, ◌++◌, length, refl, ap, ◌∙◌, arith}
 use Rattle.title_share.specs.Division.{Division}
-use Rattle.title_land.specs.declared.rectangle.Quarter.{Quarter}
-use Rattle.title_land.specs.declared.rectangle.Quarter.TheVariants.{Northeast, Northwest, Southwest, Southeast}
-use Rattle.title_tree.specs.Plots.{Plot, Same, Four, value_at, has_path, plot_at, graft, split, changed}
-use Rattle.title_tree.specs.Paths.{begins, rest}
+use Rattle.title_land.specs.declared.rectangle.Quarter.{Quarter, TheVariants.{Northeast, Northwest, Southwest, Southeast}}
+use Rattle.title_tree.specs.{Plots.{Plot, Same, Four, value_at, has_path, plot_at, graft, split, changed}, Paths.{begins, rest}}
 
 pub value_graft : (p : List Quarter) (n t : Plot) (c : List Quarter) → has_path p t ≡ true → length p ≤ length c
     → value_at (graft p n t) c ≡ cond (begins p c) (value_at n (rest p c)) (value_at t c)

@@ -3,12 +3,9 @@ use Rattle.std.proofs.Common.{◌≡◌, ◌≢◌, ℕ, zero, suc, ◌<◌, tru
 use Rattle.std.proofs.Common.{refl, sym, ap, subst, ◌∙◌, arith, inl, inr}
 use Rattle.title_share.specs.Division.{Division}
 use Rattle.title_land.specs.declared.rectangle.Quarter.{Quarter}
-use Rattle.title_tree.specs.Paths.{begins}
-use Rattle.title_tree.specs.Plots.{Plot, value_at, has_path}
+use Rattle.title_tree.specs.{Paths.{begins}, Plots.{Plot, value_at, has_path}, Lendings.{Lending, Keeps, LaterClear}}
 use Rattle.title_tree.specs.Pieces.{Piece, In, paths, has, held, swapped, taken, split_all, fresh, Disjoint, Ready, Short, Reaches, Refines}
-use Rattle.title_tree.specs.Lendings.{Lending, Keeps, LaterClear}
-use Rattle.title_tree.specs.Laws.Beginnings.{begins_append}
-use Rattle.title_tree.specs.Laws.Swaps.{fresh_split, value_put, held_taken, paths_taken, paths_fresh}
+use Rattle.title_tree.specs.Laws.{Beginnings.{begins_append}, Swaps.{fresh_split, value_put, held_taken, paths_taken, paths_fresh}}
 use Rattle.title_tree.specs.Laws.Swaps.{reaches_swapped, reaches_taken, reaches_fresh, split_all_keeps, split_all_ready, split_all_value}
 
 pub keeps_refined : (t u : Plot) (out : List Lending) (n : ℕ) → Refines t u → Keeps t out n → Keeps u out n

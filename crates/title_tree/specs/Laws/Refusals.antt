@@ -1,18 +1,11 @@
 -- The first leaf that refuses a change refuses it as the first cell that does.
-use Rattle.std.proofs.Common.{◌≡◌, ℕ, zero, suc, true, List, [], ◌∷◌, ◌++◌, map, Option, Some, None, Result}
+use Rattle.std.{proofs.Common.{◌≡◌, ℕ, zero, suc, true, List, [], ◌∷◌, ◌++◌, map, Option, Some, None, Result}, specs.Option.{option_or}}
 use Rattle.std.proofs.Common.{refl, sym, ap, ◌∙◌, ◌+◌, ◌-◌, Bool, false, ◌||◌, ◌⊎◌, inl, inr, length, length-append, arith, true≢false}
-use Rattle.std.specs.Option.{option_or}
 use Rattle.title_share.specs.Division.{Division}
-use Rattle.title_land.specs.declared.rectangle.Quarter.{Quarter}
-use Rattle.title_land.specs.declared.rectangle.Quarter.TheVariants.{Northeast, Northwest, Southwest, Southeast}
-use Rattle.title_tree.specs.Changes.{why_of}
-use Rattle.title_tree.specs.Cells.{cell_paths, first_some}
-use Rattle.title_tree.specs.Plots.{Plot, Same, Four, value_at, plot_at, first_refusal, fits}
-use Rattle.title_tree.specs.Paths.{begins, rest}
-use Rattle.title_tree.specs.Pieces.{has, refusal_at, Short}
-use Rattle.title_tree.specs.Laws.Uniform.{four_all, corner, length-corner}
-use Rattle.title_tree.specs.Laws.Depths.{fits_plot_at}
-use Rattle.title_tree.specs.Laws.Grafts.{value_plot_at}
+use Rattle.title_land.specs.declared.rectangle.Quarter.{Quarter, TheVariants.{Northeast, Northwest, Southwest, Southeast}}
+use Rattle.title_tree.specs.{Changes.{why_of}, Cells.{cell_paths, first_some}, Paths.{begins, rest}, Pieces.{has, refusal_at, Short}}
+use Rattle.title_tree.specs.{Plots.{Plot, Same, Four, value_at, plot_at, first_refusal, fits}, Laws.Depths.{fits_plot_at}}
+use Rattle.title_tree.specs.Laws.{Uniform.{four_all, corner, length-corner}, Grafts.{value_plot_at}}
 use Rattle.title_tree.specs.Laws.Beginnings.{begins_append, rest_append}
 
 or_assoc : {A : Type 0} (x y z : Option A) → option_or (option_or x y) z ≡ option_or x (option_or y z)

@@ -2,11 +2,9 @@
 use Rattle.std.proofs.Common.{◌≡◌, ℕ, zero, suc, Bool, true, false, ◌&&◌, cond, List, [], ◌∷◌, length, Option, Some, None}
 use Rattle.std.proofs.Common.{refl, sym, ap, ◌∙◌}
 use Rattle.title_share.specs.Division.{Division}
-use Rattle.title_land.specs.declared.rectangle.Quarter.{Quarter}
-use Rattle.title_land.specs.declared.rectangle.Quarter.TheVariants.{Northeast, Northwest, Southwest, Southeast}
+use Rattle.title_land.specs.declared.rectangle.Quarter.{Quarter, TheVariants.{Northeast, Northwest, Southwest, Southeast}}
 use Rattle.title_tree.specs.Plots.{Plot, Same, Four, value_at, same_division, agreed, uniform, same_leaf, joined}
-use Rattle.title_tree.specs.Plots.{tidied, tidied_at, tidied_all, fits}
-use Rattle.title_tree.specs.Laws.SameDivisions.{same_is, same_self}
+use Rattle.title_tree.specs.{Plots.{tidied, tidied_at, tidied_all, fits}, Laws.SameDivisions.{same_is, same_self}}
 
 pub four_all : (a b c d : Bool) → (a && b && c && d) ≡ true → (a ≡ true) × (b ≡ true) × (c ≡ true) × (d ≡ true)
 four_all true true true true h = (refl, refl, refl, refl)

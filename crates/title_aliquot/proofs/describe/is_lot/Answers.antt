@@ -1,10 +1,7 @@
 -- What was left to show of `is_lot`.
-use Rattle.std.proofs.Common.{◌∙◌, take, drop, ap, sym}
-use Rattle.std.specs.Prelude.{codes}
-use Rattle.std.specs.Str.{chars}
+use Rattle.std.{proofs.Common.{◌∙◌, take, drop, ap, sym}, specs.{Prelude.{codes}, Str.{chars}}}
 use Rattle.title_grammar.specs.Reading.{word_at}
-use Rattle.title_aliquot.specs.Letters.{letters}
-use Rattle.title_aliquot.specs.Laws.Texts.{lot_result, no_lot}
+use Rattle.title_aliquot.specs.{Letters.{letters}, Laws.Texts.{lot_result, no_lot}}
 use Rattle.title_aliquot.proofs.describe.is_lot.Goals as goal
 
 pub returns-in-Ok-clause-lot : goal.returns-in-Ok-clause-lot

@@ -1,10 +1,6 @@
 -- What was left to show of `read_letters`.
-use Rattle.std.proofs.Common.{◌∙◌, length, refl, sym, ap}
-use Rattle.std.specs.Str.{chars}
-use Rattle.std.proofs.lemmas.Bool.{eqb-true}
-use Rattle.title_aliquot.specs.Letters.{letters}
-use Rattle.title_aliquot.specs.Readers.{description_at}
-use Rattle.title_aliquot.specs.Views.{words_view}
+use Rattle.std.{proofs.{Common.{◌∙◌, length, refl, sym, ap}, lemmas.Bool.{eqb-true}}, specs.Str.{chars}}
+use Rattle.title_aliquot.specs.{Letters.{letters}, Readers.{description_at}, Views.{words_view}}
 use Rattle.title_aliquot.specs.Laws.Whole.{left_some, words_found, left_after, stuck_after, left_shorter, stuck_shorter}
 use Rattle.title_aliquot.proofs.describe.read_letters.Goals as goal
 

@@ -1,10 +1,6 @@
 -- What was left to show of `step_may_begin`.
-use Rattle.std.proofs.Common.{◌∙◌, ◌++◌, List, ℕ, sym, ap}
-use Rattle.std.specs.Str.{chars}
-use Rattle.title_aliquot.specs.Letters.{letters}
-use Rattle.title_aliquot.specs.Readers.{description_at}
-use Rattle.title_aliquot.specs.Views.{words_view}
-use Rattle.title_aliquot.proofs.TextWalks.{step_letters}
+use Rattle.std.{proofs.Common.{◌∙◌, ◌++◌, List, ℕ, sym, ap}, specs.Str.{chars}}
+use Rattle.title_aliquot.{specs.{Letters.{letters}, Readers.{description_at}, Views.{words_view}}, proofs.TextWalks.{step_letters}}
 use Rattle.title_aliquot.specs.Laws.Whole.{got_begins, stuck_begins}
 use Rattle.title_aliquot.proofs.describe.step_may_begin.Goals as goal
 

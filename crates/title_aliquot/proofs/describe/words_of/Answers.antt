@@ -1,7 +1,6 @@
 -- What was left to show of `words_of`.
 use Rattle.std.proofs.Common.{◌≤◌, length, arith}
-use Rattle.title_aliquot.specs.Views.{words_view}
-use Rattle.title_aliquot.specs.Laws.Texts.{says_from, bad_letter, is_lots, is_bad_text}
+use Rattle.title_aliquot.specs.{Views.{words_view}, Laws.Texts.{says_from, bad_letter, is_lots, is_bad_text}}
 use Rattle.title_aliquot.proofs.describe.words_of.Goals as goal
 
 pub returns-in-Ok-clause-says : goal.returns-in-Ok-clause-says

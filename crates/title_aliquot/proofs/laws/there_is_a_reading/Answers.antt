@@ -1,7 +1,6 @@
 -- The law of answers gives a reading.
 use Rattle.title_land.specs.Depth.{depth}
-use Rattle.title_aliquot.specs.Reading.{reading}
-use Rattle.title_aliquot.specs.Laws.Total.{each_text}
+use Rattle.title_aliquot.specs.{Reading.{reading}, Laws.Total.{each_text}}
 use Rattle.title_aliquot.proofs.laws.there_is_a_reading.Goals as goal
 
 pub returns : goal.returns

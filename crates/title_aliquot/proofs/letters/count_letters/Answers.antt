@@ -1,12 +1,7 @@
 -- What was left to show of `count_letters`.
-use Rattle.std.proofs.Common.{◌∙◌, sym, ap, not, rules, tests}
-use Rattle.std.specs.Str.{chars}
-use Rattle.std.specs.Str.Iter.{chars_rest}
-use Rattle.std.proofs.iter.TextItems.{spells}
-use Rattle.std.proofs.lemmas.Iterator.Consumers.{YieldsList-from_filter, count_from_yields_List}
-use Rattle.std.proofs.lemmas.Str.{Chars-gives, encodes-chars}
-use Rattle.title_aliquot.specs.Letters.{passed_over}
-use Rattle.title_aliquot.proofs.TextWalks.{count_letters-filter}
+use Rattle.std.{proofs.{Common.{◌∙◌, sym, ap, not, rules, tests}, iter.TextItems.{spells}}, specs.Str.{chars, Iter.{chars_rest}}}
+use Rattle.std.proofs.lemmas.{Iterator.Consumers.{YieldsList-from_filter, count_from_yields_List}, Str.{Chars-gives, encodes-chars}}
+use Rattle.title_aliquot.{specs.Letters.{passed_over}, proofs.TextWalks.{count_letters-filter}}
 use Rattle.title_aliquot.proofs.letters.count_letters.Goals as goal
 
 pub returns : goal.returns

@@ -1,12 +1,8 @@
 -- What was left to show of `offset_of`.
-use Rattle.std.proofs.Common.{◌≡◌, ◌∙◌, true, false, length, sym, ap, subst, arith, length-append}
-use Rattle.std.specs.Prelude.{encode_utf8}
-use Rattle.std.specs.Str.{IsUtf8, chars}
-use Rattle.std.specs.Str.Iter.{char_indices_rest, char_indices_offset}
-use Rattle.std.proofs.lemmas.List.{nil_from_length}
+use Rattle.std.{proofs.Common.{◌≡◌, ◌∙◌, true, false, length, sym, ap, subst, arith, length-append}, specs.Prelude.{encode_utf8}}
+use Rattle.std.{specs.Str.{IsUtf8, chars, Iter.{char_indices_rest, char_indices_offset}}, proofs.lemmas.List.{nil_from_length}}
 use Rattle.std.proofs.lemmas.Str.{IsUtf8-past_char, chars-nil}
-use Rattle.title_aliquot.specs.Letters.{passed_over, offset}
-use Rattle.title_aliquot.proofs.TextWalks.{offset_passed, offset_here, offset_on}
+use Rattle.title_aliquot.{specs.Letters.{passed_over, offset}, proofs.TextWalks.{offset_passed, offset_here, offset_on}}
 use Rattle.title_aliquot.proofs.letters.offset_of.Goals as goal
 
 pub walk-init : goal.walk-init

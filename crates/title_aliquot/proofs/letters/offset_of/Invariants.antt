@@ -1,7 +1,5 @@
 -- What the loop of `offset_of` keeps.
-use Rattle.std.proofs.Common.{◌≡◌, ◌+◌, length}
-use Rattle.std.specs.Str.{IsUtf8, chars}
-use Rattle.std.specs.Str.Iter.{char_indices_rest, char_indices_offset}
+use Rattle.std.{proofs.Common.{◌≡◌, ◌+◌, length}, specs.Str.{IsUtf8, chars, Iter.{char_indices_rest, char_indices_offset}}}
 use Rattle.title_aliquot.specs.Letters.{offset}
 use Rattle.title_aliquot.proofs.letters.offset_of.Given as goal
 

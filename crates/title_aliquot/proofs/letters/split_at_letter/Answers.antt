@@ -1,8 +1,6 @@
 -- What was left to show of `split_at_letter`.
-use Rattle.std.proofs.Common.{◌∙◌, ap}
-use Rattle.std.specs.Str.{chars}
-use Rattle.title_aliquot.specs.Letters.{letters}
-use Rattle.title_aliquot.proofs.TextWalks.{cut_text}
+use Rattle.std.{proofs.Common.{◌∙◌, ap}, specs.Str.{chars}}
+use Rattle.title_aliquot.{specs.Letters.{letters}, proofs.TextWalks.{cut_text}}
 use Rattle.title_aliquot.proofs.letters.split_at_letter.Goals as goal
 
 pub split_at-requires : goal.split_at-requires

@@ -1,10 +1,7 @@
 -- What was left to show of `split_letter`.
-use Rattle.std.proofs.Common.{◌∙◌, sym, ap, subst}
-use Rattle.std.specs.Str.{IsUtf8, chars}
-use Rattle.std.proofs.lemmas.List.{nil_from_length}
+use Rattle.std.{proofs.{Common.{◌∙◌, sym, ap, subst}, lemmas.List.{nil_from_length}}, specs.Str.{IsUtf8, chars}}
 use Rattle.std.proofs.lemmas.Str.{IsUtf8-past_char, chars-nil}
-use Rattle.title_aliquot.specs.Letters.{letters}
-use Rattle.title_aliquot.proofs.TextWalks.{letters_passed, letters_taken}
+use Rattle.title_aliquot.{specs.Letters.{letters}, proofs.TextWalks.{letters_passed, letters_taken}}
 use Rattle.title_aliquot.proofs.letters.split_letter.Goals as goal
 
 pub passed-init : goal.passed-init

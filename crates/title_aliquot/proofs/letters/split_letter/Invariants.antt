@@ -1,7 +1,5 @@
 -- What the loop of `split_letter` keeps.
-use Rattle.std.proofs.Common.{◌≡◌}
-use Rattle.std.specs.Str.{IsUtf8, chars}
-use Rattle.std.specs.Str.Iter.{chars_rest}
+use Rattle.std.{proofs.Common.{◌≡◌}, specs.Str.{IsUtf8, chars, Iter.{chars_rest}}}
 use Rattle.title_aliquot.specs.Letters.{letters}
 use Rattle.title_aliquot.proofs.letters.split_letter.Given as goal
 

@@ -1,11 +1,7 @@
 -- What was left to show of `area_of`.
-use Rattle.std.proofs.Common.{◌≡◌, ◌+◌, ◌-◌, List, [], None, length, drop, sym, subst, arith}
-use Rattle.title_land.specs.Depth.{depth}
-use Rattle.std.proofs.lemmas.List.{drop_all}
-use Rattle.title_land.specs.declared.rectangle.Rectangle.{Rectangle}
-use Rattle.title_land.specs.Rectangles.{step_of}
-use Rattle.title_aliquot.specs.declared.syntax.Entry.{Entry}
-use Rattle.title_aliquot.proofs.Areas.{Walked, walked_nothing, part_missing}
+use Rattle.std.proofs.{Common.{◌≡◌, ◌+◌, ◌-◌, List, [], None, length, drop, sym, subst, arith}, lemmas.List.{drop_all}}
+use Rattle.title_land.specs.{Depth.{depth}, declared.rectangle.Rectangle.{Rectangle}, Rectangles.{step_of}}
+use Rattle.title_aliquot.{specs.declared.syntax.Entry.{Entry}, proofs.Areas.{Walked, walked_nothing, part_missing}}
 use Rattle.title_aliquot.proofs.meaning.area_of.Goals as goal
 
 pub entries-init : goal.entries-init

@@ -1,8 +1,6 @@
 -- What was left to show of `land_in_township`.
-use Rattle.std.proofs.Common.{ap}
-use Rattle.std.specs.Option.{option_map}
-use Rattle.title_aliquot.specs.Views.{section_view, land_view}
-use Rattle.title_aliquot.specs.Laws.Lands.{township_stands, section_stands}
+use Rattle.std.{proofs.Common.{ap}, specs.Option.{option_map}}
+use Rattle.title_aliquot.specs.{Views.{section_view, land_view}, Laws.Lands.{township_stands, section_stands}}
 use Rattle.title_aliquot.proofs.meaning.land_in_township.Goals as goal
 
 pub returns-in_default-section-clause-land : goal.returns-in_default-section-clause-land

@@ -1,8 +1,6 @@
 -- What was left to show of `node_in_township`.
-use Rattle.std.proofs.Common.{ap}
-use Rattle.std.specs.Option.{option_map}
-use Rattle.title_aliquot.specs.Views.{section_view, land_view}
-use Rattle.title_aliquot.specs.Laws.Lands.{parts_stand_as, section_stands, township_stands}
+use Rattle.std.{proofs.Common.{ap}, specs.Option.{option_map}}
+use Rattle.title_aliquot.specs.{Views.{section_view, land_view}, Laws.Lands.{parts_stand_as, section_stands, township_stands}}
 use Rattle.title_aliquot.proofs.squares.node_in_township.Goals as goal
 
 pub returns-in_default : goal.returns-in_default

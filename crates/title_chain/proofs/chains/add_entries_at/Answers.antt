@@ -1,7 +1,6 @@
 -- The entry of one spot more.
 use Rattle.std.proofs.Common.{arith}
-use Rattle.title_chain.specs.PostSpots.{entry_at}
-use Rattle.title_chain.proofs.SpotEntries.{one_spot_more}
+use Rattle.title_chain.{specs.PostSpots.{entry_at}, proofs.SpotEntries.{one_spot_more}}
 use Rattle.title_chain.proofs.chains.add_entries_at.Goals as goal
 
 pub loop-spot-preserved : goal.loop-spot-preserved

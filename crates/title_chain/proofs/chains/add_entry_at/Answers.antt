@@ -1,10 +1,7 @@
 -- A spot past the records or past its record's steps gives no entry, and else it gives that of its step.
-use Rattle.std.proofs.Common.{◌≡◌, ◌++◌, ◌≤◌, List, Some, refl, subst, length}
-use Rattle.std.specs.Prelude.{IfOk, slice_get}
+use Rattle.std.{proofs.Common.{◌≡◌, ◌++◌, ◌≤◌, List, Some, refl, subst, length}, specs.Prelude.{IfOk, slice_get}}
 use Rattle.std.proofs.lemmas.Option.{slice_get_read}
-use Rattle.title_chain.specs.declared.ask.Entry.{Entry}
-use Rattle.title_chain.specs.declared.ask.Step.{Step}
-use Rattle.title_chain.proofs.SpotEntries.{past_records, past_steps, entry_is}
+use Rattle.title_chain.{specs.declared.ask.{Entry.{Entry}, Step.{Step}}, proofs.SpotEntries.{past_records, past_steps, entry_is}}
 use Rattle.title_chain.proofs.chains.add_entry_at.Goals as goal
 
 pub returns-in_default : goal.returns-in_default

@@ -1,9 +1,6 @@
 -- An index past the steps gives no entry, and else it gives that of its step.
-use Rattle.std.proofs.Common.{◌≡◌, ◌++◌, List, refl, subst}
-use Rattle.std.specs.Prelude.{IfOk}
-use Rattle.std.proofs.lemmas.Option.{slice_get_read}
-use Rattle.title_chain.specs.declared.ask.Entry.{Entry}
-use Rattle.title_chain.proofs.SpotEntries.{past_own, own_entry_is}
+use Rattle.std.{proofs.{Common.{◌≡◌, ◌++◌, List, refl, subst}, lemmas.Option.{slice_get_read}}, specs.Prelude.{IfOk}}
+use Rattle.title_chain.{specs.declared.ask.Entry.{Entry}, proofs.SpotEntries.{past_own, own_entry_is}}
 use Rattle.title_chain.proofs.chains.add_own_entry_at.Goals as goal
 
 pub returns-in_default : goal.returns-in_default

@@ -1,7 +1,6 @@
 -- The spot is filed under the nodes from the one with the number up to the one that was reached.
 use Rattle.std.proofs.Common.{◌≡◌}
-use Rattle.title_land.specs.declared.node.Node.{Node}
-use Rattle.title_land.specs.NodeNumbers.{node_number}
+use Rattle.title_land.specs.{declared.node.Node.{Node}, NodeNumbers.{node_number}}
 use Rattle.title_chain.proofs.Filings.{IsFiledTo}
 use Rattle.title_chain.proofs.filing.file_above.Given as goal
 

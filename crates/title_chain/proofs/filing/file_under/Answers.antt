@@ -1,10 +1,6 @@
 -- A spot is written into the list at the node, or into a new list there.
-use Rattle.std.proofs.Common.{◌∙◌, ◌||◌, ap, subst, List, Option, Some}
-use Rattle.std.specs.Global.{Vec}
-use Rattle.title_chain.specs.declared.spot.Spot.{Spot}
-use Rattle.std.proofs.lemmas.Result.{on_ok_weaker}
-use Rattle.title_chain.specs.PostSpots.{same_spot, is_listed}
-use Rattle.title_chain.specs.SpotMaps.{spots_in}
+use Rattle.std.{proofs.{Common.{◌∙◌, ◌||◌, ap, subst, List, Option, Some}, lemmas.Result.{on_ok_weaker}}, specs.Global.{Vec}}
+use Rattle.title_chain.specs.{declared.spot.Spot.{Spot}, PostSpots.{same_spot, is_listed}, SpotMaps.{spots_in}}
 use Rattle.title_chain.proofs.Filings.{Lists, Writes, is_there, one_more_under}
 use Rattle.title_chain.proofs.filing.file_under.Goals as goal
 

@@ -1,9 +1,7 @@
 -- One part more has the rows at the front of those that were left.
-use Rattle.std.proofs.Common.{◌≡◌, ◌∙◌, ◌++◌, ◌∷◌, [], List, ap, append_assoc}
-use Rattle.std.proofs.lemmas.List.{take-append-drop}
+use Rattle.std.proofs.{Common.{◌≡◌, ◌∙◌, ◌++◌, ◌∷◌, [], List, ap, append_assoc}, lemmas.List.{take-append-drop}}
 use Rattle.title_store.specs.declared.sheet_row.SheetRow.{SheetRow}
-use Rattle.title_chain.specs.SheetParts.{all_rows}
-use Rattle.title_chain.specs.Laws.PartsInTurn.{rows_after}
+use Rattle.title_chain.specs.{SheetParts.{all_rows}, Laws.PartsInTurn.{rows_after}}
 use Rattle.title_chain.proofs.lists.parts_of.Goals as goal
 
 pub loop-first-preserved : goal.loop-first-preserved

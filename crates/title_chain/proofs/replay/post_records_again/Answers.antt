@@ -2,8 +2,7 @@
 use Rattle.std.proofs.Common.{◌∙◌, reverse}
 use Rattle.title_land.specs.Depth.{depth}
 use Rattle.title_store.specs.Plants.{SameContent}
-use Rattle.title_chain.specs.Alone.{after_steps}
-use Rattle.title_chain.specs.Laws.PostsAgain.{can_replay_record, record_content}
+use Rattle.title_chain.specs.{Alone.{after_steps}, Laws.PostsAgain.{can_replay_record, record_content}}
 use Rattle.title_chain.proofs.replay.post_records_again.Goals as goal
 
 pub post_all_again-requires-clause-replays : goal.post_all_again-requires-clause-replays

@@ -1,6 +1,5 @@
 -- The rows so far are kept, and there is room for the others.
-use Rattle.std.proofs.Common.{◌≡◌, ◌+◌, ◌≤◌, length, map, take}
-use Rattle.std.specs.Vec.{vec_len, vec_capacity}
+use Rattle.std.{proofs.Common.{◌≡◌, ◌+◌, ◌≤◌, length, map, take}, specs.Vec.{vec_len, vec_capacity}}
 use Rattle.title_chain.specs.SquareRows.{row_in}
 use Rattle.title_chain.proofs.square_row.squares_of.Given as goal
 

@@ -1,13 +1,8 @@
 -- The subcommand that clap met is that of the words, and its fault is one that clap finds in them.
-use Rattle.std.proofs.Common.{◌≡◌, ◌∙◌, List, [], Option, sym, ap, map, subst}
-use Rattle.std.specs.Prelude.{option_map}
-use Rattle.clap.specs.Words.{Text, app_of, found_of, is_simple, is_simple_and_free, rows_of, subcommand_of, takes}
-use Rattle.clap.specs.Faults.{fault_of}
-use Rattle.clap.specs.Kinds.{HasKind, Kinds}
-use Rattle.clap.specs.Values.{kind_of}
-use Rattle.clap.specs.Walk.{Row}
-use Rattle.title_command.specs.CommandLine.{IsLineOf, command}
-use Rattle.title_command.proofs.CommandLemmas.{explains, memory_is, met_is, readable}
+use Rattle.std.{proofs.Common.{◌≡◌, ◌∙◌, List, [], Option, sym, ap, map, subst}, specs.Prelude.{option_map}}
+use Rattle.clap.specs.{Words.{Text, app_of, found_of, is_simple, is_simple_and_free, rows_of, subcommand_of, takes}, Faults.{fault_of}}
+use Rattle.clap.specs.{Kinds.{HasKind, Kinds}, Values.{kind_of}, Walk.{Row}}
+use Rattle.title_command.{specs.CommandLine.{IsLineOf, command}, proofs.CommandLemmas.{explains, memory_is, met_is, readable}}
 use Rattle.title_command.proofs.command_line.line.Goals as goal
 
 pub read_line-requires : goal.read_line-requires

@@ -1,7 +1,6 @@
 -- The flag that the words say.
 use Rattle.std.proofs.Common.{◌∙◌, Bool, Some, ap, codes}
-use Rattle.clap.specs.Values.{bool_text}
-use Rattle.clap.specs.Words.{found_of}
+use Rattle.clap.specs.{Values.{bool_text}, Words.{found_of}}
 use Rattle.title_command.proofs.CommandLemmas.{flag_read}
 use Rattle.title_command.proofs.command_line.read_alone.Goals as goal
 

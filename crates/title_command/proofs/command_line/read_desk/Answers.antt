@@ -1,9 +1,6 @@
 -- The flag and the plant that the words say.
-use Rattle.std.proofs.Common.{◌∙◌, Bool, Some, ap, codes, refl, sym}
-use Rattle.std.specs.Prelude.{option_map}
-use Rattle.clap.specs.Values.{bool_text}
-use Rattle.clap.specs.Words.{found_of}
-use Rattle.clap.proofs.WalkLemmas.{first_value-rows}
+use Rattle.std.{proofs.Common.{◌∙◌, Bool, Some, ap, codes, refl, sym}, specs.Prelude.{option_map}}
+use Rattle.clap.{specs.{Values.{bool_text}, Words.{found_of}}, proofs.WalkLemmas.{first_value-rows}}
 use Rattle.title_command.proofs.CommandLemmas.{flag_read}
 use Rattle.title_command.proofs.command_line.read_desk.Goals as goal
 

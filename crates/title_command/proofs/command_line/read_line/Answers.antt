@@ -1,9 +1,6 @@
 -- The values that a subcommand has: the file and the flag of `check`, and the text of `tract`, whose name is none of the others.
-use Rattle.std.proofs.Common.{◌∙◌, sym, ap, codes}
-use Rattle.std.specs.Prelude.{option_map}
-use Rattle.clap.specs.Words.{found_of, rows_of}
-use Rattle.clap.proofs.CallerLemmas.{some_of_text}
-use Rattle.clap.proofs.WalkLemmas.{first_value-rows}
+use Rattle.std.{proofs.Common.{◌∙◌, sym, ap, codes}, specs.Prelude.{option_map}}
+use Rattle.clap.{specs.Words.{found_of, rows_of}, proofs.{CallerLemmas.{some_of_text}, WalkLemmas.{first_value-rows}}}
 use Rattle.title_command.proofs.CommandLemmas.{check_reads, flag_read, tract_reads}
 use Rattle.title_command.proofs.command_line.read_line.Goals as goal
 

@@ -1,8 +1,6 @@
 -- The plant and the place that the words name.
-use Rattle.std.proofs.Common.{◌∙◌, ap, codes, inr, refl, sym}
-use Rattle.std.specs.Prelude.{option_map}
-use Rattle.clap.specs.Words.{found_of}
-use Rattle.clap.proofs.WalkLemmas.{first_value-rows}
+use Rattle.std.{proofs.Common.{◌∙◌, ap, codes, inr, refl, sym}, specs.Prelude.{option_map}}
+use Rattle.clap.{specs.Words.{found_of}, proofs.WalkLemmas.{first_value-rows}}
 use Rattle.title_command.proofs.CommandLemmas.{place_read}
 use Rattle.title_command.proofs.command_line.read_look.Goals as goal
 

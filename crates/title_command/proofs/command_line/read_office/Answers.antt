@@ -1,8 +1,6 @@
 -- The numbers, the plant and the place that the words name.
-use Rattle.std.proofs.Common.{◌∙◌, Option, ap, arith, codes, inl, refl, subst, sym, ℕ}
-use Rattle.std.specs.Prelude.{is_some, option_map}
-use Rattle.clap.specs.Words.{found_of, rows_of}
-use Rattle.clap.proofs.WalkLemmas.{first_value-rows}
+use Rattle.std.{proofs.Common.{◌∙◌, Option, ap, arith, codes, inl, refl, subst, sym, ℕ}, specs.Prelude.{is_some, option_map}}
+use Rattle.clap.{specs.Words.{found_of, rows_of}, proofs.WalkLemmas.{first_value-rows}}
 use Rattle.title_command.specs.CommandLine.{IsAfter, most_examiners, most_tries}
 use Rattle.title_command.proofs.CommandLemmas.{number_got, option_read, place_read, place_said}
 use Rattle.title_command.proofs.command_line.read_office.Goals as goal

@@ -1,10 +1,7 @@
 -- The plant and the place that the words name.
-use Rattle.std.proofs.Common.{◌∙◌, Option, ap, codes, inl, refl, subst, sym, ℕ}
-use Rattle.std.specs.Prelude.{option_map}
-use Rattle.clap.specs.Words.{found_of, rows_of}
-use Rattle.clap.proofs.WalkLemmas.{first_value-rows}
-use Rattle.title_command.specs.CommandLine.{IsAfter}
-use Rattle.title_command.proofs.CommandLemmas.{place_read, place_said}
+use Rattle.std.{proofs.Common.{◌∙◌, Option, ap, codes, inl, refl, subst, sym, ℕ}, specs.Prelude.{option_map}}
+use Rattle.clap.{specs.Words.{found_of, rows_of}, proofs.WalkLemmas.{first_value-rows}}
+use Rattle.title_command.{specs.CommandLine.{IsAfter}, proofs.CommandLemmas.{place_read, place_said}}
 use Rattle.title_command.proofs.command_line.read_work.Goals as goal
 
 pub returns-in-Some-default-clause-line : goal.returns-in-Some-default-clause-line

@@ -1,8 +1,7 @@
 -- One more transaction is aborted, until none is open.
 use Rattle.std.proofs.Common.{◌<◌, ◌∙◌, ◌++◌, ◌∷◌, [], List, subst, sym, ap}
-use Rattle.title_trace.specs.declared.call.Call.{Call}
+use Rattle.title_trace.specs.{declared.call.Call.{Call}, Due.{Setting}}
 use Rattle.title_trace.specs.declared.call.Request.TheVariants as request
-use Rattle.title_trace.specs.Due.{Setting}
 use Rattle.title_script.specs.Served.{after_call}
 use Rattle.title_counter.proofs.Aborting.{falls, none_asked, one_more, still_open, swept}
 use Rattle.title_counter.proofs.closing.abort_all.Goals as goal

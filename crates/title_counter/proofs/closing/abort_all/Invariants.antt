@@ -1,7 +1,6 @@
 -- The transactions of some examiners are aborted.
 use Rattle.std.proofs.Common.{◌≡◌, ℕ, List, []}
-use Rattle.title_counter.specs.Closings.{with_aborts}
-use Rattle.title_counter.proofs.Aborting.{still_open}
+use Rattle.title_counter.{specs.Closings.{with_aborts}, proofs.Aborting.{still_open}}
 use Rattle.title_counter.proofs.closing.abort_all.Given as goal
 
 abbrev pub invariant-loop-examiner : goal.invariant-loop-examiner

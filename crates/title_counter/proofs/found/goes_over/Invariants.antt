@@ -1,5 +1,4 @@
-use Rattle.std.proofs.Common.{◌≡◌, false, take}
-use Rattle.std.specs.List.{list_any}
+use Rattle.std.{proofs.Common.{◌≡◌, false, take}, specs.List.{list_any}}
 use Rattle.csv.specs.Records.{fields_of}
 use Rattle.title_counter.specs.Founds.{has_line_feed}
 use Rattle.title_counter.proofs.found.goes_over.Given as goal

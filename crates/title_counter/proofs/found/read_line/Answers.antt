@@ -1,7 +1,6 @@
 -- No record, more than one, and one whose fields go over their line or don't.
 use Rattle.std.proofs.Common.{sym}
-use Rattle.title_counter.specs.Positions.{read_in}
-use Rattle.title_counter.proofs.RecordsOf.{found_more, found_none, found_over, found_row}
+use Rattle.title_counter.{specs.Positions.{read_in}, proofs.RecordsOf.{found_more, found_none, found_over, found_row}}
 use Rattle.title_counter.proofs.found.read_line.Goals as goal
 
 pub returns-in_default : goal.returns-in_default

@@ -1,8 +1,6 @@
 -- A line feed ends the line, and any other byte comes to it.
-use Rattle.std.proofs.Common.{◌≡◌, ◌==◌, arith, false}
-use Rattle.std.proofs.lemmas.Bool.Decides.{nat_tests}
-use Rattle.title_counter.specs.Views.{counter_of}
-use Rattle.title_counter.proofs.AnswerLaws.{got_none}
+use Rattle.std.proofs.{Common.{◌≡◌, ◌==◌, arith, false}, lemmas.Bool.Decides.{nat_tests}}
+use Rattle.title_counter.{specs.Views.{counter_of}, proofs.AnswerLaws.{got_none}}
 use Rattle.title_counter.proofs.lines.answer_byte.Goals as goal
 
 pub returns-then-byte-eq10-clause-answers : goal.returns-then-byte-eq10-clause-answers

@@ -1,8 +1,6 @@
 -- One byte more.
 use Rattle.std.proofs.Common.{arith, refl}
-use Rattle.title_counter.specs.Views.{counter_of}
-use Rattle.title_counter.proofs.AnswerLaws.{got_byte, got_none, lost_byte, rest_to}
-use Rattle.title_counter.proofs.OnResults.{on_err}
+use Rattle.title_counter.{specs.Views.{counter_of}, proofs.{AnswerLaws.{got_byte, got_none, lost_byte, rest_to}, OnResults.{on_err}}}
 use Rattle.title_counter.proofs.lines.answer_bytes.Goals as goal
 
 pub loop-byte-init : goal.loop-byte-init

@@ -1,8 +1,6 @@
 -- The lines of the bytes so far are answered.
 use Rattle.std.proofs.Common.{◌≡◌, ◌≤◌, ◌+◌, false, take}
-use Rattle.title_counter.specs.Lines.{lines_from}
-use Rattle.title_counter.specs.Sessions.{GotAnswers}
-use Rattle.title_counter.specs.Views.{counter_of}
+use Rattle.title_counter.specs.{Lines.{lines_from}, Sessions.{GotAnswers}, Views.{counter_of}}
 use Rattle.title_counter.proofs.lines.answer_bytes.Given as goal
 
 abbrev pub invariant-loop-byte : goal.invariant-loop-byte

@@ -1,7 +1,5 @@
 -- The rows of the line's answer are written.
-use Rattle.title_counter.specs.Views.{answered, counter_of}
-use Rattle.title_counter.proofs.AnswerLaws.{got_one, lost_one}
-use Rattle.title_counter.proofs.OnResults.{err_then, ok_then}
+use Rattle.title_counter.{specs.Views.{answered, counter_of}, proofs.{AnswerLaws.{got_one, lost_one}, OnResults.{err_then, ok_then}}}
 use Rattle.title_counter.proofs.lines.answer_line.Goals as goal
 
 pub returns-clause-answers : goal.returns-clause-answers

@@ -1,7 +1,5 @@
 -- The answer to the last line, and what stands on the page.
-use Rattle.title_counter.specs.Lines.{last_line}
-use Rattle.title_counter.specs.Views.{counter_of}
-use Rattle.title_counter.proofs.Batches.{lost_in, lost_last, passed_on}
+use Rattle.title_counter.{specs.{Lines.{last_line}, Views.{counter_of}}, proofs.Batches.{lost_in, lost_last, passed_on}}
 use Rattle.title_counter.proofs.OnResults.{err_then, ok_both, on_err}
 use Rattle.title_counter.proofs.lines.answer_rest.Goals as goal
 

@@ -1,7 +1,5 @@
 -- The last line's answer, the last row, and what stands on the page.
-use Rattle.title_counter.specs.Lines.{last_line}
-use Rattle.title_counter.specs.Views.{counter_of}
-use Rattle.title_counter.proofs.Batches.{broken_at_end, broken_at_row, broken_in, ended}
+use Rattle.title_counter.{specs.{Lines.{last_line}, Views.{counter_of}}, proofs.Batches.{broken_at_end, broken_at_row, broken_in, ended}}
 use Rattle.title_counter.proofs.OnResults.{err_then, ok_both, on_err}
 use Rattle.title_counter.proofs.lines.end_session.Goals as goal
 

@@ -1,8 +1,7 @@
 -- A byte more, a record's end, and the end of the text.
 use Rattle.std.proofs.Common.{sym, ◌∙◌}
 use Rattle.csv.specs.Records.{fields_of}
-use Rattle.title_counter.specs.Positions.{action_of, state_of}
-use Rattle.title_counter.proofs.RecordsOf.{ends_at_last, ends_here, goes_on, none_at_last}
+use Rattle.title_counter.{specs.Positions.{action_of, state_of}, proofs.RecordsOf.{ends_at_last, ends_here, goes_on, none_at_last}}
 use Rattle.title_counter.proofs.reading.read_next.Goals as goal
 
 pub loop-at-preserved : goal.loop-at-preserved

@@ -1,8 +1,6 @@
 -- What is left to read is the same from here on.
 use Rattle.std.proofs.Common.{◌≡◌, [], drop}
-use Rattle.csv.specs.Machine.{next_record}
-use Rattle.csv.specs.Reading.{default_config}
-use Rattle.csv.specs.Records.{fields_of, partial_of}
+use Rattle.csv.specs.{Machine.{next_record}, Reading.{default_config}, Records.{fields_of, partial_of}}
 use Rattle.title_counter.specs.Positions.{state_of}
 use Rattle.title_counter.proofs.reading.read_next.Given as goal
 

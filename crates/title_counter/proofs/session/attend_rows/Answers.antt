@@ -1,8 +1,6 @@
 -- A pull and its answers, the end, and each fault.
-use Rattle.std.proofs.Common.{◌+◌, ◌∙◌, ap, arith, inl, inr, length-take, refl, take}
-use Rattle.std.proofs.lemmas.Result.{err_from_is_err_and}
-use Rattle.title_counter.specs.Counters.{Counter}
-use Rattle.title_counter.specs.Views.{counter_of}
+use Rattle.std.proofs.{Common.{◌+◌, ◌∙◌, ap, arith, inl, inr, length-take, refl, take}, lemmas.Result.{err_from_is_err_and}}
+use Rattle.title_counter.specs.{Counters.{Counter}, Views.{counter_of}}
 use Rattle.title_counter.proofs.Sittings.{at_limit, at_once, at_start, beyond, broken, ended_all, lost, pulled}
 use Rattle.title_counter.proofs.session.attend_rows.Goals as goal
 

@@ -1,7 +1,6 @@
 -- Between two pulls all whole lines of what was given are answered, and the answers passed on.
 use Rattle.std.proofs.Common.{◌≡◌, ◌≤◌, ◌-◌, ◌^◌, [], false}
-use Rattle.title_counter.specs.Sessions.{IsBetween, IsSound}
-use Rattle.title_counter.specs.Views.{counter_of}
+use Rattle.title_counter.specs.{Sessions.{IsBetween, IsSound}, Views.{counter_of}}
 use Rattle.title_counter.proofs.session.attend_rows.Given as goal
 
 abbrev pub invariant-pulls : goal.invariant-pulls

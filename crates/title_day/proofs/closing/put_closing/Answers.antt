@@ -1,9 +1,6 @@
 -- The tallies, the row that counts the records, and the closing sheet.
-use Rattle.std.proofs.Common.{◌∷◌, [], map}
-use Rattle.std.proofs.lemmas.Result.{on_ok_weaker, on_err_weaker}
-use Rattle.std.specs.String.{string_bytes}
-use Rattle.title_page.specs.Laws.InTurn.{on_err}
-use Rattle.title_page.specs.Laws.Rows.{rows_stopped_before, rows_stopped_then, rows_then}
+use Rattle.std.{proofs.{Common.{◌∷◌, [], map}, lemmas.Result.{on_ok_weaker, on_err_weaker}}, specs.String.{string_bytes}}
+use Rattle.title_page.specs.Laws.{InTurn.{on_err}, Rows.{rows_stopped_before, rows_stopped_then, rows_then}}
 use Rattle.title_report.specs.Replies.{reply_rows}
 use Rattle.title_day.specs.Tallies.{settled_row, tally_row}
 use Rattle.title_day.proofs.closing.put_closing.Goals as goal

@@ -1,6 +1,5 @@
 -- The rows, the last row, and what stands on the page.
-use Rattle.title_page.specs.Laws.InTurn.{on_err}
-use Rattle.title_page.specs.Laws.Whole.{part_at_end, part_at_last, part_of_rows, whole_given}
+use Rattle.title_page.specs.Laws.{InTurn.{on_err}, Whole.{part_at_end, part_at_last, part_of_rows, whole_given}}
 use Rattle.title_report.specs.Replies.{end_row}
 use Rattle.title_day.specs.Closings.{closed_rows}
 use Rattle.title_day.proofs.closing.write_closing.Goals as goal

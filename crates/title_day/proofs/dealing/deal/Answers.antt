@@ -1,7 +1,5 @@
-use Rattle.std.proofs.Common.{◌≡◌, length}
-use Rattle.std.proofs.lemmas.Result.{IfOk-weaker}
-use Rattle.title_day.specs.Dealing.{AreDealt}
-use Rattle.title_day.proofs.DealingLaws.{all_told}
+use Rattle.std.proofs.{Common.{◌≡◌, length}, lemmas.Result.{IfOk-weaker}}
+use Rattle.title_day.{specs.Dealing.{AreDealt}, proofs.DealingLaws.{all_told}}
 use Rattle.title_day.proofs.dealing.deal.Goals as goal
 
 pub returns : goal.returns

@@ -1,8 +1,5 @@
-use Rattle.std.proofs.Common.{◌∙◌, Some, length}
-use Rattle.std.proofs.lemmas.List.Elements.{All-pop}
-use Rattle.title_day.specs.Turns.{IsAskedBy}
-use Rattle.title_day.proofs.DealingLaws.{rest_dealt}
-use Rattle.title_day.specs.Dealing.{with_lines_each}
+use Rattle.std.proofs.{Common.{◌∙◌, Some, length}, lemmas.List.Elements.{All-pop}}
+use Rattle.title_day.{specs.{Turns.{IsAskedBy}, Dealing.{with_lines_each}}, proofs.DealingLaws.{rest_dealt}}
 use Rattle.title_day.proofs.dealing.deal_lines.Goals as goal
 
 pub loop-line-preserved : goal.loop-line-preserved

@@ -1,7 +1,5 @@
-use Rattle.std.proofs.Common.{◌≡◌, length}
-use Rattle.std.specs.List.{All}
-use Rattle.title_day.specs.Turns.{IsAskedBy}
-use Rattle.title_day.specs.Dealing.{with_lines_each}
+use Rattle.std.{proofs.Common.{◌≡◌, length}, specs.List.{All}}
+use Rattle.title_day.specs.{Turns.{IsAskedBy}, Dealing.{with_lines_each}}
 use Rattle.title_day.proofs.dealing.deal_lines.Given as goal
 
 abbrev pub invariant-loop-line : goal.invariant-loop-line

@@ -1,6 +1,5 @@
 -- The laws, by their lemmas.
-use Rattle.title_day.proofs.OfficeCounts.{told_many, told_tallies}
-use Rattle.title_day.proofs.OfficeOrder.{seats_fit}
+use Rattle.title_day.proofs.{OfficeCounts.{told_many, told_tallies}, OfficeOrder.{seats_fit}}
 use Rattle.title_day.proofs.laws.dealt_scripts_fit.Goals as goal
 
 pub returns : goal.returns

@@ -1,5 +1,4 @@
-use Rattle.std.proofs.Common.{◌≡◌, ◌++◌, length}
-use Rattle.std.specs.List.{flat_map}
+use Rattle.std.{proofs.Common.{◌≡◌, ◌++◌, length}, specs.List.{flat_map}}
 use Rattle.title_day.proofs.office_day.gather.Given as goal
 
 abbrev pub invariant-loop-one : goal.invariant-loop-one

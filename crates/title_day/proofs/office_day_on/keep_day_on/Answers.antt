@@ -1,13 +1,8 @@
 -- The records of the desk are what stood.
-use Rattle.std.proofs.Common.{◌≡◌, ◌∙◌, ◌+◌, List, ap, length, subst, sym}
-use Rattle.std.proofs.lemmas.List.{length-reverse}
-use Rattle.std.specs.Prelude.{IfOk}
+use Rattle.std.{proofs.{Common.{◌≡◌, ◌∙◌, ◌+◌, List, ap, length, subst, sym}, lemmas.List.{length-reverse}}, specs.Prelude.{IfOk}}
 use Rattle.title_chain.specs.declared.record.Record.{Record}
-use Rattle.title_trace.specs.Due.{Setting}
-use Rattle.title_trace.specs.Trace.{committed}
-use Rattle.title_day.specs.DaysOn.{GoesOnFrom}
-use Rattle.title_day.specs.OfficeDays.{committed_by}
-use Rattle.title_day.proofs.StoodOutcomes.{stood_many}
+use Rattle.title_trace.specs.{Due.{Setting}, Trace.{committed}}
+use Rattle.title_day.{specs.{DaysOn.{GoesOnFrom}, OfficeDays.{committed_by}}, proofs.StoodOutcomes.{stood_many}}
 use Rattle.title_day.proofs.office_day_on.keep_day_on.Goals as goal
 
 pub returns-in-Ok-run_scripts-clause-counted : goal.returns-in-Ok-run_scripts-clause-counted

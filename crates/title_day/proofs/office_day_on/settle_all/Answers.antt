@@ -1,10 +1,7 @@
 -- The office has settled what stood and the outcomes of all workers, so that each record is counted, and what stood comes first.
-use Rattle.std.proofs.Common.{sym, subst, reverse}
-use Rattle.std.specs.List.{flat_map}
+use Rattle.std.{proofs.Common.{sym, subst, reverse}, specs.List.{flat_map}}
 use Rattle.title_settle.specs.Settling.{IsSettled}
-use Rattle.title_day.specs.DaysOn.{GoesOnFrom}
-use Rattle.title_day.proofs.OfficeCounts.{all_counted}
-use Rattle.title_day.proofs.StoodOutcomes.{goes_on}
+use Rattle.title_day.{specs.DaysOn.{GoesOnFrom}, proofs.{OfficeCounts.{all_counted}, StoodOutcomes.{goes_on}}}
 use Rattle.title_day.proofs.office_day_on.settle_all.Goals as goal
 
 pub returns-in-Ok-settle-clause-counted : goal.returns-in-Ok-settle-clause-counted

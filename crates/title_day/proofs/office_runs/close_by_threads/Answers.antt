@@ -1,8 +1,6 @@
 -- What the office's day leaves is a report of the script.
 use Rattle.std.proofs.Common.{refl}
-use Rattle.title_day.specs.Closings.{closed_text}
-use Rattle.title_day.proofs.OfficeCauses.{residual_is_own}
-use Rattle.title_day.proofs.OfficeOrder.{seats_fit}
+use Rattle.title_day.{specs.Closings.{closed_text}, proofs.{OfficeCauses.{residual_is_own}, OfficeOrder.{seats_fit}}}
 use Rattle.title_day.proofs.OfficeReported.{reported}
 use Rattle.title_day.proofs.office_runs.close_by_threads.Goals as goal
 

@@ -1,7 +1,6 @@
 -- One row more, behind those before it.
 use Rattle.std.proofs.lemmas.List.{get_or_default}
-use Rattle.title_page.specs.Laws.InTurn.{on_err}
-use Rattle.title_page.specs.Laws.Rows.{one_row_more, stopped_at_a_row}
+use Rattle.title_page.specs.Laws.{InTurn.{on_err}, Rows.{one_row_more, stopped_at_a_row}}
 use Rattle.title_day.specs.Tallies.{tally_row}
 use Rattle.title_day.proofs.tally.put_tallies.Goals as goal
 

@@ -1,7 +1,6 @@
 -- The rows so far are written.
 use Rattle.std.proofs.Common.{◌≡◌, false, map, take}
-use Rattle.title_page.specs.Pages.{Written}
-use Rattle.title_page.specs.Rows.{rows_text}
+use Rattle.title_page.specs.{Pages.{Written}, Rows.{rows_text}}
 use Rattle.title_day.specs.Tallies.{tally_row}
 use Rattle.title_day.proofs.tally.put_tallies.Given as goal
 

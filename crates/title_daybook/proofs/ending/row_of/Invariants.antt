@@ -1,6 +1,5 @@
 use Rattle.std.proofs.Common.{◌≡◌, drop}
-use Rattle.title_daybook.specs.Ends.{at_head, past_blocks}
-use Rattle.title_daybook.proofs.Blocks.{contents}
+use Rattle.title_daybook.{specs.Ends.{at_head, past_blocks}, proofs.Blocks.{contents}}
 use Rattle.title_daybook.proofs.ending.row_of.Given as goal
 
 abbrev pub invariant-blocks-2 : goal.invariant-blocks-2

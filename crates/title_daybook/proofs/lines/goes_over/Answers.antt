@@ -1,9 +1,6 @@
-use Rattle.std.proofs.Common.{Bor, List, ℕ, ◌≡◌, ◌∙◌, false, add-one, subst, sym, take}
-use Rattle.std.specs.Prelude.{option_map}
-use Rattle.std.specs.List.{list_any}
+use Rattle.std.{proofs.Common.{Bor, List, ℕ, ◌≡◌, ◌∙◌, false, add-one, subst, sym, take}, specs.{Prelude.{option_map}, List.{list_any}}}
 use Rattle.csv.specs.Records.{fields_of}
-use Rattle.title_daybook.specs.Lines.{has_line_feed}
-use Rattle.title_daybook.proofs.FirstLines.{next_clear, spoilt_there}
+use Rattle.title_daybook.{specs.Lines.{has_line_feed}, proofs.FirstLines.{next_clear, spoilt_there}}
 use Rattle.title_daybook.proofs.lines.goes_over.Goals as goal
 
 pub loop-i-preserved : goal.loop-i-preserved

@@ -1,5 +1,4 @@
-use Rattle.std.proofs.Common.{◌≡◌, false, take}
-use Rattle.std.specs.List.{list_any}
+use Rattle.std.{proofs.Common.{◌≡◌, false, take}, specs.List.{list_any}}
 use Rattle.csv.specs.Records.{fields_of}
 use Rattle.title_daybook.specs.Lines.{has_line_feed}
 use Rattle.title_daybook.proofs.lines.goes_over.Given as goal

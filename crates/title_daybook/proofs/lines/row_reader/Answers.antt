@@ -1,6 +1,5 @@
 use Rattle.std.proofs.Common.{List, ℕ, Some, inr, true, ap, ◌∙◌}
-use Rattle.csv.specs.Reading.{with_flexible}
-use Rattle.csv.specs.declared.reader.ReaderBuilder.{ReaderBuilder}
+use Rattle.csv.specs.{Reading.{with_flexible}, declared.reader.ReaderBuilder.{ReaderBuilder}}
 use Rattle.title_daybook.proofs.Marks.{not_stripped}
 use Rattle.title_daybook.proofs.lines.row_reader.Goals as goal
 

@@ -1,5 +1,4 @@
-use Rattle.title_daybook.specs.Books.{progress_of}
-use Rattle.title_daybook.proofs.Blocks.{AreUpTo}
+use Rattle.title_daybook.{specs.Books.{progress_of}, proofs.Blocks.{AreUpTo}}
 use Rattle.title_daybook.proofs.reading.read_standing.Given as goal
 
 abbrev pub invariant-blocks-2 : goal.invariant-blocks-2

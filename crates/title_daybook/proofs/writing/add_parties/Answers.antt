@@ -1,11 +1,8 @@
-use Rattle.std.proofs.Common.{◌<◌, List, ℕ, ◌++◌, ◌∷◌, [], ◌∙◌, ap, drop, length, map, sym, take, arith}
-use Rattle.std.specs.String.{string_bytes}
+use Rattle.std.{proofs.Common.{◌<◌, List, ℕ, ◌++◌, ◌∷◌, [], ◌∙◌, ap, drop, length, map, sym, take, arith}, specs.String.{string_bytes}}
 use Rattle.std.proofs.lemmas.List.{append-nil, drop_all, length-map, length-take, map-append, take_all}
-use Rattle.title_spelling.specs.Posts.{name_of}
-use Rattle.title_spelling.specs.Rows.{PlantRow}
+use Rattle.title_spelling.specs.{Posts.{name_of}, Rows.{PlantRow}}
 use Rattle.title_spelling.specs.Rows as plant
-use Rattle.title_daybook.specs.Added.{text_of}
-use Rattle.title_daybook.proofs.WrittenRows.{behind, parties_more}
+use Rattle.title_daybook.{specs.Added.{text_of}, proofs.WrittenRows.{behind, parties_more}}
 use Rattle.title_daybook.proofs.writing.add_parties.Goals as goal
 
 pub loop-party-init : goal.loop-party-init

@@ -1,5 +1,4 @@
-use Rattle.std.proofs.Common.{◌≡◌, ◌++◌, ℕ, List, drop, map, take}
-use Rattle.std.specs.String.{string_bytes}
+use Rattle.std.{proofs.Common.{◌≡◌, ◌++◌, ℕ, List, drop, map, take}, specs.String.{string_bytes}}
 use Rattle.title_spelling.specs.Rows as plant
 use Rattle.title_daybook.specs.Added.{text_of}
 use Rattle.title_daybook.proofs.writing.add_parties.Given as goal

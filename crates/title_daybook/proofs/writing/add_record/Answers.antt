@@ -1,12 +1,10 @@
 -- One post is a row, and any other number of posts stands between a begin and a commit.
-use Rattle.std.proofs.Common.{◌≡◌, ◌∙◌, ◌++◌, ◌∷◌, [], List, ℕ, ap, length, map, sym}
-use Rattle.std.specs.String.{string_bytes}
+use Rattle.std.{proofs.Common.{◌≡◌, ◌∙◌, ◌++◌, ◌∷◌, [], List, ℕ, ap, length, map, sym}, specs.String.{string_bytes}}
 use Rattle.std.proofs.lemmas.Result.{on_ok_weaker}
 use Rattle.title_chain.specs.declared.ask.Step.{Step}
 use Rattle.title_spelling.specs.Rows.{PlantRow}
 use Rattle.title_spelling.specs.Rows as plant
-use Rattle.title_daybook.specs.Added.{post_rows, posts_of, text_of}
-use Rattle.title_daybook.proofs.WrittenRows.{behind, several, single, text_one}
+use Rattle.title_daybook.{specs.Added.{post_rows, posts_of, text_of}, proofs.WrittenRows.{behind, several, single, text_one}}
 use Rattle.title_daybook.proofs.writing.add_record.Goals as goal
 
 pub returns-then-post_count-eq1 : goal.returns-then-post_count-eq1

@@ -1,11 +1,7 @@
-use Rattle.std.proofs.Common.{List, ◌++◌, ◌∷◌, [], ◌∙◌, ap, map, sym}
-use Rattle.std.specs.List.{flat_map}
-use Rattle.std.specs.String.{string_bytes}
-use Rattle.std.proofs.lemmas.Grind.{flat_map-append}
-use Rattle.std.proofs.lemmas.List.{append-nil}
+use Rattle.std.{proofs.Common.{List, ◌++◌, ◌∷◌, [], ◌∙◌, ap, map, sym}, specs.{List.{flat_map}, String.{string_bytes}}}
+use Rattle.std.proofs.lemmas.{Grind.{flat_map-append}, List.{append-nil}}
 use Rattle.title_spelling.specs.Rows.{PlantRow}
-use Rattle.title_daybook.specs.Added.{record_rows, text_of}
-use Rattle.title_daybook.proofs.WrittenRows.{all_written, one_more}
+use Rattle.title_daybook.{specs.Added.{record_rows, text_of}, proofs.WrittenRows.{all_written, one_more}}
 use Rattle.title_daybook.proofs.writing.add_records.Goals as goal
 
 pub loop-record-init : goal.loop-record-init

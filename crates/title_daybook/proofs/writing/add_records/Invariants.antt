@@ -1,6 +1,4 @@
-use Rattle.std.proofs.Common.{◌≡◌, ◌++◌, map, take}
-use Rattle.std.specs.List.{flat_map}
-use Rattle.std.specs.String.{string_bytes}
+use Rattle.std.{proofs.Common.{◌≡◌, ◌++◌, map, take}, specs.{List.{flat_map}, String.{string_bytes}}}
 use Rattle.title_daybook.specs.Added.{record_rows, text_of}
 use Rattle.title_daybook.proofs.writing.add_records.Given as goal
 

@@ -1,9 +1,6 @@
-use Rattle.std.proofs.Common.{List, map, sym}
-use Rattle.std.specs.String.{string_bytes}
-use Rattle.std.proofs.lemmas.List.{append-nil}
+use Rattle.std.{proofs.{Common.{List, map, sym}, lemmas.List.{append-nil}}, specs.String.{string_bytes}}
 use Rattle.title_chain.specs.declared.ask.Step.{Step}
-use Rattle.title_daybook.specs.Added.{post_rows, posts_of}
-use Rattle.title_daybook.proofs.WrittenRows.{all_written, one_more, posts_add}
+use Rattle.title_daybook.{specs.Added.{post_rows, posts_of}, proofs.WrittenRows.{all_written, one_more, posts_add}}
 use Rattle.title_daybook.proofs.writing.add_steps.Goals as goal
 
 pub loop-step-init : goal.loop-step-init

@@ -1,5 +1,4 @@
-use Rattle.std.proofs.Common.{◌≡◌, ◌++◌, map, take}
-use Rattle.std.specs.String.{string_bytes}
+use Rattle.std.{proofs.Common.{◌≡◌, ◌++◌, map, take}, specs.String.{string_bytes}}
 use Rattle.title_daybook.specs.Added.{post_rows, posts_of, text_of}
 use Rattle.title_daybook.proofs.writing.add_steps.Given as goal
 

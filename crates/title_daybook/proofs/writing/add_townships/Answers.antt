@@ -1,5 +1,4 @@
-use Rattle.std.proofs.Common.{List, ℕ, ◌++◌, ◌∷◌, [], ◌∙◌, ap, map, sym}
-use Rattle.std.proofs.lemmas.List.{append-nil, map-append}
+use Rattle.std.proofs.{Common.{List, ℕ, ◌++◌, ◌∷◌, [], ◌∙◌, ap, map, sym}, lemmas.List.{append-nil, map-append}}
 use Rattle.title_spelling.specs.Rows as plant
 use Rattle.title_daybook.proofs.WrittenRows.{all_written, one_more, text_one}
 use Rattle.title_daybook.proofs.writing.add_townships.Goals as goal

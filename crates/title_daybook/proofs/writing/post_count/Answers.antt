@@ -1,8 +1,6 @@
-use Rattle.std.proofs.Common.{List, ◌∙◌, ap, length, arith}
-use Rattle.std.proofs.lemmas.List.{take_all}
+use Rattle.std.proofs.{Common.{List, ◌∙◌, ap, length, arith}, lemmas.List.{take_all}}
 use Rattle.title_chain.specs.declared.ask.Step.{Step}
-use Rattle.title_daybook.specs.Added.{posts_of}
-use Rattle.title_daybook.proofs.WrittenRows.{counts_more}
+use Rattle.title_daybook.{specs.Added.{posts_of}, proofs.WrittenRows.{counts_more}}
 use Rattle.title_daybook.proofs.writing.post_count.Goals as goal
 
 pub loop-step-preserved : goal.loop-step-preserved

@@ -1,8 +1,7 @@
 -- One image more has gone back.
 use Rattle.std.proofs.Common.{◌∙◌, subst}
 use Rattle.title_store.specs.Plants.{SameContent}
-use Rattle.title_desk.specs.Images.{put_back}
-use Rattle.title_desk.proofs.Loaned.{restore_step, restores_first}
+use Rattle.title_desk.{specs.Images.{put_back}, proofs.Loaned.{restore_step, restores_first}}
 use Rattle.title_desk.proofs.images.restore_all.Goals as goal
 
 pub loop-image-preserved : goal.loop-image-preserved

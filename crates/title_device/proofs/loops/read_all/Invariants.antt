@@ -1,6 +1,5 @@
 -- What a script has been read so far: the bytes that the source has given, no fewer than the turns made.
-use Rattle.std.proofs.Common.{◌≡◌, ◌≤◌, ◌+◌, false, length}
-use Rattle.std.specs.Io.KnownBytes.{Consumes}
+use Rattle.std.{proofs.Common.{◌≡◌, ◌≤◌, ◌+◌, false, length}, specs.Io.KnownBytes.{Consumes}}
 use Rattle.title_device.specs.declared.loops.TheConstants.{SCRIPT_LIMIT}
 use Rattle.title_device.proofs.loops.read_all.Given as goal
 

@@ -1,8 +1,6 @@
 -- One more push takes the next piece of the text.
 use Rattle.std.proofs.Common.{◌≡◌, ◌+◌, ◌-◌, ◌++◌, ℕ, List, Option, None, Some, arith, rules, drop, take, length}
-use Rattle.std.proofs.lemmas.Grind.{common_steps}
-use Rattle.std.proofs.lemmas.List.{take-append-drop, drop-take}
-use Rattle.std.specs.Io.KnownBytes.{Appends}
+use Rattle.std.{proofs.lemmas.{Grind.{common_steps}, List.{take-append-drop, drop-take}}, specs.Io.KnownBytes.{Appends}}
 use Rattle.title_device.proofs.loops.write_all.Goals as goal
 
 -- the front of a text, in two pieces

@@ -1,6 +1,5 @@
 -- How much of the text the sink has taken so far.
-use Rattle.std.proofs.Common.{length, ◌-◌, ◌≡◌, ◌≤◌, false, take}
-use Rattle.std.specs.Io.KnownBytes.{Appends}
+use Rattle.std.{proofs.Common.{length, ◌-◌, ◌≡◌, ◌≤◌, false, take}, specs.Io.KnownBytes.{Appends}}
 use Rattle.title_device.proofs.loops.write_all.Given as goal
 
 abbrev pub invariant-loop-at : goal.invariant-loop-at

@@ -1,8 +1,6 @@
 -- A cut that was kept may be undone.
 use Rattle.std.proofs.Common.{List, ℕ, subst, sym}
-use Rattle.title_disk.specs.Crashes.{Cut}
-use Rattle.title_disk.specs.Kept.{Notes}
-use Rattle.title_disk.specs.Laws.KeptCalls.{crash_goes_on, cut_done}
+use Rattle.title_disk.specs.{Crashes.{Cut}, Kept.{Notes}, Laws.KeptCalls.{crash_goes_on, cut_done}}
 use Rattle.title_disk.specs.declared.call.DiskCall.TheVariants as call
 use Rattle.title_disk.proofs.torn_disk.cut.Goals as goal
 

@@ -1,8 +1,6 @@
 -- A write that was kept may be torn.
 use Rattle.std.proofs.Common.{List, ℕ, length, ap, subst}
-use Rattle.title_disk.specs.Crashes.{Torn, Holds}
-use Rattle.title_disk.specs.Kept.{Notes}
-use Rattle.title_disk.specs.Laws.KeptCalls.{crash_goes_on, torn_from_Holds}
+use Rattle.title_disk.specs.{Crashes.{Torn, Holds}, Kept.{Notes}, Laws.KeptCalls.{crash_goes_on, torn_from_Holds}}
 use Rattle.title_disk.specs.declared.call.DiskCall.TheVariants as call
 use Rattle.title_disk.proofs.torn_disk.write.Goals as goal
 

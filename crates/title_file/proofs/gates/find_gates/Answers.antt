@@ -1,6 +1,5 @@
 -- Each turn of the loop finds a block more, or that the file is no plant.
-use Rattle.std.proofs.Common.{◌≤◌, ◌+◌, ℕ, List, length, take, sym, ◌∙◌, subst}
-use Rattle.std.proofs.lemmas.List.{take_rest}
+use Rattle.std.proofs.{Common.{◌≤◌, ◌+◌, ℕ, List, length, take, sym, ◌∙◌, subst}, lemmas.List.{take_rest}}
 use Rattle.title_journal.specs.Blocks.{IsBlock, IsUnfinished}
 use Rattle.title_file.proofs.Walking.{walk_begun, shut, at_the_end, no_line_feed, breaks_off, one_block_more}
 use Rattle.title_file.proofs.gates.find_gates.Goals as goal

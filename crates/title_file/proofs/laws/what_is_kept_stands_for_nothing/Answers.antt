@@ -1,6 +1,5 @@
 -- Up to its last gate a file is the front of its blocks, behind which no tail is one too.
-use Rattle.std.proofs.Common.{◌≡◌, [], take, sym, ◌∙◌, ap}
-use Rattle.std.proofs.lemmas.List.{append-nil, take_at}
+use Rattle.std.proofs.{Common.{◌≡◌, [], take, sym, ◌∙◌, ap}, lemmas.List.{append-nil, take_at}}
 use Rattle.title_journal.specs.Blocks.{blocks_in, front}
 use Rattle.title_file.proofs.laws.what_is_kept_stands_for_nothing.Goals as goal
 

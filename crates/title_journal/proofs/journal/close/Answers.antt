@@ -1,13 +1,8 @@
 -- The tail is cut off, and a closed gate takes its place.
-use Rattle.std.proofs.Common.{◌≡◌, ℕ, List, [], ◌∷◌, take, ◌∙◌, ap, subst, sym}
-use Rattle.std.proofs.lemmas.Result.{on_ok_weaker}
-use Rattle.title_disk.specs.Crashes.{Cut, Torn, Holds}
-use Rattle.title_disk.specs.Laws.Moments.{joined, weakened}
-use Rattle.title_journal.specs.Blocks.{front, blocks_in, closed_gate}
-use Rattle.title_journal.specs.Rest.{StandsAlike, texts_of, at_rest}
-use Rattle.title_journal.proofs.Standing.{stands}
-use Rattle.title_journal.proofs.Outcomes.{leaves}
-use Rattle.title_journal.proofs.Repairing.{cut_alike, cut_done, torn_alike, written_rest}
+use Rattle.std.proofs.{Common.{◌≡◌, ℕ, List, [], ◌∷◌, take, ◌∙◌, ap, subst, sym}, lemmas.Result.{on_ok_weaker}}
+use Rattle.title_disk.specs.{Crashes.{Cut, Torn, Holds}, Laws.Moments.{joined, weakened}}
+use Rattle.title_journal.{specs.{Blocks.{front, blocks_in, closed_gate}, Rest.{StandsAlike, texts_of, at_rest}}, proofs.Standing.{stands}}
+use Rattle.title_journal.proofs.{Outcomes.{leaves}, Repairing.{cut_alike, cut_done, torn_alike, written_rest}}
 use Rattle.title_journal.proofs.journal.close.Goals as goal
 
 pub returns-in_err-cut_through-clause-any_moment : goal.returns-in_err-cut_through-clause-any_moment

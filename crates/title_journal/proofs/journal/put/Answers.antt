@@ -1,11 +1,8 @@
 -- The block is staged behind its gate, and the gate is opened.
 use Rattle.std.proofs.Common.{◌≡◌, ℕ, List, [], ◌∷◌, ◌++◌, inl, ◌∙◌, ap, subst, sym, arith}
-use Rattle.title_disk.specs.Crashes.{Torn, Holds}
-use Rattle.title_disk.specs.Laws.Moments.{joined, weakened}
-use Rattle.title_journal.specs.Blocks.{blocks_in, open_gate, closed_gate}
-use Rattle.title_journal.specs.Rest.{StandsAlike, IsBeforeOrAfter, at_rest, with_block}
-use Rattle.title_journal.proofs.Standing.{stands, all_and_one, length-front_more}
-use Rattle.title_journal.proofs.Crash.{gated, staged_is, torn_gate, opened}
+use Rattle.title_disk.specs.{Crashes.{Torn, Holds}, Laws.Moments.{joined, weakened}}
+use Rattle.title_journal.specs.{Blocks.{blocks_in, open_gate, closed_gate}, Rest.{StandsAlike, IsBeforeOrAfter, at_rest, with_block}}
+use Rattle.title_journal.proofs.{Standing.{stands, all_and_one, length-front_more}, Crash.{gated, staged_is, torn_gate, opened}}
 use Rattle.title_journal.proofs.Outcomes.{went_well, no_error}
 use Rattle.title_journal.proofs.journal.put.Goals as goal
 

@@ -1,8 +1,7 @@
 -- Each of the writes stays behind the closed gate.
 use Rattle.std.proofs.Common.{ℕ, ◌+◌, ◌≤◌, List, length, ap, subst, sym, arith}
 use Rattle.title_disk.specs.Laws.Moments.{started, goes_on, weakened}
-use Rattle.title_journal.specs.Rest.{StandsAlike}
-use Rattle.title_journal.proofs.Crash.{Begins, begins_itself, begins_alike, keeps_beginning, length-at_rest}
+use Rattle.title_journal.{specs.Rest.{StandsAlike}, proofs.Crash.{Begins, begins_itself, begins_alike, keeps_beginning, length-at_rest}}
 use Rattle.title_journal.proofs.journal.stage.Goals as goal
 
 pub returns-in_err-write_at-clause-any_moment : goal.returns-in_err-write_at-clause-any_moment

@@ -1,7 +1,5 @@
 use Rattle.std.proofs.Common.{ap, ◌∙◌}
-use Rattle.title_journal.specs.Blocks.{blocks_in}
-use Rattle.title_journal.proofs.Inverting.{made_of}
-use Rattle.title_journal.proofs.Standing.{stands}
+use Rattle.title_journal.{specs.Blocks.{blocks_in}, proofs.{Inverting.{made_of}, Standing.{stands}}}
 use Rattle.title_journal.proofs.laws.blocks_stand_where_they_are.Goals as goal
 
 pub returns-clause-read : goal.returns-clause-read

@@ -1,7 +1,6 @@
 -- A row more, which ends the block or doesn't.
 use Rattle.std.proofs.Common.{◌≡◌, ◌<◌, ◌+◌, ◌-◌, ℕ, List, length, take, drop, get_or, length-drop, Bool, true, false, ap, sym, ◌∙◌}
-use Rattle.std.proofs.Common.{subst, arith}
-use Rattle.std.proofs.lemmas.List.{take_rest}
+use Rattle.std.proofs.{Common.{subst, arith}, lemmas.List.{take_rest}}
 use Rattle.title_journal.specs.Blocks.{line_feed, IsRow, IsBlock, ends_block}
 use Rattle.title_journal.proofs.Splitting.{SomeRows, row_taken, one_row_more, last_row_more}
 use Rattle.title_journal.proofs.split.block_len.Goals as goal

@@ -1,13 +1,11 @@
 -- Each turn of the loop finds a block more, or the row at which the file is no plant.
 use Rattle.std.proofs.Common.{◌≡◌, ◌≤◌, ◌+◌, ◌-◌, ℕ, List, ◌++◌, ◌∷◌, [], length, take, drop, Ok, Err, ap, sym, ◌∙◌, subst, arith}
 use Rattle.std.proofs.lemmas.List.{take_rest, take_all, map_push}
-use Rattle.title_journal.specs.Blocks.{rows_in, blocks_in, head, IsBlock, IsUnfinished}
-use Rattle.title_journal.specs.Rest.{IsTail, tail_of}
-use Rattle.title_journal.specs.declared.fault.JournalFault.TheVariants as fault
-use Rattle.title_journal.proofs.Standing.{stands}
+use Rattle.title_journal.specs.{Blocks.{rows_in, blocks_in, head, IsBlock, IsUnfinished}, Rest.{IsTail, tail_of}}
+use Rattle.title_journal.proofs.{Standing.{stands}, split.split.Goals.{then-loop-offset-test+else-file-offset-eq43, else-loop-offset-test}}
 use Rattle.title_journal.proofs.Splitting.{IsSplit, contents, split_begun, shut, at_the_end, no_line_feed, breaks_off, one_block_more}
+use Rattle.title_journal.specs.declared.fault.JournalFault.TheVariants as fault
 use Rattle.title_journal.proofs.split.split.Goals as goal
-use Rattle.title_journal.proofs.split.split.Goals.{then-loop-offset-test+else-file-offset-eq43, else-loop-offset-test}
 
 pub loop-offset-init : goal.loop-offset-init
 loop-offset-init c =

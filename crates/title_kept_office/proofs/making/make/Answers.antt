@@ -1,15 +1,12 @@
 -- The script isn't read, or isn't run; or what came of it is the day's.
-use Rattle.std.proofs.Common.{◌∙◌, ◌≤◌, ℕ, ap, arith, length, subst, sym}
-use Rattle.std.specs.String.{string_bytes}
-use Rattle.std.proofs.lemmas.List.{length-map}
+use Rattle.std.{proofs.{Common.{◌∙◌, ◌≤◌, ℕ, ap, arith, length, subst, sym}, lemmas.List.{length-map}}, specs.String.{string_bytes}}
 use Rattle.title_chain.specs.Alone.{most_parties}
 use Rattle.title_trace.specs.Due.{Setting}
 use Rattle.title_plan.specs.Asked.{asked_in}
 use Rattle.title_plan.specs.declared.line.Schedule.TheVariants as schedule
 use Rattle.title_daybook.specs.Books.{standing_of}
 use Rattle.title_lasting.specs.Days.{declared_in}
-use Rattle.title_kept_office.specs.OfficeDays.{IsOfficeUnmade}
-use Rattle.title_kept_office.proofs.Ended.{ended_by}
+use Rattle.title_kept_office.{specs.OfficeDays.{IsOfficeUnmade}, proofs.Ended.{ended_by}}
 use Rattle.title_kept_office.proofs.DaysMade.{no_fewer, no_footing, office_made, own_unmade, served_records}
 use Rattle.title_kept_office.proofs.making.make.Goals as goal
 

@@ -1,18 +1,13 @@
 -- The script is dealt and run, its records can be written, and its report is told.
-use Rattle.std.proofs.Common.{◌≡◌, ◌∙◌, ◌≤◌, ℕ, List, ap, arith, length, map, reverse, subst, sym}
-use Rattle.std.specs.String.{string_bytes}
+use Rattle.std.{proofs.Common.{◌≡◌, ◌∙◌, ◌≤◌, ℕ, List, ap, arith, length, map, reverse, subst, sym}, specs.String.{string_bytes}}
 use Rattle.std.proofs.lemmas.List.{length-map}
-use Rattle.title_land.specs.Depth.{depth}
-use Rattle.title_land.specs.declared.survey.Township.{Township}
-use Rattle.title_chain.specs.Alone.{IsSerial}
-use Rattle.title_chain.specs.declared.record.Record.{Record}
+use Rattle.title_land.specs.{Depth.{depth}, declared.survey.Township.{Township}}
+use Rattle.title_chain.specs.{Alone.{IsSerial}, declared.record.Record.{Record}}
 use Rattle.title_store.specs.Plants.{IsEachOnce}
 use Rattle.title_plan.specs.Asked.{asked_in}
 use Rattle.title_day.specs.DaysOn.{closing_text_on}
-use Rattle.title_lasting.specs.Footings.{Continues, IsNew, stands_on}
-use Rattle.title_lasting.specs.Kept.{text_in}
-use Rattle.title_kept_office.specs.OfficeDays.{IsOwnTrouble}
-use Rattle.title_kept_office.proofs.Ended.{ended_by, office_trouble, unwritten_trouble}
+use Rattle.title_lasting.specs.{Footings.{Continues, IsNew, stands_on}, Kept.{text_in}}
+use Rattle.title_kept_office.{specs.OfficeDays.{IsOwnTrouble}, proofs.Ended.{ended_by, office_trouble, unwritten_trouble}}
 use Rattle.title_kept_office.proofs.making.run_on.Goals as goal
 
 pub returns-in_err-script-clause-why : goal.returns-in_err-script-clause-why

@@ -1,6 +1,5 @@
 -- The file isn't opened, another place was expected, or a day was tried on it.
-use Rattle.std.proofs.Common.{◌≡◌, ◌∙◌, arith, length, map, refl}
-use Rattle.std.proofs.lemmas.List.{length-map, length-reverse}
+use Rattle.std.proofs.{Common.{◌≡◌, ◌∙◌, arith, length, map, refl}, lemmas.List.{length-map, length-reverse}}
 use Rattle.title_standing.specs.Records.{record_of}
 use Rattle.title_daybook.specs.Books.{standing_of}
 use Rattle.title_kept_office.proofs.OfficeEnds.{alike_stands, expected_is, office_unexpected, office_unopened}

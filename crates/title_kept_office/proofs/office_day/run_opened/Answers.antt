@@ -1,6 +1,5 @@
 -- No day is made of what stood, the block isn't put into the file, or the report isn't written; or all is done.
-use Rattle.std.proofs.Common.{Err, ap}
-use Rattle.std.proofs.lemmas.Result.{err_from_is_err_and}
+use Rattle.std.proofs.{Common.{Err, ap}, lemmas.Result.{err_from_is_err_and}}
 use Rattle.title_daybook.specs.Books.{standing_of}
 use Rattle.title_kept_office.proofs.OfficeEnds.{block_is, office_told, office_unmade, office_unput, office_untold}
 use Rattle.title_kept_office.proofs.office_day.run_opened.Goals as goal

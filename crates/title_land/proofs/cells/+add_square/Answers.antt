@@ -1,6 +1,5 @@
 -- The cells of a square come quarter by quarter.
-use Rattle.title_land.specs.Lands.{has}
-use Rattle.title_land.proofs.CellSquares.{square_done}
+use Rattle.title_land.{specs.Lands.{has}, proofs.CellSquares.{square_done}}
 use Rattle.title_land.proofs.cells.+add_square.Goals as goal
 
 pub returns : goal.returns

@@ -1,9 +1,6 @@
 -- Each step goes one level down; the cells so far are those of the quarters so far.
-use Rattle.std.proofs.Common.{◌≡◌, ◌<◌, ◌-◌, ◌∷◌, ◌++◌, take}
-use Rattle.std.specs.List.{filter, flat_map}
-use Rattle.title_land.specs.CellLists.{cells_below}
-use Rattle.title_land.specs.Depth.{depth}
-use Rattle.title_land.specs.Lands.{has}
+use Rattle.std.{proofs.Common.{◌≡◌, ◌<◌, ◌-◌, ◌∷◌, ◌++◌, take}, specs.List.{filter, flat_map}}
+use Rattle.title_land.specs.{CellLists.{cells_below}, Depth.{depth}, Lands.{has}}
 use Rattle.title_land.proofs.cells.+add_square.Given as goal
 
 abbrev pub decreases-add_square : goal.decreases-add_square

@@ -1,7 +1,6 @@
 -- What a tract keeps of a township's cells.
 use Rattle.std.proofs.Common.{◌∙◌, sym}
-use Rattle.title_land.specs.Laws.CellFilters.{kept_of_township, kept_elsewhere, kept_of_part}
-use Rattle.title_land.proofs.CellSquares.{on_ok}
+use Rattle.title_land.{specs.Laws.CellFilters.{kept_of_township, kept_elsewhere, kept_of_part}, proofs.CellSquares.{on_ok}}
 use Rattle.title_land.proofs.cells.add_cells.Goals as goal
 
 pub returns-in-Township : goal.returns-in-Township

@@ -1,13 +1,7 @@
 -- The walk begins with the whole section and all its levels.
-use Rattle.std.proofs.Common.{◌≡◌, ◌++◌, List, [], ℕ, filter, sym, ap, subst, ◌∙◌}
-use Rattle.std.specs.Prelude.{OnOk}
-use Rattle.title_land.specs.Depth.{depth}
-use Rattle.title_land.specs.declared.rectangle.TheConstants.{DEPTH}
-use Rattle.title_land.specs.declared.rectangle.Quarter.{Quarter}
-use Rattle.title_land.specs.declared.survey.Cell.{Cell}
-use Rattle.title_land.specs.Lands.{has}
-use Rattle.title_land.specs.CellLists.{cells_below}
-use Rattle.title_land.specs.Laws.Sides.{depth_is}
+use Rattle.std.{proofs.Common.{◌≡◌, ◌++◌, List, [], ℕ, filter, sym, ap, subst, ◌∙◌}, specs.Prelude.{OnOk}}
+use Rattle.title_land.specs.{Depth.{depth}, declared.{rectangle.{TheConstants.{DEPTH}, Quarter.{Quarter}}, survey.Cell.{Cell}}, Lands.{has}}
+use Rattle.title_land.specs.{CellLists.{cells_below}, Laws.Sides.{depth_is}}
 use Rattle.title_land.proofs.cells.add_section.Goals as goal
 
 pub returns : goal.returns

@@ -1,9 +1,6 @@
 -- The cells so far and those of the sections that are left are all.
-use Rattle.std.proofs.Common.{◌≡◌, ◌++◌}
-use Rattle.std.specs.List.{filter, flat_map}
-use Rattle.title_land.specs.CellLists.{section_cells, township_cells}
-use Rattle.title_land.specs.Depth.{depth}
-use Rattle.title_land.specs.Lands.{has}
+use Rattle.std.{proofs.Common.{◌≡◌, ◌++◌}, specs.List.{filter, flat_map}}
+use Rattle.title_land.specs.{CellLists.{section_cells, township_cells}, Depth.{depth}, Lands.{has}}
 use Rattle.title_land.proofs.cells.add_township.Given as goal
 
 abbrev pub invariant-loop-section : goal.invariant-loop-section

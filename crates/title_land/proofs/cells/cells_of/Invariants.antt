@@ -1,9 +1,6 @@
 -- The cells so far are those of the townships so far.
-use Rattle.std.proofs.Common.{◌≡◌, take}
-use Rattle.title_land.specs.Depth.{depth}
-use Rattle.std.specs.List.{filter, flat_map}
-use Rattle.title_land.specs.Lands.{has}
-use Rattle.title_land.specs.CellLists.{township_cells}
+use Rattle.std.{proofs.Common.{◌≡◌, take}, specs.List.{filter, flat_map}}
+use Rattle.title_land.specs.{Depth.{depth}, Lands.{has}, CellLists.{township_cells}}
 use Rattle.title_land.proofs.cells.cells_of.Given as goal
 
 abbrev pub invariant-loop-township : goal.invariant-loop-township

@@ -1,14 +1,8 @@
 -- What a square adds to the cover: itself, nothing, or what its quarters add.
-use Rattle.std.proofs.Common.{◌≡◌, ◌∙◌, ◌++◌, List, [], map, ap, sym}
-use Rattle.title_land.specs.Depth.{depth}
-use Rattle.title_land.specs.declared.rectangle.Quarter.{Quarter}
-use Rattle.title_land.specs.declared.rectangle.Rectangle.{Rectangle}
-use Rattle.std.proofs.lemmas.List.{append-nil}
-use Rattle.title_land.specs.Covers.{cover_below, node_at}
-use Rattle.title_land.specs.Rectangles.{holds}
-use Rattle.title_land.specs.Grids.{grid_has, grid_of, fills}
+use Rattle.std.proofs.{Common.{◌≡◌, ◌∙◌, ◌++◌, List, [], map, ap, sym}, lemmas.List.{append-nil}}
+use Rattle.title_land.specs.{Depth.{depth}, declared.rectangle.{Quarter.{Quarter}, Rectangle.{Rectangle}}, Covers.{cover_below, node_at}}
+use Rattle.title_land.specs.{Rectangles.{holds}, Grids.{grid_has, grid_of, fills}, Laws.CoverCells.{cover_missed}}
 use Rattle.title_land.specs.Laws.CoverLaws.{cover_filled, cover_cell, cover_more, cover_done}
-use Rattle.title_land.specs.Laws.CoverCells.{cover_missed}
 use Rattle.title_land.proofs.cover.+add_cover.Goals.{else-levels-gt0-via-then-levels-gt0+else-meets, else-levels-gt0-via-else-levels-gt0}
 use Rattle.title_land.proofs.cover.+add_cover.Goals as goal
 

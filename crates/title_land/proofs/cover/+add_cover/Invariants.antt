@@ -1,9 +1,6 @@
 -- The levels below are fewer at each call; the nodes so far are those of the quarters so far.
-use Rattle.std.proofs.Common.{◌≡◌, ◌<◌, ◌-◌, ◌∷◌, ◌++◌, map, take}
-use Rattle.std.specs.List.{flat_map}
-use Rattle.title_land.specs.Covers.{cover_below, node_at}
-use Rattle.title_land.specs.Depth.{depth}
-use Rattle.title_land.specs.Grids.{grid_has}
+use Rattle.std.{proofs.Common.{◌≡◌, ◌<◌, ◌-◌, ◌∷◌, ◌++◌, map, take}, specs.List.{flat_map}}
+use Rattle.title_land.specs.{Covers.{cover_below, node_at}, Depth.{depth}, Grids.{grid_has}}
 use Rattle.title_land.proofs.cover.+add_cover.Given as goal
 
 abbrev pub decreases-add_cover : goal.decreases-add_cover

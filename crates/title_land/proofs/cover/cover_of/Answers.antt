@@ -1,12 +1,7 @@
 -- The walk begins with the whole section and all its levels.
 use Rattle.std.proofs.Common.{◌++◌, List, [], ℕ, map, sym, ap, ◌∙◌}
-use Rattle.title_land.specs.Depth.{depth}
-use Rattle.title_land.specs.declared.rectangle.TheConstants.{DEPTH}
-use Rattle.title_land.specs.declared.rectangle.Quarter.{Quarter}
-use Rattle.title_land.specs.declared.node.Node.{Node}
-use Rattle.title_land.specs.Covers.{cover_below, node_at}
-use Rattle.title_land.specs.Grids.{grid_has}
-use Rattle.title_land.specs.Laws.Sides.{depth_is}
+use Rattle.title_land.specs.{Depth.{depth}, declared.{rectangle.{TheConstants.{DEPTH}, Quarter.{Quarter}}, node.Node.{Node}}}
+use Rattle.title_land.specs.{Covers.{cover_below, node_at}, Grids.{grid_has}, Laws.Sides.{depth_is}}
 use Rattle.title_land.proofs.cover.cover_of.Goals as goal
 
 pub returns-clause-cover : goal.returns-clause-cover

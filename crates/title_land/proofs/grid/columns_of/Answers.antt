@@ -1,10 +1,6 @@
 -- The columns of a rectangle are ones shifted to the left, and few enough for a row's number.
-use Rattle.std.proofs.Common.{arith}
-use Rattle.std.proofs.Math.Facts.{Fits-of_lt}
-use Rattle.std.proofs.lemmas.Nat.{one_shl, pow_pos}
-use Rattle.title_land.specs.Depth.{depth}
-use Rattle.title_land.specs.Survey.{side}
-use Rattle.title_land.proofs.RowBits.{columns_value, columns_fit, columns_set}
+use Rattle.std.proofs.{Common.{arith}, Math.Facts.{Fits-of_lt}, lemmas.Nat.{one_shl, pow_pos}}
+use Rattle.title_land.{specs.{Depth.{depth}, Survey.{side}}, proofs.RowBits.{columns_value, columns_fit, columns_set}}
 use Rattle.title_land.specs.Laws.Sides.{side_fits}
 use Rattle.title_land.proofs.grid.columns_of.Goals as goal
 

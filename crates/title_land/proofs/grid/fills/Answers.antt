@@ -1,16 +1,9 @@
 -- The next row.
-use Rattle.std.proofs.Common.{◌≡◌, ◌+◌, ◌^◌, ◌<◌, ℕ, List, length, get_or, sym, subst, ◌∙◌, arith}
-use Rattle.std.specs.Prelude.{◌==◌, bit_and}
+use Rattle.std.{proofs.Common.{◌≡◌, ◌+◌, ◌^◌, ◌<◌, ℕ, List, length, get_or, sym, subst, ◌∙◌, arith}, specs.Prelude.{◌==◌, bit_and}}
 use Rattle.std.proofs.lemmas.Bool.{eq-eqb, ne_eqb}
-use Rattle.title_land.specs.declared.grid.Grid.{Grid}
-use Rattle.title_land.specs.declared.rectangle.Rectangle.{Rectangle}
-use Rattle.title_land.specs.Depth.{depth}
-use Rattle.title_land.specs.Grids.{row_fills, grid_has}
-use Rattle.title_land.specs.Survey.{side}
-use Rattle.title_land.specs.Rectangles.{InSection}
-use Rattle.title_land.specs.RowBits.{grid_cells, HasColumns, IsRows}
-use Rattle.title_land.proofs.GridRows.{row_filled}
-use Rattle.title_land.proofs.Ranges.{range_all_next, range_all_stop}
+use Rattle.title_land.specs.{declared.{grid.Grid.{Grid}, rectangle.Rectangle.{Rectangle}}, Depth.{depth}, Grids.{row_fills, grid_has}}
+use Rattle.title_land.specs.{Survey.{side}, Rectangles.{InSection}, RowBits.{grid_cells, HasColumns, IsRows}}
+use Rattle.title_land.proofs.{GridRows.{row_filled}, Ranges.{range_all_next, range_all_stop}}
 use Rattle.title_land.proofs.grid.fills.Goals as goal
 
 -- a row of the rectangle, by its number

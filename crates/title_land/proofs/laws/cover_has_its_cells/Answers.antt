@@ -1,6 +1,5 @@
 -- The law cover has its cells.
-use Rattle.title_land.specs.Laws.LandSharing.{cover_has_its_cells as lemma}
-use Rattle.title_land.specs.Depth.{depth}
+use Rattle.title_land.specs.{Laws.LandSharing.{cover_has_its_cells as lemma}, Depth.{depth}}
 use Rattle.title_land.proofs.laws.cover_has_its_cells.Goals as goal
 
 pub returns : goal.returns

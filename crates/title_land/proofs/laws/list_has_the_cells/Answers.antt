@@ -1,6 +1,5 @@
 -- The law list has the cells.
-use Rattle.title_land.specs.Laws.CellMembers.{list_has_the_cells as lemma}
-use Rattle.title_land.specs.Depth.{depth}
+use Rattle.title_land.specs.{Laws.CellMembers.{list_has_the_cells as lemma}, Depth.{depth}}
 use Rattle.title_land.proofs.laws.list_has_the_cells.Goals as goal
 
 pub returns : goal.returns

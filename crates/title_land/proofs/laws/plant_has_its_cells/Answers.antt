@@ -1,6 +1,5 @@
 -- The law plant has its cells.
-use Rattle.title_land.specs.Laws.CellMembers.{plant_has_its_cells as lemma}
-use Rattle.title_land.specs.Depth.{depth}
+use Rattle.title_land.specs.{Laws.CellMembers.{plant_has_its_cells as lemma}, Depth.{depth}}
 use Rattle.title_land.proofs.laws.plant_has_its_cells.Goals as goal
 
 pub returns : goal.returns

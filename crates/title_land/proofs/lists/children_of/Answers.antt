@@ -1,6 +1,5 @@
 -- The nodes below the whole plant are the townships.
-use Rattle.std.proofs.Common.{rules}
-use Rattle.std.proofs.lemmas.Iterator.{YieldsList-from_slice, YieldsList-from_map, items_from_collect}
+use Rattle.std.proofs.{Common.{rules}, lemmas.Iterator.{YieldsList-from_slice, YieldsList-from_map, items_from_collect}}
 use Rattle.title_land.specs.declared.node.Node.TheVariants as node
 use Rattle.title_land.proofs.lists.children_of.Goals as goal
 

@@ -1,10 +1,6 @@
 -- The cells of the land that has the node's cells.
-use Rattle.std.proofs.Common.{◌≡◌, List, ap, ◌∙◌, subst}
-use Rattle.std.specs.Prelude.{IfOk}
-use Rattle.title_land.specs.Depth.{depth}
-use Rattle.title_land.specs.declared.survey.Cell.{Cell}
-use Rattle.title_land.specs.declared.tract.Land.{Land}
-use Rattle.title_land.specs.CellLists.{cells_of}
+use Rattle.std.{proofs.Common.{◌≡◌, List, ap, ◌∙◌, subst}, specs.Prelude.{IfOk}}
+use Rattle.title_land.specs.{Depth.{depth}, declared.{survey.Cell.{Cell}, tract.Land.{Land}}, CellLists.{cells_of}}
 use Rattle.title_land.proofs.ListSteps.{cells_of-land_of}
 use Rattle.title_land.proofs.lists.node_cells.Goals as goal
 

@@ -1,8 +1,6 @@
 -- By its number.
-use Rattle.std.proofs.Common.{◌∙◌, ℕ, ap}
-use Rattle.std.specs.Prelude.{nat_le}
-use Rattle.title_land.specs.NodeNumbers.{square_step}
-use Rattle.title_land.specs.Laws.NodeNumbers.{square_at}
+use Rattle.std.{proofs.Common.{◌∙◌, ℕ, ap}, specs.Prelude.{nat_le}}
+use Rattle.title_land.specs.{NodeNumbers.{square_step}, Laws.NodeNumbers.{square_at}}
 use Rattle.title_land.proofs.numbers.is_square_number.Goals as goal
 
 pub returns : goal.returns

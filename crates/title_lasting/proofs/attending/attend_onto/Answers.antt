@@ -1,8 +1,7 @@
 -- The file isn't opened, or there was a desk on it.
 use Rattle.std.proofs.Common.{◌∙◌}
 use Rattle.title_daybook.specs.Books.{standing_of}
-use Rattle.title_lasting.proofs.DayEnds.{alike_stands}
-use Rattle.title_lasting.proofs.DeskEnds.{desk_there, unopened_desk}
+use Rattle.title_lasting.proofs.{DayEnds.{alike_stands}, DeskEnds.{desk_there, unopened_desk}}
 use Rattle.title_lasting.proofs.attending.attend_onto.Goals as goal
 
 pub returns-in-Err-clause-desk : goal.returns-in-Err-clause-desk

@@ -1,13 +1,8 @@
 -- The counter before the first row has what stood, and the mark says how much that is.
-use Rattle.std.proofs.Common.{◌≡◌, ◌∙◌, ◌==◌, ℕ, ap, length, not, subst, sym}
-use Rattle.std.proofs.lemmas.List.{length-map}
-use Rattle.std.specs.String.{string_bytes}
-use Rattle.title_daybook.specs.Books.{standing_of}
-use Rattle.title_daybook.specs.Files.{IsPlant}
+use Rattle.std.{proofs.{Common.{◌≡◌, ◌∙◌, ◌==◌, ℕ, ap, length, not, subst, sym}, lemmas.List.{length-map}}, specs.String.{string_bytes}}
+use Rattle.title_daybook.specs.{Books.{standing_of}, Files.{IsPlant}}
 use Rattle.title_counter.specs.Counters.{Counter}
-use Rattle.title_lasting.specs.Sittings.{IsUpTo}
-use Rattle.title_lasting.specs.declared.mark.Mark.{Mark}
-use Rattle.title_lasting.proofs.DayServed.{many_deeds}
+use Rattle.title_lasting.{specs.{Sittings.{IsUpTo}, declared.mark.Mark.{Mark}}, proofs.DayServed.{many_deeds}}
 use Rattle.title_lasting.proofs.DeskEnds.{onto_opening, opening_has, unasked}
 use Rattle.title_lasting.proofs.attending.attend_opened.Goals as goal
 

@@ -1,11 +1,7 @@
 -- A pull and its batch, the end, and each fault.
-use Rattle.std.proofs.Common.{◌+◌, ◌++◌, ◌∙◌, ap, arith, inl, inr, length-take, refl, take}
-use Rattle.std.proofs.lemmas.Result.{err_from_is_err_and}
-use Rattle.title_counter.specs.Counters.{Counter}
-use Rattle.title_counter.specs.Lines.{last_line, lines_from, lines_in}
-use Rattle.title_counter.specs.Views.{counter_of}
-use Rattle.title_lasting.proofs.BatchKept.{still_there}
-use Rattle.title_lasting.proofs.CellsSaid.{described_have_cells}
+use Rattle.std.proofs.{Common.{◌+◌, ◌++◌, ◌∙◌, ap, arith, inl, inr, length-take, refl, take}, lemmas.Result.{err_from_is_err_and}}
+use Rattle.title_counter.specs.{Counters.{Counter}, Lines.{last_line, lines_from, lines_in}, Views.{counter_of}}
+use Rattle.title_lasting.proofs.{BatchKept.{still_there}, CellsSaid.{described_have_cells}}
 use Rattle.title_lasting.proofs.DeskSittings.{answered_all, at_once, at_start, beyond, cause_at, come, consumed_kept, consumed_more}
 use Rattle.title_lasting.proofs.DeskSittings.{ended_cause, ended_stopped, pull_lines, pull_whole, pulled, stopped_at}
 use Rattle.title_lasting.proofs.attending.attend_rows.Goals as goal

@@ -1,9 +1,7 @@
 -- Between two pulls all whole lines of what was given are answered, and what they added is on the disk.
 use Rattle.std.proofs.Common.{◌≡◌, ◌≤◌, ◌-◌, ◌^◌, false}
-use Rattle.title_counter.specs.Sessions.{IsSound}
-use Rattle.title_counter.specs.Views.{counter_of}
-use Rattle.title_lasting.specs.Sittings.{IsUpTo}
-use Rattle.title_lasting.proofs.DeskSittings.{Between}
+use Rattle.title_counter.specs.{Sessions.{IsSound}, Views.{counter_of}}
+use Rattle.title_lasting.{specs.Sittings.{IsUpTo}, proofs.DeskSittings.{Between}}
 use Rattle.title_lasting.proofs.attending.attend_rows.Given as goal
 
 abbrev pub invariant-pulls : goal.invariant-pulls

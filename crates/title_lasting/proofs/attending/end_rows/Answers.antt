@@ -1,8 +1,7 @@
 -- The last line's batch isn't told, or the last row isn't written; or all is written.
 use Rattle.std.proofs.lemmas.Result.{err_from_is_err_and}
 use Rattle.title_disk.specs.Crashes.{LeavesOnly}
-use Rattle.title_counter.specs.Lines.{last_line}
-use Rattle.title_counter.specs.Views.{counter_of}
+use Rattle.title_counter.specs.{Lines.{last_line}, Views.{counter_of}}
 use Rattle.title_lasting.proofs.RowsEnded.{ended_whole, unended, unwritten}
 use Rattle.title_lasting.proofs.attending.end_rows.Goals as goal
 

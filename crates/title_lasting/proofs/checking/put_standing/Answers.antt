@@ -1,12 +1,9 @@
-use Rattle.std.proofs.Common.{◌≡◌, ◌∙◌, List, ap, arith, codes, length, map, reverse}
-use Rattle.std.specs.String.{string_bytes}
+use Rattle.std.{proofs.Common.{◌≡◌, ◌∙◌, List, ap, arith, codes, length, map, reverse}, specs.String.{string_bytes}}
 use Rattle.std.proofs.lemmas.Result.{on_err_weaker, on_ok_weaker}
 use Rattle.title_page.specs.Laws.InTurn.{on_err}
-use Rattle.title_standing.specs.declared.deeds.Deeds.{Deeds}
-use Rattle.title_standing.specs.Records.{record_of}
-use Rattle.title_lasting.specs.Tells.{count_row, posts_in, told_number}
+use Rattle.title_standing.specs.{declared.deeds.Deeds.{Deeds}, Records.{record_of}}
+use Rattle.title_lasting.{specs.Tells.{count_row, posts_in, told_number}, proofs.Told.{stopped_at}}
 use Rattle.title_lasting.proofs.Told.{all_five, at_first, at_fourth, at_last, at_second, at_third, counted_as, number_mapped, number_turned}
-use Rattle.title_lasting.proofs.Told.{stopped_at}
 use Rattle.title_lasting.proofs.checking.put_standing.Goals as goal
 
 pub returns-in_err-put_count-clause-stopped : goal.returns-in_err-put_count-clause-stopped

@@ -1,12 +1,9 @@
 -- What stands is told as a script, or no script says it, or the file isn't opened, or the sink fails.
-use Rattle.std.proofs.Common.{◌∙◌, ℕ, List, Err, ap, inl, inr, refl, subst, sym}
-use Rattle.std.proofs.lemmas.Result.{err_from_is_err_and}
+use Rattle.std.proofs.{Common.{◌∙◌, ℕ, List, Err, ap, inl, inr, refl, subst, sym}, lemmas.Result.{err_from_is_err_and}}
 use Rattle.std.specs.Io.KnownBytes.{Appends}
 use Rattle.title_trace.specs.Trace.{committed}
 use Rattle.title_daybook.specs.Books.{standing_of}
-use Rattle.title_lasting.specs.Lastings.{Begins}
-use Rattle.title_lasting.specs.Opened.{IsUnopened}
-use Rattle.title_lasting.specs.Tells.{IsNoScript, IsScript, script_text}
+use Rattle.title_lasting.specs.{Lastings.{Begins}, Opened.{IsUnopened}, Tells.{IsNoScript, IsScript, script_text}}
 use Rattle.title_lasting.proofs.Tellings.{all_told, no_memory, no_script, unopened, unwritten}
 use Rattle.title_lasting.proofs.checking.tell_script.Goals as goal
 

@@ -1,13 +1,8 @@
 -- What stands is told, or the file isn't opened, or the sink fails.
-use Rattle.std.proofs.Common.{◌∙◌, ℕ, Err, ap, refl, subst, sym}
-use Rattle.std.proofs.lemmas.Result.{err_from_is_err_and}
-use Rattle.std.specs.Io.KnownBytes.{Appends}
+use Rattle.std.{proofs.{Common.{◌∙◌, ℕ, Err, ap, refl, subst, sym}, lemmas.Result.{err_from_is_err_and}}, specs.Io.KnownBytes.{Appends}}
 use Rattle.title_page.specs.Rows.{rows_text}
 use Rattle.title_daybook.specs.Books.{standing_of}
-use Rattle.title_lasting.specs.Lastings.{Begins}
-use Rattle.title_lasting.specs.Opened.{IsUnopened}
-use Rattle.title_lasting.specs.Tells.{standing_rows, standing_text}
-use Rattle.title_lasting.proofs.FileOpened.{cut_is}
+use Rattle.title_lasting.{specs.{Lastings.{Begins}, Opened.{IsUnopened}, Tells.{standing_rows, standing_text}}, proofs.FileOpened.{cut_is}}
 use Rattle.title_lasting.proofs.Tellings.{all_told, unopened, unwritten}
 use Rattle.title_lasting.proofs.checking.tell_standing.Goals as goal
 

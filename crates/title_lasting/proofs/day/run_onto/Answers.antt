@@ -1,6 +1,5 @@
 -- The file isn't opened, another place was expected, or a day was tried on it.
-use Rattle.std.proofs.Common.{◌≡◌, ◌∙◌, length, map, refl, arith}
-use Rattle.std.proofs.lemmas.List.{length-map, length-reverse}
+use Rattle.std.proofs.{Common.{◌≡◌, ◌∙◌, length, map, refl, arith}, lemmas.List.{length-map, length-reverse}}
 use Rattle.title_standing.specs.Records.{record_of}
 use Rattle.title_daybook.specs.Books.{standing_of}
 use Rattle.title_lasting.proofs.DayEnds.{alike_stands, at_rest_rests, expected_is, lasts_there, unexpected_ends, unopened_ends}

@@ -1,19 +1,10 @@
 -- No day is made of what stood, the block isn't put into the file, or the report isn't written; or all is done.
-use Rattle.std.proofs.Common.{ℕ, Err, None, Option, Some, IfSome, ap}
-use Rattle.std.specs.Global.{Vec}
-use Rattle.std.proofs.lemmas.Result.{err_from_is_err_and}
-use Rattle.title_disk.specs.Crashes.{LeavesOnly}
-use Rattle.title_disk.specs.Laws.Moments.{weakened}
-use Rattle.title_journal.specs.Blocks.{IsBlock}
-use Rattle.title_journal.specs.Rest.{StandsAlike}
-use Rattle.title_daybook.specs.Books.{standing_of}
-use Rattle.title_daybook.specs.Standing.{Standing}
-use Rattle.title_lasting.specs.Kept.{text_in}
-use Rattle.title_lasting.specs.Made.{Adds}
-use Rattle.title_lasting.specs.Openings.{StandsAs}
-use Rattle.title_lasting.proofs.DayEnds.{alike_stands}
+use Rattle.std.{proofs.{Common.{ℕ, Err, None, Option, Some, IfSome, ap}, lemmas.Result.{err_from_is_err_and}}, specs.Global.{Vec}}
+use Rattle.title_disk.specs.{Crashes.{LeavesOnly}, Laws.Moments.{weakened}}
+use Rattle.title_journal.specs.{Blocks.{IsBlock}, Rest.{StandsAlike}}
+use Rattle.title_daybook.specs.{Books.{standing_of}, Standing.{Standing}}
+use Rattle.title_lasting.{specs.{Kept.{text_in}, Made.{Adds}, Openings.{StandsAs}}, proofs.{DayEnds.{alike_stands}, FileOpened.{untouched}}}
 use Rattle.title_lasting.proofs.Endings.{ends_told, ends_unmade, ends_unput, ends_untold}
-use Rattle.title_lasting.proofs.FileOpened.{untouched}
 use Rattle.title_lasting.proofs.day.run_opened.Goals as goal
 
 -- what a day adds is a block

@@ -1,18 +1,12 @@
 -- What stood was served, and its script is read on top of it.
-use Rattle.std.proofs.Common.{◌∙◌, List, length, subst, sym, take}
-use Rattle.std.proofs.lemmas.List.{length-map}
-use Rattle.std.specs.String.{string_bytes}
+use Rattle.std.{proofs.{Common.{◌∙◌, List, length, subst, sym, take}, lemmas.List.{length-map}}, specs.String.{string_bytes}}
 use Rattle.title_land.specs.declared.survey.Township.{Township}
 use Rattle.title_chain.specs.Alone.{most_parties}
 use Rattle.title_trace.specs.Due.{MayOpen}
 use Rattle.title_plan.specs.Asked.{asked_in}
 use Rattle.title_daybook.specs.Books.{standing_of}
-use Rattle.title_lasting.specs.Days.{declared_in}
-use Rattle.title_lasting.specs.Made.{IsUnjoined, IsUnmade}
-use Rattle.title_lasting.specs.Replays.{HasServed}
-use Rattle.title_lasting.proofs.DayServed.{front_stands, many_deeds, may_open_widest}
-use Rattle.title_lasting.proofs.FileOpened.{standing_short}
-use Rattle.title_lasting.proofs.Unmade.{ended_by, unjoined_unmade, unread_unmade}
+use Rattle.title_lasting.{specs.{Days.{declared_in}, Made.{IsUnjoined, IsUnmade}, Replays.{HasServed}}, proofs.FileOpened.{standing_short}}
+use Rattle.title_lasting.proofs.{DayServed.{front_stands, many_deeds, may_open_widest}, Unmade.{ended_by, unjoined_unmade, unread_unmade}}
 use Rattle.title_lasting.proofs.footing.lay_footing.Goals as goal
 
 pub join-requires : goal.join-requires

@@ -1,6 +1,5 @@
 -- What is held are the answers.
-use Rattle.title_counter.specs.Lines.{lines_from}
-use Rattle.title_counter.specs.Views.{counter_of}
+use Rattle.title_counter.specs.{Lines.{lines_from}, Views.{counter_of}}
 use Rattle.title_lasting.proofs.HeldTexts.{held_text}
 use Rattle.title_lasting.proofs.holding.hold_batch.Goals as goal
 

@@ -1,6 +1,5 @@
 -- What is held are the answers.
-use Rattle.title_counter.specs.Lines.{last_line}
-use Rattle.title_counter.specs.Views.{counter_of}
+use Rattle.title_counter.specs.{Lines.{last_line}, Views.{counter_of}}
 use Rattle.title_lasting.proofs.HeldTexts.{held_text}
 use Rattle.title_lasting.proofs.holding.hold_rest.Goals as goal
 

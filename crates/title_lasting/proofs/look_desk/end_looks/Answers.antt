@@ -1,10 +1,7 @@
 -- The last line isn't answered, or the last row isn't written; or all is written.
-use Rattle.std.proofs.Common.{map}
-use Rattle.std.proofs.lemmas.Result.{err_from_is_err_and}
-use Rattle.title_counter.specs.Lines.{last_line}
-use Rattle.title_counter.specs.Views.{counter_of}
-use Rattle.title_lasting.specs.LookRows.{as_look}
-use Rattle.title_lasting.proofs.LookSittings.{row_broken, row_written, unlooked}
+use Rattle.std.proofs.{Common.{map}, lemmas.Result.{err_from_is_err_and}}
+use Rattle.title_counter.specs.{Lines.{last_line}, Views.{counter_of}}
+use Rattle.title_lasting.{specs.LookRows.{as_look}, proofs.LookSittings.{row_broken, row_written, unlooked}}
 use Rattle.title_lasting.proofs.look_desk.end_looks.Goals as goal
 
 pub returns-in_err-look_rest : goal.returns-in_err-look_rest

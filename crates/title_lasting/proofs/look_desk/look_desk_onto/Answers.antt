@@ -1,9 +1,7 @@
 -- The file isn't read, or lines were answered on top of what stood.
-use Rattle.std.proofs.Common.{subst, sym}
-use Rattle.std.proofs.lemmas.Result.{err_from_is_err_and}
+use Rattle.std.proofs.{Common.{subst, sym}, lemmas.Result.{err_from_is_err_and}}
 use Rattle.title_daybook.specs.Books.{standing_of}
-use Rattle.title_lasting.specs.Opened.{IsUnopened}
-use Rattle.title_lasting.proofs.LookDeskEnds.{desk_looks, desk_unread}
+use Rattle.title_lasting.{specs.Opened.{IsUnopened}, proofs.LookDeskEnds.{desk_looks, desk_unread}}
 use Rattle.title_lasting.proofs.look_desk.look_desk_onto.Goals as goal
 
 pub returns-in_err-found : goal.returns-in_err-found

@@ -1,11 +1,9 @@
 -- A pull and the answers to its lines, the end, and each fault.
 use Rattle.std.proofs.Common.{◌≡◌, ◌∙◌, ◌+◌, ℕ, [], ap, arith, inl, inr, length, length-take, map, refl, take}
 use Rattle.std.proofs.lemmas.Result.{err_from_is_err_and}
-use Rattle.title_counter.specs.Lines.{last_line, lines_from}
-use Rattle.title_counter.specs.Views.{counter_of}
-use Rattle.title_lasting.specs.LookRows.{as_look}
+use Rattle.title_counter.specs.{Lines.{last_line, lines_from}, Views.{counter_of}}
+use Rattle.title_lasting.{specs.LookRows.{as_look}, proofs.LookSittings.{looked, looks_begin, waits}}
 use Rattle.title_lasting.proofs.LookSittings.{answered_all, at_once, batch_cause, batch_stopped, beyond, end_cause, end_stopped, given_kept}
-use Rattle.title_lasting.proofs.LookSittings.{looked, looks_begin, waits}
 use Rattle.title_lasting.proofs.look_desk.look_rows.Goals as goal
 
 pub pulls-init : goal.pulls-init

@@ -1,7 +1,6 @@
 -- Between two pulls all whole lines of what was given are answered.
 use Rattle.std.proofs.Common.{◌≡◌, ◌≤◌, ◌+◌, ◌-◌, ◌^◌, false, length}
-use Rattle.title_counter.specs.Sessions.{IsSound}
-use Rattle.title_counter.specs.Views.{counter_of}
+use Rattle.title_counter.specs.{Sessions.{IsSound}, Views.{counter_of}}
 use Rattle.title_lasting.proofs.LookSittings.{LooksBetween}
 use Rattle.title_lasting.proofs.look_desk.look_rows.Given as goal
 

@@ -2,9 +2,7 @@
 use Rattle.std.proofs.Common.{◌≡◌, ◌∙◌, ◌==◌, ℕ, ap, length, not, subst, sym}
 use Rattle.title_daybook.specs.Books.{standing_of}
 use Rattle.title_counter.specs.Counters.{Counter}
-use Rattle.title_lasting.specs.LookDesks.{LooksFrom}
-use Rattle.title_lasting.proofs.DayServed.{many_deeds}
-use Rattle.title_lasting.proofs.DeskEnds.{onto_opening, unasked}
+use Rattle.title_lasting.{specs.LookDesks.{LooksFrom}, proofs.{DayServed.{many_deeds}, DeskEnds.{onto_opening, unasked}}}
 use Rattle.title_lasting.proofs.look_desk.look_standing.Goals as goal
 
 pub onto-clerk-requires : goal.onto-clerk-requires

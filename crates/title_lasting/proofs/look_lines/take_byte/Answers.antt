@@ -1,7 +1,5 @@
 -- A line feed ends the line, and any other byte comes to it.
-use Rattle.std.proofs.Common.{◌≡◌, ◌==◌, arith, false, sym}
-use Rattle.std.proofs.lemmas.Bool.Decides.{nat_tests}
-use Rattle.std.proofs.lemmas.List.{append-nil}
+use Rattle.std.proofs.{Common.{◌≡◌, ◌==◌, arith, false, sym}, lemmas.{Bool.Decides.{nat_tests}, List.{append-nil}}}
 use Rattle.title_lasting.proofs.LookLines.{on_ok}
 use Rattle.title_lasting.proofs.look_lines.take_byte.Goals as goal
 

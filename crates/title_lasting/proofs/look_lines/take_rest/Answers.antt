@@ -1,8 +1,7 @@
 -- Where nothing of a line has come there is none; else it is the last.
 use Rattle.std.proofs.Common.{◌∙◌, ◌++◌, ◌∷◌, [], List, ℕ, ap, map, sym}
 use Rattle.title_counter.specs.Lines.{last_line}
-use Rattle.title_lasting.specs.LookRows.{as_look, lines_text}
-use Rattle.title_lasting.proofs.LookLines.{is_nothing, last_some}
+use Rattle.title_lasting.{specs.LookRows.{as_look, lines_text}, proofs.LookLines.{is_nothing, last_some}}
 use Rattle.title_lasting.proofs.look_lines.take_rest.Goals as goal
 
 pub returns-then-is_blank : goal.returns-then-is_blank

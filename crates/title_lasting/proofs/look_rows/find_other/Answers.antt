@@ -1,8 +1,7 @@
 -- A row more, the first that doesn't only look, or the end.
 use Rattle.std.proofs.Common.{◌+◌, ◌-◌, ◌∙◌, arith, refl, sym}
 use Rattle.csv.specs.Records.{fields_of}
-use Rattle.title_plan.specs.Limits.{most_rows}
-use Rattle.title_plan.specs.Plans.{rows_in}
+use Rattle.title_plan.specs.{Limits.{most_rows}, Plans.{rows_in}}
 use Rattle.title_lasting.proofs.OtherRows.{is_other, looks_on, none_left, none_taken}
 use Rattle.title_lasting.proofs.look_rows.find_other.Goals as goal
 

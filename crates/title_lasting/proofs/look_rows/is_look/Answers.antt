@@ -1,6 +1,5 @@
 -- Fields that aren't UTF-8 say nothing, and those that are say what their row does.
-use Rattle.std.proofs.Common.{refl}
-use Rattle.std.proofs.lemmas.Bool.{false≢true}
+use Rattle.std.proofs.{Common.{refl}, lemmas.Bool.{false≢true}}
 use Rattle.csv.specs.Records.{fields_of}
 use Rattle.title_plan.specs.Rows.{row_in}
 use Rattle.title_lasting.proofs.OtherRows.{is_text, not_text, texts_from}

@@ -1,6 +1,5 @@
 use Rattle.std.proofs.Common.{◌+◌, ◌∙◌, ap, arith, inl, inr, length, refl, true}
-use Rattle.csv.specs.Reading.{strip_bom, with_flexible}
-use Rattle.csv.specs.declared.reader.ReaderBuilder.{ReaderBuilder}
+use Rattle.csv.specs.{Reading.{strip_bom, with_flexible}, declared.reader.ReaderBuilder.{ReaderBuilder}}
 use Rattle.title_lasting.proofs.look_rows.open_text.Goals as goal
 
 pub returns : goal.returns

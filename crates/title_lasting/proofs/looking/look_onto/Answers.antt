@@ -1,12 +1,9 @@
 -- The file isn't read, another place was expected, or there was a look at what stood.
-use Rattle.std.proofs.Common.{◌≡◌, arith, length, map, refl, subst, sym}
-use Rattle.std.proofs.lemmas.List.{length-map, length-reverse}
+use Rattle.std.proofs.{Common.{◌≡◌, arith, length, map, refl, subst, sym}, lemmas.List.{length-map, length-reverse}}
 use Rattle.std.proofs.lemmas.Result.{err_from_is_err_and}
 use Rattle.title_standing.specs.Records.{record_of}
 use Rattle.title_daybook.specs.Books.{standing_of}
-use Rattle.title_lasting.specs.Opened.{IsUnopened}
-use Rattle.title_lasting.proofs.DayEnds.{expected_is}
-use Rattle.title_lasting.proofs.LookEnds.{look_unexpected, look_unopened, looks_then}
+use Rattle.title_lasting.{specs.Opened.{IsUnopened}, proofs.{DayEnds.{expected_is}, LookEnds.{look_unexpected, look_unopened, looks_then}}}
 use Rattle.title_lasting.proofs.looking.look_onto.Goals as goal
 
 pub returns-in_err-found : goal.returns-in_err-found

@@ -1,10 +1,7 @@
 -- The script isn't read, or what came of it is the day's.
 use Rattle.title_plan.specs.Asked.{asked_in}
 use Rattle.title_daybook.specs.Books.{standing_of}
-use Rattle.title_lasting.specs.Days.{declared_in}
-use Rattle.title_lasting.specs.Looks.{IsLookUnread}
-use Rattle.title_lasting.proofs.LooksServed.{look_on, report_is}
-use Rattle.title_lasting.proofs.Unmade.{ended_by}
+use Rattle.title_lasting.{specs.{Days.{declared_in}, Looks.{IsLookUnread}}, proofs.{LooksServed.{look_on, report_is}, Unmade.{ended_by}}}
 use Rattle.title_lasting.proofs.looking.make_look.Goals as goal
 
 pub returns-in_err-plan-clause-why : goal.returns-in_err-plan-clause-why

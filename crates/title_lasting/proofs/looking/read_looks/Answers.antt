@@ -1,9 +1,7 @@
 -- The source isn't read, a row doesn't only look, or the script has a fault; or this is what it asks for.
-use Rattle.std.proofs.Common.{List, ℕ, subst}
-use Rattle.std.proofs.lemmas.Result.{err_from_is_err_and}
+use Rattle.std.proofs.{Common.{List, ℕ, subst}, lemmas.Result.{err_from_is_err_and}}
 use Rattle.title_plan.specs.Onto.{before_in}
-use Rattle.title_lasting.specs.Looks.{IsLookUnread, IsOtherText}
-use Rattle.title_lasting.proofs.LooksServed.{other_unread, script_unread, source_unread}
+use Rattle.title_lasting.{specs.Looks.{IsLookUnread, IsOtherText}, proofs.LooksServed.{other_unread, script_unread, source_unread}}
 use Rattle.title_lasting.proofs.Unmade.{ended_by}
 use Rattle.title_lasting.proofs.looking.read_looks.Goals as goal
 

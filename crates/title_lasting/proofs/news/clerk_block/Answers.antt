@@ -1,13 +1,10 @@
 -- The new records stand behind those that stood, and the oldest of them first.
-use Rattle.std.proofs.Common.{◌∙◌, ◌≡◌, List, ap, arith, drop, length, reverse, subst, sym}
-use Rattle.std.proofs.lemmas.List.{length-reverse, reverse-reverse}
+use Rattle.std.proofs.{Common.{◌∙◌, ◌≡◌, List, ap, arith, drop, length, reverse, subst, sym}, lemmas.List.{length-reverse, reverse-reverse}}
 use Rattle.std.proofs.lemmas.Result.{IfOk-weaker}
 use Rattle.title_chain.specs.declared.record.Record.{Record}
 use Rattle.title_trace.specs.Trace.{committed}
-use Rattle.title_counter.specs.Counters.{asked_at}
-use Rattle.title_counter.specs.Views.{counter_of}
-use Rattle.title_lasting.specs.Kept.{text_in}
-use Rattle.title_lasting.specs.Made.{IsAddedBlock}
+use Rattle.title_counter.specs.{Counters.{asked_at}, Views.{counter_of}}
+use Rattle.title_lasting.specs.{Kept.{text_in}, Made.{IsAddedBlock}}
 use Rattle.title_lasting.proofs.news.clerk_block.Goals as goal
 
 pub new_records-requires : goal.new_records-requires

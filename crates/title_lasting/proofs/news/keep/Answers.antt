@@ -1,20 +1,13 @@
 -- What the rows have added isn't put together, or isn't put into the file; or it is there.
-use Rattle.std.proofs.Common.{Err, ◌≤◌, ap, refl, subst, sym}
-use Rattle.std.proofs.lemmas.List.{length-map}
-use Rattle.std.proofs.lemmas.Result.{err_from_is_err_and}
+use Rattle.std.proofs.{Common.{Err, ◌≤◌, ap, refl, subst, sym}, lemmas.{List.{length-map}, Result.{err_from_is_err_and}}}
 use Rattle.std.specs.String.{string_bytes}
-use Rattle.title_journal.specs.Blocks.{blocks_in}
-use Rattle.title_journal.specs.Rest.{IsAtRest}
-use Rattle.title_journal.specs.declared.blocks.Gate.{Gate}
+use Rattle.title_journal.specs.{Blocks.{blocks_in}, Rest.{IsAtRest}, declared.blocks.Gate.{Gate}}
 use Rattle.title_chain.specs.Alone.{most_parties}
 use Rattle.title_daybook.specs.declared.writing.Stood.{Stood}
 use Rattle.title_counter.specs.Views.{counter_of}
-use Rattle.title_lasting.specs.Kept.{text_in}
-use Rattle.title_lasting.specs.Sittings.{HasAt}
+use Rattle.title_lasting.{specs.{Kept.{text_in}, Sittings.{HasAt}}, proofs.BatchKept.{still_there, unput}}
 use Rattle.title_lasting.proofs.BatchKept.{block_is, can_be_written, either_side, no_less_names, no_less_records, no_less_townships, on_to}
-use Rattle.title_lasting.proofs.BatchKept.{still_there, unput}
-use Rattle.title_lasting.proofs.BatchMade.{adds_at, has_then, kept_serial}
-use Rattle.title_lasting.proofs.CellsSaid.{described_have_cells}
+use Rattle.title_lasting.proofs.{BatchMade.{adds_at, has_then, kept_serial}, CellsSaid.{described_have_cells}}
 use Rattle.title_lasting.proofs.news.keep.Goals as goal
 
 pub clerk_block-requires : goal.clerk_block-requires

@@ -1,7 +1,5 @@
 -- The names are those of the parties, and the records stand the other way round.
-use Rattle.std.proofs.Common.{◌∙◌, ap, arith, length, refl, sym}
-use Rattle.std.proofs.lemmas.List.{length-map, length-reverse}
-use Rattle.std.specs.String.{string_bytes}
+use Rattle.std.{proofs.{Common.{◌∙◌, ap, arith, length, refl, sym}, lemmas.List.{length-map, length-reverse}}, specs.String.{string_bytes}}
 use Rattle.title_lasting.proofs.news.mark_at.Goals as goal
 
 pub returns : goal.returns

@@ -1,21 +1,14 @@
 -- What stood was served, its script is read on top of it, and what comes of that is the day's.
-use Rattle.std.proofs.Common.{◌∙◌, ◌≤◌, ℕ, List, length, refl, subst, sym, take}
-use Rattle.std.proofs.lemmas.List.{length-map}
-use Rattle.std.specs.String.{string_bytes}
+use Rattle.std.{proofs.{Common.{◌∙◌, ◌≤◌, ℕ, List, length, refl, subst, sym, take}, lemmas.List.{length-map}}, specs.String.{string_bytes}}
 use Rattle.title_land.specs.declared.survey.Township.{Township}
 use Rattle.title_chain.specs.Alone.{most_parties}
 use Rattle.title_trace.specs.Due.{MayOpen}
 use Rattle.title_journal.specs.Blocks.{blocks_in}
 use Rattle.title_plan.specs.Asked.{asked_in}
 use Rattle.title_daybook.specs.Books.{standing_of}
-use Rattle.title_lasting.specs.Days.{declared_in}
-use Rattle.title_lasting.specs.Made.{IsUnjoined, IsUnmade}
-use Rattle.title_lasting.specs.Replays.{HasServed}
-use Rattle.title_lasting.proofs.CellsSaid.{described_have_cells}
+use Rattle.title_lasting.{specs.{Days.{declared_in}, Made.{IsUnjoined, IsUnmade}, Replays.{HasServed}}, proofs.FileOpened.{standing_short}}
+use Rattle.title_lasting.proofs.{CellsSaid.{described_have_cells}, FineBooks.{stands_written}, FineScripts.{script_fine}}
 use Rattle.title_lasting.proofs.DayServed.{front_stands, is_made, many_deeds, may_open_widest, no_fewer, no_fewer_of, served_many}
-use Rattle.title_lasting.proofs.FileOpened.{standing_short}
-use Rattle.title_lasting.proofs.FineBooks.{stands_written}
-use Rattle.title_lasting.proofs.FineScripts.{script_fine}
 use Rattle.title_lasting.proofs.Unmade.{ended_by, unjoined_unmade, unread_unmade}
 use Rattle.title_lasting.proofs.serving.make.Goals as goal
 

@@ -2,9 +2,7 @@
 use Rattle.std.proofs.Common.{List, subst}
 use Rattle.title_chain.specs.declared.record.Record.{Record}
 use Rattle.title_plan.specs.Asked.{asked_in}
-use Rattle.title_lasting.specs.Kept.{text_in}
-use Rattle.title_lasting.specs.Made.{IsAddedBlock}
-use Rattle.title_lasting.proofs.DayServed.{declared_alike, is_served_at, kept_of}
+use Rattle.title_lasting.{specs.{Kept.{text_in}, Made.{IsAddedBlock}}, proofs.DayServed.{declared_alike, is_served_at, kept_of}}
 use Rattle.title_lasting.proofs.serving.serve.Goals as goal
 
 pub new_records-requires : goal.new_records-requires

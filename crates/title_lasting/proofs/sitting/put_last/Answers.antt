@@ -1,8 +1,6 @@
 -- What the sink took is a beginning of the row.
-use Rattle.std.proofs.Common.{[], ◌∷◌}
-use Rattle.std.proofs.lemmas.Result.{on_err_weaker}
-use Rattle.title_page.specs.Rows.{rows_text}
-use Rattle.title_page.specs.Laws.InTurn.{on_err}
+use Rattle.std.proofs.{Common.{[], ◌∷◌}, lemmas.Result.{on_err_weaker}}
+use Rattle.title_page.specs.{Rows.{rows_text}, Laws.InTurn.{on_err}}
 use Rattle.title_report.specs.Replies.{end_row}
 use Rattle.title_lasting.proofs.Told.{part, part_at_end}
 use Rattle.title_lasting.proofs.sitting.put_last.Goals as goal

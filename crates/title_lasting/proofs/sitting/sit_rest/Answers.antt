@@ -1,15 +1,9 @@
 -- Its answers can't be held, what it adds isn't kept, or its answers are written, or aren't.
-use Rattle.std.proofs.Common.{List, ℕ, subst}
-use Rattle.std.specs.Io.KnownBytes.{Appends}
-use Rattle.std.proofs.lemmas.Result.{err_from_is_err_and}
+use Rattle.std.{proofs.{Common.{List, ℕ, subst}, lemmas.Result.{err_from_is_err_and}}, specs.Io.KnownBytes.{Appends}}
 use Rattle.title_disk.specs.Crashes.{LeavesOnly}
-use Rattle.title_counter.specs.Lines.{last_line}
-use Rattle.title_counter.specs.Views.{counter_of}
-use Rattle.title_lasting.specs.Lastings.{Begins}
-use Rattle.title_lasting.specs.Sittings.{HasAt}
-use Rattle.title_lasting.proofs.BatchKept.{still_there}
+use Rattle.title_counter.specs.{Lines.{last_line}, Views.{counter_of}}
+use Rattle.title_lasting.{specs.{Lastings.{Begins}, Sittings.{HasAt}}, proofs.{BatchKept.{still_there}, Endings.{keeps_itself}}}
 use Rattle.title_lasting.proofs.BatchTold.{all_told, comes_on, unkept, untold}
-use Rattle.title_lasting.proofs.Endings.{keeps_itself}
 use Rattle.title_lasting.proofs.sitting.sit_rest.Goals as goal
 
 pub returns-in_err-text-clause-batch : goal.returns-in_err-text-clause-batch

@@ -1,10 +1,8 @@
 -- One step more, and all of them.
-use Rattle.std.proofs.Common.{◌∙◌, ◌≡◌, ◌+◌, ◌++◌, ◌∷◌, [], ap, arith, subst, sym, take}
-use Rattle.std.specs.List.{AllByRecursion}
+use Rattle.std.{proofs.Common.{◌∙◌, ◌≡◌, ◌+◌, ◌++◌, ◌∷◌, [], ap, arith, subst, sym, take}, specs.List.{AllByRecursion}}
 use Rattle.std.proofs.lemmas.List.{take_all, take_more}
 use Rattle.title_chain.specs.declared.ask.Step.{Step}
-use Rattle.title_lasting.specs.Footings.{CanAsk}
-use Rattle.title_lasting.proofs.DayBlock.{all_more}
+use Rattle.title_lasting.{specs.Footings.{CanAsk}, proofs.DayBlock.{all_more}}
 use Rattle.title_lasting.proofs.writable.can_ask_all.Goals as goal
 
 pub loop-step-preserved : goal.loop-step-preserved

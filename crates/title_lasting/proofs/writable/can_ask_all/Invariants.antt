@@ -1,6 +1,5 @@
 -- Each step so far can be written.
-use Rattle.std.proofs.Common.{take}
-use Rattle.std.specs.List.{AllByRecursion}
+use Rattle.std.{proofs.Common.{take}, specs.List.{AllByRecursion}}
 use Rattle.title_lasting.specs.Footings.{CanAsk}
 use Rattle.title_lasting.proofs.writable.can_ask_all.Given as goal
 

@@ -1,17 +1,9 @@
 -- Each record that is new can be written, so the block adds them.
-use Rattle.std.proofs.Common.{◌≡◌, ◌∙◌, ℕ, List, ap, arith, drop, length, refl, subst, sym}
-use Rattle.std.specs.List.{AllByRecursion}
-use Rattle.std.specs.String.{string_bytes}
-use Rattle.std.proofs.lemmas.List.{length-map}
+use Rattle.std.{proofs.Common.{◌≡◌, ◌∙◌, ℕ, List, ap, arith, drop, length, refl, subst, sym}, specs.List.{AllByRecursion}}
+use Rattle.std.{specs.String.{string_bytes}, proofs.lemmas.List.{length-map}}
 use Rattle.title_chain.specs.declared.record.Record.{Record}
-use Rattle.title_lasting.specs.Days.{declared_in}
-use Rattle.title_lasting.specs.Footings.{CanWrite}
-use Rattle.title_lasting.specs.Kept.{text_in}
-use Rattle.title_lasting.specs.Made.{IsAddedBlock}
-use Rattle.title_lasting.proofs.CellsSaid.{described_have_cells}
-use Rattle.title_lasting.proofs.DayBlock.{is_new}
-use Rattle.title_lasting.proofs.FineBooks.{stands_written}
-use Rattle.title_lasting.proofs.FineScripts.{script_fine}
+use Rattle.title_lasting.{specs.{Days.{declared_in}, Footings.{CanWrite}, Kept.{text_in}, Made.{IsAddedBlock}}, proofs.DayBlock.{is_new}}
+use Rattle.title_lasting.proofs.{CellsSaid.{described_have_cells}, FineBooks.{stands_written}, FineScripts.{script_fine}}
 use Rattle.title_lasting.proofs.writable.day_block.Goals as goal
 
 pub returns-in_ok-added-in-None : goal.returns-in_ok-added-in-None

@@ -1,10 +1,8 @@
 -- One record more, and all of them.
-use Rattle.std.proofs.Common.{◌∙◌, ◌≡◌, ◌+◌, ◌++◌, ◌∷◌, [], ap, arith, subst, sym, take}
-use Rattle.std.specs.List.{AllByRecursion}
+use Rattle.std.{proofs.Common.{◌∙◌, ◌≡◌, ◌+◌, ◌++◌, ◌∷◌, [], ap, arith, subst, sym, take}, specs.List.{AllByRecursion}}
 use Rattle.std.proofs.lemmas.List.{take_all, take_more}
 use Rattle.title_chain.specs.declared.record.Record.{Record}
-use Rattle.title_lasting.specs.Footings.{CanWrite}
-use Rattle.title_lasting.proofs.DayBlock.{all_more}
+use Rattle.title_lasting.{specs.Footings.{CanWrite}, proofs.DayBlock.{all_more}}
 use Rattle.title_lasting.proofs.writable.first_unwritable.Goals as goal
 
 pub loop-index-preserved : goal.loop-index-preserved

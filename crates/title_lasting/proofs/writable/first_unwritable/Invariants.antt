@@ -1,6 +1,5 @@
 -- Each record so far can be written.
-use Rattle.std.proofs.Common.{take}
-use Rattle.std.specs.List.{AllByRecursion}
+use Rattle.std.{proofs.Common.{take}, specs.List.{AllByRecursion}}
 use Rattle.title_lasting.specs.Footings.{CanWrite}
 use Rattle.title_lasting.proofs.writable.first_unwritable.Given as goal
 

@@ -1,7 +1,6 @@
 -- The law over entries, one after another.
 use Rattle.title_land.specs.Depth.{depth}
-use Rattle.title_lock.proofs.MeetLaws.{meet_by_covers}
-use Rattle.title_lock.proofs.Standing.{free_granted}
+use Rattle.title_lock.proofs.{MeetLaws.{meet_by_covers}, Standing.{free_granted}}
 use Rattle.title_lock.proofs.laws.free_are_granted.Goals as goal
 
 pub returns : goal.returns

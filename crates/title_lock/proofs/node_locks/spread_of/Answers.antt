@@ -1,8 +1,6 @@
 -- One entry more, before those so far.
-use Rattle.std.proofs.Common.{◌<◌, ◌∙◌, ◌∷◌, ap, sym, List, reverse, take, length, arith}
-use Rattle.std.proofs.lemmas.List.{take_all}
-use Rattle.title_lock.specs.declared.guards.Entry.{Entry}
-use Rattle.title_lock.proofs.RowLaws.{turned_more}
+use Rattle.std.proofs.{Common.{◌<◌, ◌∙◌, ◌∷◌, ap, sym, List, reverse, take, length, arith}, lemmas.List.{take_all}}
+use Rattle.title_lock.{specs.declared.guards.Entry.{Entry}, proofs.RowLaws.{turned_more}}
 use Rattle.title_lock.proofs.node_locks.spread_of.Goals as goal
 
 pub loop-row-preserved : goal.loop-row-preserved

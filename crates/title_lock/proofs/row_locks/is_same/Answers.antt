@@ -1,6 +1,5 @@
 -- Nodes that compare equal are one.
-use Rattle.std.proofs.Common.{◌∙◌, ap}
-use Rattle.std.specs.Ordering.{is_eq}
+use Rattle.std.{proofs.Common.{◌∙◌, ap}, specs.Ordering.{is_eq}}
 use Rattle.title_land.specs.Laws.NodeKeys.{node_at}
 use Rattle.title_lock.proofs.row_locks.is_same.Goals as goal
 

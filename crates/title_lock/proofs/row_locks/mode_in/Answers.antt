@@ -1,13 +1,7 @@
 -- One row more, before those so far.
-use Rattle.std.proofs.Common.{◌<◌, ◌∙◌, ◌∷◌, ap, sym, List, Option, eqb, cond, None, reverse, take, length, arith}
-use Rattle.std.proofs.lemmas.List.{take_all}
-use Rattle.title_land.specs.Depth.{depth}
-use Rattle.title_land.specs.Lands.{cover_of}
-use Rattle.title_lock.specs.declared.modes.Mode.{Mode}
-use Rattle.title_lock.specs.declared.guards.Entry.{Entry}
-use Rattle.title_lock.specs.Modes.{bound}
-use Rattle.title_lock.specs.Overlaps.{is_post}
-use Rattle.title_lock.specs.Asking.{asked, mode_at}
+use Rattle.std.proofs.{Common.{◌<◌, ◌∙◌, ◌∷◌, ap, sym, List, Option, eqb, cond, None, reverse, take, length, arith}, lemmas.List.{take_all}}
+use Rattle.title_land.specs.{Depth.{depth}, Lands.{cover_of}}
+use Rattle.title_lock.specs.{declared.{modes.Mode.{Mode}, guards.Entry.{Entry}}, Modes.{bound}, Overlaps.{is_post}, Asking.{asked, mode_at}}
 use Rattle.title_lock.proofs.RowLaws.{turned_more}
 use Rattle.title_lock.proofs.row_locks.mode_in.Goals as goal
 

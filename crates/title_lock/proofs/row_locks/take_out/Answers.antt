@@ -1,6 +1,5 @@
 -- Those that are kept are the others'.
-use Rattle.std.proofs.Common.{rules}
-use Rattle.std.proofs.lemmas.Fn.{filter_same}
+use Rattle.std.proofs.{Common.{rules}, lemmas.Fn.{filter_same}}
 use Rattle.title_lock.proofs.row_locks.take_out.Goals as goal
 
 pub returns : goal.returns

@@ -1,9 +1,7 @@
 -- One row more, before those so far.
 use Rattle.std.proofs.Common.{◌<◌, ◌∙◌, ◌∷◌, ◌&&◌, ℕ, Option, List, eqb, ap, sym, subst, reverse, take, length, arith}
 use Rattle.std.proofs.lemmas.List.{take_all}
-use Rattle.title_lock.specs.declared.guards.Entry.{Entry}
-use Rattle.title_lock.specs.Overlaps.{is_post, overlap, against, Stands}
-use Rattle.title_lock.proofs.LeastLaws.{least_join}
+use Rattle.title_lock.{specs.{declared.guards.Entry.{Entry}, Overlaps.{is_post, overlap, against, Stands}}, proofs.LeastLaws.{least_join}}
 use Rattle.title_lock.proofs.RowLaws.{turned_more}
 use Rattle.title_lock.proofs.row_locks.way.Goals as goal
 

@@ -1,8 +1,8 @@
 -- The first other examiner in the way is the least.
 use Rattle.std.proofs.Common.{subst, ◌∙◌, sym, refl}
 use Rattle.title_lock.proofs.FirstLaws.{Carries, carries_on, carries_least, carries_none}
-use Rattle.title_lock.proofs.slots.search.Goals as goal
 use Rattle.title_lock.proofs.slots.search.Goals.{else-in_way-via-then-in_way+else-other-examiner, else-in_way-via-else-in_way}
+use Rattle.title_lock.proofs.slots.search.Goals as goal
 
 pub loop-other-init : goal.loop-other-init
 loop-other-init c =

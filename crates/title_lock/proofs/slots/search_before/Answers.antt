@@ -2,8 +2,8 @@
 use Rattle.std.proofs.Common.{subst, ◌∙◌, sym, refl, Some, None}
 use Rattle.title_lock.proofs.FirstLaws.{Carries, before, before_sorted, carries_on, carries_least, carries_none, in_way, in_way_before}
 use Rattle.title_lock.proofs.LeastLaws.{least_same}
-use Rattle.title_lock.proofs.slots.search_before.Goals as goal
 use Rattle.title_lock.proofs.slots.search_before.Goals.{else-in_way-via-then-in_way+else-other-examiner, else-in_way-via-else-in_way}
+use Rattle.title_lock.proofs.slots.search_before.Goals as goal
 
 pub loop-other-init : goal.loop-other-init
 loop-other-init c =

@@ -1,15 +1,8 @@
 -- What an entry asks for is given back beside what the others of its examiner ask for; at the end there are none.
-use Rattle.std.proofs.Common.{◌∙◌, ◌&&◌, Bool, List, Option, None, cond, eqb, ap}
-use Rattle.title_land.specs.Depth.{depth}
-use Rattle.std.specs.List.{list_any}
-use Rattle.title_land.specs.declared.node.Node.{Node}
-use Rattle.title_lock.specs.declared.modes.Mode.{Mode}
-use Rattle.title_lock.specs.Tables.{table_mode, is_asked, is_asked_by}
-use Rattle.title_land.specs.Lands.{cover_of}
-use Rattle.title_lock.specs.Tables.{on_all}
-use Rattle.title_lock.proofs.AccessLaws.{gone_join}
-use Rattle.title_lock.proofs.IdleLaws.{less_more}
-use Rattle.title_lock.proofs.GiveBack.{asked_more, without_more, none_left}
+use Rattle.std.{proofs.Common.{◌∙◌, ◌&&◌, Bool, List, Option, None, cond, eqb, ap}, specs.List.{list_any}}
+use Rattle.title_land.specs.{Depth.{depth}, declared.node.Node.{Node}, Lands.{cover_of}}
+use Rattle.title_lock.{specs.{declared.modes.Mode.{Mode}, Tables.{table_mode, is_asked, is_asked_by, on_all}}, proofs.IdleLaws.{less_more}}
+use Rattle.title_lock.proofs.{AccessLaws.{gone_join}, GiveBack.{asked_more, without_more, none_left}}
 use Rattle.title_lock.proofs.spread_locks.give_back_all.Goals as goal
 
 pub loop-entry-preserved : goal.loop-entry-preserved

@@ -1,12 +1,8 @@
 -- The others' entries stay, and what is given back with those that are left is what is given back in all;
 -- nobody more is idle.
-use Rattle.std.proofs.Common.{◌≡◌, ℕ, None, ◌&&◌, cond, eqb, length}
-use Rattle.title_land.specs.Depth.{depth}
-use Rattle.std.specs.List.{list_any}
-use Rattle.title_land.specs.declared.node.Node.{Node}
-use Rattle.title_lock.specs.Overlaps.{without}
-use Rattle.title_lock.specs.Tables.{table_mode, is_asked_by, NoMoreIdle, TableUsed}
-use Rattle.title_lock.specs.Tables.{on_all}
+use Rattle.std.{proofs.Common.{◌≡◌, ℕ, None, ◌&&◌, cond, eqb, length}, specs.List.{list_any}}
+use Rattle.title_land.specs.{Depth.{depth}, declared.node.Node.{Node}}
+use Rattle.title_lock.specs.{Overlaps.{without}, Tables.{table_mode, is_asked_by, NoMoreIdle, TableUsed, on_all}}
 use Rattle.title_lock.proofs.spread_locks.give_back_all.Given as goal
 
 abbrev pub invariant-loop-entry : goal.invariant-loop-entry

@@ -1,9 +1,7 @@
 -- Where a record can't be published there was no want of a place; and viewers are of what is published.
-use Rattle.std.proofs.Common.{◌≡◌, List, subst, replicate}
+use Rattle.std.{proofs.Common.{◌≡◌, List, subst, replicate}, specs.Prelude.{IfOk}}
 use Rattle.title_chain.specs.declared.record.Record.{Record}
-use Rattle.std.specs.Prelude.{IfOk}
-use Rattle.title_office.specs.Offices.{sight_on}
-use Rattle.title_office.proofs.Faults.{no_want_of_place}
+use Rattle.title_office.{specs.Offices.{sight_on}, proofs.Faults.{no_want_of_place}}
 use Rattle.title_office.proofs.opening_on.fill.Goals as goal
 
 pub returns-in_err-publish_all-clause-why : goal.returns-in_err-publish_all-clause-why

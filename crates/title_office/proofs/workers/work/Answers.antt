@@ -1,7 +1,6 @@
 -- What the threads have run is said of the scripts.
 use Rattle.std.proofs.Common.{◌≡◌, None, IfSome, IsSome}
-use Rattle.title_office.specs.Turns.{EndsWorker, report_of}
-use Rattle.title_office.proofs.Runs.{run_examiners, run_counted, run_each, own_seat}
+use Rattle.title_office.{specs.Turns.{EndsWorker, report_of}, proofs.Runs.{run_examiners, run_counted, run_each, own_seat}}
 use Rattle.title_office.proofs.workers.work.Goals as goal
 
 pub returns-in-Ok-new-clause-workers : goal.returns-in-Ok-new-clause-workers

@@ -1,6 +1,5 @@
 -- A text is a number up to the greatest by the definition where it writes one.
-use Rattle.std.proofs.Common.{◌≡◌, ◌∙◌, sym, arith, true, nat_le}
-use Rattle.std.proofs.lemmas.Bool.Decides.{nat_tests}
+use Rattle.std.proofs.{Common.{◌≡◌, ◌∙◌, sym, arith, true, nat_le}, lemmas.Bool.Decides.{nat_tests}}
 use Rattle.title_plan.proofs.Texts.{no_number, number_is}
 use Rattle.title_plan.proofs.fields.read_number.Goals as goal
 

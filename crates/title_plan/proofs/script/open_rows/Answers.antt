@@ -1,6 +1,5 @@
 use Rattle.std.proofs.Common.{◌∙◌, ap, inr, true}
-use Rattle.csv.specs.Reading.{with_flexible}
-use Rattle.csv.specs.declared.reader.ReaderBuilder.{ReaderBuilder}
+use Rattle.csv.specs.{Reading.{with_flexible}, declared.reader.ReaderBuilder.{ReaderBuilder}}
 use Rattle.title_plan.proofs.script.open_rows.Goals as goal
 
 pub returns : goal.returns

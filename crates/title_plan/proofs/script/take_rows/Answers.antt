@@ -1,13 +1,6 @@
-use Rattle.std.proofs.Common.{Bor, List, ℕ, ◌+◌, ◌∙◌, sym, refl, arith, inl, inr, Some, []}
-use Rattle.std.proofs.Common.{length}
-use Rattle.std.proofs.lemmas.Result.{err_from_is_err_and}
-use Rattle.csv.specs.Reading.{Reached, default_config}
-use Rattle.csv.specs.Records.{fields_of}
-use Rattle.csv.proofs.ReadFacts.{rows-end, rows-more}
-use Rattle.title_plan.specs.Asked.{asked_in}
-use Rattle.title_plan.specs.Onto.{first_of}
-use Rattle.title_plan.specs.Readers.{left_of}
-use Rattle.title_plan.proofs.ReadOn.{none_read, one_read}
+use Rattle.std.proofs.{Common.{Bor, List, ℕ, ◌+◌, ◌∙◌, sym, refl, arith, inl, inr, Some, [], length}, lemmas.Result.{err_from_is_err_and}}
+use Rattle.csv.{specs.{Reading.{Reached, default_config}, Records.{fields_of}}, proofs.ReadFacts.{rows-end, rows-more}}
+use Rattle.title_plan.{specs.{Asked.{asked_in}, Onto.{first_of}, Readers.{left_of}}, proofs.ReadOn.{none_read, one_read}}
 use Rattle.title_plan.proofs.script.take_rows.Goals as goal
 
 pub rows-init : goal.rows-init

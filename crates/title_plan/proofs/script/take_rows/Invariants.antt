@@ -1,10 +1,7 @@
 use Rattle.std.proofs.Common.{◌≡◌, ◌≤◌, ◌+◌, ◌-◌, ℕ, List, Some, true}
 use Rattle.csv.specs.Reading.{Ready, default_config, is_flexible, records, records_from, source_of}
 use Rattle.csv.specs.declared.reader.Trim.TheVariants as trim
-use Rattle.title_plan.specs.Limits.{most_rows}
-use Rattle.title_plan.specs.Asked.{asked_in}
-use Rattle.title_plan.specs.Onto.{StandIn, after_rows_onto, first_of}
-use Rattle.title_plan.specs.Readers.{left_of}
+use Rattle.title_plan.specs.{Limits.{most_rows}, Asked.{asked_in}, Onto.{StandIn, after_rows_onto, first_of}, Readers.{left_of}}
 use Rattle.title_plan.proofs.ReadOn.{IsCounted}
 use Rattle.title_plan.proofs.script.take_rows.Given as goal
 

@@ -1,6 +1,5 @@
 -- Why a text is no quantum.
-use Rattle.std.proofs.Common.{arith}
-use Rattle.std.proofs.lemmas.Str.Pattern.{strip_prefix_char}
+use Rattle.std.proofs.{Common.{arith}, lemmas.Str.Pattern.{strip_prefix_char}}
 use Rattle.title_plan.proofs.Texts.{no_quantum}
 use Rattle.title_plan.proofs.terms.read_quantum.Goals as goal
 

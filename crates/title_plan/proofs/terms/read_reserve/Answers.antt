@@ -1,9 +1,6 @@
 -- Items read one by one are the reserve of the whole text.
-use Rattle.std.proofs.Common.{◌∙◌, lit<, refl}
-use Rattle.std.specs.List.{slice_split}
-use Rattle.std.proofs.lemmas.Iterator.Splits.{YieldsList-from_str_split}
-use Rattle.title_plan.specs.Fields.{is_semicolon, reserve_in}
-use Rattle.title_plan.proofs.Texts.{no_more, one_item}
+use Rattle.std.{proofs.{Common.{◌∙◌, lit<, refl}, lemmas.Iterator.Splits.{YieldsList-from_str_split}}, specs.List.{slice_split}}
+use Rattle.title_plan.{specs.Fields.{is_semicolon, reserve_in}, proofs.Texts.{no_more, one_item}}
 use Rattle.title_plan.proofs.terms.read_reserve.Goals as goal
 
 pub loop-item-init : goal.loop-item-init

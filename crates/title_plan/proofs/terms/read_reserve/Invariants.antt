@@ -1,7 +1,6 @@
 -- The items that are left come to the reserve so far as all come to nothing.
 use Rattle.std.proofs.Common.{◌≡◌, ℕ, List}
-use Rattle.title_plan.specs.Fields.{reserve_in, with_items}
-use Rattle.title_plan.proofs.Texts.{Gives}
+use Rattle.title_plan.{specs.Fields.{reserve_in, with_items}, proofs.Texts.{Gives}}
 use Rattle.title_plan.proofs.terms.read_reserve.Given as goal
 
 abbrev pub invariant-loop-item : goal.invariant-loop-item

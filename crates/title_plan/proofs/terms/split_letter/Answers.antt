@@ -1,6 +1,5 @@
 -- No other letter is an estate's.
-use Rattle.std.proofs.Common.{arith}
-use Rattle.std.proofs.lemmas.Str.Pattern.{strip_prefix_char}
+use Rattle.std.proofs.{Common.{arith}, lemmas.Str.Pattern.{strip_prefix_char}}
 use Rattle.title_plan.proofs.Texts.{no_letter}
 use Rattle.title_plan.proofs.terms.split_letter.Goals as goal
 

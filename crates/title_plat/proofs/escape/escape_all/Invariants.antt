@@ -1,6 +1,5 @@
 -- The characters so far, as they stand in XML.
-use Rattle.std.proofs.Common.{◌≡◌, take}
-use Rattle.std.specs.String.{string_bytes}
+use Rattle.std.{proofs.Common.{◌≡◌, take}, specs.String.{string_bytes}}
 use Rattle.title_plat.specs.Escapes.{escapes}
 use Rattle.title_plat.proofs.escape.escape_all.Given as goal
 

@@ -1,8 +1,6 @@
 -- One part more is whole.
-use Rattle.std.proofs.Common.{◌≤◌, length, subst, arith}
-use Rattle.std.proofs.lemmas.List.Elements.{All-more}
-use Rattle.title_plat.specs.Once.{IsWhole}
-use Rattle.title_plat.proofs.Walks.{all_walked}
+use Rattle.std.proofs.{Common.{◌≤◌, length, subst, arith}, lemmas.List.Elements.{All-more}}
+use Rattle.title_plat.{specs.Once.{IsWhole}, proofs.Walks.{all_walked}}
 use Rattle.title_plat.proofs.once.are_whole.Goals as goal
 
 pub loop-part-preserved : goal.loop-part-preserved

@@ -1,6 +1,5 @@
 -- The parts so far are whole.
-use Rattle.std.proofs.Common.{take}
-use Rattle.std.specs.List.{All}
+use Rattle.std.{proofs.Common.{take}, specs.List.{All}}
 use Rattle.title_plat.specs.Once.{IsWhole}
 use Rattle.title_plat.proofs.once.are_whole.Given as goal
 

@@ -1,6 +1,5 @@
 -- How many of the parts so far have the cell.
-use Rattle.std.proofs.Common.{◌≡◌, take}
-use Rattle.std.specs.List.{count_by}
+use Rattle.std.{proofs.Common.{◌≡◌, take}, specs.List.{count_by}}
 use Rattle.title_plat.specs.Once.{has_cell}
 use Rattle.title_plat.proofs.once.parts_at.Given as goal
 

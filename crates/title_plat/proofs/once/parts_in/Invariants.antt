@@ -1,6 +1,5 @@
 -- How many of the parts so far are of the estate.
-use Rattle.std.proofs.Common.{◌≡◌, take}
-use Rattle.std.specs.List.{count_by}
+use Rattle.std.{proofs.Common.{◌≡◌, take}, specs.List.{count_by}}
 use Rattle.title_plat.specs.Parts.{same_estate}
 use Rattle.title_plat.proofs.once.parts_in.Given as goal
 

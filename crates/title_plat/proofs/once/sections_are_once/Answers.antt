@@ -1,8 +1,6 @@
 -- One section more.
-use Rattle.std.proofs.Common.{◌≤◌, length, subst, arith}
-use Rattle.std.proofs.lemmas.List.Elements.{All-more}
-use Rattle.title_plat.specs.Once.{IsOnceIn}
-use Rattle.title_plat.proofs.Walks.{all_walked}
+use Rattle.std.proofs.{Common.{◌≤◌, length, subst, arith}, lemmas.List.Elements.{All-more}}
+use Rattle.title_plat.{specs.Once.{IsOnceIn}, proofs.Walks.{all_walked}}
 use Rattle.title_plat.proofs.once.sections_are_once.Goals as goal
 
 pub loop-section-preserved : goal.loop-section-preserved

@@ -1,6 +1,5 @@
 -- The units of the owners so far.
-use Rattle.std.proofs.Common.{◌≡◌, take}
-use Rattle.std.specs.List.{sum_by}
+use Rattle.std.{proofs.Common.{◌≡◌, take}, specs.List.{sum_by}}
 use Rattle.title_plat.proofs.once.sums_to_whole.Given as goal
 
 abbrev pub invariant-loop-row : goal.invariant-loop-row

@@ -1,6 +1,5 @@
 -- What holds of the sections that were listed holds of the township's.
-use Rattle.std.proofs.Common.{subst, ◌∙◌}
-use Rattle.std.specs.List.{All}
+use Rattle.std.{proofs.Common.{subst, ◌∙◌}, specs.List.{All}}
 use Rattle.title_plat.specs.Once.{IsOnceIn}
 use Rattle.title_plat.proofs.once.township_is_once.Goals as goal
 

@@ -1,11 +1,7 @@
 -- One township more.
-use Rattle.std.proofs.Common.{◌≤◌, length, subst, arith}
-use Rattle.std.specs.List.{All}
-use Rattle.std.proofs.lemmas.List.Elements.{All-more}
-use Rattle.title_land.specs.CellLists.{sections_of}
-use Rattle.title_land.specs.declared.survey.Township.{Township}
-use Rattle.title_plat.specs.Once.{IsOnceIn}
-use Rattle.title_plat.proofs.Walks.{all_walked}
+use Rattle.std.{proofs.{Common.{◌≤◌, length, subst, arith}, lemmas.List.Elements.{All-more}}, specs.List.{All}}
+use Rattle.title_land.specs.{CellLists.{sections_of}, declared.survey.Township.{Township}}
+use Rattle.title_plat.{specs.Once.{IsOnceIn}, proofs.Walks.{all_walked}}
 use Rattle.title_plat.proofs.once.townships_are_once.Goals as goal
 
 pub loop-township-preserved : goal.loop-township-preserved

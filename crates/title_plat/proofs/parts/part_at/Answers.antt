@@ -1,8 +1,6 @@
 -- The row at which the part begins, and those behind it that are like it.
-use Rattle.std.proofs.Common.{◌+◌, refl, subst, arith}
-use Rattle.std.proofs.lemmas.List.{length-drop}
-use Rattle.title_plat.specs.Parts.{IsRowOf}
-use Rattle.title_plat.proofs.Walks.{run_more, rest_of}
+use Rattle.std.proofs.{Common.{◌+◌, refl, subst, arith}, lemmas.List.{length-drop}}
+use Rattle.title_plat.{specs.Parts.{IsRowOf}, proofs.Walks.{run_more, rest_of}}
 use Rattle.title_plat.proofs.parts.part_at.Goals as goal
 
 pub returns-clause-part : goal.returns-clause-part

@@ -1,9 +1,6 @@
 -- One part more.
-use Rattle.std.proofs.lemmas.List.Elements.{All-push}
-use Rattle.std.proofs.Common.{subst, sym}
-use Rattle.std.specs.List.{All}
-use Rattle.title_plat.specs.Parts.{IsPart}
-use Rattle.title_plat.proofs.Walks.{parts_more}
+use Rattle.std.{proofs.{lemmas.List.Elements.{All-push}, Common.{subst, sym}}, specs.List.{All}}
+use Rattle.title_plat.{specs.Parts.{IsPart}, proofs.Walks.{parts_more}}
 use Rattle.title_plat.proofs.parts.parts_of.Goals as goal
 
 pub loop-at-preserved : goal.loop-at-preserved

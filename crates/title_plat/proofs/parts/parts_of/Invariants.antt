@@ -1,6 +1,5 @@
 -- The parts so far have the rows so far.
-use Rattle.std.proofs.Common.{◌≡◌, ◌≤◌, ◌-◌, length, take}
-use Rattle.std.specs.List.{All, flat_map}
+use Rattle.std.{proofs.Common.{◌≡◌, ◌≤◌, ◌-◌, length, take}, specs.List.{All, flat_map}}
 use Rattle.title_plat.specs.Parts.{IsPart, owners_of}
 use Rattle.title_plat.proofs.parts.parts_of.Given as goal
 

@@ -1,6 +1,5 @@
 -- One row more is of the node and estate.
-use Rattle.std.proofs.Common.{subst}
-use Rattle.std.proofs.lemmas.List.Elements.{All-more}
+use Rattle.std.proofs.{Common.{subst}, lemmas.List.Elements.{All-more}}
 use Rattle.title_plat.specs.Parts.{IsRowOf}
 use Rattle.title_plat.proofs.parts.run_length.Goals as goal
 

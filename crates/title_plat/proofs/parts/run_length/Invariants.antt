@@ -1,6 +1,5 @@
 -- The rows so far are of the node and estate.
-use Rattle.std.proofs.Common.{take}
-use Rattle.std.specs.List.{All}
+use Rattle.std.{proofs.Common.{take}, specs.List.{All}}
 use Rattle.title_plat.specs.Parts.{IsRowOf}
 use Rattle.title_plat.proofs.parts.run_length.Given as goal
 

@@ -1,8 +1,7 @@
 -- What was told, and how it ends.
 use Rattle.std.proofs.Common.{Result, ap, inr, refl, subst, sym}
 use Rattle.title_lasting.specs.declared.checking.TellFault.{TellFault}
-use Rattle.title_program.specs.Checking.{ChecksBy}
-use Rattle.title_program.proofs.KeptTold.{checks_by}
+use Rattle.title_program.{specs.Checking.{ChecksBy}, proofs.KeptTold.{checks_by}}
 use Rattle.title_program.proofs.checking.check.Goals as goal
 
 pub returns-in-Ok-tell_bytes-clause-seen : goal.returns-in-Ok-tell_bytes-clause-seen

@@ -1,6 +1,5 @@
 -- The disk has the bytes.
-use Rattle.std.proofs.Common.{subst, ℕ, true, false}
-use Rattle.std.specs.Global.{Vec}
+use Rattle.std.{proofs.Common.{subst, ℕ, true, false}, specs.Global.{Vec}}
 use Rattle.title_lasting.specs.Tells.{Telling}
 use Rattle.title_program.specs.Checking.{telling_text}
 use Rattle.title_program.proofs.checking.tell_bytes.Goals as goal

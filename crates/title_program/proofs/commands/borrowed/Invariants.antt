@@ -1,6 +1,5 @@
 -- The texts of the words so far.
-use Rattle.std.proofs.Common.{◌≡◌, map, take}
-use Rattle.std.specs.String.{string_bytes}
+use Rattle.std.{proofs.Common.{◌≡◌, map, take}, specs.String.{string_bytes}}
 use Rattle.title_program.proofs.commands.borrowed.Given as goal
 
 abbrev pub invariant-loop-word : goal.invariant-loop-word

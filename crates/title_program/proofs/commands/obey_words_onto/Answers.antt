@@ -1,8 +1,7 @@
 -- Where the words can't be held, memory ran out; the texts of the words that are held are the words.
 use Rattle.std.proofs.Common.{◌∙◌, Err, List, ap, map, refl, subst, ℕ}
 use Rattle.title_command.specs.declared.choice.LineFault.TheVariants.{Memory}
-use Rattle.title_program.specs.Obeying.{IsAsked}
-use Rattle.title_program.proofs.Unread.{none_within}
+use Rattle.title_program.{specs.Obeying.{IsAsked}, proofs.Unread.{none_within}}
 use Rattle.title_program.proofs.commands.obey_words_onto.Goals as goal
 
 pub returns-in_default-clause-answered : goal.returns-in_default-clause-answered

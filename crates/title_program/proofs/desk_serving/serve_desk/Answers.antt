@@ -1,8 +1,7 @@
 -- What was answered, and how it ends.
 use Rattle.std.proofs.Common.{Result, ap, refl, subst, sym}
 use Rattle.title_counter.specs.declared.fault.CounterFault.{CounterFault}
-use Rattle.title_program.specs.DeskServing.{ClosesBy}
-use Rattle.title_program.proofs.DeskTold.{closes_by}
+use Rattle.title_program.{specs.DeskServing.{ClosesBy}, proofs.DeskTold.{closes_by}}
 use Rattle.title_program.proofs.desk_serving.serve_desk.Goals as goal
 
 pub returns-in-Ok-clause-served : goal.returns-in-Ok-clause-served

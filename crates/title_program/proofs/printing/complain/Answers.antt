@@ -1,7 +1,6 @@
 -- A failed sink is told, as far as the errors take it.
 use Rattle.std.proofs.Common.{Bool, subst}
-use Rattle.title_program.specs.declared.status.Status.TheVariants.{Failure}
-use Rattle.title_program.specs.Obeying.{Complains, unwritten}
+use Rattle.title_program.specs.{declared.status.Status.TheVariants.{Failure}, Obeying.{Complains, unwritten}}
 use Rattle.title_program.proofs.Printed.{printed_part}
 use Rattle.title_program.proofs.printing.complain.Goals as goal
 

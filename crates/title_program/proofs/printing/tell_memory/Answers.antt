@@ -1,6 +1,5 @@
 -- The literal is the line of want of memory.
-use Rattle.std.proofs.Common.{◌≡◌, refl, codes, lit<}
-use Rattle.std.proofs.lemmas.Fmt.{decimal_digit}
+use Rattle.std.proofs.{Common.{◌≡◌, refl, codes, lit<}, lemmas.Fmt.{decimal_digit}}
 use Rattle.title_program.specs.Faults.{fault_line, memory}
 use Rattle.title_program.proofs.printing.tell_memory.Goals as goal
 

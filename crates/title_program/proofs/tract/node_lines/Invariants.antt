@@ -1,7 +1,5 @@
 -- The lines of the nodes so far.
-use Rattle.std.proofs.Common.{◌≡◌, take}
-use Rattle.std.specs.List.{flat_map}
-use Rattle.std.specs.String.{string_bytes}
+use Rattle.std.{proofs.Common.{◌≡◌, take}, specs.{List.{flat_map}, String.{string_bytes}}}
 use Rattle.title_program.specs.Tracts.{node_line}
 use Rattle.title_program.proofs.tract.node_lines.Given as goal
 

@@ -1,7 +1,6 @@
 -- The warning is printed as far as the errors take it.
 use Rattle.std.proofs.Common.{codes}
-use Rattle.title_program.specs.declared.status.Status.TheVariants.{Misunderstood}
-use Rattle.title_program.proofs.Printed.{printed_part}
+use Rattle.title_program.{specs.declared.status.Status.TheVariants.{Misunderstood}, proofs.Printed.{printed_part}}
 use Rattle.title_program.proofs.words.refuse_untaken.Goals as goal
 
 pub returns-in-NotText-clause-told : goal.returns-in-NotText-clause-told

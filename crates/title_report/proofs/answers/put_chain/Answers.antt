@@ -1,8 +1,6 @@
 -- The row that counts, and those that it counts.
-use Rattle.std.proofs.Common.{◌∷◌, [], codes, length, map}
-use Rattle.std.proofs.lemmas.Result.{on_ok_weaker, on_err_weaker}
-use Rattle.title_page.specs.Laws.InTurn.{on_err}
-use Rattle.title_page.specs.Laws.Rows.{rows_stopped_before, rows_stopped_then, rows_then}
+use Rattle.std.proofs.{Common.{◌∷◌, [], codes, length, map}, lemmas.Result.{on_ok_weaker, on_err_weaker}}
+use Rattle.title_page.specs.Laws.{InTurn.{on_err}, Rows.{rows_stopped_before, rows_stopped_then, rows_then}}
 use Rattle.title_report.specs.Replies.{entry_row, number_row}
 use Rattle.title_report.proofs.answers.put_chain.Goals as goal
 

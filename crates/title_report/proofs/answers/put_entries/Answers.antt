@@ -1,6 +1,5 @@
 -- One row more, behind those before it.
-use Rattle.title_page.specs.Laws.InTurn.{on_err}
-use Rattle.title_page.specs.Laws.Rows.{one_row_more, stopped_at_a_row}
+use Rattle.title_page.specs.Laws.{InTurn.{on_err}, Rows.{one_row_more, stopped_at_a_row}}
 use Rattle.title_report.specs.Replies.{entry_row}
 use Rattle.title_report.proofs.answers.put_entries.Goals as goal
 

@@ -1,9 +1,7 @@
 -- The rows so far are written, and each line has the text of its key.
 use Rattle.std.proofs.Common.{◌≡◌, false, map, take}
-use Rattle.title_page.specs.Pages.{Written}
-use Rattle.title_page.specs.Rows.{rows_text}
-use Rattle.title_report.specs.EntryTexts.{AreMade}
-use Rattle.title_report.specs.Replies.{entry_row}
+use Rattle.title_page.specs.{Pages.{Written}, Rows.{rows_text}}
+use Rattle.title_report.specs.{EntryTexts.{AreMade}, Replies.{entry_row}}
 use Rattle.title_report.proofs.answers.put_entries.Given as goal
 
 abbrev pub invariant-loop-entry : goal.invariant-loop-entry

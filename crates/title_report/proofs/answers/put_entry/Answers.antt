@@ -1,9 +1,7 @@
 -- The text with which all rows begin, and that of the key.
-use Rattle.std.proofs.Common.{◌∙◌, ◌<◌, ◌^◌, arith}
-use Rattle.std.proofs.lemmas.Result.{on_ok_weaker, on_err_weaker}
+use Rattle.std.proofs.{Common.{◌∙◌, ◌<◌, ◌^◌, arith}, lemmas.Result.{on_ok_weaker, on_err_weaker}}
 use Rattle.title_page.specs.Laws.InTurn.{on_err, stopped_as, stopped_before, stopped_then, written_as, written_then}
-use Rattle.title_report.specs.EntryTexts.{entry_text}
-use Rattle.title_report.proofs.Lines.{entry_by_key}
+use Rattle.title_report.{specs.EntryTexts.{entry_text}, proofs.Lines.{entry_by_key}}
 use Rattle.title_report.proofs.answers.put_entry.Goals as goal
 
 pub returns-in_err-put-clause-stopped : goal.returns-in_err-put-clause-stopped

@@ -1,6 +1,5 @@
 -- The text that the line keeps is that of the key.
-use Rattle.std.proofs.Common.{◌∙◌, sym}
-use Rattle.std.proofs.lemmas.Result.{on_ok_weaker, on_err_weaker}
+use Rattle.std.proofs.{Common.{◌∙◌, sym}, lemmas.Result.{on_ok_weaker, on_err_weaker}}
 use Rattle.title_page.specs.Laws.InTurn.{stopped_as, written_as}
 use Rattle.title_report.proofs.Lines.{of_some}
 use Rattle.title_report.proofs.answers.put_kept_entry.Goals as goal

@@ -1,8 +1,7 @@
 -- The rows of a sheet's parts are the sheet's.
 use Rattle.std.proofs.lemmas.Result.{on_ok_weaker, on_err_weaker}
 use Rattle.title_page.specs.Laws.InTurn.{stopped_as, written_as}
-use Rattle.title_report.specs.Replies.{sheet_row}
-use Rattle.title_report.proofs.SheetParts.{parts_text}
+use Rattle.title_report.{specs.Replies.{sheet_row}, proofs.SheetParts.{parts_text}}
 use Rattle.title_report.proofs.answers.put_kept_sheet.Goals as goal
 
 pub returns-in-Parted-clause-written : goal.returns-in-Parted-clause-written

@@ -1,8 +1,7 @@
 -- One row more, behind those before it.
 use Rattle.std.proofs.Common.{◌<◌, arith, length}
 use Rattle.title_chain.specs.KeptRows.{rows_in}
-use Rattle.title_page.specs.Laws.InTurn.{on_err}
-use Rattle.title_page.specs.Laws.Rows.{one_row_more, stopped_at_a_row}
+use Rattle.title_page.specs.Laws.{InTurn.{on_err}, Rows.{one_row_more, stopped_at_a_row}}
 use Rattle.title_report.specs.Replies.{sheet_row}
 use Rattle.title_report.proofs.answers.put_sheet_lines.Goals as goal
 

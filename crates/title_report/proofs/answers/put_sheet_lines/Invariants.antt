@@ -1,10 +1,8 @@
 -- The rows so far are written, and what the front remembers are beginnings of rows.
 use Rattle.std.proofs.Common.{◌≡◌, false, map, take}
-use Rattle.title_page.specs.Pages.{Written}
-use Rattle.title_page.specs.Rows.{rows_text}
+use Rattle.title_page.specs.{Pages.{Written}, Rows.{rows_text}}
 use Rattle.title_chain.specs.KeptRows.{rows_in}
-use Rattle.title_report.specs.Fronts.{IsFront}
-use Rattle.title_report.specs.Replies.{sheet_row}
+use Rattle.title_report.specs.{Fronts.{IsFront}, Replies.{sheet_row}}
 use Rattle.title_report.proofs.answers.put_sheet_lines.Given as goal
 
 abbrev pub invariant-loop-index : goal.invariant-loop-index

@@ -1,7 +1,6 @@
 -- The rows of one part more, behind those before it.
 use Rattle.std.proofs.Common.{map}
-use Rattle.title_page.specs.Laws.InTurn.{on_err}
-use Rattle.title_page.specs.Laws.Rows.{rows_of_one_more, stopped_at_one}
+use Rattle.title_page.specs.Laws.{InTurn.{on_err}, Rows.{rows_of_one_more, stopped_at_one}}
 use Rattle.title_report.specs.Replies.{sheet_row}
 use Rattle.title_report.proofs.answers.put_sheet_parts.Goals as goal
 

@@ -1,10 +1,7 @@
 -- The rows of the parts so far are written, and what the front remembers are beginnings of rows.
-use Rattle.std.proofs.Common.{◌≡◌, false, map, take}
-use Rattle.std.specs.List.{flat_map}
-use Rattle.title_page.specs.Pages.{Written}
-use Rattle.title_page.specs.Rows.{rows_text}
-use Rattle.title_report.specs.Fronts.{IsFront}
-use Rattle.title_report.specs.Replies.{sheet_row}
+use Rattle.std.{proofs.Common.{◌≡◌, false, map, take}, specs.List.{flat_map}}
+use Rattle.title_page.specs.{Pages.{Written}, Rows.{rows_text}}
+use Rattle.title_report.specs.{Fronts.{IsFront}, Replies.{sheet_row}}
 use Rattle.title_report.proofs.answers.put_sheet_parts.Given as goal
 
 abbrev pub invariant-loop-part : goal.invariant-loop-part

@@ -1,6 +1,5 @@
 -- The beginning, the name, and what stands behind it.
-use Rattle.std.proofs.Common.{◌∙◌, ◌<◌, ◌^◌, arith}
-use Rattle.std.proofs.lemmas.Result.{on_ok_weaker, on_err_weaker}
+use Rattle.std.proofs.{Common.{◌∙◌, ◌<◌, ◌^◌, arith}, lemmas.Result.{on_ok_weaker, on_err_weaker}}
 use Rattle.title_page.specs.Laws.InTurn.{on_err, stopped_as, stopped_before, stopped_then, written_as, written_then}
 use Rattle.title_report.proofs.Lines.{line_parts}
 use Rattle.title_report.proofs.answers.put_sheet_row.Goals as goal

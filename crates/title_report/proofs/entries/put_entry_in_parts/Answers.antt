@@ -1,6 +1,5 @@
 -- The text up to the first name, the names with a comma between them, and the end.
-use Rattle.std.proofs.Common.{◌∙◌, ◌∷◌, []}
-use Rattle.std.proofs.lemmas.Result.{on_ok_weaker, on_err_weaker}
+use Rattle.std.proofs.{Common.{◌∙◌, ◌∷◌, []}, lemmas.Result.{on_ok_weaker, on_err_weaker}}
 use Rattle.title_page.specs.Laws.InTurn.{on_err, stopped_as, stopped_before, stopped_then, written_as, written_then}
 use Rattle.title_report.proofs.Lines.{key_parts}
 use Rattle.title_report.proofs.entries.put_entry_in_parts.Goals as goal

@@ -1,12 +1,9 @@
 -- The text up to the first name, the names with a comma between them, and the end.
-use Rattle.std.proofs.Common.{◌≡◌, ◌∙◌, ◌++◌, ◌∷◌, [], ℕ, List, ap, append_assoc, refl, sym}
-use Rattle.std.proofs.lemmas.Option.{IfSome_then}
+use Rattle.std.proofs.{Common.{◌≡◌, ◌∙◌, ◌++◌, ◌∷◌, [], ℕ, List, ap, append_assoc, refl, sym}, lemmas.Option.{IfSome_then}}
 use Rattle.csv.specs.Writing.{field_text}
 use Rattle.title_instrument.specs.Estates.{estates_text}
 use Rattle.title_page.specs.Rows.{row_writer}
-use Rattle.title_report.specs.declared.entry_line.EntryKey.{EntryKey}
-use Rattle.title_report.specs.EntryTexts.{entry_front, entry_text}
-use Rattle.title_report.specs.Replies.{name_of}
+use Rattle.title_report.specs.{declared.entry_line.EntryKey.{EntryKey}, EntryTexts.{entry_front, entry_text}, Replies.{name_of}}
 use Rattle.title_report.proofs.Lines.{key_parts}
 use Rattle.title_report.proofs.entry_line.make_text.Goals as goal
 

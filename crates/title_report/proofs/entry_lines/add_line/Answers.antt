@@ -1,9 +1,6 @@
 -- One line more, with no text made.
-use Rattle.std.proofs.Common.{List, [], ◌∷◌, subst, sym}
-use Rattle.std.specs.List.{All}
-use Rattle.std.proofs.lemmas.List.Elements.{All-append, All-cons, All-nil}
-use Rattle.title_report.specs.EntryTexts.{IsMade}
-use Rattle.title_report.specs.declared.entry_line.EntryLine.{EntryLine}
+use Rattle.std.{proofs.{Common.{List, [], ◌∷◌, subst, sym}, lemmas.List.Elements.{All-append, All-cons, All-nil}}, specs.List.{All}}
+use Rattle.title_report.specs.{EntryTexts.{IsMade}, declared.entry_line.EntryLine.{EntryLine}}
 use Rattle.title_report.proofs.entry_lines.add_line.Goals as goal
 
 pub returns-then-has_room : goal.returns-then-has_room

@@ -1,8 +1,6 @@
 -- Each estate has one letter.
 use Rattle.std.proofs.Common.{◌≡◌, ◌∙◌, ℕ, List, ap, length, refl}
-use Rattle.title_instrument.specs.declared.parts.Estate.{Estate}
-use Rattle.title_instrument.specs.declared.parts.Estate.TheVariants.{S, O, M}
-use Rattle.title_instrument.specs.Estates.{estate_text}
+use Rattle.title_instrument.specs.{declared.parts.Estate.{Estate, TheVariants.{S, O, M}}, Estates.{estate_text}}
 use Rattle.title_report.proofs.front.letter_bytes.Goals as goal
 
 one_letter : (estate : Estate) → length (estate_text estate) ≡ 1

@@ -1,6 +1,5 @@
 -- A node's text is its own field.
-use Rattle.std.proofs.Common.{◌∙◌, sym}
-use Rattle.std.proofs.lemmas.Result.{on_ok_weaker, on_err_weaker}
+use Rattle.std.proofs.{Common.{◌∙◌, sym}, lemmas.Result.{on_ok_weaker, on_err_weaker}}
 use Rattle.title_page.specs.Laws.InTurn.{stopped_as, written_as}
 use Rattle.title_report.proofs.Plain.{node_field}
 use Rattle.title_report.proofs.nodes.put_node.Goals as goal

@@ -1,6 +1,5 @@
 -- Digits stand without quotes.
-use Rattle.std.proofs.Common.{◌∙◌}
-use Rattle.std.proofs.lemmas.Result.{on_ok_weaker, on_err_weaker}
+use Rattle.std.proofs.{Common.{◌∙◌}, lemmas.Result.{on_ok_weaker, on_err_weaker}}
 use Rattle.title_page.specs.Laws.InTurn.{stopped_as, written_as}
 use Rattle.title_report.proofs.Plain.{number_field}
 use Rattle.title_report.proofs.nodes.put_number.Goals as goal

@@ -1,9 +1,7 @@
 -- One word more.
-use Rattle.std.proofs.Common.{◌∙◌, ◌+◌, ◌*◌, ℕ, List, ap, drop, map, subst, sym}
-use Rattle.std.proofs.lemmas.List.{drop-map, take_rest}
+use Rattle.std.proofs.{Common.{◌∙◌, ◌+◌, ◌*◌, ℕ, List, ap, drop, map, subst, sym}, lemmas.List.{drop-map, take_rest}}
 use Rattle.std.specs.String.{string_bytes}
-use Rattle.title_report.specs.Rosters.{AreJudged, IsJudged}
-use Rattle.title_report.proofs.Judged.{one_word_more}
+use Rattle.title_report.{specs.Rosters.{AreJudged, IsJudged}, proofs.Judged.{one_word_more}}
 use Rattle.title_report.proofs.roster.judge.Goals as goal
 
 pub loop-word-preserved : goal.loop-word-preserved

@@ -1,6 +1,5 @@
 -- The names of the words so far are judged.
-use Rattle.std.proofs.Common.{◌≡◌, length, map}
-use Rattle.std.specs.String.{string_bytes}
+use Rattle.std.{proofs.Common.{◌≡◌, length, map}, specs.String.{string_bytes}}
 use Rattle.title_report.specs.Rosters.{AreJudged}
 use Rattle.title_report.proofs.roster.judge.Given as goal
 

@@ -1,8 +1,6 @@
 -- One bit more.
-use Rattle.std.proofs.Common.{◌∙◌, ◌<◌, ◌+◌, ◌*◌, ◌%◌, ◌^◌, [], ℕ, List, ap, arith, length, map, subst, sym}
-use Rattle.std.proofs.lemmas.List.{get_or-map, length-map}
-use Rattle.std.specs.Prelude.{bit_or}
-use Rattle.std.specs.String.{string_bytes}
+use Rattle.std.{proofs.Common.{◌∙◌, ◌<◌, ◌+◌, ◌*◌, ◌%◌, ◌^◌, [], ℕ, List, ap, arith, length, map, subst, sym}, specs.Prelude.{bit_or}}
+use Rattle.std.{proofs.lemmas.List.{get_or-map, length-map}, specs.String.{string_bytes}}
 use Rattle.csv.specs.Writing.{needs_quotes}
 use Rattle.title_page.specs.Rows.{row_writer}
 use Rattle.title_report.proofs.Judged.{HasBits, no_bits, one_bit_more, word_judged}

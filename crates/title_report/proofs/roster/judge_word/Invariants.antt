@@ -1,6 +1,5 @@
 -- The bits of the names so far.
-use Rattle.std.proofs.Common.{map}
-use Rattle.std.specs.String.{string_bytes}
+use Rattle.std.{proofs.Common.{map}, specs.String.{string_bytes}}
 use Rattle.title_report.proofs.Judged.{HasBits}
 use Rattle.title_report.proofs.roster.judge_word.Given as goal
 

@@ -1,7 +1,6 @@
 -- The bytes up to the first quote, that quote twice, and the rest.
 use Rattle.std.proofs.Common.{◌≡◌, ◌∙◌, ◌++◌, ◌∷◌, [], ◌+◌, ◌-◌, ℕ, List, ap, append_assoc, drop, length, sym, take}
-use Rattle.std.proofs.lemmas.List.{take_rest}
-use Rattle.std.proofs.lemmas.Option.{IfSome_then}
+use Rattle.std.proofs.lemmas.{List.{take_rest}, Option.{IfSome_then}}
 use Rattle.csv.specs.Writing.{escaped}
 use Rattle.title_page.specs.Rows.{row_writer}
 use Rattle.title_report.proofs.row_text.+add_escaped.Goals as goal

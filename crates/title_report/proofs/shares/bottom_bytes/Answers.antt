@@ -1,6 +1,5 @@
 -- Each power of two in decimal.
-use Rattle.std.proofs.Common.{◌≡◌, ◌^◌, ◌++◌, ◌∷◌, [], ℕ, List, arith, refl}
-use Rattle.std.specs.Fmt.{decimal, digits}
+use Rattle.std.{proofs.Common.{◌≡◌, ◌^◌, ◌++◌, ◌∷◌, [], ℕ, List, arith, refl}, specs.Fmt.{decimal, digits}}
 use Rattle.title_report.proofs.shares.bottom_bytes.Goals as goal
 
 at_one : (e k : ℕ) (bytes : List ℕ) → e ≡ k → bytes ≡ 47 ∷ (decimal (2 ^ k) ++ 10 ∷ []) → bytes ≡ 47 ∷ (decimal (2 ^ e) ++ 10 ∷ [])

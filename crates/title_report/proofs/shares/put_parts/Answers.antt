@@ -1,7 +1,5 @@
 -- The comma, the number, and the text behind it.
-use Rattle.std.proofs.Common.{◌∙◌, ◌++◌, ◌∷◌, [], sym}
-use Rattle.std.proofs.lemmas.Result.{on_ok_weaker, on_err_weaker}
-use Rattle.std.specs.Fmt.{decimal}
+use Rattle.std.{proofs.{Common.{◌∙◌, ◌++◌, ◌∷◌, [], sym}, lemmas.Result.{on_ok_weaker, on_err_weaker}}, specs.Fmt.{decimal}}
 use Rattle.title_page.specs.Laws.InTurn.{on_err, stopped_as, stopped_before, stopped_then, written_as, written_then}
 use Rattle.title_report.proofs.shares.put_parts.Goals as goal
 

@@ -1,6 +1,4 @@
-use Rattle.std.proofs.Common.{◌≡◌, ◌∙◌, ℕ, List, IfOk, ap₂, arith, subst, sym}
-use Rattle.std.proofs.lemmas.List.{length-map}
-use Rattle.std.specs.String.{string_bytes}
+use Rattle.std.{proofs.{Common.{◌≡◌, ◌∙◌, ℕ, List, IfOk, ap₂, arith, subst, sym}, lemmas.List.{length-map}}, specs.String.{string_bytes}}
 use Rattle.title_land.specs.declared.survey.Township.{Township}
 use Rattle.title_trace.specs.Due.{MayOpen, Setting}
 use Rattle.title_script.proofs.serving.open_desk.Goals as goal

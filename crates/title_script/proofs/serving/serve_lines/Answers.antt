@@ -1,9 +1,7 @@
 -- No step is left.
-use Rattle.std.proofs.Common.{◌≡◌, ◌∙◌, List, [], subst, sym}
-use Rattle.std.proofs.lemmas.List.{nil_from_length}
+use Rattle.std.proofs.{Common.{◌≡◌, ◌∙◌, List, [], subst, sym}, lemmas.List.{nil_from_length}}
 use Rattle.title_plan.specs.declared.line.Line.{Line}
-use Rattle.title_script.specs.ReportLaws.{after_lines}
-use Rattle.title_script.proofs.ServedLaws.{and_rest, none_left}
+use Rattle.title_script.{specs.ReportLaws.{after_lines}, proofs.ServedLaws.{and_rest, none_left}}
 use Rattle.title_script.proofs.serving.serve_lines.Goals as goal
 
 pub returns : goal.returns

@@ -1,7 +1,6 @@
 -- What came of the steps so far, with what comes of those that are left, is what comes of all; and so is the trace after them.
 use Rattle.std.proofs.Common.{◌≡◌, [], length}
-use Rattle.title_script.specs.ReportLaws.{after_lines}
-use Rattle.title_script.proofs.ServedLaws.{and_rest}
+use Rattle.title_script.{specs.ReportLaws.{after_lines}, proofs.ServedLaws.{and_rest}}
 use Rattle.title_script.proofs.serving.serve_lines.Given as goal
 
 abbrev pub invariant-loop-line : goal.invariant-loop-line

@@ -1,6 +1,5 @@
 -- What came of the steps has the rows that are due.
-use Rattle.std.proofs.Common.{◌∙◌, map, refl}
-use Rattle.std.specs.String.{string_bytes}
+use Rattle.std.{proofs.Common.{◌∙◌, map, refl}, specs.String.{string_bytes}}
 use Rattle.title_script.proofs.ServedLaws.{served_onto}
 use Rattle.title_script.proofs.serving.serve_onto.Goals as goal
 

@@ -1,8 +1,7 @@
 -- The desk is the one that the plan asks, and nothing stands there.
 use Rattle.std.proofs.Common.{◌≡◌, ℕ, List, IfOk, subst}
 use Rattle.title_plan.specs.Asked.{asked_in}
-use Rattle.title_script.specs.Told.{served_text}
-use Rattle.title_script.proofs.ServedLaws.{reports_alike}
+use Rattle.title_script.{specs.Told.{served_text}, proofs.ServedLaws.{reports_alike}}
 use Rattle.title_script.proofs.serving.serve_plan.Goals as goal
 
 pub returns : goal.returns

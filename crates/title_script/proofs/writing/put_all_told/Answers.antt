@@ -1,7 +1,6 @@
 -- The rows of one more, behind those before it.
 use Rattle.std.proofs.Common.{◌∙◌}
-use Rattle.title_page.specs.Laws.InTurn.{on_err}
-use Rattle.title_page.specs.Laws.Rows.{rows_of_one_more, stopped_at_one}
+use Rattle.title_page.specs.Laws.{InTurn.{on_err}, Rows.{rows_of_one_more, stopped_at_one}}
 use Rattle.title_script.specs.Told.{told_rows}
 use Rattle.title_script.proofs.writing.put_all_told.Goals as goal
 

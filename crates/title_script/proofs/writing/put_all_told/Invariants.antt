@@ -1,8 +1,6 @@
 -- The rows so far are written, and the names are the same.
-use Rattle.std.proofs.Common.{◌≡◌, false, take}
-use Rattle.std.specs.List.{flat_map}
-use Rattle.title_page.specs.Pages.{Written}
-use Rattle.title_page.specs.Rows.{rows_text}
+use Rattle.std.{proofs.Common.{◌≡◌, false, take}, specs.List.{flat_map}}
+use Rattle.title_page.specs.{Pages.{Written}, Rows.{rows_text}}
 use Rattle.title_script.specs.Told.{told_rows}
 use Rattle.title_script.proofs.writing.put_all_told.Given as goal
 

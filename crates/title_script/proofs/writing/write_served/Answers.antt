@@ -1,9 +1,6 @@
 -- The rows, the last row, and what stands on the page.
-use Rattle.std.proofs.Common.{map}
-use Rattle.std.specs.List.{flat_map}
-use Rattle.std.specs.String.{string_bytes}
-use Rattle.title_page.specs.Laws.InTurn.{on_err}
-use Rattle.title_page.specs.Laws.Whole.{part_at_end, part_at_last, part_of_rows, whole_given}
+use Rattle.std.{proofs.Common.{map}, specs.{List.{flat_map}, String.{string_bytes}}}
+use Rattle.title_page.specs.Laws.{InTurn.{on_err}, Whole.{part_at_end, part_at_last, part_of_rows, whole_given}}
 use Rattle.title_report.specs.Replies.{end_row}
 use Rattle.title_script.specs.Told.{told_rows}
 use Rattle.title_script.proofs.writing.write_served.Goals as goal

@@ -1,7 +1,5 @@
 -- One place more is right, or the first at fault is found.
-use Rattle.std.proofs.Common.{◌+◌, refl, arith}
-use Rattle.std.proofs.lemmas.Option.{slice_get_read}
-use Rattle.std.proofs.lemmas.Result.{err_from_is_err_and}
+use Rattle.std.proofs.{Common.{◌+◌, refl, arith}, lemmas.{Option.{slice_get_read}, Result.{err_from_is_err_and}}}
 use Rattle.title_settle.proofs.Placing.{right_more, all_settled, uneven_at}
 use Rattle.title_settle.proofs.comparison.compare_marked.Goals as goal
 

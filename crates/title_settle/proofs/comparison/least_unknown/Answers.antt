@@ -1,7 +1,6 @@
 -- One outcome more.
 use Rattle.std.proofs.Common.{take}
-use Rattle.title_settle.proofs.Seen.{taken_more}
-use Rattle.title_settle.proofs.Unknowns.{least_more}
+use Rattle.title_settle.proofs.{Seen.{taken_more}, Unknowns.{least_more}}
 use Rattle.title_settle.proofs.comparison.least_unknown.Goals as goal
 
 pub loop-outcome-preserved : goal.loop-outcome-preserved

@@ -1,11 +1,6 @@
 -- One outcome more.
-use Rattle.std.proofs.Common.{◌≡◌, ◌≤◌, length, take, drop, ◌∙◌, ap}
-use Rattle.std.proofs.lemmas.List.{take_at, length-set}
-use Rattle.std.proofs.lemmas.Option.{slice_get_read}
-use Rattle.std.proofs.Common.{refl}
-use Rattle.title_settle.specs.declared.outcome.Outcome.{Outcome}
-use Rattle.title_settle.proofs.Seen.{taken_more, holds_at}
-use Rattle.title_settle.proofs.Marking.{marks_more}
+use Rattle.std.proofs.{Common.{◌≡◌, ◌≤◌, length, take, drop, ◌∙◌, ap, refl}, lemmas.{List.{take_at, length-set}, Option.{slice_get_read}}}
+use Rattle.title_settle.{specs.declared.outcome.Outcome.{Outcome}, proofs.{Seen.{taken_more, holds_at}, Marking.{marks_more}}}
 use Rattle.title_settle.proofs.marks.marks_of.Goals as goal
 
 pub loop-index-preserved : goal.loop-index-preserved

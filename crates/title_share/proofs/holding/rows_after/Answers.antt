@@ -1,11 +1,9 @@
 -- The walk is the move.
 use Rattle.std.proofs.Common.{◌≤◌, ◌++◌, ◌∙◌, ℕ, [], get_or, ap, subst, arith}
-use Rattle.title_share.specs.Rows.{with_front}
-use Rattle.title_share.specs.Laws.RowLaws.{units_within}
-use Rattle.title_share.specs.Laws.DivisionLaws.{divides}
+use Rattle.title_share.specs.{Rows.{with_front}, Laws.{RowLaws.{units_within}, DivisionLaws.{divides}}}
 use Rattle.title_share.proofs.MoveLaws.{each_within, units_there, walk_on, walk_gives, walk_gave, walk_moves}
-use Rattle.title_share.proofs.holding.rows_after.Goals as goal
 use Rattle.title_share.proofs.holding.rows_after.Goals.{then-not-given+in_ok-push_some-3, else-not-given}
+use Rattle.title_share.proofs.holding.rows_after.Goals as goal
 
 pub gained-requires : goal.gained-requires
 gained-requires c =

@@ -1,9 +1,8 @@
 -- Halving ends in lowest terms.
 use Rattle.std.proofs.Common.{arith}
-use Rattle.title_share.specs.Share.{lowest}
-use Rattle.title_share.specs.Laws.ShareLaws.{reduced_more, reduced_done}
-use Rattle.title_share.proofs.share.reduced.Goals as goal
+use Rattle.title_share.specs.{Share.{lowest}, Laws.ShareLaws.{reduced_more, reduced_done}}
 use Rattle.title_share.proofs.share.reduced.Goals.{then-loop-exponent-test+else-above-eq0, else-loop-exponent-test}
+use Rattle.title_share.proofs.share.reduced.Goals as goal
 
 pub loop-exponent-preserved : goal.loop-exponent-preserved
 loop-exponent-preserved c = (

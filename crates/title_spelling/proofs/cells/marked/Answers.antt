@@ -1,7 +1,6 @@
 -- All cells are read.
 use Rattle.std.proofs.Common.{◌≡◌, ℕ, subst, arith}
-use Rattle.title_spelling.specs.Cells.{is_marked}
-use Rattle.title_spelling.proofs.Marked.{all_marked, HasFirst}
+use Rattle.title_spelling.{specs.Cells.{is_marked}, proofs.Marked.{all_marked, HasFirst}}
 use Rattle.title_spelling.proofs.cells.marked.Goals as goal
 
 pub returns : goal.returns

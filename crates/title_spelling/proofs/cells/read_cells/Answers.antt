@@ -1,10 +1,8 @@
 -- Which texts are of no cells form, and how one is read that may be.
-use Rattle.std.proofs.Common.{◌≡◌, ◌∙◌, ◌-◌, Option, Some, None, length, drop, take, refl, sym, rules, subst}
-use Rattle.std.specs.Prelude.{codes, IfOk}
+use Rattle.std.{proofs.Common.{◌≡◌, ◌∙◌, ◌-◌, Option, Some, None, length, drop, take, refl, sym, rules, subst}, specs.Prelude.{codes, IfOk}}
 use Rattle.std.proofs.lemmas.Str.Pattern.{starts_text}
 use Rattle.title_land.specs.declared.tract.Land.{Land}
-use Rattle.title_spelling.specs.Cells.{marked_in}
-use Rattle.title_spelling.proofs.CellsTexts.{last_marked, not_cut, other_word, read_by, too_short}
+use Rattle.title_spelling.{specs.Cells.{marked_in}, proofs.CellsTexts.{last_marked, not_cut, other_word, read_by, too_short}}
 use Rattle.title_spelling.proofs.cells.read_cells.Goals as goal
 
 pub returns-then-text-lt-CELLS_BYTES : goal.returns-then-text-lt-CELLS_BYTES

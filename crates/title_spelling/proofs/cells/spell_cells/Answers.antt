@@ -1,15 +1,8 @@
 -- One row more, and all of them.
-use Rattle.std.proofs.Common.{◌≡◌, ◌∙◌, ◌++◌, ℕ, List, append_assoc, ap, sym, arith}
-use Rattle.std.specs.Prelude.{codes}
+use Rattle.std.{proofs.Common.{◌≡◌, ◌∙◌, ◌++◌, ℕ, List, append_assoc, ap, sym, arith}, specs.{Prelude.{codes}, String.{string_bytes}}}
 use Rattle.std.specs.List.{flat_map, range_with_len}
-use Rattle.std.specs.String.{string_bytes}
-use Rattle.title_land.specs.Depth.{depth}
-use Rattle.title_land.specs.Grids.{grid_has}
-use Rattle.title_land.specs.Survey.{side}
-use Rattle.title_land.specs.Texts.{section_text}
-use Rattle.title_land.specs.Laws.Sides.{side_is}
-use Rattle.title_spelling.specs.Cells.{row_text}
-use Rattle.title_spelling.proofs.CellsForm.{rows_step}
+use Rattle.title_land.specs.{Depth.{depth}, Grids.{grid_has}, Survey.{side}, Texts.{section_text}, Laws.Sides.{side_is}}
+use Rattle.title_spelling.{specs.Cells.{row_text}, proofs.CellsForm.{rows_step}}
 use Rattle.title_spelling.proofs.cells.spell_cells.Goals as goal
 
 pub loop-row-preserved : goal.loop-row-preserved

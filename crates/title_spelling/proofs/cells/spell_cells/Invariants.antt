@@ -1,7 +1,5 @@
 -- The rows so far stand behind the section.
-use Rattle.std.proofs.Common.{◌≡◌, ◌++◌}
-use Rattle.std.specs.List.{flat_map, range_with_len}
-use Rattle.std.specs.String.{string_bytes}
+use Rattle.std.{proofs.Common.{◌≡◌, ◌++◌}, specs.{List.{flat_map, range_with_len}, String.{string_bytes}}}
 use Rattle.title_land.specs.Grids.{grid_has}
 use Rattle.title_spelling.specs.Cells.{row_text}
 use Rattle.title_spelling.proofs.cells.spell_cells.Given as goal

@@ -1,8 +1,5 @@
 -- The nodes so far stand behind the first.
-use Rattle.std.proofs.Common.{◌≡◌, ◌++◌, take}
-use Rattle.std.specs.Prelude.{codes}
-use Rattle.std.specs.List.{flat_map}
-use Rattle.std.specs.String.{string_bytes}
+use Rattle.std.{proofs.Common.{◌≡◌, ◌++◌, take}, specs.{Prelude.{codes}, List.{flat_map}, String.{string_bytes}}}
 use Rattle.title_spelling.specs.Lands.{path_of}
 use Rattle.title_spelling.proofs.lands.spell_union.Given as goal
 

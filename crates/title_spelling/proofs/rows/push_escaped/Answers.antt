@@ -1,6 +1,5 @@
 -- One byte more.
-use Rattle.std.proofs.Common.{◌∙◌, ◌++◌, ◌∷◌, [], ℕ, List, take, get_or, append_assoc, ap, sym}
-use Rattle.std.proofs.lemmas.List.{append-nil}
+use Rattle.std.proofs.{Common.{◌∙◌, ◌++◌, ◌∷◌, [], ℕ, List, take, get_or, append_assoc, ap, sym}, lemmas.List.{append-nil}}
 use Rattle.csv.specs.Writing.{escaped}
 use Rattle.title_page.specs.Rows.{row_writer}
 use Rattle.title_spelling.proofs.RowTexts.{escaped_more, escaped_none}

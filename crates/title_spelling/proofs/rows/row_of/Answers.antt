@@ -1,9 +1,7 @@
 -- One field more, and the line's end.
-use Rattle.std.proofs.Common.{◌≡◌, ◌∙◌, ◌++◌, ◌∷◌, ◌<◌, [], ℕ, List, length, map, take, ap, sym, arith}
-use Rattle.std.specs.Borrow.{Bor}
+use Rattle.std.{proofs.Common.{◌≡◌, ◌∙◌, ◌++◌, ◌∷◌, ◌<◌, [], ℕ, List, length, map, take, ap, sym, arith}, specs.Borrow.{Bor}}
 use Rattle.std.proofs.lemmas.List.{get_or-map, length-map, take_all}
-use Rattle.csv.proofs.WriteFacts.{row-step}
-use Rattle.csv.specs.Writing.{field_text, next_sep, row_body}
+use Rattle.csv.{proofs.WriteFacts.{row-step}, specs.Writing.{field_text, next_sep, row_body}}
 use Rattle.title_page.specs.Rows.{row, row_writer}
 use Rattle.title_spelling.proofs.RowTexts.{row_ends}
 use Rattle.title_spelling.proofs.rows.row_of.Goals as goal

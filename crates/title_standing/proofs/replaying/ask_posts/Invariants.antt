@@ -1,7 +1,6 @@
 -- The posts so far were posted.
 use Rattle.std.proofs.Common.{◌≡◌, map, reverse, take}
-use Rattle.title_standing.specs.Standing.{asked_by}
-use Rattle.title_standing.specs.Records.{posted_step}
+use Rattle.title_standing.specs.{Standing.{asked_by}, Records.{posted_step}}
 use Rattle.title_standing.proofs.replaying.ask_posts.Given as goal
 
 abbrev pub invariant-loop-posting : goal.invariant-loop-posting

@@ -1,7 +1,6 @@
 -- The records so far stand, and the place is their number.
 use Rattle.std.proofs.Common.{◌≡◌, map, reverse, take}
-use Rattle.title_standing.specs.Standing.{replayed}
-use Rattle.title_standing.specs.Records.{record_of}
+use Rattle.title_standing.specs.{Standing.{replayed}, Records.{record_of}}
 use Rattle.title_standing.proofs.replaying.replay.Given as goal
 
 abbrev pub invariant-loop-kept : goal.invariant-loop-kept

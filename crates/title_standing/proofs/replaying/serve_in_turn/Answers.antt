@@ -1,6 +1,5 @@
 -- A post that isn't due ends it; after all posts the transaction is open.
-use Rattle.title_standing.specs.Records.{record_of}
-use Rattle.title_standing.proofs.Again.{turn_open, turn_stops}
+use Rattle.title_standing.{specs.Records.{record_of}, proofs.Again.{turn_open, turn_stops}}
 use Rattle.title_standing.proofs.replaying.serve_in_turn.Goals as goal
 
 pub returns-then-not-posted-clause-served : goal.returns-then-not-posted-clause-served

@@ -1,8 +1,7 @@
 -- What the cells so far held and are to hold; the first that refuses is among the rest.
 use Rattle.std.proofs.Common.{◌≡◌, take, drop}
 use Rattle.title_instrument.specs.Effect.{cell_effect}
-use Rattle.title_store.specs.Plants.{first_failing, done_or}
-use Rattle.title_store.specs.CellMaps.{content_of, keep_from}
+use Rattle.title_store.specs.{Plants.{first_failing, done_or}, CellMaps.{content_of, keep_from}}
 use Rattle.title_store.proofs.posts.compute.Given as goal
 
 abbrev pub invariant-loop-cell : goal.invariant-loop-cell

@@ -1,13 +1,7 @@
 -- After the last child the sheet has all parts.
-use Rattle.std.proofs.Common.{◌++◌, ◌-◌, List, sym, ap, ◌∙◌}
-use Rattle.title_land.specs.Depth.{depth}
-use Rattle.std.proofs.lemmas.List.{take_all}
-use Rattle.std.specs.List.{flat_map}
-use Rattle.title_land.specs.declared.survey.Cell.{Cell}
-use Rattle.title_land.specs.declared.node.Node.{Node}
-use Rattle.title_store.specs.declared.sheet_row.SheetRow.{SheetRow}
-use Rattle.title_store.specs.CellMaps.{content_of}
-use Rattle.title_store.specs.Sheets.{one_holding, sheet_below}
+use Rattle.std.{proofs.{Common.{◌++◌, ◌-◌, List, sym, ap, ◌∙◌}, lemmas.List.{take_all}}, specs.List.{flat_map}}
+use Rattle.title_land.specs.{Depth.{depth}, declared.{survey.Cell.{Cell}, node.Node.{Node}}}
+use Rattle.title_store.specs.{declared.sheet_row.SheetRow.{SheetRow}, CellMaps.{content_of}, Sheets.{one_holding, sheet_below}}
 use Rattle.title_store.specs.Laws.SheetSteps.{sheet_parts}
 use Rattle.title_store.proofs.sheets.+add_sheet.Goals as goal
 

@@ -1,9 +1,7 @@
 -- The sheets of the nodes so far are added.
-use Rattle.std.proofs.Common.{◌+◌, ◌≡◌, ◌++◌, take}
+use Rattle.std.{proofs.Common.{◌+◌, ◌≡◌, ◌++◌, take}, specs.List.{flat_map}}
 use Rattle.title_land.specs.Depth.{depth}
-use Rattle.std.specs.List.{flat_map}
-use Rattle.title_store.specs.CellMaps.{content_of}
-use Rattle.title_store.specs.Sheets.{sheet_below}
+use Rattle.title_store.specs.{CellMaps.{content_of}, Sheets.{sheet_below}}
 use Rattle.title_store.proofs.sheets.add_estate.Given as goal
 
 abbrev pub invariant-loop-node : goal.invariant-loop-node

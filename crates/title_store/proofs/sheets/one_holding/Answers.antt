@@ -3,8 +3,7 @@ use Rattle.std.proofs.Common.{◌≡◌, ◌<◌, ◌≤◌, true, false, length
 use Rattle.title_land.specs.declared.survey.Cell.{Cell}
 use Rattle.title_share.specs.Division.{Division}
 use Rattle.title_instrument.specs.Owners.{holding_of}
-use Rattle.title_store.specs.CellMaps.{content_of}
-use Rattle.title_store.specs.Sheets.{same_division}
+use Rattle.title_store.specs.{CellMaps.{content_of}, Sheets.{same_division}}
 use Rattle.title_store.specs.Laws.SheetSteps.{same_test, all_on, all_stops, all_done, one_at}
 use Rattle.title_store.proofs.sheets.one_holding.Goals as goal
 

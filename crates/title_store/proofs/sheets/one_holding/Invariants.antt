@@ -1,9 +1,7 @@
 -- Each cell so far has the first cell's holding.
-use Rattle.std.proofs.Common.{◌≡◌, drop}
-use Rattle.std.specs.List.{list_all}
+use Rattle.std.{proofs.Common.{◌≡◌, drop}, specs.List.{list_all}}
 use Rattle.title_instrument.specs.Owners.{holding_of}
-use Rattle.title_store.specs.CellMaps.{content_of}
-use Rattle.title_store.specs.Sheets.{same_division}
+use Rattle.title_store.specs.{CellMaps.{content_of}, Sheets.{same_division}}
 use Rattle.title_store.proofs.sheets.one_holding.Given as goal
 
 abbrev pub invariant-loop-cell : goal.invariant-loop-cell

@@ -1,8 +1,6 @@
 -- What is left of the parts after the first is ready too.
 use Rattle.std.proofs.Common.{List, ap, map, rules}
-use Rattle.title_tree.specs.declared.part.Part.{Part}
-use Rattle.title_tree.specs.Parts.{piece}
-use Rattle.title_tree.specs.Laws.Swaps.{ready_next}
+use Rattle.title_tree.specs.{declared.part.Part.{Part}, Parts.{piece}, Laws.Swaps.{ready_next}}
 use Rattle.title_tree.proofs.part.+exchange_all.Goals as goal
 
 pub exchange_all-requires : goal.exchange_all-requires

@@ -1,6 +1,5 @@
 -- What the rest of the splits keeps after the first, all of them keep.
-use Rattle.title_tree.specs.Laws.Depths.{within_split}
-use Rattle.title_tree.specs.Laws.Swaps.{refines_split}
+use Rattle.title_tree.specs.Laws.{Depths.{within_split}, Swaps.{refines_split}}
 use Rattle.title_tree.proofs.part.+split_each.Goals as goal
 
 pub returns-clause-err : goal.returns-clause-err

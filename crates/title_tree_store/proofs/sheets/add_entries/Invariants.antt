@@ -1,6 +1,5 @@
 -- The rows of the entries so far are added, and there is room for the others.
-use Rattle.std.proofs.Common.{◌≡◌, ◌+◌, ◌≤◌, ◌++◌, length, map, take}
-use Rattle.std.specs.Vec.{vec_len, vec_capacity}
+use Rattle.std.{proofs.Common.{◌≡◌, ◌+◌, ◌≤◌, ◌++◌, length, map, take}, specs.Vec.{vec_len, vec_capacity}}
 use Rattle.title_tree_store.proofs.sheets.add_entries.Given as goal
 
 abbrev pub invariant-loop-entry : goal.invariant-loop-entry

@@ -1,11 +1,9 @@
 -- The nodes of a cover are the plant, a township, or squares of one section.
-use Rattle.std.proofs.Common.{◌≡◌, ◌∙◌, ◌∷◌, ◌++◌, List, OnOk, ap, sym, subst}
-use Rattle.std.specs.List.{flat_map}
+use Rattle.std.{proofs.Common.{◌≡◌, ◌∙◌, ◌∷◌, ◌++◌, List, OnOk, ap, sym, subst}, specs.List.{flat_map}}
 use Rattle.title_land.specs.declared.node.Node.{Node}
 use Rattle.title_store.specs.declared.sheet_row.SheetRow.{SheetRow}
 use Rattle.title_tree.specs.Trees.{plot}
-use Rattle.title_tree_store.specs.SquareSheets.{part_sheet}
-use Rattle.title_tree_store.proofs.Squares.{plant_cover, township_cover, parts_cover}
+use Rattle.title_tree_store.{specs.SquareSheets.{part_sheet}, proofs.Squares.{plant_cover, township_cover, parts_cover}}
 use Rattle.title_tree_store.proofs.sheets.add_estate.Goals as goal
 
 pub returns-in-Everything : goal.returns-in-Everything

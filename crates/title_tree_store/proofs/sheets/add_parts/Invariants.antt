@@ -1,6 +1,5 @@
 -- The sheets of the nodes so far are added.
-use Rattle.std.proofs.Common.{◌≡◌, ◌++◌, take}
-use Rattle.std.specs.List.{flat_map}
+use Rattle.std.{proofs.Common.{◌≡◌, ◌++◌, take}, specs.List.{flat_map}}
 use Rattle.title_tree.specs.Trees.{plot}
 use Rattle.title_tree_store.specs.SquareSheets.{part_sheet}
 use Rattle.title_tree_store.proofs.sheets.add_parts.Given as goal

@@ -1,10 +1,7 @@
 -- The sheets of the townships so far are added.
-use Rattle.std.proofs.Common.{◌≡◌, ◌++◌, take}
-use Rattle.std.specs.List.{flat_map}
-use Rattle.title_tree.specs.Plots.{plot_at}
-use Rattle.title_tree.specs.Trees.{plot}
-use Rattle.title_tree_store.specs.Spots.{township_path}
-use Rattle.title_tree_store.specs.SquareSheets.{township_sheet}
+use Rattle.std.{proofs.Common.{◌≡◌, ◌++◌, take}, specs.List.{flat_map}}
+use Rattle.title_tree.specs.{Plots.{plot_at}, Trees.{plot}}
+use Rattle.title_tree_store.specs.{Spots.{township_path}, SquareSheets.{township_sheet}}
 use Rattle.title_tree_store.proofs.sheets.add_plant.Given as goal
 
 abbrev pub invariant-loop-township : goal.invariant-loop-township

@@ -1,6 +1,5 @@
 -- The sheets of the sections that are left are still to be added.
-use Rattle.std.proofs.Common.{◌≡◌, ◌++◌}
-use Rattle.std.specs.List.{flat_map}
+use Rattle.std.{proofs.Common.{◌≡◌, ◌++◌}, specs.List.{flat_map}}
 use Rattle.title_land.specs.CellLists.{sections_of}
 use Rattle.title_tree.specs.Trees.{plot}
 use Rattle.title_tree_store.specs.SquareSheets.{section_sheet}

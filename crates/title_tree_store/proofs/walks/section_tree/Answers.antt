@@ -1,10 +1,7 @@
 -- A section is one of the squares of its township.
 use Rattle.std.proofs.Common.{◌∙◌, ℕ, ap}
-use Rattle.title_tree.specs.Paths.{number_path}
-use Rattle.title_tree.specs.Plots.{plot_at}
-use Rattle.title_tree.specs.Trees.{plot}
-use Rattle.title_tree_store.specs.Spots.{township_path}
-use Rattle.title_tree_store.proofs.Squares.{join_down}
+use Rattle.title_tree.specs.{Paths.{number_path}, Plots.{plot_at}, Trees.{plot}}
+use Rattle.title_tree_store.{specs.Spots.{township_path}, proofs.Squares.{join_down}}
 use Rattle.title_tree_store.proofs.walks.section_tree.Goals as goal
 
 pub returns : goal.returns

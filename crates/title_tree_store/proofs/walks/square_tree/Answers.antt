@@ -1,10 +1,7 @@
 -- A square's path is that from the section, with nothing inside it.
-use Rattle.std.proofs.Common.{◌∙◌, ◌++◌, List, ap}
-use Rattle.std.proofs.lemmas.List.{append-nil}
+use Rattle.std.proofs.{Common.{◌∙◌, ◌++◌, List, ap}, lemmas.List.{append-nil}}
 use Rattle.title_land.specs.declared.rectangle.Quarter.{Quarter}
-use Rattle.title_tree.specs.Paths.{way}
-use Rattle.title_tree.specs.Plots.{plot_at}
-use Rattle.title_tree.specs.Trees.{plot}
+use Rattle.title_tree.specs.{Paths.{way}, Plots.{plot_at}, Trees.{plot}}
 use Rattle.title_tree_store.proofs.walks.square_tree.Goals as goal
 
 pub returns : goal.returns

@@ -1,8 +1,7 @@
 -- A longer list may be published.
 use Rattle.std.proofs.Common.{sym, subst}
 use mathlib.Core.List.{IsPrefix}
-use Rattle.title_views.specs.Views.{Shown, IsOf}
-use Rattle.title_views.proofs.Growing.{turns_at}
+use Rattle.title_views.{specs.Views.{Shown, IsOf}, proofs.Growing.{turns_at}}
 use Rattle.title_views.proofs.publishing.publish.Goals as goal
 
 pub publish_as-requires : goal.publish_as-requires

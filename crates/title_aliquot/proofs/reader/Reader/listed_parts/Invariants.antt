@@ -1,7 +1,6 @@
 -- What the loop of `listed_parts` keeps.
 use Rattle.std.proofs.Common.{◌≡◌, length}
-use Rattle.title_aliquot.specs.Readers.{parts_at}
-use Rattle.title_aliquot.proofs.Loops.{parts_from}
+use Rattle.title_aliquot.{specs.Readers.{parts_at}, proofs.Loops.{parts_from}}
 use Rattle.title_aliquot.proofs.reader.Reader.listed_parts.Given as goal
 
 abbrev pub invariant-more : goal.invariant-more

@@ -1,9 +1,6 @@
 -- What was left to show of `new`.
-use Rattle.std.proofs.Common.{◌∙◌}
-use Rattle.std.specs.Str.{chars}
-use Rattle.std.proofs.lemmas.List.{append-nil}
-use Rattle.title_aliquot.specs.Letters.{letters}
-use Rattle.title_aliquot.proofs.TextWalks.{no_letters}
+use Rattle.std.{proofs.{Common.{◌∙◌}, lemmas.List.{append-nil}}, specs.Str.{chars}}
+use Rattle.title_aliquot.{specs.Letters.{letters}, proofs.TextWalks.{no_letters}}
 use Rattle.title_aliquot.proofs.reader.Reader.new.Goals as goal
 
 pub returns : goal.returns

@@ -1,7 +1,6 @@
 -- What the loop of `number` keeps.
 use Rattle.std.proofs.Common.{◌≡◌, ◌≤◌, length}
-use Rattle.title_aliquot.specs.Readers.{number_at}
-use Rattle.title_aliquot.proofs.Loops.{number_from}
+use Rattle.title_aliquot.{specs.Readers.{number_at}, proofs.Loops.{number_from}}
 use Rattle.title_aliquot.proofs.reader.Reader.number.Given as goal
 
 abbrev pub invariant-digits : goal.invariant-digits

@@ -1,8 +1,6 @@
 -- What was left to show of `of_both`.
-use Rattle.std.proofs.Common.{◌∙◌, ◌++◌, List, ℕ, sym, ap}
-use Rattle.std.specs.Str.{chars}
-use Rattle.title_aliquot.specs.Letters.{letters}
-use Rattle.title_aliquot.proofs.TextWalks.{letters_alone}
+use Rattle.std.{proofs.Common.{◌∙◌, ◌++◌, List, ℕ, sym, ap}, specs.Str.{chars}}
+use Rattle.title_aliquot.{specs.Letters.{letters}, proofs.TextWalks.{letters_alone}}
 use Rattle.title_aliquot.proofs.reader.Reader.of_both.Goals as goal
 
 pub returns-in-None : goal.returns-in-None

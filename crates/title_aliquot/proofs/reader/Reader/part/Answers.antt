@@ -1,9 +1,7 @@
 -- What was left to show of `part`.
 use Rattle.std.proofs.Common.{◌∙◌, ◌++◌, List, [], ◌∷◌, length, sym, ap, arith, length-append}
 use Rattle.title_land.specs.declared.rectangle.Step.{Step}
-use Rattle.title_aliquot.specs.Entries.{with_step}
-use Rattle.title_aliquot.proofs.Entries.{with_step-length}
-use Rattle.title_aliquot.proofs.Loops.{part_begins, steps_from, steps_next}
+use Rattle.title_aliquot.{specs.Entries.{with_step}, proofs.{Entries.{with_step-length}, Loops.{part_begins, steps_from, steps_next}}}
 use Rattle.title_aliquot.proofs.reader.Reader.part.Goals as goal
 
 pub steps-init : goal.steps-init

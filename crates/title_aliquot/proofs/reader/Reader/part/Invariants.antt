@@ -1,7 +1,6 @@
 -- What the loop of `part` keeps.
 use Rattle.std.proofs.Common.{◌≡◌, ◌<◌, length}
-use Rattle.title_aliquot.specs.Readers.{part_at, with_part}
-use Rattle.title_aliquot.proofs.Loops.{steps_from}
+use Rattle.title_aliquot.{specs.Readers.{part_at, with_part}, proofs.Loops.{steps_from}}
 use Rattle.title_aliquot.proofs.reader.Reader.part.Given as goal
 
 abbrev pub invariant-steps : goal.invariant-steps

@@ -1,15 +1,8 @@
 -- The spots found near the nodes of the tract's cover are those of the posts that share a cell with it.
-use Rattle.std.proofs.Common.{◌≡◌, ◌++◌, List, reverse, ap, subst, ◌∙◌}
-use Rattle.title_land.specs.Depth.{depth}
-use Rattle.std.specs.List.{list_any}
-use Rattle.title_land.specs.declared.node.Node.{Node}
-use Rattle.title_land.specs.Lands.{IsLand}
-use Rattle.title_chain.specs.declared.ask.Entry.{Entry}
-use Rattle.title_chain.specs.declared.spot.Spot.{Spot}
-use Rattle.title_chain.specs.PostSpots.{entry_at, entries_at, record_posts}
-use Rattle.title_chain.specs.TractIndexes.{is_near}
-use Rattle.title_chain.proofs.Nearness.{near_meets}
-use Rattle.title_chain.proofs.SpotEntries.{spot_entries}
+use Rattle.std.{proofs.Common.{◌≡◌, ◌++◌, List, reverse, ap, subst, ◌∙◌}, specs.List.{list_any}}
+use Rattle.title_land.specs.{Depth.{depth}, declared.node.Node.{Node}, Lands.{IsLand}}
+use Rattle.title_chain.specs.{declared.{ask.Entry.{Entry}, spot.Spot.{Spot}}, PostSpots.{entry_at, entries_at, record_posts}}
+use Rattle.title_chain.{specs.TractIndexes.{is_near}, proofs.{Nearness.{near_meets}, SpotEntries.{spot_entries}}}
 use Rattle.title_chain.proofs.filing.Filing.add_entries.Goals as goal
 
 pub returns : goal.returns

@@ -1,16 +1,8 @@
 -- The spots found near the nodes of the tract's cover are those of the own posts that share a cell with it.
-use Rattle.std.proofs.Common.{◌≡◌, ◌++◌, List, reverse, ap, subst, ◌∙◌}
-use Rattle.title_land.specs.Depth.{depth}
-use Rattle.std.specs.List.{list_any}
-use Rattle.std.specs.Prelude.{OnOk}
-use Rattle.title_land.specs.declared.node.Node.{Node}
-use Rattle.title_land.specs.Lands.{IsLand}
-use Rattle.title_chain.specs.declared.ask.Entry.{Entry}
-use Rattle.title_chain.specs.declared.spot.Spot.{Spot}
-use Rattle.title_chain.specs.PostSpots.{own_entry_at, entries_at, step_posts}
-use Rattle.title_chain.specs.TractIndexes.{is_near}
-use Rattle.title_chain.proofs.Nearness.{near_meets}
-use Rattle.title_chain.proofs.SpotEntries.{own_entries}
+use Rattle.std.{proofs.Common.{◌≡◌, ◌++◌, List, reverse, ap, subst, ◌∙◌}, specs.{List.{list_any}, Prelude.{OnOk}}}
+use Rattle.title_land.specs.{Depth.{depth}, declared.node.Node.{Node}, Lands.{IsLand}}
+use Rattle.title_chain.specs.{declared.{ask.Entry.{Entry}, spot.Spot.{Spot}}, PostSpots.{own_entry_at, entries_at, step_posts}}
+use Rattle.title_chain.{specs.TractIndexes.{is_near}, proofs.{Nearness.{near_meets}, SpotEntries.{own_entries}}}
 use Rattle.title_chain.proofs.filing.Filing.add_own_entries.Goals as goal
 
 pub returns : goal.returns

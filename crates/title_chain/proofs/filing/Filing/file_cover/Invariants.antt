@@ -1,11 +1,7 @@
 -- The spot is filed under the nodes so far and those above them.
-use Rattle.std.proofs.Common.{◌≡◌, ◌&&◌, ◌||◌, take}
-use Rattle.std.specs.List.{list_any}
-use Rattle.title_land.specs.declared.node.Node.{Node}
-use Rattle.title_land.specs.Nodes.{same_node, is_above}
-use Rattle.title_chain.specs.declared.spot.Spot.{Spot}
-use Rattle.title_chain.specs.PostSpots.{same_spot, is_listed}
-use Rattle.title_chain.specs.SpotMaps.{spots_under}
+use Rattle.std.{proofs.Common.{◌≡◌, ◌&&◌, ◌||◌, take}, specs.List.{list_any}}
+use Rattle.title_land.specs.{declared.node.Node.{Node}, Nodes.{same_node, is_above}}
+use Rattle.title_chain.specs.{declared.spot.Spot.{Spot}, PostSpots.{same_spot, is_listed}, SpotMaps.{spots_under}}
 use Rattle.title_chain.proofs.filing.Filing.file_cover.Given as goal
 
 abbrev pub invariant-loop-node : goal.invariant-loop-node

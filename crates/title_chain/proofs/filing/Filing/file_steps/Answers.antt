@@ -1,9 +1,7 @@
 -- One step more.
 use Rattle.std.proofs.Common.{◌<◌, ◌∙◌, subst, List, length, arith}
 use Rattle.title_land.specs.Depth.{depth}
-use Rattle.title_chain.specs.PostSpots.{FiledPost}
-use Rattle.title_chain.specs.TractIndexes.{IsFiled}
-use Rattle.title_chain.proofs.Filings.{steps_more}
+use Rattle.title_chain.{specs.{PostSpots.{FiledPost}, TractIndexes.{IsFiled}}, proofs.Filings.{steps_more}}
 use Rattle.title_chain.proofs.filing.Filing.file_steps.Goals as goal
 
 pub loop-i-preserved : goal.loop-i-preserved

@@ -1,8 +1,7 @@
 -- The posts of the steps so far are filed.
 use Rattle.std.proofs.Common.{◌≡◌, List, ◌++◌, reverse, take}
 use Rattle.title_land.specs.Depth.{depth}
-use Rattle.title_chain.specs.PostSpots.{FiledPost, step_posts}
-use Rattle.title_chain.specs.TractIndexes.{IsFiled}
+use Rattle.title_chain.specs.{PostSpots.{FiledPost, step_posts}, TractIndexes.{IsFiled}}
 use Rattle.title_chain.proofs.filing.Filing.file_steps.Given as goal
 
 abbrev pub invariant-loop-i : goal.invariant-loop-i

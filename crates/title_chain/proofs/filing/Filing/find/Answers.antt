@@ -1,10 +1,8 @@
 -- The spots near one node of the cover more.
-use Rattle.std.proofs.Common.{◌<◌, ◌||◌, ◌∙◌, Bool, length, take, ap, sym, arith}
-use Rattle.std.specs.List.{list_any}
+use Rattle.std.{proofs.Common.{◌<◌, ◌||◌, ◌∙◌, Bool, length, take, ap, sym, arith}, specs.List.{list_any}}
 use Rattle.std.proofs.lemmas.List.Folds.{list_any_more}
 use Rattle.title_land.specs.declared.node.Node.{Node}
-use Rattle.title_chain.specs.declared.filing.Filing.{Filing}
-use Rattle.title_chain.specs.TractIndexes.{is_near}
+use Rattle.title_chain.specs.{declared.filing.Filing.{Filing}, TractIndexes.{is_near}}
 use Rattle.title_chain.proofs.filing.Filing.find.Goals as goal
 
 pub loop-node-preserved : goal.loop-node-preserved

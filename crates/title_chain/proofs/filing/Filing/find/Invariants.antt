@@ -1,9 +1,6 @@
 -- The spots near the nodes so far were found.
-use Rattle.std.proofs.Common.{◌≡◌, take}
-use Rattle.std.specs.List.{list_any}
-use Rattle.title_chain.specs.declared.spot.Spot.{Spot}
-use Rattle.title_chain.specs.PostSpots.{is_listed}
-use Rattle.title_chain.specs.TractIndexes.{is_near}
+use Rattle.std.{proofs.Common.{◌≡◌, take}, specs.List.{list_any}}
+use Rattle.title_chain.specs.{declared.spot.Spot.{Spot}, PostSpots.{is_listed}, TractIndexes.{is_near}}
 use Rattle.title_chain.proofs.filing.Filing.find.Given as goal
 
 abbrev pub invariant-loop-node : goal.invariant-loop-node

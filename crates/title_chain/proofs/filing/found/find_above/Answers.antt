@@ -1,8 +1,6 @@
 -- The spots under one node above more were found, up to the whole plant.
 use Rattle.std.proofs.Common.{List, ap, ◌||◌, ◌∙◌}
-use Rattle.title_chain.specs.declared.spot.Spot.{Spot}
-use Rattle.title_chain.specs.PostSpots.{is_listed}
-use Rattle.title_chain.proofs.FoundLaws.{found_further, found_to_the_top}
+use Rattle.title_chain.{specs.{declared.spot.Spot.{Spot}, PostSpots.{is_listed}}, proofs.FoundLaws.{found_further, found_to_the_top}}
 use Rattle.title_chain.proofs.filing.found.find_above.Goals as goal
 
 pub loop-reached-preserved : goal.loop-reached-preserved

@@ -1,8 +1,6 @@
 -- A spot of two lists in turn stands in one of them.
-use Rattle.std.proofs.Common.{List, ap, ◌∙◌}
-use Rattle.std.proofs.lemmas.List.Folds.{list_any-append}
-use Rattle.title_chain.specs.declared.spot.Spot.{Spot}
-use Rattle.title_chain.specs.PostSpots.{same_spot, is_listed}
+use Rattle.std.proofs.{Common.{List, ap, ◌∙◌}, lemmas.List.Folds.{list_any-append}}
+use Rattle.title_chain.specs.{declared.spot.Spot.{Spot}, PostSpots.{same_spot, is_listed}}
 use Rattle.title_chain.proofs.filing.found.find_all.Goals as goal
 
 pub returns : goal.returns

@@ -1,8 +1,6 @@
 -- What is filed under the node and below it, and above it, or known from before.
 use Rattle.std.proofs.Common.{List, ap, ◌||◌, ◌∙◌}
-use Rattle.title_chain.specs.declared.spot.Spot.{Spot}
-use Rattle.title_chain.specs.PostSpots.{is_listed}
-use Rattle.title_chain.proofs.FoundLaws.{near_known, near_found}
+use Rattle.title_chain.{specs.{declared.spot.Spot.{Spot}, PostSpots.{is_listed}}, proofs.FoundLaws.{near_known, near_found}}
 use Rattle.title_chain.proofs.filing.found.find_near.Goals as goal
 
 pub returns-then-is_known : goal.returns-then-is_known

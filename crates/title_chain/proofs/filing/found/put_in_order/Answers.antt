@@ -1,10 +1,6 @@
 -- Spots that ascend stay, and others are sorted.
-use Rattle.std.proofs.Common.{subst, sym, List, ap, ◌∙◌}
-use Rattle.std.specs.List.Sorted.{IsStrictlySortedBy}
-use Rattle.std.proofs.lemmas.List.Filters.{dedup_is}
-use Rattle.title_chain.specs.declared.spot.Spot.{Spot}
-use Rattle.title_chain.specs.SpotMaps.{spot_cmp}
-use Rattle.title_chain.specs.PostSpots.{same_spot, is_listed}
+use Rattle.std.{proofs.{Common.{subst, sym, List, ap, ◌∙◌}, lemmas.List.Filters.{dedup_is}}, specs.List.Sorted.{IsStrictlySortedBy}}
+use Rattle.title_chain.specs.{declared.spot.Spot.{Spot}, SpotMaps.{spot_cmp}, PostSpots.{same_spot, is_listed}}
 use Rattle.title_chain.proofs.SpotsInOrder.{sorted_same, sorted_ascends}
 use Rattle.title_chain.proofs.filing.found.put_in_order.Goals as goal
 

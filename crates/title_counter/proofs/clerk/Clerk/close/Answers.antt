@@ -1,9 +1,7 @@
 -- Open transactions are aborted, and the headline is then true of the desk.
 use Rattle.std.proofs.Common.{◌∙◌, ap}
 use Rattle.title_trace.specs.Due.{Setting}
-use Rattle.title_counter.specs.Closings.{with_aborts}
-use Rattle.title_counter.specs.Views.{counter_of}
-use Rattle.title_counter.proofs.RowLaws.{ends_of}
+use Rattle.title_counter.{specs.{Closings.{with_aborts}, Views.{counter_of}}, proofs.RowLaws.{ends_of}}
 use Rattle.title_counter.proofs.clerk.Clerk.close.Goals as goal
 
 pub returns-clause-ends : goal.returns-clause-ends

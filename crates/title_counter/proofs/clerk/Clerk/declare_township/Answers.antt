@@ -3,8 +3,7 @@ use Rattle.std.proofs.Common.{◌≡◌, ◌≤◌, ◌∙◌, List, length, sub
 use Rattle.title_land.specs.declared.survey.Township.{Township}
 use Rattle.title_plan.specs.Townships.{each_once}
 use Rattle.title_trace.specs.Due.{MayOpen, most_townships}
-use Rattle.title_counter.specs.Views.{counter_of}
-use Rattle.title_counter.proofs.NamesText.{township_few, township_once}
+use Rattle.title_counter.{specs.Views.{counter_of}, proofs.NamesText.{township_few, township_once}}
 use Rattle.title_counter.proofs.RowLaws.{may_open_more, township_declared, township_late, township_refused}
 use Rattle.title_counter.proofs.clerk.Clerk.declare_township.Goals as goal
 

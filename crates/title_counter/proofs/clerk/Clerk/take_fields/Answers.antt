@@ -1,6 +1,5 @@
 -- Fields that aren't UTF-8 say nothing, and those that are say what their row does.
-use Rattle.std.proofs.Common.{sym, inr, refl}
-use Rattle.std.proofs.lemmas.Bool.{false≢true}
+use Rattle.std.proofs.{Common.{sym, inr, refl}, lemmas.Bool.{false≢true}}
 use Rattle.csv.specs.Records.{fields_of}
 use Rattle.title_counter.proofs.NamesText.{is_text, not_text, texts_from}
 use Rattle.title_counter.proofs.clerk.Clerk.take_fields.Goals as goal

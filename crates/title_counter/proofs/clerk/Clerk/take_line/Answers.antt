@@ -1,8 +1,6 @@
 -- A line is answered by what is found in it.
 use Rattle.std.proofs.Common.{◌∙◌, inr, sym}
-use Rattle.title_counter.specs.Founds.{found_of}
-use Rattle.title_counter.specs.Views.{answered, counter_of}
-use Rattle.title_counter.proofs.RowLaws.{line_answered, line_too_long}
+use Rattle.title_counter.{specs.{Founds.{found_of}, Views.{answered, counter_of}}, proofs.RowLaws.{line_answered, line_too_long}}
 use Rattle.title_counter.proofs.clerk.Clerk.take_line.Goals as goal
 
 pub returns-then-is_long-clause-answered : goal.returns-then-is_long-clause-answered

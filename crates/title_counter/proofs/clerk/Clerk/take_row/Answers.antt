@@ -2,9 +2,7 @@
 use Rattle.std.proofs.Common.{inl}
 use Rattle.csv.specs.Records.{fields_of}
 use Rattle.title_plan.specs.Plans.{understood}
-use Rattle.title_counter.specs.Counters.{counted, due_understood}
-use Rattle.title_counter.specs.Views.{answered, counter_of}
-use Rattle.title_counter.proofs.RowLaws.{row_faulty, row_taken}
+use Rattle.title_counter.{specs.{Counters.{counted, due_understood}, Views.{answered, counter_of}}, proofs.RowLaws.{row_faulty, row_taken}}
 use Rattle.title_counter.proofs.clerk.Clerk.take_row.Goals as goal
 
 pub returns-in-Ok-clause-answered : goal.returns-in-Ok-clause-answered

@@ -1,9 +1,7 @@
 -- An act asks for one step, which is served.
-use Rattle.std.proofs.Common.{inl}
-use Rattle.std.proofs.lemmas.Result.{err_from_is_err_and}
+use Rattle.std.proofs.{Common.{inl}, lemmas.Result.{err_from_is_err_and}}
 use Rattle.title_plan.specs.Rows.{done}
-use Rattle.title_counter.specs.Views.{answered, counter_of, line_in}
-use Rattle.title_counter.proofs.RowLaws.{if_err, if_ok, step_due, step_fault}
+use Rattle.title_counter.{specs.Views.{answered, counter_of, line_in}, proofs.RowLaws.{if_err, if_ok, step_due, step_fault}}
 use Rattle.title_counter.proofs.clerk.Clerk.take_step.Goals as goal
 
 pub returns-in_err-wish-clause-err : goal.returns-in_err-wish-clause-err

@@ -1,16 +1,10 @@
 -- Each row comes to what it does by its fields, and the last one by its text.
 use Rattle.std.proofs.Common.{◌≡◌, ◌≤◌, ◌<◌, ◌+◌, ◌-◌, ◌++◌, ◌∷◌, ℕ, List, None, Some, length, length-drop, take, drop, refl, sym}
-use Rattle.std.proofs.Common.{ap, ◌∙◌, subst, inl, inr, arith}
-use Rattle.std.proofs.lemmas.List.{drop-drop, take_rest}
-use Rattle.std.proofs.lemmas.Result.{err_from_is_err_and}
+use Rattle.std.proofs.{Common.{ap, ◌∙◌, subst, inl, inr, arith}, lemmas.{List.{drop-drop, take_rest}, Result.{err_from_is_err_and}}}
 use Rattle.csv.specs.Records.{fields_of}
 use Rattle.title_journal.specs.Blocks.{line_feed}
-use Rattle.title_daybook.specs.Books.{progress_of}
-use Rattle.title_daybook.specs.KeptRows.{after_last_row}
-use Rattle.title_daybook.specs.Lines.{fields_in, IsFirstLine}
-use Rattle.title_daybook.specs.Readers.{IsAt}
-use Rattle.title_daybook.proofs.Blocks.{a_row, counts_last, last_row, no_fields, one_more, row_is}
-use Rattle.title_daybook.proofs.Marks.{marked_block}
+use Rattle.title_daybook.specs.{Books.{progress_of}, KeptRows.{after_last_row}, Lines.{fields_in, IsFirstLine}, Readers.{IsAt}}
+use Rattle.title_daybook.proofs.{Blocks.{a_row, counts_last, last_row, no_fields, one_more, row_is}, Marks.{marked_block}}
 use Rattle.title_daybook.proofs.book.Book.take_block.Goals as goal
 
 same_length : (at len : ℕ) → at + len - at ≡ len

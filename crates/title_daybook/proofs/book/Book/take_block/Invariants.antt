@@ -1,7 +1,5 @@
 use Rattle.std.proofs.Common.{◌-◌, length, drop}
-use Rattle.title_daybook.specs.Books.{progress_of}
-use Rattle.title_daybook.specs.Readers.{IsAt}
-use Rattle.title_daybook.proofs.Blocks.{IsUpTo}
+use Rattle.title_daybook.{specs.{Books.{progress_of}, Readers.{IsAt}}, proofs.Blocks.{IsUpTo}}
 use Rattle.title_daybook.proofs.book.Book.take_block.Given as goal
 
 abbrev pub invariant-rows : goal.invariant-rows

@@ -1,6 +1,5 @@
 use Rattle.std.proofs.Common.{◌≡◌, ◌-◌, length, drop}
-use Rattle.title_daybook.specs.Ends.{past_rows}
-use Rattle.title_daybook.specs.Lines.{lines_of}
+use Rattle.title_daybook.specs.{Ends.{past_rows}, Lines.{lines_of}}
 use Rattle.title_daybook.proofs.ending.Walk.pass_rows.Given as goal
 
 abbrev pub invariant-rows : goal.invariant-rows

@@ -1,10 +1,6 @@
-use Rattle.std.proofs.Common.{◌∙◌, refl, sym, inr, length, arith}
-use Rattle.std.specs.Str.{bytes_eq}
-use Rattle.std.specs.String.{string_bytes}
+use Rattle.std.{proofs.Common.{◌∙◌, refl, sym, inr, length, arith}, specs.{Str.{bytes_eq}, String.{string_bytes}}}
 use Rattle.std.proofs.lemmas.List.{length-map}
-use Rattle.title_daybook.specs.Books.{standing_of}
-use Rattle.title_daybook.proofs.Names.{any_map, insert_name}
-use Rattle.title_daybook.proofs.Declared.{party_few}
+use Rattle.title_daybook.{specs.Books.{standing_of}, proofs.{Names.{any_map, insert_name}, Declared.{party_few}}}
 use Rattle.title_daybook.proofs.standing.Standing.add_party.Goals as goal
 
 pub returns-then-contains-clause-err : goal.returns-then-contains-clause-err

@@ -23,10 +23,9 @@ use denote.Triple.Entry.{alive}
 use denote.Triple.Spec.{Meets, triple_of}
 use denote.Triple.Table.{entered}
 use denote.Triple.Walked.{says, Stays, walk_of, ends_at, walk_Meets}
-use Rattle.title_desk.proofs.Walks.{none, none_made}
+use Rattle.title_desk.{proofs.Walks.{none, none_made}, specs.contracts.calls.Calls.new.Key.{name as #self}}
 use Rattle.title_desk.specs.contracts.calls.Calls as Calls
 use Rattle.title_desk.specs.contracts.calls.Calls.new as F
-use Rattle.title_desk.specs.contracts.calls.Calls.new.Key.{name as #self}
 use Rattle.title_desk.proofs.calls.Calls.new.Statement as stated
 use Rattle.title_desk.proofs.calls.Calls.new.Code as code
 

@@ -25,12 +25,11 @@ use denote.Triple.Entry.{alive}
 use denote.Triple.Spec.{Meets, triple_of}
 use denote.Triple.Table.{entered}
 use denote.Triple.Walked.{says, Stays, stay_dropped, walk_of, ends_at, walk_Meets, Goes-dropped}
-use Rattle.title_desk.proofs.Walks.{none, none_made}
+use Rattle.title_desk.{proofs.Walks.{none, none_made}, specs.contracts.calls.Calls.then.Key.{name as #self}}
 use Rattle.title_desk.specs.contracts.calls.Calls as Calls
 use Rattle.title_trace.specs.contracts.call.Request as Request
 use Rattle.title_trace.specs.contracts.call.Reply as Reply
 use Rattle.title_desk.specs.contracts.calls.Calls.then as F
-use Rattle.title_desk.specs.contracts.calls.Calls.then.Key.{name as #self}
 use Rattle.title_desk.proofs.calls.Calls.then.Statement as stated
 use Rattle.title_desk.proofs.calls.Calls.then.Code as code
 

@@ -1,7 +1,6 @@
 -- A transaction is undone.
 use Rattle.std.proofs.Common.{None, refl, sym, ◌∙◌}
-use Rattle.title_desk.proofs.Found.{none_seen, seen_set}
-use Rattle.title_desk.proofs.States.{keeps_told, keeps_opened, keeps_store}
+use Rattle.title_desk.proofs.{Found.{none_seen, seen_set}, States.{keeps_told, keeps_opened, keeps_store}}
 use Rattle.title_desk.proofs.Ends.{keeps_aborted, aborts, gone_newest, none_left}
 use Rattle.title_desk.proofs.desk.Desk.abort.Goals as goal
 

@@ -1,8 +1,6 @@
 -- A step that posted nothing is added, or all stays as it was.
 use Rattle.std.proofs.Common.{refl, sym, ◌∙◌}
-use Rattle.title_desk.proofs.Found.{seen_answered, seen_same}
-use Rattle.title_desk.proofs.States.{keeps_told, keeps_opened}
-use Rattle.title_desk.proofs.Steps.{keeps_answered, on_good, on_bad}
+use Rattle.title_desk.proofs.{Found.{seen_answered, seen_same}, States.{keeps_told, keeps_opened}, Steps.{keeps_answered, on_good, on_bad}}
 use Rattle.title_desk.proofs.desk.Desk.add_answer.Goals as goal
 
 pub add_step-requires : goal.add_step-requires

@@ -1,15 +1,11 @@
 -- Who is in the way by the locks is in the way by the open steps.
 use Rattle.std.proofs.Common.{◌∙◌, ap, subst, true, Some, None}
 use Rattle.title_land.specs.declared.tract.Land.{Land}
-use Rattle.title_lock.specs.declared.guards.Access.{Access}
-use Rattle.title_lock.specs.declared.guards.LockFault.{LockFault}
-use Rattle.title_lock.specs.Overlaps.{is_post, Stands, RefusedBy}
+use Rattle.title_lock.specs.{declared.guards.{Access.{Access}, LockFault.{LockFault}}, Overlaps.{is_post, Stands, RefusedBy}}
 use Rattle.title_chain.specs.Asks.{tract_of}
-use Rattle.title_desk.specs.Told.{Books}
-use Rattle.title_desk.specs.Admissions.{IsFit}
-use Rattle.title_desk.proofs.Steps.{in_the_way, conflict_due}
-use Rattle.title_desk.proofs.desk.Desk.admit.Goals as goal
+use Rattle.title_desk.{specs.{Told.{Books}, Admissions.{IsFit}}, proofs.Steps.{in_the_way, conflict_due}}
 use Rattle.title_desk.proofs.desk.Desk.admit.Goals.{in-Ok, in-Err-Conflict, in-Err-Memory}
+use Rattle.title_desk.proofs.desk.Desk.admit.Goals as goal
 
 pub returns-clause-admits : goal.returns-clause-admits
 returns-clause-admits g c =

@@ -1,9 +1,7 @@
 -- The record and the three calls of a transaction whose step posts nothing are added.
 use Rattle.std.proofs.Common.{ap, refl, sym}
 use Rattle.title_trace.specs.declared.call.Reply.TheVariants.{Answered}
-use Rattle.title_desk.specs.Told.{Books}
-use Rattle.title_desk.proofs.States.{keeps_told}
-use Rattle.title_desk.proofs.Singles.{idle_state, keeps_read, added, told_single}
+use Rattle.title_desk.{specs.Told.{Books}, proofs.{States.{keeps_told}, Singles.{idle_state, keeps_read, added, told_single}}}
 use Rattle.title_desk.proofs.desk.Desk.answer_alone.Goals as goal
 
 pub invariant_of-self-2 : goal.invariant_of-self-2

@@ -1,9 +1,7 @@
 -- A transaction begins.
 use Rattle.std.proofs.Common.{refl, ap, sym, ◌∙◌}
-use Rattle.title_desk.specs.Opened.{found}
-use Rattle.title_desk.proofs.Found.{nothing_from, seen_begun, seen_same}
+use Rattle.title_desk.{specs.Opened.{found}, proofs.{Found.{nothing_from, seen_begun, seen_same}, Steps.{on_bad, on_good}}}
 use Rattle.title_desk.proofs.States.{keeps_told, keeps_opened, keeps_began}
-use Rattle.title_desk.proofs.Steps.{on_bad, on_good}
 use Rattle.title_desk.proofs.desk.Desk.begin.Goals as goal
 
 pub invariant_of-self : goal.invariant_of-self

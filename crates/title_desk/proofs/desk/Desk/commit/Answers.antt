@@ -1,10 +1,8 @@
 -- A transaction becomes a record.
-use Rattle.std.proofs.Common.{◌≡◌, ◌∷◌, ◌++◌, [], suc, arith, length, reverse, None, refl, ap, sym, ◌∙◌}
-use Rattle.std.proofs.lemmas.Grind.{common_steps}
+use Rattle.std.proofs.{Common.{◌≡◌, ◌∷◌, ◌++◌, [], suc, arith, length, reverse, None, refl, ap, sym, ◌∙◌}, lemmas.Grind.{common_steps}}
 use Rattle.std.proofs.lemmas.List.{reverse-append, reverse-reverse, length-reverse}
 use Rattle.title_chain.specs.declared.record.Record.{Record}
-use Rattle.title_desk.proofs.Found.{none_seen, oldest_first, seen_set}
-use Rattle.title_desk.proofs.States.{keeps_told, keeps_opened, keeps_store}
+use Rattle.title_desk.proofs.{Found.{none_seen, oldest_first, seen_set}, States.{keeps_told, keeps_opened, keeps_store}}
 use Rattle.title_desk.proofs.Ends.{keeps_committed, commits, gone_oldest, none_left}
 use Rattle.title_desk.proofs.desk.Desk.commit.Goals as goal
 

@@ -1,6 +1,5 @@
 -- Each part is said by a call of the desk, or follows from what they say.
-use Rattle.std.proofs.Common.{ap}
-use Rattle.std.proofs.lemmas.Bool.{and_parts, eqb-true}
+use Rattle.std.proofs.{Common.{ap}, lemmas.Bool.{and_parts, eqb-true}}
 use Rattle.title_share.specs.Division.{rows_divide}
 use Rattle.title_instrument.specs.Owners.{holding_of}
 use Rattle.title_desk.specs.Images.{posted_at}

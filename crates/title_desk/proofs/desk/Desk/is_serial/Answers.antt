@@ -1,10 +1,8 @@
 -- The trace is due, so the committed transactions are serial.
 use Rattle.std.proofs.Common.{◌∷◌, subst}
 use Rattle.title_land.specs.Depth.{depth}
-use Rattle.title_chain.specs.Alone.{IsSerial}
-use Rattle.title_chain.specs.Overlaps.{record_of}
-use Rattle.title_trace.specs.Trace.{committed, open_steps}
-use Rattle.title_trace.specs.Laws.Law.{committed_serial, open_last}
+use Rattle.title_chain.specs.{Alone.{IsSerial}, Overlaps.{record_of}}
+use Rattle.title_trace.specs.{Trace.{committed, open_steps}, Laws.Law.{committed_serial, open_last}}
 use Rattle.title_desk.specs.Told.{Books}
 use Rattle.title_desk.proofs.desk.Desk.is_serial.Goals as goal
 

@@ -3,12 +3,9 @@ use Rattle.std.proofs.Common.{refl, ◌∙◌, subst}
 use Rattle.title_land.specs.Depth.{depth}
 use Rattle.title_store.specs.Plants.{SameContent}
 use Rattle.title_store.specs.Laws.EffectLaws as store
-use Rattle.title_chain.specs.declared.ask.Ask.TheVariants.{Post}
-use Rattle.title_chain.specs.declared.ask.Answer.TheVariants.{Posted}
-use Rattle.title_trace.specs.declared.call.Request.TheVariants.{Step}
-use Rattle.title_trace.specs.declared.call.Reply.TheVariants.{Answered}
-use Rattle.title_desk.specs.Images.{put_back}
-use Rattle.title_desk.proofs.Found.{seen_posted, seen_same}
+use Rattle.title_chain.specs.declared.ask.{Ask.TheVariants.{Post}, Answer.TheVariants.{Posted}}
+use Rattle.title_trace.specs.declared.call.{Request.TheVariants.{Step}, Reply.TheVariants.{Answered}}
+use Rattle.title_desk.{specs.Images.{put_back}, proofs.Found.{seen_posted, seen_same}}
 use Rattle.title_desk.proofs.States.{keeps_told, keeps_opened, keeps_store, told_by}
 use Rattle.title_desk.proofs.Steps.{post_due, keeps_posted, image_out, image_last, taken_back, taken_out}
 use Rattle.title_desk.proofs.desk.Desk.post.Goals as goal

@@ -1,13 +1,9 @@
 -- A post that is done is a record; one that is refused is answered.
 use Rattle.std.proofs.Common.{◌∙◌, ap, refl, sym}
-use Rattle.title_chain.specs.declared.ask.Ask.TheVariants.{Post}
-use Rattle.title_chain.specs.declared.ask.Answer.TheVariants.{Posted}
-use Rattle.title_desk.specs.Images.{is_posted}
-use Rattle.title_trace.specs.declared.call.Reply.TheVariants.{Answered}
-use Rattle.title_desk.specs.Told.{Books}
-use Rattle.title_desk.proofs.States.{keeps_told, keeps_store}
-use Rattle.title_desk.proofs.Steps.{post_due}
+use Rattle.title_chain.specs.declared.ask.{Ask.TheVariants.{Post}, Answer.TheVariants.{Posted}}
+use Rattle.title_desk.{specs.{Images.{is_posted}, Told.{Books}}, proofs.{States.{keeps_told, keeps_store}, Steps.{post_due}}}
 use Rattle.title_desk.proofs.Singles.{idle_state, nobody, none_out, keeps_deed, added, told_single}
+use Rattle.title_trace.specs.declared.call.Reply.TheVariants.{Answered}
 use Rattle.title_desk.proofs.desk.Desk.post_alone.Goals as goal
 
 pub post_at_once-requires-clause-none : goal.post_at_once-requires-clause-none

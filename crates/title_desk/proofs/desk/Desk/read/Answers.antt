@@ -1,9 +1,7 @@
 -- What the store and the index give is what the ask gets alone; what is open looks as it did.
 use Rattle.std.proofs.Common.{◌∙◌, ap, refl}
 use Rattle.title_chain.specs.declared.ask.Answer.TheVariants.{Entries, Rows}
-use Rattle.title_desk.proofs.Found.{seen_same}
-use Rattle.title_desk.proofs.States.{keeps_opened}
-use Rattle.title_desk.proofs.Steps.{chain_due, sheet_due}
+use Rattle.title_desk.proofs.{Found.{seen_same}, States.{keeps_opened}, Steps.{chain_due, sheet_due}}
 use Rattle.title_desk.proofs.desk.Desk.read.Goals as goal
 
 pub invariant_of-self-in_err-entries-in-Chain : goal.invariant_of-self-in_err-entries-in-Chain

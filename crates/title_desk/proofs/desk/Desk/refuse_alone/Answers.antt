@@ -1,8 +1,7 @@
 -- The three calls of a transaction whose step is refused are added.
 use Rattle.std.proofs.Common.{ap, refl, sym}
 use Rattle.title_trace.specs.declared.call.Reply.TheVariants.{Denied}
-use Rattle.title_desk.specs.Told.{Books}
-use Rattle.title_desk.proofs.Singles.{idle_state, keeps_barred, told_single}
+use Rattle.title_desk.{specs.Told.{Books}, proofs.Singles.{idle_state, keeps_barred, told_single}}
 use Rattle.title_desk.proofs.desk.Desk.refuse_alone.Goals as goal
 
 pub invariant_of-self : goal.invariant_of-self

@@ -1,9 +1,6 @@
 -- The sheets or the quarters' parts are one more, and the others stay.
-use Rattle.std.proofs.Common.{subst}
-use Rattle.std.proofs.lemmas.List.Elements.{All-same}
-use Rattle.title_desk.specs.declared.kept_sheets.Kept.{Kept}
-use Rattle.title_desk.specs.declared.kept_sheets.Kept.TheVariants.{Quarter, Sheet}
-use Rattle.title_desk.specs.Shown.{IsKept}
+use Rattle.std.proofs.{Common.{subst}, lemmas.List.Elements.{All-same}}
+use Rattle.title_desk.specs.{declared.kept_sheets.Kept.{Kept, TheVariants.{Quarter, Sheet}}, Shown.{IsKept}}
 use Rattle.title_desk.proofs.Homes.{sheets_of, quarters_of, all_of}
 use Rattle.title_desk.proofs.kept_sheets.Home.keep.Goals as goal
 

@@ -1,8 +1,6 @@
 -- Those that are left share no cell with the tract, or are of other estates.
-use Rattle.std.proofs.Common.{rules}
-use Rattle.std.proofs.lemmas.Fn.{filter_same}
-use Rattle.title_desk.specs.Shown.{is_left}
-use Rattle.title_desk.proofs.Homes.{filtered_home}
+use Rattle.std.proofs.{Common.{rules}, lemmas.Fn.{filter_same}}
+use Rattle.title_desk.{specs.Shown.{is_left}, proofs.Homes.{filtered_home}}
 use Rattle.title_desk.proofs.kept_sheets.Home.let_go.Goals as goal
 
 pub returns : goal.returns

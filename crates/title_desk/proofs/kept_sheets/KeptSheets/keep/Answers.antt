@@ -1,12 +1,8 @@
 -- What is the plant's comes to its home, which is there or is put in, or all stays as it was.
-use Rattle.std.proofs.Common.{◌≡◌, ◌∙◌, [], Option, Some, ap, refl, subst, sym}
-use Rattle.std.specs.Prelude.{IsSome}
+use Rattle.std.{proofs.Common.{◌≡◌, ◌∙◌, [], Option, Some, ap, refl, subst, sym}, specs.Prelude.{IsSome}}
 use Rattle.std.proofs.lemmas.List.Elements.{All-nil, All-same}
-use Rattle.title_land.specs.Lands.{home_of}
-use Rattle.title_land.specs.NodeNumbers.{node_number}
-use Rattle.title_desk.specs.declared.kept_sheets.Home.{Home}
-use Rattle.title_desk.specs.declared.kept_sheets.KeptSheets.{KeptSheets}
-use Rattle.title_desk.specs.Shown.{land_in, all_kept, IsKept}
+use Rattle.title_land.specs.{Lands.{home_of}, NodeNumbers.{node_number}}
+use Rattle.title_desk.specs.{declared.kept_sheets.{Home.{Home}, KeptSheets.{KeptSheets}}, Shown.{land_in, all_kept, IsKept}}
 use Rattle.title_desk.proofs.Homes.{Homes, found_home, set_under, kept_set, kept_put, kept_unchanged}
 use Rattle.title_desk.proofs.kept_sheets.KeptSheets.keep.Goals as goal
 

@@ -1,9 +1,7 @@
 -- What a post of a township leaves, whatever its estates.
 use Rattle.std.proofs.Common.{◌≡◌, ◌∙◌, subst, sym}
-use Rattle.title_land.specs.Lands.{home_of}
+use Rattle.title_land.specs.{Lands.{home_of}, declared.{survey.Township.{Township}, tract.Land.{Land}}}
 use Rattle.title_land.specs.declared.node.Node.TheVariants as node
-use Rattle.title_land.specs.declared.survey.Township.{Township}
-use Rattle.title_land.specs.declared.tract.Land.{Land}
 use Rattle.title_land.specs.declared.tract.Land.TheVariants as land
 use Rattle.title_desk.specs.Shown.{SameOutside}
 use Rattle.title_desk.proofs.kept_sheets.KeptSheets.let_go.Goals as goal

@@ -1,10 +1,7 @@
 -- The homes that a post in the section may meet were looked through or let go.
-use Rattle.std.proofs.Common.{subst}
-use Rattle.std.specs.List.{filter}
-use Rattle.title_land.specs.declared.node.Node.{Node}
-use Rattle.title_land.specs.NodeNumbers.{node_number}
-use Rattle.title_desk.specs.Shown.{is_left, kept_under, IsSetUnder}
-use Rattle.title_desk.proofs.Homes.{section_left, section_others, section_apart}
+use Rattle.std.{proofs.Common.{subst}, specs.List.{filter}}
+use Rattle.title_land.specs.{declared.node.Node.{Node}, NodeNumbers.{node_number}}
+use Rattle.title_desk.{specs.Shown.{is_left, kept_under, IsSetUnder}, proofs.Homes.{section_left, section_others, section_apart}}
 use Rattle.title_desk.proofs.kept_sheets.KeptSheets.let_go_in_section.Goals as goal
 
 pub returns : goal.returns

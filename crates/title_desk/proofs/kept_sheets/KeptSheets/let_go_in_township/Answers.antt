@@ -1,8 +1,6 @@
 -- One section more, and at last the township and the plant.
 use Rattle.std.proofs.Common.{◌≡◌, ℕ, [], refl, subst, arith}
-use Rattle.title_land.specs.declared.node.Node.{Node}
-use Rattle.title_land.specs.declared.survey.Section.{Section}
-use Rattle.title_land.specs.NodeNumbers.{node_number}
+use Rattle.title_land.specs.{declared.{node.Node.{Node}, survey.Section.{Section}}, NodeNumbers.{node_number}}
 use Rattle.title_desk.specs.Shown.{IsSetUnder}
 use Rattle.title_desk.proofs.Homes.{AreSwept, none_swept, swept_more, outside_more, township_left, township_others}
 use Rattle.title_desk.proofs.kept_sheets.KeptSheets.let_go_in_township.Goals as goal

@@ -1,7 +1,6 @@
 -- What stands at the tract's home are parts of the plant's sheets.
 use Rattle.std.proofs.lemmas.List.Elements.{All-same, All-weaker}
-use Rattle.title_desk.specs.declared.kept_sheets.Kept.TheVariants.{Quarter}
-use Rattle.title_desk.specs.Shown.{IsQuarter, IsKept}
+use Rattle.title_desk.specs.{declared.kept_sheets.Kept.TheVariants.{Quarter}, Shown.{IsQuarter, IsKept}}
 use Rattle.title_desk.proofs.Homes.{found_home, quarters_of}
 use Rattle.title_desk.proofs.kept_sheets.KeptSheets.part.Goals as goal
 

@@ -1,8 +1,6 @@
 -- What stands at the tract's home are sheets of the plant.
 use Rattle.std.proofs.lemmas.List.Elements.{All-same, All-weaker}
-use Rattle.title_desk.specs.declared.kept_sheets.Kept.TheVariants.{Sheet}
-use Rattle.title_desk.specs.Shown.{IsShown, IsKept}
-use Rattle.title_desk.proofs.Homes.{found_home, sheets_of}
+use Rattle.title_desk.{specs.{declared.kept_sheets.Kept.TheVariants.{Sheet}, Shown.{IsShown, IsKept}}, proofs.Homes.{found_home, sheets_of}}
 use Rattle.title_desk.proofs.kept_sheets.KeptSheets.rows.Goals as goal
 
 pub returns : goal.returns

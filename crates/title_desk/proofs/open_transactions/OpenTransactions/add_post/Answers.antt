@@ -1,7 +1,6 @@
 -- The transaction that is written through is the examiner's.
 use Rattle.std.proofs.Common.{sym}
-use Rattle.title_desk.specs.Opened.{with_post}
-use Rattle.title_desk.proofs.Found.{written}
+use Rattle.title_desk.{specs.Opened.{with_post}, proofs.Found.{written}}
 use Rattle.title_desk.proofs.open_transactions.OpenTransactions.add_post.Goals as goal
 
 pub returns : goal.returns

@@ -1,7 +1,6 @@
 -- The transaction that is written through is the examiner's.
 use Rattle.std.proofs.Common.{sym}
-use Rattle.title_desk.specs.Opened.{with_step}
-use Rattle.title_desk.proofs.Found.{written}
+use Rattle.title_desk.{specs.Opened.{with_step}, proofs.Found.{written}}
 use Rattle.title_desk.proofs.open_transactions.OpenTransactions.add_step.Goals as goal
 
 pub returns : goal.returns

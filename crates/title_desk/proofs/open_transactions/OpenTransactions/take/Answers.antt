@@ -1,7 +1,6 @@
 -- The examiner's transaction is the one that is taken out.
 use Rattle.std.proofs.Common.{ap, sym, ◌∙◌}
-use Rattle.title_desk.specs.Opened.{held}
-use Rattle.title_desk.proofs.Found.{set_at}
+use Rattle.title_desk.{specs.Opened.{held}, proofs.Found.{set_at}}
 use Rattle.title_desk.proofs.open_transactions.OpenTransactions.take.Goals as goal
 
 pub returns : goal.returns

@@ -1,11 +1,8 @@
 -- Where the section has no one holding its quarters' parts are its own.
-use Rattle.std.proofs.Common.{◌≡◌, ◌∙◌, false, List, [], OnOk, subst, sym}
-use Rattle.std.specs.Prelude.{is_some}
-use Rattle.title_land.specs.Depth.{depth}
-use Rattle.title_land.specs.CellLists.{node_cells}
+use Rattle.std.{proofs.Common.{◌≡◌, ◌∙◌, false, List, [], OnOk, subst, sym}, specs.Prelude.{is_some}}
+use Rattle.title_land.specs.{Depth.{depth}, CellLists.{node_cells}}
 use Rattle.title_land.specs.declared.node.Node.TheVariants as node
-use Rattle.title_store.specs.declared.sheet_row.SheetRow.{SheetRow}
-use Rattle.title_store.specs.Sheets.{one_holding}
+use Rattle.title_store.specs.{declared.sheet_row.SheetRow.{SheetRow}, Sheets.{one_holding}}
 use Rattle.title_chain.specs.SheetParts.{all_rows}
 use Rattle.title_desk.proofs.OfSections.{quarters_are}
 use Rattle.title_desk.proofs.shown_store.ShownStore.add_estate.Goals as goal

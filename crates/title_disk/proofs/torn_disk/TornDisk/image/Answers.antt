@@ -1,8 +1,5 @@
-use Rattle.std.proofs.Common.{◌≡◌, ℕ, take, drop, subst, arith}
-use Rattle.std.specs.Prelude.{reverse}
-use Rattle.std.proofs.lemmas.List.{length-reverse}
-use Rattle.title_disk.specs.Kept.{MayLeave, content_between}
-use Rattle.title_disk.specs.Laws.KeptCalls.{left_after}
+use Rattle.std.{proofs.{Common.{◌≡◌, ℕ, take, drop, subst, arith}, lemmas.List.{length-reverse}}, specs.Prelude.{reverse}}
+use Rattle.title_disk.specs.{Kept.{MayLeave, content_between}, Laws.KeptCalls.{left_after}}
 use Rattle.title_disk.proofs.torn_disk.TornDisk.image.Goals as goal
 
 pub returns : goal.returns

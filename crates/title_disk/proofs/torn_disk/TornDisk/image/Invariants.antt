@@ -1,5 +1,4 @@
-use Rattle.std.proofs.Common.{take, drop}
-use Rattle.std.specs.Prelude.{reverse}
+use Rattle.std.{proofs.Common.{take, drop}, specs.Prelude.{reverse}}
 use Rattle.title_disk.specs.Kept.{MayLeave, content_between}
 use Rattle.title_disk.proofs.torn_disk.TornDisk.image.Given as goal
 

@@ -1,7 +1,6 @@
 -- A sync that was kept leaves nothing else.
 use Rattle.std.proofs.Common.{List, ℕ, subst}
-use Rattle.title_disk.specs.Kept.{Notes}
-use Rattle.title_disk.specs.Laws.KeptCalls.{crash_stays}
+use Rattle.title_disk.specs.{Kept.{Notes}, Laws.KeptCalls.{crash_stays}}
 use Rattle.title_disk.specs.declared.call.DiskCall.TheVariants as call
 use Rattle.title_disk.proofs.torn_disk.TornDiskDisk.sync.Goals as goal
 

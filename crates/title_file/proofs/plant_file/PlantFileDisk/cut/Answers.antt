@@ -1,7 +1,6 @@
 -- A cut that failed may have been done, or not.
 use Rattle.std.proofs.Common.{List, subst}
-use Rattle.title_file.specs.Calls.{Call, MayLeave}
-use Rattle.title_file.specs.Laws.{uncut_follows}
+use Rattle.title_file.specs.{Calls.{Call, MayLeave}, Laws.{uncut_follows}}
 use Rattle.title_file.proofs.plant_file.PlantFileDisk.cut.Goals as goal
 
 pub returns-else-is_ok-clause-crash : goal.returns-else-is_ok-clause-crash

@@ -1,7 +1,6 @@
 -- A write may be torn.
 use Rattle.std.proofs.Common.{List, subst}
-use Rattle.title_file.specs.Calls.{Call, MayLeave}
-use Rattle.title_file.specs.Laws.{written_follows}
+use Rattle.title_file.specs.{Calls.{Call, MayLeave}, Laws.{written_follows}}
 use Rattle.title_file.proofs.plant_file.PlantFileDisk.write_at.Goals as goal
 
 pub returns-then-write_all-clause-crash : goal.returns-then-write_all-clause-crash

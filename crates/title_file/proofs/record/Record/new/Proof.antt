@@ -23,10 +23,9 @@ use denote.Triple.Entry.{alive}
 use denote.Triple.Spec.{Meets, triple_of}
 use denote.Triple.Table.{entered}
 use denote.Triple.Walked.{says, Stays, walk_of, ends_at, walk_Meets}
-use Rattle.title_file.proofs.Walks.{none, none_made}
+use Rattle.title_file.{proofs.Walks.{none, none_made}, specs.contracts.record.Record.new.Key.{name as #self}}
 use Rattle.title_file.specs.contracts.record.Record as Record
 use Rattle.title_file.specs.contracts.record.Record.new as F
-use Rattle.title_file.specs.contracts.record.Record.new.Key.{name as #self}
 use Rattle.title_file.proofs.record.Record.new.Statement as stated
 use Rattle.title_file.proofs.record.Record.new.Code as code
 

@@ -25,12 +25,10 @@ use denote.Triple.Entry.{alive}
 use denote.Triple.Spec.{Meets, triple_of}
 use denote.Triple.Table.{entered}
 use denote.Triple.Walked.{says, Stays, stay_dropped, walk_of, ends_at, walk_Meets, Goes-dropped}
-use Rattle.title_file.proofs.Walks.{none, none_made}
+use Rattle.title_file.{proofs.Walks.{none, none_made}, specs.{Noted.{call_of}, contracts.record.Record.then.Key.{name as #self}}}
 use Rattle.title_file.specs.contracts.record.Record as Record
 use Rattle.title_file.specs.contracts.record.Note as Note
-use Rattle.title_file.specs.Noted.{call_of}
 use Rattle.title_file.specs.contracts.record.Record.then as F
-use Rattle.title_file.specs.contracts.record.Record.then.Key.{name as #self}
 use Rattle.title_file.proofs.record.Record.then.Statement as stated
 use Rattle.title_file.proofs.record.Record.then.Code as code
 

@@ -1,7 +1,6 @@
 -- An estate that isn't named stays.
 use Rattle.std.proofs.Common.{rules}
-use Rattle.title_instrument.specs.Effect.{cell_effect}
-use Rattle.title_instrument.specs.Laws.EffectLaws.{unnamed_in}
+use Rattle.title_instrument.specs.{Effect.{cell_effect}, Laws.EffectLaws.{unnamed_in}}
 use Rattle.title_instrument.proofs.owners.Instrument.apply_cell.Goals as goal
 
 pub returns-clause-effect : goal.returns-clause-effect

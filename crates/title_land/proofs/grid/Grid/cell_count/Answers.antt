@@ -1,13 +1,7 @@
 -- The cells counted are those that the set has.
-use Rattle.std.proofs.Common.{◌<◌, ◌≤◌, ◌+◌, ℕ, List, length, get_or, sum_by, sym, ap, ◌∙◌, arith}
-use Rattle.std.specs.Prelude.{count_ones}
-use Rattle.std.proofs.lemmas.List.{take_all}
-use Rattle.std.proofs.lemmas.List.Sums.{sum_by_more}
-use Rattle.std.proofs.lemmas.Nat.{ones-le}
-use Rattle.title_land.specs.Depth.{depth}
-use Rattle.title_land.specs.Survey.{side}
-use Rattle.title_land.proofs.GridCounts.{counts}
-use Rattle.title_land.proofs.GridRows.{rows_counted, rows_sized, count_more}
+use Rattle.std.{proofs.Common.{◌<◌, ◌≤◌, ◌+◌, ℕ, List, length, get_or, sum_by, sym, ap, ◌∙◌, arith}, specs.Prelude.{count_ones}}
+use Rattle.std.proofs.lemmas.{List.{take_all, Sums.{sum_by_more}}, Nat.{ones-le}}
+use Rattle.title_land.{specs.{Depth.{depth}, Survey.{side}}, proofs.{GridCounts.{counts}, GridRows.{rows_counted, rows_sized, count_more}}}
 use Rattle.title_land.proofs.grid.Grid.cell_count.Goals as goal
 
 pub loop-row-preserved : goal.loop-row-preserved

@@ -1,8 +1,6 @@
 -- The cells counted so far.
-use Rattle.std.proofs.Common.{◌≡◌, ◌≤◌, ◌*◌, take, sum_by}
-use Rattle.std.specs.Prelude.{count_ones}
-use Rattle.title_land.specs.Depth.{depth}
-use Rattle.title_land.specs.Survey.{side}
+use Rattle.std.{proofs.Common.{◌≡◌, ◌≤◌, ◌*◌, take, sum_by}, specs.Prelude.{count_ones}}
+use Rattle.title_land.specs.{Depth.{depth}, Survey.{side}}
 use Rattle.title_land.proofs.grid.Grid.cell_count.Given as goal
 
 abbrev pub invariant-loop-row : goal.invariant-loop-row

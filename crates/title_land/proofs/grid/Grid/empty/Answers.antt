@@ -1,13 +1,7 @@
 -- Rows with no bit have no cell.
-use Rattle.std.proofs.Common.{sym, false}
-use Rattle.std.proofs.lemmas.Nat.{pow_pos}
-use Rattle.title_land.specs.declared.rectangle.TheConstants.{ROWS}
-use Rattle.title_land.specs.Depth.{depth}
-use Rattle.title_land.specs.Survey.{side}
-use Rattle.title_land.specs.Laws.GridLaws.{has_none}
-use Rattle.title_land.proofs.GridRows.{one_rows, one_row}
-use Rattle.title_land.proofs.RowBits.{zero_clear}
-use Rattle.title_land.specs.Laws.Sides.{rows_are}
+use Rattle.std.proofs.{Common.{sym, false}, lemmas.Nat.{pow_pos}}
+use Rattle.title_land.specs.{declared.rectangle.TheConstants.{ROWS}, Depth.{depth}, Survey.{side}, Laws.GridLaws.{has_none}}
+use Rattle.title_land.{proofs.{GridRows.{one_rows, one_row}, RowBits.{zero_clear}}, specs.Laws.Sides.{rows_are}}
 use Rattle.title_land.proofs.grid.Grid.empty.Goals as goal
 
 pub invariant_of-result : goal.invariant_of-result

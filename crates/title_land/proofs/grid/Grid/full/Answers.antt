@@ -1,13 +1,7 @@
 -- Rows with a bit for each column have every cell.
-use Rattle.std.proofs.Common.{sym, true, ◌+◌, subst, ◌∙◌, arith}
-use Rattle.std.proofs.lemmas.Bool.{and_from, le-leb, lt-ltb}
-use Rattle.title_land.specs.declared.rectangle.TheConstants.{ROWS}
-use Rattle.title_land.specs.Depth.{depth}
-use Rattle.title_land.specs.Survey.{side}
-use Rattle.title_land.specs.RowBits.{HasColumns}
-use Rattle.title_land.specs.declared.rectangle.Rectangle.{Rectangle}
-use Rattle.title_land.specs.Laws.GridLaws.{has_every}
-use Rattle.title_land.proofs.GridRows.{one_rows, one_row}
+use Rattle.std.proofs.{Common.{sym, true, ◌+◌, subst, ◌∙◌, arith}, lemmas.Bool.{and_from, le-leb, lt-ltb}}
+use Rattle.title_land.specs.{declared.rectangle.TheConstants.{ROWS}, Depth.{depth}, Survey.{side}, RowBits.{HasColumns}}
+use Rattle.title_land.{specs.{declared.rectangle.Rectangle.{Rectangle}, Laws.GridLaws.{has_every}}, proofs.GridRows.{one_rows, one_row}}
 use Rattle.title_land.specs.Laws.Sides.{rows_are}
 use Rattle.title_land.proofs.grid.Grid.full.Goals as goal
 

@@ -1,12 +1,6 @@
 -- The bit of a cell, or none off the grid.
-use Rattle.std.proofs.Common.{◌<◌, ◌≤◌, ap, sym, ◌∙◌, arith}
-use Rattle.std.specs.Prelude.{◌==◌}
-use Rattle.std.proofs.lemmas.Bool.{le-ltb}
-use Rattle.std.proofs.lemmas.Nat.Bits.{shr_and_one}
-use Rattle.title_land.specs.Depth.{depth}
-use Rattle.title_land.specs.Survey.{side}
-use Rattle.title_land.specs.RowBits.{is_set}
-use Rattle.title_land.specs.Laws.Sides.{side_is}
+use Rattle.std.{proofs.{Common.{◌<◌, ◌≤◌, ap, sym, ◌∙◌, arith}, lemmas.{Bool.{le-ltb}, Nat.Bits.{shr_and_one}}}, specs.Prelude.{◌==◌}}
+use Rattle.title_land.specs.{Depth.{depth}, Survey.{side}, RowBits.{is_set}, Laws.Sides.{side_is}}
 use Rattle.title_land.proofs.GridRows.{has_at, has_past, has_below}
 use Rattle.title_land.proofs.grid.Grid.has.Goals as goal
 

@@ -1,6 +1,5 @@
 -- Sets are one where their rows' numbers are.
-use Rattle.title_land.specs.Depth.{depth}
-use Rattle.title_land.proofs.GridRows.{rows_tell}
+use Rattle.title_land.{specs.Depth.{depth}, proofs.GridRows.{rows_tell}}
 use Rattle.title_land.proofs.grid.Grid.is.Goals as goal
 
 pub returns : goal.returns

@@ -1,7 +1,6 @@
 -- Two sets meet where a row of each has a bit in common.
 use Rattle.std.proofs.Common.{◌∙◌}
-use Rattle.title_land.specs.Depth.{depth}
-use Rattle.title_land.proofs.GridRows.{rows_meeting}
+use Rattle.title_land.{specs.Depth.{depth}, proofs.GridRows.{rows_meeting}}
 use Rattle.title_land.proofs.grid.Grid.meets.Goals as goal
 
 pub returns : goal.returns

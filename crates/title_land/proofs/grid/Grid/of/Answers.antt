@@ -1,7 +1,6 @@
 -- A rectangle added to no cells.
 use Rattle.std.proofs.Common.{◌∙◌}
-use Rattle.title_land.specs.Depth.{depth}
-use Rattle.title_land.specs.Laws.GridLaws.{with_rectangle-empty}
+use Rattle.title_land.specs.{Depth.{depth}, Laws.GridLaws.{with_rectangle-empty}}
 use Rattle.title_land.proofs.grid.Grid.of.Goals as goal
 
 pub returns : goal.returns

@@ -1,9 +1,6 @@
 -- The rows of a rectangle have its columns added.
 use Rattle.std.proofs.Common.{◌≡◌, ◌+◌, ap, subst, ◌∙◌, ℕ, arith}
-use Rattle.title_land.specs.declared.grid.Grid.{Grid}
-use Rattle.title_land.specs.Depth.{depth}
-use Rattle.title_land.specs.Grids.{with_rectangle}
-use Rattle.title_land.specs.Laws.GridLaws.{adds_rectangle}
+use Rattle.title_land.specs.{declared.grid.Grid.{Grid}, Depth.{depth}, Grids.{with_rectangle}, Laws.GridLaws.{adds_rectangle}}
 use Rattle.title_land.proofs.GridRows.{AddsMask, mask_rows, rows_with}
 use Rattle.title_land.proofs.grid.Grid.with.Goals as goal
 

@@ -1,15 +1,8 @@
 -- Two nodes share a cell by their kinds.
-use Rattle.std.proofs.Common.{◌≡◌, Bool, refl, subst, ◌∙◌, sym, ap}
-use Rattle.std.specs.Prelude.{◌||◌, true}
-use Rattle.title_land.specs.Depth.{depth}
-use Rattle.title_land.specs.declared.node.Node.{Node}
-use Rattle.title_land.specs.declared.survey.Section.{Section}
-use Rattle.title_land.specs.Survey.{same_section}
-use Rattle.title_land.specs.Nodes.{IsNode}
-use Rattle.title_land.specs.Nestings.{lies_in}
-use Rattle.title_land.specs.Laws.SameLand.{same_section-is, same_section-self}
+use Rattle.std.{proofs.Common.{◌≡◌, Bool, refl, subst, ◌∙◌, sym, ap}, specs.Prelude.{◌||◌, true}}
+use Rattle.title_land.specs.{Depth.{depth}, declared.{node.Node.{Node}, survey.Section.{Section}}, Survey.{same_section}, Nodes.{IsNode}}
+use Rattle.title_land.{specs.{Nestings.{lies_in}, Laws.SameLand.{same_section-is, same_section-self}}, proofs.Nestings.{squares_related}}
 use Rattle.title_land.specs.Laws.NodeSharing.{township_part_related, part_township_related, sections_apart}
-use Rattle.title_land.proofs.Nestings.{squares_related}
 use Rattle.title_land.proofs.node.Node.meets.Goals as goal
 
 pub returns-in-Part-other : goal.returns-in-Part-other

@@ -1,8 +1,6 @@
 -- It is the other, or what it is a quarter of lies in the other.
-use Rattle.std.proofs.Common.{◌∙◌, ap, sym}
-use Rattle.std.proofs.lemmas.Bool.{eqb-false, eqb-true}
-use Rattle.title_land.specs.Paths.{path_number}
-use Rattle.title_land.specs.Laws.PathNumbers.{path_number-is}
+use Rattle.std.proofs.{Common.{◌∙◌, ap, sym}, lemmas.Bool.{eqb-false, eqb-true}}
+use Rattle.title_land.specs.{Paths.{path_number}, Laws.PathNumbers.{path_number-is}}
 use Rattle.title_land.proofs.Nestings.{lies_below, lies_where_apart, lies_where_same}
 use Rattle.title_land.proofs.node.Within.+lies_in.Goals as goal
 

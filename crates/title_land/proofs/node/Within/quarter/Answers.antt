@@ -1,7 +1,6 @@
 -- A quarter's number is four times the square's, and the quarter's own.
 use Rattle.std.proofs.Common.{◌≤◌, ◌∷◌, length, arith}
-use Rattle.title_land.specs.Depth.{depth}
-use Rattle.title_land.specs.Laws.PathNumbers.{number_of, quarters_of_number, is_path_number, path_fits}
+use Rattle.title_land.specs.{Depth.{depth}, Laws.PathNumbers.{number_of, quarters_of_number, is_path_number, path_fits}}
 use Rattle.title_land.proofs.node.Within.quarter.Goals as goal
 
 pub overflow_mul-result : goal.overflow_mul-result

@@ -1,10 +1,6 @@
 -- A square's land is as large as the grid.
 use Rattle.std.proofs.Common.{subst, sym}
-use Rattle.title_land.specs.Depth.{depth}
-use Rattle.title_land.specs.declared.grid.Grid.{Grid}
-use Rattle.title_land.specs.Grids.{IsGrid}
-use Rattle.title_land.specs.Rectangles.{holds}
-use Rattle.title_land.specs.Laws.NodeLands.{is_grid-grid_of}
+use Rattle.title_land.specs.{Depth.{depth}, declared.grid.Grid.{Grid}, Grids.{IsGrid}, Rectangles.{holds}, Laws.NodeLands.{is_grid-grid_of}}
 use Rattle.title_land.proofs.tract.Land.of.Goals as goal
 
 pub returns-in-Part-clause-sized : goal.returns-in-Part-clause-sized

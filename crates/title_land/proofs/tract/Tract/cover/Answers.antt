@@ -1,15 +1,8 @@
 -- The cover that a tract keeps is the set of its cover nodes, in order.
 use Rattle.std.proofs.Common.{◌≡◌, List, sym, ap, subst, ◌∙◌}
-use Rattle.title_land.specs.Depth.{depth}
-use Rattle.title_land.specs.declared.node.Node.{Node}
-use Rattle.title_land.specs.declared.tract.Land.{Land}
-use Rattle.title_land.specs.declared.tract.Extent.{Extent}
-use Rattle.title_land.specs.declared.tract.Shape.{Shape}
-use Rattle.title_land.specs.CoverSets.{IsCover}
-use Rattle.title_land.specs.Extents.{kept_land, IsExtent}
-use Rattle.title_land.specs.Lands.{cover_of, land_of, IsLand}
-use Rattle.title_land.specs.Laws.CoverSet.{cover_is_cover}
-use Rattle.title_land.specs.Laws.NodeLands.{cover_of-land_of, is_land-land_of}
+use Rattle.title_land.specs.{Depth.{depth}, declared.{node.Node.{Node}, tract.{Land.{Land}, Extent.{Extent}, Shape.{Shape}}}}
+use Rattle.title_land.specs.{CoverSets.{IsCover}, Extents.{kept_land, IsExtent}, Lands.{cover_of, land_of, IsLand}}
+use Rattle.title_land.specs.Laws.{CoverSet.{cover_is_cover}, NodeLands.{cover_of-land_of, is_land-land_of}}
 use Rattle.title_land.proofs.tract.Tract.cover.Goals as goal
 
 pub returns-in-Node-clause-cover : goal.returns-in-Node-clause-cover

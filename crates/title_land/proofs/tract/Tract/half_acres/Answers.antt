@@ -1,8 +1,6 @@
 -- A township's acres are those of its sections.
 use Rattle.std.proofs.Common.{◌∙◌, ap, sym}
-use Rattle.title_land.specs.Depth.{depth}
-use Rattle.title_land.specs.Acres.{half_acres_of}
-use Rattle.title_land.specs.Laws.Sides.{township_half_acres}
+use Rattle.title_land.specs.{Depth.{depth}, Acres.{half_acres_of}, Laws.Sides.{township_half_acres}}
 use Rattle.title_land.proofs.tract.Tract.half_acres.Goals as goal
 
 pub returns-in-Township : goal.returns-in-Township

@@ -1,11 +1,7 @@
 -- The cells of a node.
 use Rattle.std.proofs.Common.{◌≡◌, sym, ap, subst, ◌∙◌}
-use Rattle.title_land.specs.Depth.{depth}
-use Rattle.title_land.specs.declared.tract.Land.{Land}
-use Rattle.title_land.specs.declared.tract.Extent.{Extent}
-use Rattle.title_land.specs.Extents.{kept_land, IsExtent}
-use Rattle.title_land.specs.Lands.{has, land_of}
-use Rattle.title_land.specs.Laws.NodeLands.{has-land_of}
+use Rattle.title_land.specs.{Depth.{depth}, declared.tract.{Land.{Land}, Extent.{Extent}}, Extents.{kept_land, IsExtent}}
+use Rattle.title_land.specs.{Lands.{has, land_of}, Laws.NodeLands.{has-land_of}}
 use Rattle.title_land.proofs.tract.Tract.has_cell.Goals as goal
 
 pub returns-in-Node : goal.returns-in-Node

@@ -1,11 +1,7 @@
 -- The cells that tracts share.
 use Rattle.std.proofs.Common.{refl, sym, ap, subst, ◌∙◌}
-use Rattle.title_land.specs.Depth.{depth}
-use Rattle.title_land.specs.declared.tract.Land.{Land}
-use Rattle.title_land.specs.declared.tract.Extent.{Extent}
-use Rattle.title_land.specs.Extents.{kept_land, IsExtent}
-use Rattle.title_land.specs.Lands.{land_of, meets, IsLand}
-use Rattle.title_land.specs.Laws.NodeLands.{meets-land_of, is_land-land_of}
+use Rattle.title_land.specs.{Depth.{depth}, declared.tract.{Land.{Land}, Extent.{Extent}}, Extents.{kept_land, IsExtent}}
+use Rattle.title_land.specs.{Lands.{land_of, meets, IsLand}, Laws.NodeLands.{meets-land_of, is_land-land_of}}
 use Rattle.title_land.specs.Laws.TractSharing.{result_at_a_cell}
 use Rattle.title_land.proofs.tract.Tract.meets.Goals as goal
 

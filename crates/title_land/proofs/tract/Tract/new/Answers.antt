@@ -1,10 +1,7 @@
 -- What is kept is the set with its cover.
 use Rattle.std.proofs.Common.{◌≡◌, sym, subst, ◌∙◌}
-use Rattle.title_land.specs.Depth.{depth}
-use Rattle.title_land.specs.declared.tract.Shape.{Shape}
+use Rattle.title_land.specs.{Depth.{depth}, declared.tract.Shape.{Shape}, Lands.{cover_of, IsLand}, Laws.NodeLands.{cover_of-part}}
 use Rattle.title_land.specs.declared.tract.Land.TheVariants as land
-use Rattle.title_land.specs.Lands.{cover_of, IsLand}
-use Rattle.title_land.specs.Laws.NodeLands.{cover_of-part}
 use Rattle.title_land.proofs.tract.Tract.new.Goals as goal
 
 pub invariant_of-result : goal.invariant_of-result

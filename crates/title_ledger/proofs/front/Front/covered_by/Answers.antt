@@ -1,8 +1,6 @@
 -- The front and the page begin one ledger, and the page lacks one entry at most.
-use Rattle.std.proofs.Common.{◌≡◌, ◌+◌, length, arith, ap, ◌∙◌}
-use Rattle.std.proofs.lemmas.Bool.Decides.{nat_tests}
-use Rattle.title_ledger.specs.Ledgers.{IsSettled}
-use Rattle.title_ledger.specs.Laws.Entries.{covers_more, covers_last}
+use Rattle.std.proofs.{Common.{◌≡◌, ◌+◌, length, arith, ap, ◌∙◌}, lemmas.Bool.Decides.{nat_tests}}
+use Rattle.title_ledger.specs.{Ledgers.{IsSettled}, Laws.Entries.{covers_more, covers_last}}
 use Rattle.title_ledger.proofs.front.Front.covered_by.Goals as goal
 
 pub returns-then-begins-clause-covered : goal.returns-then-begins-clause-covered

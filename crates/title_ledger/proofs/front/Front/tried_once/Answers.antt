@@ -1,8 +1,7 @@
 -- The front's records are serial with the one that is tried.
 use Rattle.std.proofs.Common.{◌≡◌, ◌++◌, [], ◌∷◌, ap, ◌∙◌}
 use Rattle.title_ledger.specs.declared.entry.Entry.TheVariants as entry
-use Rattle.title_ledger.specs.Ledgers.{AreSerial, sure_of}
-use Rattle.title_ledger.specs.Laws.Entries.{tried_ok}
+use Rattle.title_ledger.specs.{Ledgers.{AreSerial, sure_of}, Laws.Entries.{tried_ok}}
 use Rattle.title_ledger.proofs.front.Front.tried_once.Goals as goal
 
 pub invariant_of-result : goal.invariant_of-result

@@ -1,9 +1,7 @@
 -- Both pages begin what is then seen, so the shorter begins the longer.
-use Rattle.std.proofs.Common.{◌≤◌, List, length, ap, arith, subst}
-use Rattle.std.proofs.lemmas.Bool.Decides.{nat_tests}
+use Rattle.std.proofs.{Common.{◌≤◌, List, length, ap, arith, subst}, lemmas.Bool.Decides.{nat_tests}}
 use mathlib.Core.List.{IsPrefix}
-use Rattle.title_ledger.specs.declared.entry.Entry.{Entry}
-use Rattle.title_ledger.specs.Laws.Beginnings.{prefix_shorter}
+use Rattle.title_ledger.specs.{declared.entry.Entry.{Entry}, Laws.Beginnings.{prefix_shorter}}
 use Rattle.title_ledger.proofs.page.Page.begins.Goals as goal
 
 pub returns-clause-this : goal.returns-clause-this

@@ -1,9 +1,7 @@
 -- The new number is above all keys, so the entry goes to the end, and its number to the end of its examiner's.
-use Rattle.std.proofs.Common.{◌≡◌, ◌<◌, ℕ, List, [], ◌∷◌, ◌++◌, reverse, ap, ◌∙◌, sym, subst, arith}
+use Rattle.std.{proofs.Common.{◌≡◌, ◌<◌, ℕ, List, [], ◌∷◌, ◌++◌, reverse, ap, ◌∙◌, sym, subst, arith}, specs.Map.{keys_of, values_of}}
 use Rattle.std.proofs.lemmas.List.Elements.{All-weaker, All-push, All-same}
-use Rattle.std.specs.Map.{keys_of, values_of}
-use Rattle.title_lock.specs.declared.guards.Entry.{Entry}
-use Rattle.title_lock.specs.Books.{numbers_of, own_keys}
+use Rattle.title_lock.specs.{declared.guards.Entry.{Entry}, Books.{numbers_of, own_keys}}
 use Rattle.title_lock.proofs.BookLaws.{insert_last, view_more, keys_more, own_more, kept_more}
 use Rattle.title_lock.proofs.book.Book.push.Goals as goal
 

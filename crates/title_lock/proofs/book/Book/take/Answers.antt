@@ -1,13 +1,7 @@
 -- The examiner's last number finds its last entry; without it the others are left.
-use Rattle.std.proofs.Common.{◌≡◌, ◌<◌, ℕ, List, ap, ◌∙◌, sym, subst}
-use Rattle.std.proofs.lemmas.List.Elements.{All-same}
-use Rattle.std.proofs.lemmas.Map.Views.{All-map-remove_entry}
-use Rattle.std.specs.Map.{keys_of, remove_entry}
-use Rattle.std.specs.Ordering.{nat_cmp}
-use Rattle.std.specs.BTreeMap.{is_at}
-use Rattle.title_lock.specs.declared.guards.Entry.{Entry}
-use Rattle.title_lock.specs.Overlaps.{without}
-use Rattle.title_lock.specs.Books.{numbers_of}
+use Rattle.std.proofs.{Common.{◌≡◌, ◌<◌, ℕ, List, ap, ◌∙◌, sym, subst}, lemmas.{List.Elements.{All-same}, Map.Views.{All-map-remove_entry}}}
+use Rattle.std.specs.{Map.{keys_of, remove_entry}, Ordering.{nat_cmp}, BTreeMap.{is_at}}
+use Rattle.title_lock.specs.{declared.guards.Entry.{Entry}, Overlaps.{without}, Books.{numbers_of}}
 use Rattle.title_lock.proofs.BookLaws.{IsTaken, taken_by, not_none, none_gone, kept_without}
 use Rattle.title_lock.proofs.book.Book.take.Goals as goal
 

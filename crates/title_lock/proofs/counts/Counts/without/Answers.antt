@@ -1,8 +1,6 @@
 -- A mode that is held is counted.
 use Rattle.std.proofs.Common.{◌≤◌, Option, Some, subst, arith}
-use Rattle.title_lock.specs.declared.modes.Mode.{Mode}
-use Rattle.title_lock.specs.Holders.{own_part, count_in}
-use Rattle.title_lock.proofs.CountLaws.{own_one}
+use Rattle.title_lock.{specs.{declared.modes.Mode.{Mode}, Holders.{own_part, count_in}}, proofs.CountLaws.{own_one}}
 use Rattle.title_lock.proofs.counts.Counts.without.Goals as goal
 
 pub fewer-requires : goal.fewer-requires

@@ -1,7 +1,6 @@
 -- Who holds nothing is let go.
 use Rattle.std.proofs.Common.{◌∙◌, ap, sym}
-use Rattle.title_lock.specs.Holders.{Modes, holder_mode}
-use Rattle.title_lock.proofs.CountLaws.{counted_same, dropped_same}
+use Rattle.title_lock.{specs.Holders.{Modes, holder_mode}, proofs.CountLaws.{counted_same, dropped_same}}
 use Rattle.title_lock.proofs.holders.Holders.drop_room.Goals as goal
 
 pub invariant_of-self : goal.invariant_of-self

@@ -1,8 +1,6 @@
 -- The counts are those of the holders.
 use Rattle.std.proofs.Common.{subst}
-use Rattle.title_lock.specs.declared.modes.Mode.TheVariants.{Is, Ix, S, Six, X}
-use Rattle.title_lock.specs.Counts.{IsCount}
-use Rattle.title_lock.specs.Holders.{Modes, holder_mode}
+use Rattle.title_lock.specs.{declared.modes.Mode.TheVariants.{Is, Ix, S, Six, X}, Counts.{IsCount}, Holders.{Modes, holder_mode}}
 use Rattle.title_lock.proofs.holders.Holders.numbers.Goals as goal
 
 pub returns-clause-is : goal.returns-clause-is

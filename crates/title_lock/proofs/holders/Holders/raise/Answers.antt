@@ -1,7 +1,6 @@
 -- What the examiner holds now is counted, and no more what it held.
 use Rattle.std.proofs.Common.{◌∙◌, ap, sym, cond, eqb, Option}
-use Rattle.title_lock.specs.declared.modes.Mode.{Mode}
-use Rattle.title_lock.specs.Holders.{holder_mode}
+use Rattle.title_lock.specs.{declared.modes.Mode.{Mode}, Holders.{holder_mode}}
 use Rattle.title_lock.proofs.CountLaws.{counted_own, counted_fits, counted_moved}
 use Rattle.title_lock.proofs.holders.Holders.raise.Goals as goal
 

@@ -1,7 +1,6 @@
 -- Where the counts are clear nobody is in the way.
 use Rattle.std.proofs.Common.{◌≡◌, ◌≢◌, ◌∙◌, ℕ, false, refl, ap, sym, subst}
-use Rattle.title_lock.specs.Holders.{Modes, holder_mode, clashes}
-use Rattle.title_lock.proofs.CountLaws.{clear_way, clear_more}
+use Rattle.title_lock.{specs.Holders.{Modes, holder_mode, clashes}, proofs.CountLaws.{clear_way, clear_more}}
 use Rattle.title_lock.proofs.holders.Holders.way.Goals as goal
 
 pub returns-then-is_open : goal.returns-then-is_open

@@ -1,13 +1,8 @@
 -- Where one examiner is alone, the counts are what it is of those with each mode.
 use Rattle.std.proofs.Common.{◌≡◌, ◌∙◌, ℕ, List, Option, ap, slice_index}
 use Rattle.title_land.specs.Depth.{depth}
-use Rattle.title_lock.specs.declared.guards.Entry.{Entry}
-use Rattle.title_lock.specs.declared.modes.Mode.{Mode}
-use Rattle.title_lock.specs.declared.modes.Mode.TheVariants.{Is, Ix, S, Six, X}
-use Rattle.title_lock.specs.Asking.{mode_at}
-use Rattle.title_lock.specs.Counts.{IsCount}
-use Rattle.title_lock.specs.Holders.{own_part}
-use Rattle.title_lock.proofs.AloneLaws.{listed_shown, shown_own, count_alone}
+use Rattle.title_lock.specs.{declared.{guards.Entry.{Entry}, modes.Mode.{Mode, TheVariants.{Is, Ix, S, Six, X}}}, Asking.{mode_at}}
+use Rattle.title_lock.{specs.{Counts.{IsCount}, Holders.{own_part}}, proofs.AloneLaws.{listed_shown, shown_own, count_alone}}
 use Rattle.title_lock.proofs.node_locks.NodeLocks.counts.Goals as goal
 
 counted : (c : goal.After-counts_of_one) → (m : Mode) (k : ℕ) → k ≡ own_part c.mode.result m

@@ -1,7 +1,6 @@
 -- Nobody is in the way of the one examiner that has entries.
 use Rattle.std.proofs.Common.{sym}
-use Rattle.title_lock.specs.Overlaps.{is_post}
-use Rattle.title_lock.proofs.AloneLaws.{alone_free, listed_shown}
+use Rattle.title_lock.{specs.Overlaps.{is_post}, proofs.AloneLaws.{alone_free, listed_shown}}
 use Rattle.title_lock.proofs.node_locks.NodeLocksGuards.prepare.Goals as goal
 
 pub make_room-requires : goal.make_room-requires

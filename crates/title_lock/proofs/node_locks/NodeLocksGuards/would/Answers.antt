@@ -1,7 +1,6 @@
 -- Nobody is in the way of the one examiner that has entries.
 use Rattle.std.proofs.Common.{refl}
-use Rattle.title_lock.specs.Overlaps.{is_post}
-use Rattle.title_lock.proofs.AloneLaws.{alone_free}
+use Rattle.title_lock.{specs.Overlaps.{is_post}, proofs.AloneLaws.{alone_free}}
 use Rattle.title_lock.proofs.node_locks.NodeLocksGuards.would.Goals as goal
 
 pub returns-then-owner-examiner : goal.returns-then-owner-examiner

@@ -1,13 +1,8 @@
 -- Nobody is in the way of what is prepared, and there is room for it.
-use Rattle.std.proofs.Common.{◌<◌, ap, sym, subst, List, reverse, Some, None, arith}
-use Rattle.std.proofs.lemmas.Bool.{lt-ltb}
+use Rattle.std.proofs.{Common.{◌<◌, ap, sym, subst, List, reverse, Some, None, arith}, lemmas.Bool.{lt-ltb}}
 use Rattle.std.specs.Prelude.{nat_lt, vec_len, vec_capacity}
-use Rattle.title_land.specs.Depth.{depth}
-use Rattle.title_land.specs.Lands.{IsLand}
-use Rattle.title_land.specs.declared.tract.Land.{Land}
-use Rattle.title_lock.specs.declared.guards.Entry.{Entry}
-use Rattle.title_lock.specs.Overlaps.{is_post, Stands}
-use Rattle.title_lock.specs.Locks.{Locks, AreRows}
+use Rattle.title_land.specs.{Depth.{depth}, Lands.{IsLand}, declared.tract.Land.{Land}}
+use Rattle.title_lock.specs.{declared.guards.Entry.{Entry}, Overlaps.{is_post, Stands}, Locks.{Locks, AreRows}}
 use Rattle.title_lock.proofs.row_locks.RowLocks.make_room.Goals as goal
 
 pub invariant_of-self-2 : goal.invariant_of-self-2

@@ -1,10 +1,7 @@
 -- Entries that stand without overlap were all granted by modes.
 use Rattle.std.proofs.Common.{subst, ap, List, reverse}
 use Rattle.title_land.specs.Depth.{depth}
-use Rattle.title_lock.specs.declared.guards.Entry.{Entry}
-use Rattle.title_lock.specs.Asking.{AllGranted}
-use Rattle.title_lock.specs.Locks.{Locks}
-use Rattle.title_lock.proofs.MeetLaws.{meet_by_covers}
+use Rattle.title_lock.{specs.{declared.guards.Entry.{Entry}, Asking.{AllGranted}, Locks.{Locks}}, proofs.MeetLaws.{meet_by_covers}}
 use Rattle.title_lock.proofs.Standing.{free_granted}
 use Rattle.title_lock.proofs.row_locks.RowLocks.stand_granted.Goals as goal
 

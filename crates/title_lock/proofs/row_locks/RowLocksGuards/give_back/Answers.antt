@@ -1,13 +1,8 @@
 -- The others' entries stand as they stood.
-use Rattle.std.proofs.Common.{◌∙◌, sym, ap, subst, List, reverse, not, eqb, None}
-use Rattle.std.specs.Prelude.{nat_lt, vec_len, vec_capacity}
+use Rattle.std.{proofs.Common.{◌∙◌, sym, ap, subst, List, reverse, not, eqb, None}, specs.Prelude.{nat_lt, vec_len, vec_capacity}}
 use Rattle.std.proofs.lemmas.List.Elements.{All-filter}
-use Rattle.title_land.specs.Depth.{depth}
-use Rattle.title_land.specs.Lands.{IsLand}
-use Rattle.title_lock.specs.declared.guards.Entry.{Entry}
-use Rattle.title_lock.specs.Overlaps.{without}
-use Rattle.title_lock.specs.Locks.{Locks, AreRows}
-use Rattle.title_lock.proofs.Standing.{left_free}
+use Rattle.title_land.specs.{Depth.{depth}, Lands.{IsLand}}
+use Rattle.title_lock.{specs.{declared.guards.Entry.{Entry}, Overlaps.{without}, Locks.{Locks, AreRows}}, proofs.Standing.{left_free}}
 use Rattle.title_lock.proofs.RowLaws.{filter_reverse}
 use Rattle.title_lock.proofs.row_locks.RowLocksGuards.give_back.Goals as goal
 

@@ -1,15 +1,10 @@
 -- A node's holders get room, and a new node's are nobody with room for one.
-use Rattle.std.proofs.Common.{◌≡◌, ◌∙◌, ap, sym, subst, refl, ℕ, List, Some, None, cond, eqb, ◌||◌, true≢false}
-use Rattle.std.specs.Prelude.{is_some}
-use Rattle.std.specs.Ordering.{nat_cmp}
-use Rattle.std.specs.BTreeMap.{get, is_at}
-use Rattle.std.specs.Map.{lookup}
+use Rattle.std.{proofs.Common.{◌≡◌, ◌∙◌, ap, sym, subst, refl, ℕ, List, Some, None, cond, eqb, ◌||◌, true≢false}, specs.Prelude.{is_some}}
+use Rattle.std.specs.{Ordering.{nat_cmp}, BTreeMap.{get, is_at}, Map.{lookup}}
 use Rattle.title_land.specs.NodeNumbers.{node_number}
-use Rattle.title_lock.specs.Holders.{Modes}
-use Rattle.title_lock.specs.Tables.{holders_at, mode_in, room_in, idle_in, unused_in, home_of}
+use Rattle.title_lock.specs.{Holders.{Modes}, Tables.{holders_at, mode_in, room_in, idle_in, unused_in, home_of}}
 use Rattle.title_lock.proofs.TableLaws.{NodeMap, node_writes, node_finds, is_found, same_everywhere, room_stays, idle_more, used_after}
-use Rattle.title_lock.proofs.IdleLaws.{idles_more, idles_first, rooms_used, room_used}
-use Rattle.title_lock.proofs.HomeLaws.{home_after}
+use Rattle.title_lock.proofs.{IdleLaws.{idles_more, idles_first, rooms_used, room_used}, HomeLaws.{home_after}}
 use Rattle.title_lock.proofs.shelf.Shelf.make_room.Goals as goal
 
 pub returns-in-Some-clause-modes : goal.returns-in-Some-clause-modes

@@ -1,7 +1,6 @@
 -- One node more.
 use Rattle.std.proofs.Common.{[], ◌∷◌, Option, ℕ, ap, subst}
-use Rattle.title_lock.specs.Tables.{on_shelf, shelf_above, home_of, AreAtHome}
-use Rattle.title_lock.specs.Walks.{asks_above, node_of, climb_asks, climb_left}
+use Rattle.title_lock.specs.{Tables.{on_shelf, shelf_above, home_of, AreAtHome}, Walks.{asks_above, node_of, climb_asks, climb_left}}
 use Rattle.title_lock.proofs.WalkLaws.{climb_parts, climb_shorter, climb_ends, climb_stands, stand_first, stand_rest}
 use Rattle.title_lock.proofs.DoneLaws.{roomed_one, roomed_same, roomed_then, room_one, rooms_then, room_last}
 use Rattle.title_lock.proofs.shelf.Shelf.make_room_along.Goals as goal

@@ -1,8 +1,7 @@
 -- Room for what is left makes room for all; nobody's mode changes, and holders stay used and at home.
 use Rattle.std.proofs.Common.{◌≡◌, false, length}
-use Rattle.title_lock.specs.Tables.{HeldAt, on_shelf, KeepsRoom, HasRoom, AllUsed, AreAtHome, home_of, is_bare}
+use Rattle.title_lock.{specs.Tables.{HeldAt, on_shelf, KeepsRoom, HasRoom, AllUsed, AreAtHome, home_of, is_bare}, proofs.WalkLaws.{StandOn}}
 use Rattle.title_lock.specs.Walks.{asks_in, climb_asks, climb_left, Roomed}
-use Rattle.title_lock.proofs.WalkLaws.{StandOn}
 use Rattle.title_lock.proofs.shelf.Shelf.make_room_along.Given as goal
 
 abbrev pub invariant-loop-next : goal.invariant-loop-next

@@ -1,11 +1,8 @@
 -- One node's holders change, and they keep their room.
 use Rattle.std.proofs.Common.{◌∙◌, ◌&&◌, not, ap, Some, None, cond, eqb, Option}
-use Rattle.title_lock.specs.Holders.{Modes}
-use Rattle.title_lock.specs.Modes.{bound}
-use Rattle.title_lock.specs.Tables.{mode_in, room_in, idle_in, unused_in}
+use Rattle.title_lock.specs.{Holders.{Modes}, Modes.{bound}, Tables.{mode_in, room_in, idle_in, unused_in}}
 use Rattle.title_lock.proofs.TableLaws.{node_writes, node_finds, is_found, raised, room_stays, idle_less, used_after}
-use Rattle.title_lock.proofs.IdleLaws.{idles_raised, rooms_used}
-use Rattle.title_lock.proofs.HomeLaws.{home_after, found_some}
+use Rattle.title_lock.proofs.{IdleLaws.{idles_raised, rooms_used}, HomeLaws.{home_after, found_some}}
 use Rattle.title_lock.proofs.shelf.Shelf.raise.Goals as goal
 
 pub returns-in-Some-clause-modes : goal.returns-in-Some-clause-modes

@@ -1,12 +1,8 @@
 -- One node more.
 use Rattle.std.proofs.Common.{◌≡◌, [], ◌∷◌, Some, None, ◌&&◌, cond, eqb, ap, subst}
 use Rattle.title_land.specs.Nodes.{same_node}
-use Rattle.title_lock.specs.declared.modes.Mode.{Mode}
-use Rattle.title_lock.specs.Modes.{bound}
-use Rattle.title_lock.specs.Overlaps.{is_post}
-use Rattle.title_lock.specs.Tables.{on_shelf, table_mode, shelf_above}
-use Rattle.title_lock.specs.Walks.{asks_above, node_of, climb_asks, climb_left}
-use Rattle.title_lock.proofs.WalkLaws.{climb_parts, climb_shorter, climb_ends}
+use Rattle.title_lock.specs.{declared.modes.Mode.{Mode}, Modes.{bound}, Overlaps.{is_post}, Tables.{on_shelf, table_mode, shelf_above}}
+use Rattle.title_lock.{specs.Walks.{asks_above, node_of, climb_asks, climb_left}, proofs.WalkLaws.{climb_parts, climb_shorter, climb_ends}}
 use Rattle.title_lock.proofs.DoneLaws.{raised_one, raised_then, raised_last, room_then, room_first}
 use Rattle.title_lock.proofs.shelf.Shelf.raise_along.Goals as goal
 

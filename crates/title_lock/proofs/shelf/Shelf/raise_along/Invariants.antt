@@ -1,7 +1,6 @@
 -- What is left raised is all raised; holders stay used and at home.
 use Rattle.std.proofs.Common.{ℕ, Option, length}
-use Rattle.title_lock.specs.Overlaps.{is_post}
-use Rattle.title_lock.specs.Tables.{HeldAt, on_shelf, HasRoom, AllUsed, AreAtHome}
+use Rattle.title_lock.specs.{Overlaps.{is_post}, Tables.{HeldAt, on_shelf, HasRoom, AllUsed, AreAtHome}}
 use Rattle.title_lock.specs.Walks.{asks_in, climb_asks, climb_left, Raised}
 use Rattle.title_lock.proofs.shelf.Shelf.raise_along.Given as goal
 

@@ -1,16 +1,11 @@
 -- One node's holders lose an examiner, and are dropped where nobody is left.
 use Rattle.std.proofs.Common.{◌≡◌, ◌∙◌, refl, ap, sym, subst, true, false, true≢false, Some, None, cond, ◌&&◌, not, eqb, Option}
-use Rattle.std.specs.Prelude.{is_some}
-use Rattle.std.specs.Ordering.{nat_cmp}
-use Rattle.std.specs.BTreeMap.{get}
+use Rattle.std.specs.{Prelude.{is_some}, Ordering.{nat_cmp}, BTreeMap.{get}}
 use Rattle.title_land.specs.Nodes.{same_node}
-use Rattle.title_lock.specs.Holders.{Modes, is_mode, is_free}
-use Rattle.title_lock.specs.Tables.{holders_at, mode_in, idle_in, unused_in}
+use Rattle.title_lock.specs.{Holders.{Modes, is_mode, is_free}, Tables.{holders_at, mode_in, idle_in, unused_in}}
 use Rattle.title_lock.proofs.TableLaws.{NodeMap, Writes, node_writes, node_finds, is_found, mode_of, same_everywhere, released}
-use Rattle.title_lock.proofs.TableLaws.{none_released, free_none}
-use Rattle.title_lock.proofs.TableLaws.{idle_less, none_idle, used_after, rewritten}
-use Rattle.title_lock.proofs.IdleLaws.{idles_taken, free_idles}
-use Rattle.title_lock.proofs.HomeLaws.{home_after, found_some}
+use Rattle.title_lock.proofs.TableLaws.{none_released, free_none, idle_less, none_idle, used_after, rewritten}
+use Rattle.title_lock.proofs.{IdleLaws.{idles_taken, free_idles}, HomeLaws.{home_after, found_some}}
 use Rattle.title_lock.proofs.shelf.Shelf.take_out.Goals as goal
 
 pub returns-in_default : goal.returns-in_default

@@ -1,10 +1,7 @@
 -- One node more.
 use Rattle.std.proofs.Common.{[], ◌∷◌}
-use Rattle.title_lock.specs.Holders.{is_mode}
-use Rattle.title_lock.specs.Tables.{on_shelf}
-use Rattle.title_lock.specs.Walks.{climb_asks, climb_left}
-use Rattle.title_lock.proofs.WalkLaws.{climb_parts, climb_shorter, climb_ends}
-use Rattle.title_lock.proofs.DoneLaws.{taken_one, taken_then, taken_last}
+use Rattle.title_lock.specs.{Holders.{is_mode}, Tables.{on_shelf}, Walks.{climb_asks, climb_left}}
+use Rattle.title_lock.proofs.{WalkLaws.{climb_parts, climb_shorter, climb_ends}, DoneLaws.{taken_one, taken_then, taken_last}}
 use Rattle.title_lock.proofs.shelf.Shelf.take_out_along.Goals as goal
 
 pub loop-next-init : goal.loop-next-init

@@ -1,8 +1,6 @@
 -- What is left taken out is all taken out; holders stay used and at home.
 use Rattle.std.proofs.Common.{ℕ, Option, length}
-use Rattle.title_lock.specs.Holders.{is_mode}
-use Rattle.title_lock.specs.Tables.{HeldAt, on_shelf, AllUsed, AreAtHome}
-use Rattle.title_lock.specs.Walks.{climb_asks, climb_left, TakenOut}
+use Rattle.title_lock.specs.{Holders.{is_mode}, Tables.{HeldAt, on_shelf, AllUsed, AreAtHome}, Walks.{climb_asks, climb_left, TakenOut}}
 use Rattle.title_lock.proofs.shelf.Shelf.take_out_along.Given as goal
 
 abbrev pub invariant-loop-next : goal.invariant-loop-next

@@ -1,12 +1,8 @@
 -- One node more.
 use Rattle.std.proofs.Common.{[], ◌∷◌, Option, ℕ, refl, sym, subst}
 use Rattle.title_land.specs.declared.node.Node.{Node}
-use Rattle.title_lock.specs.declared.modes.Mode.{Mode}
-use Rattle.title_lock.specs.Overlaps.{is_post, IsLeast}
-use Rattle.title_lock.specs.Holders.{clashes}
-use Rattle.title_lock.specs.Tables.{on_shelf, table_mode}
-use Rattle.title_lock.specs.Walks.{climb_asks, climb_left}
-use Rattle.title_lock.proofs.WalkLaws.{climb_parts, climb_shorter, climb_ends}
+use Rattle.title_lock.specs.{declared.modes.Mode.{Mode}, Overlaps.{is_post, IsLeast}, Holders.{clashes}, Tables.{on_shelf, table_mode}}
+use Rattle.title_lock.{specs.Walks.{climb_asks, climb_left}, proofs.WalkLaws.{climb_parts, climb_shorter, climb_ends}}
 use Rattle.title_lock.proofs.DoneLaws.{IsSoFar, way_one, so_far_begins, so_far_goes, so_far_ends}
 use Rattle.title_lock.proofs.shelf.Shelf.way_along.Goals as goal
 

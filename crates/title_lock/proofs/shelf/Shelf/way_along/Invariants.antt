@@ -1,9 +1,6 @@
 -- The least in the way so far.
 use Rattle.std.proofs.Common.{length}
-use Rattle.title_lock.specs.Overlaps.{is_post}
-use Rattle.title_lock.specs.Tables.{on_shelf, table_mode}
-use Rattle.title_lock.specs.Walks.{climb_asks, climb_left}
-use Rattle.title_lock.proofs.DoneLaws.{IsSoFar}
+use Rattle.title_lock.{specs.{Overlaps.{is_post}, Tables.{on_shelf, table_mode}, Walks.{climb_asks, climb_left}}, proofs.DoneLaws.{IsSoFar}}
 use Rattle.title_lock.proofs.shelf.Shelf.way_along.Given as goal
 
 abbrev pub invariant-loop-next : goal.invariant-loop-next

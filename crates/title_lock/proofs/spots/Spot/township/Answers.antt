@@ -2,8 +2,7 @@
 use Rattle.std.proofs.Common.{◌∙◌, ap, sym, ◌∷◌}
 use Rattle.title_land.specs.declared.node.Node.{Node}
 use Rattle.title_land.specs.declared.node.Node.TheVariants as node
-use Rattle.title_lock.specs.Tables.{shelf_above}
-use Rattle.title_lock.proofs.SpotLaws.{told, township_at}
+use Rattle.title_lock.{specs.Tables.{shelf_above}, proofs.SpotLaws.{told, township_at}}
 use Rattle.title_lock.proofs.spots.Spot.township.Goals as goal
 
 pub numbered-requires : goal.numbered-requires

@@ -1,13 +1,8 @@
 -- What is taken is what was prepared, and it had room alone.
-use Rattle.std.proofs.Common.{◌∙◌, ap, sym, subst, List, Option, Some, ℕ}
-use Rattle.title_land.specs.Depth.{depth}
-use Rattle.title_lock.specs.declared.guards.Entry.{Entry}
-use Rattle.std.specs.List.{list_any}
-use Rattle.title_land.specs.declared.node.Node.{Node}
-use Rattle.title_land.specs.Lands.{cover_of}
-use Rattle.title_lock.specs.Tables.{is_asked, IdleLess, TableIs}
+use Rattle.std.{proofs.Common.{◌∙◌, ap, sym, subst, List, Option, Some, ℕ}, specs.List.{list_any}}
+use Rattle.title_land.specs.{Depth.{depth}, declared.node.Node.{Node}, Lands.{cover_of}}
+use Rattle.title_lock.specs.{declared.guards.Entry.{Entry}, Tables.{is_asked, IdleLess, TableIs, on_all}}
 use Rattle.title_lock.specs.Locks.{Locks, granted, waiting, AreKept, IsLean}
-use Rattle.title_lock.specs.Tables.{on_all}
 use Rattle.title_lock.proofs.KeptLaws.{kept_table, table_same, prepared_taken, prepared_some, waiting_taken, lean_done}
 use Rattle.title_lock.proofs.spread_locks.SpreadLocks.forget.Goals as goal
 

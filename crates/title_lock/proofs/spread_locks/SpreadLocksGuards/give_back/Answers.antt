@@ -1,13 +1,8 @@
 -- The table without an examiner's modes is that of the entries without its own.
 use Rattle.std.proofs.Common.{◌≡◌, ◌∙◌, sym, ap, subst, List, Option, None, ℕ}
 use Rattle.title_land.specs.Depth.{depth}
-use Rattle.title_lock.specs.declared.guards.Entry.{Entry}
-use Rattle.title_lock.specs.Overlaps.{without}
-use Rattle.title_lock.specs.Tables.{TableIs}
-use Rattle.title_lock.specs.Locks.{Locks, granted, waiting, AreKept, IsLean, AreLocks}
-use Rattle.title_lock.specs.Tables.{on_all}
-use Rattle.title_lock.proofs.GiveBack.{table_fewer}
-use Rattle.title_lock.proofs.KeptLaws.{none_waiting, lean_same}
+use Rattle.title_lock.{specs.{declared.guards.Entry.{Entry}, Overlaps.{without}, Tables.{TableIs, on_all}}, proofs.GiveBack.{table_fewer}}
+use Rattle.title_lock.{specs.Locks.{Locks, granted, waiting, AreKept, IsLean, AreLocks}, proofs.KeptLaws.{none_waiting, lean_same}}
 use Rattle.title_lock.proofs.spread_locks.SpreadLocksGuards.give_back.Goals as goal
 
 pub invariant_of-self : goal.invariant_of-self

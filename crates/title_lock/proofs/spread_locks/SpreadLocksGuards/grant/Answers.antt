@@ -1,18 +1,9 @@
 -- The table with what was prepared is that of the entries with the new one.
-use Rattle.std.proofs.Common.{◌∷◌, ◌∙◌, sym, ap, subst, List, Option, None, cond, eqb}
-use Rattle.title_land.specs.Depth.{depth}
-use Rattle.std.specs.List.{list_any}
-use Rattle.title_land.specs.declared.node.Node.{Node}
-use Rattle.title_lock.specs.declared.guards.Entry.{Entry}
-use Rattle.title_lock.specs.Modes.{bound}
-use Rattle.title_lock.specs.Overlaps.{is_post}
-use Rattle.title_lock.specs.Asking.{asked}
-use Rattle.title_lock.specs.Tables.{table_mode, is_asked, IdleLess, TableIs}
-use Rattle.title_lock.specs.Locks.{Locks, granted, IsLean}
-use Rattle.title_lock.specs.Tables.{on_all}
-use Rattle.title_lock.proofs.MeetLaws.{meet_by_covers}
-use Rattle.title_lock.proofs.GiveBack.{table_more}
-use Rattle.title_lock.proofs.KeptLaws.{kept_table, first_waits, lean_done}
+use Rattle.std.{proofs.Common.{◌∷◌, ◌∙◌, sym, ap, subst, List, Option, None, cond, eqb}, specs.List.{list_any}}
+use Rattle.title_land.specs.{Depth.{depth}, declared.node.Node.{Node}}
+use Rattle.title_lock.specs.{declared.guards.Entry.{Entry}, Modes.{bound}, Overlaps.{is_post}, Asking.{asked}, Tables.{on_all}}
+use Rattle.title_lock.specs.{Tables.{table_mode, is_asked, IdleLess, TableIs}, Locks.{Locks, granted, IsLean}}
+use Rattle.title_lock.proofs.{MeetLaws.{meet_by_covers}, GiveBack.{table_more}, KeptLaws.{kept_table, first_waits, lean_done}}
 use Rattle.title_lock.proofs.spread_locks.SpreadLocksGuards.grant.Goals as goal
 
 pub raise_all-requires : goal.raise_all-requires

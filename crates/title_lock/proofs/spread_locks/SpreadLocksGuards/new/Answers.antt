@@ -1,9 +1,7 @@
 -- Where there are no entries nobody has a mode, and nobody has room.
 use Rattle.std.proofs.Common.{◌∙◌, refl, sym, subst, List, true≢false, [], arith}
 use Rattle.title_land.specs.Depth.{depth}
-use Rattle.title_lock.specs.declared.guards.Entry.{Entry}
-use Rattle.title_lock.specs.Tables.{TableIs}
-use Rattle.title_lock.specs.Tables.{on_all}
+use Rattle.title_lock.specs.{declared.guards.Entry.{Entry}, Tables.{TableIs, on_all}}
 use Rattle.title_lock.proofs.spread_locks.SpreadLocksGuards.new.Goals as goal
 
 pub invariant_of-result : goal.invariant_of-result

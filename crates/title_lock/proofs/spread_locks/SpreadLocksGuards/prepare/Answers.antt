@@ -1,15 +1,8 @@
 -- An access that is prepared waits, with room for what it asks for; where memory is refused nothing is left of it.
-use Rattle.std.proofs.Common.{◌≡◌, ◌∙◌, ℕ, List, Option, Some, None, refl, sym, ap, subst}
-use Rattle.std.specs.List.{list_any}
-use Rattle.title_land.specs.Depth.{depth}
-use Rattle.title_land.specs.declared.node.Node.{Node}
-use Rattle.title_land.specs.declared.tract.Land.{Land}
-use Rattle.title_land.specs.Lands.{cover_of, IsLand}
-use Rattle.title_lock.specs.declared.guards.Entry.{Entry}
-use Rattle.title_lock.specs.Overlaps.{is_post, Stands}
-use Rattle.title_lock.specs.Tables.{is_asked, HasRoom, IdleMore, TableIs}
-use Rattle.title_lock.specs.Locks.{Locks, granted, waiting, AreKept, AreLocks, IsLean}
-use Rattle.title_lock.specs.Tables.{on_all}
+use Rattle.std.{proofs.Common.{◌≡◌, ◌∙◌, ℕ, List, Option, Some, None, refl, sym, ap, subst}, specs.List.{list_any}}
+use Rattle.title_land.specs.{Depth.{depth}, declared.{node.Node.{Node}, tract.Land.{Land}}, Lands.{cover_of, IsLand}}
+use Rattle.title_lock.specs.{declared.guards.Entry.{Entry}, Overlaps.{is_post, Stands}, Tables.{is_asked, HasRoom, IdleMore, TableIs}}
+use Rattle.title_lock.specs.{Locks.{Locks, granted, waiting, AreKept, AreLocks, IsLean}, Tables.{on_all}}
 use Rattle.title_lock.proofs.KeptLaws.{none_waiting, table_same, lean_more, lean_same}
 use Rattle.title_lock.proofs.spread_locks.SpreadLocksGuards.prepare.Goals as goal
 

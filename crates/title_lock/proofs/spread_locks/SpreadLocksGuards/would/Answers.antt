@@ -1,15 +1,8 @@
 -- The least examiner in the way by the table is the least whose entry overlaps.
 use Rattle.std.proofs.Common.{subst, ap, List}
-use Rattle.title_land.specs.Depth.{depth}
-use Rattle.title_land.specs.declared.node.Node.{Node}
-use Rattle.title_lock.specs.declared.guards.Entry.{Entry}
-use Rattle.title_lock.specs.Overlaps.{IsLeast, Stands, is_post}
-use Rattle.title_lock.specs.Tables.{table_mode, clashes_with}
-use Rattle.title_lock.specs.Tables.{on_all}
-use Rattle.title_lock.proofs.MeetLaws.{meet_by_covers}
-use Rattle.title_lock.specs.Locks.{Locks, granted}
-use Rattle.title_lock.proofs.KeptLaws.{kept_table}
-use Rattle.title_lock.proofs.WayLaws.{stands}
+use Rattle.title_land.specs.{Depth.{depth}, declared.node.Node.{Node}}
+use Rattle.title_lock.specs.{declared.guards.Entry.{Entry}, Overlaps.{IsLeast, Stands, is_post}, Tables.{table_mode, clashes_with, on_all}}
+use Rattle.title_lock.{proofs.{MeetLaws.{meet_by_covers}, KeptLaws.{kept_table}, WayLaws.{stands}}, specs.Locks.{Locks, granted}}
 use Rattle.title_lock.proofs.spread_locks.SpreadLocksGuards.would.Goals as goal
 
 pub returns : goal.returns

@@ -1,10 +1,7 @@
 -- One climb more.
-use Rattle.std.proofs.Common.{◌∙◌, List, None, subst}
-use Rattle.std.specs.List.{list_any}
-use Rattle.title_lock.specs.Tables.{on_all, is_asked, HasRoom}
-use Rattle.title_lock.specs.Walks.{Asked, asks_in, walk, climb_asks, walk_left, Roomed}
-use Rattle.title_lock.proofs.WalkLaws.{walk_shorter, walk_asks_in}
-use Rattle.title_lock.proofs.DoneLaws.{roomed_then, roomed_same, rooms_then, room_last, more_is}
+use Rattle.std.{proofs.Common.{◌∙◌, List, None, subst}, specs.List.{list_any}}
+use Rattle.title_lock.specs.{Tables.{on_all, is_asked, HasRoom}, Walks.{Asked, asks_in, walk, climb_asks, walk_left, Roomed}}
+use Rattle.title_lock.proofs.{WalkLaws.{walk_shorter, walk_asks_in}, DoneLaws.{roomed_then, roomed_same, rooms_then, room_last, more_is}}
 use Rattle.title_lock.proofs.table.Table.make_room_all.Goals as goal
 
 pub loop-climb-init : goal.loop-climb-init

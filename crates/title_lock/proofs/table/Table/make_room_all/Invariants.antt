@@ -1,7 +1,6 @@
 -- Room for what is left makes room for all; nobody's mode changes, and holders stay used.
 use Rattle.std.proofs.Common.{None, length}
-use Rattle.title_lock.specs.Tables.{HeldAt, on_all, KeepsRoom, HasRoom, TableUsed}
-use Rattle.title_lock.specs.Walks.{asks_in, walk, walk_left, Roomed}
+use Rattle.title_lock.specs.{Tables.{HeldAt, on_all, KeepsRoom, HasRoom, TableUsed}, Walks.{asks_in, walk, walk_left, Roomed}}
 use Rattle.title_lock.proofs.table.Table.make_room_all.Given as goal
 
 abbrev pub invariant-loop-climb : goal.invariant-loop-climb

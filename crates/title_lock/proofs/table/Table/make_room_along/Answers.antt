@@ -1,8 +1,6 @@
 -- On the one shelf.
-use Rattle.std.proofs.Common.{Some, None, refl, sym}
-use Rattle.std.proofs.lemmas.Result.{on_ok_weaker}
-use Rattle.title_lock.specs.Tables.{home_of}
-use Rattle.title_lock.specs.Walks.{climb_asks}
+use Rattle.std.proofs.{Common.{Some, None, refl, sym}, lemmas.Result.{on_ok_weaker}}
+use Rattle.title_lock.specs.{Tables.{home_of}, Walks.{climb_asks}}
 use Rattle.title_lock.proofs.Shelves.{with_upper, upper_changes, section_changes, stand_at, room_of_home, lift_roomed, lift_tidy, home_kept}
 use Rattle.title_lock.proofs.table.Table.make_room_along.Goals as goal
 

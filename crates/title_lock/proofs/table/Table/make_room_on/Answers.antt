@@ -1,14 +1,8 @@
 -- Room on a shelf that is there, and one that is put up has room for somebody, so that it isn't bare.
-use Rattle.std.proofs.Common.{◌∙◌, ap, sym, subst, Option, List, ℕ}
-use Rattle.std.proofs.lemmas.Result.{on_ok_weaker}
-use Rattle.std.specs.Ordering.{nat_cmp}
-use Rattle.std.specs.BTreeMap.{BTreeMap, get, is_at}
-use Rattle.std.specs.Map.{lookup}
-use Rattle.title_lock.specs.declared.shelf.Shelf.{Shelf}
-use Rattle.title_lock.specs.Tables.{on_shelf, on_some, nowhere, HasRoom, IsStocked}
-use Rattle.title_lock.specs.Walks.{asks_in, climb_asks, Roomed}
-use Rattle.title_lock.proofs.SectionLaws.{room_stocked, is_there}
-use Rattle.title_lock.proofs.DoneLaws.{roomed_same}
+use Rattle.std.{proofs.{Common.{◌∙◌, ap, sym, subst, Option, List, ℕ}, lemmas.Result.{on_ok_weaker}}, specs.Ordering.{nat_cmp}}
+use Rattle.std.specs.{BTreeMap.{BTreeMap, get, is_at}, Map.{lookup}}
+use Rattle.title_lock.specs.{declared.shelf.Shelf.{Shelf}, Tables.{on_shelf, on_some, nowhere, HasRoom, IsStocked}}
+use Rattle.title_lock.{specs.Walks.{asks_in, climb_asks, Roomed}, proofs.{SectionLaws.{room_stocked, is_there}, DoneLaws.{roomed_same}}}
 use Rattle.title_lock.proofs.Shelves.{carried, roomed_fresh, asks_own}
 use Rattle.title_lock.proofs.table.Table.make_room_on.Goals as goal
 

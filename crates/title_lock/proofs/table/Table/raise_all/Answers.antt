@@ -1,10 +1,6 @@
 -- One climb more.
-use Rattle.std.proofs.Common.{◌∙◌, List, Option, None, cond, eqb, ap, sym, subst}
-use Rattle.std.specs.List.{list_any}
-use Rattle.title_lock.specs.declared.modes.Mode.{Mode}
-use Rattle.title_lock.specs.Modes.{bound}
-use Rattle.title_lock.specs.Overlaps.{is_post}
-use Rattle.title_lock.specs.Tables.{on_all, table_mode, is_asked}
+use Rattle.std.{proofs.Common.{◌∙◌, List, Option, None, cond, eqb, ap, sym, subst}, specs.List.{list_any}}
+use Rattle.title_lock.specs.{declared.modes.Mode.{Mode}, Modes.{bound}, Overlaps.{is_post}, Tables.{on_all, table_mode, is_asked}}
 use Rattle.title_lock.specs.Walks.{Asked, asks_in, walk, climb_asks, walk_left, Raised}
 use Rattle.title_lock.proofs.WalkLaws.{walk_shorter, walk_asked, walk_asks_in}
 use Rattle.title_lock.proofs.DoneLaws.{room_now, room_then, raised_then, raised_last, less_is}

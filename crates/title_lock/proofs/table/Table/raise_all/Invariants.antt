@@ -1,8 +1,6 @@
 -- What is left raised is all raised, and there is room for it; holders stay used.
 use Rattle.std.proofs.Common.{None, length}
-use Rattle.title_lock.specs.Overlaps.{is_post}
-use Rattle.title_lock.specs.Tables.{HeldAt, on_all, HasRoom, TableUsed}
-use Rattle.title_lock.specs.Walks.{asks_in, walk, walk_left, Raised}
+use Rattle.title_lock.specs.{Overlaps.{is_post}, Tables.{HeldAt, on_all, HasRoom, TableUsed}, Walks.{asks_in, walk, walk_left, Raised}}
 use Rattle.title_lock.proofs.table.Table.raise_all.Given as goal
 
 abbrev pub invariant-loop-climb : goal.invariant-loop-climb

@@ -1,7 +1,6 @@
 -- On the one shelf.
 use Rattle.std.proofs.Common.{Some, None, refl}
-use Rattle.title_lock.specs.Overlaps.{is_post}
-use Rattle.title_lock.specs.Walks.{climb_asks}
+use Rattle.title_lock.specs.{Overlaps.{is_post}, Walks.{climb_asks}}
 use Rattle.title_lock.proofs.Shelves.{with_upper, upper_changes, section_changes, stand_at, room_at_home, lift_raised, lift_tidy}
 use Rattle.title_lock.proofs.table.Table.raise_along.Goals as goal
 

@@ -1,12 +1,7 @@
 -- On the shelf that stands there: there is one, since there is room on it.
-use Rattle.std.proofs.Common.{sym, subst, Option}
-use Rattle.std.specs.Ordering.{nat_cmp}
-use Rattle.std.specs.BTreeMap.{get}
-use Rattle.title_lock.specs.declared.shelf.Shelf.{Shelf}
-use Rattle.title_lock.specs.Overlaps.{is_post}
-use Rattle.title_lock.specs.Tables.{on_some, IsStocked, HasRoom}
-use Rattle.title_lock.specs.Walks.{asks_in, climb_asks, Raised}
-use Rattle.title_lock.proofs.SectionLaws.{room_stocked, carried_one, is_there}
+use Rattle.std.{proofs.Common.{sym, subst, Option}, specs.{Ordering.{nat_cmp}, BTreeMap.{get}}}
+use Rattle.title_lock.specs.{declared.shelf.Shelf.{Shelf}, Overlaps.{is_post}, Tables.{on_some, IsStocked, HasRoom}}
+use Rattle.title_lock.{specs.Walks.{asks_in, climb_asks, Raised}, proofs.SectionLaws.{room_stocked, carried_one, is_there}}
 use Rattle.title_lock.proofs.Shelves.{carried, no_room, asks_own}
 use Rattle.title_lock.proofs.table.Table.raise_on.Goals as goal
 

@@ -1,8 +1,6 @@
 -- What is left taken out is all taken out; holders stay used.
 use Rattle.std.proofs.Common.{None, length}
-use Rattle.title_lock.specs.Holders.{is_mode}
-use Rattle.title_lock.specs.Tables.{HeldAt, on_all, TableUsed}
-use Rattle.title_lock.specs.Walks.{walk, walk_left, TakenOut}
+use Rattle.title_lock.specs.{Holders.{is_mode}, Tables.{HeldAt, on_all, TableUsed}, Walks.{walk, walk_left, TakenOut}}
 use Rattle.title_lock.proofs.table.Table.take_out_all.Given as goal
 
 abbrev pub invariant-loop-climb : goal.invariant-loop-climb

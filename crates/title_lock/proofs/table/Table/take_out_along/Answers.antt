@@ -1,7 +1,6 @@
 -- On the one shelf.
 use Rattle.std.proofs.Common.{Some, None, refl}
-use Rattle.title_lock.specs.Holders.{is_mode}
-use Rattle.title_lock.specs.Walks.{climb_asks}
+use Rattle.title_lock.specs.{Holders.{is_mode}, Walks.{climb_asks}}
 use Rattle.title_lock.proofs.Shelves.{with_upper, upper_changes, section_changes, stand_at, lift_taken, lift_tidy}
 use Rattle.title_lock.proofs.table.Table.take_out_along.Goals as goal
 

@@ -1,10 +1,7 @@
 -- On the one shelf; where there is none nobody is in the way.
 use Rattle.std.proofs.Common.{Some, None, Option, subst}
-use Rattle.title_lock.specs.declared.shelf.Shelf.{Shelf}
-use Rattle.title_lock.specs.Overlaps.{is_post, IsLeast}
-use Rattle.title_lock.specs.Tables.{on_some, table_mode}
-use Rattle.title_lock.specs.Walks.{clashes_in, climb_asks}
-use Rattle.title_lock.proofs.Shelves.{stand_at, way_at_home, way_nowhere}
+use Rattle.title_lock.specs.{declared.shelf.Shelf.{Shelf}, Overlaps.{is_post, IsLeast}, Tables.{on_some, table_mode}}
+use Rattle.title_lock.{specs.Walks.{clashes_in, climb_asks}, proofs.Shelves.{stand_at, way_at_home, way_nowhere}}
 use Rattle.title_lock.proofs.table.Table.way_along.Goals as goal
 
 pub returns-in_default : goal.returns-in_default

@@ -1,11 +1,8 @@
 -- One climb more.
 use Rattle.std.proofs.Common.{Option, ℕ, None, sym, subst}
 use Rattle.title_land.specs.declared.node.Node.{Node}
-use Rattle.title_lock.specs.Overlaps.{is_post}
-use Rattle.title_lock.specs.Tables.{on_all, table_mode, clashes_with}
-use Rattle.title_lock.specs.Walks.{clashes_in, walk, climb_asks, walk_left}
-use Rattle.title_lock.proofs.LeastLaws.{least_same}
-use Rattle.title_lock.proofs.WalkLaws.{walk_shorter, walk_clashes}
+use Rattle.title_lock.specs.{Overlaps.{is_post}, Tables.{on_all, table_mode, clashes_with}, Walks.{clashes_in, walk, climb_asks, walk_left}}
+use Rattle.title_lock.proofs.{LeastLaws.{least_same}, WalkLaws.{walk_shorter, walk_clashes}}
 use Rattle.title_lock.proofs.DoneLaws.{IsSoFar, so_far_begins, so_far_goes, so_far_ends}
 use Rattle.title_lock.proofs.table.Table.ways.Goals as goal
 

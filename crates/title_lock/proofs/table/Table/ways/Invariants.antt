@@ -1,9 +1,6 @@
 -- The least in the way so far.
 use Rattle.std.proofs.Common.{None, length}
-use Rattle.title_lock.specs.Overlaps.{is_post}
-use Rattle.title_lock.specs.Tables.{on_all, table_mode}
-use Rattle.title_lock.specs.Walks.{walk, walk_left}
-use Rattle.title_lock.proofs.DoneLaws.{IsSoFar}
+use Rattle.title_lock.{specs.{Overlaps.{is_post}, Tables.{on_all, table_mode}, Walks.{walk, walk_left}}, proofs.DoneLaws.{IsSoFar}}
 use Rattle.title_lock.proofs.table.Table.ways.Given as goal
 
 abbrev pub invariant-loop-climb : goal.invariant-loop-climb

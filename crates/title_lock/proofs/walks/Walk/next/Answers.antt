@@ -1,6 +1,5 @@
 -- A node of the cover, and what comes of it.
-use Rattle.title_lock.specs.Walks.{node_of}
-use Rattle.title_lock.proofs.WalkLaws.{walk_next}
+use Rattle.title_lock.{specs.Walks.{node_of}, proofs.WalkLaws.{walk_next}}
 use Rattle.title_lock.proofs.walks.Walk.next.Goals as goal
 
 pub returns : goal.returns

@@ -1,11 +1,8 @@
 -- An abort where the transaction is open, and where it isn't.
 use Rattle.std.proofs.Common.{cond, refl, sym, ap, ◌∙◌, subst}
-use Rattle.title_trace.specs.declared.call.Reply.TheVariants.{Aborted, Denied}
-use Rattle.title_trace.specs.declared.denial.Denial.TheVariants.{NotOpen}
+use Rattle.title_trace.specs.{declared.{call.Reply.TheVariants.{Aborted, Denied}, denial.Denial.TheVariants.{NotOpen}}, Trace.{is_open}}
 use Rattle.title_trace.specs.declared.call.Request.TheVariants.{Abort}
-use Rattle.title_trace.specs.Trace.{is_open}
-use Rattle.title_office.specs.Offices.{IsServed}
-use Rattle.title_office.proofs.Slips.{shut_aborted}
+use Rattle.title_office.{specs.Offices.{IsServed}, proofs.Slips.{shut_aborted}}
 use Rattle.title_office.proofs.books.Books.abort_of.Goals as goal
 
 pub returns-in-Ok : goal.returns-in-Ok

@@ -1,7 +1,6 @@
 -- A step that is answered, and one that is not.
 use Rattle.std.proofs.Common.{◌≡◌, ◌++◌, ◌∷◌, [], List, refl, ap, ◌∙◌}
-use Rattle.title_chain.specs.declared.ask.Ask.{Ask}
-use Rattle.title_chain.specs.declared.ask.Step.{Step}
+use Rattle.title_chain.specs.declared.ask.{Ask.{Ask}, Step.{Step}}
 use Rattle.title_trace.specs.declared.call.Request.TheVariants as request
 use Rattle.title_office.proofs.Replies.{answered, refused, to_step}
 use Rattle.title_office.proofs.books.Books.add_step.Goals as goal

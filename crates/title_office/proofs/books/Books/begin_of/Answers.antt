@@ -2,9 +2,7 @@
 use Rattle.std.proofs.Common.{◌∷◌, refl, sym, ap, ◌∙◌, subst}
 use Rattle.title_trace.specs.declared.call.Reply.{Reply}
 use Rattle.title_trace.specs.declared.call.Request.TheVariants as request
-use Rattle.title_office.specs.Offices.{HasSeen, IsServed}
-use Rattle.title_office.proofs.Replies.{added, began, refused}
-use Rattle.title_office.proofs.Slips.{begun, call, stands_begun}
+use Rattle.title_office.{specs.Offices.{HasSeen, IsServed}, proofs.{Replies.{added, began, refused}, Slips.{begun, call, stands_begun}}}
 use Rattle.title_office.proofs.books.Books.begin_of.Goals as goal
 
 pub returns-in-Some : goal.returns-in-Some

@@ -1,10 +1,9 @@
 -- A commit that nothing refuses.
 use Rattle.std.proofs.Common.{length, refl, sym, ap, ◌∙◌, subst}
 use Rattle.title_trace.specs.declared.call.Request.TheVariants as request
-use Rattle.title_office.specs.Offices.{IsServed, SeatState, Stands, receipt_for}
-use Rattle.title_views.specs.Views.{Shows}
-use Rattle.title_office.proofs.Replies.{refused}
+use Rattle.title_office.{specs.Offices.{IsServed, SeatState, Stands, receipt_for}, proofs.Replies.{refused}}
 use Rattle.title_office.proofs.Slips.{commits, falls_at_commit, shut_committed}
+use Rattle.title_views.specs.Views.{Shows}
 use Rattle.title_office.proofs.books.Books.commit_of.Goals as goal
 
 pub returns-in-Err : goal.returns-in-Err

@@ -1,6 +1,5 @@
 -- The records are those of the trace.
-use Rattle.std.proofs.Common.{sym, ap, ◌∙◌, subst, reverse}
-use Rattle.std.proofs.lemmas.List.{reverse-reverse}
+use Rattle.std.proofs.{Common.{sym, ap, ◌∙◌, subst, reverse}, lemmas.List.{reverse-reverse}}
 use Rattle.title_land.specs.Depth.{depth}
 use Rattle.title_chain.specs.Alone.{IsSerial}
 use Rattle.title_settle.specs.Settling.{IsSettled}

@@ -2,8 +2,7 @@
 use Rattle.std.proofs.Common.{◌++◌, ◌∷◌, [], List, refl, ap, ◌∙◌, subst}
 use Rattle.title_chain.specs.declared.ask.Step.{Step}
 use Rattle.title_trace.specs.declared.call.Request.TheVariants as request
-use Rattle.title_office.specs.Offices.{IsRefused, SeatState, Stands, receipt_for, with_steps}
-use Rattle.title_office.proofs.Replies.{refused_there}
+use Rattle.title_office.{specs.Offices.{IsRefused, SeatState, Stands, receipt_for, with_steps}, proofs.Replies.{refused_there}}
 use Rattle.title_office.proofs.Slips.{answers, falls_at_step, put_back, with_answer}
 use Rattle.title_office.proofs.books.Books.step_of.Goals as goal
 

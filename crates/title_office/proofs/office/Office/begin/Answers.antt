@@ -1,7 +1,6 @@
 -- A seat of this office.
 use Rattle.std.proofs.Common.{arith, ap}
-use Rattle.title_office.specs.Offices.{SeatState}
-use Rattle.title_office.proofs.Ends.{anyway}
+use Rattle.title_office.{specs.Offices.{SeatState}, proofs.Ends.{anyway}}
 use Rattle.title_office.proofs.office.Office.begin.Goals as goal
 
 pub returns : goal.returns

@@ -1,14 +1,10 @@
 -- The desk's records are serial, and its viewers learn of them.
-use Rattle.std.proofs.Common.{◌≡◌, ◌∙◌, ◌≤◌, List, ap, subst, sym, reverse, replicate}
-use Rattle.std.proofs.lemmas.List.{reverse-reverse}
+use Rattle.std.proofs.{Common.{◌≡◌, ◌∙◌, ◌≤◌, List, ap, subst, sym, reverse, replicate}, lemmas.List.{reverse-reverse}}
 use Rattle.title_land.specs.Depth.{depth}
-use Rattle.title_chain.specs.declared.record.Record.{Record}
-use Rattle.title_chain.specs.Alone.{IsSerial, most_parties}
-use Rattle.title_trace.specs.Due.{IsDue, Setting}
-use Rattle.title_trace.specs.Trace.{committed}
+use Rattle.title_chain.specs.{declared.record.Record.{Record}, Alone.{IsSerial, most_parties}}
+use Rattle.title_trace.specs.{Due.{IsDue, Setting}, Trace.{committed}}
 use Rattle.title_store.specs.Plants.{IsEachOnce}
-use Rattle.title_office.specs.Offices.{sight_on}
-use Rattle.title_office.proofs.Faults.{handed_on, no_want_of_place}
+use Rattle.title_office.{specs.Offices.{sight_on}, proofs.Faults.{handed_on, no_want_of_place}}
 use Rattle.title_office.proofs.office.Office.open_on.Goals as goal
 
 pub returns-in_err-seats-clause-why : goal.returns-in_err-seats-clause-why

@@ -1,7 +1,6 @@
 -- The last job's answer stands behind those of the jobs before it.
 use Rattle.std.proofs.Common.{arith}
-use Rattle.title_office.specs.Turns.{report_of, task_of, tasks_of}
-use Rattle.title_office.proofs.Runs.{run_last}
+use Rattle.title_office.{specs.Turns.{report_of, task_of, tasks_of}, proofs.Runs.{run_last}}
 use Rattle.title_office.proofs.workers.crew.+run_jobs.Goals as goal
 
 pub returns-clause-run : goal.returns-clause-run

@@ -1,9 +1,7 @@
 -- One field more, behind those before it.
-use Rattle.std.proofs.Common.{◌≡◌, ◌∙◌, ◌+◌, ◌<◌, [], suc, length, map, arith, sym, ap}
-use Rattle.std.proofs.lemmas.List.{get_or-map, length-map}
+use Rattle.std.proofs.{Common.{◌≡◌, ◌∙◌, ◌+◌, ◌<◌, [], suc, length, map, arith, sym, ap}, lemmas.List.{get_or-map, length-map}}
 use Rattle.csv.proofs.WriteFacts.{row-step}
-use Rattle.title_page.specs.Rows.{row_writer}
-use Rattle.title_page.specs.Laws.InTurn.{on_err, stopped_before, stopped_then, written_then}
+use Rattle.title_page.specs.{Rows.{row_writer}, Laws.InTurn.{on_err, stopped_before, stopped_then, written_then}}
 use Rattle.title_page.proofs.Texts.{row_front}
 use Rattle.title_page.proofs.page.Page.fields.Goals as goal
 

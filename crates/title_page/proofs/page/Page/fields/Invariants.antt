@@ -1,8 +1,7 @@
 -- The fields so far are written.
 use Rattle.std.proofs.Common.{◌≡◌, false, map, take}
 use Rattle.csv.specs.Writing.{row_body}
-use Rattle.title_page.specs.Pages.{Written}
-use Rattle.title_page.specs.Rows.{row_writer}
+use Rattle.title_page.specs.{Pages.{Written}, Rows.{row_writer}}
 use Rattle.title_page.proofs.page.Page.fields.Given as goal
 
 abbrev pub invariant-loop-at : goal.invariant-loop-at

@@ -1,7 +1,5 @@
 -- The comma, and the field.
-use Rattle.std.proofs.Common.{◌≡◌, ◌==◌, ◌∷◌, [], false}
-use Rattle.std.proofs.lemmas.Bool.{ne_eqb}
-use Rattle.std.proofs.lemmas.Result.{on_ok_weaker, on_err_weaker}
+use Rattle.std.proofs.{Common.{◌≡◌, ◌==◌, ◌∷◌, [], false}, lemmas.{Bool.{ne_eqb}, Result.{on_ok_weaker, on_err_weaker}}}
 use Rattle.title_page.specs.Laws.InTurn.{on_err, stopped_before, stopped_then, written_then}
 use Rattle.title_page.proofs.page.Page.next.Goals as goal
 

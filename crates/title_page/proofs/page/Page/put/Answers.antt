@@ -1,6 +1,5 @@
 -- What stood on the page went before the text.
-use Rattle.std.proofs.Common.{◌≡◌, [], rules}
-use Rattle.std.proofs.lemmas.Result.{on_ok_weaker, on_err_weaker}
+use Rattle.std.proofs.{Common.{◌≡◌, [], rules}, lemmas.Result.{on_ok_weaker, on_err_weaker}}
 use Rattle.title_page.specs.Laws.InTurn.{stopped_then, written_then}
 use Rattle.title_page.proofs.page.Page.put.Goals as goal
 

@@ -1,11 +1,9 @@
 -- The bytes up to the next quote, that quote twice, and the rest.
-use Rattle.std.proofs.Common.{◌∷◌, ◌∙◌, ◌+◌, ◌++◌, [], ℕ, List, ap, arith, drop, length-drop, refl, take}
-use Rattle.std.proofs.lemmas.List.{take_rest}
+use Rattle.std.proofs.{Common.{◌∷◌, ◌∙◌, ◌+◌, ◌++◌, [], ℕ, List, ap, arith, drop, length-drop, refl, take}, lemmas.List.{take_rest}}
 use Rattle.std.proofs.lemmas.Result.{on_ok_weaker, on_err_weaker}
 use Rattle.csv.specs.Writing.{escaped}
-use Rattle.title_page.specs.Rows.{row_writer}
+use Rattle.title_page.{specs.Rows.{row_writer}, proofs.Texts.{quote_behind}}
 use Rattle.title_page.specs.Laws.InTurn.{on_err, stopped_as, stopped_before, stopped_then, written_as, written_none, written_then}
-use Rattle.title_page.proofs.Texts.{quote_behind}
 use Rattle.title_page.proofs.page.Page.put_inside.Goals as goal
 
 pub loop-at-init : goal.loop-at-init

@@ -1,8 +1,7 @@
 -- The field's text is what is written so far, and that of the bytes that are left.
 use Rattle.std.proofs.Common.{◌≡◌, ◌≤◌, ◌++◌, ℕ, List, false, length}
 use Rattle.csv.specs.Writing.{escaped}
-use Rattle.title_page.specs.Pages.{Written}
-use Rattle.title_page.specs.Rows.{row_writer}
+use Rattle.title_page.specs.{Pages.{Written}, Rows.{row_writer}}
 use Rattle.title_page.proofs.page.Page.put_inside.Given as goal
 
 abbrev pub invariant-loop-at : goal.invariant-loop-at

@@ -1,9 +1,7 @@
 -- The quote, the bytes, and the quote.
-use Rattle.std.proofs.Common.{◌∷◌, []}
-use Rattle.std.proofs.lemmas.Result.{on_ok_weaker, on_err_weaker}
+use Rattle.std.proofs.{Common.{◌∷◌, []}, lemmas.Result.{on_ok_weaker, on_err_weaker}}
 use Rattle.csv.specs.Writing.{escaped}
-use Rattle.title_page.specs.Rows.{row_writer}
-use Rattle.title_page.specs.Laws.InTurn.{on_err, stopped_before, stopped_then, written_then}
+use Rattle.title_page.specs.{Rows.{row_writer}, Laws.InTurn.{on_err, stopped_before, stopped_then, written_then}}
 use Rattle.title_page.proofs.page.Page.put_quoted.Goals as goal
 
 pub returns-in_err-put-clause-stopped : goal.returns-in_err-put-clause-stopped

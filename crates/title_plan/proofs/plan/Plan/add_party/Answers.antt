@@ -1,10 +1,6 @@
-use Rattle.std.proofs.Common.{◌≡◌, ◌==◌, true, ◌∙◌, refl, sym, inr, length, arith, rules}
-use Rattle.std.specs.Str.{bytes_eq}
-use Rattle.std.specs.String.{string_bytes}
+use Rattle.std.{proofs.Common.{◌≡◌, ◌==◌, true, ◌∙◌, refl, sym, inr, length, arith, rules}, specs.{Str.{bytes_eq}, String.{string_bytes}}}
 use Rattle.std.proofs.lemmas.List.{length-map}
-use Rattle.title_plan.specs.Asked.{asked_in}
-use Rattle.title_plan.proofs.Names.{any_map, insert_name}
-use Rattle.title_plan.proofs.Declarations.{party_few}
+use Rattle.title_plan.{specs.Asked.{asked_in}, proofs.{Names.{any_map, insert_name}, Declarations.{party_few}}}
 use Rattle.title_plan.proofs.plan.Plan.add_party.Goals as goal
 
 pub returns-then-contains-clause-err : goal.returns-then-contains-clause-err

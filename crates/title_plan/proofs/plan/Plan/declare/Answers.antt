@@ -1,10 +1,8 @@
-use Rattle.std.proofs.Common.{refl, rules, ◌==◌, inr, false, ◌≡◌, ◌≤◌, ◌∙◌, sym, true, List, length}
+use Rattle.std.proofs.{Common.{refl, rules, ◌==◌, inr, false, ◌≡◌, ◌≤◌, ◌∙◌, sym, true, List, length}, lemmas.Bool.{or_parts}}
+use Rattle.std.proofs.lemmas.List.{length-append}
 use Rattle.title_land.specs.declared.survey.Township.{Township}
 use Rattle.title_trace.specs.Due.{most_townships}
-use Rattle.title_plan.specs.Townships.{each_once}
-use Rattle.std.proofs.lemmas.Bool.{or_parts}
-use Rattle.std.proofs.lemmas.List.{length-append}
-use Rattle.title_plan.proofs.Declarations.{township_few, once_push, pushed}
+use Rattle.title_plan.{specs.Townships.{each_once}, proofs.Declarations.{township_few, once_push, pushed}}
 use Rattle.title_plan.proofs.plan.Plan.declare.Goals as goal
 
 pub returns-then-is_refused-clause-err : goal.returns-then-is_refused-clause-err

@@ -1,8 +1,6 @@
-use Rattle.std.proofs.Common.{◌∙◌, sym}
-use Rattle.std.proofs.lemmas.Result.{err_from_is_err_and}
+use Rattle.std.proofs.{Common.{◌∙◌, sym}, lemmas.Result.{err_from_is_err_and}}
 use Rattle.csv.specs.Records.{fields_of}
-use Rattle.title_plan.specs.Asked.{asked_in}
-use Rattle.title_plan.proofs.Alone.{row_on_none}
+use Rattle.title_plan.{specs.Asked.{asked_in}, proofs.Alone.{row_on_none}}
 use Rattle.title_plan.proofs.plan.Plan.take_row.Goals as goal
 
 pub returns-in_err-take_record-clause-err : goal.returns-in_err-take_record-clause-err

@@ -1,5 +1,4 @@
-use Rattle.std.proofs.Common.{not, ◌==◌, rules}
-use Rattle.std.proofs.lemmas.Fn.{filter_same}
+use Rattle.std.proofs.{Common.{not, ◌==◌, rules}, lemmas.Fn.{filter_same}}
 use Rattle.title_plan.proofs.plan.turns.end.Goals as goal
 
 pub returns : goal.returns

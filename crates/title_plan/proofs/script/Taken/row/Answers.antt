@@ -1,7 +1,5 @@
 use Rattle.csv.specs.Records.{fields_of}
-use Rattle.title_plan.specs.Asked.{asked_in}
-use Rattle.title_plan.specs.Onto.{first_of}
-use Rattle.title_plan.proofs.Begins.{first_stays, length_grown, row_grows}
+use Rattle.title_plan.{specs.{Asked.{asked_in}, Onto.{first_of}}, proofs.Begins.{first_stays, length_grown, row_grows}}
 use Rattle.title_plan.proofs.script.Taken.row.Goals as goal
 
 pub returns-clause-before : goal.returns-clause-before

@@ -1,11 +1,9 @@
 -- The rows after are those of the division after the move.
-use Rattle.std.proofs.Common.{◌∙◌, sym, ap}
-use Rattle.std.proofs.lemmas.Bool.{eq-eqb, or_left, or_right}
-use Rattle.title_share.specs.Division.{units_of}
-use Rattle.title_share.specs.Laws.DivisionLaws.{viewed_rows, moved_none, moved_is, units-moved}
-use Rattle.title_share.proofs.holding.Holding.move_units.Goals as goal
+use Rattle.std.proofs.{Common.{◌∙◌, sym, ap}, lemmas.Bool.{eq-eqb, or_left, or_right}}
+use Rattle.title_share.specs.{Division.{units_of}, Laws.DivisionLaws.{viewed_rows, moved_none, moved_is, units-moved}}
 use Rattle.title_share.proofs.holding.Holding.move_units.Goals.{then-units-eq0-via-then-units-eq0}
 use Rattle.title_share.proofs.holding.Holding.move_units.Goals.{then-units-eq0-via-else-units-eq0+then-from-to}
+use Rattle.title_share.proofs.holding.Holding.move_units.Goals as goal
 
 pub returns-then-units-eq0-clause-moved : goal.returns-then-units-eq0-clause-moved
 returns-then-units-eq0-clause-moved c =

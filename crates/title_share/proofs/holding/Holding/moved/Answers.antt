@@ -1,11 +1,9 @@
 -- The rows after are those of the division after the move.
-use Rattle.std.proofs.Common.{◌≡◌, ◌∙◌, sym, subst, IfOk}
-use Rattle.std.proofs.lemmas.Bool.{eq-eqb, or_left, or_right}
-use Rattle.title_share.specs.Division.{Division}
-use Rattle.title_share.specs.Laws.DivisionLaws.{viewed_rows, moved_none, moved_is}
-use Rattle.title_share.proofs.holding.Holding.moved.Goals as goal
+use Rattle.std.proofs.{Common.{◌≡◌, ◌∙◌, sym, subst, IfOk}, lemmas.Bool.{eq-eqb, or_left, or_right}}
+use Rattle.title_share.specs.{Division.{Division}, Laws.DivisionLaws.{viewed_rows, moved_none, moved_is}}
 use Rattle.title_share.proofs.holding.Holding.moved.Goals.{then-units-eq0-via-then-units-eq0}
 use Rattle.title_share.proofs.holding.Holding.moved.Goals.{then-units-eq0-via-else-units-eq0+then-from-to}
+use Rattle.title_share.proofs.holding.Holding.moved.Goals as goal
 
 pub returns-then-units-eq0 : goal.returns-then-units-eq0
 returns-then-units-eq0 c =

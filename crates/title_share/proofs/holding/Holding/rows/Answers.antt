@@ -1,8 +1,6 @@
 -- The rows are the division's.
 use Rattle.std.proofs.Common.{◌≡◌, ◌∙◌, sym, subst, true, ℕ, List}
-use Rattle.title_share.specs.Rows.{is_division}
-use Rattle.title_share.specs.Division.{rows_divide}
-use Rattle.title_share.specs.Laws.DivisionLaws.{viewed_rows}
+use Rattle.title_share.specs.{Rows.{is_division}, Division.{rows_divide}, Laws.DivisionLaws.{viewed_rows}}
 use Rattle.title_share.proofs.holding.Holding.rows.Goals as goal
 
 pub returns-clause-rows : goal.returns-clause-rows

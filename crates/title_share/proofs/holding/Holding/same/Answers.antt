@@ -1,8 +1,6 @@
 -- Equal rows are equal divisions.
-use Rattle.std.proofs.Common.{◌≡◌, ◌∙◌, ◌&&◌, sym, ap, eqb, ℕ}
-use Rattle.std.specs.Bool.{Decides}
+use Rattle.std.{proofs.{Common.{◌≡◌, ◌∙◌, ◌&&◌, sym, ap, eqb, ℕ}, lemmas.Slice.Eq.{slice_eq-Decides}}, specs.Bool.{Decides}}
 use Rattle.std.proofs.lemmas.Bool.{and_parts, and_from, eqb-true, eq-eqb}
-use Rattle.std.proofs.lemmas.Slice.Eq.{slice_eq-Decides}
 use Rattle.title_share.specs.Division.{same_rows, rows_of}
 use Rattle.title_share.proofs.holding.Holding.same.Goals as goal
 

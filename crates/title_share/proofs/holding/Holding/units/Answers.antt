@@ -1,8 +1,6 @@
 -- The rows' units are the division's.
 use Rattle.std.proofs.Common.{◌∙◌, sym, ap, ◌≡◌}
-use Rattle.title_share.specs.Rows.{units_in}
-use Rattle.title_share.specs.Division.{units_of}
-use Rattle.title_share.specs.Laws.DivisionLaws.{viewed_rows, units_bound}
+use Rattle.title_share.specs.{Rows.{units_in}, Division.{units_of}, Laws.DivisionLaws.{viewed_rows, units_bound}}
 use Rattle.title_share.proofs.holding.Holding.units.Goals as goal
 
 pub returns-clause-units : goal.returns-clause-units

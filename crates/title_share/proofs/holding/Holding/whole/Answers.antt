@@ -1,7 +1,6 @@
 -- One row with all units is the whole.
 use Rattle.std.proofs.Common.{ap, ◌∙◌, sym}
-use Rattle.title_share.specs.Laws.DivisionLaws.{division_is, rows-all_to, units-all_to}
-use Rattle.title_share.specs.Division.{units_of}
+use Rattle.title_share.specs.{Laws.DivisionLaws.{division_is, rows-all_to, units-all_to}, Division.{units_of}}
 use Rattle.title_share.proofs.holding.Holding.whole.Goals as goal
 
 pub returns-clause-whole : goal.returns-clause-whole

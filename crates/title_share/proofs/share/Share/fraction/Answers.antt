@@ -1,7 +1,6 @@
 -- Reduced units are the share's fraction in lowest terms.
 use Rattle.std.proofs.Common.{sym, subst, ℕ}
-use Rattle.title_share.specs.Share.{IsFraction, IsLowest, IsShareText, share_text}
-use Rattle.title_share.specs.Laws.ShareLaws.{lowest_fraction, text_named}
+use Rattle.title_share.specs.{Share.{IsFraction, IsLowest, IsShareText, share_text}, Laws.ShareLaws.{lowest_fraction, text_named}}
 use Rattle.title_share.proofs.share.Share.fraction.Goals as goal
 
 pub returns-clause-fraction : goal.returns-clause-fraction

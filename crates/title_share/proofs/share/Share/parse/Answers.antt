@@ -1,9 +1,7 @@
 -- Why parse answers the share of its text, and none where the text names none.
-use Rattle.std.proofs.Common.{ℕ, ◌*◌, List, subst, sym, arith}
-use Rattle.std.proofs.lemmas.Str.Pattern.{split_parts}
-use Rattle.title_share.specs.Share.{IsNumber, IsPart, IsShareText}
+use Rattle.std.proofs.{Common.{ℕ, ◌*◌, List, subst, sym, arith}, lemmas.Str.Pattern.{split_parts}}
+use Rattle.title_share.specs.{Share.{IsNumber, IsPart, IsShareText}, Laws.Texts.{no_share, one_share}}
 use Rattle.title_share.specs.Laws.ShareLaws.{parts_are, part_fits, same_number, number_some, units_product, units_most, units_some}
-use Rattle.title_share.specs.Laws.Texts.{no_share, one_share}
 use Rattle.title_share.proofs.share.Share.parse.Goals as goal
 
 pub returns-in_default-clause-share : goal.returns-in_default-clause-share

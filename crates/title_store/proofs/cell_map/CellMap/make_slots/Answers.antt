@@ -1,9 +1,7 @@
 -- One more cell has a slot, and those that had one keep it.
 use Rattle.std.proofs.Common.{◌≡◌, ◌<◌, ◌∙◌, subst, true, length, arith}
 use Rattle.title_land.specs.declared.survey.Cell.{Cell}
-use Rattle.title_store.specs.CellMaps.{is_there}
-use Rattle.title_store.specs.Laws.Each.{each_from}
-use Rattle.title_store.specs.Laws.MapLaws.{each_more}
+use Rattle.title_store.specs.{CellMaps.{is_there}, Laws.{Each.{each_from}, MapLaws.{each_more}}}
 use Rattle.title_store.proofs.cell_map.CellMap.make_slots.Goals as goal
 
 pub loop-cell-preserved : goal.loop-cell-preserved

@@ -1,6 +1,5 @@
 -- Each cell so far has a slot, and nothing has changed hands.
-use Rattle.std.proofs.Common.{◌≡◌, true, take}
-use Rattle.std.specs.List.{AllByRecursion}
+use Rattle.std.{proofs.Common.{◌≡◌, true, take}, specs.List.{AllByRecursion}}
 use Rattle.title_land.specs.declared.survey.Cell.{Cell}
 use Rattle.title_store.specs.CellMaps.{content_of, is_there}
 use Rattle.title_store.proofs.cell_map.CellMap.make_slots.Given as goal

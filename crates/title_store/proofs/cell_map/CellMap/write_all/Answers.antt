@@ -1,10 +1,6 @@
 -- The last that is kept has a slot, and its write leaves the others' slots.
-use Rattle.std.proofs.Common.{◌≡◌, ◌∙◌, ap, subst, true, List}
-use Rattle.std.specs.Prelude.{unwrap_or}
-use Rattle.std.specs.List.{AllByRecursion}
-use Rattle.title_store.specs.declared.kept.Kept.{Kept}
-use Rattle.title_store.specs.CellMaps.{is_there, content_of, kept_at, kept_cells}
-use Rattle.title_store.specs.Laws.Each.{each_from}
+use Rattle.std.{proofs.Common.{◌≡◌, ◌∙◌, ap, subst, true, List}, specs.{Prelude.{unwrap_or}, List.{AllByRecursion}}}
+use Rattle.title_store.specs.{declared.kept.Kept.{Kept}, CellMaps.{is_there, content_of, kept_at, kept_cells}, Laws.Each.{each_from}}
 use Rattle.title_store.specs.Laws.MapLaws.{kept_front, write_last, written_stays}
 use Rattle.title_store.proofs.cell_map.CellMap.write_all.Goals as goal
 

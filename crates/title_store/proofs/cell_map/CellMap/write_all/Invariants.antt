@@ -1,7 +1,5 @@
 -- What is left to be written, over what the map has, is what was to be written over what it had.
-use Rattle.std.proofs.Common.{◌≡◌, true, vec_len}
-use Rattle.std.specs.Prelude.{unwrap_or}
-use Rattle.std.specs.List.{AllByRecursion}
+use Rattle.std.{proofs.Common.{◌≡◌, true, vec_len}, specs.{Prelude.{unwrap_or}, List.{AllByRecursion}}}
 use Rattle.title_land.specs.declared.survey.Cell.{Cell}
 use Rattle.title_store.specs.CellMaps.{content_of, is_there, kept_at, kept_cells}
 use Rattle.title_store.proofs.cell_map.CellMap.write_all.Given as goal

@@ -1,8 +1,6 @@
 -- What is left was there before.
 use Rattle.std.proofs.Common.{◌∙◌, ap, subst, List}
-use Rattle.title_store.specs.Loans.{Loan, IsAmong}
-use Rattle.title_store.specs.CellMaps.{loans_of}
-use Rattle.title_store.specs.Laws.LoanLaws.{among_without, loans_without}
+use Rattle.title_store.specs.{Loans.{Loan, IsAmong}, CellMaps.{loans_of}, Laws.LoanLaws.{among_without, loans_without}}
 use Rattle.title_store.specs.Laws.Backing.{backed_fewer}
 use Rattle.title_store.proofs.cell_store.CellStoreStore.forget.Goals as goal
 

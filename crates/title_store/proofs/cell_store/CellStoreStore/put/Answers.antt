@@ -1,18 +1,10 @@
 -- A put that is refused leaves all as it was; one that is done lends what the tract's cells held.
-use Rattle.std.proofs.Common.{◌∙◌, ◌<◌, ℕ, None, refl, sym, ap, subst, List, arith}
-use Rattle.title_land.specs.Depth.{depth}
-use Rattle.std.specs.List.{AllByRecursion}
-use Rattle.title_land.specs.declared.survey.Cell.{Cell}
-use Rattle.title_land.specs.declared.survey.Township.{Township}
-use Rattle.title_land.specs.CellLists.{cells_of}
+use Rattle.std.{proofs.Common.{◌∙◌, ◌<◌, ℕ, None, refl, sym, ap, subst, List, arith}, specs.List.{AllByRecursion}}
+use Rattle.title_land.specs.{Depth.{depth}, declared.survey.{Cell.{Cell}, Township.{Township}}, CellLists.{cells_of}}
 use Rattle.title_instrument.specs.Effect.{cell_effect}
-use Rattle.title_store.specs.declared.kept.Lent.{Lent}
-use Rattle.title_store.specs.Loans.{AllBelow}
-use Rattle.title_store.specs.Plants.{first_failing, done_or}
-use Rattle.title_store.specs.CellMaps.{content_of, keep_from, loans_of}
-use Rattle.title_store.specs.Laws.MapLaws.{refused_by, refused_content, post_content}
-use Rattle.title_store.specs.Laws.Backing.{backed_stays, backed_same}
-use Rattle.title_store.specs.Laws.Puts.{refused_put, below_after, taken, backed_after, slots_kept}
+use Rattle.title_store.specs.{declared.kept.Lent.{Lent}, Loans.{AllBelow}, Plants.{first_failing, done_or}}
+use Rattle.title_store.specs.{CellMaps.{content_of, keep_from, loans_of}, Laws.MapLaws.{refused_by, refused_content, post_content}}
+use Rattle.title_store.specs.Laws.{Backing.{backed_stays, backed_same}, Puts.{refused_put, below_after, taken, backed_after, slots_kept}}
 use Rattle.title_store.proofs.cell_store.CellStoreStore.put.Goals as goal
 
 pub returns-in-Refused-clause-put : goal.returns-in-Refused-clause-put

@@ -1,9 +1,6 @@
 -- The image that is found holds what its cells held, and each has a slot.
-use Rattle.std.proofs.Common.{◌≡◌, ◌∙◌, true, refl, sym, ap, subst, List, Option}
-use Rattle.std.specs.Option.{IsSome}
-use Rattle.title_store.specs.declared.kept.Lent.{Lent}
-use Rattle.title_store.specs.Loans.{Loan, IsAmong}
-use Rattle.title_store.specs.CellMaps.{is_there, loans_of}
+use Rattle.std.{proofs.Common.{◌≡◌, ◌∙◌, true, refl, sym, ap, subst, List, Option}, specs.Option.{IsSome}}
+use Rattle.title_store.specs.{declared.kept.Lent.{Lent}, Loans.{Loan, IsAmong}, CellMaps.{is_there, loans_of}}
 use Rattle.title_store.specs.Laws.LoanLaws.{among_without, loans_without, found_as}
 use Rattle.title_store.specs.Laws.Backing.{each_kept, backed_stays, backed_fewer, restored}
 use Rattle.title_store.proofs.cell_store.CellStoreStore.restore.Goals as goal

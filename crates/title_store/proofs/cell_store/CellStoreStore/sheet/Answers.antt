@@ -1,11 +1,7 @@
 -- After the last estate the sheet is whole.
-use Rattle.std.proofs.Common.{◌+◌, ◌≤◌, ap, ◌∙◌, arith}
-use Rattle.title_land.specs.Depth.{depth}
-use Rattle.std.proofs.lemmas.List.{take_all}
-use Rattle.std.specs.List.{flat_map}
-use Rattle.title_land.specs.Lands.{cover_of}
-use Rattle.title_store.specs.CellMaps.{content_of}
-use Rattle.title_store.specs.Sheets.{sheet_below, estates, sheet_of}
+use Rattle.std.{proofs.{Common.{◌+◌, ◌≤◌, ap, ◌∙◌, arith}, lemmas.List.{take_all}}, specs.List.{flat_map}}
+use Rattle.title_land.specs.{Depth.{depth}, Lands.{cover_of}}
+use Rattle.title_store.specs.{CellMaps.{content_of}, Sheets.{sheet_below, estates, sheet_of}}
 use Rattle.title_store.proofs.cell_store.CellStoreStore.sheet.Goals as goal
 
 pub returns : goal.returns

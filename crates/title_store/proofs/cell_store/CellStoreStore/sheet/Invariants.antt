@@ -1,10 +1,7 @@
 -- The rows of the estates so far are added.
-use Rattle.std.proofs.Common.{◌+◌, ◌≡◌, take}
-use Rattle.title_land.specs.Depth.{depth}
-use Rattle.std.specs.List.{flat_map}
-use Rattle.title_land.specs.Lands.{cover_of}
-use Rattle.title_store.specs.CellMaps.{content_of}
-use Rattle.title_store.specs.Sheets.{sheet_below}
+use Rattle.std.{proofs.Common.{◌+◌, ◌≡◌, take}, specs.List.{flat_map}}
+use Rattle.title_land.specs.{Depth.{depth}, Lands.{cover_of}}
+use Rattle.title_store.specs.{CellMaps.{content_of}, Sheets.{sheet_below}}
 use Rattle.title_store.proofs.cell_store.CellStoreStore.sheet.Given as goal
 
 abbrev pub invariant-loop-estate : goal.invariant-loop-estate

@@ -1,7 +1,6 @@
 -- A path's number has its outermost quarter and the path from there.
 use Rattle.std.proofs.Common.{◌/◌, ◌∷◌, List, sym, ap, ◌∙◌}
-use Rattle.title_land.specs.declared.rectangle.Quarter.{Quarter}
-use Rattle.title_land.specs.Laws.PathNumbers.{path_split}
+use Rattle.title_land.specs.{declared.rectangle.Quarter.{Quarter}, Laws.PathNumbers.{path_split}}
 use Rattle.title_tree.proofs.PathNumbers.{number_of, quarters_of_number, is_path}
 use Rattle.title_tree.proofs.path.Path.split.Goals as goal
 

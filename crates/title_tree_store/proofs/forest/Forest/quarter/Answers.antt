@@ -1,11 +1,8 @@
 -- The trees are quartered down to the paths that are kept.
-use Rattle.std.proofs.Common.{OnErr, List, subst, ap, ◌∙◌, inl}
-use Rattle.std.specs.Global.{Vec}
+use Rattle.std.{proofs.Common.{OnErr, List, subst, ap, ◌∙◌, inl}, specs.Global.{Vec}}
 use Rattle.title_land.specs.declared.rectangle.Quarter.{Quarter}
-use Rattle.title_tree.specs.Pieces.{StaysWithin}
-use Rattle.title_tree.specs.Trees.{plot}
-use Rattle.title_tree_store.specs.declared.forest.Written.{Written}
-use Rattle.title_tree_store.proofs.Steps.{on_ok, on_err, put_noted}
+use Rattle.title_tree.specs.{Pieces.{StaysWithin}, Trees.{plot}}
+use Rattle.title_tree_store.{specs.declared.forest.Written.{Written}, proofs.Steps.{on_ok, on_err, put_noted}}
 use Rattle.title_tree_store.proofs.forest.Forest.quarter.Goals as goal
 
 pub returns-clause-within_s : goal.returns-clause-within_s

@@ -1,7 +1,6 @@
 -- What was quartered before the refusal has the same cells.
 use Rattle.title_instrument.specs.declared.parts.Estate.TheVariants.{S, O}
-use Rattle.title_tree_store.specs.Forests.{named_spots}
-use Rattle.title_tree_store.proofs.Steps.{split_stays, split_within}
+use Rattle.title_tree_store.{specs.Forests.{named_spots}, proofs.Steps.{split_stays, split_within}}
 use Rattle.title_tree_store.proofs.forest.Forest.split_each.Goals as goal
 
 pub returns-in_err-split_named-2-clause-err_s : goal.returns-in_err-split_named-2-clause-err_s

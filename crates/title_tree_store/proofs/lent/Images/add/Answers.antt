@@ -1,7 +1,6 @@
 -- The slot that is added has the next number.
 use Rattle.std.proofs.Common.{◌∙◌, ◌+◌, ap, refl, sym, subst}
-use Rattle.title_tree_store.specs.Slots.{filled, IsNumbered}
-use Rattle.title_tree_store.proofs.Slots.{filled_push, numbered_push}
+use Rattle.title_tree_store.{specs.Slots.{filled, IsNumbered}, proofs.Slots.{filled_push, numbered_push}}
 use Rattle.title_tree_store.proofs.lent.Images.add.Goals as goal
 
 pub invariant_of-self : goal.invariant_of-self

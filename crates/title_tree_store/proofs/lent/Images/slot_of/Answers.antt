@@ -1,6 +1,5 @@
 -- A number outside of those that have slots is no image's.
-use Rattle.std.proofs.Common.{◌≡◌, ◌+◌, ◌<◌, length, arith}
-use Rattle.std.proofs.lemmas.Grind.{common_steps}
+use Rattle.std.proofs.{Common.{◌≡◌, ◌+◌, ◌<◌, length, arith}, lemmas.Grind.{common_steps}}
 use Rattle.title_tree_store.proofs.Slots.{absent_above, absent_below}
 use Rattle.title_tree_store.proofs.lent.Images.slot_of.Goals as goal
 

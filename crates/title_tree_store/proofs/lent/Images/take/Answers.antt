@@ -1,10 +1,6 @@
 -- The image of the number leaves its slot.
-use Rattle.std.proofs.Common.{◌≡◌, ◌∙◌, ap, sym, subst, set, get_or, List, Option}
-use Rattle.std.specs.Prelude.{MatchOption}
-use Rattle.title_tree_store.specs.declared.lent.Lent.{Lent}
-use Rattle.title_tree_store.specs.Slots.{filled, IsNumbered}
-use Rattle.title_tree_store.specs.Out.{images}
-use Rattle.title_tree_store.specs.Keeping.{IsAbsent, IsTakenOut}
+use Rattle.std.{proofs.Common.{◌≡◌, ◌∙◌, ap, sym, subst, set, get_or, List, Option}, specs.Prelude.{MatchOption}}
+use Rattle.title_tree_store.specs.{declared.lent.Lent.{Lent}, Slots.{filled, IsNumbered}, Out.{images}, Keeping.{IsAbsent, IsTakenOut}}
 use Rattle.title_tree_store.proofs.Slots.{numbered_empty, taken_at}
 use Rattle.title_tree_store.proofs.lent.Images.take.Goals as goal
 

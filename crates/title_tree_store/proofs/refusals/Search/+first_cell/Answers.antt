@@ -1,13 +1,7 @@
 -- The quarters come in their order.
-use Rattle.std.proofs.Common.{◌∙◌, ◌-◌, ◌∷◌, List, ap, sym}
-use Rattle.std.specs.Prelude.{find}
-use Rattle.title_land.specs.Depth.{depth}
-use Rattle.title_land.specs.declared.survey.Cell.{Cell}
-use Rattle.title_land.specs.declared.rectangle.Quarter.{Quarter}
-use Rattle.title_land.specs.declared.rectangle.Quarter.TheVariants.{Northeast}
-use Rattle.title_land.specs.Lands.{has}
-use Rattle.title_land.specs.Nodes.{quarters}
-use Rattle.title_land.specs.CellLists.{cells_below}
+use Rattle.std.{proofs.Common.{◌∙◌, ◌-◌, ◌∷◌, List, ap, sym}, specs.Prelude.{find}}
+use Rattle.title_land.specs.{Depth.{depth}, declared.{survey.Cell.{Cell}, rectangle.Quarter.{Quarter, TheVariants.{Northeast}}}}
+use Rattle.title_land.specs.{Lands.{has}, Nodes.{quarters}, CellLists.{cells_below}}
 use Rattle.title_tree_store.proofs.Firsts.{find_join, next_here, next_later, square_cells, item_is, cell_found, cell_missed}
 use Rattle.title_tree_store.proofs.Standing.{no_cell}
 use Rattle.title_tree_store.proofs.refusals.Search.+first_cell.Goals as goal

@@ -1,11 +1,6 @@
 -- Each step goes one level down; the first cell is among those of the quarters that are left.
-use Rattle.std.proofs.Common.{◌≡◌, ◌<◌, ◌-◌, ◌∷◌, drop}
-use Rattle.std.specs.Prelude.{find}
-use Rattle.std.specs.List.{flat_map}
-use Rattle.title_land.specs.Depth.{depth}
-use Rattle.title_land.specs.Lands.{has}
-use Rattle.title_land.specs.Nodes.{quarters}
-use Rattle.title_land.specs.CellLists.{cells_below}
+use Rattle.std.{proofs.Common.{◌≡◌, ◌<◌, ◌-◌, ◌∷◌, drop}, specs.{Prelude.{find}, List.{flat_map}}}
+use Rattle.title_land.specs.{Depth.{depth}, Lands.{has}, Nodes.{quarters}, CellLists.{cells_below}}
 use Rattle.title_tree_store.proofs.refusals.Search.+first_cell.Given as goal
 
 abbrev pub decreases-first_cell : goal.decreases-first_cell

@@ -1,14 +1,9 @@
 -- The quarters come in their order; none that has no cell of the tract, and none of a square that doesn't refuse.
 use Rattle.std.proofs.Common.{◌∙◌, ◌-◌, ◌∷◌, List, length, ap, sym, arith, refl}
-use Rattle.title_land.specs.Depth.{depth}
-use Rattle.title_land.specs.declared.survey.Cell.{Cell}
-use Rattle.title_land.specs.declared.rectangle.Quarter.{Quarter}
-use Rattle.title_land.specs.declared.rectangle.Quarter.TheVariants.{Northeast}
-use Rattle.title_land.specs.Nodes.{quarters}
-use Rattle.title_land.specs.CellLists.{cells_below}
+use Rattle.title_land.specs.{Depth.{depth}, declared.{survey.Cell.{Cell}, rectangle.Quarter.{Quarter, TheVariants.{Northeast}}}}
+use Rattle.title_land.specs.{Nodes.{quarters}, CellLists.{cells_below}}
 use Rattle.title_tree.specs.Trees.{plot}
-use Rattle.title_tree_store.specs.Forests.{plots}
-use Rattle.title_tree_store.specs.Refusing.{first_of}
+use Rattle.title_tree_store.specs.{Forests.{plots}, Refusing.{first_of}}
 use Rattle.title_tree_store.proofs.Firsts.{first_join, next_here, next_later, square_cells, item_is}
 use Rattle.title_tree_store.proofs.Standing.{none_of_square, alike_square, has_levels, stands_down}
 use Rattle.title_tree_store.proofs.refusals.Search.+first_in_square.Goals as goal

@@ -1,11 +1,7 @@
 -- Each step goes one level down; the first cell that refuses is among those of the quarters that are left.
-use Rattle.std.proofs.Common.{◌≡◌, ◌<◌, ◌-◌, ◌∷◌, drop}
-use Rattle.std.specs.List.{flat_map}
-use Rattle.title_land.specs.Depth.{depth}
-use Rattle.title_land.specs.Nodes.{quarters}
-use Rattle.title_land.specs.CellLists.{cells_below}
-use Rattle.title_tree_store.specs.Forests.{plots}
-use Rattle.title_tree_store.specs.Refusing.{first_of}
+use Rattle.std.{proofs.Common.{◌≡◌, ◌<◌, ◌-◌, ◌∷◌, drop}, specs.List.{flat_map}}
+use Rattle.title_land.specs.{Depth.{depth}, Nodes.{quarters}, CellLists.{cells_below}}
+use Rattle.title_tree_store.specs.{Forests.{plots}, Refusing.{first_of}}
 use Rattle.title_tree_store.proofs.refusals.Search.+first_in_square.Given as goal
 
 abbrev pub decreases-first_in_square : goal.decreases-first_in_square

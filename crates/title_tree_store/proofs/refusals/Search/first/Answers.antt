@@ -1,7 +1,6 @@
 -- A tract of one township has no cell elsewhere.
 use Rattle.std.proofs.Common.{◌∙◌, sym}
-use Rattle.title_tree_store.specs.Forests.{plots}
-use Rattle.title_tree_store.proofs.Firsts.{township_found, part_found}
+use Rattle.title_tree_store.{specs.Forests.{plots}, proofs.Firsts.{township_found, part_found}}
 use Rattle.title_tree_store.proofs.refusals.Search.first.Goals as goal
 
 pub returns-in-Township : goal.returns-in-Township

@@ -1,11 +1,7 @@
 -- The townships come in their order.
-use Rattle.std.proofs.Common.{◌∙◌, ap, sym, refl, List}
-use Rattle.title_land.specs.Depth.{depth}
-use Rattle.std.specs.List.{flat_map}
-use Rattle.title_land.specs.declared.survey.Township.{Township}
-use Rattle.title_land.specs.CellLists.{township_cells}
-use Rattle.title_tree_store.specs.Forests.{plots}
-use Rattle.title_tree_store.specs.Refusing.{first_of}
+use Rattle.std.{proofs.Common.{◌∙◌, ap, sym, refl, List}, specs.List.{flat_map}}
+use Rattle.title_land.specs.{Depth.{depth}, declared.survey.Township.{Township}, CellLists.{township_cells}}
+use Rattle.title_tree_store.specs.{Forests.{plots}, Refusing.{first_of}}
 use Rattle.title_tree_store.proofs.Firsts.{first_join, next_here, next_later, none_left, tract_cells}
 use Rattle.title_tree_store.proofs.refusals.Search.first_in_plant.Goals as goal
 

@@ -1,10 +1,7 @@
 -- The first cell that refuses is among those of the townships that are left.
-use Rattle.std.proofs.Common.{◌≡◌, drop}
-use Rattle.std.specs.List.{flat_map}
-use Rattle.title_land.specs.Depth.{depth}
-use Rattle.title_land.specs.CellLists.{township_cells}
-use Rattle.title_tree_store.specs.Forests.{plots}
-use Rattle.title_tree_store.specs.Refusing.{first_of}
+use Rattle.std.{proofs.Common.{◌≡◌, drop}, specs.List.{flat_map}}
+use Rattle.title_land.specs.{Depth.{depth}, CellLists.{township_cells}}
+use Rattle.title_tree_store.specs.{Forests.{plots}, Refusing.{first_of}}
 use Rattle.title_tree_store.proofs.refusals.Search.first_in_plant.Given as goal
 
 abbrev pub invariant-loop-township : goal.invariant-loop-township

@@ -1,15 +1,9 @@
 -- The walk begins with the whole section and all its levels.
 use Rattle.std.proofs.Common.{◌∙◌, List, [], ℕ, ap, sym, subst}
-use Rattle.title_land.specs.Depth.{depth}
-use Rattle.title_land.specs.declared.rectangle.TheConstants.{DEPTH}
-use Rattle.title_land.specs.declared.rectangle.Quarter.{Quarter}
-use Rattle.title_land.specs.CellLists.{cells_below}
+use Rattle.title_land.specs.{Depth.{depth}, declared.rectangle.{TheConstants.{DEPTH}, Quarter.{Quarter}}, CellLists.{cells_below}}
 use Rattle.title_land.specs.Laws.Sides.{depth_is}
 use Rattle.title_tree.specs.Trees.{plot}
-use Rattle.title_tree_store.specs.Spots.{square_path}
-use Rattle.title_tree_store.specs.Forests.{plots}
-use Rattle.title_tree_store.specs.Refusing.{first_of, StandsAt}
-use Rattle.title_tree_store.proofs.Standing.{section_stands}
+use Rattle.title_tree_store.{specs.{Spots.{square_path}, Forests.{plots}, Refusing.{first_of, StandsAt}}, proofs.Standing.{section_stands}}
 use Rattle.title_tree_store.proofs.refusals.Search.first_in_section.Goals as goal
 
 pub first_in_square-requires-clause-here : goal.first_in_square-requires-clause-here

@@ -1,16 +1,9 @@
 -- The sections come in their order.
-use Rattle.std.proofs.Common.{◌∙◌, List, ap, sym, subst, inl, inr, refl}
-use Rattle.std.specs.List.{flat_map}
-use Rattle.title_land.specs.Depth.{depth}
-use Rattle.title_land.specs.declared.survey.Section.{Section}
-use Rattle.title_land.specs.declared.survey.Township.{Township}
-use Rattle.title_land.specs.CellLists.{section_cells}
-use Rattle.title_land.specs.Laws.Members.{In}
-use Rattle.title_land.specs.Laws.CellMembers.{sections_of-in}
+use Rattle.std.{proofs.Common.{◌∙◌, List, ap, sym, subst, inl, inr, refl}, specs.List.{flat_map}}
+use Rattle.title_land.specs.{Depth.{depth}, declared.survey.{Section.{Section}, Township.{Township}}, CellLists.{section_cells}}
+use Rattle.title_land.specs.Laws.{Members.{In}, CellMembers.{sections_of-in}}
 use Rattle.title_tree.specs.Trees.{plot}
-use Rattle.title_tree_store.specs.Spots.{township_path}
-use Rattle.title_tree_store.specs.Forests.{plots}
-use Rattle.title_tree_store.specs.Refusing.{first_of, StandsAt}
+use Rattle.title_tree_store.specs.{Spots.{township_path}, Forests.{plots}, Refusing.{first_of, StandsAt}}
 use Rattle.title_tree_store.proofs.Firsts.{first_join, first_here, first_later}
 use Rattle.title_tree_store.proofs.refusals.Search.first_in_township.Goals as goal
 

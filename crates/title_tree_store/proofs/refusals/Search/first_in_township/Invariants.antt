@@ -1,12 +1,7 @@
 -- The first cell that refuses is among those of the sections that are left, which are the township's.
-use Rattle.std.proofs.Common.{◌≡◌}
-use Rattle.std.specs.List.{flat_map}
-use Rattle.title_land.specs.Depth.{depth}
-use Rattle.title_land.specs.declared.survey.Section.{Section}
-use Rattle.title_land.specs.CellLists.{section_cells, township_cells}
-use Rattle.title_land.specs.Laws.Members.{In}
-use Rattle.title_tree_store.specs.Forests.{plots}
-use Rattle.title_tree_store.specs.Refusing.{first_of}
+use Rattle.std.{proofs.Common.{◌≡◌}, specs.List.{flat_map}}
+use Rattle.title_land.specs.{Depth.{depth}, declared.survey.Section.{Section}, CellLists.{section_cells, township_cells}, Laws.Members.{In}}
+use Rattle.title_tree_store.specs.{Forests.{plots}, Refusing.{first_of}}
 use Rattle.title_tree_store.proofs.refusals.Search.first_in_township.Given as goal
 
 abbrev pub invariant-loop-section : goal.invariant-loop-section

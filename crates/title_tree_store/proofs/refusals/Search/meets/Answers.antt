@@ -1,9 +1,6 @@
 -- The square is a tract of its own.
-use Rattle.std.proofs.Common.{◌≡◌, true, subst}
-use Rattle.std.specs.Prelude.{◌↔◌}
-use Rattle.title_land.specs.Depth.{depth}
-use Rattle.title_land.specs.declared.tract.Land.{Land}
-use Rattle.title_land.specs.Lands.{Meets}
+use Rattle.std.{proofs.Common.{◌≡◌, true, subst}, specs.Prelude.{◌↔◌}}
+use Rattle.title_land.specs.{Depth.{depth}, declared.tract.Land.{Land}, Lands.{Meets}}
 use Rattle.title_tree_store.proofs.refusals.Search.meets.Goals as goal
 
 pub returns : goal.returns

@@ -1,6 +1,5 @@
 -- The table tells it.
-use Rattle.std.proofs.Common.{◌∙◌, ℕ, ap, get_or, arith}
-use Rattle.std.proofs.lemmas.List.{get_or_read}
+use Rattle.std.proofs.{Common.{◌∙◌, ℕ, ap, get_or, arith}, lemmas.List.{get_or_read}}
 use Rattle.title_tree_store.specs.Spots.{index_of}
 use Rattle.title_tree_store.proofs.townships.Townships.index_of.Goals as goal
 

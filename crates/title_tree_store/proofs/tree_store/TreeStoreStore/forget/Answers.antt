@@ -1,7 +1,6 @@
 -- What is left was out before.
 use Rattle.std.proofs.Common.{refl}
-use Rattle.title_tree_store.proofs.Keeps.{kept_as}
-use Rattle.title_tree_store.proofs.Operations.{forget_kept, forget_out}
+use Rattle.title_tree_store.proofs.{Keeps.{kept_as}, Operations.{forget_kept, forget_out}}
 use Rattle.title_tree_store.proofs.tree_store.TreeStoreStore.forget.Goals as goal
 
 pub invariant_of-self : goal.invariant_of-self

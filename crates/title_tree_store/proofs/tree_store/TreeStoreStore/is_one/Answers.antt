@@ -1,10 +1,7 @@
 -- What stands in the section has one holding where its cells have.
 use Rattle.std.proofs.Common.{◌∙◌, ap}
-use Rattle.title_tree.specs.Plots.{plot_at}
-use Rattle.title_tree.specs.Trees.{plot}
-use Rattle.title_tree_store.specs.Forests.{plots}
-use Rattle.title_tree_store.specs.Spots.{section_path}
-use Rattle.title_tree_store.proofs.Holdings.{section_one, one_test}
+use Rattle.title_tree.specs.{Plots.{plot_at}, Trees.{plot}}
+use Rattle.title_tree_store.{specs.{Forests.{plots}, Spots.{section_path}}, proofs.Holdings.{section_one, one_test}}
 use Rattle.title_tree_store.proofs.tree_store.TreeStoreStore.is_one.Goals as goal
 
 pub returns : goal.returns

@@ -1,9 +1,7 @@
 use Rattle.std.proofs.Common.{◌≡◌}
 use Rattle.title_share.specs.Division.{all_to}
 use Rattle.title_tree.specs.Plots.{Same}
-use Rattle.title_tree_store.specs.Forests.{plots}
-use Rattle.title_tree_store.proofs.Keeps.{each}
-use Rattle.title_tree_store.proofs.Operations.{opens}
+use Rattle.title_tree_store.{specs.Forests.{plots}, proofs.{Keeps.{each}, Operations.{opens}}}
 use Rattle.title_tree_store.proofs.tree_store.TreeStoreStore.open.Goals as goal
 
 pub returns-clause-content : goal.returns-clause-content

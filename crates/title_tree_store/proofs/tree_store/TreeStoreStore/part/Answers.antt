@@ -1,11 +1,7 @@
 -- What is read off the estate's tree is that part of the tract's sheet.
-use Rattle.std.proofs.Common.{◌+◌, ◌++◌, ◌∙◌}
-use Rattle.std.specs.List.{flat_map}
-use Rattle.title_land.specs.Depth.{depth}
-use Rattle.title_land.specs.Lands.{cover_of}
-use Rattle.title_tree_store.specs.Forests.{plots}
-use Rattle.title_tree_store.specs.TreeSheets.{tree_sheet}
-use Rattle.title_tree_store.proofs.Holdings.{part_is}
+use Rattle.std.{proofs.Common.{◌+◌, ◌++◌, ◌∙◌}, specs.List.{flat_map}}
+use Rattle.title_land.specs.{Depth.{depth}, Lands.{cover_of}}
+use Rattle.title_tree_store.{specs.{Forests.{plots}, TreeSheets.{tree_sheet}}, proofs.Holdings.{part_is}}
 use Rattle.title_tree_store.proofs.tree_store.TreeStoreStore.part.Goals as goal
 
 pub returns : goal.returns

@@ -1,25 +1,13 @@
 -- A put that is refused leaves all as it was; one that is done lends what the tract's cells held.
 use Rattle.std.proofs.Common.{◌≡◌, ◌∙◌, ◌++◌, ◌∷◌, [], suc, refl, sym, ap, subst, List, ℕ, arith}
-use Rattle.title_land.specs.Depth.{depth}
-use Rattle.title_land.specs.declared.rectangle.Quarter.{Quarter}
-use Rattle.title_land.specs.CellLists.{cells_of}
-use Rattle.title_instrument.specs.declared.parts.Estate.{Estate}
-use Rattle.title_instrument.specs.declared.parts.Estate.TheVariants.{S, O, M}
-use Rattle.title_instrument.specs.Effect.{holding_effect}
-use Rattle.title_store.specs.Loans.{IsTaken}
-use Rattle.title_store.specs.Laws.MapLaws.{refused_content}
-use Rattle.title_store.specs.Laws.Puts.{refused_put}
+use Rattle.title_land.specs.{Depth.{depth}, declared.rectangle.Quarter.{Quarter}, CellLists.{cells_of}}
+use Rattle.title_instrument.specs.{declared.parts.Estate.{Estate, TheVariants.{S, O, M}}, Effect.{holding_effect}}
+use Rattle.title_store.specs.{Loans.{IsTaken}, Laws.{MapLaws.{refused_content}, Puts.{refused_put}}}
 use Rattle.title_tree.specs.Pieces.{refusal_at, Refines, StaysWithin}
-use Rattle.title_tree_store.specs.declared.lent.Lent.{Lent}
-use Rattle.title_tree_store.specs.Spots.{tract_spots, paths_in}
-use Rattle.title_tree_store.specs.Forests.{plots, pieces, named_spots}
-use Rattle.title_tree_store.specs.Keeping.{content_of, loans_of}
-use Rattle.title_tree_store.specs.Out.{images}
-use Rattle.title_tree_store.proofs.Keeps.{each, kept_as}
-use Rattle.title_tree_store.proofs.Loans.{loans_refined}
-use Rattle.title_tree_store.proofs.Steps.{on_err}
+use Rattle.title_tree_store.specs.{declared.lent.Lent.{Lent}, Spots.{tract_spots, paths_in}, Forests.{plots, pieces, named_spots}}
+use Rattle.title_tree_store.{specs.{Keeping.{content_of, loans_of}, Out.{images}}, proofs.{Keeps.{each, kept_as}, Loans.{loans_refined}}}
+use Rattle.title_tree_store.proofs.{Steps.{on_err}, Puts.{found_failing, some_cell_fails, told}}
 use Rattle.title_tree_store.proofs.Puts.{IsPut, put_steps, put_allowed, put_shows, put_takes, kept_put, kept_stopped, refused_none}
-use Rattle.title_tree_store.proofs.Puts.{found_failing, some_cell_fails, told}
 use Rattle.title_tree_store.proofs.tree_store.TreeStoreStore.put.Goals as goal
 
 pub invariant_of-self : goal.invariant_of-self

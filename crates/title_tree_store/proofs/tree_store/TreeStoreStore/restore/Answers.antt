@@ -2,10 +2,7 @@
 use Rattle.std.proofs.Common.{◌≡◌, refl}
 use Rattle.title_instrument.specs.declared.parts.Estate.TheVariants.{S, O, M}
 use Rattle.title_tree.specs.Pieces.{swapped}
-use Rattle.title_tree_store.specs.Forests.{plots, pieces}
-use Rattle.title_tree_store.specs.Keeping.{IsTakenOut}
-use Rattle.title_tree_store.specs.Out.{images}
-use Rattle.title_tree_store.proofs.Keeps.{each, goes_back, kept_as}
+use Rattle.title_tree_store.{specs.{Forests.{plots, pieces}, Keeping.{IsTakenOut}, Out.{images}}, proofs.Keeps.{each, goes_back, kept_as}}
 use Rattle.title_tree_store.proofs.Operations.{some_taken, some_is, restored_kept, restored_out, restores}
 use Rattle.title_tree_store.proofs.tree_store.TreeStoreStore.restore.Goals as goal
 

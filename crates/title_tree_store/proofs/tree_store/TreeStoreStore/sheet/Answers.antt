@@ -1,13 +1,8 @@
 -- After the last estate the sheet is whole.
-use Rattle.std.proofs.Common.{◌+◌, ◌≤◌, ap, ◌∙◌, arith}
-use Rattle.title_land.specs.Depth.{depth}
-use Rattle.std.proofs.lemmas.List.{take_all}
-use Rattle.std.specs.List.{flat_map}
-use Rattle.title_land.specs.Lands.{cover_of}
+use Rattle.std.{proofs.{Common.{◌+◌, ◌≤◌, ap, ◌∙◌, arith}, lemmas.List.{take_all}}, specs.List.{flat_map}}
+use Rattle.title_land.specs.{Depth.{depth}, Lands.{cover_of}}
 use Rattle.title_store.specs.Sheets.{estates}
-use Rattle.title_tree_store.specs.Forests.{plots}
-use Rattle.title_tree_store.specs.TreeSheets.{tree_sheet}
-use Rattle.title_tree_store.proofs.Holdings.{sheet_is}
+use Rattle.title_tree_store.{specs.{Forests.{plots}, TreeSheets.{tree_sheet}}, proofs.Holdings.{sheet_is}}
 use Rattle.title_tree_store.proofs.tree_store.TreeStoreStore.sheet.Goals as goal
 
 pub returns : goal.returns

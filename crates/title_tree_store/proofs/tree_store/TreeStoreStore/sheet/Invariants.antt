@@ -1,10 +1,7 @@
 -- The rows of the estates so far are added.
-use Rattle.std.proofs.Common.{◌+◌, ◌≡◌, take}
-use Rattle.title_land.specs.Depth.{depth}
-use Rattle.std.specs.List.{flat_map}
-use Rattle.title_land.specs.Lands.{cover_of}
-use Rattle.title_tree_store.specs.Forests.{plots}
-use Rattle.title_tree_store.specs.TreeSheets.{tree_sheet}
+use Rattle.std.{proofs.Common.{◌+◌, ◌≡◌, take}, specs.List.{flat_map}}
+use Rattle.title_land.specs.{Depth.{depth}, Lands.{cover_of}}
+use Rattle.title_tree_store.specs.{Forests.{plots}, TreeSheets.{tree_sheet}}
 use Rattle.title_tree_store.proofs.tree_store.TreeStoreStore.sheet.Given as goal
 
 abbrev pub invariant-loop-estate : goal.invariant-loop-estate

@@ -1,10 +1,7 @@
 -- Where no image is out the trees may be joined.
 use Rattle.std.proofs.Common.{◌≡◌, ap}
-use Rattle.title_tree_store.specs.Keeping.{loans_of}
-use Rattle.title_tree_store.specs.Forests.{plots, written, tidied_written}
+use Rattle.title_tree_store.{specs.{Keeping.{loans_of}, Forests.{plots, written, tidied_written}, Out.{images}}, proofs.Operations.{tidies}}
 use Rattle.title_tree_store.proofs.Keeps.{each, no_loans, kept_tidied}
-use Rattle.title_tree_store.specs.Out.{images}
-use Rattle.title_tree_store.proofs.Operations.{tidies}
 use Rattle.title_tree_store.proofs.tree_store.TreeStoreStore.tidy.Goals as goal
 
 pub invariant_of-self : goal.invariant_of-self

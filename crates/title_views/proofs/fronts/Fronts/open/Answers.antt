@@ -1,7 +1,6 @@
 -- No record is published, and no entry made.
 use Rattle.std.proofs.Common.{◌≡◌, [], ap, sym, ◌∙◌, length, inl, arith}
-use Rattle.title_views.specs.Views.{Shown}
-use Rattle.title_views.proofs.Growing.{begins, no_entry}
+use Rattle.title_views.{specs.Views.{Shown}, proofs.Growing.{begins, no_entry}}
 use Rattle.title_views.proofs.fronts.Fronts.open.Goals as goal
 
 pub new-requires-clause-rule : goal.new-requires-clause-rule

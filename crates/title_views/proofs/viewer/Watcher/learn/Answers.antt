@@ -1,10 +1,8 @@
 -- What is learnt is the longer of both.
-use Rattle.std.proofs.Common.{◌≡◌, ⊎_elim, inl, inr, length, ap, sym, ◌∙◌, refl, subst}
-use Rattle.std.specs.Prelude.{nat_lt}
+use Rattle.std.{proofs.Common.{◌≡◌, ⊎_elim, inl, inr, length, ap, sym, ◌∙◌, refl, subst}, specs.Prelude.{nat_lt}}
 use mathlib.Core.List.{IsPrefix}
 use Rattle.title_ledger.specs.Ledgers.{sure_of}
-use Rattle.title_views.specs.Views.{Sight, Shows, longer}
-use Rattle.title_views.proofs.Sights.{longer_is}
+use Rattle.title_views.{specs.Views.{Sight, Shows, longer}, proofs.Sights.{longer_is}}
 use Rattle.title_views.proofs.viewer.Watcher.learn.Goals as goal
 
 pub returns : goal.returns

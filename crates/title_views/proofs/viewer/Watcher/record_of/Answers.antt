@@ -1,12 +1,10 @@
 -- What was shown is what the reader has seen.
-use Rattle.std.proofs.Common.{◌≡◌, List, [], take, ap, sym, ◌∙◌, subst}
-use Rattle.std.specs.Prelude.{unwrap_or, option_map}
+use Rattle.std.{proofs.Common.{◌≡◌, List, [], take, ap, sym, ◌∙◌, subst}, specs.Prelude.{unwrap_or, option_map}}
 use mathlib.Core.List.{IsPrefix}
 use Rattle.left_right.specs.Sides.{view}
 use Rattle.title_chain.specs.declared.record.Record.{Record}
 use Rattle.title_ledger.specs.Ledgers.{sure_of}
-use Rattle.title_views.specs.Views.{Sight}
-use Rattle.title_views.proofs.Sights.{sight, whole_sight, seen_first}
+use Rattle.title_views.{specs.Views.{Sight}, proofs.Sights.{sight, whole_sight, seen_first}}
 use Rattle.title_views.proofs.viewer.Watcher.record_of.Goals as goal
 
 pub returns-in-Ok : goal.returns-in-Ok
