@@ -122,7 +122,7 @@ impl Section {
 }
 
 impl Node {
-    /// Whether both are one. Of two squares the places in their sections are compared first: these differ more often.
+    /// Whether both are one. Of two squares the quarters are compared first: these differ more often.
     pub fn is(&self, other: &Node) -> bool
         ensures same { (result ≡ true) ↔ (self.now ≡ other.now) }
     {
