@@ -69,7 +69,7 @@ impl Answer {
             (Answer::Entries(a), Answer::Entries(b)) => same_entries(a.as_slice(), b.as_slice()),
             (Answer::Posted, Answer::Posted) => true,
             (Answer::Refused(rule, estate, node), Answer::Refused(other, part, other_node)) => {
-                same_rule(*rule, *other) && same_estate(*estate, *part) && node.is(place)
+                same_rule(*rule, *other) && same_estate(*estate, *part) && node.is(other_node)
             }
             _ => false,
         }

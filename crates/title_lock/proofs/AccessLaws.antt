@@ -1,22 +1,28 @@
 -- What an access asks for at nodes, added up.
-use Rattle.std.proofs.Common.{◌≡◌, Bool, true, false, cond, ◌&&◌, ◌||◌, Option, None, refl, sym}
-use Rattle.title_lock.{specs.{declared.modes.Mode.{Mode}, Modes.{bound}}, proofs.ModeLaws.{bound_none, bound_assoc}}
+use Rattle.std.proofs.{Common.{◌≡◌, ◌∙◌, Bool, true, false, cond, not, ◌&&◌, ◌||◌, Option, Some, None, refl}, lemmas.Bool.{cond-false}}
+use Rattle.std.proofs.Common.{sym, ap, arith}
+use mathlib.Core.Bool.{and-true, and-false}
+use Rattle.title_lock.{specs.{declared.modes.Mode.{Mode}, Modes.{bound}}, proofs.ModeLaws.{bound_none}}
 
--- one node of the cover, and the rest
-pub rest_join : (b : Bool) (r x y : Option Mode) → bound (bound r (cond b x None)) (cond b y None) ≡ bound r (cond b (bound x y) None)
-rest_join true r x y = bound_assoc r x y
-rest_join false r x y = bound_none (bound r None)
+-- either way the same
+pub same_cond : (b : Bool) (r : Option Mode) → r ≡ cond b r r
+same_cond true r = refl
+same_cond false r = refl
 
--- no node of the cover is left
-pub rest_none : (b : Bool) (r : Option Mode) → r ≡ bound r (cond b None None)
-rest_none true r = sym (bound_none r)
-rest_none false r = sym (bound_none r)
+-- nothing is given where nothing is asked
+pub raise_off : (b : Bool) (a : Mode) (r : Option Mode) → r ≡ bound r (cond (b && false) (Some a) None)
+raise_off b a r = sym (bound_none r) ∙ ap (bound r) (sym (cond-false (b && false) (Some a) None (and-false b)))
+
+-- who is idle and asks for nothing stays so
+pub idle_off : (i b : Bool) → i ≡ (i && not (b && false))
+idle_off i b = sym (and-true i) ∙ ap (λ (z : Bool). i && not z) (sym (and-false b))
 
 -- ---- and taken out
 
+-- nothing is gone where nothing is asked
+pub gone_off : (b : Bool) (r : Option Mode) → r ≡ cond (b && false) None r
+gone_off b r = sym (cond-false (b && false) None r (and-false b))
+
 -- what is gone with one part and then with another
 pub gone_join : (b x y : Bool) (r : Option Mode) → cond (b && y) None (cond (b && x) None r) ≡ cond (b && (x || y)) None r
-gone_join true true true r = refl
-gone_join true true false r = refl
-gone_join true false y r = refl
-gone_join false x y r = refl
+gone_join b x y r = grind arith

@@ -1,9 +1,10 @@
 -- Entries of one examiner alone.
-use Rattle.std.proofs.Common.{◌≡◌, ◌≢◌, ◌&&◌, ◌||◌, ℕ, Bool, false, cond, not, List, [], ◌∷◌, Option, Some, None, eqb, refl, sym}
+use Rattle.std.proofs.lemmas.Bool.Decides.{nat_tests}
+use Rattle.std.proofs.Common.{◌≡◌, ◌≢◌, ℕ, Bool, false, not, List, [], ◌∷◌, Option, Some, None, eqb, refl, sym}
 use Rattle.std.proofs.{Common.{ap, subst, ◌∙◌, arith}, lemmas.{Bool.{ne_eqb}, List.Elements.{All-head, All-tail, All-same, All-filter}}}
-use Rattle.title_land.specs.{declared.{node.Node.{Node}, tract.Land.{Land}}, Lands.{cover_of}}
-use Rattle.title_lock.specs.{declared.{guards.Entry.{Entry}, modes.Mode.{Mode}}, Modes.{bound}, Asking.{asked, mode_at}, Counts.{IsCount}}
-use Rattle.title_lock.specs.{Overlaps.{is_post, overlap, against, Stands, without}, Holders.{own_part}}
+use Rattle.title_land.specs.declared.{node.Node.{Node}, tract.Land.{Land}}
+use Rattle.title_lock.specs.{declared.{guards.Entry.{Entry}, modes.Mode.{Mode}}, Asking.{mode_at}, Counts.{IsCount}}
+use Rattle.title_lock.specs.{Overlaps.{against, Stands, without}, Holders.{own_part}}
 use Rattle.title_lock.{specs.Locks.{Locks, shown, AreOwn, AreInOne}, proofs.CountLaws.{count_none, count_moved}}
 
 -- the first is not f's where it is another's
@@ -17,8 +18,7 @@ rest_own e x es own = All-tail (λ (z : Entry). z.examiner ≡ e) x es own
 none_against : (e f : ℕ) (es : List Entry) (land : Land) (post : Bool) → AreOwn e es → f ≢ e → against land post f es ≡ false
 none_against e f [] land post own other = refl
 none_against e f (x ∷ es) land post own other =
-    ap (λ (b : Bool). (b && overlap land post x.tract (is_post x.access)) || against land post f es) (first_other e f x es own other)
-    ∙ none_against e f es land post (rest_own e x es own) other
+    grind (arith, first_other e f x es own other, none_against e f es land post (rest_own e x es own) other)
 
 -- nobody is in its way
 own_free : (e : ℕ) (es : List Entry) (land : Land) (post : Bool) → AreOwn e es → Stands es e land post None
@@ -28,9 +28,7 @@ own_free e es land post own f other = none_against e f es land post own other
 mode_other : (depth e f : ℕ) (es : List Entry) (n : Node) → AreOwn e es → f ≢ e → mode_at depth es f n ≡ None
 mode_other depth e f [] n own other = refl
 mode_other depth e f (x ∷ es) n own other =
-    ap (λ (b : Bool). bound (cond b (asked (is_post x.access) (cover_of depth x.tract) n) None) (mode_at depth es f n))
-    (first_other e f x es own other)
-    ∙ mode_other depth e f es n (rest_own e x es own) other
+    grind (arith, first_other e f x es own other, mode_other depth e f es n (rest_own e x es own) other)
 
 -- as many have a mode as the one examiner is of those with it
 pub count_alone : (depth e : ℕ) (es : List Entry) (n : Node) (m : Mode) (k : ℕ) → AreOwn e es → k ≡ own_part (mode_at depth es e n) m
@@ -43,9 +41,7 @@ count_alone depth e es n m k own is =
 pub without_other : (e o : ℕ) (es : List Entry) → AreOwn o es → e ≢ o → without e es ≡ es
 without_other e o [] own other = refl
 without_other e o (x ∷ es) own other =
-    ap (λ (b : Bool). cond (not b) (x ∷ without e es) (without e es))
-    (ne_eqb x.examiner e (λ s. other (sym s ∙ All-head (λ (z : Entry). z.examiner ≡ o) x es own)))
-    ∙ ap (λ (t : List Entry). x ∷ t) (without_other e o es (rest_own o x es own) other)
+    grind (arith, nat_tests, All-head (λ (z : Entry). z.examiner ≡ o) x es own, without_other e o es (rest_own o x es own) other)
 
 -- ---- where one examiner is alone
 

@@ -1,62 +1,48 @@
 -- A book's entries by number: one put at the end, and an examiner's last one taken out.
 use Rattle.std.proofs.Common.{◌≡◌, ◌≢◌, ℕ, ◌<◌, Bool, true, false, cond, not, ◌&&◌, List, [], ◌∷◌, ◌++◌, All, filter, reverse, Option}
 use Rattle.std.{proofs.Common.{None, Some, IfSome, IfNone, eqb, refl, sym, ap, ◌∙◌, subst, append_assoc, arith}, specs.Prelude.{vec_len}}
-use Rattle.std.{specs.Global.{Vec}, proofs.lemmas.{Bool.{eqb-true, eqb-false, ne_eqb, Decides.{nat_tests}}, Map.{NonePasses}}}
+use Rattle.std.proofs.lemmas.{Bool.{eqb-true, ne_eqb, cases_eq, Decides.{nat_tests}}, Map.{NonePasses}}
+use Rattle.std.{specs.Global.{Vec}, proofs.Common.{inl, inr}}
 use Rattle.std.proofs.lemmas.List.{nil_from_length, append-nil, reverse-append, map-append, Elements.{All-head, All-tail}}
-use Rattle.std.specs.{List.{AllByRecursion, Sorted.{IsStrictlySortedBy}}, declared.cmp.Ordering.{Ordering, TheVariants.{Less, Greater}}}
-use Rattle.std.specs.{Ordering.{nat_cmp, match_ordering}, Map.{keys_of, values_of, lookup, remove_entry}}
+use Rattle.std.specs.{List.{AllByRecursion, Sorted.{IsStrictlySortedBy}}, declared.cmp.Ordering.TheVariants.{Less}}
+use Rattle.std.specs.{Ordering.{nat_cmp}, Map.{keys_of, values_of, lookup, remove_entry}}
 use Rattle.std.specs.BTreeMap.{BTreeMap, get, insert_entry, is_at}
-use mathlib.Core.List.{reverse_aux}
-use Rattle.title_lock.{specs.{declared.guards.Entry.{Entry}, Overlaps.{without}}, proofs.Overlap.{and_none}}
+use mathlib.Core.{Bool.{and-false}, List.{reverse_aux}}
+use Rattle.title_lock.specs.{declared.guards.Entry.{Entry}, Overlaps.{without}}
 use Rattle.title_lock.specs.Books.{numbers_in, numbers_of, empty_in, is_empty_kept, own_keys, IsNewest}
 
 -- ---- one entry more
-
--- a greater number comes after
-greater : (n k : ℕ) → k < n → nat_cmp n k ≡ Greater
-greater n k h = grind (arith, nat_tests)
 
 -- an entry under a number above all keys goes to the end
 pub insert_last : (n : ℕ) (x : Entry) (es : List (ℕ × Entry)) → All (λ k. k < n) (keys_of es)
     → insert_entry nat_cmp es n x ≡ es ++ (n, x) ∷ []
 insert_last n x [] h = refl
 insert_last n x (p ∷ es) h =
-    ap (λ (o : Ordering). match_ordering o ((n, x) ∷ p ∷ es) ((p.0, x) ∷ es) (p ∷ insert_entry nat_cmp es n x))
-    (greater n p.0 (All-head (λ k. k < n) p.0 (keys_of es) h))
-    ∙ ap (λ (t : List (ℕ × Entry)). p ∷ t) (insert_last n x es (All-tail (λ k. k < n) p.0 (keys_of es) h))
-
-cond_append : (b : Bool) (k : ℕ) (xs ys : List ℕ) → cond b (k ∷ (xs ++ ys)) (xs ++ ys) ≡ cond b (k ∷ xs) xs ++ ys
-cond_append true k xs ys = refl
-cond_append false k xs ys = refl
+    grind (arith, nat_tests, All-head (λ k. k < n) p.0 (keys_of es) h, insert_last n x es (All-tail (λ k. k < n) p.0 (keys_of es) h))
 
 -- an examiner's keys in two runs of entries
 own_keys_append : (e : ℕ) (xs ys : List (ℕ × Entry)) → own_keys e (xs ++ ys) ≡ own_keys e xs ++ own_keys e ys
 own_keys_append e [] ys = refl
-own_keys_append e (p ∷ xs) ys =
-    ap (λ (t : List ℕ). cond (eqb (p.1).examiner e) (p.0 ∷ t) t) (own_keys_append e xs ys)
-    ∙ cond_append (eqb (p.1).examiner e) p.0 (own_keys e xs) (own_keys e ys)
+own_keys_append e (p ∷ xs) ys = grind (arith, own_keys_append e xs ys)
 
--- the entries by number with one more at the end, the newest first
+-- the entries by number in two runs, the newest first
+view_parts : (xs ys : List (ℕ × Entry)) → reverse (values_of (xs ++ ys)) ≡ reverse (values_of ys) ++ reverse (values_of xs)
+view_parts xs ys = ap (λ (t : List Entry). reverse t) (map-append (λ (p : ℕ × Entry). p.1) xs ys)
+    ∙ reverse-append (values_of xs) (values_of ys)
+
+-- with one more at the end
 pub view_more : (n : ℕ) (x : Entry) (es : List (ℕ × Entry)) → reverse (values_of (es ++ (n, x) ∷ [])) ≡ x ∷ reverse (values_of es)
-view_more n x es = ap (λ (t : List Entry). reverse t) (map-append (λ (p : ℕ × Entry). p.1) es ((n, x) ∷ []))
-    ∙ reverse-append (values_of es) (x ∷ [])
+view_more n x es = view_parts es ((n, x) ∷ [])
 
 -- the keys with one more at the end
 pub keys_more : (n : ℕ) (x : Entry) (es : List (ℕ × Entry)) → keys_of (es ++ (n, x) ∷ []) ≡ keys_of es ++ n ∷ []
 keys_more n x es = map-append (λ (p : ℕ × Entry). p.0) es ((n, x) ∷ [])
 
-own_cases : (e n : ℕ) (x : Entry) (es : List (ℕ × Entry)) (old new : List ℕ) (b : Bool) → eqb x.examiner e ≡ b → old ≡ own_keys e es
-    → (x.examiner ≡ e → new ≡ old ++ n ∷ []) → (e ≢ x.examiner → new ≡ old) →
-    new ≡ own_keys e es ++ cond b (n ∷ []) []
-own_cases e n x es old new true at was mine other = mine (eqb-true x.examiner e at) ∙ ap (λ (t : List ℕ). t ++ n ∷ []) was
-own_cases e n x es old new false at was mine other = other (λ s. eqb-false x.examiner e at (sym s)) ∙ was ∙ sym (append-nil (own_keys e es))
-
 -- an examiner's keys with one entry more: the new number stands at their end where the entry is its own
 pub own_more : (e n : ℕ) (x : Entry) (es : List (ℕ × Entry)) (old new : List ℕ) → old ≡ own_keys e es
     → (x.examiner ≡ e → new ≡ old ++ n ∷ []) → (e ≢ x.examiner → new ≡ old) →
     new ≡ own_keys e (es ++ (n, x) ∷ [])
-own_more e n x es old new was mine other = own_cases e n x es old new (eqb x.examiner e) refl was mine other
-    ∙ sym (own_keys_append e es ((n, x) ∷ []))
+own_more e n x es old new was mine other = grind (arith, nat_tests, own_keys_append, append-nil)
 
 -- ---- an examiner's last entry
 
@@ -70,30 +56,16 @@ record IsLast (e k : ℕ) (keys : List ℕ) (es : List (ℕ × Entry)) : Type 0 
   pub earlier : own_keys e before ≡ keys
   pub none_later : own_keys e after ≡ []
 
--- behind an entry of another examiner
-last_later : (e k : ℕ) (keys : List ℕ) (p : ℕ × Entry) (es : List (ℕ × Entry)) → eqb (p.1).examiner e ≡ false → IsLast e k keys es
-    → IsLast e k keys (p ∷ es)
-last_later e k keys p es other h = record {
+-- behind another entry
+last_behind : (e k : ℕ) (keys more : List ℕ) (p : ℕ × Entry) (es : List (ℕ × Entry)) (h : IsLast e k keys es)
+    → own_keys e (p ∷ h.before) ≡ more → IsLast e k more (p ∷ es)
+last_behind e k keys more p es h earlier = record {
   before = p ∷ h.before;
   entry = h.entry;
   after = h.after;
   whole = ap (λ (t : List (ℕ × Entry)). p ∷ t) h.whole;
   mine = h.mine;
-  earlier = ap (λ (b : Bool). cond b (p.0 ∷ own_keys e h.before) (own_keys e h.before)) other ∙ h.earlier;
-  none_later = h.none_later;
-}
-
--- behind another entry of its examiner
-last_mine : (e k i : ℕ) (keys : List ℕ) (p : ℕ × Entry) (es : List (ℕ × Entry)) → eqb (p.1).examiner e ≡ true → p.0 ≡ i → IsLast e k keys es
-    → IsLast e k (i ∷ keys) (p ∷ es)
-last_mine e k i keys p es own at h = record {
-  before = p ∷ h.before;
-  entry = h.entry;
-  after = h.after;
-  whole = ap (λ (t : List (ℕ × Entry)). p ∷ t) h.whole;
-  mine = h.mine;
-  earlier = ap (λ (b : Bool). cond b (p.0 ∷ own_keys e h.before) (own_keys e h.before)) own ∙ ap (λ (j : ℕ). j ∷ own_keys e h.before) at
-      ∙ ap (λ (t : List ℕ). i ∷ t) h.earlier;
+  earlier = earlier;
   none_later = h.none_later;
 }
 
@@ -110,11 +82,8 @@ last_here e k p es own at none = record {
   none_later = none;
 }
 
-head_same : (i j : ℕ) (xs ys : List ℕ) → i ∷ xs ≡ j ∷ ys → i ≡ j
-head_same i j xs ys h = cc
-
-tail_same : (i j : ℕ) (xs ys : List ℕ) → i ∷ xs ≡ j ∷ ys → xs ≡ ys
-tail_same i j xs ys h = cc
+pub same_parts : {V : Type 0} (x y : V) (xs ys : List V) → x ∷ xs ≡ y ∷ ys → (x ≡ y) × (xs ≡ ys)
+same_parts x y xs ys h = ((cc), (cc))
 
 no_last : (k : ℕ) (keys : List ℕ) → [] ≡ keys ++ k ∷ [] → ⊥
 no_last k [] h = cc
@@ -123,11 +92,14 @@ no_last k (i ∷ keys) h = cc
 last_step : (e k : ℕ) (keys : List ℕ) (p : ℕ × Entry) (es : List (ℕ × Entry)) (b : Bool) → eqb (p.1).examiner e ≡ b
     → cond b (p.0 ∷ own_keys e es) (own_keys e es) ≡ keys ++ k ∷ [] →
     ((older : List ℕ) → own_keys e es ≡ older ++ k ∷ [] → IsLast e k older es) → IsLast e k keys (p ∷ es)
-last_step e k keys p es false at h rest = last_later e k keys p es at (rest keys h)
-last_step e k [] p es true at h rest = last_here e k p es at (head_same p.0 k (own_keys e es) [] h) (tail_same p.0 k (own_keys e es) [] h)
+last_step e k keys p es false at h rest =
+    let l = rest keys h in
+    last_behind e k keys keys p es l (grind (arith, l.earlier))
+last_step e k [] p es true at h rest = let parts = same_parts p.0 k (own_keys e es) [] h in last_here e k p es at parts.0 parts.1
 last_step e k (i ∷ keys) p es true at h rest =
-    last_mine e k i keys p es at (head_same p.0 i (own_keys e es) (keys ++ k ∷ []) h)
-    (rest keys (tail_same p.0 i (own_keys e es) (keys ++ k ∷ []) h))
+    let parts = same_parts p.0 i (own_keys e es) (keys ++ k ∷ []) h in
+    let l = rest keys parts.1 in
+    last_behind e k keys (i ∷ keys) p es l (grind (arith, l.earlier, parts.0))
 
 -- where k is the last of an examiner's keys
 last_of : (e k : ℕ) (keys : List ℕ) (es : List (ℕ × Entry)) → own_keys e es ≡ keys ++ k ∷ [] → IsLast e k keys es
@@ -138,9 +110,6 @@ last_of e k keys (p ∷ es) h = last_step e k keys p es (eqb (p.1).examiner e) r
 
 missed : (i k : ℕ) → nat_cmp i k ≡ Less → is_at (nat_cmp k) i ≡ false
 missed i k h = grind (arith, nat_tests)
-
-hit : (k : ℕ) → is_at (nat_cmp k) k ≡ true
-hit k = grind (arith, nat_tests)
 
 -- a key below all that follow is below k
 below_last : (k i : ℕ) (x : Entry) (xs ys : List (ℕ × Entry)) → AllByRecursion (λ (j : ℕ). nat_cmp i j ≡ Less) (keys_of (xs ++ (k, x) ∷ ys))
@@ -157,16 +126,13 @@ none_before k x (p ∷ xs) ys h = (missed p.0 k (below_last k p.0 x xs ys h.0), 
 
 removed_at : (k : ℕ) (x : Entry) (xs ys : List (ℕ × Entry)) → NonePasses (is_at (nat_cmp k)) xs
     → remove_entry (is_at (nat_cmp k)) (xs ++ (k, x) ∷ ys) ≡ xs ++ ys
-removed_at k x [] ys h = ap (λ (b : Bool). cond b ys ((k, x) ∷ remove_entry (is_at (nat_cmp k)) ys)) (hit k)
-removed_at k x (p ∷ xs) ys h =
-    ap (λ (b : Bool). cond b (xs ++ (k, x) ∷ ys) (p ∷ remove_entry (is_at (nat_cmp k)) (xs ++ (k, x) ∷ ys))) h.0
-    ∙ ap (λ (t : List (ℕ × Entry)). p ∷ t) (removed_at k x xs ys h.1)
+removed_at k x [] ys h = grind (arith, nat_tests)
+removed_at k x (p ∷ xs) ys h = grind (arith, h.0, removed_at k x xs ys h.1)
 
 found_at : (k : ℕ) (x : Entry) (xs ys : List (ℕ × Entry)) → NonePasses (is_at (nat_cmp k)) xs
     → lookup (is_at (nat_cmp k)) (xs ++ (k, x) ∷ ys) ≡ Some x
-found_at k x [] ys h = ap (λ (b : Bool). cond b (Some x) (lookup (is_at (nat_cmp k)) ys)) (hit k)
-found_at k x (p ∷ xs) ys h =
-    ap (λ (b : Bool). cond b (Some (p.1)) (lookup (is_at (nat_cmp k)) (xs ++ (k, x) ∷ ys))) h.0 ∙ found_at k x xs ys h.1
+found_at k x [] ys h = grind (arith, nat_tests)
+found_at k x (p ∷ xs) ys h = grind (arith, h.0, found_at k x xs ys h.1)
 
 -- the last entry is what its key finds
 last_found : (e k : ℕ) (keys : List ℕ) (es : List (ℕ × Entry)) → IsStrictlySortedBy nat_cmp (keys_of es) → (l : IsLast e k keys es)
@@ -184,61 +150,32 @@ last_removed e k keys es sorted l =
 
 -- the keys of the examiner that are left
 mine_left : (e k : ℕ) (keys : List ℕ) (es : List (ℕ × Entry)) → (l : IsLast e k keys es) → own_keys e (l.before ++ l.after) ≡ keys
-mine_left e k keys es l =
-    own_keys_append e l.before l.after ∙ ap (λ (t : List ℕ). own_keys e l.before ++ t) l.none_later ∙ append-nil (own_keys e l.before)
-    ∙ l.earlier
+mine_left e k keys es l = grind (arith, own_keys_append e l.before l.after, l.none_later, l.earlier, append-nil)
 
 -- another examiner's keys stay
 others_left : (e k f : ℕ) (keys : List ℕ) (es : List (ℕ × Entry)) → f ≢ e → (l : IsLast e k keys es)
     → own_keys f (l.before ++ l.after) ≡ own_keys f es
 others_left e k f keys es other l =
-    own_keys_append f l.before l.after
-    ∙ ap (λ (b : Bool). own_keys f l.before ++ cond b (k ∷ own_keys f l.after) (own_keys f l.after))
-    (sym (ne_eqb l.entry.examiner f (λ s. other (sym s ∙ l.mine))))
-    ∙ sym (own_keys_append f l.before ((k, l.entry) ∷ l.after))
-    ∙ ap (own_keys f) (sym l.whole)
-
-keys_cases : (e k f : ℕ) (keys : List ℕ) (es : List (ℕ × Entry)) (l : IsLast e k keys es) (now : List ℕ) (b : Bool) → eqb f e ≡ b
-    → (f ≡ e → now ≡ keys) → (f ≢ e → now ≡ own_keys f es) →
-    now ≡ own_keys f (l.before ++ l.after)
-keys_cases e k f keys es l now true at mine other =
-    let s = eqb-true f e at in mine s ∙ sym (mine_left e k keys es l) ∙ ap (λ (g : ℕ). own_keys g (l.before ++ l.after)) (sym s)
-keys_cases e k f keys es l now false at mine other =
-    let o = eqb-false f e at in other o ∙ sym (others_left e k f keys es o l)
+    let whole = ap (λ (t : List (ℕ × Entry)). own_keys f t) l.whole in
+    grind (arith, nat_tests, own_keys_append f l.before l.after, own_keys_append f l.before ((k, l.entry) ∷ l.after), l.mine)
 
 view_around : (k : ℕ) (x : Entry) (xs ys : List (ℕ × Entry))
     → reverse (values_of (xs ++ (k, x) ∷ ys)) ≡ reverse (values_of ys) ++ x ∷ reverse (values_of xs)
 view_around k x xs ys =
-    ap (λ (t : List Entry). reverse t) (map-append (λ (p : ℕ × Entry). p.1) xs ((k, x) ∷ ys))
-    ∙ reverse-append (values_of xs) (x ∷ values_of ys)
+    view_parts xs ((k, x) ∷ ys)
     ∙ ap (λ (t : List Entry). t ++ reverse (values_of xs)) (reverse-append (x ∷ []) (values_of ys))
     ∙ append_assoc (reverse (values_of ys)) (x ∷ []) (reverse (values_of xs))
 
-view_without : (xs ys : List (ℕ × Entry)) → reverse (values_of (xs ++ ys)) ≡ reverse (values_of ys) ++ reverse (values_of xs)
-view_without xs ys = ap (λ (t : List Entry). reverse t) (map-append (λ (p : ℕ × Entry). p.1) xs ys)
-    ∙ reverse-append (values_of xs) (values_of ys)
-
 -- ---- an examiner with no entry
-
-none_head : (b : Bool) (k : ℕ) (xs : List ℕ) → cond b (k ∷ xs) xs ≡ [] → (b ≡ false) × (xs ≡ [])
-none_head true k xs h = absurd (cc)
-none_head false k xs h = (refl, h)
 
 -- who has no key has no entry
 none_of : (e : ℕ) (es : List (ℕ × Entry)) → own_keys e es ≡ [] → without e (values_of es) ≡ values_of es
 none_of e [] h = refl
-none_of e (p ∷ es) h =
-    let k = none_head (eqb (p.1).examiner e) p.0 (own_keys e es) h in
-    ap (λ (b : Bool). cond (not b) (p.1 ∷ without e (values_of es)) (without e (values_of es))) k.0
-    ∙ ap (λ (t : List Entry). p.1 ∷ t) (none_of e es k.1)
-
-turned_cond : {V : Type 0} (b : Bool) (x : V) (xs ys : List V) → reverse_aux xs (cond b (x ∷ ys) ys) ≡ reverse_aux (cond b (x ∷ xs) xs) ys
-turned_cond true x xs ys = refl
-turned_cond false x xs ys = refl
+none_of e (p ∷ es) h = grind (arith, none_of e es)
 
 pub filter_turned : {V : Type 0} (p : V → Bool) (xs ys : List V) → filter p (reverse_aux xs ys) ≡ reverse_aux (filter p xs) (filter p ys)
 filter_turned p [] ys = refl
-filter_turned p (x ∷ xs) ys = filter_turned p xs (x ∷ ys) ∙ turned_cond (p x) x (filter p xs) (filter p ys)
+filter_turned p (x ∷ xs) ys = grind (arith, filter_turned p xs (x ∷ ys))
 
 -- without the entries of one who has none they are what they were
 pub none_gone : (e : ℕ) (es : List (ℕ × Entry)) → own_keys e es ≡ [] → without e (reverse (values_of es)) ≡ reverse (values_of es)
@@ -254,7 +191,7 @@ last_more e k keys es l = (
   reverse (values_of l.after),
   reverse (values_of l.before),
   ap (λ (t : List (ℕ × Entry)). reverse (values_of t)) l.whole ∙ view_around k l.entry l.before l.after,
-  view_without l.before l.after,
+  view_parts l.before l.after,
   none_gone e l.after l.none_later,
 )
 
@@ -272,7 +209,10 @@ last_taken e k keys es l = record {
   taken = λ view h. subst (λ (t : List Entry). IsNewest e l.entry (reverse (values_of (l.before ++ l.after))) t) h
       (last_more e k keys es l);
   some = tt;
-  keys_are = λ f now mine other. keys_cases e k f keys es l now (eqb f e) refl mine other;
+  keys_are = λ f now mine other. elim (cases_eq f e) [
+    | inl same ↦ mine same ∙ sym (mine_left e k keys es l) ∙ ap (λ (g : ℕ). own_keys g (l.before ++ l.after)) (sym same)
+    | inr o ↦ other o ∙ sym (others_left e k f keys es o l)
+  ];
 }
 
 -- what there is, nothing is said of where there is none
@@ -304,13 +244,9 @@ last_kept m e n keys last = go (get nat_cmp m e) last
 -- with one number more of an examiner's nobody is kept with none, if no other was
 pub kept_more : (m : BTreeMap ℕ (Vec ℕ)) (e x n : ℕ) (keys : List ℕ) → numbers_of m x ≡ keys ++ n ∷ []
     → (e ≢ x → is_empty_kept m e ≡ false) → is_empty_kept m e ≡ false
-kept_more m e x n keys own other = go (eqb e x) refl
-  where
-    go : (b : Bool) → eqb e x ≡ b → is_empty_kept m e ≡ false
-    go true s = ap (is_empty_kept m) (eqb-true e x s) ∙ last_kept m x n keys own
-    go false s = other (eqb-false e x s)
+kept_more m e x n keys own other = grind (arith, nat_tests, last_kept m x n keys own)
 
 -- without an examiner nobody is kept with none, if nobody was
 pub kept_without : (m l : BTreeMap ℕ (Vec ℕ)) (e x : ℕ) → is_empty_kept l e ≡ (not (eqb e x) && is_empty_kept m e)
     → is_empty_kept m e ≡ false → is_empty_kept l e ≡ false
-kept_without m l e x left none = left ∙ ap (λ (b : Bool). not (eqb e x) && b) none ∙ and_none (not (eqb e x))
+kept_without m l e x left none = left ∙ ap (λ (b : Bool). not (eqb e x) && b) none ∙ and-false (not (eqb e x))

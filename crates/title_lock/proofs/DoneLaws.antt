@@ -1,18 +1,15 @@
 -- What is done at one node, and along one part of a walk and then another, is done along both.
 use Rattle.std.proofs.Common.{◌≡◌, ℕ, Bool, true, false, cond, not, ◌&&◌, ◌||◌, List, [], ◌∷◌, ◌++◌, Option, Some, None, eqb, refl, sym, ap}
-use Rattle.std.proofs.{Common.{subst, ◌∙◌, inl, inr, true≢false, append_assoc, append-nil}, lemmas.Bool.{or_cases, or_left, or_right}}
-use Rattle.std.proofs.lemmas.List.Folds.{list_any-append}
+use Rattle.std.proofs.{Common.{subst, ◌∙◌, true≢false, append_assoc, append-nil}, lemmas.Bool.{or_left, or_right}}
+use Rattle.std.proofs.{Common.{arith}, lemmas.List.Folds.{list_any-append}}
+use mathlib.Core.Bool.{or-false}
 use Rattle.title_land.specs.{declared.node.Node.{Node}, Nodes.{same_node}}
 use Rattle.title_lock.specs.{declared.modes.Mode.{Mode}, Modes.{bound}, Holders.{clashes}, Overlaps.{IsLeast, least}}
 use Rattle.title_lock.specs.Tables.{HeldAt, table_mode, table_room, is_idle, KeepsRoom, HasRoom, IdleMore, IdleLess}
-use Rattle.title_lock.specs.Walks.{Asked, mode_for, asked_in, asks_in, clashes_in, Roomed, Raised, TakenOut}
-use Rattle.title_lock.proofs.{AccessLaws.{rest_none, rest_join, gone_join}, LeastLaws.{least_join, least_same}}
-use Rattle.title_lock.proofs.{IdleLaws.{less_same, less_join, more_same, more_join, more_wider}, NodeLaws.{same_self, same_true}}
+use Rattle.title_lock.specs.Walks.{Asked, mode_for, asks_in, clashes_in, Roomed, Raised, TakenOut}
+use Rattle.title_lock.proofs.{AccessLaws.{gone_off}, ModeLaws.{bound_assoc, bound_none}, LeastLaws.{least_join, least_same}}
+use Rattle.title_lock.proofs.{IdleLaws.{less_same, less_join, more_same, more_wider}, NodeLaws.{same_self, same_true}}
 use Rattle.title_lock.proofs.WalkLaws.{asked_append, asks_append}
-
-or_none : (a : Bool) → (a || false) ≡ a
-or_none true = refl
-or_none false = refl
 
 -- one test in place of another that passes the same nodes
 pub less_is : (t u : HeldAt) (e : ℕ) (p r : Node → Bool) → ((n : Node) → p n ≡ r n) → IdleLess t u e p → IdleLess t u e r
@@ -32,7 +29,7 @@ way_none p held e f other = refl
 pub way_one : (p own : Bool) (held : ℕ → Node → Option Mode) (e : ℕ) (c : Node) (w : Option ℕ)
     → IsLeast (λ f. clashes (mode_for p own) (held f c)) e w → IsLeast (λ f. clashes_in p (held f) ((c, own) ∷ [])) e w
 way_one p own held e c w h = least_same (λ f. clashes (mode_for p own) (held f c)) (λ f. clashes_in p (held f) ((c, own) ∷ [])) e w
-    (λ f other. sym (or_none (clashes (mode_for p own) (held f c)))) h
+    (λ f other. sym (or-false (clashes (mode_for p own) (held f c)))) h
 
 pub way_join : (p : Bool) (held : ℕ → Node → Option Mode) (e : ℕ) (l r : List Asked) (v w : Option ℕ)
     → IsLeast (λ f. clashes_in p (held f) l) e v → IsLeast (λ f. clashes_in p (held f) r) e w
@@ -59,22 +56,16 @@ pub roomed_join : (t u v : HeldAt) (e : ℕ) (l r : List Asked) → Roomed t u e
 roomed_join t u v e l r first then = record {
   modes = λ f n. then.modes f n ∙ first.modes f n;
   stays = λ f n room. then.stays f n (first.stays f n room);
-  idle = more_join t u v e (asks_in r) (asks_in (l ++ r))
-      (λ n asks. asks_append l r n ∙ or_right (asks_in l n) (asks_in r n) asks)
-      (more_wider t u e (asks_in l) (asks_in (l ++ r)) (λ n asks. asks_append l r n ∙ or_left (asks_in l n) (asks_in r n) asks)
-      first.idle) then.idle;
+  idle = record { more = λ f n idle. grind (arith, first.idle.more f n, then.idle.more f n, asks_append l r n) };
 }
 
 pub room_one : (t : HeldAt) (e : ℕ) (own : Bool) (c : Node) → table_room t e c ≡ true → HasRoom t e (asks_in ((c, own) ∷ []))
 room_one t e own c room n asks =
-    ap (λ (z : Node). table_room t e z) (same_true n c (sym (or_none (same_node n c)) ∙ asks)) ∙ room
+    ap (λ (z : Node). table_room t e z) (same_true n c (sym (or-false (same_node n c)) ∙ asks)) ∙ room
 
 pub room_join : (t : HeldAt) (e : ℕ) (l r : List Asked) → HasRoom t e (asks_in l) → HasRoom t e (asks_in r)
     → HasRoom t e (asks_in (l ++ r))
-room_join t e l r first then n asks = elim (or_cases (asks_in l n) (asks_in r n) (sym (asks_append l r n) ∙ asks)) [
-  | inl left ↦ first n left
-  | inr right ↦ then n right
-]
+room_join t e l r first then n asks = grind (arith, first n, then n, asks_append l r n)
 
 pub room_front : (t : HeldAt) (e : ℕ) (l r : List Asked) → HasRoom t e (asks_in (l ++ r)) → HasRoom t e (asks_in l)
 room_front t e l r room n asks = room n (asks_append l r n ∙ or_left (asks_in l n) (asks_in r n) asks)
@@ -84,14 +75,9 @@ room_back t e l r room n asks = room n (asks_append l r n ∙ or_right (asks_in 
 
 -- ---- modes
 
-one_asked : (b s : Bool) (m : Mode) → cond (b && s) (Some m) None ≡ cond b (bound (cond s (Some m) None) None) None
-one_asked true true m = refl
-one_asked true false m = refl
-one_asked false s m = refl
-
 pub raised_none : (t : HeldAt) (e : ℕ) (p : Bool) → Raised t t e p []
 raised_none t e p = record {
-  modes = λ f n. rest_none (eqb f e) (table_mode t f n);
+  modes = λ f n. grind (arith, bound_none);
   stays = λ f n room. room;
   idle = less_same t e (asks_in []) (λ n. refl);
 }
@@ -101,30 +87,23 @@ pub raised_one : (t u : HeldAt) (e : ℕ) (p own : Bool) (c : Node)
     ≡ bound (table_mode t f n) (cond (eqb f e && same_node n c) (Some (mode_for p own)) None))
     → KeepsRoom t u → IdleLess t u e (λ n. same_node n c) → Raised t u e p ((c, own) ∷ [])
 raised_one t u e p own c modes stays idle = record {
-  modes = λ f n. modes f n ∙ ap (bound (table_mode t f n)) (one_asked (eqb f e) (same_node n c) (mode_for p own));
+  modes = λ f n. grind (arith, modes f n);
   stays = stays;
-  idle = less_is t u e (λ n. same_node n c) (asks_in ((c, own) ∷ [])) (λ n. sym (or_none (same_node n c))) idle;
+  idle = less_is t u e (λ n. same_node n c) (asks_in ((c, own) ∷ [])) (λ n. sym (or-false (same_node n c))) idle;
 }
 
 pub raised_join : (t u v : HeldAt) (e : ℕ) (p : Bool) (l r : List Asked) → Raised t u e p l → Raised u v e p r → Raised t v e p (l ++ r)
 raised_join t u v e p l r first then = record {
-  modes = λ f n. then.modes f n
-      ∙ ap (λ (z : Option Mode). bound z (cond (eqb f e) (asked_in p r n) None)) (first.modes f n)
-      ∙ rest_join (eqb f e) (table_mode t f n) (asked_in p l n) (asked_in p r n)
-      ∙ ap (λ (z : Option Mode). bound (table_mode t f n) (cond (eqb f e) z None)) (sym (asked_append p l r n));
+  modes = λ f n. grind (arith, first.modes f n, then.modes f n, asked_append p l r n, bound_assoc, bound_none);
   stays = λ f n room. then.stays f n (first.stays f n room);
   idle = less_join t u v e (asks_in l) (asks_in r) (asks_in (l ++ r)) (λ n. sym (asks_append l r n)) first.idle then.idle;
 }
 
 -- ---- and taken out
 
-nothing_gone : (b : Bool) (r : Option Mode) → r ≡ cond (b && false) None r
-nothing_gone true r = refl
-nothing_gone false r = refl
-
 pub taken_none : (t : HeldAt) (e : ℕ) (m : Bool) → TakenOut t t e m []
 taken_none t e m = record {
-  gone = λ f n. nothing_gone (m && eqb f e) (table_mode t f n);
+  gone = λ f n. gone_off (m && eqb f e) (table_mode t f n);
   idle = less_same t e (asks_in []) (λ n. refl);
 }
 
@@ -132,17 +111,14 @@ pub taken_one : (t u : HeldAt) (e : ℕ) (m own : Bool) (c : Node)
     → ((f : ℕ) (n : Node) → table_mode u f n ≡ cond (m && eqb f e && same_node n c) None (table_mode t f n))
     → IdleLess t u e (λ n. same_node n c) → TakenOut t u e m ((c, own) ∷ [])
 taken_one t u e m own c gone idle = record {
-  gone = λ f n. gone f n ∙ ap (λ (z : Bool). cond (m && eqb f e && z) None (table_mode t f n)) (sym (or_none (same_node n c)));
-  idle = less_is t u e (λ n. same_node n c) (asks_in ((c, own) ∷ [])) (λ n. sym (or_none (same_node n c))) idle;
+  gone = λ f n. grind (arith, gone f n);
+  idle = less_is t u e (λ n. same_node n c) (asks_in ((c, own) ∷ [])) (λ n. sym (or-false (same_node n c))) idle;
 }
 
 pub taken_join : (t u v : HeldAt) (e : ℕ) (m : Bool) (l r : List Asked) → TakenOut t u e m l → TakenOut u v e m r
     → TakenOut t v e m (l ++ r)
 taken_join t u v e m l r first then = record {
-  gone = λ f n. then.gone f n
-      ∙ ap (λ (z : Option Mode). cond (m && eqb f e && asks_in r n) None z) (first.gone f n)
-      ∙ gone_join (m && eqb f e) (asks_in l n) (asks_in r n) (table_mode t f n)
-      ∙ ap (λ (z : Bool). cond (m && eqb f e && z) None (table_mode t f n)) (sym (asks_append l r n));
+  gone = λ f n. grind (arith, first.gone f n, then.gone f n, asks_append l r n);
   idle = less_join t u v e (asks_in l) (asks_in r) (asks_in (l ++ r)) (λ n. sym (asks_append l r n)) first.idle then.idle;
 }
 

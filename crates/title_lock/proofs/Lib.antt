@@ -3,13 +3,12 @@ pub mod NodeLaws
 pub mod Overlap
 pub mod AccessLaws
 pub mod TableLaws
-pub mod SectionLaws
 pub mod HomeLaws
 pub mod IdleLaws
 pub mod NumberLaws
 pub mod SpotLaws
-pub mod WayLaws
 pub mod WalkLaws
+pub mod WayLaws
 pub mod DoneLaws
 pub mod Shelves
 pub mod BookLaws

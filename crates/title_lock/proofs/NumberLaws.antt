@@ -1,6 +1,6 @@
 -- A node lies above another exactly where it is met on the way up by numbers.
-use Rattle.std.{proofs.Common.{◌≡◌, ◌≢◌, ◌<◌, ◌≤◌, ℕ, Bool, true, false, ◌||◌, List, eqb, refl, sym, ap, ◌∙◌, arith}, specs.List.{list_any}}
-use Rattle.std.proofs.lemmas.Bool.{or_from, or_left, false_from_ne_true, eqb-true, eqb-false}
+use Rattle.std.proofs.Common.{◌≡◌, ◌≢◌, ◌<◌, ◌≤◌, ℕ, true, false, ◌||◌, eqb, sym, ap, ◌∙◌, arith}
+use Rattle.std.proofs.lemmas.Bool.{false_from_ne_true, Decides.{nat_tests}}
 use Rattle.title_land.specs.{declared.node.Node.{Node}, Nodes.{same_node, is_above}, NodeNumbers.{node_number, number_above}}
 use Rattle.title_land.specs.Laws.NodeNumbers.{numbers_tell_nodes, node_above, above_less}
 use Rattle.title_lock.proofs.NodeLaws.{same_self, same_true, above_of}
@@ -24,7 +24,7 @@ pub way_begins : (n o : Node) (k : ℕ) → k ≡ node_number o → node_number 
 way_begins n o k is less = record {
   at = o;
   numbered = is;
-  way = ap (λ (b : Bool). b || is_above n o) (not_same n o k is (λ e. omega (arith, e, less)));
+  way = grind (arith, not_same n o k is);
 }
 
 -- one node up
@@ -34,23 +34,13 @@ way_goes n o k less w =
     record {
       at = p.parent;
       numbered = p.numbered;
-      way = ap (λ (z : List Node). list_any (same_node n) z) (sym (above_of w.at p.parent p.is))
-          ∙ sym (ap (λ (b : Bool). b || is_above n w.at) (not_same n w.at k w.numbered (λ e. omega (arith, e, less))))
-          ∙ w.way;
+      way = grind (arith, above_of w.at p.parent p.is, not_same n w.at k w.numbered, w.way);
     }
 
 -- where numbers have come down to a node's own, it lies above exactly where they meet
 pub way_ends : (n o : Node) (k : ℕ) → k ≤ node_number n → IsOnWay n o k → eqb k (node_number n) ≡ is_above n o
-way_ends n o k low w = go (eqb k (node_number n)) refl
-  where
-    go : (b : Bool) → eqb k (node_number n) ≡ b → b ≡ is_above n o
-    go true e =
-        let same : n ≡ w.at = numbers_tell_nodes n w.at (sym (eqb-true k (node_number n) e) ∙ w.numbered) in
-        sym (or_left (same_node n n) (is_above n n) (same_self n)) ∙ ap (λ (z : Node). same_node n z || is_above n z) same ∙ w.way
-    go false e = sym (or_from (same_node n w.at) (is_above n w.at)
-        (not_same n w.at k w.numbered (eqb-false k (node_number n) e))
-        (false_from_ne_true (is_above n w.at) (λ up. let less = above_less w.at n up in
-        omega (arith, less, low, w.numbered)))) ∙ w.way
+way_ends n o k low w =
+    grind (arith, nat_tests, w.numbered, w.way, numbers_tell_nodes n w.at, same_self n, number_is n w.at, above_less w.at n)
 
 -- a node whose number isn't less lies above none
 pub not_above : (n o : Node) → node_number o ≤ node_number n → false ≡ is_above n o

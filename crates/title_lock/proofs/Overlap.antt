@@ -1,8 +1,9 @@
 -- An entry is granted by modes exactly where no other examiner's entry overlaps it.
-use Rattle.std.proofs.Common.{◌≡◌, ◌≢◌, ℕ, Bool, true, false, cond, ◌&&◌, ◌||◌, List, [], ◌∷◌, Option, Some, None, is_some, eqb, refl, sym}
-use Rattle.std.{proofs.{Common.{ap, subst, ◌∙◌, inl, inr}, lemmas.Bool.{eqb-true}}, specs.List.{list_any}}
-use Rattle.std.proofs.lemmas.Bool.{and_parts, and_from, or_parts, or_from, or_left, or_right, or_cases, false_from_ne_true, both_ways}
+use Rattle.std.proofs.Common.{◌≡◌, ◌≢◌, ℕ, Bool, true, false, cond, ◌&&◌, ◌||◌, ◌↔◌, List, [], ◌∷◌, Option, Some, None, is_some, eqb, refl}
+use Rattle.std.{proofs.{Common.{sym, ap, ◌∙◌, inl, inr, arith}, lemmas.Bool.{eqb-true}}, specs.List.{list_any}}
+use Rattle.std.proofs.lemmas.Bool.{and_parts, and_from, or_parts, or_from, or_left, or_right, or_cases, false_from_ne_true}
 use Rattle.std.proofs.lemmas.List.Elements.{All-head, All-tail}
+use mathlib.Core.Bool.{and-false, or_comm}
 use Rattle.title_land.specs.{declared.{node.Node.{Node}, tract.Land.{Land}}, Nodes.{same_node, is_above, are_related}}
 use Rattle.title_land.specs.Lands.{cover_of, meets, IsLand}
 use Rattle.title_lock.specs.{declared.{modes.Mode.{Mode, TheVariants.{Is, S}}, guards.Entry.{Entry}}, Modes.{bound, allows}}
@@ -25,37 +26,17 @@ abbrev pub Allow : (Node → Option Mode) → (Node → Option Mode) → Type 0
 Allow a b = (n : Node) → allows (a n) (b n) ≡ true
 
 reads_fit : (s a s' a' : Bool) → allows (cond s (Some S) (cond a (Some Is) None)) (cond s' (Some S) (cond a' (Some Is) None)) ≡ true
-reads_fit true a true a' = refl
-reads_fit true a false true = refl
-reads_fit true a false false = refl
-reads_fit false true true a' = refl
-reads_fit false true false true = refl
-reads_fit false true false false = refl
-reads_fit false false s' a' = refl
+reads_fit s a s' a' = grind arith
 
 apart_fit : (p q s a s' a' : Bool) → (s ≡ true → (s' || a') ≡ false) → (s' ≡ true → (s || a) ≡ false) →
     allows (cond s (Some (own_mode p)) (cond a (Some (above_mode p)) None))
     (cond s' (Some (own_mode q)) (cond a' (Some (above_mode q)) None)) ≡ true
-apart_fit p q true a true a' h k = absurd (let e = h refl in cc)
-apart_fit p q true a false true h k = absurd (let e = h refl in cc)
-apart_fit p q true a false false h k = refl
-apart_fit p q false true true a' h k = absurd (let e = k refl in cc)
-apart_fit true true false true false true h k = refl
-apart_fit true false false true false true h k = refl
-apart_fit false true false true false true h k = refl
-apart_fit false false false true false true h k = refl
-apart_fit p q false true false false h k = refl
-apart_fit p q false false s' a' h k = refl
+apart_fit p q s a s' a' h k = grind arith
 
 nodes_apart : (p q : Bool) (c d : Node) → are_related c d ≡ false → Allow (asked_for p c) (asked_for q d)
 nodes_apart p q c d h n =
-    let parts = or_parts (same_node c d) (is_above c d || is_above d c) h in
-    let ups = or_parts (is_above c d) (is_above d c) parts.1 in
     apart_fit p q (same_node n c) (is_above n c) (same_node n d) (is_above n d)
-    (λ t. subst (λ (z : Node). (same_node z d || is_above z d) ≡ false) (sym (same_true n c t))
-    (or_from (same_node c d) (is_above c d) parts.0 ups.0))
-    (λ t. subst (λ (z : Node). (same_node z c || is_above z c) ≡ false) (sym (same_true n d t))
-    (or_from (same_node d c) (is_above d c) (same_turned c d parts.0) ups.1))
+    (λ t. grind (arith, same_true n c t)) (λ t. grind (arith, same_true n d t, same_turned c d))
 
 nodes_fit : (p q : Bool) (c d : Node) → ((p || q) && are_related c d) ≡ false → Allow (asked_for p c) (asked_for q d)
 nodes_fit true q c d h = nodes_apart true q c d h
@@ -64,31 +45,13 @@ nodes_fit false false c d h = λ n. reads_fit (same_node n c) (is_above n c) (sa
 
 own_refuses : (p q s a : Bool) → (p || q) ≡ true → (s || a) ≡ true →
     allows (Some (own_mode p)) (cond s (Some (own_mode q)) (cond a (Some (above_mode q)) None)) ≡ false
-own_refuses true true true a h k = refl
-own_refuses true true false true h k = refl
-own_refuses true false true a h k = refl
-own_refuses true false false true h k = refl
-own_refuses false true true a h k = refl
-own_refuses false true false true h k = refl
-own_refuses p q false false h k = absurd cc
-own_refuses false false true a h k = absurd cc
-own_refuses false false false true h k = absurd cc
+own_refuses p q s a h k = grind arith
 
 -- where c is d or lies above it, the two are at odds at c
 at_odds : (p q : Bool) (c d : Node) → (p || q) ≡ true → (same_node c d || is_above c d) ≡ true → Allow (asked_for p c) (asked_for q d) → ⊥
-at_odds p q c d h k fit =
-    both_ways (allows (asked_for p c c) (asked_for q d c))
-    (ap (λ (b : Bool). allows (cond b (Some (own_mode p)) (cond (is_above c c) (Some (above_mode p)) None)) (asked_for q d c)) (same_self c)
-    ∙ own_refuses p q (same_node c d) (is_above c d) h k)
-    (fit c)
+at_odds p q c d h k fit = grind (arith, own_refuses p q (same_node c d) (is_above c d) h k, same_self c, fit c)
 
-or_turned : (p q : Bool) → (p || q) ≡ true → (q || p) ≡ true
-or_turned true true h = refl
-or_turned true false h = refl
-or_turned false true h = refl
-or_turned false false h = h
-
-pub allow_turn : (a b : Node → Option Mode) → Allow a b → Allow b a
+allow_turn : (a b : Node → Option Mode) → Allow a b → Allow b a
 allow_turn a b h n = allows_turn (b n) (a n) ∙ h n
 
 nodes_clear : (p q : Bool) (c d : Node) → Allow (asked_for p c) (asked_for q d) → ((p || q) && are_related c d) ≡ false
@@ -99,7 +62,7 @@ nodes_clear p q c d fit =
       | inl same ↦ at_odds p q c d k.0 (or_left (same_node c d) (is_above c d) same) fit
       | inr apart ↦ elim (or_cases (is_above c d) (is_above d c) apart) [
         | inl up ↦ at_odds p q c d k.0 (or_right (same_node c d) (is_above c d) up) fit
-        | inr down ↦ at_odds q p d c (or_turned p q k.0) (or_right (same_node d c) (is_above d c) down)
+        | inr down ↦ at_odds q p d c (or_comm q p ∙ k.0) (or_right (same_node d c) (is_above d c) down)
             (allow_turn (asked_for p c) (asked_for q d) fit)
       ]
     ])
@@ -119,93 +82,60 @@ allow_parts a b c h = (
   (λ n. (and_parts (allows (a n) (c n)) (allows (b n) (c n)) (sym (bound_allows (a n) (b n) (c n)) ∙ h n)).1),
 )
 
-and_split : (b x y : Bool) → (b && (x || y)) ≡ false → ((b && x) ≡ false) × ((b && y) ≡ false)
-and_split true x y h = or_parts x y h
-and_split false x y h = (refl, refl)
+-- and on the other side
+allow_with : (a b c : Node → Option Mode) → Allow a b → Allow a c → Allow a (λ n. bound (b n) (c n))
+allow_with a b c h k = allow_turn (λ n. bound (b n) (c n)) a (allow_bound b c a (allow_turn a b h) (allow_turn a c k))
 
-and_join : (b x y : Bool) → (b && x) ≡ false → (b && y) ≡ false → (b && (x || y)) ≡ false
-and_join true x y h k = or_from x y h k
-and_join false x y h k = refl
+pub allow_of : (a b c : Node → Option Mode) → Allow a (λ n. bound (b n) (c n)) → Allow a b × Allow a c
+allow_of a b c h =
+    let parts = allow_parts b c a (allow_turn a (λ n. bound (b n) (c n)) h) in (allow_turn b a parts.0, allow_turn c a parts.1)
 
-pub and_none : (b : Bool) → (b && false) ≡ false
-and_none true = refl
-and_none false = refl
+turned : {X : Type 0} (a b : Node → Option Mode) → (X ↔ Allow a b) → X ↔ Allow b a
+turned a b h = ((λ x. allow_turn a b (h.0 x)), (λ k. h.1 (allow_turn b a k)))
 
-none_fit : (a : Node → Option Mode) → Allow a (λ n. None)
-none_fit a n = allows_none (a n)
+-- where a node stands beside what is held exactly if it fails a test, nodes do if each fails it
+asked_stands : (b p : Bool) (test : Node → Bool) (held : Node → Option Mode)
+    → ((c : Node) → ((b && test c) ≡ false) ↔ Allow (asked_for p c) held) → (t : List Node)
+    → ((b && list_any test t) ≡ false) ↔ Allow (asked p t) held
+asked_stands b p test held each [] = ((λ h n. refl), (λ h. and-false b))
+asked_stands b p test held each (c ∷ t) =
+    let rest = asked_stands b p test held each t in (
+      (λ h. allow_bound (asked_for p c) (asked p t) held ((each c).0 (grind arith)) (rest.0 (grind arith))),
+      (λ h. let k = allow_parts (asked_for p c) (asked p t) held h in grind (arith, (each c).1 k.0, rest.1 k.1)),
+    )
 
-node_fit : (p q : Bool) (c : Node) (u : List Node) → ((p || q) && list_any (are_related c) u) ≡ false → Allow (asked_for p c) (asked q u)
-node_fit p q c [] h = none_fit (asked_for p c)
-node_fit p q c (d ∷ u) h =
-    let k = and_split (p || q) (are_related c d) (list_any (are_related c) u) h in
-    allow_turn (asked q (d ∷ u)) (asked_for p c)
-    (allow_bound (asked_for q d) (asked q u) (asked_for p c)
-    (allow_turn (asked_for p c) (asked_for q d) (nodes_fit p q c d k.0))
-    (allow_turn (asked_for p c) (asked q u) (node_fit p q c u k.1)))
-
-node_clear : (p q : Bool) (c : Node) (u : List Node) → Allow (asked_for p c) (asked q u) → ((p || q) && list_any (are_related c) u) ≡ false
-node_clear p q c [] h = and_none (p || q)
-node_clear p q c (d ∷ u) h =
-    let k = allow_parts (asked_for q d) (asked q u) (asked_for p c) (allow_turn (asked_for p c) (asked q (d ∷ u)) h) in
-    and_join (p || q) (are_related c d) (list_any (are_related c) u)
-    (nodes_clear p q c d (allow_turn (asked_for q d) (asked_for p c) k.0))
-    (node_clear p q c u (allow_turn (asked q u) (asked_for p c) k.1))
-
-pub tracts_fit : (p q : Bool) (t u : List Node) → ((p || q) && related_any t u) ≡ false → Allow (asked p t) (asked q u)
-tracts_fit p q [] u h = λ n. refl
-tracts_fit p q (c ∷ t) u h =
-    let k = and_split (p || q) (list_any (are_related c) u) (related_any t u) h in
-    allow_bound (asked_for p c) (asked p t) (asked q u) (node_fit p q c u k.0) (tracts_fit p q t u k.1)
-
-pub tracts_clear : (p q : Bool) (t u : List Node) → Allow (asked p t) (asked q u) → ((p || q) && related_any t u) ≡ false
-tracts_clear p q [] u h = and_none (p || q)
-tracts_clear p q (c ∷ t) u h =
-    let k = allow_parts (asked_for p c) (asked p t) (asked q u) h in
-    and_join (p || q) (list_any (are_related c) u) (related_any t u) (node_clear p q c u k.0) (tracts_clear p q t u k.1)
+tracts_stand : (p q : Bool) (t u : List Node) → (((p || q) && related_any t u) ≡ false) ↔ Allow (asked p t) (asked q u)
+tracts_stand p q t u = asked_stands (p || q) p (λ c. list_any (are_related c) u) (asked q u)
+    (λ c. turned (asked q u) (asked_for p c) (asked_stands (p || q) q (are_related c) (asked_for p c)
+    (λ d. turned (asked_for p c) (asked_for q d) (nodes_fit p q c d, nodes_clear p q c d)) u)) t
 
 -- ---- an access and entries
 
-entry_fit : (b p q : Bool) (t u : List Node) → (b && ((p || q) && related_any t u)) ≡ false
-    → Allow (asked p t) (λ n. cond b (asked q u n) None)
-entry_fit true p q t u h = tracts_fit p q t u h
-entry_fit false p q t u h = none_fit (asked p t)
+entry_stands : (b p q : Bool) (t u : List Node)
+    → ((b && ((p || q) && related_any t u)) ≡ false) ↔ Allow (asked p t) (λ n. cond b (asked q u n) None)
+entry_stands true p q t u = tracts_stand p q t u
+entry_stands false p q t u = ((λ h n. allows_none (asked p t n)), (λ h. refl))
 
-entry_clear : (b p q : Bool) (t u : List Node) → Allow (asked p t) (λ n. cond b (asked q u n) None)
-    → (b && ((p || q) && related_any t u)) ≡ false
-entry_clear true p q t u h = tracts_clear p q t u h
-entry_clear false p q t u h = refl
-
-pub entries_fit : (depth : ℕ) → MeetByCovers depth → (p : Bool) (land : Land) → IsLand depth land → (f : ℕ) (es : List Entry)
-    → AreSized depth es → against land p f es ≡ false → Allow (asked p (cover_of depth land)) (mode_at depth es f)
-entries_fit depth by p land wide f [] sized h = none_fit (asked p (cover_of depth land))
-entries_fit depth by p land wide f (x ∷ es) sized h =
+-- an access stands beside an examiner's modes exactly where none of its entries overlaps it
+pub entries_stand : (depth : ℕ) → MeetByCovers depth → (p : Bool) (land : Land) → IsLand depth land → (f : ℕ) (es : List Entry)
+    → AreSized depth es → (against land p f es ≡ false) ↔ Allow (asked p (cover_of depth land)) (mode_at depth es f)
+entries_stand depth by p land wide f [] sized = ((λ h n. allows_none (asked p (cover_of depth land) n)), (λ h. refl))
+entries_stand depth by p land wide f (x ∷ es) sized =
     let same = by land x.tract wide (All-head (λ (z : Entry). IsLand depth z.tract) x es sized) in
-    let older = All-tail (λ (z : Entry). IsLand depth z.tract) x es sized in
     let t = cover_of depth land in
     let q = is_post x.access in
-    let k = or_parts (eqb f x.examiner && ((p || q) && meets land x.tract)) (against land p f es) h in
-    let first = ap (λ (b : Bool). eqb f x.examiner && ((p || q) && b)) (sym same) ∙ k.0 in
-    allow_turn (mode_at depth (x ∷ es) f) (asked p t)
-    (allow_bound (λ n. cond (eqb f x.examiner) (asked q (cover_of depth x.tract) n) None) (mode_at depth es f) (asked p t)
-    (allow_turn (asked p t) (λ n. cond (eqb f x.examiner) (asked q (cover_of depth x.tract) n) None)
-    (entry_fit (eqb f x.examiner) p q t (cover_of depth x.tract) first))
-    (allow_turn (asked p t) (mode_at depth es f) (entries_fit depth by p land wide f es older k.1)))
-
-pub entries_clear : (depth : ℕ) → MeetByCovers depth → (p : Bool) (land : Land) → IsLand depth land → (f : ℕ) (es : List Entry)
-    → AreSized depth es → Allow (asked p (cover_of depth land)) (mode_at depth es f) → against land p f es ≡ false
-entries_clear depth by p land wide f [] sized h = refl
-entries_clear depth by p land wide f (x ∷ es) sized h =
-    let same = by land x.tract wide (All-head (λ (z : Entry). IsLand depth z.tract) x es sized) in
-    let older = All-tail (λ (z : Entry). IsLand depth z.tract) x es sized in
-    let t = cover_of depth land in
-    let q = is_post x.access in
-    let k = allow_parts (λ n. cond (eqb f x.examiner) (asked q (cover_of depth x.tract) n) None) (mode_at depth es f) (asked p t)
-    (allow_turn (asked p t) (mode_at depth (x ∷ es) f) h) in
-    or_from (eqb f x.examiner && ((p || q) && meets land x.tract)) (against land p f es)
-    (ap (λ (b : Bool). eqb f x.examiner && ((p || q) && b)) same
-    ∙ entry_clear (eqb f x.examiner) p q t (cover_of depth x.tract)
-    (allow_turn (λ n. cond (eqb f x.examiner) (asked q (cover_of depth x.tract) n) None) (asked p t) k.0))
-    (entries_clear depth by p land wide f es older (allow_turn (mode_at depth es f) (asked p t) k.1))
+    let mine : Node → Option Mode = λ n. cond (eqb f x.examiner) (asked q (cover_of depth x.tract) n) None in
+    let one = entry_stands (eqb f x.examiner) p q t (cover_of depth x.tract) in
+    let rest = entries_stand depth by p land wide f es (All-tail (λ (z : Entry). IsLand depth z.tract) x es sized) in (
+      (λ h.
+          let k = or_parts (eqb f x.examiner && ((p || q) && meets land x.tract)) (against land p f es) h in
+          allow_with (asked p t) mine (mode_at depth es f)
+          (one.0 (ap (λ (b : Bool). eqb f x.examiner && ((p || q) && b)) (sym same) ∙ k.0)) (rest.0 k.1)),
+      (λ h.
+          let k = allow_of (asked p t) mine (mode_at depth es f) h in
+          or_from (eqb f x.examiner && ((p || q) && meets land x.tract)) (against land p f es)
+          (ap (λ (b : Bool). eqb f x.examiner && ((p || q) && b)) same ∙ one.1 k.0) (rest.1 k.1)),
+    )
 
 -- ---- the law
 
@@ -214,8 +144,7 @@ abbrev pub Apart : ℕ → List Entry → Type 0
 Apart depth es = (e f : ℕ) → f ≢ e → Allow (mode_at depth es e) (mode_at depth es f)
 
 asked_or_none : (a o m : Option Mode) → (is_some a ≡ true → allows (bound o a) m ≡ true) → allows a m ≡ true
-asked_or_none None o m h = refl
-asked_or_none (Some a) o m h = (and_parts (allows o m) (allows (Some a) m) (sym (bound_allows o (Some a) m) ∙ h refl)).1
+asked_or_none a o m h = grind (arith, bound_allows)
 
 -- what is granted stands beside the other examiners' modes
 pub granted_fit : (depth : ℕ) (es : List Entry) (e : ℕ) (land : Land) (p : Bool) → GrantedByModes depth es e land p → (f : ℕ) → f ≢ e
@@ -233,8 +162,7 @@ one_more : (b d : Bool) (x m k : Node → Option Mode) → (b ≡ true → d ≡
     Allow (λ n. bound (cond b (x n) None) (m n)) (λ n. bound (cond d (x n) None) (k n))
 one_more true true x m k never mine theirs old = absurd (never refl refl)
 one_more true false x m k never mine theirs old = allow_bound x m k (mine refl) old
-one_more false true x m k never mine theirs old = allow_turn (λ n. bound (x n) (k n)) m
-    (allow_bound x k m (theirs refl) (allow_turn m k old))
+one_more false true x m k never mine theirs old = allow_with m x k (allow_turn x m (theirs refl)) old
 one_more false false x m k never mine theirs old = old
 
 -- one more entry that stands beside the others' modes
@@ -256,7 +184,7 @@ granted_apart depth (x ∷ es) granted =
 -- the law, where tracts share a cell exactly where their covers say so
 pub modes_decide : (depth : ℕ) → MeetByCovers depth → ModesDecideOverlap depth
 modes_decide depth by es sized granted e land p wide = (
-  (λ by_modes f other. entries_clear depth by p land wide f es sized (granted_fit depth es e land p by_modes f other)),
+  (λ by_modes f other. (entries_stand depth by p land wide f es sized).1 (granted_fit depth es e land p by_modes f other)),
   (λ clear. fit_granted depth es (granted_apart depth es granted) e land p
-      (λ f other. entries_fit depth by p land wide f es sized (clear f other))),
+      (λ f other. (entries_stand depth by p land wide f es sized).0 (clear f other))),
 )

@@ -1,53 +1,25 @@
 -- What is done on the one shelf where nodes stand, told of the whole table.
 use Rattle.std.proofs.Common.{◌≡◌, ◌≢◌, ℕ, Bool, true, false, cond, not, ◌&&◌, ◌||◌, List, [], ◌∷◌, Option, Some, None, eqb, refl}
-use Rattle.std.proofs.{Common.{sym, ap, subst, ◌∙◌, true≢false}, lemmas.Bool.{eqb-true, eqb-false, false_from_ne_true, or_left}}
-use Rattle.std.specs.{Ordering.{nat_cmp}, BTreeMap.{get}}
-use Rattle.title_land.specs.{declared.node.Node.{Node}, Nodes.{same_node}}
-use Rattle.title_land.specs.declared.node.Node.TheVariants as node
-use Rattle.title_lock.specs.{declared.{modes.Mode.{Mode}, walks.Climb.{Climb}, shelf.Shelf.{Shelf}, table.Table.{Table}}, Modes.{bound}}
+use Rattle.std.proofs.{Common.{sym, ap, subst, ◌∙◌, true≢false, inl, inr, ◌⊎◌}, lemmas.Bool.{cases_eq, false_from_ne_true, or_left}}
+use Rattle.std.proofs.{Common.{length, arith}, lemmas.{Bool.{eqb-true}, List.{nil_from_length}}}
+use Rattle.std.proofs.lemmas.Option.{none-some, same_Some}
+use Rattle.std.specs.{Ordering.{nat_cmp}, BTreeMap.{get, is_at}, Map.{lookup}}
+use Rattle.title_land.specs.{declared.node.Node.{Node}, Nodes.{same_node}, NodeNumbers.{node_number}}
+use Rattle.title_lock.specs.{declared.{walks.Climb.{Climb}, shelf.Shelf.{Shelf}, table.Table.{Table}}, Modes.{bound}}
 use Rattle.title_lock.specs.{Overlaps.{IsLeast}, Holders.{Modes}, Tables.{table_mode, is_idle, shelf_above, home_of}}
-use Rattle.title_lock.{specs.Tables.{HeldAt, on_shelf, on_some, nowhere, on_all, mode_in, room_in, idle_in}, proofs.AccessLaws.{rest_none}}
-use Rattle.title_lock.{specs.Tables.{HasRoom, IdleLess, AllUsed, IsStocked, AreAtHome, IsAtHome, TableUsed}, proofs.LeastLaws.{least_same}}
+use Rattle.title_lock.specs.Tables.{HeldAt, on_shelf, on_some, nowhere, on_all, mode_in, room_in, idle_in, HasRoom, IdleLess, AllUsed}
+use Rattle.title_lock.specs.Tables.{AreAtHome, shelf_at, IsTidy, TableUsed, table_room, is_bare}
+use Rattle.title_lock.proofs.{ModeLaws.{bound_none}, LeastLaws.{least_same}}
 use Rattle.title_lock.specs.Walks.{Asked, asks_above, node_of, asked_in, asks_in, clashes_in, climb_asks, Roomed, Raised, TakenOut}
 use Rattle.title_lock.proofs.{WalkLaws.{asked_nowhere, StandOn, on_home, clash_at_home, climb_stands}, NodeLaws.{same_self}}
 
 -- ---- homes
 
-same_home : Option ℕ → Option ℕ → Bool
-same_home None None = true
-same_home None (Some k) = false
-same_home (Some j) None = false
-same_home (Some j) (Some k) = eqb j k
-
-home_is : (a b : Option ℕ) → same_home a b ≡ true → a ≡ b
-unfolding same_home
-home_is None None h = refl
-home_is None (Some k) h = absurd (true≢false (sym h))
-home_is (Some j) None h = absurd (true≢false (sym h))
-home_is (Some j) (Some k) h = ap Some (eqb-true j k h)
-
-none_some : (k : ℕ) → None ≡ Some k → ⊥
-none_some k e = cc
-
-home_other : (a b : Option ℕ) → same_home a b ≡ false → a ≢ b
-unfolding same_home
-home_other None None h = absurd (true≢false h)
-home_other None (Some k) h = λ e. none_some k e
-home_other (Some j) None h = λ e. none_some j (sym e)
-home_other (Some j) (Some k) h = λ e. eqb-false j k h (some_is j k e)
-  where
-    some_is : (x y : ℕ) → Some x ≡ Some y → x ≡ y
-    some_is x y e = cc
-
--- the shelf where nodes with this home stand, if there is one
-abbrev pub shelf_at : Table → Option ℕ → Option Shelf
-shelf_at t None = Some t.upper
-shelf_at t (Some k) = get nat_cmp t.sections k
-
-pub on_all_at : (t : Table) (n : Node) → on_all t n ≡ on_some (shelf_at t (home_of n)) n
-on_all_at t node.Everything = refl
-on_all_at t (node.Township u) = refl
-on_all_at t (node.Part s w) = refl
+cases_home : (a b : Option ℕ) → (a ≡ b) ⊎ (a ≢ b)
+cases_home None None = inl refl
+cases_home None (Some k) = inr (none-some k)
+cases_home (Some j) None = inr (λ e. none-some j (sym e))
+cases_home (Some j) (Some k) = elim (cases_eq j k) [ inl is ↦ inl (ap Some is) | inr other ↦ inr (λ e. other (same_Some j k e)) ]
 
 -- nothing but one shelf changes
 pub record ChangesOne (t : Table) (u : Table) (h : Option ℕ) : Type 0 where
@@ -87,28 +59,24 @@ pub way_at_home : (t : Table) (h : Option ℕ) (p : Bool) (e : ℕ) (l : List As
 way_at_home t h p e l w stand least = least_same
     (λ f. clashes_in p (λ n. table_mode (on_some (shelf_at t h)) f n) l) (λ f. clashes_in p (λ n. table_mode (on_all t) f n) l) e w
     (λ f other. clash_at_home p h (λ n. table_mode (on_some (shelf_at t h)) f n) (λ n. table_mode (on_all t) f n) l stand
-    (λ n at_it. ap (λ (k : Option ℕ). table_mode (on_some (shelf_at t k)) f n) (sym at_it) ∙ ap (mode_in f) (sym (on_all_at t n)))) least
+    (λ n at_it. ap (λ (k : Option ℕ). table_mode (on_some (shelf_at t k)) f n) (sym at_it))) least
 
 -- there is room at home where there is room in the table
 pub room_at_home : (t : Table) (h : Option ℕ) (e : ℕ) (l : List Asked) → StandOn h l → HasRoom (on_all t) e (asks_in l)
     → HasRoom (on_some (shelf_at t h)) e (asks_in l)
 room_at_home t h e l stand room n asks =
-    ap (λ (k : Option ℕ). room_in e (on_some (shelf_at t k) n)) (sym (on_home h l stand n asks))
-    ∙ ap (room_in e) (sym (on_all_at t n)) ∙ room n asks
+    ap (λ (k : Option ℕ). room_in e (on_some (shelf_at t k) n)) (sym (on_home h l stand n asks)) ∙ room n asks
 
 -- and the other way round
 pub room_of_home : (t : Table) (h : Option ℕ) (e : ℕ) (l : List Asked) → StandOn h l → HasRoom (on_some (shelf_at t h)) e (asks_in l)
     → HasRoom (on_all t) e (asks_in l)
 room_of_home t h e l stand room n asks =
-    ap (room_in e) (on_all_at t n) ∙ ap (λ (k : Option ℕ). room_in e (on_some (shelf_at t k) n)) (on_home h l stand n asks) ∙ room n asks
-
-none_clash : (p : Bool) (f : ℕ) (l : List Asked) → clashes_in p (λ n. table_mode nowhere f n) l ≡ false
-none_clash p f [] = refl
-none_clash p f (a ∷ l) = none_clash p f l
+    ap (λ (k : Option ℕ). room_in e (on_some (shelf_at t k) n)) (on_home h l stand n asks) ∙ room n asks
 
 -- nobody is in the way where there is no shelf
 pub way_nowhere : (p : Bool) (e : ℕ) (l : List Asked) → IsLeast (λ f. clashes_in p (λ n. table_mode nowhere f n) l) e None
-way_nowhere p e l f other = none_clash p f l
+way_nowhere p e [] f other = refl
+way_nowhere p e (a ∷ l) f other = way_nowhere p e l f other
 
 -- ---- the shelf of a section
 
@@ -130,6 +98,12 @@ roomed_fresh s w e l free busy r = record {
   };
 }
 
+-- where an examiner has room a shelf isn't bare
+pub room_stocked : (e : ℕ) (s : Shelf) (n : Node) → table_room (on_shelf s) e n ≡ true → is_bare s ≡ false
+room_stocked e s n room = false_from_ne_true (is_bare s) (λ bare. true≢false (sym room
+    ∙ ap (λ (es : List (ℕ × Modes)). room_in e (lookup (is_at (nat_cmp (node_number n))) es))
+    (nil_from_length s.holders.entries (eqb-true (length s.holders.entries) 0 bare))))
+
 -- a climb asks at its own node
 pub asks_own : (c : Climb) → asks_in (climb_asks c) c.spot.is.node ≡ true
 asks_own c = let n = c.spot.is.node in
@@ -141,30 +115,13 @@ no_room e c room = true≢false (sym (room c.spot.is.node (asks_own c)))
 
 -- ---- tidy shelves
 
--- as a section's shelf is
-abbrev pub IsStockedAt : Option ℕ → Option Shelf → Type 0
-IsStockedAt None s = Unit {0}
-IsStockedAt (Some k) s = IsStocked s
-
--- a shelf's holders are used and at home, and a section's has some
-pub record IsTidy (h : Option ℕ) (s : Option Shelf) : Type 0 where
-  pub used : AllUsed (on_some s)
-  pub home : IsAtHome h s
-  pub stocked : IsStockedAt h s
-
--- a table's holders are so where each shelf's are
-used_tidy : (t : Table) → TableUsed t → (k : Option ℕ) → IsTidy k (shelf_at t k)
-used_tidy t h None = record { used = h.upper; home = h.upper_home; stocked = tt }
-used_tidy t h (Some k) = record { used = h.sections k; home = h.section_homes k; stocked = h.stocked k }
-
-tidy_used : (t : Table) → ((k : Option ℕ) → IsTidy k (shelf_at t k)) → TableUsed t
-tidy_used t h = record {
-  upper = let at_it = h None in at_it.used;
-  sections = λ k. let at_it = h (Some k) in at_it.used;
-  stocked = λ k. let at_it = h (Some k) in at_it.stocked;
-  upper_home = let at_it = h None in at_it.home;
-  section_homes = λ k. let at_it = h (Some k) in at_it.home;
-}
+-- a table where nothing stands but an upper shelf
+pub empty_used : (t : Table) → t.sections.entries ≡ [] → AllUsed (on_shelf t.upper) → AreAtHome None t.upper → TableUsed t
+empty_used t none used home = record { each = go }
+  where
+    go : (h : Option ℕ) → IsTidy h (shelf_at t h)
+    go None = record { used = used; home = home; stocked = tt }
+    go (Some k) = record { used = record { each = λ n. rw none refl }; home = rw none tt; stocked = rw none tt }
 
 -- what keeps holders at a node's home keeps them at its shelf's
 pub home_kept : (h k : Option ℕ) (s t : Shelf) → h ≡ k → (AreAtHome k s → AreAtHome k t) → AreAtHome h s → AreAtHome h t
@@ -172,32 +129,16 @@ home_kept h k s t is kept = subst (λ (z : Option ℕ). AreAtHome z s → AreAtH
 
 -- ---- changes
 
-idle_kept : (i b : Bool) → i ≡ (i && not (b && false))
-idle_kept true true = refl
-idle_kept true false = refl
-idle_kept false b = refl
-
-gone_kept : (b : Bool) (r : Option Mode) → r ≡ cond (b && false) None r
-gone_kept true r = refl
-gone_kept false r = refl
-
 module _ (t u : Table) (h : Option ℕ) (one : ChangesOne t u h) where
   -- what is so of each node's holders before and after, where it is so on the shelf that changes, and of holders that stay
   lifted : (Q : Option Modes → Option Modes → Node → Type 0)
       → ((n : Node) → Q (on_some (shelf_at t h) n) (on_some (shelf_at u h) n) n)
       → ((n : Node) → home_of n ≢ h → (o : Option Modes) → Q o o n) → (n : Node) → Q (on_all t n) (on_all u n) n
-  lifted Q own rest n =
-      subst (λ (o : Option Modes). Q o (on_all u n) n) (sym (on_all_at t n))
-      (subst (λ (o : Option Modes). Q (on_some (shelf_at t (home_of n)) n) o n) (sym (on_all_at u n)) (go (same_home (home_of n) h) refl))
-    where
-      go : (b : Bool) → same_home (home_of n) h ≡ b
-          → Q (on_some (shelf_at t (home_of n)) n) (on_some (shelf_at u (home_of n)) n) n
-      go true e = subst (λ (k : Option ℕ). Q (on_some (shelf_at t k) n) (on_some (shelf_at u k) n) n)
-          (sym (home_is (home_of n) h e)) (own n)
-      go false e =
-          let other : home_of n ≢ h = home_other (home_of n) h e in
-          subst (λ (s : Option Shelf). Q (on_some (shelf_at t (home_of n)) n) (on_some s n) n) (sym (one.others (home_of n) other))
-          (rest n other (on_some (shelf_at t (home_of n)) n))
+  lifted Q own rest n = elim (cases_home (home_of n) h) [
+    | inl is ↦ subst (λ (k : Option ℕ). Q (on_some (shelf_at t k) n) (on_some (shelf_at u k) n) n) (sym is) (own n)
+    | inr other ↦ subst (λ (s : Option Shelf). Q (on_some (shelf_at t (home_of n)) n) (on_some s n) n)
+        (sym (one.others (home_of n) other)) (rest n other (on_some (shelf_at t (home_of n)) n))
+  ]
 
   pub lift_roomed : (e : ℕ) (l : List Asked) → Roomed (on_some (shelf_at t h)) (on_some (shelf_at u h)) e l
       → Roomed (on_all t) (on_all u) e l
@@ -217,15 +158,13 @@ module _ (t u : Table) (h : Option ℕ) (one : ChangesOne t u h) where
     less_all : IdleLess (on_some (shelf_at t h)) (on_some (shelf_at u h)) e (asks_in l) → IdleLess (on_all t) (on_all u) e (asks_in l)
     less_all r = record {
       less = λ f. lifted (λ o q n. idle_in f q ≡ (idle_in f o && not (eqb f e && asks_in l n))) (λ n. r.less f n)
-          (λ n other o. idle_kept (idle_in f o) (eqb f e)
-          ∙ ap (λ (z : Bool). idle_in f o && not (eqb f e && z)) (sym (elsewhere n other)));
+          (λ n other o. grind (arith, elsewhere n other));
     }
 
     pub lift_raised : (p : Bool) → Raised (on_some (shelf_at t h)) (on_some (shelf_at u h)) e p l → Raised (on_all t) (on_all u) e p l
     lift_raised p r = record {
       modes = λ f. lifted (λ o q n. mode_in f q ≡ bound (mode_in f o) (cond (eqb f e) (asked_in p l n) None)) (λ n. r.modes f n)
-          (λ n other o. rest_none (eqb f e) (mode_in f o)
-          ∙ ap (λ (z : Option Mode). bound (mode_in f o) (cond (eqb f e) z None)) (sym (asked_nowhere p l n (elsewhere n other))));
+          (λ n other o. grind (arith, asked_nowhere p l n (elsewhere n other), bound_none));
       stays = λ f. lifted (λ o q n. room_in f o ≡ true → room_in f q ≡ true) (λ n. r.stays f n) (λ n other o room. room);
       idle = less_all r.idle;
     }
@@ -233,21 +172,16 @@ module _ (t u : Table) (h : Option ℕ) (one : ChangesOne t u h) where
     pub lift_taken : (m : Bool) → TakenOut (on_some (shelf_at t h)) (on_some (shelf_at u h)) e m l → TakenOut (on_all t) (on_all u) e m l
     lift_taken m r = record {
       gone = λ f. lifted (λ o q n. mode_in f q ≡ cond (m && eqb f e && asks_in l n) None (mode_in f o)) (λ n. r.gone f n)
-          (λ n other o. gone_kept (m && eqb f e) (mode_in f o)
-          ∙ ap (λ (z : Bool). cond (m && eqb f e && z) None (mode_in f o)) (sym (elsewhere n other)));
+          (λ n other o. grind (arith, elsewhere n other));
       idle = less_all r.idle;
     }
 
-  each : (P : Option ℕ → Option Shelf → Type 0) → (P h (shelf_at t h) → P h (shelf_at u h)) → (k : Option ℕ) → P k (shelf_at t k)
-      → P k (shelf_at u k)
-  each P here k was = go (same_home k h) refl
-    where
-      go : (b : Bool) → same_home k h ≡ b → P k (shelf_at u k)
-      go true e =
-          let is = home_is k h e in
-          subst (λ (j : Option ℕ). P j (shelf_at u j)) (sym is) (here (subst (λ (j : Option ℕ). P j (shelf_at t j)) is was))
-      go false e = subst (λ (s : Option Shelf). P k s) (sym (one.others k (home_other k h e))) was
-
   -- holders stay tidy where those of the shelf do
   pub lift_tidy : (IsTidy h (shelf_at t h) → IsTidy h (shelf_at u h)) → TableUsed t → TableUsed u
-  lift_tidy here used = tidy_used u (λ k. each IsTidy here k (used_tidy t used k))
+  lift_tidy here used = record {
+    each = λ k. elim (cases_home k h) [
+      | inl is ↦ subst (λ (j : Option ℕ). IsTidy j (shelf_at u j)) (sym is)
+          (here (subst (λ (j : Option ℕ). IsTidy j (shelf_at t j)) is (used.each k)))
+      | inr other ↦ subst (λ (s : Option Shelf). IsTidy k s) (sym (one.others k other)) (used.each k)
+    ];
+  }

@@ -1,5 +1,5 @@
 -- What a node's number tells of it.
-use Rattle.std.proofs.Common.{◌≡◌, ℕ, true, List, [], ◌∷◌, Some, refl, sym, ap, ◌∙◌}
+use Rattle.std.proofs.{Common.{◌≡◌, ℕ, true, List, [], ◌∷◌, Some, refl, sym, ap, ◌∙◌}, lemmas.Option.{same_Some}}
 use Rattle.title_land.specs.declared.{survey.{Section.{Section}, Township.{Township}}, rectangle.Quarter.{Quarter}, node.Node.{Node}}
 use Rattle.title_land.specs.{Nodes.{is_square}, NodeNumbers.{section_number, node_number}, Laws.NodeNumbers.{numbers_tell_nodes}}
 use Rattle.title_land.specs.declared.node.Node.TheVariants as node
@@ -16,9 +16,6 @@ home_is node.Everything k home is square at = absurd cc
 home_is (node.Township t) k home is square at = absurd cc
 home_is (node.Part s w) k home is square at = ap Some (at s w is)
 
-some_number : (j k : ℕ) → Some j ≡ Some k → j ≡ k
-some_number j k e = cc
-
 -- a square's township, with its number
 pub record HasTownship (n : Node) (k : ℕ) : Type 0 where
   pub township : Township
@@ -32,6 +29,6 @@ township_at node.Everything home k is at = absurd cc
 township_at (node.Township t) home k is at = absurd cc
 township_at (node.Part s w) home k is at = record {
   township = s.township;
-  numbered = at s (some_number home (section_number s) is);
+  numbered = at s (same_Some home (section_number s) is);
   above = refl;
 }

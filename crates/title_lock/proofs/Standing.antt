@@ -1,8 +1,8 @@
 -- Entries that stand without overlap are granted by modes, and the other way round.
-use Rattle.std.proofs.{Common.{◌≡◌, ℕ, Bool, false, not, ◌&&◌, List, [], ◌∷◌, eqb, refl}, lemmas.Bool.{or_parts, or_from, cases_Bool}}
-use Rattle.std.proofs.{lemmas.List.Elements.{All-head, All-tail}, Common.{inl, inr}}
+use Rattle.std.proofs.{Common.{◌≡◌, ℕ, Bool, false, not, List, [], ◌∷◌, eqb, refl}, lemmas.Bool.{cases_Bool}}
+use Rattle.std.proofs.{lemmas.List.Elements.{All-head, All-tail}, Common.{inl, inr, arith}}
 use Rattle.title_land.specs.{declared.tract.Land.{Land}, Lands.{IsLand}}
-use Rattle.title_lock.specs.{declared.guards.Entry.{Entry}, Overlaps.{is_post, overlap, against, without}}
+use Rattle.title_lock.specs.{declared.guards.Entry.{Entry}, Overlaps.{is_post, against, without}}
 use Rattle.title_lock.{specs.Standing.{FreeAreGranted, GrantedAreFree, LeftStandFree}, proofs.Overlap.{MeetByCovers, modes_decide}}
 
 pub free_granted : (depth : ℕ) → MeetByCovers depth → FreeAreGranted depth
@@ -26,14 +26,7 @@ granted_free depth by (x ∷ es) sized granted =
 against_fewer : (e : ℕ) (es : List Entry) (land : Land) (post : Bool) (f : ℕ) → against land post f es ≡ false
     → against land post f (without e es) ≡ false
 against_fewer e [] land post f h = refl
-against_fewer e (x ∷ es) land post f h =
-    let k = or_parts (eqb f x.examiner && overlap land post x.tract (is_post x.access)) (against land post f es) h in
-    let mine = eqb f x.examiner && overlap land post x.tract (is_post x.access) in
-    let rest = against_fewer e es land post f k.1 in
-    elim (cases_Bool (not (eqb x.examiner e))) [
-      | inl y ↦ rw y (or_from mine (against land post f (without e es)) k.0 rest)
-      | inr y ↦ rw y rest
-    ]
+against_fewer e (x ∷ es) land post f h = grind (arith, against_fewer e es land post f)
 
 pub left_free : LeftStandFree
 left_free e [] free = tt

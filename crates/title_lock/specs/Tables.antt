@@ -1,12 +1,11 @@
--- What a table of locks says: who holds each node, and who is in the way of an access by these modes.
+-- What a table of locks says: who holds each node, and who has room there.
 use Rattle.std.specs.{Prelude.{ℕ, ◌≡◌, ◌≢◌, ◌==◌, Bool, true, false, ◌&&◌, ◌||◌, not, List, [], ◌∷◌, length}, List.{list_any}}
 use Rattle.std.specs.{Prelude.{Option, Some, None, is_some, IfSome}, Ordering.{nat_cmp}, BTreeMap.{BTreeMap, get}}
-use Rattle.title_land.specs.{declared.node.Node.{Node}, Nodes.{same_node, above, above_in, is_above}, Lands.{cover_of}}
+use Rattle.title_land.specs.{declared.node.Node.{Node}, Nodes.{same_node, above_in, is_above}, Lands.{cover_of}}
 use Rattle.title_land.specs.NodeNumbers.{node_number, section_number}
 use Rattle.title_land.specs.declared.node.Node.TheVariants as node
 use Rattle.title_lock.specs.{declared.{modes.Mode.{Mode}, shelf.Shelf.{Shelf}, table.Table.{Table}, guards.Entry.{Entry}}, Modes.{allows}}
-use Rattle.title_lock.specs.Asking.{own_mode, above_mode, mode_at, AreSized}
-use Rattle.title_lock.specs.Holders.{Modes, holder_mode, has_room, idles, is_free, clashes}
+use Rattle.title_lock.specs.{Asking.{mode_at, AreSized}, Holders.{Modes, holder_mode, has_room, idles, is_free}}
 
 -- the holders at n, in a map by the numbers of nodes
 abbrev pub holders_at : BTreeMap ℕ Modes → Node → Option Modes
@@ -35,29 +34,24 @@ on_some (Some s) = on_shelf s
 abbrev pub on_section : Table → ℕ → HeldAt
 on_section t k = on_some (get nat_cmp t.sections k)
 
+-- the shelf on which a node stands: that of the section with this number, or else the upper one
+abbrev pub home_of : Node → Option ℕ
+home_of node.Everything = None
+home_of (node.Township t) = None
+home_of (node.Part s w) = Some (section_number s)
+
+-- the shelf where nodes with this home stand, if there is one
+abbrev pub shelf_at : Table → Option ℕ → Option Shelf
+shelf_at t None = Some t.upper
+shelf_at t (Some k) = get nat_cmp t.sections k
+
 -- those in a table: a section's squares stand on a shelf of their own, and the plant and its townships on another
 abbrev pub on_all : Table → HeldAt
-on_all t node.Everything = on_shelf t.upper node.Everything
-on_all t (node.Township u) = on_shelf t.upper (node.Township u)
-on_all t (node.Part s w) = on_section t (section_number s) (node.Part s w)
+on_all t n = on_some (shelf_at t (home_of n)) n
 
 -- the mode of examiner e at n
 abbrev pub table_mode : HeldAt → ℕ → Node → Option Mode
 table_mode t e n = mode_in e (t n)
-
--- ---- who is in the way
-
--- what another examiner holds at each node doesn't let mode m stand beside it at some node of a list
-abbrev pub clashes_above : Mode → (Node → Option Mode) → List Node → Bool
-clashes_above m held nodes = list_any (λ n. clashes m (held n)) nodes
-
--- what an access asks for the node c of its cover clashes, at c or above
-abbrev pub clashes_for : Bool → (Node → Option Mode) → Node → Bool
-clashes_for post held c = clashes_above (above_mode post) held (above c) || clashes (own_mode post) (held c)
-
--- what an access asks for clashes somewhere
-abbrev pub clashes_with : Bool → (Node → Option Mode) → List Node → Bool
-clashes_with post held cover = list_any (clashes_for post held) cover
 
 -- ---- on one shelf
 
@@ -140,12 +134,6 @@ is_bare s = length s.holders.entries == 0
 abbrev pub IsStocked : Option Shelf → Type 0
 IsStocked shelf = IfSome shelf (λ s. is_bare s ≡ false)
 
--- the shelf on which a node stands: that of the section with this number, or else the upper one
-abbrev pub home_of : Node → Option ℕ
-home_of node.Everything = None
-home_of (node.Township t) = None
-home_of (node.Part s w) = Some (section_number s)
-
 -- this is the number of a node that stands on a shelf
 abbrev pub IsNumberOn : Option ℕ → ℕ → Type 0
 IsNumberOn home k = (n : Node) × (home_of n ≡ home) × (k ≡ node_number n)
@@ -162,14 +150,20 @@ pub record AreAtHome (home : Option ℕ) (s : Shelf) : Type 0 where
 abbrev pub IsAtHome : Option ℕ → Option Shelf → Type 0
 IsAtHome home shelf = IfSome shelf (AreAtHome home)
 
--- each node of a table is one that somebody holds or has room at, no section's shelf is bare, and holders are those of a node
--- which stands on its shelf
+-- as a section's shelf is
+abbrev pub IsStockedAt : Option ℕ → Option Shelf → Type 0
+IsStockedAt None shelf = Unit {0}
+IsStockedAt (Some k) shelf = IsStocked shelf
+
+-- a shelf's holders are used and at home, and a section's has some
+pub record IsTidy (h : Option ℕ) (shelf : Option Shelf) : Type 0 where
+  pub used : AllUsed (on_some shelf)
+  pub home : IsAtHome h shelf
+  pub stocked : IsStockedAt h shelf
+
+-- so are all shelves of a table
 pub record TableUsed (t : Table) : Type 0 where
-  pub upper : AllUsed (on_shelf t.upper)
-  pub sections : (k : ℕ) → AllUsed (on_section t k)
-  pub stocked : (k : ℕ) → IsStocked (get nat_cmp t.sections k)
-  pub upper_home : AreAtHome None t.upper
-  pub section_homes : (k : ℕ) → IsAtHome (Some k) (get nat_cmp t.sections k)
+  pub each : (h : Option ℕ) → IsTidy h (shelf_at t h)
 
 -- ---- what is held
 

@@ -38,61 +38,33 @@ impl Counts {
     }
 
     // One more in a mode.
-    fn more(self, mode: Mode) -> Counts
+    fn more(mut self, mode: Mode) -> Counts
         requires fits { count_in self mode + 1 < 2 ^ 64 }
         ensures more { (m : Mode) → count_in result m ≡ count_in self m + own_part (Some mode) m }
     {
         match mode {
-            Mode::Is => Counts {
-                is: self.is + 1,
-                ..self
-            },
-            Mode::Ix => Counts {
-                ix: self.ix + 1,
-                ..self
-            },
-            Mode::S => Counts {
-                s: self.s + 1,
-                ..self
-            },
-            Mode::Six => Counts {
-                six: self.six + 1,
-                ..self
-            },
-            Mode::X => Counts {
-                x: self.x + 1,
-                ..self
-            },
+            Mode::Is => self.is += 1,
+            Mode::Ix => self.ix += 1,
+            Mode::S => self.s += 1,
+            Mode::Six => self.six += 1,
+            Mode::X => self.x += 1,
         }
+        self
     }
 
     // One fewer in a mode.
-    fn fewer(self, mode: Mode) -> Counts
+    fn fewer(mut self, mode: Mode) -> Counts
         requires counted { 0 < count_in self mode }
         ensures fewer { (m : Mode) → count_in result m + own_part (Some mode) m ≡ count_in self m }
     {
         match mode {
-            Mode::Is => Counts {
-                is: self.is - 1,
-                ..self
-            },
-            Mode::Ix => Counts {
-                ix: self.ix - 1,
-                ..self
-            },
-            Mode::S => Counts {
-                s: self.s - 1,
-                ..self
-            },
-            Mode::Six => Counts {
-                six: self.six - 1,
-                ..self
-            },
-            Mode::X => Counts {
-                x: self.x - 1,
-                ..self
-            },
+            Mode::Is => self.is -= 1,
+            Mode::Ix => self.ix -= 1,
+            Mode::S => self.s -= 1,
+            Mode::Six => self.six -= 1,
+            Mode::X => self.x -= 1,
         }
+        self
     }
 
     // The numbers without one examiner that holds this.

@@ -66,13 +66,6 @@ fn is_clear(counts: Counts, own: Option<Mode>, wanted: Mode) -> bool
         && leaves(counts, own, wanted, Mode::X)
 }
 
-// Whether by the counts nobody at all is in the way.
-fn is_open(counts: Counts, wanted: Mode) -> bool
-    ensures open { result ≡ is_clear counts None wanted }
-{
-    is_clear(counts, None, wanted)
-}
-
 impl Holders {
     /// Nobody. Takes no memory.
     pub(crate) fn new(alloc: Global) -> Holders
@@ -114,7 +107,9 @@ impl Holders {
     pub(crate) fn way(&self, examiner: u32, wanted: Mode) -> Option<u32>
         ensures way { IsLeast (λ f. clashes wanted (holder_mode self.now f)) examiner result }
     {
-        if is_open(self.counts, wanted) {
+        // Nobody at all is in the way.
+        let is_open = is_clear(self.counts, None, wanted);
+        if is_open {
             return None;
         }
         if is_clear(self.counts, self.mode(examiner), wanted) {

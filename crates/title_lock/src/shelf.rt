@@ -4,7 +4,7 @@ ghost use Rattle.std.specs.Prelude.{◌≡◌, ℕ, true, false, None, Some, ◌
 ghost use Rattle.title_land.specs.{declared.node.Node.{Node}, Nodes.{same_node}};
 ghost use Rattle.title_lock.specs.{Modes.{bound}, Overlaps.{is_post, IsLeast}, declared.modes.Mode.TheVariants.{Is, Ix, S, Six, X}};
 ghost use Rattle.title_lock.specs.{Counts.{IsCount}, Holders.{clashes, is_mode}};
-ghost use Rattle.title_lock.specs.Tables.{on_shelf, table_mode, table_room, KeepsRoom, HasRoom, is_idle, is_unused};
+ghost use Rattle.title_lock.specs.Tables.{on_shelf, table_mode, table_room, KeepsRoom, HasRoom, is_idle};
 ghost use Rattle.title_lock.specs.Tables.{IdleMore, IdleLess, AllUsed, is_bare, home_of, AreAtHome};
 ghost use Rattle.title_lock.specs.Walks.{asks_in, clashes_in, climb_asks, Roomed, Raised, TakenOut};
 
@@ -164,7 +164,6 @@ impl Shelf {
         ensures modes { (f : ℕ) → (n : Node) → table_mode (on_shelf self.new) f n
             ≡ (if is_mode taken && f == examiner && same_node n spot.now.is.node then None else table_mode (on_shelf self.old) f n) }
         ensures idle { IdleLess (on_shelf self.old) (on_shelf self.new) examiner (λ n. same_node n spot.now.is.node) }
-        ensures dropped { is_unused (on_shelf self.new) spot.now.is.node ≡ false }
         ensures used { AllUsed (on_shelf self.old) → AllUsed (on_shelf self.new) }
         ensures homes { (h : Option ℕ) → AreAtHome h self.old → AreAtHome h self.new }
     {

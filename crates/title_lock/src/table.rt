@@ -5,9 +5,9 @@ ghost use Rattle.std.specs.{BTreeMap.{get}, List.{list_any}, Ordering.{nat_cmp}}
 ghost use Rattle.title_land.specs.declared.node.Node.{Node};
 ghost use Rattle.title_lock.specs.{Modes.{bound}, Overlaps.{is_post, IsLeast}, Asking.{asked}, Counts.{IsCount}, Holders.{is_mode}};
 ghost use Rattle.title_lock.specs.declared.modes.Mode.TheVariants.{Is, Ix, S, Six, X};
-ghost use Rattle.title_lock.specs.Tables.{on_section, on_all, table_mode, clashes_with, HasRoom, is_asked, is_idle, IdleMore, IdleLess};
+ghost use Rattle.title_lock.specs.Tables.{on_section, on_all, table_mode, HasRoom, is_asked, is_idle, IdleMore, IdleLess};
 ghost use Rattle.title_lock.specs.Tables.{AllUsed, IsStocked, TableUsed, home_of, IsAtHome};
-ghost use Rattle.title_lock.specs.Walks.{asks_in, clashes_in, climb_asks, Roomed, Raised, TakenOut};
+ghost use Rattle.title_lock.specs.Walks.{walk, asks_in, clashes_in, climb_asks, Roomed, Raised, TakenOut};
 
 use crate::guards::Access;
 use crate::holders::Taken;
@@ -91,7 +91,8 @@ impl Table {
 
     /// The least other examiner in the way of an access, by modes. Takes no memory.
     pub(crate) fn ways(&self, examiner: u32, cover: &[Node], access: Access) -> Option<u32>
-        ensures way { IsLeast (λ f. clashes_with (is_post access) (λ n. table_mode (on_all self.now) f n) cover.now) examiner result }
+        ensures way { IsLeast (λ f. clashes_in (is_post access) (λ n. table_mode (on_all self.now) f n) (walk None cover.now))
+            examiner result }
     {
         let mut way = None;
         let mut walk = Walk::of(cover);

@@ -10,7 +10,7 @@ returns-then-is_open c =
     record {
       way = subst (λ (h : Modes). (f : ℕ) → f ≢ e → clashes c.args.wanted (holder_mode h f) ≡ false) c.self.view_is
           (clear_way c.self.inside.counts c.self.inside.slots e own c.args.wanted c.self.invariant refl
-          (clear_more c.self.inside.counts own c.args.wanted (sym c.is_open.ensures.open ∙ c.if-is_open.true)));
+          (clear_more c.self.inside.counts own c.args.wanted (sym c.is_clear-is_open.ensures.clear ∙ c.if-is_open.true)));
     }
 
 pub returns-then-is_clear : goal.returns-then-is_clear

@@ -16,17 +16,14 @@ counted c m k is =
     count_alone depth e es n m k (shown_own i.alone e i.listed i.spread c.args.self.now c.self.view_is c.self.invariant c.in-Some.is)
     (is ∙ ap (λ (o : Option Mode). own_part o m) (c.mode.ensures.mode ∙ ap (λ (t : List Entry). mode_at depth t e n) same))
 
-pub returns-in-Some-clause-is : goal.returns-in-Some-clause-is
-returns-in-Some-clause-is c = counted c Is (slice_index c.counts_of_one.result 0) c.counts_of_one.ensures.is
-
-pub returns-in-Some-clause-ix : goal.returns-in-Some-clause-ix
-returns-in-Some-clause-ix c = counted c Ix (slice_index c.counts_of_one.result 1) c.counts_of_one.ensures.ix
-
-pub returns-in-Some-clause-s : goal.returns-in-Some-clause-s
-returns-in-Some-clause-s c = counted c S (slice_index c.counts_of_one.result 2) c.counts_of_one.ensures.s
-
-pub returns-in-Some-clause-six : goal.returns-in-Some-clause-six
-returns-in-Some-clause-six c = counted c Six (slice_index c.counts_of_one.result 3) c.counts_of_one.ensures.six
-
-pub returns-in-Some-clause-x : goal.returns-in-Some-clause-x
-returns-in-Some-clause-x c = counted c X (slice_index c.counts_of_one.result 4) c.counts_of_one.ensures.x
+pub returns-in-Some : goal.returns-in-Some
+returns-in-Some c =
+    let n = c.counts_of_one.result in
+    let of = c.counts_of_one.ensures in
+    record {
+      is = counted c Is (slice_index n 0) of.is;
+      ix = counted c Ix (slice_index n 1) of.ix;
+      s = counted c S (slice_index n 2) of.s;
+      six = counted c Six (slice_index n 3) of.six;
+      x = counted c X (slice_index n 4) of.x;
+    }

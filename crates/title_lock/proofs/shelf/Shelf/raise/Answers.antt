@@ -1,72 +1,38 @@
 -- One node's holders change, and they keep their room.
-use Rattle.std.proofs.Common.{◌∙◌, ◌&&◌, not, ap, Some, None, cond, eqb, Option}
-use Rattle.title_lock.specs.{Holders.{Modes}, Modes.{bound}, Tables.{mode_in, room_in, idle_in, unused_in}}
-use Rattle.title_lock.proofs.TableLaws.{node_writes, node_finds, is_found, raised, room_stays, idle_less, used_after}
-use Rattle.title_lock.proofs.{IdleLaws.{idles_raised, rooms_used}, HomeLaws.{home_after, found_some}}
+use Rattle.std.proofs.Common.{◌≡◌, ◌∙◌, ◌&&◌, Bool, true, false, not, ap, sym, Some, None, cond, eqb}
+use mathlib.Core.Bool.{and-true}
+use Rattle.title_lock.specs.{Modes.{bound}, Tables.{mode_in, room_in, idle_in, unused_in}, Holders.{holder_mode}}
+use Rattle.title_lock.proofs.{TableLaws.{everywhere, is_found}, AccessLaws.{idle_off, raise_off}}
+use Rattle.title_lock.proofs.{IdleLaws.{idles_raised, rooms_used}, HomeLaws.{home_after}}
 use Rattle.title_lock.proofs.shelf.Shelf.raise.Goals as goal
 
-pub returns-in-Some-clause-modes : goal.returns-in-Some-clause-modes
-returns-in-Some-clause-modes c f =
+pub returns-in-Some : goal.returns-in-Some
+returns-in-Some c =
     let e = c.args.examiner in
-    let w = c.raise.new.self in
-    let code = c.args.spot.now.is.numbered in
-    let found = c.in-Some.ensures.value in
-    let had = node_finds c.args.self.now.holders c.args.spot.now.number c.args.spot.now.is.node (Some c.in-Some.holders.now) code found in
-    let writes = node_writes c.args.self.now.holders (c.get_mut.follows.lender w) c.args.spot.now.number c.args.spot.now.is.node (Some w)
-    code ((c.get_mut.follows.holds w).3 (is_found _ _ found)).0 in
-    raised c.args.self.now.holders (c.get_mut.follows.lender w) c.args.spot.now.is.node (Some w) writes
-    e f c.args.mode
-    (c.raise.ensures.modes f ∙ ap (λ (o : Option Modes). bound (mode_in f o) (cond (eqb f e) (Some c.args.mode) None)) had)
-
-pub returns-in-Some-clause-stays : goal.returns-in-Some-clause-stays
-returns-in-Some-clause-stays c f =
-    let w = c.raise.new.self in
-    let code = c.args.spot.now.is.numbered in
-    let found = c.in-Some.ensures.value in
-    let had = node_finds c.args.self.now.holders c.args.spot.now.number c.args.spot.now.is.node (Some c.in-Some.holders.now) code found in
-    let writes = node_writes c.args.self.now.holders (c.get_mut.follows.lender w) c.args.spot.now.number c.args.spot.now.is.node (Some w)
-    code ((c.get_mut.follows.holds w).3 (is_found _ _ found)).0 in
-    room_stays c.args.self.now.holders (c.get_mut.follows.lender w) c.args.spot.now.is.node (Some w)
-    writes f
-    (λ h. c.raise.ensures.rooms f ∙ ap (room_in f) had ∙ h)
-
-pub returns-in-Some-clause-idle : goal.returns-in-Some-clause-idle
-returns-in-Some-clause-idle c =
-    let e = c.args.examiner in
+    let a = c.args.mode in
+    let m = c.args.self.now.holders in
+    let at = c.args.spot.now in
     let h = c.in-Some.holders.now in
     let w = c.raise.new.self in
-    let code = c.args.spot.now.is.numbered in
+    let made = c.raise.ensures in
     let found = c.in-Some.ensures.value in
-    let had = node_finds c.args.self.now.holders c.args.spot.now.number c.args.spot.now.is.node (Some c.in-Some.holders.now) code found in
-    let writes = node_writes c.args.self.now.holders (c.get_mut.follows.lender w) c.args.spot.now.number c.args.spot.now.is.node (Some w)
-    code ((c.get_mut.follows.holds w).3 (is_found _ _ found)).0 in
+    let writes = ((c.get_mut.follows.holds w).3 (is_found _ _ found)).0 in
+    let all = everywhere m (c.get_mut.follows.lender w) at.number at.is.node (Some h) (Some w) at.is.numbered found writes in
     record {
-      less = λ f. idle_less c.args.self.now.holders (c.get_mut.follows.lender w) c.args.spot.now.is.node (Some w)
-          writes (eqb f e) f
-          (idles_raised h w f e c.args.mode (c.raise.ensures.modes f) (c.raise.ensures.rooms f)
-          ∙ ap (λ (o : Option Modes). idle_in f o && not (eqb f e)) had);
-    }
-
-pub returns-in-Some-clause-used : goal.returns-in-Some-clause-used
-returns-in-Some-clause-used c used =
-    let w = c.raise.new.self in
-    let code = c.args.spot.now.is.numbered in
-    let found = c.in-Some.ensures.value in
-    let had = node_finds c.args.self.now.holders c.args.spot.now.number c.args.spot.now.is.node (Some c.in-Some.holders.now) code found in
-    let writes = node_writes c.args.self.now.holders (c.get_mut.follows.lender w) c.args.spot.now.number c.args.spot.now.is.node (Some w)
-    code ((c.get_mut.follows.holds w).3 (is_found _ _ found)).0 in
-    record {
-      each = used_after c.args.self.now.holders (c.get_mut.follows.lender w) c.args.spot.now.is.node (Some w)
-          writes
-          (λ here. rooms_used c.in-Some.holders.now w (λ f room. c.raise.ensures.rooms f ∙ room) (ap unused_in had ∙ here)) used.each;
-    }
-
-pub returns-in-Some-clause-homes : goal.returns-in-Some-clause-homes
-returns-in-Some-clause-homes c h homes =
-    let w = c.raise.new.self in
-    let k = c.args.spot.now.number in
-    let found = c.in-Some.ensures.value in
-    record {
-      each = home_after h c.args.self.now.holders (c.get_mut.follows.lender w) k (Some w)
-          ((c.get_mut.follows.holds w).3 (is_found _ _ found)).0 (λ some. homes.each k (found_some _ _ found)) homes.each;
+      modes = λ f. all (λ o q b. mode_in f q ≡ bound (mode_in f o) (cond (eqb f e && b) (Some a) None))
+          (made.modes f ∙ ap (λ (b : Bool). bound (holder_mode h f) (cond b (Some a) None)) (sym (and-true (eqb f e))))
+          (λ o. raise_off (eqb f e) a (mode_in f o));
+      stays = λ f. all (λ o q b. room_in f o ≡ true → room_in f q ≡ true) (λ room. made.rooms f ∙ room) (λ o room. room);
+      idle = record {
+        less = λ f. all (λ o q b. idle_in f q ≡ (idle_in f o && not (eqb f e && b)))
+            (idles_raised h w f e a (made.modes f) (made.rooms f)) (λ o. idle_off (idle_in f o) (eqb f e));
+      };
+      used = λ used. record {
+        each = λ n. all (λ o q b. unused_in o ≡ false → unused_in q ≡ false) (rooms_used h w (λ f room. made.rooms f ∙ room))
+            (λ o same. same) n (used.each n);
+      };
+      homes = λ k homes. record {
+        each = home_after k m (c.get_mut.follows.lender w) at.number (Some w) writes (λ some. homes.each at.number (is_found _ _ found))
+            homes.each;
+      };
     }

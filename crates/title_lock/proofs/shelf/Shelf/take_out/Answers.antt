@@ -1,101 +1,94 @@
 -- One node's holders lose an examiner, and are dropped where nobody is left.
-use Rattle.std.proofs.Common.{◌≡◌, ◌∙◌, refl, ap, sym, subst, true, false, true≢false, Some, None, cond, ◌&&◌, not, eqb, Option}
+use Rattle.std.proofs.Common.{◌≡◌, ◌∙◌, refl, ap, sym, Bool, true, false, true≢false, Some, None, cond, ◌&&◌, not, eqb}
 use Rattle.std.specs.{Prelude.{is_some}, Ordering.{nat_cmp}, BTreeMap.{get}}
-use Rattle.title_land.specs.Nodes.{same_node}
-use Rattle.title_lock.specs.{Holders.{Modes, is_mode, is_free}, Tables.{holders_at, mode_in, idle_in, unused_in}}
-use Rattle.title_lock.proofs.TableLaws.{NodeMap, Writes, node_writes, node_finds, is_found, mode_of, same_everywhere, released}
-use Rattle.title_lock.proofs.TableLaws.{none_released, free_none, idle_less, none_idle, used_after, rewritten}
-use Rattle.title_lock.proofs.{IdleLaws.{idles_taken, free_idles}, HomeLaws.{home_after, found_some}}
+use mathlib.Core.Bool.{and-true}
+use Rattle.title_lock.specs.{Holders.{holder_mode, is_mode, is_free}, Tables.{holders_at, mode_in, idle_in, unused_in}}
+use Rattle.title_lock.proofs.TableLaws.{NodeMap, everywhere, is_found, nothing_there, rewritten, free_none}
+use Rattle.title_lock.proofs.{AccessLaws.{same_cond, idle_off, gone_off}, IdleLaws.{idles_taken, free_idles}}
+use Rattle.title_lock.proofs.HomeLaws.{home_after}
 use Rattle.title_lock.proofs.shelf.Shelf.take_out.Goals as goal
 
 pub returns-in_default : goal.returns-in_default
 returns-in_default c =
     let e = c.args.examiner in
-    let k = c.args.spot.now.is.node in
-    let code = c.args.spot.now.is.numbered in
-    let none = sym (node_finds c.args.self.now.holders c.args.spot.now.number k None code c.in_default.ensures.value) in
-    let now = c.get_mut.follows.holds-at-none in
+    let t = is_mode c.args.taken in
+    let at = c.args.spot.now in
     let m = c.args.self.now.holders in
+    let none = c.in_default.ensures.value in
+    let now = c.get_mut.follows.holds-at-none in
+    let all = everywhere m m at.number at.is.node None None at.is.numbered none (nothing_there m at.number none) in
     record {
-      modes = λ f n. subst (λ (z : NodeMap). mode_of z f n ≡ cond (is_mode c.args.taken && eqb f e && same_node n k) None (mode_of m f n))
-          (sym now) (none_released m k none (is_mode c.args.taken && eqb f e) f n);
+      modes = λ f n. ap (λ (z : NodeMap). mode_in f (holders_at z n)) now
+          ∙ all (λ o q b. mode_in f q ≡ cond (t && eqb f e && b) None (mode_in f o)) (same_cond (t && eqb f e && true) None)
+          (λ o. gone_off (t && eqb f e) (mode_in f o)) n;
       idle = record {
-        less = λ f n. subst (λ (z : NodeMap). idle_in f (holders_at z n)
-            ≡ (idle_in f (holders_at m n) && not (eqb f e && same_node n k))) (sym now) (none_idle m k none (eqb f e) f n);
+        less = λ f n. ap (λ (z : NodeMap). idle_in f (holders_at z n)) now
+            ∙ all (λ o q b. idle_in f q ≡ (idle_in f o && not (eqb f e && b))) refl (λ o. idle_off (idle_in f o) (eqb f e)) n;
       };
-      dropped = ap (λ (z : NodeMap). unused_in (holders_at z k)) now ∙ ap unused_in none;
       used = λ used. record { each = λ n. ap (λ (z : NodeMap). unused_in (holders_at z n)) now ∙ used.each n };
-      homes = λ h homes. record { each = λ q has. homes.each q (sym (ap (λ (z : NodeMap). is_some (get nat_cmp z q)) now) ∙ has) };
+      homes = λ k homes. record { each = λ q has. homes.each q (sym (ap (λ (z : NodeMap). is_some (get nat_cmp z q)) now) ∙ has) };
     }
 
 pub returns-then-take_out : goal.returns-then-take_out
 returns-then-take_out c =
     let e = c.args.examiner in
-    let k = c.args.spot.now.is.node in
+    let t = is_mode c.args.taken in
+    let at = c.args.spot.now in
+    let m = c.args.self.now.holders in
     let h = c.in-Some.holders.now in
     let w = c.take_out.new.self in
-    let code = c.args.spot.now.is.numbered in
-    let m = c.args.self.now.holders in
+    let taken = c.take_out.ensures in
     let mid = c.get_mut.follows.lender w in
+    let now = c.remove.new.self in
     let found = c.in-Some.ensures.value in
-    let had = node_finds m c.args.spot.now.number k (Some h) code found in
     let changes = (c.get_mut.follows.holds w).3 (is_found _ _ found) in
-    let writes = node_writes m mid c.args.spot.now.number k (Some w) code changes.0 in
-    let left : Some w ≡ holders_at mid k = node_finds mid c.args.spot.now.number k (Some w) code (sym changes.1) in
-    let free : is_free w ≡ true = sym c.take_out.ensures.free ∙ c.if-take_out.true in
-    let removes = node_writes mid c.remove.new.self c.args.spot.now.number k None code c.remove.ensures.updates.0 in
-    let gone : None ≡ holders_at c.remove.new.self k = node_finds c.remove.new.self c.args.spot.now.number k None code
-    (sym c.remove.ensures.updates.1) in
-    let both : Writes m c.remove.new.self k None = rewritten m mid c.remove.new.self k (Some w) None writes removes in
+    let removes = c.remove.ensures.updates in
+    let free : is_free w ≡ true = sym taken.free ∙ c.if-take_out.true in
+    let all = everywhere m now at.number at.is.node (Some h) None at.is.numbered found
+    (rewritten m mid now at.number (Some w) None changes.0 removes.0) in
     record {
-      modes = λ f n.
-          same_everywhere mid c.remove.new.self k None removes (mode_in f)
-          (sym (free_none w free f) ∙ ap (mode_in f) left) n
-          ∙ released m mid k (Some w) writes (is_mode c.args.taken && eqb f e) f
-          (c.take_out.ensures.modes f ∙ ap (λ (o : Option Modes). cond (is_mode c.args.taken && eqb f e) None (mode_in f o)) had) n;
+      modes = λ f. all (λ o q b. mode_in f q ≡ cond (t && eqb f e && b) None (mode_in f o))
+          (sym (free_none w free f) ∙ taken.modes f ∙ ap (λ (b : Bool). cond b None (holder_mode h f)) (sym (and-true (t && eqb f e))))
+          (λ o. gone_off (t && eqb f e) (mode_in f o));
       idle = record {
-        less = λ f. idle_less m c.remove.new.self k None both (eqb f e) f
-            (sym (free_idles w free f)
-            ∙ idles_taken h w f e (is_mode c.args.taken) (c.take_out.ensures.modes f) (c.take_out.ensures.rooms f)
-            ∙ ap (λ (o : Option Modes). idle_in f o && not (eqb f e)) had);
+        less = λ f. all (λ o q b. idle_in f q ≡ (idle_in f o && not (eqb f e && b)))
+            (sym (free_idles w free f) ∙ idles_taken h w f e t (taken.modes f) (taken.rooms f)) (λ o. idle_off (idle_in f o) (eqb f e));
       };
-      dropped = ap unused_in (sym gone);
-      used = λ used. record { each = used_after m c.remove.new.self k None both (λ here. refl) used.each };
-      homes = λ h homes. record {
-        each = home_after h mid c.remove.new.self c.args.spot.now.number None c.remove.ensures.updates.0
-            (λ some. absurd (true≢false (sym some)))
-            (home_after h m mid c.args.spot.now.number (Some w) changes.0
-            (λ some. homes.each c.args.spot.now.number (found_some _ _ found)) homes.each);
+      used = λ used. record {
+        each = λ n. all (λ o q b. unused_in o ≡ false → unused_in q ≡ false) (λ here. refl) (λ o same. same) n (used.each n);
+      };
+      homes = λ k homes. record {
+        each = home_after k m now at.number None (rewritten m mid now at.number (Some w) None changes.0 removes.0)
+            (λ some. absurd (true≢false (sym some))) homes.each;
       };
     }
 
 pub returns-else-take_out : goal.returns-else-take_out
 returns-else-take_out c =
     let e = c.args.examiner in
-    let k = c.args.spot.now.is.node in
+    let t = is_mode c.args.taken in
+    let at = c.args.spot.now in
+    let m = c.args.self.now.holders in
     let h = c.in-Some.holders.now in
     let w = c.take_out.new.self in
-    let code = c.args.spot.now.is.numbered in
-    let m = c.args.self.now.holders in
-    let mid = c.get_mut.follows.lender w in
+    let taken = c.take_out.ensures in
+    let now = c.get_mut.follows.lender w in
     let found = c.in-Some.ensures.value in
-    let had = node_finds m c.args.spot.now.number k (Some h) code found in
     let changes = (c.get_mut.follows.holds w).3 (is_found _ _ found) in
-    let writes = node_writes m mid c.args.spot.now.number k (Some w) code changes.0 in
-    let left : Some w ≡ holders_at mid k = node_finds mid c.args.spot.now.number k (Some w) code (sym changes.1) in
-    let kept : is_free w ≡ false = sym c.take_out.ensures.free ∙ c.if-take_out.false in
+    let kept : is_free w ≡ false = sym taken.free ∙ c.if-take_out.false in
+    let all = everywhere m now at.number at.is.node (Some h) (Some w) at.is.numbered found changes.0 in
     record {
-      modes = λ f. released m mid k (Some w) writes (is_mode c.args.taken && eqb f e) f
-          (c.take_out.ensures.modes f ∙ ap (λ (o : Option Modes). cond (is_mode c.args.taken && eqb f e) None (mode_in f o)) had);
+      modes = λ f. all (λ o q b. mode_in f q ≡ cond (t && eqb f e && b) None (mode_in f o))
+          (taken.modes f ∙ ap (λ (b : Bool). cond b None (holder_mode h f)) (sym (and-true (t && eqb f e))))
+          (λ o. gone_off (t && eqb f e) (mode_in f o));
       idle = record {
-        less = λ f. idle_less m mid k (Some w) writes (eqb f e) f
-            (idles_taken h w f e (is_mode c.args.taken) (c.take_out.ensures.modes f) (c.take_out.ensures.rooms f)
-            ∙ ap (λ (o : Option Modes). idle_in f o && not (eqb f e)) had);
+        less = λ f. all (λ o q b. idle_in f q ≡ (idle_in f o && not (eqb f e && b)))
+            (idles_taken h w f e t (taken.modes f) (taken.rooms f)) (λ o. idle_off (idle_in f o) (eqb f e));
       };
-      dropped = ap unused_in (sym left) ∙ kept;
-      used = λ used. record { each = used_after m mid k (Some w) writes (λ here. kept) used.each };
-      homes = λ h homes. record {
-        each = home_after h m mid c.args.spot.now.number (Some w) changes.0
-            (λ some. homes.each c.args.spot.now.number (found_some _ _ found)) homes.each;
+      used = λ used. record {
+        each = λ n. all (λ o q b. unused_in o ≡ false → unused_in q ≡ false) (λ here. kept) (λ o same. same) n (used.each n);
+      };
+      homes = λ k homes. record {
+        each = home_after k m now at.number (Some w) changes.0 (λ some. homes.each at.number (is_found _ _ found)) homes.each;
       };
     }

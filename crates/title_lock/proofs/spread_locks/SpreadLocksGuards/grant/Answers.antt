@@ -11,7 +11,7 @@ raise_all-requires c =
     let x : Entry = record { examiner = c.args.examiner; tract = c.args.tract.now; access = c.args.access } in
     let first = first_waits depth c.self.inside.prepared c.self.inside.book c.self.inside.table x c.self.invariant.kept
     (ap (λ (l : Locks). l.prepared) c.self.view_is ∙ c.requires.prepared) in
-    record { room = λ n asks. first.room n (ap (λ (t : List Node). list_any (is_asked n) t) (sym c.cover.ensures.cover) ∙ asks) }
+    record { room = λ n asks. first.1.room n (ap (λ (t : List Node). list_any (is_asked n) t) (sym c.cover.ensures.cover) ∙ asks) }
 
 pub invariant_of-self : goal.invariant_of-self
 invariant_of-self c =
@@ -21,9 +21,9 @@ invariant_of-self c =
     let first = first_waits depth c.self.inside.prepared c.self.inside.book table x c.self.invariant.kept
     (ap (λ (l : Locks). l.prepared) c.self.view_is ∙ c.requires.prepared) in
     record {
-      kept = subst (λ (t : List Entry). TableIs depth t (on_all c.raise_all.new.self)) (sym first.first)
-          (table_more depth meet_by_covers es table c.raise_all.new.self x first.wide
-          (kept_table depth c.self.inside.prepared c.self.inside.book table c.self.invariant.kept) first.free
+      kept = subst (λ (t : List Entry). TableIs depth t (on_all c.raise_all.new.self)) (sym first.0)
+          (table_more depth meet_by_covers es table c.raise_all.new.self x first.1.wide
+          (kept_table depth c.self.inside.prepared c.self.inside.book table c.self.invariant.kept) first.1.free
           (λ f n. c.raise_all.ensures.modes f n
           ∙ ap (λ (t : List Node). bound (table_mode (on_all table) f n) (cond (eqb f x.examiner) (asked
           (is_post x.access) t n) None)) c.cover.ensures.cover));
@@ -41,4 +41,4 @@ returns c =
     let x : Entry = record { examiner = c.args.examiner; tract = c.args.tract.now; access = c.args.access } in
     let first = first_waits depth c.self.inside.prepared c.self.inside.book c.self.inside.table x c.self.invariant.kept
     (ap (λ (l : Locks). l.prepared) c.self.view_is ∙ c.requires.prepared) in
-    record { granted = first.first ∙ ap (λ (l : Locks). x ∷ l.entries) c.self.view_is }
+    record { granted = first.0 ∙ ap (λ (l : Locks). x ∷ l.entries) c.self.view_is }

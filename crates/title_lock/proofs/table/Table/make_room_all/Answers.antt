@@ -1,5 +1,5 @@
 -- One climb more.
-use Rattle.std.{proofs.Common.{◌∙◌, List, None, subst}, specs.List.{list_any}}
+use Rattle.std.{proofs.Common.{◌∙◌, List, None, rules, subst}, specs.List.{list_any}}
 use Rattle.title_lock.specs.{Tables.{on_all, is_asked, HasRoom}, Walks.{Asked, asks_in, walk, climb_asks, walk_left, Roomed}}
 use Rattle.title_lock.proofs.{WalkLaws.{walk_shorter, walk_asks_in}, DoneLaws.{roomed_then, roomed_same, rooms_then, room_last, more_is}}
 use Rattle.title_lock.proofs.table.Table.make_room_all.Goals as goal
@@ -46,21 +46,19 @@ returns c =
       used = c.loop-climb.invariant.used;
     }
 
-pub returns-in_err-make_room_along-clause-modes : goal.returns-in_err-make_room_along-clause-modes
-returns-in_err-make_room_along-clause-modes c =
-    let e = c.args.examiner in
-    let u = on_all c.make_room_along.new.self in
-    let rest = walk_left c.next.new.self in
-    let all = roomed_then (on_all c.loop-climb.self) e (climb_asks c.in-Some.climb) rest c.in-Some.ensures.next (on_all c.args.self.now) u
-    (walk None c.args.cover.now) c.loop-climb.invariant.does c.make_room_along.ensures.roomed u (roomed_same u e rest) in
-    all.modes
-
-pub returns-in_err-make_room_along-clause-idle : goal.returns-in_err-make_room_along-clause-idle
-returns-in_err-make_room_along-clause-idle c =
+pub returns-in_err-make_room_along : goal.returns-in_err-make_room_along
+returns-in_err-make_room_along c =
     let e = c.args.examiner in
     let cover = c.args.cover.now in
     let u = on_all c.make_room_along.new.self in
     let rest = walk_left c.next.new.self in
+    let made = c.make_room_along.ensures in
     let all = roomed_then (on_all c.loop-climb.self) e (climb_asks c.in-Some.climb) rest c.in-Some.ensures.next (on_all c.args.self.now) u
-    (walk None cover) c.loop-climb.invariant.does c.make_room_along.ensures.roomed u (roomed_same u e rest) in
-    more_is (on_all c.args.self.now) u e (asks_in (walk None cover)) (λ n. list_any (is_asked n) cover) (walk_asks_in cover) all.idle
+    (walk None cover) c.loop-climb.invariant.does made.roomed u (roomed_same u e rest) in
+    record {
+      modes = all.modes;
+      room = search rules;
+      idle = more_is (on_all c.args.self.now) u e (asks_in (walk None cover)) (λ n. list_any (is_asked n) cover) (walk_asks_in cover)
+          all.idle;
+      used = λ used. made.used (c.loop-climb.invariant.used used);
+    }

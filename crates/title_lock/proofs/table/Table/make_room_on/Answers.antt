@@ -2,8 +2,8 @@
 use Rattle.std.{proofs.{Common.{◌∙◌, ap, sym, subst, Option, List, ℕ}, lemmas.Result.{on_ok_weaker}}, specs.Ordering.{nat_cmp}}
 use Rattle.std.specs.{BTreeMap.{BTreeMap, get, is_at}, Map.{lookup}}
 use Rattle.title_lock.specs.{declared.shelf.Shelf.{Shelf}, Tables.{on_shelf, on_some, nowhere, HasRoom, IsStocked}}
-use Rattle.title_lock.{specs.Walks.{asks_in, climb_asks, Roomed}, proofs.{SectionLaws.{room_stocked, is_there}, DoneLaws.{roomed_same}}}
-use Rattle.title_lock.proofs.Shelves.{carried, roomed_fresh, asks_own}
+use Rattle.title_lock.{specs.Walks.{asks_in, climb_asks, Roomed}, proofs.{TableLaws.{is_found}, DoneLaws.{roomed_same}}}
+use Rattle.title_lock.proofs.Shelves.{carried, room_stocked, roomed_fresh, asks_own}
 use Rattle.title_lock.proofs.table.Table.make_room_on.Goals as goal
 
 pub returns-in-Some-clause-roomed : goal.returns-in-Some-clause-roomed
@@ -12,14 +12,14 @@ returns-in-Some-clause-roomed c =
     let found = c.in-Some.ensures.value in
     carried (λ t u. Roomed t u c.args.examiner (climb_asks c.args.climb.now))
     (get nat_cmp c.args.self.now.sections c.args.home) (get nat_cmp (c.get_mut.follows.lender w) c.args.home) c.in-Some.shelf.now w found
-    ((c.get_mut.follows.holds w).3 (is_there _ _ found)).1 c.make_room_along.ensures.roomed
+    ((c.get_mut.follows.holds w).3 (is_found _ _ found)).1 c.make_room_along.ensures.roomed
 
 pub returns-in-Some-clause-room : goal.returns-in-Some-clause-room
 returns-in-Some-clause-room c =
     let w = c.make_room_along.new.self in
     let e = c.args.examiner in
     let l = climb_asks c.args.climb.now in
-    let now = ((c.get_mut.follows.holds w).3 (is_there _ _ c.in-Some.ensures.value)).1 in
+    let now = ((c.get_mut.follows.holds w).3 (is_found _ _ c.in-Some.ensures.value)).1 in
     on_ok_weaker c.make_room_along.result
     (subst (λ (o : Option Shelf). HasRoom (on_shelf w) e (asks_in l) → HasRoom (on_some o) e (asks_in l)) (sym now) (λ room. room))
     c.make_room_along.ensures.room

@@ -1,6 +1,7 @@
 -- Nothing stands anywhere.
-use Rattle.std.proofs.Common.{refl}
+use Rattle.std.proofs.Common.{refl, None}
 use Rattle.title_land.specs.declared.node.Node.TheVariants as node
+use Rattle.title_lock.proofs.Shelves.{empty_used}
 use Rattle.title_lock.proofs.table.Table.new.Goals as goal
 
 pub returns-clause-free : goal.returns-clause-free
@@ -14,10 +15,4 @@ returns-clause-idle c e (node.Township t) = c.new.ensures.idle e (node.Township 
 returns-clause-idle c e (node.Part s w) = rw c.new-2.ensures.empty refl
 
 pub returns-clause-used : goal.returns-clause-used
-returns-clause-used c = record {
-  upper = c.new.ensures.used;
-  sections = λ k. record { each = λ n. rw c.new-2.ensures.empty refl };
-  stocked = λ k. rw c.new-2.ensures.empty tt;
-  upper_home = c.new.ensures.homes _;
-  section_homes = λ k. rw c.new-2.ensures.empty tt;
-}
+returns-clause-used c = empty_used _ c.new-2.ensures.empty c.new.ensures.used (c.new.ensures.homes None)

@@ -1,9 +1,8 @@
 -- One climb more.
 use Rattle.std.proofs.Common.{Option, ℕ, None, sym, subst}
 use Rattle.title_land.specs.declared.node.Node.{Node}
-use Rattle.title_lock.specs.{Overlaps.{is_post}, Tables.{on_all, table_mode, clashes_with}, Walks.{clashes_in, walk, climb_asks, walk_left}}
-use Rattle.title_lock.proofs.{LeastLaws.{least_same}, WalkLaws.{walk_shorter, walk_clashes}}
-use Rattle.title_lock.proofs.DoneLaws.{IsSoFar, so_far_begins, so_far_goes, so_far_ends}
+use Rattle.title_lock.specs.{Overlaps.{is_post}, Tables.{on_all, table_mode}, Walks.{walk, climb_asks, walk_left}}
+use Rattle.title_lock.proofs.{WalkLaws.{walk_shorter}, DoneLaws.{IsSoFar, so_far_begins, so_far_goes, so_far_ends}}
 use Rattle.title_lock.proofs.table.Table.ways.Goals as goal
 
 pub loop-climb-init : goal.loop-climb-init
@@ -25,13 +24,7 @@ pub loop-climb-smaller : goal.loop-climb-smaller
 loop-climb-smaller c = walk_shorter (walk_left c.loop-climb.walk) c.in-Some.climb (walk_left c.next.new.self) c.in-Some.ensures.next
 
 pub returns : goal.returns
-returns c =
-    let e = c.args.examiner in
-    let p = is_post c.args.access in
-    let held = λ (f : ℕ) (n : Node). table_mode (on_all c.args.self.now) f n in
-    let whole = walk None c.args.cover.now in
-    record {
-      way = least_same (λ f. clashes_in p (held f) whole) (λ f. clashes_with p (held f) c.args.cover.now) e c.loop-climb.way
-          (λ f other. walk_clashes p (held f) c.args.cover.now)
-          (so_far_ends p held e whole (walk_left c.loop-climb.walk) c.loop-climb.way c.in_default.ensures.next c.loop-climb.invariant);
-    }
+returns c = record {
+  way = so_far_ends (is_post c.args.access) (λ f n. table_mode (on_all c.args.self.now) f n) c.args.examiner (walk None c.args.cover.now)
+      (walk_left c.loop-climb.walk) c.loop-climb.way c.in_default.ensures.next c.loop-climb.invariant;
+}
