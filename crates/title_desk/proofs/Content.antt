@@ -1,22 +1,22 @@
 -- What the store holds answers as the definitions do.
-use Rattle.std.proofs.Common.{◌≡◌, ◌≢◌, ℕ, Bool, true, false, ◌&&◌, List, [], ◌∷◌, refl, ap, ◌∙◌, sym, eqb, inl, inr}
-use Rattle.std.proofs.lemmas.Bool.{eqb-true, eqb-false, and_parts, and_from, or_parts, or_from, or_right, false_from_ne_true, both_ways}
+use Rattle.std.proofs.Common.{◌≡◌, ◌≢◌, ℕ, Bool, true, false, ◌&&◌, List, [], ◌∷◌, refl, ap, ◌∙◌, sym, subst, eqb, inl, inr}
+use Rattle.std.proofs.lemmas.Bool.{eq-eqb, ne_eqb, and_parts, and_from, or_parts, or_from, or_right, false_from_ne_true, both_ways}
 use Rattle.std.proofs.lemmas.Bool.{cases_eq, cases_Bool}
 use Rattle.title_land.specs.{Depth.{depth}, declared.survey.{Township.{Township}, Cell.{Cell}}}
 use Rattle.title_store.specs.{Plants.{Plant, is_cell_of}, Loans.{Loan}}
-use Rattle.title_chain.specs.{declared.ask.{Ask.{Ask}, Answer.{Answer}, Step.{Step}}, Asks.{tract_of, is_post, overlap, effect}}
+use Rattle.title_chain.specs.{declared.ask.{Ask.{Ask}, Answer.{Answer}, Step.{Step}}, Asks.{tract_of, is_post, overlap}}
 use Rattle.title_chain.specs.{Alone.{after_steps}, Overlaps.{overlaps, Clear}, ChainLaws.{SameIn}}
 use Rattle.title_chain.specs.Laws.AskLaws.{cell_meets, effect_outside}
 use Rattle.title_chain.specs.declared.ask.Ask.TheVariants as ask
-use Rattle.title_desk.specs.{Images.{is_posted, posted_at, Peels, Backed}, Keeps.{State, plant_of, plant_for, Facts}}
-
-case_at : (P : Bool → Type 0) (f e : ℕ) → (f ≡ e → P true) → (f ≢ e → P false) → (b : Bool) → eqb f e ≡ b → P b
-case_at P f e same other true h = same (eqb-true f e h)
-case_at P f e same other false h = other (eqb-false f e h)
+use Rattle.title_desk.specs.Images.{is_posted, posted_at, Backed, backs_none, backs_post, backs_other}
+use Rattle.title_desk.specs.Keeps.{State, own_of, plant_of, plant_for, Facts}
 
 -- cases on whether two numbers are one
 pub case_eqb : (P : Bool → Type 0) (f e : ℕ) → (f ≡ e → P true) → (f ≢ e → P false) → P (eqb f e)
-case_eqb P f e same other = case_at P f e same other (eqb f e) refl
+case_eqb P f e same other = elim (cases_eq f e) [
+  | inl is ↦ subst P (sym (eq-eqb f e is)) (same is)
+  | inr ne ↦ subst P (sym (ne_eqb f e ne)) (other ne)
+]
 
 -- a step that was posted is a post
 pub post_of : (b : Ask) (given : Answer) → is_posted b given ≡ true → is_post b ≡ true
@@ -48,31 +48,32 @@ posted_apart ts (s ∷ earlier) theirs c clear h =
     (unposted ts s.ask theirs c clear.1 (and_parts (is_posted s.ask s.answer) (is_cell_of depth ts (tract_of s.ask) c) k).1) h))
     (posted_apart ts earlier theirs c clear.0 h)
 
--- a step that wasn't posted at a cell leaves it
-step_keeps : (out : List Loan) (ts : List Township) (before : Plant) (s : Step) (images older : List ℕ) (b : Bool) (c : Cell) →
-    Peels out ts before s images older b → (b && is_cell_of depth ts (tract_of s.ask) c) ≡ false → effect depth ts before s.ask c ≡ before c
-step_keeps out ts before s images older true c p n = effect_outside depth ts before s.ask c n
-step_keeps out ts before s images older false c p n = p.1 c
+-- where there is no step there is no image
+pub backed_none : (out : List Loan) (ts : List Township) (p : Plant) (own : List Step) (images : List ℕ) → own ≡ [] → images ≡ []
+    → Backed out ts p own images
+backed_none out ts p own images steps numbers = rw (steps, numbers) backs_none
 
 -- steps of which none was posted at a cell leave it
-pub steps_keep : (out : List Loan) (ts : List Township) (p : Plant) (own : List Step) (images : List ℕ) (c : Cell) →
-    Backed out ts p own images → posted_at ts c own ≡ false → after_steps depth ts p own c ≡ p c
-steps_keep out ts p [] images c b n = refl
-steps_keep out ts p (s ∷ earlier) images c b n =
+pub steps_keep : (out : List Loan) (ts : List Township) (p : Plant) {own : List Step} {images : List ℕ} (c : Cell)
+    → Backed out ts p own images → posted_at ts c own ≡ false → after_steps depth ts p own c ≡ p c
+steps_keep out ts p c backs_none n = refl
+steps_keep out ts p c (backs_post s earlier m older is b more) n =
     let parts = or_parts (is_posted s.ask s.answer && is_cell_of depth ts (tract_of s.ask) c) (posted_at ts c earlier) n in
-    step_keeps out ts (after_steps depth ts p earlier) s images b.0 (is_posted s.ask s.answer) c b.1 parts.0
-    ∙ steps_keep out ts p earlier b.0 c b.2 parts.1
+    effect_outside depth ts (after_steps depth ts p earlier) s.ask c
+    (sym (ap (λ x. x && is_cell_of depth ts (tract_of s.ask) c) is) ∙ parts.0) ∙ steps_keep out ts p c more parts.1
+steps_keep out ts p c (backs_other s earlier images is idle more) n = idle c ∙ steps_keep out ts p c more
+    (or_parts (is_posted s.ask s.answer && is_cell_of depth ts (tract_of s.ask) c) (posted_at ts c earlier) n).1
 
 -- in the tract of an ask that nobody else's steps overlap, the store holds what the examiner sees
-pub content_is : {s : State} → Facts s → (e : ℕ) (a : Ask) → ((f : ℕ) → f ≢ e → overlaps a (s.own f) ≡ false) →
+pub content_is : {s : State} → Facts s → (e : ℕ) (a : Ask) → ((f : ℕ) → f ≢ e → overlaps a (own_of s f) ≡ false) →
     SameIn depth s.declared (tract_of a) s.content (plant_for s e)
 content_is {s} facts e a free c inside =
-    elim (cases_Bool (posted_at s.declared c (s.own e))) [
+    elim (cases_Bool (posted_at s.declared c (own_of s e))) [
       | inl mine ↦ facts.posted e c mine
       | inr none ↦
           facts.rest c (λ f. elim (cases_eq f e) [
-            | inl same ↦ ap (λ g. posted_at s.declared c (s.own g)) same ∙ none
-            | inr other ↦ unposted s.declared a (s.own f) c (free f other) inside
+            | inl same ↦ ap (λ g. posted_at s.declared c (own_of s g)) same ∙ none
+            | inr other ↦ unposted s.declared a (own_of s f) c (free f other) inside
           ])
-          ∙ sym (steps_keep s.out s.declared (plant_of s) (s.own e) (s.images e) c (facts.backed e) none)
+          ∙ sym (steps_keep s.out s.declared (plant_of s) c (facts.backed e) none)
     ]

@@ -1,13 +1,13 @@
 -- Images that are out, those of a transaction that go back or are let go in their turn, and what the plant holds then.
-use Rattle.std.proofs.Common.{◌≡◌, ◌≢◌, ◌<◌, ℕ, Bool, true, false, cond, ◌&&◌, ◌||◌, List, [], ◌∷◌, ◌++◌, reverse, refl, ap, ◌∙◌, sym}
+use Rattle.std.proofs.Common.{◌≡◌, ◌≢◌, ◌<◌, ℕ, true, false, cond, ◌&&◌, ◌||◌, List, [], ◌∷◌, ◌++◌, reverse, refl, ap, ◌∙◌, sym}
 use Rattle.std.proofs.{Common.{subst, ◌⊎◌, inl, inr, arith, map}, lemmas.Bool.{or_parts, cond_both, cond-false}}
 use Rattle.std.proofs.lemmas.List.{reverse-append, reverse-reverse}
 use Rattle.title_land.specs.{Depth.{depth}, declared.survey.{Township.{Township}, Cell.{Cell}}, Lands.{meets}}
-use Rattle.title_store.specs.{Plants.{Plant, SameContent, is_cell_of}, Loans.{Loan, IsAmong, IsLentAs, IsOut, without, IsLast, IsFirst}}
-use Rattle.title_chain.specs.{declared.ask.{Ask.{Ask}, Step.{Step}}, Asks.{tract_of, is_post, overlap, effect}, Alone.{after_steps}}
+use Rattle.title_store.specs.{Plants.{Plant, SameContent, is_cell_of}, Loans.{Loan, IsAmong, IsLentAs, IsOut, without}}
+use Rattle.title_chain.specs.{declared.ask.{Ask.{Ask}, Step.{Step}}, Asks.{tract_of, is_post, overlap}, Alone.{after_steps}}
 use Rattle.title_chain.specs.{Overlaps.{overlaps, Clear}, Laws.AskLaws.{effect_outside}}
-use Rattle.title_desk.specs.Images.{is_posted, IsOf, Backs, Peels, Backed, without_all, Restorable, Forgettable, posted_at, put_back}
-use Rattle.title_desk.{specs.Images.{IsRestored}, proofs.Content.{case_eqb, post_of}}
+use Rattle.title_desk.specs.Images.{is_posted, IsOf, Backs, Backed, backs_none, backs_post, backs_other, InTurn, without_all}
+use Rattle.title_desk.{specs.Images.{IsRestored, posted_at, put_back}, proofs.Content.{case_eqb, post_of}}
 
 -- what is out without one number
 pub out_without : (n : ℕ) (x : Loan) (out : List Loan) → IsAmong x (without n out) → IsAmong x out × (x.number ≢ n)
@@ -66,84 +66,70 @@ backs_in out out' ts before s n older r p =
       above = p.above;
     }
 
-peels_in : (out out' : List Loan) (ts : List Township) (before : Plant) (s : Step) (images older : List ℕ) (posted : Bool) →
-    Peels out ts before s images older posted → Remain images out out' → Peels out' ts before s images older posted × Remain older out out'
-peels_in out out' ts before s images older false p r = (p, subst (λ is. Remain is out out') p.0 r)
-peels_in out out' ts before s images older true p r =
-    let r' : Remain (p.0 ∷ older) out out' = subst (λ is. Remain is out out') p.1 r in (
-      (p.0, p.1, backs_in out out' ts before s p.0 older r' p.2),
-      record { there = λ b k. r'.there b (inr k); back = λ b k. r'.back b (inr k) },
-    )
-
 -- images that stay out
-pub backed_in : (out out' : List Loan) (ts : List Township) (p : Plant) (own : List Step) (images : List ℕ) →
+pub backed_in : (out out' : List Loan) (ts : List Township) (p : Plant) {own : List Step} {images : List ℕ} →
     Backed out ts p own images → Remain images out out' → Backed out' ts p own images
-backed_in out out' ts p [] images b r = b
-backed_in out out' ts p (s ∷ earlier) images b r =
-    let peeled = peels_in out out' ts (after_steps depth ts p earlier) s images b.0 (is_posted s.ask s.answer) b.1 r in
-    (b.0, peeled.0, backed_in out out' ts p earlier b.0 b.2 peeled.1)
+backed_in out out' ts p backs_none r = backs_none
+backed_in out out' ts p (backs_post s earlier n older is b more) r =
+    backs_post s earlier n older is (backs_in out out' ts (after_steps depth ts p earlier) s n older r b)
+    (backed_in out out' ts p more (record { there = λ x k. r.there x (inr k); back = λ x k. r.back x (inr k) }))
+backed_in out out' ts p (backs_other s earlier images is idle more) r =
+    backs_other s earlier images is idle (backed_in out out' ts p more r)
 
--- the step is one of these
-abbrev pub IsStepOf : Step → List Step → Type 0
-IsStepOf s [] = ⊥
-IsStepOf s (o ∷ earlier) = (s ≡ o) ⊎ IsStepOf s earlier
-
--- the image of this number is out for the tract of one of these steps, which was posted
+-- the image of this number is out for the tract of a post among these steps
 pub record IsFor (out : List Loan) (own : List Step) (n : ℕ) : Type 0 where
-  pub step : Step
-  pub among : IsStepOf step own
-  pub posted : is_posted step.ask step.answer ≡ true
+  pub ask : Ask
+  pub posts : is_post ask ≡ true
+  pub misses : (b : Ask) → overlaps b own ≡ false → overlap b ask ≡ false
+  pub clear : (theirs : List Step) → Clear own theirs → overlaps ask theirs ≡ false
   pub is_out : IsOut n out
-  pub land_is : (b : Loan) → IsLentAs b n out → b.land ≡ tract_of step.ask
+  pub land_is : (b : Loan) → IsLentAs b n out → b.land ≡ tract_of ask
 
 for_more : (out : List Loan) (own : List Step) (s : Step) (n : ℕ) → IsFor out own n → IsFor out (s ∷ own) n
-for_more out own s n f = record { step = f.step; among = inr f.among; posted = f.posted; is_out = f.is_out; land_is = f.land_is }
-
-peels_for : (out : List Loan) (ts : List Township) (before : Plant) (s : Step) (earlier : List Step) (images older : List ℕ) (posted : Bool)
-    (n : ℕ) → is_posted s.ask s.answer ≡ posted → Peels out ts before s images older posted → IsOf n images
-    → (IsOf n older → IsFor out earlier n) → IsFor out (s ∷ earlier) n
-peels_for out ts before s earlier images older false n is p h more = for_more out earlier s n (more (subst (IsOf n) p.0 h))
-peels_for out ts before s earlier images older true n is p h more =
-    elim (subst (IsOf n) p.1 h) [
-      | inl same ↦ record {
-        step = s;
-        among = inl refl;
-        posted = is;
-        is_out = subst (λ m. IsOut m out) (sym same) p.2.is_out;
-        land_is = λ b lent. p.2.land_is b (lent.0, lent.1 ∙ same);
-      }
-      | inr r ↦ for_more out earlier s n (more r)
-    ]
+for_more out own s n f = record {
+  ask = f.ask;
+  posts = f.posts;
+  misses = λ b none. f.misses b (or_parts (overlap b s.ask) (overlaps b own) none).1;
+  clear = λ theirs clear. f.clear theirs clear.0;
+  is_out = f.is_out;
+  land_is = f.land_is;
+}
 
 -- each image is for a step
-pub backed_for : (out : List Loan) (ts : List Township) (p : Plant) (own : List Step) (images : List ℕ) (n : ℕ) →
+pub backed_for : (out : List Loan) (ts : List Township) (p : Plant) {own : List Step} {images : List ℕ} (n : ℕ) →
     Backed out ts p own images → IsOf n images → IsFor out own n
-backed_for out ts p [] images n b h = absurd (subst (IsOf n) b h)
-backed_for out ts p (s ∷ earlier) images n b h =
-    peels_for out ts (after_steps depth ts p earlier) s earlier images b.0 (is_posted s.ask s.answer) n refl b.1 h
-    (λ k. backed_for out ts p earlier b.0 n b.2 k)
+backed_for out ts p n backs_none h = absurd h
+backed_for out ts p n (backs_post s earlier m older is b more) h = elim h [
+  | inl same ↦ record {
+    ask = s.ask;
+    posts = post_of s.ask s.answer is;
+    misses = λ a none. (or_parts (overlap a s.ask) (overlaps a earlier) none).0;
+    clear = λ theirs clear. clear.1;
+    is_out = subst (λ k. IsOut k out) (sym same) b.is_out;
+    land_is = λ x lent. b.land_is x (lent.0, lent.1 ∙ same);
+  }
+  | inr r ↦ for_more out earlier s n (backed_for out ts p n more r)
+]
+backed_for out ts p n (backs_other s earlier images is idle more) h = for_more out earlier s n (backed_for out ts p n more h)
 
--- each number is above all later ones
+-- all later numbers stand so to each number
+abbrev pub IsOrdered : (ℕ → ℕ → Type 0) → List ℕ → Type 0
+IsOrdered R [] = Unit {0}
+IsOrdered R (n ∷ ns) = ((m : ℕ) → IsOf m ns → R m n) × IsOrdered R ns
+
+-- they fall, or they rise
 abbrev pub IsFalling : List ℕ → Type 0
-IsFalling [] = Unit {0}
-IsFalling (n ∷ ns) = ((m : ℕ) → IsOf m ns → m < n) × IsFalling ns
+IsFalling = IsOrdered (λ m n. m < n)
 
--- each number is below all later ones
 abbrev pub IsRising : List ℕ → Type 0
-IsRising [] = Unit {0}
-IsRising (n ∷ ns) = ((m : ℕ) → IsOf m ns → n < m) × IsRising ns
-
-peels_fall : (out : List Loan) (ts : List Township) (before : Plant) (s : Step) (images older : List ℕ) (posted : Bool) →
-    Peels out ts before s images older posted → IsFalling older → IsFalling images
-peels_fall out ts before s images older false p h = subst IsFalling (sym p.0) h
-peels_fall out ts before s images older true p h = subst IsFalling (sym p.1) (p.2.above, h)
+IsRising = IsOrdered (λ m n. n < m)
 
 -- the numbers of the images fall
-pub falling : (out : List Loan) (ts : List Township) (p : Plant) (own : List Step) (images : List ℕ) → Backed out ts p own images
+pub falling : (out : List Loan) (ts : List Township) (p : Plant) {own : List Step} {images : List ℕ} → Backed out ts p own images
     → IsFalling images
-falling out ts p [] images b = subst IsFalling (sym b) tt
-falling out ts p (s ∷ earlier) images b =
-    peels_fall out ts (after_steps depth ts p earlier) s images b.0 (is_posted s.ask s.answer) b.1 (falling out ts p earlier b.0 b.2)
+falling out ts p backs_none = tt
+falling out ts p (backs_post s earlier n older is b more) = (b.above, falling out ts p more)
+falling out ts p (backs_other s earlier images is idle more) = falling out ts p more
 
 of_append : (ms ns : List ℕ) (m : ℕ) → IsOf m (ms ++ ns) → IsOf m ms ⊎ IsOf m ns
 of_append [] ns m h = inr h
@@ -195,47 +181,24 @@ apart_later n ns now apart b x at b_in x_in =
 out_later : (n m : ℕ) (now : List Loan) → m ≢ n → IsOut m now → IsOut m (without n now)
 out_later n m now ne was = (was.0, (into_without n was.0 now was.1.0 (λ e. ne (sym was.1.1 ∙ e)), was.1.1))
 
--- images can go back, the highest number first
-pub restorable : (ns : List ℕ) (now : List Loan) → IsFalling ns → ((n : ℕ) → IsOf n ns → IsOut n now) → Apart ns now → Restorable ns now
-restorable [] now f mine apart = tt
-restorable (n ∷ ns) now f mine apart = (
+-- images can go in an order that they have: none that is out under a number beyond the next shares a cell with it
+pub in_turn : (R : ℕ → ℕ → Type 0) (ns : List ℕ) (now : List Loan) → ((m n : ℕ) → R m n → R n m → ⊥) → IsOrdered R ns
+    → ((n : ℕ) → IsOf n ns → IsOut n now) → Apart ns now →
+    InTurn (λ n out. (b x : Loan) → IsLentAs b n out → IsAmong x out → R n x.number → meets b.land x.land ≡ false) ns now
+in_turn R [] now one_way f mine apart = tt
+in_turn R (n ∷ ns) now one_way f mine apart = (
   mine n (inl refl),
-  (λ b x lent at higher. elim (apart b x (inl lent.1) lent.0 at) [
-    | inl own ↦ elim own [ inl same ↦ absurd (omega arith) | inr r ↦ absurd (let below : x.number < n = f.0 x.number r in omega arith) ]
+  (λ b x lent at beyond. elim (apart b x (inl lent.1) lent.0 at) [
+    | inl own ↦ elim own [
+      | inl same ↦ absurd (let it = subst (λ z. R n z) same beyond in one_way n n it it)
+      | inr r ↦ absurd (one_way x.number n (f.0 x.number r) beyond)
+    ]
     | inr away ↦ away
   ]),
-  restorable ns (without n now) f.1
-      (λ m k. out_later n m now (let below : m < n = f.0 m k in λ (e : m ≡ n). omega arith) (mine m (inr k)))
+  in_turn R ns (without n now) one_way f.1
+      (λ m k. out_later n m now (λ same. let it = subst (λ z. R z n) same (f.0 m k) in one_way n n it it) (mine m (inr k)))
       (apart_later n ns now apart),
 )
-
--- images can be let go, the lowest number first
-pub forgettable : (ns : List ℕ) (now : List Loan) → IsRising ns → ((n : ℕ) → IsOf n ns → IsOut n now) → Apart ns now → Forgettable ns now
-forgettable [] now f mine apart = tt
-forgettable (n ∷ ns) now f mine apart = (
-  mine n (inl refl),
-  (λ b x lent at lower. elim (apart b x (inl lent.1) lent.0 at) [
-    | inl own ↦ elim own [ inl same ↦ absurd (omega arith) | inr r ↦ absurd (let above : n < x.number = f.0 x.number r in omega arith) ]
-    | inr away ↦ away
-  ]),
-  forgettable ns (without n now) f.1
-      (λ m k. out_later n m now (let above : n < m = f.0 m k in λ (e : m ≡ n). omega arith) (mine m (inr k)))
-      (apart_later n ns now apart),
-)
-
--- a step that doesn't overlap any of these doesn't overlap this one of them
-misses : (a : Ask) (own : List Step) (s : Step) → IsStepOf s own → overlaps a own ≡ false → overlap a s.ask ≡ false
-misses a [] s at n = absurd at
-misses a (o ∷ earlier) s at n =
-    let parts = or_parts (overlap a o.ask) (overlaps a earlier) n in
-    elim at [ inl same ↦ ap (λ z. overlap a z.ask) same ∙ parts.0 | inr r ↦ misses a earlier s r parts.1 ]
-
-clear_at : (own theirs : List Step) (s t : Step) → IsStepOf s own → IsStepOf t theirs → Clear own theirs → overlap s.ask t.ask ≡ false
-clear_at [] theirs s t at to clear = absurd at
-clear_at (o ∷ earlier) theirs s t at to clear = elim at [
-  | inl same ↦ ap (λ z. overlap z.ask t.ask) same ∙ misses o.ask theirs t to clear.1
-  | inr r ↦ clear_at earlier theirs s t r to clear.0
-]
 
 apart_of : (a b : Ask) → overlap a b ≡ false → is_post a ≡ true → meets (tract_of a) (tract_of b) ≡ false
 apart_of a b n p = sym (ap (λ x. (x || is_post b) && meets (tract_of a) (tract_of b)) p) ∙ n
@@ -244,107 +207,55 @@ apart_of a b n p = sym (ap (λ x. (x || is_post b) && meets (tract_of a) (tract_
 pub images_apart : (out : List Loan) (own theirs : List Step) (b x : Loan) → IsFor out own b.number → IsFor out theirs x.number →
     Clear own theirs → IsAmong b out → IsAmong x out → meets b.land x.land ≡ false
 images_apart out own theirs b x mine yours clear at xt =
-    rw (mine.land_is b (at, refl), yours.land_is x (xt, refl)) (apart_of mine.step.ask yours.step.ask
-    (clear_at own theirs mine.step yours.step mine.among yours.among clear) (post_of mine.step.ask mine.step.answer mine.posted))
+    rw (mine.land_is b (at, refl), yours.land_is x (xt, refl))
+    (apart_of mine.ask yours.ask (yours.misses mine.ask (mine.clear theirs clear)) mine.posts)
 
--- the plant at a cell after one step's image, where it has one, has gone back
-record Peeled (out : List Loan) (ts : List Township) (before : Plant) (s : Step) (older : List ℕ) (posted : Bool) (old new : Plant)
-    (c : Cell) : Type 0 where
-  now : List Loan
-  mid : Plant
-  remain : Remain older out now
-  rest : IsRestored ts older now mid new
-  outside : (posted && is_cell_of depth ts (tract_of s.ask) c) ≡ false → mid c ≡ old c
-  undone : old c ≡ effect depth ts before s.ask c → mid c ≡ before c
-
-peeled : (out now : List Loan) (ts : List Township) (before : Plant) (s : Step) (images older : List ℕ) (posted : Bool)
-    (old new : Plant) (c : Cell) → Peels out ts before s images older posted → Remain images out now → IsRestored ts images now old new →
-    Peeled out ts before s older posted old new c
-peeled out now ts before s images older false old new c p r h = record {
-  now = now;
-  mid = old;
-  remain = subst (λ is. Remain is out now) p.0 r;
-  rest = subst (λ is. IsRestored ts is now old new) p.0 h;
-  outside = λ _. refl;
-  undone = λ e. e ∙ p.1 c;
-}
-peeled out now ts before s images older true old new c p r h =
-    let r' : Remain (p.0 ∷ older) out now = subst (λ is. Remain is out now) p.1 r in
-    let h' : IsRestored ts (p.0 ∷ older) now old new = subst (λ is. IsRestored ts is now old new) p.1 h in
-    let b : Loan = p.2.is_out.0 in
-    let lent : IsLentAs b p.0 out = p.2.is_out.1 in
-    let here : h'.0 c ≡ cond (is_cell_of depth ts b.land c) (b.held c) (old c) = h'.1 b (r'.there b (inl lent.1) lent.0, lent.1) c in
-    let land : b.land ≡ tract_of s.ask = p.2.land_is b lent in record {
-      now = without p.0 now;
-      mid = h'.0;
-      remain = remain_later p.0 older out now p.2.above r';
-      rest = h'.2;
-      outside = λ n. here ∙ cond-false (is_cell_of depth ts b.land c) (b.held c) (old c) (ap (λ l. is_cell_of depth ts l c) land ∙ n);
-      undone = λ e. here ∙ cond_both (is_cell_of depth ts b.land c) (b.held c) (old c) (λ x. x ≡ before c)
-          (λ t. p.2.holds b lent c (ap (λ l. is_cell_of depth ts l c) (sym land) ∙ t))
-          (λ f. e ∙ effect_outside depth ts before s.ask c (ap (λ l. is_cell_of depth ts l c) (sym land) ∙ f));
-    }
-
--- where the steps left the cell as it is, it is as it was before them
-pub restored_back : (out now : List Loan) (ts : List Township) (p : Plant) (own : List Step) (images : List ℕ)
-    (old new : Plant) (c : Cell) →
-    Backed out ts p own images → Remain images out now → IsRestored ts images now old new
-    → old c ≡ after_steps depth ts p own c → new c ≡ p c
-restored_back out now ts p [] images old new c b r h e = subst (λ is. IsRestored ts is now old new) b h c ∙ e
-restored_back out now ts p (s ∷ earlier) images old new c b r h e =
-    let next = peeled out now ts (after_steps depth ts p earlier) s images b.0 (is_posted s.ask s.answer) old new c b.1 r h in
-    restored_back out next.now ts p earlier b.0 next.mid new c b.2 next.remain next.rest (next.undone e)
-
--- a cell where no step was posted keeps what it has
-pub restored_outside : (out now : List Loan) (ts : List Township) (p : Plant) (own : List Step)
-    (images : List ℕ) (old new : Plant) (c : Cell) →
-    Backed out ts p own images → Remain images out now → IsRestored ts images now old new
-    → posted_at ts c own ≡ false → new c ≡ old c
-restored_outside out now ts p [] images old new c b r h n = subst (λ is. IsRestored ts is now old new) b h c
-restored_outside out now ts p (s ∷ earlier) images old new c b r h n =
-    let parts = or_parts (is_posted s.ask s.answer && is_cell_of depth ts (tract_of s.ask) c) (posted_at ts c earlier) n in
-    let next = peeled out now ts (after_steps depth ts p earlier) s images b.0 (is_posted s.ask s.answer) old new c b.1 r h in
-    restored_outside out next.now ts p earlier b.0 next.mid new c b.2 next.remain next.rest parts.1 ∙ next.outside parts.0
+-- a cell once the images of these steps have gone back: where the steps left it as it is, it is as it was before them; where no step was
+-- posted it keeps what it has
+pub restored : (out : List Loan) (ts : List Township) (p : Plant) {own : List Step} {images : List ℕ} (now : List Loan)
+    (old new : Plant) (c : Cell) → Backed out ts p own images → Remain images out now → IsRestored ts images now old new
+    → (old c ≡ after_steps depth ts p own c → new c ≡ p c) × (posted_at ts c own ≡ false → new c ≡ old c)
+restored out ts p now old new c backs_none r h = (λ e. h c ∙ e, λ _. h c)
+restored out ts p now old new c (backs_post s earlier n older is b more) r h =
+    let before : Plant = after_steps depth ts p earlier in
+    let l : Loan = b.is_out.0 in
+    let lent : IsLentAs l n out = b.is_out.1 in
+    let here : h.0 c ≡ cond (is_cell_of depth ts l.land c) (l.held c) (old c) = h.1 l (r.there l (inl lent.1) lent.0, lent.1) c in
+    let land = ap (λ x. is_cell_of depth ts x c) (b.land_is l lent) in
+    let rest = restored out ts p (without n now) h.0 new c more (remain_later n older out now b.above r) h.2 in (
+      λ e. rest.0 (here ∙ cond_both (is_cell_of depth ts l.land c) (l.held c) (old c) (λ x. x ≡ before c)
+          (λ t. b.holds l lent c (sym land ∙ t)) (λ f. e ∙ effect_outside depth ts before s.ask c (sym land ∙ f))),
+      λ none.
+          let parts = or_parts (is_posted s.ask s.answer && is_cell_of depth ts (tract_of s.ask) c) (posted_at ts c earlier) none in
+          rest.1 parts.1 ∙ here ∙ cond-false (is_cell_of depth ts l.land c) (l.held c) (old c)
+          (land ∙ sym (ap (λ x. x && is_cell_of depth ts (tract_of s.ask) c) is) ∙ parts.0),
+    )
+restored out ts p now old new c (backs_other s earlier images is idle more) r h =
+    let rest = restored out ts p now old new c more r h in (
+      λ e. rest.0 (e ∙ idle c),
+      λ none. rest.1 (or_parts (is_posted s.ask s.answer && is_cell_of depth ts (tract_of s.ask) c) (posted_at ts c earlier) none).1,
+    )
 
 -- the numbers of a list that ends with an image, from its end
 numbers_from : {I : Type 0} (number : I → ℕ) (images rest : List I) (image : I) → images ≡ rest ++ image ∷ []
     → map number (reverse images) ≡ number image ∷ map number (reverse rest)
 numbers_from number images rest image items = ap (λ is. map number (reverse is)) items ∙ ap (map number) (reverse-append rest (image ∷ []))
 
+-- the last image of a list goes first, and then the others
+pub first_in_turn : {I : Type 0} (IsNext : ℕ → List Loan → Type 0) (number : I → ℕ) (out : List Loan) (images rest : List I) (image : I)
+    → images ≡ rest ++ image ∷ [] → InTurn IsNext (map number (reverse images)) out → IsOut (number image) out
+    × IsNext (number image) out × InTurn IsNext (map number (reverse rest)) (without (number image) out)
+first_in_turn IsNext number out images rest image items able = rw (numbers_from number images rest image items) at able
+
+pub gone_first : {I : Type 0} (number : I → ℕ) (out out' : List Loan) (images rest : List I) (image : I) → images ≡ rest ++ image ∷ []
+    → out' ≡ without (number image) out →
+    without_all (map number (reverse rest)) out' ≡ without_all (map number (reverse images)) out
+gone_first number out out' images rest image items outs = rw (numbers_from number images rest image items, outs) refl
+
 -- one image put back, in a loop from the end of a list
-pub record RestoreStep (ts : List Township) (old new : Plant) (out out' : List Loan) (images rest : List ℕ) : Type 0 where
-  pub able : Restorable rest out'
-  pub content : (q : Plant) → IsRestored ts rest out' new q → IsRestored ts images out old q
-  pub gone : without_all rest out' ≡ without_all images out
-
-pub restore_step : {I : Type 0} (number : I → ℕ) (ts : List Township) (old new : Plant) (out out' : List Loan) (images rest : List I)
-    (image : I) →
-    images ≡ rest ++ image ∷ [] → ((b : Loan) → IsLentAs b (number image) out → SameContent (put_back ts b old) new)
-    → out' ≡ without (number image) out → Restorable (map number (reverse images)) out →
-    RestoreStep ts old new out out' (map number (reverse images)) (map number (reverse rest))
-restore_step number ts old new out out' images rest image items content outs able =
-    rw (numbers_from number images rest image items, outs) record {
-      able = (rw (numbers_from number images rest image items) at able).2;
-      content = λ q h. (new, content, h);
-      gone = refl;
-    }
-
--- one image let go, in a loop from the end of a list
-pub forget_step : {I : Type 0} (number : I → ℕ) (out out' : List Loan) (images rest : List I) (image : I) →
-    images ≡ rest ++ image ∷ [] → out' ≡ without (number image) out → Forgettable (map number (reverse images)) out →
-    Forgettable (map number (reverse rest)) out' × (without_all (map number (reverse rest)) out'
-    ≡ without_all (map number (reverse images)) out)
-forget_step number out out' images rest image items outs able =
-    rw (numbers_from number images rest image items, outs) ((rw (numbers_from number images rest image items) at able).2, refl)
-
--- the last image of a list can go back first
-pub restores_first : {I : Type 0} (number : I → ℕ) (out : List Loan) (images rest : List I) (image : I) →
-    images ≡ rest ++ image ∷ [] → Restorable (map number (reverse images)) out → IsOut (number image) out × IsLast (number image) out
-restores_first number out images rest image items able =
-    let able' = rw (numbers_from number images rest image items) at able in (able'.0, able'.1)
-
--- the last image of a list can be let go first
-pub forgets_first : {I : Type 0} (number : I → ℕ) (out : List Loan) (images rest : List I) (image : I) →
-    images ≡ rest ++ image ∷ [] → Forgettable (map number (reverse images)) out → IsOut (number image) out × IsFirst (number image) out
-forgets_first number out images rest image items able =
-    let able' = rw (numbers_from number images rest image items) at able in (able'.0, able'.1)
+pub restored_first : {I : Type 0} (number : I → ℕ) (ts : List Township) (old new : Plant) (out out' : List Loan) (images rest : List I)
+    (image : I) → images ≡ rest ++ image ∷ [] → ((b : Loan) → IsLentAs b (number image) out → SameContent (put_back ts b old) new)
+    → out' ≡ without (number image) out → (q : Plant) → IsRestored ts (map number (reverse rest)) out' new q
+    → IsRestored ts (map number (reverse images)) out old q
+restored_first number ts old new out out' images rest image items content outs q h =
+    rw (numbers_from number images rest image items) (new, content, rw outs at h)

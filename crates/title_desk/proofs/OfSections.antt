@@ -1,16 +1,15 @@
 -- The sheet of a section is put together of parts.
-use Rattle.std.proofs.Common.{◌≡◌, ◌∙◌, ◌≤◌, false, List, [], ◌++◌, Option, Some, None, ap, sym, refl, arith, append_assoc}
+use Rattle.std.proofs.Common.{◌≡◌, ◌∙◌, ◌≤◌, false, List, [], ◌++◌, ap, sym, arith, append_assoc}
 use Rattle.std.{specs.Prelude.{is_some}, proofs.lemmas.List.{append-nil}}
 use Rattle.title_land.specs.{Depth.{depth}, Laws.Sides.{depth_is}, declared.survey.{Section.{Section}, Township.{Township}}}
 use Rattle.title_land.specs.declared.{rectangle.Quarter.TheVariants.{Northeast, Northwest, Southwest, Southeast}, tract.Land.{Land}}
 use Rattle.title_land.specs.{CellLists.{node_cells}, Lands.{land_of}}
 use Rattle.title_land.specs.declared.node.Node.TheVariants as node
 use Rattle.title_instrument.specs.declared.parts.Estate.{Estate, TheVariants.{S, O, M}}
-use Rattle.title_share.specs.Division.{Division}
 use Rattle.title_store.specs.{declared.sheet_row.SheetRow.{SheetRow}, Plants.{Plant}, Sheets.{estate_sheet, one_holding, sheet_of}}
 use Rattle.title_store.specs.Laws.SheetParts.{section_parts}
 use Rattle.title_chain.specs.SheetParts.{all_rows}
-use Rattle.title_desk.specs.QuarterRows.{quarter_rows}
+use Rattle.title_desk.{specs.Shown.{quarter_rows}, proofs.Found.{none_from}}
 
 -- parts that came one after another are the sheet
 pub whole_sheet : (ts : List Township) (p : Plant) (land : Land) (none a b c : List (List SheetRow)) (rows : List SheetRow)
@@ -27,10 +26,6 @@ whole_sheet ts p land none a b c rows begun s o m is =
     ∙ append_assoc surface oil minerals
     ∙ ap (λ (xs : List SheetRow). surface ++ (oil ++ xs)) (sym (append-nil minerals))
 
-none_from : (o : Option Division) → false ≡ is_some o → o ≡ None
-none_from None h = refl
-none_from (Some x) h = absurd cc
-
 in_turn : (z a b c d : List SheetRow) → z ++ a ++ b ++ c ++ d ≡ z ++ (a ++ (b ++ (c ++ (d ++ []))))
 in_turn z a b c d = simp (append_assoc, append-nil)
 
@@ -45,4 +40,4 @@ pub quarters_are : (ts : List Township) (p : Plant) (s : Section) (e : Estate) (
 quarters_are ts p s e z none =
     in_turn z (quarter_rows ts p s Northeast e) (quarter_rows ts p s Northwest e) (quarter_rows ts p s Southwest e)
     (quarter_rows ts p s Southeast e)
-    ∙ ap (λ (xs : List SheetRow). z ++ xs) (sym (section_parts depth ts p e s deep (none_from _ none)))
+    ∙ ap (λ (xs : List SheetRow). z ++ xs) (sym (section_parts depth ts p e s deep (none_from _ (sym none))))

@@ -1,10 +1,9 @@
 -- Sheets that are kept stay the sheets of the plant.
-use Rattle.std.proofs.{Common.{◌≡◌, ℕ, List, [], ap, sym, subst, ◌∙◌}, Math.Path.{fun_ext}, lemmas.List.Elements.{All-nil}}
+use Rattle.std.proofs.{Common.{◌≡◌, List, ap, sym, subst, ◌∙◌}, Math.Path.{fun_ext}}
 use Rattle.title_land.specs.{Depth.{depth}, declared.{survey.Township.{Township}, tract.Land.{Land}}}
 use Rattle.title_instrument.specs.{declared.instrument.Instrument.{Instrument}, Owners.{holding_of}, Parties.{estates_of}}
 use Rattle.title_store.specs.{Plants.{Plant, SameContent, plant_effect}, Laws.EffectLaws.{effect_outside, effect_unnamed}}
-use Rattle.title_desk.specs.{declared.kept_sheets.KeptSheets.{KeptSheets}, Shown.{IsSetUnder, IsKept, AreKept, AreLeft}}
-use Rattle.title_desk.proofs.Homes.{kept_set}
+use Rattle.title_desk.specs.{declared.kept_sheets.KeptSheets.{KeptSheets}, Shown.{AreKept, AreLeft}}
 
 -- where no cell changes
 pub kept_same : (ts ts' : List Township) (p q : Plant) (kept : KeptSheets) → ts' ≡ ts → SameContent p q → AreKept ts p kept
@@ -19,8 +18,3 @@ kept_left ts ts' land i p q old new declared changed left are =
     subst (λ t. AreKept t q new) (sym declared)
     (left ts p q (λ c out. changed c ∙ effect_outside depth ts i land p c out)
     (λ c e none. ap (holding_of e) (changed c) ∙ effect_unnamed depth ts i land p c e none) are)
-
--- after all of a home was let go
-pub kept_without : (ts : List Township) (p : Plant) (k : ℕ) (old new : KeptSheets) → IsSetUnder k [] old new → AreKept ts p old
-    → AreKept ts p new
-kept_without ts p k old new set are = kept_set ts p k [] old new set (All-nil (IsKept ts p k)) are

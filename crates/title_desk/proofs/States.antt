@@ -1,15 +1,18 @@
 -- States of a desk that look the same, and where a call stands in the trace.
-use Rattle.std.proofs.{Common.{◌≡◌, ℕ, Bool, true, false, cond, List, [], ◌∷◌, refl, ap, ◌∙◌, sym, subst, eqb, None}, Math.Path.{fun_ext}}
+use Rattle.std.proofs.{Common.{◌≡◌, ℕ, true, false, cond, List, [], ◌∷◌, refl, ap, ◌∙◌, sym, subst, eqb, Some, None}, Math.Path.{fun_ext}}
+use Rattle.std.specs.Prelude.{is_some, Option}
 use Rattle.title_land.specs.{declared.survey.Township.{Township}, Depth.{depth}}
 use Rattle.title_store.specs.{Plants.{Plant, SameContent}, Loans.{Loan}}
 use Rattle.title_lock.specs.{declared.guards.Entry.{Entry}, Overlaps.{against}}
-use Rattle.title_chain.specs.{declared.{ask.{Ask.{Ask}, Step.{Step}}, record.Record.{Record}}, Asks.{tract_of, is_post}}
-use Rattle.title_trace.specs.{declared.{call.{Call.{Call}, Request.{Request}, Reply.{Reply}}, denial.Denial.{Denial}}, Trace.{open_steps}}
-use Rattle.title_trace.specs.Due.{Setting, DueReply}
+use Rattle.title_chain.specs.{declared.{ask.Ask.{Ask}, record.Record.{Record}}, Asks.{tract_of, is_post}, Alone.{after_steps}}
+use Rattle.title_chain.specs.Overlaps.{overlaps}
+use Rattle.title_trace.specs.declared.{call.{Call.{Call}, Request.{Request}, Reply.{Reply}}, denial.Denial.{Denial}}
+use Rattle.title_trace.specs.Due.{DueReply}
 use Rattle.title_trace.specs.declared.call.Request.TheVariants as request
 use Rattle.title_trace.specs.declared.call.Reply.TheVariants as reply
-use Rattle.title_desk.specs.{Headline.{ShowsOpenPosts, ShowsCommitted}, Told.{Books}, Keeps.{State, Facts, Keeps}}
-use Rattle.title_desk.proofs.Found.{cond_same}
+use Rattle.title_desk.specs.Images.{Backed, IsOf, posted_at}
+use Rattle.title_desk.specs.{Headline.{ShowsOpenPosts, ShowsCommitted}, Told.{Books}, Opened.{Opened, held, nothing, set}}
+use Rattle.title_desk.{specs.Keeps.{State, plant_of, Facts, Keeps}, proofs.{Content.{case_eqb}, Found.{none_from, view_cond}}}
 
 -- what a caller sees of a state
 abbrev pub books_of : State → Books
@@ -19,53 +22,40 @@ books_of s = record { setting = s.setting; trace = s.trace; is_ready = false; pr
 abbrev pub told : Request → Reply → State → State
 told q r s = record s { trace = record { request = q; reply = r } ∷ s.trace }
 
--- a due call is told
-pub told_by : {b old : Books} {setting : Setting} {trace : List Call} → b ≡ old → (q : Request) (r : Reply) → setting ≡ b.setting
-    → trace ≡ record { request = q; reply = r } ∷ b.trace → DueReply depth b.setting b.trace q r →
-    (setting ≡ old.setting) × (trace ≡ record { request = q; reply = r } ∷ old.trace) × DueReply depth old.setting old.trace q r
-told_by {setting = setting} {trace = trace} is q r same calls due =
-    subst (λ (x : Books). (setting ≡ x.setting) × (trace ≡ record { request = q; reply = r } ∷ x.trace)
-    × DueReply depth x.setting x.trace q r) is (same, calls, due)
+-- the state with these parts
+abbrev pub with_parts : State → List Call → List Record → (ℕ → Option Opened) → List Entry → Plant → List Township → List Loan → State
+with_parts s trace records opened locks content declared out = record s {
+  trace = trace;
+  records = records;
+  opened = opened;
+  content = content;
+  declared = declared;
+  out = out;
+  locks = locks;
+}
 
--- a state with other calls and records, which are the same
-pub keeps_told : {s : State} {trace : List Call} {records : List Record} → Keeps s → trace ≡ s.trace → records ≡ s.records
-    → Keeps (record s { trace = trace; records = records })
-keeps_told {s} {trace} {records} k calls done =
-    let path : record s { trace = trace; records = records } ≡ s = λ i. record s { trace = calls i; records = done i } in
-    subst Keeps (sym path) k
+-- parts that are the same make no other state
+pub keeps_as : {s : State} {trace : List Call} {records : List Record} {opened : ℕ → Option Opened} {locks : List Entry} {content : Plant}
+    {declared : List Township} {out : List Loan} → Keeps s → trace ≡ s.trace → records ≡ s.records → opened ≡ s.opened → locks ≡ s.locks
+    → SameContent s.content content → declared ≡ s.declared → out ≡ s.out
+    → Keeps (with_parts s trace records opened locks content declared out)
+keeps_as {s} k calls done looks entries same townships images =
+    subst Keeps (λ i. sym (λ j. with_parts s (calls j) (done j) (looks j) (entries j) (fun_ext same j) (townships j) (images j)) i) k
 
--- with other open transactions and locks, which look the same
-pub keeps_opened : {s : State} {begun : ℕ → Bool} {own : ℕ → List Step} {images : ℕ → List ℕ} {locks : List Entry} → Keeps s
-    → ((f : ℕ) → (begun f ≡ s.begun f) × (own f ≡ s.own f) × (images f ≡ s.images f)) → locks ≡ s.locks
-    → Keeps (record s { begun = begun; own = own; images = images; locks = locks })
-keeps_opened {s} {begun} {own} {images} {locks} k looks same =
-    let begun_is : begun ≡ s.begun = fun_ext (λ f. (looks f).0) in
-    let own_is : own ≡ s.own = fun_ext (λ f. (looks f).1) in
-    let images_are : images ≡ s.images = fun_ext (λ f. (looks f).2) in
-    let path : record s { begun = begun; own = own; images = images; locks = locks } ≡ s =
-    λ i. record s { begun = begun_is i; own = own_is i; images = images_are i; locks = same i } in
-    subst Keeps (sym path) k
-
--- with another store, which holds the same
-pub keeps_store : {s : State} {content : Plant} {declared : List Township} {out : List Loan} → Keeps s → SameContent s.content content
-    → declared ≡ s.declared → out ≡ s.out → Keeps (record s { content = content; declared = declared; out = out })
-keeps_store {s} {content} {declared} {out} k held townships images =
-    let holds : content ≡ s.content = fun_ext held in
-    let path : record s { content = content; declared = declared; out = out } ≡ s =
-    λ i. record s { content = holds i; declared = townships i; out = images i } in
-    subst Keeps (sym path) k
-
--- the facts say nothing of the trace, and of the locks only who is in whose way
-pub facts_of : {s : State} (trace : List Call) (begun : ℕ → Bool) (locks : List Entry) →
+-- the facts say nothing of the trace, of what is open only what is held, and of the locks only who is in whose way
+pub facts_of : {s : State} (trace : List Call) (opened : ℕ → Option Opened) (locks : List Entry)
+    → ((f : ℕ) → held (opened f) ≡ held (s.opened f)) →
     ((a : Ask) (f : ℕ) → against (tract_of a) (is_post a) f locks ≡ against (tract_of a) (is_post a) f s.locks) → Facts s →
-    Facts (record s { trace = trace; begun = begun; locks = locks })
-facts_of trace begun locks same facts = record {
-  locks_are = λ a f. same a f ∙ facts.locks_are a f;
-  backed = facts.backed;
-  numbers = facts.numbers;
-  owned = facts.owned;
-  posted = facts.posted;
-  rest = facts.rest;
+    Facts (record s { trace = trace; opened = opened; locks = locks })
+facts_of {s} trace opened locks same entries facts = record {
+  locks_are = λ a f. entries a f ∙ facts.locks_are a f ∙ ap (λ (x : Opened). overlaps a x.steps) (sym (same f));
+  backed = λ f. subst (λ (x : Opened). Backed s.out s.declared (plant_of s) x.steps x.images) (sym (same f)) (facts.backed f);
+  numbers = λ f g n at bt. facts.numbers f g n (subst (λ (x : Opened). IsOf n x.images) (same f) at)
+      (subst (λ (x : Opened). IsOf n x.images) (same g) bt);
+  owned = λ b at. let owner = facts.owned b at in (owner.0, subst (λ (x : Opened). IsOf b.number x.images) (sym (same owner.0)) owner.1);
+  posted = λ f c. subst (λ (x : Opened). posted_at s.declared c x.steps ≡ true
+      → s.content c ≡ after_steps depth s.declared (plant_of s) x.steps c) (sym (same f)) (facts.posted f c);
+  rest = λ c none. facts.rest c (λ f. subst (λ (x : Opened). posted_at s.declared c x.steps ≡ false) (same f) (none f));
 }
 
 -- other locks that put the same in whose way
@@ -79,7 +69,7 @@ keeps_locks {s} locks same k = record {
   records_are = k.records_are;
   begun_are = k.begun_are;
   steps_are = k.steps_are;
-  facts = facts_of s.trace s.begun locks same k.facts;
+  facts = facts_of s.trace s.opened locks (λ f. refl) same k.facts;
 }
 
 -- a denial that is due changes nothing but the trace: nobody begins, ends or gets a step
@@ -92,20 +82,21 @@ keeps_refused {s} q why k due = record {
   records_are = k.records_are;
   begun_are = k.begun_are;
   steps_are = k.steps_are;
-  facts = facts_of _ s.begun s.locks (λ a f. refl) k.facts;
+  facts = facts_of _ s.opened s.locks (λ f. refl) (λ a f. refl) k.facts;
 }
 
 -- an examiner begins
-pub keeps_began : {s : State} (e : ℕ) → Keeps s → s.begun e ≡ false → s.own e ≡ []
-    → Keeps (told (request.Begin e) reply.Began (record s { begun = λ f. cond (eqb f e) true (s.begun f) }))
-keeps_began {s} e k shut none = record {
+pub keeps_began : {s : State} (e : ℕ) → Keeps s → is_some (s.opened e) ≡ false
+    → Keeps (told (request.Begin e) reply.Began (record s { opened = set e (Some nothing) s.opened }))
+keeps_began {s} e k shut = record {
   few = k.few;
   due = (k.due, rw (sym (k.begun_are e) ∙ shut) refl);
   declared_are = k.declared_are;
   records_are = k.records_are;
-  begun_are = λ f. ap (cond (eqb f e) true) (k.begun_are f);
-  steps_are = λ f. k.steps_are f ∙ sym (cond_same f e (open_steps s.trace) [] (sym (k.steps_are e) ∙ none));
-  facts = facts_of _ _ s.locks (λ a f. refl) k.facts;
+  begun_are = λ f. view_cond is_some (eqb f e) (Some nothing) (s.opened f) ∙ ap (cond (eqb f e) true) (k.begun_are f);
+  steps_are = λ f. view_cond (λ o. (held o).steps) (eqb f e) (Some nothing) (s.opened f) ∙ ap (cond (eqb f e) []) (k.steps_are f);
+  facts = facts_of _ _ s.locks (λ f. case_eqb (λ b. held (cond b (Some nothing) (s.opened f)) ≡ held (s.opened f)) f e
+      (λ same. sym (ap (λ g. held (s.opened g)) same ∙ ap held (none_from (s.opened e) shut))) (λ _. refl)) (λ a f. refl) k.facts;
 }
 
 -- what stands in the store, by the trace

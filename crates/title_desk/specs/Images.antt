@@ -1,8 +1,8 @@
 -- Before-images of open transactions, by their numbers. Lists of steps and of images here have the newest first.
 use Rattle.std.specs.Prelude.{◌≡◌, ℕ, ◌<◌, Bool, true, false, cond, ◌&&◌, ◌||◌, List, [], ◌∷◌, ◌⊎◌}
 use Rattle.title_land.specs.{Depth.{depth}, declared.survey.{Township.{Township}, Cell.{Cell}}}
-use Rattle.title_store.specs.{Plants.{Plant, SameContent, is_cell_of}, Loans.{Loan, IsLentAs, IsOut, IsLast, IsFirst, without}}
-use Rattle.title_chain.specs.{declared.ask.Step.{Step}, Asks.{tract_of, effect}, Alone.{after_steps}}
+use Rattle.title_store.specs.{Plants.{Plant, SameContent, is_cell_of}, Loans.{Loan, IsLentAs, IsOut, without}}
+use Rattle.title_chain.specs.{declared.ask.Step.{Step}, Asks.{tract_of}, Alone.{after_steps}}
 pub use Rattle.title_chain.specs.Replays.{was_posted as is_posted}
 
 -- one of these steps was posted at the cell
@@ -24,17 +24,16 @@ pub record Backs (out : List Loan) (townships : List Township) (before : Plant) 
   pub holds : (b : Loan) → IsLentAs b n out → (c : Cell) → is_cell_of depth townships (tract_of s.ask) c ≡ true → b.held c ≡ before c
   pub above : (m : ℕ) → IsOf m older → m < n
 
--- a posted step has the first of these images; another has none and leaves the plant
-abbrev pub Peels : List Loan → List Township → Plant → Step → List ℕ → List ℕ → Bool → Type 0
-Peels out townships before s images older true = (n : ℕ) × (images ≡ n ∷ older) × Backs out townships before s n older
-Peels out townships before s images older false = (images ≡ older) × ((c : Cell) → effect depth townships before s.ask c ≡ before c)
-
--- the images of these steps, made one after another from a plant
-abbrev pub Backed : List Loan → List Township → Plant → List Step → List ℕ → Type 0
-Backed out townships plant [] images = images ≡ []
-Backed out townships plant (s ∷ earlier) images =
-    (older : List ℕ) × Peels out townships (after_steps depth townships plant earlier) s images older (is_posted s.ask s.answer)
-    × Backed out townships plant earlier older
+-- the images of these steps, made one after another from a plant: a posted step has the first of them, another has none and leaves the
+-- plant
+pub data Backed (out : List Loan) (townships : List Township) (plant : Plant) : List Step → List ℕ → Type 0 where
+  backs_none : Backed out townships plant [] []
+  backs_post : (s : Step) (earlier : List Step) (n : ℕ) (older : List ℕ) → is_posted s.ask s.answer ≡ true
+      → Backs out townships (after_steps depth townships plant earlier) s n older → Backed out townships plant earlier older
+      → Backed out townships plant (s ∷ earlier) (n ∷ older)
+  backs_other : (s : Step) (earlier : List Step) (images : List ℕ) → is_posted s.ask s.answer ≡ false
+      → SameContent (after_steps depth townships plant earlier) (after_steps depth townships plant (s ∷ earlier))
+      → Backed out townships plant earlier images → Backed out townships plant (s ∷ earlier) images
 
 -- the plant after what an image holds has been put back
 abbrev pub put_back : List Township → Loan → Plant → Plant
@@ -52,12 +51,7 @@ abbrev pub without_all : List ℕ → List Loan → List Loan
 without_all [] out = out
 without_all (n ∷ numbers) out = without_all numbers (without n out)
 
--- each of the images can be put back in its turn
-abbrev pub Restorable : List ℕ → List Loan → Type 0
-Restorable [] out = Unit {0}
-Restorable (n ∷ numbers) out = IsOut n out × IsLast n out × Restorable numbers (without n out)
-
--- each of the images can be let go in its turn
-abbrev pub Forgettable : List ℕ → List Loan → Type 0
-Forgettable [] out = Unit {0}
-Forgettable (n ∷ numbers) out = IsOut n out × IsFirst n out × Forgettable numbers (without n out)
+-- each of the images can go in its turn, which is next in this sense
+abbrev pub InTurn : (ℕ → List Loan → Type 0) → List ℕ → List Loan → Type 0
+InTurn IsNext [] out = Unit {0}
+InTurn IsNext (n ∷ numbers) out = IsOut n out × IsNext n out × InTurn IsNext numbers (without n out)

@@ -1,9 +1,7 @@
 pub mod Told
-pub mod QuarterRows
 pub mod Shown
 pub mod Opened
 pub mod Images
 pub mod Keeps
 pub mod Headline
-pub mod Admissions
 pub mod Singles

@@ -2,7 +2,7 @@
 
 ghost use Rattle.std.specs.Prelude.{◌≡◌, ◌∷◌, IfOk, Some};
 ghost use Rattle.title_lock.specs.Overlaps.{is_post as is_post_access};
-ghost use Rattle.title_desk.specs.Admissions.{access_of, entry_of};
+ghost use Rattle.title_desk.specs.Told.{access_of, entry_of};
 ghost use Rattle.title_chain.specs.Asks.{tract_of, is_post, cause_of};
 
 use std::alloc::{AllocError, Global};
@@ -16,8 +16,7 @@ pub(crate) fn tract_in(ask: &Ask) -> &Tract
     ensures tract { result.now ≡ tract_of ask.now }
 {
     match ask {
-        Ask::Sheet(tract) => tract,
-        Ask::Chain(tract) => tract,
+        Ask::Sheet(tract) | Ask::Chain(tract) => tract,
         Ask::Post(posting) => &posting.terms().tract,
     }
 }
@@ -28,8 +27,7 @@ pub(crate) fn access_in(ask: &Ask) -> Access
     ensures is { result ≡ access_of ask.now }
 {
     match ask {
-        Ask::Sheet(_) => Access::Read,
-        Ask::Chain(_) => Access::Read,
+        Ask::Sheet(_) | Ask::Chain(_) => Access::Read,
         Ask::Post(_) => Access::Post,
     }
 }
@@ -39,8 +37,7 @@ pub(crate) fn cause_in(ask: &Ask, parties: u32) -> Option<Cause>
     ensures cause { result ≡ cause_of parties ask.now }
 {
     match ask {
-        Ask::Sheet(_) => None,
-        Ask::Chain(_) => None,
+        Ask::Sheet(_) | Ask::Chain(_) => None,
         Ask::Post(posting) => posting.terms().instrument.check(parties).err(),
     }
 }

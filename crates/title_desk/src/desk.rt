@@ -7,10 +7,9 @@ ghost use Rattle.title_trace.specs.{declared.call.Request.TheVariants.{Begin, St
 ghost use Rattle.title_trace.specs.{declared.call.Reply.TheVariants.{Aborted, Denied, Memory}, Due.{DueReply, InTheWay, IsDue, MayOpen}};
 ghost use Rattle.title_chain.specs.{declared.ask.Ask.TheVariants.{Post}, Asks.{is_post, tract_of}, Overlaps.{record_of}};
 ghost use Rattle.title_chain.specs.Alone.{alone, after_steps, plant_after, most_parties, IsSerial};
-ghost use Rattle.title_desk.specs.{Images.{is_posted, posted_at}, Told.{Books, IsFirstOpen, Passes, Stays, Told}, Singles.{Bars, Stands}};
-ghost use Rattle.title_desk.specs.Admissions.{Admits, IsFit, entry_of};
+ghost use Rattle.title_desk.specs.{Images.{is_posted, posted_at}, Singles.{Bars, Stands}};
+ghost use Rattle.title_desk.specs.Told.{Books, IsFirstOpen, IsFit, Passes, Stays, Told, entry_of};
 
-use crate::admission::Admission;
 use crate::asks::{access_in, cause_in, lock, step_of, tract_in};
 use crate::calls::Calls;
 use crate::images::{forget_all, restore_all, tidy_up};
@@ -65,8 +64,8 @@ pub struct Desk<S: Store + Drop, G: Guards + Drop> {
 }
 
 impl<S: Store + Drop, G: Guards + Drop> Model for Desk<S, G> {
-    ghost use Rattle.std.specs.Prelude.{is_some, reverse};
-    ghost use Rattle.title_desk.specs.{Told.{Books}, Opened.{found, held}, Keeps.{Keeps}};
+    ghost use Rattle.std.specs.Prelude.{reverse};
+    ghost use Rattle.title_desk.specs.{Told.{Books}, Opened.{found}, Keeps.{Keeps}};
 
     ghost Value = { Books };
 
@@ -81,9 +80,7 @@ impl<S: Store + Drop, G: Guards + Drop> Model for Desk<S, G> {
       setting = record { parties = d.parties; townships = d.townships.items };
       trace = d.calls.list;
       records = reverse d.records.records;
-      begun = λ e. is_some (found d.transactions e);
-      own = λ e. (held (found d.transactions e)).steps;
-      images = λ e. (held (found d.transactions e)).images;
+      opened = found d.transactions;
       content = S.content d.store;
       declared = S.declared d.store;
       out = S.out d.store;
@@ -93,6 +90,7 @@ impl<S: Store + Drop, G: Guards + Drop> Model for Desk<S, G> {
 
 impl<S: Store + Drop, G: Guards + Drop> Desk<S, G> {
     /// A desk with no call yet, for parties numbered from 0 and these townships.
+    #[tactic(auto, using(crate::proofs::Content::backed_none))]
     pub fn open(
         alloc: Global,
         parties: u32,
@@ -209,22 +207,6 @@ impl<S: Store + Drop, G: Guards + Drop> Desk<S, G> {
             return Some(Denial::TooLong);
         }
         None
-    }
-
-    // Refuses a step, or lets it pass and prepares its lock. Nothing else changes.
-    fn admit(&mut self, examiner: u32, ask: &Ask) -> Admission
-        ensures stays { Stays self.old self.new }
-        ensures admits { Admits self.new examiner ask.now result }
-    {
-        if let Some(why) = self.refusal(examiner, ask) {
-            return Admission::Denied(why);
-        }
-        let access = access_in(ask);
-        match self.guards.prepare(examiner, tract_in(ask), access) {
-            Ok(()) => Admission::Passed,
-            Err(LockFault::Conflict(other)) => Admission::Denied(Denial::Conflict(other)),
-            Err(LockFault::Memory) => Admission::Memory,
-        }
     }
 
     // The reply where an ask wants memory: of a sheet's tract nothing stays kept that may have been made for it.
@@ -347,10 +329,16 @@ impl<S: Store + Drop, G: Guards + Drop> Desk<S, G> {
     fn step(&mut self, examiner: u32, ask: Ask) -> Reply
         ensures told { Told self.old (Step examiner ask) result self.new }
     {
-        match self.admit(examiner, &ask) {
-            Admission::Passed => self.pass(examiner, ask),
-            Admission::Denied(why) => self.refuse(Request::Step(examiner, ask), why),
-            Admission::Memory => Reply::Memory,
+        if let Some(why) = self.refusal(examiner, &ask) {
+            return self.refuse(Request::Step(examiner, ask), why);
+        }
+        let access = access_in(&ask);
+        match self.guards.prepare(examiner, tract_in(&ask), access) {
+            Ok(()) => self.pass(examiner, ask),
+            Err(LockFault::Conflict(other)) => {
+                self.refuse(Request::Step(examiner, ask), Denial::Conflict(other))
+            }
+            Err(LockFault::Memory) => Reply::Memory,
         }
     }
 

@@ -1,15 +1,15 @@
 //! The before-images of a transaction that ends.
 
 ghost use Rattle.std.specs.Prelude.{◌≡◌, [], map, reverse};
-ghost use Rattle.title_store.specs.{Loans.{IsFirst, IsOut, without}, Plants.{SameContent}};
-ghost use Rattle.title_desk.specs.Images.{IsRestored, without_all, Restorable, Forgettable};
+ghost use Rattle.title_store.specs.{Loans.{IsFirst, IsLast, IsOut, without}, Plants.{SameContent}};
+ghost use Rattle.title_desk.specs.Images.{InTurn, IsRestored, without_all};
 
 use crate::open_transactions::OpenTransactions;
 use title_store::Store;
 
 /// Puts images back, the newest first.
 pub(crate) fn restore_all<S: Store>(store: &mut S, mut images: Vec<S::Image>)
-    requires able { Restorable (map S.number (reverse images.items)) (S.out store.old) }
+    requires able { InTurn IsLast (map S.number (reverse images.items)) (S.out store.old) }
     ensures content { IsRestored (S.declared store.old) (map S.number (reverse images.items)) (S.out store.old) (S.content store.old)
         (S.content store.new) }
     ensures declared { S.declared store.new ≡ S.declared store.old }
@@ -22,7 +22,7 @@ pub(crate) fn restore_all<S: Store>(store: &mut S, mut images: Vec<S::Image>)
 
 /// Lets images go, the oldest first.
 pub(crate) fn forget_all<S: Store>(store: &mut S, mut images: Vec<S::Image>)
-    requires able { Forgettable (map S.number images.items) (S.out store.old) }
+    requires able { InTurn IsFirst (map S.number images.items) (S.out store.old) }
     ensures content { SameContent (S.content store.old) (S.content store.new) }
     ensures declared { S.declared store.new ≡ S.declared store.old }
     ensures out { S.out store.new ≡ without_all (map S.number images.items) (S.out store.old) }

@@ -1,12 +1,12 @@
 //! Sheets that are kept of a plant, and parts of sheets, by where their tracts lie.
 
-ghost use Rattle.std.specs.{Prelude.{◌≡◌, ℕ, List, [], filter, IfOk, IfSome}, List.{All}};
+ghost use Rattle.std.specs.{Prelude.{◌≡◌, ℕ, List, [], IfOk, IfSome}, List.{All}};
 ghost use Rattle.title_instrument.specs.declared.parts.Estates.{Estates as Named};
 ghost use Rattle.title_land.specs.{Depth.{depth}, Lands.{home_of, land_of}, NodeNumbers.{node_number}, declared.survey.Township.{Township}};
 ghost use Rattle.title_land.specs.declared.{node.Node.TheVariants.{Part as Square}, tract.Land.TheVariants.{Township as WholeTownship}};
 ghost use Rattle.title_store.specs.{Plants.{Plant as Content}, Sheets.{estate_sheet, sheet_of}};
-ghost use Rattle.title_desk.specs.Shown.{IsShown, IsQuarter, IsTrue, is_left, land_in, all_kept, kept_under, IsKept, AreKept};
-ghost use Rattle.title_desk.specs.Shown.{AreLeft, IsSetUnder, ApartStay, OthersStay};
+ghost use Rattle.title_desk.specs.Shown.{IsShown, IsQuarter, IsTrue, land_in, no_stock, left_of, all_kept, kept_under, IsSetUnder};
+ghost use Rattle.title_desk.specs.Shown.{IsKept, AllKept, AreKept, AreLeft, OthersStay, ApartStay};
 ghost use Rattle.title_desk.specs.declared.kept_sheets.Kept.TheVariants.{Quarter as OfQuarter, Sheet as OfSheet};
 
 use std::alloc::{AllocError, Global};
@@ -103,12 +103,13 @@ impl Kept {
         }))
     }
 
-    fn tract(&self) -> &Tract
-        ensures tract { result.now ≡ land_in self.now }
+    // The number of its tract's home.
+    fn number(&self) -> u64
+        ensures number { result ≡ node_number (home_of (land_in self.now)) }
     {
         match self {
-            Kept::Sheet(shown) => &shown.tract,
-            Kept::Quarter(quartered) => &quartered.tract,
+            Kept::Sheet(shown) => shown.tract.home().number(),
+            Kept::Quarter(quartered) => quartered.tract.home().number(),
         }
     }
 }
@@ -182,7 +183,7 @@ impl Home {
     // A home of which nothing is kept; takes no memory.
     #[tactic(auto, unfolding(crate::specs::Shown::all_kept))]
     fn new(alloc: Global) -> Home
-        ensures new { all_kept result ≡ [] }
+        ensures new { all_kept result ≡ no_stock }
     {
         Home {
             shown: Vec::new(alloc),
@@ -194,7 +195,7 @@ impl Home {
 
     // Lets the sheets go of tracts that share a cell with this one, and parts of such tracts for these estates.
     fn let_go(&mut self, tract: &Tract, estates: Estates)
-        ensures left { all_kept self.new ≡ filter (is_left tract.now estates) (all_kept self.old) }
+        ensures left { all_kept self.new ≡ left_of tract.now estates (all_kept self.old) }
     {
         self.shown.retain(|one| !one.tract.meets(tract));
         self.quarters
@@ -202,12 +203,11 @@ impl Home {
     }
 
     // Keeps a sheet, in the slot of another where there are as many as may be; where memory is refused it isn't kept.
+    #[tactic(auto, unfolding(crate::specs::Shown::all_kept))]
     fn keep_sheet(&mut self, shown: Shown)
         ensures kept { (townships : List Township) (content : Content) (number : ℕ)
-            → All (λ x. IsKept townships content number (OfSheet x)) self.old.shown.items
-            → IsKept townships content number (OfSheet shown)
-            → All (λ x. IsKept townships content number (OfSheet x)) self.new.shown.items }
-        ensures quarters { self.new.quarters.items ≡ self.old.quarters.items }
+            → AllKept townships content number (all_kept self.old) → IsKept townships content number (OfSheet shown)
+            → AllKept townships content number (all_kept self.new) }
     {
         if whole_section(&shown.tract).is_some() {
             self.is_long = shown.rows.len() >= LONG;
@@ -224,12 +224,11 @@ impl Home {
     }
 
     // Keeps a quarter's part, where there are fewer than may be; where memory is refused it isn't kept.
+    #[tactic(auto, unfolding(crate::specs::Shown::all_kept))]
     fn keep_quarter(&mut self, quartered: Quartered)
         ensures kept { (townships : List Township) (content : Content) (number : ℕ)
-            → All (λ q. IsKept townships content number (OfQuarter q)) self.old.quarters.items
-            → IsKept townships content number (OfQuarter quartered)
-            → All (λ q. IsKept townships content number (OfQuarter q)) self.new.quarters.items }
-        ensures shown { self.new.shown.items ≡ self.old.shown.items }
+            → AllKept townships content number (all_kept self.old) → IsKept townships content number (OfQuarter quartered)
+            → AllKept townships content number (all_kept self.new) }
     {
         if self.quarters.len() < MOST_PARTS {
             let _ = self.quarters.push(quartered);
@@ -239,8 +238,8 @@ impl Home {
     // Keeps one thing more, or not.
     fn keep(&mut self, kept: Kept)
         ensures kept { (townships : List Township) (content : Content) (number : ℕ)
-            → All (IsKept townships content number) (all_kept self.old) → IsKept townships content number kept
-            → All (IsKept townships content number) (all_kept self.new) }
+            → AllKept townships content number (all_kept self.old) → IsKept townships content number kept
+            → AllKept townships content number (all_kept self.new) }
     {
         match kept {
             Kept::Sheet(shown) => self.keep_sheet(shown),
@@ -286,10 +285,8 @@ impl KeptSheets {
 
     /// Whether the last sheet of a section that was kept was long.
     pub(crate) fn is_long(&self, section: Section) -> bool {
-        match self.homes.get(&section.node().number()) {
-            Some(home) => home.is_long,
-            None => false,
-        }
+        let home = self.homes.get(&section.node().number());
+        home.is_some_and(|home| home.is_long)
     }
 
     /// Keeps one thing more under its tract's home; where memory is refused it isn't kept.
@@ -297,8 +294,7 @@ impl KeptSheets {
         ensures kept { (townships : List Township) (content : Content) → AreKept townships content self.old →
             IsTrue townships content kept → AreKept townships content self.new }
     {
-        let home = kept.tract().home();
-        let number = home.number();
+        let number = kept.number();
         if let Some(home) = self.homes.get_mut(&number) {
             home.keep(kept);
             return;
@@ -317,14 +313,14 @@ impl KeptSheets {
 
     /// Lets all of a home go.
     pub(crate) fn drop_home(&mut self, home: Node)
-        ensures gone { IsSetUnder (node_number home) [] self.old self.new }
+        ensures gone { IsSetUnder (node_number home) no_stock self.old self.new }
     {
         self.homes.remove(&home.number());
     }
 
     // Lets all of a home go that a post of this tract and of these estates may change.
     fn let_go_at(&mut self, home: Node, tract: &Tract, estates: Estates)
-        ensures left { IsSetUnder (node_number home) (filter (is_left tract.now estates) (kept_under self.old (node_number home)))
+        ensures left { IsSetUnder (node_number home) (left_of tract.now estates (kept_under self.old (node_number home)))
             self.old self.new }
     {
         if let Some(kept) = self.homes.get_mut(&home.number()) {

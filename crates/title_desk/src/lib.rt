@@ -1,7 +1,6 @@
 //! The desk: interleaved transactions of any number of examiners over any store and any guards.
 #![tactic(auto)]
 
-mod admission;
 mod asks;
 mod calls;
 pub mod desk;
@@ -9,7 +8,6 @@ pub mod headline;
 mod images;
 mod kept_sheets;
 mod open_transactions;
-mod sections;
 mod shown_store;
 
 pub use desk::{Desk, may_open};

@@ -5,16 +5,32 @@ ghost use Rattle.title_land.specs.{Depth.{depth}, Lands.{is_in_plant, land_of}, 
 ghost use Rattle.title_land.specs.declared.rectangle.Quarter.TheVariants.{Northeast, Northwest, Southwest, Southeast};
 ghost use Rattle.title_store.specs.Sheets.{estate_sheet, sheet_of};
 ghost use Rattle.title_chain.specs.SheetParts.{all_rows};
-ghost use Rattle.title_desk.specs.QuarterRows.{quarter_rows};
+ghost use Rattle.title_desk.specs.Shown.{quarter_rows};
 
 use crate::kept_sheets::{Kept, KeptSheets, MOST_PARTS, whole_section};
-use crate::sections::{add_part, quarter_tract, section_tract};
 use std::alloc::{AllocError, Global};
 use std::marker::Model;
 use title_chain::{Part, SheetRows};
 use title_instrument::{Estate, Instrument};
-use title_land::{Node, Quarter, Section, Township, Tract};
+use title_land::{Node, Quarter, Section, Township, Tract, Within};
 use title_store::{Put, SheetRow, Store};
+
+// The tract of a section's quarter.
+#[tactic(auto, using(title_land::specs::Laws::Sides::depth_is))]
+fn quarter_tract(section: Section, quarter: Quarter) -> Tract
+    ensures tract { result ≡ land_of depth (Square section (quarter ∷ [])) }
+{
+    Tract::of(Node::Part(section, Within::section().quarter(quarter)))
+}
+
+// Adds a part.
+#[tactic(auto, using(title_chain::specs::Laws::PartsInTurn::rows_after))]
+fn add_part(parts: &mut Vec<Part>, part: Part) -> Result<(), AllocError>
+    ensures rows { OnOk result (all_rows parts.new.items ≡ all_rows parts.old.items ++ part) }
+{
+    parts.push(part)?;
+    Ok(())
+}
 
 /// A store, with sheets and parts of sheets that were made of it and that still are its own. A contract sees the store.
 #[derive(Drop)]
@@ -41,30 +57,7 @@ impl<S: Store + Drop> ShownStore<S> {
         &self.store
     }
 
-    // The part of a section's quarter for an estate: that which is kept of it, or else made anew and kept.
-    fn part_of(
-        &mut self,
-        alloc: Global,
-        section: Section,
-        quarter: Quarter,
-        estate: Estate,
-    ) -> Result<Part, AllocError>
-        requires within { is_in_plant (S.declared self.old) (land_of depth (Square section [])) ≡ true }
-        ensures same { self.new ≡ self.old }
-        ensures part { IfOk result (λ part. part ≡ quarter_rows (S.declared self.old) (S.content self.old) section quarter estate) }
-    {
-        let tract = quarter_tract(section, quarter);
-        if let Some(part) = self.kept.part(section, &tract, quarter, estate) {
-            return Ok(part);
-        }
-        let part = Part::new(self.store.part(alloc, estate, &tract)?)?;
-        if let Some(kept) = Kept::quarter(tract, quarter, estate, &part) {
-            self.kept.keep(kept);
-        }
-        Ok(part)
-    }
-
-    // Adds the part of a section's quarter for an estate.
+    // Adds the part of a section's quarter for an estate: that which is kept of it, or else made anew and kept.
     fn add_quarter(
         &mut self,
         alloc: Global,
@@ -78,7 +71,14 @@ impl<S: Store + Drop> ShownStore<S> {
         ensures rows { OnOk result (all_rows parts.new.items ≡ all_rows parts.old.items
             ++ quarter_rows (S.declared self.old) (S.content self.old) section quarter estate) }
     {
-        let part = self.part_of(alloc, section, quarter, estate)?;
+        let tract = quarter_tract(section, quarter);
+        if let Some(part) = self.kept.part(section, &tract, quarter, estate) {
+            return add_part(parts, part);
+        }
+        let part = Part::new(self.store.part(alloc, estate, &tract)?)?;
+        if let Some(kept) = Kept::quarter(tract, quarter, estate, &part) {
+            self.kept.keep(kept);
+        }
         add_part(parts, part)
     }
 
@@ -104,23 +104,6 @@ impl<S: Store + Drop> ShownStore<S> {
         self.add_quarter(alloc, section, Quarter::Southeast, estate, parts)
     }
 
-    // Adds the part of a section that has one holding of an estate.
-    fn add_whole(
-        &self,
-        alloc: Global,
-        section: Section,
-        estate: Estate,
-        parts: &mut Vec<Part>,
-    ) -> Result<(), AllocError>
-        requires within { is_in_plant (S.declared self.now) (land_of depth (Square section [])) ≡ true }
-        ensures rows { OnOk result (all_rows parts.new.items ≡ all_rows parts.old.items
-            ++ estate_sheet depth (S.declared self.now) (S.content self.now) (land_of depth (Square section [])) estate) }
-    {
-        let tract = section_tract(section);
-        let part = Part::new(self.store.part(alloc, estate, &tract)?)?;
-        add_part(parts, part)
-    }
-
     // Adds a section's parts for an estate: one where all its cells have one holding, else its quarters'.
     fn add_estate(
         &mut self,
@@ -136,7 +119,9 @@ impl<S: Store + Drop> ShownStore<S> {
     {
         let is_one = self.store.is_one(alloc, estate, section)?;
         if is_one {
-            return self.add_whole(alloc, section, estate, parts);
+            let tract = Tract::of(section.node());
+            let part = Part::new(self.store.part(alloc, estate, &tract)?)?;
+            return add_part(parts, part);
         }
         self.add_quarters(alloc, section, estate, parts)
     }
@@ -162,11 +147,7 @@ impl<S: Store + Drop> ShownStore<S> {
         ensures section { IfSome result (λ section. tract.now ≡ land_of depth (Square section [])) }
     {
         let section = whole_section(tract)?;
-        if self.kept.is_long(section) {
-            Some(section)
-        } else {
-            None
-        }
+        self.kept.is_long(section).then_some(section)
     }
 
     // The rows of a tract's sheet, made anew but for what is kept of its quarters, if it is a section whose last sheet was long.

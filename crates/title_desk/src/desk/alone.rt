@@ -19,15 +19,6 @@ use title_store::{Put, Store};
 use title_trace::laws::idle_have_no_steps;
 use title_trace::{Denial, Reply, Request};
 
-// The list of one step.
-fn one_step(alloc: Global, step: title_chain::Step) -> Result<Steps, AllocError>
-    ensures steps { IfOk result (λ steps. steps ≡ step ∷ []) }
-{
-    let mut steps = Vec::with_capacity(alloc, 1)?;
-    steps.push_reserved(step);
-    Ok(Steps::new(steps))
-}
-
 // What a transaction of one answered step takes memory for: the list of its step, and room for its record.
 fn prepare_answer(
     alloc: Global,
@@ -40,9 +31,10 @@ fn prepare_answer(
     ensures steps { IfOk result (λ steps. steps ≡ record { ask = ask.now; answer = answer.now } ∷ []) }
 {
     let step = step_of(alloc, ask, answer)?;
-    let steps = one_step(alloc, step)?;
+    let mut steps = Vec::with_capacity(alloc, 1)?;
+    steps.push_reserved(step);
     records.reserve()?;
-    Ok(steps)
+    Ok(Steps::new(steps))
 }
 
 // What a transaction of one post that is done takes memory for: the list of its step, and room for its record.
@@ -74,9 +66,7 @@ fn post_at_once<S: Store>(store: &mut S, posting: &Posting) -> Result<Option<Ans
     ensures err_content { OnErr result (SameContent (S.content store.old) (S.content store.new)) }
 {
     let terms = posting.terms();
-    let Ok(put) = store.put(&terms.tract, &terms.instrument) else {
-        return Err(AllocError);
-    };
+    let put = store.put(&terms.tract, &terms.instrument)?;
     let image = match put {
         Put::Refused(rule, estate, node) => {
             return Ok(Some(Answer::Refused(rule, estate, node)));

@@ -1,37 +1,35 @@
 -- A post that is done is a record; one that is refused is answered.
-use Rattle.std.proofs.Common.{◌∙◌, ap, refl, sym}
+use Rattle.std.proofs.Common.{◌∙◌, ap, refl, sym, reverse}
 use Rattle.title_chain.specs.declared.ask.{Ask.TheVariants.{Post}, Answer.TheVariants.{Posted}}
-use Rattle.title_desk.{specs.{Images.{is_posted}, Told.{Books}}, proofs.{States.{keeps_told, keeps_store}, Steps.{post_due}}}
-use Rattle.title_desk.proofs.Singles.{idle_state, nobody, none_out, keeps_deed, added, told_single}
+use Rattle.title_desk.{specs.Images.{is_posted}, proofs.{States.{keeps_as}, Steps.{post_due}}}
+use Rattle.title_desk.proofs.Singles.{nobody, none_out, keeps_deed, added, told_single}
 use Rattle.title_trace.specs.declared.call.Reply.TheVariants.{Answered}
 use Rattle.title_desk.proofs.desk.Desk.post_alone.Goals as goal
 
 pub post_at_once-requires-clause-none : goal.post_at_once-requires-clause-none
-post_at_once-requires-clause-none g c =
-    none_out (idle_state c.self.inside.transactions c.self.invariant (rw (← c.self.view_is) at c.requires.idle) (λ f. (refl, refl)))
+post_at_once-requires-clause-none g c = none_out c.self.invariant (rw (← c.self.view_is) at c.requires.idle)
 
 pub invariant_of-self-in_default-post_at_once : goal.invariant_of-self-in_default-post_at_once
 invariant_of-self-in_default-post_at_once g c =
-    let idle = idle_state c.self.inside.transactions c.self.invariant (rw (← c.self.view_is) at c.requires.idle) (λ f. (refl, refl)) in
-    rw c.prepare_post.ensures.records
-    (keeps_store c.self.invariant c.in_default-post_at_once.ensures.err_content c.post_at_once.ensures.declared
-    (c.post_at_once.ensures.out ∙ sym (none_out idle)))
+    keeps_as c.self.invariant refl (ap reverse c.prepare_post.ensures.records) refl refl c.in_default-post_at_once.ensures.err_content
+    c.post_at_once.ensures.declared
+    (c.post_at_once.ensures.out ∙ sym (none_out c.self.invariant (rw (← c.self.view_is) at c.requires.idle)))
 
 pub invariant_of-self-in-Some : goal.invariant_of-self-in-Some
 invariant_of-self-in-Some g c =
-    let idle = idle_state c.self.inside.transactions c.self.invariant (rw (← c.self.view_is) at c.requires.idle) (λ f. (refl, refl)) in
     let h = rw c.in-Some.is at c.in-Ok-post_at_once.ensures.deed in
-    rw c.prepare_post.ensures.records
-    (keeps_store c.self.invariant h.3 c.post_at_once.ensures.declared (c.post_at_once.ensures.out ∙ sym (none_out idle)))
+    keeps_as c.self.invariant refl (ap reverse c.prepare_post.ensures.records) refl refl h.3 c.post_at_once.ensures.declared
+    (c.post_at_once.ensures.out ∙ sym (none_out c.self.invariant (rw (← c.self.view_is) at c.requires.idle)))
 
 pub answer_alone-requires-clause-idle : goal.answer_alone-requires-clause-idle
 answer_alone-requires-clause-idle g c = rw (← c.self.view_is) at c.requires.idle
 
 pub answer_alone-requires-clause-alone : goal.answer_alone-requires-clause-alone
 answer_alone-requires-clause-alone g c =
-    let idle = idle_state c.self.inside.transactions c.self.invariant (rw (← c.self.view_is) at c.requires.idle) (λ f. (refl, refl)) in
+    let shut = rw (← c.self.view_is) at c.requires.idle in
     let h = rw c.in-Some.is at c.in-Ok-post_at_once.ensures.deed in
-    h.2 ∙ post_due c.args.examiner c.args.posting _ c.self.invariant (nobody idle c.args.examiner (Post c.args.posting)) h.1
+    h.2 ∙ post_due c.args.examiner c.args.posting _ c.self.invariant
+    (nobody c.self.invariant shut c.args.examiner (Post c.args.posting)) h.1
 
 pub answer_alone-requires-clause-unposted : goal.answer_alone-requires-clause-unposted
 answer_alone-requires-clause-unposted g c =
@@ -39,21 +37,18 @@ answer_alone-requires-clause-unposted g c =
 
 pub invariant_of-self-2 : goal.invariant_of-self-2
 invariant_of-self-2 g c =
-    let idle = idle_state c.self.inside.transactions c.self.invariant (rw (← c.self.view_is) at c.requires.idle) (λ f. (refl, refl)) in
+    let shut = rw (← c.self.view_is) at c.requires.idle in
     let h = rw c.in-None.is at c.in-Ok-post_at_once.ensures.deed in
     let new = added _ _ _ _ _ c.self.invariant c.args.examiner (Post c.args.posting) Posted refl
     c.prepare_post.ensures.records c.in-Ok.ensures.steps c.add_done-self-inside.ensures.records c.add_done-self-inside.ensures.calls in
-    keeps_store (keeps_told (keeps_deed idle c.args.examiner c.args.posting _ (rw (← c.self.view_is) at c.requires.stands) h.0 h.1)
-    new.0 new.1) (λ d. refl) c.post_at_once.ensures.declared (c.post_at_once.ensures.out ∙ sym (none_out idle))
+    keeps_as (keeps_deed c.self.invariant shut c.args.examiner c.args.posting _ (rw (← c.self.view_is) at c.requires.stands) h.0 h.1)
+    new.0 new.1 refl refl (λ d. refl) c.post_at_once.ensures.declared (c.post_at_once.ensures.out ∙ sym (none_out c.self.invariant shut))
 
 pub returns : goal.returns
 returns g c =
-    let idle = idle_state c.self.inside.transactions c.self.invariant (rw (← c.self.view_is) at c.requires.idle) (λ f. (refl, refl)) in
     let h = rw c.in-None.is at c.in-Ok-post_at_once.ensures.deed in
     let new = added _ _ _ _ _ c.self.invariant c.args.examiner (Post c.args.posting) Posted refl
     c.prepare_post.ensures.records c.in-Ok.ensures.steps c.add_done-self-inside.ensures.records c.add_done-self-inside.ensures.calls in
-    let k = keeps_deed idle c.args.examiner c.args.posting _ (rw (← c.self.view_is) at c.requires.stands) h.0 h.1 in
-    record {
-      told = told_single c.args.self.now k c.args.examiner (Post c.args.posting) (Answered Posted)
-          (sym (ap (λ (b : Books). b.setting) c.self.view_is)) _ (sym (ap (λ (b : Books). b.trace) c.self.view_is)) refl refl new.0;
-    }
+    let k = keeps_deed c.self.invariant (rw (← c.self.view_is) at c.requires.idle) c.args.examiner c.args.posting _
+    (rw (← c.self.view_is) at c.requires.stands) h.0 h.1 in
+    record { told = told_single c.self.view_is c.args.examiner (Post c.args.posting) (Answered Posted) refl new.0 k.due }

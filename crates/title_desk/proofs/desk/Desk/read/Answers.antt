@@ -1,16 +1,16 @@
 -- What the store and the index give is what the ask gets alone; what is open looks as it did.
-use Rattle.std.proofs.Common.{◌∙◌, ap, refl}
+use Rattle.std.proofs.Common.{◌∙◌, ap, refl, reverse}
 use Rattle.title_chain.specs.declared.ask.Answer.TheVariants.{Entries, Rows}
-use Rattle.title_desk.proofs.{Found.{seen_same}, States.{keeps_opened}, Steps.{chain_due, sheet_due}}
+use Rattle.title_desk.proofs.{States.{keeps_as}, Steps.{chain_due, sheet_due}}
 use Rattle.title_desk.proofs.desk.Desk.read.Goals as goal
 
 pub invariant_of-self-in_err-entries-in-Chain : goal.invariant_of-self-in_err-entries-in-Chain
 invariant_of-self-in_err-entries-in-Chain g c =
-    rw c.chain.ensures.records (keeps_opened c.self.invariant (seen_same _ _ c.chain.ensures.same) refl)
+    keeps_as c.self.invariant refl (ap reverse c.chain.ensures.records) c.chain.ensures.same refl (λ d. refl) refl refl
 
 pub invariant_of-self-in-Chain : goal.invariant_of-self-in-Chain
 invariant_of-self-in-Chain g c =
-    rw c.chain.ensures.records (keeps_opened c.self.invariant (seen_same _ _ c.chain.ensures.same) refl)
+    keeps_as c.self.invariant refl (ap reverse c.chain.ensures.records) c.chain.ensures.same refl (λ d. refl) refl refl
 
 pub returns-in_ok-rows-in-Sheet-clause-alone : goal.returns-in_ok-rows-in-Sheet-clause-alone
 returns-in_ok-rows-in-Sheet-clause-alone g c =

@@ -5,25 +5,14 @@ use Rattle.title_store.specs.Laws.EffectLaws as store
 use Rattle.title_desk.proofs.Steps.{image_first, image_out, taken_out}
 use Rattle.title_desk.proofs.desk.alone.post_at_once.Goals as goal
 
-pub settle-requires-clause-out : goal.settle-requires-clause-out
-settle-requires-clause-out g c =
-    let told = rw c.terms-terms.ensures.terms at c.in-Ok.ensures.put in
-    let h = rw c.in-Done.is at told in image_out _ _ _ _ _ _ h.1
-
-pub settle-requires-clause-first : goal.settle-requires-clause-first
-settle-requires-clause-first g c =
-    let told = rw c.terms-terms.ensures.terms at c.in-Ok.ensures.put in
-    let h = rw c.in-Done.is at told in image_first _ _ _ _ _ _ c.requires.none h.1
-
-pub settle-requires-clause-only : goal.settle-requires-clause-only
-settle-requires-clause-only g c =
-    let told = rw c.terms-terms.ensures.terms at c.in-Ok.ensures.put in
-    let h = rw c.in-Done.is at told in taken_out _ _ _ _ _ _ h.1 ∙ c.requires.none
+pub settle-requires : goal.settle-requires
+settle-requires g c =
+    let h = rw (c.terms-terms.ensures.terms, c.in-Done.is) at c.in_ok-put.ensures.put in
+    record { out = image_out h.1; first = image_first h.1 c.requires.none; only = taken_out h.1 ∙ c.requires.none }
 
 pub returns-in-Refused : goal.returns-in-Refused
 returns-in-Refused g c =
-    let told = rw c.terms-terms.ensures.terms at c.in-Ok.ensures.put in
-    let h = rw c.in-Refused.is at told in
+    let h = rw (c.terms-terms.ensures.terms, c.in-Refused.is) at c.in_ok-put.ensures.put in
     let posting = c.args.posting.now in
     let before = g.S.Store.content c.args.store.now in
     record {
@@ -31,7 +20,7 @@ returns-in-Refused g c =
         _,
         h.0,
         refl,
-        λ d. (rw c.terms-terms.ensures.terms at c.in-Ok.ensures.content) d
+        λ d. (rw c.terms-terms.ensures.terms at c.in_ok-put.ensures.content) d
             ∙ store.effect_refused depth (g.S.Store.declared c.args.store.now) posting.instrument posting.tract before d _ h.0,
       );
       declared = c.put.ensures.declared;
@@ -41,10 +30,9 @@ returns-in-Refused g c =
 
 pub returns : goal.returns
 returns g c =
-    let told = rw c.terms-terms.ensures.terms at c.in-Ok.ensures.put in
-    let h = rw c.in-Done.is at told in
+    let h = rw (c.terms-terms.ensures.terms, c.in-Done.is) at c.in_ok-put.ensures.put in
     record {
-      deed = (h.0, λ d. c.settle.ensures.content d ∙ (rw c.terms-terms.ensures.terms at c.in-Ok.ensures.content) d);
+      deed = (h.0, λ d. c.settle.ensures.content d ∙ (rw c.terms-terms.ensures.terms at c.in_ok-put.ensures.content) d);
       declared = c.settle.ensures.declared ∙ c.put.ensures.declared;
       out = c.settle.ensures.out;
       err_content = tt;

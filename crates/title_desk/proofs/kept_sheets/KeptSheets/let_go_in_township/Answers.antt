@@ -1,7 +1,6 @@
 -- One section more, and at last the township and the plant.
-use Rattle.std.proofs.Common.{◌≡◌, ℕ, [], refl, subst, arith}
-use Rattle.title_land.specs.{declared.{node.Node.{Node}, survey.Section.{Section}}, NodeNumbers.{node_number}}
-use Rattle.title_desk.specs.Shown.{IsSetUnder}
+use Rattle.std.proofs.Common.{◌≡◌, ℕ, refl, subst, arith}
+use Rattle.title_land.specs.declared.survey.Section.{Section}
 use Rattle.title_desk.proofs.Homes.{AreSwept, none_swept, swept_more, outside_more, township_left, township_others}
 use Rattle.title_desk.proofs.kept_sheets.KeptSheets.let_go_in_township.Goals as goal
 
@@ -15,8 +14,7 @@ loop-number-preserved c =
       number = c.loop-number.number;
       numbered = (c.loop-number.auto.number, c.loop-number-test.true);
     } in
-    let gone = subst (λ (n : Node). IsSetUnder (node_number n) [] c.loop-number.self c.drop_home.new.self) c.node.ensures.node
-    c.drop_home.ensures.gone in
+    let gone = rw c.node.ensures.node at c.drop_home.ensures.gone in
     record {
       swept = swept_more s c.args.self.now c.loop-number.self c.drop_home.new.self c.loop-number.invariant.swept gone;
       outside = outside_more s c.args.self.now c.loop-number.self c.drop_home.new.self c.loop-number.invariant.outside gone;

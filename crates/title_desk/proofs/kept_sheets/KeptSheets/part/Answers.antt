@@ -1,16 +1,15 @@
 -- What stands at the tract's home are parts of the plant's sheets.
-use Rattle.std.proofs.lemmas.List.Elements.{All-same, All-weaker}
-use Rattle.title_desk.specs.{declared.kept_sheets.Kept.TheVariants.{Quarter}, Shown.{IsQuarter, IsKept}}
-use Rattle.title_desk.proofs.Homes.{found_home, quarters_of}
+use Rattle.std.proofs.{Common.{Option, subst, sym}, lemmas.List.Elements.{All-same, All-weaker}}
+use Rattle.title_desk.specs.declared.kept_sheets.{Home.{Home}, Kept.TheVariants.{Quarter}}
+use Rattle.title_desk.specs.Shown.{IsQuarter, IsKept, AllKept, all_kept, kept_in}
 use Rattle.title_desk.proofs.kept_sheets.KeptSheets.part.Goals as goal
 
 pub returns : goal.returns
+unfolding all_kept
 returns c =
-    let home = c.in_ok-home.home.now in
     let k = c.number.result in
     record {
-      part = λ ts p are. c.part_of.ensures.part ts p
-          (All-same (IsQuarter ts p) c.deref.result.now home.quarters.items c.deref.ensures.value
-          (All-weaker (λ x. IsKept ts p k (Quarter x)) (IsQuarter ts p) (λ x h. h.0) home.quarters.items
-          (quarters_of (IsKept ts p k) home (found_home (IsKept ts p k) home _ c.in_ok-home.ensures.value (are.each k)))));
+      part = λ ts p are. c.part_of.ensures.part ts p (All-same (IsQuarter ts p) c.deref.result.now _ c.deref.ensures.value
+          (All-weaker (λ x. IsKept ts p k (Quarter x)) (IsQuarter ts p) (λ x h. h.0) _
+          (subst (λ (o : Option Home). AllKept ts p k (kept_in o)) (sym c.in_ok-home.ensures.value) (are.each k)).1));
     }
