@@ -1,11 +1,12 @@
--- A cover that has a node is that of one land alone.
-use Rattle.std.proofs.Common.{◌≡◌, ◌∙◌, ◌↔◌, ℕ, ◌<◌, Bool, true, false, ◌&&◌, All, List, [], ◌∷◌, length, map, get_or, arith}
-use Rattle.std.{proofs.Common.{ap, sym, refl, subst, unwrap_or, ext_get_or}, specs.Prelude.{nat_lt, slice_get, option_and_then}}
+-- A land whose cover is one node is that node's.
+use Rattle.std.proofs.Common.{◌≡◌, ◌∙◌, ◌↔◌, ℕ, ◌<◌, Bool, true, false, ◌&&◌, All, List, [], ◌∷◌, length, get_or, arith}
+use Rattle.std.{proofs.Common.{ap, sym, refl, subst, inl, unwrap_or, ext_get_or}, specs.Prelude.{nat_lt, slice_get, option_and_then}}
 use Rattle.std.{specs.List.{list_any}, proofs.lemmas.{Bool.{and_from, lt-ltb}, Option.{slice_get-get_or, unwrap_or-slice_get}}}
 use Rattle.title_land.specs.{Depth.{depth}, declared.{grid.Grid.{Grid}, node.Node.{Node}, survey.Section.{Section}, tract.Land.{Land}}}
-use Rattle.title_land.specs.{declared.rectangle.Quarter.{Quarter}, Covers.{node_at}, Grids.{grid_has, IsGrid}, Laws.NodeSharing.{cell_at}}
-use Rattle.title_land.specs.{Lands.{cover_of, has, IsLand}, Laws.{LandSharing.{cover_has_its_cells}, SameLand.{same_section-self}}}
-use Rattle.title_land.specs.{Nodes.{node_has}, Survey.{is_on_grid, side}}
+use Rattle.title_land.specs.{Grids.{grid_has, grid_of, IsGrid}, Rectangles.{holds}, Nodes.{node_has, square}, Survey.{is_on_grid, side}}
+use Rattle.title_land.specs.{Lands.{cover_of, has, land_of, IsLand}, Laws.{SameLand.{same_section-self}, Members.{In}}}
+use Rattle.title_land.specs.Laws.{LandSharing.{cover_has_its_cells, cover_in_tree, part_found}, NodeSharing.{cell_at}}
+use Rattle.title_land.specs.Laws.NodeLands.{cover_of-land_of, is_grid-grid_of}
 use Rattle.title_land.specs.declared.node.Node.TheVariants as node
 use Rattle.title_land.specs.declared.tract.Land.TheVariants as land
 use Rattle.title_chain.specs.SoleNodes.{HasSoleNode}
@@ -49,66 +50,29 @@ parts_one d s g h a b same =
     ∙ sym (cover_has_its_cells d (land.Part s h) cell on) in
     sym (ap (λ (o : Bool). o && grid_has g row column) self) ∙ both ∙ ap (λ (o : Bool). o && grid_has h row column) self)
 
--- the first node of a section's cover is one of its squares
-first_node : (s : Section) (xs : List (List Quarter)) (n : Node) (rest : List Node) → map (node_at s) xs ≡ n ∷ rest
-    → (w : List Quarter) × (n ≡ node.Part s w)
-first_node s [] n rest h = absurd cc
-first_node s (x ∷ xs) n rest h =
-    let e : node.Part s x ≡ n = cc in
-    (x, sym e)
-
-first_of : (d : ℕ) (s : Section) (g : Grid) (n : Node) (rest : List Node) → cover_of d (land.Part s g) ≡ n ∷ rest
-    → (w : List Quarter) × (n ≡ node.Part s w)
+-- a land whose cover is one node is that node's
+land_alone : (d : ℕ) (a : Land) (n : Node) → IsLand d a → cover_of d a ≡ n ∷ [] → a ≡ land_of d n
 unfolding cover_of
-first_of d s g n rest h = first_node s _ n rest h
-
--- two lands whose covers are one and have a node are one
-cover_tells : (d : ℕ) (a b : Land) (n : Node) (rest : List Node) → IsLand d a → IsLand d b → cover_of d a ≡ n ∷ rest
-    → cover_of d b ≡ n ∷ rest → a ≡ b
-unfolding cover_of
-cover_tells d land.Everything land.Everything n rest i j h k = refl
-cover_tells d land.Everything (land.Township u) n rest i j h k = absurd cc
-cover_tells d land.Everything (land.Part u y) n rest i j h k =
-    let w = first_of d u y n rest k in
-    let e : node.Everything ≡ n = cc in
-    let f : node.Everything ≡ node.Part u w.0 = e ∙ w.1 in
-    absurd cc
-cover_tells d (land.Township t) land.Everything n rest i j h k = absurd cc
-cover_tells d (land.Township t) (land.Township u) n rest i j h k =
-    let e : t ≡ u = cc in
-    ap land.Township e
-cover_tells d (land.Township t) (land.Part u y) n rest i j h k =
-    let w = first_of d u y n rest k in
-    let e : node.Township t ≡ n = cc in
-    let f : node.Township t ≡ node.Part u w.0 = e ∙ w.1 in
-    absurd cc
-cover_tells d (land.Part s x) land.Everything n rest i j h k =
-    let w = first_of d s x n rest h in
-    let e : node.Everything ≡ n = cc in
-    let f : node.Everything ≡ node.Part s w.0 = e ∙ w.1 in
-    absurd cc
-cover_tells d (land.Part s x) (land.Township u) n rest i j h k =
-    let w = first_of d s x n rest h in
-    let e : node.Township u ≡ n = cc in
-    let f : node.Township u ≡ node.Part s w.0 = e ∙ w.1 in
-    absurd cc
-cover_tells d (land.Part s x) (land.Part u y) n rest i j h k =
-    let v = first_of d s x n rest h in
-    let w = first_of d u y n rest k in
-    let f : node.Part s v.0 ≡ node.Part u w.0 = sym v.1 ∙ w.1 in
-    let e : s ≡ u = cc in
-    let same = h ∙ sym (subst (λ (z : Section). cover_of d (land.Part z y) ≡ n ∷ rest) (sym e) k) in
-    let sets = parts_one d s x y i j same in
-    (λ o. land.Part (e o) (sets o))
+land_alone d land.Everything n i h = let e : node.Everything ≡ n = cc in ap (land_of d) e
+land_alone d (land.Township t) n i h = let e : node.Township t ≡ n = cc in ap (land_of d) e
+land_alone d (land.Part s g) n i h =
+    let listed : In n (cover_of d (land.Part s g)) = subst (λ (nodes : List Node). In n nodes) (sym h) (inl refl) in
+    let p = part_found d s g n listed in
+    let test = holds (square d p.quarters) in
+    let same = h ∙ sym (cover_of-land_of d n (cover_in_tree d (land.Part s g) n listed))
+    ∙ ap (λ (m : Node). cover_of d (land_of d m)) p.node_is in
+    ap (land.Part s) (parts_one d s g (grid_of d test) i (is_grid-grid_of d test) same) ∙ ap (land_of d) (sym p.node_is)
 
 -- ---- nodes alone
 
 -- lands whose covers are one node are one exactly where the nodes are
 pub same_by_node : (a b : Land) (n m : Node) (same : Bool) → IsLand depth a → IsLand depth b → HasSoleNode a n → HasSoleNode b m
     → ((same ≡ true) ↔ (n ≡ m)) → (same ≡ true) ↔ (a ≡ b)
-same_by_node a b n m same i j h k both = (
-  (λ t. cover_tells depth a b n [] i j h.cover (subst (λ (x : Node). cover_of depth b ≡ x ∷ []) (sym (both.0 t)) k.cover)),
-  (λ e. let covers : n ∷ [] ≡ m ∷ [] = sym h.cover ∙ ap (cover_of depth) e ∙ k.cover in
-      let nodes : n ≡ m = cc in
-      both.1 nodes),
-)
+same_by_node a b n m same i j h k both =
+    let is = land_alone depth a n i h.cover in
+    let other = land_alone depth b m j k.cover in (
+      (λ t. is ∙ ap (land_of depth) (both.0 t) ∙ sym other),
+      (λ e. let covers : n ∷ [] ≡ m ∷ [] = sym h.cover ∙ ap (cover_of depth) e ∙ k.cover in
+          let nodes : n ≡ m = cc in
+          both.1 nodes),
+    )

@@ -1,6 +1,6 @@
 -- The spots filed near the nodes of a tract's cover are those of the posts that share a cell with it.
 use Rattle.std.proofs.Common.{◌≡◌, ℕ, Bool, true, false, ◌&&◌, ◌||◌, List, [], ◌∷◌, refl, sym, ap, ◌∙◌}
-use Rattle.std.specs.List.{AllByRecursion, list_any}
+use Rattle.std.{specs.List.{AllByRecursion, list_any}, proofs.Math.Bool.{and-or_distrib_left}}
 use Rattle.title_land.specs.{Depth.{depth}, declared.{node.Node.{Node}, tract.Land.{Land}}, Nodes.{same_node, above, is_above, are_related}}
 use Rattle.title_land.specs.{Lands.{cover_of, meets, IsLand}, CoverSets.{covers_meet, MeetsByCovers}, Laws.SameNode.{same_node-is}}
 use Rattle.title_land.specs.Laws.{LandSharing.{equal_tests}, CoversMeet.{meets_by_covers}}
@@ -32,35 +32,26 @@ any_swap r (x ∷ xs) ys =
     ap (λ (b : Bool). list_any (r x) ys || b) (any_swap r xs ys)
     ∙ any_or (r x) (λ y. list_any (λ x. r x y) xs) ys
 
--- ---- spots of posts
+-- a test of each and another of all
+any_and : {X : Type 0} (s : Bool) (test : X → Bool) (xs : List X) → list_any (λ x. s && test x) xs ≡ (s && list_any test xs)
+any_and true test xs = refl
+any_and false test xs = sym (none_any xs)
 
-both_tests : (s a b : Bool) → ((s && a) || (s && b)) ≡ (s && (a || b))
-both_tests true a b = refl
-both_tests false a b = refl
+-- ---- spots of posts
 
 -- the spots of the posts of such lands or of such
 where_or : (left right : Land → Bool) (posts : List FiledPost) (p : Spot)
     → (is_spot_where left posts p || is_spot_where right posts p) ≡ is_spot_where (λ l. left l || right l) posts p
 where_or left right posts p =
     any_or (λ x. same_spot p x.spot && left x.posting.tract) (λ x. same_spot p x.spot && right x.posting.tract) posts
-    ∙ (λ i. list_any (λ x. both_tests (same_spot p x.spot) (left x.posting.tract) (right x.posting.tract) i) posts)
-
-where_none : (posts : List FiledPost) (p : Spot) → false ≡ is_spot_where (λ l. false) posts p
-where_none [] p = refl
-where_none (x ∷ posts) p = where_none posts p ∙ ap (λ (b : Bool). b || is_spot_where (λ l. false) posts p)
-    (sym (none (same_spot p x.spot)))
-  where
-    none : (b : Bool) → (b && false) ≡ false
-    none true = refl
-    none false = refl
+    ∙ (λ i. list_any (λ x. sym (and-or_distrib_left (same_spot p x.spot) (left x.posting.tract) (right x.posting.tract)) i) posts)
 
 -- the spots of the posts of lands that pass one of these tests
 where_any : {X : Type 0} (tests : X → Land → Bool) (xs : List X) (posts : List FiledPost) (p : Spot) →
     list_any (λ a. is_spot_where (tests a) posts p) xs ≡ is_spot_where (λ l. list_any (λ a. tests a l) xs) posts p
-where_any tests [] posts p = where_none posts p
-where_any tests (x ∷ xs) posts p =
-    ap (λ (b : Bool). is_spot_where (tests x) posts p || b) (where_any tests xs posts p)
-    ∙ where_or (tests x) (λ l. list_any (λ a. tests a l) xs) posts p
+where_any tests xs posts p =
+    any_swap (λ a x. same_spot p x.spot && tests a x.posting.tract) xs posts
+    ∙ (λ i. list_any (λ x. any_and (same_spot p x.spot) (λ a. tests a x.posting.tract) xs i) posts)
 
 -- ---- nodes near a node
 

@@ -1,5 +1,5 @@
 -- Lists of spots in order, each spot once.
-use Rattle.std.{proofs.Common.{◌≡◌, ℕ, ◌≤◌, ◌-◌, Bool, List, length, sym, subst, ◌∙◌, arith}, specs.Cmp.{IsEquivalence}}
+use Rattle.std.{proofs.Common.{◌≡◌, ℕ, ◌≤◌, Bool, List, length, sym, subst, ◌∙◌, arith}, specs.Cmp.{IsEquivalence}}
 use Rattle.std.{specs.{declared.cmp.Ordering.TheVariants.{Less}, List.{dedup, AllAdjacentBelow}}, proofs.lemmas.Cmp.{eq_by_cmp_equiv}}
 use Rattle.std.{specs.List.Sorted.{IsPermutation, IsSorted, IsStrictlySortedBy}, proofs.lemmas.List.Sorted.{list_any-IsPermutation}}
 use Rattle.std.proofs.lemmas.List.Kept.{Contains-dedup, Contains-from_dedup, IsStrictlySortedBy-dedup}

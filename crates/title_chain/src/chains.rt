@@ -1,8 +1,8 @@
 //! Chains of tracts.
 
-ghost use Rattle.std.specs.Prelude.{◌≡◌, IfOk, ◌++◌, reverse, slice_get};
+ghost use Rattle.std.specs.{Prelude.{◌≡◌, IfOk, ◌++◌, reverse, slice_get}, List.{flat_map}};
 ghost use Rattle.title_chain.specs.{StepEntries.{entry_of, step_entries}, Chains.{record_entries, chain_of}};
-ghost use Rattle.title_chain.specs.PostSpots.{posted, step_entry, entry_at, own_entry_at, entries_at};
+ghost use Rattle.title_chain.specs.PostSpots.{posted, posting_of, step_entry, entry_at, own_entry_at};
 
 use crate::ask::{Answer, Ask, Entry, Step};
 use crate::lists::{Entries, Records};
@@ -74,7 +74,7 @@ fn add_posted(
     place: u64,
     step: &Step,
 ) -> Result<(), AllocError>
-    ensures added { IfOk result (λ _. entries.new.items ≡ entries.old.items ++ posted place step.now.ask step.now.answer) }
+    ensures added { IfOk result (λ _. entries.new.items ≡ entries.old.items ++ posted place (posting_of step.now.ask step.now.answer)) }
 {
     match (&step.ask, &step.answer) {
         (Ask::Post(posting), Answer::Posted) => {
@@ -84,6 +84,23 @@ fn add_posted(
         }
         _ => Ok(()),
     }
+}
+
+// Adds the entry of the step at an index, if there is one, with this place.
+#[inline(always)]
+fn add_step_at(
+    alloc: Global,
+    entries: &mut Vec<Entry>,
+    place: u64,
+    steps: &[Step],
+    index: usize,
+) -> Result<(), AllocError>
+    ensures added { IfOk result (λ _. entries.new.items ≡ entries.old.items ++ step_entry place (slice_get steps.now index)) }
+{
+    let Some(step) = steps.get(index) else {
+        return Ok(());
+    };
+    add_posted(alloc, entries, place, step)
 }
 
 // Adds the entry of the step at a spot, if these records have it, with its record's number from 1.
@@ -98,10 +115,9 @@ fn add_entry_at(
     let Some(record) = records.get(spot.record) else {
         return Ok(());
     };
-    let Some(step) = record.steps.as_slice().get(spot.step) else {
-        return Ok(());
-    };
-    add_posted(alloc, entries, spot.record as u64 + 1, step)
+    let place = spot.record as u64 + 1;
+    let steps = record.steps.as_slice();
+    add_step_at(alloc, entries, place, steps, spot.step)
 }
 
 /// Adds the entries of the steps at these spots of records, each with its record's number from 1, with room for all at once.
@@ -111,28 +127,13 @@ pub(crate) fn add_entries_at(
     records: &[Record],
     spots: &[Spot],
 ) -> Result<(), AllocError>
-    ensures added { IfOk result (λ _. entries.new.items ≡ entries.old.items ++ entries_at (entry_at records.now) spots.now) }
+    ensures added { IfOk result (λ _. entries.new.items ≡ entries.old.items ++ flat_map (entry_at records.now) spots.now) }
 {
     entries.reserve_exact(spots.len())?;
     for spot in spots {
         add_entry_at(alloc, entries, records, *spot)?;
     }
     Ok(())
-}
-
-// Adds the entry of the step at an index, if there is one, with place 0.
-fn add_own_entry_at(
-    alloc: Global,
-    entries: &mut Vec<Entry>,
-    steps: &[Step],
-    index: usize,
-) -> Result<(), AllocError>
-    ensures added { IfOk result (λ _. entries.new.items ≡ entries.old.items ++ step_entry 0 (slice_get steps.now index)) }
-{
-    let Some(step) = steps.get(index) else {
-        return Ok(());
-    };
-    add_posted(alloc, entries, 0, step)
 }
 
 /// Adds the entries of a transaction's own steps at these spots, each with place 0, with room for all at once.
@@ -142,11 +143,11 @@ pub(crate) fn add_own_entries_at(
     steps: &[Step],
     spots: &[Spot],
 ) -> Result<(), AllocError>
-    ensures added { IfOk result (λ _. entries.new.items ≡ entries.old.items ++ entries_at (own_entry_at steps.now) spots.now) }
+    ensures added { IfOk result (λ _. entries.new.items ≡ entries.old.items ++ flat_map (own_entry_at steps.now) spots.now) }
 {
     entries.reserve_exact(spots.len())?;
     for spot in spots {
-        add_own_entry_at(alloc, entries, steps, spot.step)?;
+        add_step_at(alloc, entries, 0, steps, spot.step)?;
     }
     Ok(())
 }

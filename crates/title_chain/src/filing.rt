@@ -2,9 +2,9 @@
 
 mod found;
 
-ghost use Rattle.std.specs.Prelude.{◌≡◌, ◌≢◌, ℕ, ◌++◌, ◌∷◌, ◌&&◌, ◌||◌, ◌==◌, [], List, IfOk, OnOk, length, reverse, true};
+ghost use Rattle.std.specs.Prelude.{◌≡◌, ℕ, ◌++◌, ◌&&◌, ◌||◌, ◌==◌, [], List, IfOk, OnOk, length, reverse};
 ghost use Rattle.std.specs.List.{list_any, Sorted.{IsStrictlySortedBy}};
-ghost use Rattle.title_land.specs.{Depth.{depth}, declared.node.Node.{Node}, Nodes.{same_node, above, is_above}};
+ghost use Rattle.title_land.specs.{Depth.{depth}, declared.node.Node.{Node}, Nodes.{same_node, is_above}};
 ghost use Rattle.title_land.specs.NodeNumbers.{node_number, number_above};
 ghost use Rattle.title_chain.specs.{declared.spot.Spot.{Spot}, PostSpots.{same_spot, is_listed}};
 ghost use Rattle.title_chain.specs.SpotMaps.{spots_numbered, spots_under, spot_cmp};
@@ -89,7 +89,7 @@ fn file_above(
 
 impl Filing {
     ghost use Rattle.title_chain.specs.{Chains.{record_entries}, StepEntries.{step_entries}};
-    ghost use Rattle.title_chain.specs.PostSpots.{FiledPost, post_of, step_posts, record_posts};
+    ghost use Rattle.title_chain.specs.PostSpots.{FiledPost, post_of, posting_of, step_posts, record_posts};
     ghost use Rattle.title_chain.specs.TractIndexes.{IsFiled, IsReadFrom, AreReadFrom, is_near};
 
     /// Nothing was read yet; takes no memory.
@@ -120,25 +120,16 @@ impl Filing {
         Ok(())
     }
 
-    // Files a post of this tract.
-    fn file_post(&mut self, alloc: Global, spot: Spot, tract: &Tract) -> Result<(), AllocError>
-        ensures read { self.new.read ≡ self.old.read }
-        ensures filed { OnOk result ((posts : List FiledPost) (x : FiledPost) → x.spot ≡ spot → x.posting.tract ≡ tract.now
-            → IsFiled depth self.old posts → IsFiled depth self.new (posts ++ x ∷ [])) }
-    {
-        self.file_cover(alloc, spot, tract.cover())
-    }
-
     // Files a step, if it was posted.
     fn file_step(&mut self, alloc: Global, spot: Spot, step: &Step) -> Result<(), AllocError>
         ensures read { self.new.read ≡ self.old.read }
         ensures filed { OnOk result ((posts : List FiledPost) → IsFiled depth self.old posts
-            → IsFiled depth self.new (posts ++ post_of spot step.now.ask step.now.answer)) }
+            → IsFiled depth self.new (posts ++ post_of spot (posting_of step.now.ask step.now.answer))) }
     {
         let (Ask::Post(posting), Answer::Posted) = (&step.ask, &step.answer) else {
             return Ok(());
         };
-        self.file_post(alloc, spot, &posting.terms().tract)
+        self.file_cover(alloc, spot, posting.terms().tract.cover())
     }
 
     // Files the steps of the record at an index.

@@ -4,7 +4,7 @@ ghost use Rattle.std.specs.Prelude.{◌≡◌, ◌↔◌, true};
 
 use crate::ask::{Answer, Ask, Entry, Posting, Step, Terms};
 use crate::record::Record;
-use crate::same_parts::{same_estate, same_rule, same_tract};
+use crate::same_parts::{Same, same_estate, same_lists, same_rule, same_tract};
 use crate::same_sheets::same_sheets;
 
 impl Terms {
@@ -38,26 +38,10 @@ impl Ask {
     }
 }
 
-impl Entry {
-    fn same(&self, other: &Entry) -> bool
-        ensures same { (result ≡ true) ↔ (self.now ≡ other.now) }
-    {
+impl Same for Entry {
+    fn is_one(&self, other: &Entry) -> bool {
         self.place == other.place && self.posting.same(&other.posting)
     }
-}
-
-fn same_entries(a: &[Entry], b: &[Entry]) -> bool
-    ensures same { (result ≡ true) ↔ (a.now ≡ b.now) }
-{
-    if a.len() != b.len() {
-        return false;
-    }
-    for (entry, other) in a.iter().zip(b) {
-        if !entry.same(other) {
-            return false;
-        }
-    }
-    true
 }
 
 impl Answer {
@@ -66,7 +50,7 @@ impl Answer {
     {
         match (self, other) {
             (Answer::Rows(a), Answer::Rows(b)) => same_sheets(a, b),
-            (Answer::Entries(a), Answer::Entries(b)) => same_entries(a.as_slice(), b.as_slice()),
+            (Answer::Entries(a), Answer::Entries(b)) => same_lists(a.as_slice(), b.as_slice()),
             (Answer::Posted, Answer::Posted) => true,
             (Answer::Refused(rule, estate, node), Answer::Refused(other, part, other_node)) => {
                 same_rule(*rule, *other) && same_estate(*estate, *part) && node.is(other_node)
@@ -85,19 +69,17 @@ impl Step {
     }
 }
 
+impl Same for Step {
+    fn is_one(&self, other: &Step) -> bool {
+        self.same(other)
+    }
+}
+
 /// Whether two lists have the same steps, in order.
 pub fn same_steps(a: &[Step], b: &[Step]) -> bool
     ensures same { (result ≡ true) ↔ (a.now ≡ b.now) }
 {
-    if a.len() != b.len() {
-        return false;
-    }
-    for (step, other) in a.iter().zip(b) {
-        if !step.same(other) {
-            return false;
-        }
-    }
-    true
+    same_lists(a, b)
 }
 
 impl Record {

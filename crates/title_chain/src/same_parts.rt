@@ -50,25 +50,31 @@ pub(crate) fn same_rule(a: Rule, b: Rule) -> bool
     a == b
 }
 
-/// Whether two rows are one.
-pub(crate) fn same_row(a: &SheetRow, b: &SheetRow) -> bool
-    ensures same { (result ≡ true) ↔ (a.now ≡ b.now) }
-{
-    a.party == b.party
-        && a.units == b.units
-        && same_estate(a.estate, b.estate)
-        && a.node.is(&b.node)
+/// What lists are compared by.
+pub(crate) trait Same {
+    /// Whether both are one.
+    fn is_one(&self, other: &Self) -> bool
+        ensures same { (result ≡ true) ↔ (self.now ≡ other.now) };
 }
 
-/// Whether two lists have the same rows, in order.
-pub(crate) fn same_rows(a: &[SheetRow], b: &[SheetRow]) -> bool
+impl Same for SheetRow {
+    fn is_one(&self, other: &SheetRow) -> bool {
+        self.party == other.party
+            && self.units == other.units
+            && same_estate(self.estate, other.estate)
+            && self.node.is(&other.node)
+    }
+}
+
+/// Whether two lists are one.
+pub(crate) fn same_lists<T: Same>(a: &[T], b: &[T]) -> bool
     ensures same { (result ≡ true) ↔ (a.now ≡ b.now) }
 {
     if a.len() != b.len() {
         return false;
     }
-    for (row, other) in a.iter().zip(b) {
-        if !same_row(row, other) {
+    for (item, other) in a.iter().zip(b) {
+        if !item.is_one(other) {
             return false;
         }
     }

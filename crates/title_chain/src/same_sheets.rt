@@ -4,17 +4,16 @@ ghost use Rattle.std.specs.Prelude.{◌≡◌, ◌↔◌, true, length, slice_ge
 ghost use Rattle.title_chain.specs.{SheetParts.{all_rows}, KeptRows.{rows_in, sheet_in}};
 
 use crate::lists::{Lines, Part, Sheet, SheetRows};
-use crate::same_parts::{same_estate, same_row, same_rows};
-use crate::square_row::same_squares;
+use crate::same_parts::{Same, same_estate, same_lists};
 
 // Whether rows are kept alike and are the same.
 fn same_lines(a: &Lines, b: &Lines) -> bool
     ensures same { result ≡ true → rows_in a.now ≡ rows_in b.now }
 {
     match (a, b) {
-        (Lines::Plain(rows), Lines::Plain(others)) => same_rows(rows, others),
+        (Lines::Plain(rows), Lines::Plain(others)) => same_lists(rows, others),
         (Lines::Squares(section, estate, rows), Lines::Squares(other, another, others)) => {
-            section.is(*other) && same_estate(*estate, *another) && same_squares(rows, others)
+            section.is(*other) && same_estate(*estate, *another) && same_lists(rows, others)
         }
         _ => false,
     }
@@ -45,7 +44,7 @@ fn same_at(a: &SheetRows, b: &SheetRows, index: usize) -> bool
     let Some(other) = b.row(index) else {
         return false;
     };
-    same_row(&row, &other)
+    row.is_one(&other)
 }
 
 // Whether two sheets of as many rows have the same rows, however these are parted.

@@ -1,9 +1,9 @@
 //! Rows of sheets whose section and estate are known.
 
-ghost use Rattle.std.specs.Prelude.{◌≡◌, IfOk, IfSome, map, true};
+ghost use Rattle.std.specs.Prelude.{◌≡◌, IfOk, IfSome, map};
 ghost use Rattle.title_chain.specs.SquareRows.{row_in};
 
-use crate::same_parts::{same_estate, same_share};
+use crate::same_parts::{Same, same_estate, same_share};
 use std::alloc::{AllocError, Global};
 use title_instrument::Estate;
 use title_land::{Node, Section, Within};
@@ -48,11 +48,10 @@ impl SquareRow {
             units: self.share.units(),
         }
     }
+}
 
-    // Whether both are one.
-    fn same(&self, other: &SquareRow) -> bool
-        ensures same { result ≡ true → self.now ≡ other.now }
-    {
+impl Same for SquareRow {
+    fn is_one(&self, other: &SquareRow) -> bool {
         self.within.is(other.within)
             && self.party == other.party
             && same_share(self.share, other.share)
@@ -84,19 +83,4 @@ pub(crate) fn squares_of(
         squares.push_reserved(square);
     }
     Ok(Some(squares))
-}
-
-/// Whether these are the same rows of one section and estate.
-pub(crate) fn same_squares(a: &[SquareRow], b: &[SquareRow]) -> bool
-    ensures same { result ≡ true → a.now ≡ b.now }
-{
-    if a.len() != b.len() {
-        return false;
-    }
-    for (row, other) in a.iter().zip(b) {
-        if !row.same(other) {
-            return false;
-        }
-    }
-    true
 }

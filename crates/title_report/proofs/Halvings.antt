@@ -1,38 +1,25 @@
 -- Units in lowest terms, by the zeros at their binary end.
-use Rattle.std.proofs.Common.{◌≡◌, ◌∙◌, ◌≤◌, ◌<◌, ◌^◌, ◌-◌, ◌/◌, ◌%◌, ◌++◌, ◌∷◌, [], ℕ, List, zero, suc, refl, sym, ap, append_assoc, arith}
+use Rattle.std.proofs.Common.{◌≡◌, ◌∙◌, ◌≤◌, ◌<◌, ◌^◌, ◌-◌, ◌/◌, ◌%◌, ◌++◌, ◌∷◌, [], ℕ, List, zero, suc, min, refl, sym, ap, arith}
 use Rattle.std.proofs.{Math.{Nat.{div-div-eq-div-mul, div-le_self, div-one, pow-succ'}, Pow.{pow_mono}}, lemmas.Bool.{ne_eqb}}
-use Rattle.std.specs.Fmt.{decimal}
+use Rattle.std.proofs.{Common.{append_assoc, map, slice_index_or}, lemmas.List.FromFn.{get_or-map-range_with_len}}
+use Rattle.std.specs.{Fmt.{decimal, digits}, List.{range_with_len}}
 use lib.Count.{count_trailing_zeros, under}
 use Rattle.csv.specs.Writing.{field_text}
 use Rattle.title_share.specs.Share.{lowest, share_text}
 use Rattle.title_page.specs.Rows.{row_writer}
-use Rattle.title_report.{specs.Fronts.{tail_text}, proofs.Plain.{both_plain, plain_field, plain_number}}
+use Rattle.title_report.{specs.Fronts.{bottoms, tail_text}, proofs.Plain.{both_plain, plain_field, plain_number, plain_word}}
 
-first_by : (r a b k : ℕ) → (b ≤ k → a ≡ b) → under r b ≤ suc k → under r a ≡ under r b
-first_by zero a b k h le = ap (λ (x : ℕ). suc x) (h (omega (arith, le)))
-first_by (suc r) a b k h le = refl
+under_min : (r a b k : ℕ) → a ≡ min k b → under r a ≡ min (suc k) (under r b)
+under_min zero a b k h = omega (arith, h)
+under_min (suc r) a b k h = omega arith
 
--- the zeros among the first k digits are those of the whole number, where they are no more than k
-zeros_first : (k j n : ℕ) → k ≤ j → count_trailing_zeros j n ≤ k → count_trailing_zeros k n ≡ count_trailing_zeros j n
+-- the zeros among the first k digits are those of the whole number, or k where it has more
+zeros_min : (k j n : ℕ) → k ≤ j → count_trailing_zeros k n ≡ min k (count_trailing_zeros j n)
 unfolding count_trailing_zeros
-zeros_first zero j n le few = omega (arith, few)
-zeros_first (suc k) zero n le few = absurd (omega (arith, le))
-zeros_first (suc k) (suc j) n le few =
-    first_by (n % 2) (count_trailing_zeros k (n / 2)) (count_trailing_zeros j (n / 2)) k
-    (λ x. zeros_first k j (n / 2) (omega (arith, le)) x) few
-
-all_by : (r a b k : ℕ) → (k ≤ b → a ≡ k) → suc k ≤ under r b → under r a ≡ suc k
-all_by zero a b k h le = ap (λ (x : ℕ). suc x) (h (omega (arith, le)))
-all_by (suc r) a b k h le = absurd (omega (arith, le))
-
--- the first k digits are all zeros, where the whole number has at least k
-zeros_all : (k j n : ℕ) → k ≤ j → k ≤ count_trailing_zeros j n → count_trailing_zeros k n ≡ k
-unfolding count_trailing_zeros
-zeros_all zero j n le many = refl
-zeros_all (suc k) zero n le many = absurd (omega (arith, le))
-zeros_all (suc k) (suc j) n le many =
-    all_by (n % 2) (count_trailing_zeros k (n / 2)) (count_trailing_zeros j (n / 2)) k
-    (λ x. zeros_all k j (n / 2) (omega (arith, le)) x) many
+zeros_min zero j n le = omega arith
+zeros_min (suc k) zero n le = absurd (omega (arith, le))
+zeros_min (suc k) (suc j) n le =
+    under_min (n % 2) (count_trailing_zeros k (n / 2)) (count_trailing_zeros j (n / 2)) k (zeros_min k j (n / 2) (omega (arith, le)))
 
 -- units without so many zeros, and the power of two that is left of 2^k
 abbrev without : ℕ → ℕ → ℕ → ℕ × ℕ
@@ -59,38 +46,36 @@ unfolding lowest count_trailing_zeros
 lowest_is zero n = none_off 0 n
 lowest_is (suc k) n = lowest_by (n % 2) k n (count_trailing_zeros k (n / 2)) refl (lowest_is k (n / 2))
 
--- the text of a share, from the zeros of its units
-pub share_by_zeros : (units zeros : ℕ) → zeros ≡ count_trailing_zeros 32 units
+-- the text of a share, from the zeros of its units, 32 at most
+pub share_by_zeros : (units zeros : ℕ) → zeros ≡ min 32 (count_trailing_zeros 64 units)
     → share_text units ≡ decimal (units / 2 ^ zeros) ++ 47 ∷ decimal (2 ^ (32 - zeros))
 share_by_zeros units zeros e =
-    let is : lowest 32 units ≡ without 32 units zeros = rw e (lowest_is 32 units) in
+    let is : lowest 32 units ≡ without 32 units zeros =
+    lowest_is 32 units ∙ ap (without 32 units) (zeros_min 32 64 units (omega arith) ∙ sym e) in
     ap (λ (p : ℕ × ℕ). decimal p.0 ++ 47 ∷ decimal p.1) is
 
--- a share's text where its units have no more than 32 zeros at their end
-pub share_some : (units zeros : ℕ) → zeros ≡ count_trailing_zeros 64 units → zeros ≤ 32
-    → share_text units ≡ decimal (units / 2 ^ zeros) ++ 47 ∷ decimal (2 ^ (32 - zeros))
-share_some units zeros e few =
-    let le : count_trailing_zeros 64 units ≤ 32 = omega (arith, e, few) in
-    share_by_zeros units zeros (e ∙ sym (zeros_first 32 64 units (omega arith) le))
+abbrev bottom_line : ℕ → List ℕ
+bottom_line e = 47 ∷ (decimal (2 ^ e) ++ 10 ∷ [])
 
--- and where they have more
-pub share_all : (units : ℕ) → 32 ≤ count_trailing_zeros 64 units
-    → share_text units ≡ decimal (units / 2 ^ 32) ++ 47 ∷ decimal (2 ^ (32 - 32))
-share_all units many = share_by_zeros units 32 (sym (zeros_all 32 64 units (omega arith) many))
+bottom_lines : bottoms ≡ map bottom_line (range_with_len 0 33)
+unfolding digits
+bottom_lines = refl
+
+bottom_at : (e : ℕ) → e < 33 → slice_index_or bottoms e [] ≡ bottom_line e
+bottom_at e few = ap (λ (t : List (List ℕ)). slice_index_or t e []) bottom_lines
+    ∙ get_or-map-range_with_len bottom_line 0 33 e e [] few (omega arith)
 
 -- what stands behind a row's name, from the parts of its share
-pub tail_of : (units zeros : ℕ) (bottom : List ℕ) → units < 2 ^ 64
-    → share_text units ≡ decimal (units / 2 ^ zeros) ++ 47 ∷ decimal (2 ^ (32 - zeros))
-    → bottom ≡ 47 ∷ (decimal (2 ^ (32 - zeros)) ++ 10 ∷ []) → tail_text units ≡ 44 ∷ (decimal (units / 2 ^ zeros) ++ bottom)
-tail_of units zeros bottom small text b =
+pub tail_of : (units zeros : ℕ) (top bottom : List ℕ) → units < 2 ^ 64
+    → share_text units ≡ decimal (units / 2 ^ zeros) ++ 47 ∷ decimal (2 ^ (32 - zeros)) → top ≡ decimal (units / 2 ^ zeros)
+    → bottom ≡ slice_index_or bottoms (32 - zeros) [] → tail_text units ≡ 44 ∷ (top ++ bottom)
+tail_of units zeros top bottom small text t b =
     let above : units / 2 ^ zeros < 2 ^ 64 = omega (arith, small, div-le_self units (2 ^ zeros)) in
     let most : 2 ^ (32 - zeros) ≤ 2 ^ 32 = pow_mono {i = 32 - zeros} {j = 32} (omega arith) in
     let below : 2 ^ (32 - zeros) < 2 ^ 64 = omega (arith, most) in
-    let top = decimal (units / 2 ^ zeros) in
-    let rest = decimal (2 ^ (32 - zeros)) in
-    let plain = plain_field (top ++ 47 ∷ rest)
-    (both_plain top (47 ∷ rest) (plain_number (units / 2 ^ zeros) above) (plain_number (2 ^ (32 - zeros)) below)) in
+    let plain = plain_field (both_plain (plain_number (units / 2 ^ zeros) above)
+    (both_plain (plain_word (47 ∷ []) refl) (plain_number (2 ^ (32 - zeros)) below))) in
     ap (λ (x : List ℕ). 44 ∷ (field_text row_writer x ++ 10 ∷ [])) text
     ∙ ap (λ (x : List ℕ). 44 ∷ (x ++ 10 ∷ [])) plain
-    ∙ ap (λ (x : List ℕ). 44 ∷ x) (append_assoc top (47 ∷ rest) (10 ∷ []))
-    ∙ ap (λ (x : List ℕ). 44 ∷ (top ++ x)) (sym b)
+    ∙ ap (λ (x : List ℕ). 44 ∷ x) (append_assoc (decimal (units / 2 ^ zeros)) (47 ∷ decimal (2 ^ (32 - zeros))) (10 ∷ []))
+    ∙ (λ i. 44 ∷ (sym t i ++ sym (b ∙ bottom_at (32 - zeros) (omega arith)) i))

@@ -1,6 +1,6 @@
 pub mod Halvings
 pub mod Judged
 pub mod Lines
-pub mod Parts
 pub mod Plain
+pub mod Puts
 pub mod SheetParts

@@ -23,6 +23,15 @@ head_text e s = row_start e ++ section_text s
 abbrev pub front_text : ℕ → Node → Estate → List ℕ
 front_text e n estate = row_start e ++ node_text n ++ codes "," ++ estate_text estate ++ codes ","
 
+-- the line of a fraction, a power of two below it, and the line's end, by the exponent
+abbrev pub bottoms : List (List ℕ)
+bottoms = codes "/1\n" ∷ codes "/2\n" ∷ codes "/4\n" ∷ codes "/8\n" ∷ codes "/16\n" ∷ codes "/32\n" ∷ codes "/64\n"
+    ∷ codes "/128\n" ∷ codes "/256\n" ∷ codes "/512\n" ∷ codes "/1024\n" ∷ codes "/2048\n" ∷ codes "/4096\n" ∷ codes "/8192\n"
+    ∷ codes "/16384\n" ∷ codes "/32768\n" ∷ codes "/65536\n" ∷ codes "/131072\n" ∷ codes "/262144\n" ∷ codes "/524288\n"
+    ∷ codes "/1048576\n" ∷ codes "/2097152\n" ∷ codes "/4194304\n" ∷ codes "/8388608\n" ∷ codes "/16777216\n"
+    ∷ codes "/33554432\n" ∷ codes "/67108864\n" ∷ codes "/134217728\n" ∷ codes "/268435456\n" ∷ codes "/536870912\n"
+    ∷ codes "/1073741824\n" ∷ codes "/2147483648\n" ∷ codes "/4294967296\n" ∷ []
+
 -- what stands behind a row's name: `,SHARE`, and the line's end
 abbrev pub tail_text : ℕ → List ℕ
 tail_text units = 44 ∷ (field_text row_writer (share_text units) ++ 10 ∷ [])

@@ -1,9 +1,9 @@
 //! The rows of answers.
 
-ghost use Rattle.std.specs.{Prelude.{◌≡◌, ◌<◌, ◌∷◌, [], true, false, OnOk, OnErr, codes, get_or, length, map}, List.{flat_map}};
-ghost use Rattle.title_chain.specs.KeptRows.{rows_in, sheet_in};
-ghost use Rattle.title_page.specs.{Pages.{Stopped, Written}, Rows.{rows_text}};
-ghost use Rattle.title_report.specs.{EntryTexts.{entry_text, AreMade, IsMade}, Fronts.{entry_start, IsFront}};
+ghost use Rattle.std.specs.{Prelude.{◌≡◌, ◌<◌, ◌∷◌, [], false, codes, get_or, length, map}, List.{flat_map}};
+ghost use Rattle.title_chain.specs.KeptRows.{rows_in};
+ghost use Rattle.title_page.specs.Rows.{rows_text};
+ghost use Rattle.title_report.specs.{EntryTexts.{entry_text, AreMade, IsMade}, Fronts.{entry_start, IsFront}, Puts.{IsPut}};
 ghost use Rattle.title_report.specs.Replies.{answer_rows, entry_row, number_row, refused_row, sheet_row};
 
 use crate::entries::{make_start, put_entry_in_parts};
@@ -32,12 +32,8 @@ fn put_refused<S: Sink>(
     node: Node,
 ) -> Result<(), Failed>
     requires works { S.has_failed sink.old ≡ false }
-    ensures written { OnOk result (Written (S.taken sink.old) page.old (S.taken sink.new) page.new
-        (rows_text (refused_row examiner rule estate node ∷ []))) }
-    ensures well { OnOk result (S.has_failed sink.new ≡ false) }
-    ensures stopped { OnErr result (Stopped (S.taken sink.old) page.old (S.taken sink.new)
-        (rows_text (refused_row examiner rule estate node ∷ []))) }
-    ensures failed { OnErr result (S.has_failed sink.new ≡ true) }
+    ensures put { IsPut result (S.taken sink.old) page.old (S.taken sink.new) page.new (S.has_failed sink.new)
+        (rows_text (refused_row examiner rule estate node ∷ [])) }
 {
     let fields = [
         ReportField::Number(u64::from(examiner)),
@@ -61,12 +57,8 @@ fn put_sheet_row<S: Sink>(
     requires works { S.has_failed sink.old ≡ false }
     requires front { IsFront examiner front.old }
     ensures front { IsFront examiner front.new }
-    ensures written { OnOk result (Written (S.taken sink.old) page.old (S.taken sink.new) page.new
-        (rows_text (sheet_row roster.now examiner row.now ∷ []))) }
-    ensures well { OnOk result (S.has_failed sink.new ≡ false) }
-    ensures stopped { OnErr result (Stopped (S.taken sink.old) page.old (S.taken sink.new)
-        (rows_text (sheet_row roster.now examiner row.now ∷ []))) }
-    ensures failed { OnErr result (S.has_failed sink.new ≡ true) }
+    ensures put { IsPut result (S.taken sink.old) page.old (S.taken sink.new) page.new (S.has_failed sink.new)
+        (rows_text (sheet_row roster.now examiner row.now ∷ [])) }
 {
     front.text_for(examiner, row);
     page.put(sink, front.text.as_bytes())?;
@@ -97,12 +89,8 @@ fn put_sheet_lines<S: Sink>(
     requires works { S.has_failed sink.old ≡ false }
     requires front { IsFront examiner front.old }
     ensures front { IsFront examiner front.new }
-    ensures written { OnOk result (Written (S.taken sink.old) page.old (S.taken sink.new) page.new
-        (rows_text (map (sheet_row roster.now examiner) (rows_in lines.now)))) }
-    ensures well { OnOk result (S.has_failed sink.new ≡ false) }
-    ensures stopped { OnErr result (Stopped (S.taken sink.old) page.old (S.taken sink.new)
-        (rows_text (map (sheet_row roster.now examiner) (rows_in lines.now)))) }
-    ensures failed { OnErr result (S.has_failed sink.new ≡ true) }
+    ensures put { IsPut result (S.taken sink.old) page.old (S.taken sink.new) page.new (S.has_failed sink.new)
+        (rows_text (map (sheet_row roster.now examiner) (rows_in lines.now))) }
 {
     for index in 0..lines.len() {
         let row = row_at(lines, index);
@@ -123,49 +111,13 @@ fn put_sheet_parts<S: Sink>(
     requires works { S.has_failed sink.old ≡ false }
     requires front { IsFront examiner front.old }
     ensures front { IsFront examiner front.new }
-    ensures written { OnOk result (Written (S.taken sink.old) page.old (S.taken sink.new) page.new
-        (rows_text (flat_map (λ part. map (sheet_row roster.now examiner) part) parts.now))) }
-    ensures well { OnOk result (S.has_failed sink.new ≡ false) }
-    ensures stopped { OnErr result (Stopped (S.taken sink.old) page.old (S.taken sink.new)
-        (rows_text (flat_map (λ part. map (sheet_row roster.now examiner) part) parts.now))) }
-    ensures failed { OnErr result (S.has_failed sink.new ≡ true) }
+    ensures put { IsPut result (S.taken sink.old) page.old (S.taken sink.new) page.new (S.has_failed sink.new)
+        (rows_text (flat_map (λ part. map (sheet_row roster.now examiner) part) parts.now)) }
 {
     for part in parts {
         put_sheet_lines(page, sink, roster, examiner, front, part.lines())?;
     }
     Ok(())
-}
-
-// Writes the rows of a sheet.
-fn put_kept_sheet<S: Sink>(
-    page: &mut Page,
-    sink: &mut S,
-    roster: &Roster,
-    examiner: u32,
-    front: &mut Front,
-    sheet: &Sheet,
-) -> Result<(), Failed>
-    requires works { S.has_failed sink.old ≡ false }
-    requires front { IsFront examiner front.old }
-    ensures front { IsFront examiner front.new }
-    ensures written { OnOk result (Written (S.taken sink.old) page.old (S.taken sink.new) page.new
-        (rows_text (map (sheet_row roster.now examiner) (sheet_in sheet.now)))) }
-    ensures well { OnOk result (S.has_failed sink.new ≡ false) }
-    ensures stopped { OnErr result (Stopped (S.taken sink.old) page.old (S.taken sink.new)
-        (rows_text (map (sheet_row roster.now examiner) (sheet_in sheet.now)))) }
-    ensures failed { OnErr result (S.has_failed sink.new ≡ true) }
-{
-    match sheet {
-        Sheet::Whole(lines) => put_sheet_lines(page, sink, roster, examiner, front, lines),
-        Sheet::Parted(parts) => put_sheet_parts(
-            page,
-            sink,
-            roster,
-            examiner,
-            front,
-            parts.as_slice(),
-        ),
-    }
 }
 
 // Writes a sheet: the row that counts its rows, and these.
@@ -177,18 +129,23 @@ fn put_sheet<S: Sink>(
     sheet: &SheetRows,
 ) -> Result<(), Failed>
     requires works { S.has_failed sink.old ≡ false }
-    ensures written { OnOk result (Written (S.taken sink.old) page.old (S.taken sink.new) page.new
+    ensures put { IsPut result (S.taken sink.old) page.old (S.taken sink.new) page.new (S.has_failed sink.new)
         (rows_text (number_row examiner (codes "sheet") (length sheet.now)
-        ∷ map (sheet_row roster.now examiner) sheet.now))) }
-    ensures well { OnOk result (S.has_failed sink.new ≡ false) }
-    ensures stopped { OnErr result (Stopped (S.taken sink.old) page.old (S.taken sink.new)
-        (rows_text (number_row examiner (codes "sheet") (length sheet.now)
-        ∷ map (sheet_row roster.now examiner) sheet.now))) }
-    ensures failed { OnErr result (S.has_failed sink.new ≡ true) }
+        ∷ map (sheet_row roster.now examiner) sheet.now)) }
 {
     put_number_row(page, sink, examiner, b"sheet", sheet.len() as u64)?;
     let mut front = Front::new();
-    put_kept_sheet(page, sink, roster, examiner, &mut front, sheet.sheet())
+    match sheet.sheet() {
+        Sheet::Whole(lines) => put_sheet_lines(page, sink, roster, examiner, &mut front, lines),
+        Sheet::Parted(parts) => put_sheet_parts(
+            page,
+            sink,
+            roster,
+            examiner,
+            &mut front,
+            parts.as_slice(),
+        ),
+    }
 }
 
 // Writes the text of a key from a line, which keeps it for further rows of the entry; in its parts where the line has no room
@@ -203,10 +160,8 @@ fn put_kept_entry<S: Sink>(
     requires kept { IsMade roster.now kept.old }
     requires works { S.has_failed sink.old ≡ false }
     ensures kept { IsMade roster.now kept.new }
-    ensures written { OnOk result (Written (S.taken sink.old) page.old (S.taken sink.new) page.new (entry_text roster.now key.now)) }
-    ensures well { OnOk result (S.has_failed sink.new ≡ false) }
-    ensures stopped { OnErr result (Stopped (S.taken sink.old) page.old (S.taken sink.new) (entry_text roster.now key.now)) }
-    ensures failed { OnErr result (S.has_failed sink.new ≡ true) }
+    ensures put { IsPut result (S.taken sink.old) page.old (S.taken sink.new) page.new (S.has_failed sink.new)
+        (entry_text roster.now key.now) }
 {
     if kept.text_for(roster, key).is_none() {
         return put_entry_in_parts(page, sink, roster, key);
@@ -225,10 +180,8 @@ fn put_entry_text<S: Sink>(
     requires lines { AreMade roster.now lines.old }
     requires works { S.has_failed sink.old ≡ false }
     ensures lines { AreMade roster.now lines.new }
-    ensures written { OnOk result (Written (S.taken sink.old) page.old (S.taken sink.new) page.new (entry_text roster.now key.now)) }
-    ensures well { OnOk result (S.has_failed sink.new ≡ false) }
-    ensures stopped { OnErr result (Stopped (S.taken sink.old) page.old (S.taken sink.new) (entry_text roster.now key.now)) }
-    ensures failed { OnErr result (S.has_failed sink.new ≡ true) }
+    ensures put { IsPut result (S.taken sink.old) page.old (S.taken sink.new) page.new (S.has_failed sink.new)
+        (entry_text roster.now key.now) }
 {
     if let Some(kept) = lines {
         let number = kept.number_of(key.place);
@@ -253,12 +206,8 @@ fn put_entry<S: Sink>(
     requires lines { AreMade roster.now lines.old }
     requires works { S.has_failed sink.old ≡ false }
     ensures lines { AreMade roster.now lines.new }
-    ensures written { OnOk result (Written (S.taken sink.old) page.old (S.taken sink.new) page.new
-        (rows_text (entry_row roster.now examiner entry.now ∷ []))) }
-    ensures well { OnOk result (S.has_failed sink.new ≡ false) }
-    ensures stopped { OnErr result (Stopped (S.taken sink.old) page.old (S.taken sink.new)
-        (rows_text (entry_row roster.now examiner entry.now ∷ []))) }
-    ensures failed { OnErr result (S.has_failed sink.new ≡ true) }
+    ensures put { IsPut result (S.taken sink.old) page.old (S.taken sink.new) page.new (S.has_failed sink.new)
+        (rows_text (entry_row roster.now examiner entry.now ∷ [])) }
 {
     let key = key_of(entry);
     number_is_plain(key.place);
@@ -279,12 +228,8 @@ fn put_entries<S: Sink>(
     requires lines { AreMade roster.now lines.old }
     requires works { S.has_failed sink.old ≡ false }
     ensures lines { AreMade roster.now lines.new }
-    ensures written { OnOk result (Written (S.taken sink.old) page.old (S.taken sink.new) page.new
-        (rows_text (map (entry_row roster.now examiner) entries.now))) }
-    ensures well { OnOk result (S.has_failed sink.new ≡ false) }
-    ensures stopped { OnErr result (Stopped (S.taken sink.old) page.old (S.taken sink.new)
-        (rows_text (map (entry_row roster.now examiner) entries.now))) }
-    ensures failed { OnErr result (S.has_failed sink.new ≡ true) }
+    ensures put { IsPut result (S.taken sink.old) page.old (S.taken sink.new) page.new (S.has_failed sink.new)
+        (rows_text (map (entry_row roster.now examiner) entries.now)) }
 {
     let start = make_start(examiner);
     for entry in entries {
@@ -305,14 +250,9 @@ fn put_chain<S: Sink>(
     requires lines { AreMade roster.now lines.old }
     requires works { S.has_failed sink.old ≡ false }
     ensures lines { AreMade roster.now lines.new }
-    ensures written { OnOk result (Written (S.taken sink.old) page.old (S.taken sink.new) page.new
+    ensures put { IsPut result (S.taken sink.old) page.old (S.taken sink.new) page.new (S.has_failed sink.new)
         (rows_text (number_row examiner (codes "chain") (length entries.now)
-        ∷ map (entry_row roster.now examiner) entries.now))) }
-    ensures well { OnOk result (S.has_failed sink.new ≡ false) }
-    ensures stopped { OnErr result (Stopped (S.taken sink.old) page.old (S.taken sink.new)
-        (rows_text (number_row examiner (codes "chain") (length entries.now)
-        ∷ map (entry_row roster.now examiner) entries.now))) }
-    ensures failed { OnErr result (S.has_failed sink.new ≡ true) }
+        ∷ map (entry_row roster.now examiner) entries.now)) }
 {
     put_number_row(page, sink, examiner, b"chain", entries.len() as u64)?;
     put_entries(page, sink, roster, lines, examiner, entries)
@@ -330,12 +270,8 @@ pub(crate) fn put_answer<S: Sink>(
     requires lines { AreMade roster.now lines.old }
     requires works { S.has_failed sink.old ≡ false }
     ensures lines { AreMade roster.now lines.new }
-    ensures written { OnOk result (Written (S.taken sink.old) page.old (S.taken sink.new) page.new
-        (rows_text (answer_rows roster.now examiner answer.now))) }
-    ensures well { OnOk result (S.has_failed sink.new ≡ false) }
-    ensures stopped { OnErr result (Stopped (S.taken sink.old) page.old (S.taken sink.new)
-        (rows_text (answer_rows roster.now examiner answer.now))) }
-    ensures failed { OnErr result (S.has_failed sink.new ≡ true) }
+    ensures put { IsPut result (S.taken sink.old) page.old (S.taken sink.new) page.new (S.has_failed sink.new)
+        (rows_text (answer_rows roster.now examiner answer.now)) }
 {
     match answer {
         Answer::Rows(rows) => put_sheet(page, sink, roster, examiner, rows),

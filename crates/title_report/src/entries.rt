@@ -1,9 +1,8 @@
 //! A chain's rows, put together from texts that are made once or known.
 
-ghost use Rattle.std.specs.Prelude.{◌≡◌, ◌≤◌, ◌++◌, ◌∷◌, [], true, false, length, OnOk, OnErr};
+ghost use Rattle.std.specs.Prelude.{◌≡◌, ◌≤◌, ◌++◌, ◌∷◌, [], false, length};
 ghost use Rattle.title_instrument.specs.{Estates.{estates_text}, Kinds.{kind_word}};
-ghost use Rattle.title_page.specs.Pages.{Stopped, Written};
-ghost use Rattle.title_report.specs.{EntryTexts.{entry_front, entry_text}, Fronts.{entry_start}};
+ghost use Rattle.title_report.specs.{EntryTexts.{entry_front, entry_text}, Fronts.{entry_start}, Puts.{IsPut}};
 
 use crate::entry_line::EntryKey;
 use crate::nodes::{add, add_number, start_row};
@@ -71,10 +70,8 @@ pub(crate) fn put_entry_in_parts<S: Sink>(
     key: &EntryKey,
 ) -> Result<(), Failed>
     requires works { S.has_failed sink.old ≡ false }
-    ensures written { OnOk result (Written (S.taken sink.old) page.old (S.taken sink.new) page.new (entry_text roster.now key.now)) }
-    ensures well { OnOk result (S.has_failed sink.new ≡ false) }
-    ensures stopped { OnErr result (Stopped (S.taken sink.old) page.old (S.taken sink.new) (entry_text roster.now key.now)) }
-    ensures failed { OnErr result (S.has_failed sink.new ≡ true) }
+    ensures put { IsPut result (S.taken sink.old) page.old (S.taken sink.new) page.new (S.has_failed sink.new)
+        (entry_text roster.now key.now) }
 {
     let front = make_front(key);
     let end = estates_end(key.estates);

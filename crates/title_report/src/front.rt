@@ -79,16 +79,6 @@ impl Head {
     }
 }
 
-// Makes a line what another one is.
-#[inline(always)]
-fn copy_line(line: &mut Line, other: &Line)
-    requires room { length other.now ≤ 64 }
-    ensures made { line.new ≡ other.now }
-{
-    line.clear();
-    add(line, other.as_bytes());
-}
-
 // Makes the beginning up to the node anew.
 #[inline(always)]
 fn make_node(line: &mut Line, head: &mut Head, examiner: u32, node: &Node)
@@ -100,7 +90,8 @@ fn make_node(line: &mut Line, head: &mut Head, examiner: u32, node: &Node)
     match node {
         Node::Part(section, within) => {
             head.make_for(examiner, *section);
-            copy_line(line, &head.text);
+            line.clear();
+            add(line, head.text.as_bytes());
             add_path(line, *within);
         }
         _ => {

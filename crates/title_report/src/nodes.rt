@@ -1,10 +1,10 @@
 //! The texts of numbers and nodes, put together on lines.
 
-ghost use Rattle.std.specs.{Prelude.{◌≡◌, ◌≤◌, ◌+◌, ◌*◌, ◌++◌, true, false, cond, codes, length, OnOk, OnErr}, Fmt.{decimal}};
+ghost use Rattle.std.specs.{Prelude.{◌≡◌, ◌≤◌, ◌+◌, ◌*◌, ◌++◌, false, cond, codes, length}, Fmt.{decimal}};
 ghost use Rattle.csv.specs.Writing.{field_text};
 ghost use Rattle.title_land.specs.Texts.{node_text, path_text, quarter_text, quarters_text, section_text, township_text};
-ghost use Rattle.title_page.specs.{Pages.{Stopped, Written}, Rows.{row_writer}};
-ghost use Rattle.title_report.specs.Fronts.{start_text};
+ghost use Rattle.title_page.specs.Rows.{row_writer};
+ghost use Rattle.title_report.specs.{Fronts.{start_text}, Puts.{IsPut}};
 
 use itoa::{Buffer, Integer};
 use title_device::{Failed, Sink};
@@ -151,11 +151,8 @@ pub(crate) fn add_node(line: &mut Line, node: &Node)
 // Writes a number in decimal.
 pub(crate) fn put_number<S: Sink>(page: &mut Page, sink: &mut S, number: u64) -> Result<(), Failed>
     requires works { S.has_failed sink.old ≡ false }
-    ensures written { OnOk result (Written (S.taken sink.old) page.old (S.taken sink.new) page.new
-        (field_text row_writer (decimal number))) }
-    ensures well { OnOk result (S.has_failed sink.new ≡ false) }
-    ensures stopped { OnErr result (Stopped (S.taken sink.old) page.old (S.taken sink.new) (field_text row_writer (decimal number))) }
-    ensures failed { OnErr result (S.has_failed sink.new ≡ true) }
+    ensures put { IsPut result (S.taken sink.old) page.old (S.taken sink.new) page.new (S.has_failed sink.new)
+        (field_text row_writer (decimal number)) }
 {
     let mut digits = Buffer::new();
     page.put(sink, digits.format(number).as_bytes())
@@ -164,11 +161,8 @@ pub(crate) fn put_number<S: Sink>(page: &mut Page, sink: &mut S, number: u64) ->
 // Writes a node.
 pub(crate) fn put_node<S: Sink>(page: &mut Page, sink: &mut S, node: &Node) -> Result<(), Failed>
     requires works { S.has_failed sink.old ≡ false }
-    ensures written { OnOk result (Written (S.taken sink.old) page.old (S.taken sink.new) page.new
-        (field_text row_writer (node_text node.now))) }
-    ensures well { OnOk result (S.has_failed sink.new ≡ false) }
-    ensures stopped { OnErr result (Stopped (S.taken sink.old) page.old (S.taken sink.new) (field_text row_writer (node_text node.now))) }
-    ensures failed { OnErr result (S.has_failed sink.new ≡ true) }
+    ensures put { IsPut result (S.taken sink.old) page.old (S.taken sink.new) page.new (S.has_failed sink.new)
+        (field_text row_writer (node_text node.now)) }
 {
     let mut line = Line::new();
     add_node(&mut line, node);

@@ -2,7 +2,7 @@
 
 ghost use Rattle.std.specs.{Prelude.{◌≡◌, ◌<◌, ◌∷◌, [], true, false, OnOk, OnErr, length, map}, String.{string_bytes}};
 ghost use Rattle.title_page.specs.{Pages.{Stopped, Written}, Rows.{rows_text}};
-ghost use Rattle.title_report.specs.{EntryTexts.{AreMade}, Fields.{text_of}};
+ghost use Rattle.title_report.specs.{EntryTexts.{AreMade}, Fields.{text_of}, Puts.{IsPut}};
 ghost use Rattle.title_report.specs.Replies.{denial_row, described_row, end_row, number_row, reply_rows, word_row};
 
 use crate::answers::put_answer;
@@ -44,12 +44,8 @@ pub(crate) fn put_word_row<S: Sink>(
     word: &[u8],
 ) -> Result<(), Failed>
     requires works { S.has_failed sink.old ≡ false }
-    ensures written { OnOk result (Written (S.taken sink.old) page.old (S.taken sink.new) page.new
-        (rows_text (word_row examiner word.now ∷ []))) }
-    ensures well { OnOk result (S.has_failed sink.new ≡ false) }
-    ensures stopped { OnErr result (Stopped (S.taken sink.old) page.old (S.taken sink.new)
-        (rows_text (word_row examiner word.now ∷ []))) }
-    ensures failed { OnErr result (S.has_failed sink.new ≡ true) }
+    ensures put { IsPut result (S.taken sink.old) page.old (S.taken sink.new) page.new (S.has_failed sink.new)
+        (rows_text (word_row examiner word.now ∷ [])) }
 {
     let fields = [
         ReportField::Number(u64::from(examiner)),
@@ -67,12 +63,8 @@ pub(crate) fn put_number_row<S: Sink>(
     number: u64,
 ) -> Result<(), Failed>
     requires works { S.has_failed sink.old ≡ false }
-    ensures written { OnOk result (Written (S.taken sink.old) page.old (S.taken sink.new) page.new
-        (rows_text (number_row examiner word.now number ∷ []))) }
-    ensures well { OnOk result (S.has_failed sink.new ≡ false) }
-    ensures stopped { OnErr result (Stopped (S.taken sink.old) page.old (S.taken sink.new)
-        (rows_text (number_row examiner word.now number ∷ []))) }
-    ensures failed { OnErr result (S.has_failed sink.new ≡ true) }
+    ensures put { IsPut result (S.taken sink.old) page.old (S.taken sink.new) page.new (S.has_failed sink.new)
+        (rows_text (number_row examiner word.now number ∷ [])) }
 {
     let fields = [
         ReportField::Number(u64::from(examiner)),
@@ -90,12 +82,8 @@ fn put_denial<S: Sink>(
     why: Denial,
 ) -> Result<(), Failed>
     requires works { S.has_failed sink.old ≡ false }
-    ensures written { OnOk result (Written (S.taken sink.old) page.old (S.taken sink.new) page.new
-        (rows_text (denial_row examiner why ∷ []))) }
-    ensures well { OnOk result (S.has_failed sink.new ≡ false) }
-    ensures stopped { OnErr result (Stopped (S.taken sink.old) page.old (S.taken sink.new)
-        (rows_text (denial_row examiner why ∷ []))) }
-    ensures failed { OnErr result (S.has_failed sink.new ≡ true) }
+    ensures put { IsPut result (S.taken sink.old) page.old (S.taken sink.new) page.new (S.has_failed sink.new)
+        (rows_text (denial_row examiner why ∷ [])) }
 {
     match why {
         Denial::NotOpen => put_word_row(page, sink, examiner, b"notopen"),
@@ -123,12 +111,8 @@ fn put_reply_by<S: Sink>(
     requires lines { AreMade roster.now lines.old }
     requires works { S.has_failed sink.old ≡ false }
     ensures lines { AreMade roster.now lines.new }
-    ensures written { OnOk result (Written (S.taken sink.old) page.old (S.taken sink.new) page.new
-        (rows_text (reply_rows roster.now examiner reply.now))) }
-    ensures well { OnOk result (S.has_failed sink.new ≡ false) }
-    ensures stopped { OnErr result (Stopped (S.taken sink.old) page.old (S.taken sink.new)
-        (rows_text (reply_rows roster.now examiner reply.now))) }
-    ensures failed { OnErr result (S.has_failed sink.new ≡ true) }
+    ensures put { IsPut result (S.taken sink.old) page.old (S.taken sink.new) page.new (S.has_failed sink.new)
+        (rows_text (reply_rows roster.now examiner reply.now)) }
 {
     match reply {
         Reply::Began => put_word_row(page, sink, examiner, b"began"),
@@ -207,12 +191,8 @@ fn put_bad_text<S: Sink>(
     byte: usize,
 ) -> Result<(), Failed>
     requires works { S.has_failed sink.old ≡ false }
-    ensures written { OnOk result (Written (S.taken sink.old) page.old (S.taken sink.new) page.new
-        (rows_text (described_row examiner (DescFault.BadText byte) ∷ []))) }
-    ensures well { OnOk result (S.has_failed sink.new ≡ false) }
-    ensures stopped { OnErr result (Stopped (S.taken sink.old) page.old (S.taken sink.new)
-        (rows_text (described_row examiner (DescFault.BadText byte) ∷ []))) }
-    ensures failed { OnErr result (S.has_failed sink.new ≡ true) }
+    ensures put { IsPut result (S.taken sink.old) page.old (S.taken sink.new) page.new (S.has_failed sink.new)
+        (rows_text (described_row examiner (DescFault.BadText byte) ∷ [])) }
 {
     let fields = [
         ReportField::Number(u64::from(examiner)),

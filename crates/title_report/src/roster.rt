@@ -1,9 +1,9 @@
 //! The names of a report's parties.
 
-ghost use Rattle.std.specs.{Prelude.{◌≡◌, ◌++◌, false, map, OnErr, OnOk, OnSome, true}, String.{string_bytes}};
+ghost use Rattle.std.specs.{Prelude.{◌≡◌, ◌++◌, false, map, OnSome}, String.{string_bytes}};
 ghost use Rattle.csv.specs.Writing.{field_text, needs_quotes};
-ghost use Rattle.title_page.specs.{Pages.{Stopped, Written}, Rows.{row_writer}};
-ghost use Rattle.title_report.specs.{Replies.{name_of}, Rosters.{AreJudged, IsJudged}};
+ghost use Rattle.title_page.specs.Rows.{row_writer};
+ghost use Rattle.title_report.specs.{Puts.{IsPut}, Replies.{name_of}, Rosters.{AreJudged, IsJudged}};
 
 use crate::replies::Names;
 use crate::row_text::{RowText, add_field};
@@ -111,12 +111,8 @@ impl<'a> Roster<'a> {
         party: u32,
     ) -> Result<(), Failed>
         requires works { S.has_failed sink.old ≡ false }
-        ensures written { OnOk result (Written (S.taken sink.old) page.old (S.taken sink.new) page.new
-            (field_text row_writer (name_of self.now party))) }
-        ensures well { OnOk result (S.has_failed sink.new ≡ false) }
-        ensures stopped { OnErr result (Stopped (S.taken sink.old) page.old (S.taken sink.new)
-            (field_text row_writer (name_of self.now party))) }
-        ensures failed { OnErr result (S.has_failed sink.new ≡ true) }
+        ensures put { IsPut result (S.taken sink.old) page.old (S.taken sink.new) page.new (S.has_failed sink.new)
+            (field_text row_writer (name_of self.now party)) }
     {
         let name = self.bytes(party);
         page.judged_field(sink, name, self.is_quoted(party, name))

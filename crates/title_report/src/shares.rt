@@ -1,16 +1,12 @@
 //! What stands behind the name in a row of a sheet: its share, and the line's end.
 
-ghost use Rattle.std.specs.{Prelude.{◌≡◌, ◌≤◌, ◌+◌, ◌++◌, ◌∷◌, [], ◌^◌, ◌/◌, ◌-◌, true, false, length, OnOk, OnErr}, Fmt.{decimal}};
-ghost use Rattle.csv.specs.Writing.{field_text};
+ghost use Rattle.std.specs.{Prelude.{◌≡◌, ◌≤◌, ◌++◌, ◌∷◌, [], ◌^◌, ◌/◌, ◌-◌, false, slice_index_or}, Fmt.{decimal}};
 ghost use Rattle.title_share.specs.Share.{share_text};
-ghost use Rattle.title_page.specs.{Pages.{Stopped, Written}, Rows.{row_writer}};
-ghost use Rattle.title_report.specs.Fronts.{tail_text};
+ghost use Rattle.title_report.specs.{Fronts.{bottoms, tail_text}, Puts.{IsPut}};
 
-use crate::nodes::{add, add_number};
 use itoa::Buffer;
 use title_device::{Failed, Sink};
-use title_page::{Line, Page};
-use title_share::Fraction;
+use title_page::Page;
 
 // How often units are halved to lowest terms.
 fn halvings(units: u64) -> u32
@@ -27,7 +23,7 @@ fn halvings(units: u64) -> u32
 // The line of a fraction, a power of two below it, and the line's end.
 fn bottom_bytes(exponent: u32) -> &'static [u8]
     requires most { exponent ≤ 32 }
-    ensures bottom { result.now ≡ 47 ∷ (decimal (2 ^ exponent) ++ 10 ∷ []) }
+    ensures bottom { result.now ≡ slice_index_or bottoms exponent [] }
 {
     match exponent {
         0 => b"/1\n",
@@ -66,36 +62,16 @@ fn bottom_bytes(exponent: u32) -> &'static [u8]
     }
 }
 
-// Writes a comma, a number, and a text behind it.
-fn put_parts<S: Sink>(
-    page: &mut Page,
-    sink: &mut S,
-    above: u64,
-    bottom: &[u8],
-) -> Result<(), Failed>
-    requires works { S.has_failed sink.old ≡ false }
-    ensures written { OnOk result (Written (S.taken sink.old) page.old (S.taken sink.new) page.new
-        (44 ∷ (decimal above ++ bottom.now))) }
-    ensures well { OnOk result (S.has_failed sink.new ≡ false) }
-    ensures stopped { OnErr result (Stopped (S.taken sink.old) page.old (S.taken sink.new)
-        (44 ∷ (decimal above ++ bottom.now))) }
-    ensures failed { OnErr result (S.has_failed sink.new ≡ true) }
-{
-    let mut digits = Buffer::new();
-    let digits = digits.format(above);
-    page.put(sink, b",")?;
-    page.put(sink, digits.as_bytes())?;
-    page.put(sink, bottom)
-}
-
 // Writes what stands behind the name in a row of a sheet.
 pub(crate) fn put_tail<S: Sink>(page: &mut Page, sink: &mut S, units: u64) -> Result<(), Failed>
     requires works { S.has_failed sink.old ≡ false }
-    ensures written { OnOk result (Written (S.taken sink.old) page.old (S.taken sink.new) page.new (tail_text units)) }
-    ensures well { OnOk result (S.has_failed sink.new ≡ false) }
-    ensures stopped { OnErr result (Stopped (S.taken sink.old) page.old (S.taken sink.new) (tail_text units)) }
-    ensures failed { OnErr result (S.has_failed sink.new ≡ true) }
+    ensures put { IsPut result (S.taken sink.old) page.old (S.taken sink.new) page.new (S.has_failed sink.new) (tail_text units) }
 {
     let halved = halvings(units);
-    put_parts(page, sink, units >> halved, bottom_bytes(32 - halved))
+    let bottom = bottom_bytes(32 - halved);
+    let mut digits = Buffer::new();
+    let above = digits.format(units >> halved).as_bytes();
+    page.put(sink, b",")?;
+    page.put(sink, above)?;
+    page.put(sink, bottom)
 }

@@ -28,18 +28,6 @@ pub post_done :
     SameContent (plant_effect depth townships x.instrument p x.tract) q → SameContent (effect depth townships p a) q
 post_done depth townships p q a x e h c = rw (e, effect_post depth townships p x) (h c)
 
-replays_later :
-    (depth : ℕ) (townships : List Township) (p : Plant) (later earlier : List Step) →
-    Replays depth townships p (later ++ earlier) → Replays depth townships p earlier
-replays_later depth townships p [] earlier h = h
-replays_later depth townships p (s ∷ later) earlier h = replays_later depth townships p later earlier h.0
-
-serial_later :
-    (depth : ℕ) (townships : List Township) (later earlier : List Record) →
-    IsSerial depth townships (later ++ earlier) → IsSerial depth townships earlier
-serial_later depth townships [] earlier h = h
-serial_later depth townships (r ∷ later) earlier h = serial_later depth townships later earlier h.0
-
 -- one more element of a list, the newest first
 one_more :
     {A : Type 0} (xs : List A) (k : ℕ) (x : A) → k < length xs → x ≡ get_or xs k x →
@@ -47,9 +35,16 @@ one_more :
 one_more xs k x h e =
     ap reverse (take_more xs k x h) ∙ reverse-append (take k xs) (get_or xs k x ∷ []) ∙ ap (λ y. y ∷ reverse (take k xs)) (sym e)
 
--- a list, the newest first, is its part after an index and the part up to there
-up_to : {A : Type 0} (xs : List A) (n : ℕ) → reverse xs ≡ reverse (drop n xs) ++ reverse (take n xs)
-up_to xs n = ap reverse (sym (take-append-drop n xs)) ∙ reverse-append (take n xs) (drop n xs)
+-- what holds of a list, the newest first, and of what stood there before each element, holds up to an element
+up_to : {A : Type 0} (P : List A → Type 0) → ((x : A) (xs : List A) → P (x ∷ xs) → P xs) → (xs : List A) (k : ℕ) (x : A) →
+    k < length xs → x ≡ get_or xs k x → P (reverse xs) → P (x ∷ reverse (take k xs))
+up_to {A} P earlier xs k x h e all =
+    subst P (one_more xs k x h e) (later (reverse (drop (k + 1) xs))
+    (subst P (ap reverse (sym (take-append-drop (k + 1) xs)) ∙ reverse-append (take (k + 1) xs) (drop (k + 1) xs)) all))
+  where
+    later : (ys : List A) → P (ys ++ reverse (take (k + 1) xs)) → P (reverse (take (k + 1) xs))
+    later [] p = p
+    later (y ∷ ys) p = later ys (earlier y (ys ++ reverse (take (k + 1) xs)) p)
 
 -- what can be replayed can be so step by step
 pub can_replay :
@@ -58,14 +53,9 @@ pub can_replay :
     SameContent (after_steps depth townships start (reverse (take k steps))) p →
     Replays depth townships start (reverse steps) → CanReplay depth declared p x
 can_replay depth declared townships start p steps k x h e d same replays =
-    let all : Replays depth townships start (reverse (drop (k + 1) steps) ++ reverse (take (k + 1) steps)) =
-    subst (Replays depth townships start) (up_to steps (k + 1)) replays in
-    let some : Replays depth townships start (x ∷ reverse (take k steps)) =
-    subst (Replays depth townships start) (one_more steps k x h e)
-    (replays_later depth townships start (reverse (drop (k + 1) steps)) (reverse (take (k + 1) steps)) all) in
-    let here : CanReplay depth townships p x =
-    subst (λ (q : Plant). CanReplay depth townships q x) (sym (same_plant _ p same)) some.1 in
-    subst (λ (ts : List Township). CanReplay depth ts p x) (sym d) here
+    let some = up_to (Replays depth townships start) (λ s own r. r.0) steps k x h e replays in
+    subst (λ (ts : List Township). CanReplay depth ts p x) (sym d)
+    (subst (λ (q : Plant). CanReplay depth townships q x) (sym (same_plant _ p same)) some.1)
 
 -- one more step
 pub step_content :
@@ -75,17 +65,14 @@ pub step_content :
     SameContent (effect depth declared p x.ask) q →
     SameContent (after_steps depth townships start (reverse (take (k + 1) steps))) q
 step_content depth declared townships start p q steps k x h e d same next =
-    let here : SameContent (effect depth townships (after_steps depth townships start (reverse (take k steps))) x.ask) q =
-    subst (λ (r : Plant). SameContent (effect depth townships r x.ask) q) (same_plant _ p same)
-    (subst (λ (ts : List Township). SameContent (effect depth ts p x.ask) q) d next) in
-    subst (λ (own : List Step). SameContent (after_steps depth townships start own) q) (sym (one_more steps k x h e)) here
+    subst (λ (own : List Step). SameContent (after_steps depth townships start own) q) (sym (one_more steps k x h e))
+    (subst (λ (r : Plant). SameContent (effect depth townships r x.ask) q) (same_plant _ p same)
+    (subst (λ (ts : List Township). SameContent (effect depth ts p x.ask) q) d next))
 
 -- an answer that an ask gets says whether it changes anything
 idle :
     (depth : ℕ) (townships : List Township) (p : Plant) (listed : List Entry) (a : Ask) (given : Answer) →
     given ≡ answer_to depth townships p listed a → was_posted a given ≡ false → SameContent p (effect depth townships p a)
-idle depth townships p listed (ask.Sheet t) given e n = λ c. effect_read depth townships p (ask.Sheet t) c refl
-idle depth townships p listed (ask.Chain t) given e n = λ c. effect_read depth townships p (ask.Chain t) c refl
 idle depth townships p listed (ask.Post x) given e n = go (refused_in depth townships x.instrument p x.tract) refl
   where
     go : (r : Option Refusal) → refused_in depth townships x.instrument p x.tract ≡ r
@@ -94,6 +81,7 @@ idle depth townships p listed (ask.Post x) given e n = go (refused_in depth town
         let posted : given ≡ answer.Posted = e ∙ answer_post depth townships p listed x ∙ ap post_answer k in
         absurd (both_ways _ n (ap (was_posted (ask.Post x)) posted))
     go (Some r) k = λ c. effect_refused depth townships p x r c k
+idle depth townships p listed a given e n = λ c. effect_read depth townships p a c refl
 
 -- steps with the answers that they get alone can be replayed
 plays_replays :
@@ -112,15 +100,10 @@ pub can_replay_record :
     SameContent (plant_after depth townships (reverse (take k records))) p →
     IsSerial depth townships (reverse records) → Replays depth declared p (reverse x.steps)
 can_replay_record depth declared townships p records k x h e d same serial =
-    let all : IsSerial depth townships (reverse (drop (k + 1) records) ++ reverse (take (k + 1) records)) =
-    subst (IsSerial depth townships) (up_to records (k + 1)) serial in
-    let some : IsSerial depth townships (x ∷ reverse (take k records)) =
-    subst (IsSerial depth townships) (one_more records k x h e)
-    (serial_later depth townships (reverse (drop (k + 1) records)) (reverse (take (k + 1) records)) all) in
-    let here : Replays depth townships p (reverse x.steps) =
-    subst (λ (q : Plant). Replays depth townships q (reverse x.steps)) (sym (same_plant _ p same))
-    (plays_replays depth townships (reverse (take k records)) (reverse x.steps) some.1) in
-    subst (λ (ts : List Township). Replays depth ts p (reverse x.steps)) (sym d) here
+    let some = up_to (IsSerial depth townships) (λ r older s. s.0) records k x h e serial in
+    subst (λ (ts : List Township). Replays depth ts p (reverse x.steps)) (sym d)
+    (subst (λ (q : Plant). Replays depth townships q (reverse x.steps)) (sym (same_plant _ p same))
+    (plays_replays depth townships (reverse (take k records)) (reverse x.steps) some.1))
 
 -- one more record
 pub record_content :
@@ -130,7 +113,6 @@ pub record_content :
     SameContent (after_steps depth declared p (reverse x.steps)) q →
     SameContent (plant_after depth townships (reverse (take (k + 1) records))) q
 record_content depth declared townships p q records k x h e d same next =
-    let here : SameContent (plant_after depth townships (x ∷ reverse (take k records))) q =
-    subst (λ (r : Plant). SameContent (after_steps depth townships r (reverse x.steps)) q) (same_plant _ p same)
-    (subst (λ (ts : List Township). SameContent (after_steps depth ts p (reverse x.steps)) q) d next) in
-    subst (λ (records : List Record). SameContent (plant_after depth townships records) q) (sym (one_more records k x h e)) here
+    subst (λ (records : List Record). SameContent (plant_after depth townships records) q) (sym (one_more records k x h e))
+    (subst (λ (r : Plant). SameContent (after_steps depth townships r (reverse x.steps)) q) (same_plant _ p same)
+    (subst (λ (ts : List Township). SameContent (after_steps depth ts p (reverse x.steps)) q) d next))

@@ -1,5 +1,5 @@
 -- One part more has the rows at the front of those that were left.
-use Rattle.std.proofs.{Common.{◌≡◌, ◌∙◌, ◌++◌, ◌∷◌, [], List, ap, append_assoc}, lemmas.List.{take-append-drop}}
+use Rattle.std.proofs.{Common.{◌∙◌, ◌++◌, List, ap, append_assoc}, lemmas.List.{take-append-drop}}
 use Rattle.title_store.specs.declared.sheet_row.SheetRow.{SheetRow}
 use Rattle.title_chain.specs.{SheetParts.{all_rows}, Laws.PartsInTurn.{rows_after}}
 use Rattle.title_chain.proofs.lists.parts_of.Goals as goal

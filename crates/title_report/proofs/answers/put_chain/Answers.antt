@@ -1,25 +1,18 @@
 -- The row that counts, and those that it counts.
-use Rattle.std.proofs.{Common.{◌∷◌, [], codes, length, map}, lemmas.Result.{on_ok_weaker, on_err_weaker}}
-use Rattle.title_page.specs.Laws.{InTurn.{on_err}, Rows.{rows_stopped_before, rows_stopped_then, rows_then}}
-use Rattle.title_report.specs.Replies.{entry_row, number_row}
+use Rattle.std.proofs.Common.{◌∷◌, [], codes, length, map}
+use Rattle.title_page.specs.Laws.Rows.{rows_stopped_before}
+use Rattle.title_report.{specs.Replies.{entry_row, number_row}, proofs.Puts.{put_failed, rows_put_then}}
 use Rattle.title_report.proofs.answers.put_chain.Goals as goal
 
-pub returns-in_err-put_number_row-clause-stopped : goal.returns-in_err-put_number_row-clause-stopped
-returns-in_err-put_number_row-clause-stopped g c =
-    on_err c.from_residual.result (rows_stopped_before (number_row c.args.examiner (codes "chain") (length c.args.entries.now) ∷ [])
+pub returns-in_err-put_number_row-clause-put : goal.returns-in_err-put_number_row-clause-put
+returns-in_err-put_number_row-clause-put g c =
+    put_failed c.from_residual.ensures.0
+    (rows_stopped_before (number_row c.args.examiner (codes "chain") (length c.args.entries.now) ∷ [])
     (map (entry_row c.args.roster.now c.args.examiner) c.args.entries.now)
-    c.in_err-put_number_row.ensures.stopped)
+    c.in_err-put_number_row.ensures.put.stopped) c.in_err-put_number_row.ensures.put.failed
 
-pub returns-clause-written : goal.returns-clause-written
-returns-clause-written g c = on_ok_weaker c.put_entries.result
-    (λ w. rows_then (number_row c.args.examiner (codes "chain") (length c.args.entries.now) ∷ [])
+pub returns-clause-put : goal.returns-clause-put
+returns-clause-put g c =
+    rows_put_then (number_row c.args.examiner (codes "chain") (length c.args.entries.now) ∷ [])
     (map (entry_row c.args.roster.now c.args.examiner) c.args.entries.now)
-    c.in_ok-put_number_row.ensures.written w)
-    c.put_entries.ensures.written
-
-pub returns-clause-stopped : goal.returns-clause-stopped
-returns-clause-stopped g c = on_err_weaker c.put_entries.result
-    (λ v. rows_stopped_then (number_row c.args.examiner (codes "chain") (length c.args.entries.now) ∷ [])
-    (map (entry_row c.args.roster.now c.args.examiner) c.args.entries.now)
-    c.in_ok-put_number_row.ensures.written v)
-    c.put_entries.ensures.stopped
+    c.in_ok-put_number_row.ensures.put.written c.put_entries.ensures.put

@@ -1,15 +1,10 @@
 -- The text that the line keeps is that of the key.
-use Rattle.std.proofs.{Common.{◌∙◌, sym}, lemmas.Result.{on_ok_weaker, on_err_weaker}}
-use Rattle.title_page.specs.Laws.InTurn.{stopped_as, written_as}
-use Rattle.title_report.proofs.Lines.{of_some}
+use Rattle.std.proofs.Common.{◌∙◌, sym}
+use Rattle.title_report.proofs.{Lines.{of_some}, Puts.{put_as, put_done}}
 use Rattle.title_report.proofs.answers.put_kept_entry.Goals as goal
 
-pub returns-clause-written : goal.returns-clause-written
-returns-clause-written g c =
+pub returns-clause-put : goal.returns-clause-put
+returns-clause-put g c =
     let made = of_some c.text_for.result (c.if-is_none.ensures {u = tt}) c.text_for.ensures.text in
-    on_ok_weaker c.put.result (λ w. written_as (sym (c.as_slice.ensures.value ∙ made)) w) c.put.ensures.written
-
-pub returns-clause-stopped : goal.returns-clause-stopped
-returns-clause-stopped g c =
-    let made = of_some c.text_for.result (c.if-is_none.ensures {u = tt}) c.text_for.ensures.text in
-    on_err_weaker c.put.result (λ v. stopped_as (sym (c.as_slice.ensures.value ∙ made)) v) c.put.ensures.stopped
+    put_as (sym (c.as_slice.ensures.value ∙ made))
+    (put_done c.put.ensures.written c.put.ensures.well c.put.ensures.stopped c.put.ensures.failed)

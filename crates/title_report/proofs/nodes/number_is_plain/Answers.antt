@@ -1,7 +1,6 @@
 -- Digits call for no quotes.
-use Rattle.std.specs.Fmt.{decimal}
 use Rattle.title_report.proofs.Plain.{plain_field, plain_number}
 use Rattle.title_report.proofs.nodes.number_is_plain.Goals as goal
 
 pub returns : goal.returns
-returns c = record { plain = plain_field (decimal c.args.number) (plain_number c.args.number c.ranges.number.fits) }
+returns c = record { plain = plain_field (plain_number c.args.number c.ranges.number.fits) }

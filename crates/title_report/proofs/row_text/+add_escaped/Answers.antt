@@ -1,5 +1,5 @@
 -- The bytes up to the first quote, that quote twice, and the rest.
-use Rattle.std.proofs.Common.{◌≡◌, ◌∙◌, ◌++◌, ◌∷◌, [], ◌+◌, ◌-◌, ℕ, List, ap, append_assoc, drop, length, sym, take}
+use Rattle.std.proofs.Common.{◌≡◌, ◌++◌, ◌∷◌, [], ◌+◌, ◌-◌, ℕ, List, append_assoc, drop, length, refl, take}
 use Rattle.std.proofs.lemmas.{List.{take_rest}, Option.{IfSome_then}}
 use Rattle.csv.specs.Writing.{escaped}
 use Rattle.title_page.specs.Rows.{row_writer}
@@ -9,12 +9,7 @@ run_added : (old one two new field : List ℕ) (at : ℕ)
     → escaped row_writer field ≡ take at field ++ (34 ∷ 34 ∷ escaped row_writer (drop (at + 1) field)) → one ≡ old ++ take at field
     → two ≡ one ++ 34 ∷ 34 ∷ [] → new ≡ two ++ escaped row_writer (take (length field - (at + 1)) (drop (at + 1) field))
     → new ≡ old ++ escaped row_writer field
-run_added old one two new field at quote a b c =
-    let rest = escaped row_writer (drop (at + 1) field) in
-    c ∙ ap (λ (x : List ℕ). two ++ escaped row_writer x) (take_rest field (at + 1))
-    ∙ ap (λ (x : List ℕ). x ++ rest) (b ∙ ap (λ (x : List ℕ). x ++ 34 ∷ 34 ∷ []) a)
-    ∙ append_assoc (old ++ take at field) (34 ∷ 34 ∷ []) rest ∙ append_assoc old (take at field) (34 ∷ 34 ∷ rest)
-    ∙ ap (λ (x : List ℕ). old ++ x) (sym quote)
+run_added old one two new field at quote a b c = rw (c, take_rest field (at + 1), b, a, quote) (simp append_assoc refl)
 
 pub returns : goal.returns
 returns t c = record {
