@@ -1,27 +1,28 @@
 -- Which cells lie below which paths.
-use Rattle.std.{proofs.Common.{◌≡◌, ◌∙◌, ap, sym, refl, subst, ℕ, zero, suc, ◌+◌}, specs.{Prelude.{nat_lt}, List.{flat_map, list_any}}}
-use Rattle.std.proofs.Common.{◌-◌, ◌*◌, ◌^◌, ◌<◌, ◌≤◌, arith, Bool, true, false, ◌&&◌, ◌||◌}
-use Rattle.std.proofs.Common.{inl, inr, List, [], ◌∷◌, ◌++◌, length, length-append, append_assoc, reverse}
-use Rattle.std.proofs.lemmas.List.{length-reverse, reverse-append, reverse-reverse, append-nil}
-use Rattle.std.proofs.lemmas.Bool.{and_from, and_parts, or_left, or_right, cases_Bool, eq-eqb, cases_eq, ltb-true}
+use Rattle.std.{proofs.Common.{◌≡◌, ◌∙◌, ap, sym, refl, subst, ℕ, zero, suc, ◌+◌}, specs.{Prelude.{nat_lt}, List.{list_any}}}
+use Rattle.std.proofs.Common.{◌-◌, ◌*◌, ◌^◌, ◌<◌, ◌≤◌, arith, Bool, true, false, ◌&&◌, ◌||◌, add-one, get_or, take, drop}
+use Rattle.std.proofs.Common.{inl, inr, List, [], ◌∷◌, ◌++◌, length, length-append, append_assoc, reverse, length-drop}
+use Rattle.std.proofs.lemmas.List.{length-reverse, reverse-append, reverse-reverse, append-nil, length-take-le, take-append-drop}
+use Rattle.std.proofs.lemmas.Bool.{and_from, and_parts, cases_Bool, eq-eqb, ltb-true, agree_below_at}
 use Rattle.title_land.specs.{Depth.{depth}, declared.{survey.{Township.{Township}, Section.{Section}, Cell.{Cell}}, node.Node.{Node}}}
 use Rattle.title_land.specs.declared.{rectangle.Quarter.{Quarter, TheVariants.{Northeast, Northwest, Southwest}}, tract.Land.{Land}}
 use Rattle.title_land.specs.{Survey.{side, same_township, same_section, is_on_grid}, Rectangles.{holds}, Nodes.{square, node_has}}
-use Rattle.title_land.specs.{Lands.{has, cover_of, is_in_plant, is_plant_cell}, Paths.{quarter_number}, Laws.PathNumbers.{quarter_below}}
+use Rattle.title_land.specs.{Lands.{has, cover_of, is_in_plant, is_plant_cell}, Laws.PathNumbers.{quarter_below}}
 use Rattle.title_land.specs.Laws.{SameLand.{same_township-is, same_township-self, same_section-is}, Squares.{holds_from, has_corner}}
 use Rattle.title_land.specs.Laws.{CoverSet.{cell_in_grid}, LandSharing.{cover_has_its_cells, part_found, equal_tests}}
 use Rattle.title_land.specs.Laws.Members.{any_found, any_from}
 use Rattle.title_land.specs.declared.node.Node.TheVariants as node
 use Rattle.title_land.specs.declared.tract.Land.TheVariants as land
 use Rattle.title_land.specs.Laws.Members as members
-use Rattle.title_tree.specs.{Paths.{way, begins, number_path}, CellWays.{cell_way}, Pieces.{In}}
-use Rattle.title_tree.specs.Laws.CellSquares.{squares_by_paths, cell_ways_are_whole}
+use Rattle.title_tree.specs.{Paths.{way, begins, rest, number_path}, CellWays.{cell_way}, Pieces.{In, Short}}
+use Rattle.title_tree.specs.Laws.{CellSquares.{squares_by_paths, cell_ways_are_whole}, Uniform.{corner, length-corner}}
+use Rattle.title_tree.specs.Laws.Beginnings.{begins_is}
 use Rattle.title_tree.specs.Pieces as pieces
 use Rattle.title_tree_store.specs.{Spots.{index_of, township_path, section_path, square_path}, Keeping.{height}}
 use Rattle.title_tree_store.specs.Spots.{cell_path, blocks, township_spots, spots, tract_spots}
-use Rattle.title_tree_store.proofs.Paths.{begins_under, begins_parts, begins_whole, has_on}
-use Rattle.title_tree_store.proofs.Paths.{has_under, has_parts, has_flat, append_parts, in_join}
-use Rattle.title_tree_store.proofs.Paths.{length-number_path, number_is, number_of, path_of_number, parted}
+use Rattle.title_tree_store.proofs.Paths.{begins_under, begins_parts, begins_whole, begins_on, has_on, has_in, has_from, in_flat}
+use Rattle.title_tree_store.proofs.Paths.{has_under, has_parts, has_flat, append_parts}
+use Rattle.title_tree_store.proofs.Paths.{length-number_path, number_is, number_of, path_of_number}
 
 -- ---- townships
 
@@ -29,99 +30,43 @@ use Rattle.title_tree_store.proofs.Paths.{length-number_path, number_is, number_
 abbrev pub IsOf : List Township → Township → Type 0
 IsOf ts t = list_any (same_township t) ts ≡ true
 
-pub index_below : (ts : List Township) (t : Township) → IsOf ts t → index_of ts t < length ts
+pub is_own : (ts : List Township) (t : Township) → members.In t ts → IsOf ts t
+is_own ts t i = any_from (same_township t) ts t i (same_township-self t)
+
+index_below : (ts : List Township) (t : Township) → IsOf ts t → index_of ts t < length ts
 index_below [] t h = absurd cc
 index_below (u ∷ ts) t h = elim (cases_Bool (same_township t u)) [
   | inl e ↦ rw e (omega arith)
   | inr e ↦ (let k : IsOf ts t = rw e at h in let l = index_below ts t k in rw e (omega (arith, l)))
 ]
 
-pub index_is : (ts : List Township) (t u : Township) → IsOf ts t → IsOf ts u → index_of ts t ≡ index_of ts u → t ≡ u
-index_is [] t u h k e = absurd cc
-index_is (v ∷ ts) t u h k e = elim (cases_Bool (same_township t v)) [
-  | inl f ↦ elim (cases_Bool (same_township u v)) [
-    | inl g ↦ same_township-is t v f ∙ sym (same_township-is u v g)
-    | inr g ↦ absurd (let z : 0 ≡ index_of ts u + 1 = rw (f, g) at e in omega (arith, z))
-  ]
-  | inr f ↦ elim (cases_Bool (same_township u v)) [
-    | inl g ↦ absurd (let z : index_of ts t + 1 ≡ 0 = rw (f, g) at e in omega (arith, z))
-    | inr g ↦
-        let z : index_of ts t + 1 ≡ index_of ts u + 1 = rw (f, g) at e in
-        let w : index_of ts t ≡ index_of ts u = omega (arith, z) in
-        index_is ts t u (rw f at h) (rw g at k) w
-  ]
+at_index : (ts : List Township) (t d : Township) → IsOf ts t → get_or ts (index_of ts t) d ≡ t
+at_index [] t d h = absurd cc
+at_index (u ∷ ts) t d h = elim (cases_Bool (same_township t u)) [
+  | inl e ↦ rw e (sym (same_township-is t u e))
+  | inr e ↦ (let k : IsOf ts t = rw e at h in rw (e, add-one) (at_index ts t d k))
 ]
-
--- a township that has a path of its own
-pub township_is : (levels : ℕ) (ts : List Township) (t u : Township) → length ts ≤ 4 ^ levels → IsOf ts t → IsOf ts u
-    → township_path levels ts t ≡ township_path levels ts u → t ≡ u
-township_is levels ts t u room h k e =
-    let l = index_below ts t h in
-    let m = index_below ts u k in
-    let low : index_of ts t < 4 ^ levels = omega (arith, l, room) in
-    let high : index_of ts u < 4 ^ levels = omega (arith, m, room) in
-    index_is ts t u h k (number_is levels (index_of ts t) (index_of ts u) low high e)
-
-pub length-section_path : (levels : ℕ) (ts : List Township) (s : Section) → length (section_path levels ts s) ≡ levels + 3
-length-section_path levels ts s =
-    let e = length-append (township_path levels ts s.township) (number_path 3 (s.number - 1)) in
-    let f = length-number_path levels (index_of ts s.township) in
-    let g = length-number_path 3 (s.number - 1) in
-    omega (arith, e, f, g)
-
-pub length-cell_path : (levels : ℕ) (ts : List Township) (c : Cell) → length (cell_path levels ts c) ≡ height levels
-length-cell_path levels ts c =
-    let e = length-append (section_path levels ts c.section) (cell_way depth c.row c.column) in
-    let f = length-section_path levels ts c.section in
-    let g = cell_ways_are_whole depth c.row c.column in
-    omega (arith, e, f, g)
-
--- sections that have one path are one
-pub section_is : (levels : ℕ) (ts : List Township) (s u : Section) → length ts ≤ 4 ^ levels → IsOf ts s.township → IsOf ts u.township
-    → section_path levels ts s ≡ section_path levels ts u → same_section s u ≡ true
-section_is levels ts s u room h k e =
-    let parts = append_parts (township_path levels ts s.township) (township_path levels ts u.township)
-    (number_path 3 (s.number - 1)) (number_path 3 (u.number - 1))
-    (length-number_path levels (index_of ts s.township) ∙ sym (length-number_path levels (index_of ts u.township))) e in
-    let a = s.numbered in
-    let b = u.numbered in
-    let power : 4 ^ 3 ≡ 64 = refl in
-    let low : s.number - 1 < 4 ^ 3 = omega (arith, a.0, a.1, power) in
-    let high : u.number - 1 < 4 ^ 3 = omega (arith, b.0, b.1, power) in
-    let n = number_is 3 (s.number - 1) (u.number - 1) low high parts.1 in
-    let same : s.number ≡ u.number = omega (arith, n, a.0, b.0) in
-    and_from (same_township s.township u.township) _
-    (subst (λ (t : Township). same_township s.township t ≡ true) (township_is levels ts s.township u.township room h k parts.0)
-    (same_township-self s.township))
-    (eq-eqb s.number u.number same)
 
 -- ---- the nodes that have a township's sections
 
-all_below : (ℕ → Bool) → ℕ → Bool
-all_below test zero = true
-all_below test (suc n) = test n && all_below test n
-
-at_below : (test : ℕ → Bool) (n k : ℕ) → all_below test n ≡ true → k < n → test k ≡ true
-unfolding all_below
-at_below test zero k h l = absurd (omega (arith, l))
-at_below test (suc n) k h l =
-    let parts = and_parts (test n) (all_below test n) h in
-    elim (cases_eq k n) [
-      | inl e ↦ ap test e ∙ parts.0
-      | inr e ↦ (let less : k < n = omega (arith, l, e) in at_below test n k parts.1 less)
-    ]
-
-blocks_checked : all_below (λ n. pieces.has blocks (number_path 3 n)) 36 ≡ true
-unfolding all_below
-blocks_checked = refl
-
 -- each section lies in one of the three
-pub blocks_have : (s : Section) (c : List Quarter) → pieces.has blocks (number_path 3 (s.number - 1) ++ c) ≡ true
+blocks_have : (s : Section) (c : List Quarter) → pieces.has blocks (number_path 3 (s.number - 1) ++ c) ≡ true
 blocks_have s c =
     let n = s.numbered in
-    let low : s.number - 1 < 36 = omega (arith, n.0, n.1) in
     has_on blocks (number_path 3 (s.number - 1)) c
-    (at_below (λ k. pieces.has blocks (number_path 3 k)) 36 (s.number - 1) blocks_checked low)
+    (agree_below_at (λ k. pieces.has blocks (number_path 3 k)) (λ k. true) 36 (s.number - 1) refl (omega (arith, n.0, n.1)))
+
+-- the most that so many quarters more may make of a number
+abbrev top : ℕ → ℕ → ℕ
+top zero n = n
+top (suc k) n = top k n * 4
+
+number_bound : (u w : List Quarter) → number_of (u ++ w) < top (length u) (number_of w + 1)
+number_bound [] w = omega arith
+number_bound (q ∷ u) w =
+    let e = number_bound u w in
+    let f = quarter_below q in
+    omega (arith, e, f)
 
 -- ---- cells below paths
 
@@ -140,68 +85,10 @@ grid_parts c h =
     let k = and_parts (nat_lt c.row (side depth)) (nat_lt c.column (side depth)) h in
     (ltb-true c.row (side depth) k.0, ltb-true c.column (side depth) k.1)
 
-same_lengths : (levels : ℕ) (ts : List Township) (s u : Section) → length (section_path levels ts s) ≡ length (section_path levels ts u)
-same_lengths levels ts s u = length-section_path levels ts s ∙ sym (length-section_path levels ts u)
-
--- a cell lies in a square exactly where the square's path begins the cell's
-square_has : (levels : ℕ) (ts : List Township) (s : Section) (w : List Quarter) (c : Cell) → length ts ≤ 4 ^ levels
-    → IsOf ts s.township → length w ≤ depth → is_plant_cell depth ts c ≡ true
-    → begins (square_path levels ts s w) (cell_path levels ts c) ≡ (same_section s c.section && holds (square depth w) c.row c.column)
-square_has levels ts s w c room of short plant =
-    let k = plant_parts ts c plant in
-    let g = grid_parts c k.0 in
-    let by = squares_by_paths depth w c.row c.column short g.0 g.1 in
-    equal_tests _ _
-    (λ h. let m = begins_parts (section_path levels ts s) (section_path levels ts c.section) (way w) (cell_way depth c.row c.column)
-    (same_lengths levels ts s c.section) h in
-    and_from _ _ (section_is levels ts s c.section room of k.1 m.0) (by ∙ m.1))
-    (λ h. let m = and_parts (same_section s c.section) (holds (square depth w) c.row c.column) h in
-    subst (λ (u : Section). begins (square_path levels ts u w) (cell_path levels ts c) ≡ true) (sym (same_section-is s c.section m.0))
-    (begins_under (section_path levels ts c.section) (way w) (cell_way depth c.row c.column) ∙ sym by ∙ m.1))
-
-township_has : (levels : ℕ) (ts : List Township) (t : Township) (c : Cell) → length ts ≤ 4 ^ levels
-    → IsOf ts t → is_plant_cell depth ts c ≡ true
-    → pieces.has (township_spots levels ts t) (cell_path levels ts c) ≡ same_township t c.section.township
-township_has levels ts t c room of plant =
-    let k = plant_parts ts c plant in
-    let whole : cell_path levels ts c
-    ≡ township_path levels ts c.section.township ++ (number_path 3 (c.section.number - 1) ++ cell_way depth c.row c.column) =
-    append_assoc (township_path levels ts c.section.township) (number_path 3 (c.section.number - 1)) (cell_way depth c.row c.column) in
-    equal_tests _ _
-    (λ h. subst (λ (u : Township). same_township t u ≡ true)
-    (township_is levels ts t c.section.township room of k.1
-    (has_parts (township_path levels ts t) (township_path levels ts c.section.township) blocks
-    (number_path 3 (c.section.number - 1) ++ cell_way depth c.row c.column)
-    (length-number_path levels (index_of ts t) ∙ sym (length-number_path levels (index_of ts c.section.township)))
-    (ap (λ (z : List Quarter). pieces.has (township_spots levels ts t) z) (sym whole) ∙ h)))
-    (same_township-self t))
-    (λ h. subst (λ (u : Township). pieces.has (township_spots levels ts u) (cell_path levels ts c) ≡ true)
-    (sym (same_township-is t c.section.township h))
-    (ap (λ (z : List Quarter). pieces.has (township_spots levels ts c.section.township) z) whole
-    ∙ has_under (township_path levels ts c.section.township) blocks
-    (number_path 3 (c.section.number - 1) ++ cell_way depth c.row c.column)
-    ∙ blocks_have c.section (cell_way depth c.row c.column)))
-
 any_own : (ts : List Township) (f : Township → Bool) (t : Township) → IsOf ts t → f t ≡ true → list_any f ts ≡ true
 any_own ts f t of h =
     let k = any_found (same_township t) ts of in
     any_from f ts k.0 k.1 (ap f (sym (same_township-is t k.0 k.2)) ∙ h)
-
--- a cell of the plant lies in a node exactly where one of the node's paths begins the cell's
-pub spots_have : (levels : ℕ) (ts : List Township) (n : Node) (c : Cell) → length ts ≤ 4 ^ levels → IsDeclared ts n
-    → is_plant_cell depth ts c ≡ true → pieces.has (spots levels ts n) (cell_path levels ts c) ≡ node_has depth n c
-spots_have levels ts node.Everything c room of plant =
-    let k = plant_parts ts c plant in
-    has_flat (township_spots levels ts) ts (cell_path levels ts c)
-    ∙ any_own ts (λ t. pieces.has (township_spots levels ts t) (cell_path levels ts c)) c.section.township k.1
-    (township_has levels ts c.section.township c room k.1 plant ∙ same_township-self c.section.township)
-spots_have levels ts (node.Township t) c room of plant = township_has levels ts t c room of plant
-spots_have levels ts (node.Part s w) c room of plant =
-    or_none (begins (square_path levels ts s w) (cell_path levels ts c)) ∙ square_has levels ts s w c room of.0 of.1 plant
-  where
-    or_none : (b : Bool) → (b || false) ≡ b
-    or_none true = refl
-    or_none false = refl
 
 -- the nodes of a cover are declared where the tract is in the plant
 pub cover_declared : (ts : List Township) (x : Land) (n : Node) → is_in_plant ts x ≡ true → members.In n (cover_of depth x)
@@ -226,17 +113,6 @@ any_agree p q [] f = refl
 any_agree p q (n ∷ ns) f =
     ap (λ (b : Bool). b || list_any p ns) (f n (inl refl)) ∙ ap (λ (b : Bool). q n || b) (any_agree p q ns (λ m i. f m (inr i)))
 
--- a cell of the plant lies in a tract exactly where one of the tract's paths begins the cell's
-pub tract_has : (levels : ℕ) (ts : List Township) (x : Land) (c : Cell) → length ts ≤ 4 ^ levels → is_in_plant ts x ≡ true
-    → is_plant_cell depth ts c ≡ true → pieces.has (tract_spots levels ts x) (cell_path levels ts c) ≡ has x c
-tract_has levels ts x c room of plant =
-    has_flat (spots levels ts) (cover_of depth x) (cell_path levels ts c)
-    ∙ any_agree (λ n. pieces.has (spots levels ts n) (cell_path levels ts c)) (λ n. node_has depth n c) (cover_of depth x)
-    (λ n i. spots_have levels ts n c room (cover_declared ts x n of i) plant)
-    ∙ sym (cover_has_its_cells depth x c (plant_parts ts c plant).0)
-
--- ---- cells at paths
-
 -- the cell of a section at a square without squares below it
 pub corner_way : (s : Section) (w : List Quarter) → length w ≡ depth → cell_way depth (square depth w).top (square depth w).left ≡ way w
 corner_way s w l =
@@ -249,169 +125,272 @@ corner_way s w l =
     (length-reverse w ∙ l ∙ sym (cell_ways_are_whole depth (square depth w).top (square depth w).left))
     (sym (squares_by_paths depth w _ _ short g.0 g.1) ∙ holds_from (square depth w) _ _ i))
 
+regroup : (a b c d : List Quarter) → (a ++ (b ++ c)) ++ d ≡ (a ++ b) ++ (c ++ d)
+regroup a b c d = simp append_assoc
+
 -- a cell of the plant at a path
 pub record CellAt (levels : ℕ) (ts : List Township) (p : List Quarter) : Type 0 where
   pub cell : Cell
   pub plant : is_plant_cell depth ts cell ≡ true
   pub path_is : cell_path levels ts cell ≡ p
 
-pub in_section : (levels : ℕ) (ts : List Township) (s : Section) (w r : List Quarter) → IsOf ts s.township
-    → length w + length r ≡ depth → CellAt levels ts (square_path levels ts s w ++ r)
-in_section levels ts s w r of l =
-    let v = reverse r ++ w in
-    let e = length-append (reverse r) w in
-    let f = length-reverse r in
-    let long : length v ≡ depth = omega (arith, e, f, l) in
-    let none : 0 + length v ≡ depth = omega (arith, long) in
-    let short : length v ≤ depth = omega (arith, long) in
-    let i = has_corner depth 0 v none in
-    record {
-      cell = record { section = s; row = (square depth v).top; column = (square depth v).left };
-      plant = and_from _ _ (cell_in_grid depth s v _ _ short i) of;
-      path_is = ap (λ (z : List Quarter). section_path levels ts s ++ z) (corner_way s v long
-          ∙ reverse-append (reverse r) w ∙ ap (λ (z : List Quarter). reverse w ++ z) (reverse-reverse r))
-          ∙ sym (append_assoc (section_path levels ts s) (way w) r);
-    }
+module _ (levels : ℕ) (ts : List Township) where
+  pub length-section_path : (s : Section) → length (section_path levels ts s) ≡ levels + 3
+  length-section_path s =
+      let e = length-append (township_path levels ts s.township) (number_path 3 (s.number - 1)) in
+      let f = length-number_path levels (index_of ts s.township) in
+      let g = length-number_path 3 (s.number - 1) in
+      omega (arith, e, f, g)
 
--- a township's section with a number below 36 for its path
-section_numbered : (levels : ℕ) (ts : List Township) (t : Township) (v : List Quarter) → length v ≡ 3 → number_of v < 36
-    → (s : Section) × (s.township ≡ t) × (section_path levels ts s ≡ township_path levels ts t ++ reverse v)
-section_numbered levels ts t v l n =
-    let one : 1 ≤ number_of v + 1 = omega arith in
-    let most : number_of v + 1 ≤ 36 = omega (arith, n) in
-    let less : number_of v + 1 - 1 ≡ number_of v = omega arith in (
-      record { township = t; number = number_of v + 1; numbered = (one, most) },
-      refl,
-      ap (λ (z : List Quarter). township_path levels ts t ++ z)
-          (ap (number_path 3) less ∙ ap (λ (k : ℕ). number_path k (number_of v)) (sym l) ∙ path_of_number v),
-    )
+  pub length-cell_path : (c : Cell) → length (cell_path levels ts c) ≡ height levels
+  length-cell_path c =
+      let e = length-append (section_path levels ts c.section) (cell_way depth c.row c.column) in
+      let f = length-section_path c.section in
+      let g = cell_ways_are_whole depth c.row c.column in
+      omega (arith, e, f, g)
 
--- the most that so many quarters more may make of a number
-abbrev top : ℕ → ℕ → ℕ
-top zero n = n
-top (suc k) n = top k n * 4
+  -- ---- cells at paths
 
-number_bound : (u w : List Quarter) → number_of (u ++ w) < top (length u) (number_of w + 1)
-number_bound [] w = omega arith
-number_bound (q ∷ u) w =
-    let e = number_bound u w in
-    let f = quarter_below q in
-    omega (arith, e, f)
+  in_section : (s : Section) (w r : List Quarter) → IsOf ts s.township → length w + length r ≡ depth
+      → CellAt levels ts (square_path levels ts s w ++ r)
+  in_section s w r of l =
+      let v = reverse r ++ w in
+      let e = length-append (reverse r) w in
+      let f = length-reverse r in
+      let long : length v ≡ depth = omega (arith, e, f, l) in
+      let none : 0 + length v ≡ depth = omega (arith, long) in
+      let short : length v ≤ depth = omega (arith, long) in
+      let i = has_corner depth 0 v none in
+      record {
+        cell = record { section = s; row = (square depth v).top; column = (square depth v).left };
+        plant = and_from _ _ (cell_in_grid depth s v _ _ short i) of;
+        path_is = ap (λ (z : List Quarter). section_path levels ts s ++ z) (corner_way s v long
+            ∙ reverse-append (reverse r) w ∙ ap (λ (z : List Quarter). reverse w ++ z) (reverse-reverse r))
+            ∙ sym (append_assoc (section_path levels ts s) (way w) r);
+      }
 
-under_block : (levels : ℕ) (ts : List Township) (t : Township) (b f r : List Quarter) → IsOf ts t
-    → length (reverse f ++ reverse b) ≡ 3 → number_of (reverse f ++ reverse b) < 36
-    → length r ≡ depth → CellAt levels ts ((township_path levels ts t ++ b) ++ (f ++ r))
-under_block levels ts t b f r of l n m =
-    let k = section_numbered levels ts t (reverse f ++ reverse b) l n in
-    let own : IsOf ts k.0.township = subst (IsOf ts) (sym k.1) of in
-    let whole : length {A = Quarter} [] + length r ≡ depth = omega (arith, m) in
-    let c = in_section levels ts k.0 [] r own whole in
-    let back : reverse (reverse f ++ reverse b) ≡ b ++ f =
-    reverse-append (reverse f) (reverse b) ∙ ap (λ (z : List Quarter). z ++ reverse (reverse f)) (reverse-reverse b)
-    ∙ ap (λ (z : List Quarter). b ++ z) (reverse-reverse f) in
-    record {
-      cell = c.cell;
-      plant = c.plant;
-      path_is = c.path_is ∙ ap (λ (z : List Quarter). z ++ r) (append-nil (section_path levels ts k.0))
-          ∙ ap (λ (z : List Quarter). z ++ r) (k.2 ∙ ap (λ (z : List Quarter). township_path levels ts t ++ z) back)
-          ∙ ap (λ (z : List Quarter). z ++ r) (sym (append_assoc (township_path levels ts t) b f))
-          ∙ append_assoc (township_path levels ts t ++ b) f r;
-    }
+  -- each path below a node that has some of a township's sections
+  in_block : (t : Township) (b : List Quarter) (n : ℕ) (r : List Quarter) → IsOf ts t → length b + n ≡ 3
+      → top n (number_of (reverse b) + 1) ≤ 36 → length r ≡ n + depth → CellAt levels ts ((township_path levels ts t ++ b) ++ r)
+  in_block t b n r of three few l =
+      let f = take n r in
+      let v = reverse f ++ reverse b in
+      let long : length f ≡ n = length-take-le n r (omega (arith, l)) in
+      let most : number_of v < top n (number_of (reverse b) + 1) =
+      subst (λ (k : ℕ). number_of v < top k (number_of (reverse b) + 1)) (length-reverse f ∙ long)
+      (number_bound (reverse f) (reverse b)) in
+      let low : number_of v < 36 = omega (arith, most, few) in
+      let high : 1 ≤ number_of v + 1 = omega arith in
+      let enough : number_of v + 1 ≤ 36 = omega (arith, low) in
+      let s : Section = record { township = t; number = number_of v + 1; numbered = (high, enough) } in
+      let less : number_of v + 1 - 1 ≡ number_of v = omega arith in
+      let whole : 3 ≡ length v =
+      (let e = length-append (reverse f) (reverse b) in let g = length-reverse f in let h = length-reverse b in
+      omega (arith, e, g, h, long, three)) in
+      let named : number_path 3 (number_of v + 1 - 1) ≡ b ++ f =
+      ap (number_path 3) less ∙ ap (λ (k : ℕ). number_path k (number_of v)) whole ∙ path_of_number v
+      ∙ reverse-append (reverse f) (reverse b) ∙ (λ i. reverse-reverse b i ++ reverse-reverse f i) in
+      let left : length {A = Quarter} [] + length (drop n r) ≡ depth = (let e = length-drop n r in omega (arith, e, l)) in
+      subst (CellAt levels ts) (ap (λ (z : List Quarter). z ++ drop n r) (append-nil (section_path levels ts s)
+      ∙ ap (λ (z : List Quarter). township_path levels ts t ++ z) named)
+      ∙ regroup (township_path levels ts t) b f (drop n r)
+      ∙ ap (λ (z : List Quarter). (township_path levels ts t ++ b) ++ z) (take-append-drop n r)) (in_section s [] (drop n r) of left)
 
--- each path below a node with sections 1 to 16, or 17 to 32
-in_quarter : (levels : ℕ) (ts : List Township) (t : Township) (q : Quarter) (r : List Quarter) → IsOf ts t → quarter_number q < 2
-    → length r ≡ 2 + depth → CellAt levels ts ((township_path levels ts t ++ q ∷ []) ++ r)
-in_quarter levels ts t q r of n l =
-    let p = parted 2 depth r l in
-    let e = length-append (reverse p.first) (q ∷ []) in
-    let f = length-reverse p.first in
-    let long : length (reverse p.first ++ q ∷ []) ≡ 3 = omega (arith, e, f, p.length_is) in
-    let few : length (reverse p.first) ≡ 2 = f ∙ p.length_is in
-    let h : number_of (reverse p.first ++ q ∷ []) < top 2 (0 * 4 + quarter_number q + 1) =
-    subst (λ (k : ℕ). number_of (reverse p.first ++ q ∷ []) < top k (0 * 4 + quarter_number q + 1)) few
-    (number_bound (reverse p.first) (q ∷ [])) in
-    let low : number_of (reverse p.first ++ q ∷ []) < 36 = omega (arith, h, n) in
-    let g = length-append p.first p.second in
-    let whole = ap (λ (z : List Quarter). length z) p.whole in
-    let left : length p.second ≡ depth = omega (arith, g, whole, l, p.length_is) in
-    subst (λ (z : List Quarter). CellAt levels ts ((township_path levels ts t ++ q ∷ []) ++ z)) (sym p.whole)
-    (under_block levels ts t (q ∷ []) p.first p.second of long low left)
-
--- each path below the node with sections 33 to 36
-in_rest : (levels : ℕ) (ts : List Township) (t : Township) (r : List Quarter) → IsOf ts t → length r ≡ 1 + depth
-    → CellAt levels ts ((township_path levels ts t ++ Southwest ∷ Northeast ∷ []) ++ r)
-in_rest levels ts t r of l =
-    let p = parted 1 depth r l in
-    let e = length-append (reverse p.first) (Northeast ∷ Southwest ∷ []) in
-    let f = length-reverse p.first in
-    let long : length (reverse p.first ++ Northeast ∷ Southwest ∷ []) ≡ 3 = omega (arith, e, f, p.length_is) in
-    let few : length (reverse p.first) ≡ 1 = f ∙ p.length_is in
-    let low : number_of (reverse p.first ++ Northeast ∷ Southwest ∷ []) < 36 =
-    subst (λ (k : ℕ). number_of (reverse p.first ++ Northeast ∷ Southwest ∷ []) < top k 9) few
-    (number_bound (reverse p.first) (Northeast ∷ Southwest ∷ [])) in
-    let g = length-append p.first p.second in
-    let whole = ap (λ (z : List Quarter). length z) p.whole in
-    let left : length p.second ≡ depth = omega (arith, g, whole, l, p.length_is) in
-    subst (λ (z : List Quarter). CellAt levels ts ((township_path levels ts t ++ Southwest ∷ Northeast ∷ []) ++ z)) (sym p.whole)
-    (under_block levels ts t (Southwest ∷ Northeast ∷ []) p.first p.second of long low left)
-
--- each path below one of a township's three nodes is that of a cell
-in_township : (levels : ℕ) (ts : List Township) (t : Township) (p r : List Quarter) → IsOf ts t → In p (township_spots levels ts t)
-    → length p + length r ≡ height levels → CellAt levels ts (p ++ r)
-in_township levels ts t p r of i l = elim i [
-  | inl e ↦ subst (λ (z : List Quarter). CellAt levels ts (z ++ r)) (sym e)
-      (in_quarter levels ts t Northeast r of (omega arith) (left 1 2 (Northeast ∷ []) e refl refl))
-  | inr j ↦ elim j [
-    | inl e ↦ subst (λ (z : List Quarter). CellAt levels ts (z ++ r)) (sym e)
-        (in_quarter levels ts t Northwest r of (omega arith) (left 1 2 (Northwest ∷ []) e refl refl))
-    | inr k ↦ elim k [
-      | inl e ↦ subst (λ (z : List Quarter). CellAt levels ts (z ++ r)) (sym e)
-          (in_rest levels ts t r of (left 2 1 (Southwest ∷ Northeast ∷ []) e refl refl))
-      | inr z ↦ absurd z
+  -- a path of a township is that of one of its three nodes
+  block_of : (t : Township) (p : List Quarter) → In p (township_spots levels ts t) → (b : List Quarter) × (n : ℕ)
+      × (p ≡ township_path levels ts t ++ b) × (length b + n ≡ 3) × (top n (number_of (reverse b) + 1) ≤ 36)
+  block_of t p i = elim i [
+    | inl e ↦ (Northeast ∷ [], 2, e, refl, omega arith)
+    | inr j ↦ elim j [
+      | inl e ↦ (Northwest ∷ [], 2, e, refl, omega arith)
+      | inr k ↦ elim k [ inl e ↦ (Southwest ∷ Northeast ∷ [], 1, e, refl, omega arith) | inr z ↦ absurd z ]
     ]
   ]
-]
-  where
-    left : (n m : ℕ) (b : List Quarter) → p ≡ township_path levels ts t ++ b → length b ≡ n → n + m ≡ 3 → length r ≡ m + depth
-    left n m b e k three =
-        let f = ap (λ (z : List Quarter). length z) e in
-        let g = length-append (township_path levels ts t) b in
-        let h = length-number_path levels (index_of ts t) in
-        omega (arith, f, g, h, k, three, l)
 
--- each path below one of a node's paths is that of a cell
-pub in_spots : (levels : ℕ) (ts : List Township) (n : Node) (p r : List Quarter) → IsDeclared ts n → In p (spots levels ts n)
-    → length p + length r ≡ height levels → CellAt levels ts (p ++ r)
-in_spots levels ts node.Everything p r of i l = all ts (λ t h. h) i
-  where
-    all : (us : List Township) → ((t : Township) → IsOf us t → IsOf ts t) → In p (flat_map (township_spots levels ts) us)
-        → CellAt levels ts (p ++ r)
-    all [] f j = absurd j
-    all (u ∷ us) f j = elim (in_join p (township_spots levels ts u) (flat_map (township_spots levels ts) us) j) [
-      | inl k ↦ in_township levels ts u p r (f u (or_left (same_township u u) (list_any (same_township u) us) (same_township-self u))) k l
-      | inr k ↦ all us (λ t h. f t (or_right (same_township t u) (list_any (same_township t) us) h)) k
-    ]
-in_spots levels ts (node.Township t) p r of i l = in_township levels ts t p r of i l
-in_spots levels ts (node.Part s w) p r of i l = elim i [
-  | inl e ↦
+  length-block_path : (t : Township) (b p : List Quarter) → p ≡ township_path levels ts t ++ b → length p ≡ levels + length b
+  length-block_path t b p e =
       let f = ap (λ (z : List Quarter). length z) e in
-      let g = length-append (section_path levels ts s) (way w) in
-      let h = length-section_path levels ts s in
-      let k = length-reverse w in
-      let left : length w + length r ≡ depth = omega (arith, f, g, h, k, l) in
-      subst (λ (z : List Quarter). CellAt levels ts (z ++ r)) (sym e) (in_section levels ts s w r of.0 left)
-  | inr z ↦ absurd z
-]
+      let g = length-append (township_path levels ts t) b in
+      let h = length-number_path levels (index_of ts t) in
+      omega (arith, f, g, h)
 
--- each path below one of a tract's paths is that of a cell
-pub in_tract : (levels : ℕ) (ts : List Township) (x : Land) (p r : List Quarter) → is_in_plant ts x ≡ true → In p (tract_spots levels ts x)
-    → length p + length r ≡ height levels → CellAt levels ts (p ++ r)
-in_tract levels ts x p r of i l = all (cover_of depth x) (λ n j. cover_declared ts x n of j) i
-  where
-    all : (ns : List Node) → ((n : Node) → members.In n ns → IsDeclared ts n) → In p (flat_map (spots levels ts) ns)
-        → CellAt levels ts (p ++ r)
-    all [] f j = absurd j
-    all (n ∷ ns) f j = elim (in_join p (spots levels ts n) (flat_map (spots levels ts) ns) j) [
-      | inl k ↦ in_spots levels ts n p r (f n (inl refl)) k l
-      | inr k ↦ all ns (λ m h. f m (inr h)) k
-    ]
+  in_township : (t : Township) (p r : List Quarter) → IsOf ts t → In p (township_spots levels ts t)
+      → length p + length r ≡ height levels → CellAt levels ts (p ++ r)
+  in_township t p r of i l =
+      let k = block_of t p i in
+      let long = length-block_path t k.0 p k.2 in
+      subst (λ (z : List Quarter). CellAt levels ts (z ++ r)) (sym k.2)
+      (in_block t k.0 k.1 r of k.3 k.4 (let three = k.3 in omega (arith, long, three, l)))
+
+  -- each path below one of a node's paths is that of a cell
+  in_spots : (n : Node) (p r : List Quarter) → IsDeclared ts n → In p (spots levels ts n) → length p + length r ≡ height levels
+      → CellAt levels ts (p ++ r)
+  in_spots node.Everything p r of i l =
+      let m = in_flat (township_spots levels ts) ts p i in in_township m.0 p r (is_own ts m.0 m.1) m.2 l
+  in_spots (node.Township t) p r of i l = in_township t p r of i l
+  in_spots (node.Part s w) p r of i l = elim i [
+    | inl e ↦
+        let f = ap (λ (z : List Quarter). length z) e in
+        let g = length-append (section_path levels ts s) (way w) in
+        let h = length-section_path s in
+        let k = length-reverse w in
+        let left : length w + length r ≡ depth = omega (arith, f, g, h, k, l) in
+        subst (λ (z : List Quarter). CellAt levels ts (z ++ r)) (sym e) (in_section s w r of.0 left)
+    | inr z ↦ absurd z
+  ]
+
+  -- so is each path of a cell's length that one of them begins
+  pub node_at : (n : Node) (c : List Quarter) → IsDeclared ts n → length c ≡ height levels → pieces.has (spots levels ts n) c ≡ true
+      → CellAt levels ts c
+  node_at n c of l h =
+      let k = has_in (spots levels ts n) c h in
+      let whole = begins_is k.0 c k.2 in
+      let e = length-append k.0 (rest k.0 c) in
+      let f = ap (λ (z : List Quarter). length z) whole in
+      subst (CellAt levels ts) (sym whole) (in_spots n k.0 (rest k.0 c) of k.1 (omega (arith, e, f, l)))
+
+  pub tract_at : (x : Land) (c : List Quarter) → is_in_plant ts x ≡ true → length c ≡ height levels
+      → pieces.has (tract_spots levels ts x) c ≡ true → CellAt levels ts c
+  tract_at x c of l h =
+      let m = any_found (λ n. pieces.has (spots levels ts n) c) (cover_of depth x)
+      (sym (has_flat (spots levels ts) (cover_of depth x) c) ∙ h) in
+      node_at m.0 c (cover_declared ts x m.0 of m.1) l m.2
+
+  -- ---- depth
+
+  township_short : (t : Township) (p : List Quarter) → In p (township_spots levels ts t) → length p ≤ height levels
+  township_short t p i =
+      let k = block_of t p i in
+      let long = length-block_path t k.0 p k.2 in
+      let three = k.3 in
+      omega (arith, long, three)
+
+  pub spots_short : (n : Node) → IsDeclared ts n → Short (spots levels ts n) (height levels)
+  spots_short node.Everything of p i = let m = in_flat (township_spots levels ts) ts p i in township_short m.0 p m.2
+  spots_short (node.Township t) of p i = township_short t p i
+  spots_short (node.Part s w) of p i = elim i [
+    | inl e ↦
+        let f = ap (λ (z : List Quarter). length z) e in
+        let g = length-append (section_path levels ts s) (way w) in
+        let h = length-section_path s in
+        let k = length-reverse w in
+        let l = of.1 in
+        omega (arith, f, g, h, k, l)
+    | inr z ↦ absurd z
+  ]
+
+  -- no path of a tract goes deeper than a cell
+  pub tract_short : (x : Land) → is_in_plant ts x ≡ true → Short (tract_spots levels ts x) (height levels)
+  tract_short x of p i =
+      let m = in_flat (spots levels ts) (cover_of depth x) p i in spots_short m.0 (cover_declared ts x m.0 of m.1) p m.2
+
+  -- a path that goes on to the northeast, down to a cell
+  abbrev pub whole : List Quarter → List Quarter
+  whole q = q ++ corner (height levels - length q)
+
+  pub length-whole : (q : List Quarter) → length q ≤ height levels → length (whole q) ≡ height levels
+  length-whole q short =
+      let long = length-corner (height levels - length q) in
+      let e = length-append q (corner (height levels - length q)) in
+      omega (arith, short, long, e)
+
+  pub has_whole : (ps : List (List Quarter)) (p q : List Quarter) → In p ps → begins p q ≡ true → pieces.has ps (whole q) ≡ true
+  has_whole ps p q i h = has_from ps p (whole q) i (begins_on p q (corner (height levels - length q)) h)
+
+  -- ---- cells of nodes and tracts, where each township has a path of its own
+
+  module _ (room : length ts ≤ 4 ^ levels) where
+    pub township_is : (t u : Township) → IsOf ts t → IsOf ts u → township_path levels ts t ≡ township_path levels ts u → t ≡ u
+    township_is t u h k e =
+        let l = index_below ts t h in
+        let m = index_below ts u k in
+        let low : index_of ts t < 4 ^ levels = omega (arith, l, room) in
+        let high : index_of ts u < 4 ^ levels = omega (arith, m, room) in
+        sym (at_index ts t t h)
+        ∙ ap (λ (n : ℕ). get_or ts n t) (number_is levels (index_of ts t) (index_of ts u) low high e) ∙ at_index ts u t k
+
+    -- sections that have one path are one
+    section_is : (s u : Section) → IsOf ts s.township → IsOf ts u.township → section_path levels ts s ≡ section_path levels ts u
+        → same_section s u ≡ true
+    section_is s u h k e =
+        let parts = append_parts (township_path levels ts s.township) (township_path levels ts u.township)
+        (number_path 3 (s.number - 1)) (number_path 3 (u.number - 1))
+        (length-number_path levels (index_of ts s.township) ∙ sym (length-number_path levels (index_of ts u.township))) e in
+        let a = s.numbered in
+        let b = u.numbered in
+        let power : 4 ^ 3 ≡ 64 = refl in
+        let low : s.number - 1 < 4 ^ 3 = omega (arith, a.0, a.1, power) in
+        let high : u.number - 1 < 4 ^ 3 = omega (arith, b.0, b.1, power) in
+        let n = number_is 3 (s.number - 1) (u.number - 1) low high parts.1 in
+        let same : s.number ≡ u.number = omega (arith, n, a.0, b.0) in
+        and_from (same_township s.township u.township) _
+        (subst (λ (t : Township). same_township s.township t ≡ true) (township_is s.township u.township h k parts.0)
+        (same_township-self s.township))
+        (eq-eqb s.number u.number same)
+
+    -- a cell lies in a square exactly where the square's path begins the cell's
+    square_has : (s : Section) (w : List Quarter) (c : Cell) → IsOf ts s.township → length w ≤ depth → is_plant_cell depth ts c ≡ true
+        → begins (square_path levels ts s w) (cell_path levels ts c) ≡ (same_section s c.section && holds (square depth w) c.row c.column)
+    square_has s w c of short plant =
+        let k = plant_parts ts c plant in
+        let g = grid_parts c k.0 in
+        let by = squares_by_paths depth w c.row c.column short g.0 g.1 in
+        equal_tests _ _
+        (λ h. let m = begins_parts (section_path levels ts s) (section_path levels ts c.section) (way w) (cell_way depth c.row c.column)
+        (length-section_path s ∙ sym (length-section_path c.section)) h in
+        and_from _ _ (section_is s c.section of k.1 m.0) (by ∙ m.1))
+        (λ h. let m = and_parts (same_section s c.section) (holds (square depth w) c.row c.column) h in
+        subst (λ (u : Section). begins (square_path levels ts u w) (cell_path levels ts c) ≡ true) (sym (same_section-is s c.section m.0))
+        (begins_under (section_path levels ts c.section) (way w) (cell_way depth c.row c.column) ∙ sym by ∙ m.1))
+
+    township_has : (t : Township) (c : Cell) → IsOf ts t → is_plant_cell depth ts c ≡ true
+        → pieces.has (township_spots levels ts t) (cell_path levels ts c) ≡ same_township t c.section.township
+    township_has t c of plant =
+        let k = plant_parts ts c plant in
+        let own = township_path levels ts c.section.township in
+        let below = number_path 3 (c.section.number - 1) ++ cell_way depth c.row c.column in
+        let parts : cell_path levels ts c ≡ own ++ below =
+        append_assoc own (number_path 3 (c.section.number - 1)) (cell_way depth c.row c.column) in
+        equal_tests _ _
+        (λ h. subst (λ (u : Township). same_township t u ≡ true)
+        (township_is t c.section.township of k.1 (has_parts (township_path levels ts t) own blocks below
+        (length-number_path levels (index_of ts t) ∙ sym (length-number_path levels (index_of ts c.section.township)))
+        (ap (pieces.has (township_spots levels ts t)) (sym parts) ∙ h)))
+        (same_township-self t))
+        (λ h. subst (λ (u : Township). pieces.has (township_spots levels ts u) (cell_path levels ts c) ≡ true)
+        (sym (same_township-is t c.section.township h))
+        (ap (pieces.has (township_spots levels ts c.section.township)) parts
+        ∙ has_under own blocks below ∙ blocks_have c.section (cell_way depth c.row c.column)))
+
+    -- a cell of the plant lies in a node exactly where one of the node's paths begins the cell's
+    pub spots_have : (n : Node) (c : Cell) → IsDeclared ts n → is_plant_cell depth ts c ≡ true
+        → pieces.has (spots levels ts n) (cell_path levels ts c) ≡ node_has depth n c
+    spots_have node.Everything c of plant =
+        let k = plant_parts ts c plant in
+        has_flat (township_spots levels ts) ts (cell_path levels ts c)
+        ∙ any_own ts (λ t. pieces.has (township_spots levels ts t) (cell_path levels ts c)) c.section.township k.1
+        (township_has c.section.township c k.1 plant ∙ same_township-self c.section.township)
+    spots_have (node.Township t) c of plant = township_has t c of plant
+    spots_have (node.Part s w) c of plant =
+        or_none (begins (square_path levels ts s w) (cell_path levels ts c)) ∙ square_has s w c of.0 of.1 plant
+      where
+        or_none : (b : Bool) → (b || false) ≡ b
+        or_none true = refl
+        or_none false = refl
+
+    -- in a tract exactly where one of the tract's paths does
+    pub tract_has : (x : Land) (c : Cell) → is_in_plant ts x ≡ true → is_plant_cell depth ts c ≡ true
+        → pieces.has (tract_spots levels ts x) (cell_path levels ts c) ≡ has x c
+    tract_has x c of plant =
+        has_flat (spots levels ts) (cover_of depth x) (cell_path levels ts c)
+        ∙ any_agree (λ n. pieces.has (spots levels ts n) (cell_path levels ts c)) (λ n. node_has depth n c) (cover_of depth x)
+        (λ n i. spots_have n c (cover_declared ts x n of i) plant)
+        ∙ sym (cover_has_its_cells depth x c (plant_parts ts c plant).0)
+
+    pub spots_have_at : (n : Node) (p : List Quarter) (c : CellAt levels ts p) → IsDeclared ts n
+        → pieces.has (spots levels ts n) p ≡ node_has depth n c.cell
+    spots_have_at n p c of = ap (pieces.has (spots levels ts n)) (sym c.path_is) ∙ spots_have n c.cell of c.plant
+
+    pub tract_has_at : (x : Land) (p : List Quarter) (c : CellAt levels ts p) → is_in_plant ts x ≡ true
+        → pieces.has (tract_spots levels ts x) p ≡ has x c.cell
+    tract_has_at x p c of = ap (pieces.has (tract_spots levels ts x)) (sym c.path_is) ∙ tract_has x c.cell of c.plant

@@ -1,5 +1,5 @@
 -- Images that are out, in the order of their numbers.
-use Rattle.std.proofs.Common.{◌≡◌, ◌≢◌, ◌∙◌, ap, sym, refl, subst, ◌<◌, arith, inl, inr, ◌⊎◌, List, [], ◌∷◌, ◌++◌, map}
+use Rattle.std.proofs.Common.{◌≡◌, ◌≢◌, sym, refl, subst, ap, ◌<◌, arith, inl, inr, ◌⊎◌, List, [], ◌∷◌, ◌++◌, map}
 use Rattle.title_tree.specs.Pieces.{In}
 use Rattle.title_tree_store.specs.{declared.lent.Lent.{Lent}, Keeping.{Rises}}
 
@@ -21,14 +21,23 @@ in_joined x (y ∷ xs) ys i = elim i [
   | inr k ↦ elim (in_joined x xs ys k) [ inl m ↦ inl (inr m) | inr m ↦ inr m ]
 ]
 
--- what is left of a list was there
-pub in_more : {A : Type 0} (x l : A) (before later : List A) → In x (before ++ later) → In x (before ++ l ∷ later)
-in_more x l [] later i = inr i
-in_more x l (y ∷ before) later i = elim i [ inl e ↦ inl e | inr k ↦ inr (in_more x l before later k) ]
+pub in_left : {A : Type 0} (x : A) (xs ys : List A) → In x xs → In x (xs ++ ys)
+in_left x [] ys i = absurd i
+in_left x (y ∷ xs) ys i = elim i [ inl e ↦ inl e | inr k ↦ inr (in_left x xs ys k) ]
+
+pub in_right : {A : Type 0} (x : A) (xs ys : List A) → In x ys → In x (xs ++ ys)
+in_right x [] ys i = i
+in_right x (y ∷ xs) ys i = inr (in_right x xs ys i)
 
 pub in_middle : {A : Type 0} (l : A) (before later : List A) → In l (before ++ l ∷ later)
-in_middle l [] later = inl refl
-in_middle l (y ∷ before) later = inr (in_middle l before later)
+in_middle l before later = in_right l before (l ∷ later) (inl refl)
+
+-- what is left of a list was there
+pub in_more : {A : Type 0} (x l : A) (before later : List A) → In x (before ++ later) → In x (before ++ l ∷ later)
+in_more x l before later i = elim (in_joined x before later i) [
+  | inl j ↦ in_left x before (l ∷ later) j
+  | inr j ↦ in_right x before (l ∷ later) (inr j)
+]
 
 pub in_last : {A : Type 0} (x l : A) (xs : List A) → In x (xs ++ l ∷ []) → In x xs ⊎ (x ≡ l)
 in_last x l xs i = elim (in_joined x xs (l ∷ []) i) [
@@ -36,11 +45,18 @@ in_last x l xs i = elim (in_joined x xs (l ∷ []) i) [
   | inr k ↦ elim k [ inl e ↦ inr e | inr z ↦ absurd z ]
 ]
 
-pub map_push : {A B : Type 0} (f : A → B) (xs : List A) (x : A) → map f (xs ++ x ∷ []) ≡ map f xs ++ f x ∷ []
-map_push f [] x = refl
-map_push {A} {B} f (y ∷ xs) x = ap (λ (z : List B). f y ∷ z) (map_push f xs x)
-
 -- ---- numbers
+
+pub less_before : (x l : Lent) (before later : List Lent) → Rises (before ++ l ∷ later) → In x before → x.number < l.number
+less_before x l [] later r i = absurd i
+less_before x l (y ∷ before) later r i = elim i [
+  | inl e ↦ subst (λ (z : Lent). z.number < l.number) (sym e) (r.0 l (in_middle l before later))
+  | inr k ↦ less_before x l before later r.1 k
+]
+
+pub more_later : (x l : Lent) (before later : List Lent) → Rises (before ++ l ∷ later) → In x later → l.number < x.number
+more_later x l [] later r i = r.0 x i
+more_later x l (y ∷ before) later r i = more_later x l before later r.1 i
 
 pub rises_less : (l : Lent) (before later : List Lent) → Rises (before ++ l ∷ later) → Rises (before ++ later)
 rises_less l [] later r = r.1
@@ -48,27 +64,9 @@ rises_less l (y ∷ before) later r = (λ x i. r.0 x (in_more x l before later i
 
 pub rises_apart : (l : Lent) (before later : List Lent) → Rises (before ++ l ∷ later) → (x : Lent) → In x (before ++ later)
     → x.number ≢ l.number
-rises_apart l [] later r x i e = (let h = r.0 x i in omega (arith, h, e))
-rises_apart l (y ∷ before) later r x i e = elim i [
-  | inl same ↦
-      let h = r.0 l (in_middle l before later) in
-      let f = ap (λ (z : Lent). z.number) same in
-      omega (arith, h, e, f)
-  | inr k ↦ rises_apart l before later r.1 x k e
-]
-
--- a number is that of one image
-pub rises_one : (lent : List Lent) (x y : Lent) → Rises lent → In x lent → In y lent → x.number ≡ y.number → x ≡ y
-rises_one [] x y r i j e = absurd i
-rises_one (l ∷ lent) x y r i j e = elim i [
-  | inl f ↦ elim j [
-    | inl g ↦ f ∙ sym g
-    | inr k ↦ absurd (let h = r.0 y k in let m = ap (λ (z : Lent). z.number) f in omega (arith, h, m, e))
-  ]
-  | inr k ↦ elim j [
-    | inl g ↦ absurd (let h = r.0 x k in let m = ap (λ (z : Lent). z.number) g in omega (arith, h, m, e))
-    | inr m ↦ rises_one lent x y r.1 k m e
-  ]
+rises_apart l before later r x i e = elim (in_joined x before later i) [
+  | inl j ↦ let h = less_before x l before later r j in omega (arith, h, e)
+  | inr j ↦ let h = more_later x l before later r j in omega (arith, h, e)
 ]
 
 pub rises_more : (lent : List Lent) (l : Lent) → Rises lent → ((x : Lent) → In x lent → x.number < l.number) → Rises (lent ++ l ∷ [])

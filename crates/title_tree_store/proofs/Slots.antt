@@ -1,7 +1,7 @@
 -- An image's slot is found by its number.
 use Rattle.std.proofs.Common.{◌≡◌, ◌≢◌, ◌∙◌, ap, sym, refl, subst, ℕ, zero, suc, ◌+◌, ◌<◌, ◌≤◌, arith, inl, inr}
 use Rattle.std.proofs.Common.{List, [], ◌∷◌, ◌++◌, length, length-append, set, get_or, drop, Option, Some, None}
-use Rattle.std.specs.Prelude.{MatchOption}
+use Rattle.std.{specs.Prelude.{MatchOption}, proofs.lemmas.List.{length-set}}
 use Rattle.title_tree.specs.Pieces.{In}
 use Rattle.title_tree_store.specs.{declared.lent.Lent.{Lent}, Slots.{filled, IsNumbered}, Keeping.{IsAbsent, IsTakenOut}}
 
@@ -25,12 +25,7 @@ numbered_empty next zero (None ∷ xs) k = k
 numbered_empty next zero (Some x ∷ xs) k = k.1
 numbered_empty next (suc i) (None ∷ xs) k = numbered_empty next i xs k
 numbered_empty next (suc i) (Some x ∷ xs) k =
-    (ap (λ (n : ℕ). x.number + suc n) (same_length i xs) ∙ k.0, numbered_empty next i xs k.1)
-  where
-    same_length : (i : ℕ) (xs : List (Option Lent)) → length (set xs i None) ≡ length xs
-    same_length i [] = refl
-    same_length zero (x ∷ xs) = refl
-    same_length (suc i) (x ∷ xs) = ap suc (same_length i xs)
+    (ap (λ (n : ℕ). x.number + suc n) (length-set xs i None) ∙ k.0, numbered_empty next i xs k.1)
 
 -- the numbers are below the next, and not so far below it as there are slots
 pub numbered_below : (next : ℕ) (xs : List (Option Lent)) (l : Lent) → IsNumbered next xs → In l (filled xs)

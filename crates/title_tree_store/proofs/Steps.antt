@@ -1,45 +1,39 @@
 -- Steps of the code, and what a put wrote: it is noted for the estates that its instrument names.
-use Rattle.std.proofs.Common.{◌≡◌, ◌∙◌, ap, sym, subst, ℕ, Bool, true, false, cond, List, [], ◌∷◌, ◌++◌, map, Result, Ok, Err, OnOk, OnErr}
-use Rattle.std.proofs.lemmas.List.{map-append}
+use Rattle.std.proofs.Common.{◌≡◌, ◌∙◌, ap, sym, subst, ℕ, false, cond, List, [], ◌∷◌, ◌++◌, map, Result, Ok, Err, OnOk, OnErr}
+use Rattle.std.proofs.lemmas.{List.{map-append}, Bool.{cond_both}}
 use Rattle.title_land.specs.declared.rectangle.Quarter.{Quarter}
 use Rattle.title_instrument.specs.{declared.{parts.Estate.{Estate}, instrument.Instrument.{Instrument}}, Estates.{names}}
 use Rattle.title_instrument.specs.Parties.{estates_of}
-use Rattle.title_tree.specs.{Plots.{Plot, fits}, Pieces.{split_all, Short, Refines, StaysWithin}, Laws.Depths.{split_all_fits}}
+use Rattle.title_tree.specs.{Plots.{Plot, fits}, Pieces.{split_all, Refines, StaysWithin}, Laws.Depths.{split_all_fits}}
 use Rattle.title_tree.specs.Laws.Swaps.{split_all_reaches}
 use Rattle.title_tree_store.specs.{declared.forest.Written.{Written}, Spots.{paths_in}, Forests.{put_ways, named_spots}}
 
--- what was quartered has the same cells and all nodes
-pub split_stays : {A E : Type 0} (r : Result A E) (ps : List (List Quarter)) (t u : Plot) → u ≡ split_all ps t → OnErr r (Refines t u)
-split_stays (Ok x) ps t u e = tt
-split_stays (Err f) ps t u e = subst (Refines t) (sym e) (split_all_reaches ps t).1
+-- what was quartered, whole or in part, has the same cells and all nodes
+pub split_refines : {A E : Type 0} (r : Result A E) (ps : List (List Quarter)) (t u : Plot) → OnOk r (u ≡ split_all ps t)
+    → OnErr r (Refines t u) → Refines t u
+split_refines (Ok x) ps t u ok err = subst (Refines t) (sym ok) (split_all_reaches ps t).1
+split_refines (Err f) ps t u ok err = err
+
+-- and goes no deeper
+pub split_within : {A E : Type 0} (r : Result A E) (ps : List (List Quarter)) (t u : Plot) → OnOk r (u ≡ split_all ps t)
+    → OnErr r (StaysWithin ps t u) → StaysWithin ps t u
+split_within (Ok x) ps t u ok err n s k = ap (fits n) ok ∙ split_all_fits ps t n s k
+split_within (Err f) ps t u ok err n s k = err n s k
 
 -- what holds anyway holds after a refusal
 pub on_err : {A E : Type 0} (r : Result A E) (P : Type 0) → P → OnErr r P
 on_err (Ok x) P p = tt
 on_err (Err f) P p = p
 
--- the paths of an estate, by whether it is named
-pub named_or : (P : List (List Quarter) → Type 0) (i : Instrument ℕ) (e : Estate) (ps : List (List Quarter)) → P ps → P []
-    → P (named_spots i e ps)
-named_or P i e ps whole none = go (names (estates_of i) e)
-  where
-    go : (b : Bool) → P (cond b ps [])
-    go true = whole
-    go false = none
-
-pub named_short : (i : Instrument ℕ) (e : Estate) (ps : List (List Quarter)) (n : ℕ) → Short ps n → Short (named_spots i e ps) n
-named_short i e ps n short = named_or (λ qs. Short qs n) i e ps short (λ p j. absurd j)
-
-pub split_within : {A E : Type 0} (r : Result A E) (i : Instrument ℕ) (e : Estate) (ps : List (List Quarter)) (t u : Plot)
-    → u ≡ split_all (named_spots i e ps) t → OnErr r (StaysWithin ps t u)
-split_within (Ok x) i e ps t u h = tt
-split_within (Err f) i e ps t u h =
-    λ n s k. ap (fits n) h ∙ split_all_fits (named_spots i e ps) t n (named_short i e ps n s) k
-
 -- what holds anyway holds where all went well
 pub on_ok : {A E : Type 0} (r : Result A E) (P : Type 0) → P → OnOk r P
 on_ok (Ok x) P p = p
 on_ok (Err f) P p = tt
+
+-- the paths of an estate, by whether it is named
+pub named_or : (P : List (List Quarter) → Type 0) (i : Instrument ℕ) (e : Estate) (ps : List (List Quarter)) → P ps
+    → (names (estates_of i) e ≡ false → P []) → P (named_spots i e ps)
+named_or P i e ps whole none = cond_both (names (estates_of i) e) ps [] P (λ h. whole) none
 
 pub put_noted : (i : Instrument ℕ) (old between new : List Written) (w : Written) → between ≡ old → new ≡ between ++ w ∷ [] → w.estates
     ≡ estates_of i → (e : Estate) → map (put_ways e) new ≡ map (put_ways e) old ++ named_spots i e (paths_in w.paths) ∷ []

@@ -1,14 +1,15 @@
 -- Which cell refuses an instrument.
-use Rattle.std.specs.Prelude.{◌≡◌, ℕ, Bool, true, not, List, [], filter, Option, Some, None}
+use Rattle.std.specs.Prelude.{◌≡◌, ℕ, Bool, true, not, ◌&&◌, List, [], filter, Option, Some, None}
 use Rattle.title_share.specs.Division.{Division}
-use Rattle.title_land.specs.declared.{survey.{Township.{Township}, Cell.{Cell}}, rectangle.Quarter.{Quarter}, tract.Land.{Land}}
+use Rattle.title_land.specs.declared.{survey.{Township.{Township}, Cell.{Cell}}, rectangle.Quarter.{Quarter}}
 use Rattle.title_land.specs.Lands.{has}
 use Rattle.title_instrument.specs.declared.{parts.{Estate.{Estate, TheVariants.{S, O, M}}, Rule.{Rule}}, instrument.Instrument.{Instrument}}
 use Rattle.title_instrument.specs.{declared.owners.Effect.{Effect, TheVariants.{Done, Refused}}, Effect.{holding_effect, cell_effect}}
 use Rattle.title_instrument.specs.{Estates.{names}, Parties.{estates_of}}
 use Rattle.title_store.specs.Plants.{Failing, first_failing}
-use Rattle.title_tree.specs.{Changes.{why_of}, Plots.{Plot, Same, Four, value_at, plot_at}}
-use Rattle.title_tree_store.specs.{Spots.{cell_path}, Forests.{owners_at}}
+use Rattle.title_tree.specs.{Changes.{why_of}, Plots.{Plot, Same, Four, value_at, plot_at}, Trees.{plot}}
+use Rattle.title_tree_store.specs.declared.refusals.{Search.{Search}, Trees.{Trees}}
+use Rattle.title_tree_store.specs.{Spots.{cell_path}, Forests.{Each, plots, owners_at}}
 
 -- why the instrument is refused by a holding of an estate
 abbrev pub why_holding : Instrument ℕ → Estate → Division → Option Rule
@@ -28,24 +29,36 @@ abbrev pub triple : Option Failing → Option (Rule × Estate × Cell)
 triple None = None
 triple (Some f) = Some (f.rule, f.estate, f.cell)
 
--- the same for those of the cells that a tract has
-abbrev pub first_of : ℕ → List Township → (Estate → Plot) → Instrument ℕ → Land → List Cell → Option (Rule × Estate × Cell)
-first_of levels ts ps i land cells = triple (first_in levels ts ps i (filter (has land) cells))
+-- the same, of a search
+abbrev pub first_for : Search → List Cell → Option (Rule × Estate × Cell)
+first_for x cells = triple (first_in x.levels x.townships.now (plots x.forest.now) x.instrument.now cells)
+
+-- for those of the cells that its tract has
+abbrev pub first_of : Search → List Cell → Option (Rule × Estate × Cell)
+first_of x cells = first_for x (filter (has x.tract.now) cells)
+
+-- the plot of a square in the tree of each estate
+abbrev pub stand : Trees → Estate → Plot
+stand t S = plot t.s.now
+stand t O = plot t.o.now
+stand t M = plot t.m.now
+
+-- these stand at a path
+abbrev pub StandsAt : Search → List Quarter → Trees → Type 0
+StandsAt x path t = Each (λ e. stand t e ≡ plot_at path (plots x.forest.now e))
 
 -- an instrument treats all cells alike: they have one division, or it doesn't name the estate
 abbrev pub is_settled : Instrument ℕ → Estate → Plot → Bool
 is_settled i e (Same held) = true
 is_settled i e (Four a b c d) = not (names (estates_of i) e)
 
--- why the first cell of a square refuses, by what stands there in the tree of each estate
-abbrev pub why_first : Instrument ℕ → Plot → Plot → Plot → Option (Rule × Estate)
-why_first i x y z = why_cell (cell_effect i (record { s = value_at x []; o = value_at y []; m = value_at z [] }))
+-- of each estate
+abbrev pub are_settled : Instrument ℕ → Trees → Bool
+are_settled i t = is_settled i S (stand t S) && is_settled i O (stand t O) && is_settled i M (stand t M)
 
--- what stands at a path, in the tree of each estate
-pub record StandsAt (ps : Estate → Plot) (path : List Quarter) (x y z : Plot) : Type 0 where
-  pub s_is : x ≡ plot_at path (ps S)
-  pub o_is : y ≡ plot_at path (ps O)
-  pub m_is : z ≡ plot_at path (ps M)
+-- why the first cell of a square refuses
+abbrev pub why_first : Instrument ℕ → Trees → Option (Rule × Estate)
+why_first i t = why_cell (cell_effect i (record { s = value_at (stand t S) []; o = value_at (stand t O) []; m = value_at (stand t M) [] }))
 
 -- a rule and an estate with the cell
 abbrev pub refused_at : Option (Rule × Estate) → Option Cell → Option (Rule × Estate × Cell)

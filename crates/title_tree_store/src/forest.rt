@@ -1,12 +1,12 @@
 //! The trees of a plant, one for each estate.
 
-ghost use Rattle.std.specs.Prelude.{◌≡◌, ◌++◌, ◌∷◌, [], ◌&&◌, map, IfOk, OnOk, OnErr, IfErr};
+ghost use Rattle.std.specs.Prelude.{◌≡◌, ◌++◌, ◌∷◌, [], ◌&&◌, map, IfOk, OnOk, IfErr};
 ghost use Rattle.title_share.specs.Division.{all_to};
-ghost use Rattle.title_instrument.specs.{Estates.{names}, Parties.{estates_of}, declared.parts.Estate.TheVariants.{S, O, M}};
+ghost use Rattle.title_instrument.specs.{Estates.{names}, Parties.{estates_of}};
 ghost use Rattle.title_tree.specs.{Pieces.{Disjoint, Ready, Refines, StaysWithin, paths, swapped, taken, split_all}, Trees.{plot}};
 ghost use Rattle.title_tree.specs.Plots.{Same, is_tidy, tidied_all};
-ghost use Rattle.title_tree_store.specs.{Spots.{paths_in}, Forests.{IsChange, IsRefusedIn}};
-ghost use Rattle.title_tree_store.specs.Forests.{parts_in, plots, named_spots, put_ways, written, tidied_written, IsNoted};
+ghost use Rattle.title_tree_store.specs.{Spots.{paths_in}, Forests.{Each, IsChange, IsRefusedIn}};
+ghost use Rattle.title_tree_store.specs.Forests.{parts_in, pieces, plots, named_spots, put_ways, written, tidied_written};
 
 use crate::passing::Passing;
 use crate::spots::Paths;
@@ -117,6 +117,7 @@ fn changed(
 }
 
 // Quarters an estate's tree down to each path, where an instrument names the estate.
+#[tactic(auto, using(crate::proofs::Steps::split_refines, crate::proofs::Steps::split_within))]
 fn split_named(
     tree: &mut Tree,
     alloc: Global,
@@ -125,8 +126,8 @@ fn split_named(
     estate: Estate,
 ) -> Result<(), AllocError>
     ensures ok { OnOk result (plot tree.new ≡ split_all (named_spots instrument.now estate paths.now) (plot tree.old)) }
-    ensures err { OnErr result (Refines (plot tree.old) (plot tree.new)) }
-    ensures err_fits { OnErr result (StaysWithin paths.now (plot tree.old) (plot tree.new)) }
+    ensures refines { Refines (plot tree.old) (plot tree.new) }
+    ensures within { StaysWithin paths.now (plot tree.old) (plot tree.new) }
 {
     if !names(instrument, estate) {
         return Ok(());
@@ -137,9 +138,7 @@ fn split_named(
 impl Forest {
     /// The trees before any instrument.
     pub(crate) fn open(alloc: Global) -> Result<Forest, AllocError>
-        ensures s { IfOk result (λ f. plot f.s ≡ Same (all_to 0)) }
-        ensures o { IfOk result (λ f. plot f.o ≡ Same (all_to 0)) }
-        ensures m { IfOk result (λ f. plot f.m ≡ Same (all_to 0)) }
+        ensures opening { Each (λ e. IfOk result (λ f. plots f e ≡ Same (all_to 0))) }
     {
         let s = opening_tree(alloc)?;
         let o = opening_tree(alloc)?;
@@ -161,15 +160,9 @@ impl Forest {
 
     /// Each part changes places with what stands at its path. Takes no memory.
     pub(crate) fn exchange(&mut self, parts: &mut Subtrees)
-        requires s { Disjoint (paths (parts_in parts.old.s)) × Ready (paths (parts_in parts.old.s)) (plot self.old.s) }
-        requires o { Disjoint (paths (parts_in parts.old.o)) × Ready (paths (parts_in parts.old.o)) (plot self.old.o) }
-        requires m { Disjoint (paths (parts_in parts.old.m)) × Ready (paths (parts_in parts.old.m)) (plot self.old.m) }
-        ensures tree_s { plot self.new.s ≡ swapped (parts_in parts.old.s) (plot self.old.s) }
-        ensures tree_o { plot self.new.o ≡ swapped (parts_in parts.old.o) (plot self.old.o) }
-        ensures tree_m { plot self.new.m ≡ swapped (parts_in parts.old.m) (plot self.old.m) }
-        ensures parts_s { parts_in parts.new.s ≡ taken (parts_in parts.old.s) (plot self.old.s) }
-        ensures parts_o { parts_in parts.new.o ≡ taken (parts_in parts.old.o) (plot self.old.o) }
-        ensures parts_m { parts_in parts.new.m ≡ taken (parts_in parts.old.m) (plot self.old.m) }
+        requires goes { Each (λ e. Disjoint (paths (pieces parts.old e)) × Ready (paths (pieces parts.old e)) (plots self.old e)) }
+        ensures trees { Each (λ e. plots self.new e ≡ swapped (pieces parts.old e) (plots self.old e)) }
+        ensures parts { Each (λ e. pieces parts.new e ≡ taken (pieces parts.old e) (plots self.old e)) }
         ensures written { self.new.written ≡ self.old.written }
     {
         parts.s.exchange(&mut self.s);
@@ -184,9 +177,7 @@ impl Forest {
         paths: &[Path],
         instrument: &Instrument,
     ) -> Result<Subtrees, Fault<Rule>>
-        ensures s { IfOk result (λ x. IsChange instrument.now S paths.now (plot self.now.s) (parts_in x.s)) }
-        ensures o { IfOk result (λ x. IsChange instrument.now O paths.now (plot self.now.o) (parts_in x.o)) }
-        ensures m { IfOk result (λ x. IsChange instrument.now M paths.now (plot self.now.m) (parts_in x.m)) }
+        ensures change { Each (λ e. IfOk result (λ x. IsChange instrument.now e paths.now (plots self.now e) (pieces x e))) }
         ensures why { IfErr result (λ f. (e : Estate) × IsRefusedIn instrument.now e paths.now (plots self.now e) f) }
     {
         let s = changed(alloc, &self.s, paths, instrument, Estate::S)?;
@@ -203,15 +194,10 @@ impl Forest {
         paths: &[Path],
         instrument: &Instrument,
     ) -> Result<(), AllocError>
-        ensures s { OnOk result (plot self.new.s ≡ split_all (named_spots instrument.now S paths.now) (plot self.old.s)) }
-        ensures o { OnOk result (plot self.new.o ≡ split_all (named_spots instrument.now O paths.now) (plot self.old.o)) }
-        ensures m { OnOk result (plot self.new.m ≡ split_all (named_spots instrument.now M paths.now) (plot self.old.m)) }
-        ensures err_s { OnErr result (Refines (plot self.old.s) (plot self.new.s)) }
-        ensures err_o { OnErr result (Refines (plot self.old.o) (plot self.new.o)) }
-        ensures err_m { OnErr result (Refines (plot self.old.m) (plot self.new.m)) }
-        ensures within_s { OnErr result (StaysWithin paths.now (plot self.old.s) (plot self.new.s)) }
-        ensures within_o { OnErr result (StaysWithin paths.now (plot self.old.o) (plot self.new.o)) }
-        ensures within_m { OnErr result (StaysWithin paths.now (plot self.old.m) (plot self.new.m)) }
+        ensures ok { Each (λ e. OnOk result
+            (plots self.new e ≡ split_all (named_spots instrument.now e paths.now) (plots self.old e))) }
+        ensures refines { Each (λ e. Refines (plots self.old e) (plots self.new e)) }
+        ensures within { Each (λ e. StaysWithin paths.now (plots self.old e) (plots self.new e)) }
         ensures written { self.new.written ≡ self.old.written }
     {
         split_named(&mut self.s, alloc, paths, instrument, Estate::S)?;
@@ -227,18 +213,12 @@ impl Forest {
         paths: Paths,
         instrument: &Instrument,
     ) -> Result<(), AllocError>
-        ensures s { OnOk result (plot self.new.s ≡ split_all (named_spots instrument.now S (paths_in paths)) (plot self.old.s)) }
-        ensures o { OnOk result (plot self.new.o ≡ split_all (named_spots instrument.now O (paths_in paths)) (plot self.old.o)) }
-        ensures m { OnOk result (plot self.new.m ≡ split_all (named_spots instrument.now M (paths_in paths)) (plot self.old.m)) }
-        ensures err_s { OnErr result (Refines (plot self.old.s) (plot self.new.s)) }
-        ensures err_o { OnErr result (Refines (plot self.old.o) (plot self.new.o)) }
-        ensures err_m { OnErr result (Refines (plot self.old.m) (plot self.new.m)) }
-        ensures within_s { OnErr result (StaysWithin (paths_in paths) (plot self.old.s) (plot self.new.s)) }
-        ensures within_o { OnErr result (StaysWithin (paths_in paths) (plot self.old.o) (plot self.new.o)) }
-        ensures within_m { OnErr result (StaysWithin (paths_in paths) (plot self.old.m) (plot self.new.m)) }
+        ensures ok { Each (λ e. OnOk result
+            (plots self.new e ≡ split_all (named_spots instrument.now e (paths_in paths)) (plots self.old e))) }
+        ensures refines { Each (λ e. Refines (plots self.old e) (plots self.new e)) }
+        ensures within { Each (λ e. StaysWithin (paths_in paths) (plots self.old e) (plots self.new e)) }
         ensures noted { OnOk result ((e : Estate)
             → written e self.new ≡ written e self.old ++ named_spots instrument.now e (paths_in paths) ∷ []) }
-        ensures err_noted { OnErr result (IsNoted instrument.now (paths_in paths) self.old self.new) }
     {
         self.written.reserve(1)?;
         let estates = instrument.estates();
@@ -257,9 +237,7 @@ impl Forest {
     /// Joins quarters that are leaves of the same holding, below and above each path written since this was last done, in
     /// the trees of the estates that were written. Takes no memory.
     pub(crate) fn tidy(&mut self)
-        ensures s { plot self.new.s ≡ tidied_written (written S self.old) (plot self.old.s) }
-        ensures o { plot self.new.o ≡ tidied_written (written O self.old) (plot self.old.o) }
-        ensures m { plot self.new.m ≡ tidied_written (written M self.old) (plot self.old.m) }
+        ensures tidied { Each (λ e. plots self.new e ≡ tidied_written (written e self.old) (plots self.old e)) }
         ensures written { (e : Estate) → written e self.new ≡ [] }
     {
         tidy_written(&mut self.s, &self.written, Estate::S);

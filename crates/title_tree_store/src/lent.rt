@@ -61,6 +61,7 @@ impl Images {
     }
 
     /// Adds an image with the next number. Takes no memory.
+    #[tactic(auto, using(crate::proofs::Slots::numbered_push, crate::proofs::Slots::filled_push))]
     pub(crate) fn add(&mut self, land: Land, trees: Subtrees) -> u64
         requires room { HasRoom self.old }
         ensures number { result ≡ self.old.next }

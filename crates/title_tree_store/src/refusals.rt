@@ -1,13 +1,14 @@
 //! The first cell of a tract that refuses an instrument.
 
-ghost use Rattle.std.specs.Prelude.{◌≡◌, ◌+◌, ◌∷◌, [], ◌&&◌, ◌||◌, ◌==◌, ◌↔◌, length, find, true};
+ghost use Rattle.std.specs.Prelude.{◌≡◌, ◌+◌, ◌∷◌, [], ◌||◌, ◌==◌, ◌↔◌, length, find, true};
 ghost use Rattle.title_land.specs.{Depth.{depth}, CellLists.{cells_below, section_cells, township_cells, cells_of}};
 ghost use Rattle.title_land.specs.Lands.{has, Meets, land_of, is_in_plant};
 ghost use Rattle.title_land.specs.declared.node.Node.TheVariants as node;
-ghost use Rattle.title_instrument.specs.{Effect.{cell_effect}, declared.parts.Estate.TheVariants.{S, O, M}};
+ghost use Rattle.title_instrument.specs.Effect.{cell_effect};
 ghost use Rattle.title_tree.specs.{Plots.{value_at, plot_at}, Trees.{plot}};
-ghost use Rattle.title_tree_store.specs.{Spots.{township_path, square_path}, Forests.{plots}};
-ghost use Rattle.title_tree_store.specs.Refusing.{why_holding, why_first, is_settled, refused_at, StandsAt, first_in, first_of, triple};
+ghost use Rattle.title_tree_store.specs.{Spots.{township_path, square_path}, Forests.{Each}};
+ghost use Rattle.title_tree_store.specs.Refusing.{why_holding, why_first, is_settled, are_settled, refused_at};
+ghost use Rattle.title_tree_store.specs.Refusing.{stand, StandsAt, first_for, first_of};
 
 use crate::forest::{Forest, names};
 use crate::spots::SECTION_LEVELS;
@@ -32,10 +33,7 @@ fn why_holding(tree: &Tree, instrument: &Instrument, estate: Estate) -> Option<R
     ensures why { result ≡ why_holding instrument.now estate (value_at (plot tree.now) []) }
 {
     let units = tree.first_holding().units(instrument.grantor());
-    match instrument.passes(estate, units) {
-        Ok(_) => None,
-        Err(rule) => Some(rule),
-    }
+    instrument.passes(estate, units).err()
 }
 
 // What stands in one square, of each estate's tree.
@@ -49,9 +47,7 @@ struct Trees<'a> {
 impl<'a> Trees<'a> {
     // What stands in a quarter of the square.
     fn quarter(&self, which: Quarter) -> Trees<'a>
-        ensures s { plot result.s.now ≡ plot_at (which ∷ []) (plot self.now.s.now) }
-        ensures o { plot result.o.now ≡ plot_at (which ∷ []) (plot self.now.o.now) }
-        ensures m { plot result.m.now ≡ plot_at (which ∷ []) (plot self.now.m.now) }
+        ensures quarters { Each (λ e. stand result e ≡ plot_at (which ∷ []) (stand self.now e)) }
     {
         Trees {
             s: self.s.quarter(which),
@@ -62,8 +58,7 @@ impl<'a> Trees<'a> {
 
     // Whether an instrument treats all cells of the square alike, which has so many levels below it.
     fn are_alike(&self, instrument: &Instrument, below: u8) -> bool
-        ensures alike { result ≡ (below == 0 || (is_settled instrument.now S (plot self.now.s.now)
-            && is_settled instrument.now O (plot self.now.o.now) && is_settled instrument.now M (plot self.now.m.now))) }
+        ensures alike { result ≡ (below == 0 || are_settled instrument.now self.now) }
     {
         below == 0
             || (is_settled(self.s, instrument, Estate::S)
@@ -74,7 +69,7 @@ impl<'a> Trees<'a> {
     // Why the square's first cell refuses an instrument: the rule and the first estate.
     #[tactic(auto, unfolding(title_instrument::specs::Effect::cell_effect))]
     fn why(&self, instrument: &Instrument) -> Option<(Rule, Estate)>
-        ensures why { result ≡ why_first instrument.now (plot self.now.s.now) (plot self.now.o.now) (plot self.now.m.now) }
+        ensures why { result ≡ why_first instrument.now self.now }
     {
         if let Some(rule) = why_holding(self.s, instrument, Estate::S) {
             return Some((rule, Estate::S));
@@ -103,8 +98,7 @@ pub(crate) struct Search<'a> {
 impl<'a> Search<'a> {
     // What stands in a township.
     fn township_trees(&self, township: Township) -> Trees<'a>
-        ensures stands { StandsAt (plots self.now.forest.now) (township_path self.now.levels self.now.townships.now township)
-            (plot result.s.now) (plot result.o.now) (plot result.m.now) }
+        ensures stands { StandsAt self.now (township_path self.now.levels self.now.townships.now township) result }
     {
         let (levels, townships) = (self.levels, self.townships);
         Trees {
@@ -133,10 +127,7 @@ impl<'a> Search<'a> {
                 row: corner.top,
                 column: corner.left,
             };
-            if !self.tract.has_cell(cell) {
-                return None;
-            }
-            return Some(cell);
+            return self.tract.has_cell(cell).then_some(cell);
         }
         if !self.meets(section, within) {
             return None;
@@ -159,8 +150,8 @@ impl<'a> Search<'a> {
         within: Within,
     ) -> Option<(Rule, Estate, Cell)>
         requires below { below + length within ≡ depth }
-        ensures first { result ≡ refused_at (why_first self.now.instrument.now (plot trees.now.s.now) (plot trees.now.o.now)
-            (plot trees.now.m.now)) (find (has self.now.tract.now) (cells_below depth section below within)) }
+        ensures first { result ≡ refused_at (why_first self.now.instrument.now trees.now)
+            (find (has self.now.tract.now) (cells_below depth section below within)) }
     {
         let (rule, estate) = trees.why(self.instrument)?;
         let cell = self.first_cell(section, below, within)?;
@@ -176,10 +167,8 @@ impl<'a> Search<'a> {
         within: Within,
     ) -> Option<(Rule, Estate, Cell)>
         requires below { below + length within ≡ depth }
-        requires here { StandsAt (plots self.now.forest.now) (square_path self.now.levels self.now.townships.now section within)
-            (plot trees.now.s.now) (plot trees.now.o.now) (plot trees.now.m.now) }
-        ensures first { result ≡ first_of self.now.levels self.now.townships.now (plots self.now.forest.now) self.now.instrument.now
-            self.now.tract.now (cells_below depth section below within) }
+        requires here { StandsAt self.now (square_path self.now.levels self.now.townships.now section within) trees.now }
+        ensures first { result ≡ first_of self.now (cells_below depth section below within) }
     {
         if !self.meets(section, within) {
             return None;
@@ -208,10 +197,8 @@ impl<'a> Search<'a> {
         township: &Trees<'a>,
         section: Section,
     ) -> Option<(Rule, Estate, Cell)>
-        requires here { StandsAt (plots self.now.forest.now) (township_path self.now.levels self.now.townships.now section.township)
-            (plot township.now.s.now) (plot township.now.o.now) (plot township.now.m.now) }
-        ensures first { result ≡ first_of self.now.levels self.now.townships.now (plots self.now.forest.now) self.now.instrument.now
-            self.now.tract.now (section_cells depth section) }
+        requires here { StandsAt self.now (township_path self.now.levels self.now.townships.now section.township) township.now }
+        ensures first { result ≡ first_of self.now (section_cells depth section) }
     {
         let number = usize::from(section.number - 1);
         let trees = Trees {
@@ -224,8 +211,7 @@ impl<'a> Search<'a> {
 
     // The first cell that refuses of a township, section by section.
     fn first_in_township(&self, township: Township) -> Option<(Rule, Estate, Cell)>
-        ensures first { result ≡ first_of self.now.levels self.now.townships.now (plots self.now.forest.now) self.now.instrument.now
-            self.now.tract.now (township_cells depth township) }
+        ensures first { result ≡ first_of self.now (township_cells depth township) }
     {
         let trees = self.township_trees(township);
         for section in township.sections() {
@@ -239,8 +225,7 @@ impl<'a> Search<'a> {
 
     // The first cell that refuses of the plant, township by township.
     fn first_in_plant(&self) -> Option<(Rule, Estate, Cell)>
-        ensures first { result ≡ triple (first_in self.now.levels self.now.townships.now (plots self.now.forest.now)
-            self.now.instrument.now (cells_of depth self.now.townships.now self.now.tract.now)) }
+        ensures first { result ≡ first_for self.now (cells_of depth self.now.townships.now self.now.tract.now) }
     {
         let list = self.townships.list();
         for township in list {
@@ -254,10 +239,10 @@ impl<'a> Search<'a> {
 
     /// The first cell of the tract that refuses the instrument, with the rule and the estate. Nothing is looked at in another
     /// township or section than the tract's.
+    #[tactic(auto, using(crate::proofs::Firsts::township_found, crate::proofs::Firsts::part_found))]
     pub(crate) fn first(&self) -> Option<(Rule, Estate, Cell)>
         requires within { is_in_plant self.now.townships.now self.now.tract.now ≡ true }
-        ensures first { result ≡ triple (first_in self.now.levels self.now.townships.now (plots self.now.forest.now)
-            self.now.instrument.now (cells_of depth self.now.townships.now self.now.tract.now)) }
+        ensures first { result ≡ first_for self.now (cells_of depth self.now.townships.now self.now.tract.now) }
     {
         match self.tract.land() {
             Land::Everything => self.first_in_plant(),

@@ -25,11 +25,7 @@ fn township_holding(tree: &Tree) -> Option<&Holding>
     let held = tree.quarter(Quarter::Northeast).uniform()?;
     let second = tree.quarter(Quarter::Northwest).uniform()?;
     let third = numbered(tree, 2, 8).uniform()?;
-    if is_same(second, third) && is_same(held, second) {
-        Some(held)
-    } else {
-        None
-    }
+    (is_same(second, third) && is_same(held, second)).then_some(held)
 }
 
 // The one holding of the plant's cells, where they have one.
@@ -84,11 +80,7 @@ fn agreed<'a>(
     let second = second?;
     let third = third?;
     let fourth = fourth?;
-    if is_same(held, second) && is_same(held, third) && is_same(held, fourth) {
-        Some(held)
-    } else {
-        None
-    }
+    (is_same(held, second) && is_same(held, third) && is_same(held, fourth)).then_some(held)
 }
 
 // Adds the rows of the one holding of a square that is a cell or a leaf, where it has one, and gives it.

@@ -1,6 +1,6 @@
 //! Where nodes and cells lie in a tree of the plant.
 
-ghost use Rattle.std.specs.{Prelude.{◌≡◌, ◌++◌, ◌∷◌, [], OnOk, IfOk}, List.{flat_map}};
+ghost use Rattle.std.specs.Prelude.{◌≡◌, ◌++◌, ◌∷◌, [], OnOk, IfOk};
 ghost use Rattle.title_tree_store.specs.Spots.{township_path, square_path, township_spots, spots, tract_spots, paths_in};
 
 use crate::townships::Townships;
@@ -57,6 +57,7 @@ impl Paths {
 }
 
 // The path of a square of a section.
+#[tactic(auto, using(crate::proofs::Squares::square_from_inside))]
 fn square_path(
     levels: usize,
     townships: &Townships,
@@ -105,24 +106,6 @@ fn add_township(
     add_block(alloc, levels, townships, township, third, paths)
 }
 
-// Adds the paths of all townships of the second list.
-fn add_townships(
-    alloc: Global,
-    levels: usize,
-    townships: &Townships,
-    some: &[Township],
-    paths: &mut Paths,
-) -> Result<(), AllocError>
-    ensures paths { OnOk result (paths_in paths.new
-        ≡ paths_in paths.old ++ flat_map (township_spots levels townships.now) some.now) }
-{
-    let Some((first, rest)) = some.split_first() else {
-        return Ok(());
-    };
-    add_township(alloc, levels, townships, *first, paths)?;
-    add_townships(alloc, levels, townships, rest, paths)
-}
-
 /// Adds the paths of the tree's nodes that together have a node's cells.
 pub(crate) fn add_spots(
     alloc: Global,
@@ -134,30 +117,19 @@ pub(crate) fn add_spots(
     ensures paths { OnOk result (paths_in paths.new ≡ paths_in paths.old ++ spots levels townships.now node) }
 {
     match node {
-        Node::Everything => add_townships(alloc, levels, townships, townships.list(), paths),
+        Node::Everything => {
+            let list = townships.list();
+            for township in list {
+                add_township(alloc, levels, townships, *township, paths)?;
+            }
+            Ok(())
+        }
         Node::Township(township) => add_township(alloc, levels, townships, township, paths),
         Node::Part(section, within) => {
             let path = square_path(levels, townships, section, within)?;
             paths.add(alloc, path)
         }
     }
-}
-
-// Adds the paths of some nodes.
-fn add_all(
-    alloc: Global,
-    levels: usize,
-    townships: &Townships,
-    nodes: &[Node],
-    paths: &mut Paths,
-) -> Result<(), AllocError>
-    ensures paths { OnOk result (paths_in paths.new ≡ paths_in paths.old ++ flat_map (spots levels townships.now) nodes.now) }
-{
-    let Some((first, rest)) = nodes.split_first() else {
-        return Ok(());
-    };
-    add_spots(alloc, levels, townships, *first, paths)?;
-    add_all(alloc, levels, townships, rest, paths)
 }
 
 /// The paths of the tree's nodes that together have a tract's cells.
@@ -170,6 +142,9 @@ pub(crate) fn tract_spots(
     ensures paths { IfOk result (λ paths. paths_in paths ≡ tract_spots levels townships.now tract.now) }
 {
     let mut paths = Paths::Nothing;
-    add_all(alloc, levels, townships, tract.cover(), &mut paths)?;
+    let cover = tract.cover();
+    for node in cover {
+        add_spots(alloc, levels, townships, *node, &mut paths)?;
+    }
     Ok(paths)
 }

@@ -1,8 +1,7 @@
 //! The plant as trees of quarters, one for each estate.
 
 ghost use Rattle.std.specs.Prelude.{◌≡◌, ◌≤◌, ◌^◌};
-ghost use Rattle.title_land.specs.Depth.{depth};
-ghost use Rattle.title_store.specs.Plants.{IsEachOnce, node_of};
+ghost use Rattle.title_store.specs.Plants.{IsEachOnce};
 ghost use Rattle.title_tree_store.specs.{Forests.{plots}, Keeping.{content_of, loans_of, IsKept}, Out.{images}};
 ghost use Rattle.title_tree_store.specs.Propositions.{once_prop, kept_prop};
 
@@ -15,7 +14,7 @@ use crate::townships::Townships;
 use crate::walks::section_tree;
 use std::alloc::{AllocError, Global};
 use title_instrument::{Estate, Instrument};
-use title_land::{Cell, Node, Section, Township, Tract};
+use title_land::{Node, Section, Township, Tract};
 use title_store::{Put, SheetRow, Store};
 use title_tree::Fault;
 
@@ -48,13 +47,6 @@ fn levels_for(count: usize) -> usize
         return 0;
     }
     levels_for(count / 4 + 1) + 1
-}
-
-// The node of a tract's cover in which a cell lies; the whole plant where it lies in none.
-fn node_of(tract: &Tract, cell: Cell) -> Node
-    ensures node { result ≡ node_of depth tract.now cell }
-{
-    tract.node_of(cell).unwrap_or(Node::Everything)
 }
 
 impl TreeStore {
@@ -114,7 +106,8 @@ impl Store for TreeStore {
                 let Some((rule, estate, cell)) = search.first() else {
                     unreachable!()
                 };
-                Ok(Put::Refused(rule, estate, node_of(tract, cell)))
+                let node = tract.node_of(cell).unwrap_or(Node::Everything);
+                Ok(Put::Refused(rule, estate, node))
             }
         }
     }

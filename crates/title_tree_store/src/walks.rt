@@ -34,6 +34,7 @@ pub(crate) fn township_tree<'a>(
 }
 
 /// What stands in a section.
+#[tactic(auto, using(crate::proofs::Standing::join_down))]
 pub(crate) fn section_tree<'a>(
     tree: &'a Tree,
     levels: usize,

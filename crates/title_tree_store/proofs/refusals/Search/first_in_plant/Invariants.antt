@@ -1,12 +1,10 @@
 -- The first cell that refuses is among those of the townships that are left.
 use Rattle.std.{proofs.Common.{◌≡◌, drop}, specs.List.{flat_map}}
 use Rattle.title_land.specs.{Depth.{depth}, CellLists.{township_cells}}
-use Rattle.title_tree_store.specs.{Forests.{plots}, Refusing.{first_of}}
+use Rattle.title_tree_store.specs.Refusing.{first_of}
 use Rattle.title_tree_store.proofs.refusals.Search.first_in_plant.Given as goal
 
 abbrev pub invariant-loop-township : goal.invariant-loop-township
 invariant-loop-township l =
-    first_of l.self.levels l.self.townships.now (plots l.self.forest.now) l.self.instrument.now l.self.tract.now
-    (flat_map (township_cells depth) l.self.townships.now)
-    ≡ first_of l.self.levels l.self.townships.now (plots l.self.forest.now) l.self.instrument.now l.self.tract.now
-    (flat_map (township_cells depth) (drop l.township-index l.list))
+    first_of l.self (flat_map (township_cells depth) l.self.townships.now)
+    ≡ first_of l.self (flat_map (township_cells depth) (drop l.township-index l.list))

@@ -1,7 +1,7 @@
 -- What is read off the estate's tree is that part of the tract's sheet.
 use Rattle.std.{proofs.Common.{◌+◌, ◌++◌, ◌∙◌}, specs.List.{flat_map}}
 use Rattle.title_land.specs.{Depth.{depth}, Lands.{cover_of}}
-use Rattle.title_tree_store.{specs.{Forests.{plots}, TreeSheets.{tree_sheet}}, proofs.Holdings.{part_is}}
+use Rattle.title_tree_store.{specs.TreeSheets.{tree_sheet}, proofs.Holdings.{part_is}}
 use Rattle.title_tree_store.proofs.tree_store.TreeStoreStore.part.Goals as goal
 
 pub returns : goal.returns
@@ -12,6 +12,5 @@ returns c =
           ∙ (λ i. c.new-rows.ensures.items i ++ flat_map
           (tree_sheet (depth + 2) store.levels store.townships (c.of-tree.ensures.of i) c.args.estate)
           (cover_of depth c.args.tract.now))
-          ∙ part_is store.levels store.townships (plots store.forest) c.args.tract.now c.args.estate store.kept.room
-          (store.kept.fit c.args.estate) c.requires.within;
+          ∙ part_is store.kept c.args.tract.now c.args.estate c.requires.within;
     }

@@ -12,6 +12,5 @@ returns c =
       sheet = c.loop-estate.invariant ∙ ap (flat_map
           (λ e. flat_map (tree_sheet (depth + 2) c.args.self.now.levels c.args.self.now.townships (plots c.args.self.now.forest e) e)
           (cover_of depth c.args.tract.now))) (take_all c.loop-estate.estate-index estates high)
-          ∙ sheet_is c.args.self.now.levels c.args.self.now.townships (plots c.args.self.now.forest) c.args.tract.now
-          c.args.self.now.kept.room c.args.self.now.kept.fit c.requires.within;
+          ∙ sheet_is c.args.self.now.kept c.args.tract.now c.requires.within;
     }

@@ -1,23 +1,19 @@
 -- Where no image is out the trees may be joined.
-use Rattle.std.proofs.Common.{◌≡◌, ap}
-use Rattle.title_tree_store.{specs.{Keeping.{loans_of}, Forests.{plots, written, tidied_written}, Out.{images}}, proofs.Operations.{tidies}}
-use Rattle.title_tree_store.proofs.Keeps.{each, no_loans, kept_tidied}
+use Rattle.std.proofs.Common.{ap}
+use Rattle.title_tree_store.specs.{Keeping.{loans_of}, Forests.{plots, written}, Out.{images}}
+use Rattle.title_tree_store.proofs.{Contents.{each}, Keeps.{no_loans, kept_tidied}, Operations.{tidies}}
 use Rattle.title_tree_store.proofs.tree_store.TreeStoreStore.tidy.Goals as goal
 
 pub invariant_of-self : goal.invariant_of-self
 invariant_of-self c = record {
   once = c.args.self.now.once;
-  kept = kept_tidied _ _ _ _ (λ e. written e c.args.self.now.forest) _ _ c.requires.none
-      (each (λ e. plots c.tidy.new.self e ≡ tidied_written (written e c.args.self.now.forest) (plots c.args.self.now.forest e))
-      c.tidy.ensures.s c.tidy.ensures.o c.tidy.ensures.m) c.args.self.now.kept;
+  kept = kept_tidied (λ e. written e c.args.self.now.forest) c.requires.none (each c.tidy.ensures.tidied) c.args.self.now.kept;
 }
 
 pub returns-clause-content : goal.returns-clause-content
 returns-clause-content c x =
     tidies c.args.self.now.levels c.args.self.now.townships (plots c.args.self.now.forest) (plots c.tidy.new.self)
-    (λ e. written e c.args.self.now.forest)
-    (each (λ e. plots c.tidy.new.self e ≡ tidied_written (written e c.args.self.now.forest) (plots c.args.self.now.forest e))
-    c.tidy.ensures.s c.tidy.ensures.o c.tidy.ensures.m) x
+    (λ e. written e c.args.self.now.forest) (each c.tidy.ensures.tidied) x
 
 pub returns-clause-out : goal.returns-clause-out
 returns-clause-out c = ap (loans_of c.args.self.now.levels c.args.self.now.townships (plots c.tidy.new.self))
