@@ -8,4 +8,3 @@ pub mod Ends
 pub mod Crossing
 pub mod Faults
 mod Fronts
-mod Denials

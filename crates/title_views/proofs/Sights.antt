@@ -1,7 +1,7 @@
 -- What a viewer has seen.
 use Rattle.std.proofs.Common.{◌≡◌, ◌⊎◌, ⊎_elim, ℕ, ◌≤◌, ◌<◌, Bool, true, false, List, length, take, drop, ap, ◌∙◌, sym, subst}
-use Rattle.std.{proofs.{Common.{arith, length-append}, lemmas.{Bool.Decides.{nat_tests}, List.{take-append-drop}}}, specs.Prelude.{nat_lt}}
-use Rattle.std.proofs.Math.Seq.{take-length}
+use Rattle.std.proofs.{Common.{arith, length-append}, lemmas.{Bool.Decides.{nat_tests}, List.{take-append-drop}}, Math.Seq.{take-length}}
+use Rattle.std.specs.Prelude.{nat_lt, if◌then◌else◌}
 use mathlib.Core.List.{IsPrefix}
 use Rattle.title_chain.specs.declared.record.Record.{Record}
 use Rattle.title_ledger.specs.Laws.Beginnings.{prefix_trans, prefix_whole}
