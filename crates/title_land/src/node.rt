@@ -2,7 +2,7 @@
 
 ghost use Rattle.std.specs.{Prelude.{◌≡◌, ◌↔◌, ◌≤◌, ◌<◌, ◌∷◌, [], length, nat_le, Some, MatchOption, true}, Fmt.{WritesOnOk}};
 ghost use Rattle.title_land.specs.{Depth.{depth}, declared.node.Node.TheVariants.{Part}, Lands.{home_of, land_of}, Paths.{path_number}};
-ghost use Rattle.title_land.specs.{Nodes.{parent_of, IsNode}, Texts.{path_text, quarters_text, node_text}};
+ghost use Rattle.title_land.specs.{Nodes.{same_path, same_node, parent_of, IsNode}, Texts.{path_text, quarters_text, node_text}};
 
 use crate::rectangle::{DEPTH, Quarter};
 use crate::survey::{Section, Township};
@@ -68,6 +68,7 @@ impl Within {
     /// Whether it is this square.
     pub fn is(self, other: Within) -> bool
         ensures same { (result ≡ true) ↔ (self ≡ other) }
+        ensures told { result ≡ same_path self other }
     {
         self == other
     }
@@ -123,8 +124,10 @@ impl Section {
 
 impl Node {
     /// Whether both are one. Of two squares the quarters are compared first: these differ more often.
+    #[inline]
     pub fn is(&self, other: &Node) -> bool
         ensures same { (result ≡ true) ↔ (self.now ≡ other.now) }
+        ensures told { result ≡ same_node self.now other.now }
     {
         match (self, other) {
             (Node::Everything, Node::Everything) => true,

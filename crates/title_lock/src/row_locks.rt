@@ -1,7 +1,7 @@
 //! Locks as a plain list of entries.
 
 ghost use Rattle.std.specs.Prelude.{◌≡◌, ◌&&◌, ◌==◌, if◌then◌else◌, Some, None, List, reverse, filter, not, OnOk};
-ghost use Rattle.title_land.specs.{Depth.{depth}, Nodes.{same_node, is_above}, Lands.{cover_of}};
+ghost use Rattle.title_land.specs.{Depth.{depth}, Nodes.{is_above}, Lands.{cover_of}};
 ghost use Rattle.title_lock.specs.{declared.guards.Entry.{Entry}, Overlaps.{is_post, overlap, Stands, IsLeast}, Standing.{StandFree}};
 ghost use Rattle.title_lock.specs.Asking.{asked_for, asked, mode_at, AllGranted, AreSized};
 
@@ -72,20 +72,13 @@ fn way(rows: &[Entry], examiner: u32, tract: &Tract, access: Access) -> Option<u
     way
 }
 
-// Whether the nodes are one.
-fn is_same(node: &Node, other: &Node) -> bool
-    ensures same { result ≡ same_node node.now other.now }
-{
-    other.cmp(node).is_eq()
-}
-
 // Whether a node lies above another.
 fn is_above(node: &Node, other: &Node) -> bool
     ensures above { result ≡ is_above node.now other.now }
 {
     match other.parent() {
         None => false,
-        Some(parent) => is_same(node, &parent) || is_above(node, &parent),
+        Some(parent) => node.is(&parent) || is_above(node, &parent),
     }
 }
 
@@ -94,7 +87,7 @@ fn asked_for(access: Access, member: &Node, node: &Node) -> Option<Mode>
     ensures asked { result ≡ asked_for (is_post access) member.now node.now }
 {
     let is_post = is_post(access);
-    if is_same(node, member) {
+    if node.is(member) {
         Some(if is_post { Mode::X } else { Mode::S })
     } else if is_above(node, member) {
         Some(if is_post { Mode::Ix } else { Mode::Is })

@@ -7,7 +7,8 @@ use std::fmt::Write;
 use std::process::Abort;
 use title_land::{
     Cell, Grid, Half, Land, Node, Quarter, Rectangle, Section, Township, Tract, Within, cells_of,
-    children_of, node_cells, number_above,
+    children_of, is_square_number, node_cells, number_above, section_of_square,
+    township_of_section,
 };
 
 const NORTHEAST: Quarter = Quarter::Northeast;
@@ -73,6 +74,39 @@ fn a_node_has_a_number(rt: HostRuntime) {
     ];
     assert_numbers(&rt, &rows);
     assert_above(&rt, &ABOVE);
+}
+
+/// The same square's number is 6 · 4,194,304 + 114,949, and its section's 114,944 + 5.
+#[test]
+fn a_number_tells_where_a_square_lies(rt: HostRuntime) {
+    let (section, township) = (section_of_square(25_280_773), township_of_section(114_949));
+    must(&rt, section == 114_949, "the square's section");
+    must(&rt, township == 114_944, "the section's township");
+    must(&rt, is_square_number(4_309_253), "a section is a square");
+    must(&rt, !is_square_number(114_944), "a township isn't");
+}
+
+/// Whether a node is each of these, and so its land.
+fn assert_is(rt: &impl Abort, node: Node, others: &[(Node, bool)]) {
+    for (other, wanted) in others {
+        must(rt, node.is(other) == *wanted, "nodes that are one");
+        let land = Land::of(node).is(&Land::of(*other));
+        must(rt, land == *wanted, "lands that are one");
+    }
+}
+
+#[test]
+fn nodes_are_one_in_all_their_parts(rt: HostRuntime) {
+    let others = [
+        (Node::Everything, false),
+        (Node::Township(township(&rt, 3)), false),
+        (square(&rt, 5, &[]), false),
+        (square(&rt, 5, &[NORTHEAST]), true),
+        (square(&rt, 5, &[SOUTHWEST]), false),
+        (square(&rt, 5, &[NORTHEAST, NORTHEAST]), false),
+        (square(&rt, 6, &[NORTHEAST]), false),
+    ];
+    assert_is(&rt, square(&rt, 5, &[NORTHEAST]), &others);
 }
 
 fn add_above(lines: &mut String, cell: Node) -> Result<(), AllocError> {

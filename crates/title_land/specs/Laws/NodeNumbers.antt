@@ -4,9 +4,9 @@ use Rattle.std.{proofs.Common.{List, [], ◌∷◌, Option, Some, unwrap_or, inl
 use Rattle.std.proofs.lemmas.Bool.{and_from, or_cases, eqb-true, eq-eqb, leb-true, le-leb, false_from_ne_true, true≢false}
 use Rattle.std.{proofs.lemmas.Map.Lookups.{exact_unsigned}, specs.{Cmp.{tied_itself, nat_cmp_total}, BTreeMap.{is_at}}}
 use Rattle.title_land.specs.declared.{survey.{Township.{Township}, Section.{Section}}, rectangle.Quarter.{Quarter}, node.Node.{Node}}
-use Rattle.title_land.specs.{Survey.{same_flag, same_township, same_section}, Nodes.{same_node, is_square, parent_of, above, is_above}}
+use Rattle.title_land.specs.{Survey.{same_flag, same_township, same_section}, Nodes.{same_path, same_node, is_square, parent_of, above, is_above}}
 use Rattle.title_land.specs.Laws.{PathNumbers.{quarter_below, path_positive, path_number-is}, Keys.{found_at}, CoverSet.{above_by_parent}}
-use Rattle.title_land.specs.{Laws.SameNode.{same_node-is, same_node-self, same_path-self}, Paths.{path_number, quarter_number}}
+use Rattle.title_land.specs.{Laws.SameNode.{same_node-is, same_node-self, same_path-is, same_path-self}, Paths.{path_number, quarter_number}}
 use Rattle.title_land.specs.NodeNumbers.{township_step, square_step, flag_number, township_number, section_number, node_number}
 use Rattle.title_land.specs.NodeNumbers.{number_above, NumbersTellNodes, NumbersGoUp}
 use Rattle.title_land.specs.declared.node.Node.TheVariants as node
@@ -68,6 +68,19 @@ section_is s u e =
     let parts = number_parts (township_number s.township) (township_number u.township) s.number u.number (number_below s)
     (number_below u) e in
     and_from _ _ (township_is s.township u.township parts.0) (eq-eqb s.number u.number parts.1)
+
+-- ---- paths
+
+-- numbers are one exactly where paths are
+pub path_number_at : (p q : List Quarter) → eqb (path_number p) (path_number q) ≡ same_path p q
+path_number_at p q = go (same_path p q) refl
+  where
+    one : eqb (path_number p) (path_number q) ≡ true → same_path p q ≡ true
+    one h = ap (same_path p) (sym (path_number-is p q (eqb-true (path_number p) (path_number q) h))) ∙ same_path-self p
+
+    go : (t : Bool) → same_path p q ≡ t → eqb (path_number p) (path_number q) ≡ t
+    go true e = eq-eqb (path_number p) (path_number q) (ap path_number (same_path-is p q e))
+    go false e = false_from_ne_true _ (λ h. true≢false (sym (one h) ∙ e))
 
 -- ---- nodes
 
