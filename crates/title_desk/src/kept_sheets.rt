@@ -208,6 +208,7 @@ impl Home {
         ensures kept { (townships : List Township) (content : Content) (number : ℕ)
             → AllKept townships content number (all_kept self.old) → IsKept townships content number (OfSheet shown)
             → AllKept townships content number (all_kept self.new) }
+        ensures quarters { self.new.quarters.items ≡ self.old.quarters.items }
     {
         if whole_section(&shown.tract).is_some() {
             self.is_long = shown.rows.len() >= LONG;
@@ -229,6 +230,7 @@ impl Home {
         ensures kept { (townships : List Township) (content : Content) (number : ℕ)
             → AllKept townships content number (all_kept self.old) → IsKept townships content number (OfQuarter quartered)
             → AllKept townships content number (all_kept self.new) }
+        ensures shown { self.new.shown.items ≡ self.old.shown.items }
     {
         if self.quarters.len() < MOST_PARTS {
             let _ = self.quarters.push(quartered);

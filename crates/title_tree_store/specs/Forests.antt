@@ -1,5 +1,5 @@
 -- The trees of a plant as plots, by estate.
-use Rattle.std.specs.Prelude.{◌≡◌, ℕ, List, [], ◌∷◌, cond, None, map}
+use Rattle.std.specs.Prelude.{◌≡◌, ℕ, List, [], ◌∷◌, ◌++◌, ◌⊎◌, cond, None, map}
 use Rattle.title_land.specs.declared.rectangle.Quarter.{Quarter}
 use Rattle.title_instrument.specs.declared.{parts.{Estate.{Estate, TheVariants.{S, O, M}}, Rule.{Rule}}, instrument.Instrument.{Instrument}}
 use Rattle.title_instrument.specs.{declared.owners.Owners.{Owners}, Effect.{holding_effect}, Estates.{names}, Parties.{estates_of}}
@@ -51,6 +51,11 @@ owners_at ps c = record { s = value_at (ps S) c; o = value_at (ps O) c; m = valu
 -- the paths, where the instrument names the estate
 abbrev pub named_spots : Instrument ℕ → Estate → List (List Quarter) → List (List Quarter)
 named_spots i e ps = cond (names (estates_of i) e) ps []
+
+-- the paths are kept as those of the last put, for the estates that the instrument names, or no tree changed
+abbrev pub IsNoted : Instrument ℕ → List (List Quarter) → Forest → Forest → Type 0
+IsNoted i ps old new =
+    ((e : Estate) → written e new ≡ written e old ++ named_spots i e ps ∷ []) ⊎ ((e : Estate) → plots new e ≡ plots old e)
 
 -- no leaf at the paths refuses the instrument, where it names the estate, and these are the parts after it
 abbrev pub IsChange : Instrument ℕ → Estate → List (List Quarter) → Plot → List Piece → Type 0

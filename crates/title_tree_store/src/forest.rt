@@ -1,12 +1,12 @@
 //! The trees of a plant, one for each estate.
 
-ghost use Rattle.std.specs.Prelude.{◌≡◌, ◌++◌, ◌∷◌, [], ◌&&◌, map, IfOk, OnOk, IfErr};
+ghost use Rattle.std.specs.Prelude.{◌≡◌, ◌++◌, ◌∷◌, [], ◌&&◌, map, IfOk, OnOk, OnErr, IfErr};
 ghost use Rattle.title_share.specs.Division.{all_to};
 ghost use Rattle.title_instrument.specs.{Estates.{names}, Parties.{estates_of}};
 ghost use Rattle.title_tree.specs.{Pieces.{Disjoint, Ready, Refines, StaysWithin, paths, swapped, taken, split_all}, Trees.{plot}};
 ghost use Rattle.title_tree.specs.Plots.{Same, is_tidy, tidied_all};
 ghost use Rattle.title_tree_store.specs.{Spots.{paths_in}, Forests.{Each, IsChange, IsRefusedIn}};
-ghost use Rattle.title_tree_store.specs.Forests.{parts_in, pieces, plots, named_spots, put_ways, written, tidied_written};
+ghost use Rattle.title_tree_store.specs.Forests.{parts_in, pieces, plots, named_spots, put_ways, written, tidied_written, IsNoted};
 
 use crate::passing::Passing;
 use crate::spots::Paths;
@@ -219,6 +219,7 @@ impl Forest {
         ensures within { Each (λ e. StaysWithin (paths_in paths) (plots self.old e) (plots self.new e)) }
         ensures noted { OnOk result ((e : Estate)
             → written e self.new ≡ written e self.old ++ named_spots instrument.now e (paths_in paths) ∷ []) }
+        ensures err_noted { OnErr result (IsNoted instrument.now (paths_in paths) self.old self.new) }
     {
         self.written.reserve(1)?;
         let estates = instrument.estates();
