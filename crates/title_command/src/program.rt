@@ -418,15 +418,10 @@ fn office_command<'a>(alloc: Global) -> Result<Command<'a>, AllocError>
     ensures app { IfOk result (λ c. app_of c ≡ record { top = office; subs = [] }) }
     ensures local { IfOk result (λ c. (out-Command c).has_globals ≡ false) }
 {
-    let examiners = number_option(alloc, EXAMINERS);
-    let tries = number_option(alloc, TRIES);
-    let plant = plant_option(alloc);
-    let after = after_option(alloc);
-    let with_examiners = named(alloc, "office", OFFICE).arg(examiners)?;
-    let with_tries = with_examiners.arg(tries)?;
-    let with_plant = with_tries.arg(plant)?;
-    let with_after = with_plant.arg(after)?;
-    Ok(with_after)
+    let with_examiners = named(alloc, "office", OFFICE).arg(number_option(alloc, EXAMINERS))?;
+    let with_tries = with_examiners.arg(number_option(alloc, TRIES))?;
+    let with_plant = with_tries.arg(plant_option(alloc))?;
+    with_plant.arg(after_option(alloc))
 }
 
 // A command that a script may be kept by.
@@ -434,51 +429,39 @@ fn work_command<'a>(alloc: Global, name: &'a str, help: Help<'a>) -> Result<Comm
     ensures app { IfOk result (λ c. app_of c ≡ record { top = serving name.entry.now; subs = [] }) }
     ensures local { IfOk result (λ c. (out-Command c).has_globals ≡ false) }
 {
-    let plant = plant_option(alloc);
-    let after = after_option(alloc);
-    let with_plant = named(alloc, name, help).arg(plant)?;
-    let with_after = with_plant.arg(after)?;
-    Ok(with_after)
+    let with_plant = named(alloc, name, help).arg(plant_option(alloc))?;
+    with_plant.arg(after_option(alloc))
 }
 
 fn alone_command<'a>(alloc: Global) -> Result<Command<'a>, AllocError>
     ensures app { IfOk result (λ c. app_of c ≡ record { top = alone; subs = [] }) }
     ensures local { IfOk result (λ c. (out-Command c).has_globals ≡ false) }
 {
-    let look = look_option(alloc);
     let with_work = work_command(alloc, "alone", ALONE)?;
-    let with_look = with_work.arg(look)?;
-    Ok(with_look)
+    with_work.arg(look_option(alloc))
 }
 
 fn desk_command<'a>(alloc: Global) -> Result<Command<'a>, AllocError>
     ensures app { IfOk result (λ c. app_of c ≡ record { top = desk; subs = [] }) }
     ensures local { IfOk result (λ c. (out-Command c).has_globals ≡ false) }
 {
-    let plant = plant_option(alloc);
-    let look = look_option(alloc);
-    let with_plant = named(alloc, "desk", DESK).arg(plant)?;
-    let with_look = with_plant.arg(look)?;
-    Ok(with_look)
+    let with_plant = named(alloc, "desk", DESK).arg(plant_option(alloc))?;
+    with_plant.arg(look_option(alloc))
 }
 
 fn check_command<'a>(alloc: Global) -> Result<Command<'a>, AllocError>
     ensures app { IfOk result (λ c. app_of c ≡ record { top = check; subs = [] }) }
     ensures local { IfOk result (λ c. (out-Command c).has_globals ≡ false) }
 {
-    let file = file_argument(alloc);
-    let script = script_option(alloc);
-    let with_file = named(alloc, "check", CHECK).arg(file)?;
-    let with_script = with_file.arg(script)?;
-    Ok(with_script)
+    let with_file = named(alloc, "check", CHECK).arg(file_argument(alloc))?;
+    with_file.arg(script_option(alloc))
 }
 
 fn tract_command<'a>(alloc: Global) -> Result<Command<'a>, AllocError>
     ensures app { IfOk result (λ c. app_of c ≡ record { top = tract; subs = [] }) }
     ensures local { IfOk result (λ c. (out-Command c).has_globals ≡ false) }
 {
-    let text = text_argument(alloc);
-    named(alloc, "tract", TRACT).arg(text)
+    named(alloc, "tract", TRACT).arg(text_argument(alloc))
 }
 
 fn top<'a>(alloc: Global) -> Command<'a>
@@ -491,41 +474,33 @@ fn top<'a>(alloc: Global) -> Command<'a>
         .disable_help_subcommand(true)
 }
 
-// The program's command with the subcommands that serve a script.
+// The program's command with the subcommands that serve a script at one desk.
 fn script_commands<'a>(alloc: Global) -> Result<Command<'a>, AllocError>
-    ensures app { IfOk result (λ c. app_of c ≡ record { top = titleplant; subs = run ∷ alone ∷ office ∷ [] }) }
+    ensures app { IfOk result (λ c. app_of c ≡ record { top = titleplant; subs = run ∷ alone ∷ [] }) }
     ensures local { IfOk result (λ c. (out-Command c).has_globals ≡ false) }
 {
     let run = work_command(alloc, "run", RUN)?;
-    let alone = alone_command(alloc)?;
-    let office = office_command(alloc)?;
     let with_run = top(alloc).subcommand(run)?;
-    let with_alone = with_run.subcommand(alone)?;
-    let with_office = with_alone.subcommand(office)?;
-    Ok(with_office)
+    with_run.subcommand(alone_command(alloc)?)
 }
 
-// The same with the one that serves rows.
+// The same with those that serve it in an office, and rows.
 fn work_commands<'a>(alloc: Global) -> Result<Command<'a>, AllocError>
     ensures app { IfOk result (λ c. app_of c ≡ record { top = titleplant; subs = run ∷ alone ∷ office ∷ desk ∷ [] }) }
     ensures local { IfOk result (λ c. (out-Command c).has_globals ≡ false) }
 {
-    let desk = desk_command(alloc)?;
     let with_scripts = script_commands(alloc)?;
-    let with_desk = with_scripts.subcommand(desk)?;
-    Ok(with_desk)
+    let with_office = with_scripts.subcommand(office_command(alloc)?)?;
+    with_office.subcommand(desk_command(alloc)?)
 }
 
 /// The command of the program `titleplant`, with each of its subcommands.
 pub fn program<'a>(alloc: Global) -> Result<Command<'a>, AllocError>
     ensures app { IfOk result (λ c. app_of c ≡ command) }
 {
-    let check = check_command(alloc)?;
-    let tract = tract_command(alloc)?;
     let with_work = work_commands(alloc)?;
-    let with_tract = with_work.subcommand(tract)?;
-    let with_check = with_tract.subcommand(check)?;
-    Ok(with_check)
+    let with_tract = with_work.subcommand(tract_command(alloc)?)?;
+    with_tract.subcommand(check_command(alloc)?)
 }
 
 /// The error of words that expect a last place or ask for a look, and name no plant.

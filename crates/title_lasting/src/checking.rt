@@ -252,6 +252,7 @@ pub fn tell_script<D: Disk, S: Sink>(
     let desk = stand(alloc, &found)?;
     let text = spell_script(alloc, &found.stands, desk.records())?;
     drop(desk);
+    drop(found);
     read_again(alloc, &text)?;
     write_all(sink, &text)?;
     Ok(())

@@ -54,6 +54,20 @@ fn read_looks<R: Source>(
 }
 
 // Serves a plan at a desk that has served what stood.
+fn serve_looks_at<V: Watch>(
+    alloc: Global,
+    desk: &mut Desk<TreeStore, NodeLocks>,
+    plan: Plan,
+    watch: &mut V,
+) -> Result<Served, AllocError>
+    ensures served { IfOk result (IsLookServed desk.old (asked_in plan)) }
+{
+    let served = serve_onto(alloc, desk, plan, watch)?;
+    let _ = desk.headline();
+    Ok(served)
+}
+
+// As `serve_looks_at`; lets the desk go, in a function that ends in one way.
 fn serve_looks<V: Watch>(
     alloc: Global,
     mut desk: Desk<TreeStore, NodeLocks>,
@@ -62,9 +76,7 @@ fn serve_looks<V: Watch>(
 ) -> Result<Served, AllocError>
     ensures served { IfOk result (IsLookServed desk (asked_in plan)) }
 {
-    let served = serve_onto(alloc, &mut desk, plan, watch)?;
-    let _ = desk.headline();
-    Ok(served)
+    serve_looks_at(alloc, &mut desk, plan, watch)
 }
 
 // Serves a source's script on top of what stood, which a desk has served.

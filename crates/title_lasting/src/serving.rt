@@ -114,6 +114,28 @@ pub(crate) fn new_records(records: &[Record], kept: usize) -> &[Record]
 }
 
 // Serves a plan at a desk that has served what stood, so many transactions, and puts the block together.
+fn serve_at<V: Watch>(
+    alloc: Global,
+    desk: &mut Desk<TreeStore, NodeLocks>,
+    kept: usize,
+    stood: Stood,
+    plan: Plan,
+    watch: &mut V,
+) -> Result<Made, AllocError>
+    requires townships { stood.townships ≤ length plan.townships.items }
+    requires parties { stood.parties ≤ index_set_len plan.parties }
+    requires stood { stood.records ≡ kept }
+    requires kept { length (committed desk.old.trace) ≡ kept }
+    ensures served { IfOk result (IsServedAt desk.old stood (asked_in plan)) }
+    ensures few { OnOk result (length (committed (served_at desk.old (asked_in plan))) < 2 ^ 64) }
+{
+    let served = serve_onto(alloc, desk, plan, watch)?;
+    let (_, records) = desk.headline();
+    let block = added_block(alloc, stood, &served.plan, new_records(records, kept))?;
+    Ok(Made { served, block })
+}
+
+// As `serve_at`; lets the desk go, in a function that ends in one way: with a desk alive each way out is dear to prove.
 fn serve<V: Watch>(
     alloc: Global,
     mut desk: Desk<TreeStore, NodeLocks>,
@@ -129,10 +151,7 @@ fn serve<V: Watch>(
     ensures served { IfOk result (IsServedAt desk stood (asked_in plan)) }
     ensures few { OnOk result (length (committed (served_at desk (asked_in plan))) < 2 ^ 64) }
 {
-    let served = serve_onto(alloc, &mut desk, plan, watch)?;
-    let (_, records) = desk.headline();
-    let block = added_block(alloc, stood, &served.plan, new_records(records, kept))?;
-    Ok(Made { served, block })
+    serve_at(alloc, &mut desk, kept, stood, plan, watch)
 }
 
 /// Makes a day on top of what stands, which a desk has served: reads the source's script, serves it, and puts together what it adds.

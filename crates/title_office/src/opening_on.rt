@@ -10,6 +10,7 @@ ghost use Rattle.title_office.specs.{declared.unopened.Unopened.TheVariants.{NoP
 use crate::books::Books;
 use crate::office::Office;
 use crate::opening::{Opened, seats_of};
+use crate::seat::Seat;
 use crate::unopened::Unopened;
 use std::alloc::{AllocError, Global};
 use std::marker::Model;
@@ -129,6 +130,34 @@ fn watched_on<B: Room, R: Wait>(
     }
 }
 
+// The seats of so many examiners beside such fronts and viewers.
+fn seated_on<B: Room, R: Wait>(
+    rt: &R,
+    alloc: Global,
+    ledger: Ledger,
+    records: &[Record],
+    number: u64,
+    townships: &[Township],
+    examiners: u32,
+    viewers: u32,
+) -> Result<(Vec<Seat<B>>, Fronts<B>, Vec<Viewer<B>>), Unopened>
+    requires book { ledger ≡ B.book }
+    requires serial { AreSerial B.setting.townships records.now }
+    requires townships { townships.now ≡ B.setting.townships }
+    requires once { IsEachOnce B.setting.townships }
+    requires viewers { viewers ≤ most_viewers }
+    ensures seats { IfOk result (λ seated. seated.0.items ≡ opening_seats number examiners) }
+    ensures all { IfOk result (λ seated. seated.1 ≡ records.now) }
+    ensures viewers { IfOk result (λ seated. seated.2.items ≡ replicate viewers (sight_on number records.now)) }
+    ensures why { IfErr result (λ e. e ≡ NoPlace → 0 < viewers) }
+{
+    let seats = seats_of(alloc, number, examiners)?;
+    let (fronts, viewers) = watched_on::<B, R>(
+        rt, alloc, ledger, records, number, townships, viewers,
+    )?;
+    Ok((seats, fronts, viewers))
+}
+
 impl<B: Room> Office<B> {
     /// Opens an office on a desk of these townships that has committed records already, with the seats of the examiners from 1 to a
     /// number of at most 64, in order, and so many viewers, 64 at most, which have seen no record and learnt of all that stand. Faults:
@@ -155,16 +184,16 @@ impl<B: Room> Office<B> {
             ≡ replicate viewers (sight_on number (reverse (committed desk.trace)))) }
         ensures why { IfErr result (λ e. e ≡ NoPlace → 0 < viewers) }
     {
-        let seats = seats_of(alloc, number, examiners)?;
         desk.is_due();
         desk.is_serial();
-        let (fronts, viewers) = watched_on::<B, R>(
+        let (seats, fronts, viewers) = seated_on::<B, R>(
             rt,
             alloc,
             ledger,
             desk.records(),
             number,
             townships,
+            examiners,
             viewers,
         )?;
         let held = Books {
