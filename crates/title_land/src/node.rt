@@ -124,7 +124,7 @@ impl Section {
 
 impl Node {
     /// Whether both are one. Of two squares the quarters are compared first: these differ more often.
-    #[inline]
+    #[inline(always)]
     pub fn is(&self, other: &Node) -> bool
         ensures same { (result ≡ true) ↔ (self.now ≡ other.now) }
         ensures told { result ≡ same_node self.now other.now }

@@ -4,11 +4,11 @@ use Rattle.std.{proofs.Common.{List, [], ◌∷◌, Option, Some, unwrap_or, inl
 use Rattle.std.proofs.lemmas.Bool.{and_from, or_cases, eqb-true, eq-eqb, leb-true, le-leb, false_from_ne_true, true≢false}
 use Rattle.std.{proofs.lemmas.Map.Lookups.{exact_unsigned}, specs.{Cmp.{tied_itself, nat_cmp_total}, BTreeMap.{is_at}}}
 use Rattle.title_land.specs.declared.{survey.{Township.{Township}, Section.{Section}}, rectangle.Quarter.{Quarter}, node.Node.{Node}}
-use Rattle.title_land.specs.{Survey.{same_flag, same_township, same_section}, Nodes.{same_path, same_node, is_square, parent_of, above, is_above}}
+use Rattle.title_land.specs.{Survey.{same_flag, same_township, same_section}, Nodes.{is_square, parent_of, above, is_above}}
 use Rattle.title_land.specs.Laws.{PathNumbers.{quarter_below, path_positive, path_number-is}, Keys.{found_at}, CoverSet.{above_by_parent}}
-use Rattle.title_land.specs.{Laws.SameNode.{same_node-is, same_node-self, same_path-is, same_path-self}, Paths.{path_number, quarter_number}}
+use Rattle.title_land.specs.{Laws.SameNode.{same_node-is, same_node-self, same_path-is, same_path-self}, Nodes.{same_path, same_node}}
 use Rattle.title_land.specs.NodeNumbers.{township_step, square_step, flag_number, township_number, section_number, node_number}
-use Rattle.title_land.specs.NodeNumbers.{number_above, NumbersTellNodes, NumbersGoUp}
+use Rattle.title_land.specs.{NodeNumbers.{number_above, NumbersTellNodes, NumbersGoUp}, Paths.{path_number, quarter_number}}
 use Rattle.title_land.specs.declared.node.Node.TheVariants as node
 
 flag_below : (b : Bool) → flag_number b < 2

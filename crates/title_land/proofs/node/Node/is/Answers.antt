@@ -13,5 +13,6 @@ returns-then-is-clause-told c =
 pub returns-else-is-clause-told : goal.returns-else-is-clause-told
 returns-else-is-clause-told c =
     let sections = same_section c.in-Part-Part.s c.in-Part-Part.u in
-    let e = c.if-is.false ∙ sym (and-false sections) ∙ ap (λ (b : Bool). sections && b) (sym c.if-is.false ∙ c.is-in-Part-Part.ensures.told) in
+    let e = c.if-is.false ∙ sym (and-false sections)
+    ∙ ap (λ (b : Bool). sections && b) (sym c.if-is.false ∙ c.is-in-Part-Part.ensures.told) in
     rw (c.in-Part-Part.is-0, c.in-Part-Part.is-1) e
