@@ -7,7 +7,8 @@ and .Kinds the parts on types, and .Proof the answers. The first file of a crate
 output gets a line for each that took at least S seconds (default 10), the longest first.
 
 `rt ci` keeps nothing there. With --watch FOLDER, where FOLDER is the TMPDIR of an `rt ci` that runs, the folders that its checks have in
-there are looked at until it has ended (or this is interrupted), and then the same is told of each check that was seen.
+there are looked at until no check of a crate, program or test was there for ten minutes (or this is interrupted), and then the same is
+told of each that was seen. Where checks stand still meanwhile, that counts as well.
 """
 import argparse
 import collections
@@ -19,8 +20,9 @@ import time
 # What a folder of a check in TMPDIR is named, and a module's file there: its crate, and the module.
 CHECK = re.compile(r"rattle-logic-built-locked-(\d+)-\d+")
 MODULE = re.compile(r"Rattle-(\w+)-(?:proofs|specs|src)\b.*\.oantt")
-# How often a gate is looked at, in seconds.
+# How often a gate is looked at, and how long without a check it has come to its edits, in seconds.
 PAUSE = 20
+PATIENCE = 600
 
 
 def modules(folder):
@@ -47,21 +49,22 @@ def is_running(process):
 
 
 def watch(folder):
-    """The modules of each check in a gate's TMPDIR, seen until no check is left there or this is interrupted."""
+    """The modules of each check in a gate's TMPDIR, seen until none was there for long or this is interrupted."""
     seen = collections.defaultdict(dict)
+    last = time.monotonic()
     try:
-        while True:
-            checks = [(it, CHECK.fullmatch(it.name)) for it in folder.iterdir()]
-            checks = [it for it, match in checks if match and is_running(match[1])]
-            for check in checks:
+        while time.monotonic() - last < PATIENCE:
+            for check in folder.iterdir():
+                match = CHECK.fullmatch(check.name)
+                if not match or not is_running(match[1]):
+                    continue
+                last = time.monotonic()
                 try:
                     for file in os.scandir(check):
                         if file.name.endswith(".oantt") and file.name not in seen[check]:
                             seen[check][file.name] = file.stat().st_mtime
                 except FileNotFoundError:
                     continue  # The check has ended.
-            if seen and not any(it.name.startswith(("rattle-logic-built", "rt-")) for it in folder.iterdir()):
-                break
             time.sleep(PAUSE)
     except KeyboardInterrupt:
         pass
@@ -69,6 +72,7 @@ def watch(folder):
 
 
 def of_gate(folder, least):
+    """The same of the checks of a gate that runs."""
     for files in watch(folder).values():
         kept = sorted((moment, name) for name, moment in files.items())
         crates = collections.Counter(match[1] for _, name in kept if (match := MODULE.fullmatch(name)))
