@@ -197,6 +197,8 @@ impl<S: Store + Drop> Store for ShownStore<S> {
 
     ghost number = { λ i. S.number i };
 
+    ghost is_joined = { λ p. S.is_joined p };
+
     fn open(alloc: Global, townships: &[Township]) -> Result<ShownStore<S>, AllocError> {
         Ok(ShownStore {
             store: S::open(alloc, townships)?,

@@ -1,6 +1,6 @@
 //! The plant as an ordered map by cell.
 
-ghost use Rattle.std.{proofs.{Math.Bool.{Bool-set}, Props.{props}}, specs.{Ordering.{nat_cmp}, BTreeMap.{IsOrdered}, Prelude.{◌≡◌}}};
+ghost use Rattle.std.{proofs.{Math.Bool.{Bool-set}, Props.{props}}, specs.{Ordering.{nat_cmp}, BTreeMap.{IsOrdered}, Prelude.{◌≡◌, true}}};
 ghost use Rattle.title_land.specs.Depth.{depth};
 ghost use Rattle.title_store.specs.{Plants.{node_of}, Loans.{AllBelow}, CellMaps.{content_of, loans_of, AreBacked}};
 
@@ -51,6 +51,8 @@ impl Store for CellStore {
     ghost out = { λ s. loans_of s.lent.entries };
 
     ghost number = { λ i. i.number };
+
+    ghost is_joined = { λ _. true };
 
     fn open(alloc: Global, townships: &[Township]) -> Result<CellStore, AllocError> {
         let map = CellMap::new(alloc)?;

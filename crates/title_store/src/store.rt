@@ -1,6 +1,6 @@
 //! What every store of a plant promises.
 
-ghost use Rattle.std.specs.Prelude.{◌≡◌, ℕ, IfOk, OnOk, OnErr, List, [], true, cond, is_some};
+ghost use Rattle.std.specs.Prelude.{◌≡◌, ℕ, IfOk, OnOk, OnErr, List, [], Bool, true, cond, is_some};
 ghost use Rattle.title_land.specs.{Depth.{depth}, declared.survey.{Cell.{Cell}, Township.{Township}}, CellLists.{node_cells}};
 ghost use Rattle.title_land.specs.Lands.{is_in_plant, land_of};
 ghost use Rattle.title_land.specs.declared.node.Node.TheVariants as node;
@@ -40,12 +40,16 @@ pub trait Store {
     /// The number of an image.
     ghost number: { Self.Image → ℕ };
 
+    /// Whether no four quarters are left that could be one for having one holding; where a store keeps no quarters, always.
+    ghost is_joined: { Self → Bool };
+
     /// The opening plant of these townships: party 0 owns all of each estate in every cell.
     fn open(alloc: Global, townships: &[Township]) -> Result<Self, AllocError>
         requires once { IsEachOnce townships.now }
         ensures content { IfOk result (λ s. SameContent (λ c. opening_owners) (content s)) }
         ensures declared { IfOk result (λ s. declared s ≡ townships.now) }
-        ensures out { IfOk result (λ s. out s ≡ []) };
+        ensures out { IfOk result (λ s. out s ≡ []) }
+        ensures joined { IfOk result (λ s. is_joined s ≡ true) };
 
     /// Posts an instrument in all cells of a tract, or in none. `Err` changes nothing.
     fn put(
@@ -102,10 +106,11 @@ pub trait Store {
         ensures one { IfOk result (λ one. one
             ≡ is_some (one_holding estate (content self.now) (node_cells depth (declared self.now) (node.Part section [])))) };
 
-    /// Tidies up while no image is out. Takes no memory and changes nothing that a contract sees.
+    /// Tidies up while no image is out: quarters of one holding are joined. Takes no memory and changes no cell.
     fn tidy(&mut self)
         requires none { out self.old ≡ [] }
         ensures content { SameContent (content self.old) (content self.new) }
         ensures declared { declared self.new ≡ declared self.old }
-        ensures out { out self.new ≡ [] };
+        ensures out { out self.new ≡ [] }
+        ensures joined { is_joined self.new ≡ true };
 }

@@ -8,3 +8,4 @@ pub mod Uniform
 pub mod Refusals
 pub mod Depths
 pub mod CellSquares
+pub mod Joined

@@ -6,6 +6,7 @@ pub mod Plots
 pub mod Joins
 pub mod Trees
 pub mod Pieces
+pub mod Joining
 pub mod Parts
 pub mod Lendings
 pub mod Cells

@@ -80,6 +80,10 @@ Reaches q ys = (y : Piece) → In y ys → (r : List Quarter) → q ≡ y.path +
 abbrev pub StaysWithin : List (List Quarter) → Plot → Plot → Type 0
 StaysWithin ps t u = (n : ℕ) → Short ps n → fits n t ≡ true → fits n u ≡ true
 
+-- what stands at each path that is apart from the paths stays
+abbrev pub StaysElsewhere : List (List Quarter) → Plot → Plot → Type 0
+StaysElsewhere ps t u = (q : List Quarter) → Apart q ps → plot_at q u ≡ plot_at q t
+
 -- the same content, and a node at each path where there was one
 pub record Refines (t u : Plot) : Type 0 where
   pub content : (c : List Quarter) → value_at u c ≡ value_at t c

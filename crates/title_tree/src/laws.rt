@@ -3,6 +3,7 @@
 ghost use Rattle.title_land.specs.Depth.{depth};
 ghost use Rattle.title_tree.specs.{CellWays.{SquaresByPaths, CellWaysAreWhole}, PieceLaws.{NoneRefusesThere, ACellRefuses}};
 ghost use Rattle.title_tree.specs.DepthLaws.{GraftFits, PlotAtFits, SplitFits, ChangedFits, TidiedFits, TidiedAllFits};
+ghost use Rattle.title_tree.specs.Joining.{TidiedIsTidy, TidiedWhereWritten};
 ghost use Rattle.title_tree.specs.LendingLaws.{PutKeeps, RestoreKeeps, ForgetKeeps, RefineKeeps, NoneIsKept};
 ghost use Rattle.title_tree.specs.PieceLaws.{SwappedShows, TakenHolds, PutShows, PutTakes, MadeBeforeTheSplit, SplitAllReaches};
 ghost use Rattle.title_tree.specs.PlotLaws.{GraftShows, PlotAtShows, SplitShows, TidiedShows, TidiedAllShows, ChangedShows};
@@ -194,4 +195,14 @@ pub fn squares_by_paths()
 /// A cell's path has as many quarters as a section has levels.
 pub fn cell_ways_are_whole()
     ensures law { CellWaysAreWhole depth }
+{}
+
+/// A tidied plot is tidy.
+pub fn tidied_is_tidy()
+    ensures law { TidiedIsTidy }
+{}
+
+/// A tidy plot that was changed at some paths alone is tidy again once it is tidied there.
+pub fn tidied_where_written()
+    ensures law { TidiedWhereWritten }
 {}

@@ -2,7 +2,7 @@
 
 ghost use Rattle.std.specs.{Prelude.{◌≡◌, ◌++◌, ◌∷◌, [], true, None, map, OnOk, OnErr, IfErr}, Option.{option_map}};
 ghost use Rattle.title_tree.specs.{Changes.{after}, Faults.{Tells}, Parts.{piece}, Pieces.{split_all, fresh, refusal_at, uniform_at}};
-ghost use Rattle.title_tree.specs.{Pieces.{Disjoint, Ready, Refines, StaysWithin, paths, swapped, taken}, Trees.{plot}};
+ghost use Rattle.title_tree.specs.{Pieces.{Disjoint, Ready, Refines, StaysWithin, StaysElsewhere, paths, swapped, taken}, Trees.{plot}};
 ghost use Rattle.title_tree.specs.Plots.{has_path, plot_at, graft, split, tidied_all};
 
 use crate::change::{Change, Fault};
@@ -76,11 +76,12 @@ fn push_part(parts: &mut Vec<Part>, path: Path, tree: Tree) -> Result<(), AllocE
 }
 
 /// Quarters a tree down to each path. After `Err` it may be quartered down to some: the same cells hold the same,
-/// each node is still there, and none lies deeper than the paths.
+/// each node is still there, none lies deeper than the paths, and what shares no cell with them is as it was.
 pub fn split_each(root: &mut Tree, alloc: Global, paths: &[Path]) -> Result<(), AllocError>
     ensures ok { OnOk result (plot root.new ≡ split_all paths.now (plot root.old)) }
     ensures err { OnErr result (Refines (plot root.old) (plot root.new)) }
     ensures err_fits { OnErr result (StaysWithin paths.now (plot root.old) (plot root.new)) }
+    ensures err_elsewhere { OnErr result (StaysElsewhere paths.now (plot root.old) (plot root.new)) }
 {
     let Some((path, rest)) = paths.split_first() else {
         return Ok(());

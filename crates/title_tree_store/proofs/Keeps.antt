@@ -109,7 +109,7 @@ pub out_in : {n : ℕ} {l : Lent} {old new : List Lent} → IsTakenOut n l old n
 out_in {l} out = subst (λ (z : List Lent). In l z) (sym out.old_is) (in_middle l out.before out.later)
 
 -- the others were out too
-left_in : {n : ℕ} {l : Lent} {old new : List Lent} → IsTakenOut n l old new → (x : Lent) → In x new → In x old
+pub left_in : {n : ℕ} {l : Lent} {old new : List Lent} → IsTakenOut n l old new → (x : Lent) → In x new → In x old
 left_in {l} out x i =
     subst (λ (z : List Lent). In x z) (sym out.old_is)
     (in_more x l out.before out.later (subst (λ (z : List Lent). In x z) out.new_is i))

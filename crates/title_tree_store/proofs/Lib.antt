@@ -11,6 +11,7 @@ pub mod Operations
 pub mod Holdings
 pub mod Apart
 pub mod Puts
+pub mod Joining
 pub mod Firsts
 pub mod Standing
 pub mod Squares

@@ -35,6 +35,13 @@ pub record IsPut (i : Instrument ℕ) (ps : List (List Quarter)) (e : Estate) (t
   pub exchanged : v ≡ swapped xs u
   pub image : ys ≡ taken xs u
 
+-- what was made and the image have the paths of the estates that are named
+pub put_paths : {i : Instrument ℕ} {ps : List (List Quarter)} {e : Estate} {t u v : Plot} {xs ys : List Piece} → IsPut i ps e t u v xs ys
+    → (paths xs ≡ named_spots i e ps) × (paths ys ≡ named_spots i e ps)
+put_paths {i} {ps} {e} {t} {u} {v} {xs} put =
+    let made = ap paths put.made.1 ∙ paths_fresh (after (holding_effect i e)) (named_spots i e ps) t in
+    (made, ap paths put.image ∙ paths_taken xs u ∙ made)
+
 -- what a cell of the paths has changes as if each estate were named
 named_value : (i : Instrument ℕ) (e : Estate) (ps : List (List Quarter)) (c : List Quarter) (v : Division)
     → cond (pieces.has (named_spots i e ps) c) (after (holding_effect i e) v) v ≡ cond (pieces.has ps c) (after (holding_effect i e) v) v
@@ -99,26 +106,20 @@ module _ {levels : ℕ} {ts : List Township} {old : Estate → Plot} {lent : Lis
       abbrev image : Lent
       image = record { number = n; land = x; trees = trees }
 
-      made_paths : (e : Estate) → paths (xs e) ≡ ways e
-      made_paths e = ap paths (put e).made.1 ∙ paths_fresh (change e) (ways e) (old e)
-
-      image_paths : (e : Estate) → paths (forests.pieces trees e) ≡ ways e
-      image_paths e = ap paths (put e).image ∙ paths_taken (xs e) (quartered e) ∙ made_paths e
-
       -- ---- what is kept
 
       swapped_fit : (e : Estate) → (fits (height levels) (swapped (xs e) (quartered e)) ≡ true)
           × PiecesFit (height levels) (taken (xs e) (quartered e))
       swapped_fit e =
           fits_swapped (height levels) (xs e) (quartered e)
-          (subst (λ (z : List (List Quarter)). Short z (height levels)) (sym (made_paths e)) (short e))
+          (subst (λ (z : List (List Quarter)). Short z (height levels)) (sym (put_paths (put e)).0) (short e))
           (subst (PiecesFit (height levels)) (sym (put e).made.1) (fresh_fit (height levels) (change e) (ways e) (old e) (kept.fit e)))
           (ap (fits (height levels)) (put e).split ∙ split_all_fits (ways e) (old e) (height levels) (short e) (kept.fit e))
 
       image_backed : IsBacked levels ts image
       image_backed = record {
         within = of;
-        at = λ e. ap (λ (z : List (List Quarter)). is_whole z (tract_spots levels ts x)) (image_paths e)
+        at = λ e. ap (λ (z : List (List Quarter)). is_whole z (tract_spots levels ts x)) ((put_paths (put e)).1)
             ∙ named_or (λ qs. is_whole qs (tract_spots levels ts x) ≡ true) i e (tract_spots levels ts x)
             (or_right (same_ways (tract_spots levels ts x) []) (same_ways (tract_spots levels ts x) (tract_spots levels ts x))
             (same_ways-self (tract_spots levels ts x))) (λ none. refl);
@@ -206,7 +207,7 @@ module _ {levels : ℕ} {ts : List Township} {old : Estate → Plot} {lent : Lis
       before_put p long e = go (lies_in e image p) refl
         where
           at : pieces.has (ways e) p ≡ lies_in e image p
-          at = ap (λ (z : List (List Quarter)). pieces.has z p) (sym (image_paths e))
+          at = ap (λ (z : List (List Quarter)). pieces.has z p) (sym ((put_paths (put e)).1))
 
           go : (b : Bool) → lies_in e image p ≡ b → cond b (held (forests.pieces trees e) p) (value_at (new e) p) ≡ value_at (old e) p
           go true h =

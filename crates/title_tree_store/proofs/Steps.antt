@@ -1,11 +1,13 @@
 -- Steps of the code, and what a put wrote: it is noted for the estates that its instrument names.
-use Rattle.std.proofs.Common.{◌≡◌, ◌∙◌, ap, sym, subst, ℕ, false, cond, List, [], ◌∷◌, ◌++◌, map, Result, Ok, Err, OnOk, OnErr}
+use Rattle.std.proofs.Common.{◌≡◌, ◌∙◌, ap, sym, subst, refl, ℕ, false, cond, inl, inr, List, [], ◌∷◌, ◌++◌, map}
+use Rattle.std.proofs.Common.{Result, Ok, Err, OnOk, OnErr}
 use Rattle.std.proofs.lemmas.{List.{map-append}, Bool.{cond_both}}
 use Rattle.title_land.specs.declared.rectangle.Quarter.{Quarter}
 use Rattle.title_instrument.specs.{declared.{parts.Estate.{Estate}, instrument.Instrument.{Instrument}}, Estates.{names}}
 use Rattle.title_instrument.specs.Parties.{estates_of}
-use Rattle.title_tree.specs.{Plots.{Plot, fits}, Pieces.{split_all, Refines, StaysWithin}, Laws.Depths.{split_all_fits}}
-use Rattle.title_tree.specs.Laws.Swaps.{split_all_reaches}
+use Rattle.title_tree.specs.{Plots.{Plot, plot_at, fits}, Pieces.{In, split_all, Refines, StaysWithin, StaysElsewhere}}
+use Rattle.title_tree.specs.Joining.{ApartFromAll}
+use Rattle.title_tree.specs.Laws.{Depths.{split_all_fits}, Swaps.{split_all_reaches}, Joined.{elsewhere_split_all}}
 use Rattle.title_tree_store.specs.{declared.forest.Written.{Written}, Spots.{paths_in}, Forests.{put_ways, named_spots}}
 
 -- what was quartered, whole or in part, has the same cells and all nodes
@@ -19,6 +21,12 @@ pub split_within : {A E : Type 0} (r : Result A E) (ps : List (List Quarter)) (t
     → OnErr r (StaysWithin ps t u) → StaysWithin ps t u
 split_within (Ok x) ps t u ok err n s k = ap (fits n) ok ∙ split_all_fits ps t n s k
 split_within (Err f) ps t u ok err n s k = err n s k
+
+-- and stays where the paths don't lead
+pub split_elsewhere : {A E : Type 0} (r : Result A E) (ps : List (List Quarter)) (t u : Plot) → OnOk r (u ≡ split_all ps t)
+    → OnErr r (StaysElsewhere ps t u) → StaysElsewhere ps t u
+split_elsewhere (Ok x) ps t u ok err = subst (StaysElsewhere ps t) (sym ok) (elsewhere_split_all ps t)
+split_elsewhere (Err f) ps t u ok err = err
 
 -- what holds anyway holds after a refusal
 pub on_err : {A E : Type 0} (r : Result A E) (P : Type 0) → P → OnErr r P
@@ -40,3 +48,26 @@ pub put_noted : (i : Instrument ℕ) (old between new : List Written) (w : Writt
 put_noted i old between new w same h named e =
     ap (map (put_ways e)) h ∙ map-append (put_ways e) between (w ∷ [])
     ∙ (λ j. map (put_ways e) (same j) ++ cond (names (named j) e) (paths_in w.paths) [] ∷ [])
+
+in_push : {A : Type 0} (x y : A) (xs : List A) → In x xs → In x (xs ++ y ∷ [])
+in_push x y [] i = absurd i
+in_push x y (z ∷ zs) (inl e) = inl e
+in_push x y (z ∷ zs) (inr i) = inr (in_push x y zs i)
+
+in_end : {A : Type 0} (y : A) (xs : List A) → In y (xs ++ y ∷ [])
+in_end y [] = inl refl
+in_end y (z ∷ zs) = inr (in_end y zs)
+
+-- what is apart from all lists of paths and from one more
+pub apart_pushed : (q : List Quarter) (old : List (List (List Quarter))) (ps : List (List Quarter)) → ApartFromAll q (old ++ ps ∷ [])
+    → ApartFromAll q old × ApartFromAll q (ps ∷ [])
+apart_pushed q old ps a = (
+  λ x i. a x (in_push x ps old i),
+  λ x i. elim i [ inl e ↦ a x (subst (λ (z : List (List Quarter)). In z (old ++ ps ∷ [])) (sym e) (in_end ps old)) | inr j ↦ absurd j ],
+)
+
+-- where one more list of paths is noted, and what is apart from it stays
+pub apart_noted : (q : List Quarter) (old new : List (List (List Quarter))) (ps : List (List Quarter)) (t u : Plot)
+    → new ≡ old ++ ps ∷ [] → StaysElsewhere ps t u → ApartFromAll q new → ApartFromAll q old × (plot_at q u ≡ plot_at q t)
+apart_noted q old new ps t u h stays a =
+    let b = apart_pushed q old ps (subst (ApartFromAll q) h a) in (b.0, stays q (b.1 ps (inl refl)))

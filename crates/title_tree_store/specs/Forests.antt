@@ -1,9 +1,10 @@
 -- The trees of a plant as plots, by estate.
-use Rattle.std.specs.Prelude.{◌≡◌, ℕ, List, [], ◌∷◌, ◌++◌, ◌⊎◌, cond, None, map}
+use Rattle.std.specs.Prelude.{◌≡◌, ℕ, Bool, ◌&&◌, List, [], ◌∷◌, ◌++◌, ◌⊎◌, cond, None, map}
 use Rattle.title_land.specs.declared.rectangle.Quarter.{Quarter}
 use Rattle.title_instrument.specs.declared.{parts.{Estate.{Estate, TheVariants.{S, O, M}}, Rule.{Rule}}, instrument.Instrument.{Instrument}}
 use Rattle.title_instrument.specs.{declared.owners.Owners.{Owners}, Effect.{holding_effect}, Estates.{names}, Parties.{estates_of}}
-use Rattle.title_tree.specs.{declared.change.Fault.{Fault}, Changes.{after}, Faults.{Tells}, Plots.{Plot, value_at, tidied_all}}
+use Rattle.title_tree.specs.{declared.change.Fault.{Fault}, Changes.{after}, Faults.{Tells}, Joining.{ApartFromAll}}
+use Rattle.title_tree.specs.Plots.{Plot, value_at, plot_at, is_tidy, tidied_all}
 use Rattle.title_tree.specs.{Parts.{piece}, Pieces.{Piece, fresh, refusal_at}, Trees.{plot}}
 use Rattle.title_tree_store.specs.declared.forest.{Forest.{Forest}, Subtrees.{Subtrees}, Parts.{Parts, TheVariants.{Nothing, One, Many}}}
 use Rattle.title_tree_store.specs.{declared.forest.Written.{Written}, Spots.{paths_in}}
@@ -27,6 +28,15 @@ put_ways e w = cond (names w.estates e) (paths_in w.paths) []
 -- the paths at which an estate was written since a forest was last tidied, put by put
 abbrev pub written : Estate → Forest → List (List (List Quarter))
 written e f = map (put_ways e) f.written.items
+
+-- no four quarters of an estate's tree are leaves that have the same division
+abbrev pub are_joined : Forest → Bool
+are_joined f = is_tidy (plots f S) && is_tidy (plots f O) && is_tidy (plots f M)
+
+-- what is apart from all paths that are written now was so before, and is as it was
+abbrev pub StaysApart : Forest → Forest → Type 0
+StaysApart old new = (e : Estate) (q : List Quarter) → ApartFromAll q (written e new)
+    → ApartFromAll q (written e old) × (plot_at q (plots new e) ≡ plot_at q (plots old e))
 
 -- tidied at the paths of each put in turn
 abbrev pub tidied_written : List (List (List Quarter)) → Plot → Plot

@@ -5,8 +5,10 @@ use Rattle.title_land.specs.Lands.{is_in_plant, is_plant_cell}
 use Rattle.title_share.specs.Division.{Division}
 use Rattle.title_instrument.specs.{declared.{parts.Estate.{Estate, TheVariants.{S, O, M}}, owners.Owners.{Owners}}, Owners.{opening_owners}}
 use Rattle.title_store.specs.{Plants.{Plant, is_cell_of}, Loans.{Loan}}
-use Rattle.title_tree.specs.{Plots.{Plot, value_at, fits}, Pieces.{In, Piece, paths, has, held}, Lendings.{Lending, Keeps}}
-use Rattle.title_tree_store.specs.{declared.lent.Lent.{Lent}, Spots.{cell_path, tract_spots}, Forests.{pieces, owners_at}}
+use Rattle.title_tree.specs.{Plots.{Plot, value_at, fits}, Pieces.{In, Piece, Apart, paths, has, held}, Lendings.{Lending, Keeps}}
+use Rattle.title_tree.specs.Joining.{ApartFromAll, JoinedBut}
+use Rattle.title_tree_store.specs.{declared.{lent.Lent.{Lent}, forest.Forest.{Forest}}, Spots.{cell_path, tract_spots}}
+use Rattle.title_tree_store.specs.Forests.{plots, pieces, written, owners_at}
 
 -- the levels of a tree from the root down to a cell, where townships lie so many levels below the root
 abbrev pub height : ℕ → ℕ
@@ -96,3 +98,8 @@ pub record IsKept (levels : ℕ) (ts : List Township) (ps : Estate → Plot) (le
   pub keeps : (e : Estate) → Keeps (ps e) (map (lending e) lent) next
   pub backed : (l : Lent) → In l lent → IsBacked levels ts l
   pub rises : Rises lent
+
+-- no four quarters are leaves of one division but where something was written, and each image lies where something was
+pub record AreJoined (f : Forest) (lent : List Lent) : Type 0 where
+  pub joined : (e : Estate) → JoinedBut (written e f) (plots f e)
+  pub lies : (e : Estate) (l : Lent) → In l lent → (q : List Quarter) → ApartFromAll q (written e f) → Apart q (paths (pieces l.trees e))

@@ -4,7 +4,7 @@ use Rattle.title_land.specs.declared.{survey.Township.{Township}, rectangle.Quar
 use Rattle.title_instrument.specs.declared.parts.Estate.{Estate}
 use Rattle.title_store.specs.Plants.{IsEachOnce}
 use Rattle.title_tree.specs.{Plots.{Plot}, Pieces.{Disjoint}}
-use Rattle.title_tree_store.specs.{declared.lent.Lent.{Lent}, Keeping.{Rises, IsKept}}
+use Rattle.title_tree_store.specs.{declared.{lent.Lent.{Lent}, forest.Forest.{Forest}}, Keeping.{Rises, IsKept, AreJoined}}
 
 pub once_prop : (ts : List Township) → IsProp (IsEachOnce ts)
 once_prop [] = hlevel Bool-set
@@ -21,3 +21,6 @@ rises_prop (l ∷ lent) = hlevel (le_prop, rises_prop lent)
 pub kept_prop : (levels : ℕ) (ts : List Township) (ps : Estate → Plot) (lent : List Lent) (next : ℕ)
     → IsProp (IsKept levels ts ps lent next)
 kept_prop levels ts ps lent next = hlevel (Bool-set, le_prop, disjoint_prop, rises_prop)
+
+pub joined_prop : (f : Forest) (lent : List Lent) → IsProp (AreJoined f lent)
+joined_prop f lent = hlevel Bool-set

@@ -3,10 +3,11 @@
 ghost use Rattle.std.specs.Prelude.{◌≡◌, ◌++◌, ◌∷◌, [], ◌&&◌, map, IfOk, OnOk, OnErr, IfErr};
 ghost use Rattle.title_share.specs.Division.{all_to};
 ghost use Rattle.title_instrument.specs.{Estates.{names}, Parties.{estates_of}};
-ghost use Rattle.title_tree.specs.{Pieces.{Disjoint, Ready, Refines, StaysWithin, paths, swapped, taken, split_all}, Trees.{plot}};
-ghost use Rattle.title_tree.specs.Plots.{Same, is_tidy, tidied_all};
+ghost use Rattle.title_tree.specs.{Pieces.{Disjoint, Ready, Refines, StaysWithin, StaysElsewhere, paths, swapped, taken}, Trees.{plot}};
+ghost use Rattle.title_tree.specs.{Pieces.{split_all}, Plots.{Same, is_tidy, tidied_all}};
 ghost use Rattle.title_tree_store.specs.{Spots.{paths_in}, Forests.{Each, IsChange, IsRefusedIn}};
-ghost use Rattle.title_tree_store.specs.Forests.{parts_in, pieces, plots, named_spots, put_ways, written, tidied_written, IsNoted};
+ghost use Rattle.title_tree_store.specs.Forests.{parts_in, pieces, plots, named_spots, put_ways, written, tidied_written};
+ghost use Rattle.title_tree_store.specs.Forests.{IsNoted, StaysApart};
 
 use crate::passing::Passing;
 use crate::spots::Paths;
@@ -117,7 +118,7 @@ fn changed(
 }
 
 // Quarters an estate's tree down to each path, where an instrument names the estate.
-#[tactic(auto, using(crate::proofs::Steps::split_refines, crate::proofs::Steps::split_within))]
+#[tactic(auto, using(crate::proofs::Steps::split_refines, crate::proofs::Steps::split_within, crate::proofs::Steps::split_elsewhere))]
 fn split_named(
     tree: &mut Tree,
     alloc: Global,
@@ -128,6 +129,7 @@ fn split_named(
     ensures ok { OnOk result (plot tree.new ≡ split_all (named_spots instrument.now estate paths.now) (plot tree.old)) }
     ensures refines { Refines (plot tree.old) (plot tree.new) }
     ensures within { StaysWithin paths.now (plot tree.old) (plot tree.new) }
+    ensures elsewhere { StaysElsewhere (named_spots instrument.now estate paths.now) (plot tree.old) (plot tree.new) }
 {
     if !names(instrument, estate) {
         return Ok(());
@@ -198,6 +200,7 @@ impl Forest {
             (plots self.new e ≡ split_all (named_spots instrument.now e paths.now) (plots self.old e))) }
         ensures refines { Each (λ e. Refines (plots self.old e) (plots self.new e)) }
         ensures within { Each (λ e. StaysWithin paths.now (plots self.old e) (plots self.new e)) }
+        ensures elsewhere { Each (λ e. StaysElsewhere (named_spots instrument.now e paths.now) (plots self.old e) (plots self.new e)) }
         ensures written { self.new.written ≡ self.old.written }
     {
         split_named(&mut self.s, alloc, paths, instrument, Estate::S)?;
@@ -220,6 +223,7 @@ impl Forest {
         ensures noted { OnOk result ((e : Estate)
             → written e self.new ≡ written e self.old ++ named_spots instrument.now e (paths_in paths) ∷ []) }
         ensures err_noted { OnErr result (IsNoted instrument.now (paths_in paths) self.old self.new) }
+        ensures apart { StaysApart self.old self.new }
     {
         self.written.reserve(1)?;
         let estates = instrument.estates();

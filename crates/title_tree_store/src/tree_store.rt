@@ -2,8 +2,8 @@
 
 ghost use Rattle.std.specs.Prelude.{◌≡◌, ◌≤◌, ◌^◌};
 ghost use Rattle.title_store.specs.Plants.{IsEachOnce};
-ghost use Rattle.title_tree_store.specs.{Forests.{plots}, Keeping.{content_of, loans_of, IsKept}, Out.{images}};
-ghost use Rattle.title_tree_store.specs.Propositions.{once_prop, kept_prop};
+ghost use Rattle.title_tree_store.specs.{Forests.{plots, are_joined}, Keeping.{content_of, loans_of, IsKept, AreJoined}, Out.{images}};
+ghost use Rattle.title_tree_store.specs.Propositions.{once_prop, kept_prop, joined_prop};
 
 use crate::forest::Forest;
 use crate::lent::Images;
@@ -36,6 +36,7 @@ pub struct TreeStore {
     lent: Images,
     ghost once: { IsEachOnce townships } by { Prim.hlevel once_prop },
     ghost kept: { IsKept levels townships (plots forest) (images lent) lent.next } by { kept_prop _ _ _ _ _ },
+    ghost joined: { AreJoined forest (images lent) } by { joined_prop _ _ },
 }
 
 // How many levels have a path for each of so many townships.
@@ -50,7 +51,7 @@ fn levels_for(count: usize) -> usize
 }
 
 impl TreeStore {
-    /// Whether its trees have the fewest nodes that can hold the plant: for tests, since no contract sees a node.
+    /// Whether its trees have the fewest nodes that can hold the plant: for tests.
     pub fn is_tidy(&self) -> bool {
         self.forest.is_tidy()
     }
@@ -66,6 +67,8 @@ impl Store for TreeStore {
     ghost out = { λ s. loans_of s.levels s.townships (plots s.forest) (images s.lent) };
 
     ghost number = { λ i. i.number };
+
+    ghost is_joined = { λ s. are_joined s.forest };
 
     fn open(alloc: Global, townships: &[Township]) -> Result<TreeStore, AllocError> {
         let levels = levels_for(townships.len());

@@ -1,6 +1,6 @@
 -- What is left was out before.
 use Rattle.std.proofs.Common.{refl}
-use Rattle.title_tree_store.proofs.{Keeps.{kept_as}, Operations.{forget_kept, forget_out}}
+use Rattle.title_tree_store.proofs.{Joining.{joined_forgot}, Keeps.{kept_as}, Operations.{forget_kept, forget_out}}
 use Rattle.title_tree_store.proofs.tree_store.TreeStoreStore.forget.Goals as goal
 
 pub invariant_of-self : goal.invariant_of-self
@@ -8,6 +8,8 @@ invariant_of-self c = record {
   once = c.args.self.now.once;
   kept = kept_as refl c.take.ensures.next
       (forget_kept _ c.take.result c.requires.out c.take.ensures.taken c.args.self.now.kept);
+  joined = joined_forgot c.args.self.now.levels c.args.self.now.townships c.take.result c.requires.out c.take.ensures.taken
+      c.args.self.now.joined;
 }
 
 pub returns-clause-out : goal.returns-clause-out

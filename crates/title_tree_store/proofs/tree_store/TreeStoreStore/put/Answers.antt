@@ -1,14 +1,16 @@
 -- A put that is refused leaves all as it was; one that is done lends what the tract's cells held.
-use Rattle.std.proofs.Common.{◌≡◌, ◌∙◌, ◌++◌, ◌∷◌, [], suc, refl, sym, ap, List, arith}
-use Rattle.std.{proofs.Common.{Option}, specs.Prelude.{unwrap_or}}
+use Rattle.std.proofs.Common.{◌≡◌, ◌∙◌, ◌++◌, ◌∷◌, [], suc, refl, sym, ap, List, map, arith}
+use Rattle.std.{proofs.Common.{Option}, specs.{Prelude.{unwrap_or}, Global.{Vec}}}
 use Rattle.title_land.specs.declared.{rectangle.Quarter.{Quarter}, node.Node.{Node}}
 use Rattle.title_land.specs.declared.node.Node.TheVariants as node
 use Rattle.title_instrument.specs.{declared.parts.Estate.{Estate}, Effect.{holding_effect}}
 use Rattle.title_store.specs.Laws.{MapLaws.{refused_content}, Puts.{refused_put}}
 use Rattle.title_tree.specs.Pieces.{refusal_at}
-use Rattle.title_tree_store.specs.{declared.lent.Lent.{Lent}, Spots.{tract_spots, paths_in}, Forests.{plots, pieces, named_spots}}
+use Rattle.title_tree_store.specs.{declared.{lent.Lent.{Lent}, forest.Written.{Written}}, Spots.{tract_spots, paths_in}}
+use Rattle.title_tree_store.specs.Forests.{plots, pieces, put_ways, written, named_spots}
 use Rattle.title_tree_store.specs.Out.{images}
-use Rattle.title_tree_store.proofs.{Contents.{each, for_each}, Keeps.{kept_as}, Loans.{loans_refined}, Steps.{on_err}}
+use Rattle.title_tree_store.proofs.{Contents.{each, for_each}, Joining.{joined_as, joined_apart, joined_put}, Keeps.{kept_as}}
+use Rattle.title_tree_store.proofs.{Loans.{loans_refined}, Steps.{on_err}}
 use Rattle.title_tree_store.proofs.Puts.{IsPut, put_goes, put_shows, put_takes, kept_put, kept_stopped, refused_none}
 use Rattle.title_tree_store.proofs.Puts.{found_failing, some_cell_fails}
 use Rattle.title_tree_store.proofs.tree_store.TreeStoreStore.put.Goals as goal
@@ -17,6 +19,7 @@ pub invariant_of-self : goal.invariant_of-self
 invariant_of-self c = record {
   once = c.args.self.now.once;
   kept = kept_as c.reserve.ensures.images c.reserve.ensures.next c.args.self.now.kept;
+  joined = joined_as c.reserve.ensures.images c.args.self.now.joined;
 }
 
 pub invariant_of-self-in-Break-branch-3 : goal.invariant_of-self-in-Break-branch-3
@@ -26,6 +29,7 @@ invariant_of-self-in-Break-branch-3 c =
       kept = kept_as c.reserve.ensures.images c.reserve.ensures.next
           (kept_stopped c.args.tract.now (paths_in c.in_ok-paths.paths) c.in_ok-paths.ensures.paths c.requires.within
           (each c.quarter.ensures.refines) (each c.quarter.ensures.within) c.args.self.now.kept);
+      joined = joined_as c.reserve.ensures.images (joined_apart c.quarter.ensures.apart c.args.self.now.joined);
     }
 
 pub returns-in_err-quarter-in-Ok-clause-err_out : goal.returns-in_err-quarter-in-Ok-clause-err_out
@@ -62,6 +66,13 @@ out c = c.add-number.ensures.images ∙ (λ i. c.reserve.ensures.images i ++ rec
   trees = c.exchange.new.parts;
 } ∷ [])
 
+-- the paths are noted
+noted : (c : goal.After-add-number) (e : Estate) → written e c.exchange.new.self ≡ written e c.args.self.now.forest
+    ++ named_spots c.args.instrument.now e (tract_spots c.args.self.now.levels c.args.self.now.townships c.args.tract.now) ∷ []
+noted c e =
+    ap (λ (puts : Vec Written). map (put_ways e) puts.items) c.exchange.ensures.written
+    ∙ (rw c.in_ok-paths.ensures.paths at (c.in_ok-quarter-in-Ok.ensures.noted e))
+
 pub invariant_of-self-in-Ok : goal.invariant_of-self-in-Ok
 invariant_of-self-in-Ok c =
     let next_is = c.reserve.ensures.next in
@@ -70,6 +81,9 @@ invariant_of-self-in-Ok c =
       once = c.args.self.now.once;
       kept = kept_as (out c) more (kept_put c.args.self.now.kept c.args.tract.now c.args.instrument.now c.requires.within
           c.args.self.now.once c.exchange.new.parts (made c));
+      joined = joined_as (out c) (joined_put c.args.instrument.now
+          (tract_spots c.args.self.now.levels c.args.self.now.townships c.args.tract.now) (image c) (noted c) (made c)
+          c.args.self.now.joined);
     }
 
 pub returns-in-Ok-clause-put : goal.returns-in-Ok-clause-put

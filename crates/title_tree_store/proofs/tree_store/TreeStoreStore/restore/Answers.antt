@@ -1,6 +1,7 @@
 -- The image that is taken out has its pieces' paths in the trees, and they hold what its cells held.
-use Rattle.std.proofs.Common.{refl}
-use Rattle.title_tree_store.{specs.{Forests.{plots}, Keeping.{IsTakenOut}, Out.{images}}, proofs.Contents.{each, for_each}}
+use Rattle.std.{proofs.Common.{ap, map, refl}, specs.Global.{Vec}}
+use Rattle.title_tree_store.specs.{declared.forest.Written.{Written}, Forests.{plots, put_ways}, Keeping.{IsTakenOut}, Out.{images}}
+use Rattle.title_tree_store.proofs.{Contents.{each, for_each}, Joining.{joined_restored}}
 use Rattle.title_tree_store.proofs.{Keeps.{goes_back, kept_as}, Operations.{some_taken, some_is, restored_kept, restored_out, restores}}
 use Rattle.title_tree_store.proofs.tree_store.TreeStoreStore.restore.Goals as goal
 
@@ -20,6 +21,8 @@ invariant_of-self c = record {
   once = c.args.self.now.once;
   kept = kept_as refl c.take.ensures.next
       (restored_kept (taken c.before) c.requires.last (each c.exchange.ensures.trees) c.args.self.now.kept);
+  joined = joined_restored (taken c.before) (λ e. ap (λ (puts : Vec Written). map (put_ways e) puts.items) c.exchange.ensures.written)
+      (each c.exchange.ensures.trees) c.args.self.now.joined;
 }
 
 pub returns-clause-content : goal.returns-clause-content
