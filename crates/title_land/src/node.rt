@@ -105,7 +105,7 @@ impl Within {
         if self.number < 4 {
             return None;
         }
-        let which = Quarter::numbered(self.number % 4);
+        let which = Quarter::numbered(usize::from(self.number % 4));
         let outer = Within {
             number: self.number / 4,
         };

@@ -34,8 +34,8 @@ impl Quarter {
         Quarter::Southeast,
     ];
 
-    // Its number among the quarters.
-    pub(crate) fn number(self) -> u16
+    /// Its number among the four, from 0, in the order in which they are listed.
+    pub fn number(self) -> u16
         ensures number { result ≡ quarter_number self }
     {
         match self {
@@ -46,8 +46,8 @@ impl Quarter {
         }
     }
 
-    // The quarter with a number.
-    pub(crate) fn numbered(number: u16) -> Quarter
+    /// The quarter with a number among the four.
+    pub fn numbered(number: usize) -> Quarter
         requires below { number < 4 }
         ensures quarter { result ≡ quarter_at number }
     {

@@ -10,5 +10,5 @@ pub mod tree;
 
 pub use change::{Change, Fault};
 pub use part::{Part, add_changed, exchange_all, split_each, tidy_all, uniform_at};
-pub use path::{Path, quarter_at};
+pub use path::Path;
 pub use tree::{Tree, is_same};

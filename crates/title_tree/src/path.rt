@@ -1,7 +1,6 @@
 //! Paths from a tree's root down, the outermost quarter first.
 
 ghost use Rattle.std.specs.Prelude.{◌≡◌, ◌<◌, ◌++◌, ◌∷◌, [], IfOk, MatchOption};
-ghost use Rattle.title_land.specs.Paths.{quarter_at, quarter_number};
 ghost use Rattle.title_tree.specs.Paths.{way, number_path};
 
 use std::alloc::AllocError;
@@ -34,30 +33,6 @@ impl Model for Path {
     ghost inverse_ok = { λ p h. λ i. record { number = h i } };
 }
 
-/// The quarter with a number; from the fourth on it is the last.
-pub fn quarter_at(number: usize) -> Quarter
-    ensures quarter { result ≡ quarter_at number }
-{
-    match number {
-        0 => Quarter::Northeast,
-        1 => Quarter::Northwest,
-        2 => Quarter::Southwest,
-        _ => Quarter::Southeast,
-    }
-}
-
-// The number of a quarter among the four.
-fn quarter_number(quarter: Quarter) -> u64
-    ensures number { result ≡ quarter_number quarter }
-{
-    match quarter {
-        Quarter::Northeast => 0,
-        Quarter::Northwest => 1,
-        Quarter::Southwest => 2,
-        Quarter::Southeast => 3,
-    }
-}
-
 impl Path {
     /// The path of the root itself.
     pub fn root() -> Path
@@ -74,7 +49,7 @@ impl Path {
             return Err(AllocError);
         }
         Ok(Path {
-            number: self.number * 4 + quarter_number(quarter),
+            number: self.number * 4 + u64::from(quarter.number()),
         })
     }
 
@@ -85,7 +60,7 @@ impl Path {
         if self.number < 4 {
             return None;
         }
-        let first = quarter_at((self.number % 4) as usize);
+        let first = Quarter::numbered((self.number % 4) as usize);
         let rest = Path {
             number: self.number / 4,
         };
@@ -99,7 +74,7 @@ impl Path {
         if levels == 0 {
             return Ok(self);
         }
-        let inner = self.inside(quarter_at(number % 4))?;
+        let inner = self.inside(Quarter::numbered(number % 4))?;
         let path = inner.inside_number(levels - 1, number / 4)?;
         Ok(path)
     }

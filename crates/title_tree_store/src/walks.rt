@@ -7,8 +7,8 @@ ghost use Rattle.title_tree_store.specs.Spots.{township_path, section_path};
 use crate::spots::SECTION_LEVELS;
 use crate::townships::Townships;
 use std::alloc::AllocError;
-use title_land::{Section, Township, Within};
-use title_tree::{Path, Tree, quarter_at};
+use title_land::{Quarter, Section, Township, Within};
+use title_tree::{Path, Tree};
 
 /// What stands in the square of this number among those that lie so many levels below.
 pub(crate) fn numbered(tree: &Tree, levels: usize, number: usize) -> &Tree
@@ -18,7 +18,7 @@ pub(crate) fn numbered(tree: &Tree, levels: usize, number: usize) -> &Tree
         return tree;
     }
     let outer = numbered(tree, levels - 1, number / 4);
-    outer.quarter(quarter_at(number % 4))
+    outer.quarter(Quarter::numbered(number % 4))
 }
 
 /// What stands in a township.

@@ -8,5 +8,5 @@ returns t c =
     let one_less : c.args.levels ≡ suc (c.args.levels - 1) = omega (arith, c.if-levels-eq0.false) in
     record {
       path = number_inside c.args.levels (c.args.levels - 1) c.args.number c.args.self c.in_ok-inner.inner c.in_ok-path.path
-          c.quarter_at.result one_less c.quarter_at.ensures.quarter c.in_ok-inner.ensures.inside c.in_ok-path.ensures.path;
+          c.numbered.result one_less c.numbered.ensures.quarter c.in_ok-inner.ensures.inside c.in_ok-path.ensures.path;
     }

@@ -14,4 +14,4 @@ invariant_of-result c =
 pub returns : goal.returns
 returns c =
     let n = number_of _ _ c.self.invariant c.self.view_is in
-    record { inside = quarters_of_number (c.self.inside.number * 4 + c.quarter_number.result) (c.args.quarter ∷ c.args.self) (omega arith) }
+    record { inside = quarters_of_number (c.self.inside.number * 4 + c.from.result) (c.args.quarter ∷ c.args.self) (omega arith) }

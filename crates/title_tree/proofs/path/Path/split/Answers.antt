@@ -12,7 +12,7 @@ pub returns : goal.returns
 returns c =
     let k = path_split _ _ (number_of _ _ c.self.invariant c.self.view_is) c.if-self-lt4.false in
     record {
-      split = k.parts ∙ ap (λ (x : Quarter). x ∷ k.outer) (sym c.quarter_at-first.ensures.quarter)
-          ∙ ap (λ (x : List Quarter). c.quarter_at-first.result ∷ x)
+      split = k.parts ∙ ap (λ (x : Quarter). x ∷ k.outer) (sym c.numbered-first.ensures.quarter)
+          ∙ ap (λ (x : List Quarter). c.numbered-first.result ∷ x)
           (sym (quarters_of_number (c.self.inside.number / 4) k.outer k.number_is));
     }
