@@ -12,14 +12,14 @@ use title_trace::{Reply, Request};
 /// Where a history and the plain machine disagree first, if they do.
 pub type Found = Result<Option<Disagreement>, AllocError>;
 
-/// What two examiners did to a section: a deed of the first, and the sheet that the second was answered after it; and, by a machine
-/// of its own, the sheet where there was no deed.
+/// What two examiners did to a section, as records of plain machines: a deed of the first, and the sheet that the second was answered
+/// after it; and the sheet where there was no deed.
 #[derive(Drop)]
 pub struct Doctored {
     alloc: Global,
     township: Township,
-    sold: Plain,
-    unsold: Plain,
+    sold: Vec<Record>,
+    unsold: Vec<Record>,
 }
 
 // All of a section.
@@ -102,66 +102,67 @@ fn check(
     }
 }
 
+// The records of a machine at which the first examiner sells a section, if asked to, and the second is shown it.
+fn ask(
+    alloc: Global,
+    machine: &mut Plain,
+    section: Section,
+    sells: bool,
+) -> Result<Vec<Record>, AllocError> {
+    if sells {
+        sell(alloc, machine, section)?;
+    }
+    show(machine, section)?;
+    let mut records = Vec::new(alloc);
+    for record in machine.records() {
+        let copied = record.copy(alloc)?;
+        records.push(copied)?;
+    }
+    Ok(records)
+}
+
+// The same of a new machine; none where it doesn't open.
+fn records_of(
+    alloc: Global,
+    township: Township,
+    section: Section,
+    sells: bool,
+) -> Result<Vec<Record>, AllocError> {
+    match Plain::new(alloc, &[township])? {
+        Some(mut machine) => ask(alloc, &mut machine, section, sells),
+        None => Ok(Vec::new(alloc)),
+    }
+}
+
 impl Doctored {
-    // The transactions of two plain machines, these.
-    fn run(
-        alloc: Global,
-        township: Township,
-        section: Section,
-        sold: Plain,
-        unsold: Plain,
-    ) -> Result<Doctored, AllocError> {
-        let mut doctored = Doctored {
-            alloc,
-            township,
-            sold,
-            unsold,
-        };
-        doctored.fill(section)?;
-        Ok(doctored)
-    }
-
-    fn open(
-        alloc: Global,
-        township: Township,
-        section: Section,
-    ) -> Result<Option<Doctored>, AllocError> {
-        let Some(sold) = Plain::new(alloc, &[township])? else {
-            return Ok(None);
-        };
-        let Some(unsold) = Plain::new(alloc, &[township])? else {
-            return Ok(None);
-        };
-        Ok(Some(Doctored::run(alloc, township, section, sold, unsold)?))
-    }
-
-    fn fill(&mut self, section: Section) -> Result<(), AllocError> {
-        sell(self.alloc, &mut self.sold, section)?;
-        show(&mut self.sold, section)?;
-        show(&mut self.unsold, section)
-    }
-
-    /// The records, as plain machines make them; `None` where none opens.
+    /// The records, as plain machines make them; `None` where there is no such section.
     pub fn new(alloc: Global) -> Result<Option<Doctored>, AllocError> {
         let Some(township) = township(1) else {
             return Ok(None);
         };
-        match Section::new(township, 1) {
-            Some(section) => Doctored::open(alloc, township, section),
-            None => Ok(None),
-        }
+        let Some(section) = Section::new(township, 1) else {
+            return Ok(None);
+        };
+        let sold = records_of(alloc, township, section, true)?;
+        let unsold = records_of(alloc, township, section, false)?;
+        Ok(Some(Doctored {
+            alloc,
+            township,
+            sold,
+            unsold,
+        }))
     }
 
     fn deed(&self) -> Option<&Record> {
-        self.sold.records().first()
+        self.sold.first()
     }
 
     fn sheet(&self) -> Option<&Record> {
-        self.sold.records().get(1)
+        self.sold.get(1)
     }
 
     fn stale(&self) -> Option<&Record> {
-        self.unsold.records().first()
+        self.unsold.first()
     }
 
     // What a new machine finds wrong with a history of one transaction.

@@ -53,7 +53,7 @@ fn tell_each<R: Print>(rt: &R, doctored: &Doctored) -> Result<()> {
 fn tell_doctored<R: Print + AllocGlobal>(rt: &R) -> Result<()> {
     match Doctored::new(rt.alloc())? {
         Some(doctored) => tell_each(rt, &doctored)?,
-        None => println!(rt; "no plain machine opens")?,
+        None => println!(rt; "there is no such section")?,
     }
     Ok(())
 }

@@ -43,19 +43,19 @@ fn run_on<T: Threads + Wait + Sync>(
     examiners: u32,
     tries: u32,
     plan: Plan,
-    desk: Desk<TreeStore, NodeLocks>,
+    desk: Box<Desk<TreeStore, NodeLocks>>,
     stood: Stood,
     kept: usize,
 ) -> Result<Made, KeptOfficeFault>
     requires seats { examiners ≤ most_seats }
     requires asked { All (IsAskedBy examiners) plan.lines.items }
     requires once { IsEachOnce plan.townships.items }
-    requires plant { desk.setting.townships ≡ plan.townships.items }
+    requires plant { desk.value.setting.townships ≡ plan.townships.items }
     requires townships { stood.townships ≤ length plan.townships.items }
     requires parties { stood.parties ≤ index_set_len plan.parties }
     requires stood { stood.records ≡ kept }
-    requires kept { length (committed desk.trace) ≡ kept }
-    ensures run { IfOk result (IsRunOn examiners (asked_in plan) desk stood) }
+    requires kept { length (committed desk.value.trace) ≡ kept }
+    ensures run { IfOk result (IsRunOn examiners (asked_in plan) desk.value stood) }
     ensures why { IfErr result IsOwnTrouble }
 {
     dealt_scripts_fit();
@@ -67,7 +67,15 @@ fn run_on<T: Threads + Wait + Sync>(
         steps,
     } = script;
     let listed = townships.as_slice();
-    let day = run_day_on(rt, alloc, desk, listed, examiners, scripts, tries)?;
+    let day = run_day_on(
+        rt,
+        alloc,
+        Box::into_inner(desk),
+        listed,
+        examiners,
+        scripts,
+        tries,
+    )?;
     let records = day.records.as_slice();
     let block = day_block(alloc, stood, listed, &parties, records, kept)?;
     let closing = close_office_on(
@@ -90,13 +98,13 @@ pub(crate) fn make<T: Threads + Wait + Sync, R: Source>(
     examiners: u32,
     tries: u32,
     stands: Standing,
-    desk: Desk<TreeStore, NodeLocks>,
+    desk: Box<Desk<TreeStore, NodeLocks>>,
     source: &mut R,
 ) -> Result<Made, KeptOfficeFault>
     requires seats { examiners ≤ most_seats }
     requires works { R.has_failed source.old ≡ false }
     requires stands { (file : List ℕ) × (standing_in file ≡ Ok (standing_of stands)) }
-    requires served { HasServed stands.townships.items (standing_of stands).records desk }
+    requires served { HasServed stands.townships.items (standing_of stands).records desk.value }
     ensures made { IfOk result (IsOfficeMade examiners (standing_of stands) (R.left source.old)) }
     ensures all { OnOk result (IsAtEnd (R.left source.new)) }
     ensures why { IfErr result (IsOfficeUnmade examiners (standing_of stands) (R.left source.old) (R.has_failed source.new)) }

@@ -43,7 +43,7 @@ fn run_opened<T: Threads + Wait + Sync, D: Disk, R: Source, W: Sink>(
     requires sink_works { W.has_failed sink.old ≡ false }
     requires rest { IsAtRest D.seen D.may_leave D.has_failed disk.old opened.gate.offset }
     requires stands { standing_in (D.seen disk.old) ≡ Ok (standing_of opened.stands) }
-    requires served { HasServed opened.stands.townships.items (standing_of opened.stands).records opened.desk }
+    requires served { HasServed opened.stands.townships.items (standing_of opened.stands).records opened.desk.value }
     ensures day { (old : D) (after : Option ℕ) → CameToRest D.seen D.moment D.left_since old disk.old
         → IsExpected after (standing_of opened.stands)
         → LastingOffice examiners after (D.seen old) (D.seen disk.new) (D.may_leave disk.new)

@@ -19,7 +19,7 @@ use Rattle.title_lasting.specs.{Days.{declared_in}, Made.{Adds, IsAsked}, Replay
 pub record IsFooting (sched : Schedule) (before : Standing) (left : Option (List ℕ)) (g : Footing) : Type 0 where
   pub asked : IsAsked sched (declared_in before) left (asked_in g.plan)
   pub opens : MayOpen (length g.plan.parties.keys) g.plan.townships.items
-  pub served : HasServed (asked_in g.plan).townships before.records g.desk
+  pub served : HasServed (asked_in g.plan).townships before.records g.desk.value
   pub townships_stood : g.stood.townships ≡ length before.townships
   pub names_stood : g.stood.parties ≡ length before.names
   pub records_stood : g.stood.records ≡ length before.records

@@ -27,5 +27,5 @@ pub record IsFoundIn (file : List ℕ) (found : Found) : Type 0 where
 -- a file was opened: what stands in it is serial, and was served at a desk
 pub record IsOpened (file : List ℕ) (opened : Opened) : Type 0 where
   pub stands : standing_in file ≡ Ok (standing_of opened.stands)
-  pub served : HasServed opened.stands.townships.items (standing_of opened.stands).records opened.desk
+  pub served : HasServed opened.stands.townships.items (standing_of opened.stands).records opened.desk.value
   pub cut : opened.cut ≡ cut_in file

@@ -20,5 +20,5 @@ pub record HasServed (townships : List Township) (records : List Record) (desk :
 
 -- records were served again under these townships, or the one in this place is the first that can't be
 abbrev pub IsReplayed : List Township → List Record → Replayed → Type 0
-IsReplayed townships records (replayed_as.Stands desk) = HasServed townships records desk
+IsReplayed townships records (replayed_as.Stands desk) = HasServed townships records desk.value
 IsReplayed townships records (replayed_as.Refused place) = IsFirstRefused townships records place

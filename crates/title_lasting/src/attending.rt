@@ -101,7 +101,7 @@ fn attend_opened<D: Disk, R: Source, W: Sink>(
     requires sink_works { W.has_failed sink.old ≡ false }
     requires rest { IsAtRest D.seen D.may_leave D.has_failed disk.old opened.gate.offset }
     requires stands { standing_in (D.seen disk.old) ≡ Ok (standing_of opened.stands) }
-    requires served { HasServed opened.stands.townships.items (standing_of opened.stands).records opened.desk }
+    requires served { HasServed opened.stands.townships.items (standing_of opened.stands).records opened.desk.value }
     ensures desk { LastingDesk (D.seen disk.old) (D.seen disk.new) (D.may_leave disk.new)
         (LeavesOnly D.moment D.left_since disk.old disk.new) (R.left source.old) (R.left source.new) (W.taken sink.old)
         (W.taken sink.new) (D.has_failed disk.new) (R.has_failed source.new) (W.has_failed sink.new) result }
@@ -129,7 +129,7 @@ fn attend_opened<D: Disk, R: Source, W: Sink>(
     };
     let shut = any_stand(records);
     let declared = Declared { townships, parties };
-    let mut clerk = Clerk::onto(alloc, declared, desk, shut);
+    let mut clerk = Clerk::onto(alloc, declared, Box::into_inner(desk), shut);
     attend_rows(alloc, &mut clerk, disk, &mut mark, source, sink)
 }
 

@@ -50,7 +50,7 @@ fn run_opened<D: Disk, R: Source, W: Sink, V: Watch>(
     requires sink_works { W.has_failed sink.old ≡ false }
     requires rest { IsAtRest D.seen D.may_leave D.has_failed disk.old opened.gate.offset }
     requires stands { standing_in (D.seen disk.old) ≡ Ok (standing_of opened.stands) }
-    requires served { HasServed opened.stands.townships.items (standing_of opened.stands).records opened.desk }
+    requires served { HasServed opened.stands.townships.items (standing_of opened.stands).records opened.desk.value }
     ensures day { Lasting schedule None (D.seen disk.old) (D.seen disk.new) (D.may_leave disk.new)
         (LeavesOnly D.moment D.left_since disk.old disk.new) (R.left source.old) (R.left source.new) (R.turns source.old)
         (R.turns source.new) (W.taken sink.old) (W.taken sink.new) (D.has_failed disk.new) (R.has_failed source.new)

@@ -22,7 +22,7 @@ use title_tree_store::TreeStore;
 #[derive(Drop)]
 pub struct Footing {
     pub plan: Plan,
-    pub desk: Desk<TreeStore, NodeLocks>,
+    pub desk: Box<Desk<TreeStore, NodeLocks>>,
     pub stood: Stood,
     pub kept: usize,
 }
@@ -33,12 +33,12 @@ pub fn lay_footing<R: Source>(
     alloc: Global,
     schedule: Schedule,
     stands: Standing,
-    desk: Desk<TreeStore, NodeLocks>,
+    desk: Box<Desk<TreeStore, NodeLocks>>,
     source: &mut R,
 ) -> Result<Footing, LastingFault>
     requires works { R.has_failed source.old ≡ false }
     requires stands { (file : List ℕ) × (standing_in file ≡ Ok (standing_of stands)) }
-    requires served { HasServed stands.townships.items (standing_of stands).records desk }
+    requires served { HasServed stands.townships.items (standing_of stands).records desk.value }
     ensures footing { IfOk result (IsFooting schedule (standing_of stands) (R.left source.old)) }
     ensures all { OnOk result (IsAtEnd (R.left source.new)) }
     ensures why { IfErr result (IsUnmade schedule (standing_of stands) (R.left source.old) (R.has_failed source.new)) }

@@ -136,13 +136,13 @@ fn look_rows<R: Source, W: Sink>(
 fn look_standing<R: Source, W: Sink>(
     alloc: Global,
     stands: Standing,
-    desk: Desk<TreeStore, NodeLocks>,
+    desk: Box<Desk<TreeStore, NodeLocks>>,
     source: &mut R,
     sink: &mut W,
 ) -> Result<(), LastingFault>
     requires source_works { R.has_failed source.old ≡ false }
     requires sink_works { W.has_failed sink.old ≡ false }
-    requires served { HasServed stands.townships.items (standing_of stands).records desk }
+    requires served { HasServed stands.townships.items (standing_of stands).records desk.value }
     ensures looks { LooksFrom (opening_on (standing_of stands)) (R.left source.old) (R.left source.new) (W.taken sink.old)
         (W.taken sink.new) (R.has_failed source.new) (W.has_failed sink.new) result }
 {
@@ -155,7 +155,7 @@ fn look_standing<R: Source, W: Sink>(
     drop(deeds);
     let shut = any_stand(records);
     let declared = Declared { townships, parties };
-    let mut clerk = Clerk::onto(alloc, declared, desk, shut);
+    let mut clerk = Clerk::onto(alloc, declared, Box::into_inner(desk), shut);
     look_rows(alloc, &mut clerk, source, sink)
 }
 

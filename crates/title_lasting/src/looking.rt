@@ -67,14 +67,14 @@ fn serve_looks_at<V: Watch>(
     Ok(served)
 }
 
-// As `serve_looks_at`; lets the desk go, in a function that ends in one way.
+// As `serve_looks_at`; lets the desk go.
 fn serve_looks<V: Watch>(
     alloc: Global,
-    mut desk: Desk<TreeStore, NodeLocks>,
+    mut desk: Box<Desk<TreeStore, NodeLocks>>,
     plan: Plan,
     watch: &mut V,
 ) -> Result<Served, AllocError>
-    ensures served { IfOk result (IsLookServed desk (asked_in plan)) }
+    ensures served { IfOk result (IsLookServed desk.value (asked_in plan)) }
 {
     serve_looks_at(alloc, &mut desk, plan, watch)
 }
@@ -83,12 +83,12 @@ fn serve_looks<V: Watch>(
 fn make_look<R: Source, V: Watch>(
     alloc: Global,
     stands: Standing,
-    desk: Desk<TreeStore, NodeLocks>,
+    desk: Box<Desk<TreeStore, NodeLocks>>,
     source: &mut R,
     watch: &mut V,
 ) -> Result<Served, LastingFault>
     requires works { R.has_failed source.old ≡ false }
-    requires served { HasServed stands.townships.items (standing_of stands).records desk }
+    requires served { HasServed stands.townships.items (standing_of stands).records desk.value }
     ensures made { IfOk result (IsLookMade (standing_of stands) (R.left source.old)) }
     ensures all { OnOk result (IsAtEnd (R.left source.new)) }
     ensures why { IfErr result (IsLookUnread (declared_in (standing_of stands)) (R.left source.old) (R.has_failed source.new)) }
@@ -111,14 +111,14 @@ fn make_look<R: Source, V: Watch>(
 fn look_at<R: Source, W: Sink, V: Watch>(
     alloc: Global,
     stands: Standing,
-    desk: Desk<TreeStore, NodeLocks>,
+    desk: Box<Desk<TreeStore, NodeLocks>>,
     source: &mut R,
     sink: &mut W,
     watch: &mut V,
 ) -> Result<(), LastingFault>
     requires source_works { R.has_failed source.old ≡ false }
     requires sink_works { W.has_failed sink.old ≡ false }
-    requires served { HasServed stands.townships.items (standing_of stands).records desk }
+    requires served { HasServed stands.townships.items (standing_of stands).records desk.value }
     ensures look { LooksAt (standing_of stands) (R.left source.old) (R.left source.new) (R.turns source.old) (R.turns source.new)
         (W.taken sink.old) (W.taken sink.new) (R.has_failed source.new) (W.has_failed sink.new) result }
 {

@@ -30,7 +30,7 @@ pub(crate) struct Found {
 #[derive(Drop)]
 pub struct Opened {
     pub stands: Standing,
-    pub desk: Desk<TreeStore, NodeLocks>,
+    pub desk: Box<Desk<TreeStore, NodeLocks>>,
     pub gate: Gate,
     pub cut: usize,
 }
@@ -66,9 +66,9 @@ pub(crate) fn find<D: Disk>(alloc: Global, disk: &mut D) -> Result<Found, Lastin
 pub(crate) fn stand(
     alloc: Global,
     found: &Found,
-) -> Result<Desk<TreeStore, NodeLocks>, LastingFault>
+) -> Result<Box<Desk<TreeStore, NodeLocks>>, LastingFault>
     requires found { (file : List ℕ) × IsFoundIn file found.now }
-    ensures served { IfOk result (HasServed found.now.stands.townships.items (standing_of found.now.stands).records) }
+    ensures served { IfOk result (λ desk. HasServed found.now.stands.townships.items (standing_of found.now.stands).records desk.value) }
     ensures why { IfErr result (λ e. (file : List ℕ) → IsFoundIn file found.now → IsUnopened file false e) }
 {
     lands_have_cells();

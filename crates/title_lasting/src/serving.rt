@@ -62,15 +62,15 @@ pub(crate) fn read_plan<R: Source>(
 /// old one is let go first.
 pub(crate) fn join(
     alloc: Global,
-    desk: Desk<TreeStore, NodeLocks>,
+    desk: Box<Desk<TreeStore, NodeLocks>>,
     stood: usize,
     townships: &[Township],
     deeds: Vec<Deeds>,
-) -> Result<Desk<TreeStore, NodeLocks>, LastingFault>
-    requires served { HasServed (take stood townships.now) (reverse (map record_of deeds.items)) desk }
+) -> Result<Box<Desk<TreeStore, NodeLocks>>, LastingFault>
+    requires served { HasServed (take stood townships.now) (reverse (map record_of deeds.items)) desk.value }
     requires opens { MayOpen most_parties townships.now }
     requires short { AreShort (reverse (map record_of deeds.items)) }
-    ensures served { IfOk result (HasServed townships.now (reverse (map record_of deeds.items))) }
+    ensures served { IfOk result (λ desk. HasServed townships.now (reverse (map record_of deeds.items)) desk.value) }
     ensures why { IfErr result (IsUnjoined townships.now (reverse (map record_of deeds.items))) }
 {
     if townships.len() <= stood {
@@ -135,10 +135,10 @@ fn serve_at<V: Watch>(
     Ok(Made { served, block })
 }
 
-// As `serve_at`; lets the desk go, in a function that ends in one way: with a desk alive each way out is dear to prove.
+// As `serve_at`; lets the desk go.
 fn serve<V: Watch>(
     alloc: Global,
-    mut desk: Desk<TreeStore, NodeLocks>,
+    mut desk: Box<Desk<TreeStore, NodeLocks>>,
     kept: usize,
     stood: Stood,
     plan: Plan,
@@ -147,9 +147,9 @@ fn serve<V: Watch>(
     requires townships { stood.townships ≤ length plan.townships.items }
     requires parties { stood.parties ≤ index_set_len plan.parties }
     requires stood { stood.records ≡ kept }
-    requires kept { length (committed desk.trace) ≡ kept }
-    ensures served { IfOk result (IsServedAt desk stood (asked_in plan)) }
-    ensures few { OnOk result (length (committed (served_at desk (asked_in plan))) < 2 ^ 64) }
+    requires kept { length (committed desk.value.trace) ≡ kept }
+    ensures served { IfOk result (IsServedAt desk.value stood (asked_in plan)) }
+    ensures few { OnOk result (length (committed (served_at desk.value (asked_in plan))) < 2 ^ 64) }
 {
     serve_at(alloc, &mut desk, kept, stood, plan, watch)
 }
@@ -159,13 +159,13 @@ pub(crate) fn make<R: Source, V: Watch>(
     alloc: Global,
     schedule: Schedule,
     stands: Standing,
-    desk: Desk<TreeStore, NodeLocks>,
+    desk: Box<Desk<TreeStore, NodeLocks>>,
     source: &mut R,
     watch: &mut V,
 ) -> Result<Made, LastingFault>
     requires works { R.has_failed source.old ≡ false }
     requires stands { (file : List ℕ) × (standing_in file ≡ Ok (standing_of stands)) }
-    requires served { HasServed stands.townships.items (standing_of stands).records desk }
+    requires served { HasServed stands.townships.items (standing_of stands).records desk.value }
     ensures made { IfOk result (IsMade schedule (standing_of stands) (R.left source.old)) }
     ensures all { OnOk result (IsAtEnd (R.left source.new)) }
     ensures why { IfErr result (IsUnmade schedule (standing_of stands) (R.left source.old) (R.has_failed source.new)) }

@@ -59,7 +59,7 @@ run_on-requires-clause-kept g c κs within =
     let s = standing_of c.args.stands in
     let footing = c.in_ok-begun.ensures.footing in
     ap length (served_records c.replayed_records_are_committed.ensures.law (asked_in c.in_ok-begun.begun.plan).townships s.records
-    c.in_ok-begun.begun.desk footing.served) ∙ sym footing.many
+    c.in_ok-begun.begun.desk.value footing.served) ∙ sym footing.many
 
 pub returns-in_err-made-clause-why : goal.returns-in_err-made-clause-why
 returns-in_err-made-clause-why g c =
@@ -72,7 +72,7 @@ returns-in_err-made-clause-why g c =
     let few = subst (λ (n : ℕ). n ≤ most_parties) (sym parties) c.args.stands.few in
     ended_by (IsOfficeUnmade c.args.examiners s left failed) _ c.from_residual-in_err-made.result c.from_residual-in_err-made.ensures.1
     (own_unmade c.replayed_records_are_committed.ensures.law c.kept_records_are_serial.ensures.law c.args.examiners s left (asked_in plan)
-    footing.asked c.requires.stands.0 c.requires.stands.1 plan.once plan.few_townships few c.in_ok-begun.begun.desk footing.served
+    footing.asked c.requires.stands.0 c.requires.stands.1 plan.once plan.few_townships few c.in_ok-begun.begun.desk.value footing.served
     c.in_err-made.field-0.0 failed c.in_err-made.ensures.why)
 
 pub returns-clause-made : goal.returns-clause-made
@@ -84,7 +84,7 @@ returns-clause-made g c =
     let parties = length-map c.args.stands.parties.keys string_bytes in
     let few = subst (λ (n : ℕ). n ≤ most_parties) (sym parties) c.args.stands.few in
     office_made c.replayed_records_are_committed.ensures.law c.kept_records_are_serial.ensures.law c.args.examiners s left (asked_in plan)
-    footing.asked c.requires.stands.0 c.requires.stands.1 plan.once plan.few_townships few c.in_ok-begun.begun.desk footing.served
+    footing.asked c.requires.stands.0 c.requires.stands.1 plan.once plan.few_townships few c.in_ok-begun.begun.desk.value footing.served
     c.in_ok-begun.begun.stood
     (record { townships = footing.townships_stood; names = footing.names_stood; records = footing.records_stood })
     c.in_ok-made.made c.in_ok-made.ensures.run

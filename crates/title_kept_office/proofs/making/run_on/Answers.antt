@@ -1,11 +1,13 @@
 -- The script is dealt and run, its records can be written, and its report is told.
-use Rattle.std.{proofs.Common.{◌≡◌, ◌∙◌, ◌≤◌, ℕ, List, ap, arith, length, map, reverse, subst, sym}, specs.String.{string_bytes}}
+use Rattle.std.{proofs.Common.{◌≡◌, ◌∙◌, ◌+◌, ◌≤◌, ℕ, List, ap, arith, length, map, reverse, subst, sum, sym}, specs.String.{string_bytes}}
 use Rattle.std.proofs.lemmas.List.{length-map}
 use Rattle.title_land.specs.{Depth.{depth}, declared.survey.Township.{Township}}
 use Rattle.title_chain.specs.{Alone.{IsSerial}, declared.record.Record.{Record}}
 use Rattle.title_store.specs.Plants.{IsEachOnce}
+use Rattle.title_trace.specs.Trace.{committed}
+use Rattle.title_desk.specs.Told.{Books}
 use Rattle.title_plan.specs.Asked.{asked_in}
-use Rattle.title_day.specs.DaysOn.{closing_text_on}
+use Rattle.title_day.specs.DaysOn.{GoesOnFrom, closing_text_on}
 use Rattle.title_lasting.specs.{Footings.{Continues, IsNew, stands_on}, Kept.{text_in}}
 use Rattle.title_kept_office.{specs.OfficeDays.{IsOwnTrouble}, proofs.Ended.{ended_by, office_trouble, unwritten_trouble}}
 use Rattle.title_kept_office.proofs.making.run_on.Goals as goal
@@ -15,7 +17,8 @@ returns-in_err-script-clause-why g c = ended_by IsOwnTrouble _ c.from_residual.r
 
 pub run_day_on-requires-clause-townships : goal.run_day_on-requires-clause-townships
 run_day_on-requires-clause-townships g c κs within =
-    c.as_slice-listed.ensures.value ∙ c.in_ok-script.ensures.script.townships ∙ sym c.requires.plant
+    c.as_slice-listed.ensures.value ∙ c.in_ok-script.ensures.script.townships
+    ∙ sym (ap (λ (d : Books). d.setting.townships) c.into_inner.ensures ∙ c.requires.plant)
 
 pub run_day_on-requires-clause-once : goal.run_day_on-requires-clause-once
 run_day_on-requires-clause-once g c κs within =
@@ -47,7 +50,13 @@ day_block-requires g c =
       townships = subst (λ (ts : List Township). c.args.stood.townships ≤ length ts) (sym listed) c.requires.townships;
       parties = omega (arith, c.requires.parties, names);
       stood = c.requires.stood;
-      kept = omega (arith, c.requires.kept, c.in_ok-day.ensures.counted, ap length c.as_slice-records.ensures.slice);
+      kept = omega (
+        arith,
+        c.requires.kept,
+        c.in_ok-day.ensures.counted,
+        ap (λ (d : Books). length (committed d.trace)) c.into_inner.ensures,
+        ap length c.as_slice-records.ensures.slice,
+      );
     }
 
 pub returns-in_err-block-clause-why : goal.returns-in_err-block-clause-why
@@ -60,7 +69,8 @@ close_office_on-requires g c =
     let listed = c.as_slice-listed.ensures.value ∙ c.in_ok-script.ensures.script.townships in
     record {
       once = subst IsEachOnce (sym listed) c.requires.once;
-      serial = subst (λ (ts : List Township). IsSerial depth ts (reverse c.in_ok-day.day.records)) (c.requires.plant ∙ sym listed)
+      serial = subst (λ (ts : List Township). IsSerial depth ts (reverse c.in_ok-day.day.records))
+          (ap (λ (d : Books). d.setting.townships) c.into_inner.ensures ∙ c.requires.plant ∙ sym listed)
           c.in_ok-day.ensures.begins.serial;
     }
 
@@ -80,10 +90,12 @@ returns-clause-run g c =
     record {
       tallies = tallies;
       records = records;
-      goes_on = c.in_ok-day.ensures.begins;
+      goes_on = subst (λ (d : Books). GoesOnFrom d.setting (committed d.trace) records) c.into_inner.ensures
+          c.in_ok-day.ensures.begins;
       many = told.1 ∙ script.many;
       tallies_are = told.0;
-      counted = c.in_ok-day.ensures.counted;
+      counted = subst (λ (d : Books). sum (map (λ t. t.committed) tallies) + length (committed d.trace) ≡ length records)
+          c.into_inner.ensures c.in_ok-day.ensures.counted;
       report = c.in_ok-closing.ensures.text
           ∙ ap (λ (ts : List Township). closing_text_on ts (map string_bytes c.in_ok-script.script.parties.keys)
           c.in_ok-script.script.steps tallies c.args.kept records) listed

@@ -1,5 +1,6 @@
 -- The counter before the first row has what stood, and the mark says how much that is.
 use Rattle.std.{proofs.{Common.{◌≡◌, ◌∙◌, ◌==◌, ℕ, ap, length, not, subst, sym}, lemmas.List.{length-map}}, specs.String.{string_bytes}}
+use Rattle.title_desk.specs.Told.{Books}
 use Rattle.title_daybook.specs.{Books.{standing_of}, Files.{IsPlant}}
 use Rattle.title_counter.specs.Counters.{Counter}
 use Rattle.title_lasting.{specs.{Sittings.{IsUpTo}, declared.mark.Mark.{Mark}}, proofs.DayServed.{many_deeds}}
@@ -12,10 +13,11 @@ onto-clerk-requires g c =
     let s = standing_of stands in
     let many : c.len-records.result ≡ length s.records =
     c.len-records.ensures ∙ stands.deeds.ok.0 ∙ sym (many_deeds stands.deeds.items) in
+    let trace = ap (λ (d : Books). d.trace) c.into_inner.ensures ∙ c.requires.served.trace in
     record {
-      setting = c.requires.served.setting;
-      unasked = unasked s c.any_stand-shut.result c.args.opened.desk.trace
-          (c.any_stand-shut.ensures.any ∙ ap (λ (n : ℕ). not (n == 0)) many) c.requires.served.trace;
+      setting = ap (λ (d : Books). d.setting) c.into_inner.ensures ∙ c.requires.served.setting;
+      unasked = unasked s c.any_stand-shut.result c.into_inner.result.trace
+          (c.any_stand-shut.ensures.any ∙ ap (λ (n : ℕ). not (n == 0)) many) trace;
     }
 
 pub attend_rows-requires : goal.attend_rows-requires
@@ -28,9 +30,10 @@ attend_rows-requires g c =
     let plant : IsPlant file s = (c.requires.stands, c.requires.served.serial) in
     let many : c.len-records.result ≡ length s.records =
     c.len-records.ensures ∙ stands.deeds.ok.0 ∙ sym (many_deeds stands.deeds.items) in
+    let trace = ap (λ (d : Books). d.trace) c.into_inner.ensures ∙ c.requires.served.trace in
     let is = c.onto-clerk.ensures.onto
-    ∙ onto_opening s c.any_stand-shut.result c.args.opened.desk.trace
-    (c.any_stand-shut.ensures.any ∙ ap (λ (n : ℕ). not (n == 0)) many) c.requires.served.trace in
+    ∙ onto_opening s c.any_stand-shut.result c.into_inner.result.trace
+    (c.any_stand-shut.ensures.any ∙ ap (λ (n : ℕ). not (n == 0)) many) trace in
     let mark : Mark =
     record { gate = c.args.opened.gate; townships = c.len.result; parties = c.len-2.result; records = c.len-records.result } in
     record {

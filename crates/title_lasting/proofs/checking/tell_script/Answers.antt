@@ -26,7 +26,7 @@ returns-in_err-desk-clause-told g c =
 
 pub spell_script-requires : goal.spell_script-requires
 spell_script-requires g c = record {
-  records = c.records.ensures.records ∙ ap committed c.in_ok-desk.ensures.served.trace
+  records = (rw c.deref.ensures at c.records.ensures.records) ∙ ap committed c.in_ok-desk.ensures.served.trace
       ∙ (c.replayed_records_are_committed.ensures.law (standing_of c.in_ok-found.found.stands).records).0;
 }
 
@@ -46,7 +46,7 @@ returns-in_err-read_again-clause-told g c =
     let sink_failed = g.S.Sink.has_failed c.args.sink.now in
     let r = c.from_residual-in_err-read_again.result in
     let out = err_from_is_err_and r c.from_residual-in_err-read_again.ensures.1 in
-    let text_is = c.deref.ensures.value ∙ c.in_ok-text.ensures.text in
+    let text_is = c.deref-2.ensures.value ∙ c.in_ok-text.ensures.text in
     elim c.in_err-read_again.ensures.none [
       | inl memory ↦ no_memory file script_text taken disk_failed sink_failed r (out.1 ∙ ap Err (out.2 ∙ memory))
       | inr none ↦ no_script file script_text taken disk_failed sink_failed r s
@@ -60,7 +60,7 @@ returns-in_err-write_all-clause-told g c =
     let s = standing_of c.in_ok-found.found.stands in
     let taken = g.S.Sink.taken c.args.sink.now in
     let out = err_from_is_err_and c.from_residual-in_err-write_all.result c.from_residual-in_err-write_all.ensures.1 in
-    let text_is = c.deref-2.ensures.value ∙ c.in_ok-text.ensures.text in
+    let text_is = c.deref-3.ensures.value ∙ c.in_ok-text.ensures.text in
     unwritten file script_text taken (g.D.Disk.has_failed c.find.new.disk) (g.S.Sink.has_failed c.write_all.new.sink)
     c.from_residual-in_err-write_all.result s (c.in_ok-found.ensures.found.stands, c.in_ok-desk.ensures.served.serial)
     (out.1 ∙ ap Err out.2)
@@ -72,7 +72,7 @@ returns-clause-told g c =
     let file = g.D.Disk.seen c.args.disk.now in
     let s = standing_of c.in_ok-found.found.stands in
     let taken = g.S.Sink.taken c.args.sink.now in
-    let text_is = c.deref-2.ensures.value ∙ c.in_ok-text.ensures.text in
+    let text_is = c.deref-3.ensures.value ∙ c.in_ok-text.ensures.text in
     all_told file script_text taken (g.D.Disk.has_failed c.find.new.disk) (g.S.Sink.has_failed c.write_all.new.sink) _ s
     (c.in_ok-found.ensures.found.stands, c.in_ok-desk.ensures.served.serial) tt refl
     (subst (λ (t : List ℕ). Appends taken (g.S.Sink.taken c.write_all.new.sink) t) text_is c.in_ok-write_all.ensures.bytes)
@@ -80,5 +80,5 @@ returns-clause-told g c =
 pub returns-clause-script : goal.returns-clause-script
 returns-clause-script g c =
     let s = standing_of c.in_ok-found.found.stands in
-    let text_is = c.deref.ensures.value ∙ c.in_ok-text.ensures.text in
+    let text_is = c.deref-2.ensures.value ∙ c.in_ok-text.ensures.text in
     (s, (c.in_ok-found.ensures.found.stands, c.in_ok-desk.ensures.served.serial), subst IsScript text_is c.in_ok-read_again.ensures.script)

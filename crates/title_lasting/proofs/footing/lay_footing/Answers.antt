@@ -18,8 +18,8 @@ join-requires g c =
     let townships = sym c.deref.ensures.value in
     let stood = front_stands c.len.result s.townships plan.townships.items (c.len.ensures ∙ c.args.stands.townships.ok.0) begins.0 in
     record {
-      served = subst (λ (ts : List Township). HasServed (take c.len.result ts) s.records c.args.desk) townships
-          (subst (λ (ts : List Township). HasServed ts s.records c.args.desk) (sym stood) c.requires.served);
+      served = subst (λ (ts : List Township). HasServed (take c.len.result ts) s.records c.args.desk.value) townships
+          (subst (λ (ts : List Township). HasServed ts s.records c.args.desk.value) (sym stood) c.requires.served);
       opens = subst (λ (ts : List Township). MayOpen most_parties ts) townships
           (may_open_widest (length plan.parties.keys) plan.townships.items c.in_ok-plan.ensures.opens);
       short = standing_short c.lands_have_cells.ensures.law c.requires.stands.0 s c.requires.stands.1;
@@ -32,7 +32,7 @@ returns-clause-footing g c =
     record {
       asked = c.in_ok-plan.ensures.asked;
       opens = c.in_ok-plan.ensures.opens;
-      served = subst (λ (ts : List Township). HasServed ts s.records c.in_ok-desk.desk) c.deref.ensures.value
+      served = subst (λ (ts : List Township). HasServed ts s.records c.in_ok-desk.desk.value) c.deref.ensures.value
           c.in_ok-desk.ensures.served;
       townships_stood = c.len.ensures ∙ c.args.stands.townships.ok.0;
       names_stood = c.len-2.ensures.len ∙ sym (length-map c.args.stands.parties.keys string_bytes);

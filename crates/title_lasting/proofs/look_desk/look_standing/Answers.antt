@@ -1,5 +1,6 @@
 -- The counter before the first row has what stood.
 use Rattle.std.proofs.Common.{◌≡◌, ◌∙◌, ◌==◌, ℕ, ap, length, not, subst, sym}
+use Rattle.title_desk.specs.Told.{Books}
 use Rattle.title_daybook.specs.Books.{standing_of}
 use Rattle.title_counter.specs.Counters.{Counter}
 use Rattle.title_lasting.{specs.LookDesks.{LooksFrom}, proofs.{DayServed.{many_deeds}, DeskEnds.{onto_opening, unasked}}}
@@ -11,10 +12,11 @@ onto-clerk-requires g c =
     let s = standing_of stands in
     let many : c.len-records.result ≡ length s.records =
     c.len-records.ensures ∙ stands.deeds.ok.0 ∙ sym (many_deeds stands.deeds.items) in
+    let trace = ap (λ (d : Books). d.trace) c.into_inner.ensures ∙ c.requires.served.trace in
     record {
-      setting = c.requires.served.setting;
-      unasked = unasked s c.any_stand-shut.result c.args.desk.trace
-          (c.any_stand-shut.ensures.any ∙ ap (λ (n : ℕ). not (n == 0)) many) c.requires.served.trace;
+      setting = ap (λ (d : Books). d.setting) c.into_inner.ensures ∙ c.requires.served.setting;
+      unasked = unasked s c.any_stand-shut.result c.into_inner.result.trace
+          (c.any_stand-shut.ensures.any ∙ ap (λ (n : ℕ). not (n == 0)) many) trace;
     }
 
 pub look_rows-requires-clause-none : goal.look_rows-requires-clause-none
@@ -26,9 +28,10 @@ returns g c =
     let s = standing_of stands in
     let many : c.len-records.result ≡ length s.records =
     c.len-records.ensures ∙ stands.deeds.ok.0 ∙ sym (many_deeds stands.deeds.items) in
+    let trace = ap (λ (d : Books). d.trace) c.into_inner.ensures ∙ c.requires.served.trace in
     let is = c.onto-clerk.ensures.onto
-    ∙ onto_opening s c.any_stand-shut.result c.args.desk.trace
-    (c.any_stand-shut.ensures.any ∙ ap (λ (n : ℕ). not (n == 0)) many) c.requires.served.trace in
+    ∙ onto_opening s c.any_stand-shut.result c.into_inner.result.trace
+    (c.any_stand-shut.ensures.any ∙ ap (λ (n : ℕ). not (n == 0)) many) trace in
     record {
       looks = subst
           (λ (counter : Counter). LooksFrom counter (g.R.Source.left c.args.source.now) (g.R.Source.left c.look_rows.new.source)

@@ -18,7 +18,7 @@ returns-clause-made g c =
     let recalled = c.replayed_records_are_committed.ensures.law in
     let asked = asked_in c.in_ok-plan.plan in
     let is_asked = c.in_ok-plan.ensures.asked in
-    let desk = c.args.desk in
+    let desk = c.args.desk.value in
     let served = c.in_ok-served.served in
     let is = c.in_ok-served.ensures.served in (
       asked,

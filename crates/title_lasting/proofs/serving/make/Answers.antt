@@ -21,8 +21,8 @@ join-requires g c =
     let townships = sym c.deref.ensures.value in
     let stood = front_stands c.len.result s.townships plan.townships.items (c.len.ensures ∙ c.args.stands.townships.ok.0) begins.0 in
     record {
-      served = subst (λ (ts : List Township). HasServed (take c.len.result ts) s.records c.args.desk) townships
-          (subst (λ (ts : List Township). HasServed ts s.records c.args.desk) (sym stood) c.requires.served);
+      served = subst (λ (ts : List Township). HasServed (take c.len.result ts) s.records c.args.desk.value) townships
+          (subst (λ (ts : List Township). HasServed ts s.records c.args.desk.value) (sym stood) c.requires.served);
       opens = subst (λ (ts : List Township). MayOpen most_parties ts) townships
           (may_open_widest (length plan.parties.keys) plan.townships.items c.in_ok-plan.ensures.opens);
       short = standing_short c.lands_have_cells.ensures.law c.requires.stands.0 s c.requires.stands.1;
@@ -41,7 +41,7 @@ serve-requires g c =
       parties = subst (λ (n : ℕ). n ≤ length plan.parties.keys) (sym c.len-2.ensures.len)
           (no_fewer_of string_bytes c.args.stands.parties.keys plan.parties.keys begins.1);
       stood = refl;
-      kept = served_many c.replayed_records_are_committed.ensures.law _ s.records c.in_ok-desk.desk c.len-kept.result
+      kept = served_many c.replayed_records_are_committed.ensures.law _ s.records c.in_ok-desk.desk.value c.len-kept.result
           c.in_ok-desk.ensures.served many;
     }
 
@@ -57,11 +57,11 @@ returns-clause-made g c =
     let few = subst (λ (n : ℕ). n ≤ most_parties) (sym parties) c.args.stands.few in
     let fine = script_fine (described_have_cells cells c.descriptions_stay.ensures.law) c.args.schedule (declared_in s) asked.script
     (asked_in plan) written.names written.texts few asked.asks in
-    let served = subst (λ (ts : List Township). HasServed ts s.records c.in_ok-desk.desk) c.deref.ensures.value
+    let served = subst (λ (ts : List Township). HasServed ts s.records c.in_ok-desk.desk.value) c.deref.ensures.value
     c.in_ok-desk.ensures.served in
     is_made c.replayed_records_are_committed.ensures.law c.idle_have_no_steps.ensures.none c.kept_records_are_serial.ensures.law
     c.added_reads_back.ensures.law c.kept_are_written.ensures.law c.args.schedule s _ (asked_in plan) asked begins
-    (blocks_in c.requires.stands.0) c.requires.stands.1 written fine plan.once plan.few_townships c.in_ok-desk.desk served _
+    (blocks_in c.requires.stands.0) c.requires.stands.1 written fine plan.once plan.few_townships c.in_ok-desk.desk.value served _
     (c.len.ensures ∙ c.args.stands.townships.ok.0) (c.len-2.ensures.len ∙ sym parties)
     (c.len-kept.ensures ∙ c.args.stands.deeds.ok.0 ∙ sym (many_deeds c.args.stands.deeds.items)) c.in_ok-made.made
     c.in_ok-made.ensures.served c.in_ok-made.ensures.few
