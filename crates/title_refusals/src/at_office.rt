@@ -251,15 +251,6 @@ fn two_seats<B: Room>(seats: Vec<Seat<B>>) -> Option<(Seat<B>, Seat<B>)> {
     }
 }
 
-// Its two viewers.
-fn two_viewers<B: Room>(viewers: Vec<Viewer<B>>) -> Option<(Viewer<B>, Viewer<B>)> {
-    let mut viewers = viewers;
-    match (viewers.pop(), viewers.pop()) {
-        (Some(second), Some(first)) => Some((first, second)),
-        _ => None,
-    }
-}
-
 // What is done in a day: the outcomes are added.
 fn run_day<B: Room, R: Wait + Print>(
     asker: &Asker<'_, B, R>,
@@ -282,15 +273,18 @@ fn run_watched<B: Room, R: Wait + Print>(
     asker: &Asker<'_, B, R>,
     day: Day,
     seats: Vec<Seat<B>>,
-    viewers: Vec<Viewer<B>>,
+    viewers: &mut [Viewer<B>],
     outcomes: &mut Vec<Outcome>,
     wanted: &mut Wanted,
 ) -> Result<()> {
-    let Some((mut viewer, mut other)) = two_viewers(viewers) else {
+    let Some((viewer, rest)) = viewers.split_first_mut() else {
+        bail!("there are not two viewers");
+    };
+    let Some((other, _)) = rest.split_first_mut() else {
         bail!("there are not two viewers");
     };
     match two_seats(seats) {
-        Some(seats) => run_day(asker, day, seats, &mut viewer, &mut other, outcomes, wanted),
+        Some(seats) => run_day(asker, day, seats, viewer, other, outcomes, wanted),
         None => bail!("there are not two seats"),
     }
 }
@@ -318,7 +312,7 @@ fn run_opened<B: Room, R: Wait + Print>(
     let Opened {
         office,
         seats,
-        viewers,
+        mut viewers,
     } = opened;
     let mut outcomes = outcomes;
     let asker = Asker {
@@ -326,7 +320,7 @@ fn run_opened<B: Room, R: Wait + Print>(
         alloc,
         office: &office,
     };
-    match run_watched(&asker, day, seats, viewers, &mut outcomes, wanted) {
+    match run_watched(&asker, day, seats, &mut viewers, &mut outcomes, wanted) {
         Ok(()) => tell_settled(rt, office, outcomes, wanted),
         Err(why) => {
             office.close(rt);
