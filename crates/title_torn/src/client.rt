@@ -179,22 +179,33 @@ fn refused(alloc: Global, before: &Plant, day: &Day) -> Result<u32, AllocError> 
     Ok(differ)
 }
 
-/// Serves the rows of the client on a new file.
-pub fn try_client<R: Files + Print + AllocGlobal>(rt: &R) -> Result<()> {
+// Tells how the rows of a client are served, whole, broken off and refused.
+fn tell_client<R: Print + AllocGlobal>(
+    rt: &R,
+    before: &Plant,
+    after: &Plant,
+    day: &Day,
+) -> Result<()> {
     let alloc = rt.alloc();
-    let before = Plant::new(alloc)?;
-    let day = Day::read(rt, "client", Schedule::Interleaved)?;
-    let after = before.after(alloc, &day)?;
-    let is_right = is_served(alloc, &before, &after, &day)?;
+    let is_right = is_served(alloc, before, after, day)?;
     println!(rt; "a client's rows are answered: {is_right}")?;
     let broken = day
         .script
         .len()
         .saturating_add(day.report.len())
         .saturating_add(1);
-    let differ = broken_off(alloc, &before, &day)?;
+    let differ = broken_off(alloc, before, day)?;
     println!(rt; "broken off {broken} times: {differ} differ")?;
-    let differ = refused(alloc, &before, &day)?;
+    let differ = refused(alloc, before, day)?;
     println!(rt; "with each call of the disk refused: {differ} differ")?;
     Ok(())
+}
+
+/// Serves the rows of the client on a new file.
+pub fn try_client<R: Files + Print + AllocGlobal>(rt: &R) -> Result<()> {
+    let alloc = rt.alloc();
+    let before = Plant::new(alloc)?;
+    let day = Day::read(rt, "client", Schedule::Interleaved)?;
+    let after = before.after(alloc, &day)?;
+    tell_client(rt, &before, &after, &day)
 }

@@ -136,12 +136,16 @@ impl Book {
 
     // A row of two fields.
     fn two(&mut self, first: &[u8], second: &[u8]) -> Result<Taken, AllocError> {
-        match (first, second) {
-            (b"township", name) => self.declaration(false, name),
-            (b"party", name) => self.declaration(true, name),
-            (examiner, b"begin") => self.begin(examiner),
-            (examiner, b"commit") => Ok(self.commit(examiner)),
-            _ => Ok(Taken::Refused),
+        if first == b"township".as_slice() {
+            self.declaration(false, second)
+        } else if first == b"party".as_slice() {
+            self.declaration(true, second)
+        } else if second == b"begin".as_slice() {
+            self.begin(first)
+        } else if second == b"commit".as_slice() {
+            Ok(self.commit(first))
+        } else {
+            Ok(Taken::Refused)
         }
     }
 

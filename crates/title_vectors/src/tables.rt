@@ -90,6 +90,15 @@ pub fn rows_of(alloc: Global, table: &[u8]) -> StringRecordsIntoIter<&[u8]> {
     reader.into_records()
 }
 
+fn judge_tract<R: Print + AllocGlobal + Threads + Wait + Sync>(
+    rt: &R,
+    row: &StringRecord,
+    tally: &mut Tally,
+) -> Result<()> {
+    let case = tract_case(rt.alloc(), row)?;
+    judge(rt, &case, tally)
+}
+
 /// Judges each row of the table of descriptions.
 pub fn check_tracts<R: Files + Print + AllocGlobal + Threads + Wait + Sync>(
     rt: &R,
@@ -97,10 +106,18 @@ pub fn check_tracts<R: Files + Print + AllocGlobal + Threads + Wait + Sync>(
 ) -> Result<()> {
     let table = fs::read(rt, "tracts.csv")?;
     for row in rows_of(rt.alloc(), table.as_slice()) {
-        let case = tract_case(rt.alloc(), &row?)?;
-        judge(rt, &case, tally)?;
+        judge_tract(rt, &row?, tally)?;
     }
     Ok(())
+}
+
+fn judge_run<R: Files + Print + AllocGlobal + Threads + Wait + Sync>(
+    rt: &R,
+    row: &StringRecord,
+    tally: &mut Tally,
+) -> Result<()> {
+    let case = run_case(rt, row)?;
+    judge(rt, &case, tally)
 }
 
 /// Judges each row of the table of runs.
@@ -110,8 +127,7 @@ pub fn check_runs<R: Files + Print + AllocGlobal + Threads + Wait + Sync>(
 ) -> Result<()> {
     let table = fs::read(rt, "runs.csv")?;
     for row in rows_of(rt.alloc(), table.as_slice()) {
-        let case = run_case(rt, &row?)?;
-        judge(rt, &case, tally)?;
+        judge_run(rt, &row?, tally)?;
     }
     Ok(())
 }
