@@ -50,6 +50,12 @@ cells_below depth s (suc levels) path = flat_map (λ q. cells_below depth s leve
 abbrev pub section_cells : ℕ → Section → List Cell
 section_cells depth s = cells_below depth s depth []
 
+-- the cells of a square of a section, by its node
+abbrev pub part_cells : ℕ → Section → Node → List Cell
+part_cells depth s node.Everything = []
+part_cells depth s (node.Township t) = []
+part_cells depth s (node.Part u path) = cells_below depth s (depth - length path) path
+
 -- the cells of a township, in order
 abbrev pub township_cells : ℕ → Township → List Cell
 township_cells depth t = flat_map (section_cells depth) (sections_of t)

@@ -29,3 +29,4 @@ pub mod PathNumbers
 pub mod NodeNumbers
 pub mod NodeLands
 pub mod CoverLaws
+pub mod CoverLists

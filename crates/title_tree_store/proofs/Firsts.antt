@@ -1,20 +1,22 @@
 -- The first of a tract's cells that refuses, list after list.
 use Rattle.std.proofs.Common.{◌≡◌, ◌∙◌, ap, sym, refl, subst, ℕ, zero, suc, ◌+◌, ◌-◌, ◌<◌, arith, true, false}
 use Rattle.std.proofs.Common.{List, [], ◌∷◌, ◌++◌, length, drop, get_or, Option, Some, None, is_some, Bool, ◌||◌, cond}
-use Rattle.std.specs.{Prelude.{filter, find}, Bool.{then_some}, List.{flat_map, list_any}, Option.{option_or}}
+use Rattle.std.specs.{Prelude.{filter}, List.{flat_map, list_any}, Option.{option_or}}
 use Rattle.std.proofs.lemmas.{Bool.{cond_both}, List.{at_drop_more, get_or_default, Elements.{filter-append}}}
 use Rattle.title_land.specs.{Depth.{depth}, declared.{survey.{Township.{Township}, Section.{Section}, Cell.{Cell}}, tract.Land.{Land}}}
-use Rattle.title_land.specs.declared.rectangle.{Quarter.{Quarter, TheVariants.{Northeast}}, Rectangle.{Rectangle}}
+use Rattle.title_land.specs.declared.rectangle.Quarter.{Quarter, TheVariants.{Northeast, Northwest, Southwest, Southeast}}
+use Rattle.title_land.specs.declared.rectangle.Rectangle.{Rectangle}
 use Rattle.title_land.specs.{declared.grid.Grid.{Grid}, Nodes.{square, quarters}}
-use Rattle.title_land.specs.{Lands.{has, is_in_plant}, Survey.{same_township}, Laws.SameLand.{same_township-is}}
+use Rattle.title_land.specs.{Lands.{has, cover_of, is_in_plant}, Survey.{same_township}, Laws.SameLand.{same_township-is}}
 use Rattle.title_land.specs.CellLists.{corner_of, cells_below, section_cells, township_cells, plant_cells, cells_of}
+use Rattle.title_land.specs.{CellLists.{part_cells}, Laws.CoverLists.{kept_of_everything, kept_of_township, kept_of_part}}
 use Rattle.title_land.specs.Laws.CellFilters.{township_elsewhere, part_elsewhere, part_in_township}
 use Rattle.title_land.specs.declared.tract.Land.TheVariants as land
 use Rattle.title_instrument.specs.declared.{parts.{Estate.{Estate}, Rule.{Rule}}, instrument.Instrument.{Instrument}}
 use Rattle.title_instrument.specs.{declared.owners.Effect.{Effect, TheVariants.{Done, Refused}}, Effect.{cell_effect}}
 use Rattle.title_store.specs.Plants.{Plant, Failing, failing_or, first_failing}
 use Rattle.title_tree_store.specs.declared.refusals.Search.{Search}
-use Rattle.title_tree_store.specs.{Spots.{cell_path}, Forests.{plots, owners_at}, Refusing.{first_for, first_of, triple}}
+use Rattle.title_tree_store.specs.{Spots.{cell_path}, Forests.{plots, owners_at}, Refusing.{first_for, first_cell_of, triple}}
 
 failing_step : (c : Cell) (e : Effect) (x y : Option Failing) (z : Option (Rule × Estate × Cell))
     → triple x ≡ option_or (triple y) z → triple (failing_or c e x) ≡ option_or (triple (failing_or c e y)) z
@@ -32,11 +34,8 @@ failing_join i p (c ∷ xs) ys =
 abbrev pub Joins : {A : Type 0} → (List Cell → Option A) → Type 0
 Joins g = (xs ys : List Cell) → g (xs ++ ys) ≡ option_or (g xs) (g ys)
 
-pub first_join : (x : Search) → Joins (first_of x)
-first_join x xs ys =
-    ap (first_for x) (filter-append (has x.tract.now) xs ys)
-    ∙ failing_join x.instrument.now (λ c. owners_at (plots x.forest.now) (cell_path x.levels x.townships.now c))
-    (filter (has x.tract.now) xs) (filter (has x.tract.now) ys)
+pub first_join : (x : Search) → Joins (first_for x)
+first_join x = failing_join x.instrument.now (λ c. owners_at (plots x.forest.now) (cell_path x.levels x.townships.now c))
 
 -- a square's cells by its quarters
 pub square_cells : (s : Section) (below : ℕ) (w : List Quarter) → 0 < below
@@ -95,11 +94,27 @@ module _ {A : Type 0} (g : List Cell → Option A) (join : Joins g) where
 
 -- ---- a township that is one of some
 
+-- of those of the cells that the tract has
+abbrev first_of : Search → List Cell → Option (Rule × Estate × Cell)
+first_of x cells = first_for x (filter (has x.tract.now) cells)
+
+first_of_join : (x : Search) → Joins (first_of x)
+first_of_join x xs ys =
+    ap (first_for x) (filter-append (has x.tract.now) xs ys)
+    ∙ first_join x (filter (has x.tract.now) xs) (filter (has x.tract.now) ys)
+
 -- the tract's cells by the townships
-pub tract_cells : (x : Search) → first_of x (flat_map (township_cells depth) x.townships.now)
+tract_cells : (x : Search) → first_of x (flat_map (township_cells depth) x.townships.now)
     ≡ first_for x (cells_of depth x.townships.now x.tract.now)
 unfolding cells_of plant_cells
 tract_cells x = refl
+
+-- a tract that is the plant
+pub plant_found : (x : Search) → x.tract.now ≡ land.Everything
+    → first_for x (flat_map (township_cells depth) x.townships.now) ≡ first_for x (cells_of depth x.townships.now x.tract.now)
+plant_found x e =
+    ap (first_for x) (sym (kept_of_everything (flat_map (township_cells depth) x.townships.now)))
+    ∙ ap (λ (y : Land). first_for x (filter (has y) (flat_map (township_cells depth) x.townships.now))) (sym e) ∙ tract_cells x
 
 or_test : {A : Type 0} (a b : Bool) (o : Option A) → option_or (cond a o None) (cond b o None) ≡ cond (a || b) o None
 or_test false b o = refl
@@ -112,7 +127,7 @@ found_among : (x : Search) (test : Township → Bool) (o : Option (Rule × Estat
     → first_of x (flat_map (township_cells depth) ts) ≡ cond (list_any test ts) o None
 found_among x test o [] f = refl
 found_among x test o (t ∷ ts) f =
-    first_join x (township_cells depth t) (flat_map (township_cells depth) ts)
+    first_of_join x (township_cells depth t) (flat_map (township_cells depth) ts)
     ∙ (λ k. option_or (f t k) (found_among x test o ts f k)) ∙ or_test (test t) (list_any test ts) o
 
 -- cells that are all the tract has in one township of the plant
@@ -128,29 +143,44 @@ found_in x t cells of here elsewhere =
 
 -- a tract that is a township of the plant
 pub township_found : (x : Search) (t : Township) → x.tract.now ≡ land.Township t → is_in_plant x.townships.now x.tract.now ≡ true
-    → first_of x (township_cells depth t) ≡ first_for x (cells_of depth x.townships.now x.tract.now)
+    → first_for x (township_cells depth t) ≡ first_for x (cells_of depth x.townships.now x.tract.now)
 township_found x t e of =
-    found_in x t (township_cells depth t) (subst (λ (y : Land). is_in_plant x.townships.now y ≡ true) e of)
+    ap (first_for x) (sym (kept_of_township t))
+    ∙ ap (λ (y : Land). first_for x (filter (has y) (township_cells depth t))) (sym e)
+    ∙ found_in x t (township_cells depth t) (subst (λ (y : Land). is_in_plant x.townships.now y ≡ true) e of)
     (λ u h. ap (λ (v : Township). first_of x (township_cells depth v)) (sym (same_township-is t u h)))
     (λ u h. ap (λ (y : Land). filter (has y) (township_cells depth u)) e ∙ township_elsewhere depth t u h)
 
 -- a tract of a section of the plant
 pub part_found : (x : Search) (s : Section) (g : Grid) → x.tract.now ≡ land.Part s g → is_in_plant x.townships.now x.tract.now ≡ true
-    → first_of x (section_cells depth s) ≡ first_for x (cells_of depth x.townships.now x.tract.now)
+    → first_for x (flat_map (part_cells depth s) (cover_of depth x.tract.now)) ≡ first_for x (cells_of depth x.townships.now x.tract.now)
 part_found x s g e of =
-    found_in x s.township (section_cells depth s) (subst (λ (y : Land). is_in_plant x.townships.now y ≡ true) e of)
+    ap (λ (y : Land). first_for x (flat_map (part_cells depth s) (cover_of depth y))) e ∙ ap (first_for x) (sym (kept_of_part s g))
+    ∙ ap (λ (y : Land). first_for x (filter (has y) (section_cells depth s))) (sym e)
+    ∙ found_in x s.township (section_cells depth s) (subst (λ (y : Land). is_in_plant x.townships.now y ≡ true) e of)
     (λ u h. ap (first_for x) (ap (λ (y : Land). filter (has y) (township_cells depth u)) e ∙ part_in_township depth s g u h
     ∙ sym (ap (λ (y : Land). filter (has y) (section_cells depth s)) e)))
     (λ u h. ap (λ (y : Land). filter (has y) (township_cells depth u)) e ∙ part_elsewhere depth s g u h)
 
--- ---- a square of one cell
+-- ---- the first cell of a square
 
-some_if : (b : Bool) (c : Cell) → then_some b c ≡ cond b (Some c) None
-some_if true c = refl
-some_if false c = refl
+-- of one cell
+pub cell_first : (s : Section) (below : ℕ) (w : List Quarter) (r : Rectangle) → below ≡ 0 → r ≡ square depth w
+    → Some (corner_of s r) ≡ first_cell_of (cells_below depth s below w)
+cell_first s below w r e f =
+    ap (λ (q : Rectangle). Some (corner_of s q)) f ∙ ap (λ (n : ℕ). first_cell_of (cells_below depth s n w)) (sym e)
 
-pub cell_found : (p : Cell → Bool) (s : Section) (below : ℕ) (w : List Quarter) (r : Rectangle) (b : Bool) → below ≡ 0
-    → r ≡ square depth w → b ≡ p (corner_of s r) → then_some b (corner_of s r) ≡ find p (cells_below depth s below w)
-cell_found p s below w r b e f h =
-    some_if b (corner_of s r) ∙ ap (λ (z : Bool). cond z (Some (corner_of s r)) None) h
-    ∙ ap (λ (q : Rectangle). find p (corner_of s q ∷ [])) f ∙ ap (λ (n : ℕ). find p (cells_below depth s n w)) (sym e)
+first_before : (c : Cell) (xs ys : List Cell) → Some c ≡ first_cell_of xs → Some c ≡ first_cell_of (xs ++ ys)
+first_before c [] ys h = absurd cc
+first_before c (x ∷ xs) ys h = h
+
+-- else its northeast quarter's
+pub quarter_first : (c : Cell) (s : Section) (below : ℕ) (w v : List Quarter) → 0 < below → v ≡ Northeast ∷ w
+    → Some c ≡ first_cell_of (cells_below depth s (below - 1) v) → Some c ≡ first_cell_of (cells_below depth s below w)
+quarter_first c s zero w v l e h = absurd (omega (arith, l))
+quarter_first c s (suc below) w v l e h =
+    let k : suc below - 1 ≡ below = omega arith in
+    let q = λ (x : Quarter). cells_below depth s below (x ∷ w) in
+    first_before c (q Northeast) (q Northwest ++ (q Southwest ++ (q Southeast ++ [])))
+    (h ∙ ap (λ (z : List Quarter). first_cell_of (cells_below depth s (suc below - 1) z)) e
+    ∙ ap (λ (n : ℕ). first_cell_of (cells_below depth s n (Northeast ∷ w))) k)

@@ -7,7 +7,7 @@ use Rattle.title_share.specs.Division.{Division}
 use Rattle.title_land.specs.{Depth.{depth}, declared.{survey.{Township.{Township}, Section.{Section}, Cell.{Cell}}, node.Node.{Node}}}
 use Rattle.title_land.specs.{declared.{rectangle.Quarter.{Quarter}, tract.Land.{Land}}, Nodes.{quarters}, Lands.{is_in_plant}}
 use Rattle.title_land.specs.{Lands.{is_plant_cell, cover_of}, CellLists.{sections_of, node_cells, children_of}}
-use Rattle.title_land.specs.Laws.CellMembers.{sections_of-in}
+use Rattle.title_land.specs.Laws.{CellMembers.{sections_of-in}, CoverLists.{flat_same}}
 use Rattle.title_land.specs.declared.node.Node.TheVariants as node
 use Rattle.title_land.specs.Laws.Members as members
 use Rattle.title_instrument.specs.{declared.parts.Estate.{Estate, TheVariants.{S, O, M}}, Owners.{holding_of, opening_owners}}
@@ -98,10 +98,6 @@ child_declared ts (node.Part s w) m of i = elim (cases_Bool (nat_lt (length w) d
       subst (IsDeclared ts) (sym k.2) (of.0, short)
   | inr e ↦ let j : members.In m [] = rw e at i in absurd j
 ]
-
-pub flat_same : {X R : Type 0} (f g : X → List R) (xs : List X) → ((x : X) → members.In x xs → f x ≡ g x) → flat_map f xs ≡ flat_map g xs
-flat_same f g [] h = refl
-flat_same f g (x ∷ xs) h = (λ i. h x (inl refl) i ++ flat_same f g xs (λ y j. h y (inr j)) i)
 
 -- of the trees of a plant
 module _ {levels : ℕ} {ts : List Township} {ps : Estate → Plot} {lent : List Lent} {next : ℕ} (kept : IsKept levels ts ps lent next) where

@@ -1,5 +1,5 @@
 -- Where the trees of a store are joined, through each of its operations.
-use Rattle.std.proofs.Common.{◌≡◌, ◌∙◌, ap, sym, refl, subst, ℕ, Bool, true, false, ◌&&◌, inl, inr}
+use Rattle.std.proofs.Common.{◌≡◌, ◌∙◌, ap, sym, refl, subst, ℕ, Bool, true, ◌&&◌, inl, inr}
 use Rattle.std.{proofs.Common.{List, [], ◌∷◌, ◌++◌, Option, Some, None}, specs.Prelude.{MatchOption}}
 use Rattle.title_share.specs.Division.{all_to}
 use Rattle.title_land.specs.declared.{survey.Township.{Township}, rectangle.Quarter.{Quarter}}

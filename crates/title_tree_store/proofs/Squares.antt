@@ -5,7 +5,7 @@ use Rattle.std.proofs.lemmas.{Bool.{cases_Bool, cond-false, le-ltb}, List.{appen
 use Rattle.title_land.specs.{Depth.{depth}, declared.{survey.{Township.{Township}, Section.{Section}}, rectangle.Quarter.{Quarter}}}
 use Rattle.title_land.specs.declared.{rectangle.Quarter.TheVariants.{Northeast, Northwest, Southwest, Southeast}, node.Node.{Node}}
 use Rattle.title_land.specs.{declared.tract.Land.{Land}, Lands.{cover_of}, CellLists.{sections_of, children_of}, Laws.Members.{In}}
-use Rattle.title_land.specs.Laws.{CellMembers.{sections_of-in}, LandSharing.{part_found}}
+use Rattle.title_land.specs.Laws.{CellMembers.{sections_of-in}, CoverLists.{flat_same}, LandSharing.{part_found}}
 use Rattle.title_land.specs.declared.node.Node.TheVariants as node
 use Rattle.title_land.specs.declared.tract.Land.TheVariants as land
 use Rattle.title_instrument.specs.declared.parts.Estate.{Estate}
@@ -13,7 +13,7 @@ use Rattle.title_store.specs.{declared.sheet_row.SheetRow.{SheetRow}, Sheets.{ro
 use Rattle.title_tree.specs.{Paths.{way, number_path}, Plots.{Plot, Same, Four, plot_at, uniform}, Pieces.{uniform_at, both_have}}
 use Rattle.title_tree_store.specs.Spots.{index_of, blocks, township_path, section_path, square_path, township_spots}
 use Rattle.title_tree_store.specs.SquareSheets.{square_sheet, part_sheet, section_sheet, township_sheet, plant_sheet}
-use Rattle.title_tree_store.{specs.TreeSheets.{tree_sheet}, proofs.Holdings.{flat_same}}
+use Rattle.title_tree_store.specs.TreeSheets.{tree_sheet}
 use Rattle.title_tree_store.proofs.Standing.{join_down, square_down, section_down}
 
 four_lists : (a b c d : List SheetRow) → a ++ b ++ c ++ d ≡ a ++ (b ++ (c ++ (d ++ [])))

@@ -1,15 +1,14 @@
 -- What stands in a square of each estate's tree, and what refuses there.
 use Rattle.std.proofs.Common.{◌≡◌, ◌∙◌, ap, sym, refl, subst, ℕ, zero, suc, ◌+◌, ◌-◌, ◌/◌, ◌%◌, ◌<◌, ◌≤◌, arith, Bool, true, false, ◌&&◌}
 use Rattle.std.proofs.Common.{inl, inr, List, [], ◌∷◌, ◌++◌, length, length-append, append_assoc, Option, Some, None, Result, Ok, Err}
-use Rattle.std.{specs.Prelude.{filter, find, ◌↔◌, ◌==◌, ◌||◌}, proofs.lemmas.List.{reverse-append, append-nil, length-reverse}}
-use Rattle.std.proofs.lemmas.Bool.{and_from, and_parts, or_cases, cases_Bool, eqb-true, false_from_ne_true, not-true}
+use Rattle.std.{specs.Prelude.{◌==◌, ◌||◌}, proofs.lemmas.List.{reverse-append, append-nil, length-reverse}}
+use Rattle.std.proofs.lemmas.Bool.{and_parts, or_cases, eqb-true, not-true}
 use Rattle.title_share.specs.Division.{Division}
-use Rattle.title_land.specs.{Depth.{depth}, declared.{survey.{Township.{Township}, Section.{Section}, Cell.{Cell}}, tract.Land.{Land}}}
+use Rattle.title_land.specs.{Depth.{depth}, declared.{survey.{Township.{Township}, Section.{Section}, Cell.{Cell}}}}
 use Rattle.title_land.specs.{declared.rectangle.Quarter.{Quarter, TheVariants.{Northeast, Northwest, Southwest, Southeast}}, Nodes.{square}}
-use Rattle.title_land.specs.{Survey.{same_section}, Paths.{quarter_at}, Rectangles.{holds}, Lands.{has, land_of, Meets}}
+use Rattle.title_land.specs.{Paths.{quarter_at}}
 use Rattle.title_land.specs.{CellLists.{cells_below}, Laws.{CellMembers.{cells_below-in}, CoverSet.{cell_in_grid}}}
-use Rattle.title_land.specs.Laws.{Members.{In, filter_none}, NodeLands.{has-land_of}, SameLand.{same_section-self}, Squares.{holds_from}}
-use Rattle.title_land.specs.declared.node.Node.TheVariants as node
+use Rattle.title_land.specs.Laws.{Members.{In}, Squares.{holds_from}}
 use Rattle.title_instrument.specs.declared.{parts.{Estate.{Estate, TheVariants.{S, O, M}}, Rule.{Rule}}, instrument.Instrument.{Instrument}}
 use Rattle.title_instrument.specs.{declared.owners.Effect.{Effect, TheVariants.{Done, Refused}}, Estates.{names}, Parties.{estates_of}}
 use Rattle.title_instrument.specs.{Effect.{holding_effect, cell_effect, joined}, Laws.EffectLaws.{holding_unnamed}}
@@ -19,8 +18,9 @@ use Rattle.title_tree.specs.{Plots.{Plot, Same, Four, value_at, plot_at}, Laws.C
 use Rattle.title_tree.specs.Laws.Grafts.{value_plot_at, plot_at_same}
 use Rattle.title_tree_store.specs.declared.refusals.{Search.{Search}, Trees.{Trees}}
 use Rattle.title_tree_store.specs.{Spots.{township_path, section_path, square_path, cell_path}, Forests.{Each, plots, owners_at}}
-use Rattle.title_tree_store.specs.Refusing.{why_cell, why_first, is_settled, are_settled, refused_at, stand, StandsAt, first_for}
-use Rattle.title_tree_store.{specs.Refusing.{first_of, triple}, proofs.{Contents.{each, for_each, owners}, Paths.{begins_under}}}
+use Rattle.title_tree_store.specs.Refusing.{why_cell, why_first, is_settled, are_settled, refused_at, stand, StandsAt}
+use Rattle.title_tree_store.specs.Refusing.{first_for, first_cell_of}
+use Rattle.title_tree_store.{specs.Refusing.{triple}, proofs.{Contents.{each, for_each, owners}, Paths.{begins_under}}}
 use Rattle.title_tree_store.proofs.Paths.{begins_whole}
 use Rattle.title_tree_store.proofs.CellPaths.{grid_parts, length-section_path, length-cell_path}
 
@@ -188,56 +188,22 @@ nowhere : (o : Option (Rule × Estate)) → refused_at o None ≡ None
 nowhere None = refl
 nowhere (Some why) = refl
 
-first_alike : (i : Instrument ℕ) (plant : Plant) (p : Cell → Bool) (cells : List Cell) (o : Option (Rule × Estate))
+first_alike : (i : Instrument ℕ) (plant : Plant) (cells : List Cell) (o : Option (Rule × Estate))
     → ((c : Cell) → In c cells → why_cell (cell_effect i (plant c)) ≡ o)
-    → refused_at o (find p cells) ≡ triple (first_failing i plant (filter p cells))
-first_alike i plant p [] o f = nowhere o
-first_alike i plant p (c ∷ cells) o f =
-    let later = first_alike i plant p cells o (λ z j. f z (inr j)) in
-    elim (cases_Bool (p c)) [
-      | inl e ↦ rw e (one c (cell_effect i (plant c)) o (find p cells) (first_failing i plant (filter p cells)) (f c (inl refl)) later)
-      | inr e ↦ rw e later
-    ]
+    → refused_at o (first_cell_of cells) ≡ triple (first_failing i plant cells)
+first_alike i plant [] o f = nowhere o
+first_alike i plant (c ∷ cells) o f =
+    one c (cell_effect i (plant c)) o (first_cell_of cells) (first_failing i plant cells) (f c (inl refl))
+    (first_alike i plant cells o (λ z j. f z (inr j)))
 
 -- what refuses in a square whose cells are treated alike
 pub alike_square : (x : Search) (s : Section) (below : ℕ) (w : List Quarter) (t : Trees) → below + length w ≡ depth
     → StandsAt x (square_path x.levels x.townships.now s w) t → (below == 0 || are_settled x.instrument.now t) ≡ true
-    → refused_at (why_first x.instrument.now t) (find (has x.tract.now) (cells_below depth s below w))
-    ≡ first_of x (cells_below depth s below w)
+    → refused_at (why_first x.instrument.now t) (first_cell_of (cells_below depth s below w))
+    ≡ first_for x (cells_below depth s below w)
 alike_square x s below w t l h same =
-    first_alike x.instrument.now (λ c. owners_at (plots x.forest.now) (cell_path x.levels x.townships.now c)) (has x.tract.now)
+    first_alike x.instrument.now (λ c. owners_at (plots x.forest.now) (cell_path x.levels x.townships.now c))
     (cells_below depth s below w) (why_first x.instrument.now t) (λ c j. alike x s below w t c l h same j)
-
--- ---- a square in which the tract has no cell
-
-has_none : (tr : Land) (s : Section) (below : ℕ) (w : List Quarter) (b : Bool) → below + length w ≡ depth
-    → (b ≡ true) ↔ Meets depth tr (land_of depth (node.Part s w)) → b ≡ false → (c : Cell) → In c (cells_below depth s below w)
-    → has tr c ≡ false
-has_none tr s below w b l shares apart c j = false_from_ne_true (has tr c) (λ h.
-    let k = cells_below-in depth s below w c l j in
-    let short : length w ≤ depth = omega (arith, l) in
-    let inside : has (land_of depth (node.Part s w)) c ≡ true = has-land_of depth (node.Part s w) c short
-    ∙ and_from (same_section s c.section) (holds (square depth w) c.row c.column)
-    (subst (λ (u : Section). same_section s u ≡ true) (sym k.0) (same_section-self s))
-    (holds_from (square depth w) c.row c.column k.1) in
-    let clash : true ≡ false = sym (shares.1 (c, cell_in_grid depth s w c.row c.column short k.1, h, inside)) ∙ apart in
-    absurd cc)
-
-find_none : (p : Cell → Bool) (cells : List Cell) → ((c : Cell) → In c cells → p c ≡ false) → None ≡ find p cells
-find_none p [] f = refl
-find_none p (c ∷ cells) f = rw (f c (inl refl)) (find_none p cells (λ z j. f z (inr j)))
-
-pub none_of_square : (x : Search) (s : Section) (below : ℕ) (w : List Quarter) (b : Bool) → below + length w ≡ depth
-    → (b ≡ true) ↔ Meets depth x.tract.now (land_of depth (node.Part s w)) → b ≡ false
-    → None ≡ first_of x (cells_below depth s below w)
-none_of_square x s below w b l shares apart =
-    ap (first_for x)
-    (sym (filter_none (has x.tract.now) (cells_below depth s below w) (has_none x.tract.now s below w b l shares apart)))
-
-pub no_cell : (tr : Land) (s : Section) (below : ℕ) (w : List Quarter) (b : Bool) → below + length w ≡ depth
-    → (b ≡ true) ↔ Meets depth tr (land_of depth (node.Part s w)) → b ≡ false → None ≡ find (has tr) (cells_below depth s below w)
-no_cell tr s below w b l shares apart =
-    find_none (has tr) (cells_below depth s below w) (has_none tr s below w b l shares apart)
 
 -- where cells aren't treated alike there are levels below
 pub has_levels : (below : ℕ) (b : Bool) → (below == 0 || b) ≡ false → 0 < below

@@ -1,8 +1,7 @@
 -- Which cell refuses an instrument.
-use Rattle.std.specs.Prelude.{◌≡◌, ℕ, Bool, true, not, ◌&&◌, List, [], filter, Option, Some, None}
+use Rattle.std.specs.Prelude.{◌≡◌, ℕ, Bool, true, not, ◌&&◌, List, [], ◌∷◌, Option, Some, None}
 use Rattle.title_share.specs.Division.{Division}
 use Rattle.title_land.specs.declared.{survey.{Township.{Township}, Cell.{Cell}}, rectangle.Quarter.{Quarter}}
-use Rattle.title_land.specs.Lands.{has}
 use Rattle.title_instrument.specs.declared.{parts.{Estate.{Estate, TheVariants.{S, O, M}}, Rule.{Rule}}, instrument.Instrument.{Instrument}}
 use Rattle.title_instrument.specs.{declared.owners.Effect.{Effect, TheVariants.{Done, Refused}}, Effect.{holding_effect, cell_effect}}
 use Rattle.title_instrument.specs.{Estates.{names}, Parties.{estates_of}}
@@ -33,9 +32,10 @@ triple (Some f) = Some (f.rule, f.estate, f.cell)
 abbrev pub first_for : Search → List Cell → Option (Rule × Estate × Cell)
 first_for x cells = triple (first_in x.levels x.townships.now (plots x.forest.now) x.instrument.now cells)
 
--- for those of the cells that its tract has
-abbrev pub first_of : Search → List Cell → Option (Rule × Estate × Cell)
-first_of x cells = first_for x (filter (has x.tract.now) cells)
+-- the first of some cells
+abbrev pub first_cell_of : List Cell → Option Cell
+first_cell_of [] = None
+first_cell_of (c ∷ cells) = Some c
 
 -- the plot of a square in the tree of each estate
 abbrev pub stand : Trees → Estate → Plot

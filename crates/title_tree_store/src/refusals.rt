@@ -1,14 +1,13 @@
 //! The first cell of a tract that refuses an instrument.
 
-ghost use Rattle.std.specs.Prelude.{◌≡◌, ◌+◌, ◌∷◌, [], ◌||◌, ◌==◌, ◌↔◌, length, find, true};
-ghost use Rattle.title_land.specs.{Depth.{depth}, CellLists.{cells_below, section_cells, township_cells, cells_of}};
-ghost use Rattle.title_land.specs.Lands.{has, Meets, land_of, is_in_plant};
-ghost use Rattle.title_land.specs.declared.node.Node.TheVariants as node;
+ghost use Rattle.std.specs.{Prelude.{◌≡◌, ◌+◌, ◌∷◌, [], ◌||◌, ◌==◌, Some, length, true}, List.{flat_map}};
+ghost use Rattle.title_land.specs.{Depth.{depth}, CellLists.{cells_below, section_cells, township_cells, cells_of, part_cells}};
+ghost use Rattle.title_land.specs.Lands.{cover_of, is_in_plant};
 ghost use Rattle.title_instrument.specs.Effect.{cell_effect};
 ghost use Rattle.title_tree.specs.{Plots.{value_at, plot_at}, Trees.{plot}};
 ghost use Rattle.title_tree_store.specs.{Spots.{township_path, square_path}, Forests.{Each}};
 ghost use Rattle.title_tree_store.specs.Refusing.{why_holding, why_first, is_settled, are_settled, refused_at};
-ghost use Rattle.title_tree_store.specs.Refusing.{stand, StandsAt, first_for, first_of};
+ghost use Rattle.title_tree_store.specs.Refusing.{stand, StandsAt, first_for, first_cell_of};
 
 use crate::forest::{Forest, names};
 use crate::spots::SECTION_LEVELS;
@@ -84,8 +83,24 @@ impl<'a> Trees<'a> {
     }
 }
 
-/// A search for the first cell of a tract that refuses an instrument, in the order of the tract's cells. No cell after it is
-/// looked at, and a square whose cells it treats alike is judged once. Takes no memory.
+// The first cell of a square with so many levels below it.
+fn first_cell(section: Section, below: u8, within: Within) -> Cell
+    requires below { below + length within ≡ depth }
+    ensures first { Some result ≡ first_cell_of (cells_below depth section below within) }
+{
+    if below == 0 {
+        let corner = within.square();
+        return Cell {
+            section,
+            row: corner.top,
+            column: corner.left,
+        };
+    }
+    first_cell(section, below - 1, within.quarter(Quarter::Northeast))
+}
+
+/// A search for the first cell of a tract that refuses an instrument, in the order of the tract's cells, which is that of its
+/// cover. No cell after it is looked at, and a square whose cells it treats alike is judged once. Takes no memory.
 #[derive(Clone, Copy)]
 pub(crate) struct Search<'a> {
     pub levels: usize,
@@ -108,40 +123,34 @@ impl<'a> Search<'a> {
         }
     }
 
-    // Whether the tract has a cell in a square.
-    fn meets(&self, section: Section, within: Within) -> bool
-        ensures shares { (result ≡ true) ↔ Meets depth self.now.tract.now (land_of depth (node.Part section within)) }
+    // What stands in a section, from what stands in its township.
+    fn section_trees(&self, township: &Trees<'a>, section: Section) -> Trees<'a>
+        requires here { StandsAt self.now (township_path self.now.levels self.now.townships.now section.township) township.now }
+        ensures stands { StandsAt self.now (square_path self.now.levels self.now.townships.now section []) result }
     {
-        self.tract.meets(&Tract::of(Node::Part(section, within)))
+        let number = usize::from(section.number - 1);
+        Trees {
+            s: numbered(township.s, SECTION_LEVELS, number),
+            o: numbered(township.o, SECTION_LEVELS, number),
+            m: numbered(township.m, SECTION_LEVELS, number),
+        }
     }
 
-    // The first cell of the tract in a square with so many levels below it.
-    fn first_cell(&self, section: Section, below: u8, within: Within) -> Option<Cell>
-        requires below { below + length within ≡ depth }
-        ensures first { result ≡ find (has self.now.tract.now) (cells_below depth section below within) }
+    // What stands in a square, from what stands in its section, and how many levels the square has below it.
+    #[tactic(auto, using(title_land::specs::Laws::Sides::depth_is))]
+    fn square_trees(&self, trees: &Trees<'a>, section: Section, within: Within) -> (Trees<'a>, u8)
+        requires here { StandsAt self.now (square_path self.now.levels self.now.townships.now section []) trees.now }
+        ensures stands { StandsAt self.now (square_path self.now.levels self.now.townships.now section within) result.0 }
+        ensures below { result.1 + length within ≡ depth }
     {
-        if below == 0 {
-            let corner = within.square();
-            let cell = Cell {
-                section,
-                row: corner.top,
-                column: corner.left,
-            };
-            return self.tract.has_cell(cell).then_some(cell);
-        }
-        if !self.meets(section, within) {
-            return None;
-        }
-        for quarter in Quarter::ALL {
-            let found = self.first_cell(section, below - 1, within.quarter(quarter));
-            if found.is_some() {
-                return found;
-            }
-        }
-        None
+        let Some(parts) = within.split() else {
+            return (*trees, DEPTH);
+        };
+        let (around, below) = self.square_trees(trees, section, parts.1);
+        (around.quarter(parts.0), below - 1)
     }
 
-    // What refuses in a square whose cells are treated as its first one: the tract's first cell there.
+    // What refuses in a square whose cells are treated as its first one: that one.
     fn first_alike(
         &self,
         trees: &Trees<'a>,
@@ -151,11 +160,10 @@ impl<'a> Search<'a> {
     ) -> Option<(Rule, Estate, Cell)>
         requires below { below + length within ≡ depth }
         ensures first { result ≡ refused_at (why_first self.now.instrument.now trees.now)
-            (find (has self.now.tract.now) (cells_below depth section below within)) }
+            (first_cell_of (cells_below depth section below within)) }
     {
         let (rule, estate) = trees.why(self.instrument)?;
-        let cell = self.first_cell(section, below, within)?;
-        Some((rule, estate, cell))
+        Some((rule, estate, first_cell(section, below, within)))
     }
 
     // The first cell that refuses of a square with so many levels below it.
@@ -168,11 +176,8 @@ impl<'a> Search<'a> {
     ) -> Option<(Rule, Estate, Cell)>
         requires below { below + length within ≡ depth }
         requires here { StandsAt self.now (square_path self.now.levels self.now.townships.now section within) trees.now }
-        ensures first { result ≡ first_of self.now (cells_below depth section below within) }
+        ensures first { result ≡ first_for self.now (cells_below depth section below within) }
     {
-        if !self.meets(section, within) {
-            return None;
-        }
         if trees.are_alike(self.instrument, below) {
             return self.first_alike(trees, section, below, within);
         }
@@ -198,20 +203,47 @@ impl<'a> Search<'a> {
         section: Section,
     ) -> Option<(Rule, Estate, Cell)>
         requires here { StandsAt self.now (township_path self.now.levels self.now.townships.now section.township) township.now }
-        ensures first { result ≡ first_of self.now (section_cells depth section) }
+        ensures first { result ≡ first_for self.now (section_cells depth section) }
     {
-        let number = usize::from(section.number - 1);
-        let trees = Trees {
-            s: numbered(township.s, SECTION_LEVELS, number),
-            o: numbered(township.o, SECTION_LEVELS, number),
-            m: numbered(township.m, SECTION_LEVELS, number),
-        };
+        let trees = self.section_trees(township, section);
         self.first_in_square(&trees, section, DEPTH, Within::section())
+    }
+
+    // The first cell that refuses of a node in a section, from what stands in the section.
+    fn first_in_node(
+        &self,
+        trees: &Trees<'a>,
+        section: Section,
+        node: &Node,
+    ) -> Option<(Rule, Estate, Cell)>
+        requires here { StandsAt self.now (square_path self.now.levels self.now.townships.now section []) trees.now }
+        ensures first { result ≡ first_for self.now (part_cells depth section node.now) }
+    {
+        let Node::Part(_, within) = node else {
+            return None;
+        };
+        let (stand, below) = self.square_trees(trees, section, *within);
+        self.first_in_square(&stand, section, below, *within)
+    }
+
+    // The first cell that refuses of the nodes of the tract's cover, which lie in a section.
+    fn first_in_cover(&self, section: Section) -> Option<(Rule, Estate, Cell)>
+        ensures first { result ≡ first_for self.now (flat_map (part_cells depth section) (cover_of depth self.now.tract.now)) }
+    {
+        let trees = self.section_trees(&self.township_trees(section.township), section);
+        let cover = self.tract.cover();
+        for node in cover {
+            let found = self.first_in_node(&trees, section, node);
+            if found.is_some() {
+                return found;
+            }
+        }
+        None
     }
 
     // The first cell that refuses of a township, section by section.
     fn first_in_township(&self, township: Township) -> Option<(Rule, Estate, Cell)>
-        ensures first { result ≡ first_of self.now (township_cells depth township) }
+        ensures first { result ≡ first_for self.now (township_cells depth township) }
     {
         let trees = self.township_trees(township);
         for section in township.sections() {
@@ -225,7 +257,7 @@ impl<'a> Search<'a> {
 
     // The first cell that refuses of the plant, township by township.
     fn first_in_plant(&self) -> Option<(Rule, Estate, Cell)>
-        ensures first { result ≡ first_for self.now (cells_of depth self.now.townships.now self.now.tract.now) }
+        ensures first { result ≡ first_for self.now (flat_map (township_cells depth) self.now.townships.now) }
     {
         let list = self.townships.list();
         for township in list {
@@ -239,7 +271,7 @@ impl<'a> Search<'a> {
 
     /// The first cell of the tract that refuses the instrument, with the rule and the estate. Nothing is looked at in another
     /// township or section than the tract's.
-    #[tactic(auto, using(crate::proofs::Firsts::township_found, crate::proofs::Firsts::part_found))]
+    #[tactic(auto, using(crate::proofs::Firsts::plant_found, crate::proofs::Firsts::township_found, crate::proofs::Firsts::part_found))]
     pub(crate) fn first(&self) -> Option<(Rule, Estate, Cell)>
         requires within { is_in_plant self.now.townships.now self.now.tract.now ≡ true }
         ensures first { result ≡ first_for self.now (cells_of depth self.now.townships.now self.now.tract.now) }
@@ -247,9 +279,7 @@ impl<'a> Search<'a> {
         match self.tract.land() {
             Land::Everything => self.first_in_plant(),
             Land::Township(township) => self.first_in_township(township),
-            Land::Part(section, _) => {
-                self.first_in_section(&self.township_trees(section.township), section)
-            }
+            Land::Part(section, _) => self.first_in_cover(section),
         }
     }
 }

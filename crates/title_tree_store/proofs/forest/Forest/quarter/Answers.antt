@@ -1,8 +1,8 @@
 -- The trees are quartered down to the paths that are kept.
 use Rattle.std.{proofs.Common.{◌≡◌, ◌++◌, ◌∷◌, [], ◌∙◌, ap, subst, refl, inl, List, map}, specs.Global.{Vec}}
 use Rattle.title_instrument.specs.declared.parts.Estate.{Estate}
-use Rattle.title_tree.specs.{Joining.{ApartFromAll}, Pieces.{StaysElsewhere}}
-use Rattle.title_tree_store.specs.{declared.forest.Written.{Written}, Spots.{paths_in}, Forests.{plots, put_ways, written, named_spots}}
+use Rattle.title_tree.specs.Joining.{ApartFromAll}
+use Rattle.title_tree_store.specs.{declared.forest.Written.{Written}, Spots.{paths_in}, Forests.{put_ways, written, named_spots}}
 use Rattle.title_tree_store.proofs.{Contents.{each}, Steps.{on_ok, on_err, put_noted, apart_noted}}
 use Rattle.title_tree_store.proofs.forest.Forest.quarter.Goals as goal
 

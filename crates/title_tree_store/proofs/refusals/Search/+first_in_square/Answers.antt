@@ -1,16 +1,9 @@
--- The quarters come in their order; none that has no cell of the tract, and none of a square that doesn't refuse.
+-- The quarters come in their order; none of a square that doesn't refuse.
 use Rattle.std.proofs.Common.{◌∙◌, List, length, ap, sym, arith, refl}
 use Rattle.title_land.specs.declared.rectangle.Quarter.{Quarter}
-use Rattle.title_tree_store.{specs.Refusing.{first_of}, proofs.Firsts.{first_join, quarter_here, quarter_later}}
-use Rattle.title_tree_store.proofs.Standing.{none_of_square, alike_square, has_levels, stands_down}
+use Rattle.title_tree_store.{specs.Refusing.{first_for}, proofs.Firsts.{first_join, quarter_here, quarter_later}}
+use Rattle.title_tree_store.proofs.Standing.{alike_square, has_levels, stands_down}
 use Rattle.title_tree_store.proofs.refusals.Search.+first_in_square.Goals as goal
-
-pub returns-then-not-meets : goal.returns-then-not-meets
-returns-then-not-meets t c =
-    record {
-      first = none_of_square c.args.self.now c.args.section c.args.below c.args.within c.meets.result c.requires.below
-          c.meets.ensures.shares c.if-not-meets.true;
-    }
 
 pub returns-then-are_alike : goal.returns-then-are_alike
 returns-then-are_alike t c =
@@ -37,7 +30,7 @@ first_in_square-found-requires t c =
 pub returns-then-is_some : goal.returns-then-is_some
 returns-then-is_some t c =
     record {
-      first = quarter_here (first_of c.args.self.now) (first_join c.args.self.now) c.args.section c.args.below c.args.within
+      first = quarter_here (first_for c.args.self.now) (first_join c.args.self.now) c.args.section c.args.below c.args.within
           c.quarter-in-loop-which.result c.loop-which.which-index c.loop-which-test.true c.quarter-in-loop-which.ensures.quarter
           c.first_in_square-found.result c.first_in_square-found.ensures.first (sym c.is_some.ensures ∙ c.if-is_some.true)
           c.loop-which.invariant.0 c.loop-which.invariant.1;
@@ -47,7 +40,7 @@ pub loop-which-preserved : goal.loop-which-preserved
 loop-which-preserved t c = (
   c.loop-which.invariant.0,
   c.loop-which.invariant.1
-      ∙ quarter_later (first_of c.args.self.now) (first_join c.args.self.now) c.args.section c.args.below c.args.within
+      ∙ quarter_later (first_for c.args.self.now) (first_join c.args.self.now) c.args.section c.args.below c.args.within
       c.quarter-in-loop-which.result c.loop-which.which-index c.loop-which-test.true c.quarter-in-loop-which.ensures.quarter
       c.first_in_square-found.result c.first_in_square-found.ensures.first (sym c.is_some.ensures ∙ c.if-is_some.false),
 )

@@ -1,33 +1,33 @@
 -- The townships come in their order.
 use Rattle.std.{proofs.{Common.{◌∙◌, ap, sym, List}, lemmas.List.{at_drop_all}}, specs.List.{flat_map}}
 use Rattle.title_land.specs.{Depth.{depth}, declared.survey.Township.{Township}, CellLists.{township_cells}}
-use Rattle.title_tree_store.{specs.Refusing.{first_of}, proofs.Firsts.{first_join, next_here, next_later, tract_cells}}
+use Rattle.title_tree_store.{specs.Refusing.{first_for}, proofs.Firsts.{first_join, next_here, next_later}}
 use Rattle.title_tree_store.proofs.refusals.Search.first_in_plant.Goals as goal
 
 pub returns-then-is_some : goal.returns-then-is_some
 returns-then-is_some c =
     record {
-      first = next_here (first_of c.args.self.now) (first_join c.args.self.now) (township_cells depth) c.list-list.result.now
+      first = next_here (first_for c.args.self.now) (first_join c.args.self.now) (township_cells depth) c.list-list.result.now
           c.loop-township.township-index c.township-item.result c.first_in_township-found.result
           c.loop-township-test.true c.township-item.is (sym c.is_some.ensures ∙ c.if-is_some.true) c.first_in_township-found.ensures.first
-          ∙ sym c.loop-township.invariant ∙ tract_cells c.args.self.now;
+          ∙ sym c.loop-township.invariant;
     }
 
 pub loop-township-preserved : goal.loop-township-preserved
 loop-township-preserved c =
     c.loop-township.invariant
-    ∙ next_later (first_of c.args.self.now) (first_join c.args.self.now) (township_cells depth) c.list-list.result.now
+    ∙ next_later (first_for c.args.self.now) (first_join c.args.self.now) (township_cells depth) c.list-list.result.now
     c.loop-township.township-index c.township-item.result c.first_in_township-found.result
     c.loop-township-test.true c.township-item.is (sym c.is_some.ensures ∙ c.if-is_some.false) c.first_in_township-found.ensures.first
 
 pub returns : goal.returns
 returns c =
     record {
-      first = sym (at_drop_all (λ (ts : List Township). first_of c.args.self.now (flat_map (township_cells depth) ts))
+      first = sym (at_drop_all (λ (ts : List Township). first_for c.args.self.now (flat_map (township_cells depth) ts))
           c.list-list.result.now c.loop-township.township-index c.loop-township-test.false)
-          ∙ sym c.loop-township.invariant ∙ tract_cells c.args.self.now;
+          ∙ sym c.loop-township.invariant;
     }
 
 pub loop-township-init : goal.loop-township-init
 loop-township-init c =
-    ap (λ (ts : List Township). first_of c.args.self.now (flat_map (township_cells depth) ts)) (sym c.list-list.ensures.list)
+    ap (λ (ts : List Township). first_for c.args.self.now (flat_map (township_cells depth) ts)) (sym c.list-list.ensures.list)

@@ -1,20 +1,20 @@
 -- The sections come in their order.
 use Rattle.std.{proofs.Common.{◌∙◌, inl, inr, refl, sym}, specs.List.{flat_map}}
 use Rattle.title_land.specs.{Depth.{depth}, CellLists.{section_cells}, Laws.CellMembers.{sections_of-in}}
-use Rattle.title_tree_store.{specs.Refusing.{first_of}, proofs.Firsts.{first_join, first_here, first_later}}
+use Rattle.title_tree_store.{specs.Refusing.{first_for}, proofs.Firsts.{first_join, first_here, first_later}}
 use Rattle.title_tree_store.proofs.refusals.Search.first_in_township.Goals as goal
 
 pub returns-then-is_some : goal.returns-then-is_some
 returns-then-is_some c =
     record {
-      first = rw (c.loop-section.invariant.0, c.in-Some.ensures.steps) (first_here (first_of c.args.self.now) (first_join c.args.self.now)
+      first = rw (c.loop-section.invariant.0, c.in-Some.ensures.steps) (first_here (first_for c.args.self.now) (first_join c.args.self.now)
           (section_cells depth c.in-Some.section) (flat_map (section_cells depth) c.next.new.self) c.first_in_section-found.result
           (sym c.is_some.ensures ∙ c.if-is_some.true) c.first_in_section-found.ensures.first);
     }
 
 pub loop-section-preserved : goal.loop-section-preserved
 loop-section-preserved c = (
-  rw (c.loop-section.invariant.0, c.in-Some.ensures.steps) (first_later (first_of c.args.self.now) (first_join c.args.self.now)
+  rw (c.loop-section.invariant.0, c.in-Some.ensures.steps) (first_later (first_for c.args.self.now) (first_join c.args.self.now)
       (section_cells depth c.in-Some.section) (flat_map (section_cells depth) c.next.new.self) c.first_in_section-found.result
       (sym c.is_some.ensures ∙ c.if-is_some.false) c.first_in_section-found.ensures.first),
   λ s i. c.loop-section.invariant.1 s (rw c.in-Some.ensures.steps (inr i)),
