@@ -1,8 +1,9 @@
 -- The land of a node's text has that node alone as its cover.
-use Rattle.std.proofs.Common.{◌≡◌, ℕ, suc, ◌-◌, ◌*◌, ◌^◌, ◌≤◌, ◌%◌, true, List, [], ◌∷◌, length, Some, None, refl, ap}
+use Rattle.std.proofs.Common.{◌≡◌, ℕ, suc, ◌-◌, ◌*◌, ◌^◌, ◌<◌, ◌≤◌, ◌%◌, true, List, [], ◌∷◌, length, Some, None, refl, ap}
 use Rattle.std.proofs.{Common.{subst, inl, inr, arith}, lemmas.Bool.{eq-eqb}, Math.Bool.{or-false}}
 use Rattle.title_land.specs.{Depth.{depth}, declared.{rectangle.{Quarter.{Quarter}, Step.{Step}, Rectangle.{Rectangle}}, grid.Grid.{Grid}}}
-use Rattle.title_land.specs.{declared.node.Node.{Node}, Nodes.{square, IsNode}, Rectangles.{part_of, is_even, exists, holds}}
+use Rattle.title_land.specs.declared.rectangle.Half.{Half, TheVariants.{North, South, East, West}}
+use Rattle.title_land.specs.{declared.node.Node.{Node}, Nodes.{square, IsNode}, Rectangles.{part_of, is_even, exists, half_of, holds}}
 use Rattle.title_land.specs.{Grids.{grid_of}, Lands.{land_of}, Laws.{Squares.{sized}, NodeLands.{cover_of-land_of}}}
 use Rattle.title_land.specs.declared.rectangle.Step.TheVariants as step
 use Rattle.title_land.specs.declared.node.Node.TheVariants as node
@@ -28,6 +29,24 @@ quarter_there d q w h =
 pub part_is_square : (d : ℕ) (w : List Quarter) → length w ≤ d → part_of d (steps_of w) ≡ Some (square d w)
 part_is_square d [] h = refl
 part_is_square d (q ∷ w) h = rw (part_is_square d w (omega arith)) (rw (quarter_there d q w h) refl)
+
+-- each half of a square that is no cell is there
+half_there : (d : ℕ) (h : Half) (w : List Quarter) → length w < d → exists (step.Half h) (square d w) ≡ true
+half_there d h w l =
+    let k = d - suc (length w) in
+    let z = sized d (suc k) w (omega arith) in
+    sides h (power_even (square d w).height k z.height_is) (power_even (square d w).width k z.width_is)
+  where
+    sides : (x : Half) → is_even (square d w).height ≡ true → is_even (square d w).width ≡ true
+        → exists (step.Half x) (square d w) ≡ true
+    sides North a b = a
+    sides South a b = a
+    sides East a b = b
+    sides West a b = b
+
+pub part_is_half : (d : ℕ) (h : Half) (w : List Quarter) → length w < d
+    → part_of d (step.Half h ∷ steps_of w) ≡ Some (half_of h (square d w))
+part_is_half d h w l = rw (part_is_square d w (omega arith)) (rw (half_there d h w l) refl)
 
 -- ---- the node's land
 

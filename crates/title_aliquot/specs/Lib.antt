@@ -13,3 +13,4 @@ pub mod TextLaws
 pub mod DepthLaws
 pub mod Reading
 pub mod Laws
+pub mod Squares

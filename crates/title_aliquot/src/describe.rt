@@ -11,7 +11,7 @@ use crate::fault::DescFault;
 use crate::letters::{offset_of, split_at_letter};
 use crate::meaning::land_of;
 use crate::reader::{Reader, Stop};
-use crate::squares::node_of;
+use crate::squares::{half_in, node_of};
 use crate::syntax::Words;
 use std::alloc::Global;
 use title_land::Tract;
@@ -98,6 +98,9 @@ fn tract_of(alloc: Global, text: &str) -> Result<Tract, DescFault>
     let words = words_of(alloc, text)?;
     if let Some(node) = node_of(&words) {
         return Ok(Tract::of(node));
+    }
+    if let Some((section, which, within)) = half_in(&words) {
+        return Ok(Tract::of_half(alloc, section, which, within)?);
     }
     let land = land_of(&words)?;
     Ok(Tract::new(alloc, land)?)

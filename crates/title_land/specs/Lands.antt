@@ -1,7 +1,9 @@
 -- What a tract is: every cell, a township, or a set of one section's cells.
 use Rattle.std.specs.{Prelude.{◌≡◌, ℕ, Bool, true, false, ◌&&◌, List, [], ◌∷◌, not}, List.{list_any}}
 use Rattle.title_land.specs.{declared.{survey.{Township.{Township}, Cell.{Cell}}, node.Node.{Node}, tract.Land.{Land}}, Survey.{is_on_grid}}
-use Rattle.title_land.specs.{Grids.{grid_has, grid_of, has_some, grids_meet, IsGrid}, Rectangles.{holds}, Nodes.{square}}
+use Rattle.title_land.specs.{declared.{survey.Section.{Section}, rectangle.{Half.{Half}, Quarter.{Quarter}}}, Nodes.{square}}
+use Rattle.title_land.specs.Grids.{grid_has, grid_of, has_some, grids_meet, IsGrid}
+use Rattle.title_land.specs.Rectangles.{half_of, first_quarter, second_quarter, holds}
 use Rattle.title_land.specs.{Survey.{same_township, same_section}, Covers.{section_cover}}
 use Rattle.title_land.specs.declared.node.Node.TheVariants as node
 use Rattle.title_land.specs.declared.tract.Land.TheVariants as land
@@ -59,6 +61,14 @@ abbrev pub land_of : ℕ → Node → Land
 land_of depth node.Everything = land.Everything
 land_of depth (node.Township t) = land.Township t
 land_of depth (node.Part s w) = land.Part s (grid_of depth (holds (square depth w)))
+
+-- the land that has the cells of a half of a square
+abbrev pub half_land : ℕ → Section → Half → List Quarter → Land
+half_land depth s h w = land.Part s (grid_of depth (holds (half_of h (square depth w))))
+
+-- the two squares that it is, in order
+abbrev pub half_nodes : Section → Half → List Quarter → List Node
+half_nodes s h w = node.Part s (first_quarter h ∷ w) ∷ node.Part s (second_quarter h ∷ w) ∷ []
 
 -- where a tract lies, by one node: the section that has it, or else the township, or the whole plant
 abbrev pub home_of : Land → Node

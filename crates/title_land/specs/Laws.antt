@@ -28,5 +28,6 @@ pub mod NodeKeys
 pub mod PathNumbers
 pub mod NodeNumbers
 pub mod NodeLands
+pub mod HalfLands
 pub mod CoverLaws
 pub mod CoverLists

@@ -30,6 +30,19 @@ quarter_of Northwest r = half_of North (half_of West r)
 quarter_of Southwest r = half_of South (half_of West r)
 quarter_of Southeast r = half_of South (half_of East r)
 
+-- the two quarters that a half of a square is, in the order in which quarters are listed
+abbrev pub first_quarter : Half → Quarter
+first_quarter North = Northeast
+first_quarter South = Southwest
+first_quarter East = Northeast
+first_quarter West = Northwest
+
+abbrev pub second_quarter : Half → Quarter
+second_quarter North = Northwest
+second_quarter South = Southeast
+second_quarter East = Southeast
+second_quarter West = Southwest
+
 abbrev pub taken_of : Step → Rectangle → Rectangle
 taken_of (step.Quarter q) r = quarter_of q r
 taken_of (step.Half h) r = half_of h r

@@ -2,7 +2,7 @@
 
 ghost use Rattle.std.specs.Prelude.{◌≡◌, ◌↔◌, ◌<◌, IfSome, Some, true};
 ghost use Rattle.title_land.specs.{Depth.{depth}, Paths.{quarter_number, quarter_at}, Texts.{quarter_text}};
-ghost use Rattle.title_land.specs.Rectangles.{section_square, half_of, quarter_of, step_of, is_even};
+ghost use Rattle.title_land.specs.Rectangles.{section_square, half_of, quarter_of, first_quarter, second_quarter, step_of, is_even};
 ghost use Rattle.title_land.specs.Rectangles.{holds, InSection, rectangles_meet, SharesCell};
 
 use std::fmt;
@@ -81,6 +81,21 @@ pub enum Half {
     South,
     East,
     West,
+}
+
+impl Half {
+    // The two quarters of a square that its half is, in the order in which quarters are listed.
+    pub(crate) fn quarters(self) -> (Quarter, Quarter)
+        ensures first { result.0 ≡ first_quarter self }
+        ensures second { result.1 ≡ second_quarter self }
+    {
+        match self {
+            Half::North => (Quarter::Northeast, Quarter::Northwest),
+            Half::South => (Quarter::Southwest, Quarter::Southeast),
+            Half::East => (Quarter::Northeast, Quarter::Southeast),
+            Half::West => (Quarter::Northwest, Quarter::Southwest),
+        }
+    }
 }
 
 /// One step of a description: a quarter or a half of the part that the next step names.

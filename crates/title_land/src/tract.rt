@@ -1,13 +1,15 @@
 //! Tracts.
 
-ghost use Rattle.std.specs.Prelude.{◌≡◌, ◌↔◌, ◌≤◌, IfOk, IfSome, true, length};
-ghost use Rattle.title_land.specs.{Depth.{depth}, declared.tract.Land.{Land}, CoverSets.{IsCover}, Acres.{half_acres_of}, Nodes.{IsNode}};
-ghost use Rattle.title_land.specs.Lands.{has, cover_of, home_of, land_of, meets, Meets, IsLand};
+ghost use Rattle.std.specs.{Prelude.{◌≡◌, ◌↔◌, ◌<◌, ◌≤◌, ◌&&◌, IfOk, IfSome, true, length}, List.{list_any}};
+ghost use Rattle.title_land.specs.{Depth.{depth}, declared.tract.Land.{Land}, CoverSets.{IsCover}, Acres.{half_acres_of}};
+ghost use Rattle.title_land.specs.{Nodes.{square, are_related, IsNode}, Rectangles.{half_of, holds}, Survey.{same_section}};
+ghost use Rattle.title_land.specs.Lands.{has, cover_of, home_of, land_of, half_land, meets, Meets, IsLand};
 
 use crate::acres::{CELL_HALF_ACRES, TOWNSHIP_HALF_ACRES};
 use crate::cover::{cover_of, sole_square};
 use crate::grid::Grid;
-use crate::node::Node;
+use crate::node::{Node, Within};
+use crate::rectangle::Half;
 use crate::survey::{Cell, Section, Township};
 use std::alloc::{AllocError, Global};
 use std::marker::Model;
@@ -56,10 +58,42 @@ struct Shape {
     cover: Vec<Node>,
 }
 
-// What a tract keeps: the one node of its cover, or a shared set.
+// A half of a square beside the two nodes of its cover.
+#[derive(Debug, Drop)]
+struct Halved {
+    section: Section,
+    which: Half,
+    within: Within,
+    nodes: [Node; 2],
+}
+
+impl Halved {
+    // The land that has its cells.
+    fn land(&self) -> Land
+        ensures of { result ≡ half_land depth self.now.section self.now.which self.now.within }
+        ensures sized { IsLand depth result }
+    {
+        Land::Part(
+            self.section,
+            Grid::of(self.within.square().half(self.which)),
+        )
+    }
+
+    // Whether a cell lies in it.
+    fn has(&self, cell: Cell) -> bool
+        ensures has { result ≡ (same_section self.now.section cell.section
+            && holds (half_of self.now.which (square depth self.now.within)) cell.row cell.column) }
+    {
+        let square = self.within.square();
+        self.section.is(cell.section) && square.half(self.which).holds(cell.row, cell.column)
+    }
+}
+
+// What a tract keeps: the one node of its cover, or what copies share: a half of a square, or a set.
 #[derive(Debug, Drop)]
 enum Extent {
     Node(Node),
+    Half(Arc<Halved>),
     Shape(Section, Arc<Shape>),
 }
 
@@ -105,6 +139,20 @@ fn lands_meet(a: &Land, b: &Land) -> bool
     }
 }
 
+// Whether a node shares a cell with one of these.
+fn meets_one(node: &Node, others: &[Node]) -> bool
+    ensures one { result ≡ list_any (are_related node.now) others.now }
+{
+    others.iter().any(|other| node.meets(*other))
+}
+
+// Whether a node of one list shares a cell with one of the other.
+fn nodes_meet(nodes: &[Node], others: &[Node]) -> bool
+    ensures meet { result ≡ list_any (λ n. list_any (are_related n) others.now) nodes.now }
+{
+    nodes.iter().any(|node| meets_one(node, others))
+}
+
 impl Tract {
     /// The tract that has a node's cells. Takes no memory.
     pub fn of(node: Node) -> Tract
@@ -114,6 +162,34 @@ impl Tract {
         Tract {
             extent: Extent::Node(node),
         }
+    }
+
+    /// The tract that has the cells of a half of a square, which isn't a cell. No set of cells is made.
+    pub fn of_half(
+        alloc: Global,
+        section: Section,
+        which: Half,
+        within: Within,
+    ) -> Result<Tract, AllocError>
+        requires wide { length within < depth }
+        ensures of { IfOk result (λ t. t ≡ half_land depth section which within) }
+    {
+        let quarters = which.quarters();
+        let first = within.quarter(quarters.0);
+        let second = within.quarter(quarters.1);
+        let nodes = [Node::Part(section, first), Node::Part(section, second)];
+        let halved = Arc::new(
+            alloc,
+            Halved {
+                section,
+                which,
+                within,
+                nodes,
+            },
+        )?;
+        Ok(Tract {
+            extent: Extent::Half(halved),
+        })
     }
 
     /// The tract of this land.
@@ -142,6 +218,7 @@ impl Tract {
     {
         match &self.extent {
             Extent::Node(node) => Land::of(*node),
+            Extent::Half(half) => half.land(),
             Extent::Shape(section, shape) => Land::Part(*section, shape.cells),
         }
     }
@@ -152,6 +229,7 @@ impl Tract {
     {
         match &self.extent {
             Extent::Node(node) => node.home(),
+            Extent::Half(half) => half.section.node(),
             Extent::Shape(section, _) => section.node(),
         }
     }
@@ -164,6 +242,7 @@ impl Tract {
     {
         match &self.extent {
             Extent::Node(node) => slice::from_ref(node),
+            Extent::Half(half) => half.nodes.as_slice(),
             Extent::Shape(_, shape) => shape.cover.as_slice(),
         }
     }
@@ -175,9 +254,33 @@ impl Tract {
     {
         match &self.extent {
             Extent::Node(node) => node.has(cell),
+            Extent::Half(half) => half.has(cell),
             Extent::Shape(section, shape) => {
                 section.is(cell.section) && shape.cells.has(cell.row, cell.column)
             }
+        }
+    }
+
+    // Whether one of them keeps a set of cells.
+    fn either_keeps_set(&self, other: &Tract) -> bool {
+        match (&self.extent, &other.extent) {
+            (Extent::Shape(..), _) | (_, Extent::Shape(..)) => true,
+            _ => false,
+        }
+    }
+
+    // Whether the tracts share a cell: by the few nodes of their covers, or by sets where one keeps a set.
+    fn shares_with(&self, other: &Tract) -> bool
+        ensures meets { result ≡ meets self.now other.now }
+        ensures sized { IsLand depth self.now }
+        ensures other_sized { IsLand depth other.now }
+    {
+        if self.either_keeps_set(other) {
+            lands_meet(&self.land(), &other.land())
+        } else {
+            let nodes = self.cover();
+            let others = other.cover();
+            nodes_meet(nodes, others)
         }
     }
 
@@ -188,7 +291,7 @@ impl Tract {
     {
         match (&self.extent, &other.extent) {
             (Extent::Node(a), Extent::Node(b)) => a.meets(*b),
-            _ => lands_meet(&self.land(), &other.land()),
+            _ => self.shares_with(other),
         }
     }
 
@@ -211,6 +314,7 @@ impl Tract {
     {
         let extent = match &self.extent {
             Extent::Node(node) => Extent::Node(*node),
+            Extent::Half(half) => Extent::Half(half.clone()?),
             Extent::Shape(section, shape) => Extent::Shape(*section, shape.clone()?),
         };
         Ok(Tract { extent })

@@ -13,11 +13,13 @@ use title_land::{
 
 const NORTHEAST: Quarter = Quarter::Northeast;
 
+const NORTHWEST: Quarter = Quarter::Northwest;
+
 const SOUTHWEST: Quarter = Quarter::Southwest;
 
 const SOUTHEAST: Quarter = Quarter::Southeast;
 
-/// The south half of section 5, which is no square.
+/// The south half of section 5, which is no square, from the set of its cells.
 fn south_half(rt: &impl Abort, alloc: Global) -> Tract {
     let cells = Grid::of(Rectangle::section().half(Half::South));
     Tract::new(alloc, Land::Part(section(rt, 5), cells)).expect(rt, "there is memory")
@@ -335,6 +337,40 @@ fn a_half_is_two_nodes(rt: HostRuntime) {
     assert_half(&rt, rt.alloc(), &copy);
 }
 
+/// A half of a square of section 5, which isn't a cell.
+fn half_of(rt: &impl Abort, alloc: Global, which: Half, quarters: &[Quarter]) -> Tract {
+    let within = Within::named(quarters).expect(rt, "no more quarters than there are");
+    if within.is_cell() {
+        panic!(rt; "a cell has no halves");
+    }
+    Tract::of_half(alloc, section(rt, 5), which, within).expect(rt, "there is memory")
+}
+
+/// Made as a half of the section it is the same.
+#[test]
+fn a_half_is_made_of_its_square(rt: HostRuntime) {
+    let half = half_of(&rt, rt.alloc(), Half::South, &[]);
+    assert_half(&rt, rt.alloc(), &half);
+}
+
+fn cover_lines(rt: &impl Abort, alloc: Global, tract: &Tract) -> String {
+    let mut lines = String::new(alloc);
+    add_nodes(&mut lines, tract.cover()).expect(rt, "there is memory");
+    lines
+}
+
+/// Whether a tract has each of these cells of section 5.
+fn assert_cells(rt: &impl Abort, tract: &Tract, cells: &[(u8, u8, bool)]) {
+    for (row, column, wanted) in cells {
+        let cell = Cell {
+            section: section(rt, 5),
+            row: *row,
+            column: *column,
+        };
+        must(rt, tract.has_cell(cell) == *wanted, "a cell of the tract");
+    }
+}
+
 /// Whether a tract shares a cell with each node.
 fn assert_meets(rt: &impl Abort, tract: &Tract, others: &[(Node, bool)]) {
     for (other, wanted) in others {
@@ -357,4 +393,104 @@ fn tracts_share_cells(rt: HostRuntime) {
         (square(&rt, 5, &[SOUTHWEST, NORTHEAST]), true),
     ];
     assert_meets(&rt, &Tract::of(square(&rt, 5, &[NORTHEAST])), &others);
+}
+
+const NORTH_HALF: &str = "T3N R2W sec 5 NE1/4\n\
+    T3N R2W sec 5 NW1/4\n";
+
+/// The corners of the north half, rows 0 to 7, and the cells right below them.
+const NORTH_CELLS: [(u8, u8, bool); 6] = [
+    (0, 0, true),
+    (0, 15, true),
+    (7, 0, true),
+    (7, 15, true),
+    (8, 0, false),
+    (8, 15, false),
+];
+
+/// The north half of a section is its two northern quarters, the eastern first.
+#[test]
+fn a_north_half_is_two_quarters(rt: HostRuntime) {
+    let others = [
+        (square(&rt, 5, &[NORTHEAST]), true),
+        (square(&rt, 5, &[NORTHWEST]), true),
+        (square(&rt, 5, &[SOUTHWEST]), false),
+        (square(&rt, 5, &[SOUTHEAST]), false),
+        (square(&rt, 5, &[SOUTHEAST, NORTHWEST]), true),
+        (square(&rt, 6, &[NORTHEAST]), false),
+    ];
+    let half = half_of(&rt, rt.alloc(), Half::North, &[]);
+    let lines = cover_lines(&rt, rt.alloc(), &half);
+    must(&rt, lines.as_str() == NORTH_HALF, "the half's cover");
+    assert_cells(&rt, &half, &NORTH_CELLS);
+    assert_meets(&rt, &half, &others);
+}
+
+const WEST_HALF: &str = "T3N R2W sec 5 NW1/4NE1/4\n\
+    T3N R2W sec 5 SW1/4NE1/4\n";
+
+/// The corners of W1/2NE1/4, rows 0 to 7 of columns 8 to 11, and a cell beside each.
+const WEST_CELLS: [(u8, u8, bool); 8] = [
+    (0, 8, true),
+    (0, 11, true),
+    (7, 8, true),
+    (7, 11, true),
+    (0, 7, false),
+    (0, 12, false),
+    (8, 8, false),
+    (8, 11, false),
+];
+
+/// The west half of a quarter is its two western quarters, the northern first.
+#[test]
+fn a_west_half_of_a_quarter_is_two_squares(rt: HostRuntime) {
+    let others = [
+        (square(&rt, 5, &[NORTHWEST, NORTHEAST]), true),
+        (square(&rt, 5, &[SOUTHWEST, NORTHEAST]), true),
+        (square(&rt, 5, &[NORTHEAST, NORTHEAST]), false),
+        (square(&rt, 5, &[SOUTHEAST, NORTHEAST]), false),
+        (square(&rt, 5, &[NORTHEAST]), true),
+        (square(&rt, 5, &[NORTHWEST]), false),
+    ];
+    let half = half_of(&rt, rt.alloc(), Half::West, &[NORTHEAST]);
+    let lines = cover_lines(&rt, rt.alloc(), &half);
+    must(&rt, lines.as_str() == WEST_HALF, "the half's cover");
+    assert_cells(&rt, &half, &WEST_CELLS);
+    assert_meets(&rt, &half, &others);
+}
+
+fn meets_half(rt: &impl Abort, alloc: Global, tract: &Tract, which: Half) -> bool {
+    tract.meets(&half_of(rt, alloc, which, &[]))
+}
+
+/// Whether two halves of the section share a cell.
+fn assert_halves_meet(rt: &impl Abort, alloc: Global, rows: &[(Half, Half, bool)]) {
+    for (first, second, wanted) in rows {
+        let meets = meets_half(rt, alloc, &half_of(rt, alloc, *first, &[]), *second);
+        must(rt, meets == *wanted, "halves that share cells");
+    }
+}
+
+const MET: [(Half, Half, bool); 4] = [
+    (Half::North, Half::North, true),
+    (Half::North, Half::South, false),
+    (Half::East, Half::West, false),
+    (Half::West, Half::South, true),
+];
+
+/// A half meets a half by their squares, and the set of a half's cells by its own.
+#[test]
+fn halves_share_cells(rt: HostRuntime) {
+    assert_halves_meet(&rt, rt.alloc(), &MET);
+    let set = south_half(&rt, rt.alloc());
+    must(
+        &rt,
+        meets_half(&rt, rt.alloc(), &set, Half::East),
+        "E1/2 meets it",
+    );
+    must(
+        &rt,
+        !meets_half(&rt, rt.alloc(), &set, Half::North),
+        "N1/2 doesn't",
+    );
 }

@@ -53,7 +53,7 @@ branch_before (a ∷ r) p q x y e =
     or_right (quarter_before a a) (same_quarter a a && path_before (r ++ x ∷ p) (r ++ y ∷ q))
     (and_from (same_quarter a a) (path_before (r ++ x ∷ p) (r ++ y ∷ q)) (same_quarter-self a) (branch_before r p q x y e))
 
-reverse_at : (p q : List Quarter) (x : Quarter) → reverse (p ++ (x ∷ q)) ≡ reverse q ++ (x ∷ reverse p)
+pub reverse_at : (p q : List Quarter) (x : Quarter) → reverse (p ++ (x ∷ q)) ≡ reverse q ++ (x ∷ reverse p)
 reverse_at p q x = reverse-append p (x ∷ q) ∙ ap (λ (z : List Quarter). z ++ reverse p) (reverse-append (x ∷ []) q)
     ∙ append_assoc (reverse q) (x ∷ []) (reverse p)
 

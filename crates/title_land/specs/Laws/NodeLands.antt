@@ -2,8 +2,9 @@
 use Rattle.std.proofs.Common.{◌≡◌, ℕ, suc, ◌-◌, ◌<◌, ◌≤◌, Bool, true, false, ◌&&◌, ◌⊎◌, inl, inr, List, [], ◌∷◌, ◌++◌, map}
 use Rattle.std.{proofs.{Common.{length, refl, sym, ap, subst, ◌∙◌, arith}, lemmas.Bool.{cases_lt, both_ways}}, specs.Prelude.{reverse}}
 use Rattle.std.proofs.{lemmas.List.{append-nil, Elements.{All-map}, FromFn.{length-map-range_with_len}}, Math.Bool.{or-false}}
-use Rattle.title_land.specs.declared.{survey.{Section.{Section}, Cell.{Cell}}, grid.Grid.{Grid}, rectangle.Quarter.{Quarter}}
-use Rattle.title_land.specs.declared.{rectangle.Quarter.TheVariants.{Northeast, Northwest, Southwest, Southeast}, node.Node.{Node}}
+use Rattle.title_land.specs.declared.{survey.{Section.{Section}, Cell.{Cell}}, grid.Grid.{Grid}, node.Node.{Node}}
+use Rattle.title_land.specs.declared.rectangle.Quarter.{Quarter, TheVariants.{Northeast, Northwest, Southwest, Southeast}}
+use Rattle.title_land.specs.declared.rectangle.Rectangle.{Rectangle}
 use Rattle.title_land.specs.{Survey.{side, same_section}, Rectangles.{holds, InSection}, Grids.{grid_has, grid_of, fills, indices, IsGrid}}
 use Rattle.title_land.specs.{Nodes.{square, same_quarter, node_has, are_related, IsNode}, Covers.{cover_below, section_cover, node_at}}
 use Rattle.title_land.specs.{CoverSets.{quarter_before, path_before}, Lands.{has, cover_of, land_of, meets, IsLand}, Laws.Members.{In}}
@@ -20,13 +21,17 @@ square_in_section d w h =
     let z = sized d (d - length w) w (omega arith) in
     (omega (arith, z), omega (arith, z))
 
+-- the set of the cells of a rectangle in the section has those that the rectangle holds
+pub rectangle_has : (d : ℕ) (r : Rectangle) (row column : ℕ) → InSection d r
+    → grid_has (grid_of d (holds r)) row column ≡ holds r row column
+rectangle_has d r row column h =
+    grid_has-everywhere d (holds r) row column
+    ∙ both_off false (holds r row column) (on_side d row column) (λ e. refl) (inside_holds d r row column h)
+
 -- the set of a square's cells has those that the square holds
 pub square_has : (d : ℕ) (w : List Quarter) (row column : ℕ) → length w ≤ d
     → grid_has (grid_of d (holds (square d w))) row column ≡ holds (square d w) row column
-square_has d w row column h =
-    grid_has-everywhere d (holds (square d w)) row column
-    ∙ both_off false (holds (square d w) row column) (on_side d row column) (λ e. refl)
-    (inside_holds d (square d w) row column (square_in_section d w h))
+square_has d w row column h = rectangle_has d (square d w) row column (square_in_section d w h)
 
 -- the cells of a node are those of its land
 pub has-land_of : (d : ℕ) (n : Node) (c : Cell) → IsNode d n → has (land_of d n) c ≡ node_has d n c
@@ -37,25 +42,25 @@ has-land_of d (node.Part s w) c h = ap (λ (b : Bool). same_section s c.section 
 
 -- ---- the cover
 
-quarter_after : (q : Quarter) → quarter_before q q ≡ false
+pub quarter_after : (q : Quarter) → quarter_before q q ≡ false
 quarter_after Northeast = refl
 quarter_after Northwest = refl
 quarter_after Southwest = refl
 quarter_after Southeast = refl
 
-same_self : (q : Quarter) → same_quarter q q ≡ true
+pub same_self : (q : Quarter) → same_quarter q q ≡ true
 same_self Northeast = refl
 same_self Northwest = refl
 same_self Southwest = refl
 same_self Southeast = refl
 
 -- no square comes before itself
-path_after : (p : List Quarter) → path_before p p ≡ false
+pub path_after : (p : List Quarter) → path_before p p ≡ false
 path_after [] = refl
 path_after (q ∷ p) = rw (quarter_after q, same_self q) (path_after p)
 
 -- a list in order of which w is the only member is w alone
-alone_in : (w : List Quarter) (xs : List (List Quarter)) → In w xs → ((p : List Quarter) → In p xs → p ≡ w) → Ordered inner_before xs
+pub alone_in : (w : List Quarter) (xs : List (List Quarter)) → In w xs → ((p : List Quarter) → In p xs → p ≡ w) → Ordered inner_before xs
     → xs ≡ w ∷ []
 alone_in w [] i f o = absurd i
 alone_in w (x ∷ []) i f o = ap (λ (y : List Quarter). y ∷ []) (f x (inl refl))

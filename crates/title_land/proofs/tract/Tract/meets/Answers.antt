@@ -25,7 +25,5 @@ returns-in-Node-Node-clause-shares c =
 
 pub returns-in_default-clause-shares : goal.returns-in_default-clause-shares
 returns-in_default-clause-shares c =
-    result_at_a_cell depth c.args.self.now c.args.other.now c.args.self.now c.args.other.now c.lands_meet.result refl refl
-    c.land.ensures.sized c.land-in_default.ensures.sized
-    (c.lands_meet.ensures.meets ∙ ap (λ (x : Land). meets x c.land-in_default.result) c.land.ensures.land
-    ∙ ap (λ (x : Land). meets c.args.self.now x) c.land-in_default.ensures.land)
+    result_at_a_cell depth c.args.self.now c.args.other.now c.args.self.now c.args.other.now c.shares_with.result refl refl
+    c.shares_with.ensures.sized c.shares_with.ensures.other_sized c.shares_with.ensures.meets
