@@ -1,12 +1,12 @@
 -- The nodes right below a node come in the order of their cells.
-use Rattle.std.proofs.Common.{◌≡◌, ◌⊎◌, ℕ, zero, suc, ◌+◌, ◌<◌, ◌≤◌, Bool, true, false, not, ◌&&◌, ◌||◌, inl, inr, List, [], ◌∷◌, ◌++◌}
-use Rattle.std.{proofs.Common.{length, map, refl, sym, ap, subst, ◌∙◌, arith}, specs.Prelude.{reverse, nat_le, nat_lt}}
-use Rattle.std.{specs.List.{list_any, flat_map}, proofs.lemmas.List.{reverse-append, length-reverse}}
+use Rattle.std.proofs.Common.{◌≡◌, ℕ, zero, suc, ◌+◌, ◌<◌, Bool, true, false, not, ◌&&◌, ◌||◌, inl, inr, List, [], ◌∷◌, ◌++◌}
+use Rattle.std.{proofs.Common.{length, refl, sym, ap, subst, ◌∙◌, arith}, specs.Prelude.{reverse, nat_le, nat_lt}}
+use Rattle.std.{specs.List.{list_any}, proofs.lemmas.List.{reverse-append, length-reverse}}
 use Rattle.std.proofs.lemmas.Bool.{and_from, and_parts, or_left, or_right, cases_Bool, both_ways, ltb-true}
 use Rattle.title_land.specs.declared.{survey.{Township.{Township}, Section.{Section}, Cell.{Cell}}, rectangle.Quarter.{Quarter}}
 use Rattle.title_land.specs.declared.{rectangle.Quarter.TheVariants.{Northeast, Northwest, Southwest, Southeast}, node.Node.{Node}}
 use Rattle.title_land.specs.{declared.node.Within.{Within}, Survey.{is_on_grid, same_township, same_section}, Lands.{is_plant_cell}}
-use Rattle.title_land.specs.{Rectangles.{holds, quarter_of}, Nodes.{square, quarters, node_has}, CoverSets.{quarter_before, path_before}}
+use Rattle.title_land.specs.{Rectangles.{holds}, Nodes.{square, quarters, node_has}, CoverSets.{quarter_before, path_before}}
 use Rattle.title_land.specs.CellLists.{section_if, sections_from, sections_of, section_cells, township_cells, plant_cells, children_of}
 use Rattle.title_land.specs.{CellOrder.{is_met_before}, Laws.{Squares.{inside, quarters_apart}, Members.{In, any_from, any_found}}}
 use Rattle.title_land.specs.Laws.SameLand.{same_township-is, same_township-self, same_section-is, same_section-self}

@@ -1,10 +1,10 @@
 -- The rows of a sheet come in the order of their nodes' cells.
-use Rattle.std.{proofs.Common.{◌≡◌, ◌⊎◌, ℕ, zero, suc, ◌+◌, Bool, true, ◌&&◌, ◌||◌, false, inl, inr, List, [], ◌∷◌}, specs.List.{flat_map}}
+use Rattle.std.{proofs.Common.{◌≡◌, ℕ, zero, suc, ◌+◌, Bool, true, ◌&&◌, false, inl, inr, List, [], ◌∷◌}, specs.List.{flat_map}}
 use Rattle.std.{proofs.Common.{refl, sym, ap, subst, ◌∙◌}, specs.{List.{list_all}, Prelude.{reverse}}}
-use Rattle.std.proofs.lemmas.Bool.{and_parts, or_cases, or_from, both_ways}
+use Rattle.std.proofs.lemmas.Bool.{and_parts, or_from, both_ways}
 use Rattle.title_land.specs.{declared.{survey.Township.{Township}, node.Node.{Node}, tract.Land.{Land}}, Lands.{cover_of}}
 use Rattle.title_land.specs.{CellLists.{node_cells, children_of}, declared.rectangle.Quarter.{Quarter}, Survey.{same_section}}
-use Rattle.title_land.specs.{Nodes.{same_quarter, node_has}, CoverSets.{quarter_before, path_before, comes_before, are_in_order}}
+use Rattle.title_land.specs.{Nodes.{same_quarter}, CoverSets.{quarter_before, path_before, comes_before, are_in_order}}
 use Rattle.title_land.specs.Laws.{Members.{In, in_flat_mapped}, CoverSet.{cover_is_cover}, CellsInOrder.{met_nodes}}
 use Rattle.title_land.specs.declared.node.Node.TheVariants as node
 use Rattle.title_instrument.specs.declared.parts.Estate.{Estate, TheVariants.{S, O, M}}

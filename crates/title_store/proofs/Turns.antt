@@ -1,5 +1,5 @@
 -- Lists whose elements stand pairwise in a relation.
-use Rattle.std.{proofs.Common.{◌≡◌, ◌⊎◌, inl, inr, List, [], ◌∷◌, ◌++◌, map, refl, sym, subst}, specs.List.{flat_map}}
+use Rattle.std.{proofs.Common.{inl, inr, List, [], ◌∷◌, ◌++◌, map, refl, sym, subst}, specs.List.{flat_map}}
 use Rattle.title_land.specs.Laws.Members.{In, in_append, in_flat_mapped, in_mapped}
 
 -- each element stands so to all after it

@@ -1,5 +1,5 @@
 -- Readings are one, and give what the relations say.
-use Rattle.std.proofs.Common.{◌≡◌, ◌↔◌, ℕ, List, Result, Ok, Err, refl, sym, ap, subst}
+use Rattle.std.proofs.Common.{◌≡◌, ◌↔◌, ℕ, List, Result, Ok, Err, ap, subst}
 use Rattle.title_land.specs.declared.tract.Land.{Land}
 use Rattle.title_aliquot.specs.{declared.fault.DescFault.{DescFault}, Describes.{Describes, FaultOf}, Reading.{IsReadAs, Reading}}
 use Rattle.title_aliquot.specs.Laws.Unique.{one_land, no_fault, one_fault}

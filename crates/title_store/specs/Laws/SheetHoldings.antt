@@ -1,14 +1,14 @@
 -- The one holding of a node's cells, and the nodes right below a node.
-use Rattle.std.proofs.Common.{◌≡◌, ℕ, zero, suc, ◌+◌, ◌<◌, ◌≤◌, Bool, true, false, cond, ◌&&◌, inl, inr, List, [], ◌∷◌, length, map}
-use Rattle.std.{proofs.Common.{Option, Some, None, refl, sym, ap, subst, ◌∙◌, arith, if◌then◌else◌}, specs.Prelude.{nat_lt}}
+use Rattle.std.proofs.Common.{◌≡◌, ℕ, zero, suc, ◌+◌, ◌≤◌, Bool, true, inl, inr, List, [], ◌∷◌, length, map}
+use Rattle.std.{proofs.Common.{Some, None, refl, sym, ap, subst, ◌∙◌, arith}, specs.Prelude.{nat_lt}}
 use Rattle.std.{proofs.lemmas.Bool.{and_from, and_parts, cases_Bool, eq-eqb, lt-ltb}, specs.List.{list_all, list_any}}
 use Rattle.title_share.specs.Division.{Division}
 use Rattle.title_land.specs.declared.{survey.{Township.{Township}, Section.{Section}, Cell.{Cell}}, rectangle.Quarter.{Quarter}}
 use Rattle.title_land.specs.{declared.node.{Node.{Node}, Within.{Within}}, Survey.{is_on_grid, same_township, same_section}}
 use Rattle.title_land.specs.{Rectangles.{holds, quarter_of}, Nodes.{square, quarters, node_has, parent_of}, Lands.{is_plant_cell}}
-use Rattle.title_land.specs.{CellLists.{same_cell, sections_of, node_cells, children_of}, Laws.Members.{In, any_found, in_map, in_mapped}}
+use Rattle.title_land.specs.{CellLists.{sections_of, node_cells, children_of}, Laws.Members.{In, any_found, in_map, in_mapped}}
 use Rattle.title_land.specs.Laws.SameLand.{same_township-is, same_section-is, same_section-self, same_township-self}
-use Rattle.title_land.specs.Laws.{Squares.{Inside, inside, holds_from, sized, quarters_apart}, CoverCells.{in_a_quarter}}
+use Rattle.title_land.specs.Laws.{Squares.{inside, holds_from, sized, quarters_apart}, CoverCells.{in_a_quarter}}
 use Rattle.title_land.specs.Laws.{LandSharing.{whole_section}, CellMembers.{in_sections_of, in_quarters}}
 use Rattle.title_land.specs.Laws.CellMembers.{same_cells_are_equal, listed, listed_from, node_list_has_the_cells, sections_of-in}
 use Rattle.title_land.specs.declared.node.Node.TheVariants as node

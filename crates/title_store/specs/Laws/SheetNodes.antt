@@ -1,7 +1,7 @@
 -- A sheet's rows, one by one: what each says of its node, and which node shows a cell.
-use Rattle.std.proofs.Common.{◌≡◌, ◌⊎◌, ℕ, zero, suc, ◌+◌, ◌-◌, ◌≤◌, Bool, true, false, ◌&&◌, ◌||◌, inl, inr, List, [], ◌∷◌, length}
-use Rattle.std.{proofs.Common.{Option, Some, None, refl, sym, ap, subst, ◌∙◌, arith}, specs.List.{AllByRecursion, list_any, flat_map}}
-use Rattle.std.proofs.lemmas.Bool.{and_parts, or_cases, cases_lt, both_ways}
+use Rattle.std.proofs.Common.{◌≡◌, ◌⊎◌, ℕ, zero, suc, ◌+◌, ◌-◌, ◌≤◌, true, inl, inr, List, [], ◌∷◌, length}
+use Rattle.std.{proofs.Common.{Option, Some, None, refl, sym, ap, subst, ◌∙◌, arith}, specs.List.{AllByRecursion, flat_map}}
+use Rattle.std.proofs.lemmas.Bool.{cases_lt}
 use Rattle.title_share.specs.Division.{Division, rows_of}
 use Rattle.title_land.specs.{declared.{survey.{Township.{Township}, Cell.{Cell}}, node.Node.{Node}}, Nodes.{node_has, parent_of}}
 use Rattle.title_land.specs.{Lands.{is_plant_cell}, CellLists.{node_cells, children_of}}
@@ -10,8 +10,8 @@ use Rattle.title_land.specs.declared.node.Node.TheVariants as node
 use Rattle.title_instrument.specs.{declared.parts.Estate.{Estate}, Owners.{holding_of}}
 use Rattle.title_store.specs.{declared.sheet_row.SheetRow.{SheetRow}, Plants.{Plant}, Laws.TractNodes.{children_within}}
 use Rattle.title_store.specs.{Sheets.{one_holding, holding_rows, rows_or, sheet_below}, Laws.SheetSteps.{sheet_one, sheet_none}}
-use Rattle.title_store.specs.Laws.SheetHoldings.{one_found, one_some, in_node, of_node, cell_has_one, Reach, child_parent, children_apart}
-use Rattle.title_store.specs.Laws.SheetHoldings.{ChildWith, child_of_all, child_of_township, child_of_part}
+use Rattle.title_store.specs.Laws.SheetHoldings.{one_found, in_node, cell_has_one, Reach, child_parent, children_apart}
+use Rattle.title_store.specs.Laws.SheetHoldings.{child_of_all, child_of_township, child_of_part}
 
 pub option_cases : (o : Option Division) → (o ≡ None) ⊎ ((held : Division) × (o ≡ Some held))
 option_cases None = inl refl

@@ -1,17 +1,17 @@
 -- What a sheet shows of the tract's cells.
-use Rattle.std.proofs.Common.{◌≡◌, ◌⊎◌, ℕ, suc, ◌+◌, ◌≤◌, Bool, true, false, ◌&&◌, ◌||◌, inl, inr, List, [], ◌∷◌, length}
+use Rattle.std.proofs.Common.{◌≡◌, ℕ, ◌+◌, true, ◌||◌, inl, inr, List, [], ◌∷◌}
 use Rattle.std.proofs.{Common.{Some, refl, sym, ap, subst, ◌∙◌, arith}, lemmas.Bool.{and_parts, or_cases, both_ways}}
 use Rattle.std.specs.List.{list_any, flat_map}
 use Rattle.title_share.specs.Division.{Division, rows_of}
-use Rattle.title_land.specs.{declared.{survey.{Township.{Township}, Cell.{Cell}}, node.Node.{Node}, tract.Land.{Land}}, CoverSets.{LiesIn}}
+use Rattle.title_land.specs.{declared.{survey.{Township.{Township}, Cell.{Cell}}, node.Node.{Node}, tract.Land.{Land}}}
 use Rattle.title_land.specs.{Survey.{is_on_grid, same_township}, Nodes.{same_node, is_above, node_has, parent_of, IsNode}}
 use Rattle.title_land.specs.{Lands.{has, cover_of, is_plant_cell}, CellLists.{node_cells}, Laws.SameNode.{same_node-self}}
 use Rattle.title_land.specs.Laws.{Members.{In, any_from, in_map, in_flat_map, in_flat_mapped}, CoverSet.{cover_is_cover, cover_nodes_apart}}
 use Rattle.title_land.specs.Laws.{NodeSharing.{equal_from_same, related_from_cell}, LandSharing.{cover_has, cover_has_each, cover_in_tree}}
 use Rattle.title_land.specs.declared.node.Node.TheVariants as node
 use Rattle.title_instrument.specs.{declared.parts.Estate.{Estate, TheVariants.{S, O, M}}, Owners.{holding_of}}
-use Rattle.title_store.specs.{declared.sheet_row.SheetRow.{SheetRow}, Plants.{Plant, is_cell_of}}
-use Rattle.title_store.specs.{Sheets.{holding_rows, sheet_below, estates, sheet_of}, Laws.SheetNodes.{shown, RowOf, row_of, rows_apart}}
+use Rattle.title_store.specs.{declared.sheet_row.SheetRow.{SheetRow}, Plants.{Plant}}
+use Rattle.title_store.specs.{Sheets.{sheet_below, estates, sheet_of}, Laws.SheetNodes.{shown, RowOf, row_of, rows_apart}}
 use Rattle.title_store.specs.SheetShows.{Lists, SheetShowsEachCell, SheetStaysInside, SheetNodesLieApart, SheetNodesAreLargest}
 use Rattle.title_store.specs.Laws.SheetHoldings.{one_found, one_from, one_some, in_node, of_node, Reach}
 
