@@ -5,19 +5,29 @@ ghost use Rattle.title_plan.specs.Lands.{land_in};
 
 use crate::lands::read_tract;
 use std::alloc::{AllocError, Global};
-use std::collections::BTreeMap;
 use std::hash::{BuildHasher, BuildHasherDefault, FoldHasher};
+use std::mem;
 use title_aliquot::DescFault;
 use title_aliquot::describe::LONGEST;
 use title_land::Tract;
 
 // The slots of readings, and the ways of each.
-const SLOTS: u64 = 512;
+const SLOTS: usize = 512;
 
 const WAYS: usize = 8;
 
 // The slots of hashes that were seen.
-const SEEN: u64 = 4_096;
+const SEEN: usize = 4_096;
+
+// The slot of a hash among those of readings.
+fn slot_of(hash: u64) -> usize {
+    hash as usize % SLOTS
+}
+
+// The slot of a hash among those of hashes that were seen.
+fn seen_at(hash: u64) -> usize {
+    (hash >> 32) as usize % SEEN
+}
 
 // What a description says, once more, which shares the tract; `None` where it may not be shared.
 fn copied(alloc: Global, said: &Result<Tract, DescFault>) -> Option<Result<Tract, DescFault>>
@@ -117,9 +127,10 @@ pub struct Readings {
     alloc: Global,
     hashers: BuildHasherDefault<FoldHasher>,
     keeps: bool,
-    slots: BTreeMap<u64, Slot>,
-    // The last hash of those that fall together, of texts that came once and found no free way.
-    seen: BTreeMap<u64, u64>,
+    // None before the first reading that is kept.
+    slots: Vec<Slot>,
+    // The last hash of those that fall together, of texts that came once and found no free way; none before the first such text.
+    seen: Vec<u64>,
 }
 
 impl Readings {
@@ -129,8 +140,8 @@ impl Readings {
             alloc,
             hashers: BuildHasherDefault::new(),
             keeps,
-            slots: BTreeMap::new(alloc),
-            seen: BTreeMap::new(alloc),
+            slots: Vec::new(alloc),
+            seen: Vec::new(alloc),
         }
     }
 
@@ -148,49 +159,61 @@ impl Readings {
     fn recall(&self, hash: u64, text: &str) -> Option<Result<Tract, DescFault>>
         ensures said { IfSome result (λ said. said ≡ land_in text.now) }
     {
-        self.slots
-            .get(&(hash % SLOTS))?
-            .recall(self.alloc, hash, text)
+        let slot = self.slots.get(slot_of(hash))?;
+        slot.recall(self.alloc, hash, text)
     }
 
-    // Whether a text with this hash was seen not long ago; from now on it was.
+    // Whether a text with this hash was seen not long ago; from now on it was, unless memory is refused.
     fn is_seen(&mut self, hash: u64) -> bool {
-        let key = (hash >> 32) % SEEN;
-        if let Some(last) = self.seen.get_mut(&key) {
-            let is_seen = *last == hash;
-            *last = hash;
-            return is_seen;
+        if self.seen.is_empty() && self.seen.resize(SEEN, 0).is_err() {
+            return false;
         }
-        let _ = self.seen.insert(key, hash);
-        false
+        match self.seen.get_mut(seen_at(hash)) {
+            Some(last) => mem::replace(last, hash) == hash,
+            None => false,
+        }
     }
 
     // Whether a text with this hash is to be kept: there is room for it, or it comes a second time.
     fn is_wanted(&mut self, hash: u64) -> bool {
-        match self.slots.get(&(hash % SLOTS)) {
+        match self.slots.get(slot_of(hash)) {
             Some(slot) if !slot.has_room() => self.is_seen(hash),
             _ => true,
         }
     }
 
-    // Keeps what a text with this hash says; not where memory is refused.
+    // Makes the slots where there are none yet.
+    fn make_slots(&mut self) -> Result<(), AllocError> {
+        if !self.slots.is_empty() {
+            return Ok(());
+        }
+        let mut slots = Vec::with_capacity(self.alloc, SLOTS)?;
+        for _ in 0..SLOTS {
+            slots.push(Slot::new(self.alloc))?;
+        }
+        self.slots = slots;
+        Ok(())
+    }
+
+    // Keeps what a text with this hash says.
+    fn take(&mut self, hash: u64, reading: Reading) -> Result<(), AllocError> {
+        self.make_slots()?;
+        if let Some(slot) = self.slots.get_mut(slot_of(hash)) {
+            slot.take(reading);
+        }
+        Ok(())
+    }
+
+    // Keeps what a text with this hash says, where it is wanted; not where memory is refused.
     fn keep(&mut self, hash: u64, text: &str, said: &Result<Tract, DescFault>)
         requires said { said.now ≡ land_in text.now }
     {
         if !self.is_wanted(hash) {
             return;
         }
-        let Some(reading) = Reading::new(self.alloc, hash, text, said) else {
-            return;
-        };
-        let key = hash % SLOTS;
-        if let Some(slot) = self.slots.get_mut(&key) {
-            slot.take(reading);
-            return;
+        if let Some(reading) = Reading::new(self.alloc, hash, text, said) {
+            let _ = self.take(hash, reading);
         }
-        let mut slot = Slot::new(self.alloc);
-        slot.take(reading);
-        let _ = self.slots.insert(key, slot);
     }
 
     /// The tract that a text describes, or the text's fault, as `read_tract` gives it. `Err` is Memory, where it is wanted to
