@@ -3,12 +3,12 @@ use Rattle.std.proofs.Common.{◌≡◌, ℕ, Bool, true, false, cond, not, ◌&
 use Rattle.std.proofs.{Common.{subst, ◌∙◌, true≢false, append_assoc, append-nil}, lemmas.Bool.{or_left, or_right}}
 use Rattle.std.proofs.{Common.{arith}, lemmas.List.Folds.{list_any-append}}
 use mathlib.Core.Bool.{or-false}
-use Rattle.title_land.specs.{declared.node.Node.{Node}, Nodes.{same_node}}
+use Rattle.title_land.specs.{declared.node.Node.{Node}, Nodes.{same_node}, Laws.SameNode.{same_node-self, same_node-to}}
 use Rattle.title_lock.specs.{declared.modes.Mode.{Mode}, Modes.{bound}, Holders.{clashes}, Overlaps.{IsLeast, least}}
 use Rattle.title_lock.specs.Tables.{HeldAt, table_mode, table_room, is_idle, KeepsRoom, HasRoom, IdleMore, IdleLess}
 use Rattle.title_lock.specs.Walks.{Asked, mode_for, asks_in, clashes_in, Roomed, Raised, TakenOut}
 use Rattle.title_lock.proofs.{AccessLaws.{gone_off}, ModeLaws.{bound_assoc, bound_none}, LeastLaws.{least_join, least_same}}
-use Rattle.title_lock.proofs.{IdleLaws.{less_same, less_join, more_same, more_wider}, NodeLaws.{same_self, same_true}}
+use Rattle.title_lock.proofs.IdleLaws.{less_same, less_join, more_same, more_wider}
 use Rattle.title_lock.proofs.WalkLaws.{asked_append, asks_append}
 
 -- one test in place of another that passes the same nodes
@@ -61,7 +61,7 @@ roomed_join t u v e l r first then = record {
 
 pub room_one : (t : HeldAt) (e : ℕ) (own : Bool) (c : Node) → table_room t e c ≡ true → HasRoom t e (asks_in ((c, own) ∷ []))
 room_one t e own c room n asks =
-    ap (λ (z : Node). table_room t e z) (same_true n c (sym (or-false (same_node n c)) ∙ asks)) ∙ room
+    ap (λ (z : Node). table_room t e z) (same_node-to n c (sym (or-false (same_node n c)) ∙ asks)) ∙ room
 
 pub room_join : (t : HeldAt) (e : ℕ) (l r : List Asked) → HasRoom t e (asks_in l) → HasRoom t e (asks_in r)
     → HasRoom t e (asks_in (l ++ r))
@@ -175,7 +175,7 @@ room_last t e left none n asks = absurd (true≢false (sym asks ∙ ap (λ (z : 
 pub room_first : (t : HeldAt) (e : ℕ) (own : Bool) (c : Node) {left : List Asked} (r : List Asked) → left ≡ ((c, own) ∷ []) ++ r
     → HasRoom t e (asks_in left) → table_room t e c ≡ true
 room_first t e own c r parts room =
-    room_now t e ((c, own) ∷ []) r parts room c (or_left (same_node c c) false (same_self c))
+    room_now t e ((c, own) ∷ []) r parts room c (or_left (same_node c c) false (same_node-self c))
 
 -- the least in the way so far, of a whole of which this is left
 pub record IsSoFar (p : Bool) (held : ℕ → Node → Option Mode) (e : ℕ) (whole : List Asked) (left : List Asked) (way : Option ℕ)

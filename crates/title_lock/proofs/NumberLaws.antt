@@ -1,12 +1,10 @@
 -- A node lies above another exactly where it is met on the way up by numbers.
-use Rattle.std.proofs.Common.{◌≡◌, ◌≢◌, ◌<◌, ◌≤◌, ℕ, true, false, ◌||◌, eqb, sym, ap, ◌∙◌, arith}
+use Rattle.std.proofs.Common.{◌≡◌, ◌≢◌, ◌<◌, ◌≤◌, ℕ, false, ◌||◌, eqb, sym, ◌∙◌, arith}
 use Rattle.std.proofs.lemmas.Bool.{false_from_ne_true, Decides.{nat_tests}}
 use Rattle.title_land.specs.{declared.node.Node.{Node}, Nodes.{same_node, is_above}, NodeNumbers.{node_number, number_above}}
-use Rattle.title_land.specs.Laws.NodeNumbers.{numbers_tell_nodes, node_above, above_less}
-use Rattle.title_lock.proofs.NodeLaws.{same_self, same_true, above_of}
-
-number_is : (n c : Node) → same_node n c ≡ true → node_number n ≡ node_number c
-number_is n c same = ap node_number (same_true n c same)
+use Rattle.title_land.specs.Laws.{NodeNumbers.{numbers_tell_nodes, node_above, above_less}, SameNode.{same_node-self}}
+use Rattle.title_land.specs.Laws.NodeNumbers.{same_numbers}
+use Rattle.title_lock.proofs.NodeLaws.{above_of}
 
 -- ---- the way up from a node
 
@@ -17,7 +15,7 @@ pub record IsOnWay (n : Node) (o : Node) (k : ℕ) : Type 0 where
   pub way : (same_node n at || is_above n at) ≡ is_above n o
 
 not_same : (n a : Node) (k : ℕ) → k ≡ node_number a → k ≢ node_number n → same_node n a ≡ false
-not_same n a k is other = false_from_ne_true (same_node n a) (λ same. other (is ∙ sym (number_is n a same)))
+not_same n a k is other = false_from_ne_true (same_node n a) (λ same. other (is ∙ sym (same_numbers n a same)))
 
 -- at first
 pub way_begins : (n o : Node) (k : ℕ) → k ≡ node_number o → node_number n < k → IsOnWay n o k
@@ -40,7 +38,7 @@ way_goes n o k less w =
 -- where numbers have come down to a node's own, it lies above exactly where they meet
 pub way_ends : (n o : Node) (k : ℕ) → k ≤ node_number n → IsOnWay n o k → eqb k (node_number n) ≡ is_above n o
 way_ends n o k low w =
-    grind (arith, nat_tests, w.numbered, w.way, numbers_tell_nodes n w.at, same_self n, number_is n w.at, above_less w.at n)
+    grind (arith, nat_tests, w.numbered, w.way, numbers_tell_nodes n w.at, same_node-self n, same_numbers n w.at, above_less w.at n)
 
 -- a node whose number isn't less lies above none
 pub not_above : (n o : Node) → node_number o ≤ node_number n → false ≡ is_above n o

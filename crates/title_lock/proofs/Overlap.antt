@@ -5,11 +5,11 @@ use Rattle.std.proofs.lemmas.Bool.{and_parts, and_from, or_parts, or_from, or_le
 use Rattle.std.proofs.lemmas.List.Elements.{All-head, All-tail}
 use mathlib.Core.Bool.{and-false, or_comm}
 use Rattle.title_land.specs.{declared.{node.Node.{Node}, tract.Land.{Land}}, Nodes.{same_node, is_above, are_related}}
-use Rattle.title_land.specs.Lands.{cover_of, meets, IsLand}
+use Rattle.title_land.specs.{Lands.{cover_of, meets, IsLand}, Laws.SameNode.{same_node-self, same_node-to}}
 use Rattle.title_lock.specs.{declared.{modes.Mode.{Mode, TheVariants.{Is, S}}, guards.Entry.{Entry}}, Modes.{bound, allows}}
 use Rattle.title_lock.{specs.{Overlaps.{is_post, against}, Asking.{ModesDecideOverlap}}, proofs.ModeLaws.{bound_allows, allows_turn}}
 use Rattle.title_lock.specs.Asking.{own_mode, above_mode, asked_for, asked, mode_at, GrantedByModes, AllGranted, AreSized}
-use Rattle.title_lock.proofs.NodeLaws.{same_self, same_true, same_turned}
+use Rattle.title_lock.proofs.NodeLaws.{same_turned}
 
 -- two lists of nodes have two that are one or lie one above the other
 abbrev pub related_any : List Node → List Node → Bool
@@ -36,7 +36,7 @@ apart_fit p q s a s' a' h k = grind arith
 nodes_apart : (p q : Bool) (c d : Node) → are_related c d ≡ false → Allow (asked_for p c) (asked_for q d)
 nodes_apart p q c d h n =
     apart_fit p q (same_node n c) (is_above n c) (same_node n d) (is_above n d)
-    (λ t. grind (arith, same_true n c t)) (λ t. grind (arith, same_true n d t, same_turned c d))
+    (λ t. grind (arith, same_node-to n c t)) (λ t. grind (arith, same_node-to n d t, same_turned c d))
 
 nodes_fit : (p q : Bool) (c d : Node) → ((p || q) && are_related c d) ≡ false → Allow (asked_for p c) (asked_for q d)
 nodes_fit true q c d h = nodes_apart true q c d h
@@ -49,7 +49,7 @@ own_refuses p q s a h k = grind arith
 
 -- where c is d or lies above it, the two are at odds at c
 at_odds : (p q : Bool) (c d : Node) → (p || q) ≡ true → (same_node c d || is_above c d) ≡ true → Allow (asked_for p c) (asked_for q d) → ⊥
-at_odds p q c d h k fit = grind (arith, own_refuses p q (same_node c d) (is_above c d) h k, same_self c, fit c)
+at_odds p q c d h k fit = grind (arith, own_refuses p q (same_node c d) (is_above c d) h k, same_node-self c, fit c)
 
 allow_turn : (a b : Node → Option Mode) → Allow a b → Allow b a
 allow_turn a b h n = allows_turn (b n) (a n) ∙ h n

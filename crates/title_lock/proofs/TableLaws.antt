@@ -4,7 +4,8 @@ use Rattle.std.proofs.Common.{◌≡◌, ℕ, Bool, true, false, cond, [], Optio
 use Rattle.std.{proofs.lemmas.{Bool.{eqb-true}, List.{nil_from_length}}, specs.Prelude.{IsSome, is_some}}
 use Rattle.std.specs.{Cmp.{unsigned_tied}, Ordering.{nat_cmp}, BTreeMap.{BTreeMap, get, is_at}}
 use Rattle.title_land.specs.{declared.node.Node.{Node}, Nodes.{same_node}, NodeNumbers.{node_number}, Laws.NodeNumbers.{numbered_at}}
-use Rattle.title_lock.{specs.{Holders.{Modes, holder_mode, is_free}, Tables.{holders_at}}, proofs.NodeLaws.{same_true}}
+use Rattle.title_land.specs.Laws.SameNode.{same_node-to}
+use Rattle.title_lock.specs.{Holders.{Modes, holder_mode, is_free}, Tables.{holders_at}}
 
 abbrev pub NodeMap : Type 0
 NodeMap = BTreeMap ℕ Modes
@@ -35,7 +36,7 @@ everywhere m n j k o w code had writes R here rest q =
   where
     go : (b : Bool) → same_node q k ≡ b → R (holders_at m q) (cond b w (holders_at m q)) b
     go true s = subst (λ (z : Option Modes). R z w true)
-        (had ∙ ap (get nat_cmp m) code ∙ ap (λ (x : Node). holders_at m x) (sym (same_true q k s))) here
+        (had ∙ ap (get nat_cmp m) code ∙ ap (λ (x : Node). holders_at m x) (sym (same_node-to q k s))) here
     go false s = rest (holders_at m q)
 
 -- ---- holders among whom nobody is

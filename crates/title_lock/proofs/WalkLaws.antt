@@ -6,14 +6,14 @@ use Rattle.std.proofs.lemmas.Bool.{eqb-true, or_left, or_right, or_parts, cond_b
 use Rattle.std.{proofs.lemmas.List.Folds.{list_any-append}, specs.List.{list_any}}
 use Rattle.title_land.specs.declared.{survey.Section.{Section}, rectangle.Quarter.{Quarter}, node.Node.{Node}}
 use Rattle.title_land.specs.{Nodes.{same_node, above_in, above, is_above}, Laws.NodeSharing.{above_is_transitive}}
-use Rattle.title_land.specs.{NodeNumbers.{section_number}, Laws.NodeNumbers.{numbers_tell_nodes}}
+use Rattle.title_land.specs.{NodeNumbers.{section_number}, Laws.{NodeNumbers.{numbers_tell_nodes}, SameNode.{same_node-self, same_node-to}}}
 use Rattle.title_land.specs.declared.node.Node.TheVariants as node
 use Rattle.title_lock.specs.{declared.modes.Mode.{Mode}, Modes.{bound}, Asking.{own_mode, above_mode, asked}}
 use Rattle.title_lock.specs.{Holders.{clashes}, declared.{spots.Spot.{Spot}, walks.Climb.{Climb}}, Walks.{node_of, climb_asks, climb_left}}
 use Rattle.title_lock.specs.Tables.{is_asked, shelf_above, upper_above, home_of}
 use Rattle.title_lock.specs.Walks.{Asked, mode_for, is_known, asks_above, walk, asked_in, asks_in, clashes_in}
 use Rattle.title_lock.proofs.ModeLaws.{bound_none, bound_assoc, bound_turn, sup_self}
-use Rattle.title_lock.proofs.{NodeLaws.{same_self, same_true, above_apart}, Overlap.{Allow, allow_bound, allow_parts}}
+use Rattle.title_lock.proofs.{NodeLaws.{above_apart}, Overlap.{Allow, allow_bound, allow_parts}}
 
 -- ---- parts in turn
 
@@ -58,7 +58,7 @@ none_new : (last : Option Node) (nodes : List Node) → ((n : Node) → list_any
 none_new last [] h = refl
 none_new last (m ∷ nodes) h =
     ap (λ (k : Bool). cond k (asks_above last nodes) ((m, false) ∷ asks_above last nodes))
-    (h m (or_left (same_node m m) (list_any (same_node m) nodes) (same_self m)))
+    (h m (or_left (same_node m m) (list_any (same_node m) nodes) (same_node-self m)))
     ∙ none_new last nodes (λ n up. h n (or_right (same_node n m) (list_any (same_node n) nodes) up))
 
 -- where a node is known nothing is asked of it and of those above it on its shelf
@@ -90,7 +90,7 @@ upper_known last l n t u some at here same =
 above_asked : (p : Bool) (last : Option Node) (nodes : List Node) (n : Node)
     → asked_in p (asks_above last nodes) n ≡ cond (list_any (same_node n) nodes && not (is_known last n)) (Some (above_mode p)) None
 above_asked p last [] n = refl
-above_asked p last (m ∷ nodes) n = grind (arith, above_asked p last nodes n, same_true n m, sup_self)
+above_asked p last (m ∷ nodes) n = grind (arith, above_asked p last nodes n, same_node-to n m, sup_self)
 
 -- with what is known of the node before, a walk asks what its cover asks
 walk_step : (s u k : Bool) (o m : Mode) (w r : Option Mode) → (s ≡ true → u ≡ false)
@@ -150,14 +150,14 @@ fits_in p held [] h = λ n. refl
 fits_in p held (a ∷ l) h =
     let k = or_parts (clashes (mode_for p a.1) (held a.0)) (clashes_in p held l) h in
     allow_bound (λ n. cond (same_node n a.0) (Some (mode_for p a.1)) None) (asked_in p l) held
-    (λ n. grind (arith, same_true n a.0, k.0)) (fits_in p held l k.1)
+    (λ n. grind (arith, same_node-to n a.0, k.0)) (fits_in p held l k.1)
 
 -- and the other way round
 pub clear_in : (p : Bool) (held : Node → Option Mode) (l : List Asked) → Allow (asked_in p l) held → clashes_in p held l ≡ false
 clear_in p held [] fit = refl
 clear_in p held (a ∷ l) fit =
     let k = allow_parts (λ n. cond (same_node n a.0) (Some (mode_for p a.1)) None) (asked_in p l) held fit in
-    grind (arith, k.0 a.0, same_self a.0, clear_in p held l k.1)
+    grind (arith, k.0 a.0, same_node-self a.0, clear_in p held l k.1)
 
 -- ---- nodes of one shelf
 
@@ -168,7 +168,7 @@ StandOn h (a ∷ l) = (home_of a.0 ≡ h) × StandOn h l
 
 pub on_home : (h : Option ℕ) (l : List Asked) → StandOn h l → (n : Node) → asks_in l n ≡ true → home_of n ≡ h
 on_home h [] stand n asks = absurd (true≢false (sym asks))
-on_home h (a ∷ l) stand n asks = grind (arith, same_true n a.0, stand.0, on_home h l stand.1 n)
+on_home h (a ∷ l) stand n asks = grind (arith, same_node-to n a.0, stand.0, on_home h l stand.1 n)
 
 -- what clashes there, by what is held at nodes with this home
 pub clash_at_home : (p : Bool) (h : Option ℕ) (held there : Node → Option Mode) (l : List Asked) → StandOn h l

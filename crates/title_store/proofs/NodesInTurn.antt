@@ -4,7 +4,7 @@ use Rattle.std.{proofs.Common.{length, refl, sym, ap, subst, ◌∙◌, arith}, 
 use Rattle.std.{specs.List.{list_any}, proofs.lemmas.List.{reverse-append, length-reverse}}
 use Rattle.std.proofs.lemmas.Bool.{and_from, and_parts, or_left, or_right, cases_Bool, both_ways, ltb-true}
 use Rattle.title_land.specs.declared.{survey.{Township.{Township}, Section.{Section}, Cell.{Cell}}, rectangle.Quarter.{Quarter}}
-use Rattle.title_land.specs.declared.{rectangle.Quarter.TheVariants.{Northeast, Northwest, Southwest, Southeast}, node.Node.{Node}}
+use Rattle.title_land.specs.declared.{rectangle.Quarter.TheVariants.{Northeast, Northwest, Southwest}, node.Node.{Node}}
 use Rattle.title_land.specs.{declared.node.Within.{Within}, Survey.{is_on_grid, same_township, same_section}, Lands.{is_plant_cell}}
 use Rattle.title_land.specs.{Rectangles.{holds}, Nodes.{square, quarters, node_has}, CoverSets.{quarter_before, path_before}}
 use Rattle.title_land.specs.CellLists.{section_if, sections_from, sections_of, section_cells, township_cells, plant_cells, children_of}
@@ -14,6 +14,7 @@ use Rattle.title_land.specs.Laws.{CoverOrder.{branch_before}, CellMembers.{towns
 use Rattle.title_land.specs.Laws.CellMembers.{section_if-in, sections_from-in, sections_of-in, section_cells-has, section_cells-in}
 use Rattle.title_land.specs.Laws.{MetBefore.{Met, not_from, flat_before, flat_at}, CellsInOrder.{met_section, met_plant}}
 use Rattle.title_land.specs.declared.node.Node.TheVariants as node
+use Rattle.title_land.specs.Laws.NodeLands.{quarter_after}
 use Rattle.title_store.{specs.Plants.{IsEachOnce}, proofs.Turns.{Pairs, pairs_append, pairs_map, pairs_more}}
 
 -- the plant's cells in the first node are listed before those in the second
@@ -129,12 +130,6 @@ quarters_in_turn = (
   ),
 )
 
-pub never_before : (a : Quarter) → quarter_before a a ≡ false
-never_before Northeast = refl
-never_before Northwest = refl
-never_before Southwest = refl
-never_before Southeast = refl
-
 quarter_comes : (d : ℕ) (ts : List Township) (s : Section) (w : Within) (a b : Quarter) → length w < d → quarter_before a b ≡ true
     → Before d ts (node.Part s (a ∷ w)) (node.Part s (b ∷ w))
 quarter_comes d ts s w a b l q c e h k on under =
@@ -149,7 +144,7 @@ quarter_comes d ts s w a b l q c e h k on under =
     ∙ branch_before (reverse w) [] [] a b q in
     met_plant d ts c e same on (met_section d (a ∷ w) (b ∷ w) c e (omega (arith, l, long)) order i j
     (λ z. let one = quarters_apart a b (square d w) e.row e.column z j in
-    both_ways (quarter_before a a) (never_before a) (subst (λ (x : Quarter). quarter_before a x ≡ true) (sym one) q)))
+    both_ways (quarter_before a a) (quarter_after a) (subst (λ (x : Quarter). quarter_before a x ≡ true) (sym one) q)))
 
 -- the nodes right below a node come in the order of their cells
 pub children_in_turn : (d : ℕ) (ts : List Township) (n : Node) → IsEachOnce ts → Pairs (Before d ts) (children_of d ts n)

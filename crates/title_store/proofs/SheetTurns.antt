@@ -1,17 +1,17 @@
 -- The rows of a sheet come in the order of their nodes' cells.
-use Rattle.std.{proofs.Common.{◌≡◌, ℕ, zero, suc, ◌+◌, Bool, true, ◌&&◌, false, inl, inr, List, [], ◌∷◌}, specs.List.{flat_map}}
-use Rattle.std.{proofs.Common.{refl, sym, ap, subst, ◌∙◌}, specs.{List.{list_all}, Prelude.{reverse}}}
-use Rattle.std.proofs.lemmas.Bool.{and_parts, or_from, both_ways}
+use Rattle.std.{proofs.Common.{◌≡◌, ℕ, zero, suc, ◌+◌, true, inl, inr, List, [], ◌∷◌}, specs.List.{flat_map}}
+use Rattle.std.{proofs.Common.{refl, sym, subst, ◌∙◌}, specs.{List.{list_all}, Prelude.{reverse}}}
+use Rattle.std.proofs.lemmas.Bool.{and_parts, both_ways}
 use Rattle.title_land.specs.{declared.{survey.Township.{Township}, node.Node.{Node}, tract.Land.{Land}}, Lands.{cover_of}}
-use Rattle.title_land.specs.{CellLists.{node_cells, children_of}, declared.rectangle.Quarter.{Quarter}, Survey.{same_section}}
-use Rattle.title_land.specs.{Nodes.{same_quarter}, CoverSets.{quarter_before, path_before, comes_before, are_in_order}}
-use Rattle.title_land.specs.Laws.{Members.{In, in_flat_mapped}, CoverSet.{cover_is_cover}, CellsInOrder.{met_nodes}}
+use Rattle.title_land.specs.{CellLists.{node_cells, children_of}, Survey.{same_section}}
+use Rattle.title_land.specs.{CoverSets.{path_before, comes_before, are_in_order}, Laws.Members.{all_at}}
+use Rattle.title_land.specs.Laws.{Members.{In, in_flat_mapped}, CoverSet.{cover_is_cover}, CellsInOrder.{met_nodes}, NodeLands.{path_after}}
 use Rattle.title_land.specs.declared.node.Node.TheVariants as node
 use Rattle.title_instrument.specs.declared.parts.Estate.{Estate, TheVariants.{S, O, M}}
 use Rattle.title_store.specs.{declared.sheet_row.SheetRow.{SheetRow}, Plants.{Plant, IsEachOnce}, Laws.SheetSteps.{sheet_one, sheet_none}}
 use Rattle.title_store.specs.{Sheets.{one_holding, holding_rows, sheet_below, estates, sheet_of}, Laws.SheetShows.{in_from, cover_apart}}
 use Rattle.title_store.specs.{SheetOrder.{InTurn, IsFirst, SheetIsInOrder}, Laws.SheetNodes.{option_cases, sheet_split, row_of, row_node}}
-use Rattle.title_store.proofs.{Turns.{Pairs, pairs_flat, pairs_more, pairs_all}, NodesInTurn.{Before, never_before, children_in_turn}}
+use Rattle.title_store.proofs.{Turns.{Pairs, pairs_flat, pairs_more, pairs_all}, NodesInTurn.{Before, children_in_turn}}
 
 -- the rows of a node whose cells come first come first
 rows_first : (levels d : ℕ) (ts : List Township) (p : Plant) (e : Estate) (a b : Node) → Before d ts a b → (x y : SheetRow)
@@ -36,28 +36,12 @@ below_in_turn (suc levels) d ts p e n once = elim (option_cases (one_holding e p
 
 -- ---- covers
 
-and_false : (a b : Bool) → b ≡ false → (a && b) ≡ false
-and_false true b h = h
-and_false false b h = refl
-
-path_not_first : (p : List Quarter) → path_before p p ≡ false
-path_not_first [] = refl
-path_not_first (a ∷ p) =
-    or_from (quarter_before a a) (same_quarter a a && path_before p p) (never_before a)
-    (and_false (same_quarter a a) (path_before p p) (path_not_first p))
-
 node_not_first : (n : Node) → comes_before n n ≡ true → ⊥
 node_not_first node.Everything h = absurd cc
 node_not_first (node.Township t) h = absurd cc
 node_not_first (node.Part s w) h =
-    both_ways (path_before (reverse w) (reverse w)) (path_not_first (reverse w))
+    both_ways (path_before (reverse w) (reverse w)) (path_after (reverse w))
     (and_parts (same_section s s) (path_before (reverse w) (reverse w)) h).1
-
-all_at : (test : Node → Bool) (nodes : List Node) (n : Node) → list_all test nodes ≡ true → In n nodes → test n ≡ true
-all_at test [] n h i = absurd i
-all_at test (z ∷ nodes) n h i =
-    let k = and_parts (test z) (list_all test nodes) h in
-    elim i [ inl e ↦ ap test e ∙ k.0 | inr j ↦ all_at test nodes n k.1 j ]
 
 order_pairs : (nodes : List Node) → are_in_order nodes ≡ true → Pairs (λ m n. comes_before m n ≡ true) nodes
 order_pairs [] o = tt

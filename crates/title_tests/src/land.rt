@@ -57,6 +57,25 @@ fn assert_numbers(rt: &impl Abort, rows: &[(Node, u64)]) {
     }
 }
 
+fn assert_quarters(rt: &impl Abort, rows: &[(u16, Quarter, Quarter)]) {
+    for (number, quarter, numbered) in rows {
+        must(rt, quarter.number() == *number, "a quarter's number");
+        must(rt, *numbered == *quarter, "the quarter with a number");
+    }
+}
+
+/// The quarters have the numbers 0 to 3 from the northeast one on, against the clock.
+#[test]
+fn quarters_have_numbers(rt: HostRuntime) {
+    let rows = [
+        (0, NORTHEAST, Quarter::numbered(0)),
+        (1, NORTHWEST, Quarter::numbered(1)),
+        (2, SOUTHWEST, Quarter::numbered(2)),
+        (3, SOUTHEAST, Quarter::numbered(3)),
+    ];
+    assert_quarters(&rt, &rows);
+}
+
 fn assert_above(rt: &impl Abort, rows: &[(u64, u64)]) {
     for (number, above) in rows {
         must(rt, number_above(*number) == *above, "the number above");

@@ -1,5 +1,5 @@
 -- Paths by their numbers.
-use Rattle.std.proofs.Common.{◌≡◌, ◌∙◌, ap, sym, append_assoc, ℕ, suc, ◌+◌, ◌/◌, ◌%◌, ◌≤◌, arith, List, [], ◌∷◌, ◌++◌, length}
+use Rattle.std.proofs.Common.{◌≡◌, ◌∙◌, ap, sym, append_assoc, ℕ, suc, ◌/◌, ◌%◌, ◌≤◌, arith, List, [], ◌∷◌, ◌++◌, length}
 use Rattle.std.proofs.lemmas.List.{reverse-append}
 use Rattle.title_land.specs.{declared.rectangle.Quarter.{Quarter}, Paths.{quarter_at, path_number}}
 use Rattle.title_land.specs.Laws.PathNumbers.{path_at-number, path_positive}

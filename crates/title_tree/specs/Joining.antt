@@ -1,7 +1,7 @@
 -- Plots of which no four quarters that are leaves have the same division, but where they were written.
 use Rattle.std.specs.Prelude.{◌≡◌, true, false, List}
-use Rattle.title_land.specs.declared.rectangle.Quarter.{Quarter}
-use Rattle.title_tree.specs.{Joins.{is_joinable}, Plots.{Plot, plot_at, is_tidy, tidied, tidied_all}, Pieces.{In, Apart, StaysElsewhere}}
+use Rattle.title_land.specs.{declared.rectangle.Quarter.{Quarter}, Laws.Members.{In}}
+use Rattle.title_tree.specs.{Joins.{is_joinable}, Plots.{Plot, plot_at, is_tidy, tidied, tidied_all}, Pieces.{Apart, StaysElsewhere}}
 
 -- the path is apart from each path of each of the lists
 abbrev pub ApartFromAll : List Quarter → List (List (List Quarter)) → Type 0

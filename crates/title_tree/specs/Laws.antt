@@ -2,6 +2,8 @@
 pub mod SameDivisions
 pub mod Grafts
 pub mod Beginnings
+pub mod PathLists
+pub mod NumberPaths
 pub mod Swaps
 pub mod Images
 pub mod Uniform

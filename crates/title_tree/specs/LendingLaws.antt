@@ -1,8 +1,8 @@
 -- Laws of images that are out: each can go back.
 use Rattle.std.specs.Prelude.{◌≢◌, ℕ, suc, List, [], ◌∷◌, ◌++◌}
 use Rattle.title_share.specs.Division.{Division}
-use Rattle.title_land.specs.declared.rectangle.Quarter.{Quarter}
-use Rattle.title_tree.specs.{Plots.{Plot}, Pieces.{In, swapped, taken, split_all, fresh, Disjoint, Refines}}
+use Rattle.title_land.specs.{declared.rectangle.Quarter.{Quarter}, Laws.Members.{In}}
+use Rattle.title_tree.specs.{Plots.{Plot}, Pieces.{swapped, taken, split_all, fresh, Disjoint, Refines}}
 use Rattle.title_tree.specs.Lendings.{Lending, Keeps, LaterClear}
 
 -- after a put, whose image is out under the next number

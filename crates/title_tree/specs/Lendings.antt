@@ -1,7 +1,7 @@
 -- Images that are out of a plot: pieces that stood there and may go back.
 use Rattle.std.specs.Prelude.{◌≡◌, ℕ, ◌<◌, false, List}
-use Rattle.title_land.specs.declared.rectangle.Quarter.{Quarter}
-use Rattle.title_tree.specs.{Paths.{begins}, Plots.{Plot}, Pieces.{In, Piece, paths, Disjoint, Ready, Reaches}}
+use Rattle.title_land.specs.{declared.rectangle.Quarter.{Quarter}, Laws.Members.{In}}
+use Rattle.title_tree.specs.{Paths.{begins}, Plots.{Plot}, Pieces.{Piece, paths, Disjoint, Ready, Reaches}}
 
 -- an image that is out, with its number
 pub record Lending : Type 0 where

@@ -1,8 +1,8 @@
 -- Plots that are to stand at paths of another plot, or that stood there.
-use Rattle.std.specs.Prelude.{◌≡◌, ℕ, ◌≤◌, Bool, true, false, cond, ◌||◌, ◌⊎◌, List, [], ◌∷◌, ◌++◌, length, Option, Some, None, Result}
+use Rattle.std.specs.Prelude.{◌≡◌, ℕ, ◌≤◌, Bool, true, false, cond, ◌||◌, List, [], ◌∷◌, ◌++◌, length, Option, Some, None, Result}
 use Rattle.std.specs.Option.{option_or}
 use Rattle.title_share.specs.Division.{Division, all_to}
-use Rattle.title_land.specs.declared.rectangle.Quarter.{Quarter}
+use Rattle.title_land.specs.{declared.rectangle.Quarter.{Quarter}, Laws.Members.{In}}
 use Rattle.title_tree.specs.Paths.{begins, rest}
 use Rattle.title_tree.specs.Plots.{Plot, value_at, has_path, plot_at, graft, split, changed, first_refusal, same_division, uniform, fits}
 
@@ -10,11 +10,6 @@ use Rattle.title_tree.specs.Plots.{Plot, value_at, has_path, plot_at, graft, spl
 pub record Piece : Type 0 where
   pub path : List Quarter
   pub plot : Plot
-
--- it stands in the list
-abbrev pub In : {A : Type 0} → A → List A → Type 0
-In a [] = ⊥
-In a (x ∷ xs) = (a ≡ x) ⊎ In a xs
 
 abbrev pub paths : List Piece → List (List Quarter)
 paths [] = []

@@ -1,36 +1,35 @@
 -- No two paths of a tract lie one below the other.
-use Rattle.std.proofs.Common.{◌≡◌, ◌∙◌, ap, sym, refl, subst, ℕ, ◌^◌, ◌≤◌, Bool, true, false}
+use Rattle.std.proofs.Common.{◌≡◌, ◌∙◌, sym, refl, subst, ℕ, ◌^◌, ◌≤◌, true, false}
 use Rattle.std.{proofs.Common.{inl, inr, List, [], ◌∷◌, ◌++◌, length}, specs.{Prelude.{reverse}, List.{flat_map, list_any, list_all}}}
 use Rattle.std.proofs.lemmas.Bool.{and_parts, and_right, both_ways, false_from_ne_true}
 use Rattle.title_land.specs.{Depth.{depth}, declared.{survey.Township.{Township}, rectangle.Quarter.{Quarter}, node.Node.{Node}}}
-use Rattle.title_land.specs.declared.{rectangle.Quarter.TheVariants.{Northeast, Northwest, Southwest, Southeast}, tract.Land.{Land}}
-use Rattle.title_land.specs.{Survey.{same_township, same_section}, Nodes.{same_quarter}, Lands.{is_in_plant, cover_of}}
-use Rattle.title_land.specs.{CoverSets.{quarter_before, path_before, comes_before, are_in_order}, Laws.Members.{any_from}}
-use Rattle.title_land.specs.Laws.{SameLand.{same_township-self}, CoverSet.{cover_is_cover}}
+use Rattle.title_land.specs.{declared.tract.Land.{Land}, Laws.NodeLands.{path_after}}
+use Rattle.title_land.specs.{Survey.{same_township, same_section}, Lands.{is_in_plant, cover_of}}
+use Rattle.title_land.specs.{CoverSets.{path_before, comes_before, are_in_order}, Laws.Members.{any_from, In, in_mapped, all_at}}
+use Rattle.title_land.specs.Laws.{SameLand.{same_township-self}, CoverSet.{cover_is_cover}, Members.{in_flat_mapped}}
 use Rattle.title_land.specs.declared.node.Node.TheVariants as node
-use Rattle.title_land.specs.Laws.Members as members
 use Rattle.title_store.specs.{Plants.{IsEachOnce}, Laws.SheetShows.{cover_apart}}
-use Rattle.title_tree.specs.{Paths.{begins}, Pieces.{In, Disjoint}}
+use Rattle.title_tree.specs.{Paths.{begins}, Pieces.{Disjoint}, Laws.{Beginnings.{begins_parts, begins_self}, PathLists.{disjoint_join}}}
 use Rattle.title_tree_store.specs.Spots.{index_of, township_path, blocks, township_spots, spots, tract_spots}
-use Rattle.title_tree_store.proofs.Paths.{begins_parts, begins_self, disjoint_under, disjoint_join, in_flat, length-number_path}
 use Rattle.title_tree_store.proofs.CellPaths.{is_own, township_is, cover_declared, spots_short, whole, length-whole, has_whole}
-use Rattle.title_tree_store.proofs.{CellPaths.{node_at, spots_have_at}, Images.{in_mapped}}
+use Rattle.title_tree_store.proofs.CellPaths.{node_at, spots_have_at}
+use Rattle.title_tree.specs.Laws.{NumberPaths.{length-number_path}, PathLists.{disjoint_under}}
 
 -- ---- lists of paths, of items that are each there once
 
 -- no item stands in the list twice
 abbrev Distinct : {X : Type 0} → List X → Type 0
 Distinct [] = Unit {0}
-Distinct {X} (x ∷ xs) = ((y : X) → members.In y xs → x ≡ y → ⊥) × Distinct xs
+Distinct {X} (x ∷ xs) = ((y : X) → In y xs → x ≡ y → ⊥) × Distinct xs
 
 -- items of which one's path begins another's only where they are one
 flat_apart : {X : Type 0} (f : X → List (List Quarter)) (xs : List X) → ((x : X) → Disjoint (f x))
-    → ((x y : X) (p q : List Quarter) → members.In x xs → members.In y xs → In p (f x) → In q (f y) → begins p q ≡ true → x ≡ y)
+    → ((x y : X) (p q : List Quarter) → In x xs → In y xs → In p (f x) → In q (f y) → begins p q ≡ true → x ≡ y)
     → Distinct xs → Disjoint (flat_map f xs)
 flat_apart f [] own one apart = tt
 flat_apart f (x ∷ xs) own one apart =
     disjoint_join (f x) (flat_map f xs) (own x) (flat_apart f xs own (λ y z p q i j. one y z p q (inr i) (inr j)) apart.1)
-    (λ p q i j. let y = in_flat f xs q j in (
+    (λ p q i j. let y = in_flat_mapped f xs q j in (
       false_from_ne_true (begins p q) (λ h. apart.0 y.0 y.1 (one x y.0 p q (inl refl) (inr y.1) i y.2 h)),
       false_from_ne_true (begins q p) (λ h. apart.0 y.0 y.1 (sym (one y.0 x q p (inr y.1) (inl refl) y.2 i h))),
     ))
@@ -43,26 +42,10 @@ townships_once (t ∷ ts) once = (
   townships_once ts once.1,
 )
 
-quarter_self : (a : Quarter) → quarter_before a a ≡ false
-quarter_self Northeast = refl
-quarter_self Northwest = refl
-quarter_self Southwest = refl
-quarter_self Southeast = refl
-
-path_self : (p : List Quarter) → path_before p p ≡ false
-path_self [] = refl
-path_self (a ∷ p) = rw (quarter_self a) (and_right (same_quarter a a) (path_before p p) (path_self p))
-
 before_self : (n : Node) → comes_before n n ≡ false
 before_self node.Everything = refl
 before_self (node.Township t) = refl
-before_self (node.Part s w) = and_right (same_section s s) (path_before (reverse w) (reverse w)) (path_self (reverse w))
-
-all_at : (test : Node → Bool) (ns : List Node) (n : Node) → list_all test ns ≡ true → members.In n ns → test n ≡ true
-all_at test [] n h i = absurd i
-all_at test (z ∷ ns) n h i =
-    let k = and_parts (test z) (list_all test ns) h in
-    elim i [ inl e ↦ ap test e ∙ k.0 | inr j ↦ all_at test ns n k.1 j ]
+before_self (node.Part s w) = and_right (same_section s s) (path_before (reverse w) (reverse w)) (path_after (reverse w))
 
 nodes_once : (ns : List Node) → are_in_order ns ≡ true → Distinct ns
 nodes_once [] order = tt
@@ -89,7 +72,7 @@ module _ (levels : ℕ) (ts : List Township) (room : length ts ≤ 4 ^ levels) w
   own_apart t = disjoint_under (township_path levels ts t) blocks blocks_apart
 
   -- a township's path that begins another's is that of the same township
-  one_township : (t u : Township) (p q : List Quarter) → members.In t ts → members.In u ts → In p (township_spots levels ts t)
+  one_township : (t u : Township) (p q : List Quarter) → In t ts → In u ts → In p (township_spots levels ts t)
       → In q (township_spots levels ts u) → begins p q ≡ true → t ≡ u
   one_township t u p q of at i j h =
       let a = in_mapped (λ b. township_path levels ts t ++ b) p blocks i in
@@ -105,8 +88,8 @@ module _ (levels : ℕ) (ts : List Township) (room : length ts ≤ 4 ^ levels) w
   spots_apart once (node.Part s w) = (λ q i. absurd i, tt)
 
   -- nodes of a cover of which one's path begins the other's are one
-  one_node : (x : Land) → is_in_plant ts x ≡ true → (m n : Node) (p q : List Quarter) → members.In m (cover_of depth x)
-      → members.In n (cover_of depth x) → In p (spots levels ts m) → In q (spots levels ts n) → begins p q ≡ true → m ≡ n
+  one_node : (x : Land) → is_in_plant ts x ≡ true → (m n : Node) (p q : List Quarter) → In m (cover_of depth x)
+      → In n (cover_of depth x) → In p (spots levels ts m) → In q (spots levels ts n) → begins p q ≡ true → m ≡ n
   one_node x of m n p q i j a b h =
       let at = cover_declared ts x n of j in
       let has = has_whole levels ts (spots levels ts n) q q b (begins_self q) in

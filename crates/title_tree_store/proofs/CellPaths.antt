@@ -10,19 +10,17 @@ use Rattle.title_land.specs.{Survey.{side, same_township, same_section, is_on_gr
 use Rattle.title_land.specs.{Lands.{has, cover_of, is_in_plant, is_plant_cell}, Laws.PathNumbers.{quarter_below}}
 use Rattle.title_land.specs.Laws.{SameLand.{same_township-is, same_township-self, same_section-is}, Squares.{holds_from, has_corner}}
 use Rattle.title_land.specs.Laws.{CoverSet.{cell_in_grid}, LandSharing.{cover_has_its_cells, part_found, equal_tests}}
-use Rattle.title_land.specs.Laws.Members.{any_found, any_from}
+use Rattle.title_land.specs.Laws.Members.{any_found, any_from, In, in_flat_mapped}
 use Rattle.title_land.specs.declared.node.Node.TheVariants as node
 use Rattle.title_land.specs.declared.tract.Land.TheVariants as land
-use Rattle.title_land.specs.Laws.Members as members
-use Rattle.title_tree.specs.{Paths.{way, begins, rest, number_path}, CellWays.{cell_way}, Pieces.{In, Short}}
-use Rattle.title_tree.specs.Laws.{CellSquares.{squares_by_paths, cell_ways_are_whole}, Uniform.{corner, length-corner}}
-use Rattle.title_tree.specs.Laws.Beginnings.{begins_is}
+use Rattle.title_tree.specs.{Paths.{way, begins, rest, number_path}, CellWays.{cell_way}, Pieces.{Short}, Laws.PathLists.{has_on}}
+use Rattle.title_tree.specs.Laws.{CellSquares.{squares_by_paths, cell_ways_are_whole}, Uniform.{corner, length-corner}, PathLists.{has_in}}
+use Rattle.title_tree.specs.Laws.{Beginnings.{begins_is, begins_on, begins_parts, begins_under, begins_whole}, NumberPaths.{append_parts}}
 use Rattle.title_tree.specs.Pieces as pieces
 use Rattle.title_tree_store.specs.{Spots.{index_of, township_path, section_path, square_path}, Keeping.{height}}
 use Rattle.title_tree_store.specs.Spots.{cell_path, blocks, township_spots, spots, tract_spots}
-use Rattle.title_tree_store.proofs.Paths.{begins_under, begins_parts, begins_whole, begins_on, has_on, has_in, has_from, in_flat}
-use Rattle.title_tree_store.proofs.Paths.{has_under, has_parts, has_flat, append_parts}
-use Rattle.title_tree_store.proofs.Paths.{length-number_path, number_is, number_of, path_of_number}
+use Rattle.title_tree.specs.Laws.{NumberPaths.{length-number_path, number_is, number_of, path_of_number}, PathLists.{has_flat, has_from}}
+use Rattle.title_tree.specs.Laws.PathLists.{has_parts, has_under}
 
 -- ---- townships
 
@@ -30,7 +28,7 @@ use Rattle.title_tree_store.proofs.Paths.{length-number_path, number_is, number_
 abbrev pub IsOf : List Township → Township → Type 0
 IsOf ts t = list_any (same_township t) ts ≡ true
 
-pub is_own : (ts : List Township) (t : Township) → members.In t ts → IsOf ts t
+pub is_own : (ts : List Township) (t : Township) → In t ts → IsOf ts t
 is_own ts t i = any_from (same_township t) ts t i (same_township-self t)
 
 index_below : (ts : List Township) (t : Township) → IsOf ts t → index_of ts t < length ts
@@ -91,7 +89,7 @@ any_own ts f t of h =
     any_from f ts k.0 k.1 (ap f (sym (same_township-is t k.0 k.2)) ∙ h)
 
 -- the nodes of a cover are declared where the tract is in the plant
-pub cover_declared : (ts : List Township) (x : Land) (n : Node) → is_in_plant ts x ≡ true → members.In n (cover_of depth x)
+pub cover_declared : (ts : List Township) (x : Land) (n : Node) → is_in_plant ts x ≡ true → In n (cover_of depth x)
     → IsDeclared ts n
 unfolding cover_of
 cover_declared ts land.Everything n h i = elim i [
@@ -108,7 +106,7 @@ cover_declared ts (land.Part s g) n h i =
     let short : length p.quarters ≤ depth = omega arith in
     subst (IsDeclared ts) (sym p.node_is) (h, short)
 
-any_agree : (p q : Node → Bool) (ns : List Node) → ((n : Node) → members.In n ns → p n ≡ q n) → list_any p ns ≡ list_any q ns
+any_agree : (p q : Node → Bool) (ns : List Node) → ((n : Node) → In n ns → p n ≡ q n) → list_any p ns ≡ list_any q ns
 any_agree p q [] f = refl
 any_agree p q (n ∷ ns) f =
     ap (λ (b : Bool). b || list_any p ns) (f n (inl refl)) ∙ ap (λ (b : Bool). q n || b) (any_agree p q ns (λ m i. f m (inr i)))
@@ -226,7 +224,7 @@ module _ (levels : ℕ) (ts : List Township) where
   in_spots : (n : Node) (p r : List Quarter) → IsDeclared ts n → In p (spots levels ts n) → length p + length r ≡ height levels
       → CellAt levels ts (p ++ r)
   in_spots node.Everything p r of i l =
-      let m = in_flat (township_spots levels ts) ts p i in in_township m.0 p r (is_own ts m.0 m.1) m.2 l
+      let m = in_flat_mapped (township_spots levels ts) ts p i in in_township m.0 p r (is_own ts m.0 m.1) m.2 l
   in_spots (node.Township t) p r of i l = in_township t p r of i l
   in_spots (node.Part s w) p r of i l = elim i [
     | inl e ↦
@@ -266,7 +264,7 @@ module _ (levels : ℕ) (ts : List Township) where
       omega (arith, long, three)
 
   pub spots_short : (n : Node) → IsDeclared ts n → Short (spots levels ts n) (height levels)
-  spots_short node.Everything of p i = let m = in_flat (township_spots levels ts) ts p i in township_short m.0 p m.2
+  spots_short node.Everything of p i = let m = in_flat_mapped (township_spots levels ts) ts p i in township_short m.0 p m.2
   spots_short (node.Township t) of p i = township_short t p i
   spots_short (node.Part s w) of p i = elim i [
     | inl e ↦
@@ -282,7 +280,7 @@ module _ (levels : ℕ) (ts : List Township) where
   -- no path of a tract goes deeper than a cell
   pub tract_short : (x : Land) → is_in_plant ts x ≡ true → Short (tract_spots levels ts x) (height levels)
   tract_short x of p i =
-      let m = in_flat (spots levels ts) (cover_of depth x) p i in spots_short m.0 (cover_declared ts x m.0 of m.1) p m.2
+      let m = in_flat_mapped (spots levels ts) (cover_of depth x) p i in spots_short m.0 (cover_declared ts x m.0 of m.1) p m.2
 
   -- a path that goes on to the northeast, down to a cell
   abbrev pub whole : List Quarter → List Quarter

@@ -7,21 +7,20 @@ use Rattle.title_share.specs.Division.{Division}
 use Rattle.title_land.specs.{Depth.{depth}, declared.{survey.{Township.{Township}, Section.{Section}, Cell.{Cell}}, node.Node.{Node}}}
 use Rattle.title_land.specs.{declared.{rectangle.Quarter.{Quarter}, tract.Land.{Land}}, Nodes.{quarters}, Lands.{is_in_plant}}
 use Rattle.title_land.specs.{Lands.{is_plant_cell, cover_of}, CellLists.{sections_of, node_cells, children_of}}
-use Rattle.title_land.specs.Laws.{CellMembers.{sections_of-in}, CoverLists.{flat_same}}
+use Rattle.title_land.specs.Laws.{CellMembers.{sections_of-in}, CoverLists.{flat_same}, Members.{In, in_mapped}}
 use Rattle.title_land.specs.declared.node.Node.TheVariants as node
-use Rattle.title_land.specs.Laws.Members as members
 use Rattle.title_instrument.specs.{declared.parts.Estate.{Estate, TheVariants.{S, O, M}}, Owners.{holding_of, opening_owners}}
 use Rattle.title_store.specs.Laws.SheetHoldings.{one_found, one_from, one_some, in_node, of_node}
 use Rattle.title_store.specs.Sheets.{one_holding, rows_or, sheet_below, estate_sheet, estates, sheet_of}
 use Rattle.title_tree.specs.{Paths.{begins, rest}, Plots.{Plot, value_at, plot_at, uniform, same_division, fits}}
-use Rattle.title_tree.specs.{Pieces.{In, both_have, uniform_at}, Laws.Beginnings.{begins_append, rest_append}}
-use Rattle.title_tree.specs.Laws.{Depths.{fits_plot_at}, Grafts.{value_plot_at}, SameDivisions.{same_is, same_self}}
-use Rattle.title_tree.specs.Laws.Uniform.{uniform_is_held, uniform_is_found}
+use Rattle.title_tree.specs.{Pieces.{both_have, uniform_at}, Laws.Beginnings.{begins_append, rest_append, begins_self}}
+use Rattle.title_tree.specs.Laws.{Depths.{fits_plot_at}, Grafts.{value_plot_at}, SameDivisions.{same_is, same_self}, PathLists.{has_from}}
+use Rattle.title_tree.specs.Laws.{Uniform.{uniform_is_held, uniform_is_found}, PathLists.{has_in}}
 use Rattle.title_tree.specs.Pieces as pieces
 use Rattle.title_tree_store.specs.{declared.lent.Lent.{Lent}, Spots.{cell_path, section_path, spots}, Forests.{owners_at}}
 use Rattle.title_tree_store.specs.{Keeping.{height, content_of, IsKept}, TreeSheets.{tree_sheet}}
 use Rattle.title_tree_store.proofs.CellPaths.{IsOf, is_own, IsDeclared, CellAt, spots_have, spots_have_at, cover_declared, node_at}
-use Rattle.title_tree_store.proofs.{CellPaths.{spots_short, whole, length-whole, has_whole}, Paths.{has_in, has_from, begins_self}}
+use Rattle.title_tree_store.proofs.CellPaths.{spots_short, whole, length-whole, has_whole}
 
 -- ---- the one holding at some paths
 
@@ -81,22 +80,22 @@ option_same None None f g = refl
 option_same None (Some w) f g = g w refl
 option_same (Some w) b f g = sym (f w refl)
 
-child_declared : (ts : List Township) (n m : Node) → IsDeclared ts n → members.In m (children_of depth ts n) → IsDeclared ts m
+child_declared : (ts : List Township) (n m : Node) → IsDeclared ts n → In m (children_of depth ts n) → IsDeclared ts m
 child_declared ts node.Everything m of i =
-    let k = members.in_mapped (λ t. node.Township t) m ts i in
+    let k = in_mapped (λ t. node.Township t) m ts i in
     subst (IsDeclared ts) (sym k.2) (is_own ts k.0 k.1)
 child_declared ts (node.Township t) m of i =
-    let k = members.in_mapped (λ s. node.Part s []) m (sections_of t) i in
+    let k = in_mapped (λ s. node.Part s []) m (sections_of t) i in
     let none : length {A = Quarter} [] ≤ depth = omega arith in
     subst (IsDeclared ts) (sym k.2) (subst (IsOf ts) (sym (sections_of-in t k.0 k.1)) of, none)
 child_declared ts (node.Part s w) m of i = elim (cases_Bool (nat_lt (length w) depth)) [
   | inl e ↦
-      let j : members.In m (map (λ q. node.Part s (q ∷ w)) quarters) = rw e at i in
-      let k = members.in_mapped (λ q. node.Part s (q ∷ w)) m quarters j in
+      let j : In m (map (λ q. node.Part s (q ∷ w)) quarters) = rw e at i in
+      let k = in_mapped (λ q. node.Part s (q ∷ w)) m quarters j in
       let l = ltb-true (length w) depth e in
       let short : length (k.0 ∷ w) ≤ depth = omega (arith, l) in
       subst (IsDeclared ts) (sym k.2) (of.0, short)
-  | inr e ↦ let j : members.In m [] = rw e at i in absurd j
+  | inr e ↦ let j : In m [] = rw e at i in absurd j
 ]
 
 -- of the trees of a plant
@@ -110,14 +109,14 @@ module _ {levels : ℕ} {ts : List Township} {ps : Estate → Plot} {lent : List
 
   -- the cell at a path below a node is one of the node's
   among : (n : Node) (p : List Quarter) (c : CellAt levels ts p) → IsDeclared ts n → pieces.has (spots levels ts n) p ≡ true
-      → members.In c.cell (node_cells depth ts n)
+      → In c.cell (node_cells depth ts n)
   among n p c of h = in_node depth ts n c.cell (sym (spots_have_at levels ts kept.room n p c of) ∙ h) c.plant
 
   one_holding_is : (e : Estate) (n : Node) → IsDeclared ts n
       → one_holding e (content_of levels ts ps) (node_cells depth ts n) ≡ uniform_at (spots levels ts n) (ps e)
   one_holding_is e n of = option_same _ _ one_to_all all_to_one
     where
-      here : (c : Cell) → members.In c (node_cells depth ts n) → (is_plant_cell depth ts c ≡ true)
+      here : (c : Cell) → In c (node_cells depth ts n) → (is_plant_cell depth ts c ≡ true)
           × (pieces.has (spots levels ts n) (cell_path levels ts c) ≡ true)
       here c i = let k = of_node depth ts n c i in (k.1, spots_have levels ts kept.room n c of k.1 ∙ k.0)
 
@@ -133,7 +132,7 @@ module _ {levels : ℕ} {ts : List Township} {ps : Estate → Plot} {lent : List
           ap (λ (z : List Quarter). value_at (ps e) z) (sym k.path_is) ∙ sym (cell_holding e k.cell k.plant)
           ∙ one_found e (content_of levels ts ps) (node_cells depth ts n) w k.cell h (among n x k of a))) p.0 p.1
 
-      each_has : (w : Division) → uniform_at (spots levels ts n) (ps e) ≡ Some w → (c : Cell) → members.In c (node_cells depth ts n)
+      each_has : (w : Division) → uniform_at (spots levels ts n) (ps e) ≡ Some w → (c : Cell) → In c (node_cells depth ts n)
           → holding_of e (content_of levels ts ps c) ≡ w
       each_has w h c i =
           let k = here c i in
@@ -143,7 +142,7 @@ module _ {levels : ℕ} {ts : List Township} {ps : Estate → Plot} {lent : List
       some_spot [] w h = absurd cc
       some_spot (q ∷ qs) w h = (q, inl refl)
 
-      some_cell : (w : Division) → uniform_at (spots levels ts n) (ps e) ≡ Some w → (c : Cell) × members.In c (node_cells depth ts n)
+      some_cell : (w : Division) → uniform_at (spots levels ts n) (ps e) ≡ Some w → (c : Cell) × In c (node_cells depth ts n)
       some_cell w h =
           let p = some_spot (spots levels ts n) w h in
           let a = has_whole levels ts (spots levels ts n) p.0 p.0 p.1 (begins_self p.0) in

@@ -1,5 +1,4 @@
 -- Lemmas.
-pub mod Paths
 pub mod CellPaths
 pub mod Steps
 pub mod Slots

@@ -5,13 +5,14 @@ use Rattle.std.proofs.lemmas.Bool.{cases_Bool, eqb-true, eq-eqb, and_parts, both
 use Rattle.title_share.specs.Division.{Division}
 use Rattle.title_land.specs.{Depth.{depth}, declared.{survey.{Township.{Township}, Cell.{Cell}}, rectangle.Quarter.{Quarter}}}
 use Rattle.title_land.specs.{declared.tract.Land.{Land}, Lands.{has, is_plant_cell, meets}, Laws.TractSharing.{common_meets}}
+use Rattle.title_land.specs.Laws.Members.{In, in_left, in_right, in_middle}
 use Rattle.title_instrument.specs.{declared.parts.Estate.{Estate}, Owners.{opening_owners}}
 use Rattle.title_store.specs.{Plants.{is_cell_of}, Loans.{Loan, IsAmong, IsLentAs, IsLast, IsFirst, without}}
-use Rattle.title_tree.specs.{Plots.{Plot, value_at}, Pieces.{In, paths, held, Refines}}
-use Rattle.title_tree_store.{specs.{declared.lent.Lent.{Lent}, Spots.{cell_path, tract_spots}}, proofs.Paths.{has_in, has_from}}
+use Rattle.title_tree.specs.{Plots.{Plot, value_at}, Pieces.{paths, held, Refines}, Laws.PathLists.{has_from, has_in}}
+use Rattle.title_tree_store.specs.{declared.lent.Lent.{Lent}, Spots.{cell_path, tract_spots}}
 use Rattle.title_tree_store.specs.Keeping.{height, Rises, lies_in, held_before, owners_before, loan_of, loans_of, IsBacked, IsKept}
 use Rattle.title_tree_store.proofs.{CellPaths.{length-cell_path, tract_has}, Contents.{owners_same, cond_same}, Keeps.{in_spots}}
-use Rattle.title_tree_store.proofs.Images.{in_left, in_right, in_middle, less_before, more_later}
+use Rattle.title_tree_store.proofs.Images.{less_before, more_later}
 use Rattle.title_tree_store.specs.Forests as forests
 
 -- ---- what a cell held before some images

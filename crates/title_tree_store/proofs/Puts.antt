@@ -5,8 +5,7 @@ use Rattle.std.proofs.lemmas.{Bool.{and_parts, and_from, or_right, cond_both}, L
 use Rattle.title_share.specs.Division.{Division}
 use Rattle.title_land.specs.{Depth.{depth}, declared.{survey.{Township.{Township}, Cell.{Cell}}, rectangle.Quarter.{Quarter}}}
 use Rattle.title_land.specs.{declared.tract.Land.{Land}, Lands.{has, is_in_plant, is_plant_cell}, CellLists.{cells_of}}
-use Rattle.title_land.specs.Laws.CellMembers.{listed, listed_from, list_has_the_cells}
-use Rattle.title_land.specs.Laws.Members as members
+use Rattle.title_land.specs.Laws.{CellMembers.{listed, listed_from, list_has_the_cells}, Members.{In, in_map, in_last}}
 use Rattle.title_instrument.specs.declared.{parts.{Estate.{Estate, TheVariants.{S, O, M}}, Rule.{Rule}}, instrument.Instrument.{Instrument}}
 use Rattle.title_instrument.specs.{declared.owners.Effect.{Effect, TheVariants.{Done, Refused}}, Owners.{opening_owners}}
 use Rattle.title_instrument.specs.{Effect.{holding_effect, cell_effect, joined}, Laws.EffectLaws.{holding_unnamed}}
@@ -24,7 +23,7 @@ use Rattle.title_tree_store.specs.Keeping.{height, content_of, lending, lies_in,
 use Rattle.title_tree_store.specs.{Keeping.{is_whole, PiecesFit, IsBacked, IsKept}, Refusing.{why_cell, first_in, triple}}
 use Rattle.title_tree_store.proofs.{Apart.{tract_apart}, Contents.{owners, owners_same, cond_same, content_changes}}
 use Rattle.title_tree_store.proofs.CellPaths.{tract_at, tract_has, tract_has_at, tract_short, length-cell_path}
-use Rattle.title_tree_store.proofs.{Images.{in_map, in_last, rises_more}, Loans.{was, among_lent, loans_push}, Steps.{named_or}}
+use Rattle.title_tree_store.proofs.{Images.{rises_more}, Loans.{was, among_lent, loans_push}, Steps.{named_or}}
 use Rattle.title_tree_store.proofs.Keeps.{same_ways-self, fits_swapped, kept_refined}
 use Rattle.title_tree_store.specs.Forests as forests
 
@@ -68,7 +67,7 @@ content_plant : (levels : ℕ) (ts : List Township) (ps : Estate → Plot) (c : 
     → content_of levels ts ps c ≡ owners_at ps (cell_path levels ts c)
 content_plant levels ts ps c plant = ap (λ (b : Bool). cond b (owners_at ps (cell_path levels ts c)) opening_owners) plant
 
-of_cells : (ts : List Township) (x : Land) (c : Cell) → members.In c (cells_of depth ts x) → is_cell_of depth ts x c ≡ true
+of_cells : (ts : List Township) (x : Land) (c : Cell) → In c (cells_of depth ts x) → is_cell_of depth ts x c ≡ true
 of_cells ts x c i = sym (list_has_the_cells depth ts x c) ∙ listed_from (cells_of depth ts x) c i
 
 -- trees that were quartered in part
@@ -161,7 +160,7 @@ module _ {levels : ℕ} {ts : List Township} {old : Estate → Plot} {lent : Lis
           ap (cell_effect i) (content_plant levels ts old c (and_parts (has x c) (is_plant_cell depth ts c) h).1)
           ∙ (λ k. joined (done S k) (done O k) (done M k))
 
-      none_failing : (cells : List Cell) → ((c : Cell) → members.In c cells → is_cell_of depth ts x c ≡ true)
+      none_failing : (cells : List Cell) → ((c : Cell) → In c cells → is_cell_of depth ts x c ≡ true)
           → first_failing i (content_of levels ts old) cells ≡ None
       none_failing [] f = refl
       none_failing (c ∷ cells) f =
@@ -233,7 +232,7 @@ module _ {levels : ℕ} {ts : List Township} {old : Estate → Plot} {lent : Lis
 -- ---- a put that is refused
 
 first_same : (levels : ℕ) (ts : List Township) (i : Instrument ℕ) (ps : Estate → Plot) (cells : List Cell)
-    → ((c : Cell) → members.In c cells → is_plant_cell depth ts c ≡ true)
+    → ((c : Cell) → In c cells → is_plant_cell depth ts c ≡ true)
     → first_failing i (content_of levels ts ps) cells ≡ first_in levels ts ps i cells
 first_same levels ts i ps [] f = refl
 first_same levels ts i ps (c ∷ cells) f = λ k.
@@ -263,7 +262,7 @@ none_fails : (z : Cell) (e : Effect) (later : Option Failing) → failing_or z e
 none_fails z (Done w) later h = (refl, h)
 none_fails z (Refused rule s) later h = absurd cc
 
-each_done : (i : Instrument ℕ) (p : Plant) (c : Cell) (cells : List Cell) → first_failing i p cells ≡ None → members.In c cells
+each_done : (i : Instrument ℕ) (p : Plant) (c : Cell) (cells : List Cell) → first_failing i p cells ≡ None → In c cells
     → why_cell (cell_effect i (p c)) ≡ None
 each_done i p c [] h j = absurd j
 each_done i p c (z ∷ cells) h j =

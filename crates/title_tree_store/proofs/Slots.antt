@@ -2,8 +2,8 @@
 use Rattle.std.proofs.Common.{◌≡◌, ◌≢◌, ◌∙◌, ap, sym, refl, subst, ℕ, zero, suc, ◌+◌, ◌<◌, ◌≤◌, arith, inl, inr}
 use Rattle.std.proofs.Common.{List, [], ◌∷◌, ◌++◌, length, length-append, set, get_or, drop, Option, Some, None}
 use Rattle.std.{specs.Prelude.{MatchOption}, proofs.lemmas.List.{length-set}}
-use Rattle.title_tree.specs.Pieces.{In}
 use Rattle.title_tree_store.specs.{declared.lent.Lent.{Lent}, Slots.{filled, IsNumbered}, Keeping.{IsAbsent, IsTakenOut}}
+use Rattle.title_land.specs.Laws.Members.{In}
 
 pub filled_push : (xs : List (Option Lent)) (l : Lent) → filled (xs ++ Some l ∷ []) ≡ filled xs ++ l ∷ []
 filled_push [] l = refl

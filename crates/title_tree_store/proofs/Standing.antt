@@ -14,14 +14,13 @@ use Rattle.title_instrument.specs.{declared.owners.Effect.{Effect, TheVariants.{
 use Rattle.title_instrument.specs.{Effect.{holding_effect, cell_effect, joined}, Laws.EffectLaws.{holding_unnamed}}
 use Rattle.title_store.specs.Plants.{Plant, Failing, failing_or, first_failing}
 use Rattle.title_tree.specs.{Changes.{why_of}, CellWays.{cell_way}, Paths.{way, begins, rest, number_path}}
-use Rattle.title_tree.specs.{Plots.{Plot, Same, Four, value_at, plot_at}, Laws.CellSquares.{squares_by_paths}}
-use Rattle.title_tree.specs.Laws.Grafts.{value_plot_at, plot_at_same}
+use Rattle.title_tree.specs.{Plots.{Plot, Same, Four, value_at, plot_at}, Laws.{CellSquares.{squares_by_paths}, Beginnings.{begins_under}}}
+use Rattle.title_tree.specs.Laws.{Grafts.{value_plot_at, plot_at_same}, Beginnings.{begins_whole}}
 use Rattle.title_tree_store.specs.declared.refusals.{Search.{Search}, Trees.{Trees}}
 use Rattle.title_tree_store.specs.{Spots.{township_path, section_path, square_path, cell_path}, Forests.{Each, plots, owners_at}}
 use Rattle.title_tree_store.specs.Refusing.{why_cell, why_first, is_settled, are_settled, refused_at, stand, StandsAt}
 use Rattle.title_tree_store.specs.Refusing.{first_for, first_cell_of}
-use Rattle.title_tree_store.{specs.Refusing.{triple}, proofs.{Contents.{each, for_each, owners}, Paths.{begins_under}}}
-use Rattle.title_tree_store.proofs.Paths.{begins_whole}
+use Rattle.title_tree_store.{specs.Refusing.{triple}, proofs.Contents.{each, for_each, owners}}
 use Rattle.title_tree_store.proofs.CellPaths.{grid_parts, length-section_path, length-cell_path}
 
 -- ---- going down

@@ -1,11 +1,11 @@
 -- Steps of the code, and what a put wrote: it is noted for the estates that its instrument names.
-use Rattle.std.proofs.Common.{◌≡◌, ◌∙◌, ap, sym, subst, refl, ℕ, false, cond, inl, inr, List, [], ◌∷◌, ◌++◌, map}
+use Rattle.std.proofs.Common.{◌≡◌, ◌∙◌, ap, sym, subst, refl, ℕ, false, cond, inl, List, [], ◌∷◌, ◌++◌, map}
 use Rattle.std.proofs.Common.{Result, Ok, Err, OnOk, OnErr}
 use Rattle.std.proofs.lemmas.{List.{map-append}, Bool.{cond_both}}
-use Rattle.title_land.specs.declared.rectangle.Quarter.{Quarter}
+use Rattle.title_land.specs.{declared.rectangle.Quarter.{Quarter}, Laws.Members.{in_left, in_right}}
 use Rattle.title_instrument.specs.{declared.{parts.Estate.{Estate}, instrument.Instrument.{Instrument}}, Estates.{names}}
 use Rattle.title_instrument.specs.Parties.{estates_of}
-use Rattle.title_tree.specs.{Plots.{Plot, plot_at, fits}, Pieces.{In, split_all, Refines, StaysWithin, StaysElsewhere}}
+use Rattle.title_tree.specs.{Plots.{Plot, plot_at, fits}, Pieces.{split_all, Refines, StaysWithin, StaysElsewhere}}
 use Rattle.title_tree.specs.Joining.{ApartFromAll}
 use Rattle.title_tree.specs.Laws.{Depths.{split_all_fits}, Swaps.{split_all_reaches}, Joined.{elsewhere_split_all}}
 use Rattle.title_tree_store.specs.{declared.forest.Written.{Written}, Spots.{paths_in}, Forests.{put_ways, named_spots}}
@@ -49,21 +49,12 @@ put_noted i old between new w same h named e =
     ap (map (put_ways e)) h ∙ map-append (put_ways e) between (w ∷ [])
     ∙ (λ j. map (put_ways e) (same j) ++ cond (names (named j) e) (paths_in w.paths) [] ∷ [])
 
-in_push : {A : Type 0} (x y : A) (xs : List A) → In x xs → In x (xs ++ y ∷ [])
-in_push x y [] i = absurd i
-in_push x y (z ∷ zs) (inl e) = inl e
-in_push x y (z ∷ zs) (inr i) = inr (in_push x y zs i)
-
-in_end : {A : Type 0} (y : A) (xs : List A) → In y (xs ++ y ∷ [])
-in_end y [] = inl refl
-in_end y (z ∷ zs) = inr (in_end y zs)
-
 -- what is apart from all lists of paths and from one more
 pub apart_pushed : (q : List Quarter) (old : List (List (List Quarter))) (ps : List (List Quarter)) → ApartFromAll q (old ++ ps ∷ [])
     → ApartFromAll q old × ApartFromAll q (ps ∷ [])
 apart_pushed q old ps a = (
-  λ x i. a x (in_push x ps old i),
-  λ x i. elim i [ inl e ↦ a x (subst (λ (z : List (List Quarter)). In z (old ++ ps ∷ [])) (sym e) (in_end ps old)) | inr j ↦ absurd j ],
+  λ x i. a x (in_left x old (ps ∷ []) i),
+  λ x i. a x (in_right x old (ps ∷ []) i),
 )
 
 -- where one more list of paths is noted, and what is apart from it stays

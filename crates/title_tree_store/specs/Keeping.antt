@@ -1,11 +1,11 @@
 -- What a store of trees keeps.
 use Rattle.std.specs.Prelude.{◌≡◌, ◌≢◌, ℕ, ◌+◌, ◌<◌, ◌≤◌, ◌^◌, Bool, true, false, ◌&&◌, ◌||◌, cond, List, [], ◌∷◌, ◌++◌, length, map}
 use Rattle.title_land.specs.{Depth.{depth}, declared.{survey.Township.{Township}, rectangle.Quarter.{Quarter}}, Nodes.{same_path}}
-use Rattle.title_land.specs.Lands.{is_in_plant, is_plant_cell}
+use Rattle.title_land.specs.{Lands.{is_in_plant, is_plant_cell}, Laws.Members.{In}}
 use Rattle.title_share.specs.Division.{Division}
 use Rattle.title_instrument.specs.{declared.{parts.Estate.{Estate, TheVariants.{S, O, M}}, owners.Owners.{Owners}}, Owners.{opening_owners}}
 use Rattle.title_store.specs.{Plants.{Plant, is_cell_of}, Loans.{Loan}}
-use Rattle.title_tree.specs.{Plots.{Plot, value_at, fits}, Pieces.{In, Piece, Apart, paths, has, held}, Lendings.{Lending, Keeps}}
+use Rattle.title_tree.specs.{Plots.{Plot, value_at, fits}, Pieces.{Piece, Apart, paths, has, held}, Lendings.{Lending, Keeps}}
 use Rattle.title_tree.specs.Joining.{ApartFromAll, JoinedBut}
 use Rattle.title_tree_store.specs.{declared.{lent.Lent.{Lent}, forest.Forest.{Forest}}, Spots.{cell_path, tract_spots}}
 use Rattle.title_tree_store.specs.Forests.{plots, pieces, written, owners_at}

@@ -10,8 +10,8 @@ use Rattle.title_land.specs.CellLists.{cells_below, section_cells, sections_of, 
 use Rattle.title_land.specs.{CoverSets.{quarter_before, path_before, comes_before}, CellOrder.{is_met_before, CellsFollowTheCover}}
 use Rattle.title_land.specs.Laws.{SameLand.{same_township-is, same_section-is, same_section-self}, Members.{In, any_found, any_from}}
 use Rattle.title_land.specs.Laws.{SameNode.{same_quarter-is, same_quarter-self, same_node-self}, LandSharing.{cover_has, cover_in_tree}}
-use Rattle.title_land.specs.Laws.Squares.{Inside, inside, holds_from, quarter_inside, quarters_apart}
-use Rattle.title_land.specs.Laws.{NodeSharing.{equal_from_same, related_from_cell}, CoverSet.{cover_is_cover, cover_nodes_apart}}
+use Rattle.title_land.specs.Laws.{Squares.{Inside, inside, holds_from, quarter_inside, quarters_apart}, SameNode.{same_node-to}}
+use Rattle.title_land.specs.Laws.{NodeSharing.{related_from_cell}, CoverSet.{cover_is_cover, cover_nodes_apart}}
 use Rattle.title_land.specs.Laws.CellMembers.{cells_below-has, cells_below-in, in_quarters}
 use Rattle.title_land.specs.Laws.CellMembers.{in_sections_of, section_cells-in, township_cells-in}
 use Rattle.title_land.specs.Laws.MetBefore.{Met, flat_before, flat_at, met_filter, met_member, met_apart, met_in_order}
@@ -139,12 +139,12 @@ unfolding cells_of
 cells_follow_the_cover d ts land m n c e met member g h k =
     let nodes = cover_of d land in
     let found = any_found (same_node n) nodes member in
-    let j : In n nodes = subst (λ (x : Node). In x nodes) (sym (equal_from_same n found.0 found.2)) found.1 in
+    let j : In n nodes = subst (λ (x : Node). In x nodes) (sym (same_node-to n found.0 found.2)) found.1 in
     let i = met_member nodes m n met in
     let first = any_from (same_node m) nodes m i (same_node-self m) in
     met_filter (has land) (plant_cells d ts) c e (cover_has d land m c i g) (met_nodes d ts land m n c e i j
     (λ z. elim (or_cases (same_node m n) (is_above m n || is_above n m) (related_from_cell d m n e z h)) [
-      | inl same ↦ met_apart nodes n (subst (λ (x : Node). is_met_before same_node nodes x n ≡ true) (equal_from_same m n same) met)
+      | inl same ↦ met_apart nodes n (subst (λ (x : Node). is_met_before same_node nodes x n ≡ true) (same_node-to m n same) met)
       | inr above ↦ elim (or_cases (is_above m n) (is_above n m) above) [
         | inl up ↦ both_ways (is_above m n) (cover_nodes_apart d land m n first member) up
         | inr down ↦ both_ways (is_above n m) (cover_nodes_apart d land n m member first) down

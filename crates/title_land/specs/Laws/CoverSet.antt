@@ -11,7 +11,7 @@ use Rattle.title_land.specs.CoverSets.{CoverNodesLieApart, CoverFindsTheNode, Li
 use Rattle.title_land.specs.Laws.SameLand.{same_township-is, same_township-self, same_section-is, same_section-self}
 use Rattle.title_land.specs.Laws.{Squares.{Inside, holds_from, sized, pow_positive}, Members.{In, any_found, any_from}}
 use Rattle.title_land.specs.Laws.{CoverOrder.{section_in_order}, NodeSharing.{related_from_cell, cell_of, cell_at, first_section}}
-use Rattle.title_land.specs.Laws.NodeSharing.{equal_from_same, same_from_equal, in_from_above, above_from_in, above_has_the_cells}
+use Rattle.title_land.specs.Laws.{NodeSharing.{same_from_equal, in_from_above, above_from_in, above_has_the_cells}, SameNode.{same_node-to}}
 use Rattle.title_land.specs.Laws.LandSharing.{cover_has_its_cells, Part, part_found, cover_has, cover_has_each, cover_in_tree}
 use Rattle.title_land.specs.declared.node.Node.TheVariants as node
 use Rattle.title_land.specs.declared.tract.Land.TheVariants as land
@@ -133,7 +133,7 @@ cover_listed d x n m k =
     let c = cell_of d n m in
     let z = cover_has_each d x c.cell c.on_grid_is (k.lies_in c.cell c.on_grid_is c.has_is) in
     elim (or_cases (same_node n z.0) (is_above n z.0 || is_above z.0 n) (related_from_cell d n z.0 c.cell c.has_is z.2)) [
-      | inl e ↦ subst (λ (y : Node). In y (cover_of d x)) (sym (equal_from_same n z.0 e)) z.1
+      | inl e ↦ subst (λ (y : Node). In y (cover_of d x)) (sym (same_node-to n z.0 e)) z.1
       | inr e ↦ elim (or_cases (is_above n z.0) (is_above z.0 n) e) [
         | inl f ↦
             let i = in_from_above n z.0 f in
@@ -155,7 +155,7 @@ cover_in_order d (land.Part s g) = section_in_order d s (grid_has g)
 listed_is : (d : ℕ) (x : Land) (n : Node) → list_any (same_node n) (cover_of d x) ≡ true → IsCoverNode d x n
 listed_is d x n h =
     let k = any_found (same_node n) (cover_of d x) h in
-    let i = subst (λ (y : Node). In y (cover_of d x)) (sym (equal_from_same n k.0 k.2)) k.1 in
+    let i = subst (λ (y : Node). In y (cover_of d x)) (sym (same_node-to n k.0 k.2)) k.1 in
     record { lies_in = λ c o m. cover_has d x n c i m; parent_does_not = λ p e f. cover_node d x n i p e f }
 
 is_listed : (d : ℕ) (x : Land) (n : Node) → IsNode d n → IsCoverNode d x n → list_any (same_node n) (cover_of d x) ≡ true

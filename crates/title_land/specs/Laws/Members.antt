@@ -1,6 +1,6 @@
 -- Members of lists.
 use Rattle.std.proofs.Common.{cond, ◌≡◌, Bool, true, false, ◌⊎◌, inl, inr, List, [], ◌∷◌, ◌++◌, map, refl, sym, ap, subst, ◌∙◌}
-use Rattle.std.{proofs.lemmas.Bool.{or_cases, or_left, or_right, cases_Bool}, specs.List.{list_any, flat_map, filter}}
+use Rattle.std.{proofs.lemmas.Bool.{or_cases, or_left, or_right, cases_Bool, and_parts}, specs.List.{list_any, flat_map, filter, list_all}}
 
 -- x stands in the list
 abbrev pub In : {X : Type 0} → X → List X → Type 0
@@ -21,6 +21,11 @@ any_from p (y ∷ ys) x i h = elim i [
   | inr k ↦ or_right (p y) (list_any p ys) (any_from p ys x k h)
 ]
 
+pub all_at : {X : Type 0} (p : X → Bool) (xs : List X) (x : X) → list_all p xs ≡ true → In x xs → p x ≡ true
+all_at p [] x h i = absurd i
+all_at p (y ∷ ys) x h i =
+    let k = and_parts (p y) (list_all p ys) h in elim i [ inl e ↦ ap p e ∙ k.0 | inr j ↦ all_at p ys x k.1 j ]
+
 pub in_left : {X : Type 0} (x : X) (xs ys : List X) → In x xs → In x (xs ++ ys)
 in_left x [] ys i = absurd i
 in_left x (y ∷ xs) ys i = elim i [ inl e ↦ inl e | inr k ↦ inr (in_left x xs ys k) ]
@@ -35,6 +40,17 @@ in_append x (y ∷ xs) ys i = elim i [
   | inl e ↦ inl (inl e)
   | inr k ↦ elim (in_append x xs ys k) [ inl m ↦ inl (inr m) | inr m ↦ inr m ]
 ]
+
+-- of a list with one more at its end
+pub in_last : {X : Type 0} (x y : X) (xs : List X) → In x (xs ++ y ∷ []) → In x xs ⊎ (x ≡ y)
+in_last x y xs i = elim (in_append x xs (y ∷ []) i) [ inl k ↦ inl k | inr k ↦ elim k [ inl e ↦ inr e | inr z ↦ absurd z ] ]
+
+pub in_middle : {X : Type 0} (x : X) (xs ys : List X) → In x (xs ++ x ∷ ys)
+in_middle x xs ys = in_right x xs (x ∷ ys) (inl refl)
+
+-- of a list with one more in its middle
+pub in_more : {X : Type 0} (x y : X) (xs ys : List X) → In x (xs ++ ys) → In x (xs ++ y ∷ ys)
+in_more x y xs ys i = elim (in_append x xs ys i) [ inl j ↦ in_left x xs (y ∷ ys) j | inr j ↦ in_right x xs (y ∷ ys) (inr j) ]
 
 pub in_map : {X Y : Type 0} (f : X → Y) (x : X) (xs : List X) → In x xs → In (f x) (map f xs)
 in_map f x [] i = absurd i

@@ -3,8 +3,9 @@ use Rattle.std.proofs.Common.{◌≡◌, Bool, true, false, not, ◌||◌, inl, 
 use Rattle.std.proofs.lemmas.Bool.{and_parts, and_from, or_cases, or_left, or_right, cases_Bool, both_ways}
 use Rattle.std.specs.List.{list_any, list_all, flat_map, filter}
 use Rattle.title_land.specs.{declared.{survey.Cell.{Cell}, node.Node.{Node}}, Nodes.{same_node}, CellLists.{same_cell}, Laws.Members.{In}}
-use Rattle.title_land.specs.{CoverSets.{comes_before, are_in_order}, CellOrder.{is_met_before}}
-use Rattle.title_land.specs.Laws.{NodeSharing.{equal_from_same, same_from_equal}, CellMembers.{same_cells_are_equal, listed, listed_from}}
+use Rattle.title_land.specs.{CoverSets.{comes_before, are_in_order}, CellOrder.{is_met_before}, Laws.Members.{all_at}}
+use Rattle.title_land.specs.Laws.{NodeSharing.{same_from_equal}, CellMembers.{same_cells_are_equal, listed, listed_from}}
+use Rattle.title_land.specs.Laws.SameNode.{same_node-to}
 
 pub not_from : (b : Bool) → (b ≡ true → ⊥) → not b ≡ true
 not_from true h = absurd (h refl)
@@ -97,7 +98,7 @@ met_member [] m n h = absurd cc
 met_member (z ∷ nodes) m n h =
     let k = and_parts (not (same_node n z)) (same_node m z || is_met_before same_node nodes m n) h in
     elim (or_cases (same_node m z) (is_met_before same_node nodes m n) k.1) [
-      | inl e ↦ inl (equal_from_same m z e)
+      | inl e ↦ inl (same_node-to m z e)
       | inr i ↦ inr (met_member nodes m n i)
     ]
 
@@ -111,15 +112,6 @@ met_apart (z ∷ nodes) n h =
       | inr i ↦ met_apart nodes n i
     ]
 
-all_at : (p : Node → Bool) (nodes : List Node) (n : Node) → list_all p nodes ≡ true → In n nodes → p n ≡ true
-all_at p [] n h i = absurd i
-all_at p (z ∷ nodes) n h i =
-    let k = and_parts (p z) (list_all p nodes) h in
-    elim i [
-      | inl e ↦ ap p e ∙ k.0
-      | inr j ↦ all_at p nodes n k.1 j
-    ]
-
 -- in a list in order, what is met before comes before
 pub met_in_order : (nodes : List Node) (m n : Node) → are_in_order nodes ≡ true → is_met_before same_node nodes m n ≡ true
     → In n nodes → comes_before m n ≡ true
@@ -130,7 +122,7 @@ met_in_order (z ∷ nodes) m n o h i =
     elim i [
       | inl e ↦ absurd (both_ways (same_node n z) (false_from (same_node n z) k.0) (same_from_equal n z e))
       | inr j ↦ elim (or_cases (same_node m z) (is_met_before same_node nodes m n) k.1) [
-        | inl e ↦ ap (λ (x : Node). comes_before x n) (equal_from_same m z e) ∙ all_at (comes_before z) nodes n order.0 j
+        | inl e ↦ ap (λ (x : Node). comes_before x n) (same_node-to m z e) ∙ all_at (comes_before z) nodes n order.0 j
         | inr r ↦ met_in_order nodes m n order.1 r j
       ]
     ]

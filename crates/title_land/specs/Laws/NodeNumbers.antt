@@ -221,7 +221,7 @@ one_above a b k positive h j =
 
 -- ---- numbers fall on the way up
 
-same_numbers : (n c : Node) → same_node n c ≡ true → node_number n ≡ node_number c
+pub same_numbers : (n c : Node) → same_node n c ≡ true → node_number n ≡ node_number c
 same_numbers n c same = ap node_number ((same_node-is n c).0 same)
 
 square_higher : (s : Section) (w : List Quarter) (n : Node) → is_above n (node.Part s w) ≡ true

@@ -4,16 +4,13 @@ use Rattle.std.{proofs.Common.{sym, ap, subst, ◌∙◌, arith, lit≤}, specs.
 use Rattle.std.proofs.lemmas.Bool.{and_parts, and_from, or_cases, or_left, or_right, lt-ltb, cases_lt, false≢true}
 use Rattle.title_land.specs.declared.{survey.{Township.{Township}, Section.{Section}, Cell.{Cell}}, rectangle.Quarter.{Quarter}}
 use Rattle.title_land.specs.{declared.node.{Within.{Within}, Node.{Node}}, Survey.{side, is_on_grid, same_township, same_section}}
-use Rattle.title_land.specs.{Rectangles.{holds, SharesCell}, Laws.SameNode.{same_node-is}}
+use Rattle.title_land.specs.{Rectangles.{holds, SharesCell}, Laws.SameNode.{same_node-is, same_node-to}}
 use Rattle.title_land.specs.Nodes.{square, same_node, above_in, above, is_above, are_related, node_has, IsNode}
 use Rattle.title_land.specs.NodeLaws.{NodesShareACell, AboveIsTransitive, AboveHasTheCells, SameNodesAreEqual}
 use Rattle.title_land.specs.Laws.SameLand.{same_township-is, same_township-self, same_section-is, same_section-self}
 use Rattle.title_land.specs.Laws.Squares.{Inside, inside, holds_from, quarter_inside, nested, has_corner, sized, pow_positive}
 use Rattle.title_land.specs.Laws.Members.{In, any_found, any_from, in_left, in_right, in_append}
 use Rattle.title_land.specs.declared.node.Node.TheVariants as node
-
-pub equal_from_same : (a b : Node) → same_node a b ≡ true → a ≡ b
-equal_from_same a b = (same_node-is a b).0
 
 pub same_from_equal : (a b : Node) → a ≡ b → same_node a b ≡ true
 same_from_equal a b = (same_node-is a b).1
@@ -24,7 +21,7 @@ above_from_in a b i = any_from (same_node a) (above b) a i (same_from_equal a a 
 pub in_from_above : (a b : Node) → is_above a b ≡ true → In a (above b)
 in_from_above a b h =
     let k = any_found (same_node a) (above b) h in
-    subst (λ (x : Node). In x (above b)) (sym (equal_from_same a k.0 k.2)) k.1
+    subst (λ (x : Node). In x (above b)) (sym (same_node-to a k.0 k.2)) k.1
 
 -- a square that lies in another is one of those above it
 above_in_within : (s : Section) (a : Quarter) (r q : List Quarter) → In (node.Part s q) (above_in s (a ∷ (r ++ q)))
@@ -88,7 +85,7 @@ everything_above (node.Part s w) = related_above node.Everything (node.Part s w)
 
 related_turned : (a b : Node) → are_related a b ≡ true → are_related b a ≡ true
 related_turned a b h = elim (or_cases (same_node a b) (is_above a b || is_above b a) h) [
-  | inl e ↦ related_same b a (sym (equal_from_same a b e))
+  | inl e ↦ related_same b a (sym (same_node-to a b e))
   | inr k ↦ elim (or_cases (is_above a b) (is_above b a) k) [
     | inl m ↦ related_below b a (in_from_above a b m)
     | inr m ↦ related_above b a (in_from_above b a m)
@@ -195,7 +192,7 @@ cell_from_related d a b x y h = elim (or_cases (same_node a b) (is_above a b || 
   | inl e ↦ let k = cell_of d b y in (
     k.cell,
     k.on_grid_is,
-    ap (λ (x : Node). node_has d x k.cell) (equal_from_same a b e)
+    ap (λ (x : Node). node_has d x k.cell) (same_node-to a b e)
         ∙ k.has_is,
     k.has_is,
   )

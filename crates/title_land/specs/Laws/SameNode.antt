@@ -41,7 +41,7 @@ pub same_path-self : (p : List Quarter) → same_path p p ≡ true
 same_path-self [] = refl
 same_path-self (a ∷ p) = and_from _ _ (same_quarter-self a) (same_path-self p)
 
-same_node-to : (a b : Node) → same_node a b ≡ true → a ≡ b
+pub same_node-to : (a b : Node) → same_node a b ≡ true → a ≡ b
 same_node-to node.Everything node.Everything h = refl
 same_node-to node.Everything (node.Township u) h = absurd cc
 same_node-to node.Everything (node.Part u w) h = absurd cc

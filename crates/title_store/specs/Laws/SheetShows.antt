@@ -5,9 +5,9 @@ use Rattle.std.specs.List.{list_any, flat_map}
 use Rattle.title_share.specs.Division.{Division, rows_of}
 use Rattle.title_land.specs.{declared.{survey.{Township.{Township}, Cell.{Cell}}, node.Node.{Node}, tract.Land.{Land}}}
 use Rattle.title_land.specs.{Survey.{is_on_grid, same_township}, Nodes.{same_node, is_above, node_has, parent_of, IsNode}}
-use Rattle.title_land.specs.{Lands.{has, cover_of, is_plant_cell}, CellLists.{node_cells}, Laws.SameNode.{same_node-self}}
+use Rattle.title_land.specs.{Lands.{has, cover_of, is_plant_cell}, CellLists.{node_cells}, Laws.SameNode.{same_node-self, same_node-to}}
 use Rattle.title_land.specs.Laws.{Members.{In, any_from, in_map, in_flat_map, in_flat_mapped}, CoverSet.{cover_is_cover, cover_nodes_apart}}
-use Rattle.title_land.specs.Laws.{NodeSharing.{equal_from_same, related_from_cell}, LandSharing.{cover_has, cover_has_each, cover_in_tree}}
+use Rattle.title_land.specs.Laws.{NodeSharing.{related_from_cell}, LandSharing.{cover_has, cover_has_each, cover_in_tree}}
 use Rattle.title_land.specs.declared.node.Node.TheVariants as node
 use Rattle.title_instrument.specs.{declared.parts.Estate.{Estate, TheVariants.{S, O, M}}, Owners.{holding_of}}
 use Rattle.title_store.specs.{declared.sheet_row.SheetRow.{SheetRow}, Plants.{Plant}}
@@ -90,7 +90,7 @@ cover_apart d land m n c i j h k =
     let first = any_from (same_node m) (cover_of d land) m i (same_node-self m) in
     let second = any_from (same_node n) (cover_of d land) n j (same_node-self n) in
     elim (or_cases (same_node m n) (is_above m n || is_above n m) (related_from_cell d m n c h k)) [
-      | inl same ↦ equal_from_same m n same
+      | inl same ↦ same_node-to m n same
       | inr above ↦ elim (or_cases (is_above m n) (is_above n m) above) [
         | inl up ↦ absurd (both_ways (is_above m n) (cover_nodes_apart d land m n first second) up)
         | inr down ↦ absurd (both_ways (is_above n m) (cover_nodes_apart d land n m second first) down)

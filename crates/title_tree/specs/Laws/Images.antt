@@ -2,9 +2,9 @@
 use Rattle.std.proofs.Common.{◌≡◌, ◌≢◌, ℕ, zero, suc, ◌<◌, true, false, cond, ◌⊎◌, List, [], ◌∷◌, ◌++◌, length}
 use Rattle.std.proofs.Common.{refl, sym, ap, subst, ◌∙◌, arith, inl, inr}
 use Rattle.title_share.specs.Division.{Division}
-use Rattle.title_land.specs.declared.rectangle.Quarter.{Quarter}
+use Rattle.title_land.specs.{declared.rectangle.Quarter.{Quarter}, Laws.Members.{In, in_last}}
 use Rattle.title_tree.specs.{Paths.{begins}, Plots.{Plot, value_at, has_path}, Lendings.{Lending, Keeps, LaterClear}}
-use Rattle.title_tree.specs.Pieces.{Piece, In, paths, has, held, swapped, taken, split_all, fresh, Disjoint, Ready, Short, Reaches, Refines}
+use Rattle.title_tree.specs.Pieces.{Piece, paths, has, held, swapped, taken, split_all, fresh, Disjoint, Ready, Short, Reaches, Refines}
 use Rattle.title_tree.specs.Laws.{Beginnings.{begins_append}, Swaps.{fresh_split, value_put, held_taken, paths_taken, paths_fresh}}
 use Rattle.title_tree.specs.Laws.Swaps.{reaches_swapped, reaches_taken, reaches_fresh, split_all_keeps, split_all_ready, split_all_value}
 
@@ -57,12 +57,6 @@ keeps_restored t out less n y i l f h = record {
   below = λ x j. h.below x (f x j).0;
   reaches = λ x z j k. h.reaches x z (f x j).0 (f z k).0;
 }
-
-in_last : {A : Type 0} (x y : A) (xs : List A) → In x (xs ++ y ∷ []) → In x xs ⊎ (x ≡ y)
-in_last x y [] (inl e) = inr e
-in_last x y [] (inr i) = absurd i
-in_last x y (z ∷ zs) (inl e) = inl (inl e)
-in_last x y (z ∷ zs) (inr i) = elim (in_last x y zs i) [ inl j ↦ inl (inr j) | inr e ↦ inr e ]
 
 -- a new image is out
 pub keeps_more : (t : Plot) (out : List Lending) (n : ℕ) (y : Lending) → y.number ≡ n → Ready (paths y.pieces) t

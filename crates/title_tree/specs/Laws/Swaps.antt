@@ -2,9 +2,9 @@
 use Rattle.std.proofs.Common.{◌≡◌, Bool, true, false, ◌||◌, cond, List, [], ◌∷◌, ◌++◌, length}
 use Rattle.std.proofs.Common.{Result, Ok, Err, OnErr, refl, sym, ap, subst, ◌∙◌, inl, inr}
 use Rattle.title_share.specs.Division.{Division}
-use Rattle.title_land.specs.declared.rectangle.Quarter.{Quarter}
+use Rattle.title_land.specs.{declared.rectangle.Quarter.{Quarter}, Laws.Members.{In}}
 use Rattle.title_tree.specs.{Paths.{begins, rest}, Plots.{Plot, value_at, has_path, plot_at, graft, split, changed}, Pieces.{Refines}}
-use Rattle.title_tree.specs.Pieces.{Piece, In, paths, has, held, swapped, taken, split_all, fresh, Apart, Disjoint, Ready, Short, Reaches}
+use Rattle.title_tree.specs.Pieces.{Piece, paths, has, held, swapped, taken, split_all, fresh, Apart, Disjoint, Ready, Short, Reaches}
 use Rattle.title_tree.specs.Laws.{Beginnings.{begins_append, begins_both}, Grafts.{value_split, split_has, split_keeps, plot_at_split}}
 use Rattle.title_tree.specs.Laws.Grafts.{value_graft, value_plot_at, has_graft, has_below, has_changed, value_changed}
 
