@@ -6,13 +6,13 @@ ghost use Rattle.title_tree_store.specs.{Slots.{IsNumbered, filled, numbered_pro
 use crate::forest::Subtrees;
 use std::alloc::{AllocError, Global};
 use std::collections::VecDeque;
-use title_land::Land;
+use title_land::Tract;
 
 /// An image that is out: its number, its tract, and the trees that stood in it, of the estates that were named.
 #[derive(Drop)]
 pub(crate) struct Lent {
     pub number: u64,
-    pub land: Land,
+    pub land: Tract,
     pub trees: Subtrees,
 }
 
@@ -62,7 +62,7 @@ impl Images {
 
     /// Adds an image with the next number. Takes no memory.
     #[tactic(auto, using(crate::proofs::Slots::numbered_push, crate::proofs::Slots::filled_push))]
-    pub(crate) fn add(&mut self, land: Land, trees: Subtrees) -> u64
+    pub(crate) fn add(&mut self, land: Tract, trees: Subtrees) -> u64
         requires room { HasRoom self.old }
         ensures number { result ≡ self.old.next }
         ensures next { self.new.next ≡ self.old.next + 1 }

@@ -90,10 +90,10 @@ impl Store for TreeStore {
             .changed(self.alloc, paths.as_slice(), instrument)
         {
             Ok(mut trees) => {
+                let land = tract.copy(self.alloc)?;
                 self.lent.reserve()?;
                 self.forest.quarter(self.alloc, paths, instrument)?;
                 self.forest.exchange(&mut trees);
-                let land = tract.land();
                 let number = self.lent.add(land, trees);
                 Ok(Put::Done(Image { number }))
             }

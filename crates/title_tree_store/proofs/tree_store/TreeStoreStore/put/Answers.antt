@@ -15,15 +15,15 @@ use Rattle.title_tree_store.proofs.Puts.{IsPut, put_goes, put_shows, put_takes, 
 use Rattle.title_tree_store.proofs.Puts.{found_failing, some_cell_fails}
 use Rattle.title_tree_store.proofs.tree_store.TreeStoreStore.put.Goals as goal
 
-pub invariant_of-self : goal.invariant_of-self
-invariant_of-self c = record {
+pub invariant_of-self-in-Break-branch-3 : goal.invariant_of-self-in-Break-branch-3
+invariant_of-self-in-Break-branch-3 c = record {
   once = c.args.self.now.once;
   kept = kept_as c.reserve.ensures.images c.reserve.ensures.next c.args.self.now.kept;
   joined = joined_as c.reserve.ensures.images c.args.self.now.joined;
 }
 
-pub invariant_of-self-in-Break-branch-3 : goal.invariant_of-self-in-Break-branch-3
-invariant_of-self-in-Break-branch-3 c =
+pub invariant_of-self-in-Break-branch-4 : goal.invariant_of-self-in-Break-branch-4
+invariant_of-self-in-Break-branch-4 c =
     record {
       once = c.args.self.now.once;
       kept = kept_as c.reserve.ensures.images c.reserve.ensures.next
@@ -62,7 +62,7 @@ image c = record { number = c.args.self.now.lent.next; land = c.args.tract.now; 
 out : (c : goal.After-add-number) → images c.add-number.new.self ≡ images c.args.self.now.lent ++ image c ∷ []
 out c = c.add-number.ensures.images ∙ (λ i. c.reserve.ensures.images i ++ record {
   number = c.reserve.ensures.next i;
-  land = c.land-land.ensures.land i;
+  land = c.in_ok-land-in-Ok.ensures.copy i;
   trees = c.exchange.new.parts;
 } ∷ [])
 
