@@ -183,7 +183,7 @@ impl<S: Store + Drop, G: Guards + Drop> Desk<S, G> {
     fn bar(&self, ask: &Ask) -> Option<Denial>
         ensures bars { MatchOption result (Stands self.now.setting ask.now) (λ why. Bars self.now.setting ask.now why) }
     {
-        if !tract_in(ask).is_in(&self.townships) {
+        if !self.store.holds(tract_in(ask)) {
             return Some(Denial::NoSuchTownship);
         }
         if let Some(cause) = cause_in(ask, self.parties) {

@@ -206,6 +206,10 @@ impl<S: Store + Drop> Store for ShownStore<S> {
         })
     }
 
+    fn holds(&self, tract: &Tract) -> bool {
+        self.store.holds(tract)
+    }
+
     fn put(&mut self, tract: &Tract, instrument: &Instrument) -> Result<Put<S::Image>, AllocError> {
         let put = self.store.put(tract, instrument)?;
         if let Put::Done(_) = put {

@@ -66,6 +66,10 @@ impl Store for CellStore {
         })
     }
 
+    fn holds(&self, tract: &Tract) -> bool {
+        tract.is_in(&self.townships)
+    }
+
     fn put(&mut self, tract: &Tract, instrument: &Instrument) -> Result<Put<Image>, AllocError> {
         let number = self.next;
         let Some(next) = number.checked_add(1) else {

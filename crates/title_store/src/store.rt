@@ -51,6 +51,10 @@ pub trait Store {
         ensures out { IfOk result (λ s. out s ≡ []) }
         ensures joined { IfOk result (λ s. is_joined s ≡ true) };
 
+    /// Whether a tract lies in the plant: all its townships are declared, and every cell needs one at least.
+    fn holds(&self, tract: &Tract) -> bool
+        ensures holds { result ≡ is_in_plant (declared self.now) tract.now };
+
     /// Posts an instrument in all cells of a tract, or in none. `Err` changes nothing.
     fn put(
         &mut self,

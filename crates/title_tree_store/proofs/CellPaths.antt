@@ -1,9 +1,9 @@
 -- Which cells lie below which paths.
-use Rattle.std.{proofs.Common.{◌≡◌, ◌∙◌, ap, sym, refl, subst, ℕ, zero, suc, ◌+◌}, specs.{Prelude.{nat_lt}, List.{list_any}}}
+use Rattle.std.{proofs.Common.{◌≡◌, ◌∙◌, ap, sym, refl, subst, ℕ, zero, suc, ◌+◌, lt-ltb}, specs.{Prelude.{nat_lt}, List.{list_any}}}
 use Rattle.std.proofs.Common.{◌-◌, ◌*◌, ◌^◌, ◌<◌, ◌≤◌, arith, Bool, true, false, ◌&&◌, ◌||◌, add-one, get_or, take, drop}
 use Rattle.std.proofs.Common.{inl, inr, List, [], ◌∷◌, ◌++◌, length, length-append, append_assoc, reverse, length-drop}
 use Rattle.std.proofs.lemmas.List.{length-reverse, reverse-append, reverse-reverse, append-nil, length-take-le, take-append-drop}
-use Rattle.std.proofs.lemmas.Bool.{and_from, and_parts, cases_Bool, eq-eqb, ltb-true, agree_below_at}
+use Rattle.std.proofs.lemmas.Bool.{and_from, and_parts, cases_Bool, eq-eqb, ltb-true, agree_below_at, Decides.{nat_tests}}
 use Rattle.title_land.specs.{Depth.{depth}, declared.{survey.{Township.{Township}, Section.{Section}, Cell.{Cell}}, node.Node.{Node}}}
 use Rattle.title_land.specs.declared.{rectangle.Quarter.{Quarter, TheVariants.{Northeast, Northwest, Southwest}}, tract.Land.{Land}}
 use Rattle.title_land.specs.{Survey.{side, same_township, same_section, is_on_grid}, Rectangles.{holds}, Nodes.{square, node_has}}
@@ -37,6 +37,17 @@ index_below (u ∷ ts) t h = elim (cases_Bool (same_township t u)) [
   | inl e ↦ rw e (omega arith)
   | inr e ↦ (let k : IsOf ts t = rw e at h in let l = index_below ts t k in rw e (omega (arith, l)))
 ]
+
+-- that a township's index is that of one of the list tells that it is one of them
+pub index_told : (ts : List Township) (t : Township) → nat_lt (index_of ts t) (length ts) ≡ list_any (same_township t) ts
+index_told [] t = refl
+index_told (u ∷ ts) t = elim (cases_Bool (same_township t u)) [
+  | inl e ↦ rw e (lt-ltb 0 (suc (length ts)) (omega arith))
+  | inr e ↦ rw e (next (index_of ts t) (length ts) ∙ index_told ts t)
+]
+  where
+    next : (n m : ℕ) → nat_lt (n + 1) (suc m) ≡ nat_lt n m
+    next n m = grind (arith, nat_tests)
 
 at_index : (ts : List Township) (t d : Township) → IsOf ts t → get_or ts (index_of ts t) d ≡ t
 at_index [] t d h = absurd cc

@@ -1,7 +1,7 @@
 //! The townships of a plant, found by their numbers.
 
-ghost use Rattle.std.specs.Prelude.{◌≡◌, ◌≤◌, ◌<◌, ◌+◌, length, get_or, IfOk};
-ghost use Rattle.title_land.specs.declared.survey.Township.{Township};
+ghost use Rattle.std.specs.{Prelude.{◌≡◌, ◌≤◌, ◌<◌, ◌+◌, length, get_or, IfOk}, List.{list_any}};
+ghost use Rattle.title_land.specs.{declared.survey.Township.{Township}, Survey.{same_township}};
 ghost use Rattle.title_tree_store.specs.{Spots.{index_of}, TownshipTable.{number_of, AreIndexed}};
 
 use std::alloc::{AllocError, Global};
@@ -93,5 +93,13 @@ impl Townships {
         ensures index { result ≡ index_of self.now township }
     {
         usize::from(self.indices[number_of(township)])
+    }
+
+    /// Whether a township is one of them. Found by its number.
+    #[tactic(auto, using(crate::proofs::CellPaths::index_told))]
+    pub(crate) fn holds(&self, township: Township) -> bool
+        ensures holds { result ≡ list_any (same_township township) self.now }
+    {
+        self.index_of(township) < self.list.len()
     }
 }

@@ -83,6 +83,14 @@ impl Store for TreeStore {
         })
     }
 
+    fn holds(&self, tract: &Tract) -> bool {
+        match tract.home() {
+            Node::Everything => !self.townships.list().is_empty(),
+            Node::Township(township) => self.townships.holds(township),
+            Node::Part(section, _) => self.townships.holds(section.township),
+        }
+    }
+
     fn put(&mut self, tract: &Tract, instrument: &Instrument) -> Result<Put<Image>, AllocError> {
         let paths = tract_spots(self.alloc, self.levels, &self.townships, tract)?;
         match self
