@@ -4,7 +4,6 @@ mod AskedOnce
 mod Batches
 mod FieldLaws
 mod LineLaws
-mod NamesText
 mod OnResults
 mod RecordsOf
 mod RowLaws

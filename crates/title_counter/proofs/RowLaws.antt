@@ -1,14 +1,14 @@
 -- What a clerk's calls come to.
 use Rattle.std.proofs.Common.{◌≡◌, ◌+◌, ◌⊎◌, ◌++◌, ◌∷◌, ◌||◌, ◌∙◌, [], refl, ap, sym, subst, inl, inr, ℕ, List, true, false, arith, length}
 use Rattle.std.{proofs.Common.{IfErr, IfOk, Result, Ok, Err, nat_le, not}, specs.{Prelude.{codes}, Fmt.{decimal}, List.{list_any}}}
-use Rattle.std.proofs.lemmas.Bool.{not-false, not-true}
+use Rattle.std.proofs.lemmas.{Bool.{not-false, not-true}, List.{length-append}}
 use Rattle.title_land.specs.{declared.survey.Township.{Township}, Survey.{same_township}}
 use Rattle.title_store.specs.Plants.{Plant}
 use Rattle.title_chain.specs.declared.record.Record.{Record}
 use Rattle.title_trace.specs.{declared.call.Call.{Call}, Due.{MayOpen, Setting, most_townships}}
 use Rattle.title_desk.specs.{Headline.{Headline}, Singles.{IsIdle}}
 use Rattle.title_plan.specs.{Plans.{after_act, with_line, with_township}, Townships.{each_once}, declared.fault.ScriptFault.{ScriptFault}}
-use Rattle.title_plan.specs.declared.{line.Line.{Line}, row.Act.{Act}}
+use Rattle.title_plan.specs.{declared.{line.Line.{Line}, row.Act.{Act}}, Laws.Declarations.{once_said, township_few, township_once}}
 use Rattle.title_plan.specs.declared.fault.ScriptFault.TheVariants as fault
 use Rattle.title_plan.specs.declared.line.Line.TheVariants as line
 use Rattle.title_plan.specs.declared.line.Schedule.TheVariants as schedule
@@ -16,7 +16,6 @@ use Rattle.title_plan.specs.declared.row.Row.TheVariants as row
 use Rattle.title_counter.specs.Counters.{Answered, Counter, aborted, asked_at, counted, due_answer, due_found, due_said, fault_number}
 use Rattle.title_counter.specs.{Counters.{or_fault, passed_over, served, setting_at, township_answer}, Founds.{found_in}, Views.{IsFault}}
 use Rattle.title_counter.specs.{Limits.{longest_line}, Sessions.{Ends, MayAnswer}, declared.found.Found.{Found}}
-use Rattle.title_counter.proofs.NamesText.{once_said, township_few, township_once}
 
 -- ---- results
 
@@ -37,7 +36,7 @@ pub may_open_more : (townships : List Township) (t : Township) → each_once tow
 may_open_more townships t once free = (
   omega arith,
   omega arith,
-  township_few townships t free,
+  rw length-append (township_few townships t free),
   once_said (townships ++ t ∷ []) (township_once townships t once free),
 )
 

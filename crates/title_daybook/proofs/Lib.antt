@@ -2,8 +2,6 @@ mod RowFields
 mod FirstLines
 mod Blocks
 mod Marks
-mod Names
-mod Declared
 mod WrittenRows
 mod RowLines
 mod Utf8Fields

@@ -9,7 +9,7 @@ use Rattle.title_disk.specs.{Crashes.{Elapses, LeavesOnly, Only}, Laws.Moments.{
 use Rattle.title_journal.specs.{declared.fault.JournalFault.{JournalFault}, Blocks.{blocks_in, front}}
 use Rattle.title_journal.specs.Rest.{StandsAlike, tail_of, texts_of}
 use Rattle.title_journal.specs.declared.fault.JournalFault.TheVariants as journal
-use Rattle.title_plan.specs.Townships.{each_once}
+use Rattle.title_plan.specs.{Townships.{each_once}, Laws.Declarations.{once_said}}
 use Rattle.title_standing.specs.Records.{posted_step}
 use Rattle.title_daybook.specs.{declared.fault.PlantFault.{PlantFault}, AddedLaws.{IsKept}, Books.{standing_of}, Standing.{Standing}}
 use Rattle.title_daybook.specs.Files.{row_of, standing_after, standing_in}
@@ -36,24 +36,10 @@ unfound file disk_failed plant.Memory row = tt
 
 -- ---- replay
 
-no_other : (t : Township) (townships : List Township) → not (list_any (same_township t) townships) ≡ true
-    → list_any (same_township t) townships ≡ false
-no_other t townships h = go (list_any (same_township t) townships) h
-  where
-    go : (b : Bool) → not b ≡ true → b ≡ false
-    go true k = cc k
-    go false k = refl
-
-pub each_is_once : (townships : List Township) → each_once townships ≡ true → IsEachOnce townships
-each_is_once [] h = tt
-each_is_once (t ∷ townships) h =
-    let parts = and_parts (not (list_any (same_township t) townships)) (each_once townships) h in
-    (no_other t townships parts.0, each_is_once townships parts.1)
-
 -- a desk can be opened with the townships of what stands
 pub may_open : (townships : List Township) → length townships ≤ most_townships → each_once townships ≡ true
     → MayOpen most_parties townships
-may_open townships few once = (omega arith, omega arith, few, each_is_once townships once)
+may_open townships few once = (omega arith, omega arith, few, once_said townships once)
 
 short_of : (names : List (List ℕ)) (records : List Record) → AllByRecursion (IsKept names) records → AreShort records
 short_of names [] all = tt

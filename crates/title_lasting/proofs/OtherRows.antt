@@ -6,30 +6,6 @@ use Rattle.csv.specs.Records.{AllText}
 use Rattle.title_plan.specs.{Plans.{understood}, Rows.{row_in}, declared.row.Row.{Row}}
 use Rattle.title_lasting.specs.LookRows.{first_other, is_look}
 
--- ---- fields that are text
-
-texts_true : (fields : List (List ℕ)) → AllText fields → list_all is_utf8 fields ≡ true
-unfolding AllText
-texts_true [] h = refl
-texts_true (f ∷ fields) h = rw (is_utf8-from_IsUtf8 f h.0, texts_true fields h.1) refl
-
-pub texts_from : (fields : List (List ℕ)) → list_all is_utf8 fields ≡ true → AllText fields
-unfolding AllText
-texts_from [] h = tt
-texts_from (f ∷ fields) h =
-    let parts = and_parts (is_utf8 f) (list_all is_utf8 fields) h in (IsUtf8-from_is_utf8 f parts.0, texts_from fields parts.1)
-
--- those that aren't say nothing, and those that are say what their row does
-pub not_text : (fields : List (List ℕ)) → (list_all is_utf8 fields ≡ true → ⊥) → understood 1 fields ≡ None
-not_text fields h = elim (cases_Bool (list_all is_utf8 fields)) [
-  | inl text ↦ absurd (h text)
-  | inr other ↦ rw other refl
-]
-
-pub is_text : (fields : List (List ℕ)) (found : Option (Row (List ℕ))) → AllText fields → row_in fields ≡ found
-    → understood 1 fields ≡ found
-is_text fields found text is = rw (texts_true fields text, is) refl
-
 -- ---- rows one after another
 
 -- where none is left, there is no other

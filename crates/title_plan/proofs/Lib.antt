@@ -1,9 +1,7 @@
 mod Texts
 mod TextsRead
-mod Names
 mod ReadOn
 mod Understood
-mod Declarations
 mod Alone
 mod Begins
 mod Behind

@@ -4,7 +4,7 @@ use Rattle.std.proofs.lemmas.Bool.{and_right, cases_Bool, Decides.{nat_tests}}
 use Rattle.csv.specs.Records.{AllText}
 use Rattle.title_plan.specs.declared.fault.ScriptFault.TheVariants as fault
 use Rattle.title_plan.specs.{declared.{line.Schedule.{Schedule}, row.Row.{Row}}, Asked.{Asked}, Limits.{most_rows}, Rows.{row_in}}
-use Rattle.title_plan.{specs.Onto.{Before, after_row_onto, after_understood_onto}, proofs.Names.{texts_true}}
+use Rattle.title_plan.specs.{Onto.{Before, after_row_onto, after_understood_onto}, Laws.Names.{texts_true}}
 
 -- a row that isn't text
 pub not_text : (schedule : Schedule) (before : Before) (n : ℕ) (asked : Asked) (fields : List (List ℕ))

@@ -8,3 +8,4 @@ pub mod Plans
 pub mod Onto
 pub mod Faults
 pub mod Readers
+pub mod Laws

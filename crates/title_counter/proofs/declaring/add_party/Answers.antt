@@ -1,7 +1,8 @@
 use Rattle.std.{proofs.Common.{◌∙◌, refl, sym, inr, length, arith}, specs.{Str.{bytes_eq}, String.{string_bytes}}}
 use Rattle.std.proofs.lemmas.List.{length-map}
-use Rattle.title_counter.{specs.Views.{asked_of}, proofs.NamesText.{any_map, insert_name, party_few}}
+use Rattle.title_counter.specs.Views.{asked_of}
 use Rattle.title_counter.proofs.declaring.add_party.Goals as goal
+use Rattle.title_plan.specs.Laws.{Declarations.{party_few}, Names.{any_map, insert_name}}
 
 pub returns-then-contains-clause-err : goal.returns-then-contains-clause-err
 returns-then-contains-clause-err c =

@@ -1,8 +1,7 @@
 -- Fields that aren't UTF-8 say nothing, and those that are say what their row does.
 use Rattle.std.proofs.{Common.{refl}, lemmas.Bool.{false≢true}}
 use Rattle.csv.specs.Records.{fields_of}
-use Rattle.title_plan.specs.Rows.{row_in}
-use Rattle.title_lasting.proofs.OtherRows.{is_text, not_text, texts_from}
+use Rattle.title_plan.specs.{Rows.{row_in}, Laws.Names.{is_text, not_text, texts_from}}
 use Rattle.title_lasting.proofs.look_rows.is_look.Goals as goal
 
 pub returns-in_default : goal.returns-in_default

@@ -1,6 +1,6 @@
 use Rattle.std.proofs.Common.{◌∙◌, sym}
-use Rattle.title_plan.proofs.Names.{position_name}
 use Rattle.title_plan.proofs.numbers.number.Goals as goal
+use Rattle.title_plan.specs.Laws.Names.{position_name}
 
 pub returns-in-Some : goal.returns-in-Some
 returns-in-Some c = record {

@@ -1,7 +1,7 @@
 -- With what any plan declares a plant can be opened.
 use Rattle.std.proofs.Common.{length}
 use Rattle.title_trace.specs.Due.{MayOpen}
-use Rattle.title_plan.{specs.declared.plan.Plan.{Plan}, proofs.Declarations.{once_said}}
+use Rattle.title_plan.specs.{declared.plan.Plan.{Plan}, Laws.Declarations.{once_said}}
 use Rattle.title_plan.proofs.script.read_script_onto.Goals as goal
 
 opens : (plan : Plan) → MayOpen (length plan.parties.keys) plan.townships.items

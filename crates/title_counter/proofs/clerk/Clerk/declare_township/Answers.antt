@@ -1,9 +1,9 @@
 -- A township is declared once, and not too many are, and none after the first step row.
-use Rattle.std.proofs.Common.{◌≡◌, ◌≤◌, ◌∙◌, List, length, subst, sym, true}
+use Rattle.std.proofs.{Common.{◌≡◌, ◌≤◌, ◌∙◌, List, length, subst, sym, true}, lemmas.List.{length-append}}
 use Rattle.title_land.specs.declared.survey.Township.{Township}
-use Rattle.title_plan.specs.Townships.{each_once}
+use Rattle.title_plan.specs.{Townships.{each_once}, Laws.Declarations.{township_few, township_once}}
 use Rattle.title_trace.specs.Due.{MayOpen, most_townships}
-use Rattle.title_counter.{specs.Views.{counter_of}, proofs.NamesText.{township_few, township_once}}
+use Rattle.title_counter.specs.Views.{counter_of}
 use Rattle.title_counter.proofs.RowLaws.{may_open_more, township_declared, township_late, township_refused}
 use Rattle.title_counter.proofs.clerk.Clerk.declare_township.Goals as goal
 
@@ -44,7 +44,7 @@ invariant_of-self c =
       some = old.some;
       few = old.few;
       few_townships = subst (λ (ts : List Township). length ts ≤ most_townships) (sym items)
-          (township_few old.townships.items c.args.township test);
+          (rw length-append (township_few old.townships.items c.args.township test));
       once = subst (λ (ts : List Township). each_once ts ≡ true) (sym items)
           (township_once old.townships.items c.args.township old.once test);
     }

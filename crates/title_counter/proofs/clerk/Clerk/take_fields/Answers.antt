@@ -1,8 +1,8 @@
 -- Fields that aren't UTF-8 say nothing, and those that are say what their row does.
 use Rattle.std.proofs.{Common.{sym, inr, refl}, lemmas.Bool.{false≢true}}
 use Rattle.csv.specs.Records.{fields_of}
-use Rattle.title_counter.proofs.NamesText.{is_text, not_text, texts_from}
 use Rattle.title_counter.proofs.clerk.Clerk.take_fields.Goals as goal
+use Rattle.title_plan.specs.Laws.Names.{is_text, not_text, texts_from}
 
 pub returns-in_default-clause-err : goal.returns-in_default-clause-err
 returns-in_default-clause-err c =

@@ -2,8 +2,8 @@
 use Rattle.std.{proofs.Common.{◌≡◌, refl, sym, inl, inr, List, ℕ, true, Option, None}, specs.{List.{list_all}, Str.{is_utf8}}}
 use Rattle.std.proofs.lemmas.Bool.{cases_Bool, false≢true}
 use Rattle.csv.specs.Records.{AllText, fields_of}
-use Rattle.title_plan.specs.{Rows.{row_in}, declared.row.Row.{Row}}
-use Rattle.title_daybook.{specs.Lines.{said_by}, proofs.Names.{texts_from, texts_true}}
+use Rattle.title_plan.specs.{Rows.{row_in}, declared.row.Row.{Row}, Laws.Names.{texts_from, texts_true}}
+use Rattle.title_daybook.specs.Lines.{said_by}
 use Rattle.title_daybook.proofs.book.Book.take_record.Goals as goal
 
 not_text : (fields : List (List ℕ)) → (list_all is_utf8 fields ≡ true → ⊥) → said_by fields ≡ None

@@ -1,7 +1,8 @@
 use Rattle.std.{proofs.Common.{◌∙◌, refl, sym, inr, length, arith}, specs.{Str.{bytes_eq}, String.{string_bytes}}}
 use Rattle.std.proofs.lemmas.List.{length-map}
-use Rattle.title_daybook.{specs.Books.{standing_of}, proofs.{Names.{any_map, insert_name}, Declared.{party_few}}}
+use Rattle.title_daybook.specs.Books.{standing_of}
 use Rattle.title_daybook.proofs.standing.Standing.add_party.Goals as goal
+use Rattle.title_plan.specs.Laws.{Declarations.{party_few}, Names.{any_map, insert_name}}
 
 pub returns-then-contains-clause-err : goal.returns-then-contains-clause-err
 returns-then-contains-clause-err c =

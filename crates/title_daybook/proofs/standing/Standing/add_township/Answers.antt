@@ -1,8 +1,7 @@
 use Rattle.std.proofs.{Common.{refl, inr, ◌≡◌, ◌≤◌, ◌∙◌, sym, true, List, length}, lemmas.{Bool.{or_parts}, List.{length-append}}}
 use Rattle.title_land.specs.declared.survey.Township.{Township}
 use Rattle.title_trace.specs.Due.{most_townships}
-use Rattle.title_plan.specs.Townships.{each_once}
-use Rattle.title_daybook.proofs.Declared.{township_few, once_push, pushed}
+use Rattle.title_plan.specs.{Townships.{each_once}, Laws.Declarations.{once_push, pushed, township_few}}
 use Rattle.title_daybook.proofs.standing.Standing.add_township.Goals as goal
 
 pub returns-then-is_refused-clause-err : goal.returns-then-is_refused-clause-err

@@ -2,7 +2,7 @@ use Rattle.std.proofs.{Common.{refl, rules, ◌==◌, inr, false, ◌≡◌, ◌
 use Rattle.std.proofs.lemmas.List.{length-append}
 use Rattle.title_land.specs.declared.survey.Township.{Township}
 use Rattle.title_trace.specs.Due.{most_townships}
-use Rattle.title_plan.{specs.Townships.{each_once}, proofs.Declarations.{township_few, once_push, pushed}}
+use Rattle.title_plan.specs.{Townships.{each_once}, Laws.Declarations.{once_push, pushed, township_few}}
 use Rattle.title_plan.proofs.plan.Plan.declare.Goals as goal
 
 pub returns-then-is_refused-clause-err : goal.returns-then-is_refused-clause-err

@@ -1,5 +1,5 @@
 use Rattle.std.{proofs.{Common.{◌∙◌, sym, map, arith}, lemmas.Bool.Decides.{nat_tests}}, specs.{Str.{bytes_eq}, String.{string_bytes}}}
-use Rattle.title_plan.proofs.{Behind.{at_none, at_number, first_alone}, Names.{position_name}}
+use Rattle.title_plan.{proofs.Behind.{at_none, at_number, first_alone}, specs.Laws.Names.{position_name}}
 use Rattle.title_plan.proofs.plan.Plan.is_party_of.Goals as goal
 
 pub returns-then-index-gt0 : goal.returns-then-index-gt0

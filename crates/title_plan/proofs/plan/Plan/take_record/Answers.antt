@@ -1,6 +1,6 @@
 use Rattle.std.proofs.{Common.{sym, inr, arith}, lemmas.{Bool.{false≢true}, Result.{err_from_is_err_and}}}
 use Rattle.csv.specs.Records.{fields_of}
-use Rattle.title_plan.{specs.{Asked.{asked_in}, Onto.{first_of}}, proofs.{Names.{texts_from}, Understood.{not_text, is_text}}}
+use Rattle.title_plan.{specs.{Asked.{asked_in}, Onto.{first_of}, Laws.Names.{texts_from}}, proofs.Understood.{not_text, is_text}}
 use Rattle.title_plan.proofs.plan.Plan.take_record.Goals as goal
 
 pub returns-in_default-clause-err : goal.returns-in_default-clause-err

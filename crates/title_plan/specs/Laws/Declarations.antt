@@ -1,8 +1,9 @@
--- What a declaration does, and that no township stands twice.
-use Rattle.std.proofs.Common.{◌≡◌, ◌<◌, ◌≤◌, ◌+◌, ℕ, List, [], ◌∷◌, ◌++◌, Bool, true, false, ◌||◌, ◌∙◌, Result, Ok, Err}
+-- What a declaration does, case by case, and that no township stands twice.
+use Rattle.std.proofs.Common.{◌≡◌, ◌<◌, ◌≤◌, ◌+◌, List, [], ◌∷◌, ◌++◌, Bool, true, false, ◌||◌, ◌∙◌, Result, Ok, Err, ℕ}
 use Rattle.std.{proofs.{Common.{MatchResult, length, nat_le, refl, arith}, lemmas.Bool.Decides.{nat_tests}}, specs.List.{list_any}}
 use Rattle.std.proofs.lemmas.{Bool.{and_parts, not-true, or_parts, or_from}, List.Folds.{list_any-append}}
 use Rattle.title_land.specs.{declared.survey.Township.{Township}, Survey.{same_township}}
+use Rattle.title_store.specs.Plants.{IsEachOnce}
 use Rattle.title_plan.specs.Townships.{each_once}
 use Rattle.title_chain.specs.Alone.{most_parties}
 use Rattle.title_trace.specs.Due.{most_townships}
@@ -23,6 +24,8 @@ pub pushed : {R E : Type 0} (P : List Township → Type 0) {old more new : List 
 pushed P (Ok x) h with without = rw h with
 pushed P (Err e) h with without = rw h without
 
+-- ---- no township twice
+
 any_push : (p : Township → Bool) (townships : List Township) (t : Township) → list_any p townships ≡ false → p t ≡ false
     → list_any p (townships ++ t ∷ []) ≡ false
 any_push p townships t h k = list_any-append p townships (t ∷ []) ∙ or_from _ _ h (rw k refl)
@@ -36,3 +39,14 @@ once_push (o ∷ townships) t h k =
     let apart = or_parts (same_township o t) (list_any (λ other. same_township other t) townships) k in
     let parts = and_parts _ _ h in
     rw (any_push (same_township o) townships t (not-true _ parts.0) apart.0, once_push townships t parts.1 apart.1) refl
+
+-- one that isn't refused stands once
+pub township_once : (townships : List Township) (t : Township) → each_once townships ≡ true
+    → (nat_le most_townships (length townships) || list_any (λ other. same_township other t) townships) ≡ false
+    → each_once (townships ++ t ∷ []) ≡ true
+township_once townships t h k = once_push townships t h (or_parts _ _ k).1
+
+-- the test says that each stands once
+pub once_said : (townships : List Township) → each_once townships ≡ true → IsEachOnce townships
+once_said [] h = tt
+once_said (t ∷ townships) h = let parts = and_parts _ _ h in (not-true _ parts.0, once_said townships parts.1)

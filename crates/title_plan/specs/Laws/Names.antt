@@ -1,9 +1,11 @@
 -- Names and their bytes, and rows that are text.
-use Rattle.std.{proofs.Common.{◌≡◌, ◌∷◌, ◌++◌, [], refl, sym, ℕ, List, Bool, true, false, map, not}, specs.Str.{bytes_eq, is_utf8}}
+use Rattle.std.{proofs.Common.{◌≡◌, ◌∷◌, ◌++◌, [], refl, sym, ℕ, List, Bool, true, false, map, not, inl}, specs.Str.{bytes_eq, is_utf8}}
 use Rattle.std.specs.{List.{list_all, list_any, position, prefix_len}, String.{string_bytes, string_eq}, declared.string.String.{String}}
-use Rattle.std.proofs.lemmas.{List.{length-map, map-append}, Str.{IsUtf8-from_is_utf8, is_utf8-from_IsUtf8}, Bool.{and_parts}}
+use Rattle.std.proofs.lemmas.{List.{length-map, map-append}, Str.{IsUtf8-from_is_utf8, is_utf8-from_IsUtf8}, Bool.{and_parts, cases_Bool}}
+use Rattle.std.proofs.Common.{inr, Option, None}
 use Rattle.csv.specs.Records.{AllText}
 use Rattle.indexmap.specs.IndexSet.{insert_key}
+use Rattle.title_plan.specs.{Plans.{understood}, Rows.{row_in}, declared.row.Row.{Row}}
 
 -- a name among names, and among the texts that have them
 pub any_map : {X : Type 0} (f : X → List ℕ) (p : List ℕ → Bool) (xs : List X) → list_any p (map f xs) ≡ list_any (λ x. p (f x)) xs
@@ -37,3 +39,14 @@ unfolding AllText
 texts_from [] h = tt
 texts_from (f ∷ fields) h =
     let parts = and_parts (is_utf8 f) (list_all is_utf8 fields) h in (IsUtf8-from_is_utf8 f parts.0, texts_from fields parts.1)
+
+-- fields that aren't text say nothing, and those that are say what their row does
+pub not_text : (fields : List (List ℕ)) → (list_all is_utf8 fields ≡ true → ⊥) → understood 1 fields ≡ None
+not_text fields h = elim (cases_Bool (list_all is_utf8 fields)) [
+  | inl text ↦ absurd (h text)
+  | inr other ↦ rw other refl
+]
+
+pub is_text : (fields : List (List ℕ)) (found : Option (Row (List ℕ))) → AllText fields → row_in fields ≡ found
+    → understood 1 fields ≡ found
+is_text fields found text is = rw (texts_true fields text, is) refl

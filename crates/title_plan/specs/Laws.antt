@@ -1,0 +1,3 @@
+-- The laws that the crates above cite, each with its proof.
+pub mod Names
+pub mod Declarations
