@@ -1,58 +1,16 @@
 -- The text of a row is a line, whose fields are the row's.
-use Rattle.std.proofs.Common.{◌≡◌, ◌∙◌, ℕ, ◌<◌, ◌≤◌, ◌^◌, Bool, true, false, List, [], ◌∷◌, ◌++◌, refl, sym, ap, subst, Some, arith}
+use Rattle.std.proofs.Common.{◌≡◌, ◌∙◌, ℕ, ◌<◌, ◌≤◌, ◌^◌, Bool, true, false, List, [], ◌∷◌, ◌++◌, refl, sym, ap, Some, arith}
 use Rattle.std.{proofs.Common.{append_assoc}, specs.{Prelude.{codes, nat_le, ◌==◌, ◌&&◌}, Fmt.{decimal}, List.{list_all, list_any}}}
 use Rattle.std.{specs.Str.Parse.{AllDigits}, proofs.lemmas.{Bool.{and_parts, leb-true, ne_eqb}, Fmt.{decimal_is_IsNumeral}}}
 use Rattle.std.proofs.lemmas.{List.{append-nil}, Str.Parse.{digit_at}}
-use Rattle.csv.{proofs.RoundTrip.{read-write-many}, specs.{Machine.{next_record}, Reading.{default_config}}}
-use Rattle.csv.specs.Writing.{default_writer, escaped, field_text, fields_text, is_blank, needs_byte, row_text}
+use Rattle.csv.{specs.{Machine.{next_record}, Reading.{default_config}}}
+use Rattle.csv.specs.Writing.{field_text, fields_text, is_blank, needs_byte}
 use Rattle.csv.specs.declared.parser.State.TheVariants as st
 use Rattle.title_journal.specs.Blocks.{line_feed, IsRow}
 use Rattle.title_page.specs.Rows.{row, row_writer}
-use Rattle.title_spelling.specs.Laws.{is_shown, RowsAreLines}
-use Rattle.title_spelling.specs.Rows.{are_names, end_fields, fields_of, Begin, Commit, End, IsPlantRow, Party, PlantRow, Post, Township}
+use Rattle.title_spelling.specs.Laws.{is_shown, RowsAreLines, SeveralFields.{several, one_read}}
+use Rattle.title_spelling.specs.Rows.{are_names, end_fields, fields_of, IsPlantRow, PlantRow}
 use Rattle.title_daybook.{specs.Lines.{fields_in, has_line_feed}, proofs.RowFields.{fields_by}}
-
--- ---- rows of any lengths are written as the default writer writes them
-
-escaped_same : (x : List ℕ) → escaped row_writer x ≡ escaped default_writer x
-unfolding escaped
-escaped_same [] = refl
-escaped_same (b ∷ rest) = rw (escaped_same rest) refl
-
-field_same : (x : List ℕ) → field_text row_writer x ≡ field_text default_writer x
-field_same x = rw (escaped_same x) refl
-
-fields_same : (xs : List (List ℕ)) → fields_text row_writer xs ≡ fields_text default_writer xs
-unfolding fields_text
-fields_same [] = refl
-fields_same (x ∷ xs) = rw (field_same x, fields_same xs) refl
-
-row_same : (x y : List ℕ) (rest : List (List ℕ)) → row (x ∷ y ∷ rest) ≡ row_text default_writer (x ∷ y ∷ rest)
-unfolding row is_blank
-row_same x y rest = rw (field_same x, fields_same (y ∷ rest)) refl
-
--- each row has two fields at least
-record Several (fields : List (List ℕ)) : Type 0 where
-  first : List ℕ
-  second : List ℕ
-  rest : List (List ℕ)
-  fields_are : fields ≡ first ∷ second ∷ rest
-
-several : (names : List (List ℕ)) (x : PlantRow) → Several (fields_of names x)
-several names (Township t) = record { first = _; second = _; rest = _; fields_are = refl }
-several names (Party name) = record { first = _; second = _; rest = _; fields_are = refl }
-several names (Begin e) = record { first = _; second = _; rest = _; fields_are = refl }
-several names (Commit e) = record { first = _; second = _; rest = _; fields_are = refl }
-several names (Post e post) = record { first = _; second = _; rest = _; fields_are = refl }
-several names (End n) = record { first = _; second = _; rest = _; fields_are = refl }
-
-one_read : (fields : List (List ℕ)) (more : List ℕ) → Several fields
-    → next_record default_config st.StartRecord [] [] (row fields ++ more) ≡ Some (fields, st.StartRecord, more)
-one_read fields more s =
-    subst (λ (f : List (List ℕ)). next_record default_config st.StartRecord [] [] (row f ++ more) ≡ Some (f, st.StartRecord, more))
-    (sym s.fields_are)
-    (ap (λ (t : List ℕ). next_record default_config st.StartRecord [] [] (t ++ more)) (row_same s.first s.second s.rest)
-    ∙ read-write-many s.first s.second s.rest more)
 
 -- ---- lines
 

@@ -2,3 +2,4 @@
 pub mod InTurn
 pub mod Rows
 pub mod Whole
+pub mod RowTexts

@@ -7,7 +7,6 @@ pub mod Spelled
 pub mod SomeCells
 pub mod CellsTexts
 pub mod Marked
-pub mod RowTexts
 pub mod PostsRead
 pub mod NamesRead
 pub mod RowsSaid

@@ -8,9 +8,9 @@ use Rattle.title_instrument.specs.declared.instrument.Instrument.TheVariants as 
 use Rattle.title_page.specs.Rows.{row, row_writer}
 use Rattle.title_spelling.specs.{Lands.{spelling}, Laws.{is_shown, OnlyEndsEnd, RowsAreLines}, Posts.{terms_fields, HasShares}}
 use Rattle.title_spelling.specs.Rows.{are_names, fields_of, Begin, Commit, End, IsPlantRow, Party, PlantRow, Post, Township}
-use Rattle.title_spelling.proofs.{NamesRead.{named}, RowsRead.{first_byte, is_digit, number_digits, row_begins, row_ends, several}}
+use Rattle.title_spelling.proofs.{NamesRead.{named}, RowsRead.{first_byte, is_digit, number_digits, row_begins, row_ends}}
 use Rattle.title_spelling.proofs.Shown.{both, estates, kind_shown, land_shown, more, name, number, quantum_shown, reserve, township, word}
-use Rattle.title_spelling.proofs.Shown.{Shown}
+use Rattle.title_spelling.{proofs.Shown.{Shown}, specs.Laws.SeveralFields.{several}}
 
 -- ---- fields in rows
 

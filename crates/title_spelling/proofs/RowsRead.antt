@@ -1,58 +1,18 @@
 -- The texts of rows are read as their fields.
 use Rattle.std.proofs.Common.{◌≡◌, ◌∙◌, ℕ, zero, suc, ◌+◌, ◌<◌, ◌≤◌, ◌&&◌, Bool, true, false, List, [], ◌∷◌, ◌++◌, length, map, refl, sym}
-use Rattle.std.{proofs.Common.{ap, subst, arith, ◌^◌, append_assoc, length-append, Some}, specs.List.{list_all, list_any, All}}
+use Rattle.std.{proofs.Common.{ap, arith, ◌^◌, append_assoc, length-append}, specs.List.{list_all, list_any, All}}
 use Rattle.std.{specs.{Fmt.{decimal}, Prelude.{codes, nat_le}}, proofs.lemmas.Bool.{and_parts, and_from, ne_eqb, le-leb, leb-true}}
 use Rattle.std.proofs.lemmas.{Bool.Decides.{nat_tests}, Fmt.{decimal_is_IsNumeral, decimal_nonempty}, List.Elements.{All-head}}
 use Rattle.std.{proofs.lemmas.Str.Parse.{digit_at}, specs.Str.Parse.{AllDigits}}
-use Rattle.csv.{proofs.RoundTrip.{read-write-many}, specs.Machine.{next_record}}
+use Rattle.csv.{specs.Machine.{next_record}}
 use Rattle.csv.specs.Reading.{default_config, records_from, records_next, strip_bom}
-use Rattle.csv.specs.Writing.{default_writer, escaped, field_text, fields_text, is_blank, needs_byte, row_text}
+use Rattle.csv.specs.Writing.{field_text, fields_text, is_blank, needs_byte}
 use Rattle.csv.specs.declared.parser.State.TheVariants as st
 use Rattle.title_page.specs.Rows.{row, row_writer, rows_text}
 use Rattle.title_spelling.specs.{Laws.{RowsReadBack}, Rows.{fields_of, Begin, Commit, End, IsPlantRow, Party, PlantRow, Post, Township}}
-
--- ---- rows of any lengths are written as the default writer writes them
-
-escaped_same : (x : List ℕ) → escaped row_writer x ≡ escaped default_writer x
-unfolding escaped
-escaped_same [] = refl
-escaped_same (b ∷ rest) = rw (escaped_same rest) refl
-
-field_same : (x : List ℕ) → field_text row_writer x ≡ field_text default_writer x
-field_same x = rw (escaped_same x) refl
-
-fields_same : (xs : List (List ℕ)) → fields_text row_writer xs ≡ fields_text default_writer xs
-unfolding fields_text
-fields_same [] = refl
-fields_same (x ∷ xs) = rw (field_same x, fields_same xs) refl
-
-row_same : (x y : List ℕ) (rest : List (List ℕ)) → row (x ∷ y ∷ rest) ≡ row_text default_writer (x ∷ y ∷ rest)
-unfolding row is_blank
-row_same x y rest = rw (field_same x, fields_same (y ∷ rest)) refl
+use Rattle.title_spelling.specs.Laws.SeveralFields.{Several, several, one_read}
 
 -- ---- each row has two fields at least
-
-pub record Several (fields : List (List ℕ)) : Type 0 where
-  pub first : List ℕ
-  pub second : List ℕ
-  pub rest : List (List ℕ)
-  pub fields_are : fields ≡ first ∷ second ∷ rest
-
-pub several : (names : List (List ℕ)) (x : PlantRow) → Several (fields_of names x)
-several names (Township t) = record { first = _; second = _; rest = _; fields_are = refl }
-several names (Party name) = record { first = _; second = _; rest = _; fields_are = refl }
-several names (Begin e) = record { first = _; second = _; rest = _; fields_are = refl }
-several names (Commit e) = record { first = _; second = _; rest = _; fields_are = refl }
-several names (Post e post) = record { first = _; second = _; rest = _; fields_are = refl }
-several names (End n) = record { first = _; second = _; rest = _; fields_are = refl }
-
-one_read : (fields : List (List ℕ)) (more : List ℕ) → Several fields
-    → next_record default_config st.StartRecord [] [] (row fields ++ more) ≡ Some (fields, st.StartRecord, more)
-one_read fields more s =
-    subst (λ (f : List (List ℕ)). next_record default_config st.StartRecord [] [] (row f ++ more) ≡ Some (f, st.StartRecord, more))
-    (sym s.fields_are)
-    (ap (λ (t : List ℕ). next_record default_config st.StartRecord [] [] (t ++ more)) (row_same s.first s.second s.rest)
-    ∙ read-write-many s.first s.second s.rest more)
 
 pub row_ends : (x y : List ℕ) (rest : List (List ℕ)) → row (x ∷ y ∷ rest)
     ≡ (field_text row_writer x ++ fields_text row_writer (y ∷ rest)) ++ 10 ∷ []

@@ -19,7 +19,7 @@ use title_page::is_quoted;
 // ---- rows of any fields
 
 // Adds a byte, a quote twice.
-#[tactic(auto, using(crate::proofs::RowTexts::escaped_quote, crate::proofs::RowTexts::escaped_byte))]
+#[tactic(auto, using(title_page::specs::Laws::RowTexts::escaped_quote, title_page::specs::Laws::RowTexts::escaped_byte))]
 fn push_byte(out: &mut Vec<u8>, byte: u8) -> Result<(), AllocError>
     ensures added { OnOk result (out.new.items ≡ out.old.items ++ escaped row_writer (byte ∷ [])) }
 {

@@ -1,8 +1,7 @@
 -- One byte more.
 use Rattle.std.proofs.{Common.{◌∙◌, ◌++◌, ◌∷◌, [], ℕ, List, take, get_or, append_assoc, ap, sym}, lemmas.List.{append-nil}}
 use Rattle.csv.specs.Writing.{escaped}
-use Rattle.title_page.specs.Rows.{row_writer}
-use Rattle.title_spelling.proofs.RowTexts.{escaped_more, escaped_none}
+use Rattle.title_page.specs.{Rows.{row_writer}, Laws.RowTexts.{escaped_more, escaped_none}}
 use Rattle.title_spelling.proofs.rows.push_escaped.Goals as goal
 
 pub loop-byte-init : goal.loop-byte-init

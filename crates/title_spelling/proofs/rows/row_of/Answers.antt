@@ -2,8 +2,7 @@
 use Rattle.std.{proofs.Common.{◌≡◌, ◌∙◌, ◌++◌, ◌∷◌, ◌<◌, [], ℕ, List, length, map, take, ap, sym, arith}, specs.Borrow.{Bor}}
 use Rattle.std.proofs.lemmas.List.{get_or-map, length-map, take_all}
 use Rattle.csv.{proofs.WriteFacts.{row-step}, specs.Writing.{field_text, next_sep, row_body}}
-use Rattle.title_page.specs.Rows.{row, row_writer}
-use Rattle.title_spelling.proofs.RowTexts.{row_ends}
+use Rattle.title_page.specs.{Rows.{row, row_writer}, Laws.RowTexts.{row_ends}}
 use Rattle.title_spelling.proofs.rows.row_of.Goals as goal
 
 pub loop-at-preserved : goal.loop-at-preserved

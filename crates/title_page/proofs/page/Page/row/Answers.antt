@@ -1,6 +1,6 @@
 -- The fields, and the line's end.
 use Rattle.std.proofs.{Common.{◌<◌, ◌∷◌, [], length, map, arith}, lemmas.{List.{length-map}, Result.{on_ok_weaker, on_err_weaker}}}
-use Rattle.title_page.{specs.{Rows.{row}, Laws.InTurn.{on_err, stopped_before, stopped_then, written_then}}, proofs.Texts.{row_ends}}
+use Rattle.title_page.specs.{Rows.{row}, Laws.{InTurn.{on_err, stopped_before, stopped_then, written_then}, RowTexts.{row_ends}}}
 use Rattle.title_page.proofs.page.Page.row.Goals as goal
 
 pub returns-in_err-fields-clause-stopped : goal.returns-in_err-fields-clause-stopped
