@@ -1,15 +1,15 @@
 -- What is in doubt is what is read once it is written again, and stands for what stood meanwhile.
-use Rattle.std.proofs.Common.{◌≡◌, ◌⊎◌, inl, inr, ℕ, zero, suc, ◌+◌, ◌≤◌, List, [], ◌∷◌, ◌++◌, length, take, drop, true, Result, Ok}
-use Rattle.std.proofs.Common.{refl, sym, ◌∙◌, ap, subst, arith, length-append, append_assoc, length-take, Option, None, Some}
+use Rattle.std.proofs.Common.{◌≡◌, ◌⊎◌, inl, inr, ℕ, ◌+◌, ◌≤◌, List, [], ◌∷◌, ◌++◌, length, take, drop, true, Ok}
+use Rattle.std.proofs.Common.{refl, sym, ◌∙◌, ap, subst, arith, length-append, append_assoc, Option, None, Some}
 use Rattle.std.{specs.{List.{AllByRecursion, starts_with, flat_map}, Prelude.{nat_eq, IfSome, IfNone}}, proofs.lemmas.Slice.Eq.{starts_is}}
 use Rattle.std.proofs.lemmas.{List.{append-nil, take_at, drop_at, drop_all, flat_map_more}, Bool.{cases_eq, cond-true}}
 use Rattle.std.proofs.lemmas.Bool.Decides.{Decides-eqb}
 use Rattle.title_journal.specs.{Blocks.{AtGate, blocks_from, rows_in, counted, line_feed, open_gate, closed_gate, IsBlock}, Rest.{IsTail}}
 use Rattle.title_journal.specs.Laws.Reading.{all_before, some_blocks}
+use Rattle.title_journal.specs.Laws.Gates.{tail_is_nothing, closed_tail, short_tail, front_of_tail, all_and_one, same_ok}
 use Rattle.title_file.specs.{Calls.{written, after}, Fronts.{AreGates, blocks_behind, front_of}, declared.gates.Gates.{Gates}}
 use Rattle.title_file.specs.InDoubt.{UnderWay, Putting, Opening, Cutting, Closing, IsInDoubt, with_gate, with_tail, written_again}
 use Rattle.title_file.specs.InDoubt.{behind_gate, read_of, kept_of, CanBe, MayBecome, with_opened}
-use Rattle.title_file.proofs.Walking.{tail_is_nothing, short_tail, all_and_one}
 
 -- ---- what stands
 
@@ -25,20 +25,6 @@ stands head blocks tail whole ends =
     ∙ some_blocks 2 blocks tail whole
     ∙ ap (all_before blocks) (tail_is_nothing (2 + rows_in (flat_map counted blocks)) tail ends)
     ∙ ap Ok (append-nil blocks)
-
-same_ok : (xs ys : List (List ℕ)) → (let r : Result (List (List ℕ)) ℕ = Ok xs in r ≡ Ok ys) → xs ≡ ys
-same_ok xs ys e = cc
-
-closed_tail : (bytes : List ℕ) → IsTail (closed_gate ∷ bytes)
-closed_tail [] = tt
-closed_tail (byte ∷ bytes) = omega arith
-
-beginning_of_tail : (len : ℕ) (tail : List ℕ) → IsTail tail → IsTail (take len tail)
-beginning_of_tail zero tail ends = tt
-beginning_of_tail (suc len) [] ends = tt
-beginning_of_tail (suc len) (byte ∷ []) ends = short_tail (byte ∷ take len []) (omega (arith, length-take {A = ℕ} len []))
-beginning_of_tail (suc zero) (gate ∷ byte ∷ bytes) ends = tt
-beginning_of_tail (suc (suc len)) (gate ∷ byte ∷ bytes) ends = ends
 
 -- ---- bytes written over bytes
 
@@ -180,7 +166,7 @@ module _ (head : List ℕ) (blocks : List (List ℕ)) (whole : AllByRecursion Is
     | inr is_not ↦ inl (stands head blocks bytes whole (subst IsTail (sym may.1) is_not))
   ]
   crashed (Cutting kept) bytes can may =
-      inl (stands head blocks bytes whole (subst IsTail (sym may.1) (beginning_of_tail may.0 kept can)))
+      inl (stands head blocks bytes whole (subst IsTail (sym may.1) (front_of_tail may.0 kept can)))
   crashed (Closing read kept) bytes can may = inl (stands head blocks bytes whole (short_tail bytes may))
 
 pub written_as_read : (head seen disk : List ℕ) (under_way : UnderWay) (gates : Gates) → IsInDoubt head under_way seen disk

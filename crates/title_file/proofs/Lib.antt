@@ -1,4 +1,3 @@
-mod BlockRows
 mod Doubts
 mod Walking
 mod Walks

@@ -2,10 +2,11 @@
 use Rattle.std.proofs.Common.{◌≡◌, ℕ, ◌+◌, ◌≤◌, ◌<◌, List, [], ◌∷◌, ◌++◌, length, get_or, length-drop, take, drop, true, Ok}
 use Rattle.std.proofs.Common.{refl, sym, ◌∙◌, ap, subst, arith, length-append, take-append-drop, append_assoc, Option, None, Some}
 use Rattle.std.specs.{List.{AllByRecursion, starts_with, flat_map}, Prelude.{◌==◌, nat_eq, IfSome, IfNone, IsErr}}
-use Rattle.std.proofs.lemmas.{List.{append-nil, drop_more, drop-drop, length-take-le, flat_map_more}, Slice.Eq.{starts_is}}
+use Rattle.std.proofs.lemmas.{List.{append-nil, drop-drop, length-take-le, flat_map_more}, Slice.Eq.{starts_is}}
 use Rattle.std.proofs.lemmas.Bool.{cond-true, cond-false, ne_eqb, Decides.{Decides-eqb}}
 use Rattle.title_journal.specs.{Blocks.{AtGate, blocks_from, rows_in, counted, line_feed, open_gate, IsBlock, IsUnfinished}, Rest.{IsTail}}
 use Rattle.title_journal.specs.Laws.Reading.{all_before, some_blocks, unfinished_block}
+use Rattle.title_journal.specs.Laws.Gates.{two_bytes, gate_and_feed, tail_is_nothing, short_tail, all_and_one}
 use Rattle.title_file.specs.Fronts.{AreGates, blocks_behind, front_of}
 
 -- the gate that was opened last is that of the last block
@@ -38,22 +39,6 @@ walk_begun head file starts =
       last = (tt, refl);
     }
 
--- a tail stands for nothing
-pub tail_is_nothing : (number : ℕ) (tail : List ℕ) → IsTail tail → blocks_from number AtGate tail ≡ Ok []
-tail_is_nothing number [] is = refl
-tail_is_nothing number (byte ∷ []) is = refl
-tail_is_nothing number (gate ∷ byte ∷ bytes) is = cond-false (gate == open_gate) _ _ (ne_eqb gate open_gate is)
-
-pub short_tail : (bytes : List ℕ) → length bytes ≤ 1 → IsTail bytes
-short_tail [] short = tt
-short_tail (byte ∷ []) short = tt
-short_tail (byte ∷ other ∷ bytes) short = absurd (omega arith)
-
-pub all_and_one : (blocks : List (List ℕ)) (block : List ℕ) → AllByRecursion IsBlock blocks → IsBlock block
-    → AllByRecursion IsBlock (blocks ++ block ∷ [])
-all_and_one [] block whole is = (is, tt)
-all_and_one (first ∷ blocks) block whole is = (whole.0, all_and_one blocks block whole.1 is)
-
 module _ (head file : List ℕ) (opened : Option ℕ) (offset : ℕ) (walked : IsWalked head file opened offset) where
   abbrev number : ℕ
   number = 2 + rows_in (flat_map counted walked.blocks)
@@ -61,12 +46,6 @@ module _ (head file : List ℕ) (opened : Option ℕ) (offset : ℕ) (walked : I
   stands_so_far : blocks_behind head file ≡ all_before walked.blocks (blocks_from number AtGate (drop offset file))
   stands_so_far = cond-true (starts_with nat_eq file head) _ _ walked.starts ∙ ap (blocks_from 2 AtGate) walked.behind
       ∙ some_blocks 2 walked.blocks (drop offset file) walked.whole
-
-  two_bytes : offset + 1 < length file → drop offset file ≡ get_or file offset 0 ∷ get_or file (offset + 1) 0 ∷ drop (offset + 2) file
-  two_bytes within =
-      drop_more file offset 0 (omega arith)
-      ∙ ap (λ (l : List ℕ). get_or file offset 0 ∷ l) (drop_more file (offset + 1) 0 within
-      ∙ ap (λ (n : ℕ). get_or file (offset + 1) 0 ∷ drop n file) (omega arith))
 
   -- what follows is a tail
   ended : IsTail (drop offset file) → AreGates head file (record { opened = opened; end = offset })
@@ -83,7 +62,7 @@ module _ (head file : List ℕ) (opened : Option ℕ) (offset : ℕ) (walked : I
   -- a gate that isn't open
   pub shut : offset + 1 < length file → (get_or file offset 0 ≡ open_gate → ⊥)
       → AreGates head file (record { opened = opened; end = offset })
-  shut within is_not = ended (subst IsTail (sym (two_bytes within)) is_not)
+  shut within is_not = ended (subst IsTail (sym (two_bytes file offset within)) is_not)
 
   -- a gate that is the last byte, or none
   pub at_the_end : length file ≤ offset + 1 → AreGates head file (record { opened = opened; end = offset })
@@ -94,19 +73,15 @@ module _ (head file : List ℕ) (opened : Option ℕ) (offset : ℕ) (walked : I
     no_line_feed is_not =
         let feed = get_or file (offset + 1) 0 in
         subst IsErr (sym (stands_so_far
-        ∙ ap (λ (l : List ℕ). all_before walked.blocks (blocks_from number AtGate l)) (two_bytes within
+        ∙ ap (λ (l : List ℕ). all_before walked.blocks (blocks_from number AtGate l)) (two_bytes file offset within
         ∙ ap (λ (g : ℕ). g ∷ feed ∷ drop (offset + 2) file) gate)
         ∙ ap (all_before walked.blocks) (cond-false (feed == line_feed) _ _ (ne_eqb feed line_feed is_not)))) refl
 
     module _ (feed : get_or file (offset + 1) 0 ≡ line_feed) where
-      gate_and_feed : drop offset file ≡ open_gate ∷ line_feed ∷ drop (offset + 2) file
-      gate_and_feed = two_bytes within ∙ ap (λ (g : ℕ). g ∷ get_or file (offset + 1) 0 ∷ drop (offset + 2) file) gate
-          ∙ ap (λ (b : ℕ). open_gate ∷ b ∷ drop (offset + 2) file) feed
-
       pub breaks_off : IsUnfinished (drop (offset + 2) file) → IsErr (blocks_behind head file)
       breaks_off unfinished =
           subst IsErr (sym (stands_so_far
-          ∙ ap (λ (l : List ℕ). all_before walked.blocks (blocks_from number AtGate l)) gate_and_feed
+          ∙ ap (λ (l : List ℕ). all_before walked.blocks (blocks_from number AtGate l)) (gate_and_feed file offset within gate feed)
           ∙ ap (all_before walked.blocks) (unfinished_block (number + 1) (drop (offset + 2) file) unfinished))) refl
 
       pub one_block_more : (len : ℕ) → len ≤ length (drop (offset + 2) file) → IsBlock (take len (drop (offset + 2) file))
@@ -133,7 +108,7 @@ module _ (head file : List ℕ) (opened : Option ℕ) (offset : ℕ) (walked : I
                 );
             behind =
                 walked.behind
-                ∙ ap (λ (l : List ℕ). flat_map counted walked.blocks ++ l) (gate_and_feed
+                ∙ ap (λ (l : List ℕ). flat_map counted walked.blocks ++ l) (gate_and_feed file offset within gate feed
                 ∙ ap (λ (l : List ℕ). open_gate ∷ line_feed ∷ l) (sym (take-append-drop len rest)))
                 ∙ sym (append_assoc (flat_map counted walked.blocks) (counted block) (drop len rest))
                 ∙ ap (λ (l : List ℕ). l ++ drop len rest) front_is

@@ -5,8 +5,8 @@ use Rattle.std.{specs.{Prelude.{IsErr, nat_eq}, List.{AllByRecursion, flat_map, 
 use Rattle.std.proofs.lemmas.{Bool.{cases_lt, cases_Bool, cond-false, Decides.{Decides-eqb}}, Slice.Eq.{starts_is}}
 use Rattle.title_journal.specs.Blocks.{AtGate, InRow, blocks_from, blocks_in, before_others, counted, head, lines, rows_in, ends_block}
 use Rattle.title_journal.specs.{Blocks.{line_feed, IsRow, IsBlock, IsUnfinished}, Rest.{IsTail, Stands}, Beginnings.{BeginsAs}}
-use Rattle.title_journal.{specs.Laws.Reading.{one_block, unfinished_block}, proofs.Standing.{tail_is_nothing}}
-use Rattle.title_journal.proofs.Repairing.{front_of_tail, take_past}
+use Rattle.title_journal.specs.Laws.{Reading.{one_block, unfinished_block}, Gates.{tail_is_nothing, front_of_tail}}
+use Rattle.title_journal.proofs.Repairing.{take_past}
 
 -- ---- a block that breaks off
 

@@ -3,9 +3,9 @@ use Rattle.std.proofs.Common.{◌≡◌, ℕ, ◌+◌, ◌≤◌, List, [], ◌�
 use Rattle.std.{proofs.Common.{append_assoc, length-append, take-append-drop}, specs.List.{AllByRecursion}}
 use Rattle.std.proofs.lemmas.List.{take_at, drop_at, drop_more, take-take, take_all}
 use Rattle.title_disk.specs.Crashes.{Holds, Torn, Follows}
-use Rattle.title_journal.specs.Blocks.{blocks_in, front, open_gate, closed_gate, line_feed, IsBlock}
+use Rattle.title_journal.specs.{Blocks.{blocks_in, front, open_gate, closed_gate, line_feed, IsBlock}, Laws.Gates.{closed_tail}}
 use Rattle.title_journal.specs.Rest.{at_rest, IsBeforeOrAfter, StandsAlike}
-use Rattle.title_journal.proofs.Standing.{stands, closed_tail, front_more, behind_any_gate}
+use Rattle.title_journal.proofs.Standing.{stands, front_more, behind_any_gate}
 
 -- a file begins with what stood
 abbrev pub Begins : List ℕ → List ℕ → Type 0

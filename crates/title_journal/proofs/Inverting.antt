@@ -4,14 +4,11 @@ use Rattle.std.{proofs.Common.{subst, append_assoc}, specs.{Prelude.{◌==◌, n
 use Rattle.std.proofs.lemmas.Bool.{cases_eq, cases_Bool, cond-true, cond-false, eq-eqb, ne_eqb, Decides.{Decides-eqb}}
 use Rattle.std.proofs.lemmas.Slice.Eq.{starts_is}
 use Rattle.title_journal.specs.Blocks.{State, AtGate, InRow, blocks_from, blocks_in, before_others, counted, head, ends_block, line_feed}
-use Rattle.title_journal.specs.{Blocks.{open_gate, IsRow, IsBlock}, Rest.{IsTail, Stands}}
-use Rattle.title_journal.proofs.Splitting.{SomeRows, no_rows, one_row_more, last_row_more}
+use Rattle.title_journal.specs.{Blocks.{open_gate, IsRow, IsBlock}, Rest.{IsTail, Stands}, Laws.Gates.{same_ok}}
+use Rattle.title_journal.specs.Laws.Rows.{SomeRows, no_rows, one_row_more, last_row_more}
 
 Stood : Type 0
 Stood = Result (List (List ℕ)) ℕ
-
-same_ok : (xs ys : List (List ℕ)) → (let r : Result (List (List ℕ)) ℕ = Ok xs in r ≡ Ok ys) → xs ≡ ys
-same_ok xs ys e = cc
 
 before_ok : (block : List ℕ) (r : Result (List (List ℕ)) ℕ) (blocks : List (List ℕ)) → before_others block r ≡ Ok blocks
     → (others : List (List ℕ)) × (r ≡ Ok others) × (blocks ≡ block ∷ others)

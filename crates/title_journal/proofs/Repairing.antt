@@ -4,15 +4,7 @@ use Rattle.std.{proofs.Common.{length-append, length-drop, take-append-drop}, sp
 use Rattle.std.proofs.lemmas.List.{append-nil, take_at, take_all, drop_all}
 use Rattle.title_disk.specs.Crashes.{Holds, Torn, Cut}
 use Rattle.title_journal.specs.{Blocks.{blocks_in, front, closed_gate, IsBlock}, Rest.{IsTail, at_rest, StandsAlike}}
-use Rattle.title_journal.proofs.Standing.{stands, short_tail}
-
--- a beginning of a tail is one
-pub front_of_tail : (n : ℕ) (tail : List ℕ) → IsTail tail → IsTail (take n tail)
-front_of_tail zero tail is = tt
-front_of_tail (suc n) [] is = tt
-front_of_tail (suc zero) (byte ∷ bytes) is = tt
-front_of_tail (suc (suc n)) (byte ∷ []) is = tt
-front_of_tail (suc (suc n)) (gate ∷ byte ∷ bytes) is = is
+use Rattle.title_journal.{proofs.Standing.{stands}, specs.Laws.Gates.{short_tail, front_of_tail}}
 
 pub take_past : (xs ys : List ℕ) (m n : ℕ) → m ≡ length xs + n → take m (xs ++ ys) ≡ xs ++ take n ys
 take_past [] ys m n is = let same : m ≡ n = omega arith in ap (λ (k : ℕ). take k ys) same

@@ -1,34 +1,15 @@
 -- What files of blocks stand for, whatever lies behind a gate that isn't open.
-use Rattle.std.proofs.Common.{◌≡◌, inl, inr, ℕ, ◌+◌, ◌≤◌, List, [], ◌∷◌, ◌++◌, length, Ok, refl, sym, ◌∙◌, ap, arith, append_assoc}
-use Rattle.std.{proofs.{Common.{length-append}, lemmas.List.{append-nil, flat_map_more}}, specs.{Prelude.{◌==◌}, List.{AllByRecursion}}}
-use Rattle.std.proofs.lemmas.Bool.{cases_eq, ne_eqb, cond-false}
-use Rattle.title_journal.specs.Blocks.{AtGate, blocks_from, blocks_in, front, counted, head, open_gate, closed_gate, line_feed, IsBlock}
+use Rattle.std.proofs.Common.{◌≡◌, inl, inr, ℕ, ◌+◌, List, [], ◌∷◌, ◌++◌, length, Ok, sym, ◌∙◌, ap, arith, append_assoc}
+use Rattle.std.{proofs.{Common.{length-append}, lemmas.List.{append-nil, flat_map_more}}, specs.List.{AllByRecursion}}
+use Rattle.std.proofs.lemmas.Bool.{cases_eq}
+use Rattle.title_journal.specs.Blocks.{blocks_in, front, counted, head, open_gate, closed_gate, line_feed, IsBlock}
 use Rattle.title_journal.specs.{Rest.{IsTail, IsBeforeOrAfter, with_block}, Laws.Reading.{all_before, front_and_rest}}
-
--- a tail stands for nothing
-pub tail_is_nothing : (number : ℕ) (tail : List ℕ) → IsTail tail → blocks_from number AtGate tail ≡ Ok []
-tail_is_nothing number [] is = refl
-tail_is_nothing number (byte ∷ []) is = refl
-tail_is_nothing number (gate ∷ byte ∷ bytes) is = cond-false (gate == open_gate) _ _ (ne_eqb gate open_gate is)
+use Rattle.title_journal.specs.Laws.Gates.{tail_is_nothing, all_and_one}
 
 pub stands : (blocks : List (List ℕ)) (tail : List ℕ) → AllByRecursion IsBlock blocks → IsTail tail
     → blocks_in (front blocks ++ tail) ≡ Ok blocks
 stands blocks tail whole ends =
     front_and_rest blocks tail whole ∙ ap (all_before blocks) (tail_is_nothing _ tail ends) ∙ ap Ok (append-nil blocks)
-
-pub closed_tail : (bytes : List ℕ) → IsTail (closed_gate ∷ bytes)
-closed_tail [] = tt
-closed_tail (byte ∷ bytes) = omega arith
-
-pub short_tail : (bytes : List ℕ) → length bytes ≤ 1 → IsTail bytes
-short_tail [] short = tt
-short_tail (byte ∷ []) short = tt
-short_tail (byte ∷ other ∷ bytes) short = absurd (omega arith)
-
-pub all_and_one : (blocks : List (List ℕ)) (block : List ℕ) → AllByRecursion IsBlock blocks → IsBlock block
-    → AllByRecursion IsBlock (blocks ++ block ∷ [])
-all_and_one [] block whole is = (is, tt)
-all_and_one (first ∷ blocks) block whole is = (whole.0, all_and_one blocks block whole.1 is)
 
 -- one block more that counts
 pub front_more : (blocks : List (List ℕ)) (block rest : List ℕ)

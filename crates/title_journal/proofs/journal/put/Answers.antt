@@ -2,8 +2,8 @@
 use Rattle.std.proofs.Common.{◌≡◌, ℕ, List, [], ◌∷◌, ◌++◌, inl, ◌∙◌, ap, subst, sym, arith}
 use Rattle.title_disk.specs.{Crashes.{Torn, Holds}, Laws.Moments.{joined, weakened}}
 use Rattle.title_journal.specs.{Blocks.{blocks_in, open_gate, closed_gate}, Rest.{StandsAlike, IsBeforeOrAfter, at_rest, with_block}}
-use Rattle.title_journal.proofs.{Standing.{stands, all_and_one, length-front_more}, Crash.{gated, staged_is, torn_gate, opened}}
-use Rattle.title_journal.proofs.Outcomes.{went_well, no_error}
+use Rattle.title_journal.proofs.{Standing.{stands, length-front_more}, Crash.{gated, staged_is, torn_gate, opened}}
+use Rattle.title_journal.{proofs.Outcomes.{went_well, no_error}, specs.Laws.Gates.{all_and_one}}
 use Rattle.title_journal.proofs.journal.put.Goals as goal
 
 pub returns-in_err-map_err-2-clause-any_moment : goal.returns-in_err-map_err-2-clause-any_moment

@@ -1,29 +1,8 @@
 -- A row more, which ends the block or doesn't.
-use Rattle.std.proofs.Common.{◌≡◌, ◌<◌, ◌+◌, ◌-◌, ℕ, List, length, take, drop, get_or, length-drop, Bool, true, false, ap, sym, ◌∙◌}
+use Rattle.std.proofs.Common.{ℕ, take, drop, length-drop, true, false, ap, sym, ◌∙◌}
 use Rattle.std.proofs.{Common.{subst, arith}, lemmas.List.{take_rest}}
-use Rattle.title_journal.specs.Blocks.{line_feed, IsRow, IsBlock, ends_block}
-use Rattle.title_journal.proofs.Splitting.{SomeRows, row_taken, one_row_more, last_row_more}
+use Rattle.title_journal.specs.{Blocks.{IsBlock}, Laws.Rows.{SomeRows, row_taken, one_row_more, last_row_more, row_at, same_length}}
 use Rattle.title_journal.proofs.split.block_len.Goals as goal
-
--- what the row's length and its test say of the bytes from an offset on
-record RowAt (bytes : List ℕ) (at len : ℕ) (test : Bool) : Type 0 where
-  within : len < length (drop at bytes)
-  row : IsRow (take len (drop at bytes))
-  feed : get_or (drop at bytes) len 0 ≡ line_feed
-  ends : ends_block (take len (drop at bytes)) ≡ test
-
-row_at : (bytes rest row : List ℕ) (at len : ℕ) (test : Bool) → rest ≡ drop at bytes → row ≡ take len (drop at bytes) → len < length rest
-    → IsRow (take len rest)
-    → get_or rest len 0 ≡ line_feed → test ≡ ends_block row → RowAt bytes at len test
-row_at bytes rest row at len test rest_is row_is within is feed ends = record {
-  within = subst (λ (l : List ℕ). len < length l) rest_is within;
-  row = subst (λ (l : List ℕ). IsRow (take len l)) rest_is is;
-  feed = subst (λ (l : List ℕ). get_or l len 0 ≡ line_feed) rest_is feed;
-  ends = ap ends_block (sym row_is) ∙ sym ends;
-}
-
-same_length : (at len : ℕ) → at + len - at ≡ len
-same_length at len = omega arith
 
 pub returns-then-ends-clause-block : goal.returns-then-ends-clause-block
 returns-then-ends-clause-block c =
