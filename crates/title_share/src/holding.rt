@@ -4,16 +4,20 @@ ghost use Rattle.std.specs.Prelude.{◌≡◌, ◌≢◌, ◌≤◌, ◌<◌, �
 ghost use Rattle.std.specs.Prelude.{ℕ, [], IsTrue, IfOk, OnOk, OnErr, true, not, cond, eqb, leb};
 ghost use Rattle.title_share.specs.Rows.{whole_units, is_division, units_in, with_front, moved_rows};
 
+use smallvec::SmallVec;
 use std::alloc::{AllocError, Global};
 use std::marker::Model;
 
 /// The units of the whole.
 pub const WHOLE: u64 = 4_294_967_296;
 
+// The rows of a holding: two stand in the value itself, since most have no more.
+type Rows = SmallVec<(u32, u64), 2>;
+
 /// The units of each party that has some, in order of party. Together they are the whole.
 #[derive(Debug, Drop)]
 pub struct Holding {
-    rows: Vec<(u32, u64)>,
+    rows: Rows,
 }
 
 impl Model for Holding {
@@ -64,7 +68,7 @@ fn left(row: (u32, u64), from: u32, to: u32, units: u64) -> u64
 }
 
 // Gives rows one more at their end, where it has units.
-fn push_some(rows: &mut Vec<(u32, u64)>, party: u32, units: u64) -> Result<(), AllocError>
+fn push_some(rows: &mut Rows, party: u32, units: u64) -> Result<(), AllocError>
     ensures rows { OnOk result (rows.new.items ≡ rows.old.items ++ with_front party units []) }
 {
     if units != 0 {
@@ -80,14 +84,14 @@ fn rows_after(
     from: u32,
     to: u32,
     units: u64,
-) -> Result<Vec<(u32, u64)>, AllocError>
+) -> Result<Rows, AllocError>
     requires divide { is_division rows.now ≡ true }
     requires held { units ≤ units_in from rows.now }
     requires some { 0 < units }
     requires apart { from ≢ to }
     ensures rows { IfOk result (λ v. v.items ≡ moved_rows from to units rows.now) }
 {
-    let mut after = Vec::with_capacity(alloc, rows.len() + 1)?;
+    let mut after = SmallVec::with_capacity(alloc, rows.len() + 1)?;
     let mut given = false;
     for row in rows {
         push_some(&mut after, to, gained(given, *row, to, units))?;
@@ -108,7 +112,7 @@ impl Holding {
         ensures whole { IfOk result (λ h. h ≡ all_to party) }
         ensures units { IfOk result (λ h. (q : ℕ) → units_of q h ≡ cond (eqb party q) whole_units 0) }
     {
-        let mut rows = Vec::with_capacity(alloc, 1)?;
+        let mut rows = SmallVec::new(alloc);
         rows.push_reserved((party, WHOLE));
         Ok(Holding { rows })
     }
@@ -134,7 +138,7 @@ impl Holding {
     pub fn copy(&self, alloc: Global) -> Result<Holding, AllocError>
         ensures copy { IfOk result (λ h. h ≡ self.now) }
     {
-        let rows = self.rows.to_vec(alloc)?;
+        let rows = SmallVec::from_slice(alloc, &self.rows)?;
         Ok(Holding { rows })
     }
 

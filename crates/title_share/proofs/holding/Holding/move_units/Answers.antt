@@ -16,17 +16,17 @@ returns-then-units-eq0-clause-moved c =
 pub rows_after-requires-clause-held : goal.rows_after-requires-clause-held
 rows_after-requires-clause-held c =
     let start = viewed_rows _ _ c.self.invariant c.self.view_is in
-    rw (c.deref.ensures.value, ← start) c.requires.held
+    rw (c.deref.ensures, ← start) c.requires.held
 
 pub invariant_of-self : goal.invariant_of-self
 invariant_of-self c =
     (moved_is c.args.from c.args.to c.args.units c.args.self.now c.deref.result.now _ c.requires.held
-    (viewed_rows _ _ c.self.invariant c.self.view_is ∙ sym c.deref.ensures.value) c.in_ok-self-inside.ensures.rows).1
+    (viewed_rows _ _ c.self.invariant c.self.view_is ∙ sym c.deref.ensures) c.in_ok-self-inside.ensures.rows).1
 
 pub returns-clause-moved : goal.returns-clause-moved
 returns-clause-moved c =
     (moved_is c.args.from c.args.to c.args.units c.args.self.now c.deref.result.now _ c.requires.held
-    (viewed_rows _ _ c.self.invariant c.self.view_is ∙ sym c.deref.ensures.value) c.in_ok-self-inside.ensures.rows).0
+    (viewed_rows _ _ c.self.invariant c.self.view_is ∙ sym c.deref.ensures) c.in_ok-self-inside.ensures.rows).0
 
 pub returns-clause-units : goal.returns-clause-units
 returns-clause-units c q = ap (units_of q) (returns-clause-moved c)

@@ -17,15 +17,15 @@ returns-then-units-eq0 c =
 pub rows_after-requires-clause-held : goal.rows_after-requires-clause-held
 rows_after-requires-clause-held c =
     let start = viewed_rows _ _ c.self.invariant c.self.view_is in
-    rw (c.deref.ensures.value, ← start) c.requires.held
+    rw (c.deref.ensures, ← start) c.requires.held
 
 pub invariant_of-result : goal.invariant_of-result
 invariant_of-result c =
     (moved_is c.args.from c.args.to c.args.units c.args.self.now c.deref.result.now _ c.requires.held
-    (viewed_rows _ _ c.self.invariant c.self.view_is ∙ sym c.deref.ensures.value) c.in_ok-rows.ensures.rows).1
+    (viewed_rows _ _ c.self.invariant c.self.view_is ∙ sym c.deref.ensures) c.in_ok-rows.ensures.rows).1
 
 pub returns : goal.returns
 returns c = record {
   moved = (moved_is c.args.from c.args.to c.args.units c.args.self.now c.deref.result.now _ c.requires.held
-      (viewed_rows _ _ c.self.invariant c.self.view_is ∙ sym c.deref.ensures.value) c.in_ok-rows.ensures.rows).0;
+      (viewed_rows _ _ c.self.invariant c.self.view_is ∙ sym c.deref.ensures) c.in_ok-rows.ensures.rows).0;
 }

@@ -4,7 +4,7 @@ use Rattle.title_share.specs.{Rows.{is_division}, Division.{rows_divide}, Laws.D
 use Rattle.title_share.proofs.holding.Holding.rows.Goals as goal
 
 pub returns-clause-rows : goal.returns-clause-rows
-returns-clause-rows c = c.as_slice.ensures.value ∙ sym (viewed_rows _ _ c.self.invariant c.self.view_is)
+returns-clause-rows c = c.as_slice.ensures ∙ sym (viewed_rows _ _ c.self.invariant c.self.view_is)
 
 pub returns-clause-divide : goal.returns-clause-divide
 returns-clause-divide c = subst (λ (rows : List (ℕ × ℕ)). is_division rows ≡ true) (sym (returns-clause-rows c))

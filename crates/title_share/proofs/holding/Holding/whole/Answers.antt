@@ -4,7 +4,7 @@ use Rattle.title_share.specs.{Laws.DivisionLaws.{division_is, rows-all_to, units
 use Rattle.title_share.proofs.holding.Holding.whole.Goals as goal
 
 pub returns-clause-whole : goal.returns-clause-whole
-returns-clause-whole c = division_is _ _ (c.push_reserved.ensures.items ∙ rw c.in_ok-rows.ensures.items (sym (rows-all_to c.args.party)))
+returns-clause-whole c = division_is _ _ (c.push_reserved.ensures.items ∙ rw c.new-rows.ensures.items (sym (rows-all_to c.args.party)))
 
 pub returns-clause-units : goal.returns-clause-units
 returns-clause-units c q = ap (units_of q) (returns-clause-whole c) ∙ units-all_to q c.args.party
