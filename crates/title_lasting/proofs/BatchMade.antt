@@ -8,6 +8,7 @@ use Rattle.title_trace.specs.{Trace.{committed, open_steps}, Due.{IsDue, most_to
 use Rattle.title_journal.specs.{Blocks.{IsBlock, blocks_in}, Rest.{with_block}}
 use Rattle.title_plan.specs.Townships.{each_once}
 use Rattle.title_standing.specs.{Standing.{kept, replayed}, StandingLaws.{KeptAreSerial, ReplayedAreCommitted}}
+use Rattle.title_standing.specs.Laws.ShortRecords.{committed_are_short}
 use Rattle.title_spelling.specs.Posts.{IsExaminer}
 use Rattle.title_daybook.specs.{Added.{IsOn, added_block, rows_of, text_of}, Files.{standing_after}, Standing.{Standing}}
 use Rattle.title_daybook.specs.{AddedLaws.{AddedReadsBack, CanBeWritten, IsKept, KeptAreWritten}, declared.writing.Stood.{Stood}}
@@ -16,7 +17,7 @@ use Rattle.title_lasting.specs.{Kept.{with_text}, Made.{Adds, IsAddedBlock}, Rep
 use Rattle.title_lasting.proofs.{CallsMore.{none_more}, FineBooks.{IsWritten, all_wider}, FineCounters.{GoesOnFrom, IsFineAt}}
 use Rattle.title_lasting.proofs.DayMade.{all_kept, drop_front, due_before, first_short, kept_again, no_longer, none_left, ok_blocks}
 use Rattle.title_lasting.proofs.{FineScripts.{FineAsk}, FineTraces.{FineNews, FineSteps, all_joined, fine_news}, GoingOn.{commits_more}}
-use Rattle.title_lasting.proofs.{Lasts.{adds_stand}, ShortRecords.{committed_are_short}}
+use Rattle.title_lasting.proofs.Lasts.{adds_stand}
 
 -- before the first row a counter has what can be written
 pub opens_fine : (s : Standing) → IsWritten s → IsFineAt s (opening_on s)

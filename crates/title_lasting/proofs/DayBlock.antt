@@ -7,14 +7,14 @@ use Rattle.title_chain.specs.declared.{ask.{Ask.{Ask}, Step.{Step}}, record.Reco
 use Rattle.title_chain.specs.declared.ask.Ask.TheVariants as ask
 use Rattle.title_journal.specs.{Blocks.{IsBlock, blocks_in}, Rest.{with_block}}
 use Rattle.title_plan.specs.{Asked.{Asked}, Onto.{BeginsWith}}
-use Rattle.title_standing.specs.Standing.{kept}
+use Rattle.title_standing.specs.{Standing.{kept}, Laws.ShortRecords.{committed_are_short}}
 use Rattle.title_spelling.specs.Posts.{IsExaminer}
 use Rattle.title_daybook.specs.{Added.{IsOn, added_block, rows_of, text_of}, Files.{standing_after}, Standing.{Standing}}
 use Rattle.title_daybook.specs.{AddedLaws.{AddedReadsBack, CanBeWritten, IsKept, KeptAreWritten}, declared.writing.Stood.{Stood}}
 use Rattle.title_lasting.specs.{Days.{declared_in}, Footings.{CanAsk, CanWrite, Continues, HasStood, IsNew, stands_on}, Replays.{AreShort}}
 use Rattle.title_lasting.{specs.Made.{Adds, IsAddedBlock}, proofs.{FineBooks.{IsWritten, all_wider}, FineScripts.{FineAsk, IsFine}}}
 use Rattle.title_lasting.proofs.DayMade.{all_kept, drop_front, empty, first_short, kept_again, no_longer, none_left, ok_blocks}
-use Rattle.title_lasting.proofs.{FineTraces.{FineRecord, FineSteps, all_joined, all_reversed}, ShortRecords.{committed_are_short}}
+use Rattle.title_lasting.proofs.FineTraces.{FineRecord, FineSteps, all_joined, all_reversed}
 
 -- ---- records that can be written
 

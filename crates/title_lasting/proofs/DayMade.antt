@@ -15,13 +15,14 @@ use Rattle.title_desk.specs.Images.{is_posted}
 use Rattle.title_journal.specs.{Blocks.{IsBlock}, Rest.{with_block}}
 use Rattle.title_plan.specs.{Asked.{Asked}, Townships.{each_once}}
 use Rattle.title_standing.specs.{Records.{posted_step}, Standing.{kept}, StandingLaws.{ReplayedAreCommitted}}
+use Rattle.title_standing.specs.Laws.ShortRecords.{committed_are_short}
 use Rattle.title_spelling.specs.Posts.{IsExaminer, IsPost}
 use Rattle.title_daybook.specs.{Added.{added_block, at_most_one, posted, posts_of, rows_of, text_of, IsOn}, Files.{standing_after}}
 use Rattle.title_daybook.specs.{AddedLaws.{AddedReadsBack, CanBeWritten, IsKept, KeptAreWritten}, Standing.{Standing}}
 use Rattle.title_daybook.specs.declared.writing.Stood.{Stood}
 use Rattle.title_lasting.specs.{Days.{Day, evening, morning, setting_on, stands_after}, Made.{Adds, IsAddedBlock}, Replays.{AreShort}}
 use Rattle.title_lasting.proofs.{CallsMore.{CallsMore, lines_more}, FineBooks.{all_wider, IsWritten}, FineScripts.{FineAsk, IsFine}}
-use Rattle.title_lasting.proofs.{FineTraces.{FineNews, FineRecord, FineSteps, all_joined, fine_news}, ShortRecords.{committed_are_short}}
+use Rattle.title_lasting.proofs.FineTraces.{FineNews, FineRecord, FineSteps, all_joined, fine_news}
 
 -- ---- what is kept of records can be written
 

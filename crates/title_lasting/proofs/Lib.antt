@@ -5,7 +5,6 @@ mod FineRows
 mod CallsMore
 mod FineScripts
 mod FineBooks
-mod ShortRecords
 mod CellsSaid
 mod DayMade
 mod DayServed

@@ -11,8 +11,9 @@ use Rattle.title_trace.specs.{Due.{Setting, most_steps, InTheWay, DueStep, IsDue
 use Rattle.title_trace.specs.declared.call.Reply.TheVariants as reply
 use Rattle.title_trace.specs.declared.denial.Denial.TheVariants as denial
 use Rattle.title_standing.specs.{Standing.{asked_by, kept, replayed}, StandingLaws.{CommittedAreServed, SerialAreServed, widest}}
-use Rattle.title_standing.{specs.Replays.{begun}, proofs.{KeptRecords.{serial_kept}, ShortRecords.{committed_are_short, kept_are_short}}}
+use Rattle.title_standing.{specs.{Replays.{begun}, Laws.ShortRecords.{committed_are_short}}, proofs.KeptRecords.{serial_kept}}
 use Rattle.title_standing.proofs.Recalled.{done_before, open_still, own_steps, replayed_are_committed}
+use Rattle.title_standing.specs.Laws.ShortRecords.{kept_are_short}
 
 -- nobody has a step
 abbrev HaveNone : List Call → Type 0

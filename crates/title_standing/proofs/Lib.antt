@@ -1,5 +1,4 @@
 mod KeptRecords
 mod Recalled
 mod Again
-mod ShortRecords
 mod AnotherDay
