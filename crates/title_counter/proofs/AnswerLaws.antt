@@ -1,22 +1,9 @@
 -- Answers to lines one after another, through a page.
 use Rattle.std.proofs.Common.{◌≡◌, ◌<◌, ◌+◌, ◌∙◌, ◌++◌, ◌∷◌, [], refl, ap, sym, subst, ℕ, List, Option, append_assoc}
-use Rattle.std.proofs.{Common.{drop, get_or, length, take}, lemmas.List.{append-nil, take-append-drop, take_more}}
+use Rattle.std.proofs.{Common.{drop, get_or, length, take}, lemmas.List.{append-nil, take-append-drop}}
 use Rattle.title_page.specs.{Pages.{Stopped, Written}, Rows.{rows_text}, Laws.InTurn.{stopped_then, written_none, written_then}}
 use Rattle.title_counter.specs.{Counters.{Answered, Counter}, Lines.{lines_from}, Sessions.{Answers, GotAnswers, LostAnswers, MayAnswer}}
-use Rattle.title_counter.proofs.LineLaws.{rest_more, whole_more}
-
--- answers to lines, and to those that follow
-pub answers_then : (c m a : Counter) (xs ys : List (List ℕ)) (t u : List ℕ) → Answers c xs t m → Answers m ys u a
-    → Answers c (xs ++ ys) (t ++ u) a
-answers_then c m a [] ys t u h k =
-    subst (λ (s : List ℕ). Answers c ys (s ++ u) a) (sym h.0) (subst (λ (x : Counter). Answers x ys u a) h.1 k)
-answers_then c m a (x ∷ xs) ys t u h k = (
-  h.0,
-  h.1 ++ u,
-  h.2,
-  answers_then h.0.after m a xs ys h.1 u h.3 k,
-  ap (λ (s : List ℕ). s ++ u) h.4 ∙ append_assoc (rows_text h.0.rows) h.1 u,
-)
+use Rattle.title_counter.specs.Laws.{AnswersInTurn.{answers_then}, LineLaws.{whole_more, whole_to}}
 
 -- the answer to one line
 one_answer : (c : Counter) (line : List ℕ) (answer : Answered) → MayAnswer c line answer
@@ -84,33 +71,16 @@ lost_before c a xs ys h = record {
 
 -- ---- byte by byte
 
-module _ (line bytes : List ℕ) (i : ℕ) (lt : i < length bytes) where
-  one_more : take (i + 1) bytes ≡ take i bytes ++ get_or bytes i 0 ∷ []
-  one_more = take_more bytes i 0 lt
-
-  -- the lines up to one more byte
-  whole_to : (here : List ℕ) → here ≡ (lines_from line (take i bytes)).rest → (lines_from line (take (i + 1) bytes)).whole
-      ≡ (lines_from line (take i bytes)).whole ++ (lines_from here (get_or bytes i 0 ∷ [])).whole
-  whole_to here at =
-      ap (λ (bs : List ℕ). (lines_from line bs).whole) one_more ∙ whole_more line (take i bytes) (get_or bytes i 0 ∷ [])
-      ∙ ap (λ (l : List ℕ). (lines_from line (take i bytes)).whole ++ (lines_from l (get_or bytes i 0 ∷ [])).whole) (sym at)
-
-  pub rest_to : (here next : List ℕ) → here ≡ (lines_from line (take i bytes)).rest
-      → next ≡ (lines_from here (get_or bytes i 0 ∷ [])).rest → next ≡ (lines_from line (take (i + 1) bytes)).rest
-  rest_to here next at e =
-      e ∙ ap (λ (l : List ℕ). (lines_from l (get_or bytes i 0 ∷ [])).rest) at
-      ∙ sym (rest_more line (take i bytes) (get_or bytes i 0 ∷ []))
-      ∙ ap (λ (bs : List ℕ). (lines_from line bs).rest) (sym one_more)
-
-  -- all lines, and those up to one more byte
-  whole_of : (here : List ℕ) → here ≡ (lines_from line (take i bytes)).rest → (lines_from line bytes).whole
-      ≡ ((lines_from line (take i bytes)).whole ++ (lines_from here (get_or bytes i 0 ∷ [])).whole)
-      ++ (lines_from (lines_from line (take (i + 1) bytes)).rest (drop (i + 1) bytes)).whole
-  whole_of here at =
-      ap (λ (bs : List ℕ). (lines_from line bs).whole) (sym (take-append-drop (i + 1) bytes))
-      ∙ whole_more line (take (i + 1) bytes) (drop (i + 1) bytes)
-      ∙ ap (λ (ls : List (List ℕ)). ls ++ (lines_from (lines_from line (take (i + 1) bytes)).rest (drop (i + 1) bytes)).whole)
-      (whole_to here at)
+-- all lines, and those up to one more byte
+whole_of : (line bytes : List ℕ) (i : ℕ) → i < length bytes → (here : List ℕ) → here ≡ (lines_from line (take i bytes)).rest
+    → (lines_from line bytes).whole
+    ≡ ((lines_from line (take i bytes)).whole ++ (lines_from here (get_or bytes i 0 ∷ [])).whole)
+    ++ (lines_from (lines_from line (take (i + 1) bytes)).rest (drop (i + 1) bytes)).whole
+whole_of line bytes i lt here at =
+    ap (λ (bs : List ℕ). (lines_from line bs).whole) (sym (take-append-drop (i + 1) bytes))
+    ∙ whole_more line (take (i + 1) bytes) (drop (i + 1) bytes)
+    ∙ ap (λ (ls : List (List ℕ)). ls ++ (lines_from (lines_from line (take (i + 1) bytes)).rest (drop (i + 1) bytes)).whole)
+    (whole_to line bytes i lt here at)
 
 module _ {taken middle taken_after : Option (List ℕ)} {page between : List ℕ} (before m a : Counter) (line bytes here : List ℕ) (i : ℕ)
     (lt : i < length bytes) (at : here ≡ (lines_from line (take i bytes)).rest)

@@ -3,7 +3,6 @@ mod AnswerLaws
 mod AskedOnce
 mod Batches
 mod FieldLaws
-mod LineLaws
 mod OnResults
 mod RecordsOf
 mod RowLaws

@@ -1,5 +1,5 @@
 -- What a clerk's calls come to.
-use Rattle.std.proofs.Common.{◌≡◌, ◌+◌, ◌⊎◌, ◌++◌, ◌∷◌, ◌||◌, ◌∙◌, [], refl, ap, sym, subst, inl, inr, ℕ, List, true, false, arith, length}
+use Rattle.std.proofs.Common.{◌≡◌, ◌⊎◌, ◌++◌, ◌∷◌, ◌||◌, ◌∙◌, [], refl, ap, sym, subst, inl, inr, ℕ, List, true, false, arith, length}
 use Rattle.std.{proofs.Common.{IfErr, IfOk, Result, Ok, Err, nat_le, not}, specs.{Prelude.{codes}, Fmt.{decimal}, List.{list_any}}}
 use Rattle.std.proofs.lemmas.{Bool.{not-false, not-true}, List.{length-append}}
 use Rattle.title_land.specs.{declared.survey.Township.{Township}, Survey.{same_township}}
@@ -10,7 +10,6 @@ use Rattle.title_desk.specs.{Headline.{Headline}, Singles.{IsIdle}}
 use Rattle.title_plan.specs.{Plans.{after_act, with_line, with_township}, Townships.{each_once}, declared.fault.ScriptFault.{ScriptFault}}
 use Rattle.title_plan.specs.{declared.{line.Line.{Line}, row.Act.{Act}}, Laws.Declarations.{once_said, township_few, township_once}}
 use Rattle.title_plan.specs.declared.fault.ScriptFault.TheVariants as fault
-use Rattle.title_plan.specs.declared.line.Line.TheVariants as line
 use Rattle.title_plan.specs.declared.line.Schedule.TheVariants as schedule
 use Rattle.title_plan.specs.declared.row.Row.TheVariants as row
 use Rattle.title_counter.specs.Counters.{Answered, Counter, aborted, asked_at, counted, due_answer, due_found, due_said, fault_number}

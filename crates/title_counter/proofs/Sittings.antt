@@ -1,45 +1,15 @@
 -- A session from pull to pull.
 use Rattle.std.proofs.Common.{◌≡◌, ◌<◌, ◌+◌, ◌++◌, ◌∙◌, [], refl, sym, ap, subst, inl, inr, ℕ, List, Option, Some, None}
-use Rattle.std.proofs.{Common.{IfSome, append_assoc, arith, length, length-append, take, drop}, lemmas.List.{append-nil, take-append-drop}}
-use Rattle.std.{specs.Io.KnownBytes.{Appends, Consumes, IsAtEnd, Keeps}, proofs.Math.Seq.{take-append_seam}}
+use Rattle.std.proofs.{Common.{IfSome, append_assoc, length, length-append}, lemmas.List.{append-nil}}
+use Rattle.std.specs.Io.KnownBytes.{Consumes, IsAtEnd, Keeps}
 use Rattle.csv.proofs.WriteFacts.{appends-more, appends-none}
 use Rattle.title_page.specs.Rows.{row}
 use Rattle.title_report.specs.Replies.{end_row}
 use Rattle.title_counter.specs.{Counters.{Counter, opening}, Limits.{most_given}, Lines.{all_lines, last_line, lines_from, lines_in}}
 use Rattle.title_counter.specs.Sessions.{Answers, AtOnce, BrokenOff, Ended, IsAnswered, IsBegun, IsBetween, IsSound, LostBatch}
-use Rattle.title_counter.{specs.Sessions.{PassedBatch, Session}, proofs.{AnswerLaws.{answers_then}, LineLaws.{rest_more, whole_more}}}
-
--- ---- bytes that are given
-
-consumes_none : (known : Option (List ℕ)) → Consumes known known []
-consumes_none None = tt
-consumes_none (Some known) = refl
-
-consumes_more : (before middle after : Option (List ℕ)) (xs ys : List ℕ) → Consumes before middle xs → Consumes middle after ys
-    → Consumes before after (xs ++ ys)
-consumes_more None middle after xs ys p q = tt
-consumes_more (Some known) None after xs ys p q = absurd p
-consumes_more (Some known) (Some rest) None xs ys p q = absurd q
-consumes_more (Some known) (Some rest) (Some end) xs ys p q = p ∙ ap (λ (more : List ℕ). xs ++ more) q ∙ sym (append_assoc xs ys end)
-
-consumes_kept : (before middle after : Option (List ℕ)) (xs : List ℕ) → Consumes before middle xs → Keeps middle after
-    → Consumes before after xs
-consumes_kept None middle after xs p q = tt
-consumes_kept (Some known) None after xs p q = absurd p
-consumes_kept (Some known) (Some rest) None xs p q = absurd q
-consumes_kept (Some known) (Some rest) (Some end) xs p q = p ∙ ap (λ (more : List ℕ). xs ++ more) (sym q)
-
--- a beginning of a text behind another that was written whole
-part_then : (a b d : Option (List ℕ)) (t u : List ℕ) (n : ℕ) → Appends a b t → Appends b d (take n u)
-    → (k : ℕ) × Appends a d (take k (t ++ u))
-part_then a b d t u n h k =
-    let all : t ++ u ≡ (t ++ take n u) ++ drop n u =
-    ap (λ (x : List ℕ). t ++ x) (sym (take-append-drop n u)) ∙ sym (append_assoc t (take n u) (drop n u)) in (
-      length (t ++ take n u),
-      subst (λ (x : List ℕ). Appends a d x)
-          (sym (ap (λ (x : List ℕ). take (length (t ++ take n u)) x) all ∙ take-append_seam (t ++ take n u) (drop n u)))
-          (appends-more a b d t (take n u) h k),
-    )
+use Rattle.title_counter.specs.Sessions.{PassedBatch, Session}
+use Rattle.title_counter.specs.Laws.{AnswersInTurn.{answers_then}, LineLaws.{all_then, lines_then, rest_then}}
+use Rattle.title_counter.specs.Laws.GivenBytes.{consumes_kept, consumes_last, consumes_more, consumes_none, more_given, part_then}
 
 -- ---- between two pulls
 
@@ -56,15 +26,6 @@ at_start left taken c line count first empty none = record {
 }
 
 module _ {l m a b : Option (List ℕ)} {c : Counter} {line : List ℕ} {count : ℕ} (h : IsBetween l m a b c line count) where
-  -- the lines of what was given, and of some bytes more
-  lines_then : (bytes : List ℕ) → (lines_in (h.given ++ bytes)).whole ≡ (lines_in h.given).whole ++ (lines_from line bytes).whole
-  lines_then bytes =
-      whole_more [] h.given bytes
-      ∙ ap (λ (x : List ℕ). (lines_in h.given).whole ++ (lines_from x bytes).whole) (sym h.rest)
-
-  rest_then : (bytes : List ℕ) → (lines_in (h.given ++ bytes)).rest ≡ (lines_from line bytes).rest
-  rest_then bytes = rest_more [] h.given bytes ∙ ap (λ (x : List ℕ). (lines_from x bytes).rest) (sym h.rest)
-
   -- a pull, and the answers to its bytes
   pub pulled : {m2 d : Option (List ℕ)} (bytes next : List ℕ) (after : Counter) (n : ℕ) → Consumes m m2 bytes
       → PassedBatch c (lines_from line bytes).whole after b d → next ≡ (lines_from line bytes).rest → n ≡ count + length bytes
@@ -73,10 +34,10 @@ module _ {l m a b : Option (List ℕ)} {c : Counter} {line : List ℕ} {count : 
     given = h.given ++ bytes;
     consumed = consumes_more l m m2 h.given bytes h.consumed consumed;
     text = h.text ++ passed.text;
-    answers = subst (λ (ls : List (List ℕ)). Answers opening ls (h.text ++ passed.text) after) (sym (lines_then bytes))
+    answers = subst (λ (ls : List (List ℕ)). Answers opening ls (h.text ++ passed.text) after) (sym (lines_then h.given line bytes h.rest))
         (answers_then opening c after (lines_in h.given).whole (lines_from line bytes).whole h.text passed.text h.answers passed.answers);
     written = appends-more a b d h.text passed.text h.written passed.written;
-    rest = rest ∙ sym (rest_then bytes);
+    rest = rest ∙ sym (rest_then h.given line bytes h.rest);
     counts = counts ∙ ap (λ (k : ℕ). k + length bytes) h.counts ∙ sym (length-append h.given bytes);
   }
 
@@ -118,7 +79,7 @@ module _ {l m a b : Option (List ℕ)} {c : Counter} {line : List ℕ} {count : 
           lines = (lines_in h.given).whole ++ broken.first;
           more = broken.more ++ last_line (lines_in (h.given ++ bytes)).rest;
           first = ap (λ (ls : List (List ℕ)). ls ++ last_line (lines_in (h.given ++ bytes)).rest)
-              (lines_then bytes ∙ ap (λ (ls : List (List ℕ)). (lines_in h.given).whole ++ ls) broken.lines_are
+              (lines_then h.given line bytes h.rest ∙ ap (λ (ls : List (List ℕ)). (lines_in h.given).whole ++ ls) broken.lines_are
               ∙ sym (append_assoc (lines_in h.given).whole broken.first broken.more))
               ∙ append_assoc ((lines_in h.given).whole ++ broken.first) broken.more (last_line (lines_in (h.given ++ bytes)).rest);
           answers = answers_then opening c after (lines_in h.given).whole broken.first h.text broken.text h.answers broken.answers;
@@ -128,15 +89,11 @@ module _ {l m a b : Option (List ℕ)} {c : Counter} {line : List ℕ} {count : 
         sound = sound;
       }
 
-  -- all lines of what was given
-  all_then : all_lines h.given ≡ (lines_in h.given).whole ++ last_line line
-  all_then = ap (λ (x : List ℕ). (lines_in h.given).whole ++ last_line x) (sym h.rest)
-
   all_answered : (after : Counter) (first : List (List ℕ)) (text : List ℕ) → last_line line ≡ first → Answers c first text after
       → Answers opening (all_lines h.given) (h.text ++ text) after
   all_answered after first text is answers =
       subst (λ (ls : List (List ℕ)). Answers opening ls (h.text ++ text) after)
-      (sym (all_then ∙ ap (λ (ls : List (List ℕ)). (lines_in h.given).whole ++ ls) is))
+      (sym (all_then h.given line h.rest ∙ ap (λ (ls : List (List ℕ)). (lines_in h.given).whole ++ ls) is))
       (answers_then opening c after (lines_in h.given).whole first h.text text h.answers answers)
 
   -- the session of what was given
@@ -154,14 +111,14 @@ module _ {l m a b : Option (List ℕ)} {c : Counter} {line : List ℕ} {count : 
       let part = part_then a b d h.text off.all off.count h.written off.written in
       record {
         given = h.given;
-        consumed = subst (λ (x : List ℕ). Consumes l m2 x) (append-nil h.given) (consumes_more l m m2 h.given [] h.consumed consumed);
+        consumed = consumes_last l m m2 h.given h.consumed consumed;
         text = h.text ++ off.all;
         after = off.after;
         answers = elim off.all_is [
           | inl same ↦ inl (record {
             lines = (lines_in h.given).whole ++ off.first;
             more = off.more;
-            first = all_then ∙ ap (λ (ls : List (List ℕ)). (lines_in h.given).whole ++ ls) off.lines_are
+            first = all_then h.given line h.rest ∙ ap (λ (ls : List (List ℕ)). (lines_in h.given).whole ++ ls) off.lines_are
                 ∙ sym (append_assoc (lines_in h.given).whole off.first off.more);
             answers = answers_then opening c off.after (lines_in h.given).whole off.first h.text off.all h.answers
                 (subst (λ (x : List ℕ). Answers c off.first x off.after) (sym same) off.answers);
@@ -195,11 +152,6 @@ all_given (Some known) (Some rest) None given p q end = absurd q
 all_given (Some known) (Some rest) (Some last) given p q end =
     p ∙ ap (λ (x : List ℕ). given ++ x) (q ∙ end) ∙ append-nil given
 
-more_given : (l m : Option (List ℕ)) (given : List ℕ) (n : ℕ) → Consumes l m given → n < length given → IfSome l (λ bytes. n < length bytes)
-more_given None m given n p h = tt
-more_given (Some known) None given n p h = absurd p
-more_given (Some known) (Some rest) given n p h = rw p (rw length-append (omega arith))
-
 if_some : {P Q : List ℕ → Type 0} (l : Option (List ℕ)) → IfSome l P → ((bytes : List ℕ) → P bytes → Q bytes) → IfSome l Q
 if_some None p f = tt
 if_some (Some bytes) p f = f bytes p
@@ -215,7 +167,3 @@ ended_all {l} {m} {a} {b} {d} m2 h consumed end ended =
 pub beyond : {l m a b : Option (List ℕ)} {c : Counter} {line : List ℕ} {count : ℕ} → IsBetween l m a b c line count → most_given < count
     → IfSome l (λ bytes. most_given < length bytes)
 beyond {l} {m} h more = more_given l m h.given most_given h.consumed (rw (← h.counts) more)
-
-pub keeps_same : (known : Option (List ℕ)) → Keeps known known
-keeps_same None = tt
-keeps_same (Some known) = refl

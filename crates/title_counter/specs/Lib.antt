@@ -6,3 +6,4 @@ pub mod Closings
 pub mod Counters
 pub mod Sessions
 pub mod Views
+pub mod Laws

@@ -1,8 +1,8 @@
 -- How a batch ends: its answers can't be held, what it adds isn't kept, or its answers are written, or aren't.
 use Rattle.std.{proofs.Common.{◌≡◌, ℕ, Bool, true, false, List, Option, Ok, Err}, specs.Io.KnownBytes.{Appends}}
-use Rattle.title_counter.specs.{Counters.{Counter}, Sessions.{Answers}}
+use Rattle.title_counter.specs.{Counters.{Counter}, Sessions.{Answers}, Laws.GivenBytes.{keeps_itself}}
 use Rattle.title_lasting.specs.{Lastings.{Begins}, Sittings.{ComesTo, HasAtEither, HasCome, IsBatch, IsKeptTo, IsUpTo}}
-use Rattle.title_lasting.{specs.declared.{fault.LastingFault.{LastingFault}, mark.Mark.{Mark}}, proofs.Endings.{keeps_itself}}
+use Rattle.title_lasting.specs.declared.{fault.LastingFault.{LastingFault}, mark.Mark.{Mark}}
 use Rattle.title_lasting.specs.declared.fault.LastingFault.TheVariants as fault
 
 -- further rows came

@@ -6,8 +6,9 @@ use Rattle.title_plan.specs.declared.line.Schedule.{Schedule}
 use Rattle.title_daybook.specs.{Files.{IsPlant, standing_after, standing_in}, Standing.{Standing}}
 use Rattle.title_lasting.specs.{Lastings.{IsCause, IsExpected, Lasting, Stays}, Opened.{IsUnopened, LeavesUnopened}}
 use Rattle.title_lasting.specs.{Openings.{IsNoPlant, IsResting, StandsAs}, declared.fault.LastingFault.{LastingFault}}
-use Rattle.title_lasting.proofs.{Endings.{keeps_itself}, Lasts.{cause_there, counts_there, leaves_there}, Plants.{plants_are_not_refused}}
+use Rattle.title_lasting.proofs.{Lasts.{cause_there, counts_there, leaves_there}, Plants.{plants_are_not_refused}}
 use Rattle.title_lasting.specs.declared.fault.LastingFault.TheVariants as fault
+use Rattle.title_counter.specs.Laws.GivenBytes.{keeps_itself}
 
 -- where the same blocks stand, the same stands
 pub alike_stands : (old c : List ℕ) → StandsAlike old c → StandsAs old c

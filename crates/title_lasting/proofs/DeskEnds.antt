@@ -9,11 +9,11 @@ use Rattle.title_journal.specs.Rest.{StandsAlike}
 use Rattle.title_standing.specs.{Standing.{replayed}, StandingLaws.{ReplayedAreCommitted}}
 use Rattle.title_spelling.specs.Lands.{kept_land_in}
 use Rattle.title_daybook.specs.{Files.{IsPlant, standing_after, standing_in}, Standing.{Standing}}
-use Rattle.title_counter.specs.{Counters.{Counter}, Sessions.{Answers}}
+use Rattle.title_counter.specs.{Counters.{Counter}, Sessions.{Answers}, Laws.GivenBytes.{keeps_itself}}
 use Rattle.title_lasting.specs.Desks.{IsAnsweredOnto, IsAtOnceOnto, IsBegunOnto, IsDeskCause, IsServedOn, IsUnsureOnto, IsUntold}
 use Rattle.title_lasting.specs.{Desks.{LastingDesk, LeavesDesk}, Lastings.{Stays}, Opened.{IsUnopened, LeavesUnopened}}
 use Rattle.title_lasting.{specs.{Openings.{IsNoPlant, StandsAs}, Sittings.{HasAt, HasPart, opening_on}}, proofs.BatchMade.{opening_stands}}
-use Rattle.title_lasting.{specs.declared.fault.LastingFault.{LastingFault}, proofs.{DayEnds.{alike_stands}, Endings.{keeps_itself}}}
+use Rattle.title_lasting.{specs.declared.fault.LastingFault.{LastingFault}, proofs.DayEnds.{alike_stands}}
 use Rattle.title_lasting.proofs.{FineBooks.{stands_written}, FineRows.{LandsHaveCells}, Plants.{plants_are_not_refused}}
 use Rattle.title_lasting.specs.declared.fault.LastingFault.TheVariants as fault
 

@@ -1,18 +1,19 @@
 -- A desk on a plant's file from pull to pull.
-use Rattle.std.proofs.Common.{◌≡◌, ◌==◌, ◌⊎◌, ◌<◌, ◌+◌, ◌++◌, ◌∙◌, [], ◌∷◌, refl, sym, ap, subst, inl, inr, ⊎_elim, length-append}
-use Rattle.std.proofs.Common.{ℕ, Bool, false, List, Option, Some, None, IfSome, Err, append_assoc, arith, length}
-use Rattle.std.{specs.Io.KnownBytes.{Appends, Consumes, Keeps}, proofs.lemmas.{Bool.{cases_Bool}, List.{append-nil}}}
+use Rattle.std.proofs.Common.{◌≡◌, ◌⊎◌, ◌<◌, ◌+◌, ◌++◌, ◌∙◌, [], refl, sym, ap, subst, inl, inr, ⊎_elim, length-append}
+use Rattle.std.proofs.Common.{ℕ, Bool, false, List, Option, Some, None, IfSome, Err, append_assoc, length}
+use Rattle.std.{specs.Io.KnownBytes.{Appends, Consumes, Keeps}, proofs.lemmas.List.{append-nil}}
 use Rattle.csv.proofs.WriteFacts.{appends-more, appends-none}
 use Rattle.title_chain.specs.declared.record.Record.{Record}
 use Rattle.title_trace.specs.Trace.{committed}
 use Rattle.title_disk.specs.{Crashes.{LeavesOnly}, Laws.Moments.{joined, weakened}}
-use Rattle.title_page.specs.Rows.{rows_text}
 use Rattle.title_plan.specs.Lands.{land_in}
 use Rattle.title_standing.specs.StandingLaws.{ReplayedAreCommitted}
 use Rattle.title_spelling.specs.Lands.{kept_land_in}
 use Rattle.title_daybook.specs.{Files.{IsPlant}, Standing.{Standing}}
-use Rattle.title_counter.specs.{Counters.{Counter}, Limits.{most_given}, Sessions.{Answers, Ends, IsSound}}
-use Rattle.title_counter.specs.Lines.{Lines, all_lines, and_lines, last_line, line_feed, lines_from, lines_in, with_byte}
+use Rattle.title_counter.specs.{Counters.{Counter}, Limits.{most_given}, Sessions.{Answers, Ends, IsSound}, Laws.LineLaws.{lines_then}}
+use Rattle.title_counter.specs.{Lines.{all_lines, last_line, lines_from, lines_in}, Laws.AnswersInTurn.{answers_then}}
+use Rattle.title_counter.specs.Laws.{LineLaws.{rest_then, all_then}, GivenBytes.{consumes_kept, consumes_last, consumes_more, more_given}}
+use Rattle.title_counter.specs.Laws.GivenBytes.{consumes_none}
 use Rattle.title_lasting.specs.Desks.{IsAnsweredOnto, IsAtOnceOnto, IsBegunOnto, IsDeskCause, IsServedOn, IsUntold, LeavesDesk}
 use Rattle.title_lasting.specs.{Lastings.{Begins}, declared.{fault.LastingFault.{LastingFault}, mark.Mark.{Mark}}}
 use Rattle.title_lasting.specs.Sittings.{HasAt, HasAtEither, HasCome, HasPart, IsBatch, IsEnded, IsUpTo, end_text, opening_on}
@@ -20,76 +21,13 @@ use Rattle.title_lasting.proofs.{BatchMade.{opens_fine}, FineBooks.{stands_writt
 use Rattle.title_lasting.proofs.{GoingOn.{commits_more}, RowsEnded.{begins_then}}
 use Rattle.title_lasting.specs.declared.fault.LastingFault.TheVariants as fault
 
--- ---- answers and lines that follow one another
-
--- answers to lines, and to those that follow
-pub answers_then : (c m a : Counter) (xs ys : List (List ℕ)) (t u : List ℕ) → Answers c xs t m → Answers m ys u a
-    → Answers c (xs ++ ys) (t ++ u) a
-answers_then c m a [] ys t u h k =
-    subst (λ (s : List ℕ). Answers c ys (s ++ u) a) (sym h.0) (subst (λ (x : Counter). Answers x ys u a) h.1 k)
-answers_then c m a (x ∷ xs) ys t u h k = (
-  h.0,
-  h.1 ++ u,
-  h.2,
-  answers_then h.0.after m a xs ys h.1 u h.3 k,
-  ap (λ (s : List ℕ). s ++ u) h.4 ∙ append_assoc (rows_text h.0.rows) h.1 u,
-)
-
--- lines of bytes, and of those that come behind them
-abbrev pub joined_lines : Lines → List ℕ → Lines
-joined_lines l bytes = record { whole = l.whole ++ (lines_from l.rest bytes).whole; rest = (lines_from l.rest bytes).rest }
-
-pub lines_more : (line xs ys : List ℕ) → lines_from line (xs ++ ys) ≡ joined_lines (lines_from line xs) ys
-lines_more line [] ys = refl
-lines_more line (x ∷ xs) ys = elim (cases_Bool (x == line_feed)) [
-  | inl feed ↦ rw feed (ap (and_lines line) (lines_more [] xs ys))
-  | inr other ↦ rw other (lines_more (with_byte line x) xs ys)
-]
-
-pub whole_more : (line xs ys : List ℕ)
-    → (lines_from line (xs ++ ys)).whole ≡ (lines_from line xs).whole ++ (lines_from (lines_from line xs).rest ys).whole
-whole_more line xs ys = ap (λ (l : Lines). l.whole) (lines_more line xs ys)
-
-pub rest_more : (line xs ys : List ℕ) → (lines_from line (xs ++ ys)).rest ≡ (lines_from (lines_from line xs).rest ys).rest
-rest_more line xs ys = ap (λ (l : Lines). l.rest) (lines_more line xs ys)
-
--- ---- bytes that are given
-
-pub consumes_none : (known : Option (List ℕ)) → Consumes known known []
-consumes_none None = tt
-consumes_none (Some known) = refl
-
-pub consumes_more : (before middle after : Option (List ℕ)) (xs ys : List ℕ) → Consumes before middle xs → Consumes middle after ys
-    → Consumes before after (xs ++ ys)
-consumes_more None middle after xs ys p q = tt
-consumes_more (Some known) None after xs ys p q = absurd p
-consumes_more (Some known) (Some rest) None xs ys p q = absurd q
-consumes_more (Some known) (Some rest) (Some end) xs ys p q = p ∙ ap (λ (more : List ℕ). xs ++ more) q ∙ sym (append_assoc xs ys end)
-
-pub consumes_kept : (before middle after : Option (List ℕ)) (xs : List ℕ) → Consumes before middle xs → Keeps middle after
-    → Consumes before after xs
-consumes_kept None middle after xs p q = tt
-consumes_kept (Some known) None after xs p q = absurd p
-consumes_kept (Some known) (Some rest) None xs p q = absurd q
-consumes_kept (Some known) (Some rest) (Some end) xs p q = p ∙ ap (λ (more : List ℕ). xs ++ more) (sym q)
-
-pub consumes_last : (before middle after : Option (List ℕ)) (xs : List ℕ) → Consumes before middle xs → Consumes middle after []
-    → Consumes before after xs
-consumes_last before middle after xs p q =
-    subst (λ (x : List ℕ). Consumes before after x) (append-nil xs) (consumes_more before middle after xs [] p q)
-
+-- a text was written, and then nothing
 pub appends_kept : (before middle after : Option (List ℕ)) (xs : List ℕ) → Appends before middle xs → Keeps middle after
     → Appends before after xs
 appends_kept None middle after xs p q = tt
 appends_kept (Some known) None after xs p q = absurd p
 appends_kept (Some known) (Some more) None xs p q = absurd q
 appends_kept (Some known) (Some more) (Some end) xs p q = q ∙ p
-
-pub more_given : (l m : Option (List ℕ)) (given : List ℕ) (n : ℕ) → Consumes l m given → n < length given
-    → IfSome l (λ bytes. n < length bytes)
-more_given None m given n p h = tt
-more_given (Some known) None given n p h = absurd p
-more_given (Some known) (Some rest) given n p h = rw p (rw length-append (omega arith))
 
 -- ---- what a crash leaves
 
@@ -247,19 +185,6 @@ module _ {D : Type 0} (seen : D → List ℕ) (may_leave : D → List ℕ → Ty
     pub consumed_kept : (m2 : Option (List ℕ)) → Keeps m m2 → Consumes l m2 h.given
     consumed_kept m2 kept = consumes_kept l m m2 h.given h.consumed kept
 
-    -- the lines of what was given, and of some bytes more
-    lines_then : (bytes : List ℕ) → (lines_in (h.given ++ bytes)).whole ≡ (lines_in h.given).whole ++ (lines_from line bytes).whole
-    lines_then bytes =
-        whole_more [] h.given bytes
-        ∙ ap (λ (x : List ℕ). (lines_in h.given).whole ++ (lines_from x bytes).whole) (sym h.rest)
-
-    rest_then : (bytes : List ℕ) → (lines_in (h.given ++ bytes)).rest ≡ (lines_from line bytes).rest
-    rest_then bytes = rest_more [] h.given bytes ∙ ap (λ (x : List ℕ). (lines_from x bytes).rest) (sym h.rest)
-
-    -- all lines of what was given
-    all_then : all_lines h.given ≡ (lines_in h.given).whole ++ last_line line
-    all_then = ap (λ (x : List ℕ). (lines_in h.given).whole ++ last_line x) (sym h.rest)
-
     -- a batch more: what a crash leaves
     module _ (new : D) (batch : List (List ℕ)) (said : List ℕ) (d : Counter) (further : Answers c batch said d) where
       all_answers : Answers (opening_on h.before) ((lines_in h.given).whole ++ batch) (h.text ++ said) d
@@ -296,13 +221,14 @@ module _ {D : Type 0} (seen : D → List ℕ) (may_leave : D → List ℕ → Ty
       given = h.given ++ bytes;
       consumed = consumes_more l m m2 h.given bytes h.consumed consumed;
       text = h.text ++ batch.0;
-      answers = subst (λ (ls : List (List ℕ)). Answers (opening_on h.before) ls (h.text ++ batch.0) d) (sym (lines_then bytes))
+      answers = subst (λ (ls : List (List ℕ)). Answers (opening_on h.before) ls (h.text ++ batch.0) d)
+          (sym (lines_then h.given line bytes h.rest))
           (all_answers new (lines_from line bytes).whole batch.0 d batch.1);
       any_moment = subst
           (λ (ls : List (List ℕ)). LeavesOnly moment left_since old new (HasPart (opening_on h.before) ls (h.text ++ batch.0) d))
-          (sym (lines_then bytes)) (grown new (lines_from line bytes).whole batch.0 d batch.1 batch.3);
+          (sym (lines_then h.given line bytes h.rest)) (grown new (lines_from line bytes).whole batch.0 d batch.1 batch.3);
       written = appends-more a b e h.text batch.0 h.written batch.4;
-      rest = rest ∙ sym (rest_then bytes);
+      rest = rest ∙ sym (rest_then h.given line bytes h.rest);
       counts = counts ∙ ap (λ (k : ℕ). k + length bytes) h.counts ∙ sym (length-append h.given bytes);
     }
 
@@ -407,12 +333,13 @@ module _ {D : Type 0} (seen : D → List ℕ) (may_leave : D → List ℕ → Ty
     -- the lines of a pull's batch
     pub pull_lines : (bytes : List ℕ) → all_lines (h.given ++ bytes)
         ≡ ((lines_in h.given).whole ++ (lines_from line bytes).whole) ++ last_line (lines_in (h.given ++ bytes)).rest
-    pull_lines bytes = ap (λ (ls : List (List ℕ)). ls ++ last_line (lines_in (h.given ++ bytes)).rest) (lines_then bytes)
+    pull_lines bytes =
+        ap (λ (ls : List (List ℕ)). ls ++ last_line (lines_in (h.given ++ bytes)).rest) (lines_then h.given line bytes h.rest)
 
     pub pull_whole : (bytes : List ℕ)
         → ((lines_in h.given).whole ++ (lines_from line bytes).whole ≡ (lines_in (h.given ++ bytes)).whole)
         ⊎ ((lines_in h.given).whole ++ (lines_from line bytes).whole ≡ all_lines (h.given ++ bytes))
-    pull_whole bytes = inl (sym (lines_then bytes))
+    pull_whole bytes = inl (sym (lines_then h.given line bytes h.rest))
 
     pub consumed_more : (m2 : Option (List ℕ)) (bytes : List ℕ) → Consumes m m2 bytes → Consumes l m2 (h.given ++ bytes)
     consumed_more m2 bytes consumed = consumes_more l m m2 h.given bytes h.consumed consumed
@@ -420,7 +347,11 @@ module _ {D : Type 0} (seen : D → List ℕ) (may_leave : D → List ℕ → Ty
     -- ---- the end
 
     last_lines : all_lines h.given ≡ ((lines_in h.given).whole ++ last_line line) ++ []
-    last_lines = all_then ∙ sym (append-nil ((lines_in h.given).whole ++ last_line line))
+    last_lines = all_then h.given line h.rest ∙ sym (append-nil ((lines_in h.given).whole ++ last_line line))
+
+    last_whole : ((lines_in h.given).whole ++ last_line line ≡ (lines_in h.given).whole)
+        ⊎ ((lines_in h.given).whole ++ last_line line ≡ all_lines h.given)
+    last_whole = inr (sym (all_then h.given line h.rest))
 
     pub ended_stopped : (m2 e : Option (List ℕ)) (new : D) (mark : Mark) → Consumes m m2 [] → IsSound c
         → (why : LastingFault) (sink_failed : Bool)
@@ -438,20 +369,20 @@ module _ {D : Type 0} (seen : D → List ℕ) (may_leave : D → List ℕ → Ty
             → LeavesDesk file (seen new) (may_leave new) (LeavesOnly moment left_since old new) l m2 a e why
         go fault.Write is =
             let text : List ℕ = is.2.0 in
-            ⊎_elim (λ some. begun m2 e new mark h.given at_end (last_line line) [] last_lines (inr (sym all_then)) is.0 sound_before is.1
+            ⊎_elim (λ some. begun m2 e new mark h.given at_end (last_line line) [] last_lines last_whole is.0 sound_before is.1
             text is.2.1 is.2.2 is.2.3 (h.text ++ text) (inl refl) (begins_then a b e h.text text h.written some))
-            (λ some. begun m2 e new mark h.given at_end (last_line line) [] last_lines (inr (sym all_then)) is.0 sound_before is.1
+            (λ some. begun m2 e new mark h.given at_end (last_line line) [] last_lines last_whole is.0 sound_before is.1
             text is.2.1 is.2.2 is.2.3 ((h.text ++ text) ++ end_text is.0) (inr refl)
             (subst (λ (t : List ℕ). Begins a e t) (sym (append_assoc h.text text (end_text is.0)))
             (begins_then a b e h.text (text ++ end_text is.0) h.written some))) is.2.4
         go fault.Disk is =
-            stopped_at m2 e new mark h.given at_end (last_line line) [] last_lines (inr (sym all_then)) is.0 sound_before is.1 fault.Disk
+            stopped_at m2 e new mark h.given at_end (last_line line) [] last_lines last_whole is.0 sound_before is.1 fault.Disk
             sink_failed is.2
         go fault.Unsure is =
-            stopped_at m2 e new mark h.given at_end (last_line line) [] last_lines (inr (sym all_then)) is.0 sound_before is.1 fault.Unsure
+            stopped_at m2 e new mark h.given at_end (last_line line) [] last_lines last_whole is.0 sound_before is.1 fault.Unsure
             sink_failed is.2
         go fault.Memory is =
-            stopped_at m2 e new mark h.given at_end (last_line line) [] last_lines (inr (sym all_then)) is.0 sound_before is.1 fault.Memory
+            stopped_at m2 e new mark h.given at_end (last_line line) [] last_lines last_whole is.0 sound_before is.1 fault.Memory
             sink_failed is.2
         go (fault.NotAPlant row) is = absurd is.2
         go (fault.After last) is = absurd is.2
@@ -490,7 +421,8 @@ module _ {D : Type 0} (seen : D → List ℕ) (may_leave : D → List ℕ → Ty
       text = h.text ++ is.3.0;
       after = is.0;
       served = subst
-          (λ (ls : List (List ℕ)). IsServedOn h.before (LeavesOnly moment left_since old new) ls (h.text ++ is.3.0) is.0) (sym all_then)
+          (λ (ls : List (List ℕ)). IsServedOn h.before (LeavesOnly moment left_since old new) ls (h.text ++ is.3.0) is.0)
+          (sym (all_then h.given line h.rest))
           (served_on new ((lines_in h.given).whole ++ last_line line) (h.text ++ is.3.0) is.0
           (all_answers new (last_line line) is.3.0 is.0 is.3.1) is.1 (grown new (last_line line) is.3.0 is.0 is.3.1 is.3.3));
       written = subst (λ (t : List ℕ). Appends a e t) (sym (append_assoc h.text is.3.0 (end_text is.0)))

@@ -1,6 +1,6 @@
 -- The ways in which a run on a file that was opened ends.
-use Rattle.std.proofs.Common.{◌≡◌, ◌∙◌, ℕ, List, Bool, true, Option, Some, None, Ok, Err, refl, ap, subst}
-use Rattle.std.specs.Io.KnownBytes.{Appends, IsAtEnd, Keeps}
+use Rattle.std.proofs.Common.{◌≡◌, ◌∙◌, ℕ, List, Bool, true, Option, None, Ok, Err, refl, ap, subst}
+use Rattle.std.specs.Io.KnownBytes.{Appends, IsAtEnd}
 use Rattle.title_disk.specs.Crashes.{Only}
 use Rattle.title_journal.specs.{declared.fault.PutFault.{PutFault}, Blocks.{blocks_in}, Rest.{StandsAlike}}
 use Rattle.title_journal.specs.declared.fault.PutFault.TheVariants as put
@@ -12,10 +12,7 @@ use Rattle.title_lasting.specs.{Lastings.{Begins, Counts, Lasting, Stays}, Made.
 use Rattle.title_lasting.specs.declared.fault.LastingFault.{LastingFault}
 use Rattle.title_lasting.proofs.Lasts.{at_any_moment, is_served, stands_then, unmade_cause, unmade_leaves}
 use Rattle.title_lasting.specs.declared.fault.LastingFault.TheVariants as fault
-
-pub keeps_itself : (known : Option (List ℕ)) → Keeps known known
-keeps_itself None = tt
-keeps_itself (Some bytes) = refl
+use Rattle.title_counter.specs.Laws.GivenBytes.{keeps_itself}
 
 module _ (sched : Schedule) (file : List ℕ) (left left_after : Option (List ℕ)) (turns turns_after : ℕ)
     (taken : Option (List ℕ))

@@ -4,8 +4,9 @@ use Rattle.title_disk.specs.Crashes.{Elapses, LeavesOnly}
 use Rattle.title_daybook.specs.{Files.{IsPlant}, Standing.{Standing}}
 use Rattle.title_lasting.specs.LookDesks.{IsLookDeskCause, IsLooksCause, LeavesLookDesk, LeavesLooks, LookingDesk, LooksFrom}
 use Rattle.title_lasting.specs.{Opened.{IsUnopened}, Sittings.{opening_on}, declared.fault.LastingFault.{LastingFault}}
-use Rattle.title_lasting.proofs.{Endings.{keeps_itself}, LookEnds.{unwritten}}
+use Rattle.title_lasting.proofs.LookEnds.{unwritten}
 use Rattle.title_lasting.specs.declared.fault.LastingFault.TheVariants as fault
+use Rattle.title_counter.specs.Laws.GivenBytes.{keeps_itself}
 
 module _ {D : Type 0} (seen : D → List ℕ) (may_leave : D → List ℕ → Type 0) (moment : D → ℕ) (left_since : D → ℕ → List ℕ → Type 0)
     (only_now : (disk : D) (c : List ℕ) → left_since disk (moment disk) c → may_leave disk c) (old new : D)

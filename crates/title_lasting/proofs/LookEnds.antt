@@ -10,8 +10,8 @@ use Rattle.title_daybook.specs.{Files.{IsPlant}, Standing.{Standing}}
 use Rattle.title_lasting.specs.{Days.{declared_in}, Lastings.{Begins, IsExpected, Refuses}, Looks.{Looking, LooksAt, Sees, look_day}}
 use Rattle.title_lasting.specs.Looks.{IsLookCause, IsLookMade, IsLookStop, IsLookTold, IsLookUnread, LeavesLook, LeavesStanding}
 use Rattle.title_lasting.specs.{Made.{IsAtFault}, Opened.{IsUnopened}, declared.fault.LastingFault.{LastingFault}}
-use Rattle.title_lasting.proofs.Endings.{keeps_itself}
 use Rattle.title_lasting.specs.declared.fault.LastingFault.TheVariants as fault
+use Rattle.title_counter.specs.Laws.GivenBytes.{keeps_itself}
 
 -- ---- a look at what stood
 

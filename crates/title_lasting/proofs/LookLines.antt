@@ -2,10 +2,10 @@
 use Rattle.std.proofs.Common.{◌≡◌, ◌∙◌, ◌==◌, ◌+◌, ◌++◌, ◌∷◌, ◌<◌, ◌≤◌, [], refl, sym, ap, inl, inr, ℕ, Bool, true, false, List}
 use Rattle.std.proofs.Common.{append_assoc, arith, codes, cond, get_or, length, length-append, map, nat_le, take, Result, Ok, Err, OnOk}
 use Rattle.std.proofs.lemmas.{Bool.{cases_Bool, leb-true, ne_eqb, or_from, or_parts, Decides.{nat_tests}}, List.Folds.{list_any-append}}
-use Rattle.std.{proofs.lemmas.List.{append-nil, map-append, take_more}, specs.{Prelude.{is_some}, List.{AllByRecursion, list_any}}}
+use Rattle.std.{proofs.lemmas.List.{append-nil, map-append}, specs.{Prelude.{is_some}, List.{AllByRecursion, list_any}}}
 use Rattle.title_counter.specs.{Limits.{longest_line}, Lines.{Lines, and_lines, last_line, line_feed, lines_from, with_byte}}
+use Rattle.title_counter.specs.Laws.LineLaws.{joined_lines, lines_more, whole_to}
 use Rattle.title_lasting.specs.LookRows.{IsStart, as_look, lines_text, nothing_said, other_in}
-use Rattle.title_lasting.proofs.DeskSittings.{joined_lines, lines_more, rest_more, whole_more}
 
 -- ---- lines that begin
 
@@ -178,9 +178,6 @@ last_some [] h = absurd (cc h)
 last_some (byte ∷ bytes) h = refl
 
 module _ (line bytes : List ℕ) (i : ℕ) (lt : i < length bytes) (here : List ℕ) (at : here ≡ (lines_from line (take i bytes)).rest) where
-  next_bytes : take (i + 1) bytes ≡ take i bytes ++ get_or bytes i 0 ∷ []
-  next_bytes = take_more bytes i 0 lt
-
   -- the text of the lines up to one more byte
   pub text_to : (lines more : List ℕ) → lines ≡ lines_text (map as_look (lines_from line (take i bytes)).whole)
       → more ≡ lines ++ lines_text (map as_look (lines_from here (get_or bytes i 0 ∷ [])).whole)
@@ -188,17 +185,7 @@ module _ (line bytes : List ℕ) (i : ℕ) (lt : i < length bytes) (here : List 
   text_to lines more before is =
       let first : List (List ℕ) = (lines_from line (take i bytes)).whole in
       let last : List (List ℕ) = (lines_from here (get_or bytes i 0 ∷ [])).whole in
-      let both : (lines_from line (take (i + 1) bytes)).whole ≡ first ++ last =
-      ap (λ (bs : List ℕ). (lines_from line bs).whole) next_bytes ∙ whole_more line (take i bytes) (get_or bytes i 0 ∷ [])
-      ∙ ap (λ (l : List ℕ). first ++ (lines_from l (get_or bytes i 0 ∷ [])).whole) (sym at) in
       is ∙ ap (λ (text : List ℕ). text ++ lines_text (map as_look last)) before
       ∙ sym (text_joined (map as_look first) (map as_look last))
       ∙ ap lines_text (sym (map-append as_look first last))
-      ∙ ap (λ (ls : List (List ℕ)). lines_text (map as_look ls)) (sym both)
-
-  pub rest_to : (next : List ℕ) → next ≡ (lines_from here (get_or bytes i 0 ∷ [])).rest
-      → next ≡ (lines_from line (take (i + 1) bytes)).rest
-  rest_to next is =
-      is ∙ ap (λ (l : List ℕ). (lines_from l (get_or bytes i 0 ∷ [])).rest) at
-      ∙ sym (rest_more line (take i bytes) (get_or bytes i 0 ∷ []))
-      ∙ ap (λ (bs : List ℕ). (lines_from line bs).rest) (sym next_bytes)
+      ∙ ap (λ (ls : List (List ℕ)). lines_text (map as_look ls)) (sym (whole_to line bytes i lt here at))

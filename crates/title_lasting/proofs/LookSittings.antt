@@ -4,12 +4,14 @@ use Rattle.std.{proofs.Common.{IfSome, Err, append_assoc, length, length-append,
 use Rattle.std.proofs.lemmas.List.{append-nil, map-append}
 use Rattle.csv.proofs.WriteFacts.{appends-more, appends-none}
 use Rattle.title_counter.specs.{Counters.{Counter}, Limits.{most_given}, Lines.{all_lines, last_line, lines_from, lines_in}}
-use Rattle.title_counter.specs.Sessions.{Answers, Ends, IsSound, LostBatch, PassedBatch}
+use Rattle.title_counter.specs.{Sessions.{Answers, Ends, IsSound, LostBatch, PassedBatch}, Laws.AnswersInTurn.{answers_then}}
+use Rattle.title_counter.specs.Laws.{LineLaws.{lines_then, rest_then, all_then}, GivenBytes.{consumes_kept, consumes_last, consumes_more}}
+use Rattle.title_counter.specs.Laws.GivenBytes.{consumes_none, more_given}
 use Rattle.title_lasting.specs.{Lastings.{Begins}, LookDesks.{IsLooksCause, IsUntoldLook, LeavesLooks}, LookRows.{IsStart, as_look}}
 use Rattle.title_lasting.specs.LookDesks.{BrokenLooks, EndedLooks, IsAnsweredLook, IsAtOnceLook, IsBegunLook, IsLookBatch, IsLookEnd}
 use Rattle.title_lasting.{specs.{Sittings.{end_text}, declared.fault.LastingFault.{LastingFault}}, proofs.LookLines.{no_start, starts_on}}
-use Rattle.title_lasting.proofs.DeskSittings.{answers_then, appends_kept, consumes_kept, consumes_last, consumes_more, consumes_none}
-use Rattle.title_lasting.proofs.{DeskSittings.{more_given, rest_more, whole_more}, RowsEnded.{begins_then}}
+use Rattle.title_lasting.proofs.DeskSittings.{appends_kept}
+use Rattle.title_lasting.proofs.RowsEnded.{begins_then}
 use Rattle.title_lasting.specs.declared.fault.LastingFault.TheVariants as fault
 
 -- ---- batches
@@ -116,28 +118,17 @@ module _ {before : Counter} {l m a b : Option (List ℕ)} {c : Counter} {line : 
   pub waits : IsStart line
   waits = subst IsStart (sym h.rest) (starts_on [] h.given no_start).1
 
-  -- the lines of what was given, and of some bytes more
-  lines_then : (bytes : List ℕ) → (lines_in (h.given ++ bytes)).whole ≡ (lines_in h.given).whole ++ (lines_from line bytes).whole
-  lines_then bytes =
-      whole_more [] h.given bytes
-      ∙ ap (λ (x : List ℕ). (lines_in h.given).whole ++ (lines_from x bytes).whole) (sym h.rest)
-
-  rest_then : (bytes : List ℕ) → (lines_in (h.given ++ bytes)).rest ≡ (lines_from line bytes).rest
-  rest_then bytes = rest_more [] h.given bytes ∙ ap (λ (x : List ℕ). (lines_from x bytes).rest) (sym h.rest)
-
+  -- what the lines count as
   looks_then : (bytes : List ℕ) → map as_look (lines_in (h.given ++ bytes)).whole
       ≡ map as_look (lines_in h.given).whole ++ map as_look (lines_from line bytes).whole
   looks_then bytes =
-      ap (λ (ls : List (List ℕ)). map as_look ls) (lines_then bytes)
+      ap (λ (ls : List (List ℕ)). map as_look ls) (lines_then h.given line bytes h.rest)
       ∙ map-append as_look (lines_in h.given).whole (lines_from line bytes).whole
-
-  -- all lines of what was given
-  all_then : all_lines h.given ≡ (lines_in h.given).whole ++ last_line line
-  all_then = ap (λ (x : List ℕ). (lines_in h.given).whole ++ last_line x) (sym h.rest)
 
   all_looks : map as_look (all_lines h.given) ≡ map as_look (lines_in h.given).whole ++ map as_look (last_line line)
   all_looks =
-      ap (λ (ls : List (List ℕ)). map as_look ls) all_then ∙ map-append as_look (lines_in h.given).whole (last_line line)
+      ap (λ (ls : List (List ℕ)). map as_look ls) (all_then h.given line h.rest)
+      ∙ map-append as_look (lines_in h.given).whole (last_line line)
 
   -- a pull, and the answers to its bytes
   pub looked : {m2 e : Option (List ℕ)} (bytes next : List ℕ) (d : Counter) (n : ℕ) → Consumes m m2 bytes
@@ -151,7 +142,7 @@ module _ {before : Counter} {l m a b : Option (List ℕ)} {c : Counter} {line : 
         (answers_then before c d (map as_look (lines_in h.given).whole) (map as_look (lines_from line bytes).whole) h.text passed.text
         h.answers passed.answers);
     written = appends-more a b e h.text passed.text h.written passed.written;
-    rest = rest ∙ sym (rest_then bytes);
+    rest = rest ∙ sym (rest_then h.given line bytes h.rest);
     counts = counts ∙ ap (λ (k : ℕ). k + length bytes) h.counts ∙ sym (length-append h.given bytes);
   }
 
@@ -181,7 +172,8 @@ module _ {before : Counter} {l m a b : Option (List ℕ)} {c : Counter} {line : 
         consumed = consumes_more l m m2 h.given bytes h.consumed consumed;
         first = (lines_in h.given).whole;
         more = batch ++ last;
-        lines_are = ap (λ (ls : List (List ℕ)). ls ++ last) (lines_then bytes) ∙ append_assoc (lines_in h.given).whole batch last;
+        lines_are = ap (λ (ls : List (List ℕ)). ls ++ last) (lines_then h.given line bytes h.rest)
+            ∙ append_assoc (lines_in h.given).whole batch last;
         text = h.text;
         after = c;
         answers = h.answers;
@@ -239,7 +231,7 @@ module _ {before : Counter} {l m a b : Option (List ℕ)} {c : Counter} {line : 
     consumed = consumes_last l m m2 h.given h.consumed consumed;
     first = (lines_in h.given).whole;
     more = last_line line;
-    lines_are = all_then;
+    lines_are = all_then h.given line h.rest;
     text = h.text;
     after = c;
     answers = h.answers;

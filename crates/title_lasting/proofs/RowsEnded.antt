@@ -1,24 +1,15 @@
 -- How a desk's rows end: the last line's batch isn't told, or the last row isn't written; or all is written.
-use Rattle.std.proofs.Common.{◌≡◌, ◌∙◌, ◌++◌, ℕ, Bool, true, false, List, Option, Ok, Err, ap, sym, subst, inl, inr, append_assoc}
-use Rattle.std.{proofs.{Common.{drop, length, take}, lemmas.List.{take-append-drop}}, specs.Io.KnownBytes.{Appends}}
-use Rattle.std.proofs.Math.Seq.{take-append_seam}
+use Rattle.std.proofs.Common.{◌≡◌, ◌++◌, ℕ, Bool, true, false, List, Option, Ok, Err, inl, inr}
+use Rattle.std.specs.Io.KnownBytes.{Appends}
 use Rattle.csv.proofs.WriteFacts.{appends-more}
-use Rattle.title_counter.specs.{Counters.{Counter}, Sessions.{Answers, Ends, IsSound}}
+use Rattle.title_counter.specs.{Counters.{Counter}, Sessions.{Answers, Ends, IsSound}, Laws.GivenBytes.{part_then}}
 use Rattle.title_lasting.specs.{Lastings.{Begins}, Sittings.{HasAtEither, IsBatch, IsEnded, IsUpTo, end_text}, declared.mark.Mark.{Mark}}
 use Rattle.title_lasting.specs.declared.fault.LastingFault.{LastingFault}
 use Rattle.title_lasting.specs.declared.fault.LastingFault.TheVariants as fault
 
 -- a beginning of a text behind another that was written whole
 pub begins_then : (a b d : Option (List ℕ)) (t u : List ℕ) → Appends a b t → Begins b d u → Begins a d (t ++ u)
-begins_then a b d t u h begun =
-    let n : ℕ = begun.0 in
-    let all : t ++ u ≡ (t ++ take n u) ++ drop n u =
-    ap (λ (x : List ℕ). t ++ x) (sym (take-append-drop n u)) ∙ sym (append_assoc t (take n u) (drop n u)) in (
-      length (t ++ take n u),
-      subst (λ (x : List ℕ). Appends a d x)
-          (sym (ap (λ (x : List ℕ). take (length (t ++ take n u)) x) all ∙ take-append_seam (t ++ take n u) (drop n u)))
-          (appends-more a b d t (take n u) h begun.1),
-    )
+begins_then a b d t u h begun = part_then a b d t u begun.0 h begun.1
 
 module _ {D : Type 0} (seen : D → List ℕ) (may_leave : D → List ℕ → Type 0) (has_failed : D → Bool)
     (leaves : (List ℕ → Type 0) → Type 0) (disk : D) (mark : Mark) (c d : Counter) (lines : List (List ℕ)) (sound : IsSound d)

@@ -2,9 +2,10 @@
 use Rattle.std.{proofs.Common.{◌≡◌, ℕ, List, Bool, true, Option, Result, Ok, Err, subst, sym}, specs.Io.KnownBytes.{Appends}}
 use Rattle.title_daybook.specs.{Files.{IsPlant}, Standing.{Standing}}
 use Rattle.title_lasting.specs.{Faults.{of_opening}, Lastings.{Begins}, Opened.{IsUnopened}, Tells.{IsNoScript, Telling, script_text}}
-use Rattle.title_lasting.{specs.declared.{checking.TellFault.{TellFault}, fault.LastingFault.{LastingFault}}, proofs.Endings.{keeps_itself}}
+use Rattle.title_lasting.specs.declared.{checking.TellFault.{TellFault}, fault.LastingFault.{LastingFault}}
 use Rattle.title_lasting.specs.declared.checking.TellFault.TheVariants as tell
 use Rattle.title_lasting.specs.declared.fault.LastingFault.TheVariants as fault
+use Rattle.title_counter.specs.Laws.GivenBytes.{keeps_itself}
 
 module _ {T : Type 0} (file : List ℕ) (text : Standing → List ℕ) (taken : Option (List ℕ)) (disk_failed sink_failed : Bool)
     (r : Result T TellFault) where

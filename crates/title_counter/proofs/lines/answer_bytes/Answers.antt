@@ -1,7 +1,8 @@
 -- One byte more.
 use Rattle.std.proofs.Common.{arith, refl}
-use Rattle.title_counter.{specs.Views.{counter_of}, proofs.{AnswerLaws.{got_byte, got_none, lost_byte, rest_to}, OnResults.{on_err}}}
+use Rattle.title_counter.{specs.Views.{counter_of}, proofs.{AnswerLaws.{got_byte, got_none, lost_byte}, OnResults.{on_err}}}
 use Rattle.title_counter.proofs.lines.answer_bytes.Goals as goal
+use Rattle.title_counter.specs.Laws.LineLaws.{rest_to}
 
 pub loop-byte-init : goal.loop-byte-init
 loop-byte-init g c = record {
@@ -18,8 +19,8 @@ loop-byte-preserved g c =
     record {
       got = got_byte (counter_of c.args.clerk.now) (counter_of c.loop-byte.clerk) (counter_of c.answer_byte.new.clerk) c.args.line.now
           c.args.bytes.now c.loop-byte.line c.loop-byte.byte-index c.loop-byte-test.true inv.rest inv.got e.answers;
-      rest = rest_to c.args.line.now c.args.bytes.now c.loop-byte.byte-index c.loop-byte-test.true c.loop-byte.line
-          c.answer_byte.new.line inv.rest c.answer_byte.ensures.rest;
+      rest = rest_to c.args.line.now c.args.bytes.now c.loop-byte.byte-index c.loop-byte-test.true c.loop-byte.line inv.rest
+          c.answer_byte.new.line c.answer_byte.ensures.rest;
       rows = omega (arith, c.answer_byte.ensures.rows, inv.rows);
       well = e.well;
     }

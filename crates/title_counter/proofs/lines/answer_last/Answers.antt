@@ -1,6 +1,6 @@
 -- Where nothing of a line has come there is none; else it is the last.
 use Rattle.std.proofs.Common.{◌∙◌, sym}
-use Rattle.title_counter.{specs.Views.{counter_of}, proofs.{AnswerLaws.{got_none}, LineLaws.{no_last, one_last}}}
+use Rattle.title_counter.{specs.{Views.{counter_of}, Laws.LineLaws.{no_last, one_last}}, proofs.AnswerLaws.{got_none}}
 use Rattle.title_counter.proofs.lines.answer_last.Goals as goal
 
 pub returns-then-is_empty-clause-answers : goal.returns-then-is_empty-clause-answers

@@ -1,6 +1,6 @@
 -- Where memory is wanted for the desk, nothing was given and nothing taken.
 use Rattle.std.proofs.lemmas.Result.{err_from_is_err_and}
-use Rattle.title_counter.proofs.Sittings.{keeps_same}
+use Rattle.title_counter.specs.Laws.GivenBytes.{keeps_itself}
 use Rattle.title_counter.proofs.session.attend.Goals as goal
 
 pub returns-in_err-clerk : goal.returns-in_err-clerk
@@ -10,7 +10,7 @@ returns-in_err-clerk g c =
       attended = record {
         answers = tt;
         all = tt;
-        leaves = (keeps_same (g.R.Source.left c.args.source.now), keeps_same (g.W.Sink.taken c.args.sink.now));
+        leaves = (keeps_itself (g.R.Source.left c.args.source.now), keeps_itself (g.W.Sink.taken c.args.sink.now));
         why = tt;
       };
     })

@@ -1,7 +1,7 @@
 -- The line can't be held, or it is answered, or the sink has failed.
 use Rattle.std.proofs.{Common.{◌≡◌, ◌∙◌, ap, arith, length, map}, lemmas.Result.{err_from_is_err_and}}
-use Rattle.title_counter.specs.{Lines.{last_line}, Views.{counter_of}}
-use Rattle.title_lasting.{specs.LookRows.{as_look, lines_text}, proofs.{Endings.{keeps_itself}, LookLines.{last_bytes, last_of}}}
+use Rattle.title_counter.specs.{Lines.{last_line}, Views.{counter_of}, Laws.GivenBytes.{keeps_itself}}
+use Rattle.title_lasting.{specs.LookRows.{as_look, lines_text}, proofs.LookLines.{last_bytes, last_of}}
 use Rattle.title_lasting.proofs.LookSittings.{lost_as, passed_as}
 use Rattle.title_lasting.proofs.look_desk.look_rest.Goals as goal
 

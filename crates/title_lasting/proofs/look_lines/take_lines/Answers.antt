@@ -1,6 +1,7 @@
 -- One byte more.
 use Rattle.std.proofs.Common.{refl}
-use Rattle.title_lasting.proofs.LookLines.{rest_to, text_to}
+use Rattle.title_counter.specs.Laws.LineLaws.{rest_to}
+use Rattle.title_lasting.proofs.LookLines.{text_to}
 use Rattle.title_lasting.proofs.look_lines.take_lines.Goals as goal
 
 pub loop-byte-init : goal.loop-byte-init

@@ -1,8 +1,8 @@
 -- Its answers can't be held, what it adds isn't kept, or its answers are written, or aren't.
 use Rattle.std.{proofs.{Common.{List, ℕ, subst}, lemmas.Result.{err_from_is_err_and}}, specs.Io.KnownBytes.{Appends}}
 use Rattle.title_disk.specs.Crashes.{LeavesOnly}
-use Rattle.title_counter.specs.{Lines.{lines_from}, Views.{counter_of}}
-use Rattle.title_lasting.{specs.{Lastings.{Begins}, Sittings.{HasAt}}, proofs.{BatchKept.{still_there}, Endings.{keeps_itself}}}
+use Rattle.title_counter.specs.{Lines.{lines_from}, Views.{counter_of}, Laws.GivenBytes.{keeps_itself}}
+use Rattle.title_lasting.{specs.{Lastings.{Begins}, Sittings.{HasAt}}, proofs.BatchKept.{still_there}}
 use Rattle.title_lasting.proofs.BatchTold.{all_told, comes_on, unkept, untold}
 use Rattle.title_lasting.proofs.sitting.sit_batch.Goals as goal
 
