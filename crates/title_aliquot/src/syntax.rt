@@ -4,24 +4,26 @@ ghost use Rattle.std.specs.Prelude.{◌≡◌, ◌<◌, List, [], ◌∷◌, ◌
 ghost use Rattle.title_aliquot.specs.{Entries.{leading, parts_in, with_step}, Grammar.{whole_section}};
 ghost use Rattle.title_land.specs.declared.rectangle.Step.{Step};
 
+use smallvec::SmallVec;
 use std::alloc::{AllocError, Global};
 use std::marker::Model;
 use title_land::Step;
 
 /// An entry of a list of parts.
-#[derive(Clone, Copy, Debug, PartialEq, Eq)]
+#[derive(Clone, Copy, Debug, Default, PartialEq, Eq)]
 pub enum Entry {
     /// A part begins.
+    #[default]
     Part,
     /// The next step of the part that began last.
     Step(Step),
 }
 
 /// Parts, each by its steps; a part without steps is the whole section. One list has them all, each part's steps behind
-/// the entry that begins it.
+/// the entry that begins it. A list that a text of 28 bytes has room in stands in the value itself.
 #[derive(Drop)]
 pub struct Parts {
-    entries: Vec<Entry>,
+    entries: SmallVec<Entry, 16>,
 }
 
 impl Model for Parts {
@@ -39,7 +41,7 @@ impl Parts {
         ensures none { IfOk result (λ p. p ≡ []) }
     {
         Ok(Parts {
-            entries: Vec::with_capacity(alloc, bytes / 2 + 2)?,
+            entries: SmallVec::with_capacity(alloc, bytes / 2 + 2)?,
         })
     }
 

@@ -14,7 +14,6 @@ use Rattle.title_page.specs.Rows.{row, rows_text}
 use Rattle.title_spelling.specs.{Cells.{cells_in, spelled_cells}, Lands.{has_a_cell, kept_land_in, spelling}, Rows.{PlantRow}}
 use Rattle.title_spelling.specs.Posts.{name_of, post_fields, IsExaminer, IsPost}
 use Rattle.title_spelling.specs.Rows.{are_names, begin_fields, commit_fields, fields_of, party_fields, township_fields, End, IsPlantRow}
-
 pub mod SeveralFields
 
 -- a land that has a cell, and whose set is as large as the grid, is spelled as a text that says it
