@@ -49,6 +49,7 @@ impl Book {
 
 /// What stands in a plant's file, by the blocks that were read from it; `Row` where one of their rows may not stand where it does,
 /// with its number in the file.
+#[tactic(auto, using(crate::proofs::Blocks::block_fault, crate::proofs::Blocks::comes_to))]
 pub fn read_standing(alloc: Global, blocks: &Blocks) -> Result<Standing, PlantFault>
     requires fits { length (front (texts_of blocks.now)) < 2 ^ 63 }
     ensures stands { IfOk result (λ s. (file : List ℕ) → IsReadFrom file blocks.now → standing_in file ≡ Ok (standing_of s)) }
