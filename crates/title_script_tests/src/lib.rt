@@ -13,6 +13,8 @@ mod device;
 #[cfg(test)]
 mod fake;
 #[cfg(test)]
+mod lone;
+#[cfg(test)]
 mod row;
 #[cfg(test)]
 mod scripts;
