@@ -3,11 +3,9 @@
 
 ghost use Rattle.std.specs.{Prelude.{◌≡◌, ℕ, List, None}, Io.KnownBytes.{Appends}};
 
+use crate::plant::{cut_advice, lasting_advice, looking_advice, opening_advice, telling_advice};
 use std::alloc::{AllocError, Global};
-use title_advice::{
-    Heard, Script, cut_advice, lasting_advice, look_advice, looking_advice, opening_advice,
-    pointed_out, script_advice, telling_advice,
-};
+use title_advice::{Heard, Script, look_advice, pointed_out, script_advice};
 use title_aliquot::DescFault;
 use title_counter::CounterFault;
 use title_day::OfficeFault;
@@ -18,6 +16,8 @@ use title_lasting::LastingFault;
 use title_plan::{Schedule, ScriptFault};
 use title_program::{Ending, Why};
 use title_script::RunFault;
+
+mod plant;
 
 const OUT_OF_MEMORY: &str = "error: out of memory\n";
 

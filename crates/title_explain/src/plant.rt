@@ -1,14 +1,10 @@
 //! Plants' files at fault.
 
-use crate::quoted::Quoted;
+use crate::OUT_OF_MEMORY;
 use std::alloc::{AllocError, Global};
+use title_advice::Quoted;
 use title_disk::OpenFault;
 use title_lasting::{LastingFault, TellFault};
-
-// Want of memory.
-fn memory_advice(alloc: Global) -> Result<String, AllocError> {
-    String::from_str(alloc, "error: out of memory\n")
-}
 
 // What is wrong with a file that is no plant.
 fn no_plant_advice(alloc: Global, path: &str, row: usize) -> Result<String, AllocError> {
@@ -24,7 +20,11 @@ fn no_plant_advice(alloc: Global, path: &str, row: usize) -> Result<String, Allo
 }
 
 /// Why a plant's file isn't opened, in a line.
-pub fn opening_advice(alloc: Global, path: &str, fault: OpenFault) -> Result<String, AllocError> {
+pub(crate) fn opening_advice(
+    alloc: Global,
+    path: &str,
+    fault: OpenFault,
+) -> Result<String, AllocError> {
     let path = Quoted(path);
     match fault {
         OpenFault::Unopened => format!(in alloc;
@@ -34,12 +34,16 @@ pub fn opening_advice(alloc: Global, path: &str, fault: OpenFault) -> Result<Str
         OpenFault::InUse => format!(in alloc;
             "error: {path} is in use by another: try again when that has ended\n"
         ),
-        OpenFault::Memory => memory_advice(alloc),
+        OpenFault::Memory => String::from_str(alloc, OUT_OF_MEMORY),
     }
 }
 
 /// Why a plant's file isn't looked at, in a line.
-pub fn looking_advice(alloc: Global, path: &str, fault: OpenFault) -> Result<String, AllocError> {
+pub(crate) fn looking_advice(
+    alloc: Global,
+    path: &str,
+    fault: OpenFault,
+) -> Result<String, AllocError> {
     let quoted = Quoted(path);
     match fault {
         OpenFault::Unopened => format!(in alloc;
@@ -51,7 +55,7 @@ pub fn looking_advice(alloc: Global, path: &str, fault: OpenFault) -> Result<Str
 
 /// Why a script isn't served on top of a plant's file, or isn't sure to count, in a line; nothing where that is told by a row of the
 /// script.
-pub fn lasting_advice(
+pub(crate) fn lasting_advice(
     alloc: Global,
     path: &str,
     fault: LastingFault,
@@ -78,13 +82,17 @@ pub fn lasting_advice(
         LastingFault::Write => format!(in alloc;
             "what the script declared and committed counts in {quoted}\n"
         ),
-        LastingFault::Memory => memory_advice(alloc),
+        LastingFault::Memory => String::from_str(alloc, OUT_OF_MEMORY),
         _ => Ok(String::new(alloc)),
     }
 }
 
 /// Why what stands in a plant's file isn't told, in a line. That the output can't be written has been told before.
-pub fn telling_advice(alloc: Global, path: &str, fault: TellFault) -> Result<String, AllocError> {
+pub(crate) fn telling_advice(
+    alloc: Global,
+    path: &str,
+    fault: TellFault,
+) -> Result<String, AllocError> {
     let quoted = Quoted(path);
     match fault {
         TellFault::NotAPlant(row) => no_plant_advice(alloc, path, row),
@@ -93,13 +101,13 @@ pub fn telling_advice(alloc: Global, path: &str, fault: TellFault) -> Result<Str
             "error: no script says what stands in {quoted}: its row {row} would be a row or a byte \
             too many, or its land has no description\n"
         ),
-        TellFault::Memory => memory_advice(alloc),
+        TellFault::Memory => String::from_str(alloc, OUT_OF_MEMORY),
         TellFault::Write => Ok(String::new(alloc)),
     }
 }
 
 /// That bytes at the end of a plant's file didn't count, and whether they are kept in one beside, in a line.
-pub fn cut_advice(
+pub(crate) fn cut_advice(
     alloc: Global,
     path: &str,
     bytes: usize,
