@@ -1,5 +1,5 @@
 -- A transaction of one step where nobody is open: begun, asked and ended, each by the lemma of that call.
-use Rattle.std.proofs.Common.{◌≡◌, ◌≢◌, ℕ, suc, true, false, List, [], ◌∷◌, ◌++◌, reverse, refl, ap, ◌∙◌, sym, subst, Some, None, length}
+use Rattle.std.proofs.Common.{◌≡◌, ◌≢◌, ℕ, suc, true, false, List, [], ◌∷◌, ◌++◌, reverse, refl, ap, ◌∙◌, sym, subst, arith, Some, None, length}
 use Rattle.std.{specs.Prelude.{nat_le, is_some, Option}, proofs.{Math.Path.{fun_ext}, lemmas.List.{reverse-append, length-reverse}}}
 use Rattle.title_land.specs.Depth.{depth}
 use Rattle.title_lock.specs.{declared.guards.Entry.{Entry}, Overlaps.{without}}
@@ -14,7 +14,7 @@ use Rattle.title_trace.specs.declared.call.Request.TheVariants as request
 use Rattle.title_trace.specs.declared.call.Reply.TheVariants as reply
 use Rattle.title_desk.specs.{Opened.{Opened, held, nothing, set}, Images.{is_posted, IsRestored, without_all}}
 use Rattle.title_desk.specs.Keeps.{State, own_of, images_of, Keeps}
-use Rattle.title_desk.specs.{Told.{Books, Passes, entry_of}, Singles.{IsIdle, Stands, Bars, after_single}}
+use Rattle.title_desk.specs.{Told.{Books, Passes, entry_of}, Singles.{AddedInTurn, AddedSingle, IsIdle, Stands, Bars, ToldInTurn, ToldSingle, after_single, ending, in_turn, last_call}}
 use Rattle.title_desk.proofs.{Found.{at_set, none_from, set_here, set_other}, Steps.{bars_due, keeps_answered, keeps_posted}}
 use Rattle.title_desk.proofs.States.{told, books_of, keeps_as, keeps_locks, keeps_refused, keeps_began}
 use Rattle.title_desk.proofs.Ends.{Gone, gone_newest, nothing_out, keeps_aborted, keeps_committed}
@@ -178,3 +178,25 @@ pub told_single : {b old : Books} {setting : Setting} {trace : List Call} → b 
 told_single {setting = setting} {trace = trace} is e a r same calls due =
     subst (λ (x : Books). (setting ≡ x.setting) × (trace ≡ after_single x.trace e a r)
     × IsDue depth x.setting (after_single x.trace e a r)) is (same, calls, due)
+
+-- what is told of a transaction of one step where nobody is open is told of it whoever is
+module _ {old new : Books} (e : ℕ) (a : Ask) where
+  any_added : (r ended : Reply) → last_call e old.trace r ≡ record { request = ending e r; reply = ended } → AddedSingle old e a r new
+      → AddedInTurn old e a r new
+  any_added r ended last told = (
+    told.0,
+    reply.Began,
+    ended,
+    told.1 ∙ ap (λ (c : Call). c ∷ record { request = request.Step e a; reply = r }
+        ∷ record { request = request.Begin e; reply = reply.Began } ∷ old.trace) last,
+    subst (IsDue depth old.setting) (sym told.1) told.2,
+  )
+
+  pub any_told : (r : Reply) → ToldSingle old e a r new → ToldInTurn old e a r new
+  any_told reply.Memory told = (told.0, 2, reply.Began, reply.Began, omega arith, told.1)
+  any_told reply.Began told = any_added reply.Began reply.Aborted refl told
+  any_told (reply.Answered given) told =
+      any_added (reply.Answered given) (reply.Committed (suc (length (committed old.trace)))) refl told
+  any_told (reply.Committed place) told = any_added (reply.Committed place) reply.Aborted refl told
+  any_told reply.Aborted told = any_added reply.Aborted reply.Aborted refl told
+  any_told (reply.Denied why) told = any_added (reply.Denied why) reply.Aborted refl told

@@ -1,9 +1,9 @@
 -- A transaction of one step, which is begun, asked and ended in one call. Traces have the newest call first.
-use Rattle.std.specs.Prelude.{◌≡◌, ℕ, suc, true, false, List, ◌∷◌, length, Option, Some, None}
+use Rattle.std.specs.Prelude.{◌≡◌, ℕ, suc, ◌<◌, true, false, List, ◌∷◌, drop, length, Option, Some, None}
 use Rattle.title_land.specs.{Depth.{depth}, Lands.{is_in_plant}}
 use Rattle.title_store.specs.Plants as plants
 use Rattle.title_chain.specs.{declared.ask.{Ask.{Ask}, Answer.{Answer}}, Asks.{tract_of, cause_of, post_answer}}
-use Rattle.title_trace.specs.{declared.{call.{Call.{Call}, Reply.{Reply}}, denial.Denial.{Denial}}, Trace.{is_open, committed}}
+use Rattle.title_trace.specs.{declared.{call.{Call.{Call}, Request.{Request}, Reply.{Reply}}, denial.Denial.{Denial}}, Trace.{is_open, committed}}
 use Rattle.title_trace.specs.Due.{Setting, IsDue}
 use Rattle.title_trace.specs.declared.call.Request.TheVariants as request
 use Rattle.title_trace.specs.declared.call.Reply.TheVariants as reply
@@ -37,6 +37,30 @@ AddedSingle old e a r new =
 abbrev pub ToldSingle : Books → ℕ → Ask → Reply → Books → Type 0
 ToldSingle old e a reply.Memory new = Stays old new
 ToldSingle old e a r new = AddedSingle old e a r new
+
+-- how a transaction of one step is ended: committed where its step is answered, else aborted
+abbrev pub ending : ℕ → Reply → Request
+ending e (reply.Answered given) = request.Commit e
+ending e _ = request.Abort e
+
+-- its three calls, with any replies, after those before it
+abbrev pub in_turn : List Call → ℕ → Ask → Reply → Reply → Reply → List Call
+in_turn before e a begun told ended =
+    record { request = ending e told; reply = ended } ∷ record { request = request.Step e a; reply = told }
+    ∷ record { request = request.Begin e; reply = begun } ∷ before
+
+-- whoever is open, its calls are added, each with the due reply
+abbrev pub AddedInTurn : Books → ℕ → Ask → Reply → Books → Type 0
+AddedInTurn old e a told new =
+    (new.setting ≡ old.setting) × (begun : Reply) × (ended : Reply) × (new.trace ≡ in_turn old.trace e a begun told ended)
+    × IsDue depth old.setting new.trace
+
+-- the same, or one of its calls wants memory, and those before it are added
+abbrev pub ToldInTurn : Books → ℕ → Ask → Reply → Books → Type 0
+ToldInTurn old e a reply.Memory new =
+    (new.setting ≡ old.setting) × (left : ℕ) × (begun : Reply) × (told : Reply) × (left < 3)
+    × (new.trace ≡ drop (suc left) (in_turn old.trace e a begun told reply.Memory))
+ToldInTurn old e a told new = AddedInTurn old e a told new
 
 -- the ask's tract is in the plant, and its instrument can stand
 abbrev pub Stands : Setting → Ask → Type 0

@@ -277,12 +277,9 @@ impl Clerk {
         is_told(self.alloc, &reply, wanted)
     }
 
-    // The reply to an ask as a transaction of its own; whoever has one open is in the way.
+    // The reply to an ask as a transaction of its own.
     fn reply_alone(&mut self, ask: Ask) -> Reply {
-        match self.desk.first_open() {
-            None => self.desk.serve_alone(EXAMINER, ask),
-            Some(examiner) => Reply::Denied(Denial::Conflict(examiner)),
-        }
+        self.desk.serve_alone(EXAMINER, ask)
     }
 
     /// Serves a step in a tract as a transaction of its own, to which this has to be the reply.

@@ -5,9 +5,8 @@ use crate::deeds::{HALF, Sale, WHOLE, Wish};
 use crate::parcels::Parcel;
 use crate::telling::tell_reply;
 use crate::wanted::Wanted;
-use anyhow::{Result, bail};
+use anyhow::Result;
 use std::alloc::Global;
-use title_chain::Ask;
 use title_trace::Reply;
 
 const EXAMINER: u32 = 1;
@@ -21,19 +20,13 @@ fn sells(doc: u64, grantee: u32, units: u64, parcel: Parcel) -> Wish {
     })
 }
 
-fn serve_once(desk: &mut Plant, ask: Ask) -> Result<Reply> {
-    match desk.first_open() {
-        None => Ok(desk.serve_alone(EXAMINER, ask)),
-        Some(_) => bail!("somebody is open"),
-    }
-}
-
 // Serves an ask, and once more where it wanted memory.
 fn serve(desk: &mut Plant, alloc: Global, wish: Wish, wanted: &mut Wanted) -> Result<Reply> {
-    let reply = serve_once(desk, wish.ask(alloc, wanted)?)?;
+    let reply = desk.serve_alone(EXAMINER, wish.ask(alloc, wanted)?);
     if let Reply::Memory = &reply {
         wanted.count();
-        return serve_once(desk, wish.ask(alloc, wanted)?);
+        let again = wish.ask(alloc, wanted)?;
+        return Ok(desk.serve_alone(EXAMINER, again));
     }
     Ok(reply)
 }

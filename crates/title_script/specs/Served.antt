@@ -5,6 +5,7 @@ use Rattle.title_chain.specs.declared.ask.Ask.{Ask}
 use Rattle.title_trace.specs.{declared.call.{Call.{Call}, Request.{Request}, Reply.{Reply}}, Trace.{examiner_of}, Due.{Setting, due_reply}}
 use Rattle.title_trace.specs.declared.call.Request.TheVariants as request
 use Rattle.title_trace.specs.declared.call.Reply.TheVariants as reply
+use Rattle.title_desk.specs.Singles.{ending}
 use Rattle.title_plan.specs.declared.line.Line.{Line}
 use Rattle.title_plan.specs.declared.line.Line.TheVariants as line
 use Rattle.title_report.specs.Replies.{reply_rows, described_row}
@@ -16,11 +17,6 @@ reply_to setting before q = due_reply depth setting before q
 -- the trace after a request: the call with its due reply comes to it
 unfoldable pub after_call : Setting → List Call → Request → List Call
 after_call setting before q = record { request = q; reply = reply_to setting before q } ∷ before
-
--- how a transaction of one step ends: committed where the step is answered; else nothing stands to be committed
-abbrev pub ending : ℕ → Reply → Request
-ending e (reply.Answered given) = request.Commit e
-ending e _ = request.Abort e
 
 -- the trace after an examiner's ask as a transaction of its own: begun, asked, and ended at once
 abbrev pub after_alone : Setting → List Call → ℕ → Ask → List Call

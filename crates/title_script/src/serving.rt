@@ -3,9 +3,8 @@
 ghost use Rattle.std.specs.Prelude.{◌≡◌, ◌++◌, ◌∷◌, [], IfOk, OnOk, length};
 ghost use Rattle.title_trace.specs.declared.call.Request.TheVariants as request;
 ghost use Rattle.title_trace.specs.Due.{MayOpen};
-ghost use Rattle.title_desk.specs.Singles.{IsIdle};
 ghost use Rattle.title_plan.specs.Asked.{asked_in};
-ghost use Rattle.title_script.specs.{Served.{after_alone, after_call, after_line, ending, reply_to}, ReportLaws.{after_lines}};
+ghost use Rattle.title_script.specs.{Served.{after_alone, after_call, after_line, reply_to}, ReportLaws.{after_lines}};
 ghost use Rattle.title_script.specs.{Reports.{report_on, report_onto, setting_of}, Told.{all_due_told, due_told, served_text}};
 
 use crate::told::{Served, Told};
@@ -34,52 +33,7 @@ fn ask<S: Store + Drop, G: Guards + Drop>(
     }
 }
 
-// How a transaction of one step ends.
-fn ending(examiner: u32, reply: &Reply) -> Request
-    ensures ending { result ≡ ending examiner reply.now }
-{
-    match reply {
-        Reply::Answered(_) => Request::Commit(examiner),
-        _ => Request::Abort(examiner),
-    }
-}
-
-// Asks for a transaction of this one step by its three requests; the step's reply.
-fn ask_in_turn<S: Store + Drop, G: Guards + Drop>(
-    desk: &mut Desk<S, G>,
-    examiner: u32,
-    step: Ask,
-) -> Result<Reply, AllocError>
-    ensures setting { desk.new.setting ≡ desk.old.setting }
-    ensures trace { OnOk result (desk.new.trace ≡ after_alone desk.old.setting desk.old.trace examiner step) }
-    ensures reply { IfOk result (λ r. r ≡ reply_to desk.old.setting
-        (after_call desk.old.setting desk.old.trace (request.Begin examiner)) (request.Step examiner step)) }
-{
-    ask(desk, Request::Begin(examiner))?;
-    let reply = ask(desk, Request::Step(examiner, step))?;
-    ask(desk, ending(examiner, &reply))?;
-    Ok(reply)
-}
-
-// Asks for a transaction of this one step by one call, where nobody is open; the step's reply.
-fn ask_at_once<S: Store + Drop, G: Guards + Drop>(
-    desk: &mut Desk<S, G>,
-    examiner: u32,
-    step: Ask,
-) -> Result<Reply, AllocError>
-    requires idle { IsIdle desk.old.trace }
-    ensures setting { desk.new.setting ≡ desk.old.setting }
-    ensures trace { OnOk result (desk.new.trace ≡ after_alone desk.old.setting desk.old.trace examiner step) }
-    ensures reply { IfOk result (λ r. r ≡ reply_to desk.old.setting
-        (after_call desk.old.setting desk.old.trace (request.Begin examiner)) (request.Step examiner step)) }
-{
-    match desk.serve_alone(examiner, step) {
-        Reply::Memory => Err(AllocError),
-        reply => Ok(reply),
-    }
-}
-
-// Asks for a transaction of this one step: by one call where nobody is open, else by its three requests; the step's reply.
+// Asks for a transaction of this one step; the step's reply. Want of memory ends the run.
 fn ask_alone<S: Store + Drop, G: Guards + Drop>(
     desk: &mut Desk<S, G>,
     examiner: u32,
@@ -90,9 +44,9 @@ fn ask_alone<S: Store + Drop, G: Guards + Drop>(
     ensures reply { IfOk result (λ r. r ≡ reply_to desk.old.setting
         (after_call desk.old.setting desk.old.trace (request.Begin examiner)) (request.Step examiner step)) }
 {
-    match desk.first_open() {
-        None => ask_at_once(desk, examiner, step),
-        Some(_) => ask_in_turn(desk, examiner, step),
+    match desk.serve_alone(examiner, step) {
+        Reply::Memory => Err(AllocError),
+        reply => Ok(reply),
     }
 }
 

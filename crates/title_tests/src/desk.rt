@@ -224,18 +224,10 @@ fn assert_a_hundred_thousand(rt: &impl Abort, desk: &mut TestDesk) {
     must(rt, desk.records().len() == 100_000, "all records");
 }
 
-/// The reply to an examiner's step as a transaction of its own, in a word.
-fn replied_alone(rt: &impl Abort, desk: &mut TestDesk, ask: Ask) -> &'static str {
-    let None = desk.first_open() else {
-        panic!(rt; "nobody is open");
-    };
-    word(&desk.serve_alone(1, ask))
-}
-
 /// Such a step is replied to by this word.
 fn assert_alone(rt: &impl Abort, alloc: Global, desk: &mut TestDesk, step: Step, wanted: &str) {
-    let word = replied_alone(rt, desk, ask(rt, alloc, step));
-    must(rt, word == wanted, wanted);
+    let replied = word(&desk.serve_alone(1, ask(rt, alloc, step)));
+    must(rt, replied == wanted, wanted);
 }
 
 /// Transactions of one step in one call are committed, each in its place.
@@ -252,6 +244,28 @@ fn assert_aborted_alone(rt: &impl Abort, alloc: Global, desk: &mut TestDesk) {
     must(rt, desk.records().is_empty(), "no record");
 }
 
+const READS_ON: [(u32, Act, &str); 2] = [
+    (2, Act::Begin, "began"),
+    (2, Act::Step(Step::Sheet), "rows"),
+];
+
+/// Beside an examiner who has read, a post alone is in its way and is aborted, and a chain alone is committed.
+fn assert_alone_beside(rt: &impl Abort, alloc: Global, desk: &mut TestDesk) {
+    assert_replies(rt, alloc, desk, &READS_ON);
+    assert_alone(rt, alloc, desk, Step::Post(7), "conflict");
+    assert_alone(rt, alloc, desk, Step::Chain, "entries");
+    must(rt, desk.is_open(2) && !desk.is_open(1), "who reads is open");
+    assert_record(rt, desk.records());
+}
+
+/// Who has a transaction open already commits it with its step alone.
+fn assert_alone_within(rt: &impl Abort, alloc: Global, desk: &mut TestDesk) {
+    assert_replies(rt, alloc, desk, &[(1, Act::Begin, "began")]);
+    assert_alone(rt, alloc, desk, Step::Post(7), "posted");
+    must(rt, !desk.is_open(1), "nobody is open");
+    assert_record(rt, desk.records());
+}
+
 /// What is tried of a desk.
 #[derive(Clone, Copy)]
 enum Trial {
@@ -260,6 +274,8 @@ enum Trial {
     AHundredThousand,
     CommittedAlone,
     AbortedAlone,
+    AloneBeside,
+    AloneWithin,
 }
 
 fn try_all(
@@ -277,6 +293,8 @@ fn try_all(
         Trial::AHundredThousand => assert_a_hundred_thousand(rt, desk),
         Trial::CommittedAlone => assert_committed_alone(rt, alloc, desk),
         Trial::AbortedAlone => assert_aborted_alone(rt, alloc, desk),
+        Trial::AloneBeside => assert_alone_beside(rt, alloc, desk),
+        Trial::AloneWithin => assert_alone_within(rt, alloc, desk),
     }
 }
 
@@ -310,4 +328,14 @@ fn a_step_alone_is_begun_and_committed(rt: HostRuntime) {
 #[test]
 fn a_step_alone_is_begun_and_aborted(rt: HostRuntime) {
     try_desk(&rt, rt.alloc(), 4, Trial::AbortedAlone);
+}
+
+#[test]
+fn a_step_alone_beside_a_reader(rt: HostRuntime) {
+    try_desk(&rt, rt.alloc(), 3, Trial::AloneBeside);
+}
+
+#[test]
+fn a_step_alone_ends_what_its_examiner_has_open(rt: HostRuntime) {
+    try_desk(&rt, rt.alloc(), 3, Trial::AloneWithin);
 }

@@ -6,7 +6,7 @@ use title_chance::{Chance, Ground, StepWish, Wish};
 use title_desk::Desk;
 use title_lock::NodeLocks;
 use title_store::Store;
-use title_trace::{Denial, Reply};
+use title_trace::Reply;
 
 // A request, or a step that is a transaction of its own.
 #[derive(Clone, Copy)]
@@ -64,7 +64,7 @@ impl Turn {
         }
     }
 
-    // Serves a step alone; where somebody is open, that is the reply.
+    // Serves a step alone.
     fn serve_alone<S: Store + Drop>(
         self,
         desk: &mut Desk<S, NodeLocks>,
@@ -74,10 +74,7 @@ impl Turn {
         let Ok(ask) = wish.ask(self.alloc, ground, self.doc) else {
             return Reply::Memory;
         };
-        match desk.first_open() {
-            None => desk.serve_alone(self.examiner, ask),
-            Some(_) => Reply::Denied(Denial::AlreadyOpen),
-        }
+        desk.serve_alone(self.examiner, ask)
     }
 
     fn serve_once<S: Store + Drop>(self, desk: &mut Desk<S, NodeLocks>, ground: &Ground) -> Reply {

@@ -1,4 +1,4 @@
-//! Transactions of one step, where nobody is open: no open transaction, no lock and no before-image is kept for them.
+//! Transactions of one step. Where nobody is open, no open transaction, no lock and no before-image is kept for them.
 
 ghost use Rattle.std.specs.Prelude.{◌≡◌, ◌++◌, ◌∷◌, [], IfOk, OnOk, OnErr, true, false, length};
 ghost use Rattle.title_land.specs.{Depth.{depth}, Lands.{is_in_plant}};
@@ -6,7 +6,7 @@ ghost use Rattle.title_store.specs.Plants.{SameContent, plant_effect, refused_in
 ghost use Rattle.title_chain.specs.{declared.ask.{Ask.TheVariants.{Post}, Answer.TheVariants.{Posted}}, Alone.{alone}, Asks.{is_post}};
 ghost use Rattle.title_trace.specs.declared.call.{Request.TheVariants.{Begin, Commit, Step}, Reply.TheVariants.{Began, Committed}};
 ghost use Rattle.title_trace.specs.Trace.{committed, open_steps};
-ghost use Rattle.title_desk.specs.{Images.{is_posted}, Singles.{Bars, IsDeed, IsIdle, Stands, ToldSingle}};
+ghost use Rattle.title_desk.specs.{Images.{is_posted}, Singles.{Bars, IsDeed, IsIdle, Stands, ToldInTurn, ToldSingle, ending}};
 
 use crate::asks::step_of;
 use crate::calls::Calls;
@@ -119,6 +119,16 @@ fn add_done(
     with_single(calls, examiner, ask, told, &end, &ended)
 }
 
+// How a transaction of one step is ended.
+fn ending(examiner: u32, told: &Reply) -> Request
+    ensures ending { result ≡ ending examiner told.now }
+{
+    match told {
+        Reply::Answered(_) => Request::Commit(examiner),
+        _ => Request::Abort(examiner),
+    }
+}
+
 impl<S: Store + Drop, G: Guards + Drop> Desk<S, G> {
     // Adds a transaction whose step is refused.
     fn refuse_alone(&mut self, examiner: u32, ask: Ask, why: Denial) -> Reply
@@ -186,10 +196,8 @@ impl<S: Store + Drop, G: Guards + Drop> Desk<S, G> {
         told
     }
 
-    /// Serves an examiner's ask as a transaction of its own where nobody is open: adds its three calls, begun, asked, and
-    /// committed or aborted, to the trace and gives the step's reply; or answers `Memory` where a growth was refused, and
-    /// then nothing has changed.
-    pub fn serve_alone(&mut self, examiner: u32, ask: Ask) -> Reply
+    // Serves an examiner's ask as a transaction of its own where nobody is open.
+    fn serve_at_once(&mut self, examiner: u32, ask: Ask) -> Reply
         requires idle { IsIdle self.old.trace }
         ensures told { ToldSingle self.old examiner ask result self.new }
     {
@@ -200,6 +208,37 @@ impl<S: Store + Drop, G: Guards + Drop> Desk<S, G> {
             Ask::Sheet(tract) => self.read_alone(examiner, Ask::Sheet(tract)),
             Ask::Chain(tract) => self.read_alone(examiner, Ask::Chain(tract)),
             Ask::Post(posting) => self.post_alone(examiner, posting),
+        }
+    }
+
+    // Serves an examiner's ask as a transaction of its own by its three requests.
+    fn serve_in_turn(&mut self, examiner: u32, ask: Ask) -> Reply
+        ensures told { ToldInTurn self.old examiner ask result self.new }
+    {
+        if let Reply::Memory = self.begin(examiner) {
+            return Reply::Memory;
+        }
+        let reply = self.step(examiner, ask);
+        if let Reply::Memory = &reply {
+            return Reply::Memory;
+        }
+        if let Reply::Memory = self.serve(ending(examiner, &reply)) {
+            return Reply::Memory;
+        }
+        self.is_due();
+        reply
+    }
+
+    /// Serves an examiner's ask as a transaction of its own: adds its three calls, begun, asked, and committed or aborted,
+    /// to the trace and gives the step's reply; or answers `Memory` where a growth was refused. Then nothing has changed where
+    /// nobody was open; else those of the three are added that came before.
+    pub fn serve_alone(&mut self, examiner: u32, ask: Ask) -> Reply
+        ensures told { ToldInTurn self.old examiner ask result self.new }
+        ensures idle { IsIdle self.old.trace → ToldSingle self.old examiner ask result self.new }
+    {
+        match self.first_open() {
+            None => self.serve_at_once(examiner, ask),
+            Some(_) => self.serve_in_turn(examiner, ask),
         }
     }
 }

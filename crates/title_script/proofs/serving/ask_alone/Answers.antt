@@ -1,5 +1,8 @@
 use Rattle.title_script.proofs.AskedAlone.{asked_alone}
-use Rattle.title_script.proofs.serving.ask_at_once.Goals as goal
+use Rattle.title_script.proofs.serving.ask_alone.Goals as goal
+
+pub returns-in-Memory : goal.returns-in-Memory
+returns-in-Memory g c = record { setting = c.in-Memory.ensures.told.0; trace = tt; reply = tt }
 
 pub returns-in_default : goal.returns-in_default
 returns-in_default g c =
