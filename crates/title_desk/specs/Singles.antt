@@ -55,12 +55,11 @@ AddedInTurn old e a told new =
     (new.setting ≡ old.setting) × (begun : Reply) × (ended : Reply) × (new.trace ≡ in_turn old.trace e a begun told ended)
     × IsDue depth old.setting new.trace
 
--- the same, or one of its calls wants memory, and those before it are added
-abbrev pub ToldInTurn : Books → ℕ → Ask → Reply → Books → Type 0
-ToldInTurn old e a reply.Memory new =
+-- one of its calls wants memory, and those before it are added
+abbrev pub BrokenOff : Books → ℕ → Ask → Books → Type 0
+BrokenOff old e a new =
     (new.setting ≡ old.setting) × (left : ℕ) × (begun : Reply) × (told : Reply) × (left < 3)
     × (new.trace ≡ drop (suc left) (in_turn old.trace e a begun told reply.Memory))
-ToldInTurn old e a told new = AddedInTurn old e a told new
 
 -- the ask's tract is in the plant, and its instrument can stand
 abbrev pub Stands : Setting → Ask → Type 0

@@ -6,7 +6,7 @@ use Rattle.title_trace.specs.{declared.call.{Call.{Call}, Request.{Request}, Rep
 use Rattle.title_trace.specs.Laws.OneReply.{one_due_reply}
 use Rattle.title_trace.specs.declared.call.Request.TheVariants as request
 use Rattle.title_trace.specs.declared.call.Reply.TheVariants as reply
-use Rattle.title_desk.specs.{Told.{Books}, Singles.{AddedInTurn, ToldInTurn, ending, in_turn}}
+use Rattle.title_desk.specs.{Told.{Books}, Singles.{AddedInTurn, ending, in_turn}}
 use Rattle.title_script.specs.Served.{after_alone, after_call, reply_to}
 
 -- a call with a due reply is the one after a request
@@ -40,20 +40,10 @@ due_in_turn setting before e a begun r ended due =
       told,
     )
 
--- a reply other than Memory is added
-added : (old new : Books) (e : ℕ) (a : Ask) (r : Reply) → (r ≡ reply.Memory → ⊥) → ToldInTurn old e a r new → AddedInTurn old e a r new
-added old new e a reply.Memory other told = absurd (other refl)
-added old new e a reply.Began other told = told
-added old new e a (reply.Answered given) other told = told
-added old new e a (reply.Committed place) other told = told
-added old new e a reply.Aborted other told = told
-added old new e a (reply.Denied why) other told = told
-
 -- a reply other than Memory is the due one, and the trace has the calls
-pub asked_alone : (old new : Books) (e : ℕ) (a : Ask) (r : Reply) → (r ≡ reply.Memory → ⊥) → ToldInTurn old e a r new →
+pub asked_alone : (old new : Books) (e : ℕ) (a : Ask) (r : Reply) → AddedInTurn old e a r new →
     (new.setting ≡ old.setting) × (new.trace ≡ after_alone old.setting old.trace e a)
     × (r ≡ reply_to old.setting (after_call old.setting old.trace (request.Begin e)) (request.Step e a))
-asked_alone old new e a r other told =
-    let one = added old new e a r other told in
+asked_alone old new e a r one =
     let turn = due_in_turn old.setting old.trace e a one.1 r one.2 (subst (IsDue depth old.setting) one.3 one.4) in
     (one.0, one.3 ∙ turn.0, turn.1)

@@ -232,6 +232,7 @@ fn assert_alone(rt: &impl Abort, alloc: Global, desk: &mut TestDesk, step: Step,
 
 /// Transactions of one step in one call are committed, each in its place.
 fn assert_committed_alone(rt: &impl Abort, alloc: Global, desk: &mut TestDesk) {
+    must(rt, desk.store().holds(&tract(rt, alloc)), "in the plant");
     assert_alone(rt, alloc, desk, Step::Sheet, "rows");
     assert_alone(rt, alloc, desk, Step::Post(7), "posted");
     assert_alone(rt, alloc, desk, Step::Chain, "entries");
@@ -240,6 +241,11 @@ fn assert_committed_alone(rt: &impl Abort, alloc: Global, desk: &mut TestDesk) {
 
 /// One whose township isn't declared is aborted.
 fn assert_aborted_alone(rt: &impl Abort, alloc: Global, desk: &mut TestDesk) {
+    must(
+        rt,
+        !desk.store().holds(&tract(rt, alloc)),
+        "outside the plant",
+    );
     assert_alone(rt, alloc, desk, Step::Post(7), "another");
     must(rt, desk.records().is_empty(), "no record");
 }

@@ -1,12 +1,12 @@
 //! Transactions of one step. Where nobody is open, no open transaction, no lock and no before-image is kept for them.
 
-ghost use Rattle.std.specs.Prelude.{◌≡◌, ◌++◌, ◌∷◌, [], IfOk, OnOk, OnErr, true, false, length};
+ghost use Rattle.std.specs.Prelude.{◌≡◌, ◌≢◌, ◌++◌, ◌∷◌, [], IfOk, OnOk, OnErr, true, false, length};
 ghost use Rattle.title_land.specs.{Depth.{depth}, Lands.{is_in_plant}};
 ghost use Rattle.title_store.specs.Plants.{SameContent, plant_effect, refused_in};
 ghost use Rattle.title_chain.specs.{declared.ask.{Ask.TheVariants.{Post}, Answer.TheVariants.{Posted}}, Alone.{alone}, Asks.{is_post}};
-ghost use Rattle.title_trace.specs.declared.call.{Request.TheVariants.{Begin, Commit, Step}, Reply.TheVariants.{Began, Committed}};
+ghost use Rattle.title_trace.specs.declared.call.{Request.TheVariants.{Begin, Commit, Step}, Reply.TheVariants.{Began, Committed, Memory}};
 ghost use Rattle.title_trace.specs.Trace.{committed, open_steps};
-ghost use Rattle.title_desk.specs.{Images.{is_posted}, Singles.{Bars, IsDeed, IsIdle, Stands, ToldInTurn, ToldSingle, ending}};
+ghost use Rattle.title_desk.specs.{Images.{is_posted}, Singles.{AddedInTurn, Bars, BrokenOff, IsDeed, IsIdle, Stands, ToldSingle, ending}};
 
 use crate::asks::step_of;
 use crate::calls::Calls;
@@ -213,7 +213,8 @@ impl<S: Store + Drop, G: Guards + Drop> Desk<S, G> {
 
     // Serves an examiner's ask as a transaction of its own by its three requests.
     fn serve_in_turn(&mut self, examiner: u32, ask: Ask) -> Reply
-        ensures told { ToldInTurn self.old examiner ask result self.new }
+        ensures added { result ≢ Memory → AddedInTurn self.old examiner ask result self.new }
+        ensures broken { result ≡ Memory → BrokenOff self.old examiner ask self.new }
     {
         if let Reply::Memory = self.begin(examiner) {
             return Reply::Memory;
@@ -233,7 +234,8 @@ impl<S: Store + Drop, G: Guards + Drop> Desk<S, G> {
     /// to the trace and gives the step's reply; or answers `Memory` where a growth was refused. Then nothing has changed where
     /// nobody was open; else those of the three are added that came before.
     pub fn serve_alone(&mut self, examiner: u32, ask: Ask) -> Reply
-        ensures told { ToldInTurn self.old examiner ask result self.new }
+        ensures added { result ≢ Memory → AddedInTurn self.old examiner ask result self.new }
+        ensures broken { result ≡ Memory → BrokenOff self.old examiner ask self.new }
         ensures idle { IsIdle self.old.trace → ToldSingle self.old examiner ask result self.new }
     {
         match self.first_open() {
