@@ -43,8 +43,7 @@ unposted ts a (o ∷ earlier) c n h =
 pub posted_apart : (ts : List Township) (own theirs : List Step) (c : Cell) → Clear own theirs → posted_at ts c theirs ≡ true
     → posted_at ts c own ≡ false
 posted_apart ts [] theirs c clear h = refl
-posted_apart ts (s ∷ earlier) theirs c clear h =
-    or_from _ _ (false_from_ne_true _ (λ k. both_ways _
+posted_apart ts (s ∷ earlier) theirs c clear h = or_from _ _ (false_from_ne_true _ (λ k. both_ways _
     (unposted ts s.ask theirs c clear.1 (and_parts (is_posted s.ask s.answer) (is_cell_of depth ts (tract_of s.ask) c) k).1) h))
     (posted_apart ts earlier theirs c clear.0 h)
 

@@ -42,11 +42,7 @@ pub record Gone (images gone : List ℕ) : Type 0 where
 
 -- the state without what an examiner has open, and without its locks
 abbrev pub ended : ℕ → List ℕ → State → State
-ended e gone s = record s {
-  opened = set e None s.opened;
-  out = without_all gone s.out;
-  locks = without e s.locks;
-}
+ended e gone s = record s { opened = set e None s.opened; out = without_all gone s.out; locks = without e s.locks }
 
 -- no step of one examiner overlaps another's
 clear_of : {s : State} → Keeps s → (f g : ℕ) → f ≢ g → Clear (own_of s f) (own_of s g)
@@ -128,8 +124,7 @@ none_out (x ∷ out) h = absurd (h x (inl refl))
 
 -- where nobody has an image, none is out
 pub nothing_out : {s : State} → Facts s → ((e : ℕ) → images_of s e ≡ []) → s.out ≡ []
-nothing_out {s} facts none =
-    none_out s.out (λ b at. let owner = facts.owned b at in subst (IsOf b.number) (none owner.0) owner.1)
+nothing_out {s} facts none = none_out s.out (λ b at. let owner = facts.owned b at in subst (IsOf b.number) (none owner.0) owner.1)
 
 -- so none is left out when the last transaction ends
 pub none_left : {s : State} (e : ℕ) (gone : List ℕ) → Keeps s → Gone (images_of s e) gone → set e None s.opened ≡ found []

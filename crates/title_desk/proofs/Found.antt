@@ -27,8 +27,7 @@ written change (Err x) e t w old new at h made same =
 -- what is so of the one that was set and of all others
 pub at_set : (P : ℕ → Option Opened → Type 0) (e : ℕ) (o : Option Opened) (all : ℕ → Option Opened) → P e o
     → ((f : ℕ) → f ≢ e → P f (all f)) → (f : ℕ) → P f (set e o all f)
-at_set P e o all mine others f =
-    case_eqb (λ b. P f (cond b o (all f))) f e (λ same. subst (λ g. P g o) (sym same) mine) (others f)
+at_set P e o all mine others f = case_eqb (λ b. P f (cond b o (all f))) f e (λ same. subst (λ g. P g o) (sym same) mine) (others f)
 
 pub set_here : (e : ℕ) (o : Option Opened) (all : ℕ → Option Opened) → set e o all e ≡ o
 set_here e o all = ap (λ b. cond b o (all e)) (eq-eqb e e refl)

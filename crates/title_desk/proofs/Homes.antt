@@ -43,8 +43,7 @@ kept_cond false x y = refl
 pub set_under : (k : ℕ) (o : Option Home) (old new : BTreeMap ℕ Home)
     → ((j : ℕ) → get nat_cmp new j ≡ cond (is_at (nat_cmp k) j) o (get nat_cmp old j))
     → (j : ℕ) → kept_in (get nat_cmp new j) ≡ cond (eqb k j) (kept_in o) (kept_in (get nat_cmp old j))
-set_under k o old new writes j =
-    ap kept_in (writes j ∙ ap (λ (b : Bool). cond b o (get nat_cmp old j)) (unsigned_tied k j))
+set_under k o old new writes j = ap kept_in (writes j ∙ ap (λ (b : Bool). cond b o (get nat_cmp old j)) (unsigned_tied k j))
     ∙ kept_cond (eqb k j) o (get nat_cmp old j)
 
 -- what stands under one number was changed and is the plant's, and so is what stands under another
@@ -79,8 +78,7 @@ filtered test P Q xs stays all i d below =
 module _ (ts : List Township) (land : Land) (p q : Plant) (outside : SameOutside ts land p q) where
   -- the cells of a tract that shares none with the land of a post
   untouched : (x : Land) → meets x land ≡ false → (c : Cell) → is_cell_of depth ts x c ≡ true → p c ≡ q c
-  untouched x away c inside =
-      sym (outside c (false_from_ne_true _ (λ k. both_ways _ away (cell_meets depth ts x land c inside k))))
+  untouched x away c inside = sym (outside c (false_from_ne_true _ (λ k. both_ways _ away (cell_meets depth ts x land c inside k))))
 
   -- what is kept of a tract that shares no cell with the land of a post
   apart : (x : Kept) → meets (land_in x) land ≡ false → IsTrue ts p x → IsTrue ts q x
@@ -237,8 +235,7 @@ section_apart s land estates old a b new home own above top u same =
 
 -- no sheet went but of the township's sections
 abbrev pub OutsideStay : Township → KeptSheets → KeptSheets → Type 0
-OutsideStay t old new = (n : Node) → is_above (node.Township t) n ≡ false
-    → kept_under new (node_number n) ≡ kept_under old (node_number n)
+OutsideStay t old new = (n : Node) → is_above (node.Township t) n ≡ false → kept_under new (node_number n) ≡ kept_under old (node_number n)
 
 above_section : (s : Section) → is_above (node.Township s.township) (node.Part s []) ≡ true
 above_section s = ap (λ (b : Bool). b || false) (same_township-self s.township)
@@ -246,8 +243,7 @@ above_section s = ap (λ (b : Bool). b || false) (same_township-self s.township)
 -- one section more
 pub outside_more : (s : Section) (old mid new : KeptSheets) → OutsideStay s.township old mid
     → IsSetUnder (section_home s) no_stock mid new → OutsideStay s.township old new
-outside_more s old mid new stay set n far =
-    set_elsewhere (node.Part s []) n no_stock mid new set
+outside_more s old mid new stay set n far = set_elsewhere (node.Part s []) n no_stock mid new set
     (false_from_ne_true _ (λ same. both_ways _ far
     (ap (is_above (node.Township s.township)) ((same_node-is n (node.Part s [])).0 same) ∙ above_section s))) ∙ stay n far
 

@@ -23,8 +23,7 @@ out_without n x (y ∷ ys) h =
 
 pub into_without : (n : ℕ) (x : Loan) (out : List Loan) → IsAmong x out → x.number ≢ n → IsAmong x (without n out)
 into_without n x [] h ne = absurd h
-into_without n x (y ∷ ys) h ne =
-    case_eqb (λ b. IsAmong x (cond b (without n ys) (y ∷ without n ys))) n y.number
+into_without n x (y ∷ ys) h ne = case_eqb (λ b. IsAmong x (cond b (without n ys) (y ∷ without n ys))) n y.number
     (λ e. elim h [ inl same ↦ absurd (ne (ap (λ z. z.number) same ∙ sym e)) | inr r ↦ into_without n x ys r ne ])
     (λ _. elim h [ inl same ↦ inl same | inr r ↦ inr (into_without n x ys r ne) ])
 
@@ -173,10 +172,7 @@ apart_later : (n : ℕ) (ns : List ℕ) (now : List Loan) → Apart (n ∷ ns) n
 apart_later n ns now apart b x at b_in x_in =
     let bo = out_without n b now b_in in
     let xo = out_without n x now x_in in
-    elim (apart b x (inr at) bo.0 xo.0) [
-      | inl own ↦ elim own [ inl same ↦ absurd (xo.1 same) | inr r ↦ inl r ]
-      | inr away ↦ inr away
-    ]
+    elim (apart b x (inr at) bo.0 xo.0) [ inl own ↦ elim own [ inl same ↦ absurd (xo.1 same) | inr r ↦ inl r ] | inr away ↦ inr away ]
 
 out_later : (n m : ℕ) (now : List Loan) → m ≢ n → IsOut m now → IsOut m (without n now)
 out_later n m now ne was = (was.0, (into_without n was.0 now was.1.0 (λ e. ne (sym was.1.1 ∙ e)), was.1.1))
@@ -206,8 +202,7 @@ apart_of a b n p = sym (ap (λ x. (x || is_post b) && meets (tract_of a) (tract_
 -- images of steps that don't overlap share no cell
 pub images_apart : (out : List Loan) (own theirs : List Step) (b x : Loan) → IsFor out own b.number → IsFor out theirs x.number →
     Clear own theirs → IsAmong b out → IsAmong x out → meets b.land x.land ≡ false
-images_apart out own theirs b x mine yours clear at xt =
-    rw (mine.land_is b (at, refl), yours.land_is x (xt, refl))
+images_apart out own theirs b x mine yours clear at xt = rw (mine.land_is b (at, refl), yours.land_is x (xt, refl))
     (apart_of mine.ask yours.ask (yours.misses mine.ask (mine.clear theirs clear)) mine.posts)
 
 -- a cell once the images of these steps have gone back: where the steps left it as it is, it is as it was before them; where no step was
@@ -248,8 +243,7 @@ pub first_in_turn : {I : Type 0} (IsNext : ℕ → List Loan → Type 0) (number
 first_in_turn IsNext number out images rest image items able = rw (numbers_from number images rest image items) at able
 
 pub gone_first : {I : Type 0} (number : I → ℕ) (out out' : List Loan) (images rest : List I) (image : I) → images ≡ rest ++ image ∷ []
-    → out' ≡ without (number image) out →
-    without_all (map number (reverse rest)) out' ≡ without_all (map number (reverse images)) out
+    → out' ≡ without (number image) out → without_all (map number (reverse rest)) out' ≡ without_all (map number (reverse images)) out
 gone_first number out out' images rest image items outs = rw (numbers_from number images rest image items, outs) refl
 
 -- one image put back, in a loop from the end of a list

@@ -12,10 +12,9 @@ use Rattle.title_chain.specs.SheetParts.{all_rows}
 use Rattle.title_desk.{specs.Shown.{quarter_rows}, proofs.Found.{none_from}}
 
 -- parts that came one after another are the sheet
-pub whole_sheet : (ts : List Township) (p : Plant) (land : Land) (none a b c : List (List SheetRow)) (rows : List SheetRow)
-    → none ≡ [] → all_rows a ≡ all_rows none ++ estate_sheet depth ts p land S
-    → all_rows b ≡ all_rows a ++ estate_sheet depth ts p land O → all_rows c ≡ all_rows b ++ estate_sheet depth ts p land M
-    → rows ≡ all_rows c → rows ≡ sheet_of depth ts p land
+pub whole_sheet : (ts : List Township) (p : Plant) (land : Land) (none a b c : List (List SheetRow)) (rows : List SheetRow) → none ≡ []
+    → all_rows a ≡ all_rows none ++ estate_sheet depth ts p land S → all_rows b ≡ all_rows a ++ estate_sheet depth ts p land O
+    → all_rows c ≡ all_rows b ++ estate_sheet depth ts p land M → rows ≡ all_rows c → rows ≡ sheet_of depth ts p land
 unfolding sheet_of
 whole_sheet ts p land none a b c rows begun s o m is =
     let surface = estate_sheet depth ts p land S in

@@ -14,7 +14,6 @@ kept_same ts ts' p q kept declared same are =
 -- after a post what is left are sheets still
 pub kept_left : (ts ts' : List Township) (land : Land) (i : Instrument _) (p q : Plant) (old new : KeptSheets) → ts' ≡ ts
     → SameContent (plant_effect depth ts i p land) q → AreLeft land (estates_of i) old new → AreKept ts p old → AreKept ts' q new
-kept_left ts ts' land i p q old new declared changed left are =
-    subst (λ t. AreKept t q new) (sym declared)
+kept_left ts ts' land i p q old new declared changed left are = subst (λ t. AreKept t q new) (sym declared)
     (left ts p q (λ c out. changed c ∙ effect_outside depth ts i land p c out)
     (λ c e none. ap (holding_of e) (changed c) ∙ effect_unnamed depth ts i land p c e none) are)

@@ -14,7 +14,7 @@ use Rattle.title_trace.specs.declared.call.Request.TheVariants as request
 use Rattle.title_trace.specs.declared.call.Reply.TheVariants as reply
 use Rattle.title_desk.specs.{Opened.{Opened, held, nothing, set}, Images.{is_posted, IsRestored, without_all}}
 use Rattle.title_desk.specs.Keeps.{State, own_of, images_of, Keeps}
-use Rattle.title_desk.specs.{Told.{Added, Books, Passes, Stays, Told, entry_of}, Singles.{AddedInTurn, Bars, BrokenOff, IsIdle, Stands, ToldSingle, after_single, ending}}
+use Rattle.title_desk.specs.{Told.{Added, Books, Passes, Stays, Told, entry_of}, Singles.{AddedInTurn, Bars, BrokenOff, IsIdle, Stands, ToldSingle, after_single, ending, in_turn, last_reply}}
 use Rattle.title_desk.proofs.{Found.{at_set, none_from, set_here, set_other}, Steps.{bars_due, keeps_answered, keeps_posted}}
 use Rattle.title_desk.proofs.States.{told, books_of, keeps_as, keeps_locks, keeps_refused, keeps_began}
 use Rattle.title_desk.proofs.Ends.{Gone, gone_newest, nothing_out, keeps_aborted, keeps_committed}
@@ -36,8 +36,7 @@ after_one e a given after s = record s {
 
 -- locks that have gone again put nobody in anybody's way
 keeps_unlocked : {s t : State} → Keeps s → Keeps t → t.opened ≡ s.opened → Keeps (record t { locks = s.locks })
-keeps_unlocked {s} k j same =
-    keeps_locks s.locks (λ a f. k.facts.locks_are a f ∙ ap (λ all. overlaps a (held (all f)).steps) (sym same)
+keeps_unlocked {s} k j same = keeps_locks s.locks (λ a f. k.facts.locks_are a f ∙ ap (λ all. overlaps a (held (all f)).steps) (sym same)
     ∙ sym (j.facts.locks_are a f)) j
 
 -- where nobody is open
@@ -64,8 +63,7 @@ module _ {s : State} (k : Keeps s) (shut : IsIdle s.trace) where
 
   -- who has begun has no steps yet, nor has anybody
   no_steps : (e f : ℕ) → open_steps (begun e s).trace f ≡ []
-  no_steps e f = sym ((began e).steps_are f)
-      ∙ at_set (λ g o. (held o).steps ≡ []) e (Some nothing) s.opened refl (λ g _. no_own g) f
+  no_steps e f = sym ((began e).steps_are f) ∙ at_set (λ g o. (held o).steps ≡ []) e (Some nothing) s.opened refl (λ g _. no_own g) f
 
   -- the ask passes, if it can stand
   passes : (e : ℕ) (a : Ask) → Stands s.setting a → Passes (books_of (begun e s)) e a
@@ -75,8 +73,7 @@ module _ {s : State} (k : Keeps s) (shut : IsIdle s.trace) where
   )
 
   -- what it gets alone, before and after it has begun
-  alone_now : (e : ℕ) (a : Ask) (given : Answer)
-      → given ≡ alone depth s.setting.townships (committed s.trace) (open_steps s.trace e) a
+  alone_now : (e : ℕ) (a : Ask) (given : Answer) → given ≡ alone depth s.setting.townships (committed s.trace) (open_steps s.trace e) a
       → given ≡ alone depth s.setting.townships (committed s.trace) (open_steps (begun e s).trace e) a
   alone_now e a given is = is ∙ ap (λ own. alone depth s.setting.townships (committed s.trace) own a)
       (sym (k.steps_are e) ∙ no_own e ∙ sym (no_steps e e))
@@ -116,8 +113,7 @@ module _ {s : State} (k : Keeps s) (shut : IsIdle s.trace) where
   pub keeps_read : (e : ℕ) (a : Ask) (given : Answer) → Stands s.setting a
       → given ≡ alone depth s.setting.townships (committed s.trace) (open_steps s.trace e) a → is_posted a given ≡ false
       → Keeps (after_one e a given s.content s)
-  keeps_read e a given stands is unposted =
-      closed e a given (images_of (begun e s) e) s.content s.out (entry_of e a ∷ s.locks)
+  keeps_read e a given stands is unposted = closed e a given (images_of (begun e s) e) s.content s.out (entry_of e a ∷ s.locks)
       (keeps_answered e a given (began e) (passes e a stands) (alone_now e a given is) unposted)
       (ap (λ o. without_all (held o).images s.out) (set_here e (Some nothing) s.opened) ∙ none_out)
 
@@ -157,9 +153,7 @@ module _ {s : State} (k : Keeps s) (shut : IsIdle s.trace) where
 pub added : {s : State} (records mid records' : List Record) (steps : List Step) (trace : List Call) → Keeps s → (e : ℕ) (a : Ask)
     (given : Answer) → s.records ≡ reverse records → mid ≡ records → steps ≡ record { ask = a; answer = given } ∷ []
     → records' ≡ mid ++ record { examiner = e; steps = steps } ∷ [] →
-    trace ≡ record { request = request.Commit e; reply = reply.Committed (length records') }
-    ∷ record { request = request.Step e a; reply = reply.Answered given } ∷ record { request = request.Begin e; reply = reply.Began }
-    ∷ s.trace →
+    trace ≡ in_turn s.trace e a reply.Began (reply.Answered given) (reply.Committed (length records')) →
     (trace ≡ after_single s.trace e a (reply.Answered given))
     × (reverse records' ≡ record_of e (record { ask = a; answer = given } ∷ []) ∷ s.records)
 added {s} records mid records' steps trace k e a given are kept own more calls =
@@ -193,8 +187,7 @@ module _ (old new : Books) (e : ℕ) (a : Ask) where
   pub any_added : (r : Reply) → ToldSingle old e a r new → r ≢ reply.Memory → AddedInTurn old e a r new
   any_added reply.Memory told other = absurd (other refl)
   any_added reply.Began told other = (told.0, reply.Began, reply.Aborted, told.1, rw told.1 told.2)
-  any_added (reply.Answered given) told other =
-      (told.0, reply.Began, reply.Committed (suc (length (committed old.trace))), told.1, rw told.1 told.2)
+  any_added (reply.Answered given) told other = (told.0, reply.Began, last_reply old.trace (reply.Answered given), told.1, rw told.1 told.2)
   any_added (reply.Committed place) told other = (told.0, reply.Began, reply.Aborted, told.1, rw told.1 told.2)
   any_added reply.Aborted told other = (told.0, reply.Began, reply.Aborted, told.1, rw told.1 told.2)
   any_added (reply.Denied why) told other = (told.0, reply.Began, reply.Aborted, told.1, rw told.1 told.2)

@@ -104,6 +104,5 @@ pub shown : {s : State} → Keeps s → ShowsOpenPosts s.setting.townships s.tra
     × ShowsCommitted s.setting.townships s.trace s.content
 shown {s} k = (
   λ e c. rw (sym k.declared_are, sym k.records_are, sym (k.steps_are e)) (k.facts.posted e c),
-  λ c none. rw (sym k.declared_are, sym k.records_are) (k.facts.rest c
-      (λ e. rw (k.declared_are, k.steps_are e) (none e))),
+  λ c none. rw (sym k.declared_are, sym k.records_are) (k.facts.rest c (λ e. rw (k.declared_are, k.steps_are e) (none e))),
 )

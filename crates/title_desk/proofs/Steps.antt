@@ -54,8 +54,7 @@ in_the_way {s} e a t post way k of p stands = go way (rw (of, p) at stands)
 pub conflict_due : {s : State} (e : ℕ) (a : Ask) (t : Land) (post : Bool) (f : ℕ) → Keeps s → t ≡ tract_of a → post ≡ is_post a
     → Stands s.locks e t post (Some f) → IsFit (books_of s) e a
     → DueReply depth s.setting s.trace (request.Step e a) (reply.Denied (denial.Conflict f))
-conflict_due e a t post f k of p stands fit =
-    rw (fit.0, fit.1, fit.2, fit.3) (Some f, in_the_way e a t post (Some f) k of p stands, refl)
+conflict_due e a t post f k of p stands fit = rw (fit.0, fit.1, fit.2, fit.3) (Some f, in_the_way e a t post (Some f) k of p stands, refl)
 
 -- nobody's steps overlap the ask but the examiner's own
 pub free_of : {s : State} (e : ℕ) (a : Ask) → Keeps s → InTheWay s.trace e a None → (f : ℕ) → f ≢ e → overlaps a (own_of s f) ≡ false
@@ -78,8 +77,7 @@ sheet_due {s} e t k way =
 -- the chain that is made of the records and of the examiner's steps is the one that it sees
 pub chain_due : {s : State} (e : ℕ) (t : Land) → Keeps s → answer.Entries (chain_of s.records (own_of s e) t)
     ≡ alone depth s.setting.townships (committed s.trace) (open_steps s.trace e) (ask.Chain t)
-chain_due {s} e t k =
-    sym (answer_chain depth s.declared (plant_for s e) (chain_of s.records (own_of s e) t) t) ∙ alone_is e (ask.Chain t) k
+chain_due {s} e t k = sym (answer_chain depth s.declared (plant_for s e) (chain_of s.records (own_of s e) t) t) ∙ alone_is e (ask.Chain t) k
 
 -- what the store says to a post is what the ask gets alone
 pub post_due : {s : State} (e : ℕ) (p : Posting) (refused : Option Refusal) → Keeps s → InTheWay s.trace e (ask.Post p) None →
@@ -243,10 +241,8 @@ module _ {n : ℕ} {ts : List Township} {land : Land} {before : Plant} {out out'
   taken_out = ap (without n) taken.last ∙ without_last new_loan out taken.above
 
 of_more : (s : State) (e n : ℕ) (step : Step) (f m : ℕ)
-    → IsOf m (held (set e (Some (with_post step n (held (s.opened e)))) s.opened f)).images
-    → IsOf m (images_of s f) ⊎ ((f ≡ e) × (m ≡ n))
-of_more s e n step f m =
-    at_set (λ g o. IsOf m (held o).images → IsOf m (images_of s g) ⊎ ((g ≡ e) × (m ≡ n))) e
+    → IsOf m (held (set e (Some (with_post step n (held (s.opened e)))) s.opened f)).images → IsOf m (images_of s f) ⊎ ((f ≡ e) × (m ≡ n))
+of_more s e n step f m = at_set (λ g o. IsOf m (held o).images → IsOf m (images_of s g) ⊎ ((g ≡ e) × (m ≡ n))) e
     (Some (with_post step n (held (s.opened e)))) s.opened
     (λ k. elim k [ inl is ↦ inr (refl, is) | inr r ↦ inl r ]) (λ g _ k. inl k) f
 
@@ -289,8 +285,7 @@ keeps_posted {s} e p n after out' k passes h taken same =
     let backs : Backs out' ts seen step n (images_of s e) = record {
       is_out = image_out taken;
       land_is = λ b lent. ap (λ z. z.land) (is_new taken b lent);
-      holds = λ b lent c inside. ap (λ z. z.held c) (is_new taken b lent) ∙ taken.holds c inside
-          ∙ same_in c inside;
+      holds = λ b lent c inside. ap (λ z. z.held c) (is_new taken b lent) ∙ taken.holds c inside ∙ same_in c inside;
       above = low e;
     } in
     let mine : Backed out' ts plant (step ∷ own_of s e) (n ∷ images_of s e) =
@@ -324,8 +319,7 @@ keeps_posted {s} e p n after out' k passes h taken same =
           ))
           | inr is ↦ (
             e,
-            subst (λ (o : Option Opened). IsOf b.number (held o).images) (sym (set_here e mine_now s.opened))
-                (inl (ap (λ z. z.number) is)),
+            subst (λ (o : Option Opened). IsOf b.number (held o).images) (sym (set_here e mine_now s.opened)) (inl (ap (λ z. z.number) is)),
           )
         ];
         posted = λ f c. at_set (λ g o. posted_at ts c (held o).steps ≡ true → after c ≡ after_steps depth ts plant (held o).steps c)

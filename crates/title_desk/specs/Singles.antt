@@ -14,19 +14,25 @@ use Rattle.title_desk.specs.Told.{Books, Stays}
 abbrev pub IsIdle : List Call → Type 0
 IsIdle trace = (e : ℕ) → is_open e trace ≡ false
 
--- the last call of a transaction of one step: its commit, in the next place, where the step is answered; else its abort
-abbrev pub last_call : ℕ → List Call → Reply → Call
-last_call e before (reply.Answered given) = record {
-  request = request.Commit e;
-  reply = reply.Committed (suc (length (committed before)));
-}
-last_call e before _ = record { request = request.Abort e; reply = reply.Aborted }
+-- how a transaction of one step is ended: committed where its step is answered, else aborted
+abbrev pub ending : ℕ → Reply → Request
+ending e (reply.Answered given) = request.Commit e
+ending e _ = request.Abort e
 
--- the calls of a transaction of one step, after those before it
+-- its three calls, which got these replies, after those before it
+abbrev pub in_turn : List Call → ℕ → Ask → Reply → Reply → Reply → List Call
+in_turn before e a begun told ended =
+    record { request = ending e told; reply = ended } ∷ record { request = request.Step e a; reply = told }
+    ∷ record { request = request.Begin e; reply = begun } ∷ before
+
+-- the reply to its last call where nobody is open: committed in the next place, or aborted
+abbrev pub last_reply : List Call → Reply → Reply
+last_reply before (reply.Answered given) = reply.Committed (suc (length (committed before)))
+last_reply before _ = reply.Aborted
+
+-- its calls where nobody is open
 abbrev pub after_single : List Call → ℕ → Ask → Reply → List Call
-after_single before e a r =
-    last_call e before r ∷ record { request = request.Step e a; reply = r }
-    ∷ record { request = request.Begin e; reply = reply.Began } ∷ before
+after_single before e a r = in_turn before e a reply.Began r (last_reply before r)
 
 -- its calls are added, each with the due reply
 abbrev pub AddedSingle : Books → ℕ → Ask → Reply → Books → Type 0
@@ -38,17 +44,6 @@ abbrev pub ToldSingle : Books → ℕ → Ask → Reply → Books → Type 0
 ToldSingle old e a reply.Memory new = Stays old new
 ToldSingle old e a r new = AddedSingle old e a r new
 
--- how a transaction of one step is ended: committed where its step is answered, else aborted
-abbrev pub ending : ℕ → Reply → Request
-ending e (reply.Answered given) = request.Commit e
-ending e _ = request.Abort e
-
--- its three calls, with any replies, after those before it
-abbrev pub in_turn : List Call → ℕ → Ask → Reply → Reply → Reply → List Call
-in_turn before e a begun told ended =
-    record { request = ending e told; reply = ended } ∷ record { request = request.Step e a; reply = told }
-    ∷ record { request = request.Begin e; reply = begun } ∷ before
-
 -- whoever is open, its calls are added, each with the due reply
 abbrev pub AddedInTurn : Books → ℕ → Ask → Reply → Books → Type 0
 AddedInTurn old e a told new =
@@ -57,8 +52,7 @@ AddedInTurn old e a told new =
 
 -- one of its calls wants memory, and those before it are added
 abbrev pub BrokenOff : Books → ℕ → Ask → Books → Type 0
-BrokenOff old e a new =
-    (new.setting ≡ old.setting) × (left : ℕ) × (begun : Reply) × (told : Reply) × (left < 3)
+BrokenOff old e a new = (new.setting ≡ old.setting) × (left : ℕ) × (begun : Reply) × (told : Reply) × (left < 3)
     × (new.trace ≡ drop (suc left) (in_turn old.trace e a begun told reply.Memory))
 
 -- the ask's tract is in the plant, and its instrument can stand
@@ -68,8 +62,7 @@ Stands setting a = (is_in_plant setting.townships (tract_of a) ≡ true) × (cau
 -- why a transaction of this one step is refused where nobody is open
 abbrev pub Bars : Setting → Ask → Denial → Type 0
 Bars setting a denial.NoSuchTownship = is_in_plant setting.townships (tract_of a) ≡ false
-Bars setting a (denial.Invalid cause) =
-    (is_in_plant setting.townships (tract_of a) ≡ true) × (cause_of setting.parties a ≡ Some cause)
+Bars setting a (denial.Invalid cause) = (is_in_plant setting.townships (tract_of a) ≡ true) × (cause_of setting.parties a ≡ Some cause)
 Bars setting a _ = ⊥
 
 -- what comes of a post that is put at once: it is done, nothing refusing it; or it gets the answer that says what refuses it

@@ -57,8 +57,7 @@ word_judged names word at h rest i lt = elim (cases_lt i at) [
 -- one word more
 pub one_word_more : (names : List (List ℕ)) (words : List ℕ) (word : ℕ) → AreJudged names words
     → IsJudged (drop (length words * 64) names) word → AreJudged names (words ++ word ∷ [])
-one_word_more names words word h is k lt =
-    below_more (λ k. IsJudged (drop (k * 64) names) (get_or (words ++ word ∷ []) k 0)) (length words)
+one_word_more names words word h is k lt = below_more (λ k. IsJudged (drop (k * 64) names) (get_or (words ++ word ∷ []) k 0)) (length words)
     (λ k l. subst (λ (w : ℕ). IsJudged (drop (k * 64) names) w) (sym (get_or_append_left words (word ∷ []) 0 k l)) (h k l))
     (subst (λ (w : ℕ). IsJudged (drop (length words * 64) names) w) (sym (get_or_push words word 0 (length words) refl)) is)
     k (omega (arith, lt, length_push words word))

@@ -23,8 +23,7 @@ plain_letter : (named : Bool) (estate : Estate) → IsPlain (letter_if named est
 plain_letter named estate = plain_either named (plain_estate estate) (plain_word [] refl)
 
 -- six fields and what stands between them, and the same in three parts
-six : (d n m name s : List ℕ)
-    → (d ++ 44 ∷ (codes "row" ++ 44 ∷ (n ++ 44 ∷ (m ++ 44 ∷ (name ++ 44 ∷ (s ++ [])))))) ++ 10 ∷ []
+six : (d n m name s : List ℕ) → (d ++ 44 ∷ (codes "row" ++ 44 ∷ (n ++ 44 ∷ (m ++ 44 ∷ (name ++ 44 ∷ (s ++ [])))))) ++ 10 ∷ []
     ≡ (d ++ codes "," ++ codes "row" ++ codes "," ++ n ++ codes "," ++ m ++ codes ",") ++ (name ++ 44 ∷ (s ++ 10 ∷ []))
 six d n m name s = simp (append_assoc, append-nil) refl
 
@@ -37,8 +36,7 @@ of_some (Some x) e p = p
 pub line_parts : (front : List ℕ) (names : List (List ℕ)) (e : ℕ) (r : SheetRow) → front ≡ front_text e r.node r.estate → e < 2 ^ 64
     → rows_text (sheet_row names e r ∷ []) ≡ front ++ (field_text row_writer (name_of names r.party) ++ tail_text r.units)
 unfolding row is_blank fields_text
-line_parts front names e r f small =
-    append-nil (row (sheet_row names e r))
+line_parts front names e r f small = append-nil (row (sheet_row names e r))
     ∙ rw (f, plain_field (plain_number e small), node_field r.node, plain_field (plain_estate r.estate))
     (six (decimal e) (node_text r.node) (estate_text r.estate) (field_text row_writer (name_of names r.party))
     (field_text row_writer (share_text r.units)))
@@ -78,8 +76,7 @@ entry_parts names e x small place doc =
 pub entry_by_key : (start : List ℕ) (key : EntryKey) (names : List (List ℕ)) (e : ℕ) (x : Entry) → start ≡ entry_start e
     → key ≡ key_of x → e < 2 ^ 64 → field_text row_writer (decimal key.place) ≡ decimal key.place
     → field_text row_writer (decimal key.doc) ≡ decimal key.doc → rows_text (entry_row names e x ∷ []) ≡ start ++ entry_text names key
-entry_by_key start key names e x s k small place doc =
-    rw (s, k) (entry_parts names e x small (rw k at place) (rw k at doc))
+entry_by_key start key names e x s k small place doc = rw (s, k) (entry_parts names e x small (rw k at place) (rw k at doc))
 
 -- the text of a key from its parts
 pub key_parts : (front end : List ℕ) (names : List (List ℕ)) (key : EntryKey) → front ≡ entry_front key

@@ -34,8 +34,7 @@ plain_digit c low high =
       ne_eqb c 44 (λ e. omega (arith, e)),
       ne_eqb c 34 (λ e. omega (arith, e)),
       ne_eqb c 13 (λ e. omega (arith, e)),
-      ne_eqb
-          c 10 (λ e. omega (arith, e)),
+      ne_eqb c 10 (λ e. omega (arith, e)),
     ) refl
 
 plain_digits : (ds : List ℕ) → AllDigits 10 ds → IsPlain ds
@@ -63,8 +62,7 @@ plain_township t =
     both_plain (both_plain (both_plain (both_plain number side) (plain_word (codes " R") refl)) range) meridian
 
 plain_section : (s : Section) → IsPlain (section_text s)
-plain_section s =
-    both_plain (both_plain (plain_township s.township) (plain_word (codes " sec ") refl))
+plain_section s = both_plain (both_plain (plain_township s.township) (plain_word (codes " sec ") refl))
     (plain_number s.number (omega (arith, s.numbered.1)))
 
 plain_quarter : (q : Quarter) → IsPlain (quarter_text q)

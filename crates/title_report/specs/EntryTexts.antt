@@ -24,8 +24,7 @@ entry_front k = decimal k.place ++ codes "," ++ decimal k.doc ++ codes "," ++ ki
 
 -- the text of a row behind `E,entry,`: `PLACE,DOC,KIND,FROM,TO,ESTATES`, and the line's end
 abbrev pub entry_text : List (List ℕ) → EntryKey → List ℕ
-entry_text names k =
-    entry_front k ++ (field_text row_writer (name_of names k.grantor)
+entry_text names k = entry_front k ++ (field_text row_writer (name_of names k.grantor)
     ++ 44 ∷ (field_text row_writer (name_of names k.grantee) ++ 44 ∷ (estates_text k.estates ++ 10 ∷ [])))
 
 -- the text that a line has is that of its key

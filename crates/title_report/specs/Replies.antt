@@ -28,13 +28,11 @@ number_row e word n = decimal e ∷ word ∷ decimal n ∷ []
 
 -- a row of a sheet: `E,row,NODE,ESTATE,NAME,SHARE`
 abbrev pub sheet_row : List (List ℕ) → ℕ → SheetRow → List (List ℕ)
-sheet_row names e r =
-    decimal e ∷ codes "row" ∷ node_text r.node ∷ estate_text r.estate ∷ name_of names r.party ∷ share_text r.units ∷ []
+sheet_row names e r = decimal e ∷ codes "row" ∷ node_text r.node ∷ estate_text r.estate ∷ name_of names r.party ∷ share_text r.units ∷ []
 
 -- a row of a chain: `E,entry,PLACE,DOC,KIND,FROM,TO,ESTATES`
 abbrev pub entry_row : List (List ℕ) → ℕ → Entry → List (List ℕ)
-entry_row names e x =
-    decimal e ∷ codes "entry" ∷ decimal x.place ∷ decimal x.posting.doc ∷ kind_word (kind_of x.posting.instrument)
+entry_row names e x = decimal e ∷ codes "entry" ∷ decimal x.place ∷ decimal x.posting.doc ∷ kind_word (kind_of x.posting.instrument)
     ∷ name_of names (grantor_of x.posting.instrument) ∷ name_of names (grantee_of x.posting.instrument)
     ∷ estates_text (estates_of x.posting.instrument) ∷ []
 

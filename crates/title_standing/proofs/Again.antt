@@ -10,7 +10,7 @@ use Rattle.title_trace.specs.{declared.call.{Call.{Call}, Request.{Request}, Rep
 use Rattle.title_trace.specs.Due.{Setting, DueReply, IsDue}
 use Rattle.title_trace.specs.declared.call.Request.TheVariants as request
 use Rattle.title_trace.specs.declared.call.Reply.TheVariants as reply
-use Rattle.title_desk.specs.{Told.{Books, Added, Told}, Singles.{AddedSingle, IsIdle, ToldSingle, after_single, last_call}}
+use Rattle.title_desk.specs.{Told.{Books, Added, Told}, Singles.{AddedSingle, IsIdle, ToldSingle, after_single, ending, last_reply}}
 use Rattle.title_standing.specs.{declared.deeds.Deeds.{Deeds}, Standing.{asked_by, replayed}, Records.{posted_step, record_of}}
 use Rattle.title_standing.specs.Replays.{after_record, begun, GoesOn, Serves, ToldReplay}
 use Rattle.title_standing.proofs.Recalled.{open_still, replayed_are_committed, replayed_next}
@@ -102,7 +102,7 @@ single_served old new e p r false other says told =
     let first : Call = record { request = request.Begin e; reply = reply.Began } in (
       one.0,
       (
-        (last_call e old.trace r ∷ step ∷ first ∷ [], one.1),
+        (record { request = ending e r; reply = last_reply old.trace r } ∷ step ∷ first ∷ [], one.1),
         λ due. false≢true (says.1 (one_reply old.setting (begun e old.trace) (request.Step e (ask.Post p)) r
             (reply.Answered answer.Posted) one.2.0.1 due.0.1)),
       ),

@@ -4,9 +4,9 @@ ghost use Rattle.std.specs.Prelude.{◌≡◌, ◌≢◌, ◌++◌, ◌∷◌, [
 ghost use Rattle.title_land.specs.{Depth.{depth}, Lands.{is_in_plant}};
 ghost use Rattle.title_store.specs.Plants.{SameContent, plant_effect, refused_in};
 ghost use Rattle.title_chain.specs.{declared.ask.{Ask.TheVariants.{Post}, Answer.TheVariants.{Posted}}, Alone.{alone}, Asks.{is_post}};
-ghost use Rattle.title_trace.specs.declared.call.{Request.TheVariants.{Begin, Commit, Step}, Reply.TheVariants.{Began, Committed, Memory}};
+ghost use Rattle.title_trace.specs.declared.call.Reply.TheVariants.{Began, Committed, Memory};
 ghost use Rattle.title_trace.specs.Trace.{committed, open_steps};
-ghost use Rattle.title_desk.specs.{Images.{is_posted}, Singles.{AddedInTurn, Bars, BrokenOff, IsDeed, IsIdle, Stands, ToldSingle, ending}};
+ghost use Rattle.title_desk.specs.{Images.{is_posted}, Singles.{AddedInTurn, Bars, BrokenOff, IsDeed, IsIdle, Stands, ToldSingle, ending, in_turn}};
 
 use crate::asks::step_of;
 use crate::calls::Calls;
@@ -77,23 +77,23 @@ fn post_at_once<S: Store>(store: &mut S, posting: &Posting) -> Result<Option<Ans
     Ok(None)
 }
 
-// The calls with those of a transaction of one step: it is begun, asked, and ended.
-fn with_single(
-    calls: &Calls,
-    examiner: u32,
-    ask: Ask,
-    told: &Reply,
-    end: &Request,
-    ended: &Reply,
-) -> Calls
-    ensures calls { result.list ≡ record { request = end.now; reply = ended.now }
-        ∷ record { request = Step examiner ask; reply = told.now } ∷ record { request = Begin examiner; reply = Began }
-        ∷ calls.now.list }
+// How a transaction of one step is ended.
+fn ending(examiner: u32, told: &Reply) -> Request
+    ensures ending { result ≡ ending examiner told.now }
 {
-    let (begin, step) = (Request::Begin(examiner), Request::Step(examiner, ask));
-    let begun = calls.then(&begin, &Reply::Began);
-    let asked = begun.then(&step, told);
-    asked.then(end, ended)
+    match told {
+        Reply::Answered(_) => Request::Commit(examiner),
+        _ => Request::Abort(examiner),
+    }
+}
+
+// The calls with those of a transaction of one step: it is begun, asked, and ended.
+fn with_single(calls: &Calls, examiner: u32, ask: Ask, told: &Reply, ended: &Reply) -> Calls
+    ensures calls { result.list ≡ in_turn calls.now.list examiner ask Began told.now ended.now }
+{
+    let begun = calls.then(&Request::Begin(examiner), &Reply::Began);
+    let asked = begun.then(&Request::Step(examiner, ask), told);
+    asked.then(&ending(examiner, told), ended)
 }
 
 // Adds the record of a transaction whose step is answered, for which there is room; the calls with its own.
@@ -107,26 +107,11 @@ fn add_done(
 ) -> Calls
     requires room { records.old.has_room ≡ true }
     ensures records { records.new.records ≡ records.old.records ++ record { examiner = examiner; steps = steps } ∷ [] }
-    ensures calls { result.list ≡ record { request = Commit examiner; reply = Committed (length records.new.records) }
-        ∷ record { request = Step examiner ask; reply = told.now } ∷ record { request = Begin examiner; reply = Began }
-        ∷ calls.now.list }
+    ensures calls { result.list ≡ in_turn calls.now.list examiner ask Began told.now (Committed (length records.new.records)) }
 {
     records.push_reserved(Record { examiner, steps });
-    let (end, ended) = (
-        Request::Commit(examiner),
-        Reply::Committed(records.len() as u64),
-    );
-    with_single(calls, examiner, ask, told, &end, &ended)
-}
-
-// How a transaction of one step is ended.
-fn ending(examiner: u32, told: &Reply) -> Request
-    ensures ending { result ≡ ending examiner told.now }
-{
-    match told {
-        Reply::Answered(_) => Request::Commit(examiner),
-        _ => Request::Abort(examiner),
-    }
+    let ended = Reply::Committed(records.len() as u64);
+    with_single(calls, examiner, ask, told, &ended)
 }
 
 impl<S: Store + Drop, G: Guards + Drop> Desk<S, G> {
@@ -136,8 +121,8 @@ impl<S: Store + Drop, G: Guards + Drop> Desk<S, G> {
         requires bars { Bars self.old.setting ask why }
         ensures told { ToldSingle self.old examiner ask result self.new }
     {
-        let (told, end) = (Reply::Denied(why), Request::Abort(examiner));
-        self.calls = with_single(&self.calls, examiner, ask, &told, &end, &Reply::Aborted);
+        let told = Reply::Denied(why);
+        self.calls = with_single(&self.calls, examiner, ask, &told, &Reply::Aborted);
         told
     }
 
@@ -233,6 +218,7 @@ impl<S: Store + Drop, G: Guards + Drop> Desk<S, G> {
     /// Serves an examiner's ask as a transaction of its own: adds its three calls, begun, asked, and committed or aborted,
     /// to the trace and gives the step's reply; or answers `Memory` where a growth was refused. Then nothing has changed where
     /// nobody was open; else those of the three are added that came before.
+    #[tactic(auto, using(crate::proofs::Singles::any_added))]
     pub fn serve_alone(&mut self, examiner: u32, ask: Ask) -> Reply
         ensures added { result ≢ Memory → AddedInTurn self.old examiner ask result self.new }
         ensures broken { result ≡ Memory → BrokenOff self.old examiner ask self.new }

@@ -5,8 +5,7 @@ use Rattle.title_report.proofs.answers.put_entries.Goals as goal
 
 pub loop-entry-preserved : goal.loop-entry-preserved
 loop-entry-preserved g c = (
-  one_row_more (entry_row c.args.roster.now c.args.examiner) c.args.entries.now
-      c.loop-entry.entry-index c.entry-item.result
+  one_row_more (entry_row c.args.roster.now c.args.examiner) c.args.entries.now c.loop-entry.entry-index c.entry-item.result
       c.loop-entry-test.true c.entry-item.is c.loop-entry.invariant.0 c.in_ok-put_entry.ensures.put.written,
   c.in_ok-put_entry.ensures.put.well,
   c.in_ok-put_entry.ensures.lines,

@@ -13,8 +13,7 @@ returns-in_err-put-clause-put g c =
     c.in_err-put.ensures.stopped) c.in_err-put.ensures.failed)
 
 pub returns-clause-put : goal.returns-clause-put
-returns-clause-put g c =
-    put_as (entry_by_key c.as_bytes.result.now c.key_of-key.result c.args.roster.now c.args.examiner c.args.entry.now
+returns-clause-put g c = put_as (entry_by_key c.as_bytes.result.now c.key_of-key.result c.args.roster.now c.args.examiner c.args.entry.now
     (c.as_bytes.ensures.bytes ∙ c.requires.start) c.key_of-key.ensures.key (omega (arith, c.ranges.examiner.fits))
     c.number_is_plain.ensures.plain c.number_is_plain-2.ensures.plain)
     (put_then c.as_bytes.result.now _ c.in_ok-put.ensures.written c.put_entry_text.ensures.put)

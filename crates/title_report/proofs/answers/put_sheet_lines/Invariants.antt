@@ -6,8 +6,7 @@ use Rattle.title_report.specs.{Fronts.{IsFront}, Replies.{sheet_row}}
 use Rattle.title_report.proofs.answers.put_sheet_lines.Given as goal
 
 abbrev pub invariant-loop-index : goal.invariant-loop-index
-invariant-loop-index g l =
-    Written (g.S.Sink.taken l.fn.sink) l.fn.page (g.S.Sink.taken l.sink) l.page
+invariant-loop-index g l = Written (g.S.Sink.taken l.fn.sink) l.fn.page (g.S.Sink.taken l.sink) l.page
     (rows_text (map (sheet_row l.roster l.examiner) (take l.index (rows_in l.lines))))
     × (g.S.Sink.has_failed l.sink ≡ false)
     × IsFront l.examiner l.front

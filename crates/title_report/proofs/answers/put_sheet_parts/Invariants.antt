@@ -5,8 +5,7 @@ use Rattle.title_report.specs.{Fronts.{IsFront}, Replies.{sheet_row}}
 use Rattle.title_report.proofs.answers.put_sheet_parts.Given as goal
 
 abbrev pub invariant-loop-part : goal.invariant-loop-part
-invariant-loop-part g l =
-    Written (g.S.Sink.taken l.fn.sink) l.fn.page (g.S.Sink.taken l.sink) l.page
+invariant-loop-part g l = Written (g.S.Sink.taken l.fn.sink) l.fn.page (g.S.Sink.taken l.sink) l.page
     (rows_text (flat_map (λ part. map (sheet_row l.roster l.examiner) part) (take l.part-index l.parts)))
     × (g.S.Sink.has_failed l.sink ≡ false)
     × IsFront l.examiner l.front

@@ -19,6 +19,5 @@ returns-in_ok-rows-in-Sheet-clause-alone g c =
     (ap Rows c.in_ok-rows-in-Sheet.ensures.rows ∙ sheet_due c.args.examiner c.in-Sheet.tract c.self.invariant free)
 
 pub returns-in_ok-entries-in-Chain-clause-alone : goal.returns-in_ok-entries-in-Chain-clause-alone
-returns-in_ok-entries-in-Chain-clause-alone g c =
-    rw (c.in-Chain.is, ← c.self.view_is)
+returns-in_ok-entries-in-Chain-clause-alone g c = rw (c.in-Chain.is, ← c.self.view_is)
     (ap Entries c.in_ok-entries-in-Chain.ensures.chain ∙ chain_due c.args.examiner c.in-Chain.tract c.self.invariant)

@@ -14,8 +14,7 @@ returns-in-Some c =
     let numbered = sym c.number-number.ensures.number in
     let new : KeptSheets = record { alloc = old.alloc; homes = c.get_mut.follows.lender w } in
     record {
-      kept = λ ts p are is. kept_set ts p k (all_kept w) old new
-          (set_under k (Some w) old.homes new.homes
+      kept = λ ts p are is. kept_set ts p k (all_kept w) old new (set_under k (Some w) old.homes new.homes
           ((c.get_mut.follows.holds w).3 (subst (λ (o : Option Home). IsSome o) found refl)).0)
           (c.keep.ensures.kept ts p k (subst (λ (o : Option Home). AllKept ts p k (kept_in o)) (sym found) (are.each k))
           (is, numbered)) are;

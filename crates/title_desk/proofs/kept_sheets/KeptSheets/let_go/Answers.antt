@@ -13,7 +13,6 @@ town_of (land.Township s) t e = cc
 town_of (land.Part s g) t e = absurd cc
 
 pub returns-in-Township-clause-left : goal.returns-in-Township-clause-left
-returns-in-Township-clause-left c ts before after outside same are =
-    c.let_go_in_township.ensures.left c.args.estates ts before after
+returns-in-Township-clause-left c ts before after outside same are = c.let_go_in_township.ensures.left c.args.estates ts before after
     (subst (λ (l : Land). SameOutside ts l before after)
     (town_of c.args.tract.now c.in-Township.township (sym c.home.ensures.home ∙ c.in-Township.is)) outside) same are
