@@ -10,7 +10,7 @@ use crate::lists::{Records, SheetRows};
 use crate::record::Record;
 use std::alloc::{AllocError, Global};
 use title_land::{Township, Tract};
-use title_store::{Put, Store};
+use title_store::Store;
 
 // Posts a step's instrument again, if it was posted.
 fn post_again<S: Store>(store: &mut S, step: &Step) -> Result<(), AllocError>
@@ -25,9 +25,7 @@ fn post_again<S: Store>(store: &mut S, step: &Step) -> Result<(), AllocError>
         return Ok(());
     };
     let terms = posting.terms();
-    if let Put::Done(image) = store.put(&terms.tract, &terms.instrument)? {
-        store.forget(image);
-    }
+    store.put_alone(&terms.tract, &terms.instrument)?;
     Ok(())
 }
 

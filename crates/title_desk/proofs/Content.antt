@@ -1,6 +1,6 @@
 -- What the store holds answers as the definitions do.
-use Rattle.std.proofs.Common.{◌≡◌, ◌≢◌, ℕ, Bool, true, false, ◌&&◌, List, [], ◌∷◌, refl, ap, ◌∙◌, sym, subst, eqb, inl, inr}
-use Rattle.std.proofs.lemmas.Bool.{eq-eqb, ne_eqb, and_parts, and_from, or_parts, or_from, or_right, false_from_ne_true, both_ways}
+use Rattle.std.proofs.Common.{◌≡◌, ◌≢◌, ℕ, true, false, ◌&&◌, List, [], ◌∷◌, refl, ap, ◌∙◌, sym, inl, inr}
+use Rattle.std.proofs.lemmas.Bool.{and_parts, and_from, or_parts, or_from, or_right, false_from_ne_true, both_ways}
 use Rattle.std.proofs.lemmas.Bool.{cases_eq, cases_Bool}
 use Rattle.title_land.specs.{Depth.{depth}, declared.survey.{Township.{Township}, Cell.{Cell}}}
 use Rattle.title_store.specs.{Plants.{Plant, is_cell_of}, Loans.{Loan}}
@@ -10,13 +10,6 @@ use Rattle.title_chain.specs.Laws.AskLaws.{cell_meets, effect_outside}
 use Rattle.title_chain.specs.declared.ask.Ask.TheVariants as ask
 use Rattle.title_desk.specs.Images.{is_posted, posted_at, Backed, backs_none, backs_post, backs_other}
 use Rattle.title_desk.specs.Keeps.{State, own_of, plant_of, plant_for, Facts}
-
--- cases on whether two numbers are one
-pub case_eqb : (P : Bool → Type 0) (f e : ℕ) → (f ≡ e → P true) → (f ≢ e → P false) → P (eqb f e)
-case_eqb P f e same other = elim (cases_eq f e) [
-  | inl is ↦ subst P (sym (eq-eqb f e is)) (same is)
-  | inr ne ↦ subst P (sym (ne_eqb f e ne)) (other ne)
-]
 
 -- a step that was posted is a post
 pub post_of : (b : Ask) (given : Answer) → is_posted b given ≡ true → is_post b ≡ true

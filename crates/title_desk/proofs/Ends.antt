@@ -3,7 +3,7 @@ use Rattle.std.proofs.Common.{◌≡◌, ◌≢◌, ◌<◌, ℕ, suc, Bool, tru
 use Rattle.std.proofs.{Common.{ap, ◌∙◌, sym, subst, eqb, inl, inr, arith}, lemmas.Bool.{cases_Bool, cases_eq, or_cases, and_parts, ne_eqb}}
 use Rattle.std.{specs.Prelude.{is_some}, proofs.{Common.{None}, lemmas.{Bool.{and_left, or_from}, List.{reverse-reverse}}}}
 use Rattle.title_land.specs.{Depth.{depth}, declared.{survey.{Township.{Township}, Cell.{Cell}}, tract.Land.{Land}}}
-use Rattle.title_store.specs.{Plants.{Plant, is_cell_of}, Loans.{Loan, IsAmong, IsFirst, IsLast}}
+use Rattle.title_store.specs.{Plants.{Plant, is_cell_of}, Loans.{Loan, IsAmong, IsFirst, IsLast}, Laws.Taken.{case_eqb}}
 use Rattle.title_chain.specs.{declared.ask.{Ask.{Ask}, Step.{Step}}, Asks.{tract_of, is_post, effect}, Alone.{after_steps}}
 use Rattle.title_chain.specs.{Overlaps.{overlaps, Clear, record_of}, ChainLaws.{SameIn}, Laws.AskLaws.{effect_same, effect_outside}}
 use Rattle.title_chain.specs.Laws.Past.{SameAt, clear_same, steps_same}
@@ -16,7 +16,7 @@ use Rattle.title_desk.specs.Images.{without_all}
 use Rattle.title_desk.specs.{Keeps.{State, own_of, images_of, plant_of, plant_for, Facts, Keeps}, Opened.{found, held, set}}
 use Rattle.title_desk.proofs.Loaned.{Remain, Apart, IsFalling, IsFor, out_all, into_all, backed_in, backed_for, images_apart, falling}
 use Rattle.title_desk.proofs.Loaned.{in_turn, rising_reverse, of_reverse, into_reverse, restored}
-use Rattle.title_desk.proofs.{Content.{case_eqb, steps_keep, posted_apart}, Found.{at_set, view_cond}, States.{told}}
+use Rattle.title_desk.proofs.{Content.{steps_keep, posted_apart}, Found.{at_set, view_cond}, States.{told}}
 
 -- of locks that one examiner gives back none is its own any more, and the others' stay
 given_back : (t : Land) (post : Bool) (e : ℕ) (locks : List Entry) → against t post e (without e locks) ≡ false

@@ -4,7 +4,8 @@ use Rattle.std.proofs.{Common.{List, None, is_some, Result, Ok, Err, OnOk, OnErr
 use Rattle.std.proofs.lemmas.{Bool.{eq-eqb, ne_eqb}, List.{map-append, reverse-append, reverse-reverse}, Map.Steps.{set_value_same}}
 use Rattle.std.specs.{Ordering.{nat_cmp}, Option.{IsSome}, Cmp.{unsigned_tied, nat_eq_equiv}}
 use Rattle.std.specs.BTreeMap.{BTreeMap, WritesThrough, is_at}
-use Rattle.title_desk.{specs.Opened.{Opened, found, held, set}, proofs.Content.{case_eqb}}
+use Rattle.title_desk.specs.Opened.{Opened, found, held, set}
+use Rattle.title_store.specs.Laws.Taken.{case_eqb}
 
 -- what is open after a map was written at an examiner
 pub set_at : (e : ℕ) (o : Option Opened) (old new : BTreeMap ℕ Opened) →

@@ -14,13 +14,12 @@ use Rattle.title_land.specs.declared.survey.{Cell.{Cell}, Section.{Section}}
 use Rattle.title_land.specs.declared.{survey.Township.{Township}, tract.Land.{Land}, node.Node.{Node}}
 use Rattle.title_land.specs.declared.node.Node.TheVariants as node
 use Rattle.title_land.specs.declared.tract.Land.TheVariants as land
-use Rattle.title_store.specs.{Plants.{Plant, is_cell_of}, Laws.{SheetLaws.{sheet_same}, SheetParts.{part_same}}}
+use Rattle.title_store.specs.{Plants.{Plant, is_cell_of}, Laws.{SheetLaws.{sheet_same}, SheetParts.{part_same}, Taken.{case_eqb}}}
 use Rattle.title_chain.specs.Laws.AskLaws.{cell_meets}
 use Rattle.title_desk.specs.declared.kept_sheets.{Kept.{Kept}, Home.{Home}, KeptSheets.{KeptSheets}}
 use Rattle.title_desk.specs.Shown.{IsTrue, land_in, is_left, Stock, no_stock, left_of, all_kept, kept_in, kept_under, IsSetUnder}
 use Rattle.title_desk.specs.Shown.{IsKept, AllKept, AreKept, SameOutside, SameBut, AreLeft, OthersStay, ApartStay}
 use Rattle.title_desk.specs.declared.kept_sheets.Kept.TheVariants as what
-use Rattle.title_desk.proofs.Content.{case_eqb}
 
 -- ---- what stands under a number
 

@@ -4,10 +4,11 @@ use Rattle.std.proofs.{Common.{subst, ◌⊎◌, inl, inr, arith, map}, lemmas.B
 use Rattle.std.proofs.lemmas.List.{reverse-append, reverse-reverse}
 use Rattle.title_land.specs.{Depth.{depth}, declared.survey.{Township.{Township}, Cell.{Cell}}, Lands.{meets}}
 use Rattle.title_store.specs.{Plants.{Plant, SameContent, is_cell_of}, Loans.{Loan, IsAmong, IsLentAs, IsOut, without}}
+use Rattle.title_store.specs.Laws.Taken.{case_eqb}
 use Rattle.title_chain.specs.{declared.ask.{Ask.{Ask}, Step.{Step}}, Asks.{tract_of, is_post, overlap}, Alone.{after_steps}}
 use Rattle.title_chain.specs.{Overlaps.{overlaps, Clear}, Laws.AskLaws.{effect_outside}}
 use Rattle.title_desk.specs.Images.{is_posted, IsOf, Backs, Backed, backs_none, backs_post, backs_other, InTurn, without_all}
-use Rattle.title_desk.{specs.Images.{IsRestored, posted_at, put_back}, proofs.Content.{case_eqb, post_of}}
+use Rattle.title_desk.{specs.Images.{IsRestored, posted_at, put_back}, proofs.Content.{post_of}}
 
 -- what is out without one number
 pub out_without : (n : ℕ) (x : Loan) (out : List Loan) → IsAmong x (without n out) → IsAmong x out × (x.number ≢ n)

@@ -2,7 +2,7 @@
 use Rattle.std.proofs.{Common.{◌≡◌, ℕ, true, false, cond, List, [], ◌∷◌, refl, ap, ◌∙◌, sym, subst, eqb, Some, None}, Math.Path.{fun_ext}}
 use Rattle.std.specs.Prelude.{is_some, Option}
 use Rattle.title_land.specs.{declared.survey.Township.{Township}, Depth.{depth}}
-use Rattle.title_store.specs.{Plants.{Plant, SameContent}, Loans.{Loan}}
+use Rattle.title_store.specs.{Plants.{Plant, SameContent}, Loans.{Loan}, Laws.Taken.{case_eqb}}
 use Rattle.title_lock.specs.{declared.guards.Entry.{Entry}, Overlaps.{against}}
 use Rattle.title_chain.specs.{declared.{ask.Ask.{Ask}, record.Record.{Record}}, Asks.{tract_of, is_post}, Alone.{after_steps}}
 use Rattle.title_chain.specs.Overlaps.{overlaps}
@@ -12,7 +12,7 @@ use Rattle.title_trace.specs.declared.call.Request.TheVariants as request
 use Rattle.title_trace.specs.declared.call.Reply.TheVariants as reply
 use Rattle.title_desk.specs.Images.{Backed, IsOf, posted_at}
 use Rattle.title_desk.specs.{Headline.{ShowsOpenPosts, ShowsCommitted}, Told.{Books}, Opened.{Opened, held, nothing, set}}
-use Rattle.title_desk.{specs.Keeps.{State, plant_of, Facts, Keeps}, proofs.{Content.{case_eqb}, Found.{none_from, view_cond}}}
+use Rattle.title_desk.{specs.Keeps.{State, plant_of, Facts, Keeps}, proofs.Found.{none_from, view_cond}}
 
 -- what a caller sees of a state
 abbrev pub books_of : State → Books

@@ -1,10 +1,10 @@
 -- Steps: what is due to them, and what an answered one makes of a state, a post that was done too, or one that is taken back.
 use Rattle.std.proofs.Common.{◌≡◌, ◌≢◌, ℕ, Bool, true, false, cond, ◌&&◌, ◌||◌, List, ◌∷◌, refl, ap, ◌∙◌, sym, subst, eqb, Option, Some}
 use Rattle.std.proofs.Common.{None, is_some, Result, Ok, Err, is_err, OnOk, OnErr, ◌<◌, [], ◌++◌, ◌⊎◌, inl, inr, arith}
-use Rattle.std.proofs.lemmas.Bool.{or_parts, false_from_ne_true, both_ways, cases_Bool, cond_both}
+use Rattle.std.proofs.lemmas.Bool.{or_parts, false_from_ne_true, both_ways, cases_Bool}
 use Rattle.title_land.specs.{Depth.{depth}, declared.{survey.{Township.{Township}, Cell.{Cell}}, tract.Land.{Land}}, Lands.{meets}}
 use Rattle.title_store.specs.{Plants.{Plant, Refusal, is_cell_of, refused_in, SameContent, plant_effect}, Sheets.{sheet_of}}
-use Rattle.title_store.specs.Loans.{Loan, IsAmong, IsLentAs, IsOut, IsLast, IsFirst, IsTaken, without}
+use Rattle.title_store.specs.Loans.{Loan, IsAmong, IsOut, IsTaken}
 use Rattle.title_chain.specs.{declared.ask.{Ask.{Ask}, Answer.{Answer}, Posting.{Posting}, Step.{Step}}, Chains.{chain_of}}
 use Rattle.title_chain.specs.{Asks.{tract_of, is_post, effect, post_answer}, Alone.{after_steps, alone}, Overlaps.{overlaps}}
 use Rattle.title_chain.specs.Laws.AskLaws.{answer_same, answer_sheet, answer_chain, answer_post, effect_read, effect_refused, effect_same}
@@ -16,13 +16,12 @@ use Rattle.title_trace.specs.declared.call.Request.TheVariants as request
 use Rattle.title_trace.specs.declared.call.Reply.TheVariants as reply
 use Rattle.title_trace.specs.{declared.denial.Denial.{Denial}, Trace.{is_open, open_steps, committed}, Due.{InTheWay, DueReply}}
 use Rattle.title_trace.specs.declared.denial.Denial.TheVariants as denial
-use Rattle.title_desk.specs.Images.{is_posted, posted_at, Backed, backs_post, backs_other, IsOf, Backs, put_back}
+use Rattle.title_desk.specs.Images.{is_posted, posted_at, Backed, backs_post, backs_other, IsOf, Backs}
 use Rattle.title_desk.specs.{Keeps.{State, own_of, images_of, plant_of, plant_for, Facts, Keeps}, Singles.{Bars}}
 use Rattle.title_desk.specs.{Opened.{Opened, held, set, with_post, with_step}, Told.{Books, IsFit, Passes, access_of, entry_of}}
-use Rattle.title_desk.proofs.{Content.{case_eqb, content_is, unposted}, Found.{at_set, set_here}, States.{told, books_of}}
+use Rattle.title_desk.proofs.{Content.{content_is, unposted}, Found.{at_set, set_here}, States.{told, books_of}}
 use Rattle.title_desk.proofs.Loaned.{Remain, backed_in, backed_for}
-use Rattle.title_instrument.specs.declared.instrument.Instrument.{Instrument}
-use Rattle.title_store.specs.Laws.LoanLaws.{among_push}
+use Rattle.title_store.specs.Laws.Taken.{case_eqb, among_now, is_new, image_out, new_loan}
 use Rattle.title_store.specs.Laws.EffectLaws as store
 
 -- what bars an ask is due to who is open
@@ -179,66 +178,9 @@ pub on_bad : {T E : Type 0} (r : Result T E) (P : Type 0) → is_err r ≡ true 
 on_bad (Ok x) P h p = cc
 on_bad (Err x) P h p = p
 
-among_last : (b : Loan) (out : List Loan) → IsAmong b (out ++ b ∷ [])
-among_last b [] = inl refl
-among_last b (x ∷ out) = inr (among_last b out)
-
 among_more : (b x : Loan) (out : List Loan) → IsAmong b out → IsAmong b (out ++ x ∷ [])
 among_more b x [] h = absurd h
 among_more b x (y ∷ out) h = elim h [ inl same ↦ inl same | inr r ↦ inr (among_more b x out r) ]
-
-without_last : (x : Loan) (out : List Loan) → ((b : Loan) → IsAmong b out → b.number < x.number) → without x.number (out ++ x ∷ []) ≡ out
-without_last x [] h = case_eqb (λ b. cond b [] (x ∷ []) ≡ []) x.number x.number (λ _. refl) (λ ne. absurd (ne refl))
-without_last x (y ∷ out) h =
-    case_eqb (λ b. cond b (without x.number (out ++ x ∷ [])) (y ∷ without x.number (out ++ x ∷ [])) ≡ y ∷ out) x.number y.number
-    (λ same. absurd (let below : y.number < x.number = h y (inl refl) in omega arith))
-    (λ _. ap (λ z. y ∷ z) (without_last x out (λ b k. h b (inr k))))
-
-module _ {n : ℕ} {ts : List Township} {land : Land} {before : Plant} {out out' : List Loan}
-    (taken : IsTaken n ts land before out out') where
-  -- the image that was taken
-  abbrev new_loan : Loan
-  new_loan = record { number = n; land = land; held = taken.held }
-
-  among_now : (b : Loan) → IsAmong b out' → IsAmong b out ⊎ (b ≡ new_loan)
-  among_now b at = among_push b out new_loan (subst (IsAmong b) taken.last at)
-
-  is_new : (b : Loan) → IsLentAs b n out' → b ≡ new_loan
-  is_new b lent = elim (among_now b lent.0) [
-    | inl old ↦ absurd (let low : b.number < n = taken.above b old in let same : b.number ≡ n = lent.1 in omega arith)
-    | inr is ↦ is
-  ]
-
-  new_lent : IsLentAs new_loan n out'
-  new_lent = (subst (IsAmong new_loan) (sym taken.last) (among_last new_loan out), refl)
-
-  -- it is out
-  pub image_out : IsOut n out'
-  image_out = (new_loan, new_lent)
-
-  -- and the last one
-  pub image_last : IsLast n out'
-  image_last b x lent at higher = elim (among_now x at) [
-    | inl old ↦ absurd (let low : x.number < n = taken.above x old in omega arith)
-    | inr is ↦ absurd (let same : x.number ≡ n = ap (λ z. z.number) is in omega arith)
-  ]
-
-  -- and the first one, where no other is out
-  pub image_first : out ≡ [] → IsFirst n out'
-  image_first none b x lent at lower = elim (among_now x at) [
-    | inl old ↦ absurd (subst (IsAmong x) none old)
-    | inr is ↦ absurd (let same : x.number ≡ n = ap (λ z. z.number) is in omega arith)
-  ]
-
-  -- put back at once, it leaves the plant and the list as they were
-  pub taken_back : (i : Instrument ℕ) (mid after : Plant) → SameContent (plant_effect depth ts i before land) mid
-      → ((b : Loan) → IsLentAs b n out' → SameContent (put_back ts b mid) after) → SameContent before after
-  taken_back i mid after posted back c = back new_loan new_lent c
-      ∙ cond_both (is_cell_of depth ts land c) (taken.held c) (mid c) (λ x. x ≡ before c) (λ inside. taken.holds c inside)
-      (λ outside. posted c ∙ store.effect_outside depth ts i land before c outside)
-
-  pub taken_out : without n out' ≡ out
-  taken_out = ap (without n) taken.last ∙ without_last new_loan out taken.above
 
 of_more : (s : State) (e n : ℕ) (step : Step) (f m : ℕ)
     → IsOf m (held (set e (Some (with_post step n (held (s.opened e)))) s.opened f)).images → IsOf m (images_of s f) ⊎ ((f ≡ e) × (m ≡ n))

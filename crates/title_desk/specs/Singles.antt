@@ -1,8 +1,7 @@
 -- A transaction of one step, which is begun, asked and ended in one call. Traces have the newest call first.
-use Rattle.std.specs.Prelude.{◌≡◌, ℕ, suc, ◌<◌, true, false, List, ◌∷◌, drop, length, Option, Some, None}
+use Rattle.std.specs.Prelude.{◌≡◌, ℕ, suc, ◌<◌, true, false, List, ◌∷◌, drop, length, Some, None}
 use Rattle.title_land.specs.{Depth.{depth}, Lands.{is_in_plant}}
-use Rattle.title_store.specs.Plants as plants
-use Rattle.title_chain.specs.{declared.ask.{Ask.{Ask}, Answer.{Answer}}, Asks.{tract_of, cause_of, post_answer}}
+use Rattle.title_chain.specs.{declared.ask.Ask.{Ask}, Asks.{tract_of, cause_of}}
 use Rattle.title_trace.specs.{declared.{call.{Call.{Call}, Request.{Request}, Reply.{Reply}}, denial.Denial.{Denial}}, Trace.{is_open, committed}}
 use Rattle.title_trace.specs.Due.{Setting, IsDue}
 use Rattle.title_trace.specs.declared.call.Request.TheVariants as request
@@ -64,8 +63,3 @@ abbrev pub Bars : Setting → Ask → Denial → Type 0
 Bars setting a denial.NoSuchTownship = is_in_plant setting.townships (tract_of a) ≡ false
 Bars setting a (denial.Invalid cause) = (is_in_plant setting.townships (tract_of a) ≡ true) × (cause_of setting.parties a ≡ Some cause)
 Bars setting a _ = ⊥
-
--- what comes of a post that is put at once: it is done, nothing refusing it; or it gets the answer that says what refuses it
-abbrev pub IsDeed : Option Answer → Option plants.Refusal → Type 0 → Type 0 → Type 0
-IsDeed None refused Done Kept = (refused ≡ None) × Done
-IsDeed (Some given) refused Done Kept = (why : plants.Refusal) × (refused ≡ Some why) × (given ≡ post_answer (Some why)) × Kept

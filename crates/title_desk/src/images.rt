@@ -1,7 +1,7 @@
 //! The before-images of a transaction that ends.
 
 ghost use Rattle.std.specs.Prelude.{◌≡◌, [], map, reverse};
-ghost use Rattle.title_store.specs.{Loans.{IsFirst, IsLast, IsOut, without}, Plants.{SameContent}};
+ghost use Rattle.title_store.specs.{Loans.{IsFirst, IsLast}, Plants.{SameContent}};
 ghost use Rattle.title_desk.specs.Images.{InTurn, IsRestored, without_all};
 
 use crate::open_transactions::OpenTransactions;
@@ -43,17 +43,4 @@ pub(crate) fn tidy_up<S: Store, I: Store>(store: &mut S, transactions: &OpenTran
     if transactions.is_empty() {
         store.tidy();
     }
-}
-
-/// Lets the last image go that is out, and tidies the store up: what its post did stands.
-pub(crate) fn settle<S: Store>(store: &mut S, last: S::Image)
-    requires out { IsOut (S.number last) (S.out store.old) }
-    requires first { IsFirst (S.number last) (S.out store.old) }
-    requires only { without (S.number last) (S.out store.old) ≡ [] }
-    ensures content { SameContent (S.content store.old) (S.content store.new) }
-    ensures declared { S.declared store.new ≡ S.declared store.old }
-    ensures out { S.out store.new ≡ [] }
-{
-    store.forget(last);
-    store.tidy();
 }

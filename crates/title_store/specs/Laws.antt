@@ -13,3 +13,4 @@ pub mod Backing
 pub mod SheetNodes
 pub mod SheetSteps
 pub mod SheetParts
+pub mod Taken

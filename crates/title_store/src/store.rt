@@ -71,6 +71,29 @@ pub trait Store {
         ensures err_content { OnErr result (SameContent (content self.old) (content self.new)) }
         ensures err_out { OnErr result (out self.new ≡ out self.old) };
 
+    /// Posts an instrument where no image is out: as `put`, `forget` and `tidy` one after another, so that it can't be undone.
+    /// `Err` changes no cell.
+    fn put_alone(&mut self, tract: &Tract, instrument: &Instrument) -> Result<Put<()>, AllocError>
+        requires within { is_in_plant (declared self.old) tract.now ≡ true }
+        requires none { out self.old ≡ [] }
+        ensures put { IfOk result (λ put. PutBy put (refused_in depth (declared self.old) instrument.now (content self.old) tract.now)
+            (λ done. is_joined self.new ≡ true) (SameContent (content self.old) (content self.new))) }
+        ensures content { OnOk result (SameContent
+            (plant_effect depth (declared self.old) instrument.now (content self.old) tract.now) (content self.new)) }
+        ensures declared { declared self.new ≡ declared self.old }
+        ensures out { out self.new ≡ [] }
+        ensures err_content { OnErr result (SameContent (content self.old) (content self.new)) }
+    {
+        match self.put(tract, instrument)? {
+            Put::Done(image) => {
+                self.forget(image);
+                self.tidy();
+                Ok(Put::Done(()))
+            }
+            Put::Refused(rule, estate, node) => Ok(Put::Refused(rule, estate, node)),
+        }
+    }
+
     /// Puts back what an image's cells held before its put. Takes no memory.
     fn restore(&mut self, image: Self::Image)
         requires out { IsOut (number image) (out self.old) }

@@ -1,22 +1,15 @@
 -- Posts made again, one after another, have the effects of the asks.
 use Rattle.std.proofs.Common.{◌≡◌, ℕ, ◌+◌, ◌<◌, false, List, [], ◌∷◌, ◌++◌, Option, Some, None, length, reverse, take, drop, get_or, refl}
-use Rattle.std.proofs.{Common.{ap, ◌∙◌, sym, subst, inl}, Math.Path.{fun_ext}, lemmas.Bool.{both_ways}}
+use Rattle.std.proofs.{Common.{ap, ◌∙◌, sym, subst}, Math.Path.{fun_ext}, lemmas.Bool.{both_ways}}
 use Rattle.std.proofs.lemmas.List.{reverse-append, take_more, take-append-drop}
-use Rattle.title_land.specs.declared.{survey.Township.{Township}, tract.Land.{Land}}
-use Rattle.title_store.specs.{Plants.{Plant, SameContent, Refusal, refused_in, plant_effect}, Loans.{Loan, IsTaken, IsOut}}
+use Rattle.title_land.specs.declared.survey.Township.{Township}
+use Rattle.title_store.specs.Plants.{Plant, SameContent, Refusal, refused_in, plant_effect}
 use Rattle.title_chain.specs.declared.ask.{Ask.{Ask}, Answer.{Answer}, Entry.{Entry}, Posting.{Posting}, Step.{Step}}
 use Rattle.title_chain.specs.{declared.record.Record.{Record}, Asks.{effect, answer_to, post_answer}}
 use Rattle.title_chain.specs.{Alone.{after_steps, plant_after, Plays, IsSerial}, Replays.{was_posted, CanReplay, Replays}}
 use Rattle.title_chain.specs.Laws.AskLaws.{effect_read, effect_refused, effect_post, answer_post}
 use Rattle.title_chain.specs.declared.ask.Ask.TheVariants as ask
 use Rattle.title_chain.specs.declared.ask.Answer.TheVariants as answer
-
--- the one image that is out is out
-pub taken_out :
-    (number : ℕ) (townships : List Township) (land : Land) (before : Plant) (old new : List Loan) →
-    IsTaken number townships land before old new → old ≡ [] → IsOut number new
-taken_out number townships land before old new t e =
-    (record { number = number; land = land; held = t.held }, (rw (t.last, e) (inl refl), refl))
 
 -- plants with the same owners in every cell are one
 pub same_plant : (p q : Plant) → SameContent p q → q ≡ p

@@ -1,17 +1,15 @@
 //! Transactions of one step. Where nobody is open, no open transaction, no lock and no before-image is kept for them.
 
-ghost use Rattle.std.specs.Prelude.{◌≡◌, ◌≢◌, ◌++◌, ◌∷◌, [], IfOk, OnOk, OnErr, true, false, length};
-ghost use Rattle.title_land.specs.{Depth.{depth}, Lands.{is_in_plant}};
-ghost use Rattle.title_store.specs.Plants.{SameContent, plant_effect, refused_in};
+ghost use Rattle.std.specs.Prelude.{◌≡◌, ◌≢◌, ◌++◌, ◌∷◌, [], IfOk, OnOk, true, false, length};
+ghost use Rattle.title_land.specs.Depth.{depth};
 ghost use Rattle.title_chain.specs.{declared.ask.{Ask.TheVariants.{Post}, Answer.TheVariants.{Posted}}, Alone.{alone}, Asks.{is_post}};
 ghost use Rattle.title_trace.specs.declared.call.Reply.TheVariants.{Began, Committed, Memory};
 ghost use Rattle.title_trace.specs.Trace.{committed, open_steps};
-ghost use Rattle.title_desk.specs.{Images.{is_posted}, Singles.{AddedInTurn, Bars, BrokenOff, IsDeed, IsIdle, Stands, ToldSingle, ending, in_turn}};
+ghost use Rattle.title_desk.specs.{Images.{is_posted}, Singles.{AddedInTurn, Bars, BrokenOff, IsIdle, Stands, ToldSingle, ending, in_turn}};
 
 use crate::asks::step_of;
 use crate::calls::Calls;
 use crate::desk::Desk;
-use crate::images::settle;
 use std::alloc::{AllocError, Global};
 use title_chain::{Answer, Ask, Posting, Record, Steps, TractIndex};
 use title_lock::Guards;
@@ -50,31 +48,6 @@ fn prepare_post(
     let ask = Ask::Post(posting.copy(alloc)?);
     let answer = Answer::Posted;
     prepare_answer(alloc, records, &ask, &answer)
-}
-
-// Posts in a store of which no image is out, and lets the image go; or gives the answer that says why it is refused.
-fn post_at_once<S: Store>(store: &mut S, posting: &Posting) -> Result<Option<Answer>, AllocError>
-    requires within { is_in_plant (S.declared store.old) posting.now.tract ≡ true }
-    requires none { S.out store.old ≡ [] }
-    ensures deed { IfOk result (λ refused. IsDeed refused
-        (refused_in depth (S.declared store.old) posting.now.instrument (S.content store.old) posting.now.tract)
-        (SameContent (plant_effect depth (S.declared store.old) posting.now.instrument (S.content store.old) posting.now.tract)
-        (S.content store.new))
-        (SameContent (S.content store.old) (S.content store.new))) }
-    ensures declared { S.declared store.new ≡ S.declared store.old }
-    ensures out { S.out store.new ≡ [] }
-    ensures err_content { OnErr result (SameContent (S.content store.old) (S.content store.new)) }
-{
-    let terms = posting.terms();
-    let put = store.put(&terms.tract, &terms.instrument)?;
-    let image = match put {
-        Put::Refused(rule, estate, node) => {
-            return Ok(Some(Answer::Refused(rule, estate, node)));
-        }
-        Put::Done(image) => image,
-    };
-    settle(store, image);
-    Ok(None)
 }
 
 // How a transaction of one step is ended.
@@ -168,12 +141,16 @@ impl<S: Store + Drop, G: Guards + Drop> Desk<S, G> {
         let Ok(steps) = prepare_post(self.alloc, &mut self.records, &posting) else {
             return Reply::Memory;
         };
-        let Ok(refused) = post_at_once(&mut self.store, &posting) else {
+        let terms = posting.terms();
+        let Ok(put) = self.store.put_alone(&terms.tract, &terms.instrument) else {
             return Reply::Memory;
         };
-        match refused {
-            Some(answer) => return self.answer_alone(examiner, Ask::Post(posting), answer),
-            None => {}
+        match put {
+            Put::Done(()) => {}
+            Put::Refused(rule, estate, node) => {
+                let answer = Answer::Refused(rule, estate, node);
+                return self.answer_alone(examiner, Ask::Post(posting), answer);
+            }
         }
         let (ask, told) = (Ask::Post(posting), Reply::Answered(Answer::Posted));
         let (calls, records) = (&self.calls, &mut self.records);
