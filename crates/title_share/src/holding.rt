@@ -77,6 +77,18 @@ fn push_some(rows: &mut Rows, party: u32, units: u64) -> Result<(), AllocError>
     Ok(())
 }
 
+// How many rows there are after units have passed from a party to another.
+fn count_after(rows: &[(u32, u64)], from: u32, to: u32, units: u64) -> usize {
+    let mut count = rows.len();
+    if units_among(rows, to) == 0 {
+        count += 1;
+    }
+    if units_among(rows, from) == units {
+        count = count.saturating_sub(1);
+    }
+    count
+}
+
 // The rows after units have passed from a party, which has at least so many, to another.
 fn rows_after(
     alloc: Global,
@@ -91,7 +103,7 @@ fn rows_after(
     requires apart { from ≢ to }
     ensures rows { IfOk result (λ v. v.items ≡ moved_rows from to units rows.now) }
 {
-    let mut after = SmallVec::with_capacity(alloc, rows.len() + 1)?;
+    let mut after = SmallVec::with_capacity(alloc, count_after(rows, from, to, units))?;
     let mut given = false;
     for row in rows {
         push_some(&mut after, to, gained(given, *row, to, units))?;
