@@ -5,8 +5,8 @@ use Rattle.title_trace.specs.{declared.call.{Call.{Call}, Reply.{Reply}}, Due.{S
 use Rattle.title_trace.specs.declared.call.Request.TheVariants as request
 use Rattle.title_trace.specs.declared.call.Reply.TheVariants as reply
 use Rattle.title_desk.specs.Told.{Books, Told}
-use Rattle.title_script.specs.Served.{after_call}
-use Rattle.title_counter.{specs.Closings.{with_aborts}, proofs.AskedOnce.{asked}}
+use Rattle.title_script.specs.{Served.{after_call}, Laws.Replied.{asked}}
+use Rattle.title_counter.specs.Closings.{with_aborts}
 
 -- one more transaction is aborted
 pub one_more : (setting : Setting) (trace : List Call) (e : ℕ) (es : List ℕ)

@@ -1,6 +1,5 @@
 mod Aborting
 mod AnswerLaws
-mod AskedOnce
 mod Batches
 mod FieldLaws
 mod OnResults

@@ -15,6 +15,7 @@ use Rattle.title_trace.specs.declared.call.Reply.TheVariants as reply
 use Rattle.title_desk.specs.{Opened.{Opened, held, nothing, set}, Images.{is_posted, IsRestored, without_all}}
 use Rattle.title_desk.specs.Keeps.{State, own_of, images_of, Keeps}
 use Rattle.title_desk.specs.{Told.{Added, Books, Passes, Stays, Told, entry_of}, Singles.{AddedInTurn, Bars, BrokenOff, IsIdle, Stands, ToldSingle, after_single, ending, in_turn, last_reply}}
+use Rattle.title_desk.specs.Laws.Calls.{added as call_added, added_single}
 use Rattle.title_desk.proofs.{Found.{at_set, none_from, set_here, set_other}, Steps.{bars_due, keeps_answered, keeps_posted}}
 use Rattle.title_desk.proofs.States.{told, books_of, keeps_as, keeps_locks, keeps_refused, keeps_began}
 use Rattle.title_desk.proofs.Ends.{Gone, gone_newest, nothing_out, keeps_aborted, keeps_committed}
@@ -173,24 +174,12 @@ told_single {setting = setting} {trace = trace} is e a r same calls due =
     subst (λ (x : Books). (setting ≡ x.setting) × (trace ≡ after_single x.trace e a r)
     × IsDue depth x.setting (after_single x.trace e a r)) is (same, calls, due)
 
--- a call whose reply isn't Memory is added
-added_call : (old new : Books) (q : Request) (r : Reply) → r ≢ reply.Memory → Told old q r new → Added old q r new
-added_call old new q reply.Memory other told = absurd (other refl)
-added_call old new q reply.Began other told = told
-added_call old new q (reply.Answered given) other told = told
-added_call old new q (reply.Committed place) other told = told
-added_call old new q reply.Aborted other told = told
-added_call old new q (reply.Denied why) other told = told
-
 module _ (old new : Books) (e : ℕ) (a : Ask) where
   -- where nobody is open too its calls are three
   pub any_added : (r : Reply) → ToldSingle old e a r new → r ≢ reply.Memory → AddedInTurn old e a r new
-  any_added reply.Memory told other = absurd (other refl)
-  any_added reply.Began told other = (told.0, reply.Began, reply.Aborted, told.1, rw told.1 told.2)
-  any_added (reply.Answered given) told other = (told.0, reply.Began, last_reply old.trace (reply.Answered given), told.1, rw told.1 told.2)
-  any_added (reply.Committed place) told other = (told.0, reply.Began, reply.Aborted, told.1, rw told.1 told.2)
-  any_added reply.Aborted told other = (told.0, reply.Began, reply.Aborted, told.1, rw told.1 told.2)
-  any_added (reply.Denied why) told other = (told.0, reply.Began, reply.Aborted, told.1, rw told.1 told.2)
+  any_added r told other =
+      let all = added_single old new e a r other told in
+      (all.0, reply.Began, last_reply old.trace r, all.1, rw all.1 all.2)
 
   pub none_added : (r : Reply) → ToldSingle old e a r new → r ≡ reply.Memory → BrokenOff old e a new
   none_added r told is = let stays : Stays old new = rw is at told in (stays.0, 2, reply.Began, reply.Began, omega arith, stays.1)
@@ -198,7 +187,7 @@ module _ (old new : Books) (e : ℕ) (a : Ask) where
   -- its requests are served one after another
   module _ (one : Books) (begun : Reply) (began : begun ≢ reply.Memory) (first : Told old (request.Begin e) begun one) where
     was : Added old (request.Begin e) begun one
-    was = added_call old one (request.Begin e) begun began first
+    was = call_added old one (request.Begin e) begun began first
 
     pub step_wants : Stays one new → BrokenOff old e a new
     step_wants stays = (stays.0 ∙ was.0, 1, begun, reply.Began, omega arith, stays.1 ∙ was.1)
@@ -207,7 +196,7 @@ module _ (old new : Books) (e : ℕ) (a : Ask) where
       both : (two.setting ≡ old.setting)
           × (two.trace ≡ record { request = request.Step e a; reply = r } ∷ record { request = request.Begin e; reply = begun } ∷ old.trace)
       both =
-          let s = added_call one two (request.Step e a) r asked second in
+          let s = call_added one two (request.Step e a) r asked second in
           (s.0 ∙ was.0, s.1 ∙ ap (λ (t : List Call). record { request = request.Step e a; reply = r } ∷ t) was.1)
 
       pub end_wants : Stays two new → BrokenOff old e a new
@@ -216,6 +205,6 @@ module _ (old new : Books) (e : ℕ) (a : Ask) where
       pub all_served : (q : Request) (ended : Reply) → q ≡ ending e r → ended ≢ reply.Memory → Told two q ended new
           → IsDue depth new.setting new.trace → AddedInTurn old e a r new
       all_served q ended is other third due =
-          let last = added_call two new q ended other third in
+          let last = call_added two new q ended other third in
           let same : new.setting ≡ old.setting = last.0 ∙ both.0 in
           (same, begun, ended, last.1 ∙ (λ i. record { request = is i; reply = ended } ∷ both.1 i), rw same at due)

@@ -5,3 +5,4 @@ pub mod Images
 pub mod Keeps
 pub mod Headline
 pub mod Singles
+pub mod Laws

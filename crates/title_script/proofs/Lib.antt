@@ -1,3 +1,2 @@
-mod Asked
 mod AskedAlone
 mod ServedLaws

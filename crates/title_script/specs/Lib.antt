@@ -4,3 +4,4 @@ pub mod Told
 pub mod Reports
 pub mod Runs
 pub mod ReportLaws
+pub mod Laws

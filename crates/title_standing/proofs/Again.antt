@@ -3,14 +3,15 @@ use Rattle.std.proofs.Common.{◌≡◌, ◌↔◌, ℕ, ◌+◌, ◌-◌, ◌<�
 use Rattle.std.proofs.{Common.{get_or, refl, sym, ap, subst, ◌∙◌, arith, Some}, lemmas.Bool.{false≢true}}
 use Rattle.std.proofs.lemmas.List.{append_assoc, map-append, map_more, reverse-append, take-append-drop, take-map, length-map}
 use Rattle.title_land.specs.Depth.{depth}
-use Rattle.title_chain.specs.declared.{ask.{Ask.{Ask}, Posting.{Posting}, Step.{Step}}, record.Record.{Record}}
+use Rattle.title_chain.specs.declared.{ask.{Posting.{Posting}, Step.{Step}}, record.Record.{Record}}
 use Rattle.title_chain.specs.declared.ask.Ask.TheVariants as ask
 use Rattle.title_chain.specs.declared.ask.Answer.TheVariants as answer
 use Rattle.title_trace.specs.{declared.call.{Call.{Call}, Request.{Request}, Reply.{Reply}}, Trace.{is_open}, Laws.OneReply.{one_due_reply}}
 use Rattle.title_trace.specs.Due.{Setting, DueReply, IsDue}
 use Rattle.title_trace.specs.declared.call.Request.TheVariants as request
 use Rattle.title_trace.specs.declared.call.Reply.TheVariants as reply
-use Rattle.title_desk.specs.{Told.{Books, Added, Told}, Singles.{AddedSingle, IsIdle, ToldSingle, after_single, ending, last_reply}}
+use Rattle.title_desk.specs.{Told.{Books, Told}, Singles.{IsIdle, ToldSingle, after_single, ending, last_reply}, Laws.Calls.{added}}
+use Rattle.title_desk.specs.Laws.Calls.{added_single}
 use Rattle.title_standing.specs.{declared.deeds.Deeds.{Deeds}, Standing.{asked_by, replayed}, Records.{posted_step, record_of}}
 use Rattle.title_standing.specs.Replays.{after_record, begun, GoesOn, Serves, ToldReplay}
 use Rattle.title_standing.proofs.Recalled.{open_still, replayed_are_committed, replayed_next}
@@ -49,20 +50,6 @@ up_to f xs k =
     ∙ reverse-append (map f (take k xs)) (map f (drop k xs))
 
 -- ---- a post
-
--- a reply other than Memory is added
-added : (old new : Books) (q : Request) (r : Reply) → (r ≡ reply.Memory → ⊥) → Told old q r new → Added old q r new
-added old new q reply.Memory other told = absurd (other refl)
-added old new q _ other told = told
-
-added_single : (old new : Books) (e : ℕ) (a : Ask) (r : Reply) → (r ≡ reply.Memory → ⊥) → ToldSingle old e a r new
-    → AddedSingle old e a r new
-added_single old new e a reply.Memory other told = absurd (other refl)
-added_single old new e a reply.Began other told = told
-added_single old new e a (reply.Answered given) other told = told
-added_single old new e a (reply.Committed place) other told = told
-added_single old new e a reply.Aborted other told = told
-added_single old new e a (reply.Denied why) other told = told
 
 -- two due replies to a request are one
 one_reply : (setting : Setting) (before : List Call) (q : Request) (r s : Reply) → DueReply depth setting before q r

@@ -1,4 +1,4 @@
-use Rattle.title_counter.proofs.AskedOnce.{asked}
+use Rattle.title_script.specs.Laws.Replied.{asked}
 use Rattle.title_counter.proofs.clerk.ask.Goals as goal
 
 pub returns-in_default : goal.returns-in_default

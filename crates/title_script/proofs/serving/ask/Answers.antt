@@ -1,4 +1,4 @@
-use Rattle.title_script.proofs.Asked.{asked}
+use Rattle.title_script.specs.Laws.Replied.{asked}
 use Rattle.title_script.proofs.serving.ask.Goals as goal
 
 pub returns-in-Memory : goal.returns-in-Memory

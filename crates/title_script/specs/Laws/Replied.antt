@@ -1,15 +1,10 @@
--- What the desk's reply to a request is.
-use Rattle.std.proofs.Common.{◌≡◌, ◌∙◌, ◌∷◌, refl, ap}
+-- What the desk's reply to a request is, and the trace after it.
+use Rattle.std.proofs.Common.{◌≡◌, ◌∙◌, ◌∷◌, ap}
 use Rattle.title_land.specs.Depth.{depth}
 use Rattle.title_trace.specs.{declared.call.{Request.{Request}, Reply.{Reply}}, Laws.OneReply.{one_due_reply}}
 use Rattle.title_trace.specs.declared.call.Reply.TheVariants as reply
-use Rattle.title_desk.specs.Told.{Books, Added, Told}
+use Rattle.title_desk.specs.{Told.{Books, Told}, Laws.Calls.{added}}
 use Rattle.title_script.specs.Served.{after_call, reply_to}
-
--- a reply other than Memory is added
-added : (old new : Books) (q : Request) (r : Reply) → (r ≡ reply.Memory → ⊥) → Told old q r new → Added old q r new
-added old new q reply.Memory other told = absurd (other refl)
-added old new q _ other told = told
 
 -- a reply other than Memory is the due one, and the trace has the call
 pub asked : (old new : Books) (q : Request) (r : Reply) → (r ≡ reply.Memory → ⊥) → Told old q r new →
