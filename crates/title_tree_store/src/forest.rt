@@ -9,7 +9,7 @@ ghost use Rattle.title_tree_store.specs.{Spots.{paths_in}, Forests.{Each, IsChan
 ghost use Rattle.title_tree_store.specs.Forests.{parts_in, pieces, plots, named_spots, put_ways, written, tidied_written};
 ghost use Rattle.title_tree_store.specs.Forests.{IsNoted, StaysApart};
 
-use crate::passing::Passing;
+use crate::passing::{Moved, Passing};
 use crate::spots::Paths;
 use std::alloc::{AllocError, Global};
 use std::sync::Arc;
@@ -82,13 +82,14 @@ pub(crate) fn names(instrument: &Instrument, estate: Estate) -> bool
 }
 
 // What stands at some paths of a tree, after an instrument; nothing where it doesn't name the estate. Refused as the first
-// leaf that refuses. A list is made once nothing refuses at the first path, where there are more.
+// leaf that refuses. A list is made once nothing refuses at the first path, where there are more. What was made last is kept.
 fn changed(
     alloc: Global,
     tree: &Tree,
     paths: &[Path],
     instrument: &Instrument,
     estate: Estate,
+    last: &mut Option<Moved>,
 ) -> Result<Parts, Fault<Rule>>
     ensures change { IfOk result (λ parts. IsChange instrument.now estate paths.now (plot tree.now) (parts_in parts)) }
     ensures why { IfErr result (IsRefusedIn instrument.now estate paths.now (plot tree.now)) }
@@ -102,6 +103,7 @@ fn changed(
     let mut passing = Passing {
         instrument: *instrument,
         estate,
+        last: last.take(),
     };
     let changed = tree.at(*first).changed(alloc, &mut passing)?;
     let part = Part {
@@ -109,11 +111,13 @@ fn changed(
         tree: changed,
     };
     if rest.is_empty() {
+        *last = passing.last.take();
         return Ok(Parts::One(part));
     }
     let mut parts = Vec::with_capacity(alloc, paths.len())?;
     parts.push_reserved(part);
     add_changed(alloc, tree, rest, &mut passing, &mut parts)?;
+    *last = passing.last.take();
     Ok(Parts::Many(parts))
 }
 
@@ -182,9 +186,10 @@ impl Forest {
         ensures change { Each (λ e. IfOk result (λ x. IsChange instrument.now e paths.now (plots self.now e) (pieces x e))) }
         ensures why { IfErr result (λ f. (e : Estate) × IsRefusedIn instrument.now e paths.now (plots self.now e) f) }
     {
-        let s = changed(alloc, &self.s, paths, instrument, Estate::S)?;
-        let o = changed(alloc, &self.o, paths, instrument, Estate::O)?;
-        let m = changed(alloc, &self.m, paths, instrument, Estate::M)?;
+        let mut last = None;
+        let s = changed(alloc, &self.s, paths, instrument, Estate::S, &mut last)?;
+        let o = changed(alloc, &self.o, paths, instrument, Estate::O, &mut last)?;
+        let m = changed(alloc, &self.m, paths, instrument, Estate::M, &mut last)?;
         Ok(Subtrees { s, o, m })
     }
 
