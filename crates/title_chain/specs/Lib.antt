@@ -13,4 +13,5 @@ pub mod SoleNodes
 pub mod SheetParts
 pub mod SquareRows
 pub mod KeptRows
+pub mod StepLists
 pub mod Laws

@@ -1,6 +1,6 @@
 //! Lists of rows, entries, steps and records, which contracts compare as lists.
 
-ghost use Rattle.std.specs.Prelude.{◌≡◌, ◌≤◌, [], IfOk, IfSome, length, slice_get};
+ghost use Rattle.std.specs.Prelude.{◌≡◌, ◌≤◌, ◌∷◌, [], IfErr, IfOk, IfSome, length, slice_get};
 ghost use Rattle.title_chain.specs.{SheetParts.{all_rows}, KeptRows.{rows_in, sheet_in}};
 
 use crate::ask::{Entry, Step};
@@ -9,6 +9,7 @@ use crate::same_parts::same_estate;
 use crate::square_row::{SquareRow, section_of, squares_of};
 use std::alloc::{AllocError, Global};
 use std::marker::Model;
+use std::slice;
 use std::sync::{Arc, ArcSlice};
 use title_instrument::Estate;
 use title_land::Section;
@@ -345,19 +346,26 @@ impl Entries {
     }
 }
 
+// How steps are kept: one alone takes no memory.
+#[derive(Debug, Drop)]
+pub(crate) enum KeptSteps {
+    One(Step),
+    Many(Vec<Step>),
+}
+
 /// The steps of a transaction, the oldest first.
 #[derive(Debug, Drop)]
 pub struct Steps {
-    items: Vec<Step>,
+    kept: KeptSteps,
 }
 
 impl Model for Steps {
     ghost use Rattle.std.specs.Prelude.{List};
-    ghost use Rattle.title_chain.specs.declared.ask.Step.{Step};
+    ghost use Rattle.title_chain.specs.{declared.ask.Step.{Step}, StepLists.{steps_in}};
 
     ghost Value = { List Step };
 
-    ghost view = { λ s. s.items.items };
+    ghost view = { λ s. steps_in s.kept };
 }
 
 impl Steps {
@@ -365,42 +373,62 @@ impl Steps {
     pub fn empty(alloc: Global) -> Steps
         ensures empty { result ≡ [] }
     {
-        Steps {
-            items: Vec::new(alloc),
-        }
+        Steps::new(Vec::new(alloc))
+    }
+
+    /// The list of this step alone; takes no memory.
+    pub fn one(step: Step) -> Steps
+        ensures one { result ≡ step ∷ [] }
+    {
+        let kept = KeptSteps::One(step);
+        Steps { kept }
     }
 
     /// The list of these steps.
     pub fn new(items: Vec<Step>) -> Steps
         ensures new { result ≡ items.items }
     {
-        Steps { items }
+        let kept = KeptSteps::Many(items);
+        Steps { kept }
     }
 
     /// The steps, in order.
     pub fn as_slice(&self) -> &[Step]
         ensures slice { result.now ≡ self.now }
     {
-        self.items.as_slice()
+        match &self.kept {
+            KeptSteps::One(step) => slice::from_ref(step),
+            KeptSteps::Many(items) => items.as_slice(),
+        }
     }
 
-    /// The steps as a `Vec`; takes no memory.
-    pub fn into_vec(self) -> Vec<Step>
-        ensures vec { result.items ≡ self }
+    /// The steps as a `Vec`. Only for one that is kept alone memory may be wanted, and then the list is given back.
+    pub fn into_vec(self, alloc: Global) -> Result<Vec<Step>, Steps>
+        ensures vec { IfOk result (λ items. items.items ≡ self) }
+        ensures back { IfErr result (λ back. back ≡ self) }
     {
-        let Steps { items } = self;
-        items
+        let kept = self.kept;
+        let step = match kept {
+            KeptSteps::One(step) => step,
+            KeptSteps::Many(items) => return Ok(items),
+        };
+        let Ok(mut items) = Vec::with_capacity(alloc, 1) else {
+            return Err(Steps::one(step));
+        };
+        items.push_reserved(step);
+        Ok(items)
     }
 
     /// An equal list.
     pub fn copy(&self, alloc: Global) -> Result<Steps, AllocError>
         ensures copy { IfOk result (λ items. items ≡ self.now) }
     {
-        let mut items = Vec::with_capacity(alloc, self.items.len())?;
-        for step in &self.items {
+        let steps = self.as_slice();
+        let mut items = Vec::with_capacity(alloc, steps.len())?;
+        for step in steps {
             items.push(step.copy(alloc)?)?;
         }
-        Ok(Steps { items })
+        Ok(Steps::new(items))
     }
 }
 

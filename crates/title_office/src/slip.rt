@@ -1,11 +1,11 @@
 //! Slips.
 
-ghost use Rattle.std.specs.Prelude.{◌≡◌, [], length, option_map};
+ghost use Rattle.std.specs.Prelude.{◌≡◌, [], IfOk, OnErr, OnOk, length, option_map};
 ghost use Rattle.title_office.specs.Offices.{last_answer, having_seen, with_steps};
 
 use crate::office::Done;
 use crate::seat::Seat;
-use std::alloc::Global;
+use std::alloc::{AllocError, Global};
 use std::marker::Model;
 use std::mem::replace;
 use title_chain::{Answer, Record, Step, Steps};
@@ -69,12 +69,19 @@ impl<B: Room> Slip<B> {
         &self.seat
     }
 
-    // Takes the steps out.
-    pub(crate) fn take_steps(&mut self, alloc: Global) -> Vec<Step>
-        ensures taken { result.items ≡ self.old.rec.steps }
-        ensures left { self.new ≡ with_steps self.old [] }
+    // Takes the steps out. `Err` changes nothing.
+    pub(crate) fn take_steps(&mut self, alloc: Global) -> Result<Vec<Step>, AllocError>
+        ensures taken { IfOk result (λ steps. steps.items ≡ self.old.rec.steps) }
+        ensures left { OnOk result (self.new ≡ with_steps self.old []) }
+        ensures err { OnErr result (self.new ≡ self.old) }
     {
-        replace(&mut self.rec.steps, Steps::empty(alloc)).into_vec()
+        match replace(&mut self.rec.steps, Steps::empty(alloc)).into_vec(alloc) {
+            Ok(steps) => Ok(steps),
+            Err(steps) => {
+                self.rec.steps = steps;
+                Err(AllocError)
+            }
+        }
     }
 
     // Puts steps in the place of those that it has.

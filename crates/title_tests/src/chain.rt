@@ -190,10 +190,17 @@ fn last_of(rt: &impl Abort, records: Records) -> Record {
     records.into_vec().pop().expect(rt, "one record")
 }
 
+fn vec_of(rt: &impl Abort, alloc: Global, steps: Steps) -> Vec<Step> {
+    let Ok(steps) = steps.into_vec(alloc) else {
+        panic!(rt; "there is memory");
+    };
+    steps
+}
+
 // The steps of the one record.
-fn steps_of(rt: &impl Abort, records: Records) -> Vec<Step> {
+fn steps_of(rt: &impl Abort, alloc: Global, records: Records) -> Vec<Step> {
     let Record { steps, .. } = last_of(rt, records);
-    steps.into_vec()
+    vec_of(rt, alloc, steps)
 }
 
 // The chain of everything.
@@ -212,7 +219,7 @@ fn assert_chain(rt: &impl Abort, alloc: Global, records: &Records, own: &[Step])
 fn assert_copied(rt: &impl Abort, alloc: Global, records: &Records, copy: Records) {
     let is_same = have_one_text(rt, alloc, records, &copy);
     must(rt, is_same, "the same text");
-    assert_chain(rt, alloc, records, steps_of(rt, copy).as_slice());
+    assert_chain(rt, alloc, records, steps_of(rt, alloc, copy).as_slice());
 }
 
 #[test]
@@ -255,7 +262,7 @@ fn own_post(rt: &impl Abort, alloc: Global, doc: u64, node: Node) -> OwnSteps {
 fn commit(rt: &impl Abort, alloc: Global, index: &mut TractIndex, doc: u64, node: Node) {
     let own = own_post(rt, alloc, doc, node);
     index.reserve().expect(rt, "there is memory");
-    index.push_reserved(record(1, own.into_steps().into_vec()));
+    index.push_reserved(record(1, vec_of(rt, alloc, own.into_steps())));
 }
 
 // A chain, asked again where memory is refused once.

@@ -17,7 +17,7 @@ use title_store::{Put, Store};
 use title_trace::laws::idle_have_no_steps;
 use title_trace::{Denial, Reply, Request};
 
-// What a transaction of one answered step takes memory for: the list of its step, and room for its record.
+// What a transaction of one answered step takes memory for: its step, and room for its record.
 fn prepare_answer(
     alloc: Global,
     records: &mut TractIndex,
@@ -29,13 +29,11 @@ fn prepare_answer(
     ensures steps { IfOk result (λ steps. steps ≡ record { ask = ask.now; answer = answer.now } ∷ []) }
 {
     let step = step_of(alloc, ask, answer)?;
-    let mut steps = Vec::with_capacity(alloc, 1)?;
-    steps.push_reserved(step);
     records.reserve()?;
-    Ok(Steps::new(steps))
+    Ok(Steps::one(step))
 }
 
-// What a transaction of one post that is done takes memory for: the list of its step, and room for its record.
+// What a transaction of one post that is done takes memory for: its step, and room for its record.
 fn prepare_post(
     alloc: Global,
     records: &mut TractIndex,

@@ -91,7 +91,9 @@ impl<B: Room> Books<B> {
             return Err(why);
         }
         let (examiner, receipt) = (slip.examiner(), self.receipt(slip.seat()));
-        let mut steps = slip.take_steps(self.alloc);
+        let Ok(mut steps) = slip.take_steps(self.alloc) else {
+            return Err(Fault::Memory);
+        };
         let answer = self.add_step(rt, examiner, ask, &mut steps);
         slip.put_steps(steps);
         if let Err(why) = answer {
