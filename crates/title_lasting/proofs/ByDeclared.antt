@@ -20,9 +20,9 @@ use Rattle.title_spelling.specs.Posts.{IsExaminer}
 use Rattle.title_page.specs.Rows.{row, rows_text}
 use Rattle.title_standing.specs.{Standing.{replayed}, StandingLaws.{widest}}
 use Rattle.title_daybook.specs.Standing.{Standing}
-use Rattle.title_lasting.{specs.{DayLaws.{FirstDaysAreAlone, ReportsGoByDeclared}, Days.{declared_in, setting_on}}, proofs.CallsMore.{ends}}
-use Rattle.title_lasting.proofs.{FineRows.{LandsHaveCells, first_is_text}, FineScripts.{FineAsk, FineStep, script_fine}}
-use Rattle.title_lasting.proofs.FineTraces.{FineRequest}
+use Rattle.title_lasting.specs.{DayLaws.{FirstDaysAreAlone, ReportsGoByDeclared}, Days.{declared_in, setting_on}}
+use Rattle.title_lasting.specs.Laws.{CallsMore.{ends}, FineRows.{LandsHaveCells, first_is_text}}
+use Rattle.title_lasting.specs.Laws.{FineScripts.{FineAsk, FineStep, script_fine}, FineTraces.{FineRequest}}
 
 module _ (names : List (List ℕ)) (townships : List Township) (most : ℕ) (few : length names ≤ most) where
   -- the desk for the declared parties, and one with room for more
