@@ -13,7 +13,8 @@ use Rattle.title_trace.specs.declared.call.Request.TheVariants as request
 use Rattle.title_plan.specs.{declared.line.Line.{Line}, Asked.{Asked}, Lands.{land_in}, Onto.{OntoNothing, nothing_before, script_onto}}
 use Rattle.title_plan.specs.Plans.{script_of}
 use Rattle.title_plan.specs.declared.line.Line.TheVariants as line
-use Rattle.title_script.specs.{ReportLaws.{after_lines}, Served.{after_call, after_line, due_rows, ending, line_rows, reply_to}}
+use Rattle.title_desk.specs.Singles.{ending}
+use Rattle.title_script.specs.{ReportLaws.{after_lines}, Served.{after_call, after_line, due_rows, line_rows, reply_to}}
 use Rattle.title_script.specs.Reports.{report_of, report_onto, report_or_fault, setting_of}
 use Rattle.title_report.specs.Replies.{end_row, reply_rows}
 use Rattle.title_spelling.specs.Posts.{IsExaminer}

@@ -6,7 +6,7 @@ use Rattle.title_plan.specs.declared.line.Schedule.{Schedule}
 use Rattle.title_daybook.specs.{Files.{IsPlant, standing_in}, Standing.{Standing}}
 use Rattle.title_lasting.specs.{declared.fault.LastingFault.{LastingFault}, Lastings.{IsCause, IsExpected, Lasting, Stays}}
 use Rattle.title_lasting.specs.{Opened.{IsUnopened, LeavesUnopened}, Openings.{IsNoPlant, IsResting, StandsAs}}
-use Rattle.title_lasting.specs.Laws.Plants.{plants_are_not_refused}
+use Rattle.title_lasting.specs.Laws.Plants.{alike_stands, plants_are_not_refused}
 use Rattle.title_lasting.proofs.Lasts.{cause_there, counts_there, leaves_there}
 use Rattle.title_lasting.specs.declared.fault.LastingFault.TheVariants as fault
 use Rattle.title_lasting.proofs.Untold.{keeps_itself}

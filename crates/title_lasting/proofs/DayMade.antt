@@ -17,6 +17,8 @@ use Rattle.title_daybook.specs.declared.writing.Stood.{Stood}
 use Rattle.title_lasting.specs.{Days.{Day, evening, morning, setting_on, stands_after}, Made.{Adds, IsAddedBlock}, Replays.{AreShort}}
 use Rattle.title_lasting.specs.Laws.{CallsMore.{CallsMore, lines_more}, FineBooks.{all_wider, IsWritten}, FineScripts.{FineAsk, IsFine}}
 use Rattle.title_lasting.specs.Laws.FineTraces.{FineNews, FineRecord, FineSteps, all_joined, fine_news}
+use Rattle.title_lasting.specs.Laws.KeptNews.{all_kept, drop_front, due_before, empty, first_short, kept_again, no_longer, none_left}
+use Rattle.title_lasting.specs.Laws.KeptNews.{ok_blocks}
 
 module _ (recalled : ReplayedAreCommitted) (idle : IdleHaveNoSteps depth) (added : AddedReadsBack) (written : KeptAreWritten)
     (before : Standing) (asked : Asked)

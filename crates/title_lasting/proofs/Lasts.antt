@@ -11,7 +11,7 @@ use Rattle.title_lasting.specs.declared.{serving.Made.{Made}, fault.LastingFault
 use Rattle.title_lasting.specs.{Days.{Day, IsBeforeOrAfter, declared_in, evening, stands_after}, Kept.{IsWithOrWithout, text_in, with_text}}
 use Rattle.title_lasting.specs.Lastings.{Counts, IsCause, IsExpected, IsServed, IsUnsure, Leaves, Refuses, Stays}
 use Rattle.title_lasting.specs.{Made.{IsAtFault, IsMade, IsUnmade}, Openings.{IsResting, StandsAs}}
-use Rattle.title_lasting.specs.Laws.Plants.{one_stands}
+use Rattle.title_lasting.specs.Laws.Plants.{adds_stand, one_stands}
 use Rattle.title_lasting.specs.declared.fault.LastingFault.TheVariants as fault
 
 -- ---- a day that was made of what stood in a file

@@ -6,7 +6,8 @@ use Rattle.title_trace.specs.declared.call.Request.TheVariants as request
 use Rattle.title_trace.specs.declared.call.Reply.TheVariants as reply
 use Rattle.title_plan.specs.declared.line.Line.{Line}
 use Rattle.title_plan.specs.declared.line.Line.TheVariants as line
-use Rattle.title_script.specs.{ReportLaws.{after_lines}, Served.{after_call, after_line, ending, reply_to}}
+use Rattle.title_desk.specs.Singles.{ending}
+use Rattle.title_script.specs.{ReportLaws.{after_lines}, Served.{after_call, after_line, reply_to}}
 use Rattle.title_lasting.specs.Laws.FineTraces.{FineCall, FineRequest, all_joined}
 
 -- a call is the request with its reply

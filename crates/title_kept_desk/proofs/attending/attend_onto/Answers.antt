@@ -2,7 +2,8 @@
 use Rattle.std.proofs.Common.{◌∙◌}
 use Rattle.title_daybook.specs.Books.{standing_of}
 use Rattle.title_lasting.specs.Laws.Plants.{alike_stands}
-use Rattle.title_kept_desk.proofs.{DeskEnds.{desk_there, unopened_desk}, attending.attend_onto.{Goals as goal}}
+use Rattle.title_kept_desk.proofs.DeskEnds.{desk_there, unopened_desk}
+use Rattle.title_kept_desk.proofs.attending.attend_onto.Goals as goal
 
 pub returns-in-Err-clause-desk : goal.returns-in-Err-clause-desk
 returns-in-Err-clause-desk g c =

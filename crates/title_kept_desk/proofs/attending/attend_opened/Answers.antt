@@ -5,7 +5,8 @@ use Rattle.title_daybook.specs.{Books.{standing_of}, Files.{IsPlant}}
 use Rattle.title_counter.specs.Counters.{Counter}
 use Rattle.title_lasting.specs.Laws.KeptNews.{many_deeds}
 use Rattle.title_kept_desk.specs.{declared.mark.Mark.{Mark}, Sittings.{IsUpTo}}
-use Rattle.title_kept_desk.proofs.{DeskEnds.{onto_opening, opening_has, unasked}, attending.attend_opened.{Goals as goal}}
+use Rattle.title_kept_desk.proofs.DeskEnds.{onto_opening, opening_has, unasked}
+use Rattle.title_kept_desk.proofs.attending.attend_opened.Goals as goal
 
 pub onto-clerk-requires : goal.onto-clerk-requires
 onto-clerk-requires g c =

@@ -5,7 +5,7 @@ use Rattle.title_lasting.specs.Laws.CellsSaid.{described_have_cells}
 use Rattle.title_kept_desk.proofs.BatchKept.{still_there}
 use Rattle.title_kept_desk.proofs.DeskSittings.{answered_all, at_once, at_start, beyond, cause_at, come, consumed_kept, consumed_more}
 use Rattle.title_kept_desk.proofs.DeskSittings.{ended_cause, ended_stopped, pull_lines, pull_whole, pulled, stopped_at}
-use Rattle.title_kept_desk.proofs.attending.attend_rows.{Goals as goal}
+use Rattle.title_kept_desk.proofs.attending.attend_rows.Goals as goal
 
 pub pulls-init : goal.pulls-init
 pulls-init g c =

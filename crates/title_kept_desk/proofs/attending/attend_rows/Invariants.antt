@@ -2,7 +2,8 @@
 use Rattle.std.proofs.Common.{◌≡◌, ◌≤◌, ◌-◌, ◌^◌, false}
 use Rattle.title_counter.specs.{Sessions.{IsSound}, Views.{counter_of}}
 use Rattle.title_kept_desk.specs.Sittings.{IsUpTo}
-use Rattle.title_kept_desk.proofs.{DeskSittings.{Between}, attending.attend_rows.{Given as goal}}
+use Rattle.title_kept_desk.proofs.DeskSittings.{Between}
+use Rattle.title_kept_desk.proofs.attending.attend_rows.Given as goal
 
 abbrev pub invariant-pulls : goal.invariant-pulls
 invariant-pulls g l = record {

@@ -2,7 +2,8 @@
 use Rattle.std.proofs.lemmas.Result.{err_from_is_err_and}
 use Rattle.title_disk.specs.Crashes.{LeavesOnly}
 use Rattle.title_counter.specs.{Lines.{last_line}, Views.{counter_of}}
-use Rattle.title_kept_desk.proofs.{RowsEnded.{ended_whole, unended, unwritten}, attending.end_rows.{Goals as goal}}
+use Rattle.title_kept_desk.proofs.RowsEnded.{ended_whole, unended, unwritten}
+use Rattle.title_kept_desk.proofs.attending.end_rows.Goals as goal
 
 pub returns-in_err-sit_rest : goal.returns-in_err-sit_rest
 returns-in_err-sit_rest g c =

@@ -1,6 +1,7 @@
 -- What is held are the answers.
 use Rattle.title_counter.specs.{Lines.{lines_from}, Views.{counter_of}}
-use Rattle.title_kept_desk.proofs.{HeldTexts.{held_text}, holding.hold_batch.{Goals as goal}}
+use Rattle.title_kept_desk.proofs.HeldTexts.{held_text}
+use Rattle.title_kept_desk.proofs.holding.hold_batch.Goals as goal
 
 pub returns-in-Ok-clause-answers : goal.returns-in-Ok-clause-answers
 returns-in-Ok-clause-answers c =

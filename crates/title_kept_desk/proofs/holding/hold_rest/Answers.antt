@@ -1,6 +1,7 @@
 -- What is held are the answers.
 use Rattle.title_counter.specs.{Lines.{last_line}, Views.{counter_of}}
-use Rattle.title_kept_desk.proofs.{HeldTexts.{held_text}, holding.hold_rest.{Goals as goal}}
+use Rattle.title_kept_desk.proofs.HeldTexts.{held_text}
+use Rattle.title_kept_desk.proofs.holding.hold_rest.Goals as goal
 
 pub returns-in-Ok-clause-answers : goal.returns-in-Ok-clause-answers
 returns-in-Ok-clause-answers c =

@@ -2,7 +2,8 @@
 use Rattle.std.proofs.{Common.{map}, lemmas.Result.{err_from_is_err_and}}
 use Rattle.title_counter.specs.{Lines.{last_line}, Views.{counter_of}}
 use Rattle.title_kept_desk.specs.LookLines.{as_look}
-use Rattle.title_kept_desk.proofs.{LookSittings.{row_broken, row_written, unlooked}, look_desk.end_looks.{Goals as goal}}
+use Rattle.title_kept_desk.proofs.LookSittings.{row_broken, row_written, unlooked}
+use Rattle.title_kept_desk.proofs.look_desk.end_looks.Goals as goal
 
 pub returns-in_err-look_rest : goal.returns-in_err-look_rest
 returns-in_err-look_rest g c =

@@ -3,7 +3,7 @@ use Rattle.std.proofs.{Common.{◌≡◌, ◌∙◌, ap, arith, length, map}, le
 use Rattle.title_counter.specs.{Lines.{lines_from}, Views.{counter_of}, Laws.GivenBytes.{keeps_itself}}
 use Rattle.title_kept_desk.specs.LookLines.{as_look, lines_text}
 use Rattle.title_kept_desk.proofs.{LookLines.{no_more_bytes, whole_of}, LookSittings.{lost_as, passed_as}}
-use Rattle.title_kept_desk.proofs.look_desk.look_batch.{Goals as goal}
+use Rattle.title_kept_desk.proofs.look_desk.look_batch.Goals as goal
 
 pub returns-in_err-lines-clause-batch : goal.returns-in_err-lines-clause-batch
 returns-in_err-lines-clause-batch g c =

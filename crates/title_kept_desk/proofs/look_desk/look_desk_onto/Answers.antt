@@ -2,7 +2,8 @@
 use Rattle.std.proofs.{Common.{subst, sym}, lemmas.Result.{err_from_is_err_and}}
 use Rattle.title_daybook.specs.Books.{standing_of}
 use Rattle.title_lasting.specs.Opened.{IsUnopened}
-use Rattle.title_kept_desk.proofs.{LookDeskEnds.{desk_looks, desk_unread}, look_desk.look_desk_onto.{Goals as goal}}
+use Rattle.title_kept_desk.proofs.LookDeskEnds.{desk_looks, desk_unread}
+use Rattle.title_kept_desk.proofs.look_desk.look_desk_onto.Goals as goal
 
 pub returns-in_err-found : goal.returns-in_err-found
 returns-in_err-found g c =

@@ -2,7 +2,8 @@
 use Rattle.std.proofs.{Common.{◌≡◌, ◌∙◌, ap, arith, length, map}, lemmas.Result.{err_from_is_err_and}}
 use Rattle.title_counter.specs.{Lines.{last_line}, Views.{counter_of}, Laws.GivenBytes.{keeps_itself}}
 use Rattle.title_kept_desk.specs.LookLines.{as_look, lines_text}
-use Rattle.title_kept_desk.proofs.{LookLines.{last_bytes, last_of}, LookSittings.{lost_as, passed_as}, look_desk.look_rest.{Goals as goal}}
+use Rattle.title_kept_desk.proofs.{LookLines.{last_bytes, last_of}, LookSittings.{lost_as, passed_as}}
+use Rattle.title_kept_desk.proofs.look_desk.look_rest.Goals as goal
 
 pub returns-in_err-lines : goal.returns-in_err-lines
 returns-in_err-lines g c =

@@ -5,7 +5,7 @@ use Rattle.title_counter.specs.{Lines.{last_line, lines_from}, Views.{counter_of
 use Rattle.title_kept_desk.specs.LookLines.{as_look}
 use Rattle.title_kept_desk.proofs.LookSittings.{looked, looks_begin, waits, answered_all, at_once, batch_cause, batch_stopped, beyond}
 use Rattle.title_kept_desk.proofs.LookSittings.{end_cause, end_stopped, given_kept}
-use Rattle.title_kept_desk.proofs.look_desk.look_rows.{Goals as goal}
+use Rattle.title_kept_desk.proofs.look_desk.look_rows.Goals as goal
 
 pub pulls-init : goal.pulls-init
 pulls-init g c =

@@ -1,7 +1,8 @@
 -- Between two pulls all whole lines of what was given are answered.
 use Rattle.std.proofs.Common.{◌≡◌, ◌≤◌, ◌+◌, ◌-◌, ◌^◌, false, length}
 use Rattle.title_counter.specs.{Sessions.{IsSound}, Views.{counter_of}}
-use Rattle.title_kept_desk.proofs.{LookSittings.{LooksBetween}, look_desk.look_rows.{Given as goal}}
+use Rattle.title_kept_desk.proofs.LookSittings.{LooksBetween}
+use Rattle.title_kept_desk.proofs.look_desk.look_rows.Given as goal
 
 abbrev pub invariant-pulls : goal.invariant-pulls
 invariant-pulls g l = record {

@@ -5,7 +5,8 @@ use Rattle.title_daybook.specs.Books.{standing_of}
 use Rattle.title_counter.specs.Counters.{Counter}
 use Rattle.title_lasting.specs.Laws.KeptNews.{many_deeds}
 use Rattle.title_kept_desk.specs.LookDesks.{LooksFrom}
-use Rattle.title_kept_desk.proofs.{DeskEnds.{onto_opening, unasked}, look_desk.look_standing.{Goals as goal}}
+use Rattle.title_kept_desk.proofs.DeskEnds.{onto_opening, unasked}
+use Rattle.title_kept_desk.proofs.look_desk.look_standing.Goals as goal
 
 pub onto-clerk-requires : goal.onto-clerk-requires
 onto-clerk-requires g c =

@@ -1,7 +1,8 @@
 -- A blank line stays one, and of any other its row is put.
 use Rattle.std.proofs.Common.{◌≡◌, ◌∙◌, ◌++◌, ◌∷◌, [], List, ℕ, ap, sym}
 use Rattle.title_counter.specs.Lines.{line_feed}
-use Rattle.title_kept_desk.proofs.{LookLines.{blank_ended, is_nothing, line_ended}, look_lines.put_line.{Goals as goal}}
+use Rattle.title_kept_desk.proofs.LookLines.{blank_ended, is_nothing, line_ended}
+use Rattle.title_kept_desk.proofs.look_lines.put_line.Goals as goal
 
 pub returns-then-is_blank-clause-put : goal.returns-then-is_blank-clause-put
 returns-then-is_blank-clause-put c =

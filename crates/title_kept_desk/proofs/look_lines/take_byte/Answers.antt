@@ -1,6 +1,7 @@
 -- A line feed ends the line, and any other byte comes to it.
 use Rattle.std.proofs.{Common.{◌≡◌, ◌==◌, arith, false, sym}, lemmas.{Bool.Decides.{nat_tests}, List.{append-nil}}}
-use Rattle.title_kept_desk.proofs.{LookLines.{on_ok}, look_lines.take_byte.{Goals as goal}}
+use Rattle.title_kept_desk.proofs.LookLines.{on_ok}
+use Rattle.title_kept_desk.proofs.look_lines.take_byte.Goals as goal
 
 pub returns-then-byte-eq10-clause-put : goal.returns-then-byte-eq10-clause-put
 returns-then-byte-eq10-clause-put c = rw c.if-byte-eq10.true c.put_line.ensures.put

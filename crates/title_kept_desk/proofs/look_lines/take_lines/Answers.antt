@@ -1,7 +1,8 @@
 -- One byte more.
 use Rattle.std.proofs.Common.{refl}
 use Rattle.title_counter.specs.Laws.LineLaws.{rest_to}
-use Rattle.title_kept_desk.proofs.{LookLines.{text_to}, look_lines.take_lines.{Goals as goal}}
+use Rattle.title_kept_desk.proofs.LookLines.{text_to}
+use Rattle.title_kept_desk.proofs.look_lines.take_lines.Goals as goal
 
 pub loop-byte-init : goal.loop-byte-init
 loop-byte-init c = record { lines = c.new-lines.ensures.items; rest = refl }

@@ -2,7 +2,7 @@
 use Rattle.std.proofs.Common.{◌≡◌, map, take}
 use Rattle.title_counter.specs.Lines.{lines_from}
 use Rattle.title_kept_desk.specs.LookLines.{as_look, lines_text}
-use Rattle.title_kept_desk.proofs.look_lines.take_lines.{Given as goal}
+use Rattle.title_kept_desk.proofs.look_lines.take_lines.Given as goal
 
 abbrev pub invariant-loop-byte : goal.invariant-loop-byte
 invariant-loop-byte l = record {

@@ -2,7 +2,8 @@
 use Rattle.std.proofs.Common.{◌∙◌, ◌++◌, ◌∷◌, [], List, ℕ, ap, map, sym}
 use Rattle.title_counter.specs.Lines.{last_line}
 use Rattle.title_kept_desk.specs.LookLines.{as_look, lines_text}
-use Rattle.title_kept_desk.proofs.{LookLines.{is_nothing, last_some}, look_lines.take_rest.{Goals as goal}}
+use Rattle.title_kept_desk.proofs.LookLines.{is_nothing, last_some}
+use Rattle.title_kept_desk.proofs.look_lines.take_rest.Goals as goal
 
 pub returns-then-is_blank : goal.returns-then-is_blank
 returns-then-is_blank c =

@@ -5,7 +5,7 @@ use Rattle.title_chain.specs.declared.record.Record.{Record}
 use Rattle.title_trace.specs.Trace.{committed}
 use Rattle.title_counter.specs.{Counters.{asked_at}, Views.{counter_of}}
 use Rattle.title_lasting.specs.{Kept.{text_in}, Made.{IsAddedBlock}}
-use Rattle.title_kept_desk.proofs.news.clerk_block.{Goals as goal}
+use Rattle.title_kept_desk.proofs.news.clerk_block.Goals as goal
 
 pub new_records-requires : goal.new_records-requires
 new_records-requires c =

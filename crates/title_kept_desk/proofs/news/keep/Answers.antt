@@ -10,7 +10,8 @@ use Rattle.title_lasting.specs.Laws.CellsSaid.{described_have_cells}
 use Rattle.title_kept_desk.specs.Sittings.{HasAt}
 use Rattle.title_kept_desk.proofs.BatchKept.{still_there, unput, block_is, can_be_written, either_side, no_less_names, no_less_records}
 use Rattle.title_kept_desk.proofs.BatchKept.{no_less_townships, on_to}
-use Rattle.title_kept_desk.proofs.{BatchMade.{adds_at, has_then, kept_serial}, news.keep.{Goals as goal}}
+use Rattle.title_kept_desk.proofs.BatchMade.{adds_at, has_then, kept_serial}
+use Rattle.title_kept_desk.proofs.news.keep.Goals as goal
 
 pub clerk_block-requires : goal.clerk_block-requires
 clerk_block-requires g c =

@@ -1,6 +1,6 @@
 -- The names are those of the parties, and the records stand the other way round.
 use Rattle.std.{proofs.{Common.{◌∙◌, ap, arith, length, refl, sym}, lemmas.List.{length-map, length-reverse}}, specs.String.{string_bytes}}
-use Rattle.title_kept_desk.proofs.news.mark_at.{Goals as goal}
+use Rattle.title_kept_desk.proofs.news.mark_at.Goals as goal
 
 pub returns : goal.returns
 returns c = record {

@@ -3,7 +3,7 @@ use Rattle.std.proofs.{Common.{[], ◌∷◌}, lemmas.Result.{on_err_weaker}}
 use Rattle.title_page.specs.{Rows.{rows_text}, Laws.InTurn.{on_err}}
 use Rattle.title_report.specs.Replies.{end_row}
 use Rattle.title_lasting.specs.Laws.Begun.{part, part_at_end}
-use Rattle.title_kept_desk.proofs.sitting.put_last.{Goals as goal}
+use Rattle.title_kept_desk.proofs.sitting.put_last.Goals as goal
 
 pub returns-in_err-put_end-clause-begun : goal.returns-in_err-put_end-clause-begun
 returns-in_err-put_end-clause-begun g c =

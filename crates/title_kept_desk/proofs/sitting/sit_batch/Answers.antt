@@ -5,7 +5,7 @@ use Rattle.title_counter.specs.{Lines.{lines_from}, Views.{counter_of}, Laws.Giv
 use Rattle.title_lasting.specs.Lastings.{Begins}
 use Rattle.title_kept_desk.specs.Sittings.{HasAt}
 use Rattle.title_kept_desk.proofs.{BatchKept.{still_there}, BatchTold.{all_told, comes_on, unkept, untold}}
-use Rattle.title_kept_desk.proofs.sitting.sit_batch.{Goals as goal}
+use Rattle.title_kept_desk.proofs.sitting.sit_batch.Goals as goal
 
 pub returns-in_err-text-clause-batch : goal.returns-in_err-text-clause-batch
 returns-in_err-text-clause-batch g c =

@@ -4,7 +4,7 @@ use Rattle.std.proofs.lemmas.Result.{on_err_weaker}
 use Rattle.title_page.specs.{Rows.{rows_text}, Laws.InTurn.{on_err}}
 use Rattle.title_lasting.specs.Tells.{standing_rows}
 use Rattle.title_lasting.specs.Laws.Begun.{part, part_at_end}
-use Rattle.title_lasting.proofs.checking.write_standing.{Goals as goal}
+use Rattle.title_lasting.proofs.checking.write_standing.Goals as goal
 
 pub returns-in_err-put_standing-clause-begun : goal.returns-in_err-put_standing-clause-begun
 returns-in_err-put_standing-clause-begun g c =

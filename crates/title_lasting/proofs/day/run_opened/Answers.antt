@@ -6,7 +6,7 @@ use Rattle.title_daybook.specs.{Books.{standing_of}, Standing.{Standing}}
 use Rattle.title_lasting.specs.{Kept.{text_in}, Made.{Adds}, Openings.{StandsAs}}
 use Rattle.title_lasting.specs.Laws.Plants.{alike_stands}
 use Rattle.title_lasting.proofs.{FileOpened.{untouched}, Endings.{ends_told, ends_unmade, ends_unput, ends_untold}}
-use Rattle.title_lasting.proofs.day.run_opened.{Goals as goal}
+use Rattle.title_lasting.proofs.day.run_opened.Goals as goal
 
 -- what a day adds is a block
 block_is : (block : Option (Vec ℕ)) (before after : Standing) → Adds (text_in block) before after

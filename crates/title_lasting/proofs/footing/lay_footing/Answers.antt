@@ -8,7 +8,8 @@ use Rattle.title_daybook.specs.Books.{standing_of}
 use Rattle.title_lasting.specs.{Days.{declared_in}, Made.{IsUnjoined, IsUnmade}, Replays.{HasServed}}
 use Rattle.title_lasting.specs.Laws.KeptNews.{many_deeds}
 use Rattle.title_lasting.proofs.{FileOpened.{standing_short}, DayServed.{front_stands, may_open_widest}}
-use Rattle.title_lasting.proofs.{Unmade.{ended_by, unjoined_unmade, unread_unmade}, footing.lay_footing.{Goals as goal}}
+use Rattle.title_lasting.proofs.Unmade.{ended_by, unjoined_unmade, unread_unmade}
+use Rattle.title_lasting.proofs.footing.lay_footing.Goals as goal
 
 pub join-requires : goal.join-requires
 join-requires g c =

@@ -11,7 +11,8 @@ use Rattle.title_lasting.specs.Laws.{CellsSaid.{described_have_cells}, FineBooks
 use Rattle.title_lasting.specs.Laws.KeptNews.{many_deeds}
 use Rattle.title_lasting.proofs.FileOpened.{standing_short}
 use Rattle.title_lasting.proofs.DayServed.{front_stands, is_made, may_open_widest, no_fewer, no_fewer_of, served_many}
-use Rattle.title_lasting.proofs.{Unmade.{ended_by, unjoined_unmade, unread_unmade}, serving.make.{Goals as goal}}
+use Rattle.title_lasting.proofs.Unmade.{ended_by, unjoined_unmade, unread_unmade}
+use Rattle.title_lasting.proofs.serving.make.Goals as goal
 
 pub join-requires : goal.join-requires
 join-requires g c =
