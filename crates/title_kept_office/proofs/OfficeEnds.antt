@@ -1,5 +1,5 @@
 -- How a day of an office on a plant's file ends.
-use Rattle.std.proofs.Common.{◌≡◌, ◌∙◌, ◌≢◌, ◌⊎◌, ℕ, List, Bool, true, Option, Some, None, IfSome, Result, Ok, Err, inl, inr, ⊎_elim}
+use Rattle.std.proofs.Common.{◌≡◌, ◌∙◌, ◌≢◌, ◌⊎◌, ℕ, List, Bool, true, Option, Some, None, IfSome, Ok, Err, inl, inr, ⊎_elim}
 use Rattle.std.{proofs.Common.{refl, sym, ap, subst, length, arith}, specs.{Io.KnownBytes.{Appends, IsAtEnd, Keeps}, Global.{Vec}}}
 use Rattle.title_disk.specs.{Crashes.{LeavesOnly, Only}, Laws.Moments.{joined, weakened}}
 use Rattle.title_journal.specs.{Blocks.{IsBlock, blocks_in}, Rest.{StandsAlike}, declared.fault.PutFault.{PutFault}}
@@ -11,7 +11,7 @@ use Rattle.title_daybook.specs.{Files.{IsPlant, standing_after, standing_in}, St
 use Rattle.title_day.specs.Closings.{closed_text}
 use Rattle.title_lasting.specs.{Days.{declared_in}, Faults.{of_put}, Kept.{IsWithOrWithout, text_in, with_text}, Made.{Adds, IsAtFault}}
 use Rattle.title_lasting.specs.{Lastings.{Begins, IsExpected, Refuses, Stays}, Opened.{IsUnopened, LeavesUnopened}, Openings.{StandsAs}}
-use Rattle.title_lasting.specs.declared.fault.LastingFault.{LastingFault}
+use Rattle.title_lasting.specs.{declared.fault.LastingFault.{LastingFault}, Laws.Plants.{adds_stand}}
 use Rattle.title_lasting.specs.declared.fault.LastingFault.TheVariants as fault
 use Rattle.title_kept_office.specs.declared.fault.KeptOfficeFault.{KeptOfficeFault, TheVariants.{Kept, Worker, Unsettled}}
 use Rattle.title_kept_office.specs.{declared.making.Made.{Made}, OfficeDays.{stands_after}}
@@ -21,12 +21,6 @@ use Rattle.title_kept_office.specs.OfficeLastings.{CameToRest, CanServeOn, IsOff
 keeps_itself : (known : Option (List ℕ)) → Keeps known known
 keeps_itself None = tt
 keeps_itself (Some bytes) = refl
-
--- with its block, or with none, what stands after the day stands
-adds_stand : (block : Option (List ℕ)) (before after : Standing) → Adds block before after → (stood : Result (List (List ℕ)) ℕ)
-    → standing_after stood ≡ Ok before → standing_after (with_text block stood) ≡ Ok after
-adds_stand None before after adds stood is = is ∙ ap Ok (sym adds)
-adds_stand (Some text) before after adds stood is = adds.1 stood is
 
 -- what a day adds is a block
 pub block_is : (block : Option (Vec ℕ)) (before after : Standing) → Adds (text_in block) before after

@@ -13,16 +13,17 @@ use Rattle.title_trace.specs.declared.call.Request.TheVariants as request
 use Rattle.title_plan.specs.{declared.line.Line.{Line}, Asked.{Asked}, Lands.{land_in}, Onto.{OntoNothing, nothing_before, script_onto}}
 use Rattle.title_plan.specs.Plans.{script_of}
 use Rattle.title_plan.specs.declared.line.Line.TheVariants as line
-use Rattle.title_script.specs.{ReportLaws.{after_lines}, Served.{after_call, after_line, due_rows, ending, line_rows, reply_to}}
+use Rattle.title_desk.specs.Singles.{ending}
+use Rattle.title_script.specs.{ReportLaws.{after_lines}, Served.{after_call, after_line, due_rows, line_rows, reply_to}}
 use Rattle.title_script.specs.Reports.{report_of, report_onto, report_or_fault, setting_of}
 use Rattle.title_report.specs.Replies.{end_row, reply_rows}
 use Rattle.title_spelling.specs.Posts.{IsExaminer}
 use Rattle.title_page.specs.Rows.{row, rows_text}
 use Rattle.title_standing.specs.{Standing.{replayed}, StandingLaws.{widest}}
 use Rattle.title_daybook.specs.Standing.{Standing}
-use Rattle.title_lasting.{specs.{DayLaws.{FirstDaysAreAlone, ReportsGoByDeclared}, Days.{declared_in, setting_on}}, proofs.CallsMore.{ends}}
-use Rattle.title_lasting.proofs.{FineRows.{LandsHaveCells, first_is_text}, FineScripts.{FineAsk, FineStep, script_fine}}
-use Rattle.title_lasting.proofs.FineTraces.{FineRequest}
+use Rattle.title_lasting.specs.{DayLaws.{FirstDaysAreAlone, ReportsGoByDeclared}, Days.{declared_in, setting_on}}
+use Rattle.title_lasting.specs.Laws.{CallsMore.{ends}, FineRows.{LandsHaveCells, first_is_text}}
+use Rattle.title_lasting.specs.Laws.{FineScripts.{FineAsk, FineStep, script_fine}, FineTraces.{FineRequest}}
 
 module _ (names : List (List ℕ)) (townships : List Township) (most : ℕ) (few : length names ≤ most) where
   -- the desk for the declared parties, and one with room for more

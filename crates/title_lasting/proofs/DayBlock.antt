@@ -12,9 +12,10 @@ use Rattle.title_spelling.specs.Posts.{IsExaminer}
 use Rattle.title_daybook.specs.{Added.{IsOn, added_block, rows_of, text_of}, Files.{standing_after}, Standing.{Standing}}
 use Rattle.title_daybook.specs.{AddedLaws.{AddedReadsBack, CanBeWritten, IsKept, KeptAreWritten}, declared.writing.Stood.{Stood}}
 use Rattle.title_lasting.specs.{Days.{declared_in}, Footings.{CanAsk, CanWrite, Continues, HasStood, IsNew, stands_on}, Replays.{AreShort}}
-use Rattle.title_lasting.{specs.Made.{Adds, IsAddedBlock}, proofs.{FineBooks.{IsWritten, all_wider}, FineScripts.{FineAsk, IsFine}}}
-use Rattle.title_lasting.proofs.DayMade.{all_kept, drop_front, empty, first_short, kept_again, no_longer, none_left, ok_blocks}
-use Rattle.title_lasting.proofs.FineTraces.{FineRecord, FineSteps, all_joined, all_reversed}
+use Rattle.title_lasting.specs.Made.{Adds, IsAddedBlock}
+use Rattle.title_lasting.specs.Laws.{FineBooks.{IsWritten, all_wider}, FineScripts.{FineAsk, IsFine}}
+use Rattle.title_lasting.specs.Laws.KeptNews.{all_kept, drop_front, empty, first_short, kept_again, no_longer, none_left, ok_blocks}
+use Rattle.title_lasting.specs.Laws.FineTraces.{FineRecord, FineSteps, all_joined, all_reversed}
 
 -- ---- records that can be written
 

@@ -3,16 +3,13 @@ use Rattle.std.proofs.Common.{◌≡◌, ◌∙◌, ◌≢◌, ℕ, List, Bool, 
 use Rattle.title_disk.specs.{Crashes.{LeavesOnly, Only}, Laws.Moments.{joined, weakened}}
 use Rattle.title_journal.specs.Rest.{IsAtRest, StandsAlike}
 use Rattle.title_plan.specs.declared.line.Schedule.{Schedule}
-use Rattle.title_daybook.specs.{Files.{IsPlant, standing_after, standing_in}, Standing.{Standing}}
-use Rattle.title_lasting.specs.{Lastings.{IsCause, IsExpected, Lasting, Stays}, Opened.{IsUnopened, LeavesUnopened}}
-use Rattle.title_lasting.specs.{Openings.{IsNoPlant, IsResting, StandsAs}, declared.fault.LastingFault.{LastingFault}}
-use Rattle.title_lasting.proofs.{Lasts.{cause_there, counts_there, leaves_there}, Plants.{plants_are_not_refused}}
+use Rattle.title_daybook.specs.{Files.{IsPlant, standing_in}, Standing.{Standing}}
+use Rattle.title_lasting.specs.{declared.fault.LastingFault.{LastingFault}, Lastings.{IsCause, IsExpected, Lasting, Stays}}
+use Rattle.title_lasting.specs.{Opened.{IsUnopened, LeavesUnopened}, Openings.{IsNoPlant, IsResting, StandsAs}}
+use Rattle.title_lasting.specs.Laws.Plants.{alike_stands, plants_are_not_refused}
+use Rattle.title_lasting.proofs.Lasts.{cause_there, counts_there, leaves_there}
 use Rattle.title_lasting.specs.declared.fault.LastingFault.TheVariants as fault
-use Rattle.title_counter.specs.Laws.GivenBytes.{keeps_itself}
-
--- where the same blocks stand, the same stands
-pub alike_stands : (old c : List ℕ) → StandsAlike old c → StandsAs old c
-alike_stands old c same = ap standing_after same
+use Rattle.title_lasting.proofs.Untold.{keeps_itself}
 
 -- an expected place is the one that is said to be the last
 pub expected_is : (after : Option ℕ) (last n : ℕ) → last ≡ n → IfSome after (λ place. place ≡ last) → IfSome after (λ place. place ≡ n)

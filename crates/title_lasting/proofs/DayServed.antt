@@ -12,13 +12,13 @@ use Rattle.title_desk.specs.{Headline.{Headline}, Told.{Books}}
 use Rattle.title_plan.specs.{Asked.{Asked, asked_in}, Onto.{BeginsWith}, Townships.{each_once}, declared.line.Line.{Line}}
 use Rattle.title_plan.specs.declared.{line.Schedule.{Schedule}, plan.Plan.{Plan}}
 use Rattle.title_script.specs.{ReportLaws.{after_lines}, Reports.{report_onto}, Told.{served_text}}
-use Rattle.title_standing.specs.{declared.deeds.Deeds.{Deeds}, Records.{record_of}, StandingLaws.{KeptAreSerial, ReplayedAreCommitted}}
+use Rattle.title_standing.specs.StandingLaws.{KeptAreSerial, ReplayedAreCommitted}
 use Rattle.title_daybook.specs.{AddedLaws.{AddedReadsBack, KeptAreWritten}, Files.{standing_after}, Standing.{Standing}}
 use Rattle.title_daybook.specs.declared.writing.Stood.{Stood}
-use Rattle.title_lasting.specs.{Days.{Day, declared_in, evening, morning, setting_on}, Kept.{text_in}, Replays.{HasServed}}
-use Rattle.title_lasting.specs.{Made.{IsAddedBlock, IsAsked, IsMade, IsServedAt, served_at}, declared.serving.Made.{Made}}
-use Rattle.title_lasting.proofs.{CallsMore.{steps_go_on}, DayMade.{adds, goes_on, news, quiet}, FineBooks.{IsWritten}, FineScripts.{IsFine}}
-use Rattle.title_lasting.proofs.GoingOn.{commits_more}
+use Rattle.title_lasting.specs.{declared.serving.Made.{Made}, Days.{Day, declared_in, evening, morning, setting_on}, Kept.{text_in}}
+use Rattle.title_lasting.specs.{Replays.{HasServed}, Made.{IsAddedBlock, IsAsked, IsMade, IsServedAt, served_at}}
+use Rattle.title_lasting.specs.Laws.{CallsMore.{steps_go_on}, FineBooks.{IsWritten}, FineScripts.{IsFine}, GoingOn.{commits_more}}
+use Rattle.title_lasting.proofs.DayMade.{adds, goes_on, news, quiet}
 
 -- ---- what stood is the beginning
 
@@ -54,10 +54,6 @@ pub served_many : ReplayedAreCommitted → (townships : List Township) (records 
     → HasServed townships records desk → kept ≡ length records → length (committed desk.trace) ≡ kept
 served_many recalled townships records desk kept has many =
     ap (λ (t : List Call). length (committed t)) has.trace ∙ ap length (recalled records).0 ∙ sym many
-
--- as many as there are deeds
-pub many_deeds : (deeds : List Deeds) → length (reverse (map record_of deeds)) ≡ length deeds
-many_deeds deeds = length-reverse (map record_of deeds) ∙ length-map deeds record_of
 
 -- ---- what was served
 

@@ -12,7 +12,7 @@ use Rattle.title_lasting.specs.{Lastings.{Begins, Counts, Lasting, Stays}, Made.
 use Rattle.title_lasting.specs.declared.fault.LastingFault.{LastingFault}
 use Rattle.title_lasting.proofs.Lasts.{at_any_moment, is_served, stands_then, unmade_cause, unmade_leaves}
 use Rattle.title_lasting.specs.declared.fault.LastingFault.TheVariants as fault
-use Rattle.title_counter.specs.Laws.GivenBytes.{keeps_itself}
+use Rattle.title_lasting.proofs.Untold.{keeps_itself}
 
 module _ (sched : Schedule) (file : List ℕ) (left left_after : Option (List ℕ)) (turns turns_after : ℕ)
     (taken : Option (List ℕ))

@@ -1,8 +1,7 @@
 -- What the opening of a plant's file finds, and how it fails.
-use Rattle.std.proofs.{Common.{◌≡◌, ◌∙◌, ◌≤◌, ℕ, Bool, true, false, not, List, [], ◌∷◌, drop, length, Ok, Err}, lemmas.Bool.{and_parts}}
-use Rattle.std.{proofs.{Common.{refl, sym, ap, subst, arith, inl, inr}, lemmas.List.{length-map}}, specs.List.{AllByRecursion, list_any}}
-use Rattle.title_land.specs.{declared.survey.Township.{Township}, Survey.{same_township}}
-use Rattle.title_store.specs.Plants.{IsEachOnce}
+use Rattle.std.proofs.Common.{◌≡◌, ◌∙◌, ◌≤◌, ℕ, Bool, true, List, [], ◌∷◌, drop, length, Ok, Err}
+use Rattle.std.{proofs.{Common.{refl, sym, ap, subst, arith, inl, inr}, lemmas.List.{length-map}}, specs.List.{AllByRecursion}}
+use Rattle.title_land.specs.declared.survey.Township.{Township}
 use Rattle.title_chain.specs.{declared.record.Record.{Record}, Alone.{most_parties}}
 use Rattle.title_trace.specs.Due.{MayOpen, most_townships}
 use Rattle.title_disk.specs.{Crashes.{Elapses, LeavesOnly, Only}, Laws.Moments.{goes_on, joined, started}}
@@ -15,9 +14,9 @@ use Rattle.title_daybook.specs.{declared.fault.PlantFault.{PlantFault}, AddedLaw
 use Rattle.title_daybook.specs.Files.{row_of, standing_after, standing_in}
 use Rattle.title_daybook.specs.declared.fault.PlantFault.TheVariants as plant
 use Rattle.title_spelling.specs.Lands.{kept_land_in}
-use Rattle.title_lasting.specs.{Faults.{of_journal, of_plant}, Opened.{IsFoundIn, IsUnopened}, Refusals.{IsFirstRefused}}
-use Rattle.title_lasting.specs.{Openings.{IsNoPlant, bytes_of, cut_behind, cut_in}, Replays.{AreShort}, declared.opening.Found.{Found}}
-use Rattle.title_lasting.proofs.{FineBooks.{stands_written}, FineRows.{LandsHaveCells}}
+use Rattle.title_lasting.specs.{declared.opening.Found.{Found}, Faults.{of_journal, of_plant}, Opened.{IsFoundIn, IsUnopened}}
+use Rattle.title_lasting.specs.{Refusals.{IsFirstRefused}, Openings.{IsNoPlant, bytes_of, cut_behind, cut_in}, Replays.{AreShort}}
+use Rattle.title_lasting.specs.Laws.{FineBooks.{stands_written}, FineRows.{LandsHaveCells}}
 
 -- ---- reading
 

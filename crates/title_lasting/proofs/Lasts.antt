@@ -1,5 +1,5 @@
 -- How a run on a file that was opened comes out, and what it comes to for the file before its end was repaired.
-use Rattle.std.proofs.Common.{◌≡◌, ◌∙◌, ℕ, List, Bool, Option, Some, None, Result, Ok, refl, sym, ap, subst, inl, inr, ⊎_elim, ◌++◌}
+use Rattle.std.proofs.Common.{◌≡◌, ◌∙◌, ℕ, List, Bool, Option, None, Ok, refl, sym, ap, subst, inl, inr, ⊎_elim, ◌++◌}
 use Rattle.std.specs.Io.KnownBytes.{Keeps}
 use Rattle.title_land.specs.Depth.{depth}
 use Rattle.title_chain.specs.{declared.record.Record.{Record}, Alone.{IsSerial}}
@@ -7,17 +7,12 @@ use Rattle.title_trace.specs.Trace.{committed}
 use Rattle.title_journal.specs.Blocks.{blocks_in}
 use Rattle.title_plan.specs.{declared.{fault.ScriptFault.{ScriptFault}, line.Schedule.{Schedule}}, Onto.{script_onto}}
 use Rattle.title_daybook.specs.{Files.{IsPlant, standing_after, standing_in}, Standing.{Standing}}
+use Rattle.title_lasting.specs.declared.{serving.Made.{Made}, fault.LastingFault.{LastingFault}}
 use Rattle.title_lasting.specs.{Days.{Day, IsBeforeOrAfter, declared_in, evening, stands_after}, Kept.{IsWithOrWithout, text_in, with_text}}
 use Rattle.title_lasting.specs.Lastings.{Counts, IsCause, IsExpected, IsServed, IsUnsure, Leaves, Refuses, Stays}
-use Rattle.title_lasting.specs.{Made.{Adds, IsAtFault, IsMade, IsUnmade}, Openings.{IsResting, StandsAs}, declared.serving.Made.{Made}}
-use Rattle.title_lasting.{specs.declared.fault.LastingFault.{LastingFault}, proofs.Plants.{one_stands}}
+use Rattle.title_lasting.specs.{Made.{IsAtFault, IsMade, IsUnmade}, Openings.{IsResting, StandsAs}}
+use Rattle.title_lasting.specs.Laws.Plants.{adds_stand, one_stands}
 use Rattle.title_lasting.specs.declared.fault.LastingFault.TheVariants as fault
-
--- with its block, or with none, what stands after the day stands
-pub adds_stand : (block : Option (List ℕ)) (before after : Standing) → Adds block before after → (stood : Result (List (List ℕ)) ℕ)
-    → standing_after stood ≡ Ok before → standing_after (with_text block stood) ≡ Ok after
-adds_stand None before after adds stood is = is ∙ ap Ok (sym adds)
-adds_stand (Some text) before after adds stood is = adds.1 stood is
 
 -- ---- a day that was made of what stood in a file
 

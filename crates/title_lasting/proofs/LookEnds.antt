@@ -11,7 +11,7 @@ use Rattle.title_lasting.specs.{Days.{declared_in}, Lastings.{Begins, IsExpected
 use Rattle.title_lasting.specs.Looks.{IsLookCause, IsLookMade, IsLookStop, IsLookTold, IsLookUnread, LeavesLook, LeavesStanding}
 use Rattle.title_lasting.specs.{Made.{IsAtFault}, Opened.{IsUnopened}, declared.fault.LastingFault.{LastingFault}}
 use Rattle.title_lasting.specs.declared.fault.LastingFault.TheVariants as fault
-use Rattle.title_counter.specs.Laws.GivenBytes.{keeps_itself}
+use Rattle.title_lasting.proofs.Untold.{keeps_itself}
 
 -- ---- a look at what stood
 

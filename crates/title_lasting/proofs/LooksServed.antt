@@ -14,10 +14,12 @@ use Rattle.title_plan.specs.declared.line.Schedule.TheVariants as schedule
 use Rattle.title_script.specs.{declared.told.Served.{Served}, ReportLaws.{after_lines}, Reports.{report_onto}, Told.{served_text}}
 use Rattle.title_standing.specs.StandingLaws.{ReplayedAreCommitted}
 use Rattle.title_daybook.specs.Standing.{Standing}
-use Rattle.title_lasting.specs.{Days.{declared_in, evening, morning, report_on_day, setting_on}, Faults.{of_reading, of_script}}
-use Rattle.title_lasting.specs.{Lastings.{IsLeft}, Looks.{IsLookAsked, IsLookOn, IsLookServed, IsLookUnread, IsOtherText, look_day}}
-use Rattle.title_lasting.specs.{Made.{served_at}, Replays.{HasServed}, declared.fault.LastingFault.{LastingFault}}
-use Rattle.title_lasting.proofs.{CallsMore.{steps_go_on}, DayServed.{at_same}, GoingOn.{commits_more}, LookScripts.{declares_none}}
+use Rattle.title_lasting.specs.{declared.fault.LastingFault.{LastingFault}, Days.{declared_in, evening, morning, report_on_day, setting_on}}
+use Rattle.title_lasting.specs.{Faults.{of_reading, of_script}, Lastings.{IsLeft}}
+use Rattle.title_lasting.specs.{Looks.{IsLookAsked, IsLookOn, IsLookServed, IsLookUnread, IsOtherText, look_day}, Made.{served_at}}
+use Rattle.title_lasting.specs.Replays.{HasServed}
+use Rattle.title_lasting.specs.Laws.{CallsMore.{steps_go_on}, GoingOn.{commits_more}}
+use Rattle.title_lasting.proofs.{DayServed.{at_same}, LookScripts.{declares_none}}
 use Rattle.title_lasting.specs.declared.fault.LastingFault.TheVariants as fault
 
 -- ---- what was served

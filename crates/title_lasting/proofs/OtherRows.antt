@@ -1,9 +1,5 @@
 -- Rows that only look, and the first that doesn't.
-use Rattle.std.proofs.{Common.{◌≡◌, ◌∙◌, ◌+◌, ◌∷◌, [], refl, ap, inl, inr, ℕ, zero, suc, Bool, true, false, List}, lemmas.Bool.{cases_Bool}}
-use Rattle.std.proofs.{Common.{Option, Some, None, cond, take, arith}, lemmas.Str.{IsUtf8-from_is_utf8, is_utf8-from_IsUtf8}}
-use Rattle.std.{proofs.lemmas.Bool.{and_parts}, specs.{List.{list_all}, Str.{is_utf8}}}
-use Rattle.csv.specs.Records.{AllText}
-use Rattle.title_plan.specs.{Plans.{understood}, Rows.{row_in}, declared.row.Row.{Row}}
+use Rattle.std.proofs.Common.{◌≡◌, ◌∙◌, ◌+◌, ◌∷◌, [], refl, ap, ℕ, zero, suc, Bool, true, false, List, Some, None, cond, take, arith}
 use Rattle.title_lasting.specs.LookRows.{first_other, is_look}
 
 -- ---- rows one after another

@@ -7,7 +7,7 @@ use Rattle.title_trace.specs.{declared.call.Call.{Call}, Trace.{committed}, Due.
 use Rattle.title_desk.specs.Told.{Books}
 use Rattle.title_standing.specs.{Replays.{ToldReplay}, Standing.{replayed}, StandingLaws.{ReplayedAreCommitted, SerialAreServed, widest}}
 use Rattle.title_lasting.specs.{Refusals.{IsFirstRefused, oldest}, Replays.{AreShort}}
-use Rattle.title_lasting.proofs.GoingOn.{all_earlier, commits_more, earlier_serial}
+use Rattle.title_lasting.specs.Laws.GoingOn.{all_earlier, commits_more, earlier_serial}
 
 -- the first so many of some records, the oldest first
 first_of : (n : ℕ) (records : List Record) → oldest n (reverse records) ≡ reverse (take n records)

@@ -5,7 +5,7 @@ use Rattle.title_lasting.specs.{Faults.{of_opening}, Lastings.{Begins}, Opened.{
 use Rattle.title_lasting.specs.declared.{checking.TellFault.{TellFault}, fault.LastingFault.{LastingFault}}
 use Rattle.title_lasting.specs.declared.checking.TellFault.TheVariants as tell
 use Rattle.title_lasting.specs.declared.fault.LastingFault.TheVariants as fault
-use Rattle.title_counter.specs.Laws.GivenBytes.{keeps_itself}
+use Rattle.title_lasting.proofs.Untold.{keeps_itself}
 
 module _ {T : Type 0} (file : List ℕ) (text : Standing → List ℕ) (taken : Option (List ℕ)) (disk_failed sink_failed : Bool)
     (r : Result T TellFault) where

@@ -1,9 +1,9 @@
 -- What stands, told in numbers: rows in turn through a page, and the page given to the sink at the end.
 use Rattle.std.proofs.Common.{◌≡◌, ◌∙◌, ℕ, List, [], ◌∷◌, Option, sym, subst, length, map, reverse}
-use Rattle.std.proofs.lemmas.List.{append-nil, length-map, length-reverse}
-use Rattle.title_page.specs.{Pages.{Stopped, Written}, Rows.{rows_text}, Laws.InTurn.{part_given, stopped_as, stopped_then}}
+use Rattle.std.proofs.lemmas.List.{length-map, length-reverse}
+use Rattle.title_page.specs.{Pages.{Stopped, Written}, Rows.{rows_text}}
 use Rattle.title_page.specs.Laws.Rows.{rows_stopped_before, rows_stopped_then, rows_then}
-use Rattle.title_lasting.specs.{Lastings.{Begins}, Tells.{count_row}}
+use Rattle.title_lasting.specs.Tells.{count_row}
 
 -- ---- rows of a word and a number
 
@@ -60,13 +60,3 @@ module _ (r s t u v : List (List ℕ)) where
       → Written e m f n (rows_text (v ∷ [])) → Written a p f n (rows_text (r ∷ s ∷ t ∷ u ∷ v ∷ []))
   all_five one two three four w =
       rows_then (r ∷ s ∷ t ∷ u ∷ []) (v ∷ []) (rows_then (r ∷ s ∷ t ∷ []) (u ∷ []) (three_rows one two three) four) w
-
--- ---- rows through a page, and the page given to the sink at the end
-
-module _ {a : Option (List ℕ)} {p : List ℕ} (text : List ℕ) (empty : p ≡ []) where
-  pub part : {b : Option (List ℕ)} → Stopped a p b text → Begins a b text
-  part {b} v = part_given text (subst (λ (x : List ℕ). Stopped a x b text) empty v)
-
-  pub part_at_end : {b c : Option (List ℕ)} {q : List ℕ} → Written a p b q text → Stopped b q c [] → Begins a c text
-  part_at_end {b} {c} {q} w u =
-      part_given text (subst (λ (x : List ℕ). Stopped a x c text) empty (stopped_as (sym (append-nil text)) (stopped_then text [] w u)))

@@ -9,10 +9,8 @@ pub mod Opened
 pub mod Made
 pub mod Kept
 pub mod Tells
-pub mod Sittings
-pub mod Desks
 pub mod Readers
 pub mod LookRows
 pub mod Looks
-pub mod LookDesks
 pub mod Footings
+pub mod Laws

@@ -1,10 +1,8 @@
 -- Rows that only look: at a look nothing is declared, posted or committed.
-use Rattle.std.specs.Prelude.{◌≡◌, ◌≤◌, ◌==◌, ℕ, ◌+◌, cond, length, Bool, true, false, List, [], ◌∷◌, ◌++◌, Option, Some, None, codes}
-use Rattle.std.specs.{Prelude.{is_some, take}, List.{flat_map, list_any}}
+use Rattle.std.specs.Prelude.{ℕ, ◌+◌, cond, Bool, true, false, List, [], ◌∷◌, Option, Some, None, take}
 use Rattle.title_plan.specs.{declared.row.{Act.{Act}, Row.{Row}}, Limits.{most_rows}, Plans.{rows_in, understood}}
 use Rattle.title_plan.specs.declared.row.Act.TheVariants as act
 use Rattle.title_plan.specs.declared.row.Row.TheVariants as row
-use Rattle.title_counter.specs.{Limits.{longest_line}, Lines.{line_feed}}
 
 -- what an examiner does only looks
 abbrev pub only_looks : Act (List ℕ) → Bool
@@ -38,23 +36,3 @@ first_other n (fields ∷ rows) = cond (is_look fields) (first_other (n + 1) row
 -- the first row of a text that doesn't only look, among as many as a script may have
 abbrev pub other_in : List ℕ → Option ℕ
 other_in text = first_other 1 (take most_rows (rows_in text))
-
--- ---- lines at a desk
-
--- a row that says nothing
-abbrev pub nothing_said : List ℕ
-nothing_said = codes "?"
-
--- what a line counts as at a look: one with a row that doesn't only look, as one that says nothing; a blank line stays one
-abbrev pub as_look : List ℕ → List ℕ
-as_look [] = []
-as_look (byte ∷ bytes) = cond (is_some (other_in ((byte ∷ bytes) ++ line_feed ∷ []))) nothing_said (byte ∷ bytes)
-
--- a line, or the beginning of one: it has no line feed, and no more bytes than are kept of a line
-pub record IsStart (line : List ℕ) : Type 0 where
-  pub whole : list_any (λ byte. byte == line_feed) line ≡ false
-  pub short : length line ≤ longest_line + 1
-
--- lines as a text, each with its line feed
-abbrev pub lines_text : List (List ℕ) → List ℕ
-lines_text lines = flat_map (λ line. line ++ line_feed ∷ []) lines

@@ -77,7 +77,7 @@ fn is_look(raw: ByteRecord) -> bool
 }
 
 /// The first row of a text that doesn't only look, numbered from 1. No more rows are looked at than a script may have.
-pub(crate) fn find_other(alloc: Global, text: &[u8]) -> Result<Option<u64>, AllocError>
+pub fn find_other(alloc: Global, text: &[u8]) -> Result<Option<u64>, AllocError>
     ensures other { IfOk result (λ row. row ≡ other_in text.now) }
 {
     let mut reader = open_text(alloc, text);

@@ -20,7 +20,7 @@ use title_tree_store::TreeStore;
 
 /// The blocks of a plant's file, and what stands in them.
 #[derive(Drop)]
-pub(crate) struct Found {
+pub struct Found {
     pub blocks: Blocks,
     pub stands: Standing,
 }
@@ -46,7 +46,7 @@ pub(crate) fn tail_len(tail: Tail) -> usize
 }
 
 /// Reads what stands in a plant's file. Nothing is written.
-pub(crate) fn find<D: Disk>(alloc: Global, disk: &mut D) -> Result<Found, LastingFault>
+pub fn find<D: Disk>(alloc: Global, disk: &mut D) -> Result<Found, LastingFault>
     requires works { D.has_failed disk.old ≡ false }
     ensures found { IfOk result (IsFoundIn (D.seen disk.old)) }
     ensures fits { OnOk result (length (D.seen disk.old) < 2 ^ 63) }
@@ -63,10 +63,7 @@ pub(crate) fn find<D: Disk>(alloc: Global, disk: &mut D) -> Result<Found, Lastin
 }
 
 /// Serves what stands at a desk of its own townships.
-pub(crate) fn stand(
-    alloc: Global,
-    found: &Found,
-) -> Result<Box<Desk<TreeStore, NodeLocks>>, LastingFault>
+pub fn stand(alloc: Global, found: &Found) -> Result<Box<Desk<TreeStore, NodeLocks>>, LastingFault>
     requires found { (file : List ℕ) × IsFoundIn file found.now }
     ensures served { IfOk result (λ desk. HasServed found.now.stands.townships.items (standing_of found.now.stands).records desk.value) }
     ensures why { IfErr result (λ e. (file : List ℕ) → IsFoundIn file found.now → IsUnopened file false e) }

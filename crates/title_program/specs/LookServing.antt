@@ -2,7 +2,8 @@
 -- moment might have left.
 use Rattle.std.specs.Prelude.{◌≡◌, ◌⊎◌, ℕ, List, Bool, Option, Result}
 use Rattle.title_disk.specs.Crashes.{LeavesOnly}
-use Rattle.title_lasting.specs.{declared.fault.LastingFault.{LastingFault}, LookDesks.{LookingDesk}, Looks.{Looking}}
+use Rattle.title_lasting.specs.{declared.fault.LastingFault.{LastingFault}, Looks.{Looking}}
+use Rattle.title_kept_desk.specs.LookDesks.{LookingDesk}
 use Rattle.title_program.specs.{declared.status.Status.{Status}, Keeping.{EndsBy, IsUnopened}}
 
 module _ {D : Type 0} (seen : D → List ℕ) (may_leave : D → List ℕ → Type 0) (moment : D → ℕ) (left_since : D → ℕ → List ℕ → Type 0)

@@ -11,7 +11,7 @@ use crate::status::Status;
 use std::alloc::Global;
 use title_device::{Sink, Source};
 use title_disk::{Cabinet, Disk};
-use title_lasting::attend_onto;
+use title_kept_desk::attend_onto;
 
 // Serves rows as they come on top of what stands in a file, all of which is on the disk.
 fn serve_sitting<D: Disk, R: Source, W: Sink>(

@@ -11,7 +11,8 @@ use crate::status::Status;
 use std::alloc::Global;
 use title_device::{Sink, Source};
 use title_disk::{Cabinet, Disk};
-use title_lasting::{look_desk_onto, look_onto};
+use title_kept_desk::look_desk_onto;
+use title_lasting::look_onto;
 use title_script::Watch;
 
 // Serves the script in the source on top of what stands in a file, and keeps nothing.

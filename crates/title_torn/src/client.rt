@@ -8,7 +8,8 @@ use std::alloc::{AllocError, Global};
 use std::rt::Files;
 use title_device::Device;
 use title_disk::TornDisk;
-use title_lasting::{LastingFault, Schedule, attend_onto};
+use title_kept_desk::attend_onto;
+use title_lasting::{LastingFault, Schedule};
 
 // What came of rows: how they ended, the file, and the answers.
 #[derive(Drop)]

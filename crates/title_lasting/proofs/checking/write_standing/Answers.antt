@@ -2,7 +2,8 @@
 use Rattle.title_daybook.specs.Books.{standing_of}
 use Rattle.std.proofs.lemmas.Result.{on_err_weaker}
 use Rattle.title_page.specs.{Rows.{rows_text}, Laws.InTurn.{on_err}}
-use Rattle.title_lasting.{specs.Tells.{standing_rows}, proofs.Told.{part, part_at_end}}
+use Rattle.title_lasting.specs.Tells.{standing_rows}
+use Rattle.title_lasting.specs.Laws.Begun.{part, part_at_end}
 use Rattle.title_lasting.proofs.checking.write_standing.Goals as goal
 
 pub returns-in_err-put_standing-clause-begun : goal.returns-in_err-put_standing-clause-begun

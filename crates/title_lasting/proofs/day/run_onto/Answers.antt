@@ -2,7 +2,8 @@
 use Rattle.std.proofs.{Common.{◌≡◌, ◌∙◌, length, map, refl, arith}, lemmas.List.{length-map, length-reverse}}
 use Rattle.title_standing.specs.Records.{record_of}
 use Rattle.title_daybook.specs.Books.{standing_of}
-use Rattle.title_lasting.proofs.DayEnds.{alike_stands, at_rest_rests, expected_is, lasts_there, unexpected_ends, unopened_ends}
+use Rattle.title_lasting.specs.Laws.Plants.{alike_stands}
+use Rattle.title_lasting.proofs.DayEnds.{at_rest_rests, expected_is, lasts_there, unexpected_ends, unopened_ends}
 use Rattle.title_lasting.proofs.day.run_onto.Goals as goal
 
 pub returns-in-Err-clause-day : goal.returns-in-Err-clause-day

@@ -3,8 +3,9 @@ use Rattle.std.{proofs.{Common.{ℕ, Err, None, Option, Some, IfSome, ap}, lemma
 use Rattle.title_disk.specs.{Crashes.{LeavesOnly}, Laws.Moments.{weakened}}
 use Rattle.title_journal.specs.{Blocks.{IsBlock}, Rest.{StandsAlike}}
 use Rattle.title_daybook.specs.{Books.{standing_of}, Standing.{Standing}}
-use Rattle.title_lasting.{specs.{Kept.{text_in}, Made.{Adds}, Openings.{StandsAs}}, proofs.{DayEnds.{alike_stands}, FileOpened.{untouched}}}
-use Rattle.title_lasting.proofs.Endings.{ends_told, ends_unmade, ends_unput, ends_untold}
+use Rattle.title_lasting.specs.{Kept.{text_in}, Made.{Adds}, Openings.{StandsAs}}
+use Rattle.title_lasting.specs.Laws.Plants.{alike_stands}
+use Rattle.title_lasting.proofs.{FileOpened.{untouched}, Endings.{ends_told, ends_unmade, ends_unput, ends_untold}}
 use Rattle.title_lasting.proofs.day.run_opened.Goals as goal
 
 -- what a day adds is a block

@@ -5,8 +5,10 @@ use Rattle.title_chain.specs.Alone.{most_parties}
 use Rattle.title_trace.specs.Due.{MayOpen}
 use Rattle.title_plan.specs.Asked.{asked_in}
 use Rattle.title_daybook.specs.Books.{standing_of}
-use Rattle.title_lasting.{specs.{Days.{declared_in}, Made.{IsUnjoined, IsUnmade}, Replays.{HasServed}}, proofs.FileOpened.{standing_short}}
-use Rattle.title_lasting.proofs.{DayServed.{front_stands, many_deeds, may_open_widest}, Unmade.{ended_by, unjoined_unmade, unread_unmade}}
+use Rattle.title_lasting.specs.{Days.{declared_in}, Made.{IsUnjoined, IsUnmade}, Replays.{HasServed}}
+use Rattle.title_lasting.specs.Laws.KeptNews.{many_deeds}
+use Rattle.title_lasting.proofs.{FileOpened.{standing_short}, DayServed.{front_stands, may_open_widest}}
+use Rattle.title_lasting.proofs.Unmade.{ended_by, unjoined_unmade, unread_unmade}
 use Rattle.title_lasting.proofs.footing.lay_footing.Goals as goal
 
 pub join-requires : goal.join-requires

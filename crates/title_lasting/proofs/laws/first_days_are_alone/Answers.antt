@@ -1,5 +1,6 @@
 -- The law is a lemma.
-use Rattle.title_lasting.proofs.{ByDeclared.{first_is_alone}, CellsSaid.{described_have_cells}}
+use Rattle.title_lasting.specs.Laws.CellsSaid.{described_have_cells}
+use Rattle.title_lasting.proofs.ByDeclared.{first_is_alone}
 use Rattle.title_lasting.proofs.laws.first_days_are_alone.Goals as goal
 
 pub returns : goal.returns

@@ -1,5 +1,5 @@
 -- The law is a lemma.
-use Rattle.title_lasting.proofs.Plants.{plants_are_not_refused}
+use Rattle.title_lasting.specs.Laws.Plants.{plants_are_not_refused}
 use Rattle.title_lasting.proofs.laws.plants_are_not_refused.Goals as goal
 
 pub returns : goal.returns

@@ -6,9 +6,11 @@ use Rattle.title_trace.specs.Due.{MayOpen}
 use Rattle.title_journal.specs.Blocks.{blocks_in}
 use Rattle.title_plan.specs.Asked.{asked_in}
 use Rattle.title_daybook.specs.Books.{standing_of}
-use Rattle.title_lasting.{specs.{Days.{declared_in}, Made.{IsUnjoined, IsUnmade}, Replays.{HasServed}}, proofs.FileOpened.{standing_short}}
-use Rattle.title_lasting.proofs.{CellsSaid.{described_have_cells}, FineBooks.{stands_written}, FineScripts.{script_fine}}
-use Rattle.title_lasting.proofs.DayServed.{front_stands, is_made, many_deeds, may_open_widest, no_fewer, no_fewer_of, served_many}
+use Rattle.title_lasting.specs.{Days.{declared_in}, Made.{IsUnjoined, IsUnmade}, Replays.{HasServed}}
+use Rattle.title_lasting.specs.Laws.{CellsSaid.{described_have_cells}, FineBooks.{stands_written}, FineScripts.{script_fine}}
+use Rattle.title_lasting.specs.Laws.KeptNews.{many_deeds}
+use Rattle.title_lasting.proofs.FileOpened.{standing_short}
+use Rattle.title_lasting.proofs.DayServed.{front_stands, is_made, may_open_widest, no_fewer, no_fewer_of, served_many}
 use Rattle.title_lasting.proofs.Unmade.{ended_by, unjoined_unmade, unread_unmade}
 use Rattle.title_lasting.proofs.serving.make.Goals as goal
 

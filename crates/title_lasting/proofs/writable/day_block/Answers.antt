@@ -2,8 +2,9 @@
 use Rattle.std.{proofs.Common.{◌≡◌, ◌∙◌, ℕ, List, ap, arith, drop, length, refl, subst, sym}, specs.List.{AllByRecursion}}
 use Rattle.std.{specs.String.{string_bytes}, proofs.lemmas.List.{length-map}}
 use Rattle.title_chain.specs.declared.record.Record.{Record}
-use Rattle.title_lasting.{specs.{Days.{declared_in}, Footings.{CanWrite}, Kept.{text_in}, Made.{IsAddedBlock}}, proofs.DayBlock.{is_new}}
-use Rattle.title_lasting.proofs.{CellsSaid.{described_have_cells}, FineBooks.{stands_written}, FineScripts.{script_fine}}
+use Rattle.title_lasting.specs.{Days.{declared_in}, Footings.{CanWrite}, Kept.{text_in}, Made.{IsAddedBlock}}
+use Rattle.title_lasting.specs.Laws.{CellsSaid.{described_have_cells}, FineBooks.{stands_written}, FineScripts.{script_fine}}
+use Rattle.title_lasting.proofs.DayBlock.{is_new}
 use Rattle.title_lasting.proofs.writable.day_block.Goals as goal
 
 pub returns-in_ok-added-in-None : goal.returns-in_ok-added-in-None

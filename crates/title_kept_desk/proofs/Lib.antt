@@ -1,0 +1,11 @@
+mod FineCounters
+mod BatchMade
+mod BatchKept
+mod HeldTexts
+mod BatchTold
+mod RowsEnded
+mod DeskSittings
+mod DeskEnds
+mod LookLines
+mod LookSittings
+mod LookDeskEnds

@@ -1,0 +1,4 @@
+pub mod Sittings
+pub mod Desks
+pub mod LookLines
+pub mod LookDesks
