@@ -1,6 +1,5 @@
 -- Each transaction that was dealt is one that a step begins.
-use Rattle.std.proofs.Common.{◌≡◌, ◌∙◌, ◌==◌, ℕ, suc, Bool, true, false, cond, refl, ap}
-use Rattle.std.proofs.Common.{List, [], ◌∷◌, length, filter}
+use Rattle.std.proofs.Common.{◌≡◌, ◌∙◌, ◌==◌, ℕ, suc, Bool, true, false, cond, refl, ap, List, [], ◌∷◌, length, filter}
 use Rattle.title_dealing.specs.Dealing.{Hand, hand_of, transactions_of, with_request}
 use Rattle.title_day.specs.OfficeReports.{is_begin_of}
 use Rattle.title_plan.specs.declared.line.Line.{Line}

@@ -7,7 +7,6 @@ use Rattle.title_dealing.specs.Dealing.{Hand, empty_hand, hand_of, with_line, wi
 use Rattle.title_plan.specs.declared.line.Line.{Line}
 use Rattle.title_plan.specs.declared.line.Line.TheVariants as line
 use Rattle.title_trace.specs.{declared.call.Request.{Request}, Trace.{examiner_of}}
-use Rattle.title_trace.specs.declared.call.Request.TheVariants as request
 use Rattle.title_turns.specs.declared.script.Script.{Script}
 
 -- the last step comes before what the hands have
