@@ -38,7 +38,7 @@ abbrev pub OfficesKeepTurns : Type 0
 OfficesKeepTurns =
     (number : ℕ) (bytes : List ℕ) (asked : Asked) → script_of (schedule.Office number) bytes ≡ Ok asked → IsOffice number asked
 
--- and so it does on top of what stands
+-- the script of an office asks for what an office does on top of what stands, too
 abbrev pub OfficesKeepTurnsOnto : Type 0
 OfficesKeepTurnsOnto =
     (number : ℕ) (before : Before) (bytes : List ℕ) (asked : Asked) → script_onto (schedule.Office number) before bytes ≡ Ok asked
