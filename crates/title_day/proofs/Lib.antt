@@ -1,12 +1,8 @@
-mod FromOne
-mod TurnsOfOne
-pub mod TurnsKept
+pub mod Begun
 pub mod Closes
-pub mod DealingLaws
 pub mod OfficeCauses
 pub mod OfficeCounts
 pub mod OfficeOrder
 pub mod OfficeReported
 pub mod OneOutcomeEach
-mod TurnsOnto
 mod StoodOutcomes

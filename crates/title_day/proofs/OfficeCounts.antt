@@ -5,10 +5,12 @@ use Rattle.std.specs.List.{flat_map}
 use Rattle.title_plan.specs.declared.line.Line.{Line}
 use Rattle.title_chain.specs.declared.record.Record.{Record}
 use Rattle.title_settle.specs.{Settling.{IsSettled}, declared.outcome.Outcome.{Outcome}}
-use Rattle.title_office.specs.{declared.{fault.Fault.{Fault}, workers.Script.{Script}}, Workers.{AreCounted, examiners_of}}
-use Rattle.title_day.specs.{declared.tally.Tally.{Tally}, Dealing.{dealt_in, AreDealt, IsDealt}, OfficeReports.{is_begin_of, AreTallies}}
-use Rattle.title_day.{specs.OfficeDays.{AreTold, committed_by, first_there, tally_of}, proofs.DealingLaws.{as_many_as_begun}}
-use Rattle.title_day.proofs.OneOutcomeEach.{as_many_outcomes_as_records}
+use Rattle.title_turns.specs.declared.script.Script.{Script}
+use Rattle.title_office.specs.{declared.fault.Fault.{Fault}, Workers.{AreCounted, examiners_of}}
+use Rattle.title_dealing.specs.Dealing.{dealt_in, AreDealt, IsDealt}
+use Rattle.title_day.specs.{declared.tally.Tally.{Tally}, OfficeReports.{is_begin_of, AreTallies}}
+use Rattle.title_day.specs.OfficeDays.{AreTold, committed_by, first_there, tally_of}
+use Rattle.title_day.proofs.{Begun.{as_many_as_begun}, OneOutcomeEach.{as_many_outcomes_as_records}}
 
 -- a script that was dealt has a transaction for each begin of its examiner
 as_many_as_begins : (lines : List Line) (e : ℕ) (script : Script) → IsDealt lines e script →

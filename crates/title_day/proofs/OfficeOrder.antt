@@ -1,8 +1,9 @@
 -- The seats of an office and the scripts dealt for it are of the same examiners, in order.
 use Rattle.std.proofs.Common.{◌≡◌, ◌∙◌, ◌+◌, ℕ, zero, suc, List, [], ◌∷◌, ◌++◌, length, refl, sym, ap, ap₂, arith}
 use Rattle.title_plan.specs.declared.line.Line.{Line}
-use Rattle.title_office.specs.{declared.workers.Script.{Script}, Offices.{SeatState, opening_seats}, Workers.{examiners_of, seat_examiners}}
-use Rattle.title_day.specs.Dealing.{AreDealt}
+use Rattle.title_turns.specs.declared.script.Script.{Script}
+use Rattle.title_office.specs.{Offices.{SeatState, opening_seats}, Workers.{examiners_of, seat_examiners}}
+use Rattle.title_dealing.specs.Dealing.{AreDealt}
 
 -- so many numbers from one on
 abbrev numbers_from : ℕ → ℕ → List ℕ

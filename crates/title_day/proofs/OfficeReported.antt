@@ -2,8 +2,9 @@
 use Rattle.std.{proofs.Common.{◌≡◌, ◌∙◌, ℕ, List, length, map, reverse, ap, subst}, specs.String.{string_bytes}}
 use Rattle.title_land.specs.{Depth.{depth}, declared.survey.Township.{Township}}
 use Rattle.title_chain.specs.{declared.record.Record.{Record}, Alone.{IsSerial}}
-use Rattle.title_day.specs.{declared.{tally.Tally.{Tally}, office_script.OfficeScript.{OfficeScript}}, OfficeDays.{AreTold, committed_by}}
-use Rattle.title_day.specs.{OfficeReports.{closing_text}, OfficeRuns.{IsReportOf}, OfficeScripts.{IsOfficeScript}}
+use Rattle.title_dealing.specs.{declared.office_script.OfficeScript.{OfficeScript}, OfficeScripts.{IsOfficeScript}}
+use Rattle.title_day.specs.{declared.tally.Tally.{Tally}, OfficeDays.{AreTold, committed_by}}
+use Rattle.title_day.specs.{OfficeReports.{closing_text}, OfficeRuns.{IsReportOf}}
 use Rattle.title_day.proofs.OfficeCounts.{told_many, told_tallies}
 
 pub reported : (number : ℕ) (bytes : List ℕ) (script : OfficeScript) (plant : List Township) (seen tallies : List Tally)

@@ -1,33 +1,20 @@
 -- An office's day on top of records that stood. A list of what stood has the newest record first; the records of a day, and outcomes,
 -- have the oldest first.
-use Rattle.std.specs.{Prelude.{◌≡◌, ◌+◌, ◌-◌, ℕ, suc, List, [], ◌∷◌, ◌++◌, length, map, reverse, sum, Ok}, String.{string_bytes}}
+use Rattle.std.specs.Prelude.{◌≡◌, ◌+◌, ◌-◌, ℕ, suc, List, [], ◌∷◌, ◌++◌, length, map, reverse, sum}
 use Rattle.title_land.specs.{Depth.{depth}, declared.survey.Township.{Township}}
 use Rattle.title_chain.specs.{declared.record.Record.{Record}, Alone.{IsSerial}}
 use Rattle.title_trace.specs.{declared.call.Call.{Call}, Trace.{committed}, Due.{IsDue, Setting}}
 use Rattle.title_settle.specs.declared.outcome.Outcome.{Outcome}
-use Rattle.title_office.specs.{declared.workers.Script.{Script}, Offices.{opening_seats}, Workers.{examiners_of, seat_examiners}}
-use Rattle.title_plan.specs.{declared.line.Line.{Line}, Asked.{Asked}, Onto.{Before, script_onto}}
-use Rattle.title_plan.specs.declared.line.Schedule.TheVariants as schedule
+use Rattle.title_turns.specs.declared.script.Script.{Script}
+use Rattle.title_office.specs.{Offices.{opening_seats}, Workers.{examiners_of, seat_examiners}}
+use Rattle.title_plan.specs.{declared.line.Line.{Line}, Asked.{Asked}}
+use Rattle.title_dealing.specs.Dealing.{AreDealt}
 use Rattle.title_report.specs.Replies.{end_row, reply_rows}
 use Rattle.title_page.specs.Rows.{row, rows_text}
-use Rattle.title_day.specs.{declared.{office_script.OfficeScript.{OfficeScript}, tally.Tally.{Tally}}, Dealing.{AreDealt}, Turns.{IsOffice}}
-use Rattle.title_day.specs.{OfficeDays.{AreTold}, OfficeReports.{AreTallies, closing_sheet}, Tallies.{settled_row, tally_row}}
+use Rattle.title_day.specs.{declared.tally.Tally.{Tally}, OfficeDays.{AreTold}}
+use Rattle.title_day.specs.{OfficeReports.{AreTallies, closing_sheet}, Tallies.{settled_row, tally_row}}
 
 -- ---- scripts
-
--- the script of an office asks for what an office does on top of what stands, too
-abbrev pub OfficesKeepTurnsOnto : Type 0
-OfficesKeepTurnsOnto =
-    (number : ℕ) (before : Before) (bytes : List ℕ) (asked : Asked) → script_onto (schedule.Office number) before bytes ≡ Ok asked
-    → IsOffice number asked
-
--- this is what is asked for, dealt to so many examiners
-pub record IsDealtOf (number : ℕ) (asked : Asked) (script : OfficeScript) : Type 0 where
-  pub townships : script.townships.items ≡ asked.townships
-  pub names : map string_bytes script.parties.keys ≡ asked.names
-  pub steps : script.steps ≡ length asked.lines
-  pub many : length script.scripts.items ≡ number
-  pub dealt : AreDealt asked.lines 1 script.scripts.items
 
 -- scripts that were dealt to so many examiners fit the seats of an office
 abbrev pub SeatsFit : Type 0

@@ -1,7 +1,7 @@
 -- What came of the scripts of an office, gathered and counted.
 use Rattle.std.specs.Prelude.{◌≡◌, ◌+◌, ℕ, List, [], ◌∷◌, length, map, sum, Option, Some, None}
 use Rattle.title_settle.specs.declared.outcome.Outcome.{Outcome}
-use Rattle.title_office.specs.declared.workers.Script.{Script}
+use Rattle.title_turns.specs.declared.script.Script.{Script}
 use Rattle.title_day.specs.declared.{tally.Tally.{Tally}, office_fault.OfficeFault.{OfficeFault}}
 use Rattle.title_script.specs.declared.fault.RunFault.TheVariants as fault
 use Rattle.title_day.specs.declared.office_fault.OfficeFault.TheVariants as office

@@ -2,14 +2,11 @@
 #![tactic(auto)]
 
 mod closing;
-mod dealing;
-mod hand;
 pub mod laws;
 mod office_day;
 mod office_day_on;
 mod office_fault;
 mod office_runs;
-mod office_script;
 mod tally;
 
 pub use closing::{Closing, close_office, close_office_on, write_closing};
@@ -17,5 +14,4 @@ pub use office_day::Day;
 pub use office_day_on::run_day_on;
 pub use office_fault::OfficeFault;
 pub use office_runs::run_office;
-pub use office_script::{OfficeScript, deal_plan, read_office};
 pub use tally::Tally;

@@ -7,10 +7,10 @@ ghost use Rattle.title_day.specs.{Closings.{closed_text}, OfficeRuns.{IsOfficeRu
 use crate::closing::{Closing, close_office, write_closing};
 use crate::office_day::run_day;
 use crate::office_fault::OfficeFault;
-use crate::office_script::{OfficeScript, read_office};
 use std::alloc::Global;
 use std::sync::Wait;
 use std::thread::Threads;
+use title_dealing::{OfficeScript, read_office};
 use title_device::{Sink, Source, read_all};
 
 // What the report of the script of an office shows, whose examiners' rows are run by threads.

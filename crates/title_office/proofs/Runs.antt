@@ -1,7 +1,8 @@
 -- Tasks that workers have run, one after another.
 use Rattle.std.proofs.{Common.{◌≡◌, ℕ, List, [], ◌∷◌, ◌++◌, map, refl, subst, sym, ap, ◌∙◌, arith, All, IfSome}, lemmas.List.{map-append}}
 use Rattle.std.proofs.lemmas.List.Elements.{All-cons}
-use Rattle.title_office.specs.{declared.workers.Script.{Script}, Turns.{Task, Report, HasRun, HaveRun, task_of, tasks_of}}
+use Rattle.title_turns.specs.declared.script.Script.{Script}
+use Rattle.title_office.specs.Turns.{Task, Report, HasRun, HaveRun, task_of, tasks_of}
 use Rattle.title_office.specs.Workers.{AreCounted, examiners_of}
 
 -- one task more

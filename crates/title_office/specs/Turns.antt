@@ -2,7 +2,8 @@
 use Rattle.std.specs.Prelude.{◌≡◌, ◌+◌, ◌∷◌, ◌++◌, ℕ, Bool, true, false, List, [], length, map, Option, None, IfSome, IsSome}
 use Rattle.title_settle.specs.declared.outcome.Outcome.{Outcome}
 use Rattle.title_trace.specs.declared.denial.Denial.TheVariants as denial
-use Rattle.title_office.specs.declared.{fault.Fault.{Fault}, workers.{came.Came.{Came}, Script.{Script}, Worked.{Worked}}}
+use Rattle.title_turns.specs.declared.script.Script.{Script}
+use Rattle.title_office.specs.declared.{fault.Fault.{Fault}, workers.{came.Came.{Came}, Worked.{Worked}}}
 use Rattle.title_office.specs.{Offices.{SeatState}, Workers.{Ended}}
 use Rattle.title_office.specs.declared.fault.Fault.TheVariants as fault
 use Rattle.title_office.specs.declared.workers.came.Came.TheVariants as came

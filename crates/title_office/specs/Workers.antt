@@ -1,7 +1,8 @@
 -- What workers make of their scripts.
 use Rattle.std.specs.Prelude.{◌≡◌, ◌+◌, ℕ, List, [], ◌∷◌, length, map, Option, None}
 use Rattle.title_settle.specs.declared.outcome.Outcome.{Outcome}
-use Rattle.title_office.specs.{declared.{fault.Fault.{Fault}, workers.Script.{Script}}, Offices.{SeatState}}
+use Rattle.title_turns.specs.declared.script.Script.{Script}
+use Rattle.title_office.specs.{declared.fault.Fault.{Fault}, Offices.{SeatState}}
 
 -- the examiners of scripts
 abbrev pub examiners_of : List Script → List ℕ

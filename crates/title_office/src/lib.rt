@@ -25,6 +25,7 @@ pub use settle::Settled;
 pub use slip::Slip;
 pub use title_ledger::{Ledger, Room};
 pub use title_settle::{Outcome, Unsettled};
+pub use title_turns::{Script, Transaction};
 pub use title_views::{Receipt, Seen, Unseen, Viewer};
 pub use unopened::Unopened;
-pub use workers::{Script, Transaction, Worked, work};
+pub use workers::{Worked, work};

@@ -25,23 +25,9 @@ use std::alloc::Global;
 use std::marker::Model;
 use std::sync::Wait;
 use std::thread::Threads;
-use title_chain::Ask;
 use title_ledger::Room;
 use title_settle::Outcome;
-
-/// A transaction that a worker is to run: its asks in order, and whether it is committed or aborted at its end.
-#[derive(Debug, Drop)]
-pub struct Transaction {
-    pub asks: Vec<Ask>,
-    pub commits: bool,
-}
-
-/// What an examiner's worker is to run: transactions one after another.
-#[derive(Debug, Drop)]
-pub struct Script {
-    pub examiner: u32,
-    pub transactions: Vec<Transaction>,
-}
+use title_turns::Script;
 
 /// What came of a script: an outcome for each transaction that was committed, in order; how many were aborted by their own script,
 /// and how many were given up after the last try; the fault that ended the worker, if one did. The seat is missing only where no

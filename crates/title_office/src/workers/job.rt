@@ -3,9 +3,9 @@
 ghost use Rattle.std.specs.Prelude.{◌≡◌, ◌+◌, vec_len};
 
 use crate::seat::Seat;
-use crate::workers::Script;
 use crate::workers::tally::Tally;
 use title_ledger::Room;
+use title_turns::Script;
 
 /// A script, with the seat of its examiner and an empty tally with room for all its transactions.
 #[derive(Drop)]

@@ -4,11 +4,11 @@ ghost use Rattle.std.specs.Prelude.{◌≡◌, ◌+◌, ◌++◌, ◌∷◌, [],
 ghost use Rattle.title_office.specs.{Turns.{task_of, tasks_of}, Workers.{examiners_of, seat_examiners}};
 
 use crate::seat::Seat;
-use crate::workers::Script;
 use crate::workers::job::Job;
 use crate::workers::tally::Tally;
 use std::alloc::{AllocError, Global};
 use title_ledger::Room;
+use title_turns::Script;
 
 /// The scripts that no thread runs yet, in their order, and for each the seat of its examiner and an empty tally with room.
 #[derive(Drop)]

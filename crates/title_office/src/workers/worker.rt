@@ -9,18 +9,19 @@ use crate::gate::Gate;
 use crate::office::Done;
 use crate::seat::Seat;
 use crate::slip::Slip;
+use crate::workers::Worked;
 use crate::workers::bench::Bench;
 use crate::workers::caller::Caller;
 use crate::workers::came::{Came, Stop, Tried};
 use crate::workers::job::Job;
 use crate::workers::tally::Tally;
-use crate::workers::{Transaction, Worked};
 use std::sync::Wait;
 use std::thread;
 use title_chain::Ask;
 use title_ledger::Room;
 use title_settle::Outcome;
 use title_trace::Denial;
+use title_turns::Transaction;
 
 impl<'a, B: Room, R: Wait, G: Gate> Bench<'a, B, R, G> {
     /// Runs a job's script.

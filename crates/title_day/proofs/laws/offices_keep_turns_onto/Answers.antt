@@ -1,5 +1,0 @@
-use Rattle.title_day.proofs.TurnsOnto.{office_kept_onto}
-use Rattle.title_day.proofs.laws.offices_keep_turns_onto.Goals as goal
-
-pub returns : goal.returns
-returns c = record { law = office_kept_onto }

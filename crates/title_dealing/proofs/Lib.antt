@@ -1,0 +1,5 @@
+mod FromOne
+mod TurnsOfOne
+pub mod TurnsKept
+pub mod DealingLaws
+mod TurnsOnto
