@@ -1,10 +1,13 @@
 //! Locks as a plain list of entries.
 
-ghost use Rattle.std.specs.Prelude.{◌≡◌, ◌&&◌, ◌==◌, if◌then◌else◌, Some, None, List, reverse, filter, not, OnOk};
+ghost use Rattle.std.specs.Prelude.{◌≡◌, ◌<◌, ◌^◌, ◌&&◌, ◌==◌, if◌then◌else◌, Some, None, List, reverse, filter, not, OnOk};
+ghost use Rattle.std.specs.Prelude.{ℕ, true, is_some, slice_index};
 ghost use Rattle.title_land.specs.{Depth.{depth}, Nodes.{is_above}, Lands.{cover_of}};
 ghost use Rattle.title_lock.specs.{declared.guards.Entry.{Entry}, Overlaps.{is_post, overlap, Stands, IsLeast}, Standing.{StandFree}};
-ghost use Rattle.title_lock.specs.Asking.{asked_for, asked, mode_at, AllGranted, AreSized};
+ghost use Rattle.title_lock.specs.{Asking.{asked_for, asked, mode_at, AllGranted, AreSized}, Counts.{IsCount}, Holders.{count_in}};
+ghost use Rattle.title_lock.specs.declared.modes.Mode.{Mode, TheVariants.{Is, Ix, S, Six, X}};
 
+use crate::counts::Counts;
 use crate::guards::{Access, Entry, Guards, LockFault};
 use crate::least::least;
 use crate::modes::{Mode, bound};
@@ -129,6 +132,19 @@ fn mode_in(rows: &[Entry], examiner: u32, node: &Node) -> Option<Mode>
     mode
 }
 
+// How many examiners have each mode at a node.
+fn counted(rows: &[Entry], node: &Node) -> Counts
+    ensures counted { (m : Mode) → IsCount (λ e. mode_at depth (reverse rows.now) e node.now) m (count_in result m) }
+    ensures few { (e : ℕ) → is_some (mode_at depth (reverse rows.now) e node.now) ≡ true → e < 2 ^ 32 }
+{
+    let Some((row, older)) = rows.split_last() else {
+        return Counts::NONE;
+    };
+    let counts = counted(older, node);
+    let had = mode_in(older, row.examiner, node);
+    counts.moved(had, bound(mode_by(row, row.examiner, node), had))
+}
+
 // Takes out an examiner's entries.
 fn take_out(rows: &mut Vec<Entry>, examiner: u32)
     ensures rows { rows.new.items ≡ filter (λ x. not (x.examiner == examiner)) rows.old.items }
@@ -152,6 +168,18 @@ impl RowLocks {
         ensures rows { reverse result.now ≡ self.now.entries }
     {
         self.rows.as_slice()
+    }
+
+    /// How many examiners have each mode at a node, from IS to X. Takes no memory.
+    pub(crate) fn counts(&self, node: &Node) -> [u64; 5]
+        ensures is { IsCount (λ e. mode_at depth self.now.entries e node.now) Is (slice_index result 0) }
+        ensures ix { IsCount (λ e. mode_at depth self.now.entries e node.now) Ix (slice_index result 1) }
+        ensures s { IsCount (λ e. mode_at depth self.now.entries e node.now) S (slice_index result 2) }
+        ensures six { IsCount (λ e. mode_at depth self.now.entries e node.now) Six (slice_index result 3) }
+        ensures x { IsCount (λ e. mode_at depth self.now.entries e node.now) X (slice_index result 4) }
+    {
+        let counts = counted(&self.rows, node);
+        [counts.is, counts.ix, counts.s, counts.six, counts.x]
     }
 
     /// Makes room for an access that nobody is in the way of, and adds nothing. The list isn't gone through. An error is for
