@@ -6,10 +6,10 @@ ghost use Rattle.title_lock.specs.{declared.modes.Mode.TheVariants.{Is, Ix, S, S
 ghost use Rattle.title_lock.specs.{Asking.{mode_at, AllGranted, AreSized}, Holders.{own_part}, Standing.{StandFree}};
 ghost use Rattle.title_lock.specs.Locks.{Locks, shown, AreInOne};
 
-use crate::guards::{Access, Entry, Guards, LockFault};
+use crate::guards::{Access, Guards, LockFault};
 use crate::holders::own_part;
 use crate::modes::Mode;
-use crate::row_locks::RowLocks;
+use crate::row_locks::{Row, RowLocks};
 use crate::spread_locks::SpreadLocks;
 use std::alloc::{AllocError, Global};
 use std::marker::Model;
@@ -50,12 +50,13 @@ impl Model for NodeLocks {
 }
 
 // The locks by node of a list of entries, the oldest first.
-fn spread_of(alloc: Global, rows: &[Entry]) -> Result<SpreadLocks, AllocError>
+fn spread_of(alloc: Global, rows: &[Row]) -> Result<SpreadLocks, AllocError>
     ensures spread { IfOk result (λ s. s.entries ≡ reverse rows.now) }
 {
     let mut spread = SpreadLocks::new(alloc);
     for row in rows {
-        let Ok(()) = spread.ask(row.examiner, &row.tract, row.access) else {
+        let entry = row.entry();
+        let Ok(()) = spread.ask(entry.examiner, &entry.tract, entry.access) else {
             return Err(AllocError);
         };
     }
