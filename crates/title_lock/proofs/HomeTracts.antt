@@ -1,7 +1,8 @@
 -- Tracts of different sections share no cell, so an entry of another section is passed over.
 use Rattle.std.proofs.Common.{◌≡◌, ◌∙◌, ap, sym, refl, ℕ, Bool, true, false, not, ◌&&◌, ◌||◌, List, [], ◌∷◌, Option, eqb}
 use Rattle.std.proofs.lemmas.Bool.{eq-eqb, and_right, both_ways, false_from_ne_true}
-use Rattle.title_land.specs.{declared.{survey.Section.{Section}, grid.Grid.{Grid}, tract.Land.{Land}}, Survey.{same_section}, Lands.{meets}, Grids.{grids_meet}}
+use Rattle.title_land.specs.declared.{survey.Section.{Section}, grid.Grid.{Grid}, tract.Land.{Land}}
+use Rattle.title_land.specs.{Survey.{same_section}, Lands.{meets}, Grids.{grids_meet}}
 use Rattle.title_land.specs.{NodeNumbers.{node_number}, Laws.SameLand.{same_section-is}}
 use Rattle.title_land.specs.declared.node.Node.TheVariants as node
 use Rattle.title_land.specs.declared.tract.Land.TheVariants as land

@@ -15,7 +15,8 @@ turned_more rows i d low =
     ap (λ (t : List Entry). reverse t) (take_more rows i d low) ∙ reverse-append (take i rows) (get_or rows i d ∷ [])
 
 -- the newest row changes the mode of its examiner alone
-row_other : (depth : ℕ) (x : Entry) (es : List Entry) (n : Node) (f : ℕ) → f ≢ x.examiner → mode_at depth (x ∷ es) f n ≡ mode_at depth es f n
+row_other : (depth : ℕ) (x : Entry) (es : List Entry) (n : Node) (f : ℕ) → f ≢ x.examiner
+    → mode_at depth (x ∷ es) f n ≡ mode_at depth es f n
 row_other depth x es n f other =
     ap (λ (o : Option Mode). bound o (mode_at depth es f n))
     (cond-false (eqb f x.examiner) (asked (is_post x.access) (cover_of depth x.tract) n) None (ne_eqb f x.examiner other))
