@@ -1,5 +1,6 @@
 -- A transaction of one step where nobody is open: begun, asked and ended, each by the lemma of that call.
-use Rattle.std.proofs.Common.{◌≡◌, ◌≢◌, ℕ, suc, true, false, List, [], ◌∷◌, ◌++◌, reverse, refl, ap, ◌∙◌, sym, subst, arith, Some, None, length}
+use Rattle.std.proofs.Common.{◌≡◌, ◌≢◌, ℕ, suc, true, false, List, [], ◌∷◌, ◌++◌, reverse, refl, ap, ◌∙◌, sym, subst, arith}
+use Rattle.std.proofs.Common.{Some, None, length}
 use Rattle.std.{specs.Prelude.{nat_le, is_some, Option}, proofs.{Math.Path.{fun_ext}, lemmas.List.{reverse-append, length-reverse}}}
 use Rattle.title_land.specs.Depth.{depth}
 use Rattle.title_lock.specs.{declared.guards.Entry.{Entry}, Overlaps.{without}}
@@ -8,13 +9,15 @@ use Rattle.title_chain.specs.declared.{ask.{Ask.{Ask}, Answer.{Answer}, Posting.
 use Rattle.title_chain.specs.{Alone.{alone}, Overlaps.{overlaps, record_of}}
 use Rattle.title_chain.specs.declared.ask.Ask.TheVariants as ask
 use Rattle.title_chain.specs.declared.ask.Answer.TheVariants as answer
-use Rattle.title_trace.specs.{declared.{call.{Call.{Call}, Request.{Request}, Reply.{Reply}}, denial.Denial.{Denial}}, Trace.{is_open, open_steps, committed}}
+use Rattle.title_trace.specs.declared.{call.{Call.{Call}, Request.{Request}, Reply.{Reply}}, denial.Denial.{Denial}}
+use Rattle.title_trace.specs.Trace.{is_open, open_steps, committed}
 use Rattle.title_trace.specs.Due.{Setting, most_steps, InTheWay, IsDue}
 use Rattle.title_trace.specs.declared.call.Request.TheVariants as request
 use Rattle.title_trace.specs.declared.call.Reply.TheVariants as reply
 use Rattle.title_desk.specs.{Opened.{Opened, held, nothing, set}, Images.{is_posted, IsRestored, without_all}}
 use Rattle.title_desk.specs.Keeps.{State, own_of, images_of, Keeps}
-use Rattle.title_desk.specs.{Told.{Added, Books, Passes, Stays, Told, entry_of}, Singles.{AddedInTurn, Bars, BrokenOff, IsIdle, Stands, ToldSingle, after_single, ending, in_turn, last_reply}}
+use Rattle.title_desk.specs.Told.{Added, Books, Passes, Stays, Told, entry_of}
+use Rattle.title_desk.specs.Singles.{AddedInTurn, Bars, BrokenOff, IsIdle, Stands, ToldSingle, after_single, ending, in_turn, last_reply}
 use Rattle.title_desk.specs.Laws.Calls.{added as call_added, added_single}
 use Rattle.title_desk.proofs.{Found.{at_set, none_from, set_here, set_other}, Steps.{bars_due, keeps_answered, keeps_posted}}
 use Rattle.title_desk.proofs.States.{told, books_of, keeps_as, keeps_locks, keeps_refused, keeps_began}

@@ -2,7 +2,7 @@
 
 use crate::case::{Case, Tried};
 use crate::held::{asks, is_counted};
-use crate::parcel::Parcel;
+use crate::parcel::{CELLS, Parcel, Square};
 use anyhow::{Result, bail};
 use std::alloc::Global;
 use title_lock::{Access, Guards, LockFault, NodeLocks, RowLocks};
@@ -125,11 +125,34 @@ fn interleaved(alloc: Global) -> Result<Tried> {
     case.run(Schedule::Interleaved)
 }
 
-// Nodes' locks, and rows'.
+// One more reads each cell of a section elsewhere.
+fn read_cells(locks: &mut NodeLocks, section: u32) -> Result<()> {
+    for number in 0..CELLS {
+        let parcel = Parcel::Part {
+            township: 0,
+            section,
+            square: Square::cell(number),
+        };
+        asks(locks, NODES + 2, parcel, Access::Read, Ok(()))?;
+    }
+    Ok(())
+}
+
+// Locks of which there are more than are listed for several examiners.
+fn crowded(alloc: Global) -> Result<NodeLocks> {
+    let mut locks = NodeLocks::new(alloc);
+    read_cells(&mut locks, 2)?;
+    read_cells(&mut locks, 3)?;
+    Ok(locks)
+}
+
+// Nodes' locks, listed and by node, and rows'.
 fn try_nodes(alloc: Global) -> Result<()> {
     try_readers(&mut NodeLocks::new(alloc))?;
+    try_readers(&mut crowded(alloc)?)?;
     try_counts(&mut NodeLocks::new(alloc))?;
-    try_posts(&mut NodeLocks::new(alloc))
+    try_posts(&mut NodeLocks::new(alloc))?;
+    try_posts(&mut crowded(alloc)?)
 }
 
 fn try_rows(alloc: Global) -> Result<()> {

@@ -5,6 +5,7 @@ use Rattle.std.proofs.{Common.{ap, subst, ◌∙◌, arith}, lemmas.{Bool.{ne_eq
 use Rattle.title_land.specs.declared.{node.Node.{Node}, tract.Land.{Land}}
 use Rattle.title_lock.specs.{declared.{guards.Entry.{Entry}, modes.Mode.{Mode}}, Asking.{mode_at}, Counts.{IsCount}}
 use Rattle.title_lock.specs.{Overlaps.{against, Stands, without}, Holders.{own_part}}
+use Rattle.title_lock.specs.declared.node_locks.Layout.{Layout, TheVariants.{Alone}}
 use Rattle.title_lock.{specs.Locks.{Locks, shown, AreOwn, AreInOne}, proofs.CountLaws.{count_none, count_moved}}
 
 -- the first is not f's where it is another's
@@ -46,35 +47,35 @@ without_other e o (x ∷ es) own other =
 -- ---- where one examiner is alone
 
 -- what is listed shows
-pub listed_shown : (alone : Option ℕ) (e : ℕ) (listed spread locks : Locks) → shown alone listed spread ≡ locks → alone ≡ Some e
+pub listed_shown : (layout : Layout) (e : ℕ) (listed spread locks : Locks) → shown layout listed spread ≡ locks → layout ≡ Alone e
     → listed.entries ≡ locks.entries
-listed_shown alone e listed spread locks view is =
-    ap (λ (a : Option ℕ). (shown a listed spread).entries) (sym is) ∙ ap (λ (l : Locks). l.entries) view
+listed_shown layout e listed spread locks view is =
+    ap (λ (a : Layout). (shown a listed spread).entries) (sym is) ∙ ap (λ (l : Locks). l.entries) view
 
 -- and is all its own
-listed_own : (alone : Option ℕ) (e : ℕ) (listed spread : List Entry) → AreInOne alone listed spread → alone ≡ Some e → AreOwn e listed
-listed_own alone e listed spread one is = (subst (λ (a : Option ℕ). AreInOne a listed spread) is one).0
+listed_own : (layout : Layout) (e : ℕ) (listed spread : List Entry) → AreInOne layout listed spread → layout ≡ Alone e → AreOwn e listed
+listed_own layout e listed spread one is = (subst (λ (a : Layout). AreInOne a listed spread) is one).0
 
-pub shown_own : (alone : Option ℕ) (e : ℕ) (listed spread locks : Locks) → shown alone listed spread ≡ locks
-    → AreInOne alone listed.entries spread.entries → alone ≡ Some e → AreOwn e locks.entries
-shown_own alone e listed spread locks view one is =
-    subst (λ (es : List Entry). AreOwn e es) (listed_shown alone e listed spread locks view is)
-    (listed_own alone e listed.entries spread.entries one is)
+pub shown_own : (layout : Layout) (e : ℕ) (listed spread locks : Locks) → shown layout listed spread ≡ locks
+    → AreInOne layout listed.entries spread.entries → layout ≡ Alone e → AreOwn e locks.entries
+shown_own layout e listed spread locks view one is =
+    subst (λ (es : List Entry). AreOwn e es) (listed_shown layout e listed spread locks view is)
+    (listed_own layout e listed.entries spread.entries one is)
 
 -- nobody is in its way
-pub alone_free : (alone : Option ℕ) (e f : ℕ) (listed spread locks : Locks) (es : List Entry) → shown alone listed spread ≡ locks
-    → AreInOne alone listed.entries spread.entries → locks.entries ≡ es → alone ≡ Some e → e ≡ f → (land : Land) (post : Bool)
+pub alone_free : (layout : Layout) (e f : ℕ) (listed spread locks : Locks) (es : List Entry) → shown layout listed spread ≡ locks
+    → AreInOne layout listed.entries spread.entries → locks.entries ≡ es → layout ≡ Alone e → e ≡ f → (land : Land) (post : Bool)
     → Stands es f land post None
-alone_free alone e f listed spread locks es view one kept is same land post =
+alone_free layout e f listed spread locks es view one kept is same land post =
     subst (λ (g : ℕ). Stands es g land post None) same
-    (own_free e es land post (subst (λ (t : List Entry). AreOwn e t) kept (shown_own alone e listed spread locks view one is)))
+    (own_free e es land post (subst (λ (t : List Entry). AreOwn e t) kept (shown_own layout e listed spread locks view one is)))
 
 -- fewer of them are so, too
-pub fewer_in_one : (alone : Option ℕ) (o e : ℕ) (listed fewer spread : List Entry) → fewer ≡ without e listed → AreInOne alone listed spread
-    → alone ≡ Some o → AreInOne alone fewer spread
-fewer_in_one alone o e listed fewer spread left one is =
-    let now = subst (λ (a : Option ℕ). AreInOne a listed spread) is one in
-    subst (λ (a : Option ℕ). AreInOne a fewer spread) (sym is) (
+pub fewer_in_one : (layout : Layout) (o e : ℕ) (listed fewer spread : List Entry) → fewer ≡ without e listed → AreInOne layout listed spread
+    → layout ≡ Alone o → AreInOne layout fewer spread
+fewer_in_one layout o e listed fewer spread left one is =
+    let now = subst (λ (a : Layout). AreInOne a listed spread) is one in
+    subst (λ (a : Layout). AreInOne a fewer spread) (sym is) (
       All-same (λ (z : Entry). z.examiner ≡ o) fewer (without e listed) left
           (All-filter (λ (z : Entry). not (eqb z.examiner e)) (λ (z : Entry). z.examiner ≡ o) listed now.0),
       now.1,

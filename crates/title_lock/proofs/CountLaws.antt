@@ -81,11 +81,11 @@ count_same held now m k same (es, once, are, long) =
     (es, once, (λ f. ((λ h. same f ∙ (are f).0 h), (λ h. (are f).1 (sym (same f) ∙ h)))), long)
 
 -- an examiner with the mode is counted
-own_counted : (held : ℕ → Option Mode) (m : Mode) (k e : ℕ) → IsCount held m k → own_part (held e) m ≤ k
+pub own_counted : (held : ℕ → Option Mode) (m : Mode) (k e : ℕ) → IsCount held m k → own_part (held e) m ≤ k
 own_counted held m k e (es, once, are, long) = grind (arith, as_test (member e es) (held e) m (are e), member_some e es, long)
 
 -- a count of examiners below n is at most n
-count_few : (held : ℕ → Option Mode) (m : Mode) (k n : ℕ) → ((f : ℕ) → is_some (held f) ≡ true → f < n) → IsCount held m k → k ≤ n
+pub count_few : (held : ℕ → Option Mode) (m : Mode) (k n : ℕ) → ((f : ℕ) → is_some (held f) ≡ true → f < n) → IsCount held m k → k ≤ n
 count_few held m k n low (es, once, are, long) =
     let few = length-le_from_distinct_below es n (distinct es once)
     (λ f h. low f (ap (λ (o : Option Mode). is_some o) ((are f).0 h))) in

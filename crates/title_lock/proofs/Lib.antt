@@ -20,5 +20,6 @@ pub mod FirstLaws
 pub mod LeastLaws
 pub mod CountLaws
 pub mod KeptLaws
+pub mod HomeTracts
 pub mod RowLaws
 pub mod AloneLaws

@@ -8,4 +8,5 @@ pub mod Tables
 pub mod Spots
 pub mod Walks
 pub mod Books
+pub mod Homes
 pub mod Locks

@@ -2,6 +2,7 @@
 use Rattle.std.specs.{Prelude.{ℕ, ◌≡◌, ◌==◌, List, [], ◌∷◌, Bool, true, false, if◌then◌else◌, Option, Some, None, All}, List.{list_any}}
 use Rattle.title_land.specs.{declared.node.Node.{Node}, Lands.{cover_of, IsLand}}
 use Rattle.title_lock.specs.{declared.{guards.Entry.{Entry}, table.Table.{Table}}, Overlaps.{is_post, Stands}, Asking.{AreSized}}
+use Rattle.title_lock.specs.declared.node_locks.Layout.{Layout, TheVariants.{Alone, Listed, Spread}}
 use Rattle.title_lock.specs.{Standing.{StandFree}, Tables.{on_all, is_asked, is_asked_by, HasRoom, is_idle, TableIs, TableUsed}}
 
 -- the entries, the newest first, and the one that there is room for, if there is one
@@ -59,23 +60,25 @@ pub record AreRows (depth : ℕ) (es : List Entry) (prepared : Option Entry) (ro
   pub sized : AreSized depth es
   pub ready : IsRoomFor depth es prepared room
 
--- ---- one examiner's accesses listed, or all of them spread over the nodes
+-- ---- accesses listed, or spread over the nodes
 
 -- the access that waits, where it is examiner e's
 abbrev pub own_waiting : ℕ → Option Entry → Option Entry
 own_waiting e None = None
 own_waiting e (Some x) = if x.examiner == e then Some x else None
 
--- where one examiner alone has any, the list shows; else the locks by node
-abbrev pub shown : Option ℕ → Locks → Locks → Locks
-shown None listed spread = spread
-shown (Some e) listed spread = record { entries = listed.entries; prepared = own_waiting e listed.prepared }
+-- the list shows, or the locks by node
+abbrev pub shown : Layout → Locks → Locks → Locks
+shown (Alone e) listed spread = record { entries = listed.entries; prepared = own_waiting e listed.prepared }
+shown Listed listed spread = listed
+shown Spread listed spread = spread
 
 -- every entry is examiner e's
 abbrev pub AreOwn : ℕ → List Entry → Type 0
 AreOwn e es = All (λ x. x.examiner ≡ e) es
 
--- the entries stand in the list or in the locks by node, and those in the list are all of the one examiner
-abbrev pub AreInOne : Option ℕ → List Entry → List Entry → Type 0
-AreInOne None listed spread = listed ≡ []
-AreInOne (Some e) listed spread = AreOwn e listed × (spread ≡ [])
+-- the entries stand in the list or in the locks by node, and where one examiner is alone those in the list are all its own
+abbrev pub AreInOne : Layout → List Entry → List Entry → Type 0
+AreInOne (Alone e) listed spread = AreOwn e listed × (spread ≡ [])
+AreInOne Listed listed spread = spread ≡ []
+AreInOne Spread listed spread = listed ≡ []

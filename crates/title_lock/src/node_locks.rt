@@ -1,4 +1,4 @@
-//! Locks that are listed while one examiner alone has any, and else stand by node.
+//! Locks that are listed while one examiner alone has any, or few are out, and else stand by node.
 
 ghost use Rattle.std.specs.Prelude.{◌≡◌, [], reverse, OnOk, OnErr, IfOk, slice_index};
 ghost use Rattle.title_land.specs.Depth.{depth};
@@ -6,23 +6,37 @@ ghost use Rattle.title_lock.specs.{declared.modes.Mode.TheVariants.{Is, Ix, S, S
 ghost use Rattle.title_lock.specs.{Asking.{mode_at, AllGranted, AreSized}, Holders.{own_part}, Standing.{StandFree}};
 ghost use Rattle.title_lock.specs.Locks.{Locks, shown, AreInOne};
 
-use crate::guards::{Access, Entry, Guards, LockFault};
+use crate::guards::{Access, Guards, LockFault};
 use crate::holders::own_part;
 use crate::modes::Mode;
-use crate::row_locks::RowLocks;
+use crate::row_locks::{Row, RowLocks};
 use crate::spread_locks::SpreadLocks;
 use std::alloc::{AllocError, Global};
 use std::marker::Model;
 use title_land::{Node, Tract};
 
-/// Locks by node. While one examiner alone has accesses they are only listed, and nobody is in its way. They are spread over
-/// the nodes when a second one asks, and stay so until nobody has any: then each node in use has its holders and how many
-/// have each mode; the counts decide, and the holders tell the least examiner in the way.
+// How many accesses may be listed once a second examiner has any. To go through so many costs a step no more than the nodes do.
+const LISTED: usize = 512;
+
+/// Where accesses stand.
+#[derive(Clone, Copy)]
+pub(crate) enum Layout {
+    // In the list, all of them one examiner's: nobody is in its way, and the list isn't gone through.
+    Alone(u32),
+    // In the list.
+    Listed,
+    // By node.
+    Spread,
+}
+
+/// Locks by node. While one examiner alone has accesses they are only listed, and nobody is in its way. They are listed as well
+/// while several have few, and each step goes through the list. They are spread over the nodes when more come, and stay so until
+/// nobody has any: then each node in use has its holders and how many have each mode; the counts decide, and the holders tell
+/// the least examiner in the way.
 #[derive(Drop)]
 pub struct NodeLocks {
     alloc: Global,
-    // The one examiner whose accesses are listed; `None` where all stand in `spread`.
-    alone: Option<u32>,
+    layout: Layout,
     listed: RowLocks,
     spread: SpreadLocks,
 }
@@ -30,18 +44,19 @@ pub struct NodeLocks {
 impl Model for NodeLocks {
     ghost Value = { Locks };
 
-    ghost view = { λ l. shown l.alone l.listed l.spread };
+    ghost view = { λ l. shown l.layout l.listed l.spread };
 
-    ghost invariant = { λ l. AreInOne l.alone l.listed.entries l.spread.entries };
+    ghost invariant = { λ l. AreInOne l.layout l.listed.entries l.spread.entries };
 }
 
 // The locks by node of a list of entries, the oldest first.
-fn spread_of(alloc: Global, rows: &[Entry]) -> Result<SpreadLocks, AllocError>
+fn spread_of(alloc: Global, rows: &[Row]) -> Result<SpreadLocks, AllocError>
     ensures spread { IfOk result (λ s. s.entries ≡ reverse rows.now) }
 {
     let mut spread = SpreadLocks::new(alloc);
     for row in rows {
-        let Ok(()) = spread.ask(row.examiner, &row.tract, row.access) else {
+        let entry = row.entry();
+        let Ok(()) = spread.ask(entry.examiner, &entry.tract, entry.access) else {
             return Err(AllocError);
         };
     }
@@ -89,9 +104,9 @@ impl NodeLocks {
         ensures granted { AllGranted depth self.now.entries }
         ensures sized { AreSized depth self.now.entries }
     {
-        match self.alone {
-            Some(_) => self.listed.stand_granted(),
-            None => self.spread.stand_granted(),
+        match self.layout {
+            Layout::Alone(_) | Layout::Listed => self.listed.stand_granted(),
+            Layout::Spread => self.spread.stand_granted(),
         }
     }
 
@@ -103,9 +118,10 @@ impl NodeLocks {
         ensures six { IsCount (λ e. mode_at depth self.now.entries e node.now) Six (slice_index result 3) }
         ensures x { IsCount (λ e. mode_at depth self.now.entries e node.now) X (slice_index result 4) }
     {
-        match self.alone {
-            Some(owner) => counts_of_one(self.listed.mode(owner, node)),
-            None => self.spread.counts(node),
+        match self.layout {
+            Layout::Alone(owner) => counts_of_one(self.listed.mode(owner, node)),
+            Layout::Listed => self.listed.counts(node),
+            Layout::Spread => self.spread.counts(node),
         }
     }
 
@@ -114,11 +130,13 @@ impl NodeLocks {
         ensures stays { self.new.entries ≡ self.old.entries }
         ensures free { result ≡ is_nothing self.new.entries }
     {
-        if self.alone.is_some() {
-            return self.listed.rows().is_empty();
+        match self.layout {
+            Layout::Alone(_) | Layout::Listed => self.listed.rows().is_empty(),
+            Layout::Spread => {
+                self.spread.forget();
+                self.spread.is_idle()
+            }
         }
-        self.spread.forget();
-        self.spread.is_idle()
     }
 
     // Lists what comes from now on, as an examiner's, where nobody has an entry.
@@ -126,7 +144,7 @@ impl NodeLocks {
         ensures stays { self.new.entries ≡ self.old.entries }
     {
         if self.is_free() {
-            self.alone = Some(examiner);
+            self.layout = Layout::Alone(examiner);
         }
     }
 }
@@ -139,30 +157,38 @@ impl Guards for NodeLocks {
     fn new(alloc: Global) -> NodeLocks {
         NodeLocks {
             alloc,
-            alone: None,
+            layout: Layout::Spread,
             listed: RowLocks::new(alloc),
             spread: SpreadLocks::new(alloc),
         }
     }
 
     fn would(&self, examiner: u32, tract: &Tract, access: Access) -> Option<u32> {
-        let Some(owner) = self.alone else {
-            return self.spread.would(examiner, tract, access);
-        };
-        if owner == examiner {
-            return None;
+        match self.layout {
+            Layout::Alone(owner) => if owner == examiner {
+                None
+            } else {
+                self.listed.would(examiner, tract, access)
+            },
+            Layout::Listed => self.listed.would(examiner, tract, access),
+            Layout::Spread => self.spread.would(examiner, tract, access),
         }
-        self.listed.would(examiner, tract, access)
     }
 
     fn prepare(&mut self, examiner: u32, tract: &Tract, access: Access) -> Result<(), LockFault> {
         self.begin(examiner);
-        if let Some(owner) = self.alone {
+        if let Layout::Alone(owner) = self.layout {
             if owner == examiner {
                 let Ok(()) = self.listed.make_room(examiner, tract, access) else {
                     return Err(LockFault::Memory);
                 };
                 return Ok(());
+            }
+            self.layout = Layout::Listed;
+        }
+        if let Layout::Listed = self.layout {
+            if self.listed.rows().len() < LISTED {
+                return self.listed.prepare(examiner, tract, access);
             }
             if spread_out(self.alloc, &mut self.listed, &mut self.spread).is_err() {
                 return Err(match self.listed.would(examiner, tract, access) {
@@ -170,32 +196,32 @@ impl Guards for NodeLocks {
                     None => LockFault::Memory,
                 });
             }
-            self.alone = None;
+            self.layout = Layout::Spread;
         }
         self.spread.prepare(examiner, tract, access)
     }
 
     fn grant(&mut self, examiner: u32, tract: &Tract, access: Access) {
-        match self.alone {
-            Some(_) => self.listed.grant(examiner, tract, access),
-            None => self.spread.grant(examiner, tract, access),
+        match self.layout {
+            Layout::Alone(_) | Layout::Listed => self.listed.grant(examiner, tract, access),
+            Layout::Spread => self.spread.grant(examiner, tract, access),
         }
     }
 
     fn give_back(&mut self, examiner: u32) {
-        let Some(owner) = self.alone else {
-            self.spread.give_back(examiner);
-            return;
-        };
-        if owner == examiner {
-            self.listed.give_back(examiner);
+        match self.layout {
+            Layout::Alone(owner) => if owner == examiner {
+                self.listed.give_back(examiner);
+            },
+            Layout::Listed => self.listed.give_back(examiner),
+            Layout::Spread => self.spread.give_back(examiner),
         }
     }
 
     fn mode(&self, examiner: u32, node: &Node) -> Option<Mode> {
-        match self.alone {
-            Some(_) => self.listed.mode(examiner, node),
-            None => self.spread.mode(examiner, node),
+        match self.layout {
+            Layout::Alone(_) | Layout::Listed => self.listed.mode(examiner, node),
+            Layout::Spread => self.spread.mode(examiner, node),
         }
     }
 }

@@ -1,10 +1,13 @@
 //! Locks as a plain list of entries.
 
-ghost use Rattle.std.specs.Prelude.{◌≡◌, ◌&&◌, ◌==◌, if◌then◌else◌, Some, None, List, reverse, filter, not, OnOk};
+ghost use Rattle.std.specs.Prelude.{◌≡◌, ◌<◌, ◌^◌, ◌&&◌, ◌==◌, if◌then◌else◌, Some, None, List, reverse, filter, not, OnOk};
+ghost use Rattle.std.specs.Prelude.{ℕ, true, is_some, slice_index};
 ghost use Rattle.title_land.specs.{Depth.{depth}, Nodes.{is_above}, Lands.{cover_of}};
 ghost use Rattle.title_lock.specs.{declared.guards.Entry.{Entry}, Overlaps.{is_post, overlap, Stands, IsLeast}, Standing.{StandFree}};
-ghost use Rattle.title_lock.specs.Asking.{asked_for, asked, mode_at, AllGranted, AreSized};
+ghost use Rattle.title_lock.specs.{Asking.{asked_for, asked, mode_at, AllGranted, AreSized}, Counts.{IsCount}, Holders.{count_in}};
+ghost use Rattle.title_lock.specs.{declared.modes.Mode.{Mode, TheVariants.{Is, Ix, S, Six, X}}, Homes.{home_number, is_elsewhere}};
 
+use crate::counts::Counts;
 use crate::guards::{Access, Entry, Guards, LockFault};
 use crate::least::least;
 use crate::modes::{Mode, bound};
@@ -13,11 +16,12 @@ use std::marker::Model;
 use title_land::{Node, Tract};
 
 /// Locks as a list of what was granted, the oldest first. Who is in the way is told by the cells of the tracts, with no
-/// mode; a mode is told by what each entry asks for. Each call goes through the whole list.
+/// mode; a mode is told by what each entry asks for. Each call goes through the whole list, and passes over what lies in
+/// another section.
 #[derive(Drop)]
 pub struct RowLocks {
     alloc: Global,
-    rows: Vec<Entry>,
+    rows: Vec<Row>,
     prepared: Option<Entry>,
 }
 
@@ -31,6 +35,59 @@ impl Model for RowLocks {
     ghost view = { λ l. record { entries = reverse l.rows.items; prepared = l.prepared } };
 
     ghost invariant = { λ l. AreRows depth (reverse l.rows.items) l.prepared (nat_lt (vec_len l.rows) (vec_capacity l.rows)) };
+}
+
+/// An entry as it is listed, with the number of the one section that its tract lies in.
+#[derive(Drop)]
+pub(crate) struct Row {
+    entry: Entry,
+    // 0 where it lies in no one section.
+    home: u64,
+}
+
+impl Model for Row {
+    ghost use Rattle.std.specs.Prelude.{◌≡◌};
+    ghost use Rattle.title_lock.specs.{declared.guards.Entry.{Entry}, Homes.{home_number}};
+
+    ghost Value = { Entry };
+
+    ghost view = { λ r. r.entry };
+
+    ghost invariant = { λ r. r.home ≡ home_number r.entry.tract };
+}
+
+// The number of the one section that a tract lies in.
+fn home_number(tract: &Tract) -> u64
+    ensures number { result ≡ home_number tract.now }
+{
+    match tract.home() {
+        Node::Part(section, within) => Node::Part(section, within).number(),
+        _ => 0,
+    }
+}
+
+impl Row {
+    // The row of an entry.
+    fn of(entry: Entry) -> Row
+        ensures of { result ≡ entry }
+    {
+        let home = home_number(&entry.tract);
+        Row { entry, home }
+    }
+
+    /// The entry.
+    pub(crate) fn entry(&self) -> &Entry
+        ensures entry { result.now ≡ self.now }
+    {
+        &self.entry
+    }
+
+    // Whether its tract lies in another section than the one of this number, so that they share no cell.
+    fn is_elsewhere(&self, home: u64) -> bool
+        ensures elsewhere { result ≡ is_elsewhere (home_number self.now.tract) home }
+    {
+        self.home != home && self.home != 0 && home != 0
+    }
 }
 
 fn is_post(access: Access) -> bool
@@ -62,12 +119,15 @@ fn way_of(row: &Entry, examiner: u32, tract: &Tract, access: Access) -> Option<u
 }
 
 // The least other examiner in the way of an access.
-fn way(rows: &[Entry], examiner: u32, tract: &Tract, access: Access) -> Option<u32>
+fn way(rows: &[Row], examiner: u32, tract: &Tract, access: Access) -> Option<u32>
     ensures way { Stands (reverse rows.now) examiner tract.now (is_post access) result }
 {
+    let home = home_number(tract);
     let mut way = None;
     for row in rows {
-        way = least(way_of(row, examiner, tract, access), way);
+        if !row.is_elsewhere(home) {
+            way = least(way_of(row.entry(), examiner, tract, access), way);
+        }
     }
     way
 }
@@ -119,21 +179,35 @@ fn mode_by(row: &Entry, examiner: u32, node: &Node) -> Option<Mode>
 }
 
 // The mode of an examiner at a node.
-fn mode_in(rows: &[Entry], examiner: u32, node: &Node) -> Option<Mode>
+fn mode_in(rows: &[Row], examiner: u32, node: &Node) -> Option<Mode>
     ensures mode { result ≡ mode_at depth (reverse rows.now) examiner node.now }
 {
     let mut mode = None;
     for row in rows {
-        mode = bound(mode_by(row, examiner, node), mode);
+        mode = bound(mode_by(row.entry(), examiner, node), mode);
     }
     mode
 }
 
+// How many examiners have each mode at a node.
+fn counted(rows: &[Row], node: &Node) -> Counts
+    ensures counted { (m : Mode) → IsCount (λ e. mode_at depth (reverse rows.now) e node.now) m (count_in result m) }
+    ensures few { (e : ℕ) → is_some (mode_at depth (reverse rows.now) e node.now) ≡ true → e < 2 ^ 32 }
+{
+    let Some((row, older)) = rows.split_last() else {
+        return Counts::NONE;
+    };
+    let counts = counted(older, node);
+    let entry = row.entry();
+    let had = mode_in(older, entry.examiner, node);
+    counts.moved(had, bound(mode_by(entry, entry.examiner, node), had))
+}
+
 // Takes out an examiner's entries.
-fn take_out(rows: &mut Vec<Entry>, examiner: u32)
+fn take_out(rows: &mut Vec<Row>, examiner: u32)
     ensures rows { rows.new.items ≡ filter (λ x. not (x.examiner == examiner)) rows.old.items }
 {
-    rows.retain(|row| row.examiner != examiner);
+    rows.retain(|row| row.entry().examiner != examiner);
 }
 
 impl RowLocks {
@@ -148,10 +222,22 @@ impl RowLocks {
     }
 
     /// The entries, the oldest first.
-    pub(crate) fn rows(&self) -> &[Entry]
+    pub(crate) fn rows(&self) -> &[Row]
         ensures rows { reverse result.now ≡ self.now.entries }
     {
         self.rows.as_slice()
+    }
+
+    /// How many examiners have each mode at a node, from IS to X. Takes no memory.
+    pub(crate) fn counts(&self, node: &Node) -> [u64; 5]
+        ensures is { IsCount (λ e. mode_at depth self.now.entries e node.now) Is (slice_index result 0) }
+        ensures ix { IsCount (λ e. mode_at depth self.now.entries e node.now) Ix (slice_index result 1) }
+        ensures s { IsCount (λ e. mode_at depth self.now.entries e node.now) S (slice_index result 2) }
+        ensures six { IsCount (λ e. mode_at depth self.now.entries e node.now) Six (slice_index result 3) }
+        ensures x { IsCount (λ e. mode_at depth self.now.entries e node.now) X (slice_index result 4) }
+    {
+        let counts = counted(&self.rows, node);
+        [counts.is, counts.ix, counts.s, counts.six, counts.x]
     }
 
     /// Makes room for an access that nobody is in the way of, and adds nothing. The list isn't gone through. An error is for
@@ -210,7 +296,7 @@ impl Guards for RowLocks {
 
     fn grant(&mut self, _examiner: u32, _tract: &Tract, _access: Access) {
         if let Some(row) = self.prepared.take() {
-            self.rows.push_reserved(row);
+            self.rows.push_reserved(Row::of(row));
         }
     }
 

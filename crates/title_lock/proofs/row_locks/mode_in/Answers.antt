@@ -10,9 +10,9 @@ loop-row-preserved c =
     let low : c.loop-row.row-index < length c.args.rows.now = omega arith in
     let e = c.args.examiner in
     let n = c.args.node.now in
-    let x = c.row-item.result in
+    let x = c.entry.result.now in
     let before = reverse (take c.loop-row.row-index c.args.rows.now) in
-    let turned = ap (λ (z : Entry). z ∷ before) c.row-item.is ∙ sym (turned_more c.args.rows.now c.loop-row.row-index x low) in
+    let turned = ap (λ (z : Entry). z ∷ before) (c.entry.ensures.entry ∙ c.row-item.is) ∙ sym (turned_more c.args.rows.now c.loop-row.row-index c.row-item.result low) in
     c.bound-mode.ensures.bound
     ∙ ap (λ (m : Option Mode). bound m c.loop-row.mode) c.mode_by.ensures.mode
     ∙ ap (bound (cond (eqb e x.examiner) (asked (is_post x.access) (cover_of depth x.tract) n) None)) c.loop-row.invariant

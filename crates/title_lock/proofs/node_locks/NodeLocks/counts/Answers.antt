@@ -8,16 +8,16 @@ use Rattle.title_lock.proofs.node_locks.NodeLocks.counts.Goals as goal
 counted : (c : goal.After-counts_of_one) → (m : Mode) (k : ℕ) → k ≡ own_part c.mode.result m
     → IsCount (λ f. mode_at depth c.args.self.now.entries f c.args.node.now) m k
 counted c m k is =
-    let e = c.in-Some.owner in
+    let e = c.in-Alone.owner in
     let n = c.args.node.now in
     let i = c.self.inside in
     let es = c.args.self.now.entries in
-    let same = listed_shown i.alone e i.listed i.spread c.args.self.now c.self.view_is c.in-Some.is in
-    count_alone depth e es n m k (shown_own i.alone e i.listed i.spread c.args.self.now c.self.view_is c.self.invariant c.in-Some.is)
+    let same = listed_shown i.layout e i.listed i.spread c.args.self.now c.self.view_is c.in-Alone.is in
+    count_alone depth e es n m k (shown_own i.layout e i.listed i.spread c.args.self.now c.self.view_is c.self.invariant c.in-Alone.is)
     (is ∙ ap (λ (o : Option Mode). own_part o m) (c.mode.ensures.mode ∙ ap (λ (t : List Entry). mode_at depth t e n) same))
 
-pub returns-in-Some : goal.returns-in-Some
-returns-in-Some c =
+pub returns-in-Alone : goal.returns-in-Alone
+returns-in-Alone c =
     let n = c.counts_of_one.result in
     let of = c.counts_of_one.ensures in
     record {

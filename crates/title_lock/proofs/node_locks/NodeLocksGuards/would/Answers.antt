@@ -8,6 +8,6 @@ returns-then-owner-examiner c =
     let i = c.self.inside in
     let now = c.args.self.now in
     record {
-      would = alone_free i.alone c.in-Some.owner c.args.examiner i.listed i.spread now now.entries c.self.view_is c.self.invariant refl
-          c.in-Some.is c.if-owner-examiner.true c.args.tract.now (is_post c.args.access);
+      would = alone_free i.layout c.in-Alone.owner c.args.examiner i.listed i.spread now now.entries c.self.view_is c.self.invariant refl
+          c.in-Alone.is c.if-owner-examiner.true c.args.tract.now (is_post c.args.access);
     }
