@@ -16,8 +16,7 @@ use Rattle.title_chain.specs.SoleNodes.{HasSoleNode}
 -- rows that agree at each index are one
 cells_one : (m : ℕ) (x y : List Bool) → length x ≡ m → length y ≡ m
     → ((column : ℕ) → column < m → unwrap_or (slice_get x column) false ≡ unwrap_or (slice_get y column) false) → x ≡ y
-cells_one m x y k l same =
-    ext_get_or false x y (k ∙ sym l)
+cells_one m x y k l same = ext_get_or false x y (k ∙ sym l)
     (λ i low. sym (unwrap_or-slice_get x i false) ∙ same i (omega (arith, low, k)) ∙ unwrap_or-slice_get y i false)
 
 -- a row of a set
@@ -29,9 +28,7 @@ row_at g row column low =
 -- sets of one size that agree in each cell are one
 sets_one : (m k : ℕ) (g h : List (List Bool)) → length g ≡ m → length h ≡ m → All (λ row. length row ≡ k) g
     → All (λ row. length row ≡ k) h → ((row column : ℕ) → row < m → column < k → grid_has g row column ≡ grid_has h row column) → g ≡ h
-sets_one m k g h a b c d same =
-    ext_get_or [] g h (a ∙ sym b)
-    (λ i low. let near : i < length h = omega (arith, low, a, b) in
+sets_one m k g h a b c d same = ext_get_or [] g h (a ∙ sym b) (λ i low. let near : i < length h = omega (arith, low, a, b) in
     cells_one k (get_or g i []) (get_or h i []) (c i [] low) (d i [] near)
     (λ column inside. row_at g i column low ∙ same i column (omega (arith, low, a)) inside ∙ sym (row_at h i column near)))
 
@@ -40,9 +37,7 @@ sets_one m k g h a b c d same =
 -- a section's parts that have one cover are one
 parts_one : (d : ℕ) (s : Section) (g h : Grid) → IsGrid d g → IsGrid d h → cover_of d (land.Part s g) ≡ cover_of d (land.Part s h) → g ≡ h
 unfolding has
-parts_one d s g h a b same =
-    sets_one (side d) (side d) g h a.0 b.0 a.1 b.1
-    (λ row column r c. let cell = cell_at s row column in
+parts_one d s g h a b same = sets_one (side d) (side d) g h a.0 b.0 a.1 b.1 (λ row column r c. let cell = cell_at s row column in
     let on : is_on_grid d cell ≡ true = and_from (nat_lt row (side d)) (nat_lt column (side d)) (lt-ltb row (side d) r)
     (lt-ltb column (side d) c) in
     let self = same_section-self s in

@@ -26,8 +26,7 @@ abbrev pub Writes : Lists → Lists → ℕ → Option (Vec Spot) → Type 0
 Writes m n k w = (q : ℕ) → get nat_cmp n q ≡ cond (is_at (nat_cmp k) q) w (get nat_cmp m q)
 
 -- a map with one spot more at a number has it there, and no other anywhere
-pub one_more_under :
-    (m n : Lists) (k : ℕ) (w : Option (Vec Spot)) (spot : Spot) → Writes m n k w →
+pub one_more_under : (m n : Lists) (k : ℕ) (w : Option (Vec Spot)) (spot : Spot) → Writes m n k w →
     ((p : Spot) → is_listed p (spots_in w) ≡ (is_listed p (spots_numbered m k) || same_spot p spot)) →
     (q : ℕ) (p : Spot) → is_listed p (spots_numbered n q) ≡ (is_listed p (spots_numbered m q) || (eqb k q && same_spot p spot))
 one_more_under m n k w spot h here q p =
@@ -43,9 +42,7 @@ one_more_under m n k w spot h here q p =
 pub at_node : (m n : Lists) (k : ℕ) (c : Node) (spot : Spot) → k ≡ node_number c →
     ((q : ℕ) (p : Spot) → is_listed p (spots_numbered n q) ≡ (is_listed p (spots_numbered m q) || (eqb k q && same_spot p spot))) →
     (q : Node) (p : Spot) → is_listed p (spots_under n q) ≡ (is_listed p (spots_under m q) || (same_node q c && same_spot p spot))
-at_node m n k c spot is h q p =
-    h (node_number q) p
-    ∙ ap (λ (b : Bool). is_listed p (spots_under m q) || (b && same_spot p spot))
+at_node m n k c spot is h q p = h (node_number q) p ∙ ap (λ (b : Bool). is_listed p (spots_under m q) || (b && same_spot p spot))
     (ap (λ (z : ℕ). eqb z (node_number q)) is ∙ number_at c q)
 
 -- what a borrowed list was found with
@@ -74,8 +71,7 @@ climbed_further {X} {test} {was} {m} {now} {n} {k} {next} so positive is one =
     let up = node_above so.reached k so.numbered positive in record {
       reached = up.parent;
       numbered = is ∙ up.numbered;
-      so_far = λ x.
-          ap (λ (b : Bool). b || list_any (test x) (above up.parent)) (one up.parent (is ∙ up.numbered) x)
+      so_far = λ x. ap (λ (b : Bool). b || list_any (test x) (above up.parent)) (one up.parent (is ∙ up.numbered) x)
           ∙ or_assoc (m x) (test x up.parent) (list_any (test x) (above up.parent))
           ∙ ap (λ (nodes : List Node). m x || list_any (test x) nodes) (sym (above_by_parent.1 so.reached up.parent (sym up.is)))
           ∙ so.so_far x;
@@ -84,15 +80,13 @@ climbed_further {X} {test} {was} {m} {now} {n} {k} {next} so positive is one =
 -- up to the whole plant
 pub climbed_to_the_top : {X : Type 0} {test : X → Node → Bool} {was now : X → Bool} {n : Node} {k : ℕ} → IsClimbedTo test was now n k
     → k ≡ 0 → (x : X) → now x ≡ (was x || list_any (test x) (above n))
-climbed_to_the_top {X} {test} {was} {now} so none x =
-    sym (or-false (now x))
+climbed_to_the_top {X} {test} {was} {now} so none x = sym (or-false (now x))
     ∙ ap (λ (a : Node). now x || list_any (test x) (above a)) (sym (whole_is so.reached (sym so.numbered ∙ none))) ∙ so.so_far x
 
 -- ---- one step of a record more
 
 -- the posts of the first steps, and of the next one
-pub steps_more :
-    (index : ℕ) (steps : List Step) (i : ℕ) (s : Step) (posts : List FiledPost) → i < length steps → s ≡ get_or steps i s →
+pub steps_more : (index : ℕ) (steps : List Step) (i : ℕ) (s : Step) (posts : List FiledPost) → i < length steps → s ≡ get_or steps i s →
     (posts ++ step_posts index (reverse (take i steps))) ++ post_of (spot_at index i) (posting_of s.ask s.answer) ≡ posts
     ++ step_posts index (reverse (take (i + 1) steps))
 steps_more index steps i s posts low is =
@@ -103,22 +97,19 @@ steps_more index steps i s posts low is =
 -- the spot is that of the post, if its land passes, or of one before
 where_more : (test : Land → Bool) (posts : List FiledPost) (x : FiledPost) (p : Spot) →
     is_spot_where test (posts ++ x ∷ []) p ≡ (is_spot_where test posts p || (test x.posting.tract && same_spot p x.spot))
-where_more test posts x p =
-    list_any-append (λ (y : FiledPost). same_spot p y.spot && test y.posting.tract) posts (x ∷ [])
+where_more test posts x p = list_any-append (λ (y : FiledPost). same_spot p y.spot && test y.posting.tract) posts (x ∷ [])
     ∙ ap (λ (b : Bool). is_spot_where test posts p || b)
     (or-false (same_spot p x.spot && test x.posting.tract) ∙ and_comm (same_spot p x.spot) (test x.posting.tract))
 
 -- lists by nodes that had the spots of posts, and have one more under the nodes that pass
-kept_more :
-    (test : Land → Bool) (posts : List FiledPost) (x : FiledPost) (p : Spot) (was now passes : Bool) →
+kept_more : (test : Land → Bool) (posts : List FiledPost) (x : FiledPost) (p : Spot) (was now passes : Bool) →
     passes ≡ test x.posting.tract → was ≡ is_spot_where test posts p → now ≡ (was || (passes && same_spot p x.spot)) →
     now ≡ is_spot_where test (posts ++ x ∷ []) p
 kept_more test posts x p was now passes tested kept more =
     more ∙ (λ i. kept i || (tested i && same_spot p x.spot)) ∙ sym (where_more test posts x p)
 
 -- a filing with the post of a step more
-pub step_filed :
-    (depth : ℕ) (f g : Filing) (spot : Spot) (a : Ask) (given : Answer) (posting : Posting) (cover : List Node) →
+pub step_filed : (depth : ℕ) (f g : Filing) (spot : Spot) (a : Ask) (given : Answer) (posting : Posting) (cover : List Node) →
     a ≡ ask.Post posting → given ≡ answer.Posted → cover ≡ cover_of depth posting.tract → IsLand depth posting.tract →
     ((n : Node) (p : Spot) → is_listed p (spots_under g.at n)
     ≡ (is_listed p (spots_under f.at n) || (list_any (same_node n) cover && same_spot p spot))) →

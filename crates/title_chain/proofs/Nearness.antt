@@ -28,9 +28,7 @@ none_any (x ∷ xs) = none_any xs
 any_swap : {X Y : Type 0} (r : X → Y → Bool) (xs : List X) (ys : List Y)
     → list_any (λ x. list_any (r x) ys) xs ≡ list_any (λ y. list_any (λ x. r x y) xs) ys
 any_swap r [] ys = none_any ys
-any_swap r (x ∷ xs) ys =
-    ap (λ (b : Bool). list_any (r x) ys || b) (any_swap r xs ys)
-    ∙ any_or (r x) (λ y. list_any (λ x. r x y) xs) ys
+any_swap r (x ∷ xs) ys = ap (λ (b : Bool). list_any (r x) ys || b) (any_swap r xs ys) ∙ any_or (r x) (λ y. list_any (λ x. r x y) xs) ys
 
 -- a test of each and another of all
 any_and : {X : Type 0} (s : Bool) (test : X → Bool) (xs : List X) → list_any (λ x. s && test x) xs ≡ (s && list_any test xs)
@@ -49,8 +47,7 @@ where_or left right posts p =
 -- the spots of the posts of lands that pass one of these tests
 where_any : {X : Type 0} (tests : X → Land → Bool) (xs : List X) (posts : List FiledPost) (p : Spot) →
     list_any (λ a. is_spot_where (tests a) posts p) xs ≡ is_spot_where (λ l. list_any (λ a. tests a l) xs) posts p
-where_any tests xs posts p =
-    any_swap (λ a x. same_spot p x.spot && tests a x.posting.tract) xs posts
+where_any tests xs posts p = any_swap (λ a x. same_spot p x.spot && tests a x.posting.tract) xs posts
     ∙ (λ i. list_any (λ x. any_and (same_spot p x.spot) (λ a. tests a x.posting.tract) xs i) posts)
 
 -- ---- nodes near a node
@@ -65,8 +62,7 @@ node_turned a b = equal_tests (same_node a b) (same_node b a) (turned a b) (turn
 related_any : (n : Node) (nodes : List Node) →
     (list_any (same_node n) nodes || (list_any (is_above n) nodes || list_any (λ a. list_any (same_node a) nodes) (above n)))
     ≡ list_any (are_related n) nodes
-related_any n nodes =
-    ap (λ (b : Bool). list_any (same_node n) nodes || (list_any (is_above n) nodes || b))
+related_any n nodes = ap (λ (b : Bool). list_any (same_node n) nodes || (list_any (is_above n) nodes || b))
     (any_swap same_node (above n) nodes ∙ (λ i. list_any (λ b. list_any (λ a. node_turned a b i) (above n)) nodes))
     ∙ ap (λ (b : Bool). list_any (same_node n) nodes || b) (any_or (is_above n) (λ b. is_above b n) nodes)
     ∙ any_or (same_node n) (λ b. is_above n b || is_above b n) nodes
@@ -80,8 +76,7 @@ covers_near depth n l = list_any (are_related n) (cover_of depth l)
 -- the spots filed near a node are those of the posts whose covers have it or a node related to it
 near_is : (depth : ℕ) (f : Filing) (posts : List FiledPost) → IsFiled depth f posts → (p : Spot) (n : Node)
     → is_near f p n ≡ is_spot_where (covers_near depth n) posts p
-near_is depth f posts filed p n =
-    (λ i. filed.at n p i || (filed.below n p i || list_any (λ a. filed.at a p i) (above n)))
+near_is depth f posts filed p n = (λ i. filed.at n p i || (filed.below n p i || list_any (λ a. filed.at a p i) (above n)))
     ∙ ap (λ (b : Bool). is_spot_where (covers depth n) posts p || (is_spot_where (covers_below depth n) posts p || b))
     (where_any (covers depth) (above n) posts p)
     ∙ ap (λ (b : Bool). is_spot_where (covers depth n) posts p || b)
@@ -101,8 +96,7 @@ where_meets d law land sized (x ∷ posts) all p =
 near_meets_at : (depth : ℕ) → MeetsByCovers depth → (f : Filing) (posts : List FiledPost) → IsFiled depth f posts → (land : Land)
     → IsLand depth land →
     (p : Spot) → list_any (is_near f p) (cover_of depth land) ≡ is_spot_where (meets land) posts p
-near_meets_at depth law f posts filed land sized p =
-    (λ i. list_any (λ n. near_is depth f posts filed p n i) (cover_of depth land))
+near_meets_at depth law f posts filed land sized p = (λ i. list_any (λ n. near_is depth f posts filed p n i) (cover_of depth land))
     ∙ where_any (covers_near depth) (cover_of depth land) posts p
     ∙ where_meets depth law land sized posts filed.sized p
 

@@ -87,8 +87,7 @@ steps_found i (s ∷ earlier) later =
 
 -- so it is of steps that have the oldest first
 each_step : (i : ℕ) (steps : List Step) → AllByRecursion (IsStepOf i steps) (step_posts i (reverse steps))
-each_step i steps =
-    subst (λ (all : List Step). AllByRecursion (IsStepOf i all) (step_posts i (reverse steps))) (twice steps)
+each_step i steps = subst (λ (all : List Step). AllByRecursion (IsStepOf i all) (step_posts i (reverse steps))) (twice steps)
     (steps_found i (reverse steps) [])
 
 -- the step at the spot of the post of these records, which have the oldest first, gives the post's entry
@@ -97,8 +96,7 @@ GivesEntry records x = entry_at records x.spot ≡ whole_entry (x.spot.record + 
 
 record_found : (i : ℕ) (records : List Record) (r : Record) → slice_get records i ≡ Some r
     → AllByRecursion (GivesEntry records) (step_posts i (reverse r.steps))
-record_found i records r is =
-    each_from (IsStepOf i r.steps) (GivesEntry records) (step_posts i (reverse r.steps))
+record_found i records r is = each_from (IsStepOf i r.steps) (GivesEntry records) (step_posts i (reverse r.steps))
     (λ x h. ap (entry_in (x.spot.record + 1) x.spot.step) (ap (slice_get records) h.0 ∙ is) ∙ h.1 (x.spot.record + 1)) (each_step i r.steps)
 
 records_found : (records later : List Record) → AllByRecursion (GivesEntry (reverse records ++ later)) (record_posts records)
@@ -114,8 +112,7 @@ abbrev IsAt : (ℕ → ℕ) → (Spot → List Entry) → FiledPost → Type 0
 IsAt number at x = at x.spot ≡ whole_entry (number x.spot.record) x
 
 -- the spots of the posts that share a cell give the entries of all: the others have none
-where_entries :
-    (number : ℕ → ℕ) (land : Land) (at : Spot → List Entry) (posts : List FiledPost) → AllByRecursion (IsAt number at) posts →
+where_entries : (number : ℕ → ℕ) (land : Land) (at : Spot → List Entry) (posts : List FiledPost) → AllByRecursion (IsAt number at) posts →
     flat_map at (spots_where (meets land) posts) ≡ post_entries number land posts
 where_entries number land at [] h = refl
 where_entries number land at (x ∷ posts) h = go (meets land x.posting.tract) (where_entries number land at posts h.1)
@@ -135,8 +132,7 @@ module _ (f : Filing) (land : Land) (cover : List Node) (found : List Spot) (cov
     (near : (p : Spot) → is_listed p found ≡ list_any (is_near f p) cover) where
   -- they are those of the posts that share a cell with it, if these were filed
   found_are : (posts : List FiledPost) → Ascend posts → IsFiled depth f posts → found ≡ spots_where (meets land) posts
-  found_are posts ascend filed =
-      keys_are found posts (meets land) ordered ascend
+  found_are posts ascend filed = keys_are found posts (meets land) ordered ascend
       (λ p. near p ∙ ap (λ (nodes : List Node). list_any (is_near f p) nodes) covered ∙ near_meets f posts filed land sized p)
 
   -- the entries there are those of the records

@@ -47,8 +47,7 @@ one_among i n (Some p) = ((refl, omega arith), tt)
 
 pub steps_among : (i : ℕ) (steps : List Step) → AllByRecursion (IsAmong i (length steps)) (step_posts i steps)
 steps_among i [] = tt
-steps_among i (s ∷ earlier) =
-    each_append _ (step_posts i earlier) _
+steps_among i (s ∷ earlier) = each_append _ (step_posts i earlier) _
     (each_from (IsAmong i (length earlier)) (IsAmong i (suc (length earlier))) (step_posts i earlier) (λ x h. (h.0, omega (arith, h.1)))
     (steps_among i earlier))
     (one_among i (length earlier) (posting_of s.ask s.answer))
@@ -76,8 +75,7 @@ IsWithin n x = x.spot.record < n
 
 records_within : (records : List Record) → AllByRecursion (IsWithin (length records)) (record_posts records)
 records_within [] = tt
-records_within (r ∷ older) =
-    each_append _ (record_posts older) _
+records_within (r ∷ older) = each_append _ (record_posts older) _
     (each_from (IsWithin (length older)) (IsWithin (suc (length older))) (record_posts older) (λ x h. omega (arith, h))
     (records_within older))
     (each_from (IsAmong (length older) (length (reverse r.steps))) (IsWithin (suc (length older)))
@@ -116,8 +114,7 @@ where_found test (x ∷ posts) p = go (test x.posting.tract) (where_found test p
     go false rest = λ i. sym (and-false (same_spot p x.spot)) i || rest i
 
 -- a list that ascends and has the spots of posts of a kind has them in the posts' order
-pub keys_are :
-    (found : List Spot) (posts : List FiledPost) (test : Land → Bool) → IsStrictlySortedBy spot_cmp found → Ascend posts →
+pub keys_are : (found : List Spot) (posts : List FiledPost) (test : Land → Bool) → IsStrictlySortedBy spot_cmp found → Ascend posts →
     ((p : Spot) → is_listed p found ≡ is_spot_where test posts p) → found ≡ spots_where test posts
 keys_are found posts test ordered ascend same =
     btree_set_from_contains spot_laws.total-law (record { keys = found }) (record { keys = spots_where test posts }) ordered

@@ -14,15 +14,13 @@ same_equiv = subst (λ (e : Spot → Spot → Bool). IsEquivalence e) (λ i p q.
 
 -- a list without what stands twice in turn has the same spots
 once_same : (spots : List Spot) (p : Spot) → is_listed p (dedup same_spot spots) ≡ is_listed p spots
-once_same spots p = equal_tests (is_listed p (dedup same_spot spots)) (is_listed p spots)
-    (λ h. list_any-from_Contains same_equiv p spots
+once_same spots p = equal_tests (is_listed p (dedup same_spot spots)) (is_listed p spots) (λ h. list_any-from_Contains same_equiv p spots
     (Contains-from_dedup same_spot spots p (Contains-from_any same_spot-is p (dedup same_spot spots) h)))
     (λ h. list_any-from_Contains same_equiv p (dedup same_spot spots)
     (Contains-dedup same_equiv same_spot-is spots p (Contains-from_any same_spot-is p spots h)))
 
 -- so has a list that was sorted first
-pub sorted_same : (was spots : List Spot) (p : Spot) → IsPermutation was spots
-    → is_listed p (dedup same_spot spots) ≡ is_listed p was
+pub sorted_same : (was spots : List Spot) (p : Spot) → IsPermutation was spots → is_listed p (dedup same_spot spots) ≡ is_listed p was
 sorted_same was spots p moved = once_same spots p ∙ sym (list_any-IsPermutation (same_spot p) was spots moved)
 
 -- and it ascends

@@ -22,8 +22,7 @@ plant_after depth townships (r ∷ older) = after_steps depth townships (plant_a
 
 -- the answer that an ask gets alone, after these records and the steps that its own transaction has made
 abbrev pub alone : ℕ → List Township → List Record → List Step → Ask → Answer
-alone depth townships records own a =
-    answer_to depth townships (after_steps depth townships (plant_after depth townships records) own)
+alone depth townships records own a = answer_to depth townships (after_steps depth townships (plant_after depth townships records) own)
     (chain_of records own (tract_of a)) a
 
 -- the most parties that a plant has, party 0 among them

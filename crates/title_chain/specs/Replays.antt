@@ -17,8 +17,7 @@ was_posted (ask.Post p) (answer.Refused rule estate node) = false
 
 -- the step's tract is in the plant, and its ask changes nothing unless the step is a post that was done
 abbrev pub CanReplay : ℕ → List Township → Plant → Step → Type 0
-CanReplay depth townships plant s =
-    (is_in_plant townships (tract_of s.ask) ≡ true)
+CanReplay depth townships plant s = (is_in_plant townships (tract_of s.ask) ≡ true)
     × (was_posted s.ask s.answer ≡ false → SameContent plant (effect depth townships plant s.ask))
 
 -- so it is of each of these steps, after those before it

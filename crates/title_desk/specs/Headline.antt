@@ -14,14 +14,12 @@ SumToOne content = (c : Cell) (estate : Estate) → total (rows_of (holding_of e
 
 -- in a cell where an open examiner's step was posted stands what the committed plant followed by its open steps has there
 abbrev pub ShowsOpenPosts : List Township → List Call → Plant → Type 0
-ShowsOpenPosts townships trace content =
-    (e : ℕ) (c : Cell) → posted_at townships c (open_steps trace e) ≡ true →
+ShowsOpenPosts townships trace content = (e : ℕ) (c : Cell) → posted_at townships c (open_steps trace e) ≡ true →
     content c ≡ after_steps depth townships (plant_after depth townships (committed trace)) (open_steps trace e) c
 
 -- in every other cell stands the committed plant
 abbrev pub ShowsCommitted : List Township → List Call → Plant → Type 0
-ShowsCommitted townships trace content =
-    (c : Cell) → ((e : ℕ) → posted_at townships c (open_steps trace e) ≡ false) →
+ShowsCommitted townships trace content = (c : Cell) → ((e : ℕ) → posted_at townships c (open_steps trace e) ≡ false) →
     content c ≡ plant_after depth townships (committed trace) c
 
 -- For every interleaving of begins, reads, posts, commits and aborts by any number of examiners, running the committed

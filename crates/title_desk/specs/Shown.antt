@@ -12,8 +12,7 @@ use Rattle.title_desk.specs.declared.kept_sheets.Kept.TheVariants as kept
 
 -- the part of a section's quarter's sheet for an estate
 abbrev pub quarter_rows : List Township → Plant → Section → Quarter → Estate → List SheetRow
-quarter_rows townships content section quarter e =
-    estate_sheet depth townships content (land_of depth (node.Part section (quarter ∷ []))) e
+quarter_rows townships content section quarter e = estate_sheet depth townships content (land_of depth (node.Part section (quarter ∷ []))) e
 
 -- its rows are the sheet of its tract
 abbrev pub IsShown : List Township → Plant → Shown → Type 0

@@ -24,8 +24,7 @@ Stays old new = (new.setting ≡ old.setting) × (new.trace ≡ old.trace)
 
 -- the call is added to the trace, and its reply is the due one
 abbrev pub Added : Books → Request → Reply → Books → Type 0
-Added old q r new =
-    (new.setting ≡ old.setting) × (new.trace ≡ record { request = q; reply = r } ∷ old.trace)
+Added old q r new = (new.setting ≡ old.setting) × (new.trace ≡ record { request = q; reply = r } ∷ old.trace)
     × DueReply depth old.setting old.trace q r
 
 -- a call adds its pair with the due reply, or wants memory and changes nothing
@@ -50,8 +49,7 @@ entry_of e a = record { examiner = e; tract = tract_of a; access = access_of a }
 -- nothing refuses the step but who may be in the way: the examiner is open, the tract is in the plant, the instrument can stand, and
 -- the transaction has room for a step
 abbrev pub IsFit : Books → ℕ → Ask → Type 0
-IsFit books e a =
-    (is_open e books.trace ≡ true) × (is_in_plant books.setting.townships (tract_of a) ≡ true)
+IsFit books e a = (is_open e books.trace ≡ true) × (is_in_plant books.setting.townships (tract_of a) ≡ true)
     × (cause_of books.setting.parties a ≡ None) × (nat_le most_steps (length (open_steps books.trace e)) ≡ false)
 
 -- nor is anybody

@@ -66,8 +66,7 @@ shown_own layout e listed spread locks view one is =
 pub alone_free : (layout : Layout) (e f : ℕ) (listed spread locks : Locks) (es : List Entry) → shown layout listed spread ≡ locks
     → AreInOne layout listed.entries spread.entries → locks.entries ≡ es → layout ≡ Alone e → e ≡ f → (land : Land) (post : Bool)
     → Stands es f land post None
-alone_free layout e f listed spread locks es view one kept is same land post =
-    subst (λ (g : ℕ). Stands es g land post None) same
+alone_free layout e f listed spread locks es view one kept is same land post = subst (λ (g : ℕ). Stands es g land post None) same
     (own_free e es land post (subst (λ (t : List Entry). AreOwn e t) kept (shown_own layout e listed spread locks view one is)))
 
 -- fewer of them are so, too

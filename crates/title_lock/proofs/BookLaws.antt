@@ -161,8 +161,7 @@ others_left e k f keys es other l =
 
 view_around : (k : ℕ) (x : Entry) (xs ys : List (ℕ × Entry))
     → reverse (values_of (xs ++ (k, x) ∷ ys)) ≡ reverse (values_of ys) ++ x ∷ reverse (values_of xs)
-view_around k x xs ys =
-    view_parts xs ((k, x) ∷ ys)
+view_around k x xs ys = view_parts xs ((k, x) ∷ ys)
     ∙ ap (λ (t : List Entry). t ++ reverse (values_of xs)) (reverse-append (x ∷ []) (values_of ys))
     ∙ append_assoc (reverse (values_of ys)) (x ∷ []) (reverse (values_of xs))
 
@@ -238,8 +237,7 @@ last_kept m e n keys last = go (get nat_cmp m e) last
   where
     go : (o : Option (Vec ℕ)) → numbers_in o ≡ keys ++ n ∷ [] → empty_in o ≡ false
     go None h = refl
-    go (Some v) h = ne_eqb (vec_len v) 0
-        (λ none. no_last n keys (sym (nil_from_length v.items (sym v.ok.0 ∙ none)) ∙ h))
+    go (Some v) h = ne_eqb (vec_len v) 0 (λ none. no_last n keys (sym (nil_from_length v.items (sym v.ok.0 ∙ none)) ∙ h))
 
 -- with one number more of an examiner's nobody is kept with none, if no other was
 pub kept_more : (m : BTreeMap ℕ (Vec ℕ)) (e x n : ℕ) (keys : List ℕ) → numbers_of m x ≡ keys ++ n ∷ []

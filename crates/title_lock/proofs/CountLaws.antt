@@ -36,8 +36,7 @@ member_but e f es = any-filter_same (eqb f) (λ g. not (eqb g e)) (not (eqb f e)
 
 no_repeat_but : (e : ℕ) (es : List ℕ) → NoRepeat es → NoRepeat (but e es)
 no_repeat_but e [] d = tt
-no_repeat_but e (x ∷ es) d =
-    cond_both (not (eqb x e)) (x ∷ but e es) (but e es) (λ (l : List ℕ). NoRepeat l)
+no_repeat_but e (x ∷ es) d = cond_both (not (eqb x e)) (x ∷ but e es) (but e es) (λ (l : List ℕ). NoRepeat l)
     (λ t. (member_but e x es ∙ and_right (not (eqb x e)) (member x es) d.0, no_repeat_but e es d.1)) (λ t. no_repeat_but e es d.1)
 
 abbrev one_if : Bool → ℕ
@@ -106,9 +105,7 @@ other_in held m e f es are other =
 -- where no more are counted than the examiner itself is, no other has the mode
 none_other : (held : ℕ → Option Mode) (m : Mode) (k e f : ℕ) → IsCount held m k → k ≤ own_part (held e) m → f ≢ e
     → has_mode (held f) m ≡ false
-none_other held m k e f (es, once, are, long) few other =
-    false_from_ne_true (has_mode (held f) m)
-    (λ t.
+none_other held m k e f (es, once, are, long) few other = false_from_ne_true (has_mode (held f) m) (λ t.
     let some = member_some f (but e es) (other_in held m e f es (are f) other ∙ t) in
     let left = left_but held m e es once are in
     omega (arith, some, left, few, long))
@@ -153,8 +150,7 @@ counted_same counts h g same are = record {
 -- what an examiner holds is counted
 pub counted_own : (counts : Counts) (h : Modes) (e : ℕ) (held : Option Mode) → AreCounted counts h → held ≡ holder_mode h e → (m : Mode)
     → own_part held m ≤ count_in counts m
-counted_own counts h e held are is m =
-    subst (λ (o : Option Mode). own_part o m ≤ count_in counts m) (sym is) (own_counted (holder_mode h) m
+counted_own counts h e held are is m = subst (λ (o : Option Mode). own_part o m ≤ count_in counts m) (sym is) (own_counted (holder_mode h) m
     (count_in counts m) e (are.each m))
 
 -- one more can be counted

@@ -60,11 +60,9 @@ roomed_join t u v e l r first then = record {
 }
 
 pub room_one : (t : HeldAt) (e : ℕ) (own : Bool) (c : Node) → table_room t e c ≡ true → HasRoom t e (asks_in ((c, own) ∷ []))
-room_one t e own c room n asks =
-    ap (λ (z : Node). table_room t e z) (same_node-to n c (sym (or-false (same_node n c)) ∙ asks)) ∙ room
+room_one t e own c room n asks = ap (λ (z : Node). table_room t e z) (same_node-to n c (sym (or-false (same_node n c)) ∙ asks)) ∙ room
 
-pub room_join : (t : HeldAt) (e : ℕ) (l r : List Asked) → HasRoom t e (asks_in l) → HasRoom t e (asks_in r)
-    → HasRoom t e (asks_in (l ++ r))
+pub room_join : (t : HeldAt) (e : ℕ) (l r : List Asked) → HasRoom t e (asks_in l) → HasRoom t e (asks_in r) → HasRoom t e (asks_in (l ++ r))
 room_join t e l r first then n asks = grind (arith, first n, then n, asks_append l r n)
 
 pub room_front : (t : HeldAt) (e : ℕ) (l r : List Asked) → HasRoom t e (asks_in (l ++ r)) → HasRoom t e (asks_in l)
@@ -82,8 +80,7 @@ raised_none t e p = record {
   idle = less_same t e (asks_in []) (λ n. refl);
 }
 
-pub raised_one : (t u : HeldAt) (e : ℕ) (p own : Bool) (c : Node)
-    → ((f : ℕ) (n : Node) → table_mode u f n
+pub raised_one : (t u : HeldAt) (e : ℕ) (p own : Bool) (c : Node) → ((f : ℕ) (n : Node) → table_mode u f n
     ≡ bound (table_mode t f n) (cond (eqb f e && same_node n c) (Some (mode_for p own)) None))
     → KeepsRoom t u → IdleLess t u e (λ n. same_node n c) → Raised t u e p ((c, own) ∷ [])
 raised_one t u e p own c modes stays idle = record {
@@ -130,24 +127,20 @@ module _ (t : HeldAt) (e : ℕ) {left : List Asked} (l r : List Asked) (parts : 
   room_now room = room_front t e l r (subst (λ (z : List Asked). HasRoom t e (asks_in z)) parts room)
 
   pub room_then : (u : HeldAt) → KeepsRoom t u → HasRoom t e (asks_in left) → HasRoom u e (asks_in r)
-  room_then u keeps room n asks =
-      keeps e n (room_back t e l r (subst (λ (z : List Asked). HasRoom t e (asks_in z)) parts room) n asks)
+  room_then u keeps room n asks = keeps e n (room_back t e l r (subst (λ (z : List Asked). HasRoom t e (asks_in z)) parts room) n asks)
 
   -- what is left done is the whole done, and so is the rest after what comes next
-  pub raised_then : (first u : HeldAt) (p : Bool) (whole : List Asked)
-      → ((v : HeldAt) → Raised t v e p left → Raised first v e p whole)
+  pub raised_then : (first u : HeldAt) (p : Bool) (whole : List Asked) → ((v : HeldAt) → Raised t v e p left → Raised first v e p whole)
       → Raised t u e p l → (v : HeldAt) → Raised u v e p r → Raised first v e p whole
   raised_then first u p whole does step v rest =
       does v (subst (λ (z : List Asked). Raised t v e p z) (sym parts) (raised_join t u v e p l r step rest))
 
-  pub taken_then : (first u : HeldAt) (m : Bool) (whole : List Asked)
-      → ((v : HeldAt) → TakenOut t v e m left → TakenOut first v e m whole)
+  pub taken_then : (first u : HeldAt) (m : Bool) (whole : List Asked) → ((v : HeldAt) → TakenOut t v e m left → TakenOut first v e m whole)
       → TakenOut t u e m l → (v : HeldAt) → TakenOut u v e m r → TakenOut first v e m whole
   taken_then first u m whole does step v rest =
       does v (subst (λ (z : List Asked). TakenOut t v e m z) (sym parts) (taken_join t u v e m l r step rest))
 
-  pub roomed_then : (first u : HeldAt) (whole : List Asked)
-      → ((v : HeldAt) → Roomed t v e left → Roomed first v e whole)
+  pub roomed_then : (first u : HeldAt) (whole : List Asked) → ((v : HeldAt) → Roomed t v e left → Roomed first v e whole)
       → Roomed t u e l → (v : HeldAt) → Roomed u v e r → Roomed first v e whole
   roomed_then first u whole does step v rest =
       does v (subst (λ (z : List Asked). Roomed t v e z) (sym parts) (roomed_join t u v e l r step rest))
@@ -156,8 +149,7 @@ module _ (t : HeldAt) (e : ℕ) {left : List Asked} (l r : List Asked) (parts : 
   pub rooms_then : (u : HeldAt) (whole : List Asked)
       → ((v : HeldAt) → KeepsRoom t v → HasRoom v e (asks_in left) → HasRoom v e (asks_in whole))
       → KeepsRoom t u → HasRoom u e (asks_in l) → (v : HeldAt) → KeepsRoom u v → HasRoom v e (asks_in r) → HasRoom v e (asks_in whole)
-  rooms_then u whole does first here v keeps rest =
-      does v (λ f n room. keeps f n (first f n room))
+  rooms_then u whole does first here v keeps rest = does v (λ f n room. keeps f n (first f n room))
       (subst (λ (z : List Asked). HasRoom v e (asks_in z)) (sym parts)
       (room_join v e l r (λ n asks. keeps e n (here n asks)) rest))
 
@@ -174,8 +166,7 @@ room_last t e left none n asks = absurd (true≢false (sym asks ∙ ap (λ (z : 
 -- room at the node that comes first
 pub room_first : (t : HeldAt) (e : ℕ) (own : Bool) (c : Node) {left : List Asked} (r : List Asked) → left ≡ ((c, own) ∷ []) ++ r
     → HasRoom t e (asks_in left) → table_room t e c ≡ true
-room_first t e own c r parts room =
-    room_now t e ((c, own) ∷ []) r parts room c (or_left (same_node c c) false (same_node-self c))
+room_first t e own c r parts room = room_now t e ((c, own) ∷ []) r parts room c (or_left (same_node c c) false (same_node-self c))
 
 -- the least in the way so far, of a whole of which this is left
 pub record IsSoFar (p : Bool) (held : ℕ → Node → Option Mode) (e : ℕ) (whole : List Asked) (left : List Asked) (way : Option ℕ)
@@ -198,6 +189,5 @@ module _ (p : Bool) (held : ℕ → Node → Option Mode) (e : ℕ) (whole : Lis
 
   pub so_far_ends : (left : List Asked) (way : Option ℕ) → left ≡ [] → IsSoFar p held e whole left way
       → IsLeast (λ f. clashes_in p (held f) whole) e way
-  so_far_ends left way none far =
-      subst (λ (z : List Asked). IsLeast (λ f. clashes_in p (held f) z) e way)
+  so_far_ends left way none far = subst (λ (z : List Asked). IsLeast (λ f. clashes_in p (held f) z) e way)
       (sym (far.parts ∙ ap (λ (z : List Asked). far.done ++ z) none ∙ append-nil far.done)) far.is_least

@@ -45,8 +45,7 @@ Carries m entries rest e = IsStrictlySortedBy nat_cmp (keys_of rest) × ((f : �
 pub carries_on : (m : Mode) (entries : Held) (k : ℕ) (b : Option Mode) (rest : Held) (e : ℕ) → (k ≢ e → clashes m b ≡ false)
     → Carries m entries ((k, b) ∷ rest) e → Carries m entries rest e
 unfolding IsStrictlySortedBy
-carries_on m entries k b rest e over carries =
-    (carries.0.1, λ f o. step f o ∙ carries.1 f o)
+carries_on m entries k b rest e over carries = (carries.0.1, λ f o. step f o ∙ carries.1 f o)
   where
     step : (f : ℕ) → f ≢ e → in_way m rest f ≡ in_way m ((k, b) ∷ rest) f
     step f o = grind (arith, nat_tests, way_first m k b rest f, none_after m k f rest carries.0, over)
@@ -57,8 +56,7 @@ pub carries_least : (m : Mode) (entries : Held) (k : ℕ) (b : Option Mode) (res
 carries_least m entries k b rest e other clash carries = (
   other,
   sym (carries.1 k other) ∙ way_own m k b rest ∙ clash,
-  λ g lt o.
-      sym (carries.1 g o) ∙ way_other m k b rest g (λ s. omega (arith, s, lt)) ∙ none_after m k g rest carries.0 (omega (arith, lt)),
+  λ g lt o. sym (carries.1 g o) ∙ way_other m k b rest g (λ s. omega (arith, s, lt)) ∙ none_after m k g rest carries.0 (omega (arith, lt)),
 )
 
 -- where nothing is left nobody else is in the way

@@ -90,8 +90,7 @@ without_more e x fewer more mine (newer, older, was, now, first) =
 
 -- the others' entries ask for nothing in an examiner's name
 asks_none : (depth : ℕ) (e : ℕ) (n : Node) (es : List Entry) → list_any (is_asked_by depth e n) (without e es) ≡ false
-asks_none depth e n es =
-    list_any_none (is_asked_by depth e n) (without e es)
+asks_none depth e n es = list_any_none (is_asked_by depth e n) (without e es)
     (All-weaker (λ (x : Entry). not (eqb x.examiner e) ≡ true) (λ (x : Entry). is_asked_by depth e n x ≡ false)
     (λ x other. and_left (eqb e x.examiner) (list_any (is_asked n) (cover_of depth x.tract))
     (ne_eqb e x.examiner (λ s. both_ways (eqb x.examiner e) (not-true (eqb x.examiner e) other) (eq-eqb x.examiner e (sym s)))))

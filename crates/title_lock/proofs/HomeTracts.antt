@@ -35,8 +35,7 @@ elsewhere_meets (land.Part s g) (land.Part u k) h = parts_apart s u g k (false_f
     (one_section (node_number (node.Part u [])) (node_number (node.Part s []))
     (ap (λ (z : Section). node_number (node.Part z [])) (sym (same_section-is s u e)))) h))
 
-elsewhere_apart : (x y : Land) (post posted : Bool) → is_elsewhere (home_number y) (home_number x) ≡ true
-    → overlap x post y posted ≡ false
+elsewhere_apart : (x y : Land) (post posted : Bool) → is_elsewhere (home_number y) (home_number x) ≡ true → overlap x post y posted ≡ false
 elsewhere_apart x y post posted h = and_right (post || posted) (meets x y) (elsewhere_meets x y h)
 
 pub passed_over : (x : Entry) (before : List Entry) (e : ℕ) (asked : Land) (post : Bool) (way : Option ℕ)

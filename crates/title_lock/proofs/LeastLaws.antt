@@ -8,19 +8,16 @@ pub least_join : (a b : ℕ → Bool) (e : ℕ) (x y : Option ℕ) → IsLeast a
 least_join a b e None None h k = λ f o. or_from (a f) (b f) (h f o) (k f o)
 least_join a b e None (Some y) h k = (k.0, or_right (a y) (b y) k.1, λ g lt o. or_from (a g) (b g) (h g o) (k.2 g lt o))
 least_join a b e (Some x) None h k = (h.0, or_left (a x) (b x) h.1, λ g lt o. or_from (a g) (b g) (h.2 g lt o) (k g o))
-least_join a b e (Some x) (Some y) h k =
-    cond_both (ltb x y) (Some x) (Some y) (λ (w : Option ℕ). IsLeast (λ f. a f || b f) e w)
+least_join a b e (Some x) (Some y) h k = cond_both (ltb x y) (Some x) (Some y) (λ (w : Option ℕ). IsLeast (λ f. a f || b f) e w)
     (λ t. let below = ltb-true x y t in (
       h.0,
       or_left (a x) (b x) h.1,
-      λ g lt o.
-          or_from (a g) (b g) (h.2 g lt o) (k.2 g (omega (arith, lt, below)) o),
+      λ g lt o. or_from (a g) (b g) (h.2 g lt o) (k.2 g (omega (arith, lt, below)) o),
     ))
     (λ t. let below = ltb-false x y t in (
       k.0,
       or_right (a y) (b y) k.1,
-      λ g lt o.
-          or_from (a g) (b g) (h.2 g (omega (arith, lt, below)) o) (k.2 g lt o),
+      λ g lt o. or_from (a g) (b g) (h.2 g (omega (arith, lt, below)) o) (k.2 g lt o),
     ))
 
 -- two tests that agree on all others have the same least

@@ -24,15 +24,12 @@ agree : (a b : Bool) → beq a b ≡ true → a ≡ b
 agree a b h = grind arith
 
 pub sup_compat : (a b c : Mode) → compat (sup a b) c ≡ (compat a c && compat b c)
-sup_compat a b c =
-    agree (compat (sup a b) c) (compat a c && compat b c)
-    (at_each (λ z. beq (compat (sup a b) z) (compat a z && compat b z))
+sup_compat a b c = agree (compat (sup a b) c) (compat a c && compat b c) (at_each (λ z. beq (compat (sup a b) z) (compat a z && compat b z))
     (at_each (λ y. at_all (λ z. beq (compat (sup a y) z) (compat a z && compat y z)))
     (at_each (λ x. at_all (λ y. at_all (λ z. beq (compat (sup x y) z) (compat x z && compat y z)))) refl a) b) c)
 
 pub compat_turn : (a b : Mode) → compat a b ≡ compat b a
-compat_turn a b =
-    agree (compat a b) (compat b a)
+compat_turn a b = agree (compat a b) (compat b a)
     (at_each (λ y. beq (compat a y) (compat y a)) (at_each (λ x. at_all (λ y. beq (compat x y) (compat y x))) refl a) b)
 
 pub bound_allows : (a b c : Option Mode) → allows (bound a b) c ≡ (allows a c && allows b c)
@@ -47,15 +44,12 @@ pub same_mode_true : (a b : Mode) → same_mode a b ≡ true → a ≡ b
 same_mode_true a b h = grind arith
 
 sup_assoc : (a b c : Mode) → sup (sup a b) c ≡ sup a (sup b c)
-sup_assoc a b c =
-    same_mode_true (sup (sup a b) c) (sup a (sup b c))
-    (at_each (λ z. same_mode (sup (sup a b) z) (sup a (sup b z)))
+sup_assoc a b c = same_mode_true (sup (sup a b) c) (sup a (sup b c)) (at_each (λ z. same_mode (sup (sup a b) z) (sup a (sup b z)))
     (at_each (λ y. at_all (λ z. same_mode (sup (sup a y) z) (sup a (sup y z))))
     (at_each (λ x. at_all (λ y. at_all (λ z. same_mode (sup (sup x y) z) (sup x (sup y z))))) refl a) b) c)
 
 sup_turn : (a b : Mode) → sup a b ≡ sup b a
-sup_turn a b =
-    same_mode_true (sup a b) (sup b a)
+sup_turn a b = same_mode_true (sup a b) (sup b a)
     (at_each (λ y. same_mode (sup a y) (sup y a)) (at_each (λ x. at_all (λ y. same_mode (sup x y) (sup y x))) refl a) b)
 
 pub sup_self : (a : Mode) → sup a a ≡ a

@@ -34,8 +34,7 @@ apart_fit : (p q s a s' a' : Bool) → (s ≡ true → (s' || a') ≡ false) →
 apart_fit p q s a s' a' h k = grind arith
 
 nodes_apart : (p q : Bool) (c d : Node) → are_related c d ≡ false → Allow (asked_for p c) (asked_for q d)
-nodes_apart p q c d h n =
-    apart_fit p q (same_node n c) (is_above n c) (same_node n d) (is_above n d)
+nodes_apart p q c d h n = apart_fit p q (same_node n c) (is_above n c) (same_node n d) (is_above n d)
     (λ t. grind (arith, same_node-to n c t)) (λ t. grind (arith, same_node-to n d t, same_turned c d))
 
 nodes_fit : (p q : Bool) (c d : Node) → ((p || q) && are_related c d) ≡ false → Allow (asked_for p c) (asked_for q d)
@@ -55,9 +54,7 @@ allow_turn : (a b : Node → Option Mode) → Allow a b → Allow b a
 allow_turn a b h n = allows_turn (b n) (a n) ∙ h n
 
 nodes_clear : (p q : Bool) (c d : Node) → Allow (asked_for p c) (asked_for q d) → ((p || q) && are_related c d) ≡ false
-nodes_clear p q c d fit =
-    false_from_ne_true ((p || q) && are_related c d)
-    (λ t. let k = and_parts (p || q) (are_related c d) t in
+nodes_clear p q c d fit = false_from_ne_true ((p || q) && are_related c d) (λ t. let k = and_parts (p || q) (are_related c d) t in
     elim (or_cases (same_node c d) (is_above c d || is_above d c) k.1) [
       | inl same ↦ at_odds p q c d k.0 (or_left (same_node c d) (is_above c d) same) fit
       | inr apart ↦ elim (or_cases (is_above c d) (is_above d c) apart) [

@@ -11,14 +11,12 @@ use Rattle.title_lock.proofs.CountLaws.{count_moved}
 -- one entry more stands before those so far
 pub turned_more : (rows : List Entry) (i : ℕ) (d : Entry) → i < length rows → reverse (take (i + 1) rows)
     ≡ get_or rows i d ∷ reverse (take i rows)
-turned_more rows i d low =
-    ap (λ (t : List Entry). reverse t) (take_more rows i d low) ∙ reverse-append (take i rows) (get_or rows i d ∷ [])
+turned_more rows i d low = ap (λ (t : List Entry). reverse t) (take_more rows i d low) ∙ reverse-append (take i rows) (get_or rows i d ∷ [])
 
 -- the newest row changes the mode of its examiner alone
 row_other : (depth : ℕ) (x : Entry) (es : List Entry) (n : Node) (f : ℕ) → f ≢ x.examiner
     → mode_at depth (x ∷ es) f n ≡ mode_at depth es f n
-row_other depth x es n f other =
-    ap (λ (o : Option Mode). bound o (mode_at depth es f n))
+row_other depth x es n f other = ap (λ (o : Option Mode). bound o (mode_at depth es f n))
     (cond-false (eqb f x.examiner) (asked (is_post x.access) (cover_of depth x.tract) n) None (ne_eqb f x.examiner other))
 
 pub row_counted : (depth : ℕ) (rows older : List Entry) (x : Entry) (n : Node) (m : Mode) (k j : ℕ) (had has : Option Mode)

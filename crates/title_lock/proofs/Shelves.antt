@@ -83,8 +83,7 @@ way_nowhere p e (a ∷ l) f other = way_nowhere p e l f other
 -- what is done on a shelf is done where it stands
 pub carried : (Q : HeldAt → HeldAt → Type 0) (old new : Option Shelf) (s w : Shelf) → Some s ≡ old → new ≡ Some w
     → Q (on_shelf s) (on_shelf w) → Q (on_some old) (on_some new)
-carried Q old new s w found now fact =
-    subst (λ (o : Option Shelf). Q (on_some o) (on_some new)) found
+carried Q old new s w found now fact = subst (λ (o : Option Shelf). Q (on_some o) (on_some new)) found
     (subst (λ (o : Option Shelf). Q (on_shelf s) (on_some o)) (sym now) fact)
 
 -- room on a shelf that is put up is room where there was none
@@ -131,8 +130,7 @@ home_kept h k s t is kept = subst (λ (z : Option ℕ). AreAtHome z s → AreAtH
 
 module _ (t u : Table) (h : Option ℕ) (one : ChangesOne t u h) where
   -- what is so of each node's holders before and after, where it is so on the shelf that changes, and of holders that stay
-  lifted : (Q : Option Modes → Option Modes → Node → Type 0)
-      → ((n : Node) → Q (on_some (shelf_at t h) n) (on_some (shelf_at u h) n) n)
+  lifted : (Q : Option Modes → Option Modes → Node → Type 0) → ((n : Node) → Q (on_some (shelf_at t h) n) (on_some (shelf_at u h) n) n)
       → ((n : Node) → home_of n ≢ h → (o : Option Modes) → Q o o n) → (n : Node) → Q (on_all t n) (on_all u n) n
   lifted Q own rest n = elim (cases_home (home_of n) h) [
     | inl is ↦ subst (λ (k : Option ℕ). Q (on_some (shelf_at t k) n) (on_some (shelf_at u k) n) n) (sym is) (own n)

@@ -19,8 +19,7 @@ use Rattle.title_lock.proofs.{NodeLaws.{above_apart}, Overlap.{Allow, allow_boun
 
 pub asked_append : (p : Bool) (l r : List Asked) (n : Node) → asked_in p (l ++ r) n ≡ bound (asked_in p l n) (asked_in p r n)
 asked_append p [] r n = refl
-asked_append p (a ∷ l) r n =
-    ap (bound (cond (same_node n a.0) (Some (mode_for p a.1)) None)) (asked_append p l r n)
+asked_append p (a ∷ l) r n = ap (bound (cond (same_node n a.0) (Some (mode_for p a.1)) None)) (asked_append p l r n)
     ∙ sym (bound_assoc (cond (same_node n a.0) (Some (mode_for p a.1)) None) (asked_in p l n) (asked_in p r n))
 
 pub asks_append : (l r : List Asked) (n : Node) → asks_in (l ++ r) n ≡ (asks_in l n || asks_in r n)
@@ -42,8 +41,7 @@ above_by_shelf : (last : Option Node) (c : Node)
     → asks_above last (above c) ≡ asks_above last (shelf_above c) ++ asks_above last (upper_above c)
 above_by_shelf last c = ap (asks_above last) (above_is c) ∙ above_append last (shelf_above c) (upper_above c)
 
-above_parts : (p n : Node)
-    → is_above n p ≡ (list_any (same_node n) (shelf_above p) || list_any (same_node n) (upper_above p))
+above_parts : (p n : Node) → is_above n p ≡ (list_any (same_node n) (shelf_above p) || list_any (same_node n) (upper_above p))
 above_parts p n =
     ap (λ (l : List Node). list_any (same_node n) l) (above_is p) ∙ list_any-append (same_node n) (shelf_above p) (upper_above p)
 
@@ -56,15 +54,13 @@ known_above (Some l) p n h up = above_is_transitive n p l up h
 none_new : (last : Option Node) (nodes : List Node) → ((n : Node) → list_any (same_node n) nodes ≡ true → is_known last n ≡ true)
     → asks_above last nodes ≡ []
 none_new last [] h = refl
-none_new last (m ∷ nodes) h =
-    ap (λ (k : Bool). cond k (asks_above last nodes) ((m, false) ∷ asks_above last nodes))
+none_new last (m ∷ nodes) h = ap (λ (k : Bool). cond k (asks_above last nodes) ((m, false) ∷ asks_above last nodes))
     (h m (or_left (same_node m m) (list_any (same_node m) nodes) (same_node-self m)))
     ∙ none_new last nodes (λ n up. h n (or_right (same_node n m) (list_any (same_node n) nodes) up))
 
 -- where a node is known nothing is asked of it and of those above it on its shelf
 pub known_stops : (last : Option Node) (p : Node) → is_known last p ≡ true → asks_above last (p ∷ shelf_above p) ≡ []
-known_stops last p h =
-    ap (λ (k : Bool). cond k (asks_above last (shelf_above p)) ((p, false) ∷ asks_above last (shelf_above p))) h
+known_stops last p h = ap (λ (k : Bool). cond k (asks_above last (shelf_above p)) ((p, false) ∷ asks_above last (shelf_above p))) h
     ∙ none_new last (shelf_above p) (λ n up. known_above last p n h (above_parts p n
     ∙ or_left (list_any (same_node n) (shelf_above p)) (list_any (same_node n) (upper_above p)) up))
 
@@ -114,8 +110,7 @@ walk_asks p last (c ∷ cover) n =
 
 -- the walk over a cover asks what the access asks for
 pub walk_asked : (p : Bool) (cover : List Node) (n : Node) → asked_in p (walk None cover) n ≡ asked p cover n
-walk_asked p cover n =
-    sym (bound_none (asked_in p (walk None cover) n)) ∙ walk_asks p None cover n ∙ bound_none (asked p cover n)
+walk_asked p cover n = sym (bound_none (asked_in p (walk None cover) n)) ∙ walk_asks p None cover n ∙ bound_none (asked p cover n)
 
 -- ---- and where
 
@@ -176,8 +171,7 @@ pub clash_at_home : (p : Bool) (h : Option ℕ) (held there : Node → Option Mo
 clash_at_home p h held there [] stand same = refl
 clash_at_home p h held there (a ∷ l) stand same = grind (arith, same a.0 stand.0, clash_at_home p h held there l stand.1 same)
 
-stand_above : (h : Option ℕ) (last : Option Node) (nodes : List Node) → All (λ n. home_of n ≡ h) nodes
-    → StandOn h (asks_above last nodes)
+stand_above : (h : Option ℕ) (last : Option Node) (nodes : List Node) → All (λ n. home_of n ≡ h) nodes → StandOn h (asks_above last nodes)
 stand_above h last [] all = tt
 stand_above h last (n ∷ nodes) all =
     let more = stand_above h last nodes (All-tail (λ (z : Node). home_of z ≡ h) n nodes all) in
@@ -190,8 +184,7 @@ squares_home s (q ∷ w) = All-cons (λ (z : Node). home_of z ≡ Some (section_
 
 shelf_home : (n : Node) → All (λ m. home_of m ≡ home_of n) (shelf_above n)
 shelf_home node.Everything = All-nil (λ (z : Node). home_of z ≡ None)
-shelf_home (node.Township t) = All-cons (λ (z : Node). home_of z ≡ None) node.Everything [] refl
-    (All-nil (λ (z : Node). home_of z ≡ None))
+shelf_home (node.Township t) = All-cons (λ (z : Node). home_of z ≡ None) node.Everything [] refl (All-nil (λ (z : Node). home_of z ≡ None))
 shelf_home (node.Part s w) = squares_home s w
 
 -- a climb stays on one shelf

@@ -32,8 +32,7 @@ mode_at depth (x ∷ older) e n =
 -- an access of examiner e is granted by modes: at each node that it asks for, the bound of the examiner's mode and the
 -- new one may stand beside every other examiner's
 abbrev pub GrantedByModes : ℕ → List Entry → ℕ → Land → Bool → Type 0
-GrantedByModes depth entries e land post =
-    (n : Node) → is_some (asked post (cover_of depth land) n) ≡ true → (f : ℕ) → f ≢ e →
+GrantedByModes depth entries e land post = (n : Node) → is_some (asked post (cover_of depth land) n) ≡ true → (f : ℕ) → f ≢ e →
     allows (bound (mode_at depth entries e n) (asked post (cover_of depth land) n)) (mode_at depth entries f n) ≡ true
 
 -- every entry was so granted when it came
@@ -48,8 +47,7 @@ AreSized depth entries = All (λ x. IsLand depth x.tract) entries
 -- an entry is granted by modes at every node exactly where no other examiner's entry overlaps it, given that every
 -- entry there was itself so granted, and that all their sets are as large as the grid
 abbrev pub ModesDecideOverlap : ℕ → Type 0
-ModesDecideOverlap depth =
-    (entries : List Entry) → AreSized depth entries → AllGranted depth entries →
+ModesDecideOverlap depth = (entries : List Entry) → AreSized depth entries → AllGranted depth entries →
     (e : ℕ) (land : Land) (post : Bool) → IsLand depth land →
     GrantedByModes depth entries e land post ↔ ((f : ℕ) → f ≢ e → against land post f entries ≡ false)
 

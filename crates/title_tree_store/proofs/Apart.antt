@@ -99,6 +99,5 @@ module _ (levels : ℕ) (ts : List Township) (room : length ts ≤ 4 ^ levels) w
       (sym (spots_have_at levels ts room n _ c at) ∙ has)
 
   pub tract_apart : (x : Land) → IsEachOnce ts → is_in_plant ts x ≡ true → Disjoint (tract_spots levels ts x)
-  tract_apart x once of =
-      flat_apart (spots levels ts) (cover_of depth x) (spots_apart once) (one_node x of)
+  tract_apart x once of = flat_apart (spots levels ts) (cover_of depth x) (spots_apart once) (one_node x of)
       (nodes_once (cover_of depth x) (cover_is_cover depth x).order)

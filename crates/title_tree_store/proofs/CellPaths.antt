@@ -85,8 +85,7 @@ IsDeclared ts node.Everything = Unit {0}
 IsDeclared ts (node.Township t) = IsOf ts t
 IsDeclared ts (node.Part s w) = IsOf ts s.township × (length w ≤ depth)
 
-plant_parts : (ts : List Township) (c : Cell) → is_plant_cell depth ts c ≡ true
-    → (is_on_grid depth c ≡ true) × IsOf ts c.section.township
+plant_parts : (ts : List Township) (c : Cell) → is_plant_cell depth ts c ≡ true → (is_on_grid depth c ≡ true) × IsOf ts c.section.township
 plant_parts ts c h = and_parts (is_on_grid depth c) (list_any (same_township c.section.township) ts) h
 
 pub grid_parts : (c : Cell) → is_on_grid depth c ≡ true → (c.row < side depth) × (c.column < side depth)
@@ -100,8 +99,7 @@ any_own ts f t of h =
     any_from f ts k.0 k.1 (ap f (sym (same_township-is t k.0 k.2)) ∙ h)
 
 -- the nodes of a cover are declared where the tract is in the plant
-pub cover_declared : (ts : List Township) (x : Land) (n : Node) → is_in_plant ts x ≡ true → In n (cover_of depth x)
-    → IsDeclared ts n
+pub cover_declared : (ts : List Township) (x : Land) (n : Node) → is_in_plant ts x ≡ true → In n (cover_of depth x) → IsDeclared ts n
 unfolding cover_of
 cover_declared ts land.Everything n h i = elim i [
   | inl e ↦ subst (IsDeclared ts) (sym e) tt
@@ -390,8 +388,7 @@ module _ (levels : ℕ) (ts : List Township) where
     -- in a tract exactly where one of the tract's paths does
     pub tract_has : (x : Land) (c : Cell) → is_in_plant ts x ≡ true → is_plant_cell depth ts c ≡ true
         → pieces.has (tract_spots levels ts x) (cell_path levels ts c) ≡ has x c
-    tract_has x c of plant =
-        has_flat (spots levels ts) (cover_of depth x) (cell_path levels ts c)
+    tract_has x c of plant = has_flat (spots levels ts) (cover_of depth x) (cell_path levels ts c)
         ∙ any_agree (λ n. pieces.has (spots levels ts n) (cell_path levels ts c)) (λ n. node_has depth n c) (cover_of depth x)
         (λ n i. spots_have n c (cover_declared ts x n of i) plant)
         ∙ sym (cover_has_its_cells depth x c (plant_parts ts c plant).0)

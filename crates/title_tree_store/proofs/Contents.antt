@@ -24,8 +24,7 @@ owners f = record { s = f S; o = f O; m = f M }
 pub owners_same : (f g : Estate → Division) → ((e : Estate) → f e ≡ g e) → owners f ≡ owners g
 owners_same f g h = λ i. record { s = h S i; o = h O i; m = h M i }
 
-owners_cond : (b : Bool) (f g h : Estate → Division) → ((e : Estate) → f e ≡ cond b (g e) (h e))
-    → owners f ≡ cond b (owners g) (owners h)
+owners_cond : (b : Bool) (f g h : Estate → Division) → ((e : Estate) → f e ≡ cond b (g e) (h e)) → owners f ≡ cond b (owners g) (owners h)
 owners_cond true f g h k = owners_same f g k
 owners_cond false f g h k = owners_same f h k
 
@@ -38,8 +37,7 @@ cond_same false x y z h = refl
 pub content_agrees : (levels : ℕ) (ts : List Township) (ps qs : Estate → Plot)
     → ((e : Estate) (c : List Quarter) → value_at (qs e) c ≡ value_at (ps e) c) → (c : Cell)
     → content_of levels ts qs c ≡ content_of levels ts ps c
-content_agrees levels ts ps qs h c =
-    ap (λ (w : Owners). cond (is_plant_cell depth ts c) w opening_owners)
+content_agrees levels ts ps qs h c = ap (λ (w : Owners). cond (is_plant_cell depth ts c) w opening_owners)
     (owners_same (λ e. value_at (qs e) (cell_path levels ts c)) (λ e. value_at (ps e) (cell_path levels ts c))
     (λ e. h e (cell_path levels ts c)))
 

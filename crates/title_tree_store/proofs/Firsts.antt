@@ -59,19 +59,16 @@ module _ {A : Type 0} (g : List Cell → Option A) (join : Joins g) where
   -- the next of some lists
   next_is : {X : Type 0} (cells : X → List Cell) (xs : List X) (n : ℕ) (x : X) → n < length xs → x ≡ get_or xs n x
       → g (flat_map cells (drop n xs)) ≡ g (cells x ++ flat_map cells (drop (n + 1) xs))
-  next_is {X} cells xs n x l at =
-      at_drop_more (λ (z : List X). g (flat_map cells z)) xs n x l
+  next_is {X} cells xs n x l at = at_drop_more (λ (z : List X). g (flat_map cells z)) xs n x l
       ∙ ap (λ (y : X). g (cells y ++ flat_map cells (drop (n + 1) xs))) (sym at)
 
   pub next_later : {X : Type 0} (cells : X → List Cell) (xs : List X) (n : ℕ) (x : X) (o : Option A) → n < length xs
       → x ≡ get_or xs n x → is_some o ≡ false → o ≡ g (cells x) → g (flat_map cells (drop n xs)) ≡ g (flat_map cells (drop (n + 1) xs))
-  next_later cells xs n x o l at none h =
-      next_is cells xs n x l at ∙ first_later (cells x) (flat_map cells (drop (n + 1) xs)) o none h
+  next_later cells xs n x o l at none h = next_is cells xs n x l at ∙ first_later (cells x) (flat_map cells (drop (n + 1) xs)) o none h
 
   pub next_here : {X : Type 0} (cells : X → List Cell) (xs : List X) (n : ℕ) (x : X) (o : Option A) → n < length xs
       → x ≡ get_or xs n x → is_some o ≡ true → o ≡ g (cells x) → o ≡ g (flat_map cells (drop n xs))
-  next_here cells xs n x o l at some h =
-      first_here (cells x) (flat_map cells (drop (n + 1) xs)) o some h ∙ sym (next_is cells xs n x l at)
+  next_here cells xs n x o l at some h = first_here (cells x) (flat_map cells (drop (n + 1) xs)) o some h ∙ sym (next_is cells xs n x l at)
 
   -- the next quarter of a square
   module _ (s : Section) (below : ℕ) (w v : List Quarter) (n : ℕ) (l : n < length quarters) (at : v ≡ get_or quarters n Northeast ∷ w)
@@ -81,14 +78,12 @@ module _ {A : Type 0} (g : List Cell → Option A) (join : Joins g) where
 
     pub quarter_later : is_some o ≡ false → g (flat_map (λ q. cells_below depth s (below - 1) (q ∷ w)) (drop n quarters))
         ≡ g (flat_map (λ q. cells_below depth s (below - 1) (q ∷ w)) (drop (n + 1) quarters))
-    quarter_later none =
-        next_later (λ q. cells_below depth s (below - 1) (q ∷ w)) quarters n (get_or quarters n Northeast) o l
+    quarter_later none = next_later (λ q. cells_below depth s (below - 1) (q ∷ w)) quarters n (get_or quarters n Northeast) o l
         (get_or_default quarters n Northeast (get_or quarters n Northeast) l) none first_is
 
     pub quarter_here : is_some o ≡ true → 0 < below → g (flat_map (λ q. cells_below depth s (below - 1) (q ∷ w)) quarters)
         ≡ g (flat_map (λ q. cells_below depth s (below - 1) (q ∷ w)) (drop n quarters)) → o ≡ g (cells_below depth s below w)
-    quarter_here some more left =
-        next_here (λ q. cells_below depth s (below - 1) (q ∷ w)) quarters n (get_or quarters n Northeast) o l
+    quarter_here some more left = next_here (λ q. cells_below depth s (below - 1) (q ∷ w)) quarters n (get_or quarters n Northeast) o l
         (get_or_default quarters n Northeast (get_or quarters n Northeast) l) some first_is
         ∙ sym left ∙ ap g (square_cells s below w more)
 
@@ -99,8 +94,7 @@ abbrev first_of : Search → List Cell → Option (Rule × Estate × Cell)
 first_of x cells = first_for x (filter (has x.tract.now) cells)
 
 first_of_join : (x : Search) → Joins (first_of x)
-first_of_join x xs ys =
-    ap (first_for x) (filter-append (has x.tract.now) xs ys)
+first_of_join x xs ys = ap (first_for x) (filter-append (has x.tract.now) xs ys)
     ∙ first_join x (filter (has x.tract.now) xs) (filter (has x.tract.now) ys)
 
 -- the tract's cells by the townships
@@ -112,8 +106,7 @@ tract_cells x = refl
 -- a tract that is the plant
 pub plant_found : (x : Search) → x.tract.now ≡ land.Everything
     → first_for x (flat_map (township_cells depth) x.townships.now) ≡ first_for x (cells_of depth x.townships.now x.tract.now)
-plant_found x e =
-    ap (first_for x) (sym (kept_of_everything (flat_map (township_cells depth) x.townships.now)))
+plant_found x e = ap (first_for x) (sym (kept_of_everything (flat_map (township_cells depth) x.townships.now)))
     ∙ ap (λ (y : Land). first_for x (filter (has y) (flat_map (township_cells depth) x.townships.now))) (sym e) ∙ tract_cells x
 
 or_test : {A : Type 0} (a b : Bool) (o : Option A) → option_or (cond a o None) (cond b o None) ≡ cond (a || b) o None
@@ -126,8 +119,7 @@ found_among : (x : Search) (test : Township → Bool) (o : Option (Rule × Estat
     → ((t : Township) → first_of x (township_cells depth t) ≡ cond (test t) o None)
     → first_of x (flat_map (township_cells depth) ts) ≡ cond (list_any test ts) o None
 found_among x test o [] f = refl
-found_among x test o (t ∷ ts) f =
-    first_of_join x (township_cells depth t) (flat_map (township_cells depth) ts)
+found_among x test o (t ∷ ts) f = first_of_join x (township_cells depth t) (flat_map (township_cells depth) ts)
     ∙ (λ k. option_or (f t k) (found_among x test o ts f k)) ∙ or_test (test t) (list_any test ts) o
 
 -- cells that are all the tract has in one township of the plant
@@ -135,8 +127,7 @@ found_in : (x : Search) (t : Township) (cells : List Cell) → list_any (same_to
     → ((u : Township) → same_township t u ≡ true → first_of x (township_cells depth u) ≡ first_of x cells)
     → ((u : Township) → same_township t u ≡ false → filter (has x.tract.now) (township_cells depth u) ≡ [])
     → first_of x cells ≡ first_for x (cells_of depth x.townships.now x.tract.now)
-found_in x t cells of here elsewhere =
-    sym (found_among x (same_township t) (first_of x cells) x.townships.now (λ u.
+found_in x t cells of here elsewhere = sym (found_among x (same_township t) (first_of x cells) x.townships.now (λ u.
     cond_both (same_township t u) (first_of x cells) None (λ z. first_of x (township_cells depth u) ≡ z) (here u)
     (λ h. ap (first_for x) (elsewhere u h)))
     ∙ ap (λ (b : Bool). cond b (first_of x cells) None) of) ∙ tract_cells x
@@ -144,8 +135,7 @@ found_in x t cells of here elsewhere =
 -- a tract that is a township of the plant
 pub township_found : (x : Search) (t : Township) → x.tract.now ≡ land.Township t → is_in_plant x.townships.now x.tract.now ≡ true
     → first_for x (township_cells depth t) ≡ first_for x (cells_of depth x.townships.now x.tract.now)
-township_found x t e of =
-    ap (first_for x) (sym (kept_of_township t))
+township_found x t e of = ap (first_for x) (sym (kept_of_township t))
     ∙ ap (λ (y : Land). first_for x (filter (has y) (township_cells depth t))) (sym e)
     ∙ found_in x t (township_cells depth t) (subst (λ (y : Land). is_in_plant x.townships.now y ≡ true) e of)
     (λ u h. ap (λ (v : Township). first_of x (township_cells depth v)) (sym (same_township-is t u h)))

@@ -103,8 +103,7 @@ module _ {levels : ℕ} {ts : List Township} {ps : Estate → Plot} {lent : List
   -- what a cell of the plant has of an estate
   cell_holding : (e : Estate) (c : Cell) → is_plant_cell depth ts c ≡ true
       → holding_of e (content_of levels ts ps c) ≡ value_at (ps e) (cell_path levels ts c)
-  cell_holding e c plant =
-      ap (λ (b : Bool). holding_of e (cond b (owners_at ps (cell_path levels ts c)) opening_owners)) plant
+  cell_holding e c plant = ap (λ (b : Bool). holding_of e (cond b (owners_at ps (cell_path levels ts c)) opening_owners)) plant
       ∙ holding_at e ps (cell_path levels ts c)
 
   -- the cell at a path below a node is one of the node's
@@ -164,16 +163,14 @@ module _ {levels : ℕ} {ts : List Township} {ps : Estate → Plot} {lent : List
   tree_sheet_is : (below : ℕ) (e : Estate) (n : Node) → IsDeclared ts n
       → tree_sheet below levels ts (ps e) e n ≡ sheet_below below depth ts (content_of levels ts ps) e n
   tree_sheet_is zero e n of = ap (λ (o : Option Division). rows_or n e o []) (sym (one_holding_is e n of))
-  tree_sheet_is (suc below) e n of = λ i.
-      rows_or n e (sym (one_holding_is e n of) i)
+  tree_sheet_is (suc below) e n of = λ i. rows_or n e (sym (one_holding_is e n of) i)
       (flat_same (tree_sheet below levels ts (ps e) e) (sheet_below below depth ts (content_of levels ts ps) e) (children_of depth ts n)
       (λ m j. tree_sheet_is below e m (child_declared ts n m of j)) i)
 
   -- of a tract for one estate
   pub part_is : (land : Land) (e : Estate) → is_in_plant ts land ≡ true
       → flat_map (tree_sheet (depth + 2) levels ts (ps e) e) (cover_of depth land) ≡ estate_sheet depth ts (content_of levels ts ps) land e
-  part_is land e of =
-      flat_same (tree_sheet (depth + 2) levels ts (ps e) e) (sheet_below (depth + 2) depth ts (content_of levels ts ps) e)
+  part_is land e of = flat_same (tree_sheet (depth + 2) levels ts (ps e) e) (sheet_below (depth + 2) depth ts (content_of levels ts ps) e)
       (cover_of depth land) (λ n i. tree_sheet_is (depth + 2) e n (cover_declared ts land n of i))
 
   -- of a tract
@@ -181,15 +178,13 @@ module _ {levels : ℕ} {ts : List Township} {ps : Estate → Plot} {lent : List
       → flat_map (λ e. flat_map (tree_sheet (depth + 2) levels ts (ps e) e) (cover_of depth land)) estates
       ≡ sheet_of depth ts (content_of levels ts ps) land
   unfolding sheet_of
-  sheet_is land of =
-      flat_same (λ e. flat_map (tree_sheet (depth + 2) levels ts (ps e) e) (cover_of depth land))
+  sheet_is land of = flat_same (λ e. flat_map (tree_sheet (depth + 2) levels ts (ps e) e) (cover_of depth land))
       (λ e. estate_sheet depth ts (content_of levels ts ps) land e) estates (λ e i. part_is land e of)
 
   -- whether there is one holding in a section, by what stands there
   pub section_one : (e : Estate) (s : Section) (x : Plot) → IsOf ts s.township → x ≡ plot_at (section_path levels ts s) (ps e)
       → uniform x ≡ one_holding e (content_of levels ts ps) (node_cells depth ts (node.Part s []))
-  section_one e s x of at =
-      ap uniform (at ∙ ap (λ (p : List Quarter). plot_at p (ps e)) (sym (append-nil (section_path levels ts s))))
+  section_one e s x of at = ap uniform (at ∙ ap (λ (p : List Quarter). plot_at p (ps e)) (sym (append-nil (section_path levels ts s))))
       ∙ sym (one_holding_is e (node.Part s []) (of, omega arith))
 
 -- a test of it

@@ -58,8 +58,7 @@ fits_swapped levels (x ∷ xs) t s f h =
 fits_tidied_written : (levels : ℕ) (puts : List (List (List Quarter))) (t : Plot) → fits levels t ≡ true
     → fits levels (tidied_written puts t) ≡ true
 fits_tidied_written levels [] t f = f
-fits_tidied_written levels (ps ∷ puts) t f =
-    fits_tidied_written levels puts (tidied_all ps t) (fits_tidied_all levels ps t f)
+fits_tidied_written levels (ps ∷ puts) t f = fits_tidied_written levels puts (tidied_all ps t) (fits_tidied_all levels ps t f)
 
 -- ---- the same images and the same next number
 
@@ -110,8 +109,7 @@ out_in {l} out = subst (λ (z : List Lent). In l z) (sym out.old_is) (in_middle 
 
 -- the others were out too
 pub left_in : {n : ℕ} {l : Lent} {old new : List Lent} → IsTakenOut n l old new → (x : Lent) → In x new → In x old
-left_in {l} out x i =
-    subst (λ (z : List Lent). In x z) (sym out.old_is)
+left_in {l} out x i = subst (λ (z : List Lent). In x z) (sym out.old_is)
     (in_more x l out.before out.later (subst (λ (z : List Lent). In x z) out.new_is i))
 
 pub lendings_in : {n : ℕ} {l : Lent} {old new : List Lent} → IsTakenOut n l old new → (e : Estate) (x : Lending)

@@ -21,8 +21,7 @@ use Rattle.title_tree_store.specs.Forests as forests
 none_holds : (e : Estate) (lent : List Lent) (p : List Quarter) (now : Division) → ((x : Lent) → In x lent → lies_in e x p ≡ false)
     → held_before e lent p now ≡ now
 none_holds e [] p now h = refl
-none_holds e (x ∷ lent) p now h =
-    ap (λ (b : Bool). cond b (held (forests.pieces x.trees e) p) (held_before e lent p now)) (h x (inl refl))
+none_holds e (x ∷ lent) p now h = ap (λ (b : Bool). cond b (held (forests.pieces x.trees e) p) (held_before e lent p now)) (h x (inl refl))
     ∙ none_holds e lent p now (λ y i. h y (inr i))
 
 held_join : (e : Estate) (lent later : List Lent) (p : List Quarter) (now : Division)
@@ -76,8 +75,7 @@ module _ (levels : ℕ) (ts : List Township) where
       → ((p : List Quarter) → length p ≡ height levels → (e : Estate) → held_before e (l ∷ []) p (value_at (qs e) p) ≡ value_at (ps e) p)
       → loans_of levels ts qs (lent ++ l ∷ []) ≡ loans_of levels ts ps lent ++ loan_of levels ts qs l [] ∷ []
   loans_push ps qs [] l f = refl
-  loans_push ps qs (x ∷ lent) l f = λ i.
-      loan_same ps qs x lent (lent ++ l ∷ []) (λ c plant h e.
+  loans_push ps qs (x ∷ lent) l f = λ i. loan_same ps qs x lent (lent ++ l ∷ []) (λ c plant h e.
       held_join e (x ∷ lent) (l ∷ []) (cell_path levels ts c) (value_at (qs e) (cell_path levels ts c))
       ∙ ap (held_before e (x ∷ lent) (cell_path levels ts c)) (f (cell_path levels ts c) (length-cell_path levels ts c) e)) i
       ∷ loans_push ps qs lent l f i
@@ -136,8 +134,7 @@ module _ (levels : ℕ) (ts : List Township) where
       → ((x : Lent) → In x before → EachOf x (λ c e. was qs later c e ≡ was ps (l ∷ later) c e))
       → ((x : Lent) → In x later → EachOf x (λ c e. was qs [] c e ≡ was ps [] c e))
       → loans_of levels ts qs (before ++ later) ≡ without l.number (loans_of levels ts ps (before ++ l ∷ later))
-  loans_gone ps qs [] later l r f g =
-      loans_agree ps qs later g
+  loans_gone ps qs [] later l r f g = loans_agree ps qs later g
       ∙ sym (none_under ps l.number later (λ x i e. let h = r.0 x i in omega (arith, h, e)))
       ∙ (let same = eq-eqb l.number l.number refl in rw same refl)
   loans_gone ps qs (y ∷ before) later l r f g = elim (cases_Bool (eqb l.number y.number)) [
@@ -173,8 +170,7 @@ module _ (levels : ℕ) (ts : List Township) where
     own_backed = kept.backed l (in_middle l before later)
 
     later_apart : IsLast l.number (loans_of levels ts ps (before ++ l ∷ later)) → (x : Lent) → In x later → meets l.land x.land ≡ false
-    later_apart last x i =
-        image_apart (λ n. l.number < n) ps (before ++ l ∷ later) l.number l x last (in_middle l before later) refl
+    later_apart last x i = image_apart (λ n. l.number < n) ps (before ++ l ∷ later) l.number l x last (in_middle l before later) refl
         (in_right x before (l ∷ later) (inr i)) (more_later x l before later kept.rises i)
 
     -- no later image has a cell of the last one's tract
@@ -187,13 +183,11 @@ module _ (levels : ℕ) (ts : List Township) where
     -- a later image's cells are not the last one's
     pub later_not : IsLast l.number (loans_of levels ts ps (before ++ l ∷ later)) → (x : Lent) → In x later
         → EachOf x (λ c e. lies_in e l (cell_path levels ts c) ≡ false)
-    later_not last x i c plant h e =
-        lies_not l e c kept.room own_backed plant (λ f. never l.land x.land c (later_apart last x i) f h)
+    later_not last x i c plant h e = lies_not l e c kept.room own_backed plant (λ f. never l.land x.land c (later_apart last x i) f h)
 
     -- nor an earlier one's the first one's
     pub before_not : IsFirst l.number (loans_of levels ts ps (before ++ l ∷ later)) → (x : Lent) → In x before
         → EachOf x (λ c e. lies_in e l (cell_path levels ts c) ≡ false)
-    before_not first x i c plant h e =
-        lies_not l e c kept.room own_backed plant (λ f. never l.land x.land c
+    before_not first x i c plant h e = lies_not l e c kept.room own_backed plant (λ f. never l.land x.land c
         (image_apart (λ n. n < l.number) ps (before ++ l ∷ later) l.number l x first (in_middle l before later) refl
         (in_left x before (l ∷ later) i) (less_before x l before later kept.rises i)) f h)

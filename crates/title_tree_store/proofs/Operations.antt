@@ -31,8 +31,7 @@ opens levels ts ps h c = go (is_plant_cell depth ts c)
         (λ e. ap (λ (t : Plot). value_at t (cell_path levels ts c)) (h e))
     go false = refl
 
-tidied_written_shows : (puts : List (List (List Quarter))) (t : Plot) (p : List Quarter)
-    → value_at (tidied_written puts t) p ≡ value_at t p
+tidied_written_shows : (puts : List (List (List Quarter))) (t : Plot) (p : List Quarter) → value_at (tidied_written puts t) p ≡ value_at t p
 tidied_written_shows [] t p = refl
 tidied_written_shows (ps ∷ puts) t p = tidied_written_shows puts (tidied_all ps t) p ∙ tidied_all_shows ps t p
 
@@ -86,8 +85,7 @@ module _ (levels : ℕ) (ts : List Township) (ps qs : Estate → Plot) (before l
       (tract_short levels ts l.land mine.within q (in_spots mine e q j)))
 
   restored_loans : loans_of levels ts qs (before ++ later) ≡ without l.number (loans_of levels ts ps (before ++ l ∷ later))
-  restored_loans =
-      loans_gone levels ts ps qs before later l kept.rises
+  restored_loans = loans_gone levels ts ps qs before later l kept.rises
       (λ x i c plant h e. ap (held_before e later (cell_path levels ts c)) (restored_value c e)
       ∙ out_of (lies_in e l (cell_path levels ts c)) _ _ (held_before e later (cell_path levels ts c)) (λ f.
       none_later levels ts ps before later l next kept last c plant (lies_has levels ts l e c kept.room mine plant f) e _))
@@ -111,12 +109,10 @@ module _ (levels : ℕ) (ts : List Township) (ps qs : Estate → Plot) (before l
 
       value : (x : Cell) → is_plant_cell depth ts x ≡ true → (e : Estate) (y : Bool) → has l.land x ≡ y
           → was levels ts qs [] x e ≡ cond y (was levels ts ps (l ∷ later) x e) (was levels ts ps [] x e)
-      value x plant e true h =
-          restored_value x e
+      value x plant e true h = restored_value x e
           ∙ ap (cond (lies_in e l (cell_path levels ts x)) (held (forests.pieces l.trees e) (cell_path levels ts x)))
           (sym (none_later levels ts ps before later l next kept last x plant h e (was levels ts ps [] x e)))
-      value x plant e false h =
-          restored_value x e
+      value x plant e false h = restored_value x e
           ∙ ap (λ (b : Bool). cond b (held (forests.pieces l.trees e) (cell_path levels ts x)) (was levels ts ps [] x e))
           (lies_not levels ts l e x kept.room mine plant (both_ways (has l.land x) h))
 

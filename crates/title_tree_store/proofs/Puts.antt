@@ -74,8 +74,7 @@ of_cells ts x c i = sym (list_has_the_cells depth ts x c) ∙ listed_from (cells
 pub kept_stopped : {levels : ℕ} {ts : List Township} {old new : Estate → Plot} {lent : List Lent} {n : ℕ} (x : Land)
     (ps : List (List Quarter)) → ps ≡ tract_spots levels ts x → is_in_plant ts x ≡ true → ((e : Estate) → Refines (old e) (new e))
     → ((e : Estate) → StaysWithin ps (old e) (new e)) → IsKept levels ts old lent n → IsKept levels ts new lent n
-kept_stopped {levels} {ts} x ps ways of refines within k =
-    kept_refined refines (λ e. within e (height levels)
+kept_stopped {levels} {ts} x ps ways of refines within k = kept_refined refines (λ e. within e (height levels)
     (subst (λ (z : List (List Quarter)). Short z (height levels)) (sym ways) (tract_short levels ts x of)) (k.fit e)) k
 
 module _ {levels : ℕ} {ts : List Township} {old : Estate → Plot} {lent : List Lent} {n : ℕ} (kept : IsKept levels ts old lent n)
@@ -88,8 +87,7 @@ module _ {levels : ℕ} {ts : List Township} {old : Estate → Plot} {lent : Lis
   change e = after (holding_effect i e)
 
   short : (e : Estate) → Short (ways e) (height levels)
-  short e =
-      named_or (λ qs. Short qs (height levels)) i e (tract_spots levels ts x) (tract_short levels ts x of) (λ none p j. absurd j)
+  short e = named_or (λ qs. Short qs (height levels)) i e (tract_spots levels ts x) (tract_short levels ts x of) (λ none p j. absurd j)
 
   module _ (once : IsEachOnce ts) where
     apart : (e : Estate) → Disjoint (ways e)
@@ -109,8 +107,7 @@ module _ {levels : ℕ} {ts : List Township} {old : Estate → Plot} {lent : Lis
 
       swapped_fit : (e : Estate) → (fits (height levels) (swapped (xs e) (quartered e)) ≡ true)
           × PiecesFit (height levels) (taken (xs e) (quartered e))
-      swapped_fit e =
-          fits_swapped (height levels) (xs e) (quartered e)
+      swapped_fit e = fits_swapped (height levels) (xs e) (quartered e)
           (subst (λ (z : List (List Quarter)). Short z (height levels)) (sym (put_paths (put e)).0) (short e))
           (subst (PiecesFit (height levels)) (sym (put e).made.1) (fresh_fit (height levels) (change e) (ways e) (old e) (kept.fit e)))
           (ap (fits (height levels)) (put e).split ∙ split_all_fits (ways e) (old e) (height levels) (short e) (kept.fit e))
@@ -143,8 +140,7 @@ module _ {levels : ℕ} {ts : List Township} {old : Estate → Plot} {lent : Lis
 
       cell_none : (c : Cell) → is_cell_of depth ts x c ≡ true → (e : Estate)
           → why_of (holding_effect i e (value_at (old e) (cell_path levels ts c))) ≡ None
-      cell_none c h e =
-          named_or (λ qs. refusal_at (holding_effect i e) qs (old e) ≡ None
+      cell_none c h e = named_or (λ qs. refusal_at (holding_effect i e) qs (old e) ≡ None
           → why_of (holding_effect i e (value_at (old e) (cell_path levels ts c))) ≡ None) i e (tract_spots levels ts x)
           (λ g. let k = and_parts (has x c) (is_plant_cell depth ts c) h in
           none_refuses_at (holding_effect i e) (tract_spots levels ts x) (old e) g (cell_path levels ts c)
@@ -176,16 +172,14 @@ module _ {levels : ℕ} {ts : List Township} {old : Estate → Plot} {lent : Lis
       -- what a cell has after a put, by the paths of the estate
       put_at : (e : Estate) (p : List Quarter) → length p ≡ height levels
           → value_at (new e) p ≡ cond (pieces.has (ways e) p) (change e (value_at (old e) p)) (value_at (old e) p)
-      put_at e p long =
-          ap (λ (z : Plot). value_at z p) ((put e).exchanged ∙ ap (λ (z : List Piece). swapped z (quartered e)) (put e).made.1
+      put_at e p long = ap (λ (z : Plot). value_at z p) ((put e).exchanged ∙ ap (λ (z : List Piece). swapped z (quartered e)) (put e).made.1
           ∙ ap (swapped (fresh (change e) (ways e) (old e))) (put e).split)
           ∙ put_content (change e) (ways e) (old e) p (apart e) (subst (Short (ways e)) (sym long) (short e))
 
       -- the plant after a put
       pub put_shows : (c : Cell) → content_of levels ts new c ≡ plant_effect depth ts i (content_of levels ts old) x c
       unfolding plant_effect
-      put_shows c =
-          content_changes levels ts x old new (λ y e. change e (value_at (old e) (cell_path levels ts y))) value c
+      put_shows c = content_changes levels ts x old new (λ y e. change e (value_at (old e) (cell_path levels ts y))) value c
           ∙ cond_same (is_cell_of depth ts x c) _ _ (content_of levels ts old c)
           (λ h. sym (ap (done_or (content_of levels ts old c)) (cell_done c h)))
           ∙ sym (ap (λ (o : Option _). cond (is_some o) (content_of levels ts old c)
@@ -194,8 +188,7 @@ module _ {levels : ℕ} {ts : List Township} {old : Estate → Plot} {lent : Lis
         where
           value : (y : Cell) → is_plant_cell depth ts y ≡ true → (e : Estate) → value_at (new e) (cell_path levels ts y)
               ≡ cond (has x y) (change e (value_at (old e) (cell_path levels ts y))) (value_at (old e) (cell_path levels ts y))
-          value y plant e =
-              put_at e (cell_path levels ts y) (length-cell_path levels ts y)
+          value y plant e = put_at e (cell_path levels ts y) (length-cell_path levels ts y)
               ∙ named_value i e (tract_spots levels ts x) (cell_path levels ts y) (value_at (old e) (cell_path levels ts y))
               ∙ ap (λ (b : Bool). cond b (change e (value_at (old e) (cell_path levels ts y))) (value_at (old e) (cell_path levels ts y)))
               (tract_has levels ts kept.room x y of plant)
@@ -209,12 +202,10 @@ module _ {levels : ℕ} {ts : List Township} {old : Estate → Plot} {lent : Lis
           at = ap (λ (z : List (List Quarter)). pieces.has z p) (sym ((put_paths (put e)).1))
 
           go : (b : Bool) → lies_in e image p ≡ b → cond b (held (forests.pieces trees e) p) (value_at (new e) p) ≡ value_at (old e) p
-          go true h =
-              ap (λ (z : List Piece). held z p) ((put e).image ∙ ap (λ (z : List Piece). taken z (quartered e)) (put e).made.1
+          go true h = ap (λ (z : List Piece). held z p) ((put e).image ∙ ap (λ (z : List Piece). taken z (quartered e)) (put e).made.1
               ∙ ap (taken (fresh (change e) (ways e) (old e))) (put e).split)
               ∙ put_held (change e) (ways e) (old e) p (apart e) (subst (Short (ways e)) (sym long) (short e)) (at ∙ h)
-          go false h =
-              put_at e p long ∙ ap (λ (b : Bool). cond b (change e (value_at (old e) p)) (value_at (old e) p)) (at ∙ h)
+          go false h = put_at e p long ∙ ap (λ (b : Bool). cond b (change e (value_at (old e) p)) (value_at (old e) p)) (at ∙ h)
 
       -- the image of a put
       pub put_takes : IsTaken n ts x (content_of levels ts old) (loans_of levels ts old lent) (loans_of levels ts new (lent ++ image ∷ []))

@@ -24,8 +24,7 @@ numbered_empty next i [] k = k
 numbered_empty next zero (None ∷ xs) k = k
 numbered_empty next zero (Some x ∷ xs) k = k.1
 numbered_empty next (suc i) (None ∷ xs) k = numbered_empty next i xs k
-numbered_empty next (suc i) (Some x ∷ xs) k =
-    (ap (λ (n : ℕ). x.number + suc n) (length-set xs i None) ∙ k.0, numbered_empty next i xs k.1)
+numbered_empty next (suc i) (Some x ∷ xs) k = (ap (λ (n : ℕ). x.number + suc n) (length-set xs i None) ∙ k.0, numbered_empty next i xs k.1)
 
 -- the numbers are below the next, and not so far below it as there are slots
 pub numbered_below : (next : ℕ) (xs : List (Option Lent)) (l : Lent) → IsNumbered next xs → In l (filled xs)

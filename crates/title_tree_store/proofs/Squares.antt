@@ -85,8 +85,7 @@ module _ (levels : ℕ) (ts : List Township) (t : Plot) (e : Estate) where
       let short : depth ≤ length w = omega (arith, l) in
       ap (rows_or (node.Part s w) e (uniform (Four a b c d))) (cond-false (nat_lt (length w) depth) _ [] (le-ltb (length w) depth short))
       ∙ (λ i. rows_or (node.Part s w) e (uniform (h i)) [])
-  square_is (suc m) (Four a b c d) s w l h =
-      ap (rows_or (node.Part s w) e (uniform (Four a b c d))) (quarter_sheets m s w _ _ _ _
+  square_is (suc m) (Four a b c d) s w l h = ap (rows_or (node.Part s w) e (uniform (Four a b c d))) (quarter_sheets m s w _ _ _ _
       (square_is m a s (Northeast ∷ w) (omega (arith, l)) (square_down levels ts s w Northeast t (Four a b c d) a h refl))
       (square_is m b s (Northwest ∷ w) (omega (arith, l)) (square_down levels ts s w Northwest t (Four a b c d) b h refl))
       (square_is m c s (Southwest ∷ w) (omega (arith, l)) (square_down levels ts s w Southwest t (Four a b c d) c h refl))
@@ -95,20 +94,17 @@ module _ (levels : ℕ) (ts : List Township) (t : Plot) (e : Estate) where
 
   section_is : (m : ℕ) (x : Plot) (s : Section) → depth ≤ m → x ≡ plot_at (township_path levels ts s.township) t
       → section_sheet x e s ≡ sheet m (node.Part s [])
-  section_is m x s d h =
-      square_is m (plot_at (number_path 3 (s.number - 1)) x) s [] (omega (arith, d))
+  section_is m x s d h = square_is m (plot_at (number_path 3 (s.number - 1)) x) s [] (omega (arith, d))
       (section_down levels ts s (s.number - 1) t x (plot_at (number_path 3 (s.number - 1)) x) refl h refl)
 
   township_is : (m : ℕ) (x : Plot) (tw : Township) → depth ≤ m → x ≡ plot_at (township_path levels ts tw) t
       → township_sheet x e tw ≡ sheet (suc m) (node.Township tw)
-  township_is m x tw d h =
-      (λ i. rows_or (node.Township tw) e (uniform_under (township_path levels ts tw) blocks t x h i)
+  township_is m x tw d h = (λ i. rows_or (node.Township tw) e (uniform_under (township_path levels ts tw) blocks t x h i)
       (flat_mapped (section_sheet x e) (sheet m) (λ s. node.Part s []) (sections_of tw) (λ s j. section_is m x s d
       (subst (λ (u : Township). x ≡ plot_at (township_path levels ts u) t) (sym (sections_of-in tw s j)) h)) i))
 
   plant_is : (m : ℕ) → depth ≤ m → plant_sheet levels ts t e ≡ sheet (suc (suc m)) node.Everything
-  plant_is m d =
-      ap (rows_or node.Everything e (uniform_at (flat_map (township_spots levels ts) ts) t))
+  plant_is m d = ap (rows_or node.Everything e (uniform_at (flat_map (township_spots levels ts) ts) t))
       (flat_mapped (λ tw. township_sheet (plot_at (township_path levels ts tw) t) e tw) (sheet (suc m))
       (λ tw. node.Township tw) ts (λ tw j. township_is m (plot_at (township_path levels ts tw) t) tw d refl))
 
@@ -117,8 +113,7 @@ module _ (levels : ℕ) (ts : List Township) (t : Plot) (e : Estate) where
   cover_alone : (x : Land) (n : Node) (rest : List Node) → cover_of depth x ≡ n ∷ rest
       → ((s : Section) (w : List Quarter) → n ≡ node.Part s w → ⊥)
       → sheet (suc (suc depth)) n ≡ flat_map (sheet (depth + 2)) (cover_of depth x)
-  cover_alone x n rest h other =
-      ap (λ (m : ℕ). sheet m n) (one_more depth) ∙ sym (append-nil (sheet (depth + 2) n))
+  cover_alone x n rest h other = ap (λ (m : ℕ). sheet m n) (one_more depth) ∙ sym (append-nil (sheet (depth + 2) n))
       ∙ ap (flat_map (sheet (depth + 2))) (sym (h ∙ ap (λ (ns : List Node). n ∷ ns) (alone x n rest h other)))
 
   pub plant_cover : (x : Land) (rest : List Node) → cover_of depth x ≡ node.Everything ∷ rest
@@ -127,8 +122,7 @@ module _ (levels : ℕ) (ts : List Township) (t : Plot) (e : Estate) where
 
   pub township_cover : (x : Land) (tw : Township) (rest : List Node) (y : Plot) → cover_of depth x ≡ node.Township tw ∷ rest
       → y ≡ plot_at (township_path levels ts tw) t → township_sheet y e tw ≡ flat_map (sheet (depth + 2)) (cover_of depth x)
-  township_cover x tw rest y h k =
-      township_is (suc depth) y tw (omega arith) k ∙ cover_alone x (node.Township tw) rest h (λ s w other. cc)
+  township_cover x tw rest y h k = township_is (suc depth) y tw (omega arith) k ∙ cover_alone x (node.Township tw) rest h (λ s w other. cc)
 
   pub parts_cover : (x : Land) (s : Section) (w : List Quarter) (rest : List Node) (y : Plot) → cover_of depth x ≡ node.Part s w ∷ rest
       → y ≡ plot_at (section_path levels ts s) t
@@ -141,8 +135,7 @@ module _ (levels : ℕ) (ts : List Township) (t : Plot) (e : Estate) where
 pub square_from_inside : (levels : ℕ) (ts : List Township) (s : Section) (w root a b c : List Quarter) (i k : ℕ)
     → i ≡ index_of ts s.township → k ≡ s.number - 1 → root ≡ [] → a ≡ way w ++ root → b ≡ number_path 3 k ++ a
     → c ≡ number_path levels i ++ b → c ≡ square_path levels ts s w
-square_from_inside levels ts s w root a b c i k at number none first second third =
-    third
+square_from_inside levels ts s w root a b c i k at number none first second third = third
     ∙ ap (λ (p : List Quarter). number_path levels i ++ p) (second ∙ ap (λ (p : List Quarter). number_path 3 k ++ p)
     (first ∙ ap (λ (p : List Quarter). way w ++ p) none ∙ append-nil (way w)))
     ∙ sym (append_assoc (number_path levels i) (number_path 3 k) (way w))

@@ -45,8 +45,7 @@ number_down levels less n q t x y e f h k =
 
 path_down : (levels : ℕ) (ts : List Township) (s : Section) (w : List Quarter) (q : Quarter)
     → square_path levels ts s w ++ q ∷ [] ≡ square_path levels ts s (q ∷ w)
-path_down levels ts s w q =
-    append_assoc (section_path levels ts s) (way w) (q ∷ [])
+path_down levels ts s w q = append_assoc (section_path levels ts s) (way w) (q ∷ [])
     ∙ ap (λ (z : List Quarter). section_path levels ts s ++ z) (sym (reverse-append (q ∷ []) w))
 
 pub square_down : (levels : ℕ) (ts : List Township) (s : Section) (w : List Quarter) (q : Quarter) (t x y : Plot)
@@ -65,8 +64,7 @@ stands_down x s w v q t u h same k =
 pub section_down : (levels : ℕ) (ts : List Township) (s : Section) (m : ℕ) (t x y : Plot) → m ≡ s.number - 1
     → x ≡ plot_at (township_path levels ts s.township) t → y ≡ plot_at (number_path 3 m) x
     → y ≡ plot_at (square_path levels ts s []) t
-section_down levels ts s m t x y e h k =
-    join_down (township_path levels ts s.township) (number_path 3 (s.number - 1)) t x y h
+section_down levels ts s m t x y e h k = join_down (township_path levels ts s.township) (number_path 3 (s.number - 1)) t x y h
     (k ∙ ap (λ (o : ℕ). plot_at (number_path 3 o) x) e)
     ∙ ap (λ (p : List Quarter). plot_at p t) (sym (append-nil (section_path levels ts s)))
 
@@ -120,8 +118,7 @@ settled_alike i e (Four a b c d) p h =
 
 alike_below : (i : Instrument ℕ) (e : Estate) (p c : List Quarter) (t x : Plot) → begins p c ≡ true → x ≡ plot_at p t
     → is_settled i e x ≡ true → why_of (holding_effect i e (value_at t c)) ≡ why_of (holding_effect i e (value_at x []))
-alike_below i e p c t x h same settled =
-    ap (λ (v : Division). why_of (holding_effect i e v))
+alike_below i e p c t x h same settled = ap (λ (v : Division). why_of (holding_effect i e v))
     (sym (value_plot_at p t c h) ∙ ap (λ (y : Plot). value_at y (rest p c)) (sym same))
     ∙ settled_alike i e x (rest p c) settled
 
@@ -191,8 +188,7 @@ first_alike : (i : Instrument ℕ) (plant : Plant) (cells : List Cell) (o : Opti
     → ((c : Cell) → In c cells → why_cell (cell_effect i (plant c)) ≡ o)
     → refused_at o (first_cell_of cells) ≡ triple (first_failing i plant cells)
 first_alike i plant [] o f = nowhere o
-first_alike i plant (c ∷ cells) o f =
-    one c (cell_effect i (plant c)) o (first_cell_of cells) (first_failing i plant cells) (f c (inl refl))
+first_alike i plant (c ∷ cells) o f = one c (cell_effect i (plant c)) o (first_cell_of cells) (first_failing i plant cells) (f c (inl refl))
     (first_alike i plant cells o (λ z j. f z (inr j)))
 
 -- what refuses in a square whose cells are treated alike

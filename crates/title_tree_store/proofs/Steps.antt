@@ -45,8 +45,7 @@ named_or P i e ps whole none = cond_both (names (estates_of i) e) ps [] P (λ h.
 
 pub put_noted : (i : Instrument ℕ) (old between new : List Written) (w : Written) → between ≡ old → new ≡ between ++ w ∷ [] → w.estates
     ≡ estates_of i → (e : Estate) → map (put_ways e) new ≡ map (put_ways e) old ++ named_spots i e (paths_in w.paths) ∷ []
-put_noted i old between new w same h named e =
-    ap (map (put_ways e)) h ∙ map-append (put_ways e) between (w ∷ [])
+put_noted i old between new w same h named e = ap (map (put_ways e)) h ∙ map-append (put_ways e) between (w ∷ [])
     ∙ (λ j. map (put_ways e) (same j) ++ cond (names (named j) e) (paths_in w.paths) [] ∷ [])
 
 -- what is apart from all lists of paths and from one more

@@ -12,9 +12,7 @@ use Rattle.title_tree_store.specs.Spots.{blocks, township_path, township_spots}
 -- the sheet of a square of a section by what stands there: its rows where its leaves have one holding, else its quarters' sheets
 abbrev pub square_sheet : Plot → Estate → Section → List Quarter → List SheetRow
 square_sheet (Same held) e s w = holding_rows (node.Part s w) e held
-square_sheet (Four a b c d) e s w =
-    rows_or (node.Part s w) e (uniform (Four a b c d))
-    (cond (nat_lt (length w) depth)
+square_sheet (Four a b c d) e s w = rows_or (node.Part s w) e (uniform (Four a b c d)) (cond (nat_lt (length w) depth)
     (square_sheet a e s (Northeast ∷ w) ++ square_sheet b e s (Northwest ∷ w) ++ square_sheet c e s (Southwest ∷ w)
     ++ square_sheet d e s (Southeast ∷ w)) [])
 
@@ -30,11 +28,9 @@ section_sheet t e s = square_sheet (plot_at (number_path 3 (s.number - 1)) t) e 
 
 -- the sheet of a township by what stands there
 abbrev pub township_sheet : Plot → Estate → Township → List SheetRow
-township_sheet t e tw =
-    rows_or (node.Township tw) e (uniform_at blocks t) (flat_map (section_sheet t e) (sections_of tw))
+township_sheet t e tw = rows_or (node.Township tw) e (uniform_at blocks t) (flat_map (section_sheet t e) (sections_of tw))
 
 -- the sheet of the whole plant
 abbrev pub plant_sheet : ℕ → List Township → Plot → Estate → List SheetRow
-plant_sheet levels ts t e =
-    rows_or node.Everything e (uniform_at (flat_map (township_spots levels ts) ts) t)
+plant_sheet levels ts t e = rows_or node.Everything e (uniform_at (flat_map (township_spots levels ts) ts) t)
     (flat_map (λ tw. township_sheet (plot_at (township_path levels ts tw) t) e tw) ts)

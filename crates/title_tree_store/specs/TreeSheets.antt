@@ -9,6 +9,5 @@ use Rattle.title_tree_store.specs.Spots.{spots}
 -- the sheet of a node with so many levels of nodes below it: its rows where its leaves have one holding, else its children's sheets
 abbrev pub tree_sheet : ℕ → ℕ → List Township → Plot → Estate → Node → List SheetRow
 tree_sheet zero levels ts t e node = rows_or node e (uniform_at (spots levels ts node) t) []
-tree_sheet (suc below) levels ts t e node =
-    rows_or node e (uniform_at (spots levels ts node) t)
+tree_sheet (suc below) levels ts t e node = rows_or node e (uniform_at (spots levels ts node) t)
     (flat_map (tree_sheet below levels ts t e) (children_of depth ts node))

@@ -21,22 +21,19 @@ answer_same depth townships p q listed other (ask.Chain t) h e = ap answer.Entri
 answer_same depth townships p q listed other (ask.Post x) h e = ap post_answer (refused_same depth townships x.instrument x.tract p q h)
 
 -- the answer to a sheet is the sheet of the plant
-pub answer_sheet :
-    (depth : ℕ) (townships : List Township) (p : Plant) (listed : List Entry) (t : Land) →
+pub answer_sheet : (depth : ℕ) (townships : List Township) (p : Plant) (listed : List Entry) (t : Land) →
     answer_to depth townships p listed (ask.Sheet t) ≡ answer.Rows (sheet_of depth townships p t)
 unfolding answer_to
 answer_sheet depth townships p listed t = refl
 
 -- the answer to a chain is the chain
-pub answer_chain :
-    (depth : ℕ) (townships : List Township) (p : Plant) (listed : List Entry) (t : Land) →
+pub answer_chain : (depth : ℕ) (townships : List Township) (p : Plant) (listed : List Entry) (t : Land) →
     answer_to depth townships p listed (ask.Chain t) ≡ answer.Entries listed
 unfolding answer_to
 answer_chain depth townships p listed t = refl
 
 -- the answer to a post says whether it is refused
-pub answer_post :
-    (depth : ℕ) (townships : List Township) (p : Plant) (listed : List Entry) (x : Posting) →
+pub answer_post : (depth : ℕ) (townships : List Township) (p : Plant) (listed : List Entry) (x : Posting) →
     answer_to depth townships p listed (ask.Post x) ≡ post_answer (refused_in depth townships x.instrument p x.tract)
 unfolding answer_to
 answer_post depth townships p listed x = refl
@@ -48,8 +45,7 @@ effect_same depth townships p q (ask.Post x) c h e = store.effect_same depth tow
 effect_same depth townships p q a c h e = e
 
 -- the effect of a post
-pub effect_post :
-    (depth : ℕ) (townships : List Township) (p : Plant) (x : Posting) →
+pub effect_post : (depth : ℕ) (townships : List Township) (p : Plant) (x : Posting) →
     effect depth townships p (ask.Post x) ≡ plant_effect depth townships x.instrument p x.tract
 unfolding effect
 effect_post depth townships p x = refl
@@ -73,8 +69,7 @@ effect_refused depth townships plant p r c h = store.effect_refused depth townsh
 
 -- overlap is symmetric
 pub overlap_symmetric : OverlapSymmetric
-overlap_symmetric a b =
-    ap (λ m. (is_post a || is_post b) && m) (meets_either_way (tract_of a) (tract_of b))
+overlap_symmetric a b = ap (λ m. (is_post a || is_post b) && m) (meets_either_way (tract_of a) (tract_of b))
     ∙ ap (λ o. o && meets (tract_of b) (tract_of a)) (or_comm (is_post a) (is_post b))
 
 -- a post that doesn't overlap an ask shares no cell with its tract
@@ -82,15 +77,13 @@ pub post_apart : (a : Ask) (x : Posting) → overlap a (ask.Post x) ≡ false �
 post_apart a x n = false_from_ne_true _ (λ k. both_ways _ n (and_from _ _ (or_right (is_post a) true refl) k))
 
 -- tracts that share a cell of the plant meet
-pub cell_meets :
-    (depth : ℕ) (townships : List Township) (a b : Land) (c : Cell) →
+pub cell_meets : (depth : ℕ) (townships : List Township) (a b : Land) (c : Cell) →
     is_cell_of depth townships a c ≡ true → is_cell_of depth townships b c ≡ true → meets a b ≡ true
 cell_meets depth townships a b c h k = common_meets a b c (and_parts _ _ h).0 (and_parts _ _ k).0
 
 -- an ask leaves each cell of the tract of an ask that it doesn't overlap
 pub effect_past : EffectPast
-effect_past depth townships p a (ask.Post x) c n h =
-    effect_outside depth townships p (ask.Post x) c
+effect_past depth townships p a (ask.Post x) c n h = effect_outside depth townships p (ask.Post x) c
     (false_from_ne_true _ (λ k. both_ways _ (post_apart a x n) (cell_meets depth townships (tract_of a) x.tract c h k)))
 effect_past depth townships p a b c n h = effect_read depth townships p b c refl
 

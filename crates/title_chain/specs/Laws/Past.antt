@@ -12,8 +12,7 @@ pub clear_nothing : (own : List Step) → Clear own []
 clear_nothing [] = tt
 clear_nothing (s ∷ earlier) = (clear_nothing earlier, refl)
 
-pub clear_later :
-    (own theirs : List Step) (s : Step) → Clear own theirs → overlaps s.ask own ≡ false → Clear own (s ∷ theirs)
+pub clear_later : (own theirs : List Step) (s : Step) → Clear own theirs → overlaps s.ask own ≡ false → Clear own (s ∷ theirs)
 clear_later [] theirs s h n = tt
 clear_later (o ∷ earlier) theirs s h n =
     let parts = or_parts (overlap s.ask o.ask) (overlaps s.ask earlier) n in (
@@ -22,8 +21,7 @@ clear_later (o ∷ earlier) theirs s h n =
     )
 
 -- the steps leave the tract of an ask that none of them overlaps
-pub steps_past :
-    (depth : ℕ) (townships : List Township) (p : Plant) (own : List Step) (a : Ask) →
+pub steps_past : (depth : ℕ) (townships : List Township) (p : Plant) (own : List Step) (a : Ask) →
     overlaps a own ≡ false → SameIn depth townships (tract_of a) (after_steps depth townships p own) p
 steps_past depth townships p [] a n c h = refl
 steps_past depth townships p (o ∷ earlier) a n c h =
@@ -32,8 +30,7 @@ steps_past depth townships p (o ∷ earlier) a n c h =
     ∙ steps_past depth townships p earlier a parts.1 c h
 
 -- and they give its chain no entry
-pub entries_past :
-    (place : ℕ) (own : List Step) (a : Ask) → overlaps a own ≡ false → step_entries place (tract_of a) own ≡ []
+pub entries_past : (place : ℕ) (own : List Step) (a : Ask) → overlaps a own ≡ false → step_entries place (tract_of a) own ≡ []
 entries_past place [] a n = refl
 entries_past place (o ∷ earlier) a n =
     let parts = or_parts (overlap a o.ask) (overlaps a earlier) n in
@@ -46,15 +43,13 @@ abbrev pub SameAt : ℕ → List Township → List Step → Plant → Plant → 
 SameAt depth townships [] p q = Unit {0}
 SameAt depth townships (s ∷ earlier) p q = SameAt depth townships earlier p q × SameIn depth townships (tract_of s.ask) p q
 
-pub clear_same :
-    (depth : ℕ) (townships : List Township) (p : Plant) (own theirs : List Step) →
+pub clear_same : (depth : ℕ) (townships : List Township) (p : Plant) (own theirs : List Step) →
     Clear theirs own → SameAt depth townships theirs (after_steps depth townships p own) p
 clear_same depth townships p own [] h = tt
 clear_same depth townships p own (s ∷ earlier) h =
     (clear_same depth townships p own earlier h.0, steps_past depth townships p own s.ask h.1)
 
-pub steps_same :
-    (depth : ℕ) (townships : List Township) (p q : Plant) (own : List Step) →
+pub steps_same : (depth : ℕ) (townships : List Township) (p q : Plant) (own : List Step) →
     SameAt depth townships own p q → (c : Cell) → p c ≡ q c →
     after_steps depth townships p own c ≡ after_steps depth townships q own c
 steps_same depth townships p q [] h c e = e
@@ -64,9 +59,7 @@ steps_same depth townships p q (s ∷ earlier) h c e =
     (steps_same depth townships p q earlier h.0 c e)
 
 -- what a transaction's steps are answered is the same after one more record which none of them overlaps
-pub plays_past :
-    (depth : ℕ) (townships : List Township)
-    (records : List Record) (e : ℕ) (own theirs : List Step) → Clear theirs own →
+pub plays_past : (depth : ℕ) (townships : List Township) (records : List Record) (e : ℕ) (own theirs : List Step) → Clear theirs own →
     Plays depth townships records theirs → Plays depth townships (record_of e own ∷ records) theirs
 plays_past depth townships records e own [] clear plays = tt
 plays_past depth townships records e own (s ∷ earlier) clear plays =

@@ -16,14 +16,12 @@ pub same_plant : (p q : Plant) → SameContent p q → q ≡ p
 same_plant p q h = fun_ext h
 
 -- a post has the effect of its ask
-pub post_done :
-    (depth : ℕ) (townships : List Township) (p q : Plant) (a : Ask) (x : Posting) → a ≡ ask.Post x →
+pub post_done : (depth : ℕ) (townships : List Township) (p q : Plant) (a : Ask) (x : Posting) → a ≡ ask.Post x →
     SameContent (plant_effect depth townships x.instrument p x.tract) q → SameContent (effect depth townships p a) q
 post_done depth townships p q a x e h c = rw (e, effect_post depth townships p x) (h c)
 
 -- one more element of a list, the newest first
-one_more :
-    {A : Type 0} (xs : List A) (k : ℕ) (x : A) → k < length xs → x ≡ get_or xs k x →
+one_more : {A : Type 0} (xs : List A) (k : ℕ) (x : A) → k < length xs → x ≡ get_or xs k x →
     reverse (take (k + 1) xs) ≡ x ∷ reverse (take k xs)
 one_more xs k x h e =
     ap reverse (take_more xs k x h) ∙ reverse-append (take k xs) (get_or xs k x ∷ []) ∙ ap (λ y. y ∷ reverse (take k xs)) (sym e)
@@ -31,8 +29,7 @@ one_more xs k x h e =
 -- what holds of a list, the newest first, and of what stood there before each element, holds up to an element
 up_to : {A : Type 0} (P : List A → Type 0) → ((x : A) (xs : List A) → P (x ∷ xs) → P xs) → (xs : List A) (k : ℕ) (x : A) →
     k < length xs → x ≡ get_or xs k x → P (reverse xs) → P (x ∷ reverse (take k xs))
-up_to {A} P earlier xs k x h e all =
-    subst P (one_more xs k x h e) (later (reverse (drop (k + 1) xs))
+up_to {A} P earlier xs k x h e all = subst P (one_more xs k x h e) (later (reverse (drop (k + 1) xs))
     (subst P (ap reverse (sym (take-append-drop (k + 1) xs)) ∙ reverse-append (take (k + 1) xs) (drop (k + 1) xs)) all))
   where
     later : (ys : List A) → P (ys ++ reverse (take (k + 1) xs)) → P (reverse (take (k + 1) xs))
@@ -40,8 +37,7 @@ up_to {A} P earlier xs k x h e all =
     later (y ∷ ys) p = later ys (earlier y (ys ++ reverse (take (k + 1) xs)) p)
 
 -- what can be replayed can be so step by step
-pub can_replay :
-    (depth : ℕ) (declared townships : List Township) (start p : Plant) (steps : List Step) (k : ℕ) (x : Step) →
+pub can_replay : (depth : ℕ) (declared townships : List Township) (start p : Plant) (steps : List Step) (k : ℕ) (x : Step) →
     k < length steps → x ≡ get_or steps k x → declared ≡ townships →
     SameContent (after_steps depth townships start (reverse (take k steps))) p →
     Replays depth townships start (reverse steps) → CanReplay depth declared p x
@@ -51,8 +47,7 @@ can_replay depth declared townships start p steps k x h e d same replays =
     (subst (λ (q : Plant). CanReplay depth townships q x) (sym (same_plant _ p same)) some.1)
 
 -- one more step
-pub step_content :
-    (depth : ℕ) (declared townships : List Township) (start p q : Plant) (steps : List Step) (k : ℕ) (x : Step) →
+pub step_content : (depth : ℕ) (declared townships : List Township) (start p q : Plant) (steps : List Step) (k : ℕ) (x : Step) →
     k < length steps → x ≡ get_or steps k x → declared ≡ townships →
     SameContent (after_steps depth townships start (reverse (take k steps))) p →
     SameContent (effect depth declared p x.ask) q →
@@ -63,8 +58,7 @@ step_content depth declared townships start p q steps k x h e d same next =
     (subst (λ (ts : List Township). SameContent (effect depth ts p x.ask) q) d next))
 
 -- an answer that an ask gets says whether it changes anything
-idle :
-    (depth : ℕ) (townships : List Township) (p : Plant) (listed : List Entry) (a : Ask) (given : Answer) →
+idle : (depth : ℕ) (townships : List Township) (p : Plant) (listed : List Entry) (a : Ask) (given : Answer) →
     given ≡ answer_to depth townships p listed a → was_posted a given ≡ false → SameContent p (effect depth townships p a)
 idle depth townships p listed (ask.Post x) given e n = go (refused_in depth townships x.instrument p x.tract) refl
   where
@@ -77,8 +71,7 @@ idle depth townships p listed (ask.Post x) given e n = go (refused_in depth town
 idle depth townships p listed a given e n = λ c. effect_read depth townships p a c refl
 
 -- steps with the answers that they get alone can be replayed
-plays_replays :
-    (depth : ℕ) (townships : List Township) (records : List Record) (own : List Step) →
+plays_replays : (depth : ℕ) (townships : List Township) (records : List Record) (own : List Step) →
     Plays depth townships records own → Replays depth townships (plant_after depth townships records) own
 plays_replays depth townships records [] h = tt
 plays_replays depth townships records (s ∷ earlier) h = (
@@ -87,8 +80,7 @@ plays_replays depth townships records (s ∷ earlier) h = (
 )
 
 -- serial records can be replayed record by record
-pub can_replay_record :
-    (depth : ℕ) (declared townships : List Township) (p : Plant) (records : List Record) (k : ℕ) (x : Record) →
+pub can_replay_record : (depth : ℕ) (declared townships : List Township) (p : Plant) (records : List Record) (k : ℕ) (x : Record) →
     k < length records → x ≡ get_or records k x → declared ≡ townships →
     SameContent (plant_after depth townships (reverse (take k records))) p →
     IsSerial depth townships (reverse records) → Replays depth declared p (reverse x.steps)
@@ -99,8 +91,7 @@ can_replay_record depth declared townships p records k x h e d same serial =
     (plays_replays depth townships (reverse (take k records)) (reverse x.steps) some.1))
 
 -- one more record
-pub record_content :
-    (depth : ℕ) (declared townships : List Township) (p q : Plant) (records : List Record) (k : ℕ) (x : Record) →
+pub record_content : (depth : ℕ) (declared townships : List Township) (p q : Plant) (records : List Record) (k : ℕ) (x : Record) →
     k < length records → x ≡ get_or records k x → declared ≡ townships →
     SameContent (plant_after depth townships (reverse (take k records))) p →
     SameContent (after_steps depth declared p (reverse x.steps)) q →

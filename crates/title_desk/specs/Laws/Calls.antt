@@ -9,7 +9,6 @@ pub added : (old new : Books) (q : Request) (r : Reply) → r ≢ reply.Memory �
 added old new q reply.Memory other told = absurd (other refl)
 added old new q _ other told = told
 
-pub added_single : (old new : Books) (e : ℕ) (a : Ask) (r : Reply) → r ≢ reply.Memory → ToldSingle old e a r new
-    → AddedSingle old e a r new
+pub added_single : (old new : Books) (e : ℕ) (a : Ask) (r : Reply) → r ≢ reply.Memory → ToldSingle old e a r new → AddedSingle old e a r new
 added_single old new e a reply.Memory other told = absurd (other refl)
 added_single old new e a _ other told = told

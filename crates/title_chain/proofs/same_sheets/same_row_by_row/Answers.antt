@@ -4,8 +4,7 @@ use Rattle.std.proofs.lemmas.{List.{same_lists}, Option.{unwrap_or-slice_get}}
 use Rattle.title_chain.proofs.same_sheets.same_row_by_row.Goals as goal
 
 pub loop-index-preserved : goal.loop-index-preserved
-loop-index-preserved c =
-    below_more (λ k. slice_get c.args.a.now k ≡ slice_get c.args.b.now k) c.loop-index.index c.loop-index.invariant
+loop-index-preserved c = below_more (λ k. slice_get c.args.a.now k ≡ slice_get c.args.b.now k) c.loop-index.index c.loop-index.invariant
     (c.if-not-same_at.ensures.same.0 refl)
 
 pub returns : goal.returns

@@ -6,6 +6,5 @@ use Rattle.title_tree_store.specs.SquareSheets.{section_sheet}
 use Rattle.title_tree_store.proofs.sheets.add_township.Given as goal
 
 abbrev pub invariant-loop-section : goal.invariant-loop-section
-invariant-loop-section l =
-    l.rows.items ++ flat_map (section_sheet (plot l.tree) l.estate) l.section-iterator
+invariant-loop-section l = l.rows.items ++ flat_map (section_sheet (plot l.tree) l.estate) l.section-iterator
     ≡ l.fn.rows.items ++ flat_map (section_sheet (plot l.tree) l.estate) (sections_of l.fn.township)

@@ -10,8 +10,7 @@ on_ok_both (Ok x) f p q = f p q
 on_ok_both (Err e) f p q = tt
 
 pub returns-clause-filed : goal.returns-clause-filed
-returns-clause-filed c =
-    on_ok_both c.file_cover.result
+returns-clause-filed c = on_ok_both c.file_cover.result
     (step_filed depth c.args.self.now c.file_cover.new.self c.args.spot c.args.step.now.ask c.args.step.now.answer c.terms.result.now
     c.cover.result.now (c.in-Post-Posted.is-0 ∙ ap Post (sym c.terms.ensures.terms)) c.in-Post-Posted.is-1 c.cover.ensures.cover
     c.cover.ensures.sized)

@@ -5,8 +5,7 @@ use Rattle.title_chain.{specs.{declared.spot.Spot.{Spot}, PostSpots.{is_listed},
 use Rattle.title_chain.proofs.filing.found.find_above.Given as goal
 
 abbrev pub invariant-loop-reached : goal.invariant-loop-reached
-invariant-loop-reached l =
-    (c : Node) → l.number ≡ node_number c → IsClimbedTo {X = Spot} (λ p a. is_listed p (spots_under l.filing.at a))
+invariant-loop-reached l = (c : Node) → l.number ≡ node_number c → IsClimbedTo {X = Spot} (λ p a. is_listed p (spots_under l.filing.at a))
     (λ p. is_listed p l.fn.found.items) (λ p. is_listed p l.found.items) c l.reached
 
 abbrev pub decreases-loop-reached : goal.decreases-loop-reached

@@ -13,8 +13,7 @@ pub moved-self-inside-requires-clause-fits : goal.moved-self-inside-requires-cla
 moved-self-inside-requires-clause-fits c = counted_fits c.self.inside.counts c.self.inside.slots c.self.invariant
 
 pub invariant_of-self : goal.invariant_of-self
-invariant_of-self c =
-    counted_moved c.self.inside.counts c.moved-self-inside.result c.self.inside.slots c.raise-had.new.self c.args.examiner
+invariant_of-self c = counted_moved c.self.inside.counts c.moved-self-inside.result c.self.inside.slots c.raise-had.new.self c.args.examiner
     c.raise-had.result c.bound-raised.result c.ranges.examiner.fits c.self.invariant
     c.raise-had.ensures.had
     c.moved-self-inside.ensures.moved

@@ -7,8 +7,7 @@ use Rattle.title_lock.proofs.row_locks.RowLocks.counts.Goals as goal
 
 counted : (c : goal.After-counted-counts) → (m : Mode)
     → IsCount (λ f. mode_at depth c.args.self.now.entries f c.args.node.now) m (count_in c.counted-counts.result m)
-counted c m =
-    subst (λ (es : List Entry). IsCount (λ f. mode_at depth es f c.args.node.now) m (count_in c.counted-counts.result m))
+counted c m = subst (λ (es : List Entry). IsCount (λ f. mode_at depth es f c.args.node.now) m (count_in c.counted-counts.result m))
     (ap (λ (rows : List Entry). reverse rows) c.deref.ensures.value ∙ ap (λ (l : Locks). l.entries) c.self.view_is)
     (c.counted-counts.ensures.counted m)
 

@@ -74,8 +74,7 @@ returns-in_err-make_room-clause-used c used = record {
 
 pub returns-in_err-insert-clause-used : goal.returns-in_err-insert-clause-used
 returns-in_err-insert-clause-used c used = record {
-  each = λ n.
-      ap (λ (es : List (ℕ × Modes)). unused_in (lookup (is_at (nat_cmp (node_number n))) es))
+  each = λ n. ap (λ (es : List (ℕ × Modes)). unused_in (lookup (is_at (nat_cmp (node_number n))) es))
       (c.in_err-insert.ensures.err ∙ ap (λ (m : NodeMap). m.entries) c.get_mut.follows.holds-at-none)
       ∙ used.each n;
 }
@@ -87,7 +86,6 @@ returns-in_err-make_room-clause-homes c homes = record {
 
 pub returns-in_err-insert-clause-homes : goal.returns-in_err-insert-clause-homes
 returns-in_err-insert-clause-homes c homes = record {
-  each = λ q has. homes.each q
-      (sym (ap (λ (es : List (ℕ × Modes)). is_some (lookup (is_at (nat_cmp q)) es))
+  each = λ q has. homes.each q (sym (ap (λ (es : List (ℕ × Modes)). is_some (lookup (is_at (nat_cmp q)) es))
       (c.in_err-insert.ensures.err ∙ ap (λ (m : NodeMap). m.entries) c.get_mut.follows.holds-at-none)) ∙ has);
 }

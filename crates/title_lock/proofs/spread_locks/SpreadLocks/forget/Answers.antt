@@ -39,13 +39,11 @@ returns-in-Some-take-clause-stays c =
     ∙ ap (λ (p : Option ℕ). granted p book) (sym c.in-Some.is) ∙ ap (λ (l : Locks). l.entries) c.self.view_is
 
 pub invariant_of-self-in_default-take : goal.invariant_of-self-in_default-take
-invariant_of-self-in_default-take c =
-    absurd (prepared_some depth c.in-Some.examiner c.self.inside.book c.self.inside.table
+invariant_of-self-in_default-take c = absurd (prepared_some depth c.in-Some.examiner c.self.inside.book c.self.inside.table
     (subst (λ (p : Option ℕ). AreKept depth p c.self.inside.book c.self.inside.table) c.in-Some.is c.self.invariant.kept)
     c.in_default-take.ensures.none.1)
 
 pub returns-in_default-take-clause-stays : goal.returns-in_default-take-clause-stays
-returns-in_default-take-clause-stays c =
-    absurd (prepared_some depth c.in-Some.examiner c.self.inside.book c.self.inside.table
+returns-in_default-take-clause-stays c = absurd (prepared_some depth c.in-Some.examiner c.self.inside.book c.self.inside.table
     (subst (λ (p : Option ℕ). AreKept depth p c.self.inside.book c.self.inside.table) c.in-Some.is c.self.invariant.kept)
     c.in_default-take.ensures.none.1)

@@ -39,8 +39,7 @@ returns-in-None c =
       room = on_ok_weaker along.result (room_of_home u None e l stand) made.room;
       used = lift_tidy t u None one (λ tidy. record {
         used = made.used tidy.used;
-        home = home_kept None (home_of c.args.climb.now.spot.is.node) t.upper along.new.self c.in-None.ensures.home made.homes
-            tidy.home;
+        home = home_kept None (home_of c.args.climb.now.spot.is.node) t.upper along.new.self c.in-None.ensures.home made.homes tidy.home;
         stocked = tt;
       });
     }

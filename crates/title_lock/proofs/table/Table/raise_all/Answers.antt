@@ -47,8 +47,7 @@ returns c =
     let u = on_all c.loop-climb.self in
     let all = c.loop-climb.invariant.does u (raised_last u e p (walk_left c.loop-climb.walk) c.in_default.ensures.next) in
     record {
-      modes = λ f n. all.modes f n
-          ∙ ap (λ (z : Option Mode). bound (table_mode t f n) (cond (eqb f e) z None)) (walk_asked p cover n);
+      modes = λ f n. all.modes f n ∙ ap (λ (z : Option Mode). bound (table_mode t f n) (cond (eqb f e) z None)) (walk_asked p cover n);
       idle = less_is t u e (asks_in (walk None cover)) (λ n. list_any (is_asked n) cover) (walk_asks_in cover) all.idle;
       used = c.loop-climb.invariant.used;
     }

@@ -25,8 +25,7 @@ returns-in-Some-clause-stocked c =
     (room_stocked e w k (c.raise_along.ensures.raised.stays e k (room k (asks_own c.args.climb.now))))
 
 pub returns-in_default-clause-raised : goal.returns-in_default-clause-raised
-returns-in_default-clause-raised c =
-    absurd (no_room c.args.examiner c.args.climb.now
+returns-in_default-clause-raised c = absurd (no_room c.args.examiner c.args.climb.now
     (subst (λ (o : Option Shelf). HasRoom (on_some o) c.args.examiner (asks_in (climb_asks c.args.climb.now)))
     (sym c.in_default.ensures.value)
     c.requires.room))

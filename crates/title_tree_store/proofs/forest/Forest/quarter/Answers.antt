@@ -16,8 +16,7 @@ returns-clause-within c = record {
 -- the paths are kept behind those that were
 noted : (c : goal.After-push_reserved) (e : Estate) → map (put_ways e) c.push_reserved.new.self.items
     ≡ written e c.args.self.now ++ named_spots c.args.instrument.now e (paths_in c.args.paths) ∷ []
-noted c =
-    put_noted c.args.instrument.now c.args.self.now.written.items c.split_each-quartered.new.self.written.items
+noted c = put_noted c.args.instrument.now c.args.self.now.written.items c.split_each-quartered.new.self.written.items
     c.push_reserved.new.self.items record { paths = c.args.paths; estates = c.estates-estates.result }
     (ap (λ (puts : Vec Written). puts.items) c.split_each-quartered.ensures.written ∙ c.reserve.ensures.items)
     c.push_reserved.ensures.items c.estates-estates.ensures.estates

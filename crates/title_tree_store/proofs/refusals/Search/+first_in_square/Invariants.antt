@@ -8,7 +8,6 @@ abbrev pub decreases-first_in_square : goal.decreases-first_in_square
 decreases-first_in_square l = l.below
 
 abbrev pub invariant-loop-which : goal.invariant-loop-which
-invariant-loop-which l =
-    (0 < l.below)
+invariant-loop-which l = (0 < l.below)
     × (first_for l.self (flat_map (λ q. cells_below depth l.section (l.below - 1) (q ∷ l.within)) quarters)
     ≡ first_for l.self (flat_map (λ q. cells_below depth l.section (l.below - 1) (q ∷ l.within)) (drop l.which-index l.which-items)))

@@ -5,8 +5,7 @@ use Rattle.title_tree_store.proofs.Standing.{stands_down}
 use Rattle.title_tree_store.proofs.refusals.Search.+square_trees.Goals as goal
 
 pub square_trees-below-requires : goal.square_trees-below-requires
-square_trees-below-requires t c =
-    (omega (arith, c.decreases, ap (λ (w : List Quarter). length w) c.in-Some.ensures.split), c.requires.here)
+square_trees-below-requires t c = (omega (arith, c.decreases, ap (λ (w : List Quarter). length w) c.in-Some.ensures.split), c.requires.here)
 
 pub returns-clause-stands : goal.returns-clause-stands
 returns-clause-stands t c =

@@ -14,8 +14,7 @@ returns-then-is_some c =
     }
 
 pub loop-node-preserved : goal.loop-node-preserved
-loop-node-preserved c =
-    c.loop-node.invariant
+loop-node-preserved c = c.loop-node.invariant
     ∙ next_later (first_for c.args.self.now) (first_join c.args.self.now) (part_cells depth c.args.section) c.cover-cover.result.now
     c.loop-node.node-index c.node-item.result c.first_in_node-found.result c.loop-node-test.true c.node-item.is
     (sym c.is_some.ensures ∙ c.if-is_some.false) c.first_in_node-found.ensures.first

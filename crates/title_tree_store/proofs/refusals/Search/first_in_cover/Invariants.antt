@@ -5,6 +5,5 @@ use Rattle.title_tree_store.proofs.refusals.Search.first_in_cover.Given as goal
 
 -- what is left has the first
 abbrev pub invariant-loop-node : goal.invariant-loop-node
-invariant-loop-node l =
-    first_for l.self (flat_map (part_cells depth l.fn.section) (cover_of depth l.self.tract.now))
+invariant-loop-node l = first_for l.self (flat_map (part_cells depth l.fn.section) (cover_of depth l.self.tract.now))
     ≡ first_for l.self (flat_map (part_cells depth l.fn.section) (drop l.node-index l.cover))

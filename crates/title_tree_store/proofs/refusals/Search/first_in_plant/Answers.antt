@@ -14,8 +14,7 @@ returns-then-is_some c =
     }
 
 pub loop-township-preserved : goal.loop-township-preserved
-loop-township-preserved c =
-    c.loop-township.invariant
+loop-township-preserved c = c.loop-township.invariant
     ∙ next_later (first_for c.args.self.now) (first_join c.args.self.now) (township_cells depth) c.list-list.result.now
     c.loop-township.township-index c.township-item.result c.first_in_township-found.result
     c.loop-township-test.true c.township-item.is (sym c.is_some.ensures ∙ c.if-is_some.false) c.first_in_township-found.ensures.first

@@ -5,6 +5,5 @@ use Rattle.title_tree_store.specs.Refusing.{first_for}
 use Rattle.title_tree_store.proofs.refusals.Search.first_in_plant.Given as goal
 
 abbrev pub invariant-loop-township : goal.invariant-loop-township
-invariant-loop-township l =
-    first_for l.self (flat_map (township_cells depth) l.self.townships.now)
+invariant-loop-township l = first_for l.self (flat_map (township_cells depth) l.self.townships.now)
     ≡ first_for l.self (flat_map (township_cells depth) (drop l.township-index l.list))

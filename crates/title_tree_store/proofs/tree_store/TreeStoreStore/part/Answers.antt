@@ -8,8 +8,7 @@ pub returns : goal.returns
 returns c =
     let store = c.args.self.now in
     record {
-      part = c.in_ok-add_estate.ensures.rows
-          ∙ (λ i. c.new-rows.ensures.items i ++ flat_map
+      part = c.in_ok-add_estate.ensures.rows ∙ (λ i. c.new-rows.ensures.items i ++ flat_map
           (tree_sheet (depth + 2) store.levels store.townships (c.of-tree.ensures.of i) c.args.estate)
           (cover_of depth c.args.tract.now))
           ∙ part_is store.kept c.args.tract.now c.args.estate c.requires.within;

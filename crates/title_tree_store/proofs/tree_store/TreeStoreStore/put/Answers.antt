@@ -33,8 +33,7 @@ invariant_of-self-in-Break-branch-4 c =
     }
 
 pub returns-in_err-quarter-in-Ok-clause-err_out : goal.returns-in_err-quarter-in-Ok-clause-err_out
-returns-in_err-quarter-in-Ok-clause-err_out c =
-    on_err c.from_residual-in_err-quarter-in-Ok.result _
+returns-in_err-quarter-in-Ok-clause-err_out c = on_err c.from_residual-in_err-quarter-in-Ok.result _
     (rw c.reserve.ensures.images (loans_refined c.args.self.now.levels c.args.self.now.townships (plots c.args.self.now.forest)
     (plots c.quarter.new.self) (images c.args.self.now.lent) (each c.quarter.ensures.refines)))
 
@@ -69,8 +68,7 @@ out c = c.add-number.ensures.images ∙ (λ i. c.reserve.ensures.images i ++ rec
 -- the paths are noted
 noted : (c : goal.After-add-number) (e : Estate) → written e c.exchange.new.self ≡ written e c.args.self.now.forest
     ++ named_spots c.args.instrument.now e (tract_spots c.args.self.now.levels c.args.self.now.townships c.args.tract.now) ∷ []
-noted c e =
-    ap (λ (puts : Vec Written). map (put_ways e) puts.items) c.exchange.ensures.written
+noted c e = ap (λ (puts : Vec Written). map (put_ways e) puts.items) c.exchange.ensures.written
     ∙ (rw c.in_ok-paths.ensures.paths at (c.in_ok-quarter-in-Ok.ensures.noted e))
 
 pub invariant_of-self-in-Ok : goal.invariant_of-self-in-Ok

@@ -15,8 +15,7 @@ invariant_of-self c = record {
 }
 
 pub returns-clause-content : goal.returns-clause-content
-returns-clause-content c x =
-    tidies c.args.self.now.levels c.args.self.now.townships (plots c.args.self.now.forest) (plots c.tidy.new.self)
+returns-clause-content c x = tidies c.args.self.now.levels c.args.self.now.townships (plots c.args.self.now.forest) (plots c.tidy.new.self)
     (λ e. written e c.args.self.now.forest) (each c.tidy.ensures.tidied) x
 
 pub returns-clause-out : goal.returns-clause-out
