@@ -10,8 +10,8 @@ use Rattle.title_land.specs.Laws.NodeNumbers.{number_at, node_above, whole_is}
 use Rattle.title_store.specs.Laws.Each.{each_append}
 use Rattle.title_chain.specs.declared.{ask.{Ask.{Ask}, Answer.{Answer}, Posting.{Posting}, Step.{Step}}, filing.Filing.{Filing}}
 use Rattle.title_chain.specs.PostSpots.{FiledPost, post_of, posting_of, spot_at, step_posts, same_spot, is_listed, is_spot_where}
-use Rattle.title_chain.specs.{declared.spot.Spot.{Spot}, SpotMaps.{spots_in, spots_numbered, spots_under}}
 use Rattle.title_chain.specs.TractIndexes.{IsFiled, covers, covers_below}
+use Rattle.title_chain.specs.{declared.spot.Spot.{Spot}, SpotMaps.{spots_in, spots_numbered, spots_under}}
 use Rattle.title_chain.specs.declared.ask.Ask.TheVariants as ask
 use Rattle.title_chain.specs.declared.ask.Answer.TheVariants as answer
 

@@ -1,7 +1,6 @@
 -- What the store holds answers as the definitions do.
 use Rattle.std.proofs.Common.{◌≡◌, ◌≢◌, ℕ, true, false, ◌&&◌, List, [], ◌∷◌, refl, ap, ◌∙◌, sym, inl, inr}
-use Rattle.std.proofs.lemmas.Bool.{and_parts, and_from, or_parts, or_from, or_right, false_from_ne_true, both_ways}
-use Rattle.std.proofs.lemmas.Bool.{cases_eq, cases_Bool}
+use Rattle.std.proofs.lemmas.Bool.{and_parts, and_from, or_parts, or_from, or_right, false_from_ne_true, both_ways, cases_eq, cases_Bool}
 use Rattle.title_land.specs.{Depth.{depth}, declared.survey.{Township.{Township}, Cell.{Cell}}}
 use Rattle.title_store.specs.{Plants.{Plant, is_cell_of}, Loans.{Loan}}
 use Rattle.title_chain.specs.{declared.ask.{Ask.{Ask}, Answer.{Answer}, Step.{Step}}, Asks.{tract_of, is_post, overlap}}

@@ -12,10 +12,9 @@ use Rattle.title_trace.specs.declared.call.Request.TheVariants as request
 use Rattle.title_trace.specs.declared.call.Reply.TheVariants as reply
 use Rattle.title_trace.specs.{Laws.Law.{kept}, Trace.{is_open, open_steps}}
 use Rattle.title_desk.specs.Images.{is_posted, posted_at, IsOf, Backed, backs_none, backs_post, backs_other, InTurn, IsRestored}
-use Rattle.title_desk.specs.Images.{without_all}
-use Rattle.title_desk.specs.{Keeps.{State, own_of, images_of, plant_of, plant_for, Facts, Keeps}, Opened.{found, held, set}}
+use Rattle.title_desk.{specs.Images.{without_all}, proofs.Loaned.{in_turn, rising_reverse, of_reverse, into_reverse, restored}}
 use Rattle.title_desk.proofs.Loaned.{Remain, Apart, IsFalling, IsFor, out_all, into_all, backed_in, backed_for, images_apart, falling}
-use Rattle.title_desk.proofs.Loaned.{in_turn, rising_reverse, of_reverse, into_reverse, restored}
+use Rattle.title_desk.specs.{Keeps.{State, own_of, images_of, plant_of, plant_for, Facts, Keeps}, Opened.{found, held, set}}
 use Rattle.title_desk.proofs.{Content.{steps_keep, posted_apart}, Found.{at_set, view_cond}, States.{told}}
 
 -- of locks that one examiner gives back none is its own any more, and the others' stay

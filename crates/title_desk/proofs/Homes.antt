@@ -1,10 +1,10 @@
 -- What stands under the numbers of homes, and what is left there after a post.
 use Rattle.std.proofs.Common.{◌≡◌, ◌≢◌, ◌+◌, ◌≤◌, ℕ, Bool, true, false, ◌&&◌, ◌||◌, cond, eqb, List, []}
 use Rattle.std.proofs.Common.{Option, Some, get_or, Result, Ok, Err, OnOk, OnErr, inl, inr, arith, refl, sym, ap, subst, ◌∙◌}
-use Rattle.std.specs.{List.{All, filter}, Ordering.{nat_cmp}, BTreeMap.{BTreeMap, get, is_at, Updates, IsUnchanged}}
-use Rattle.std.specs.{Map.{lookup}, Cmp.{unsigned_tied}}
 use Rattle.std.proofs.lemmas.Bool.{false_from_ne_true, both_ways, and_parts, or_parts, not-true, eq-eqb, cases_eq, cases_Bool}
 use Rattle.std.proofs.lemmas.List.Elements.{All-nil, All-weaker, All-filter, filter_passes}
+use Rattle.std.specs.{List.{All, filter}, Ordering.{nat_cmp}, BTreeMap.{BTreeMap, get, is_at, Updates, IsUnchanged}}
+use Rattle.std.specs.{Map.{lookup}, Cmp.{unsigned_tied}}
 use Rattle.title_instrument.specs.{declared.parts.Estates.{Estates}, Estates.{names}, Owners.{holding_of}}
 use Rattle.title_land.specs.{Depth.{depth}, Lands.{home_of, meets}, Grids.{has_some, grids_meet}, NodeNumbers.{node_number}}
 use Rattle.title_land.specs.{Survey.{same_township, same_section}, Nodes.{same_node, is_above, are_related}}

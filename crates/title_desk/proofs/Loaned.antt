@@ -1,7 +1,7 @@
 -- Images that are out, those of a transaction that go back or are let go in their turn, and what the plant holds then.
 use Rattle.std.proofs.Common.{◌≡◌, ◌≢◌, ◌<◌, ℕ, true, false, cond, ◌&&◌, ◌||◌, List, [], ◌∷◌, ◌++◌, reverse, refl, ap, ◌∙◌, sym}
-use Rattle.std.proofs.{Common.{subst, ◌⊎◌, inl, inr, arith, map}, lemmas.Bool.{or_parts, cond_both, cond-false}}
 use Rattle.std.proofs.lemmas.List.{reverse-append, reverse-reverse}
+use Rattle.std.proofs.{Common.{subst, ◌⊎◌, inl, inr, arith, map}, lemmas.Bool.{or_parts, cond_both, cond-false}}
 use Rattle.title_land.specs.{Depth.{depth}, declared.survey.{Township.{Township}, Cell.{Cell}}, Lands.{meets}}
 use Rattle.title_store.specs.{Plants.{Plant, SameContent, is_cell_of}, Loans.{Loan, IsAmong, IsLentAs, IsOut, without}}
 use Rattle.title_store.specs.Laws.Taken.{case_eqb}

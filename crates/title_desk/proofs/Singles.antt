@@ -10,18 +10,16 @@ use Rattle.title_chain.specs.{Alone.{alone}, Overlaps.{overlaps, record_of}}
 use Rattle.title_chain.specs.declared.ask.Ask.TheVariants as ask
 use Rattle.title_chain.specs.declared.ask.Answer.TheVariants as answer
 use Rattle.title_trace.specs.declared.{call.{Call.{Call}, Request.{Request}, Reply.{Reply}}, denial.Denial.{Denial}}
-use Rattle.title_trace.specs.Trace.{is_open, open_steps, committed}
-use Rattle.title_trace.specs.Due.{Setting, most_steps, InTheWay, IsDue}
+use Rattle.title_trace.specs.{Trace.{is_open, open_steps, committed}, Due.{Setting, most_steps, InTheWay, IsDue}}
 use Rattle.title_trace.specs.declared.call.Request.TheVariants as request
 use Rattle.title_trace.specs.declared.call.Reply.TheVariants as reply
 use Rattle.title_desk.specs.{Opened.{Opened, held, nothing, set}, Images.{is_posted, IsRestored, without_all}}
-use Rattle.title_desk.specs.Keeps.{State, own_of, images_of, Keeps}
-use Rattle.title_desk.specs.Told.{Added, Books, Passes, Stays, Told, entry_of}
+use Rattle.title_desk.specs.{Keeps.{State, own_of, images_of, Keeps}, Told.{Added, Books, Passes, Stays, Told, entry_of}}
 use Rattle.title_desk.specs.Singles.{AddedInTurn, Bars, BrokenOff, IsIdle, Stands, ToldSingle, after_single, ending, in_turn, last_reply}
 use Rattle.title_desk.specs.Laws.Calls.{added as call_added, added_single}
-use Rattle.title_desk.proofs.{Found.{at_set, none_from, set_here, set_other}, Steps.{bars_due, keeps_answered, keeps_posted}}
 use Rattle.title_desk.proofs.States.{told, books_of, keeps_as, keeps_locks, keeps_refused, keeps_began}
 use Rattle.title_desk.proofs.Ends.{Gone, gone_newest, nothing_out, keeps_aborted, keeps_committed}
+use Rattle.title_desk.proofs.{Found.{at_set, none_from, set_here, set_other}, Steps.{bars_due, keeps_answered, keeps_posted}}
 
 -- an examiner has begun
 abbrev begun : ℕ → State → State

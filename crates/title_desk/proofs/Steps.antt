@@ -4,7 +4,7 @@ use Rattle.std.proofs.Common.{None, is_some, Result, Ok, Err, is_err, OnOk, OnEr
 use Rattle.std.proofs.lemmas.Bool.{or_parts, false_from_ne_true, both_ways, cases_Bool}
 use Rattle.title_land.specs.{Depth.{depth}, declared.{survey.{Township.{Township}, Cell.{Cell}}, tract.Land.{Land}}, Lands.{meets}}
 use Rattle.title_store.specs.{Plants.{Plant, Refusal, is_cell_of, refused_in, SameContent, plant_effect}, Sheets.{sheet_of}}
-use Rattle.title_store.specs.Loans.{Loan, IsAmong, IsOut, IsTaken}
+use Rattle.title_store.specs.{Loans.{Loan, IsAmong, IsOut, IsTaken}, Laws.Taken.{case_eqb, among_now, is_new, image_out, new_loan}}
 use Rattle.title_chain.specs.{declared.ask.{Ask.{Ask}, Answer.{Answer}, Posting.{Posting}, Step.{Step}}, Chains.{chain_of}}
 use Rattle.title_chain.specs.{Asks.{tract_of, is_post, effect, post_answer}, Alone.{after_steps, alone}, Overlaps.{overlaps}}
 use Rattle.title_chain.specs.Laws.AskLaws.{answer_same, answer_sheet, answer_chain, answer_post, effect_read, effect_refused, effect_same}
@@ -17,11 +17,10 @@ use Rattle.title_trace.specs.declared.call.Reply.TheVariants as reply
 use Rattle.title_trace.specs.{declared.denial.Denial.{Denial}, Trace.{is_open, open_steps, committed}, Due.{InTheWay, DueReply}}
 use Rattle.title_trace.specs.declared.denial.Denial.TheVariants as denial
 use Rattle.title_desk.specs.Images.{is_posted, posted_at, Backed, backs_post, backs_other, IsOf, Backs}
+use Rattle.title_desk.proofs.Loaned.{Remain, backed_in, backed_for}
 use Rattle.title_desk.specs.{Keeps.{State, own_of, images_of, plant_of, plant_for, Facts, Keeps}, Singles.{Bars}}
 use Rattle.title_desk.specs.{Opened.{Opened, held, set, with_post, with_step}, Told.{Books, IsFit, Passes, access_of, entry_of}}
 use Rattle.title_desk.proofs.{Content.{content_is, unposted}, Found.{at_set, set_here}, States.{told, books_of}}
-use Rattle.title_desk.proofs.Loaned.{Remain, backed_in, backed_for}
-use Rattle.title_store.specs.Laws.Taken.{case_eqb, among_now, is_new, image_out, new_loan}
 use Rattle.title_store.specs.Laws.EffectLaws as store
 
 -- what bars an ask is due to who is open

@@ -3,8 +3,7 @@ use Rattle.std.specs.Prelude.{◌≡◌, ℕ, suc, ◌<◌, true, false, List, �
 use Rattle.title_land.specs.{Depth.{depth}, Lands.{is_in_plant}}
 use Rattle.title_chain.specs.{declared.ask.Ask.{Ask}, Asks.{tract_of, cause_of}}
 use Rattle.title_trace.specs.declared.{call.{Call.{Call}, Request.{Request}, Reply.{Reply}}, denial.Denial.{Denial}}
-use Rattle.title_trace.specs.Trace.{is_open, committed}
-use Rattle.title_trace.specs.Due.{Setting, IsDue}
+use Rattle.title_trace.specs.{Trace.{is_open, committed}, Due.{Setting, IsDue}}
 use Rattle.title_trace.specs.declared.call.Request.TheVariants as request
 use Rattle.title_trace.specs.declared.call.Reply.TheVariants as reply
 use Rattle.title_trace.specs.declared.denial.Denial.TheVariants as denial

@@ -2,9 +2,7 @@
 use Rattle.std.proofs.Common.{◌≡◌, ◌≢◌, ◌+◌, ◌≤◌, ◌<◌, ◌^◌, ℕ, Bool, true, false, cond, not, ◌&&◌, ◌||◌, List, [], ◌∷◌}
 use Rattle.std.proofs.Common.{filter, length, Option, Some, None, is_some, eqb, refl, sym, ap, subst, ◌∙◌, arith, ◌↔◌}
 use Rattle.std.proofs.lemmas.Bool.{eqb-true, eq-eqb, ne_eqb, false_from_ne_true, both_ways, and_right, cond_both, cond-true}
-use Rattle.std.proofs.lemmas.Bool.{cond-false, or_parts}
-use Rattle.std.proofs.lemmas.Bool.Decides.{nat_tests}
-use Rattle.std.specs.List.{AllByRecursion, IsDistinct}
+use Rattle.std.{proofs.lemmas.Bool.{cond-false, or_parts, Decides.{nat_tests}}, specs.List.{AllByRecursion, IsDistinct}}
 use Rattle.std.proofs.lemmas.Map.{Steps.{length-le_from_distinct_below}, Views.{any-filter_same}}
 use Rattle.title_lock.specs.{declared.modes.Mode.{Mode}, Counts.{member, NoRepeat, IsCount}, declared.counts.Counts.{Counts}}
 use Rattle.title_lock.proofs.ModeLaws.{at_each, from_each, same_mode_true}

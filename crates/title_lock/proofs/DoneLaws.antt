@@ -7,9 +7,8 @@ use Rattle.title_land.specs.{declared.node.Node.{Node}, Nodes.{same_node}, Laws.
 use Rattle.title_lock.specs.{declared.modes.Mode.{Mode}, Modes.{bound}, Holders.{clashes}, Overlaps.{IsLeast, least}}
 use Rattle.title_lock.specs.Tables.{HeldAt, table_mode, table_room, is_idle, KeepsRoom, HasRoom, IdleMore, IdleLess}
 use Rattle.title_lock.specs.Walks.{Asked, mode_for, asks_in, clashes_in, Roomed, Raised, TakenOut}
+use Rattle.title_lock.proofs.{IdleLaws.{less_same, less_join, more_same, more_wider}, WalkLaws.{asked_append, asks_append}}
 use Rattle.title_lock.proofs.{AccessLaws.{gone_off}, ModeLaws.{bound_assoc, bound_none}, LeastLaws.{least_join, least_same}}
-use Rattle.title_lock.proofs.IdleLaws.{less_same, less_join, more_same, more_wider}
-use Rattle.title_lock.proofs.WalkLaws.{asked_append, asks_append}
 
 -- one test in place of another that passes the same nodes
 pub less_is : (t u : HeldAt) (e : ℕ) (p r : Node → Bool) → ((n : Node) → p n ≡ r n) → IdleLess t u e p → IdleLess t u e r

@@ -6,8 +6,7 @@ use Rattle.std.proofs.{Common.{arith}, lemmas.{Bool.Decides.{nat_tests}, List.Fo
 use Rattle.title_lock.specs.{declared.{modes.Mode.{Mode}, table.Table.{Table}, guards.Entry.{Entry}}, Modes.{bound, allows}}
 use Rattle.title_lock.specs.{Overlaps.{Stands, is_post, without}, Asking.{asked, mode_at}}
 use Rattle.title_lock.{specs.{Tables.{on_all, table_mode, is_asked, is_asked_by, TableIs}, Books.{IsNewest}}, proofs.ModeLaws.{bound_turn}}
-use Rattle.title_lock.proofs.Overlap.{MeetByCovers, Apart, apart_more, entries_stand}
-use Rattle.title_lock.proofs.WalkLaws.{asked_some, none_some}
+use Rattle.title_lock.proofs.{Overlap.{MeetByCovers, Apart, apart_more, entries_stand}, WalkLaws.{asked_some, none_some}}
 use Rattle.title_land.specs.{declared.node.Node.{Node}, Lands.{cover_of, IsLand}}
 
 -- ---- one entry more

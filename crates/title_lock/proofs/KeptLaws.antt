@@ -1,13 +1,11 @@
 -- The locks with an access that is prepared, and without.
 use Rattle.std.proofs.Common.{◌≡◌, ℕ, true, not, List, [], ◌∷◌, ◌++◌, Option, Some, None, eqb, refl, sym, ap, subst, ◌∙◌, arith}
-use Rattle.std.proofs.lemmas.Bool.{eq-eqb, both_ways, not_from_true}
+use Rattle.std.{proofs.lemmas.Bool.{eq-eqb, both_ways, not_from_true}, specs.List.{list_any}}
 use Rattle.std.proofs.lemmas.{Option.{none-some, same_Some}, List.Elements.{All-head, All-same, filter_passes}}
-use Rattle.std.specs.List.{list_any}
 use Rattle.title_land.specs.{declared.node.Node.{Node}, Lands.{cover_of}}
 use Rattle.title_lock.specs.{declared.{guards.Entry.{Entry}, table.Table.{Table}}, Overlaps.{without}, Books.{IsNewest}}
-use Rattle.title_lock.specs.Tables.{on_all, table_mode, is_asked, IdleMore, IdleLess, NoMoreIdle}
+use Rattle.title_lock.{specs.Tables.{on_all, table_mode, is_asked, IdleMore, IdleLess, NoMoreIdle}, proofs.BookLaws.{same_parts}}
 use Rattle.title_lock.specs.{Tables.{TableIs, TableUsed}, Locks.{granted, waiting, IsReady, AreKept, IsLean, AreLocks}}
-use Rattle.title_lock.proofs.BookLaws.{same_parts}
 
 -- the table tells the modes of the entries, whether or not an access is prepared
 pub kept_table : (depth : ℕ) (p : Option ℕ) (book : List Entry) (t : Table) → AreKept depth p book t

@@ -1,8 +1,6 @@
 -- A list of entries gone through from the oldest to the newest, and counted from the newest on.
-use Rattle.std.proofs.Common.{◌≡◌, ◌<◌, ◌+◌, ℕ, List, [], ◌∷◌, reverse, length, take, get_or, ap, ◌∙◌}
-use Rattle.std.proofs.lemmas.List.{take_more, reverse-append}
-use Rattle.std.proofs.Common.{◌≢◌, ◌++◌, Option, None, cond, eqb, sym, subst}
-use Rattle.std.proofs.lemmas.Bool.{ne_eqb, cond-false}
+use Rattle.std.proofs.{Common.{◌≡◌, ◌<◌, ◌+◌, ℕ, List, [], ◌∷◌, reverse, length, take, get_or, ap, ◌∙◌}, lemmas.Bool.{ne_eqb, cond-false}}
+use Rattle.std.proofs.{lemmas.List.{take_more, reverse-append}, Common.{◌≢◌, ◌++◌, Option, None, cond, eqb, sym, subst}}
 use Rattle.title_land.specs.{declared.node.Node.{Node}, Lands.{cover_of}}
 use Rattle.title_lock.specs.{declared.{guards.Entry.{Entry}, modes.Mode.{Mode}}, Modes.{bound}, Overlaps.{is_post}}
 use Rattle.title_lock.specs.{Asking.{asked, mode_at}, Counts.{IsCount}, Holders.{own_part}}

@@ -1,8 +1,8 @@
 -- What a walk asks is what its access asks for, and what is done along its parts is done along the whole.
 use Rattle.std.proofs.Common.{◌≡◌, ℕ, Bool, true, false, cond, not, ◌&&◌, ◌||◌, List, [], ◌∷◌, ◌++◌, Option, Some, None, is_some}
 use Rattle.std.proofs.Common.{refl, sym, ap, subst, ◌∙◌, true≢false, suc, ◌+◌, ◌<◌, length, length-append, append_assoc}
-use Rattle.std.{proofs.{Common.{eqb, arith}, lemmas.List.Elements.{All-nil, All-cons, All-head, All-tail}}, specs.Prelude.{All}}
 use Rattle.std.proofs.lemmas.Bool.{eqb-true, or_left, or_right, or_parts, cond_both}
+use Rattle.std.{proofs.{Common.{eqb, arith}, lemmas.List.Elements.{All-nil, All-cons, All-head, All-tail}}, specs.Prelude.{All}}
 use Rattle.std.{proofs.lemmas.List.Folds.{list_any-append}, specs.List.{list_any}}
 use Rattle.title_land.specs.declared.{survey.Section.{Section}, rectangle.Quarter.{Quarter}, node.Node.{Node}}
 use Rattle.title_land.specs.{Nodes.{same_node, above_in, above, is_above}, Laws.NodeSharing.{above_is_transitive}}

@@ -1,7 +1,7 @@
 -- No two paths of a tract lie one below the other.
 use Rattle.std.proofs.Common.{◌≡◌, ◌∙◌, sym, refl, subst, ℕ, ◌^◌, ◌≤◌, true, false}
-use Rattle.std.{proofs.Common.{inl, inr, List, [], ◌∷◌, ◌++◌, length}, specs.{Prelude.{reverse}, List.{flat_map, list_any, list_all}}}
 use Rattle.std.proofs.lemmas.Bool.{and_parts, and_right, both_ways, false_from_ne_true}
+use Rattle.std.{proofs.Common.{inl, inr, List, [], ◌∷◌, ◌++◌, length}, specs.{Prelude.{reverse}, List.{flat_map, list_any, list_all}}}
 use Rattle.title_land.specs.{Depth.{depth}, declared.{survey.Township.{Township}, rectangle.Quarter.{Quarter}, node.Node.{Node}}}
 use Rattle.title_land.specs.{declared.tract.Land.{Land}, Laws.NodeLands.{path_after}}
 use Rattle.title_land.specs.{Survey.{same_township, same_section}, Lands.{is_in_plant, cover_of}}

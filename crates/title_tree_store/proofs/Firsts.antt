@@ -6,11 +6,11 @@ use Rattle.std.proofs.lemmas.{Bool.{cond_both}, List.{at_drop_more, get_or_defau
 use Rattle.title_land.specs.{Depth.{depth}, declared.{survey.{Township.{Township}, Section.{Section}, Cell.{Cell}}, tract.Land.{Land}}}
 use Rattle.title_land.specs.declared.rectangle.Quarter.{Quarter, TheVariants.{Northeast, Northwest, Southwest, Southeast}}
 use Rattle.title_land.specs.declared.rectangle.Rectangle.{Rectangle}
+use Rattle.title_land.specs.CellLists.{corner_of, cells_below, section_cells, township_cells, plant_cells, cells_of}
+use Rattle.title_land.specs.Laws.CellFilters.{township_elsewhere, part_elsewhere, part_in_township}
 use Rattle.title_land.specs.{declared.grid.Grid.{Grid}, Nodes.{square, quarters}}
 use Rattle.title_land.specs.{Lands.{has, cover_of, is_in_plant}, Survey.{same_township}, Laws.SameLand.{same_township-is}}
-use Rattle.title_land.specs.CellLists.{corner_of, cells_below, section_cells, township_cells, plant_cells, cells_of}
 use Rattle.title_land.specs.{CellLists.{part_cells}, Laws.CoverLists.{kept_of_everything, kept_of_township, kept_of_part}}
-use Rattle.title_land.specs.Laws.CellFilters.{township_elsewhere, part_elsewhere, part_in_township}
 use Rattle.title_land.specs.declared.tract.Land.TheVariants as land
 use Rattle.title_instrument.specs.declared.{parts.{Estate.{Estate}, Rule.{Rule}}, instrument.Instrument.{Instrument}}
 use Rattle.title_instrument.specs.{declared.owners.Effect.{Effect, TheVariants.{Done, Refused}}, Effect.{cell_effect}}

@@ -1,8 +1,8 @@
 -- What a tree has at a node's paths is what the node's cells have.
 use Rattle.std.proofs.Common.{◌≡◌, ◌∙◌, ap, sym, refl, subst, ℕ, zero, suc, ◌+◌, ◌-◌, ◌≤◌, arith, Bool, true, cond}
+use Rattle.std.proofs.lemmas.List.{append-nil}
 use Rattle.std.{proofs.Common.{inl, inr, List, [], ◌∷◌, ◌++◌, length, length-append, map, Option, Some, None}, specs.Option.{option_map}}
 use Rattle.std.{specs.{Prelude.{nat_lt, is_some}, List.{flat_map}}, proofs.lemmas.{Bool.{cases_Bool, ltb-true}, Option.{cond_some}}}
-use Rattle.std.proofs.lemmas.List.{append-nil}
 use Rattle.title_share.specs.Division.{Division}
 use Rattle.title_land.specs.{Depth.{depth}, declared.{survey.{Township.{Township}, Section.{Section}, Cell.{Cell}}, node.Node.{Node}}}
 use Rattle.title_land.specs.{declared.{rectangle.Quarter.{Quarter}, tract.Land.{Land}}, Nodes.{quarters}, Lands.{is_in_plant}}

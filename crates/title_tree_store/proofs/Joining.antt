@@ -10,9 +10,8 @@ use Rattle.title_tree.specs.{Pieces.{Piece, Apart, paths, swapped}, Laws.Joined.
 use Rattle.title_tree.specs.Laws.Joined.{joined_but_none, joined_but_tidied, joined_but_tidy}
 use Rattle.title_tree_store.specs.declared.{forest.Forest.{Forest}, lent.Lent.{Lent}}
 use Rattle.title_tree_store.specs.Forests.{plots, pieces, written, are_joined, named_spots, tidied_written, StaysApart}
-use Rattle.title_tree_store.specs.Keeping.{loans_of, IsAbsent, IsTakenOut, AreJoined}
+use Rattle.title_tree_store.{specs.Keeping.{loans_of, IsAbsent, IsTakenOut, AreJoined}, proofs.Steps.{apart_pushed}}
 use Rattle.title_tree_store.proofs.{Keeps.{left_in, out_in}, Operations.{is_there}, Puts.{IsPut, put_paths}}
-use Rattle.title_tree_store.proofs.Steps.{apart_pushed}
 
 all_true : (a b c : Bool) → a ≡ true → b ≡ true → c ≡ true → (a && b && c) ≡ true
 all_true a b c e f g = rw (e, f, g) refl

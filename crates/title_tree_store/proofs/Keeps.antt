@@ -11,8 +11,7 @@ use Rattle.title_tree.specs.{Pieces.{Piece, paths, Disjoint, Ready, Short, Refin
 use Rattle.title_tree.specs.Laws.{Images.{keeps_less, keeps_refined}, Depths.{fits_graft, fits_plot_at, fits_tidied_all}}
 use Rattle.title_tree_store.specs.{declared.lent.Lent.{Lent}, Spots.{tract_spots}, Forests.{tidied_written}}
 use Rattle.title_tree_store.specs.Keeping.{height, lending, loans_of, same_ways, PiecesFit, IsBacked, IsKept, Rises, IsTakenOut}
-use Rattle.title_tree_store.proofs.Images.{rises_less}
-use Rattle.title_tree_store.proofs.CellPaths.{tract_at, tract_short, whole, length-whole, has_whole, tract_has_at}
+use Rattle.title_tree_store.proofs.{Images.{rises_less}, CellPaths.{tract_at, tract_short, whole, length-whole, has_whole, tract_has_at}}
 use Rattle.title_tree_store.specs.Forests as forests
 
 pub same_ways-is : (ps qs : List (List Quarter)) → same_ways ps qs ≡ true → ps ≡ qs

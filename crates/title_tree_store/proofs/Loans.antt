@@ -11,8 +11,8 @@ use Rattle.title_store.specs.{Plants.{is_cell_of}, Loans.{Loan, IsAmong, IsLentA
 use Rattle.title_tree.specs.{Plots.{Plot, value_at}, Pieces.{paths, held, Refines}, Laws.PathLists.{has_from, has_in}}
 use Rattle.title_tree_store.specs.{declared.lent.Lent.{Lent}, Spots.{cell_path, tract_spots}}
 use Rattle.title_tree_store.specs.Keeping.{height, Rises, lies_in, held_before, owners_before, loan_of, loans_of, IsBacked, IsKept}
-use Rattle.title_tree_store.proofs.{CellPaths.{length-cell_path, tract_has}, Contents.{owners_same, cond_same}, Keeps.{in_spots}}
 use Rattle.title_tree_store.proofs.Images.{less_before, more_later}
+use Rattle.title_tree_store.proofs.{CellPaths.{length-cell_path, tract_has}, Contents.{owners_same, cond_same}, Keeps.{in_spots}}
 use Rattle.title_tree_store.specs.Forests as forests
 
 -- ---- what a cell held before some images

@@ -12,12 +12,11 @@ use Rattle.title_tree.specs.Laws.{Swaps.{value_swapped}, Uniform.{tidied_all_sho
 use Rattle.title_tree.specs.Lendings.{Lending, Keeps, LaterClear}
 use Rattle.title_tree_store.specs.{declared.lent.Lent.{Lent}, Spots.{cell_path}, Forests.{owners_at, tidied_written}}
 use Rattle.title_tree_store.specs.Keeping.{height, content_of, lending, lies_in, held_before, owners_before, loans_of}
-use Rattle.title_tree_store.specs.Keeping.{IsAbsent, IsTakenOut, IsKept, IsBacked, Rises}
-use Rattle.title_tree_store.proofs.{CellPaths.{length-cell_path, tract_short}, Contents.{owners_same, content_agrees, content_changes}}
-use Rattle.title_tree_store.proofs.Images.{rises_apart}
+use Rattle.title_tree_store.{specs.Keeping.{IsAbsent, IsTakenOut, IsKept, IsBacked, Rises}, proofs.Images.{rises_apart}}
 use Rattle.title_tree_store.proofs.Keeps.{in_spots, kept_less, out_in, lendings_in, fits_swapped, tracts_clear}
 use Rattle.title_tree_store.proofs.Loans.{was, among_lent, loan_under, loans_gone, image_apart, lies_has, lies_not}
 use Rattle.title_tree_store.proofs.Loans.{own_backed, none_later, later_not, before_not}
+use Rattle.title_tree_store.proofs.{CellPaths.{length-cell_path, tract_short}, Contents.{owners_same, content_agrees, content_changes}}
 use Rattle.title_tree_store.specs.Forests as forests
 
 -- the plant of trees in which party 0 has the whole of each cell

@@ -13,8 +13,7 @@ use Rattle.title_store.specs.{declared.sheet_row.SheetRow.{SheetRow}, Sheets.{ro
 use Rattle.title_tree.specs.{Paths.{way, number_path}, Plots.{Plot, Same, Four, plot_at, uniform}, Pieces.{uniform_at, both_have}}
 use Rattle.title_tree_store.specs.Spots.{index_of, blocks, township_path, section_path, square_path, township_spots}
 use Rattle.title_tree_store.specs.SquareSheets.{square_sheet, part_sheet, section_sheet, township_sheet, plant_sheet}
-use Rattle.title_tree_store.specs.TreeSheets.{tree_sheet}
-use Rattle.title_tree_store.proofs.Standing.{join_down, square_down, section_down}
+use Rattle.title_tree_store.{specs.TreeSheets.{tree_sheet}, proofs.Standing.{join_down, square_down, section_down}}
 
 four_lists : (a b c d : List SheetRow) → a ++ b ++ c ++ d ≡ a ++ (b ++ (c ++ (d ++ [])))
 four_lists a b c d = simp (append_assoc, append-nil)

@@ -1,8 +1,8 @@
 -- What stands in a square of each estate's tree, and what refuses there.
 use Rattle.std.proofs.Common.{◌≡◌, ◌∙◌, ap, sym, refl, subst, ℕ, zero, suc, ◌+◌, ◌-◌, ◌/◌, ◌%◌, ◌<◌, ◌≤◌, arith, Bool, true, false, ◌&&◌}
 use Rattle.std.proofs.Common.{inl, inr, List, [], ◌∷◌, ◌++◌, length, length-append, append_assoc, Option, Some, None, Result, Ok, Err}
-use Rattle.std.{specs.Prelude.{◌==◌, ◌||◌}, proofs.lemmas.List.{reverse-append, append-nil, length-reverse}}
 use Rattle.std.proofs.lemmas.Bool.{and_parts, or_cases, eqb-true, not-true}
+use Rattle.std.{specs.Prelude.{◌==◌, ◌||◌}, proofs.lemmas.List.{reverse-append, append-nil, length-reverse}}
 use Rattle.title_share.specs.Division.{Division}
 use Rattle.title_land.specs.{Depth.{depth}, declared.{survey.{Township.{Township}, Section.{Section}, Cell.{Cell}}}}
 use Rattle.title_land.specs.{declared.rectangle.Quarter.{Quarter, TheVariants.{Northeast, Northwest, Southwest, Southeast}}, Nodes.{square}}
@@ -20,8 +20,8 @@ use Rattle.title_tree_store.specs.declared.refusals.{Search.{Search}, Trees.{Tre
 use Rattle.title_tree_store.specs.{Spots.{township_path, section_path, square_path, cell_path}, Forests.{Each, plots, owners_at}}
 use Rattle.title_tree_store.specs.Refusing.{why_cell, why_first, is_settled, are_settled, refused_at, stand, StandsAt}
 use Rattle.title_tree_store.specs.Refusing.{first_for, first_cell_of}
-use Rattle.title_tree_store.{specs.Refusing.{triple}, proofs.Contents.{each, for_each, owners}}
 use Rattle.title_tree_store.proofs.CellPaths.{grid_parts, length-section_path, length-cell_path}
+use Rattle.title_tree_store.{specs.Refusing.{triple}, proofs.Contents.{each, for_each, owners}}
 
 -- ---- going down
 

@@ -1,6 +1,5 @@
 -- Steps of the code, and what a put wrote: it is noted for the estates that its instrument names.
-use Rattle.std.proofs.Common.{◌≡◌, ◌∙◌, ap, sym, subst, refl, ℕ, false, cond, inl, List, [], ◌∷◌, ◌++◌, map}
-use Rattle.std.proofs.Common.{Result, Ok, Err, OnOk, OnErr}
+use Rattle.std.proofs.Common.{◌≡◌, ◌∙◌, ap, sym, subst, refl, ℕ, false, cond, inl, List, [], ◌∷◌, ◌++◌, map, Result, Ok, Err, OnOk, OnErr}
 use Rattle.std.proofs.lemmas.{List.{map-append}, Bool.{cond_both}}
 use Rattle.title_land.specs.{declared.rectangle.Quarter.{Quarter}, Laws.Members.{in_left, in_right}}
 use Rattle.title_instrument.specs.{declared.{parts.Estate.{Estate}, instrument.Instrument.{Instrument}}, Estates.{names}}

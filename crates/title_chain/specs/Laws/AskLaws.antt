@@ -7,9 +7,8 @@ use Rattle.title_store.specs.{Plants.{Plant, is_cell_of, refused_in, plant_effec
 use Rattle.title_store.specs.Laws.EffectLaws.{refused_same}
 use Rattle.title_store.specs.Laws.EffectLaws as store
 use Rattle.title_chain.specs.{declared.ask.{Ask.{Ask}, Entry.{Entry}, Posting.{Posting}}, StepEntries.{entry_of}}
-use Rattle.title_chain.specs.Asks.{tract_of, is_post, effect, answer_to, post_answer, overlap}
+use Rattle.title_chain.specs.{Asks.{tract_of, is_post, effect, answer_to, post_answer, overlap}, ChainLaws.{OverlapSymmetric, EntryPast}}
 use Rattle.title_chain.specs.ChainLaws.{AnswerSame, EffectSame, EffectPast, EffectOutside, EffectRead, EffectRefused}
-use Rattle.title_chain.specs.ChainLaws.{OverlapSymmetric, EntryPast}
 use Rattle.title_chain.specs.declared.ask.Ask.TheVariants as ask
 use Rattle.title_chain.specs.declared.ask.Answer.TheVariants as answer
 

@@ -1,7 +1,7 @@
 -- Posts made again, one after another, have the effects of the asks.
 use Rattle.std.proofs.Common.{◌≡◌, ℕ, ◌+◌, ◌<◌, false, List, [], ◌∷◌, ◌++◌, Option, Some, None, length, reverse, take, drop, get_or, refl}
-use Rattle.std.proofs.{Common.{ap, ◌∙◌, sym, subst}, Math.Path.{fun_ext}, lemmas.Bool.{both_ways}}
 use Rattle.std.proofs.lemmas.List.{reverse-append, take_more, take-append-drop}
+use Rattle.std.proofs.{Common.{ap, ◌∙◌, sym, subst}, Math.Path.{fun_ext}, lemmas.Bool.{both_ways}}
 use Rattle.title_land.specs.declared.survey.Township.{Township}
 use Rattle.title_store.specs.Plants.{Plant, SameContent, Refusal, refused_in, plant_effect}
 use Rattle.title_chain.specs.declared.ask.{Ask.{Ask}, Answer.{Answer}, Entry.{Entry}, Posting.{Posting}, Step.{Step}}

@@ -3,8 +3,7 @@
 ghost use Rattle.std.specs.Prelude.{◌≡◌, ◌≢◌, ◌++◌, ◌∷◌, [], IfOk, OnOk, true, false, length};
 ghost use Rattle.title_land.specs.Depth.{depth};
 ghost use Rattle.title_chain.specs.{declared.ask.{Ask.TheVariants.{Post}, Answer.TheVariants.{Posted}}, Alone.{alone}, Asks.{is_post}};
-ghost use Rattle.title_trace.specs.declared.call.Reply.TheVariants.{Began, Committed, Memory};
-ghost use Rattle.title_trace.specs.Trace.{committed, open_steps};
+ghost use Rattle.title_trace.specs.{declared.call.Reply.TheVariants.{Began, Committed, Memory}, Trace.{committed, open_steps}};
 ghost use Rattle.title_desk.specs.{Images.{is_posted}, Singles.{AddedInTurn, Bars, BrokenOff, IsIdle, Stands, ToldSingle, ending, in_turn}};
 
 use crate::asks::step_of;

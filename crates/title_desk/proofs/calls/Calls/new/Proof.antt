@@ -12,8 +12,7 @@ use denote.Triple.Entry.{alive}
 use denote.Triple.Walked.{says, Stays, walk_of, ends_at}
 use Rattle.title_desk.{proofs.Walks.{none, none_made}, specs.contracts.calls.Calls.new.Key.{name as #self}}
 use Rattle.title_desk.specs.contracts.calls.Calls as Calls
-use Rattle.title_desk.specs.contracts.calls.Calls.new.{ended, clauses}
-use Rattle.title_desk.proofs.calls.Calls.new.Statement.{statement}
+use Rattle.title_desk.{specs.contracts.calls.Calls.new.{ended, clauses}, proofs.calls.Calls.new.Statement.{statement}}
 use Rattle.title_desk.proofs.calls.Calls.new.Code as code
 
 abbrev stayed : Stays ended.signature.params ended.kept

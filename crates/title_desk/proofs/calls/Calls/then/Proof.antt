@@ -19,8 +19,7 @@ use Rattle.title_desk.{proofs.Walks.{none, none_made}, specs.contracts.calls.Cal
 use Rattle.title_desk.specs.contracts.calls.Calls as Calls
 use Rattle.title_trace.specs.contracts.call.Request as Request
 use Rattle.title_trace.specs.contracts.call.Reply as Reply
-use Rattle.title_desk.specs.contracts.calls.Calls.then.{ended, clauses}
-use Rattle.title_desk.proofs.calls.Calls.then.Statement.{statement}
+use Rattle.title_desk.{specs.contracts.calls.Calls.then.{ended, clauses}, proofs.calls.Calls.then.Statement.{statement}}
 use Rattle.title_desk.proofs.calls.Calls.then.Code as code
 
 abbrev stayed : Stays ended.signature.params ended.kept

@@ -1,8 +1,7 @@
 -- What is the plant's comes to its home, which is there or is put in, or all stays as it was.
 use Rattle.std.{proofs.Common.{Option, Some, refl, subst, sym}, specs.Prelude.{IsSome}}
 use Rattle.title_desk.specs.declared.kept_sheets.{Home.{Home}, KeptSheets.{KeptSheets}}
-use Rattle.title_desk.specs.Shown.{Stock, all_kept, kept_in, AllKept}
-use Rattle.title_desk.proofs.Homes.{none_kept, set_under, kept_set, kept_put}
+use Rattle.title_desk.{specs.Shown.{Stock, all_kept, kept_in, AllKept}, proofs.Homes.{none_kept, set_under, kept_set, kept_put}}
 use Rattle.title_desk.proofs.kept_sheets.KeptSheets.keep.Goals as goal
 
 pub returns-in-Some : goal.returns-in-Some

@@ -3,9 +3,8 @@ use Rattle.std.proofs.Common.{◌≡◌, ◌∙◌, refl, ap, sym, Bool, true, f
 use Rattle.std.specs.{Prelude.{is_some}, Ordering.{nat_cmp}, BTreeMap.{get}}
 use mathlib.Core.Bool.{and-true}
 use Rattle.title_lock.specs.{Holders.{holder_mode, is_mode, is_free}, Tables.{holders_at, mode_in, idle_in, unused_in}}
-use Rattle.title_lock.proofs.TableLaws.{NodeMap, everywhere, is_found, nothing_there, rewritten, free_none}
+use Rattle.title_lock.proofs.{TableLaws.{NodeMap, everywhere, is_found, nothing_there, rewritten, free_none}, HomeLaws.{home_after}}
 use Rattle.title_lock.proofs.{AccessLaws.{same_cond, idle_off, gone_off}, IdleLaws.{idles_taken, free_idles}}
-use Rattle.title_lock.proofs.HomeLaws.{home_after}
 use Rattle.title_lock.proofs.shelf.Shelf.take_out.Goals as goal
 
 pub returns-in_default : goal.returns-in_default

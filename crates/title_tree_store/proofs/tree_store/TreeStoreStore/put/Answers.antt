@@ -7,12 +7,11 @@ use Rattle.title_instrument.specs.{declared.parts.Estate.{Estate}, Effect.{holdi
 use Rattle.title_store.specs.Laws.{MapLaws.{refused_content}, Puts.{refused_put}}
 use Rattle.title_tree.specs.Pieces.{refusal_at}
 use Rattle.title_tree_store.specs.{declared.{lent.Lent.{Lent}, forest.Written.{Written}}, Spots.{tract_spots, paths_in}}
-use Rattle.title_tree_store.specs.Forests.{plots, pieces, put_ways, written, named_spots}
-use Rattle.title_tree_store.specs.Out.{images}
-use Rattle.title_tree_store.proofs.{Contents.{each, for_each}, Joining.{joined_as, joined_apart, joined_put}, Keeps.{kept_as}}
-use Rattle.title_tree_store.proofs.{Loans.{loans_refined}, Steps.{on_err}}
+use Rattle.title_tree_store.specs.{Forests.{plots, pieces, put_ways, written, named_spots}, Out.{images}}
 use Rattle.title_tree_store.proofs.Puts.{IsPut, put_goes, put_shows, put_takes, kept_put, kept_stopped, refused_none}
 use Rattle.title_tree_store.proofs.Puts.{found_failing, some_cell_fails}
+use Rattle.title_tree_store.proofs.{Contents.{each, for_each}, Joining.{joined_as, joined_apart, joined_put}, Keeps.{kept_as}}
+use Rattle.title_tree_store.proofs.{Loans.{loans_refined}, Steps.{on_err}}
 use Rattle.title_tree_store.proofs.tree_store.TreeStoreStore.put.Goals as goal
 
 pub invariant_of-self-in-Break-branch-3 : goal.invariant_of-self-in-Break-branch-3
