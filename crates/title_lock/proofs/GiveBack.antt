@@ -55,8 +55,7 @@ pub table_fewer : (depth : ℕ) (e : ℕ) (es : List Entry) (table fewer : Table
     ((f : ℕ) (n : Node) → table_mode (on_all fewer) f n ≡ cond (eqb f e && list_any (is_asked_by depth e n) es) None
     (table_mode (on_all table) f n))
     → TableIs depth (without e es) (on_all fewer)
-table_fewer depth e es table fewer are left =
-    record {
+table_fewer depth e es table fewer are left = record {
       apart = apart_without depth e es (λ f g o n. are.apart f g o n);
       sized = All-filter (λ (z : Entry). not (eqb z.examiner e)) (λ (z : Entry). IsLand depth z.tract) es are.sized;
       modes = λ f n. grind (arith, nat_tests, left f n, are.modes f n, modes_without depth e es f n, modes_none depth e es n);

@@ -50,10 +50,7 @@ put_noted i old between new w same h named e = ap (map (put_ways e)) h ∙ map-a
 -- what is apart from all lists of paths and from one more
 pub apart_pushed : (q : List Quarter) (old : List (List (List Quarter))) (ps : List (List Quarter)) → ApartFromAll q (old ++ ps ∷ [])
     → ApartFromAll q old × ApartFromAll q (ps ∷ [])
-apart_pushed q old ps a = (
-  λ x i. a x (in_left x old (ps ∷ []) i),
-  λ x i. a x (in_right x old (ps ∷ []) i),
-)
+apart_pushed q old ps a = (λ x i. a x (in_left x old (ps ∷ []) i), λ x i. a x (in_right x old (ps ∷ []) i))
 
 -- where one more list of paths is noted, and what is apart from it stays
 pub apart_noted : (q : List Quarter) (old new : List (List (List Quarter))) (ps : List (List Quarter)) (t u : Plot)

@@ -5,8 +5,7 @@ use Rattle.title_desk.proofs.{States.{keeps_as}, Ends.{keeps_aborted, aborts, go
 use Rattle.title_desk.proofs.desk.Desk.abort.Goals as goal
 
 pub restore_all-requires : goal.restore_all-requires
-restore_all-requires g c =
-    record {
+restore_all-requires g c = record {
       able = rw (sym c.take-transaction.ensures.taken ∙ sym c.transaction.view_is, images_of) at (aborts c.args.examiner c.self.invariant);
     }
 

@@ -6,8 +6,7 @@ use Rattle.title_tree_store.proofs.Standing.{alike_square, has_levels, stands_do
 use Rattle.title_tree_store.proofs.refusals.Search.+first_in_square.Goals as goal
 
 pub returns-then-are_alike : goal.returns-then-are_alike
-returns-then-are_alike t c =
-    record {
+returns-then-are_alike t c = record {
       first = c.first_alike.ensures.first
           ∙ alike_square c.args.self.now c.args.section c.args.below c.args.within c.args.trees.now c.requires.below
           c.requires.here (sym c.are_alike.ensures.alike ∙ c.if-are_alike.true);
@@ -28,8 +27,7 @@ first_in_square-found-requires t c =
     )
 
 pub returns-then-is_some : goal.returns-then-is_some
-returns-then-is_some t c =
-    record {
+returns-then-is_some t c = record {
       first = quarter_here (first_for c.args.self.now) (first_join c.args.self.now) c.args.section c.args.below c.args.within
           c.quarter-in-loop-which.result c.loop-which.which-index c.loop-which-test.true c.quarter-in-loop-which.ensures.quarter
           c.first_in_square-found.result c.first_in_square-found.ensures.first (sym c.is_some.ensures ∙ c.if-is_some.true)

@@ -22,8 +22,7 @@ invariant_of-self-in-Break-branch-3 c = record {
 }
 
 pub invariant_of-self-in-Break-branch-4 : goal.invariant_of-self-in-Break-branch-4
-invariant_of-self-in-Break-branch-4 c =
-    record {
+invariant_of-self-in-Break-branch-4 c = record {
       once = c.args.self.now.once;
       kept = kept_as c.reserve.ensures.images c.reserve.ensures.next
           (kept_stopped c.args.tract.now (paths_in c.in_ok-paths.paths) c.in_ok-paths.ensures.paths c.requires.within
