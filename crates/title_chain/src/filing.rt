@@ -88,9 +88,8 @@ fn file_above(
 }
 
 impl Filing {
-    ghost use Rattle.title_chain.specs.{Chains.{record_entries}, StepEntries.{step_entries}};
-    ghost use Rattle.title_chain.specs.PostSpots.{FiledPost, post_of, posting_of, step_posts, record_posts};
-    ghost use Rattle.title_chain.specs.TractIndexes.{IsFiled, IsReadFrom, AreReadFrom, is_near};
+    ghost use Rattle.title_chain.specs.{Chains.{record_entries}, TractIndexes.{IsFiled, IsReadFrom, AreReadFrom, is_near}};
+    ghost use Rattle.title_chain.specs.{StepEntries.{step_entries}, PostSpots.{FiledPost, post_of, posting_of, step_posts, record_posts}};
 
     /// Nothing was read yet; takes no memory.
     pub(crate) fn new(alloc: Global) -> Filing

@@ -3,12 +3,11 @@ use Rattle.std.proofs.Common.{◌≡◌, ◌≢◌, ℕ, true, false, ◌&&◌, 
 use Rattle.std.proofs.lemmas.Bool.{and_parts, and_from, or_parts, or_from, or_right, false_from_ne_true, both_ways, cases_eq, cases_Bool}
 use Rattle.title_land.specs.{Depth.{depth}, declared.survey.{Township.{Township}, Cell.{Cell}}}
 use Rattle.title_store.specs.{Plants.{Plant, is_cell_of}, Loans.{Loan}}
-use Rattle.title_chain.specs.{declared.ask.{Ask.{Ask}, Answer.{Answer}, Step.{Step}}, Asks.{tract_of, is_post, overlap}}
-use Rattle.title_chain.specs.{Alone.{after_steps}, Overlaps.{overlaps, Clear}, ChainLaws.{SameIn}}
-use Rattle.title_chain.specs.Laws.AskLaws.{cell_meets, effect_outside}
-use Rattle.title_chain.specs.declared.ask.Ask.TheVariants as ask
+use Rattle.title_chain.specs.{declared.ask.{Ask.{Ask}, Answer.{Answer}, Step.{Step}}, Asks.{tract_of, is_post, overlap}, ChainLaws.{SameIn}}
+use Rattle.title_chain.specs.{Alone.{after_steps}, Overlaps.{overlaps, Clear}, Laws.AskLaws.{cell_meets, effect_outside}}
 use Rattle.title_desk.specs.Images.{is_posted, posted_at, Backed, backs_none, backs_post, backs_other}
 use Rattle.title_desk.specs.Keeps.{State, own_of, plant_of, plant_for, Facts}
+use Rattle.title_chain.specs.declared.ask.Ask.TheVariants as ask
 
 -- a step that was posted is a post
 pub post_of : (b : Ask) (given : Answer) → is_posted b given ≡ true → is_post b ≡ true

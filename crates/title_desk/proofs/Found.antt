@@ -1,9 +1,8 @@
 -- What each examiner has open, after one's was set too.
 use Rattle.std.proofs.Common.{◌≡◌, ◌≢◌, ℕ, Bool, true, false, cond, [], ◌∷◌, ◌++◌, map, reverse, refl, ap, ◌∙◌, sym, subst, Option, Some}
-use Rattle.std.specs.BTreeMap.{BTreeMap, WritesThrough, is_at}
-use Rattle.std.proofs.{Common.{List, None, is_some, Result, Ok, Err, OnOk, OnErr}, Math.Path.{fun_ext}}
-use Rattle.std.proofs.lemmas.{Bool.{eq-eqb, ne_eqb}, List.{map-append, reverse-append, reverse-reverse}, Map.Steps.{set_value_same}}
-use Rattle.std.specs.{Ordering.{nat_cmp}, Option.{IsSome}, Cmp.{unsigned_tied, nat_eq_equiv}}
+use Rattle.std.{proofs.Common.{List, None, is_some, Result, Ok, Err, OnOk, OnErr}, specs.BTreeMap.{BTreeMap, WritesThrough, is_at}}
+use Rattle.std.proofs.{Math.Path.{fun_ext}, lemmas.{Bool.{eq-eqb, ne_eqb}, List.{map-append, reverse-append, reverse-reverse}}}
+use Rattle.std.{proofs.lemmas.Map.Steps.{set_value_same}, specs.{Ordering.{nat_cmp}, Option.{IsSome}, Cmp.{unsigned_tied, nat_eq_equiv}}}
 use Rattle.title_desk.specs.Opened.{Opened, found, held, set}
 use Rattle.title_store.specs.Laws.Taken.{case_eqb}
 

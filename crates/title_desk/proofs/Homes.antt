@@ -1,24 +1,22 @@
 -- What stands under the numbers of homes, and what is left there after a post.
-use Rattle.std.proofs.Common.{◌≡◌, ◌≢◌, ◌+◌, ◌≤◌, ℕ, Bool, true, false, ◌&&◌, ◌||◌, cond, eqb, List, []}
-use Rattle.std.proofs.Common.{Option, Some, get_or, Result, Ok, Err, OnOk, OnErr, inl, inr, arith, refl, sym, ap, subst, ◌∙◌}
+use Rattle.std.proofs.Common.{◌≡◌, ◌≢◌, ◌+◌, ◌≤◌, ℕ, Bool, true, false, ◌&&◌, ◌||◌, cond, eqb, List, [], Option, Some, get_or, Result, Ok}
+use Rattle.std.{proofs.Common.{Err, OnOk, OnErr, inl, inr, arith, refl, sym, ap, subst, ◌∙◌}, specs.{List.{All, filter}, Map.{lookup}}}
 use Rattle.std.proofs.lemmas.Bool.{false_from_ne_true, both_ways, and_parts, or_parts, not-true, eq-eqb, cases_eq, cases_Bool}
-use Rattle.std.proofs.lemmas.List.Elements.{All-nil, All-weaker, All-filter, filter_passes}
-use Rattle.std.specs.{List.{All, filter}, Ordering.{nat_cmp}, BTreeMap.{BTreeMap, get, is_at, Updates, IsUnchanged}}
-use Rattle.std.specs.{Map.{lookup}, Cmp.{unsigned_tied}}
+use Rattle.std.{proofs.lemmas.List.Elements.{All-nil, All-weaker, All-filter, filter_passes}, specs.Ordering.{nat_cmp}}
+use Rattle.std.specs.{BTreeMap.{BTreeMap, get, is_at, Updates, IsUnchanged}, Cmp.{unsigned_tied}}
 use Rattle.title_instrument.specs.{declared.parts.Estates.{Estates}, Estates.{names}, Owners.{holding_of}}
 use Rattle.title_land.specs.{Depth.{depth}, Lands.{home_of, meets}, Grids.{has_some, grids_meet}, NodeNumbers.{node_number}}
-use Rattle.title_land.specs.{Survey.{same_township, same_section}, Nodes.{same_node, is_above, are_related}}
-use Rattle.title_land.specs.Laws.{NodeNumbers.{same_square_number, number_at}, SameNode.{same_node-is}}
-use Rattle.title_land.specs.Laws.SameLand.{same_township-is, same_township-self, same_section-is}
-use Rattle.title_land.specs.declared.survey.{Cell.{Cell}, Section.{Section}}
-use Rattle.title_land.specs.declared.{survey.Township.{Township}, tract.Land.{Land}, node.Node.{Node}}
-use Rattle.title_land.specs.declared.node.Node.TheVariants as node
-use Rattle.title_land.specs.declared.tract.Land.TheVariants as land
+use Rattle.title_land.specs.{Survey.{same_township, same_section}, Nodes.{same_node, is_above, are_related}, Laws.SameNode.{same_node-is}}
+use Rattle.title_land.specs.{Laws.NodeNumbers.{same_square_number, number_at}, declared.survey.{Cell.{Cell}, Section.{Section}}}
+use Rattle.title_land.specs.{Laws.SameLand.{same_township-is, same_township-self, same_section-is}, declared.survey.Township.{Township}}
+use Rattle.title_land.specs.declared.{tract.Land.{Land}, node.Node.{Node}}
 use Rattle.title_store.specs.{Plants.{Plant, is_cell_of}, Laws.{SheetLaws.{sheet_same}, SheetParts.{part_same}, Taken.{case_eqb}}}
 use Rattle.title_chain.specs.Laws.AskLaws.{cell_meets}
 use Rattle.title_desk.specs.declared.kept_sheets.{Kept.{Kept}, Home.{Home}, KeptSheets.{KeptSheets}}
-use Rattle.title_desk.specs.Shown.{IsTrue, land_in, is_left, Stock, no_stock, left_of, all_kept, kept_in, kept_under, IsSetUnder}
-use Rattle.title_desk.specs.Shown.{IsKept, AllKept, AreKept, SameOutside, SameBut, AreLeft, OthersStay, ApartStay}
+use Rattle.title_desk.specs.Shown.{IsTrue, land_in, is_left, Stock, no_stock, left_of, all_kept, kept_in, kept_under, IsSetUnder, IsKept}
+use Rattle.title_desk.specs.Shown.{AllKept, AreKept, SameOutside, SameBut, AreLeft, OthersStay, ApartStay}
+use Rattle.title_land.specs.declared.node.Node.TheVariants as node
+use Rattle.title_land.specs.declared.tract.Land.TheVariants as land
 use Rattle.title_desk.specs.declared.kept_sheets.Kept.TheVariants as what
 
 -- ---- what stands under a number

@@ -6,13 +6,11 @@ use Rattle.title_store.specs.{Plants.{Plant, SameContent}, Loans.{Loan}, Laws.Ta
 use Rattle.title_lock.specs.{declared.guards.Entry.{Entry}, Overlaps.{against}}
 use Rattle.title_chain.specs.{declared.{ask.Ask.{Ask}, record.Record.{Record}}, Asks.{tract_of, is_post}, Alone.{after_steps}}
 use Rattle.title_chain.specs.Overlaps.{overlaps}
-use Rattle.title_trace.specs.declared.{call.{Call.{Call}, Request.{Request}, Reply.{Reply}}, denial.Denial.{Denial}}
-use Rattle.title_trace.specs.Due.{DueReply}
+use Rattle.title_trace.specs.{declared.{call.{Call.{Call}, Request.{Request}, Reply.{Reply}}, denial.Denial.{Denial}}, Due.{DueReply}}
+use Rattle.title_desk.{specs.{Images.{Backed, IsOf, posted_at}, Opened.{Opened, held, nothing, set}}, proofs.Found.{none_from, view_cond}}
+use Rattle.title_desk.specs.{Headline.{ShowsOpenPosts, ShowsCommitted}, Told.{Books}, Keeps.{State, plant_of, Facts, Keeps}}
 use Rattle.title_trace.specs.declared.call.Request.TheVariants as request
 use Rattle.title_trace.specs.declared.call.Reply.TheVariants as reply
-use Rattle.title_desk.specs.Images.{Backed, IsOf, posted_at}
-use Rattle.title_desk.specs.{Headline.{ShowsOpenPosts, ShowsCommitted}, Told.{Books}, Opened.{Opened, held, nothing, set}}
-use Rattle.title_desk.{specs.Keeps.{State, plant_of, Facts, Keeps}, proofs.Found.{none_from, view_cond}}
 
 -- what a caller sees of a state
 abbrev pub books_of : State → Books

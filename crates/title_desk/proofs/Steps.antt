@@ -9,18 +9,17 @@ use Rattle.title_chain.specs.{declared.ask.{Ask.{Ask}, Answer.{Answer}, Posting.
 use Rattle.title_chain.specs.{Asks.{tract_of, is_post, effect, post_answer}, Alone.{after_steps, alone}, Overlaps.{overlaps}}
 use Rattle.title_chain.specs.Laws.AskLaws.{answer_same, answer_sheet, answer_chain, answer_post, effect_read, effect_refused, effect_same}
 use Rattle.title_chain.specs.{Laws.AskLaws.{effect_outside, effect_post}, ChainLaws.{SameIn}}
+use Rattle.title_trace.specs.{declared.denial.Denial.{Denial}, Trace.{is_open, open_steps, committed}, Due.{InTheWay, DueReply}}
+use Rattle.title_desk.specs.{Images.{is_posted, posted_at, Backed, backs_post, backs_other, IsOf, Backs}, Singles.{Bars}}
+use Rattle.title_desk.{proofs.Loaned.{Remain, backed_in, backed_for}, specs.Opened.{Opened, held, set, with_post, with_step}}
+use Rattle.title_desk.{specs.Keeps.{State, own_of, images_of, plant_of, plant_for, Facts, Keeps}, proofs.Content.{content_is, unposted}}
+use Rattle.title_desk.{specs.Told.{Books, IsFit, Passes, access_of, entry_of}, proofs.{Found.{at_set, set_here}, States.{told, books_of}}}
 use Rattle.title_chain.specs.declared.ask.Ask.TheVariants as ask
 use Rattle.title_chain.specs.declared.ask.Answer.TheVariants as answer
 use Rattle.title_lock.specs.Overlaps.{against, Stands, is_post as is_post_access}
 use Rattle.title_trace.specs.declared.call.Request.TheVariants as request
 use Rattle.title_trace.specs.declared.call.Reply.TheVariants as reply
-use Rattle.title_trace.specs.{declared.denial.Denial.{Denial}, Trace.{is_open, open_steps, committed}, Due.{InTheWay, DueReply}}
 use Rattle.title_trace.specs.declared.denial.Denial.TheVariants as denial
-use Rattle.title_desk.specs.Images.{is_posted, posted_at, Backed, backs_post, backs_other, IsOf, Backs}
-use Rattle.title_desk.proofs.Loaned.{Remain, backed_in, backed_for}
-use Rattle.title_desk.specs.{Keeps.{State, own_of, images_of, plant_of, plant_for, Facts, Keeps}, Singles.{Bars}}
-use Rattle.title_desk.specs.{Opened.{Opened, held, set, with_post, with_step}, Told.{Books, IsFit, Passes, access_of, entry_of}}
-use Rattle.title_desk.proofs.{Content.{content_is, unposted}, Found.{at_set, set_here}, States.{told, books_of}}
 use Rattle.title_store.specs.Laws.EffectLaws as store
 
 -- what bars an ask is due to who is open

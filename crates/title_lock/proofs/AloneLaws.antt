@@ -1,11 +1,9 @@
 -- Entries of one examiner alone.
-use Rattle.std.proofs.lemmas.Bool.Decides.{nat_tests}
-use Rattle.std.proofs.Common.{◌≡◌, ◌≢◌, ℕ, Bool, false, not, List, [], ◌∷◌, Option, Some, None, eqb, refl, sym}
-use Rattle.std.proofs.{Common.{ap, subst, ◌∙◌, arith}, lemmas.{Bool.{ne_eqb}, List.Elements.{All-head, All-tail, All-same, All-filter}}}
+use Rattle.std.proofs.lemmas.{Bool.{Decides.{nat_tests}, ne_eqb}, List.Elements.{All-head, All-tail, All-same, All-filter}}
+use Rattle.std.proofs.Common.{◌≡◌, ◌≢◌, ℕ, Bool, false, not, List, [], ◌∷◌, Option, Some, None, eqb, refl, sym, ap, subst, ◌∙◌, arith}
 use Rattle.title_land.specs.declared.{node.Node.{Node}, tract.Land.{Land}}
-use Rattle.title_lock.specs.{declared.{guards.Entry.{Entry}, modes.Mode.{Mode}}, Asking.{mode_at}, Counts.{IsCount}}
-use Rattle.title_lock.specs.{Overlaps.{against, Stands, without}, Holders.{own_part}}
-use Rattle.title_lock.specs.declared.node_locks.Layout.{Layout, TheVariants.{Alone}}
+use Rattle.title_lock.specs.{declared.{guards.Entry.{Entry}, modes.Mode.{Mode}}, Asking.{mode_at}, Counts.{IsCount}, Holders.{own_part}}
+use Rattle.title_lock.specs.{Overlaps.{against, Stands, without}, declared.node_locks.Layout.{Layout, TheVariants.{Alone}}}
 use Rattle.title_lock.{specs.Locks.{Locks, shown, AreOwn, AreInOne}, proofs.CountLaws.{count_none, count_moved}}
 
 -- the first is not f's where it is another's

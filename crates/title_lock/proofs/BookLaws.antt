@@ -1,12 +1,10 @@
 -- A book's entries by number: one put at the end, and an examiner's last one taken out.
-use Rattle.std.proofs.Common.{◌≡◌, ◌≢◌, ℕ, ◌<◌, Bool, true, false, cond, not, ◌&&◌, List, [], ◌∷◌, ◌++◌, All, filter, reverse, Option}
-use Rattle.std.specs.BTreeMap.{BTreeMap, get, insert_entry, is_at}
-use Rattle.std.{proofs.Common.{None, Some, IfSome, IfNone, eqb, refl, sym, ap, ◌∙◌, subst, append_assoc, arith}, specs.Prelude.{vec_len}}
-use Rattle.std.proofs.lemmas.{Bool.{eqb-true, ne_eqb, cases_eq, Decides.{nat_tests}}, Map.{NonePasses}}
-use Rattle.std.{specs.Global.{Vec}, proofs.Common.{inl, inr}}
-use Rattle.std.proofs.lemmas.List.{nil_from_length, append-nil, reverse-append, map-append, Elements.{All-head, All-tail}}
-use Rattle.std.specs.{List.{AllByRecursion, Sorted.{IsStrictlySortedBy}}, declared.cmp.Ordering.TheVariants.{Less}}
-use Rattle.std.specs.{Ordering.{nat_cmp}, Map.{keys_of, values_of, lookup, remove_entry}}
+use Rattle.std.proofs.Common.{◌≡◌, ◌≢◌, ℕ, ◌<◌, Bool, true, false, cond, not, ◌&&◌, List, [], ◌∷◌, ◌++◌, All, filter, reverse, Option, None}
+use Rattle.std.{proofs.Common.{Some, IfSome, IfNone, eqb, refl, sym, ap, ◌∙◌, subst, append_assoc, arith, inl, inr}, specs.Global.{Vec}}
+use Rattle.std.{specs.{BTreeMap.{BTreeMap, get, insert_entry, is_at}, Prelude.{vec_len}}, proofs.lemmas.Bool.{eqb-true, ne_eqb, cases_eq}}
+use Rattle.std.proofs.lemmas.{Bool.Decides.{nat_tests}, Map.{NonePasses}, List.{nil_from_length, append-nil, reverse-append, map-append}}
+use Rattle.std.{proofs.lemmas.List.Elements.{All-head, All-tail}, specs.List.{AllByRecursion, Sorted.{IsStrictlySortedBy}}}
+use Rattle.std.specs.{declared.cmp.Ordering.TheVariants.{Less}, Ordering.{nat_cmp}, Map.{keys_of, values_of, lookup, remove_entry}}
 use mathlib.Core.{Bool.{and-false}, List.{reverse_aux}}
 use Rattle.title_lock.specs.{declared.guards.Entry.{Entry}, Overlaps.{without}}
 use Rattle.title_lock.specs.Books.{numbers_in, numbers_of, empty_in, is_empty_kept, own_keys, IsNewest}

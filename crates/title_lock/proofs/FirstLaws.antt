@@ -1,11 +1,10 @@
 -- The least other examiner in the way among the holders of a node, which stand in the order of their numbers.
 use Rattle.std.proofs.Common.{◌≡◌, ◌≢◌, ◌<◌, ◌≤◌, ℕ, Bool, true, false, cond, List, [], ◌∷◌, Option, Some, None, eqb, refl, sym, ap, subst}
-use Rattle.std.proofs.Common.{◌&&◌, filter, ltb}
-use Rattle.std.specs.{declared.ops.Bound.TheVariants.{Excluded, Unbounded}, BTreeMap.{is_at, Range.{range_contains, entries_between}}}
-use Rattle.std.proofs.{lemmas.{Map.Entries.{lookup-filter-keys}, List.Kept.{IsStrictlySortedBy-filter}}, Common.{◌∙◌, arith}}
-use Rattle.std.specs.{Ordering.{nat_cmp, MatchOrdering}, declared.cmp.Ordering.TheVariants.{Less}}
-use Rattle.std.specs.{Map.{keys_of}, Cmp.{ranks, unsigned_tied}, List.Sorted.{IsStrictlySortedBy}}
-use Rattle.std.proofs.lemmas.Bool.{ne_eqb, eq-eqb, eqb-true, Decides.{nat_tests}}
+use Rattle.std.{proofs.Common.{◌&&◌, filter, ltb, ◌∙◌, arith}, specs.{declared.ops.Bound.TheVariants.{Excluded, Unbounded}, Map.{keys_of}}}
+use Rattle.std.{specs.BTreeMap.{is_at, Range.{range_contains, entries_between}}, proofs.lemmas.Map.Entries.{lookup-filter-keys}}
+use Rattle.std.{proofs.lemmas.List.Kept.{IsStrictlySortedBy-filter}, specs.{Ordering.{nat_cmp, MatchOrdering}, Cmp.{ranks, unsigned_tied}}}
+use Rattle.std.{specs.{declared.cmp.Ordering.TheVariants.{Less}, List.Sorted.{IsStrictlySortedBy}}, proofs.lemmas.Bool.Decides.{nat_tests}}
+use Rattle.std.proofs.lemmas.Bool.{ne_eqb, eq-eqb, eqb-true}
 use Rattle.title_lock.specs.{Overlaps.{IsLeast}, declared.modes.Mode.{Mode}, Holders.{holder_mode, clashes}}
 
 abbrev Held : Type 0

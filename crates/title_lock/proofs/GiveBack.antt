@@ -1,12 +1,11 @@
 -- Tables and entries after an entry more, and after an examiner's are given back.
-use Rattle.std.proofs.Common.{◌≡◌, ℕ, Bool, true, false, cond, not, ◌&&◌, ◌||◌, List, [], ◌∷◌, ◌++◌, Option, None, eqb, refl, sym, ap}
-use Rattle.std.{proofs.{Common.{◌∙◌}, lemmas.Bool.{or_parts, ne_eqb, eq-eqb}}, specs.List.{list_any}}
-use Rattle.std.proofs.lemmas.{Bool.{and_left, both_ways, not-true}, List.Elements.{All-cons, All-filter, All-weaker, filter_passes}}
-use Rattle.std.proofs.{Common.{arith}, lemmas.{Bool.Decides.{nat_tests}, List.Folds.{list_any_none}}}
+use Rattle.std.proofs.Common.{◌≡◌, ℕ, Bool, true, false, cond, not, ◌&&◌, ◌||◌, List, [], ◌∷◌, ◌++◌, Option, None, eqb, refl, sym, ap, ◌∙◌}
+use Rattle.std.proofs.{Common.{arith}, lemmas.List.{Elements.{All-cons, All-filter, All-weaker, filter_passes}, Folds.{list_any_none}}}
+use Rattle.std.{proofs.lemmas.Bool.{or_parts, ne_eqb, eq-eqb, and_left, both_ways, not-true, Decides.{nat_tests}}, specs.List.{list_any}}
 use Rattle.title_lock.specs.{declared.{modes.Mode.{Mode}, table.Table.{Table}, guards.Entry.{Entry}}, Modes.{bound, allows}}
-use Rattle.title_lock.specs.{Overlaps.{Stands, is_post, without}, Asking.{asked, mode_at}}
-use Rattle.title_lock.{specs.{Tables.{on_all, table_mode, is_asked, is_asked_by, TableIs}, Books.{IsNewest}}, proofs.ModeLaws.{bound_turn}}
-use Rattle.title_lock.proofs.{Overlap.{MeetByCovers, Apart, apart_more, entries_stand}, WalkLaws.{asked_some, none_some}}
+use Rattle.title_lock.{specs.{Overlaps.{Stands, is_post, without}, Asking.{asked, mode_at}, Books.{IsNewest}}, proofs.ModeLaws.{bound_turn}}
+use Rattle.title_lock.{specs.Tables.{on_all, table_mode, is_asked, is_asked_by, TableIs}, proofs.WalkLaws.{asked_some, none_some}}
+use Rattle.title_lock.proofs.Overlap.{MeetByCovers, Apart, apart_more, entries_stand}
 use Rattle.title_land.specs.{declared.node.Node.{Node}, Lands.{cover_of, IsLand}}
 
 -- ---- one entry more
@@ -56,10 +55,10 @@ pub table_fewer : (depth : ℕ) (e : ℕ) (es : List Entry) (table fewer : Table
     (table_mode (on_all table) f n))
     → TableIs depth (without e es) (on_all fewer)
 table_fewer depth e es table fewer are left = record {
-      apart = apart_without depth e es (λ f g o n. are.apart f g o n);
-      sized = All-filter (λ (z : Entry). not (eqb z.examiner e)) (λ (z : Entry). IsLand depth z.tract) es are.sized;
-      modes = λ f n. grind (arith, nat_tests, left f n, are.modes f n, modes_without depth e es f n, modes_none depth e es n);
-    }
+  apart = apart_without depth e es (λ f g o n. are.apart f g o n);
+  sized = All-filter (λ (z : Entry). not (eqb z.examiner e)) (λ (z : Entry). IsLand depth z.tract) es are.sized;
+  modes = λ f n. grind (arith, nat_tests, left f n, are.modes f n, modes_without depth e es f n, modes_none depth e es n);
+}
 
 -- ---- one entry of an examiner taken out, and none of it left
 

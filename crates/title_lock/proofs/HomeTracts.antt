@@ -1,13 +1,12 @@
 -- Tracts of different sections share no cell, so an entry of another section is passed over.
 use Rattle.std.proofs.Common.{◌≡◌, ◌∙◌, ap, sym, refl, ℕ, Bool, true, false, not, ◌&&◌, ◌||◌, List, [], ◌∷◌, Option, eqb}
 use Rattle.std.proofs.lemmas.Bool.{eq-eqb, and_right, both_ways, false_from_ne_true}
-use Rattle.title_land.specs.declared.{survey.Section.{Section}, grid.Grid.{Grid}, tract.Land.{Land}}
-use Rattle.title_land.specs.{Survey.{same_section}, Lands.{meets}, Grids.{grids_meet}}
-use Rattle.title_land.specs.{NodeNumbers.{node_number}, Laws.SameLand.{same_section-is}}
-use Rattle.title_land.specs.declared.node.Node.TheVariants as node
-use Rattle.title_land.specs.declared.tract.Land.TheVariants as land
+use Rattle.title_land.specs.{declared.{survey.Section.{Section}, grid.Grid.{Grid}, tract.Land.{Land}}, Survey.{same_section}, Lands.{meets}}
+use Rattle.title_land.specs.{Grids.{grids_meet}, NodeNumbers.{node_number}, Laws.SameLand.{same_section-is}}
 use Rattle.title_lock.specs.{declared.guards.Entry.{Entry}, Homes.{home_number, is_elsewhere}, Overlaps.{is_post, against, overlap, Stands}}
 use Rattle.title_lock.proofs.LeastLaws.{least_same}
+use Rattle.title_land.specs.declared.node.Node.TheVariants as node
+use Rattle.title_land.specs.declared.tract.Land.TheVariants as land
 
 -- of what lies in no one section nothing is told
 nowhere_first : (n : ℕ) → is_elsewhere 0 n ≡ false
@@ -24,15 +23,12 @@ unfolding meets
 parts_apart s u g k e = ap (λ (b : Bool). b && grids_meet g k) e
 
 elsewhere_meets : (x y : Land) → is_elsewhere (home_number y) (home_number x) ≡ true → meets x y ≡ false
-elsewhere_meets land.Everything y h = absurd (both_ways (is_elsewhere (home_number y) 0) (nowhere_second (home_number y)) h)
-elsewhere_meets (land.Township t) y h = absurd (both_ways (is_elsewhere (home_number y) 0) (nowhere_second (home_number y)) h)
-elsewhere_meets (land.Part s g) land.Everything h =
-    absurd (both_ways (is_elsewhere 0 (node_number (node.Part s []))) (nowhere_first (node_number (node.Part s []))) h)
-elsewhere_meets (land.Part s g) (land.Township u) h =
-    absurd (both_ways (is_elsewhere 0 (node_number (node.Part s []))) (nowhere_first (node_number (node.Part s []))) h)
+elsewhere_meets land.Everything y h = absurd (both_ways _ (nowhere_second (home_number y)) h)
+elsewhere_meets (land.Township t) y h = absurd (both_ways _ (nowhere_second (home_number y)) h)
+elsewhere_meets (land.Part s g) land.Everything h = absurd (both_ways _ (nowhere_first (home_number (land.Part s g))) h)
+elsewhere_meets (land.Part s g) (land.Township u) h = absurd (both_ways _ (nowhere_first (home_number (land.Part s g))) h)
 elsewhere_meets (land.Part s g) (land.Part u k) h = parts_apart s u g k (false_from_ne_true (same_section s u) (λ e.
-    both_ways (is_elsewhere (node_number (node.Part u [])) (node_number (node.Part s [])))
-    (one_section (node_number (node.Part u [])) (node_number (node.Part s []))
+    both_ways _ (one_section (home_number (land.Part u k)) (home_number (land.Part s g))
     (ap (λ (z : Section). node_number (node.Part z [])) (sym (same_section-is s u e)))) h))
 
 elsewhere_apart : (x y : Land) (post posted : Bool) → is_elsewhere (home_number y) (home_number x) ≡ true → overlap x post y posted ≡ false

@@ -1,7 +1,6 @@
 -- Who is idle at a node, and which holders are used, after one change and after several.
-use Rattle.std.proofs.Common.{◌≡◌, ◌≢◌, ℕ, Bool, true, false, cond, not, ◌&&◌, ◌||◌, [], ◌∷◌, length, Option}
-use Rattle.std.proofs.lemmas.Bool.{ne_eqb, or_left}
-use Rattle.std.proofs.{Common.{Some, None, is_some, eqb, refl, sym, ◌∙◌, true≢false, arith}, lemmas.Bool.Decides.{nat_tests}}
+use Rattle.std.proofs.Common.{◌≡◌, ◌≢◌, ℕ, Bool, true, false, cond, not, ◌&&◌, ◌||◌, [], ◌∷◌, length, Option, Some, None, is_some, eqb}
+use Rattle.std.proofs.{Common.{refl, sym, ◌∙◌, true≢false, arith}, lemmas.Bool.{ne_eqb, or_left, Decides.{nat_tests}}}
 use Rattle.title_land.specs.declared.node.Node.{Node}
 use Rattle.title_lock.specs.{declared.modes.Mode.{Mode}, Modes.{bound}, Holders.{Modes, holder_mode, has_room, idles, is_free}}
 use Rattle.title_lock.specs.Tables.{HeldAt, is_idle, IdleMore, IdleLess, NoMoreIdle}

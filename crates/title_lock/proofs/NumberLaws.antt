@@ -1,9 +1,8 @@
 -- A node lies above another exactly where it is met on the way up by numbers.
-use Rattle.std.proofs.Common.{◌≡◌, ◌≢◌, ◌<◌, ◌≤◌, ℕ, false, ◌||◌, eqb, sym, ◌∙◌, arith}
-use Rattle.std.proofs.lemmas.Bool.{false_from_ne_true, Decides.{nat_tests}}
+use Rattle.std.proofs.{Common.{◌≡◌, ◌≢◌, ◌<◌, ◌≤◌, ℕ, false, ◌||◌, eqb, sym, ◌∙◌, arith}, lemmas.Bool.{false_from_ne_true}}
+use Rattle.std.proofs.lemmas.Bool.Decides.{nat_tests}
 use Rattle.title_land.specs.{declared.node.Node.{Node}, Nodes.{same_node, is_above}, NodeNumbers.{node_number, number_above}}
-use Rattle.title_land.specs.Laws.{NodeNumbers.{numbers_tell_nodes, node_above, above_less}, SameNode.{same_node-self}}
-use Rattle.title_land.specs.Laws.NodeNumbers.{same_numbers}
+use Rattle.title_land.specs.Laws.{NodeNumbers.{numbers_tell_nodes, node_above, above_less, same_numbers}, SameNode.{same_node-self}}
 use Rattle.title_lock.proofs.NodeLaws.{above_of}
 
 -- ---- the way up from a node

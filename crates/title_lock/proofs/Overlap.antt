@@ -1,8 +1,7 @@
 -- An entry is granted by modes exactly where no other examiner's entry overlaps it.
 use Rattle.std.proofs.Common.{◌≡◌, ◌≢◌, ℕ, Bool, true, false, cond, ◌&&◌, ◌||◌, ◌↔◌, List, [], ◌∷◌, Option, Some, None, is_some, eqb, refl}
-use Rattle.std.proofs.lemmas.Bool.{and_parts, and_from, or_parts, or_from, or_left, or_right, or_cases, false_from_ne_true}
-use Rattle.std.proofs.lemmas.List.Elements.{All-head, All-tail}
-use Rattle.std.{proofs.{Common.{sym, ap, ◌∙◌, inl, inr, arith}, lemmas.Bool.{eqb-true}}, specs.List.{list_any}}
+use Rattle.std.{proofs.{Common.{sym, ap, ◌∙◌, inl, inr, arith}, lemmas.List.Elements.{All-head, All-tail}}, specs.List.{list_any}}
+use Rattle.std.proofs.lemmas.Bool.{and_parts, and_from, or_parts, or_from, or_left, or_right, or_cases, false_from_ne_true, eqb-true}
 use mathlib.Core.Bool.{and-false, or_comm}
 use Rattle.title_land.specs.{declared.{node.Node.{Node}, tract.Land.{Land}}, Nodes.{same_node, is_above, are_related}}
 use Rattle.title_land.specs.{Lands.{cover_of, meets, IsLand}, Laws.SameNode.{same_node-self, same_node-to}}

@@ -1,10 +1,9 @@
 -- A list of entries gone through from the oldest to the newest, and counted from the newest on.
-use Rattle.std.proofs.{Common.{◌≡◌, ◌<◌, ◌+◌, ℕ, List, [], ◌∷◌, reverse, length, take, get_or, ap, ◌∙◌}, lemmas.Bool.{ne_eqb, cond-false}}
-use Rattle.std.proofs.{lemmas.List.{take_more, reverse-append}, Common.{◌≢◌, ◌++◌, Option, None, cond, eqb, sym, subst}}
+use Rattle.std.proofs.Common.{◌≡◌, ◌<◌, ◌+◌, ℕ, List, [], ◌∷◌, reverse, length, take, get_or, ap, ◌∙◌, ◌≢◌, ◌++◌, Option, None, cond, eqb}
+use Rattle.std.proofs.{Common.{sym, subst}, lemmas.{Bool.{ne_eqb, cond-false}, List.{take_more, reverse-append}}}
 use Rattle.title_land.specs.{declared.node.Node.{Node}, Lands.{cover_of}}
-use Rattle.title_lock.specs.{declared.{guards.Entry.{Entry}, modes.Mode.{Mode}}, Modes.{bound}, Overlaps.{is_post}}
-use Rattle.title_lock.specs.{Asking.{asked, mode_at}, Counts.{IsCount}, Holders.{own_part}}
-use Rattle.title_lock.proofs.CountLaws.{count_moved}
+use Rattle.title_lock.specs.{declared.{guards.Entry.{Entry}, modes.Mode.{Mode}}, Modes.{bound}, Overlaps.{is_post}, Asking.{asked, mode_at}}
+use Rattle.title_lock.{specs.{Counts.{IsCount}, Holders.{own_part}}, proofs.CountLaws.{count_moved}}
 
 -- one entry more stands before those so far
 pub turned_more : (rows : List Entry) (i : ℕ) (d : Entry) → i < length rows → reverse (take (i + 1) rows)

@@ -1,16 +1,14 @@
 -- What is done on the one shelf where nodes stand, told of the whole table.
-use Rattle.std.proofs.Common.{◌≡◌, ◌≢◌, ℕ, Bool, true, false, cond, not, ◌&&◌, ◌||◌, List, [], ◌∷◌, Option, Some, None, eqb, refl}
-use Rattle.std.proofs.lemmas.Option.{none-some, same_Some}
-use Rattle.std.proofs.{Common.{sym, ap, subst, ◌∙◌, true≢false, inl, inr, ◌⊎◌}, lemmas.Bool.{cases_eq, false_from_ne_true, or_left}}
-use Rattle.std.proofs.{Common.{length, arith}, lemmas.{Bool.{eqb-true}, List.{nil_from_length}}}
-use Rattle.std.specs.{Ordering.{nat_cmp}, BTreeMap.{get, is_at}, Map.{lookup}}
+use Rattle.std.proofs.Common.{◌≡◌, ◌≢◌, ℕ, Bool, true, false, cond, not, ◌&&◌, ◌||◌, List, [], ◌∷◌, Option, Some, None, eqb, refl, sym, ap}
+use Rattle.std.proofs.{Common.{subst, ◌∙◌, true≢false, inl, inr, ◌⊎◌, length, arith}, lemmas.Option.{none-some, same_Some}}
+use Rattle.std.{proofs.lemmas.{Bool.{cases_eq, false_from_ne_true, or_left, eqb-true}, List.{nil_from_length}}, specs.Ordering.{nat_cmp}}
+use Rattle.std.specs.{BTreeMap.{get, is_at}, Map.{lookup}}
 use Rattle.title_land.specs.{declared.node.Node.{Node}, Nodes.{same_node}, NodeNumbers.{node_number}, Laws.SameNode.{same_node-self}}
-use Rattle.title_lock.specs.{declared.{walks.Climb.{Climb}, shelf.Shelf.{Shelf}, table.Table.{Table}}, Modes.{bound}}
-use Rattle.title_lock.specs.{Overlaps.{IsLeast}, Holders.{Modes}, Tables.{table_mode, is_idle, shelf_above, home_of}}
-use Rattle.title_lock.specs.Tables.{HeldAt, on_shelf, on_some, nowhere, on_all, mode_in, room_in, idle_in, HasRoom, IdleLess, AllUsed}
-use Rattle.title_lock.specs.Tables.{AreAtHome, shelf_at, IsTidy, TableUsed, table_room, is_bare}
+use Rattle.title_lock.specs.{declared.{walks.Climb.{Climb}, shelf.Shelf.{Shelf}, table.Table.{Table}}, Modes.{bound}, Overlaps.{IsLeast}}
+use Rattle.title_lock.{specs.Holders.{Modes}, proofs.WalkLaws.{asked_nowhere, StandOn, on_home, clash_at_home, climb_stands}}
+use Rattle.title_lock.specs.Tables.{table_mode, is_idle, shelf_above, home_of, HeldAt, on_shelf, on_some, nowhere, on_all, mode_in, room_in}
+use Rattle.title_lock.specs.Tables.{idle_in, HasRoom, IdleLess, AllUsed, AreAtHome, shelf_at, IsTidy, TableUsed, table_room, is_bare}
 use Rattle.title_lock.specs.Walks.{Asked, asks_above, node_of, asked_in, asks_in, clashes_in, climb_asks, Roomed, Raised, TakenOut}
-use Rattle.title_lock.proofs.WalkLaws.{asked_nowhere, StandOn, on_home, clash_at_home, climb_stands}
 use Rattle.title_lock.proofs.{ModeLaws.{bound_none}, LeastLaws.{least_same}}
 
 -- ---- homes

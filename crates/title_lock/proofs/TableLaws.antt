@@ -1,7 +1,6 @@
 -- Maps of the holders of nodes by their numbers, changed under one number at a time.
-use Rattle.std.proofs.{Common.{arith}, lemmas.Bool.Decides.{nat_tests}}
-use Rattle.std.proofs.Common.{◌≡◌, ℕ, Bool, true, false, cond, [], Option, Some, None, length, refl, sym, ap, subst, ◌∙◌}
-use Rattle.std.{proofs.lemmas.{Bool.{eqb-true}, List.{nil_from_length}}, specs.Prelude.{IsSome, is_some}}
+use Rattle.std.proofs.Common.{arith, ◌≡◌, ℕ, Bool, true, false, cond, [], Option, Some, None, length, refl, sym, ap, subst, ◌∙◌}
+use Rattle.std.{proofs.lemmas.{Bool.{Decides.{nat_tests}, eqb-true}, List.{nil_from_length}}, specs.Prelude.{IsSome, is_some}}
 use Rattle.std.specs.{Cmp.{unsigned_tied}, Ordering.{nat_cmp}, BTreeMap.{BTreeMap, get, is_at}}
 use Rattle.title_land.specs.{declared.node.Node.{Node}, Nodes.{same_node}, NodeNumbers.{node_number}, Laws.NodeNumbers.{numbered_at}}
 use Rattle.title_land.specs.Laws.SameNode.{same_node-to}

@@ -1,19 +1,17 @@
 -- What a walk asks is what its access asks for, and what is done along its parts is done along the whole.
-use Rattle.std.proofs.Common.{◌≡◌, ℕ, Bool, true, false, cond, not, ◌&&◌, ◌||◌, List, [], ◌∷◌, ◌++◌, Option, Some, None, is_some}
-use Rattle.std.proofs.Common.{refl, sym, ap, subst, ◌∙◌, true≢false, suc, ◌+◌, ◌<◌, length, length-append, append_assoc}
-use Rattle.std.proofs.lemmas.Bool.{eqb-true, or_left, or_right, or_parts, cond_both}
-use Rattle.std.{proofs.{Common.{eqb, arith}, lemmas.List.Elements.{All-nil, All-cons, All-head, All-tail}}, specs.Prelude.{All}}
-use Rattle.std.{proofs.lemmas.List.Folds.{list_any-append}, specs.List.{list_any}}
+use Rattle.std.proofs.Common.{◌≡◌, ℕ, Bool, true, false, cond, not, ◌&&◌, ◌||◌, List, [], ◌∷◌, ◌++◌, Option, Some, None, is_some, refl, sym}
+use Rattle.std.proofs.Common.{ap, subst, ◌∙◌, true≢false, suc, ◌+◌, ◌<◌, length, length-append, append_assoc, eqb, arith}
+use Rattle.std.{proofs.lemmas.{Bool.{eqb-true, or_left, or_right, or_parts, cond_both}, List.Folds.{list_any-append}}, specs.Prelude.{All}}
+use Rattle.std.{proofs.lemmas.List.Elements.{All-nil, All-cons, All-head, All-tail}, specs.List.{list_any}}
 use Rattle.title_land.specs.declared.{survey.Section.{Section}, rectangle.Quarter.{Quarter}, node.Node.{Node}}
 use Rattle.title_land.specs.{Nodes.{same_node, above_in, above, is_above}, Laws.NodeSharing.{above_is_transitive}}
 use Rattle.title_land.specs.{NodeNumbers.{section_number}, Laws.{NodeNumbers.{numbers_tell_nodes}, SameNode.{same_node-self, same_node-to}}}
-use Rattle.title_land.specs.declared.node.Node.TheVariants as node
-use Rattle.title_lock.specs.{declared.modes.Mode.{Mode}, Modes.{bound}, Asking.{own_mode, above_mode, asked}}
-use Rattle.title_lock.specs.{Holders.{clashes}, declared.{spots.Spot.{Spot}, walks.Climb.{Climb}}, Walks.{node_of, climb_asks, climb_left}}
-use Rattle.title_lock.specs.Tables.{is_asked, shelf_above, upper_above, home_of}
-use Rattle.title_lock.specs.Walks.{Asked, mode_for, is_known, asks_above, walk, asked_in, asks_in, clashes_in}
+use Rattle.title_lock.specs.{declared.modes.Mode.{Mode}, Modes.{bound}, Asking.{own_mode, above_mode, asked}, Holders.{clashes}}
+use Rattle.title_lock.{specs.{declared.{spots.Spot.{Spot}, walks.Climb.{Climb}}, Walks.{clashes_in}}, proofs.NodeLaws.{above_apart}}
+use Rattle.title_lock.specs.Walks.{node_of, climb_asks, climb_left, Asked, mode_for, is_known, asks_above, walk, asked_in, asks_in}
+use Rattle.title_lock.{specs.Tables.{is_asked, shelf_above, upper_above, home_of}, proofs.Overlap.{Allow, allow_bound, allow_parts}}
 use Rattle.title_lock.proofs.ModeLaws.{bound_none, bound_assoc, bound_turn, sup_self}
-use Rattle.title_lock.proofs.{NodeLaws.{above_apart}, Overlap.{Allow, allow_bound, allow_parts}}
+use Rattle.title_land.specs.declared.node.Node.TheVariants as node
 
 -- ---- parts in turn
 

@@ -3,8 +3,7 @@ use Rattle.std.proofs.Common.{◌≡◌, ℕ, Bool, false, List, Option, None, s
 use Rattle.title_land.specs.{declared.tract.Land.{Land}, Lands.{cover_of, IsLand}}
 use Rattle.title_lock.specs.{declared.{modes.Mode.{Mode}, guards.Entry.{Entry}}, Modes.{allows}, Overlaps.{IsLeast, against}}
 use Rattle.title_lock.specs.{Asking.{asked}, Tables.{HeldAt, table_mode, TableIs}, Walks.{walk, clashes_in}}
-use Rattle.title_lock.proofs.{LeastLaws.{least_same}, WalkLaws.{walk_asked, fits_in, clear_in}}
-use Rattle.title_lock.proofs.Overlap.{MeetByCovers, entries_stand}
+use Rattle.title_lock.proofs.{LeastLaws.{least_same}, WalkLaws.{walk_asked, fits_in, clear_in}, Overlap.{MeetByCovers, entries_stand}}
 
 -- two tests that fail together are one
 same_when_false : (a b : Bool) → (a ≡ false → b ≡ false) → (b ≡ false → a ≡ false) → a ≡ b

@@ -3,9 +3,8 @@
 ghost use Rattle.std.specs.Prelude.{◌≡◌, ℕ, true, false, None, Some, ◌&&◌, ◌==◌, if◌then◌else◌, Option, OnOk, slice_index};
 ghost use Rattle.title_land.specs.{declared.node.Node.{Node}, Nodes.{same_node}};
 ghost use Rattle.title_lock.specs.{Modes.{bound}, Overlaps.{is_post, IsLeast}, declared.modes.Mode.TheVariants.{Is, Ix, S, Six, X}};
-ghost use Rattle.title_lock.specs.{Counts.{IsCount}, Holders.{clashes, is_mode}};
-ghost use Rattle.title_lock.specs.Tables.{on_shelf, table_mode, table_room, KeepsRoom, HasRoom, is_idle};
-ghost use Rattle.title_lock.specs.Tables.{IdleMore, IdleLess, AllUsed, is_bare, home_of, AreAtHome};
+ghost use Rattle.title_lock.specs.{Counts.{IsCount}, Holders.{clashes, is_mode}, Tables.{is_bare, home_of, AreAtHome}};
+ghost use Rattle.title_lock.specs.Tables.{on_shelf, table_mode, table_room, KeepsRoom, HasRoom, is_idle, IdleMore, IdleLess, AllUsed};
 ghost use Rattle.title_lock.specs.Walks.{asks_in, clashes_in, climb_asks, Roomed, Raised, TakenOut};
 
 use crate::guards::Access;

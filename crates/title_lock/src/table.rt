@@ -4,9 +4,8 @@ ghost use Rattle.std.specs.Prelude.{◌≡◌, ◌≢◌, ℕ, true, false, Opti
 ghost use Rattle.std.specs.{BTreeMap.{get}, List.{list_any}, Ordering.{nat_cmp}};
 ghost use Rattle.title_land.specs.declared.node.Node.{Node};
 ghost use Rattle.title_lock.specs.{Modes.{bound}, Overlaps.{is_post, IsLeast}, Asking.{asked}, Counts.{IsCount}, Holders.{is_mode}};
-ghost use Rattle.title_lock.specs.declared.modes.Mode.TheVariants.{Is, Ix, S, Six, X};
-ghost use Rattle.title_lock.specs.Tables.{on_section, on_all, table_mode, HasRoom, is_asked, is_idle, IdleMore, IdleLess};
-ghost use Rattle.title_lock.specs.Tables.{AllUsed, IsStocked, TableUsed, home_of, IsAtHome};
+ghost use Rattle.title_lock.specs.{declared.modes.Mode.TheVariants.{Is, Ix, S, Six, X}, Tables.{IsStocked, TableUsed, home_of, IsAtHome}};
+ghost use Rattle.title_lock.specs.Tables.{on_section, on_all, table_mode, HasRoom, is_asked, is_idle, IdleMore, IdleLess, AllUsed};
 ghost use Rattle.title_lock.specs.Walks.{walk, asks_in, clashes_in, climb_asks, Roomed, Raised, TakenOut};
 
 use crate::guards::Access;

@@ -1,9 +1,8 @@
 -- Words of bits, one for each name.
-use Rattle.std.proofs.Common.{◌≡◌, ◌∙◌, ◌≢◌, ◌<◌, ◌≤◌, ◌+◌, ◌*◌, ◌%◌, ◌^◌, ◌++◌, ◌∷◌, [], ℕ, List, Bool, true, false}
-use Rattle.std.proofs.lemmas.List.{get_or_append_left, get_or_past, get_or_push, length_push}
-use Rattle.std.proofs.lemmas.Nat.Bits.{bit_at-zero, bit_at_or, bit_at_set_other, bit_at_set_same}
-use Rattle.std.{proofs.Common.{inl, inr, ap, arith, below_more, drop, get_or, length, refl, subst, sym}, specs.Prelude.{◌==◌, bit_or, max}}
-use Rattle.std.{specs.Int.{bit_at, from_bool, w64}, proofs.lemmas.Bool.{cases_lt}}
+use Rattle.std.proofs.Common.{◌≡◌, ◌∙◌, ◌≢◌, ◌<◌, ◌≤◌, ◌+◌, ◌*◌, ◌%◌, ◌^◌, ◌++◌, ◌∷◌, [], ℕ, List, Bool, true, false, inl, inr, ap, arith}
+use Rattle.std.{proofs.Common.{below_more, drop, get_or, length, refl, subst, sym}, specs.Prelude.{◌==◌, bit_or, max}}
+use Rattle.std.{proofs.lemmas.List.{get_or_append_left, get_or_past, get_or_push, length_push}, specs.Int.{bit_at, from_bool, w64}}
+use Rattle.std.proofs.lemmas.{Nat.Bits.{bit_at-zero, bit_at_or, bit_at_set_other, bit_at_set_same}, Bool.{cases_lt}}
 use Rattle.csv.specs.Writing.{needs_quotes}
 use Rattle.title_page.specs.Rows.{row_writer}
 use Rattle.title_report.specs.{Replies.{name_of}, Rosters.{AreJudged, IsJudged}}

@@ -1,19 +1,18 @@
 -- No two paths of a tract lie one below the other.
-use Rattle.std.proofs.Common.{◌≡◌, ◌∙◌, sym, refl, subst, ℕ, ◌^◌, ◌≤◌, true, false}
-use Rattle.std.proofs.lemmas.Bool.{and_parts, and_right, both_ways, false_from_ne_true}
-use Rattle.std.{proofs.Common.{inl, inr, List, [], ◌∷◌, ◌++◌, length}, specs.{Prelude.{reverse}, List.{flat_map, list_any, list_all}}}
-use Rattle.title_land.specs.{Depth.{depth}, declared.{survey.Township.{Township}, rectangle.Quarter.{Quarter}, node.Node.{Node}}}
-use Rattle.title_land.specs.{declared.tract.Land.{Land}, Laws.NodeLands.{path_after}}
-use Rattle.title_land.specs.{Survey.{same_township, same_section}, Lands.{is_in_plant, cover_of}}
-use Rattle.title_land.specs.{CoverSets.{path_before, comes_before, are_in_order}, Laws.Members.{any_from, In, in_mapped, all_at}}
-use Rattle.title_land.specs.Laws.{SameLand.{same_township-self}, CoverSet.{cover_is_cover}, Members.{in_flat_mapped}}
-use Rattle.title_land.specs.declared.node.Node.TheVariants as node
+use Rattle.std.proofs.Common.{◌≡◌, ◌∙◌, sym, refl, subst, ℕ, ◌^◌, ◌≤◌, true, false, inl, inr, List, [], ◌∷◌, ◌++◌, length}
+use Rattle.std.{proofs.lemmas.Bool.{and_parts, and_right, both_ways, false_from_ne_true}, specs.Prelude.{reverse}}
+use Rattle.std.specs.List.{flat_map, list_any, list_all}
+use Rattle.title_land.specs.{Depth.{depth}, Survey.{same_township, same_section}, CoverSets.{path_before, comes_before, are_in_order}}
+use Rattle.title_land.specs.{declared.survey.Township.{Township}, Laws.{SameLand.{same_township-self}, CoverSet.{cover_is_cover}}}
+use Rattle.title_land.specs.{declared.rectangle.Quarter.{Quarter}, Laws.Members.{any_from, In, in_mapped, all_at, in_flat_mapped}}
+use Rattle.title_land.specs.{declared.{node.Node.{Node}, tract.Land.{Land}}, Laws.NodeLands.{path_after}, Lands.{is_in_plant, cover_of}}
 use Rattle.title_store.specs.{Plants.{IsEachOnce}, Laws.SheetShows.{cover_apart}}
-use Rattle.title_tree.specs.{Paths.{begins}, Pieces.{Disjoint}, Laws.{Beginnings.{begins_parts, begins_self}, PathLists.{disjoint_join}}}
+use Rattle.title_tree.specs.{Paths.{begins}, Pieces.{Disjoint}, Laws.Beginnings.{begins_parts, begins_self}}
+use Rattle.title_tree.specs.Laws.{PathLists.{disjoint_join, disjoint_under}, NumberPaths.{length-number_path}}
 use Rattle.title_tree_store.specs.Spots.{index_of, township_path, blocks, township_spots, spots, tract_spots}
-use Rattle.title_tree_store.proofs.CellPaths.{is_own, township_is, cover_declared, spots_short, whole, length-whole, has_whole}
-use Rattle.title_tree_store.proofs.CellPaths.{node_at, spots_have_at}
-use Rattle.title_tree.specs.Laws.{NumberPaths.{length-number_path}, PathLists.{disjoint_under}}
+use Rattle.title_tree_store.proofs.CellPaths.{is_own, township_is, cover_declared, spots_short, whole, length-whole, has_whole, node_at}
+use Rattle.title_tree_store.proofs.CellPaths.{spots_have_at}
+use Rattle.title_land.specs.declared.node.Node.TheVariants as node
 
 -- ---- lists of paths, of items that are each there once
 

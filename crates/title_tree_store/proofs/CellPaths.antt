@@ -1,26 +1,25 @@
 -- Which cells lie below which paths.
-use Rattle.std.{proofs.Common.{◌≡◌, ◌∙◌, ap, sym, refl, subst, ℕ, zero, suc, ◌+◌, lt-ltb}, specs.{Prelude.{nat_lt}, List.{list_any}}}
-use Rattle.std.proofs.Common.{◌-◌, ◌*◌, ◌^◌, ◌<◌, ◌≤◌, arith, Bool, true, false, ◌&&◌, ◌||◌, add-one, get_or, take, drop}
-use Rattle.std.proofs.Common.{inl, inr, List, [], ◌∷◌, ◌++◌, length, length-append, append_assoc, reverse, length-drop}
+use Rattle.std.proofs.Common.{◌≡◌, ◌∙◌, ap, sym, refl, subst, ℕ, zero, suc, ◌+◌, lt-ltb, ◌-◌, ◌*◌, ◌^◌, ◌<◌, ◌≤◌, arith, Bool, true, false}
+use Rattle.std.proofs.Common.{◌&&◌, ◌||◌, add-one, get_or, take, drop, inl, inr, List, [], ◌∷◌, ◌++◌, length, length-append, append_assoc}
+use Rattle.std.{proofs.{Common.{reverse, length-drop}, lemmas.Bool.Decides.{nat_tests}}, specs.{Prelude.{nat_lt}, List.{list_any}}}
 use Rattle.std.proofs.lemmas.List.{length-reverse, reverse-append, reverse-reverse, append-nil, length-take-le, take-append-drop}
-use Rattle.std.proofs.lemmas.Bool.{and_from, and_parts, cases_Bool, eq-eqb, ltb-true, agree_below_at, Decides.{nat_tests}}
+use Rattle.std.proofs.lemmas.Bool.{and_from, and_parts, cases_Bool, eq-eqb, ltb-true, agree_below_at}
 use Rattle.title_land.specs.{Depth.{depth}, declared.{survey.{Township.{Township}, Section.{Section}, Cell.{Cell}}, node.Node.{Node}}}
 use Rattle.title_land.specs.declared.{rectangle.Quarter.{Quarter, TheVariants.{Northeast, Northwest, Southwest}}, tract.Land.{Land}}
 use Rattle.title_land.specs.{Survey.{side, same_township, same_section, is_on_grid}, Rectangles.{holds}, Nodes.{square, node_has}}
-use Rattle.title_land.specs.{Lands.{has, cover_of, is_in_plant, is_plant_cell}, Laws.PathNumbers.{quarter_below}}
+use Rattle.title_land.specs.{Lands.{has, cover_of, is_in_plant, is_plant_cell}, Laws.{PathNumbers.{quarter_below}, CoverSet.{cell_in_grid}}}
 use Rattle.title_land.specs.Laws.{SameLand.{same_township-is, same_township-self, same_section-is}, Squares.{holds_from, has_corner}}
-use Rattle.title_land.specs.Laws.{CoverSet.{cell_in_grid}, LandSharing.{cover_has_its_cells, part_found, equal_tests}}
+use Rattle.title_land.specs.Laws.LandSharing.{cover_has_its_cells, part_found, equal_tests}
 use Rattle.title_land.specs.Laws.Members.{any_found, any_from, In, in_flat_mapped}
+use Rattle.title_tree.specs.{Paths.{way, begins, rest, number_path}, Laws.CellSquares.{squares_by_paths, cell_ways_are_whole}}
+use Rattle.title_tree.specs.{CellWays.{cell_way}, Laws.NumberPaths.{append_parts, length-number_path, number_is, number_of, path_of_number}}
+use Rattle.title_tree.specs.{Pieces.{Short}, Laws.Beginnings.{begins_is, begins_on, begins_parts, begins_under, begins_whole}}
+use Rattle.title_tree.specs.Laws.{PathLists.{has_on, has_in, has_flat, has_from, has_parts, has_under}, Uniform.{corner, length-corner}}
+use Rattle.title_tree_store.specs.Spots.{index_of, township_path, section_path, square_path, cell_path, blocks, township_spots, spots}
+use Rattle.title_tree_store.specs.{Spots.{tract_spots}, Keeping.{height}}
 use Rattle.title_land.specs.declared.node.Node.TheVariants as node
 use Rattle.title_land.specs.declared.tract.Land.TheVariants as land
-use Rattle.title_tree.specs.{Paths.{way, begins, rest, number_path}, CellWays.{cell_way}, Pieces.{Short}, Laws.PathLists.{has_on}}
-use Rattle.title_tree.specs.Laws.{CellSquares.{squares_by_paths, cell_ways_are_whole}, Uniform.{corner, length-corner}, PathLists.{has_in}}
-use Rattle.title_tree.specs.Laws.{Beginnings.{begins_is, begins_on, begins_parts, begins_under, begins_whole}, NumberPaths.{append_parts}}
 use Rattle.title_tree.specs.Pieces as pieces
-use Rattle.title_tree_store.specs.{Spots.{index_of, township_path, section_path, square_path}, Keeping.{height}}
-use Rattle.title_tree_store.specs.Spots.{cell_path, blocks, township_spots, spots, tract_spots}
-use Rattle.title_tree.specs.Laws.{NumberPaths.{length-number_path, number_is, number_of, path_of_number}, PathLists.{has_flat, has_from}}
-use Rattle.title_tree.specs.Laws.PathLists.{has_parts, has_under}
 
 -- ---- townships
 

@@ -1,22 +1,20 @@
 -- The first of a tract's cells that refuses, list after list.
-use Rattle.std.proofs.Common.{◌≡◌, ◌∙◌, ap, sym, refl, subst, ℕ, zero, suc, ◌+◌, ◌-◌, ◌<◌, arith, true, false}
-use Rattle.std.proofs.Common.{List, [], ◌∷◌, ◌++◌, length, drop, get_or, Option, Some, None, is_some, Bool, ◌||◌, cond}
-use Rattle.std.specs.{Prelude.{filter}, List.{flat_map, list_any}, Option.{option_or}}
-use Rattle.std.proofs.lemmas.{Bool.{cond_both}, List.{at_drop_more, get_or_default, Elements.{filter-append}}}
+use Rattle.std.proofs.Common.{◌≡◌, ◌∙◌, ap, sym, refl, subst, ℕ, zero, suc, ◌+◌, ◌-◌, ◌<◌, arith, true, false, List, [], ◌∷◌, ◌++◌, length}
+use Rattle.std.{proofs.Common.{drop, get_or, Option, Some, None, is_some, Bool, ◌||◌, cond}, specs.{Prelude.{filter}, Option.{option_or}}}
+use Rattle.std.{specs.List.{flat_map, list_any}, proofs.lemmas.{Bool.{cond_both}, List.{at_drop_more, get_or_default}}}
+use Rattle.std.proofs.lemmas.List.Elements.{filter-append}
 use Rattle.title_land.specs.{Depth.{depth}, declared.{survey.{Township.{Township}, Section.{Section}, Cell.{Cell}}, tract.Land.{Land}}}
 use Rattle.title_land.specs.declared.rectangle.Quarter.{Quarter, TheVariants.{Northeast, Northwest, Southwest, Southeast}}
-use Rattle.title_land.specs.declared.rectangle.Rectangle.{Rectangle}
-use Rattle.title_land.specs.CellLists.{corner_of, cells_below, section_cells, township_cells, plant_cells, cells_of}
-use Rattle.title_land.specs.Laws.CellFilters.{township_elsewhere, part_elsewhere, part_in_township}
-use Rattle.title_land.specs.{declared.grid.Grid.{Grid}, Nodes.{square, quarters}}
-use Rattle.title_land.specs.{Lands.{has, cover_of, is_in_plant}, Survey.{same_township}, Laws.SameLand.{same_township-is}}
-use Rattle.title_land.specs.{CellLists.{part_cells}, Laws.CoverLists.{kept_of_everything, kept_of_township, kept_of_part}}
-use Rattle.title_land.specs.declared.tract.Land.TheVariants as land
+use Rattle.title_land.specs.{declared.{rectangle.Rectangle.{Rectangle}, grid.Grid.{Grid}}, Nodes.{square, quarters}, Survey.{same_township}}
+use Rattle.title_land.specs.CellLists.{corner_of, cells_below, section_cells, township_cells, plant_cells, cells_of, part_cells}
+use Rattle.title_land.specs.{Laws.CellFilters.{township_elsewhere, part_elsewhere, part_in_township}, Lands.{has, cover_of, is_in_plant}}
+use Rattle.title_land.specs.Laws.{SameLand.{same_township-is}, CoverLists.{kept_of_everything, kept_of_township, kept_of_part}}
 use Rattle.title_instrument.specs.declared.{parts.{Estate.{Estate}, Rule.{Rule}}, instrument.Instrument.{Instrument}}
 use Rattle.title_instrument.specs.{declared.owners.Effect.{Effect, TheVariants.{Done, Refused}}, Effect.{cell_effect}}
 use Rattle.title_store.specs.Plants.{Plant, Failing, failing_or, first_failing}
-use Rattle.title_tree_store.specs.declared.refusals.Search.{Search}
-use Rattle.title_tree_store.specs.{Spots.{cell_path}, Forests.{plots, owners_at}, Refusing.{first_for, first_cell_of, triple}}
+use Rattle.title_tree_store.specs.{declared.refusals.Search.{Search}, Spots.{cell_path}, Forests.{plots, owners_at}}
+use Rattle.title_tree_store.specs.Refusing.{first_for, first_cell_of, triple}
+use Rattle.title_land.specs.declared.tract.Land.TheVariants as land
 
 failing_step : (c : Cell) (e : Effect) (x y : Option Failing) (z : Option (Rule × Estate × Cell))
     → triple x ≡ option_or (triple y) z → triple (failing_or c e x) ≡ option_or (triple (failing_or c e y)) z

@@ -1,26 +1,25 @@
 -- What a tree has at a node's paths is what the node's cells have.
-use Rattle.std.proofs.Common.{◌≡◌, ◌∙◌, ap, sym, refl, subst, ℕ, zero, suc, ◌+◌, ◌-◌, ◌≤◌, arith, Bool, true, cond}
-use Rattle.std.proofs.lemmas.List.{append-nil}
-use Rattle.std.{proofs.Common.{inl, inr, List, [], ◌∷◌, ◌++◌, length, length-append, map, Option, Some, None}, specs.Option.{option_map}}
+use Rattle.std.proofs.Common.{◌≡◌, ◌∙◌, ap, sym, refl, subst, ℕ, zero, suc, ◌+◌, ◌-◌, ◌≤◌, arith, Bool, true, cond, inl, inr, List, [], ◌∷◌}
+use Rattle.std.{proofs.{Common.{◌++◌, length, length-append, map, Option, Some, None}, lemmas.List.{append-nil}}, specs.Option.{option_map}}
 use Rattle.std.{specs.{Prelude.{nat_lt, is_some}, List.{flat_map}}, proofs.lemmas.{Bool.{cases_Bool, ltb-true}, Option.{cond_some}}}
 use Rattle.title_share.specs.Division.{Division}
 use Rattle.title_land.specs.{Depth.{depth}, declared.{survey.{Township.{Township}, Section.{Section}, Cell.{Cell}}, node.Node.{Node}}}
-use Rattle.title_land.specs.{declared.{rectangle.Quarter.{Quarter}, tract.Land.{Land}}, Nodes.{quarters}, Lands.{is_in_plant}}
-use Rattle.title_land.specs.{Lands.{is_plant_cell, cover_of}, CellLists.{sections_of, node_cells, children_of}}
-use Rattle.title_land.specs.Laws.{CellMembers.{sections_of-in}, CoverLists.{flat_same}, Members.{In, in_mapped}}
-use Rattle.title_land.specs.declared.node.Node.TheVariants as node
+use Rattle.title_land.specs.{declared.{rectangle.Quarter.{Quarter}, tract.Land.{Land}}, Nodes.{quarters}, Laws.CellMembers.{sections_of-in}}
+use Rattle.title_land.specs.{Lands.{is_in_plant, is_plant_cell, cover_of}, CellLists.{sections_of, node_cells, children_of}}
+use Rattle.title_land.specs.Laws.{CoverLists.{flat_same}, Members.{In, in_mapped}}
 use Rattle.title_instrument.specs.{declared.parts.Estate.{Estate, TheVariants.{S, O, M}}, Owners.{holding_of, opening_owners}}
 use Rattle.title_store.specs.Laws.SheetHoldings.{one_found, one_from, one_some, in_node, of_node}
 use Rattle.title_store.specs.Sheets.{one_holding, rows_or, sheet_below, estate_sheet, estates, sheet_of}
 use Rattle.title_tree.specs.{Paths.{begins, rest}, Plots.{Plot, value_at, plot_at, uniform, same_division, fits}}
 use Rattle.title_tree.specs.{Pieces.{both_have, uniform_at}, Laws.Beginnings.{begins_append, rest_append, begins_self}}
-use Rattle.title_tree.specs.Laws.{Depths.{fits_plot_at}, Grafts.{value_plot_at}, SameDivisions.{same_is, same_self}, PathLists.{has_from}}
-use Rattle.title_tree.specs.Laws.{Uniform.{uniform_is_held, uniform_is_found}, PathLists.{has_in}}
-use Rattle.title_tree.specs.Pieces as pieces
+use Rattle.title_tree.specs.Laws.{Depths.{fits_plot_at}, Grafts.{value_plot_at}, SameDivisions.{same_is, same_self}}
+use Rattle.title_tree.specs.Laws.{PathLists.{has_from, has_in}, Uniform.{uniform_is_held, uniform_is_found}}
 use Rattle.title_tree_store.specs.{declared.lent.Lent.{Lent}, Spots.{cell_path, section_path, spots}, Forests.{owners_at}}
 use Rattle.title_tree_store.specs.{Keeping.{height, content_of, IsKept}, TreeSheets.{tree_sheet}}
 use Rattle.title_tree_store.proofs.CellPaths.{IsOf, is_own, IsDeclared, CellAt, spots_have, spots_have_at, cover_declared, node_at}
 use Rattle.title_tree_store.proofs.CellPaths.{spots_short, whole, length-whole, has_whole}
+use Rattle.title_land.specs.declared.node.Node.TheVariants as node
+use Rattle.title_tree.specs.Pieces as pieces
 
 -- ---- the one holding at some paths
 

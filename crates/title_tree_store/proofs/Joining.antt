@@ -1,17 +1,16 @@
 -- Where the trees of a store are joined, through each of its operations.
-use Rattle.std.proofs.Common.{◌≡◌, ◌∙◌, ap, sym, refl, subst, ℕ, Bool, true, ◌&&◌, inl, inr}
-use Rattle.std.{proofs.Common.{List, [], ◌∷◌, ◌++◌, Option, Some, None}, specs.Prelude.{MatchOption}}
+use Rattle.std.proofs.Common.{◌≡◌, ◌∙◌, ap, sym, refl, subst, ℕ, Bool, true, ◌&&◌, inl, inr, List, [], ◌∷◌, ◌++◌, Option, Some, None}
+use Rattle.std.specs.Prelude.{MatchOption}
 use Rattle.title_share.specs.Division.{all_to}
 use Rattle.title_land.specs.{declared.{survey.Township.{Township}, rectangle.Quarter.{Quarter}}, Laws.Members.{In, in_last}}
 use Rattle.title_instrument.specs.declared.{parts.Estate.{Estate, TheVariants.{S, O, M}}, instrument.Instrument.{Instrument}}
 use Rattle.title_store.specs.Loans.{IsOut}
 use Rattle.title_tree.specs.{Joins.{is_joinable}, Joining.{ApartFromAll, JoinedBut}, Plots.{Plot, Same, plot_at, is_tidy, tidied_all}}
-use Rattle.title_tree.specs.{Pieces.{Piece, Apart, paths, swapped}, Laws.Joined.{elsewhere_split_all, elsewhere_swapped}}
-use Rattle.title_tree.specs.Laws.Joined.{joined_but_none, joined_but_tidied, joined_but_tidy}
-use Rattle.title_tree_store.specs.declared.{forest.Forest.{Forest}, lent.Lent.{Lent}}
+use Rattle.title_tree.specs.Pieces.{Piece, Apart, paths, swapped}
+use Rattle.title_tree.specs.Laws.Joined.{elsewhere_split_all, elsewhere_swapped, joined_but_none, joined_but_tidied, joined_but_tidy}
+use Rattle.title_tree_store.specs.{declared.{forest.Forest.{Forest}, lent.Lent.{Lent}}, Keeping.{loans_of, IsAbsent, IsTakenOut, AreJoined}}
 use Rattle.title_tree_store.specs.Forests.{plots, pieces, written, are_joined, named_spots, tidied_written, StaysApart}
-use Rattle.title_tree_store.{specs.Keeping.{loans_of, IsAbsent, IsTakenOut, AreJoined}, proofs.Steps.{apart_pushed}}
-use Rattle.title_tree_store.proofs.{Keeps.{left_in, out_in}, Operations.{is_there}, Puts.{IsPut, put_paths}}
+use Rattle.title_tree_store.proofs.{Steps.{apart_pushed}, Keeps.{left_in, out_in}, Operations.{is_there}, Puts.{IsPut, put_paths}}
 
 all_true : (a b c : Bool) → a ≡ true → b ≡ true → c ≡ true → (a && b && c) ≡ true
 all_true a b c e f g = rw (e, f, g) refl

@@ -1,17 +1,16 @@
 -- What a store keeps, through each of its operations.
-use Rattle.std.proofs.Common.{◌≡◌, ◌∙◌, ap, sym, refl, subst, ℕ, ◌+◌, ◌-◌, ◌^◌, ◌≤◌, arith, true, false}
-use Rattle.std.proofs.Common.{inl, inr, List, [], ◌∷◌, length, map}
-use Rattle.std.proofs.lemmas.Bool.{and_from, and_parts, or_cases, both_ways, false_from_ne_true}
-use Rattle.title_land.specs.declared.{survey.Township.{Township}, rectangle.Quarter.{Quarter}, tract.Land.{Land}}
-use Rattle.title_land.specs.{Nodes.{same_path}, Lands.{is_in_plant, meets}, Laws.{SameNode.{same_path-is, same_path-self}, Members.{In}}}
-use Rattle.title_land.specs.Laws.{TractSharing.{common_meets}, Members.{in_map, in_mapped, in_middle, in_more}}
+use Rattle.std.proofs.Common.{◌≡◌, ◌∙◌, ap, sym, refl, subst, ℕ, ◌+◌, ◌-◌, ◌^◌, ◌≤◌, arith, true, false, inl, inr, List, [], ◌∷◌, length}
+use Rattle.std.proofs.{Common.{map}, lemmas.Bool.{and_from, and_parts, or_cases, both_ways, false_from_ne_true}}
+use Rattle.title_land.specs.{declared.{survey.Township.{Township}, rectangle.Quarter.{Quarter}, tract.Land.{Land}}, Nodes.{same_path}}
+use Rattle.title_land.specs.{Lands.{is_in_plant, meets}, Laws.{SameNode.{same_path-is, same_path-self}, TractSharing.{common_meets}}}
+use Rattle.title_land.specs.Laws.Members.{In, in_map, in_mapped, in_middle, in_more}
 use Rattle.title_instrument.specs.declared.parts.Estate.{Estate}
 use Rattle.title_tree.specs.{Paths.{begins}, Plots.{Plot, graft, fits, tidied_all}, Lendings.{Lending, Clear}}
 use Rattle.title_tree.specs.{Pieces.{Piece, paths, Disjoint, Ready, Short, Refines, swapped, taken}, Laws.Beginnings.{begins_self}}
 use Rattle.title_tree.specs.Laws.{Images.{keeps_less, keeps_refined}, Depths.{fits_graft, fits_plot_at, fits_tidied_all}}
-use Rattle.title_tree_store.specs.{declared.lent.Lent.{Lent}, Spots.{tract_spots}, Forests.{tidied_written}}
+use Rattle.title_tree_store.{specs.{declared.lent.Lent.{Lent}, Spots.{tract_spots}, Forests.{tidied_written}}, proofs.Images.{rises_less}}
 use Rattle.title_tree_store.specs.Keeping.{height, lending, loans_of, same_ways, PiecesFit, IsBacked, IsKept, Rises, IsTakenOut}
-use Rattle.title_tree_store.proofs.{Images.{rises_less}, CellPaths.{tract_at, tract_short, whole, length-whole, has_whole, tract_has_at}}
+use Rattle.title_tree_store.proofs.CellPaths.{tract_at, tract_short, whole, length-whole, has_whole, tract_has_at}
 use Rattle.title_tree_store.specs.Forests as forests
 
 pub same_ways-is : (ps qs : List (List Quarter)) → same_ways ps qs ≡ true → ps ≡ qs

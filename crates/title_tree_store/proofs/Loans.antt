@@ -1,7 +1,6 @@
 -- Images that are out, as loans: what an image holds is read off it, the images after it and the trees.
-use Rattle.std.proofs.Common.{◌≡◌, ◌≢◌, ◌∙◌, ap, sym, refl, subst, ℕ, ◌^◌, ◌≤◌, ◌<◌, arith, List, [], ◌∷◌, ◌++◌, length}
-use Rattle.std.proofs.Common.{Bool, true, false, cond, eqb, inl, inr}
-use Rattle.std.proofs.lemmas.Bool.{cases_Bool, eqb-true, eq-eqb, and_parts, both_ways, false_from_ne_true}
+use Rattle.std.proofs.Common.{◌≡◌, ◌≢◌, ◌∙◌, ap, sym, refl, subst, ℕ, ◌^◌, ◌≤◌, ◌<◌, arith, List, [], ◌∷◌, ◌++◌, length, Bool, true, false}
+use Rattle.std.proofs.{Common.{cond, eqb, inl, inr}, lemmas.Bool.{cases_Bool, eqb-true, eq-eqb, and_parts, both_ways, false_from_ne_true}}
 use Rattle.title_share.specs.Division.{Division}
 use Rattle.title_land.specs.{Depth.{depth}, declared.{survey.{Township.{Township}, Cell.{Cell}}, rectangle.Quarter.{Quarter}}}
 use Rattle.title_land.specs.{declared.tract.Land.{Land}, Lands.{has, is_plant_cell, meets}, Laws.TractSharing.{common_meets}}
@@ -9,9 +8,8 @@ use Rattle.title_land.specs.Laws.Members.{In, in_left, in_right, in_middle}
 use Rattle.title_instrument.specs.{declared.parts.Estate.{Estate}, Owners.{opening_owners}}
 use Rattle.title_store.specs.{Plants.{is_cell_of}, Loans.{Loan, IsAmong, IsLentAs, IsLast, IsFirst, without}}
 use Rattle.title_tree.specs.{Plots.{Plot, value_at}, Pieces.{paths, held, Refines}, Laws.PathLists.{has_from, has_in}}
-use Rattle.title_tree_store.specs.{declared.lent.Lent.{Lent}, Spots.{cell_path, tract_spots}}
+use Rattle.title_tree_store.{specs.{declared.lent.Lent.{Lent}, Spots.{cell_path, tract_spots}}, proofs.Images.{less_before, more_later}}
 use Rattle.title_tree_store.specs.Keeping.{height, Rises, lies_in, held_before, owners_before, loan_of, loans_of, IsBacked, IsKept}
-use Rattle.title_tree_store.proofs.Images.{less_before, more_later}
 use Rattle.title_tree_store.proofs.{CellPaths.{length-cell_path, tract_has}, Contents.{owners_same, cond_same}, Keeps.{in_spots}}
 use Rattle.title_tree_store.specs.Forests as forests
 

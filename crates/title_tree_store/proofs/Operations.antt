@@ -1,7 +1,6 @@
 -- The operations of a store, cell by cell.
-use Rattle.std.{proofs.Common.{◌≡◌, ◌≢◌, ◌∙◌, ap, sym, refl, subst, ℕ, ◌≤◌, ◌<◌, arith, Bool, true, false}, specs.Prelude.{MatchOption}}
-use Rattle.std.{proofs.{Common.{List, [], ◌∷◌, ◌++◌, length, map, cond}, lemmas.Bool.{both_ways}}, specs.Option.{IsSome}}
-use Rattle.std.proofs.Common.{Option, Some, None}
+use Rattle.std.proofs.Common.{◌≡◌, ◌≢◌, ◌∙◌, ap, sym, refl, subst, ℕ, ◌≤◌, ◌<◌, arith, Bool, true, false, List, [], ◌∷◌, ◌++◌, length, map}
+use Rattle.std.{proofs.{Common.{cond, Option, Some, None}, lemmas.Bool.{both_ways}}, specs.{Prelude.{MatchOption}, Option.{IsSome}}}
 use Rattle.title_share.specs.Division.{Division, all_to}
 use Rattle.title_land.specs.{Depth.{depth}, declared.{survey.{Township.{Township}, Cell.{Cell}}, rectangle.Quarter.{Quarter}}}
 use Rattle.title_land.specs.{Lands.{has, is_plant_cell}, Laws.Members.{In, in_map, in_mapped, in_middle}}
@@ -11,11 +10,10 @@ use Rattle.title_tree.specs.{Plots.{Plot, Same, value_at, fits, tidied_all}, Pie
 use Rattle.title_tree.specs.Laws.{Swaps.{value_swapped}, Uniform.{tidied_all_shows}, Images.{keeps_restored}}
 use Rattle.title_tree.specs.Lendings.{Lending, Keeps, LaterClear}
 use Rattle.title_tree_store.specs.{declared.lent.Lent.{Lent}, Spots.{cell_path}, Forests.{owners_at, tidied_written}}
-use Rattle.title_tree_store.specs.Keeping.{height, content_of, lending, lies_in, held_before, owners_before, loans_of}
-use Rattle.title_tree_store.{specs.Keeping.{IsAbsent, IsTakenOut, IsKept, IsBacked, Rises}, proofs.Images.{rises_apart}}
+use Rattle.title_tree_store.specs.Keeping.{height, content_of, lending, lies_in, held_before, owners_before, loans_of, IsAbsent, IsTakenOut}
+use Rattle.title_tree_store.{specs.Keeping.{IsKept, IsBacked, Rises}, proofs.{Images.{rises_apart}, Loans.{later_not, before_not}}}
 use Rattle.title_tree_store.proofs.Keeps.{in_spots, kept_less, out_in, lendings_in, fits_swapped, tracts_clear}
-use Rattle.title_tree_store.proofs.Loans.{was, among_lent, loan_under, loans_gone, image_apart, lies_has, lies_not}
-use Rattle.title_tree_store.proofs.Loans.{own_backed, none_later, later_not, before_not}
+use Rattle.title_tree_store.proofs.Loans.{was, among_lent, loan_under, loans_gone, image_apart, lies_has, lies_not, own_backed, none_later}
 use Rattle.title_tree_store.proofs.{CellPaths.{length-cell_path, tract_short}, Contents.{owners_same, content_agrees, content_changes}}
 use Rattle.title_tree_store.specs.Forests as forests
 

@@ -1,7 +1,7 @@
 -- What a put leaves.
-use Rattle.std.proofs.Common.{◌≡◌, ◌∙◌, ap, sym, refl, subst, ℕ, suc, ◌+◌, ◌<◌, Bool, true, false, cond, inl, inr}
-use Rattle.std.proofs.Common.{List, [], ◌∷◌, ◌++◌, length, map, Option, Some, None, Result, Ok, Err, is_some}
-use Rattle.std.proofs.lemmas.{Bool.{and_parts, and_from, or_right, cond_both}, List.{map_push}}
+use Rattle.std.proofs.Common.{◌≡◌, ◌∙◌, ap, sym, refl, subst, ℕ, suc, ◌+◌, ◌<◌, Bool, true, false, cond, inl, inr, List, [], ◌∷◌, ◌++◌}
+use Rattle.std.proofs.{Common.{length, map, Option, Some, None, Result, Ok, Err, is_some}, lemmas.List.{map_push}}
+use Rattle.std.proofs.lemmas.Bool.{and_parts, and_from, or_right, cond_both}
 use Rattle.title_share.specs.Division.{Division}
 use Rattle.title_land.specs.{Depth.{depth}, declared.{survey.{Township.{Township}, Cell.{Cell}}, rectangle.Quarter.{Quarter}}}
 use Rattle.title_land.specs.{declared.tract.Land.{Land}, Lands.{has, is_in_plant, is_plant_cell}, CellLists.{cells_of}}
@@ -12,19 +12,17 @@ use Rattle.title_instrument.specs.{Effect.{holding_effect, cell_effect, joined},
 use Rattle.title_store.specs.Plants.{Plant, Failing, IsEachOnce, is_cell_of, failing_or, first_failing, done_or, plant_effect, refused_in}
 use Rattle.title_store.specs.{Plants.{refusal_of}, Loans.{IsTaken}}
 use Rattle.title_tree.specs.{Changes.{why_of, new_or, after}, Plots.{Plot, value_at, plot_at, fits}, Lendings.{Lending, Keeps}}
-use Rattle.title_tree.specs.Pieces.{Piece, Disjoint, Ready, Short, paths, held, swapped, taken, split_all, fresh, refusal_at}
-use Rattle.title_tree.specs.Laws.Swaps.{paths_taken, paths_fresh}
-use Rattle.title_tree.specs.{Pieces.{Refines, StaysWithin}, Laws.Images.{put_ready, put_keeps, put_content, put_held}}
-use Rattle.title_tree.specs.Laws.{Depths.{fits_plot_at, fits_changed, split_all_fits}, Refusals.{none_refuses_at, some_refuses_at}}
-use Rattle.title_tree.specs.Pieces as pieces
-use Rattle.title_tree_store.specs.declared.{lent.Lent.{Lent}, forest.Subtrees.{Subtrees}}
-use Rattle.title_tree_store.specs.{Spots.{cell_path, tract_spots}, Forests.{owners_at, named_spots, IsChange}}
+use Rattle.title_tree.specs.Pieces.{Piece, Disjoint, Ready, Short, paths, held, swapped, taken, split_all, fresh, refusal_at, Refines}
+use Rattle.title_tree.specs.{Pieces.{StaysWithin}, Laws.{Swaps.{paths_taken, paths_fresh}, Refusals.{none_refuses_at, some_refuses_at}}}
+use Rattle.title_tree.specs.Laws.{Images.{put_ready, put_keeps, put_content, put_held}, Depths.{fits_plot_at, fits_changed, split_all_fits}}
+use Rattle.title_tree_store.specs.{declared.{lent.Lent.{Lent}, forest.Subtrees.{Subtrees}}, Spots.{cell_path, tract_spots}}
+use Rattle.title_tree_store.specs.{Forests.{owners_at, named_spots, IsChange}, Keeping.{is_whole, PiecesFit, IsBacked, IsKept}}
 use Rattle.title_tree_store.specs.Keeping.{height, content_of, lending, lies_in, held_before, owners_before, loan_of, loans_of, same_ways}
-use Rattle.title_tree_store.proofs.CellPaths.{tract_at, tract_has, tract_has_at, tract_short, length-cell_path}
-use Rattle.title_tree_store.proofs.Keeps.{same_ways-self, fits_swapped, kept_refined}
-use Rattle.title_tree_store.specs.{Keeping.{is_whole, PiecesFit, IsBacked, IsKept}, Refusing.{why_cell, first_in, triple}}
-use Rattle.title_tree_store.proofs.{Apart.{tract_apart}, Contents.{owners, owners_same, cond_same, content_changes}}
-use Rattle.title_tree_store.proofs.{Images.{rises_more}, Loans.{was, among_lent, loans_push}, Steps.{named_or}}
+use Rattle.title_tree_store.proofs.{CellPaths.{tract_at, tract_has, tract_has_at, tract_short, length-cell_path}, Apart.{tract_apart}}
+use Rattle.title_tree_store.{proofs.Keeps.{same_ways-self, fits_swapped, kept_refined}, specs.Refusing.{why_cell, first_in, triple}}
+use Rattle.title_tree_store.proofs.{Contents.{owners, owners_same, cond_same, content_changes}, Images.{rises_more}, Steps.{named_or}}
+use Rattle.title_tree_store.proofs.Loans.{was, among_lent, loans_push}
+use Rattle.title_tree.specs.Pieces as pieces
 use Rattle.title_tree_store.specs.Forests as forests
 
 -- the steps of a put in each estate's tree: what was made, the tree quartered, the exchange, the image

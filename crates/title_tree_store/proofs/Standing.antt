@@ -1,27 +1,24 @@
 -- What stands in a square of each estate's tree, and what refuses there.
 use Rattle.std.proofs.Common.{◌≡◌, ◌∙◌, ap, sym, refl, subst, ℕ, zero, suc, ◌+◌, ◌-◌, ◌/◌, ◌%◌, ◌<◌, ◌≤◌, arith, Bool, true, false, ◌&&◌}
 use Rattle.std.proofs.Common.{inl, inr, List, [], ◌∷◌, ◌++◌, length, length-append, append_assoc, Option, Some, None, Result, Ok, Err}
-use Rattle.std.proofs.lemmas.Bool.{and_parts, or_cases, eqb-true, not-true}
-use Rattle.std.{specs.Prelude.{◌==◌, ◌||◌}, proofs.lemmas.List.{reverse-append, append-nil, length-reverse}}
+use Rattle.std.{proofs.lemmas.Bool.{and_parts, or_cases, eqb-true, not-true}, specs.Prelude.{◌==◌, ◌||◌}}
+use Rattle.std.proofs.lemmas.List.{reverse-append, append-nil, length-reverse}
 use Rattle.title_share.specs.Division.{Division}
-use Rattle.title_land.specs.{Depth.{depth}, declared.{survey.{Township.{Township}, Section.{Section}, Cell.{Cell}}}}
-use Rattle.title_land.specs.{declared.rectangle.Quarter.{Quarter, TheVariants.{Northeast, Northwest, Southwest, Southeast}}, Nodes.{square}}
-use Rattle.title_land.specs.{Paths.{quarter_at}}
-use Rattle.title_land.specs.{CellLists.{cells_below}, Laws.{CellMembers.{cells_below-in}, CoverSet.{cell_in_grid}}}
+use Rattle.title_land.specs.{Depth.{depth}, declared.survey.{Township.{Township}, Section.{Section}, Cell.{Cell}}, Nodes.{square}}
+use Rattle.title_land.specs.declared.rectangle.Quarter.{Quarter, TheVariants.{Northeast, Northwest, Southwest, Southeast}}
+use Rattle.title_land.specs.{Paths.{quarter_at}, CellLists.{cells_below}, Laws.{CellMembers.{cells_below-in}, CoverSet.{cell_in_grid}}}
 use Rattle.title_land.specs.Laws.{Members.{In}, Squares.{holds_from}}
 use Rattle.title_instrument.specs.declared.{parts.{Estate.{Estate, TheVariants.{S, O, M}}, Rule.{Rule}}, instrument.Instrument.{Instrument}}
 use Rattle.title_instrument.specs.{declared.owners.Effect.{Effect, TheVariants.{Done, Refused}}, Estates.{names}, Parties.{estates_of}}
 use Rattle.title_instrument.specs.{Effect.{holding_effect, cell_effect, joined}, Laws.EffectLaws.{holding_unnamed}}
 use Rattle.title_store.specs.Plants.{Plant, Failing, failing_or, first_failing}
 use Rattle.title_tree.specs.{Changes.{why_of}, CellWays.{cell_way}, Paths.{way, begins, rest, number_path}}
-use Rattle.title_tree.specs.{Plots.{Plot, Same, Four, value_at, plot_at}, Laws.{CellSquares.{squares_by_paths}, Beginnings.{begins_under}}}
-use Rattle.title_tree.specs.Laws.{Grafts.{value_plot_at, plot_at_same}, Beginnings.{begins_whole}}
-use Rattle.title_tree_store.specs.declared.refusals.{Search.{Search}, Trees.{Trees}}
-use Rattle.title_tree_store.specs.{Spots.{township_path, section_path, square_path, cell_path}, Forests.{Each, plots, owners_at}}
-use Rattle.title_tree_store.specs.Refusing.{why_cell, why_first, is_settled, are_settled, refused_at, stand, StandsAt}
-use Rattle.title_tree_store.specs.Refusing.{first_for, first_cell_of}
-use Rattle.title_tree_store.proofs.CellPaths.{grid_parts, length-section_path, length-cell_path}
-use Rattle.title_tree_store.{specs.Refusing.{triple}, proofs.Contents.{each, for_each, owners}}
+use Rattle.title_tree.specs.{Plots.{Plot, Same, Four, value_at, plot_at}, Laws.CellSquares.{squares_by_paths}}
+use Rattle.title_tree.specs.Laws.{Beginnings.{begins_under, begins_whole}, Grafts.{value_plot_at, plot_at_same}}
+use Rattle.title_tree_store.specs.{declared.refusals.{Search.{Search}, Trees.{Trees}}, Forests.{Each, plots, owners_at}}
+use Rattle.title_tree_store.specs.{Spots.{township_path, section_path, square_path, cell_path}, Refusing.{first_cell_of, triple}}
+use Rattle.title_tree_store.specs.Refusing.{why_cell, why_first, is_settled, are_settled, refused_at, stand, StandsAt, first_for}
+use Rattle.title_tree_store.proofs.{CellPaths.{grid_parts, length-section_path, length-cell_path}, Contents.{each, for_each, owners}}
 
 -- ---- going down
 

@@ -4,8 +4,7 @@ use Rattle.std.proofs.lemmas.{List.{map-append}, Bool.{cond_both}}
 use Rattle.title_land.specs.{declared.rectangle.Quarter.{Quarter}, Laws.Members.{in_left, in_right}}
 use Rattle.title_instrument.specs.{declared.{parts.Estate.{Estate}, instrument.Instrument.{Instrument}}, Estates.{names}}
 use Rattle.title_instrument.specs.Parties.{estates_of}
-use Rattle.title_tree.specs.{Plots.{Plot, plot_at, fits}, Pieces.{split_all, Refines, StaysWithin, StaysElsewhere}}
-use Rattle.title_tree.specs.Joining.{ApartFromAll}
+use Rattle.title_tree.specs.{Plots.{Plot, plot_at, fits}, Pieces.{split_all, Refines, StaysWithin, StaysElsewhere}, Joining.{ApartFromAll}}
 use Rattle.title_tree.specs.Laws.{Depths.{split_all_fits}, Swaps.{split_all_reaches}, Joined.{elsewhere_split_all}}
 use Rattle.title_tree_store.specs.{declared.forest.Written.{Written}, Spots.{paths_in}, Forests.{put_ways, named_spots}}
 

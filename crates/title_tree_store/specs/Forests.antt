@@ -3,9 +3,8 @@ use Rattle.std.specs.Prelude.{◌≡◌, ℕ, Bool, ◌&&◌, List, [], ◌∷�
 use Rattle.title_land.specs.declared.rectangle.Quarter.{Quarter}
 use Rattle.title_instrument.specs.declared.{parts.{Estate.{Estate, TheVariants.{S, O, M}}, Rule.{Rule}}, instrument.Instrument.{Instrument}}
 use Rattle.title_instrument.specs.{declared.owners.Owners.{Owners}, Effect.{holding_effect}, Estates.{names}, Parties.{estates_of}}
-use Rattle.title_tree.specs.{declared.change.Fault.{Fault}, Changes.{after}, Faults.{Tells}, Joining.{ApartFromAll}}
-use Rattle.title_tree.specs.Plots.{Plot, value_at, plot_at, is_tidy, tidied_all}
-use Rattle.title_tree.specs.{Parts.{piece}, Pieces.{Piece, fresh, refusal_at}, Trees.{plot}}
+use Rattle.title_tree.specs.{declared.change.Fault.{Fault}, Changes.{after}, Faults.{Tells}, Joining.{ApartFromAll}, Parts.{piece}}
+use Rattle.title_tree.specs.{Plots.{Plot, value_at, plot_at, is_tidy, tidied_all}, Pieces.{Piece, fresh, refusal_at}, Trees.{plot}}
 use Rattle.title_tree_store.specs.declared.forest.{Forest.{Forest}, Subtrees.{Subtrees}, Parts.{Parts, TheVariants.{Nothing, One, Many}}}
 use Rattle.title_tree_store.specs.{declared.forest.Written.{Written}, Spots.{paths_in}}
 

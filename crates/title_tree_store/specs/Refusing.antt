@@ -7,8 +7,7 @@ use Rattle.title_instrument.specs.{declared.owners.Effect.{Effect, TheVariants.{
 use Rattle.title_instrument.specs.{Estates.{names}, Parties.{estates_of}}
 use Rattle.title_store.specs.Plants.{Failing, first_failing}
 use Rattle.title_tree.specs.{Changes.{why_of}, Plots.{Plot, Same, Four, value_at, plot_at}, Trees.{plot}}
-use Rattle.title_tree_store.specs.declared.refusals.{Search.{Search}, Trees.{Trees}}
-use Rattle.title_tree_store.specs.{Spots.{cell_path}, Forests.{Each, plots, owners_at}}
+use Rattle.title_tree_store.specs.{declared.refusals.{Search.{Search}, Trees.{Trees}}, Spots.{cell_path}, Forests.{Each, plots, owners_at}}
 
 -- why the instrument is refused by a holding of an estate
 abbrev pub why_holding : Instrument ℕ → Estate → Division → Option Rule

@@ -1,13 +1,12 @@
 -- Sheets, read off what stands in a square.
 use Rattle.std.specs.{Prelude.{ℕ, ◌-◌, cond, List, [], ◌∷◌, ◌++◌, length, nat_lt}, List.{flat_map}}
-use Rattle.title_land.specs.{Depth.{depth}, declared.{survey.{Township.{Township}, Section.{Section}}, rectangle.Quarter.{Quarter}}}
-use Rattle.title_land.specs.declared.{rectangle.Quarter.TheVariants.{Northeast, Northwest, Southwest, Southeast}, node.Node.{Node}}
-use Rattle.title_land.specs.CellLists.{sections_of}
-use Rattle.title_land.specs.declared.node.Node.TheVariants as node
+use Rattle.title_land.specs.{Depth.{depth}, declared.rectangle.Quarter.{Quarter, TheVariants.{Northeast, Northwest, Southwest, Southeast}}}
+use Rattle.title_land.specs.{declared.{survey.{Township.{Township}, Section.{Section}}, node.Node.{Node}}, CellLists.{sections_of}}
 use Rattle.title_instrument.specs.declared.parts.Estate.{Estate}
 use Rattle.title_store.specs.{declared.sheet_row.SheetRow.{SheetRow}, Sheets.{holding_rows, rows_or}}
 use Rattle.title_tree.specs.{Paths.{way, number_path}, Plots.{Plot, Same, Four, plot_at, uniform}, Pieces.{uniform_at}}
 use Rattle.title_tree_store.specs.Spots.{blocks, township_path, township_spots}
+use Rattle.title_land.specs.declared.node.Node.TheVariants as node
 
 -- the sheet of a square of a section by what stands there: its rows where its leaves have one holding, else its quarters' sheets
 abbrev pub square_sheet : Plot → Estate → Section → List Quarter → List SheetRow

@@ -3,11 +3,10 @@
 ghost use Rattle.std.specs.Prelude.{◌≡◌, ◌++◌, ◌∷◌, [], ◌&&◌, map, IfOk, OnOk, OnErr, IfErr};
 ghost use Rattle.title_share.specs.Division.{all_to};
 ghost use Rattle.title_instrument.specs.{Estates.{names}, Parties.{estates_of}};
-ghost use Rattle.title_tree.specs.{Pieces.{Disjoint, Ready, Refines, StaysWithin, StaysElsewhere, paths, swapped, taken}, Trees.{plot}};
-ghost use Rattle.title_tree.specs.{Pieces.{split_all}, Plots.{Same, is_tidy, tidied_all}};
-ghost use Rattle.title_tree_store.specs.{Spots.{paths_in}, Forests.{Each, IsChange, IsRefusedIn}};
-ghost use Rattle.title_tree_store.specs.Forests.{parts_in, pieces, plots, named_spots, put_ways, written, tidied_written};
-ghost use Rattle.title_tree_store.specs.Forests.{IsNoted, StaysApart};
+ghost use Rattle.title_tree.specs.Pieces.{Disjoint, Ready, Refines, StaysWithin, StaysElsewhere, paths, swapped, taken, split_all};
+ghost use Rattle.title_tree.specs.{Trees.{plot}, Plots.{Same, is_tidy, tidied_all}};
+ghost use Rattle.title_tree_store.specs.{Spots.{paths_in}, Forests.{tidied_written, IsNoted, StaysApart}};
+ghost use Rattle.title_tree_store.specs.Forests.{Each, IsChange, IsRefusedIn, parts_in, pieces, plots, named_spots, put_ways, written};
 
 use crate::passing::{Moved, Passing};
 use crate::spots::Paths;

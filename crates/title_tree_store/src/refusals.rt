@@ -5,9 +5,8 @@ ghost use Rattle.title_land.specs.{Depth.{depth}, CellLists.{cells_below, sectio
 ghost use Rattle.title_land.specs.Lands.{cover_of, is_in_plant};
 ghost use Rattle.title_instrument.specs.Effect.{cell_effect};
 ghost use Rattle.title_tree.specs.{Plots.{value_at, plot_at}, Trees.{plot}};
-ghost use Rattle.title_tree_store.specs.{Spots.{township_path, square_path}, Forests.{Each}};
-ghost use Rattle.title_tree_store.specs.Refusing.{why_holding, why_first, is_settled, are_settled, refused_at};
-ghost use Rattle.title_tree_store.specs.Refusing.{stand, StandsAt, first_for, first_cell_of};
+ghost use Rattle.title_tree_store.specs.{Spots.{township_path, square_path}, Forests.{Each}, Refusing.{first_cell_of}};
+ghost use Rattle.title_tree_store.specs.Refusing.{why_holding, why_first, is_settled, are_settled, refused_at, stand, StandsAt, first_for};
 
 use crate::forest::{Forest, names};
 use crate::spots::SECTION_LEVELS;

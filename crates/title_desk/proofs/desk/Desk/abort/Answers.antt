@@ -6,8 +6,8 @@ use Rattle.title_desk.proofs.desk.Desk.abort.Goals as goal
 
 pub restore_all-requires : goal.restore_all-requires
 restore_all-requires g c = record {
-      able = rw (sym c.take-transaction.ensures.taken ∙ sym c.transaction.view_is, images_of) at (aborts c.args.examiner c.self.invariant);
-    }
+  able = rw (sym c.take-transaction.ensures.taken ∙ sym c.transaction.view_is, images_of) at (aborts c.args.examiner c.self.invariant);
+}
 
 pub tidy_up-requires : goal.tidy_up-requires
 tidy_up-requires g c = record {

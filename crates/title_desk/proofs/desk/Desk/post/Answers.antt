@@ -2,10 +2,9 @@
 use Rattle.std.proofs.Common.{None, refl, ◌∙◌, subst}
 use Rattle.title_land.specs.Depth.{depth}
 use Rattle.title_store.specs.{Plants.{SameContent}, Laws.Taken.{image_out, image_last, taken_back, taken_out}}
-use Rattle.title_store.specs.Laws.EffectLaws as store
 use Rattle.title_chain.specs.declared.ask.{Ask.TheVariants.{Post}, Answer.TheVariants.{Posted}}
-use Rattle.title_desk.{specs.Images.{put_back}, proofs.States.{keeps_as}}
-use Rattle.title_desk.proofs.Steps.{due_alone, post_due, keeps_posted}
+use Rattle.title_desk.{specs.Images.{put_back}, proofs.{States.{keeps_as}, Steps.{due_alone, post_due, keeps_posted}}}
+use Rattle.title_store.specs.Laws.EffectLaws as store
 use Rattle.title_desk.proofs.desk.Desk.post.Goals as goal
 
 pub invariant_of-self-in-Refused : goal.invariant_of-self-in-Refused

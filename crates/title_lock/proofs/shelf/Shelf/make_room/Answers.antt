@@ -1,7 +1,6 @@
 -- A node's holders get room, and a new node's are nobody with room for one.
 use Rattle.std.proofs.Common.{◌≡◌, ◌∙◌, ◌&&◌, ◌||◌, ap, sym, subst, refl, true, false, ℕ, List, Some, None, eqb, rules, true≢false}
-use Rattle.std.proofs.lemmas.Bool.{or_left}
-use Rattle.std.specs.{Prelude.{is_some}, Ordering.{nat_cmp}, BTreeMap.{get, is_at}, Map.{lookup}}
+use Rattle.std.{proofs.lemmas.Bool.{or_left}, specs.{Prelude.{is_some}, Ordering.{nat_cmp}, BTreeMap.{get, is_at}, Map.{lookup}}}
 use Rattle.title_land.specs.NodeNumbers.{node_number}
 use Rattle.title_lock.specs.{Holders.{Modes}, Tables.{holders_at, mode_in, room_in, idle_in, unused_in, home_of}}
 use Rattle.title_lock.proofs.{TableLaws.{NodeMap, Writes, everywhere, is_found}, HomeLaws.{home_after}}

@@ -1,9 +1,8 @@
 -- One climb more.
 use Rattle.std.{proofs.Common.{◌∙◌, List, Option, None, cond, eqb, ap, sym, subst}, specs.List.{list_any}}
-use Rattle.title_lock.specs.{declared.modes.Mode.{Mode}, Modes.{bound}, Overlaps.{is_post}, Tables.{on_all, table_mode, is_asked}}
-use Rattle.title_lock.specs.Walks.{Asked, asks_in, walk, climb_asks, walk_left, Raised}
-use Rattle.title_lock.proofs.WalkLaws.{walk_shorter, walk_asked, walk_asks_in}
-use Rattle.title_lock.proofs.DoneLaws.{room_now, room_then, raised_then, raised_last, less_is}
+use Rattle.title_lock.{specs.declared.modes.Mode.{Mode}, proofs.DoneLaws.{room_now, room_then, raised_then, raised_last, less_is}}
+use Rattle.title_lock.{specs.{Modes.{bound}, Overlaps.{is_post}}, proofs.WalkLaws.{walk_shorter, walk_asked, walk_asks_in}}
+use Rattle.title_lock.specs.{Tables.{on_all, table_mode, is_asked}, Walks.{Asked, asks_in, walk, climb_asks, walk_left, Raised}}
 use Rattle.title_lock.proofs.table.Table.raise_all.Goals as goal
 
 pub loop-climb-init : goal.loop-climb-init

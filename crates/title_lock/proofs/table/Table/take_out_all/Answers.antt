@@ -1,8 +1,7 @@
 -- One climb more.
 use Rattle.std.{proofs.Common.{◌∙◌, ◌&&◌, Bool, List, None, cond, eqb, ap, subst}, specs.List.{list_any}}
-use Rattle.title_lock.{specs.{Holders.{is_mode}, Tables.{on_all, table_mode, is_asked}}, proofs.WalkLaws.{walk_shorter, walk_asks_in}}
-use Rattle.title_lock.specs.Walks.{Asked, asks_in, walk, climb_asks, walk_left, TakenOut}
-use Rattle.title_lock.proofs.DoneLaws.{taken_then, taken_last, less_is}
+use Rattle.title_lock.{specs.{Holders.{is_mode}, Tables.{on_all, table_mode, is_asked}}, proofs.DoneLaws.{taken_then, taken_last, less_is}}
+use Rattle.title_lock.{proofs.WalkLaws.{walk_shorter, walk_asks_in}, specs.Walks.{Asked, asks_in, walk, climb_asks, walk_left, TakenOut}}
 use Rattle.title_lock.proofs.table.Table.take_out_all.Goals as goal
 
 pub loop-climb-init : goal.loop-climb-init

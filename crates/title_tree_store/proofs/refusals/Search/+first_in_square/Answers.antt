@@ -7,10 +7,10 @@ use Rattle.title_tree_store.proofs.refusals.Search.+first_in_square.Goals as goa
 
 pub returns-then-are_alike : goal.returns-then-are_alike
 returns-then-are_alike t c = record {
-      first = c.first_alike.ensures.first
-          ∙ alike_square c.args.self.now c.args.section c.args.below c.args.within c.args.trees.now c.requires.below
-          c.requires.here (sym c.are_alike.ensures.alike ∙ c.if-are_alike.true);
-    }
+  first = c.first_alike.ensures.first
+      ∙ alike_square c.args.self.now c.args.section c.args.below c.args.within c.args.trees.now c.requires.below
+      c.requires.here (sym c.are_alike.ensures.alike ∙ c.if-are_alike.true);
+}
 
 pub loop-which-init : goal.loop-which-init
 loop-which-init t c = (has_levels c.args.below _ (sym c.are_alike.ensures.alike ∙ c.if-are_alike.false), refl)
@@ -28,11 +28,11 @@ first_in_square-found-requires t c =
 
 pub returns-then-is_some : goal.returns-then-is_some
 returns-then-is_some t c = record {
-      first = quarter_here (first_for c.args.self.now) (first_join c.args.self.now) c.args.section c.args.below c.args.within
-          c.quarter-in-loop-which.result c.loop-which.which-index c.loop-which-test.true c.quarter-in-loop-which.ensures.quarter
-          c.first_in_square-found.result c.first_in_square-found.ensures.first (sym c.is_some.ensures ∙ c.if-is_some.true)
-          c.loop-which.invariant.0 c.loop-which.invariant.1;
-    }
+  first = quarter_here (first_for c.args.self.now) (first_join c.args.self.now) c.args.section c.args.below c.args.within
+      c.quarter-in-loop-which.result c.loop-which.which-index c.loop-which-test.true c.quarter-in-loop-which.ensures.quarter
+      c.first_in_square-found.result c.first_in_square-found.ensures.first (sym c.is_some.ensures ∙ c.if-is_some.true)
+      c.loop-which.invariant.0 c.loop-which.invariant.1;
+}
 
 pub loop-which-preserved : goal.loop-which-preserved
 loop-which-preserved t c = (

@@ -6,11 +6,11 @@ use Rattle.title_tree_store.proofs.refusals.Search.first_in_cover.Goals as goal
 
 pub returns-then-is_some : goal.returns-then-is_some
 returns-then-is_some c = record {
-      first = next_here (first_for c.args.self.now) (first_join c.args.self.now) (part_cells depth c.args.section) c.cover-cover.result.now
-          c.loop-node.node-index c.node-item.result c.first_in_node-found.result c.loop-node-test.true c.node-item.is
-          (sym c.is_some.ensures ∙ c.if-is_some.true) c.first_in_node-found.ensures.first
-          ∙ sym c.loop-node.invariant;
-    }
+  first = next_here (first_for c.args.self.now) (first_join c.args.self.now) (part_cells depth c.args.section) c.cover-cover.result.now
+      c.loop-node.node-index c.node-item.result c.first_in_node-found.result c.loop-node-test.true c.node-item.is
+      (sym c.is_some.ensures ∙ c.if-is_some.true) c.first_in_node-found.ensures.first
+      ∙ sym c.loop-node.invariant;
+}
 
 pub loop-node-preserved : goal.loop-node-preserved
 loop-node-preserved c = c.loop-node.invariant

@@ -6,11 +6,11 @@ use Rattle.title_tree_store.proofs.refusals.Search.first_in_plant.Goals as goal
 
 pub returns-then-is_some : goal.returns-then-is_some
 returns-then-is_some c = record {
-      first = next_here (first_for c.args.self.now) (first_join c.args.self.now) (township_cells depth) c.list-list.result.now
-          c.loop-township.township-index c.township-item.result c.first_in_township-found.result
-          c.loop-township-test.true c.township-item.is (sym c.is_some.ensures ∙ c.if-is_some.true) c.first_in_township-found.ensures.first
-          ∙ sym c.loop-township.invariant;
-    }
+  first = next_here (first_for c.args.self.now) (first_join c.args.self.now) (township_cells depth) c.list-list.result.now
+      c.loop-township.township-index c.township-item.result c.first_in_township-found.result
+      c.loop-township-test.true c.township-item.is (sym c.is_some.ensures ∙ c.if-is_some.true) c.first_in_township-found.ensures.first
+      ∙ sym c.loop-township.invariant;
+}
 
 pub loop-township-preserved : goal.loop-township-preserved
 loop-township-preserved c = c.loop-township.invariant
@@ -20,10 +20,10 @@ loop-township-preserved c = c.loop-township.invariant
 
 pub returns : goal.returns
 returns c = record {
-      first = sym (at_drop_all (λ (ts : List Township). first_for c.args.self.now (flat_map (township_cells depth) ts))
-          c.list-list.result.now c.loop-township.township-index c.loop-township-test.false)
-          ∙ sym c.loop-township.invariant;
-    }
+  first = sym (at_drop_all (λ (ts : List Township). first_for c.args.self.now (flat_map (township_cells depth) ts))
+      c.list-list.result.now c.loop-township.township-index c.loop-township-test.false)
+      ∙ sym c.loop-township.invariant;
+}
 
 pub loop-township-init : goal.loop-township-init
 loop-township-init c =

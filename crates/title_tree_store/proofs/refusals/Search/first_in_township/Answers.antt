@@ -6,10 +6,10 @@ use Rattle.title_tree_store.proofs.refusals.Search.first_in_township.Goals as go
 
 pub returns-then-is_some : goal.returns-then-is_some
 returns-then-is_some c = record {
-      first = rw (c.loop-section.invariant.0, c.in-Some.ensures.steps) (first_here (first_for c.args.self.now) (first_join c.args.self.now)
-          (section_cells depth c.in-Some.section) (flat_map (section_cells depth) c.next.new.self) c.first_in_section-found.result
-          (sym c.is_some.ensures ∙ c.if-is_some.true) c.first_in_section-found.ensures.first);
-    }
+  first = rw (c.loop-section.invariant.0, c.in-Some.ensures.steps) (first_here (first_for c.args.self.now) (first_join c.args.self.now)
+      (section_cells depth c.in-Some.section) (flat_map (section_cells depth) c.next.new.self) c.first_in_section-found.result
+      (sym c.is_some.ensures ∙ c.if-is_some.true) c.first_in_section-found.ensures.first);
+}
 
 pub loop-section-preserved : goal.loop-section-preserved
 loop-section-preserved c = (

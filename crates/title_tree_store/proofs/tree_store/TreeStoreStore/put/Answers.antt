@@ -1,17 +1,16 @@
 -- A put that is refused leaves all as it was; one that is done lends what the tract's cells held.
-use Rattle.std.proofs.Common.{◌≡◌, ◌∙◌, ◌++◌, ◌∷◌, [], suc, refl, sym, ap, List, map, arith}
-use Rattle.std.{proofs.Common.{Option}, specs.{Prelude.{unwrap_or}, Global.{Vec}}}
+use Rattle.std.{proofs.Common.{◌≡◌, ◌∙◌, ◌++◌, ◌∷◌, [], suc, refl, sym, ap, List, map, arith, Option}, specs.Prelude.{unwrap_or}}
+use Rattle.std.specs.Global.{Vec}
 use Rattle.title_land.specs.declared.{rectangle.Quarter.{Quarter}, node.Node.{Node}}
-use Rattle.title_land.specs.declared.node.Node.TheVariants as node
 use Rattle.title_instrument.specs.{declared.parts.Estate.{Estate}, Effect.{holding_effect}}
 use Rattle.title_store.specs.Laws.{MapLaws.{refused_content}, Puts.{refused_put}}
 use Rattle.title_tree.specs.Pieces.{refusal_at}
-use Rattle.title_tree_store.specs.{declared.{lent.Lent.{Lent}, forest.Written.{Written}}, Spots.{tract_spots, paths_in}}
-use Rattle.title_tree_store.specs.{Forests.{plots, pieces, put_ways, written, named_spots}, Out.{images}}
-use Rattle.title_tree_store.proofs.Puts.{IsPut, put_goes, put_shows, put_takes, kept_put, kept_stopped, refused_none}
-use Rattle.title_tree_store.proofs.Puts.{found_failing, some_cell_fails}
+use Rattle.title_tree_store.specs.{declared.{lent.Lent.{Lent}, forest.Written.{Written}}, Spots.{tract_spots, paths_in}, Out.{images}}
+use Rattle.title_tree_store.{specs.Forests.{plots, pieces, put_ways, written, named_spots}, proofs.{Puts.{some_cell_fails}, Steps.{on_err}}}
+use Rattle.title_tree_store.proofs.Puts.{IsPut, put_goes, put_shows, put_takes, kept_put, kept_stopped, refused_none, found_failing}
 use Rattle.title_tree_store.proofs.{Contents.{each, for_each}, Joining.{joined_as, joined_apart, joined_put}, Keeps.{kept_as}}
-use Rattle.title_tree_store.proofs.{Loans.{loans_refined}, Steps.{on_err}}
+use Rattle.title_tree_store.proofs.Loans.{loans_refined}
+use Rattle.title_land.specs.declared.node.Node.TheVariants as node
 use Rattle.title_tree_store.proofs.tree_store.TreeStoreStore.put.Goals as goal
 
 pub invariant_of-self-in-Break-branch-3 : goal.invariant_of-self-in-Break-branch-3
@@ -23,12 +22,12 @@ invariant_of-self-in-Break-branch-3 c = record {
 
 pub invariant_of-self-in-Break-branch-4 : goal.invariant_of-self-in-Break-branch-4
 invariant_of-self-in-Break-branch-4 c = record {
-      once = c.args.self.now.once;
-      kept = kept_as c.reserve.ensures.images c.reserve.ensures.next
-          (kept_stopped c.args.tract.now (paths_in c.in_ok-paths.paths) c.in_ok-paths.ensures.paths c.requires.within
-          (each c.quarter.ensures.refines) (each c.quarter.ensures.within) c.args.self.now.kept);
-      joined = joined_as c.reserve.ensures.images (joined_apart c.quarter.ensures.apart c.args.self.now.joined);
-    }
+  once = c.args.self.now.once;
+  kept = kept_as c.reserve.ensures.images c.reserve.ensures.next
+      (kept_stopped c.args.tract.now (paths_in c.in_ok-paths.paths) c.in_ok-paths.ensures.paths c.requires.within
+      (each c.quarter.ensures.refines) (each c.quarter.ensures.within) c.args.self.now.kept);
+  joined = joined_as c.reserve.ensures.images (joined_apart c.quarter.ensures.apart c.args.self.now.joined);
+}
 
 pub returns-in_err-quarter-in-Ok-clause-err_out : goal.returns-in_err-quarter-in-Ok-clause-err_out
 returns-in_err-quarter-in-Ok-clause-err_out c = on_err c.from_residual-in_err-quarter-in-Ok.result _

@@ -1,8 +1,7 @@
 -- Where no image is out the trees may be joined.
 use Rattle.std.proofs.Common.{ap}
-use Rattle.title_tree_store.specs.{Keeping.{loans_of}, Forests.{plots, written}, Out.{images}}
-use Rattle.title_tree_store.proofs.{Contents.{each}, Joining.{all_joined, joined_none, joined_tidied}, Keeps.{no_loans, kept_tidied}}
-use Rattle.title_tree_store.proofs.Operations.{tidies}
+use Rattle.title_tree_store.{specs.{Keeping.{loans_of}, Forests.{plots, written}, Out.{images}}, proofs.Contents.{each}}
+use Rattle.title_tree_store.proofs.{Joining.{all_joined, joined_none, joined_tidied}, Keeps.{no_loans, kept_tidied}, Operations.{tidies}}
 use Rattle.title_tree_store.proofs.tree_store.TreeStoreStore.tidy.Goals as goal
 
 pub invariant_of-self : goal.invariant_of-self
