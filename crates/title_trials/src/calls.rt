@@ -74,6 +74,16 @@ impl Call<'_> {
         }
     }
 
+    /// An examiner reads a tract.
+    pub fn read(examiner: u32, tract: &Tract) -> Call<'_> {
+        Call {
+            kind: Kind::Ask,
+            examiner,
+            tract,
+            access: Access::Read,
+        }
+    }
+
     /// Makes the call, and once more where a growth was refused.
     pub fn make<G: Guards>(&self, locks: &mut G, tally: &mut Tally) -> Result<(), LockFault> {
         match answer(locks, self) {

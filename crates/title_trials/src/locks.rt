@@ -1,7 +1,9 @@
 //! The two tables of locks, asked alike.
 
 use crate::calls::{Call, Tally};
-use std::alloc::{AllocError, Global};
+use crate::spread::spread;
+use anyhow::Result;
+use std::alloc::Global;
 use title_chance::{Chance, Ground, Reach};
 use title_land::Node;
 use title_lock::{Guards, NodeLocks, RowLocks};
@@ -39,9 +41,9 @@ impl Drop for Tables {
 }
 
 impl Tables {
-    fn new(alloc: Global) -> Tables {
+    fn new(alloc: Global, nodes: NodeLocks) -> Tables {
         Tables {
-            nodes: NodeLocks::new(alloc),
+            nodes,
             rows: RowLocks::new(alloc),
         }
     }
@@ -92,14 +94,13 @@ impl Tables {
 
 // A list of calls by 2 to 40 examiners; whether all answers are one, and after it the modes of all at some tracts.
 fn is_list_one(
-    alloc: Global,
+    mut tables: Tables,
     chance: &mut Chance,
     ground: &Ground,
     calls: u32,
     tally: &mut Tally,
 ) -> bool {
     let examiners = chance.below(39).saturating_add(2);
-    let mut tables = Tables::new(alloc);
     let mut are_one = tables.are_answers_one(chance, ground, calls, examiners, tally);
     for _ in 0..COMPARED {
         are_one &= tables.are_modes_one_in(examiners, ground.any(chance).cover());
@@ -107,15 +108,21 @@ fn is_list_one(
     are_one
 }
 
-/// Asks both tables alike, by lists of 2 to 40 examiners.
-pub fn compare(alloc: Global, extent: Extent) -> Result<Compared, AllocError> {
+/// Asks both tables alike, by lists of 2 to 40 examiners; in each other list `NodeLocks` has its locks by node from the start.
+pub fn compare(alloc: Global, extent: Extent) -> Result<Compared> {
     let mut chance = Chance::new(1);
     let mut tally = Tally::new();
     let tracts = extent.tracts;
     let ground = Ground::again(alloc, &mut chance, tracts, Reach::Plant, &mut tally.wanted)?;
     let mut differ = 0u32;
-    for _ in 0..extent.lists {
-        if !is_list_one(alloc, &mut chance, &ground, extent.calls, &mut tally) {
+    for number in 0..extent.lists {
+        let nodes = if number % 2 == 1 {
+            spread(alloc, &mut tally)?
+        } else {
+            NodeLocks::new(alloc)
+        };
+        let tables = Tables::new(alloc, nodes);
+        if !is_list_one(tables, &mut chance, &ground, extent.calls, &mut tally) {
             differ = differ.saturating_add(1);
         }
     }

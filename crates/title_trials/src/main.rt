@@ -1,6 +1,7 @@
 //! Compares what is meant to be one, by lists of calls that are the same in every run, and prints how many lists differ.
 //!
-//! - `locks`: the two tables of locks, `NodeLocks` and `RowLocks`, by their answers and by the modes that they tell.
+//! - `locks`: the two tables of locks, `NodeLocks`, listed and by node in turn, and `RowLocks`, by their answers and by the modes
+//!   that they tell.
 //! - `counts`: how many examiners hold a node in each mode, IS to X, in a worked case.
 //! - `soak`: a million calls of one table of locks, after which nobody holds anything.
 //! - `stores`: the two stores, `CellStore` and `TreeStore`, each behind a desk, by their replies and their sheets; and
@@ -15,6 +16,7 @@ mod counts;
 mod locks;
 mod replies;
 mod soak;
+mod spread;
 mod stores;
 mod turns;
 

@@ -1,7 +1,9 @@
-//! Many calls of one table of locks.
+//! Many calls of one table of locks, which stand by node.
 
 use crate::calls::{Call, Tally};
-use std::alloc::{AllocError, Global};
+use crate::spread::spread;
+use anyhow::Result;
+use std::alloc::Global;
 use title_chance::{Chance, Ground, Reach};
 use title_land::Node;
 use title_lock::{Guards, NodeLocks};
@@ -29,7 +31,7 @@ fn make_all(chance: &mut Chance, ground: &Ground, locks: &mut NodeLocks) -> Tall
 }
 
 fn give_all_back(locks: &mut NodeLocks) {
-    for examiner in 1..=EXAMINERS {
+    for examiner in 0..=EXAMINERS {
         locks.give_back(examiner);
     }
 }
@@ -64,10 +66,10 @@ fn holders(locks: &NodeLocks, ground: &Ground) -> u64 {
 }
 
 /// Makes the calls; then everyone gives back.
-pub fn soak(alloc: Global) -> Result<Soaked, AllocError> {
+pub fn soak(alloc: Global) -> Result<Soaked> {
     let mut chance = Chance::new(2);
     let ground = Ground::new(alloc, &mut chance, 500, Reach::Plant)?;
-    let mut locks = NodeLocks::new(alloc);
+    let mut locks = spread(alloc, &mut Tally::new())?;
     let tally = make_all(&mut chance, &ground, &mut locks);
     let before = holders(&locks, &ground);
     give_all_back(&mut locks);
