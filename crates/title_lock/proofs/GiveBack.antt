@@ -28,26 +28,17 @@ modes_without : (depth : ℕ) (e : ℕ) (es : List Entry) (f : ℕ) (n : Node)
 modes_without depth e [] f n = grind arith
 modes_without depth e (x ∷ xs) f n = grind (arith, nat_tests, modes_without depth e xs f n)
 
-allows_fewer : (b d : Bool) (x y : Option Mode) → allows x y ≡ true → allows (cond b None x) (cond d None y) ≡ true
-allows_fewer b d x y h = grind arith
-
 -- others' modes stand beside each other still
 pub apart_without : (depth : ℕ) (e : ℕ) (es : List Entry) → Apart depth es → Apart depth (without e es)
 apart_without depth e es apart f g o n =
-    ap (λ (z : Option Mode). allows z (mode_at depth (without e es) g n)) (modes_without depth e es f n)
-    ∙ ap (allows (cond (eqb f e) None (mode_at depth es f n))) (modes_without depth e es g n)
-    ∙ allows_fewer (eqb f e) (eqb g e) (mode_at depth es f n) (mode_at depth es g n) (apart f g o n)
+    grind (arith, modes_without depth e es f n, modes_without depth e es g n, apart f g o n)
 
 -- ---- what an examiner's entries ask for is all that it holds
-
-asked_none : (p : Bool) (t : List Node) (n : Node) → list_any (is_asked n) t ≡ false → asked p t n ≡ None
-asked_none p t n h = none_some (asked p t n) (asked_some p t n ∙ h)
 
 modes_none : (depth : ℕ) (e : ℕ) (es : List Entry) (n : Node) → list_any (is_asked_by depth e n) es ≡ false → mode_at depth es e n ≡ None
 modes_none depth e [] n h = refl
 modes_none depth e (x ∷ xs) n h =
-    let k = or_parts (is_asked_by depth e n x) (list_any (is_asked_by depth e n) xs) h in
-    grind (arith, modes_none depth e xs n k.1, asked_none (is_post x.access) (cover_of depth x.tract) n)
+    grind (arith, modes_none depth e xs n, asked_some (is_post x.access) (cover_of depth x.tract) n, none_some)
 
 -- the table without what an examiner's entries ask for is that of the others' entries
 pub table_fewer : (depth : ℕ) (e : ℕ) (es : List Entry) (table fewer : Table) → TableIs depth es (on_all table) →
@@ -87,11 +78,8 @@ without_more e x fewer more mine (newer, older, was, now, first) =
 
 -- the others' entries ask for nothing in an examiner's name
 asks_none : (depth : ℕ) (e : ℕ) (n : Node) (es : List Entry) → list_any (is_asked_by depth e n) (without e es) ≡ false
-asks_none depth e n es = list_any_none (is_asked_by depth e n) (without e es)
-    (All-weaker (λ (x : Entry). not (eqb x.examiner e) ≡ true) (λ (x : Entry). is_asked_by depth e n x ≡ false)
-    (λ x other. and_left (eqb e x.examiner) (list_any (is_asked n) (cover_of depth x.tract))
-    (ne_eqb e x.examiner (λ s. both_ways (eqb x.examiner e) (not-true (eqb x.examiner e) other) (eq-eqb x.examiner e (sym s)))))
-    (without e es) (filter_passes (λ (x : Entry). not (eqb x.examiner e)) es))
+asks_none depth e n [] = refl
+asks_none depth e n (x ∷ es) = grind (arith, nat_tests, asks_none depth e n es)
 
 -- an examiner with no entry asks for nothing
 pub none_left : (depth : ℕ) (e : ℕ) (n : Node) (es : List Entry) (b : Bool) (r : Option Mode) → without e es ≡ es

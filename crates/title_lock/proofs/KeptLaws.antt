@@ -5,7 +5,7 @@ use Rattle.std.proofs.lemmas.{Option.{none-some, same_Some}, List.Elements.{All-
 use Rattle.title_land.specs.{declared.node.Node.{Node}, Lands.{cover_of}}
 use Rattle.title_lock.specs.{declared.{guards.Entry.{Entry}, table.Table.{Table}}, Overlaps.{without}, Books.{IsNewest}}
 use Rattle.title_lock.{specs.Tables.{on_all, table_mode, is_asked, IdleMore, IdleLess, NoMoreIdle}, proofs.BookLaws.{same_parts}}
-use Rattle.title_lock.specs.{Tables.{TableIs, TableUsed}, Locks.{granted, waiting, IsReady, AreKept, IsLean, AreLocks}}
+use Rattle.title_lock.specs.{Tables.{TableIs, AllUsed}, Locks.{granted, waiting, IsReady, AreKept, IsLean, AreLocks}}
 
 -- the table tells the modes of the entries, whether or not an access is prepared
 pub kept_table : (depth : ℕ) (p : Option ℕ) (book : List Entry) (t : Table) → AreKept depth p book t
@@ -80,8 +80,8 @@ prepared_some depth e (x ∷ es) t h same = own_goes e x es h.1.own same
 
 -- an access that waits no more leaves nobody idle
 pub lean_done : (depth : ℕ) (x : Entry) (t u : Table) → IsLean depth (Some x) t
-    → IdleLess (on_all t) (on_all u) x.examiner (λ n. list_any (is_asked n) (cover_of depth x.tract)) → (TableUsed t → TableUsed u)
-    → IsLean depth None u
+    → IdleLess (on_all t) (on_all u) x.examiner (λ n. list_any (is_asked n) (cover_of depth x.tract))
+    → (AllUsed (on_all t) → AllUsed (on_all u)) → IsLean depth None u
 lean_done depth x t u lean less used = record {
   idle = λ f n idle. absurd (grind (arith, lean.idle f n, less.less f n));
   used = used lean.used;
@@ -89,8 +89,8 @@ lean_done depth x t u lean less used = record {
 
 -- an access that is to wait makes its examiner idle where it asks
 pub lean_more : (depth : ℕ) (x : Entry) (t u : Table) → IsLean depth None t
-    → IdleMore (on_all t) (on_all u) x.examiner (λ n. list_any (is_asked n) (cover_of depth x.tract)) → (TableUsed t → TableUsed u)
-    → IsLean depth (Some x) u
+    → IdleMore (on_all t) (on_all u) x.examiner (λ n. list_any (is_asked n) (cover_of depth x.tract))
+    → (AllUsed (on_all t) → AllUsed (on_all u)) → IsLean depth (Some x) u
 lean_more depth x t u lean more used = record {
   idle = λ f n idle. grind (arith, lean.idle f n, more.more f n);
   used = used lean.used;
@@ -98,6 +98,5 @@ lean_more depth x t u lean more used = record {
 
 -- where nobody more is idle it is as it was
 pub lean_same : (depth : ℕ) (w : Option Entry) (t u : Table) → IsLean depth w t → NoMoreIdle (on_all t) (on_all u)
-    → (TableUsed t → TableUsed u)
-    → IsLean depth w u
+    → (AllUsed (on_all t) → AllUsed (on_all u)) → IsLean depth w u
 lean_same depth w t u lean same used = record { idle = λ f n idle. lean.idle f n (same.same f n idle); used = used lean.used }

@@ -1,16 +1,13 @@
 pub mod ModeLaws
 pub mod NodeLaws
 pub mod Overlap
-pub mod AccessLaws
 pub mod TableLaws
-pub mod HomeLaws
 pub mod IdleLaws
 pub mod NumberLaws
 pub mod SpotLaws
 pub mod WalkLaws
 pub mod WayLaws
 pub mod DoneLaws
-pub mod Shelves
 pub mod BookLaws
 pub mod GiveBack
 pub mod Granted

@@ -1,10 +1,12 @@
 -- Maps of the holders of nodes by their numbers, changed under one number at a time.
-use Rattle.std.proofs.Common.{arith, ◌≡◌, ℕ, Bool, true, false, cond, [], Option, Some, None, length, refl, sym, ap, subst, ◌∙◌}
-use Rattle.std.{proofs.lemmas.{Bool.{Decides.{nat_tests}, eqb-true}, List.{nil_from_length}}, specs.Prelude.{IsSome, is_some}}
-use Rattle.std.specs.{Cmp.{unsigned_tied}, Ordering.{nat_cmp}, BTreeMap.{BTreeMap, get, is_at}}
+use Rattle.std.proofs.Common.{arith, ◌≡◌, ℕ, Bool, true, false, cond, not, ◌&&◌, ◌||◌, [], Option, Some, None, length, refl, sym, ap, ◌∙◌}
+use Rattle.std.{proofs.lemmas.{Bool.{or_left, eqb-true}, List.{nil_from_length}}, specs.Prelude.{IsSome, is_some}}
+use Rattle.std.specs.{Ordering.{nat_cmp}, BTreeMap.{BTreeMap, get, is_at}}
+use mathlib.Core.Bool.{and-true, and-false}
 use Rattle.title_land.specs.{declared.node.Node.{Node}, Nodes.{same_node}, NodeNumbers.{node_number}, Laws.NodeNumbers.{numbered_at}}
 use Rattle.title_land.specs.Laws.SameNode.{same_node-to}
-use Rattle.title_lock.specs.{Holders.{Modes, holder_mode, is_free}, Tables.{holders_at}}
+use Rattle.title_lock.specs.{declared.modes.Mode.{Mode}, Modes.{bound}, Holders.{Modes, holder_mode, is_free}}
+use Rattle.title_lock.{specs.Tables.{holders_at, mode_in, idle_in}, proofs.ModeLaws.{bound_none}}
 
 abbrev pub NodeMap : Type 0
 NodeMap = BTreeMap ℕ Modes
@@ -13,30 +15,46 @@ NodeMap = BTreeMap ℕ Modes
 abbrev pub Writes : NodeMap → NodeMap → ℕ → Option Modes → Type 0
 Writes m n j w = (q : ℕ) → get nat_cmp n q ≡ cond (is_at (nat_cmp j) q) w (get nat_cmp m q)
 
-pub hit_is : (j q : ℕ) → is_at (nat_cmp j) q ≡ true → j ≡ q
-hit_is j q h = eqb-true j q (sym (unsigned_tied j q) ∙ h)
-
--- a map that has nothing under a number is itself with nothing there
-pub nothing_there : (m : NodeMap) (j : ℕ) → None ≡ get nat_cmp m j → Writes m m j None
-nothing_there m j none q = grind (arith, nat_tests)
-
 -- of two writes under one number the second counts
 pub rewritten : (m n o : NodeMap) (j : ℕ) (v w : Option Modes) → Writes m n j v → Writes n o j w → Writes m o j w
 rewritten m n o j v w first then q = grind (arith, first q, then q)
 
--- what is so of what stood at the node that is written and of what stands there then, and elsewhere of what stays, is so at each node
-pub everywhere : (m n : NodeMap) (j : ℕ) (k : Node) (o w : Option Modes) → j ≡ node_number k → o ≡ get nat_cmp m j → Writes m n j w
-    → (R : Option Modes → Option Modes → Bool → Type 0) → R o w true → ((p : Option Modes) → R p p false) → (q : Node)
-    → R (holders_at m q) (holders_at n q) (same_node q k)
-everywhere m n j k o w code had writes R here rest q =
-    subst (λ (z : Option Modes). R (holders_at m q) z (same_node q k)) (sym (writes (node_number q)
-    ∙ ap (λ (z : ℕ). cond (is_at (nat_cmp z) (node_number q)) w (holders_at m q)) code
-    ∙ ap (λ (b : Bool). cond b w (holders_at m q)) (numbered_at k q))) (go (same_node q k) refl)
-  where
-    go : (b : Bool) → same_node q k ≡ b → R (holders_at m q) (cond b w (holders_at m q)) b
-    go true s = subst (λ (z : Option Modes). R z w true)
-        (had ∙ ap (get nat_cmp m) code ∙ ap (λ (x : Node). holders_at m x) (sym (same_node-to q k s))) here
-    go false s = rest (holders_at m q)
+-- what stood at the node that is written
+pub stood : (m : NodeMap) (j : ℕ) (k : Node) (o : Option Modes) → j ≡ node_number k → o ≡ get nat_cmp m j → (q : Node)
+    → same_node q k ≡ true → holders_at m q ≡ o
+stood m j k o code had q same = ap (holders_at m) (same_node-to q k same) ∙ sym (had ∙ ap (get nat_cmp m) code)
+
+-- what stands at each node then
+pub stands : (m n : NodeMap) (j : ℕ) (k : Node) (w : Option Modes) → j ≡ node_number k → Writes m n j w → (q : Node)
+    → holders_at n q ≡ cond (same_node q k) w (holders_at m q)
+stands m n j k w code writes q = writes (node_number q) ∙ ap (λ (z : ℕ). cond (is_at (nat_cmp z) (node_number q)) w (holders_at m q)) code
+    ∙ ap (λ (b : Bool). cond b w (holders_at m q)) (numbered_at k q)
+
+-- what is so of what stood and what stands at the node that is written, and elsewhere of what stays, is so at each node
+pub same_at : (f : ℕ) (s : Bool) {x y h : Option Modes} (w : Option Modes) → (s ≡ true → x ≡ h) → y ≡ cond s w x → mode_in f w ≡ mode_in f h
+    → mode_in f y ≡ mode_in f x
+same_at f true w was now at = rw (now, was refl) at
+same_at f false w was now at = ap (mode_in f) now
+
+pub raised_at : (f : ℕ) (b : Bool) (a : Mode) (s : Bool) {x y h : Option Modes} (w : Option Modes) → (s ≡ true → x ≡ h) → y ≡ cond s w x
+    → mode_in f w ≡ bound (mode_in f h) (cond b (Some a) None) → mode_in f y ≡ bound (mode_in f x) (cond (b && s) (Some a) None)
+raised_at f b a true w was now at = rw (now, was refl, and-true b) at
+raised_at f b a false {x} w was now at = rw (now, and-false b) (sym (bound_none (mode_in f x)))
+
+pub taken_at : (f : ℕ) (b s : Bool) {x y h : Option Modes} (w : Option Modes) → (s ≡ true → x ≡ h) → y ≡ cond s w x
+    → mode_in f w ≡ cond b None (mode_in f h) → mode_in f y ≡ cond (b && s) None (mode_in f x)
+taken_at f b true w was now at = rw (now, was refl, and-true b) at
+taken_at f b false w was now at = rw (now, and-false b)
+
+pub more_at : (f : ℕ) (b s : Bool) {x y h : Option Modes} (w : Option Modes) → (s ≡ true → x ≡ h) → y ≡ cond s w x
+    → (idle_in f w ≡ true → (idle_in f h || (b && true)) ≡ true) → idle_in f y ≡ true → (idle_in f x || (b && s)) ≡ true
+more_at f b true w was now at = rw (now, was refl) at
+more_at f b false {x} w was now at = λ idle. or_left (idle_in f x) (b && false) (ap (idle_in f) (sym now) ∙ idle)
+
+pub less_at : (f : ℕ) (b s : Bool) {x y h : Option Modes} (w : Option Modes) → (s ≡ true → x ≡ h) → y ≡ cond s w x
+    → idle_in f w ≡ (idle_in f h && not (b && true)) → idle_in f y ≡ (idle_in f x && not (b && s))
+less_at f b true w was now at = rw (now, was refl) at
+less_at f b false {x} w was now at = rw (now, and-false b) (sym (and-true (idle_in f x)))
 
 -- ---- holders among whom nobody is
 

@@ -3,7 +3,7 @@ use Rattle.std.specs.{Prelude.{ℕ, ◌≡◌, ◌==◌, List, [], ◌∷◌, Bo
 use Rattle.title_land.specs.{declared.node.Node.{Node}, Lands.{cover_of, IsLand}}
 use Rattle.title_lock.specs.{declared.{guards.Entry.{Entry}, table.Table.{Table}}, Overlaps.{is_post, Stands}, Asking.{AreSized}}
 use Rattle.title_lock.specs.declared.node_locks.Layout.{Layout, TheVariants.{Alone, Listed, Spread}}
-use Rattle.title_lock.specs.{Standing.{StandFree}, Tables.{on_all, is_asked, is_asked_by, HasRoom, is_idle, TableIs, TableUsed}}
+use Rattle.title_lock.specs.{Standing.{StandFree}, Tables.{on_all, is_asked, is_asked_by, HasRoom, is_idle, TableIs, AllUsed}}
 
 -- the entries, the newest first, and the one that there is room for, if there is one
 pub record Locks : Type 0 where
@@ -42,7 +42,7 @@ waits_at depth (Some x) f n = is_asked_by depth f n x
 -- nothing is kept of a node or an examiner but what is held and what waits
 pub record IsLean (depth : ℕ) (waits : Option Entry) (t : Table) : Type 0 where
   pub idle : (f : ℕ) (n : Node) → is_idle (on_all t) f n ≡ true → waits_at depth waits f n ≡ true
-  pub used : TableUsed t
+  pub used : AllUsed (on_all t)
 
 -- locks by node: the table is that of the entries, there is room for what waits, and nothing else is kept
 pub record AreLocks (depth : ℕ) (prepared : Option ℕ) (book : List Entry) (t : Table) : Type 0 where

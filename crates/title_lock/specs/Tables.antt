@@ -4,7 +4,7 @@ use Rattle.std.specs.{Prelude.{Option, Some, None, is_some, IfSome}, Ordering.{n
 use Rattle.title_land.specs.{declared.node.Node.{Node}, Nodes.{same_node, above_in, is_above}, Lands.{cover_of}}
 use Rattle.title_land.specs.NodeNumbers.{node_number, section_number}
 use Rattle.title_land.specs.declared.node.Node.TheVariants as node
-use Rattle.title_lock.specs.{declared.{modes.Mode.{Mode}, shelf.Shelf.{Shelf}, table.Table.{Table}, guards.Entry.{Entry}}, Modes.{allows}}
+use Rattle.title_lock.specs.{declared.{modes.Mode.{Mode}, table.Table.{Table}, guards.Entry.{Entry}}, Modes.{allows}}
 use Rattle.title_lock.specs.{Asking.{mode_at, AreSized}, Holders.{Modes, holder_mode, has_room, idles, is_free}}
 
 -- the holders at n, in a map by the numbers of nodes
@@ -19,60 +19,13 @@ mode_in e (Some h) = holder_mode h e
 abbrev pub HeldAt : Type 0
 HeldAt = Node → Option Modes
 
--- those on a shelf
-abbrev pub on_shelf : Shelf → HeldAt
-on_shelf s n = holders_at s.holders n
-
-abbrev pub nowhere : HeldAt
-nowhere n = None
-
-abbrev pub on_some : Option Shelf → HeldAt
-on_some None = nowhere
-on_some (Some s) = on_shelf s
-
--- those on the shelf of the section with this number
-abbrev pub on_section : Table → ℕ → HeldAt
-on_section t k = on_some (get nat_cmp t.sections k)
-
--- the shelf on which a node stands: that of the section with this number, or else the upper one
-abbrev pub home_of : Node → Option ℕ
-home_of node.Everything = None
-home_of (node.Township t) = None
-home_of (node.Part s w) = Some (section_number s)
-
--- the shelf where nodes with this home stand, if there is one
-abbrev pub shelf_at : Table → Option ℕ → Option Shelf
-shelf_at t None = Some t.upper
-shelf_at t (Some k) = get nat_cmp t.sections k
-
--- those in a table: a section's squares stand on a shelf of their own, and the plant and its townships on another
+-- those in a table
 abbrev pub on_all : Table → HeldAt
-on_all t n = on_some (shelf_at t (home_of n)) n
+on_all t n = holders_at t.holders n
 
 -- the mode of examiner e at n
 abbrev pub table_mode : HeldAt → ℕ → Node → Option Mode
 table_mode t e n = mode_in e (t n)
-
--- ---- on one shelf
-
--- the nodes above a node that stand on its shelf, the nearest first
-abbrev pub shelf_above : Node → List Node
-shelf_above node.Everything = []
-shelf_above (node.Township t) = node.Everything ∷ []
-shelf_above (node.Part s w) = above_in s w
-
--- the nodes above a node that don't stand on its shelf, the nearest first
-abbrev pub upper_above : Node → List Node
-upper_above node.Everything = []
-upper_above (node.Township t) = []
-upper_above (node.Part s w) = node.Township s.township ∷ node.Everything ∷ []
-
--- the node above, where it stands on the same shelf
-abbrev pub shelf_parent : Node → Option Node
-shelf_parent node.Everything = None
-shelf_parent (node.Township t) = Some node.Everything
-shelf_parent (node.Part s []) = None
-shelf_parent (node.Part s (q ∷ w)) = Some (node.Part s w)
 
 -- ---- room
 
@@ -125,45 +78,6 @@ is_unused t n = unused_in (t n)
 -- each node that has holders is one that somebody holds or has room at
 pub record AllUsed (t : HeldAt) : Type 0 where
   pub each : (n : Node) → is_unused t n ≡ false
-
--- a shelf has no holders
-abbrev pub is_bare : Shelf → Bool
-is_bare s = length s.holders.entries == 0
-
--- a section's shelf has holders, where there is one
-abbrev pub IsStocked : Option Shelf → Type 0
-IsStocked shelf = IfSome shelf (λ s. is_bare s ≡ false)
-
--- this is the number of a node that stands on a shelf
-abbrev pub IsNumberOn : Option ℕ → ℕ → Type 0
-IsNumberOn home k = (n : Node) × (home_of n ≡ home) × (k ≡ node_number n)
-
--- a shelf has holders under this number
-abbrev pub has_holders : Shelf → ℕ → Bool
-has_holders s k = is_some (get nat_cmp s.holders k)
-
--- the holders on a shelf are each those of a node which stands there
-pub record AreAtHome (home : Option ℕ) (s : Shelf) : Type 0 where
-  pub each : (k : ℕ) → has_holders s k ≡ true → IsNumberOn home k
-
--- the holders on a section's shelf are each those of a node which stands there, where there is one
-abbrev pub IsAtHome : Option ℕ → Option Shelf → Type 0
-IsAtHome home shelf = IfSome shelf (AreAtHome home)
-
--- as a section's shelf is
-abbrev pub IsStockedAt : Option ℕ → Option Shelf → Type 0
-IsStockedAt None shelf = Unit {0}
-IsStockedAt (Some k) shelf = IsStocked shelf
-
--- a shelf's holders are used and at home, and a section's has some
-pub record IsTidy (h : Option ℕ) (shelf : Option Shelf) : Type 0 where
-  pub used : AllUsed (on_some shelf)
-  pub home : IsAtHome h shelf
-  pub stocked : IsStockedAt h shelf
-
--- so are all shelves of a table
-pub record TableUsed (t : Table) : Type 0 where
-  pub each : (h : Option ℕ) → IsTidy h (shelf_at t h)
 
 -- ---- what is held
 

@@ -5,7 +5,7 @@ use Rattle.std.specs.List.{list_any}
 use Rattle.title_land.specs.{declared.node.Node.{Node}, Nodes.{same_node, above, is_above}}
 use Rattle.title_lock.specs.{declared.{modes.Mode.{Mode}, spots.Spot.{Spot}, walks.{Climb.{Climb}, Walk.{Walk}}}, Modes.{bound}}
 use Rattle.title_lock.specs.{Asking.{own_mode, above_mode}, Holders.{clashes}}
-use Rattle.title_lock.specs.Tables.{HeldAt, shelf_above, table_mode, KeepsRoom, IdleMore, IdleLess}
+use Rattle.title_lock.specs.Tables.{HeldAt, table_mode, KeepsRoom, IdleMore, IdleLess}
 
 -- a node that is asked for, and whether it is one of the cover; else it lies above one
 abbrev pub Asked : Type 0
@@ -51,17 +51,14 @@ abbrev pub node_of : Option Spot → Option Node
 node_of None = None
 node_of (Some s) = Some s.is.node
 
--- a node that is asked for, and those above it on its shelf
-abbrev pub climb_asks : Climb → List Asked
-climb_asks c = (c.spot.is.node, c.is_own) ∷ asks_above (node_of c.last) (shelf_above c.spot.is.node)
-
+-- a node that is asked for, and those above it
 abbrev pub climb_left : Option Climb → List Asked
 climb_left None = []
-climb_left (Some c) = climb_asks c
+climb_left (Some c) = (c.spot.is.node, c.is_own) ∷ asks_above (node_of c.last) (above c.spot.is.node)
 
 -- what a walk has still to come
 abbrev pub walk_left : Walk → List Asked
-walk_left w = climb_left w.upper ++ walk (node_of w.last) w.nodes.now
+walk_left w = climb_left w.climb ++ walk (node_of w.last) w.nodes.now
 
 -- ---- what is done along it
 

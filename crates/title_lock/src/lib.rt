@@ -11,7 +11,6 @@ mod least;
 pub mod modes;
 pub mod node_locks;
 pub mod row_locks;
-mod shelf;
 mod slots;
 mod spots;
 mod spread_locks;

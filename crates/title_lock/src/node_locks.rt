@@ -9,14 +9,17 @@ ghost use Rattle.title_lock.specs.Locks.{Locks, shown, AreInOne};
 use crate::guards::{Access, Guards, LockFault};
 use crate::holders::own_part;
 use crate::modes::Mode;
-use crate::row_locks::{Row, RowLocks};
+use crate::row_locks::{Row, RowLocks, way};
 use crate::spread_locks::SpreadLocks;
 use std::alloc::{AllocError, Global};
 use std::marker::Model;
 use title_land::{Node, Tract};
 
-// How many accesses may be listed once a second examiner has any. To go through so many costs a step no more than the nodes do.
+// How many accesses may be listed once a second examiner has any, and to how many of them a tract may be held: one that lies in
+// another section costs only a look at a number. To go through so many costs a step no more than the nodes do.
 const LISTED: usize = 512;
+
+const CROWD: usize = 64;
 
 /// Where accesses stand.
 #[derive(Clone, Copy)]
@@ -179,19 +182,17 @@ impl Guards for NodeLocks {
         self.begin(examiner);
         if let Layout::Alone(owner) = self.layout {
             if owner == examiner {
-                let Ok(()) = self.listed.make_room(examiner, tract, access) else {
-                    return Err(LockFault::Memory);
-                };
-                return Ok(());
+                return self.listed.prepare_knowing(None, examiner, tract, access);
             }
             self.layout = Layout::Listed;
         }
         if let Layout::Listed = self.layout {
-            if self.listed.rows().len() < LISTED {
-                return self.listed.prepare(examiner, tract, access);
+            let (way, met) = way(self.listed.rows(), examiner, tract, access);
+            if self.listed.rows().len() < LISTED && met < CROWD {
+                return self.listed.prepare_knowing(way, examiner, tract, access);
             }
             if spread_out(self.alloc, &mut self.listed, &mut self.spread).is_err() {
-                return Err(match self.listed.would(examiner, tract, access) {
+                return Err(match way {
                     Some(other) => LockFault::Conflict(other),
                     None => LockFault::Memory,
                 });

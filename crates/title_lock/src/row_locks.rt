@@ -1,9 +1,10 @@
 //! Locks as a plain list of entries.
 
 ghost use Rattle.std.specs.Prelude.{◌≡◌, ◌<◌, ◌^◌, ◌&&◌, ◌==◌, if◌then◌else◌, Some, None, List, reverse, filter, not, OnOk};
-ghost use Rattle.std.specs.Prelude.{ℕ, true, is_some, slice_index};
+ghost use Rattle.std.specs.Prelude.{ℕ, true, is_some, slice_index, IfErr};
 ghost use Rattle.title_land.specs.{Depth.{depth}, Nodes.{is_above}, Lands.{cover_of}};
-ghost use Rattle.title_lock.specs.{declared.guards.Entry.{Entry}, Overlaps.{is_post, overlap, Stands, IsLeast}, Standing.{StandFree}};
+ghost use Rattle.title_lock.specs.Standing.{StandFree};
+ghost use Rattle.title_lock.specs.{declared.guards.Entry.{Entry}, Overlaps.{is_post, overlap, Stands, IsLeast, RefusedBy}};
 ghost use Rattle.title_lock.specs.{Asking.{asked_for, asked, mode_at, AllGranted, AreSized}, Counts.{IsCount}, Holders.{count_in}};
 ghost use Rattle.title_lock.specs.{declared.modes.Mode.{Mode, TheVariants.{Is, Ix, S, Six, X}}, Homes.{home_number, is_elsewhere}};
 
@@ -118,18 +119,25 @@ fn way_of(row: &Entry, examiner: u32, tract: &Tract, access: Access) -> Option<u
     }
 }
 
-// The least other examiner in the way of an access.
-fn way(rows: &[Row], examiner: u32, tract: &Tract, access: Access) -> Option<u32>
-    ensures way { Stands (reverse rows.now) examiner tract.now (is_post access) result }
+/// The least other examiner in the way of an access, and to how many entries its tract was held.
+pub(crate) fn way(
+    rows: &[Row],
+    examiner: u32,
+    tract: &Tract,
+    access: Access,
+) -> (Option<u32>, usize)
+    ensures way { Stands (reverse rows.now) examiner tract.now (is_post access) result.0 }
 {
     let home = home_number(tract);
     let mut way = None;
+    let mut met = 0_usize;
     for row in rows {
         if !row.is_elsewhere(home) {
             way = least(way_of(row.entry(), examiner, tract, access), way);
+            met = met.saturating_add(1);
         }
     }
-    way
+    (way, met)
 }
 
 // Whether a node lies above another.
@@ -240,14 +248,8 @@ impl RowLocks {
         [counts.is, counts.ix, counts.s, counts.six, counts.x]
     }
 
-    /// Makes room for an access that nobody is in the way of, and adds nothing. The list isn't gone through. An error is for
-    /// memory.
-    pub(crate) fn make_room(
-        &mut self,
-        examiner: u32,
-        tract: &Tract,
-        access: Access,
-    ) -> Result<(), AllocError>
+    // Makes room for an access that nobody is in the way of, and adds nothing. An error is for memory.
+    fn make_room(&mut self, examiner: u32, tract: &Tract, access: Access) -> Result<(), AllocError>
         requires free { Stands self.old.entries examiner tract.now (is_post access) None }
         ensures stays { self.new.entries ≡ self.old.entries }
         ensures prepared { OnOk result
@@ -263,6 +265,30 @@ impl RowLocks {
             tract: copy,
             access,
         });
+        Ok(())
+    }
+
+    /// As `prepare` does, where it is known who is in the way: the list isn't gone through.
+    pub(crate) fn prepare_knowing(
+        &mut self,
+        way: Option<u32>,
+        examiner: u32,
+        tract: &Tract,
+        access: Access,
+    ) -> Result<(), LockFault>
+        requires way { Stands self.old.entries examiner tract.now (is_post access) way }
+        ensures stays { self.new.entries ≡ self.old.entries }
+        ensures prepared { OnOk result
+            (self.new.prepared ≡ Some (record { examiner = examiner; tract = tract.now; access = access })) }
+        ensures free { OnOk result (Stands self.old.entries examiner tract.now (is_post access) None) }
+        ensures fault { IfErr result (RefusedBy self.old.entries examiner tract.now (is_post access)) }
+    {
+        if let Some(other) = way {
+            return Err(LockFault::Conflict(other));
+        }
+        let Ok(()) = self.make_room(examiner, tract, access) else {
+            return Err(LockFault::Memory);
+        };
         Ok(())
     }
 }
@@ -281,17 +307,12 @@ impl Guards for RowLocks {
     }
 
     fn would(&self, examiner: u32, tract: &Tract, access: Access) -> Option<u32> {
-        way(&self.rows, examiner, tract, access)
+        way(&self.rows, examiner, tract, access).0
     }
 
     fn prepare(&mut self, examiner: u32, tract: &Tract, access: Access) -> Result<(), LockFault> {
-        if let Some(other) = self.would(examiner, tract, access) {
-            return Err(LockFault::Conflict(other));
-        }
-        let Ok(()) = self.make_room(examiner, tract, access) else {
-            return Err(LockFault::Memory);
-        };
-        Ok(())
+        let way = self.would(examiner, tract, access);
+        self.prepare_knowing(way, examiner, tract, access)
     }
 
     fn grant(&mut self, _examiner: u32, _tract: &Tract, _access: Access) {

@@ -80,16 +80,6 @@ fn search_before(
     None
 }
 
-// The mode of an examiner.
-fn mode_among(modes: &BTreeMap<u32, Option<Mode>>, examiner: u32) -> Option<Mode>
-    ensures mode { result ≡ holder_mode modes.now.entries examiner }
-{
-    match modes.get(&examiner) {
-        Some(held) => *held,
-        None => None,
-    }
-}
-
 // Makes room for an examiner.
 fn add_room(modes: &mut BTreeMap<u32, Option<Mode>>, examiner: u32) -> Result<(), AllocError>
     ensures modes { (e : ℕ) → holder_mode modes.new.entries e ≡ holder_mode modes.old.entries e }
@@ -121,18 +111,6 @@ fn raise_among(modes: &mut BTreeMap<u32, Option<Mode>>, examiner: u32, mode: Mod
     }
 }
 
-// Takes out an examiner's slot. The result is what it held.
-fn erase_among(modes: &mut BTreeMap<u32, Option<Mode>>, examiner: u32) -> Option<Mode>
-    ensures had { result ≡ holder_mode modes.old.entries examiner }
-    ensures modes { (e : ℕ) → holder_mode modes.new.entries e ≡ (if e == examiner then None else holder_mode modes.old.entries e) }
-    ensures rooms { (e : ℕ) → has_room modes.new.entries e ≡ (not (e == examiner) && has_room modes.old.entries e) }
-{
-    match modes.remove(&examiner) {
-        Some(held) => held,
-        None => None,
-    }
-}
-
 impl Slots {
     /// Nobody. Takes no memory.
     pub(crate) fn new(alloc: Global) -> Slots
@@ -156,13 +134,14 @@ impl Slots {
     pub(crate) fn mode(&self, examiner: u32) -> Option<Mode>
         ensures mode { result ≡ holder_mode self.now examiner }
     {
-        match self.first {
-            Some((first, held)) => if first == examiner {
-                held
-            } else {
-                mode_among(&self.others, examiner)
-            },
-            None => mode_among(&self.others, examiner),
+        if let Some((first, held)) = self.first {
+            if first == examiner {
+                return held;
+            }
+        }
+        match self.others.get(&examiner) {
+            Some(held) => *held,
+            None => None,
         }
     }
 
@@ -226,6 +205,9 @@ impl Slots {
                 return held;
             }
         }
-        erase_among(&mut self.others, examiner)
+        match self.others.remove(&examiner) {
+            Some(held) => held,
+            None => None,
+        }
     }
 }

@@ -5,7 +5,7 @@ ghost use Rattle.std.specs.List.{list_any};
 ghost use Rattle.title_land.specs.{Depth.{depth}, declared.node.Node.{Node}};
 ghost use Rattle.title_lock.specs.{declared.{guards.Entry.{Entry}, modes.Mode.TheVariants.{Is, Ix, S, Six, X}}, Overlaps.{without}};
 ghost use Rattle.title_lock.specs.{Books.{is_nothing}, Asking.{mode_at, AllGranted, AreSized}, Counts.{IsCount}, Standing.{StandFree}};
-ghost use Rattle.title_lock.specs.Tables.{on_all, table_mode, is_asked, is_asked_by, HasRoom, IdleMore, NoMoreIdle, TableUsed};
+ghost use Rattle.title_lock.specs.Tables.{on_all, table_mode, is_asked, is_asked_by, HasRoom, IdleMore, NoMoreIdle, AllUsed};
 ghost use Rattle.title_lock.specs.Locks.{Locks, granted, waiting, AreLocks};
 
 use crate::book::Book;
@@ -41,7 +41,7 @@ fn fill(table: &mut Table, book: &mut Book, cover: &[Node], entry: Entry) -> Res
     ensures modes { (f : ℕ) → (n : Node) → table_mode (on_all table.new) f n ≡ table_mode (on_all table.old) f n }
     ensures room { OnOk result (HasRoom (on_all table.new) entry.examiner (λ n. list_any (is_asked n) cover.now)) }
     ensures idle { IdleMore (on_all table.old) (on_all table.new) entry.examiner (λ n. list_any (is_asked n) cover.now) }
-    ensures used { TableUsed table.old → TableUsed table.new }
+    ensures used { AllUsed (on_all table.old) → AllUsed (on_all table.new) }
     ensures ok { OnOk result (book.new ≡ entry ∷ book.old) }
     ensures err { OnErr result (book.new ≡ book.old) }
 {
@@ -55,7 +55,7 @@ fn stage(table: &mut Table, book: &mut Book, cover: &[Node], entry: Entry) -> Re
     ensures room { OnOk result (HasRoom (on_all table.new) entry.examiner (λ n. list_any (is_asked n) cover.now)) }
     ensures idle { OnOk result (IdleMore (on_all table.old) (on_all table.new) entry.examiner (λ n. list_any (is_asked n) cover.now)) }
     ensures undone { OnErr result (NoMoreIdle (on_all table.old) (on_all table.new)) }
-    ensures used { TableUsed table.old → TableUsed table.new }
+    ensures used { AllUsed (on_all table.old) → AllUsed (on_all table.new) }
     ensures ok { OnOk result (book.new ≡ entry ∷ book.old) }
     ensures err { OnErr result (book.new ≡ book.old) }
 {
@@ -73,7 +73,7 @@ fn give_back_all(table: &mut Table, book: &mut Book, examiner: u32)
     ensures modes { (f : ℕ) → (n : Node) → table_mode (on_all table.new) f n
         ≡ (if f == examiner && list_any (is_asked_by depth examiner n) book.old then None else table_mode (on_all table.old) f n) }
     ensures idle { NoMoreIdle (on_all table.old) (on_all table.new) }
-    ensures used { TableUsed table.old → TableUsed table.new }
+    ensures used { AllUsed (on_all table.old) → AllUsed (on_all table.new) }
 {
     while let Some(entry) = book.take(examiner) {
         table.take_out_all(examiner, entry.tract.cover(), Taken::Mode);

@@ -1,33 +1,28 @@
 //! A table of locks: the holders of each node.
 
-ghost use Rattle.std.specs.Prelude.{◌≡◌, ◌≢◌, ℕ, true, false, Option, Some, None, ◌&&◌, ◌==◌, if◌then◌else◌, OnOk, slice_index};
-ghost use Rattle.std.specs.{BTreeMap.{get}, List.{list_any}, Ordering.{nat_cmp}};
-ghost use Rattle.title_land.specs.declared.node.Node.{Node};
-ghost use Rattle.title_lock.specs.{Modes.{bound}, Overlaps.{is_post, IsLeast}, Asking.{asked}, Counts.{IsCount}, Holders.{is_mode}};
-ghost use Rattle.title_lock.specs.{declared.modes.Mode.TheVariants.{Is, Ix, S, Six, X}, Tables.{IsStocked, TableUsed, home_of, IsAtHome}};
-ghost use Rattle.title_lock.specs.Tables.{on_section, on_all, table_mode, HasRoom, is_asked, is_idle, IdleMore, IdleLess, AllUsed};
-ghost use Rattle.title_lock.specs.Walks.{walk, asks_in, clashes_in, climb_asks, Roomed, Raised, TakenOut};
+ghost use Rattle.std.specs.{Prelude.{◌≡◌, ℕ, true, false, None, Some, ◌&&◌, ◌==◌, if◌then◌else◌, OnOk, slice_index}, List.{list_any}};
+ghost use Rattle.title_land.specs.{declared.node.Node.{Node}, Nodes.{same_node}};
+ghost use Rattle.title_lock.specs.{Modes.{bound}, Overlaps.{is_post, IsLeast}, declared.modes.Mode.TheVariants.{Is, Ix, S, Six, X}};
+ghost use Rattle.title_lock.specs.{Counts.{IsCount}, Asking.{asked}, Holders.{clashes, is_mode}, Walks.{walk, clashes_in}};
+ghost use Rattle.title_lock.specs.Tables.{on_all, table_mode, table_room, KeepsRoom, HasRoom};
+ghost use Rattle.title_lock.specs.Tables.{is_asked, is_idle, IdleMore, IdleLess, AllUsed};
 
 use crate::guards::Access;
-use crate::holders::Taken;
+use crate::holders::{Holders, Taken};
 use crate::least::least;
 use crate::modes::Mode;
-use crate::shelf::Shelf;
 use crate::spots::Spot;
-use crate::walks::{Climb, Walk};
+use crate::walks::Walk;
 use std::alloc::{AllocError, Global};
 use std::collections::BTreeMap;
 use title_land::Node;
 
-/// The holders of each node in use. What an access asks of a section's squares is on one shelf, which is sought once for each
-/// node of the cover.
+/// The holders of each node in use.
 #[derive(Drop)]
 pub(crate) struct Table {
     alloc: Global,
-    // The plant and its townships.
-    upper: Shelf,
-    // The squares of each section, by the numbers of sections.
-    sections: BTreeMap<u64, Shelf>,
+    // By the numbers of nodes.
+    holders: BTreeMap<u64, Holders>,
 }
 
 impl Table {
@@ -35,12 +30,11 @@ impl Table {
     pub(crate) fn new(alloc: Global) -> Table
         ensures free { (e : ℕ) → (n : Node) → table_mode (on_all result) e n ≡ None }
         ensures idle { (e : ℕ) → (n : Node) → is_idle (on_all result) e n ≡ false }
-        ensures used { TableUsed result }
+        ensures used { AllUsed (on_all result) }
     {
         Table {
             alloc,
-            upper: Shelf::new(alloc),
-            sections: BTreeMap::new(alloc),
+            holders: BTreeMap::new(alloc),
         }
     }
 
@@ -48,11 +42,8 @@ impl Table {
     pub(crate) fn mode(&self, examiner: u32, node: &Node) -> Option<Mode>
         ensures mode { result ≡ table_mode (on_all self.now) examiner node.now }
     {
-        let Some(home) = Spot::of(node).home() else {
-            return self.upper.mode(examiner, node);
-        };
-        match self.sections.get(&home) {
-            Some(shelf) => shelf.mode(examiner, node),
+        match self.holders.get(&node.number()) {
+            Some(holders) => holders.mode(examiner),
             None => None,
         }
     }
@@ -65,25 +56,18 @@ impl Table {
         ensures six { IsCount (λ e. table_mode (on_all self.now) e node.now) Six (slice_index result 3) }
         ensures x { IsCount (λ e. table_mode (on_all self.now) e node.now) X (slice_index result 4) }
     {
-        let Some(home) = Spot::of(node).home() else {
-            return self.upper.counts(node);
-        };
-        match self.sections.get(&home) {
-            Some(shelf) => shelf.counts(node),
+        match self.holders.get(&node.number()) {
+            Some(holders) => holders.numbers(),
             None => [0; 5],
         }
     }
 
-    // The least other examiner in the way of an access along a climb.
-    fn way_along(&self, examiner: u32, climb: &Climb, access: Access) -> Option<u32>
-        ensures way { IsLeast (λ f. clashes_in (is_post access) (λ n. table_mode (on_all self.now) f n) (climb_asks climb.now))
-            examiner result }
+    // The least other examiner that a mode can't stand beside at a node.
+    fn way_of(&self, examiner: u32, spot: &Spot, mode: Mode) -> Option<u32>
+        ensures way { IsLeast (λ f. clashes mode (table_mode (on_all self.now) f spot.now.is.node)) examiner result }
     {
-        let Some(home) = climb.spot.home() else {
-            return self.upper.way_along(examiner, climb, access);
-        };
-        match self.sections.get(&home) {
-            Some(shelf) => shelf.way_along(examiner, climb, access),
+        match self.holders.get(&spot.number) {
+            Some(holders) => holders.way(examiner, mode),
             None => None,
         }
     }
@@ -96,42 +80,26 @@ impl Table {
         let mut way = None;
         let mut walk = Walk::of(cover);
         while let Some(climb) = walk.next() {
-            way = least(way, self.way_along(examiner, &climb, access));
+            way = least(way, self.way_of(examiner, &climb.spot, climb.mode(access)));
         }
         way
     }
 
-    // Makes room on a section's shelf, which is put up where there is none.
-    fn make_room_on(&mut self, home: u64, examiner: u32, climb: &Climb) -> Result<(), AllocError>
-        requires home { home_of climb.now.spot.is.node ≡ Some home }
-        ensures upper { self.new.upper ≡ self.old.upper }
-        ensures others { (k : ℕ) → k ≢ home → get nat_cmp self.new.sections k ≡ get nat_cmp self.old.sections k }
-        ensures roomed { Roomed (on_section self.old home) (on_section self.new home) examiner (climb_asks climb.now) }
-        ensures room { OnOk result (HasRoom (on_section self.new home) examiner (asks_in (climb_asks climb.now))) }
-        ensures used { AllUsed (on_section self.old home) → AllUsed (on_section self.new home) }
-        ensures stocked { IsStocked (get nat_cmp self.old.sections home) → IsStocked (get nat_cmp self.new.sections home) }
-        ensures homes { IsAtHome (Some home) (get nat_cmp self.old.sections home)
-            → IsAtHome (Some home) (get nat_cmp self.new.sections home) }
+    // Makes room for an examiner at a node.
+    fn make_room(&mut self, examiner: u32, spot: &Spot) -> Result<(), AllocError>
+        ensures modes { (f : ℕ) → (n : Node) → table_mode (on_all self.new) f n ≡ table_mode (on_all self.old) f n }
+        ensures room { OnOk result (table_room (on_all self.new) examiner spot.now.is.node ≡ true) }
+        ensures stays { KeepsRoom (on_all self.old) (on_all self.new) }
+        ensures idle { IdleMore (on_all self.old) (on_all self.new) examiner (λ n. same_node n spot.now.is.node) }
+        ensures used { AllUsed (on_all self.old) → AllUsed (on_all self.new) }
     {
-        if let Some(shelf) = self.sections.get_mut(&home) {
-            return shelf.make_room_along(examiner, climb);
+        if let Some(holders) = self.holders.get_mut(&spot.number) {
+            return holders.make_room(examiner);
         }
-        let mut shelf = Shelf::new(self.alloc);
-        shelf.make_room_along(examiner, climb)?;
-        self.sections.insert(home, shelf)?;
+        let mut holders = Holders::new(self.alloc);
+        holders.make_room(examiner)?;
+        self.holders.insert(spot.number, holders)?;
         Ok(())
-    }
-
-    // Makes room along a climb.
-    fn make_room_along(&mut self, examiner: u32, climb: &Climb) -> Result<(), AllocError>
-        ensures roomed { Roomed (on_all self.old) (on_all self.new) examiner (climb_asks climb.now) }
-        ensures room { OnOk result (HasRoom (on_all self.new) examiner (asks_in (climb_asks climb.now))) }
-        ensures used { TableUsed self.old → TableUsed self.new }
-    {
-        match climb.spot.home() {
-            Some(home) => self.make_room_on(home, examiner, climb),
-            None => self.upper.make_room_along(examiner, climb),
-        }
     }
 
     /// Makes room for what an access asks for. No mode changes, also where memory is refused.
@@ -139,39 +107,26 @@ impl Table {
         ensures modes { (f : ℕ) → (n : Node) → table_mode (on_all self.new) f n ≡ table_mode (on_all self.old) f n }
         ensures room { OnOk result (HasRoom (on_all self.new) examiner (λ n. list_any (is_asked n) cover.now)) }
         ensures idle { IdleMore (on_all self.old) (on_all self.new) examiner (λ n. list_any (is_asked n) cover.now) }
-        ensures used { TableUsed self.old → TableUsed self.new }
+        ensures used { AllUsed (on_all self.old) → AllUsed (on_all self.new) }
     {
         let mut walk = Walk::of(cover);
         while let Some(climb) = walk.next() {
-            self.make_room_along(examiner, &climb)?;
+            self.make_room(examiner, &climb.spot)?;
         }
         Ok(())
     }
 
-    // Gives an examiner what an access asks on a section's shelf.
-    fn raise_on(&mut self, home: u64, examiner: u32, climb: &Climb, access: Access)
-        requires room { HasRoom (on_section self.old home) examiner (asks_in (climb_asks climb.now)) }
-        ensures upper { self.new.upper ≡ self.old.upper }
-        ensures others { (k : ℕ) → k ≢ home → get nat_cmp self.new.sections k ≡ get nat_cmp self.old.sections k }
-        ensures raised { Raised (on_section self.old home) (on_section self.new home) examiner (is_post access) (climb_asks climb.now) }
-        ensures used { AllUsed (on_section self.old home) → AllUsed (on_section self.new home) }
-        ensures stocked { IsStocked (get nat_cmp self.new.sections home) }
-        ensures homes { (h : Option ℕ) → IsAtHome h (get nat_cmp self.old.sections home) → IsAtHome h (get nat_cmp self.new.sections home) }
+    // Gives an examiner one mode more at a node.
+    fn raise(&mut self, examiner: u32, spot: &Spot, mode: Mode)
+        requires room { table_room (on_all self.old) examiner spot.now.is.node ≡ true }
+        ensures modes { (f : ℕ) → (n : Node) → table_mode (on_all self.new) f n
+            ≡ bound (table_mode (on_all self.old) f n) (if f == examiner && same_node n spot.now.is.node then Some mode else None) }
+        ensures stays { KeepsRoom (on_all self.old) (on_all self.new) }
+        ensures idle { IdleLess (on_all self.old) (on_all self.new) examiner (λ n. same_node n spot.now.is.node) }
+        ensures used { AllUsed (on_all self.old) → AllUsed (on_all self.new) }
     {
-        if let Some(shelf) = self.sections.get_mut(&home) {
-            shelf.raise_along(examiner, climb, access);
-        }
-    }
-
-    // Gives an examiner what an access asks along a climb.
-    fn raise_along(&mut self, examiner: u32, climb: &Climb, access: Access)
-        requires room { HasRoom (on_all self.old) examiner (asks_in (climb_asks climb.now)) }
-        ensures raised { Raised (on_all self.old) (on_all self.new) examiner (is_post access) (climb_asks climb.now) }
-        ensures used { TableUsed self.old → TableUsed self.new }
-    {
-        match climb.spot.home() {
-            Some(home) => self.raise_on(home, examiner, climb, access),
-            None => self.upper.raise_along(examiner, climb, access),
+        if let Some(holders) = self.holders.get_mut(&spot.number) {
+            holders.raise(examiner, mode);
         }
     }
 
@@ -181,40 +136,26 @@ impl Table {
         ensures modes { (f : ℕ) → (n : Node) → table_mode (on_all self.new) f n
             ≡ bound (table_mode (on_all self.old) f n) (if f == examiner then asked (is_post access) cover.now n else None) }
         ensures idle { IdleLess (on_all self.old) (on_all self.new) examiner (λ n. list_any (is_asked n) cover.now) }
-        ensures used { TableUsed self.old → TableUsed self.new }
+        ensures used { AllUsed (on_all self.old) → AllUsed (on_all self.new) }
     {
         let mut walk = Walk::of(cover);
         while let Some(climb) = walk.next() {
-            self.raise_along(examiner, &climb, access);
+            self.raise(examiner, &climb.spot, climb.mode(access));
         }
     }
 
-    // Takes an examiner out of the holders on a section's shelf, and the shelf where it is bare then.
-    fn take_out_on(&mut self, home: u64, examiner: u32, climb: &Climb, taken: Taken)
-        ensures upper { self.new.upper ≡ self.old.upper }
-        ensures others { (k : ℕ) → k ≢ home → get nat_cmp self.new.sections k ≡ get nat_cmp self.old.sections k }
-        ensures taken { TakenOut (on_section self.old home) (on_section self.new home) examiner (is_mode taken) (climb_asks climb.now) }
-        ensures used { AllUsed (on_section self.old home) → AllUsed (on_section self.new home) }
-        ensures stocked { IsStocked (get nat_cmp self.new.sections home) }
-        ensures homes { (h : Option ℕ) → IsAtHome h (get nat_cmp self.old.sections home) → IsAtHome h (get nat_cmp self.new.sections home) }
+    // Takes an examiner's mode or room out of a node's holders, and the node with the last of them.
+    fn take_out(&mut self, examiner: u32, spot: &Spot, taken: Taken)
+        ensures modes { (f : ℕ) → (n : Node) → table_mode (on_all self.new) f n
+            ≡ (if is_mode taken && f == examiner && same_node n spot.now.is.node then None else table_mode (on_all self.old) f n) }
+        ensures idle { IdleLess (on_all self.old) (on_all self.new) examiner (λ n. same_node n spot.now.is.node) }
+        ensures used { AllUsed (on_all self.old) → AllUsed (on_all self.new) }
     {
-        let Some(shelf) = self.sections.get_mut(&home) else {
+        let Some(holders) = self.holders.get_mut(&spot.number) else {
             return;
         };
-        shelf.take_out_along(examiner, climb, taken);
-        if shelf.is_empty() {
-            self.sections.remove(&home);
-        }
-    }
-
-    // Takes an examiner out of the holders along a climb.
-    fn take_out_along(&mut self, examiner: u32, climb: &Climb, taken: Taken)
-        ensures taken { TakenOut (on_all self.old) (on_all self.new) examiner (is_mode taken) (climb_asks climb.now) }
-        ensures used { TableUsed self.old → TableUsed self.new }
-    {
-        match climb.spot.home() {
-            Some(home) => self.take_out_on(home, examiner, climb, taken),
-            None => self.upper.take_out_along(examiner, climb, taken),
+        if holders.take_out(examiner, taken) {
+            self.holders.remove(&spot.number);
         }
     }
 
@@ -223,11 +164,11 @@ impl Table {
         ensures modes { (f : ℕ) → (n : Node) → table_mode (on_all self.new) f n
             ≡ (if is_mode taken && f == examiner && list_any (is_asked n) cover.now then None else table_mode (on_all self.old) f n) }
         ensures idle { IdleLess (on_all self.old) (on_all self.new) examiner (λ n. list_any (is_asked n) cover.now) }
-        ensures used { TableUsed self.old → TableUsed self.new }
+        ensures used { AllUsed (on_all self.old) → AllUsed (on_all self.new) }
     {
         let mut walk = Walk::of(cover);
         while let Some(climb) = walk.next() {
-            self.take_out_along(examiner, &climb, taken);
+            self.take_out(examiner, &climb.spot, taken);
         }
     }
 }

@@ -108,6 +108,22 @@ impl Tree {
         }
     }
 
+    /// The same tree once more.
+    pub fn copy(&self, alloc: Global) -> Result<Tree, AllocError>
+        ensures copy { IfOk result (λ t. plot t ≡ plot self.now) }
+    {
+        match self {
+            Tree::Leaf(held) => Ok(Tree::Leaf(held.clone()?)),
+            Tree::Quarters(four) => {
+                let northeast = four.northeast.copy(alloc)?;
+                let northwest = four.northwest.copy(alloc)?;
+                let southwest = four.southwest.copy(alloc)?;
+                let southeast = four.southeast.copy(alloc)?;
+                Tree::quarters(alloc, northeast, northwest, southwest, southeast)
+            }
+        }
+    }
+
     /// The holding of the first cell.
     pub fn first_holding(&self) -> &Holding
         ensures holding { result.now ≡ value_at (plot self.now) [] }
@@ -244,8 +260,8 @@ impl Tree {
             && four.northeast.is_same_leaf(&four.southeast))
     }
 
-    // Whether both are leaves that have the same holding.
-    fn is_same_leaf(&self, other: &Tree) -> bool
+    /// Whether both are leaves that have the same holding.
+    pub fn is_same_leaf(&self, other: &Tree) -> bool
         ensures same { result ≡ same_leaf (plot self.now) (plot other.now) }
     {
         match (self, other) {

@@ -2,18 +2,21 @@
 use Rattle.std.proofs.Common.{◌≡◌, ◌∙◌, ap, sym, refl, subst, ℕ, zero, suc, ◌+◌, ◌-◌, ◌<◌, arith, true, false, List, [], ◌∷◌, ◌++◌, length}
 use Rattle.std.{proofs.Common.{drop, get_or, Option, Some, None, is_some, Bool, ◌||◌, cond}, specs.{Prelude.{filter}, Option.{option_or}}}
 use Rattle.std.{specs.List.{flat_map, list_any}, proofs.lemmas.{Bool.{cond_both}, List.{at_drop_more, get_or_default}}}
-use Rattle.std.proofs.lemmas.List.Elements.{filter-append}
+use Rattle.std.proofs.lemmas.List.{Elements.{filter-append}, Folds.{list_any_at}}
 use Rattle.title_land.specs.{Depth.{depth}, declared.{survey.{Township.{Township}, Section.{Section}, Cell.{Cell}}, tract.Land.{Land}}}
-use Rattle.title_land.specs.declared.rectangle.Quarter.{Quarter, TheVariants.{Northeast, Northwest, Southwest, Southeast}}
-use Rattle.title_land.specs.{declared.{rectangle.Rectangle.{Rectangle}, grid.Grid.{Grid}}, Nodes.{square, quarters}, Survey.{same_township}}
-use Rattle.title_land.specs.CellLists.{corner_of, cells_below, section_cells, township_cells, plant_cells, cells_of, part_cells}
-use Rattle.title_land.specs.{Laws.CellFilters.{township_elsewhere, part_elsewhere, part_in_township}, Lands.{has, cover_of, is_in_plant}}
-use Rattle.title_land.specs.Laws.{SameLand.{same_township-is}, CoverLists.{kept_of_everything, kept_of_township, kept_of_part}}
+use Rattle.title_land.specs.{declared.{rectangle.Quarter.{Quarter, TheVariants.{Northeast}}, grid.Grid.{Grid}}, Nodes.{quarters}}
+use Rattle.title_land.specs.declared.node.Node.{Node}
+use Rattle.title_land.specs.{Survey.{same_township}, Laws.CellFilters.{township_elsewhere, part_elsewhere, part_in_township}}
+use Rattle.title_land.specs.CellLists.{cells_below, section_cells, township_cells, plant_cells, cells_of, part_cells}
+use Rattle.title_land.specs.{Lands.{has, cover_of, is_in_plant}, Laws.SameLand.{same_township-is, same_township-self}}
+use Rattle.title_land.specs.Laws.CoverLists.{kept_of_everything, kept_of_township, kept_of_part}
 use Rattle.title_instrument.specs.declared.{parts.{Estate.{Estate}, Rule.{Rule}}, instrument.Instrument.{Instrument}}
 use Rattle.title_instrument.specs.{declared.owners.Effect.{Effect, TheVariants.{Done, Refused}}, Effect.{cell_effect}}
 use Rattle.title_store.specs.Plants.{Plant, Failing, failing_or, first_failing}
-use Rattle.title_tree_store.specs.{declared.refusals.Search.{Search}, Spots.{cell_path}, Forests.{plots, owners_at}}
-use Rattle.title_tree_store.specs.Refusing.{first_for, first_cell_of, triple}
+use Rattle.title_tree.specs.CellWays.{cell_way}
+use Rattle.title_tree_store.specs.{declared.refusals.Search.{Search}, Spots.{index_of}, Forests.{plots, owners_at}}
+use Rattle.title_tree_store.specs.Refusing.{first_for, triple}
+use Rattle.title_land.specs.declared.node.Node.TheVariants as node
 use Rattle.title_land.specs.declared.tract.Land.TheVariants as land
 
 failing_step : (c : Cell) (e : Effect) (x y : Option Failing) (z : Option (Rule × Estate × Cell))
@@ -28,70 +31,81 @@ failing_join i p (c ∷ xs) ys =
     failing_step c (cell_effect i (p c)) (first_failing i p (xs ++ ys)) (first_failing i p xs) (triple (first_failing i p ys))
     (failing_join i p xs ys)
 
--- a search of lists takes the first of two lists that has something
-abbrev pub Joins : {A : Type 0} → (List Cell → Option A) → Type 0
-Joins g = (xs ys : List Cell) → g (xs ++ ys) ≡ option_or (g xs) (g ys)
-
-pub first_join : (x : Search) → Joins (first_for x)
-first_join x = failing_join x.instrument.now (λ c. owners_at (plots x.forest.now) (cell_path x.levels x.townships.now c))
+-- a search takes the first of two lists that has something
+pub first_join : (x : Search) (xs ys : List Cell) → first_for x (xs ++ ys) ≡ option_or (first_for x xs) (first_for x ys)
+first_join x = failing_join x.instrument.now (λ c. owners_at (plots x.forest.now) (index_of x.townships.now c.section.township)
+    (c.section.number - 1) (cell_way depth c.row c.column))
 
 -- a square's cells by its quarters
-pub square_cells : (s : Section) (below : ℕ) (w : List Quarter) → 0 < below
-    → flat_map (λ q. cells_below depth s (below - 1) (q ∷ w)) quarters ≡ cells_below depth s below w
-square_cells s zero w l = absurd (omega (arith, l))
-square_cells s (suc below) w l =
-    let k : suc below - 1 ≡ below = omega arith in
-    rw k refl
+abbrev pub quarter_cells : Section → ℕ → List Quarter → Quarter → List Cell
+quarter_cells s below w q = cells_below depth s (below - 1) (q ∷ w)
 
-module _ {A : Type 0} (g : List Cell → Option A) (join : Joins g) where
+pub square_cells : (s : Section) (below : ℕ) (w : List Quarter) → 0 < below
+    → cells_below depth s below w ≡ flat_map (quarter_cells s below w) quarters
+square_cells s zero w l = absurd (omega (arith, l))
+square_cells s (suc below) w l = let k : suc below - 1 ≡ below = omega arith in rw k refl
+
+-- a section's cells by its node
+pub section_is : (x : Search) (s : Section) (n : Node) → n ≡ node.Part s []
+    → first_for x (part_cells depth s n) ≡ first_for x (section_cells depth s)
+section_is x s n e = let all : depth - 0 ≡ depth = omega arith in
+    ap (λ (m : Node). first_for x (part_cells depth s m)) e ∙ ap (λ (m : ℕ). first_for x (cells_below depth s m [])) all
+
+module _ (x : Search) where
   -- where the first list has nothing
-  pub first_later : (xs ys : List Cell) (o : Option A) → is_some o ≡ false → o ≡ g xs → g (xs ++ ys) ≡ g ys
-  first_later xs ys None none h = join xs ys ∙ ap (λ (o : Option A). option_or o (g ys)) (sym h)
-  first_later xs ys (Some f) none h = absurd cc
+  pub first_later : (xs ys : List Cell) (o : Option (Rule × Estate × Cell)) → o ≡ first_for x xs → is_some o ≡ false
+      → first_for x (xs ++ ys) ≡ first_for x ys
+  first_later xs ys None h none = first_join x xs ys ∙ (λ k. option_or (sym h k) (first_for x ys))
+  first_later xs ys (Some f) h none = absurd cc
 
   -- where it has something
-  pub first_here : (xs ys : List Cell) (o : Option A) → is_some o ≡ true → o ≡ g xs → o ≡ g (xs ++ ys)
-  first_here xs ys None some h = absurd cc
-  first_here xs ys (Some f) some h = sym (join xs ys ∙ ap (λ (o : Option A). option_or o (g ys)) (sym h))
+  pub first_here : (xs ys : List Cell) (o : Option (Rule × Estate × Cell)) → o ≡ first_for x xs → is_some o ≡ true
+      → o ≡ first_for x (xs ++ ys)
+  first_here xs ys None h some = absurd cc
+  first_here xs ys (Some f) h some = sym (first_join x xs ys ∙ (λ k. option_or (sym h k) (first_for x ys)))
 
-  -- the next of some lists
-  next_is : {X : Type 0} (cells : X → List Cell) (xs : List X) (n : ℕ) (x : X) → n < length xs → x ≡ get_or xs n x
-      → g (flat_map cells (drop n xs)) ≡ g (cells x ++ flat_map cells (drop (n + 1) xs))
-  next_is {X} cells xs n x l at = at_drop_more (λ (z : List X). g (flat_map cells z)) xs n x l
-      ∙ ap (λ (y : X). g (cells y ++ flat_map cells (drop (n + 1) xs))) (sym at)
+  module _ {X : Type 0} (cells : X → List Cell) (xs : List X) (n : ℕ) where
+    -- the next of some lists
+    next_is : (y : X) → n < length xs → y ≡ get_or xs n y
+        → first_for x (flat_map cells (drop n xs)) ≡ first_for x (cells y ++ flat_map cells (drop (n + 1) xs))
+    next_is y l at = at_drop_more (λ (z : List X). first_for x (flat_map cells z)) xs n y l
+        ∙ ap (λ (z : X). first_for x (cells z ++ flat_map cells (drop (n + 1) xs))) (sym at)
 
-  pub next_later : {X : Type 0} (cells : X → List Cell) (xs : List X) (n : ℕ) (x : X) (o : Option A) → n < length xs
-      → x ≡ get_or xs n x → is_some o ≡ false → o ≡ g (cells x) → g (flat_map cells (drop n xs)) ≡ g (flat_map cells (drop (n + 1) xs))
-  next_later cells xs n x o l at none h = next_is cells xs n x l at ∙ first_later (cells x) (flat_map cells (drop (n + 1) xs)) o none h
+    pub next_later : {y : X} {o : Option (Rule × Estate × Cell)} → n < length xs → y ≡ get_or xs n y → o ≡ first_for x (cells y)
+        → is_some o ≡ false → first_for x (flat_map cells (drop n xs)) ≡ first_for x (flat_map cells (drop (n + 1) xs))
+    next_later {y} {o} l at h none = next_is y l at ∙ first_later (cells y) (flat_map cells (drop (n + 1) xs)) o h none
 
-  pub next_here : {X : Type 0} (cells : X → List Cell) (xs : List X) (n : ℕ) (x : X) (o : Option A) → n < length xs
-      → x ≡ get_or xs n x → is_some o ≡ true → o ≡ g (cells x) → o ≡ g (flat_map cells (drop n xs))
-  next_here cells xs n x o l at some h = first_here (cells x) (flat_map cells (drop (n + 1) xs)) o some h ∙ sym (next_is cells xs n x l at)
+    pub next_here : {y : X} {o : Option (Rule × Estate × Cell)} → n < length xs → y ≡ get_or xs n y → o ≡ first_for x (cells y)
+        → is_some o ≡ true → o ≡ first_for x (flat_map cells (drop n xs))
+    next_here {y} {o} l at h some = first_here (cells y) (flat_map cells (drop (n + 1) xs)) o h some ∙ sym (next_is y l at)
 
-  -- the next quarter of a square
-  module _ (s : Section) (below : ℕ) (w v : List Quarter) (n : ℕ) (l : n < length quarters) (at : v ≡ get_or quarters n Northeast ∷ w)
-      (o : Option A) (h : o ≡ g (cells_below depth s (below - 1) v)) where
-    first_is : o ≡ g (cells_below depth s (below - 1) (get_or quarters n Northeast ∷ w))
-    first_is = h ∙ ap (λ (z : List Quarter). g (cells_below depth s (below - 1) z)) at
+-- the next quarter of a square
+module _ (x : Search) (s : Section) (below : ℕ) (w v : List Quarter) (n : ℕ) (l : n < length quarters)
+    (at : v ≡ get_or quarters n Northeast ∷ w) (o : Option (Rule × Estate × Cell))
+    (h : o ≡ first_for x (cells_below depth s (below - 1) v)) where
+  first_is : o ≡ first_for x (quarter_cells s below w (get_or quarters n Northeast))
+  first_is = h ∙ ap (λ (z : List Quarter). first_for x (cells_below depth s (below - 1) z)) at
 
-    pub quarter_later : is_some o ≡ false → g (flat_map (λ q. cells_below depth s (below - 1) (q ∷ w)) (drop n quarters))
-        ≡ g (flat_map (λ q. cells_below depth s (below - 1) (q ∷ w)) (drop (n + 1) quarters))
-    quarter_later none = next_later (λ q. cells_below depth s (below - 1) (q ∷ w)) quarters n (get_or quarters n Northeast) o l
-        (get_or_default quarters n Northeast (get_or quarters n Northeast) l) none first_is
+  pub quarter_later : is_some o ≡ false → first_for x (flat_map (quarter_cells s below w) (drop n quarters))
+      ≡ first_for x (flat_map (quarter_cells s below w) (drop (n + 1) quarters))
+  quarter_later =
+      next_later x (quarter_cells s below w) quarters n l (get_or_default quarters n Northeast (get_or quarters n Northeast) l) first_is
 
-    pub quarter_here : is_some o ≡ true → 0 < below → g (flat_map (λ q. cells_below depth s (below - 1) (q ∷ w)) quarters)
-        ≡ g (flat_map (λ q. cells_below depth s (below - 1) (q ∷ w)) (drop n quarters)) → o ≡ g (cells_below depth s below w)
-    quarter_here some more left = next_here (λ q. cells_below depth s (below - 1) (q ∷ w)) quarters n (get_or quarters n Northeast) o l
-        (get_or_default quarters n Northeast (get_or quarters n Northeast) l) some first_is
-        ∙ sym left ∙ ap g (square_cells s below w more)
+  pub quarter_here : is_some o ≡ true → o ≡ first_for x (flat_map (quarter_cells s below w) (drop n quarters))
+  quarter_here =
+      next_here x (quarter_cells s below w) quarters n l (get_or_default quarters n Northeast (get_or quarters n Northeast) l) first_is
 
 -- ---- a township that is one of some
+
+-- one in its place is
+pub at_place : (ts : List Township) (n : ℕ) (t : Township) → n < length ts → t ≡ get_or ts n t → list_any (same_township t) ts ≡ true
+at_place ts n t l e = list_any_at (same_township t) ts n t l (ap (same_township t) (sym e) ∙ same_township-self t)
 
 -- of those of the cells that the tract has
 abbrev first_of : Search → List Cell → Option (Rule × Estate × Cell)
 first_of x cells = first_for x (filter (has x.tract.now) cells)
 
-first_of_join : (x : Search) → Joins (first_of x)
+first_of_join : (x : Search) (xs ys : List Cell) → first_of x (xs ++ ys) ≡ option_or (first_of x xs) (first_of x ys)
 first_of_join x xs ys = ap (first_for x) (filter-append (has x.tract.now) xs ys)
     ∙ first_join x (filter (has x.tract.now) xs) (filter (has x.tract.now) ys)
 
@@ -149,26 +163,3 @@ part_found x s g e of =
     (λ u h. ap (first_for x) (ap (λ (y : Land). filter (has y) (township_cells depth u)) e ∙ part_in_township depth s g u h
     ∙ sym (ap (λ (y : Land). filter (has y) (section_cells depth s)) e)))
     (λ u h. ap (λ (y : Land). filter (has y) (township_cells depth u)) e ∙ part_elsewhere depth s g u h)
-
--- ---- the first cell of a square
-
--- of one cell
-pub cell_first : (s : Section) (below : ℕ) (w : List Quarter) (r : Rectangle) → below ≡ 0 → r ≡ square depth w
-    → Some (corner_of s r) ≡ first_cell_of (cells_below depth s below w)
-cell_first s below w r e f =
-    ap (λ (q : Rectangle). Some (corner_of s q)) f ∙ ap (λ (n : ℕ). first_cell_of (cells_below depth s n w)) (sym e)
-
-first_before : (c : Cell) (xs ys : List Cell) → Some c ≡ first_cell_of xs → Some c ≡ first_cell_of (xs ++ ys)
-first_before c [] ys h = absurd cc
-first_before c (x ∷ xs) ys h = h
-
--- else its northeast quarter's
-pub quarter_first : (c : Cell) (s : Section) (below : ℕ) (w v : List Quarter) → 0 < below → v ≡ Northeast ∷ w
-    → Some c ≡ first_cell_of (cells_below depth s (below - 1) v) → Some c ≡ first_cell_of (cells_below depth s below w)
-quarter_first c s zero w v l e h = absurd (omega (arith, l))
-quarter_first c s (suc below) w v l e h =
-    let k : suc below - 1 ≡ below = omega arith in
-    let q = λ (x : Quarter). cells_below depth s below (x ∷ w) in
-    first_before c (q Northeast) (q Northwest ++ (q Southwest ++ (q Southeast ++ [])))
-    (h ∙ ap (λ (z : List Quarter). first_cell_of (cells_below depth s (suc below - 1) z)) e
-    ∙ ap (λ (n : ℕ). first_cell_of (cells_below depth s n (Northeast ∷ w))) k)

@@ -25,12 +25,11 @@ rises_apart l before later r x i e = elim (in_append x before later i) [
   | inr j ↦ let h = more_later x l before later r j in omega (arith, h, e)
 ]
 
+-- a fact of each of some images and of one more
+pub pushed : (P : Lent → Type 0) (lent : List Lent) (l : Lent) → ((x : Lent) → In x lent → P x) → P l → (x : Lent) → In x (lent ++ l ∷ [])
+    → P x
+pushed P lent l old new x i = elim (in_last x l lent i) [ inl k ↦ old x k | inr e ↦ subst P (sym e) new ]
+
 pub rises_more : (lent : List Lent) (l : Lent) → Rises lent → ((x : Lent) → In x lent → x.number < l.number) → Rises (lent ++ l ∷ [])
 rises_more [] l r h = (λ x i. absurd i, tt)
-rises_more (y ∷ lent) l r h = (
-  λ x i. elim (in_last x l lent i) [
-    | inl k ↦ r.0 x k
-    | inr e ↦ subst (λ (z : Lent). y.number < z.number) (sym e) (h y (inl refl))
-  ],
-  rises_more lent l r.1 (λ x i. h x (inr i)),
-)
+rises_more (y ∷ lent) l r h = (pushed (λ x. y.number < x.number) lent l r.0 (h y (inl refl)), rises_more lent l r.1 (λ x i. h x (inr i)))

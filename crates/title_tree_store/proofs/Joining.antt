@@ -1,97 +1,184 @@
 -- Where the trees of a store are joined, through each of its operations.
-use Rattle.std.proofs.Common.{◌≡◌, ◌∙◌, ap, sym, refl, subst, ℕ, Bool, true, ◌&&◌, inl, inr, List, [], ◌∷◌, ◌++◌, Option, Some, None}
-use Rattle.std.specs.Prelude.{MatchOption}
+use Rattle.std.proofs.Common.{◌≡◌, ◌∙◌, ap, sym, refl, subst, ℕ, suc, ◌<◌, arith, Bool, true, false, ◌&&◌, not, inl, inr, List, [], ◌∷◌}
+use Rattle.std.proofs.{Common.{◌++◌, length, map, append-nil}, lemmas.{Bool.{false_from_ne_true}, List.{length-map, get_or_default}}}
+use Rattle.std.proofs.lemmas.Bool.{not_from_false, and_from, and_parts, cases_Bool, or_parts, or_left, or_right, both_ways}
+use Rattle.std.{proofs.lemmas.List.Sums.{list_all-from_AllPass}, specs.{List.{list_any, list_all}, Global.{Vec}}}
 use Rattle.title_share.specs.Division.{all_to}
-use Rattle.title_land.specs.{declared.{survey.Township.{Township}, rectangle.Quarter.{Quarter}}, Laws.Members.{In, in_last}}
+use Rattle.title_land.specs.{declared.{survey.Township.{Township}, rectangle.Quarter.{Quarter}, tract.Land.{Land}}, Laws.Members.{In}}
 use Rattle.title_instrument.specs.declared.{parts.Estate.{Estate, TheVariants.{S, O, M}}, instrument.Instrument.{Instrument}}
-use Rattle.title_store.specs.Loans.{IsOut}
-use Rattle.title_tree.specs.{Joins.{is_joinable}, Joining.{ApartFromAll, JoinedBut}, Plots.{Plot, Same, plot_at, is_tidy, tidied_all}}
-use Rattle.title_tree.specs.Pieces.{Piece, Apart, paths, swapped}
-use Rattle.title_tree.specs.Laws.Joined.{elsewhere_split_all, elsewhere_swapped, joined_but_none, joined_but_tidied, joined_but_tidy}
-use Rattle.title_tree_store.specs.{declared.{forest.Forest.{Forest}, lent.Lent.{Lent}}, Keeping.{loans_of, IsAbsent, IsTakenOut, AreJoined}}
-use Rattle.title_tree_store.specs.Forests.{plots, pieces, written, are_joined, named_spots, tidied_written, StaysApart}
-use Rattle.title_tree_store.proofs.{Steps.{apart_pushed}, Keeps.{left_in, out_in}, Operations.{is_there}, Puts.{IsPut, put_paths}}
+use Rattle.title_instrument.specs.{Estates.{names}, Parties.{estates_of}}
+use Rattle.title_tree.specs.{Joins.{is_joinable}, Joining.{ApartFromAll, JoinedBut}, Plots.{Plot, Same, plot_at, is_tidy}, Trees.{plot}}
+use Rattle.title_tree.specs.Pieces.{Piece, Apart, paths}
+use Rattle.title_tree.specs.Laws.Joined.{elsewhere_split_all, elsewhere_swapped, joined_but_none, joined_but_tidy}
+use Rattle.title_tree_store.specs.declared.{forest.{Forest.{Forest}, Subtrees.{Subtrees}, Written.{Written}}, lent.Lent.{Lent}}
+use Rattle.title_tree_store.specs.{declared.{spots.Home.{Home}, ground.Ground.{Ground, TheVariants.{Whole, Parted}}}, Grounds.{closable_in}}
+use Rattle.title_tree_store.specs.Grounds.{Everywhere, IsTidied, nothing, stands, section_plots, are_one, is_closable, ground_tidy, plot_in}
+use Rattle.title_tree_store.specs.{Keeping.{IsTakenOut, AreJoined}, Forests.{put_ways, written, was_written, are_joined}}
+use Rattle.title_tree_store.specs.Forests.{named_ways, IsNoted, IsQuartered, IsExchanged, grounds, plots, pieces, parts_of, is_some_part}
+use Rattle.title_tree_store.{specs.Spots.{home_in, ways_in, reaches}, proofs.{Contents.{each, everywhere}, Keeps.{left_in, out_in}}}
+use Rattle.title_tree_store.proofs.{Images.{pushed}, Puts.{IsPut, IsDone, put_paths}, Steps.{apart_noted, was_noted}}
 
-all_true : (a b c : Bool) → a ≡ true → b ≡ true → c ≡ true → (a && b && c) ≡ true
-all_true a b c e f g = rw (e, f, g) refl
+-- ---- the test of all estates
 
--- the test of all three estates
-pub all_joined : (f : Forest) → ((e : Estate) → is_tidy (plots f e) ≡ true) → are_joined f ≡ true
-all_joined f h = all_true (is_tidy (plots f S)) (is_tidy (plots f O)) (is_tidy (plots f M)) (h S) (h O) (h M)
+one_tidy : (g : Ground) → ((j : ℕ) → j < 36 → is_tidy (stands g j) ≡ true) → is_closable g ≡ false → ground_tidy g ≡ true
+one_tidy (Whole tree) tidy closed = tidy 0 (omega arith)
+one_tidy (Parted x) tidy closed =
+    and_from (list_all is_tidy (section_plots x)) (not (are_one (section_plots x)))
+    (list_all-from_AllPass is_tidy (section_plots x) (λ j d l. ap is_tidy (get_or_default (section_plots x) j d nothing l)
+    ∙ tidy j (omega (arith, l, x.all, length-map x.trees.items plot))))
+    (not_from_false (are_one (section_plots x)) closed)
 
--- tidy trees of which no image is out
-pub joined_none : (f : Forest) (lent : List Lent) → lent ≡ [] → ((e : Estate) → is_tidy (plots f e) ≡ true) → AreJoined f lent
-joined_none f lent none tidy = record {
-  joined = λ e. joined_but_none (written e f) (plots f e) (tidy e);
-  lies = λ e l i. absurd (subst (λ (z : List Lent). In l z) none i);
+all_tidy : (gs : List Ground) → Everywhere (length gs) (λ i j. is_tidy (plot_in gs i j) ≡ true) → ((i : ℕ) → closable_in gs i ≡ false)
+    → list_all ground_tidy gs ≡ true
+all_tidy [] tidy closed = refl
+all_tidy (g ∷ gs) tidy closed = and_from (ground_tidy g) (list_all ground_tidy gs) (one_tidy g (λ j b. tidy 0 j (omega arith) b) (closed 0))
+    (all_tidy gs (λ i j a b. tidy (suc i) j (omega (arith, a)) b) (λ i. closed (suc i)))
+
+-- nothing is to be joined
+pub record IsTidy (f : Forest) : Type 0 where
+  pub tidy : (e : Estate) → Everywhere (length (grounds f e)) (λ i j. is_tidy (plots f e i j) ≡ true)
+  pub closed : (e : Estate) (i : ℕ) → closable_in (grounds f e) i ≡ false
+
+pub all_joined : (f : Forest) → IsTidy f → are_joined f ≡ true
+all_joined f h = and_from (list_all ground_tidy f.s.items) (list_all ground_tidy f.o.items && list_all ground_tidy f.m.items)
+    (all_tidy f.s.items (h.tidy S) (h.closed S))
+    (and_from (list_all ground_tidy f.o.items) (list_all ground_tidy f.m.items)
+    (all_tidy f.o.items (h.tidy O) (h.closed O)) (all_tidy f.m.items (h.tidy M) (h.closed M)))
+
+-- where no image is out
+pub joined_none : (f : Forest) (lent : List Lent) → lent ≡ [] → IsTidy f → AreJoined f lent
+joined_none f lent none h = record {
+  joined = λ e i j a b. joined_but_none (written e i j f) (plots f e i j) (h.tidy e i j a b);
+  closed = λ e i m. h.closed e i;
+  lies = λ e i j a b l m. absurd (subst (λ (z : List Lent). In l z) none m);
+  marked = λ e i l m. absurd (subst (λ (z : List Lent). In l z) none m);
 }
 
 -- trees of one leaf
-pub opened_tidy : (f : Forest) → ((e : Estate) → plots f e ≡ Same (all_to 0)) → (e : Estate) → is_tidy (plots f e) ≡ true
-opened_tidy f h e = ap is_tidy (h e)
-
--- the same images
-pub joined_as : {f : Forest} {lent less : List Lent} → less ≡ lent → AreJoined f lent → AreJoined f less
-joined_as {f} e j = subst (AreJoined f) (sym e) j
-
--- trees of which what is apart from all notes stays
-pub joined_apart : {old new : Forest} {lent : List Lent} → StaysApart old new → AreJoined old lent → AreJoined new lent
-joined_apart h j = record {
-  joined = λ e q a. let k = h e q a in ap is_joinable k.1 ∙ j.joined e q k.0;
-  lies = λ e l i q a. j.lies e l i q (h e q a).0;
+pub opened_tidy : {count : ℕ} (f : Forest) → ((e : Estate) → length (grounds f e) ≡ count)
+    → ((e : Estate) → Everywhere count (λ i j. plots f e i j ≡ Same (all_to 0)))
+    → ((e : Estate) (i : ℕ) → closable_in (grounds f e) i ≡ false) → IsTidy f
+opened_tidy f sized opening closed = record {
+  tidy = λ e. everywhere (sym (sized e)) (λ i j a b. ap is_tidy (opening e i j a b));
+  closed = closed;
 }
 
 -- ---- a put
 
-put_elsewhere : {i : Instrument ℕ} {ps : List (List Quarter)} {e : Estate} {t u v : Plot} {xs ys : List Piece} → IsPut i ps e t u v xs ys
-    → (q : List Quarter) → Apart q (named_spots i e ps) → plot_at q v ≡ plot_at q t
-put_elsewhere {i} {ps} {e} {t} {u} {v} {xs} put q away =
-    ap (plot_at q) put.exchanged ∙ elsewhere_swapped xs u q (subst (Apart q) (sym (put_paths put).0) away)
-    ∙ ap (plot_at q) put.split ∙ elsewhere_split_all (named_spots i e ps) t q away
-
-pub joined_put : (i : Instrument ℕ) (ps : List (List Quarter)) {old new : Forest} {quartered : Estate → Plot} {xs : Estate → List Piece}
-    {lent : List Lent} (l : Lent) → ((e : Estate) → written e new ≡ written e old ++ named_spots i e ps ∷ [])
-    → ((e : Estate) → IsPut i ps e (plots old e) (quartered e) (plots new e) (xs e) (pieces l.trees e))
-    → AreJoined old lent → AreJoined new (lent ++ l ∷ [])
-joined_put i ps {old} {new} {quartered} {xs} {lent} l noted put j = record {
-  joined = λ e q a. let k = apart e q a in ap is_joinable (put_elsewhere (put e) q k.1) ∙ j.joined e q k.0;
-  lies = λ e x m q a. let k = apart e q a in elim (in_last x l lent m) [
-    | inl n ↦ j.lies e x n q k.0
-    | inr same ↦ subst (λ (z : Lent). Apart q (paths (pieces z.trees e))) (sym same) (subst (Apart q) (sym (put_paths (put e)).1) k.1)
+-- quartering that stopped for want of memory
+pub joined_stopped : {x : Instrument ℕ} {h : Home} {ps : List (List Quarter)} {old new : Forest} {lent : List Lent}
+    → IsQuartered x h ps old new → IsNoted x h ps old new → AreJoined old lent → AreJoined new lent
+joined_stopped {x} {h} {old} {new} q noted k = record {
+  joined = λ e. everywhere (sym (each q.split e).sized) (λ i j a b p m.
+      let s = apart e i j a b p m in ap is_joinable s.1 ∙ k.joined e i j a b p s.0);
+  closed = λ e i none. elim noted [
+    | inl note ↦
+        let parts = or_parts (was_written e i old) (names (estates_of x) e && reaches h i) (sym (was_noted note e i) ∙ none) in
+        (each q.split e).closed i parts.1 ∙ k.closed e i parts.0
+    | inr same ↦ ap (λ (gs : List Ground). closable_in gs i) (each same.townships e)
+        ∙ k.closed e i (sym (ap (list_any (λ (w : Written). names w.estates e && reaches w.home i)) same.noted) ∙ none)
+  ];
+  lies = λ e. everywhere (sym (each q.split e).sized) (λ i j a b l m p n. k.lies e i j a b l m p (apart e i j a b p n).0);
+  marked = λ e i l m some. elim noted [
+    | inl note ↦ was_noted note e i
+        ∙ or_left (was_written e i old) (names (estates_of x) e && reaches h i) (k.marked e i l m some)
+    | inr same ↦ ap (list_any (λ (w : Written). names w.estates e && reaches w.home i)) same.noted ∙ k.marked e i l m some
   ];
 }
   where
-    apart : (e : Estate) (q : List Quarter) → ApartFromAll q (written e new) → ApartFromAll q (written e old) × Apart q (named_spots i e ps)
-    apart e q a =
-        let b = apart_pushed q (written e old) (named_spots i e ps) (subst (ApartFromAll q) (noted e) a) in
-        (b.0, b.1 (named_spots i e ps) (inl refl))
+    -- what is apart from all paths that are written now was so before, and is as it was
+    apart : (e : Estate) → Everywhere (length (grounds old e)) (λ i j. (p : List Quarter) → ApartFromAll p (written e i j new)
+        → ApartFromAll p (written e i j old) × (plot_at p (plots new e i j) ≡ plot_at p (plots old e i j)))
+    apart e i j a b p away = elim noted [
+      | inl note ↦ let s = apart_noted note e i j p away in (s.0, (each q.split e).elsewhere i j a b p s.1)
+      | inr same ↦ (
+        subst (λ (puts : List Written). ApartFromAll p (map (put_ways e i j) puts)) same.noted away,
+        ap (λ (gs : List Ground). plot_at p (plot_in gs i j)) (each same.townships e),
+      )
+    ]
+
+put_elsewhere : {i : Instrument ℕ} {ps : List (List Quarter)} {e : Estate} {t u v : Plot} {xs ys : List Piece} → IsPut i ps e t u v xs ys
+    → (q : List Quarter) → Apart q (named_ways i e ps) → plot_at q v ≡ plot_at q t
+put_elsewhere {i} {ps} {e} {t} {u} {xs} put q away = ap (plot_at q) put.exchanged
+    ∙ elsewhere_swapped xs u q (subst (Apart q) (sym (put_paths put).0) away)
+    ∙ ap (plot_at q) put.split ∙ elsewhere_split_all (named_ways i e ps) t q away
+
+-- a township that no part reaches, where parts are only of the estates that an instrument names
+pub not_reached : (some named reached : Bool) → (some ≡ true → named ≡ true) → (named && reached) ≡ false → (some && reached) ≡ false
+not_reached true named reached f h = ap (λ (b : Bool). b && reached) (sym (f refl)) ∙ h
+not_reached false named reached f h = refl
+
+pub joined_put : {i : Instrument ℕ} {ts : List Township} {x : Land} {old new : Forest} {lent : List Lent} (l : Lent)
+    → ((e : Estate) → length (grounds old e) ≡ length ts) → IsDone ts x i old new l.trees → AreJoined old lent
+    → AreJoined new (lent ++ l ∷ [])
+joined_put {i} {ts} {x} {old} {new} {lent} l sized done k = record {
+  joined = λ e. everywhere (sym (done.sized e)) (λ a b c d q m.
+      let s = apart_noted done.noted e a b q m in ap is_joinable (put_elsewhere (put e a b c d) q s.1) ∙ k.joined e a b c d q s.0);
+  closed = λ e t none.
+      let parts = or_parts (was_written e t old) (now e t) (sym (was_noted done.noted e t) ∙ none) in
+      done.closed e t parts.1 ∙ k.closed e t parts.0;
+  lies = λ e. everywhere (sym (done.sized e)) (λ a b c d y m q n.
+      let s = apart_noted done.noted e a b q n in
+      pushed (λ z. Apart q (paths (pieces z.trees e a b))) lent l (λ z o. k.lies e a b c d z o q s.0)
+      (subst (Apart q) (sym (put_paths (put e a b c d)).1) s.1) y m);
+  marked = λ e t. pushed (λ z. (is_some_part (parts_of z.trees e) && reaches z.trees.home t) ≡ true → was_written e t new ≡ true) lent l
+      (λ y o some. was_noted done.noted e t ∙ or_left (was_written e t old) (now e t) (k.marked e t y o some))
+      (λ some.
+      let own = and_parts (is_some_part (parts_of l.trees e)) (reaches l.trees.home t) some in
+      was_noted done.noted e t ∙ or_right (was_written e t old) (now e t) (and_from (names (estates_of i) e)
+      (reaches (home_in ts x) t) (done.named e own.0) (subst (λ (z : Home). reaches z t ≡ true) done.home own.1)));
+}
+  where
+    now : Estate → ℕ → Bool
+    now e t = names (estates_of i) e && reaches (home_in ts x) t
+
+    put : (e : Estate) → Everywhere (length (grounds old e)) (λ a b. IsPut i (ways_in ts x a b) e (plots old e a b)
+        (plots done.mid e a b) (plots new e a b) (pieces done.made e a b) (pieces l.trees e a b))
+    put e = everywhere (sym (sized e)) (done.put e)
 
 -- ---- an image that goes back or is let go
 
-pub joined_restored : {old new : Forest} {lent less : List Lent} {n : ℕ} {l : Lent} → IsTakenOut n l lent less
-    → ((e : Estate) → written e new ≡ written e old) → ((e : Estate) → plots new e ≡ swapped (pieces l.trees e) (plots old e))
-    → AreJoined old lent → AreJoined new less
-joined_restored {old} {new} {lent} {less} {n} {l} out noted swap j = record {
-  joined = λ e q a. let b = subst (ApartFromAll q) (noted e) a in
-      ap is_joinable (ap (plot_at q) (swap e) ∙ elsewhere_swapped (pieces l.trees e) (plots old e) q (j.lies e l (out_in out) q b))
-      ∙ j.joined e q b;
-  lies = λ e x i q a. j.lies e x (left_in out x i) q (subst (ApartFromAll q) (noted e) a);
+pub joined_restored : {old new : Forest} {lent less : List Lent} {n : ℕ} {l : Lent} {back : Subtrees} → IsTakenOut n l lent less
+    → new.written ≡ old.written → ((e : Estate) → IsExchanged e l.trees back old new) → AreJoined old lent → AreJoined new less
+joined_restored {old} {new} {lent} {less} {n} {l} out noted swap k = record {
+  joined = λ e. everywhere (sym (swap e).sized) (λ i j a b q m.
+      let s = subst (ApartFromAll q) (same_ways e i j) m in
+      ap is_joinable (ap (plot_at q) ((swap e).trees i j a b)
+      ∙ elsewhere_swapped (pieces l.trees e i j) (plots old e i j) q (k.lies e i j a b l (out_in out) q s)) ∙ k.joined e i j a b q s);
+  closed = λ e i none.
+      let before : was_written e i old ≡ false = sym (same_marks e i) ∙ none in
+      (swap e).elsewhere i (false_from_ne_true _ (λ some. both_ways (was_written e i old) before (k.marked e i l (out_in out) some)))
+      ∙ k.closed e i before;
+  lies = λ e. everywhere (sym (swap e).sized) (λ i j a b x m q n.
+      k.lies e i j a b x (left_in out x m) q (subst (ApartFromAll q) (same_ways e i j) n));
+  marked = λ e i x m some. same_marks e i ∙ k.marked e i x (left_in out x m) some;
 }
+  where
+    same_ways : (e : Estate) (i j : ℕ) → written e i j new ≡ written e i j old
+    same_ways e i j = ap (λ (ws : Vec Written). map (put_ways e i j) ws.items) noted
 
-pub joined_forgot : (levels : ℕ) (ts : List Township) {f : Forest} {lent less : List Lent} {n : ℕ} (o : Option Lent)
-    → IsOut n (loans_of levels ts (plots f) lent) → MatchOption o (IsAbsent n lent) (λ l. IsTakenOut n l lent less) → AreJoined f lent
-    → AreJoined f less
-joined_forgot levels ts {f} {lent} {less} {n} None out h j = is_there levels ts (plots f) lent n out h
-joined_forgot levels ts (Some l) out h j = record { joined = j.joined; lies = λ e x i. j.lies e x (left_in h x i) }
+    same_marks : (e : Estate) (i : ℕ) → was_written e i new ≡ was_written e i old
+    same_marks e i = ap (λ (ws : Vec Written). list_any (λ w. names w.estates e && reaches w.home i) ws.items) noted
+
+pub joined_less : {f : Forest} {lent less : List Lent} {n : ℕ} {l : Lent} → IsTakenOut n l lent less → AreJoined f lent → AreJoined f less
+joined_less out k = record {
+  joined = k.joined;
+  closed = k.closed;
+  lies = λ e i j a b x m. k.lies e i j a b x (left_in out x m);
+  marked = λ e i x m. k.marked e i x (left_in out x m);
+}
 
 -- ---- tidying
 
 -- what is joined but where it was written is tidy once that is tidied
-written_tidy : (puts : List (List (List Quarter))) (t : Plot) → JoinedBut puts t → is_tidy (tidied_written puts t) ≡ true
-written_tidy [] t h = joined_but_tidy t h
-written_tidy (ps ∷ puts) t h = written_tidy puts (tidied_all ps t) (joined_but_tidied ps puts t h)
-
-pub joined_tidied : {old : Forest} (new : Forest) {lent : List Lent}
-    → ((e : Estate) → plots new e ≡ tidied_written (written e old) (plots old e)) → AreJoined old lent → (e : Estate)
-    → is_tidy (plots new e) ≡ true
-joined_tidied {old} new h j e = ap is_tidy (h e) ∙ written_tidy (written e old) (plots old e) (j.joined e)
+pub joined_tidied : {old : Forest} (new : Forest) {lent : List Lent} → ((e : Estate) → length (grounds new e) ≡ length (grounds old e))
+    → ((e : Estate) → Everywhere (length (grounds old e)) (λ i j. IsTidied (written e i j old) (plots old e i j) (plots new e i j)))
+    → ((e : Estate) (i : ℕ) → was_written e i old ≡ true → closable_in (grounds new e) i ≡ false)
+    → ((e : Estate) (i : ℕ) → was_written e i old ≡ false → closable_in (grounds new e) i ≡ closable_in (grounds old e) i)
+    → AreJoined old lent → IsTidy new
+joined_tidied {old} new sized tidied closed others k = record {
+  tidy = λ e. everywhere (sym (sized e)) (λ i j a b. joined_but_tidy (plots new e i j) ((tidied e i j a b).joined []
+      (subst (λ (puts : List (List (List Quarter))). JoinedBut puts (plots old e i j)) (sym (append-nil (written e i j old)))
+      (k.joined e i j a b))));
+  closed = λ e i. elim (cases_Bool (was_written e i old)) [ inl w ↦ closed e i w | inr w ↦ others e i w ∙ k.closed e i w ];
+}

@@ -1,16 +1,24 @@
 -- What a store keeps, through each of its operations.
-use Rattle.std.proofs.Common.{◌≡◌, ◌∙◌, ap, sym, refl, subst, ℕ, ◌+◌, ◌-◌, ◌^◌, ◌≤◌, arith, true, false, inl, inr, List, [], ◌∷◌, length}
-use Rattle.std.proofs.{Common.{map}, lemmas.Bool.{and_from, and_parts, or_cases, both_ways, false_from_ne_true}}
-use Rattle.title_land.specs.{declared.{survey.Township.{Township}, rectangle.Quarter.{Quarter}, tract.Land.{Land}}, Nodes.{same_path}}
-use Rattle.title_land.specs.{Lands.{is_in_plant, meets}, Laws.{SameNode.{same_path-is, same_path-self}, TractSharing.{common_meets}}}
-use Rattle.title_land.specs.Laws.Members.{In, in_map, in_mapped, in_middle, in_more}
-use Rattle.title_instrument.specs.declared.parts.Estate.{Estate}
-use Rattle.title_tree.specs.{Paths.{begins}, Plots.{Plot, graft, fits, tidied_all}, Lendings.{Lending, Clear}}
-use Rattle.title_tree.specs.{Pieces.{Piece, paths, Disjoint, Ready, Short, Refines, swapped, taken}, Laws.Beginnings.{begins_self}}
-use Rattle.title_tree.specs.Laws.{Images.{keeps_less, keeps_refined}, Depths.{fits_graft, fits_plot_at, fits_tidied_all}}
-use Rattle.title_tree_store.{specs.{declared.lent.Lent.{Lent}, Spots.{tract_spots}, Forests.{tidied_written}}, proofs.Images.{rises_less}}
-use Rattle.title_tree_store.specs.Keeping.{height, lending, loans_of, same_ways, PiecesFit, IsBacked, IsKept, Rises, IsTakenOut}
-use Rattle.title_tree_store.proofs.CellPaths.{tract_at, tract_short, whole, length-whole, has_whole, tract_has_at}
+use Rattle.std.proofs.Common.{◌≡◌, ◌∙◌, ap, sym, refl, subst, ℕ, ◌+◌, ◌-◌, ◌<◌, arith, true, false, inl, inr, List, [], ◌∷◌, length, map}
+use Rattle.std.proofs.lemmas.Bool.{and_from, and_parts, or_cases, both_ways, eqb-true, false_from_ne_true}
+use Rattle.title_land.specs.{Depth.{depth}, declared.{survey.Township.{Township}, rectangle.Quarter.{Quarter}, tract.Land.{Land}}}
+use Rattle.title_land.specs.{Nodes.{same_path}, Lands.{is_in_plant, meets}, Laws.SameNode.{same_path-is, same_path-self}}
+use Rattle.title_land.specs.Laws.{TractSharing.{common_meets}, Members.{In, in_map, in_mapped, in_middle, in_more}}
+use Rattle.title_instrument.specs.{declared.{parts.Estate.{Estate}, instrument.Instrument.{Instrument}}, Estates.{names}}
+use Rattle.title_instrument.specs.Parties.{estates_of}
+use Rattle.title_store.specs.Plants.{IsEachOnce}
+use Rattle.title_tree.specs.{Paths.{begins}, Plots.{Plot, graft, fits}, Lendings.{Lending, Clear}, Laws.Beginnings.{begins_self}}
+use Rattle.title_tree.specs.{Pieces.{Piece, paths, Disjoint, Ready, Short, swapped, taken}, Laws.Images.{keeps_less, keeps_refined}}
+use Rattle.title_tree.specs.Laws.Depths.{fits_graft, fits_plot_at}
+use Rattle.title_tree_store.specs.declared.{lent.Lent.{Lent}, forest.{Forest.{Forest}, Parts.{Parts}, Subtrees.{Subtrees}}}
+use Rattle.title_tree_store.{specs.{declared.spots.Home.{Home}, Grounds.{Everywhere, parted_in}}, proofs.Contents.{each, everywhere}}
+use Rattle.title_tree_store.{specs.Spots.{home_in, tract_ways, ways_in, is_in_township, IsHome}, proofs.Images.{rises_less}}
+use Rattle.title_tree_store.specs.Forests.{grounds, plots, parts_of, wants, brings, is_some_part, IsQuartered, IsQuarteredWhole}
+use Rattle.title_tree_store.specs.Keeping.{lending, loans_of, same_ways, PiecesFit, IsBacked, IsKept, Rises, IsTakenOut}
+use Rattle.title_tree_store.proofs.CellPaths.{index_below, cell_at, tract_short, whole, length-whole, has_whole, tract_has_at}
+use Rattle.title_land.specs.declared.tract.Land.TheVariants as land
+use Rattle.title_tree_store.specs.declared.forest.Parts.TheVariants as parts
+use Rattle.title_tree_store.specs.declared.spots.Home.TheVariants as home
 use Rattle.title_tree_store.specs.Forests as forests
 
 pub same_ways-is : (ps qs : List (List Quarter)) → same_ways ps qs ≡ true → ps ≡ qs
@@ -26,14 +34,43 @@ same_ways-self [] = refl
 same_ways-self (p ∷ ps) = and_from (same_path p p) (same_ways ps ps) (same_path-self p) (same_ways-self ps)
 
 -- a path of an image is one of its tract's
-pub in_spots : {levels : ℕ} {ts : List Township} {l : Lent} → IsBacked levels ts l → (e : Estate) (p : List Quarter)
-    → In p (paths (forests.pieces l.trees e)) → In p (tract_spots levels ts l.land)
-in_spots {levels} {ts} {l} backed e p i =
-    elim (or_cases (same_ways (paths (forests.pieces l.trees e)) []) (same_ways (paths (forests.pieces l.trees e))
-    (tract_spots levels ts l.land)) (backed.at e)) [
-      | inl h ↦ absurd (subst (λ (z : List (List Quarter)). In p z) (same_ways-is _ _ h) i)
-      | inr h ↦ subst (λ (z : List (List Quarter)). In p z) (same_ways-is _ _ h) i
+pub in_ways : {ts : List Township} {l : Lent} → IsBacked ts l → (e : Estate) → Everywhere (length ts) (λ i j. (p : List Quarter)
+    → In p (paths (forests.pieces l.trees e i j)) → In p (ways_in ts l.land i j))
+in_ways {ts} {l} backed e i j a b p m =
+    let own = paths (forests.pieces l.trees e i j) in
+    elim (or_cases (same_ways own []) (same_ways own (ways_in ts l.land i j)) (backed.at e i j a b)) [
+      | inl h ↦ absurd (subst (λ (z : List (List Quarter)). In p z) (same_ways-is _ _ h) m)
+      | inr h ↦ subst (λ (z : List (List Quarter)). In p z) (same_ways-is _ _ h) m
     ]
+
+-- a tract of the plant has a township
+pub some_township : (ts : List Township) (x : Land) → is_in_plant ts x ≡ true → 0 < length ts
+some_township [] land.Everything h = absurd cc
+some_township (t ∷ ts) land.Everything h = omega arith
+some_township ts (land.Township t) h = let l = index_below ts t h in omega (arith, l)
+some_township ts (land.Part s g) h = let l = index_below ts s.township h in omega (arith, l)
+
+-- ---- parts that want a township's sections to have trees of their own
+
+pub wants_parts : (h : Home) (x : Parts) (i : ℕ) → wants h x i ≡ true
+    → (is_some_part x ≡ true) × (is_in_township h i ≡ true) × (brings h x i ≡ true)
+wants_parts h (parts.One part) i w = (refl, w, refl)
+wants_parts h (parts.Many many) i w = (refl, w, refl)
+wants_parts h _ i w = absurd cc
+
+-- what is wanted is where a put quartered
+pub quartered_there : {i : Instrument ℕ} {h : Home} {ps : List (List Quarter)} {old new : Forest} {x : Subtrees}
+    → IsQuarteredWhole i h ps old new → x.home ≡ h
+    → ((e : Estate) → is_some_part (parts_of x e) ≡ true → names (estates_of i) e ≡ true)
+    → (e : Estate) (t : ℕ) → wants x.home (parts_of x e) t ≡ true → parted_in (grounds new e) t ≡ true
+quartered_there {i} {h} {x} whole home named e t w =
+    let k = wants_parts x.home (parts_of x e) t w in
+    whole.wanted e t (and_from (names (estates_of i) e) (is_in_township h t) (named e k.0)
+    (subst (λ (z : Home). is_in_township z t ≡ true) home k.1))
+
+pub in_township_below : (count : ℕ) (h : Home) (i : ℕ) → IsHome count h → is_in_township h i ≡ true → i < count
+in_township_below count (home.Section t n) i there h = subst (λ (k : ℕ). k < count) (eqb-true t i h) there.0
+in_township_below count _ i there h = absurd cc
 
 -- ---- depth
 
@@ -41,8 +78,7 @@ pub fits_swapped : (levels : ℕ) (xs : List Piece) (t : Plot) → Short (paths 
     → (fits levels (swapped xs t) ≡ true) × PiecesFit levels (taken xs t)
 fits_swapped levels [] t s f h = (h, λ y i. absurd i)
 fits_swapped levels (x ∷ xs) t s f h =
-    let l = s x.path (inl refl) in
-    let below : levels ≡ length x.path + (levels - length x.path) = omega (arith, l) in
+    let below : levels ≡ length x.path + (levels - length x.path) = omega (arith, s x.path (inl refl)) in
     let next = fits_swapped levels xs (graft x.path x.plot t) (λ p i. s p (inr i)) (λ y i. f y (inr i))
     (fits_graft levels (levels - length x.path) x.path x.plot t below h (f x (inl refl) (levels - length x.path) below)) in (
       next.0,
@@ -53,51 +89,37 @@ fits_swapped levels (x ∷ xs) t s f h =
       ],
     )
 
-fits_tidied_written : (levels : ℕ) (puts : List (List (List Quarter))) (t : Plot) → fits levels t ≡ true
-    → fits levels (tidied_written puts t) ≡ true
-fits_tidied_written levels [] t f = f
-fits_tidied_written levels (ps ∷ puts) t f = fits_tidied_written levels puts (tidied_all ps t) (fits_tidied_all levels ps t f)
+-- ---- where no image is out
 
--- ---- the same images and the same next number
+pub no_loans : (ts : List Township) (ps : Estate → ℕ → ℕ → Plot) (lent : List Lent) → loans_of ts ps lent ≡ [] → lent ≡ []
+no_loans ts ps [] h = refl
+no_loans ts ps (l ∷ lent) h = absurd cc
 
-pub kept_as : {levels : ℕ} {ts : List Township} {ps : Estate → Plot} {lent less : List Lent} {n m : ℕ} → less ≡ lent → m ≡ n
-    → IsKept levels ts ps lent n → IsKept levels ts ps less m
-kept_as e f k = rw (e, f) k
-
--- ---- tidying, where no image is out
-
-pub no_loans : (levels : ℕ) (ts : List Township) (ps : Estate → Plot) (lent : List Lent) → loans_of levels ts ps lent ≡ [] → lent ≡ []
-no_loans levels ts ps [] h = refl
-no_loans levels ts ps (l ∷ lent) h = absurd cc
-
-pub kept_tidied : {levels : ℕ} {ts : List Township} {ps qs : Estate → Plot} (puts : Estate → List (List (List Quarter)))
-    {lent : List Lent} {n : ℕ} → loans_of levels ts ps lent ≡ [] → ((e : Estate) → qs e ≡ tidied_written (puts e) (ps e))
-    → IsKept levels ts ps lent n → IsKept levels ts qs lent n
-kept_tidied {levels} {ts} {ps} {qs} puts {lent} {n} none tidied k =
-    subst (λ (z : List Lent). IsKept levels ts qs z n) (sym (no_loans levels ts ps lent none)) record {
-      room = k.room;
-      fit = λ e. ap (fits (height levels)) (tidied e) ∙ fits_tidied_written (height levels) (puts e) (ps e) (k.fit e);
-      keeps = λ e. record {
-        ready = λ x i. absurd i;
-        apart = λ x i. absurd i;
-        below = λ x i. absurd i;
-        reaches = λ x y i. absurd i;
-      };
-      backed = λ l i. absurd i;
-      rises = tt;
-    }
+pub kept_none : {ts : List Township} {f : Forest} (n : ℕ) → ((e : Estate) → length (grounds f e) ≡ length ts)
+    → ((e : Estate) → Everywhere (length ts) (λ i j. fits depth (plots f e i j) ≡ true)) → IsKept ts f [] n
+kept_none n sized fit = record {
+  sized = sized;
+  fit = fit;
+  keeps = λ e i j a b. record { ready = λ x m. absurd m; apart = λ x m. absurd m; below = λ x m. absurd m; reaches = λ x y m. absurd m };
+  backed = λ l m. absurd m;
+  rises = tt;
+  wanted = λ e i l m. absurd m;
+  brought = λ e i x y m. absurd m;
+}
 
 -- ---- quartering, where it stops for want of memory
 
-pub kept_refined : {levels : ℕ} {ts : List Township} {ps qs : Estate → Plot} {lent : List Lent} {n : ℕ}
-    → ((e : Estate) → Refines (ps e) (qs e)) → ((e : Estate) → fits (height levels) (qs e) ≡ true)
-    → IsKept levels ts ps lent n → IsKept levels ts qs lent n
-kept_refined {ps} {qs} {lent} {n} r f k = record {
-  room = k.room;
-  fit = f;
-  keeps = λ e. keeps_refined (ps e) (qs e) (map (lending e) lent) n (r e) (k.keeps e);
+pub kept_stopped : {ts : List Township} {old new : Forest} {lent : List Lent} {n : ℕ} {i : Instrument ℕ} (x : Land)
+    → IsQuartered i (home_in ts x) (tract_ways x) old new → IsKept ts old lent n → IsKept ts new lent n
+kept_stopped {ts} {old} {new} {lent} {n} x q k = record {
+  sized = λ e. (each q.split e).sized ∙ k.sized e;
+  fit = λ e i j a b. everywhere (k.sized e) ((each q.split e).within) i j a b depth (tract_short ts x i j) (k.fit e i j a b);
+  keeps = λ e i j a b. keeps_refined (plots old e i j) (plots new e i j) (map (lending e i j) lent) n
+      (everywhere (k.sized e) ((each q.split e).refines) i j a b) (k.keeps e i j a b);
   backed = k.backed;
   rises = k.rises;
+  wanted = λ e i l m w. (each q.split e).kept i (k.wanted e i l m w);
+  brought = k.brought;
 }
 
 -- ---- an image that is taken out
@@ -110,35 +132,40 @@ pub left_in : {n : ℕ} {l : Lent} {old new : List Lent} → IsTakenOut n l old 
 left_in {l} out x i = subst (λ (z : List Lent). In x z) (sym out.old_is)
     (in_more x l out.before out.later (subst (λ (z : List Lent). In x z) out.new_is i))
 
-pub lendings_in : {n : ℕ} {l : Lent} {old new : List Lent} → IsTakenOut n l old new → (e : Estate) (x : Lending)
-    → In x (map (lending e) new) → In x (map (lending e) old)
-lendings_in {old} {new} out e x i =
-    let m = in_mapped (lending e) x new i in
-    subst (λ (z : Lending). In z (map (lending e) old)) (sym m.2) (in_map (lending e) m.0 old (left_in out m.0 m.1))
+pub lendings_in : {n : ℕ} {l : Lent} {old new : List Lent} → IsTakenOut n l old new → (e : Estate) (i j : ℕ) (x : Lending)
+    → In x (map (lending e i j) new) → In x (map (lending e i j) old)
+lendings_in {old} {new} out e i j x m =
+    let k = in_mapped (lending e i j) x new m in
+    subst (λ (z : Lending). In z (map (lending e i j) old)) (sym k.2) (in_map (lending e i j) k.0 old (left_in out k.0 k.1))
 
-pub kept_less : {levels : ℕ} {ts : List Township} {ps : Estate → Plot} {old new : List Lent} {next n : ℕ} {l : Lent}
-    → IsTakenOut n l old new → IsKept levels ts ps old next → IsKept levels ts ps new next
-kept_less {ps} {old} {new} {next} {l} out k = record {
-  room = k.room;
+pub kept_less : {ts : List Township} {f : Forest} {old new : List Lent} {next n : ℕ} {l : Lent} → IsTakenOut n l old new
+    → IsKept ts f old next → IsKept ts f new next
+kept_less {f} {old} {new} {next} {l} out k = record {
+  sized = k.sized;
   fit = k.fit;
-  keeps = λ e. keeps_less (ps e) (map (lending e) old) (map (lending e) new) next (lendings_in out e) (k.keeps e);
-  backed = λ x i. k.backed x (left_in out x i);
+  keeps = λ e i j a b. keeps_less (plots f e i j) (map (lending e i j) old) (map (lending e i j) new) next (lendings_in out e i j)
+      (k.keeps e i j a b);
+  backed = λ x m. k.backed x (left_in out x m);
   rises = subst Rises (sym out.new_is) (rises_less l out.before out.later (subst Rises out.old_is k.rises));
+  wanted = λ e i x m. k.wanted e i x (left_in out x m);
+  brought = λ e i x y m o. k.brought e i x y (left_in out x m) (left_in out y o);
 }
 
 -- the pieces of an image that goes back have nodes of their own in the trees
-pub goes_back : {levels : ℕ} {ts : List Township} {ps : Estate → Plot} {old new : List Lent} {next n : ℕ} {l : Lent}
-    → IsTakenOut n l old new → IsKept levels ts ps old next → (e : Estate)
-    → Disjoint (paths (forests.pieces l.trees e)) × Ready (paths (forests.pieces l.trees e)) (ps e)
-goes_back {old} {l} out k e =
-    let i = in_map (lending e) l old (out_in out) in ((k.keeps e).apart (lending e l) i, (k.keeps e).ready (lending e l) i)
+pub goes_back : {ts : List Township} {f : Forest} {old new : List Lent} {next n : ℕ} {l : Lent} → IsTakenOut n l old new
+    → IsKept ts f old next → (e : Estate) → Everywhere (length ts) (λ i j. Disjoint (paths (forests.pieces l.trees e i j))
+    × Ready (paths (forests.pieces l.trees e i j)) (plots f e i j))
+goes_back {old} {l} out k e i j a b =
+    let m = in_map (lending e i j) l old (out_in out) in
+    let keeps = k.keeps e i j a b in
+    (keeps.apart (lending e i j l) m, keeps.ready (lending e i j l) m)
 
 -- where two tracts share no cell no path of one begins a path of the other
-pub tracts_clear : (levels : ℕ) (ts : List Township) (x y : Land) → length ts ≤ 4 ^ levels → is_in_plant ts x ≡ true
-    → is_in_plant ts y ≡ true → meets x y ≡ false → Clear (tract_spots levels ts x) (tract_spots levels ts y)
-tracts_clear levels ts x y room of at apart p q i j = false_from_ne_true (begins p q) (λ h.
-    let has = has_whole levels ts (tract_spots levels ts y) q q j (begins_self q) in
-    let c = tract_at levels ts y (whole levels ts q) at (length-whole levels ts q (tract_short levels ts y at q j)) has in
+pub tracts_clear : (ts : List Township) (x y : Land) (i j : ℕ) → IsEachOnce ts → i < length ts → j < 36 → is_in_plant ts x ≡ true
+    → is_in_plant ts y ≡ true → meets x y ≡ false → Clear (ways_in ts x i j) (ways_in ts y i j)
+tracts_clear ts x y i j once a b of at apart p q m n = false_from_ne_true (begins p q) (λ h.
+    let has = has_whole (ways_in ts y i j) q q n (begins_self q) in
+    let c = cell_at ts i j (whole q) once a b (length-whole q (tract_short ts y i j q n)) in
     both_ways (meets x y) apart (common_meets x y c.cell
-    (sym (tract_has_at levels ts room x _ c of) ∙ has_whole levels ts (tract_spots levels ts x) p q i h)
-    (sym (tract_has_at levels ts room y _ c at) ∙ has)))
+    (sym (tract_has_at ts x i j _ c of) ∙ has_whole (ways_in ts x i j) p q m h)
+    (sym (tract_has_at ts y i j _ c at) ∙ has)))

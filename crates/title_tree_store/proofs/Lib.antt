@@ -1,4 +1,6 @@
 -- Lemmas.
+pub mod GroundLaws
+pub mod GroundLawsPlaces
 pub mod CellPaths
 pub mod Steps
 pub mod Slots
@@ -8,10 +10,10 @@ pub mod Keeps
 pub mod Loans
 pub mod Operations
 pub mod Holdings
-pub mod Apart
 pub mod Puts
 pub mod Joining
 pub mod Firsts
 pub mod Standing
 pub mod Squares
+pub mod Tidying
 pub mod Crossing

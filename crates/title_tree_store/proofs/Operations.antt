@@ -1,63 +1,45 @@
 -- The operations of a store, cell by cell.
-use Rattle.std.proofs.Common.{◌≡◌, ◌≢◌, ◌∙◌, ap, sym, refl, subst, ℕ, ◌≤◌, ◌<◌, arith, Bool, true, false, List, [], ◌∷◌, ◌++◌, length, map}
-use Rattle.std.{proofs.{Common.{cond, Option, Some, None}, lemmas.Bool.{both_ways}}, specs.{Prelude.{MatchOption}, Option.{IsSome}}}
+use Rattle.std.proofs.Common.{◌≡◌, ◌≢◌, ◌∙◌, ap, sym, refl, subst, ℕ, ◌≤◌, ◌<◌, arith, Bool, true, false, List, [], ◌∷◌, length, map, cond}
+use Rattle.std.{proofs.Common.{not, Option, Some, None, inl, inr, ◌||◌}, specs.Prelude.{MatchOption, ◌==◌}}
+use Rattle.std.proofs.lemmas.Bool.{both_ways, cases_lt, cond-true, cond_both, true_from_ne_false}
 use Rattle.title_share.specs.Division.{Division, all_to}
 use Rattle.title_land.specs.{Depth.{depth}, declared.{survey.{Township.{Township}, Cell.{Cell}}, rectangle.Quarter.{Quarter}}}
-use Rattle.title_land.specs.{Lands.{has, is_plant_cell}, Laws.Members.{In, in_map, in_mapped, in_middle}}
+use Rattle.title_land.specs.{Lands.{has, is_plant_cell}, Laws.Members.{In, in_map, in_mapped}}
 use Rattle.title_instrument.specs.{declared.parts.Estate.{Estate}, Owners.{opening_owners}}
-use Rattle.title_store.specs.{Plants.{is_cell_of}, Loans.{Loan, IsLentAs, IsOut, IsLast, IsFirst, without}}
-use Rattle.title_tree.specs.{Plots.{Plot, Same, value_at, fits, tidied_all}, Pieces.{Short, paths, held, swapped}}
-use Rattle.title_tree.specs.Laws.{Swaps.{value_swapped}, Uniform.{tidied_all_shows}, Images.{keeps_restored}}
-use Rattle.title_tree.specs.Lendings.{Lending, Keeps, LaterClear}
-use Rattle.title_tree_store.specs.{declared.lent.Lent.{Lent}, Spots.{cell_path}, Forests.{owners_at, tidied_written}}
-use Rattle.title_tree_store.specs.Keeping.{height, content_of, lending, lies_in, held_before, owners_before, loans_of, IsAbsent, IsTakenOut}
-use Rattle.title_tree_store.{specs.Keeping.{IsKept, IsBacked, Rises}, proofs.{Images.{rises_apart}, Loans.{later_not, before_not}}}
-use Rattle.title_tree_store.proofs.Keeps.{in_spots, kept_less, out_in, lendings_in, fits_swapped, tracts_clear}
-use Rattle.title_tree_store.proofs.Loans.{was, among_lent, loan_under, loans_gone, image_apart, lies_has, lies_not, own_backed, none_later}
-use Rattle.title_tree_store.proofs.{CellPaths.{length-cell_path, tract_short}, Contents.{owners_same, content_agrees, content_changes}}
+use Rattle.title_store.specs.{Plants.{IsEachOnce, is_cell_of}, Loans.{Loan, IsLentAs, IsOut, IsLast, IsFirst, without}}
+use Rattle.title_tree.specs.{Plots.{Plot, Same, value_at, fits}, Pieces.{Piece, Short, paths, swapped}, Laws.Swaps.{value_swapped}}
+use Rattle.title_tree.specs.{Laws.{Images.{keeps_restored}, CellSquares.{cell_ways_are_whole}}, Paths.{begins}}
+use Rattle.title_tree.specs.Lendings.{Lending, Keeps, Clear, LaterClear}
+use Rattle.title_tree_store.specs.{declared.{lent.Lent.{Lent}, forest.{Forest.{Forest}, Parts.{Parts}}}, Grounds.{Everywhere, is_parted}}
+use Rattle.title_tree_store.specs.{declared.forest.Subtrees.{Subtrees}, Forests.{plots, parts_of, wants, brings, IsExchanged}}
+use Rattle.title_tree_store.{specs.declared.spots.Home.{Home}, proofs.{CellPaths.{tract_short, is_there}, Contents.{in_section, in_square}}}
+use Rattle.title_tree_store.{specs.Spots.{ways_at, ways_in, tract_ways, IsHome}, proofs.Keeps.{tracts_clear, wants_parts}}
+use Rattle.title_tree_store.proofs.{Images.{rises_apart}, Loans.{image_apart, lies_has, lies_not, own_backed, own_rises, none_later}}
+use Rattle.title_tree_store.specs.Keeping.{content_of, lending, loans_of, IsAbsent, IsTakenOut, IsKept, IsBacked}
+use Rattle.title_tree_store.proofs.Loans.{later_not, before_not, was, lies, kept_of, before_now, among_lent, loan_under, loans_gone}
+use Rattle.title_tree_store.proofs.Keeps.{in_township_below, in_ways, goes_back, kept_less, out_in, left_in, lendings_in, fits_swapped}
+use Rattle.title_tree_store.proofs.Contents.{at_cell, everywhere, now, owners, owners_same, content_changes, cond_same, in_township}
+use Rattle.title_tree_store.specs.declared.forest.Parts.TheVariants as parts
+use Rattle.title_tree_store.specs.declared.spots.Home.TheVariants as home
 use Rattle.title_tree_store.specs.Forests as forests
 
 -- the plant of trees in which party 0 has the whole of each cell
-pub opens : (levels : ℕ) (ts : List Township) (ps : Estate → Plot) → ((e : Estate) → ps e ≡ Same (all_to 0)) → (c : Cell)
-    → content_of levels ts ps c ≡ opening_owners
+pub opens : (ts : List Township) (ps : Estate → ℕ → ℕ → Plot) → ((e : Estate) → Everywhere (length ts) (λ i j. ps e i j ≡ Same (all_to 0)))
+    → (c : Cell) → content_of ts ps c ≡ opening_owners
 unfolding opening_owners
-opens levels ts ps h c = go (is_plant_cell depth ts c)
-  where
-    go : (b : Bool) → cond b (owners_at ps (cell_path levels ts c)) opening_owners ≡ opening_owners
-    go true = owners_same (λ e. value_at (ps e) (cell_path levels ts c)) (λ e. all_to 0)
-        (λ e. ap (λ (t : Plot). value_at t (cell_path levels ts c)) (h e))
-    go false = refl
-
-tidied_written_shows : (puts : List (List (List Quarter))) (t : Plot) (p : List Quarter) → value_at (tidied_written puts t) p ≡ value_at t p
-tidied_written_shows [] t p = refl
-tidied_written_shows (ps ∷ puts) t p = tidied_written_shows puts (tidied_all ps t) p ∙ tidied_all_shows ps t p
-
-pub tidies : (levels : ℕ) (ts : List Township) (ps qs : Estate → Plot) (puts : Estate → List (List (List Quarter)))
-    → ((e : Estate) → qs e ≡ tidied_written (puts e) (ps e)) → (c : Cell) → content_of levels ts qs c ≡ content_of levels ts ps c
-tidies levels ts ps qs puts h c =
-    content_agrees levels ts ps qs (λ e p. ap (λ (t : Plot). value_at t p) (h e) ∙ tidied_written_shows (puts e) (ps e) p) c
+opens ts ps h c = cond_both (is_plant_cell depth ts c) (owners (now ts ps c)) opening_owners (λ w. w ≡ opening_owners)
+    (λ plant. owners_same (now ts ps c) (λ e. all_to 0) (λ e. ap (λ (t : Plot). value_at t (in_square c)) (at_cell ts c (h e) plant)))
+    (λ _. refl)
 
 -- ---- taking an image out
 
-pub is_there : (levels : ℕ) (ts : List Township) (ps : Estate → Plot) (lent : List Lent) (n : ℕ) → IsOut n (loans_of levels ts ps lent)
-    → IsAbsent n lent → {X : Type 0} → X
-is_there levels ts ps lent n out none =
-    let m = among_lent levels ts ps lent out.0 out.1.0 in
-    absurd (none m.0 m.1 (sym m.2 ∙ out.1.1))
-
-pub some_taken : (levels : ℕ) (ts : List Township) (ps : Estate → Plot) (old new : List Lent) (n : ℕ) (o : Option Lent)
-    → IsOut n (loans_of levels ts ps old) → MatchOption o (IsAbsent n old) (λ l. IsTakenOut n l old new) → IsSome o
-some_taken levels ts ps old new n None out h = is_there levels ts ps old n out h
-some_taken levels ts ps old new n (Some l) out h = refl
-
-pub some_is : (n : ℕ) (old new : List Lent) (o : Option Lent) (l : Lent) → o ≡ Some l
-    → MatchOption o (IsAbsent n old) (λ x. IsTakenOut n x old new) → IsTakenOut n l old new
-some_is n old new o l e h = subst (λ (y : Option Lent). MatchOption y (IsAbsent n old) (λ x. IsTakenOut n x old new)) e h
-
--- what holds of the images before it and those after it
-by_parts : {n : ℕ} {l : Lent} {old new : List Lent} (P : ℕ → List Lent → List Lent → Type 0) → IsTakenOut n l old new
-    → ((before later : List Lent) → P l.number (before ++ l ∷ later) (before ++ later)) → P n old new
-by_parts P out h = rw (out.old_is, out.new_is, ← out.number_is) (h out.before out.later)
+-- an image that is out is taken
+pub is_taken : (ts : List Township) (ps : Estate → ℕ → ℕ → Plot) (old new : List Lent) (n : ℕ) (o : Option Lent)
+    → IsOut n (loans_of ts ps old) → MatchOption o (IsAbsent n old) (λ l. IsTakenOut n l old new)
+    → (l : Lent) × (o ≡ Some l) × IsTakenOut n l old new
+is_taken ts ps old new n None out none =
+    let m = among_lent ts ps old out.0 out.1.0 in absurd (none m.0 m.1 (sym m.2 ∙ out.1.1))
+is_taken ts ps old new n (Some l) out h = (l, refl, h)
 
 -- ---- an image that goes back
 
@@ -66,127 +48,133 @@ out_of : (b : Bool) (x y : Division) (f : Division → Division) → (b ≡ true
 out_of true x y f h = h refl
 out_of false x y f h = refl
 
-module _ (levels : ℕ) (ts : List Township) (ps qs : Estate → Plot) (before later : List Lent) (l : Lent) (next : ℕ)
-    (kept : IsKept levels ts ps (before ++ l ∷ later) next) (last : IsLast l.number (loans_of levels ts ps (before ++ l ∷ later)))
-    (swap : (e : Estate) → qs e ≡ swapped (forests.pieces l.trees e) (ps e)) where
-  mine : IsBacked levels ts l
-  mine = own_backed levels ts ps before later l next kept
+-- what doesn't bring back a township whose sections have trees of their own is all of the township
+covers : (x : Parts) (h : Home) (i j : ℕ) (ps : List (List Quarter)) → brings h x i ≡ false → ways_at h ps i j ≡ [] ∷ []
+covers (parts.Township g) (home.Township t) i j ps b =
+    ap (λ (y : Bool). cond y ([] ∷ []) []) (true_from_ne_false (t == i) (λ e. both_ways _ b (ap (λ (y : Bool). not y || is_parted g) e)))
+covers (parts.Plant gs) home.Everything i j ps b = refl
+covers _ _ i j ps b = absurd cc
+
+no_pieces : (xs : List Piece) → ((p : List Quarter) → In p (paths xs) → ⊥) → xs ≡ []
+no_pieces [] none = refl
+no_pieces (x ∷ xs) none = absurd (none x.path (inl refl))
+
+module _ {ts : List Township} {old : Forest} (new : Forest) {lent less : List Lent} {next n : ℕ} {l : Lent}
+    (out : IsTakenOut n l lent less) (last : IsLast n (loans_of ts (plots old) lent)) (kept : IsKept ts old lent next)
+    {back : Subtrees} (swap : (e : Estate) → IsExchanged e l.trees back old new) where
+  trees : (e : Estate) → Everywhere (length ts) (λ i j. plots new e i j ≡ swapped (forests.pieces l.trees e i j) (plots old e i j))
+  trees e = everywhere (kept.sized e) (swap e).trees
+
+  mine : IsBacked ts l
+  mine = own_backed ts old out kept
+
+  short : (e : Estate) → Everywhere (length ts) (λ i j. Short (paths (forests.pieces l.trees e i j)) depth)
+  short e i j a b p m = tract_short ts l.land i j p (in_ways mine e i j a b p m)
 
   -- what a cell has after an image has gone back
-  restored_value : (c : Cell) (e : Estate) → was levels ts qs [] c e ≡ was levels ts ps (l ∷ []) c e
-  restored_value c e =
-      let i = in_map (lending e) l (before ++ l ∷ later) (in_middle l before later) in
-      ap (λ (t : Plot). value_at t (cell_path levels ts c)) (swap e)
-      ∙ value_swapped (forests.pieces l.trees e) (ps e) (cell_path levels ts c) ((kept.keeps e).apart (lending e l) i)
-      ((kept.keeps e).ready (lending e l) i) (λ q j. subst (λ (m : ℕ). length q ≤ m) (sym (length-cell_path levels ts c))
-      (tract_short levels ts l.land mine.within q (in_spots mine e q j)))
+  restored_value : (c : Cell) → is_plant_cell depth ts c ≡ true → (e : Estate) → now ts (plots new) c e ≡ was ts (plots old) (l ∷ []) c e
+  restored_value c plant e =
+      let i = in_township ts c in
+      let j = in_section c in
+      let goes = at_cell ts c (goes_back out kept e) plant in
+      ap (λ (t : Plot). value_at t (in_square c)) (at_cell ts c (trees e) plant)
+      ∙ value_swapped (forests.pieces l.trees e i j) (plots old e i j) (in_square c) goes.0 goes.1
+      (λ q k. subst (λ (n : ℕ). length q ≤ n) (sym (cell_ways_are_whole depth c.row c.column)) (at_cell ts c (short e) plant q k))
 
-  restored_loans : loans_of levels ts qs (before ++ later) ≡ without l.number (loans_of levels ts ps (before ++ l ∷ later))
-  restored_loans = loans_gone levels ts ps qs before later l kept.rises
-      (λ x i c plant h e. ap (held_before e later (cell_path levels ts c)) (restored_value c e)
-      ∙ out_of (lies_in e l (cell_path levels ts c)) _ _ (held_before e later (cell_path levels ts c)) (λ f.
-      none_later levels ts ps before later l next kept last c plant (lies_has levels ts l e c kept.room mine plant f) e _))
-      (λ x i c plant h e. restored_value c e
-      ∙ ap (λ (b : Bool). cond b (held (forests.pieces l.trees e) (cell_path levels ts c)) (was levels ts ps [] c e))
-      (later_not levels ts ps before later l next kept last x i c plant h e))
+  pub restored_out : loans_of ts (plots new) less ≡ without n (loans_of ts (plots old) lent)
+  restored_out = rw (out.old_is, out.new_is, ← out.number_is) (loans_gone ts (plots old) (plots new) out.before out.later l
+      (own_rises ts old out kept)
+      (λ x i c plant h e. ap (before_now ts out.later c e) (restored_value c plant e)
+      ∙ out_of (lies ts e l c) (kept_of ts e l c) (now ts (plots old) c e) (before_now ts out.later c e) (λ f.
+      none_later ts old out kept last c plant (lies_has ts l e c mine plant f) e (kept_of ts e l c)))
+      (λ x i c plant h e. restored_value c plant e
+      ∙ ap (λ (b : Bool). cond b (kept_of ts e l c) (now ts (plots old) c e)) (later_not ts old out kept last x i c plant h e)))
 
   -- the plant after an image has gone back
-  restored_content : (b : Loan) → IsLentAs b l.number (loans_of levels ts ps (before ++ l ∷ later)) → (c : Cell)
-      → content_of levels ts qs c ≡ cond (is_cell_of depth ts b.land c) (b.held c) (content_of levels ts ps c)
-  restored_content b lent c =
-      content_changes levels ts l.land ps qs (was levels ts ps (l ∷ later)) (λ x plant e. value x plant e (has l.land x) refl) c
-      ∙ sym (inner (is_cell_of depth ts l.land c) (owners_before ps (l ∷ later) (cell_path levels ts c)) opening_owners
-      (content_of levels ts ps c))
-      ∙ sym (ap (λ (z : Loan). cond (is_cell_of depth ts z.land c) (z.held c) (content_of levels ts ps c))
-      (loan_under levels ts ps before later l b kept.rises lent))
+  pub restores : (b : Loan) → IsLentAs b n (loans_of ts (plots old) lent) → (c : Cell)
+      → content_of ts (plots new) c ≡ cond (is_cell_of depth ts b.land c) (b.held c) (content_of ts (plots old) c)
+  restores b among c = content_changes ts l.land (plots old) (plots new) (was ts (plots old) (l ∷ out.later))
+      (λ x plant e. value x plant e (has l.land x) refl) c
+      ∙ sym (cond_same (is_cell_of depth ts l.land c) _ _ (content_of ts (plots old) c)
+      (cond-true (is_cell_of depth ts l.land c) (owners (was ts (plots old) (l ∷ out.later) c)) opening_owners))
+      ∙ sym (ap (λ (z : Loan). cond (is_cell_of depth ts z.land c) (z.held c) (content_of ts (plots old) c))
+      (loan_under ts (plots old) out.before out.later l b (own_rises ts old out kept)
+      (rw (out.old_is, ← out.number_is) at among)))
     where
-      inner : {A : Type 0} (b : Bool) (x y z : A) → cond b (cond b x y) z ≡ cond b x z
-      inner true x y z = refl
-      inner false x y z = refl
-
       value : (x : Cell) → is_plant_cell depth ts x ≡ true → (e : Estate) (y : Bool) → has l.land x ≡ y
-          → was levels ts qs [] x e ≡ cond y (was levels ts ps (l ∷ later) x e) (was levels ts ps [] x e)
-      value x plant e true h = restored_value x e
-          ∙ ap (cond (lies_in e l (cell_path levels ts x)) (held (forests.pieces l.trees e) (cell_path levels ts x)))
-          (sym (none_later levels ts ps before later l next kept last x plant h e (was levels ts ps [] x e)))
-      value x plant e false h = restored_value x e
-          ∙ ap (λ (b : Bool). cond b (held (forests.pieces l.trees e) (cell_path levels ts x)) (was levels ts ps [] x e))
-          (lies_not levels ts l e x kept.room mine plant (both_ways (has l.land x) h))
+          → now ts (plots new) x e ≡ cond y (was ts (plots old) (l ∷ out.later) x e) (now ts (plots old) x e)
+      value x plant e true h = restored_value x plant e
+          ∙ ap (cond (lies ts e l x) (kept_of ts e l x)) (sym (none_later ts old out kept last x plant h e (now ts (plots old) x e)))
+      value x plant e false h = restored_value x plant e ∙ ap (λ (b : Bool). cond b (kept_of ts e l x) (now ts (plots old) x e))
+          (lies_not ts l e x mine plant (both_ways (has l.land x) h))
 
-pub restored_out : {levels : ℕ} {ts : List Township} {ps qs : Estate → Plot} {old new : List Lent} {next n : ℕ} {l : Lent}
-    → IsTakenOut n l old new → IsLast n (loans_of levels ts ps old) → IsKept levels ts ps old next
-    → ((e : Estate) → qs e ≡ swapped (forests.pieces l.trees e) (ps e)) → loans_of levels ts qs new ≡ without n (loans_of levels ts ps old)
-restored_out {levels} {ts} {ps} {qs} {next} {l} out last k swap =
-    by_parts (λ n old new. IsKept levels ts ps old next → IsLast n (loans_of levels ts ps old)
-    → loans_of levels ts qs new ≡ without n (loans_of levels ts ps old)) out
-    (λ before later k last. restored_loans levels ts ps qs before later l next k last swap) k last
+  -- ---- what is kept
 
-pub restores : {levels : ℕ} {ts : List Township} {ps qs : Estate → Plot} {old new : List Lent} {next n : ℕ} {l : Lent}
-    → IsTakenOut n l old new → IsLast n (loans_of levels ts ps old) → IsKept levels ts ps old next
-    → ((e : Estate) → qs e ≡ swapped (forests.pieces l.trees e) (ps e))
-    → (b : Loan) → IsLentAs b n (loans_of levels ts ps old) → (c : Cell)
-    → content_of levels ts qs c ≡ cond (is_cell_of depth ts b.land c) (b.held c) (content_of levels ts ps c)
-restores {levels} {ts} {ps} {qs} {next} {l} out last k swap b lent c =
-    by_parts (λ n old new. IsKept levels ts ps old next → IsLast n (loans_of levels ts ps old) → IsLentAs b n (loans_of levels ts ps old)
-    → content_of levels ts qs c ≡ cond (is_cell_of depth ts b.land c) (b.held c) (content_of levels ts ps c)) out
-    (λ before later k last lent. restored_content levels ts ps qs before later l next k last swap b lent c) k last lent
+  apart : (x : Lent) → In x less → x.number ≢ l.number
+  apart x m = rises_apart l out.before out.later (own_rises ts old out kept) x (subst (λ (z : List Lent). In x z) out.new_is m)
 
-pub restored_kept : {levels : ℕ} {ts : List Township} {ps qs : Estate → Plot} {old new : List Lent} {next n : ℕ} {l : Lent}
-    → IsTakenOut n l old new → IsLast n (loans_of levels ts ps old) → ((e : Estate) → qs e ≡ swapped (forests.pieces l.trees e) (ps e))
-    → IsKept levels ts ps old next → IsKept levels ts qs new next
-restored_kept {levels} {ts} {ps} {qs} {old} {new} {next} {n} {l} out last swap k =
-    let less = kept_less out k in
-    record {
-      room = k.room;
-      fit = λ e. ap (fits (height levels)) (swap e)
-          ∙ (fits_swapped (height levels) (forests.pieces l.trees e) (ps e) (short e) (backed.fit e) (k.fit e)).0;
-      keeps = λ e. subst (λ (t : Plot). Keeps t (map (lending e) new) next) (sym (swap e))
-          (keeps_restored (ps e) (map (lending e) old) (map (lending e) new) next (lending e l) (in_map (lending e) l old (out_in out))
-          (clear e) (others e) (k.keeps e));
-      backed = less.backed;
-      rises = less.rises;
-    }
-  where
-    backed : IsBacked levels ts l
-    backed = k.backed l (out_in out)
+  others : (e : Estate) (i j : ℕ) (x : Lending) → In x (map (lending e i j) less)
+      → In x (map (lending e i j) lent) × (x.number ≢ (lending e i j l).number)
+  others e i j x m =
+      let y = in_mapped (lending e i j) x less m in
+      (lendings_in out e i j x m, λ f. apart y.0 y.1 (ap (λ (z : Lending). z.number) (sym y.2) ∙ f))
 
-    short : (e : Estate) → Short (paths (forests.pieces l.trees e)) (height levels)
-    short e p i = tract_short levels ts l.land backed.within p (in_spots backed e p i)
+  module _ (once : IsEachOnce ts) where
+    -- no later image has a path that one of this one's begins
+    clear : (e : Estate) (x : Lent) → In x lent → n < x.number → Everywhere (length ts) (λ i j. Clear (ways_in ts l.land i j)
+        (paths (forests.pieces x.trees e i j)))
+    clear e x m more i j a b p q s t =
+        let of = kept.backed x m in
+        tracts_clear ts l.land x.land i j once a b mine.within of.within
+        (image_apart ts (λ z. n < z) (plots old) lent n l x last (out_in out) out.number_is m more) p q s (in_ways of e i j a b q t)
 
-    clear : (e : Estate) → LaterClear (lending e l) (map (lending e) old)
-    clear e x i later p q a b =
-        let m = in_mapped (lending e) x old i in
-        let number_is = ap (λ (z : Lending). z.number) m.2 in
-        let more : n < m.0.number = (let f = out.number_is in omega (arith, later, number_is, f)) in
-        tracts_clear levels ts l.land m.0.land k.room backed.within (k.backed m.0 m.1).within
-        (image_apart levels ts (λ z. n < z) ps old n l m.0 last (out_in out) out.number_is m.1 more) p q (in_spots backed e p a)
-        (in_spots (k.backed m.0 m.1) e q (subst (λ (z : Lending). In q (paths z.pieces)) m.2 b))
+    later_clear : (e : Estate) → Everywhere (length ts) (λ i j. LaterClear (lending e i j l) (map (lending e i j) lent))
+    later_clear e i j a b x m later p q s t =
+        let y = in_mapped (lending e i j) x lent m in
+        let more : n < y.0.number = omega (arith, later, ap (λ (z : Lending). z.number) y.2, out.number_is) in
+        clear e y.0 y.1 more i j a b p q (in_ways mine e i j a b p s) (subst (λ (z : Lending). In q (paths z.pieces)) y.2 t)
 
-    others : (e : Estate) (x : Lending) → In x (map (lending e) new) → In x (map (lending e) old) × (x.number ≢ (lending e l).number)
-    others e x i =
-        let m = in_mapped (lending e) x new i in (
-          lendings_in out e x i,
-          λ f. rises_apart l out.before out.later (subst Rises out.old_is k.rises) m.0
-              (subst (λ (z : List Lent). In m.0 z) out.new_is m.1) (ap (λ (z : Lending). z.number) (sym m.2) ∙ f),
-        )
+    -- a township that an image wants parted is still so after this one has gone back
+    brought : (e : Estate) (i : ℕ) (x : Lent) → In x less → wants x.trees.home (parts_of x.trees e) i ≡ true
+        → brings l.trees.home (parts_of l.trees e) i ≡ true
+    brought e i x m w = elim (cases_lt x.number l.number) [
+      | inl before ↦ kept.brought e i x l (left_in out x m) (out_in out) before w
+      | inr after ↦ true_from_ne_false _ (λ whole.
+          let of = kept.backed x (left_in out x m) in
+          let there = in_township_below (length ts) x.trees.home i
+          (subst (IsHome (length ts)) (sym of.home) (is_there ts x.land of.within))
+          (wants_parts x.trees.home (parts_of x.trees e) i w).1 in
+          let more : n < x.number = omega (arith, after, apart x m, out.number_is) in
+          of.some e i w (λ j b. no_pieces (forests.pieces x.trees e i j) (λ p s.
+          let root : [] ∷ [] ≡ ways_in ts l.land i j =
+          sym (covers (parts_of l.trees e) l.trees.home i j (tract_ways l.land) whole)
+          ∙ ap (λ (h : Home). ways_at h (tract_ways l.land) i j) mine.home in
+          both_ways (begins [] p) (clear e x (left_in out x m) more i j there b [] p
+          (subst (λ (z : List (List Quarter)). In [] z) root (inl refl)) s) refl)))
+    ]
+
+    pub restored_kept : IsKept ts new less next
+    restored_kept =
+        let left = kept_less out kept in
+        record {
+          sized = λ e. (swap e).sized ∙ kept.sized e;
+          fit = λ e i j a b. ap (fits depth) (trees e i j a b) ∙ (fits_swapped depth (forests.pieces l.trees e i j) (plots old e i j)
+              (short e i j a b) (mine.fit e i j a b) (kept.fit e i j a b)).0;
+          keeps = λ e i j a b. subst (λ (t : Plot). Keeps t (map (lending e i j) less) next) (sym (trees e i j a b))
+              (keeps_restored (plots old e i j) (map (lending e i j) lent) (map (lending e i j) less) next (lending e i j l)
+              (in_map (lending e i j) l lent (out_in out)) (later_clear e i j a b) (others e i j) (kept.keeps e i j a b));
+          backed = left.backed;
+          rises = left.rises;
+          wanted = λ e i x m w. (swap e).parted i (left.wanted e i x m w) (brought e i x m w);
+          brought = left.brought;
+        }
 
 -- ---- an image that is let go
 
-pub forget_kept : {levels : ℕ} {ts : List Township} {ps : Estate → Plot} {old new : List Lent} {next : ℕ} (n : ℕ) (o : Option Lent)
-    → IsOut n (loans_of levels ts ps old) → MatchOption o (IsAbsent n old) (λ l. IsTakenOut n l old new)
-    → IsKept levels ts ps old next → IsKept levels ts ps new next
-forget_kept {levels} {ts} {ps} {old} n None out h k = is_there levels ts ps old n out h
-forget_kept n (Some l) out h k = kept_less h k
-
-pub forget_out : (levels : ℕ) (ts : List Township) (ps : Estate → Plot) (old new : List Lent) (next n : ℕ) (o : Option Lent)
-    → IsOut n (loans_of levels ts ps old) → IsFirst n (loans_of levels ts ps old)
-    → MatchOption o (IsAbsent n old) (λ l. IsTakenOut n l old new) → IsKept levels ts ps old next
-    → loans_of levels ts ps new ≡ without n (loans_of levels ts ps old)
-forget_out levels ts ps old new next n None out first h k = is_there levels ts ps old n out h
-forget_out levels ts ps old new next n (Some l) out first h k =
-    by_parts (λ n old new. IsKept levels ts ps old next → IsFirst n (loans_of levels ts ps old)
-    → loans_of levels ts ps new ≡ without n (loans_of levels ts ps old)) h
-    (λ before later k first. loans_gone levels ts ps ps before later l k.rises
-    (λ x i c plant here e. ap (λ (b : Bool). cond b (held (forests.pieces l.trees e) (cell_path levels ts c)) (was levels ts ps later c e))
-    (sym (before_not levels ts ps before later l next k first x i c plant here e)))
-    (λ x i c plant here e. refl)) k first
+pub forget_out : {ts : List Township} {f : Forest} {old new : List Lent} {next n : ℕ} {l : Lent} → IsTakenOut n l old new
+    → IsFirst n (loans_of ts (plots f) old) → IsKept ts f old next → loans_of ts (plots f) new ≡ without n (loans_of ts (plots f) old)
+forget_out {ts} {f} {l} out first k = rw (out.old_is, out.new_is, ← out.number_is) (loans_gone ts (plots f) (plots f) out.before out.later l
+    (own_rises ts f out k)
+    (λ x i c plant here e. ap (λ (b : Bool). cond b (kept_of ts e l c) (was ts (plots f) out.later c e))
+    (sym (before_not ts f out k first x i c plant here e)))
+    (λ x i c plant here e. refl))

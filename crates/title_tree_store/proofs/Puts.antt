@@ -1,47 +1,52 @@
 -- What a put leaves.
-use Rattle.std.proofs.Common.{◌≡◌, ◌∙◌, ap, sym, refl, subst, ℕ, suc, ◌+◌, ◌<◌, Bool, true, false, cond, inl, inr, List, [], ◌∷◌, ◌++◌}
-use Rattle.std.proofs.{Common.{length, map, Option, Some, None, Result, Ok, Err, is_some}, lemmas.List.{map_push}}
-use Rattle.std.proofs.lemmas.Bool.{and_parts, and_from, or_right, cond_both}
+use Rattle.std.proofs.Common.{◌≡◌, ◌≢◌, ◌∙◌, ap, sym, refl, subst, ℕ, suc, ◌+◌, ◌-◌, ◌<◌, ◌≤◌, arith, Bool, true, false, cond, inl, inr}
+use Rattle.std.proofs.{Common.{List, [], ◌∷◌, ◌++◌, length, map, Option, Some, None, Result, Ok, Err, is_some}, lemmas.List.{map_push}}
+use Rattle.std.{proofs.lemmas.Bool.{and_parts, and_from, or_right, cond_both, eq-eqb}, specs.Prelude.{◌==◌, ◌&&◌}}
 use Rattle.title_share.specs.Division.{Division}
 use Rattle.title_land.specs.{Depth.{depth}, declared.{survey.{Township.{Township}, Cell.{Cell}}, rectangle.Quarter.{Quarter}}}
 use Rattle.title_land.specs.{declared.tract.Land.{Land}, Lands.{has, is_in_plant, is_plant_cell}, CellLists.{cells_of}}
-use Rattle.title_land.specs.Laws.{CellMembers.{listed, listed_from, list_has_the_cells}, Members.{In, in_map, in_last}}
+use Rattle.title_land.specs.Laws.{CellMembers.{listed, listed_from, list_has_the_cells}, Members.{In, in_map}}
 use Rattle.title_instrument.specs.declared.{parts.{Estate.{Estate, TheVariants.{S, O, M}}, Rule.{Rule}}, instrument.Instrument.{Instrument}}
-use Rattle.title_instrument.specs.{declared.owners.Effect.{Effect, TheVariants.{Done, Refused}}, Owners.{opening_owners}}
-use Rattle.title_instrument.specs.{Effect.{holding_effect, cell_effect, joined}, Laws.EffectLaws.{holding_unnamed}}
+use Rattle.title_instrument.specs.{declared.owners.Effect.{Effect, TheVariants.{Done, Refused}}, Owners.{opening_owners}, Estates.{names}}
+use Rattle.title_instrument.specs.{Effect.{holding_effect, cell_effect, joined}, Laws.EffectLaws.{holding_unnamed}, Parties.{estates_of}}
 use Rattle.title_store.specs.Plants.{Plant, Failing, IsEachOnce, is_cell_of, failing_or, first_failing, done_or, plant_effect, refused_in}
 use Rattle.title_store.specs.{Plants.{refusal_of}, Loans.{IsTaken}}
 use Rattle.title_tree.specs.{Changes.{why_of, new_or, after}, Plots.{Plot, value_at, plot_at, fits}, Lendings.{Lending, Keeps}}
-use Rattle.title_tree.specs.Pieces.{Piece, Disjoint, Ready, Short, paths, held, swapped, taken, split_all, fresh, refusal_at, Refines}
-use Rattle.title_tree.specs.{Pieces.{StaysWithin}, Laws.{Swaps.{paths_taken, paths_fresh}, Refusals.{none_refuses_at, some_refuses_at}}}
-use Rattle.title_tree.specs.Laws.{Images.{put_ready, put_keeps, put_content, put_held}, Depths.{fits_plot_at, fits_changed, split_all_fits}}
-use Rattle.title_tree_store.specs.{declared.{lent.Lent.{Lent}, forest.Subtrees.{Subtrees}}, Spots.{cell_path, tract_spots}}
-use Rattle.title_tree_store.specs.{Forests.{owners_at, named_spots, IsChange}, Keeping.{is_whole, PiecesFit, IsBacked, IsKept}}
-use Rattle.title_tree_store.specs.Keeping.{height, content_of, lending, lies_in, held_before, owners_before, loan_of, loans_of, same_ways}
-use Rattle.title_tree_store.proofs.{CellPaths.{tract_at, tract_has, tract_has_at, tract_short, length-cell_path}, Apart.{tract_apart}}
-use Rattle.title_tree_store.{proofs.Keeps.{same_ways-self, fits_swapped, kept_refined}, specs.Refusing.{why_cell, first_in, triple}}
-use Rattle.title_tree_store.proofs.{Contents.{owners, owners_same, cond_same, content_changes}, Images.{rises_more}, Steps.{named_or}}
-use Rattle.title_tree_store.proofs.Loans.{was, among_lent, loans_push}
+use Rattle.title_tree.specs.Pieces.{Piece, Disjoint, Ready, Short, paths, held, swapped, taken, split_all, fresh, refusal_at}
+use Rattle.title_tree.specs.Laws.{Swaps.{paths_taken, paths_fresh}, Refusals.{none_refuses_at, some_refuses_at}}
+use Rattle.title_tree.specs.Laws.{CellSquares.{cell_ways_are_whole}, Images.{put_ready, put_keeps, put_content, put_held}}
+use Rattle.title_tree.specs.Laws.Depths.{fits_plot_at, fits_changed, split_all_fits}
+use Rattle.title_tree_store.specs.declared.{lent.Lent.{Lent}, forest.{Forest.{Forest}, Subtrees.{Subtrees}}, spots.Home.{Home}}
+use Rattle.title_tree_store.{specs.{Grounds.{Everywhere, parted_in, closable_in}, Keeping.{IsBacked, IsKept}}, proofs.Images.{rises_more}}
+use Rattle.title_tree_store.{specs.Spots.{index_of, ways_in, home_in, tract_ways, is_in_township, reaches}, proofs.Steps.{named_or}}
+use Rattle.title_tree_store.specs.Forests.{grounds, plots, parts_of, named_ways, wants, brings, is_some_part, AreAll, IsChange, HasNote}
+use Rattle.title_tree_store.specs.Keeping.{content_of, lending, lies_in, held_before, loan_of, loans_of, same_ways, is_whole, PiecesFit}
+use Rattle.title_tree_store.proofs.CellPaths.{cell_at, tract_has, tract_has_at, tract_short, tract_apart, is_there, section_below}
+use Rattle.title_tree_store.proofs.Keeps.{same_ways-self, fits_swapped, some_township, wants_parts, in_township_below}
+use Rattle.title_tree_store.{specs.Refusing.{why_cell, first_in, triple}, proofs.Contents.{at_cell, now}}
+use Rattle.title_tree_store.proofs.Contents.{owners, owners_same, cond_same, content_changes, in_township, in_section, in_square}
+use Rattle.title_tree_store.proofs.{Images.{pushed}, Loans.{was, among_lent, loans_push}}
+use Rattle.title_land.specs.declared.tract.Land.TheVariants as land
 use Rattle.title_tree.specs.Pieces as pieces
 use Rattle.title_tree_store.specs.Forests as forests
 
 -- the steps of a put in each estate's tree: what was made, the tree quartered, the exchange, the image
 pub record IsPut (i : Instrument ℕ) (ps : List (List Quarter)) (e : Estate) (t u v : Plot) (xs ys : List Piece) : Type 0 where
   pub made : IsChange i e ps t xs
-  pub split : u ≡ split_all (named_spots i e ps) t
+  pub split : u ≡ split_all (named_ways i e ps) t
   pub exchanged : v ≡ swapped xs u
   pub image : ys ≡ taken xs u
 
 -- what was made and the image have the paths of the estates that are named
 pub put_paths : {i : Instrument ℕ} {ps : List (List Quarter)} {e : Estate} {t u v : Plot} {xs ys : List Piece} → IsPut i ps e t u v xs ys
-    → (paths xs ≡ named_spots i e ps) × (paths ys ≡ named_spots i e ps)
+    → (paths xs ≡ named_ways i e ps) × (paths ys ≡ named_ways i e ps)
 put_paths {i} {ps} {e} {t} {u} {v} {xs} put =
-    let made = ap paths put.made.1 ∙ paths_fresh (after (holding_effect i e)) (named_spots i e ps) t in
+    let made = ap paths put.made.1 ∙ paths_fresh (after (holding_effect i e)) (named_ways i e ps) t in
     (made, ap paths put.image ∙ paths_taken xs u ∙ made)
 
 -- what a cell of the paths has changes as if each estate were named
 named_value : (i : Instrument ℕ) (e : Estate) (ps : List (List Quarter)) (c : List Quarter) (v : Division)
-    → cond (pieces.has (named_spots i e ps) c) (after (holding_effect i e) v) v ≡ cond (pieces.has ps c) (after (holding_effect i e) v) v
+    → cond (pieces.has (named_ways i e ps) c) (after (holding_effect i e) v) v ≡ cond (pieces.has ps c) (after (holding_effect i e) v) v
 named_value i e ps c v =
     named_or (λ qs. cond (pieces.has qs c) (after (holding_effect i e) v) v ≡ cond (pieces.has ps c) (after (holding_effect i e) v) v)
     i e ps refl (λ none. cond_both (pieces.has ps c) (after (holding_effect i e) v) v (λ z. v ≡ z)
@@ -61,171 +66,229 @@ ok_from (Ok new) held h = refl
 ok_from (Err rule) held h = absurd cc
 
 -- what a cell of the plant has
-content_plant : (levels : ℕ) (ts : List Township) (ps : Estate → Plot) (c : Cell) → is_plant_cell depth ts c ≡ true
-    → content_of levels ts ps c ≡ owners_at ps (cell_path levels ts c)
-content_plant levels ts ps c plant = ap (λ (b : Bool). cond b (owners_at ps (cell_path levels ts c)) opening_owners) plant
+content_plant : (ts : List Township) (ps : Estate → ℕ → ℕ → Plot) (c : Cell) → is_plant_cell depth ts c ≡ true
+    → content_of ts ps c ≡ owners (now ts ps c)
+content_plant ts ps c plant = ap (λ (b : Bool). cond b (owners (now ts ps c)) opening_owners) plant
 
 of_cells : (ts : List Township) (x : Land) (c : Cell) → In c (cells_of depth ts x) → is_cell_of depth ts x c ≡ true
 of_cells ts x c i = sym (list_has_the_cells depth ts x c) ∙ listed_from (cells_of depth ts x) c i
 
--- trees that were quartered in part
-pub kept_stopped : {levels : ℕ} {ts : List Township} {old new : Estate → Plot} {lent : List Lent} {n : ℕ} (x : Land)
-    (ps : List (List Quarter)) → ps ≡ tract_spots levels ts x → is_in_plant ts x ≡ true → ((e : Estate) → Refines (old e) (new e))
-    → ((e : Estate) → StaysWithin ps (old e) (new e)) → IsKept levels ts old lent n → IsKept levels ts new lent n
-kept_stopped {levels} {ts} x ps ways of refines within k = kept_refined refines (λ e. within e (height levels)
-    (subst (λ (z : List (List Quarter)). Short z (height levels)) (sym ways) (tract_short levels ts x of)) (k.fit e)) k
+-- in the section of a tract that is a part of one there are all of its paths
+ways_there : (ts : List Township) (x : Land) (t : ℕ) → is_in_township (home_in ts x) t ≡ true
+    → (j : ℕ) × (j < 36) × (ways_in ts x t j ≡ tract_ways x)
+ways_there ts (land.Part s g) t h = (
+  s.number - 1,
+  section_below s,
+  ap (λ (b : Bool). cond b (tract_ways (land.Part s g)) []) (and_from (index_of ts s.township == t) (s.number - 1 == s.number - 1) h
+      (eq-eqb (s.number - 1) (s.number - 1) refl)),
+)
+ways_there ts _ t h = absurd cc
 
-module _ {levels : ℕ} {ts : List Township} {old : Estate → Plot} {lent : List Lent} {n : ℕ} (kept : IsKept levels ts old lent n)
-    (x : Land) (i : Instrument ℕ) (of : is_in_plant ts x ≡ true) where
+-- a put that is done: what was made of the estates that the instrument names, the forest quartered, and the exchange
+pub record IsDone (ts : List Township) (x : Land) (i : Instrument ℕ) (old new : Forest) (trees : Subtrees) : Type 0 where
+  pub made : Subtrees
+  pub mid : Forest
+  pub sized : (e : Estate) → length (grounds new e) ≡ length (grounds old e)
+  pub put : (e : Estate) → Everywhere (length ts) (λ a b. IsPut i (ways_in ts x a b) e (plots old e a b) (plots mid e a b)
+      (plots new e a b) (forests.pieces made e a b) (forests.pieces trees e a b))
+  pub home : trees.home ≡ home_in ts x
+  pub all : (e : Estate) → AreAll (length ts) (parts_of trees e)
+  pub named : (e : Estate) → is_some_part (parts_of trees e) ≡ true → names (estates_of i) e ≡ true
+  pub some : (e : Estate) (t : ℕ) → wants trees.home (parts_of trees e) t ≡ true → tract_ways x ≢ []
+  pub parted : (e : Estate) (t : ℕ) → parted_in (grounds old e) t ≡ true → parted_in (grounds new e) t ≡ true
+  pub wanted : (e : Estate) (t : ℕ) → wants trees.home (parts_of trees e) t ≡ true → parted_in (grounds new e) t ≡ true
+  pub back : (e : Estate) (t : ℕ) → parted_in (grounds old e) t ≡ true → brings trees.home (parts_of trees e) t ≡ true
+  pub noted : HasNote i (home_in ts x) (tract_ways x) old new
+  pub closed : (e : Estate) (t : ℕ) → (names (estates_of i) e && reaches (home_in ts x) t) ≡ false
+      → closable_in (grounds new e) t ≡ closable_in (grounds old e) t
+
+apart : (ts : List Township) (x : Land) (i : Instrument ℕ) (e : Estate) (a b : ℕ) → Disjoint (named_ways i e (ways_in ts x a b))
+apart ts x i e a b = named_or Disjoint i e (ways_in ts x a b) (tract_apart ts x a b) (λ none. tt)
+
+-- the parts that were made may change places with what stands in the quartered trees
+pub put_goes : (ts : List Township) (x : Land) (i : Instrument ℕ) (e : Estate) (a b : ℕ) (t u : Plot) (xs : List Piece)
+    → IsChange i e (ways_in ts x a b) t xs → u ≡ split_all (named_ways i e (ways_in ts x a b)) t → Disjoint (paths xs) × Ready (paths xs) u
+put_goes ts x i e a b t u xs made split =
+    put_ready (after (holding_effect i e)) (named_ways i e (ways_in ts x a b)) t u xs (apart ts x i e a b) made.1 split
+
+module _ {ts : List Township} {old : Forest} {lent : List Lent} {n : ℕ} (kept : IsKept ts old lent n) (x : Land) (i : Instrument ℕ)
+    (of : is_in_plant ts x ≡ true) where
   -- the paths of an estate that is named, and its change
-  abbrev ways : Estate → List (List Quarter)
-  ways e = named_spots i e (tract_spots levels ts x)
+  abbrev ways : Estate → ℕ → ℕ → List (List Quarter)
+  ways e a b = named_ways i e (ways_in ts x a b)
 
   abbrev change : Estate → Division → Division
   change e = after (holding_effect i e)
 
-  short : (e : Estate) → Short (ways e) (height levels)
-  short e = named_or (λ qs. Short qs (height levels)) i e (tract_spots levels ts x) (tract_short levels ts x of) (λ none p j. absurd j)
+  short : (e : Estate) (a b : ℕ) → Short (ways e a b) depth
+  short e a b = named_or (λ qs. Short qs depth) i e (ways_in ts x a b) (tract_short ts x a b) (λ none p j. absurd j)
 
-  module _ (once : IsEachOnce ts) where
-    apart : (e : Estate) → Disjoint (ways e)
-    apart e = named_or Disjoint i e (tract_spots levels ts x) (tract_apart levels ts kept.room x once of) (λ none. tt)
+  -- the images that are out have lower numbers
+  below : (y : Lent) → In y lent → y.number < n
+  below y m = (kept.keeps S 0 0 (some_township ts x of) (omega arith)).below (lending S 0 0 y) (in_map (lending S 0 0) y lent m)
 
-    -- the parts that were made may change places with what stands in the quartered trees
-    pub put_goes : (e : Estate) (u : Plot) (xs : List Piece) → IsChange i e (tract_spots levels ts x) (old e) xs
-        → u ≡ split_all (ways e) (old e) → Disjoint (paths xs) × Ready (paths xs) u
-    put_goes e u xs made split = put_ready (change e) (ways e) (old e) u xs (apart e) made.1 split
+  module _ {new : Forest} {trees : Subtrees} (done : IsDone ts x i old new trees) where
+    abbrev image : Lent
+    image = record { number = n; land = x; trees = trees }
 
-    module _ {quartered new : Estate → Plot} {xs : Estate → List Piece} (trees : Subtrees)
-        (put : (e : Estate) → IsPut i (tract_spots levels ts x) e (old e) (quartered e) (new e) (xs e) (forests.pieces trees e)) where
-      abbrev image : Lent
-      image = record { number = n; land = x; trees = trees }
+    -- ---- what is kept
 
-      -- ---- what is kept
+    swapped_fit : (e : Estate) → Everywhere (length ts) (λ a b.
+        (fits depth (swapped (forests.pieces done.made e a b) (plots done.mid e a b)) ≡ true)
+        × PiecesFit depth (taken (forests.pieces done.made e a b) (plots done.mid e a b)))
+    swapped_fit e a b c d =
+        let p = done.put e a b c d in
+        fits_swapped depth (forests.pieces done.made e a b) (plots done.mid e a b)
+        (subst (λ (z : List (List Quarter)). Short z depth) (sym (put_paths p).0) (short e a b))
+        (subst (PiecesFit depth) (sym p.made.1) (fresh_fit depth (change e) (ways e a b) (plots old e a b) (kept.fit e a b c d)))
+        (ap (fits depth) p.split ∙ split_all_fits (ways e a b) (plots old e a b) depth (short e a b) (kept.fit e a b c d))
 
-      swapped_fit : (e : Estate) → (fits (height levels) (swapped (xs e) (quartered e)) ≡ true)
-          × PiecesFit (height levels) (taken (xs e) (quartered e))
-      swapped_fit e = fits_swapped (height levels) (xs e) (quartered e)
-          (subst (λ (z : List (List Quarter)). Short z (height levels)) (sym (put_paths (put e)).0) (short e))
-          (subst (PiecesFit (height levels)) (sym (put e).made.1) (fresh_fit (height levels) (change e) (ways e) (old e) (kept.fit e)))
-          (ap (fits (height levels)) (put e).split ∙ split_all_fits (ways e) (old e) (height levels) (short e) (kept.fit e))
+    some_piece : (e : Estate) (t : ℕ) → wants trees.home (parts_of trees e) t ≡ true
+        → ((j : ℕ) → j < 36 → forests.pieces trees e t j ≡ []) → ⊥
+    some_piece e t w none =
+        let inside = subst (λ (h : Home). is_in_township h t ≡ true) done.home (wants_parts trees.home (parts_of trees e) t w).1 in
+        let there = in_township_below (length ts) (home_in ts x) t (is_there ts x of) inside in
+        let at = ways_there ts x t inside in
+        done.some e t w (sym at.2
+        ∙ sym (ap (λ (b : Bool). cond b (ways_in ts x t at.0) []) (done.named e (wants_parts trees.home (parts_of trees e) t w).0))
+        ∙ sym (put_paths (done.put e t at.0 there at.1)).1 ∙ ap paths (none at.0 at.1))
 
-      image_backed : IsBacked levels ts image
-      image_backed = record {
-        within = of;
-        at = λ e. ap (λ (z : List (List Quarter)). is_whole z (tract_spots levels ts x)) ((put_paths (put e)).1)
-            ∙ named_or (λ qs. is_whole qs (tract_spots levels ts x) ≡ true) i e (tract_spots levels ts x)
-            (or_right (same_ways (tract_spots levels ts x) []) (same_ways (tract_spots levels ts x) (tract_spots levels ts x))
-            (same_ways-self (tract_spots levels ts x))) (λ none. refl);
-        fit = λ e. subst (PiecesFit (height levels)) (sym (put e).image) (swapped_fit e).1;
-      }
+    image_backed : IsBacked ts image
+    image_backed = record {
+      within = of;
+      home = done.home;
+      all = done.all;
+      at = λ e a b c d. ap (λ (z : List (List Quarter)). is_whole z (ways_in ts x a b)) ((put_paths (done.put e a b c d)).1)
+          ∙ named_or (λ qs. is_whole qs (ways_in ts x a b) ≡ true) i e (ways_in ts x a b)
+          (or_right (same_ways (ways_in ts x a b) []) (same_ways (ways_in ts x a b) (ways_in ts x a b))
+          (same_ways-self (ways_in ts x a b))) (λ none. refl);
+      fit = λ e a b c d. subst (PiecesFit depth) (sym (done.put e a b c d).image) (swapped_fit e a b c d).1;
+      some = some_piece;
+    }
 
-      pub kept_put : IsKept levels ts new (lent ++ image ∷ []) (suc n)
-      kept_put = record {
-        room = kept.room;
-        fit = λ e. ap (fits (height levels)) (put e).exchanged ∙ (swapped_fit e).0;
-        keeps = λ e. subst (λ (out : List Lending). Keeps (new e) out (suc n)) (sym (map_push (lending e) lent image))
-            (put_keeps (change e) (ways e) (old e) (quartered e) (new e) (xs e) (forests.pieces trees e) (map (lending e) lent) n
-            (apart e) (put e).made.1 (put e).split (put e).exchanged (put e).image (kept.keeps e));
-        backed = λ y j. elim (in_last y image lent j) [
-          | inl m ↦ kept.backed y m
-          | inr e ↦ subst (IsBacked levels ts) (sym e) image_backed
-        ];
-        rises = rises_more lent image kept.rises (λ y j. (kept.keeps S).below (lending S y) (in_map (lending S) y lent j));
-      }
+    at_most : (y : Lent) → In y (lent ++ image ∷ []) → y.number ≤ n
+    at_most = pushed (λ y. y.number ≤ n) lent image (λ y m. let l = below y m in omega (arith, l)) (omega arith)
 
-      -- ---- no cell refuses
+    pub kept_put : IsKept ts new (lent ++ image ∷ []) (suc n)
+    kept_put = record {
+      sized = λ e. done.sized e ∙ kept.sized e;
+      fit = λ e a b c d. ap (fits depth) (done.put e a b c d).exchanged ∙ (swapped_fit e a b c d).0;
+      keeps = λ e a b c d.
+          let p = done.put e a b c d in
+          subst (λ (out : List Lending). Keeps (plots new e a b) out (suc n)) (sym (map_push (lending e a b) lent image))
+          (put_keeps (change e) (ways e a b) (plots old e a b) (plots done.mid e a b) (plots new e a b) (forests.pieces done.made e a b)
+          (forests.pieces trees e a b) (map (lending e a b) lent) n (apart ts x i e a b) p.made.1 p.split p.exchanged p.image
+          (kept.keeps e a b c d));
+      backed = pushed (IsBacked ts) lent image kept.backed image_backed;
+      rises = rises_more lent image kept.rises below;
+      wanted = λ e t. pushed (λ y. wants y.trees.home (parts_of y.trees e) t ≡ true → parted_in (grounds new e) t ≡ true) lent image
+          (λ y m w. done.parted e t (kept.wanted e t y m w)) (done.wanted e t);
+      brought = λ e t x z m o. pushed (λ y. y.number < z.number → wants y.trees.home (parts_of y.trees e) t ≡ true
+          → brings z.trees.home (parts_of z.trees e) t ≡ true) lent image
+          (λ y p less w. pushed (λ z. y.number < z.number → brings z.trees.home (parts_of z.trees e) t ≡ true) lent image
+          (λ z q less. kept.brought e t y z p q less w) (λ less. done.back e t (kept.wanted e t y p w)) z o less)
+          (λ less w. let f = at_most z o in absurd (omega (arith, f, less))) x m;
+    }
 
-      cell_none : (c : Cell) → is_cell_of depth ts x c ≡ true → (e : Estate)
-          → why_of (holding_effect i e (value_at (old e) (cell_path levels ts c))) ≡ None
-      cell_none c h e = named_or (λ qs. refusal_at (holding_effect i e) qs (old e) ≡ None
-          → why_of (holding_effect i e (value_at (old e) (cell_path levels ts c))) ≡ None) i e (tract_spots levels ts x)
-          (λ g. let k = and_parts (has x c) (is_plant_cell depth ts c) h in
-          none_refuses_at (holding_effect i e) (tract_spots levels ts x) (old e) g (cell_path levels ts c)
-          (tract_has levels ts kept.room x c of k.1 ∙ k.0))
-          (λ none g. ap why_of (holding_unnamed i e (value_at (old e) (cell_path levels ts c)) none)) (put e).made.0
+    -- ---- no cell refuses
 
-      cell_done : (c : Cell) → is_cell_of depth ts x c ≡ true → cell_effect i (content_of levels ts old c)
-          ≡ Done (owners (λ e. change e (value_at (old e) (cell_path levels ts c))))
-      unfolding cell_effect
-      cell_done c h =
-          let done = λ (e : Estate). ok_from (holding_effect i e (value_at (old e) (cell_path levels ts c)))
-          (value_at (old e) (cell_path levels ts c)) (cell_none c h e) in
-          ap (cell_effect i) (content_plant levels ts old c (and_parts (has x c) (is_plant_cell depth ts c) h).1)
-          ∙ (λ k. joined (done S k) (done O k) (done M k))
+    cell_none : (c : Cell) → is_cell_of depth ts x c ≡ true → (e : Estate) → why_of (holding_effect i e (now ts (plots old) c e)) ≡ None
+    cell_none c h e =
+        let k = and_parts (has x c) (is_plant_cell depth ts c) h in
+        let here = ways_in ts x (in_township ts c) (in_section c) in
+        let there = plots old e (in_township ts c) (in_section c) in
+        named_or (λ qs. refusal_at (holding_effect i e) qs there ≡ None → why_of (holding_effect i e (value_at there (in_square c))) ≡ None)
+        i e here (λ g. none_refuses_at (holding_effect i e) here there g (in_square c) (tract_has ts x c of k.1 ∙ k.0))
+        (λ none g. ap why_of (holding_unnamed i e (value_at there (in_square c)) none))
+        (at_cell ts c (done.put e) k.1).made.0
 
-      none_failing : (cells : List Cell) → ((c : Cell) → In c cells → is_cell_of depth ts x c ≡ true)
-          → first_failing i (content_of levels ts old) cells ≡ None
-      none_failing [] f = refl
-      none_failing (c ∷ cells) f =
-          ap (λ (y : Effect). failing_or c y (first_failing i (content_of levels ts old) cells)) (cell_done c (f c (inl refl)))
-          ∙ none_failing cells (λ z j. f z (inr j))
+    cell_done : (c : Cell) → is_cell_of depth ts x c ≡ true → cell_effect i (content_of ts (plots old) c)
+        ≡ Done (owners (λ e. change e (now ts (plots old) c e)))
+    unfolding cell_effect
+    cell_done c h =
+        let ok = λ (e : Estate). ok_from (holding_effect i e (now ts (plots old) c e)) (now ts (plots old) c e) (cell_none c h e) in
+        ap (cell_effect i) (content_plant ts (plots old) c (and_parts (has x c) (is_plant_cell depth ts c) h).1)
+        ∙ (λ k. joined (ok S k) (ok O k) (ok M k))
 
-      pub refused_none : refused_in depth ts i (content_of levels ts old) x ≡ None
-      unfolding refused_in
-      refused_none = ap (refusal_of depth x) (none_failing (cells_of depth ts x) (λ c j. of_cells ts x c j))
+    none_failing : (cells : List Cell) → ((c : Cell) → In c cells → is_cell_of depth ts x c ≡ true)
+        → first_failing i (content_of ts (plots old)) cells ≡ None
+    none_failing [] f = refl
+    none_failing (c ∷ cells) f =
+        ap (λ (y : Effect). failing_or c y (first_failing i (content_of ts (plots old)) cells)) (cell_done c (f c (inl refl)))
+        ∙ none_failing cells (λ z j. f z (inr j))
 
-      -- ---- what the cells have
+    pub refused_none : refused_in depth ts i (content_of ts (plots old)) x ≡ None
+    unfolding refused_in
+    refused_none = ap (refusal_of depth x) (none_failing (cells_of depth ts x) (λ c j. of_cells ts x c j))
 
-      -- what a cell has after a put, by the paths of the estate
-      put_at : (e : Estate) (p : List Quarter) → length p ≡ height levels
-          → value_at (new e) p ≡ cond (pieces.has (ways e) p) (change e (value_at (old e) p)) (value_at (old e) p)
-      put_at e p long = ap (λ (z : Plot). value_at z p) ((put e).exchanged ∙ ap (λ (z : List Piece). swapped z (quartered e)) (put e).made.1
-          ∙ ap (swapped (fresh (change e) (ways e) (old e))) (put e).split)
-          ∙ put_content (change e) (ways e) (old e) p (apart e) (subst (Short (ways e)) (sym long) (short e))
+    -- ---- what the cells have
 
-      -- the plant after a put
-      pub put_shows : (c : Cell) → content_of levels ts new c ≡ plant_effect depth ts i (content_of levels ts old) x c
-      unfolding plant_effect
-      put_shows c = content_changes levels ts x old new (λ y e. change e (value_at (old e) (cell_path levels ts y))) value c
-          ∙ cond_same (is_cell_of depth ts x c) _ _ (content_of levels ts old c)
-          (λ h. sym (ap (done_or (content_of levels ts old c)) (cell_done c h)))
-          ∙ sym (ap (λ (o : Option _). cond (is_some o) (content_of levels ts old c)
-          (cond (is_cell_of depth ts x c) (done_or (content_of levels ts old c) (cell_effect i (content_of levels ts old c)))
-          (content_of levels ts old c))) refused_none)
-        where
-          value : (y : Cell) → is_plant_cell depth ts y ≡ true → (e : Estate) → value_at (new e) (cell_path levels ts y)
-              ≡ cond (has x y) (change e (value_at (old e) (cell_path levels ts y))) (value_at (old e) (cell_path levels ts y))
-          value y plant e = put_at e (cell_path levels ts y) (length-cell_path levels ts y)
-              ∙ named_value i e (tract_spots levels ts x) (cell_path levels ts y) (value_at (old e) (cell_path levels ts y))
-              ∙ ap (λ (b : Bool). cond b (change e (value_at (old e) (cell_path levels ts y))) (value_at (old e) (cell_path levels ts y)))
-              (tract_has levels ts kept.room x y of plant)
+    -- what a cell has after a put, by the paths of the estate
+    put_at : (e : Estate) → Everywhere (length ts) (λ a b. (p : List Quarter) → length p ≡ depth → value_at (plots new e a b) p
+        ≡ cond (pieces.has (ways e a b) p) (change e (value_at (plots old e a b) p)) (value_at (plots old e a b) p))
+    put_at e a b c d p long =
+        let k = done.put e a b c d in
+        rw (k.exchanged, k.made.1, k.split) (put_content (change e) (ways e a b) (plots old e a b) p (apart ts x i e a b)
+        (subst (Short (ways e a b)) (sym long) (short e a b)))
 
-      -- what a cell held before a put is what the image has of it, or what the cell still holds
-      before_put : (p : List Quarter) → length p ≡ height levels → (e : Estate)
-          → held_before e (image ∷ []) p (value_at (new e) p) ≡ value_at (old e) p
-      before_put p long e = go (lies_in e image p) refl
-        where
-          at : pieces.has (ways e) p ≡ lies_in e image p
-          at = ap (λ (z : List (List Quarter)). pieces.has z p) (sym ((put_paths (put e)).1))
+    -- the plant after a put
+    pub put_shows : (c : Cell) → content_of ts (plots new) c ≡ plant_effect depth ts i (content_of ts (plots old)) x c
+    unfolding plant_effect
+    put_shows c = content_changes ts x (plots old) (plots new) (λ y e. change e (now ts (plots old) y e)) value c
+        ∙ cond_same (is_cell_of depth ts x c) _ _ (content_of ts (plots old) c)
+        (λ h. sym (ap (done_or (content_of ts (plots old) c)) (cell_done c h)))
+        ∙ sym (ap (λ (o : Option _). cond (is_some o) (content_of ts (plots old) c)
+        (cond (is_cell_of depth ts x c) (done_or (content_of ts (plots old) c) (cell_effect i (content_of ts (plots old) c)))
+        (content_of ts (plots old) c))) refused_none)
+      where
+        value : (y : Cell) → is_plant_cell depth ts y ≡ true → (e : Estate) → now ts (plots new) y e
+            ≡ cond (has x y) (change e (now ts (plots old) y e)) (now ts (plots old) y e)
+        value y plant e = at_cell ts y (put_at e) plant (in_square y) (cell_ways_are_whole depth y.row y.column)
+            ∙ named_value i e (ways_in ts x (in_township ts y) (in_section y)) (in_square y) (now ts (plots old) y e)
+            ∙ ap (λ (b : Bool). cond b (change e (now ts (plots old) y e)) (now ts (plots old) y e)) (tract_has ts x y of plant)
 
-          go : (b : Bool) → lies_in e image p ≡ b → cond b (held (forests.pieces trees e) p) (value_at (new e) p) ≡ value_at (old e) p
-          go true h = ap (λ (z : List Piece). held z p) ((put e).image ∙ ap (λ (z : List Piece). taken z (quartered e)) (put e).made.1
-              ∙ ap (taken (fresh (change e) (ways e) (old e))) (put e).split)
-              ∙ put_held (change e) (ways e) (old e) p (apart e) (subst (Short (ways e)) (sym long) (short e)) (at ∙ h)
-          go false h = put_at e p long ∙ ap (λ (b : Bool). cond b (change e (value_at (old e) p)) (value_at (old e) p)) (at ∙ h)
+    -- what a cell held before a put is what the image has of it, or what the cell still holds
+    before_put : (e : Estate) → Everywhere (length ts) (λ a b. (p : List Quarter) → length p ≡ depth
+        → held_before e (image ∷ []) a b p (value_at (plots new e a b) p) ≡ value_at (plots old e a b) p)
+    before_put e a b c d p long = go (lies_in e image a b p) refl
+      where
+        k : IsPut i (ways_in ts x a b) e (plots old e a b) (plots done.mid e a b) (plots new e a b) (forests.pieces done.made e a b)
+            (forests.pieces trees e a b)
+        k = done.put e a b c d
 
-      -- the image of a put
-      pub put_takes : IsTaken n ts x (content_of levels ts old) (loans_of levels ts old lent) (loans_of levels ts new (lent ++ image ∷ []))
-      put_takes = record {
-        held = (loan_of levels ts new image []).held;
-        holds = λ c h. ap (λ (b : Bool). cond b (owners_before new (image ∷ []) (cell_path levels ts c)) opening_owners) h
-            ∙ owners_same (was levels ts new (image ∷ []) c) (λ e. value_at (old e) (cell_path levels ts c))
-            (before_put (cell_path levels ts c) (length-cell_path levels ts c))
-            ∙ sym (content_plant levels ts old c (and_parts (has x c) (is_plant_cell depth ts c) h).1);
-        above = λ b j. let m = among_lent levels ts old lent b j in
-            subst (λ (z : ℕ). z < n) (sym m.2) ((kept.keeps S).below (lending S m.0) (in_map (lending S) m.0 lent m.1));
-        last = loans_push levels ts old new lent image before_put;
-      }
+        at : pieces.has (ways e a b) p ≡ lies_in e image a b p
+        at = ap (λ (z : List (List Quarter)). pieces.has z p) (sym ((put_paths k).1))
+
+        go : (y : Bool) → lies_in e image a b p ≡ y
+            → cond y (held (forests.pieces trees e a b) p) (value_at (plots new e a b) p) ≡ value_at (plots old e a b) p
+        go true h = ap (λ (z : List Piece). held z p) (k.image ∙ ap (λ (z : List Piece). taken z (plots done.mid e a b)) k.made.1
+            ∙ ap (taken (fresh (change e) (ways e a b) (plots old e a b))) k.split)
+            ∙ put_held (change e) (ways e a b) (plots old e a b) p (apart ts x i e a b)
+            (subst (Short (ways e a b)) (sym long) (short e a b)) (at ∙ h)
+        go false h = put_at e a b c d p long
+            ∙ ap (λ (y : Bool). cond y (change e (value_at (plots old e a b) p)) (value_at (plots old e a b) p)) (at ∙ h)
+
+    -- the image of a put
+    pub put_takes : IsTaken n ts x (content_of ts (plots old)) (loans_of ts (plots old) lent) (loans_of ts (plots new) (lent ++ image ∷ []))
+    put_takes = record {
+      held = (loan_of ts (plots new) image []).held;
+      holds = λ c h.
+          let plant = (and_parts (has x c) (is_plant_cell depth ts c) h).1 in
+          ap (λ (b : Bool). cond b (owners (was ts (plots new) (image ∷ []) c)) opening_owners) h
+          ∙ owners_same (was ts (plots new) (image ∷ []) c) (now ts (plots old) c) (λ e.
+          at_cell ts c (before_put e) plant (in_square c) (cell_ways_are_whole depth c.row c.column))
+          ∙ sym (content_plant ts (plots old) c plant);
+      above = λ b j. let m = among_lent ts (plots old) lent b j in subst (λ (z : ℕ). z < n) (sym m.2) (below m.0 m.1);
+      last = loans_push ts (plots old) (plots new) lent image before_put;
+    }
 
 -- ---- a put that is refused
 
-first_same : (levels : ℕ) (ts : List Township) (i : Instrument ℕ) (ps : Estate → Plot) (cells : List Cell)
-    → ((c : Cell) → In c cells → is_plant_cell depth ts c ≡ true)
-    → first_failing i (content_of levels ts ps) cells ≡ first_in levels ts ps i cells
-first_same levels ts i ps [] f = refl
-first_same levels ts i ps (c ∷ cells) f = λ k.
-    failing_or c (cell_effect i (content_plant levels ts ps c (f c (inl refl)) k)) (first_same levels ts i ps cells (λ z j. f z (inr j)) k)
+first_same : (ts : List Township) (i : Instrument ℕ) (ps : Estate → ℕ → ℕ → Plot) (cells : List Cell)
+    → ((c : Cell) → In c cells → is_plant_cell depth ts c ≡ true) → first_failing i (content_of ts ps) cells ≡ first_in ts ps i cells
+first_same ts i ps [] f = refl
+first_same ts i ps (c ∷ cells) f = λ k.
+    failing_or c (cell_effect i (content_plant ts ps c (f c (inl refl)) k)) (first_same ts i ps cells (λ z j. f z (inr j)) k)
 
 triple_some : (o : Option Failing) (rule : Rule) (e : Estate) (c : Cell) → Some (rule, e, c) ≡ triple o
     → o ≡ Some (record { rule = rule; estate = e; cell = c })
@@ -239,11 +302,11 @@ triple_none None h = refl
 triple_none (Some f) h = absurd cc
 
 -- the first failing cell of a tract, as it was found
-pub found_failing : (levels : ℕ) (ts : List Township) (x : Land) (i : Instrument ℕ) (ps : Estate → Plot) (rule : Rule) (e : Estate)
-    (c : Cell) → Some (rule, e, c) ≡ triple (first_in levels ts ps i (cells_of depth ts x))
-    → first_failing i (content_of levels ts ps) (cells_of depth ts x) ≡ Some (record { rule = rule; estate = e; cell = c })
-found_failing levels ts x i ps rule e c h =
-    first_same levels ts i ps (cells_of depth ts x) (λ z j. (and_parts (has x z) (is_plant_cell depth ts z) (of_cells ts x z j)).1)
+pub found_failing : (ts : List Township) (x : Land) (i : Instrument ℕ) (ps : Estate → ℕ → ℕ → Plot) (rule : Rule) (e : Estate) (c : Cell)
+    → Some (rule, e, c) ≡ triple (first_in ts ps i (cells_of depth ts x))
+    → first_failing i (content_of ts ps) (cells_of depth ts x) ≡ Some (record { rule = rule; estate = e; cell = c })
+found_failing ts x i ps rule e c h =
+    first_same ts i ps (cells_of depth ts x) (λ z j. (and_parts (has x z) (is_plant_cell depth ts z) (of_cells ts x z j)).1)
     ∙ triple_some _ rule e c h
 
 -- where no cell fails none refuses
@@ -256,10 +319,7 @@ each_done : (i : Instrument ℕ) (p : Plant) (c : Cell) (cells : List Cell) → 
 each_done i p c [] h j = absurd j
 each_done i p c (z ∷ cells) h j =
     let k = none_fails z (cell_effect i (p z)) (first_failing i p cells) h in
-    elim j [
-      | inl e ↦ ap (λ (y : Cell). why_cell (cell_effect i (p y))) e ∙ k.0
-      | inr m ↦ each_done i p c cells k.1 m
-    ]
+    elim j [ inl e ↦ ap (λ (y : Cell). why_cell (cell_effect i (p y))) e ∙ k.0 | inr m ↦ each_done i p c cells k.1 m ]
 
 whys : (s o m : Result Division Rule) → why_cell (joined s o m) ≡ None → (why_of s ≡ None) × (why_of o ≡ None) × (why_of m ≡ None)
 whys (Ok s) (Ok o) (Ok m) h = (refl, refl, refl)
@@ -267,30 +327,31 @@ whys (Err r) o m h = absurd cc
 whys (Ok s) (Err r) m h = absurd cc
 whys (Ok s) (Ok o) (Err r) h = absurd cc
 
-why_at : (i : Instrument ℕ) (ps : Estate → Plot) (p : List Quarter) → why_cell (cell_effect i (owners_at ps p)) ≡ None → (e : Estate)
-    → why_of (holding_effect i e (value_at (ps e) p)) ≡ None
+why_at : (i : Instrument ℕ) (w : Estate → Division) → why_cell (cell_effect i (owners w)) ≡ None → (e : Estate)
+    → why_of (holding_effect i e (w e)) ≡ None
 unfolding cell_effect
-why_at i ps p h S = (whys _ _ _ h).0
-why_at i ps p h O = (whys _ _ _ h).1
-why_at i ps p h M = (whys _ _ _ h).2
+why_at i w h S = (whys _ _ _ h).0
+why_at i w h O = (whys _ _ _ h).1
+why_at i w h M = (whys _ _ _ h).2
 
 -- where a leaf refuses, a cell does
-pub some_cell_fails : {levels : ℕ} {ts : List Township} {ps : Estate → Plot} {lent : List Lent} {n : ℕ} → IsKept levels ts ps lent n
-    → (x : Land) (i : Instrument ℕ) → is_in_plant ts x ≡ true → (e : Estate) (rule : Rule)
-    → refusal_at (holding_effect i e) (named_spots i e (tract_spots levels ts x)) (ps e) ≡ Some rule
-    → None ≡ triple (first_in levels ts ps i (cells_of depth ts x)) → ⊥
-some_cell_fails {levels} {ts} {ps} kept x i of e rule refusal none =
-    let named = named_or (λ qs. refusal_at (holding_effect i e) qs (ps e) ≡ Some rule
-    → refusal_at (holding_effect i e) (tract_spots levels ts x) (ps e) ≡ Some rule) i e (tract_spots levels ts x) (λ h. h)
+pub some_cell_fails : {ts : List Township} {f : Forest} {lent : List Lent} {n : ℕ} → IsKept ts f lent n → IsEachOnce ts → (x : Land)
+    (i : Instrument ℕ) → is_in_plant ts x ≡ true → (e : Estate) (rule : Rule) (a b : ℕ) → a < length ts → b < 36
+    → refusal_at (holding_effect i e) (named_ways i e (ways_in ts x a b)) (plots f e a b) ≡ Some rule
+    → None ≡ triple (first_in ts (plots f) i (cells_of depth ts x)) → ⊥
+some_cell_fails {ts} {f} kept once x i of e rule a b l m refusal none =
+    let named = named_or (λ qs. refusal_at (holding_effect i e) qs (plots f e a b) ≡ Some rule
+    → refusal_at (holding_effect i e) (ways_in ts x a b) (plots f e a b) ≡ Some rule) i e (ways_in ts x a b) (λ h. h)
     (λ unnamed h. absurd cc) refusal in
-    let c = some_refuses_at (holding_effect i e) (height levels) (tract_spots levels ts x) (ps e) rule (kept.fit e)
-    (tract_short levels ts x of) named in
-    let y = tract_at levels ts x c.0 of c.2 c.1 in
-    let inside = sym (tract_has_at levels ts kept.room x c.0 y of) ∙ c.1 in
+    let c = some_refuses_at (holding_effect i e) depth (ways_in ts x a b) (plots f e a b) rule (kept.fit e a b l m) (tract_short ts x a b)
+    named in
+    let y = cell_at ts a b c.0 once l m c.2 in
+    let inside = sym (tract_has_at ts x a b c.0 y of) ∙ c.1 in
     let there = listed (cells_of depth ts x) y.cell
     (list_has_the_cells depth ts x y.cell ∙ and_from (has x y.cell) (is_plant_cell depth ts y.cell) inside y.plant) in
-    let ok = why_at i ps (cell_path levels ts y.cell)
-    (each_done i (λ z. owners_at ps (cell_path levels ts z)) y.cell (cells_of depth ts x) (triple_none _ none) there) e in
-    let bad = ap (λ (z : List Quarter). why_of (holding_effect i e (value_at (ps e) z))) y.path_is ∙ c.3 in
+    let ok = why_at i (now ts (plots f) y.cell)
+    (each_done i (λ z. owners (now ts (plots f) z)) y.cell (cells_of depth ts x) (triple_none _ none) there) e in
+    let bad : why_of (holding_effect i e (now ts (plots f) y.cell e)) ≡ Some rule =
+    (λ k. why_of (holding_effect i e (value_at (plots f e (y.township_is k) (y.section_is k)) (y.path_is k)))) ∙ c.3 in
     let clash : None ≡ Some rule = sym ok ∙ bad in
     absurd cc

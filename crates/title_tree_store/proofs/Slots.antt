@@ -14,10 +14,7 @@ pub numbered_push : (next : ℕ) (xs : List (Option Lent)) (l : Lent) → l.numb
     → IsNumbered (next + 1) (xs ++ Some l ∷ [])
 numbered_push next [] l e k = (omega (arith, e), tt)
 numbered_push next (None ∷ xs) l e k = numbered_push next xs l e k
-numbered_push next (Some x ∷ xs) l e k =
-    let f = length-append xs (Some l ∷ []) in
-    let g = k.0 in
-    (omega (arith, f, g), numbered_push next xs l e k.1)
+numbered_push next (Some x ∷ xs) l e k = (omega (arith, length-append xs (Some l ∷ []), k.0), numbered_push next xs l e k.1)
 
 pub numbered_empty : (next i : ℕ) (xs : List (Option Lent)) → IsNumbered next xs → IsNumbered next (set xs i None)
 numbered_empty next i [] k = k
@@ -31,27 +28,22 @@ pub numbered_below : (next : ℕ) (xs : List (Option Lent)) (l : Lent) → IsNum
     → (l.number < next) × (next ≤ l.number + length xs)
 numbered_below next [] l k i = absurd i
 numbered_below next (None ∷ xs) l k i =
-    let m = numbered_below next xs l k i in
-    let a = m.1 in
-    (m.0, omega (arith, a))
+    let m = numbered_below next xs l k i in (m.0, omega (arith, m.1))
 numbered_below next (Some x ∷ xs) l k i = elim i [
-  | inl e ↦ (let f = ap (λ (z : Lent). z.number) e in let g = k.0 in (omega (arith, f, g), omega (arith, f, g)))
-  | inr j ↦ (let m = numbered_below next xs l k.1 j in let a = m.1 in (m.0, omega (arith, a)))
+  | inl e ↦ (let f = ap (λ (z : Lent). z.number) e in (omega (arith, f, k.0), omega (arith, f, k.0)))
+  | inr j ↦ (let m = numbered_below next xs l k.1 j in (m.0, omega (arith, m.1)))
 ]
 
 pub absent_above : (next n : ℕ) (xs : List (Option Lent)) → IsNumbered next xs → next ≤ n → IsAbsent n (filled xs)
-absent_above next n xs k h l i e = let m = numbered_below next xs l k i in let a = m.0 in omega (arith, h, e, a)
+absent_above next n xs k h l i e = omega (arith, h, e, (numbered_below next xs l k i).0)
 
 pub absent_below : (next n : ℕ) (xs : List (Option Lent)) → IsNumbered next xs → n + length xs < next → IsAbsent n (filled xs)
-absent_below next n xs k h l i e = let m = numbered_below next xs l k i in let a = m.1 in omega (arith, h, e, a)
+absent_below next n xs k h l i e = omega (arith, h, e, (numbered_below next xs l k i).1)
 
 after_one : (n : ℕ) (l : Lent) (old new : List Lent) (o : Option Lent) → l.number ≢ n
     → MatchOption o (IsAbsent n old) (λ x. IsTakenOut n x old new)
     → MatchOption o (IsAbsent n (l ∷ old)) (λ x. IsTakenOut n x (l ∷ old) (l ∷ new))
-after_one n l old new None h out = λ x i e. elim i [
-  | inl same ↦ h (ap (λ (z : Lent). z.number) (sym same) ∙ e)
-  | inr j ↦ out x j e
-]
+after_one n l old new None h out = λ x i e. elim i [ inl same ↦ h (ap (λ (z : Lent). z.number) (sym same) ∙ e) | inr j ↦ out x j e ]
 after_one n l old new (Some x) h out = record {
   number_is = out.number_is;
   before = l ∷ out.before;
@@ -66,19 +58,12 @@ pub taken_at : (next n i : ℕ) (xs : List (Option Lent)) (o : Option Lent) → 
 taken_at next n i [] o h f k e = absurd (omega (arith, h))
 taken_at next n zero (None ∷ xs) o h f k e =
     subst (λ (z : Option Lent). MatchOption z (IsAbsent n (filled xs)) (λ l. IsTakenOut n l (filled xs) (filled xs))) (sym e)
-    (λ l i same. let m = numbered_below next xs l k i in let a = m.1 in omega (arith, f, same, a))
+    (λ l i same. omega (arith, f, same, (numbered_below next xs l k i).1))
 taken_at next n zero (Some x ∷ xs) o h f k e =
     subst (λ (z : Option Lent). MatchOption z (IsAbsent n (x ∷ filled xs)) (λ l. IsTakenOut n l (x ∷ filled xs) (filled xs))) (sym e)
-    record {
-      number_is = (let a = k.0 in omega (arith, f, a));
-      before = [];
-      later = filled xs;
-      old_is = refl;
-      new_is = refl;
-    }
+    record { number_is = omega (arith, f, k.0); before = []; later = filled xs; old_is = refl; new_is = refl }
 taken_at next n (suc i) (None ∷ xs) o h f k e = taken_at next n i xs o (omega (arith, h)) (omega (arith, f)) k e
-taken_at next n (suc i) (Some x ∷ xs) o h f k e =
-    after_one n x (filled xs) (filled (set xs i None)) o (λ same. let a = k.0 in omega (arith, f, a, same))
+taken_at next n (suc i) (Some x ∷ xs) o h f k e = after_one n x (filled xs) (filled (set xs i None)) o (λ same. omega (arith, f, k.0, same))
     (taken_at next n i xs o (omega (arith, h)) (omega (arith, f)) k.1 e)
 
 -- without an empty slot at the front

@@ -1,58 +1,71 @@
 -- Steps of the code, and what a put wrote: it is noted for the estates that its instrument names.
-use Rattle.std.proofs.Common.{◌≡◌, ◌∙◌, ap, sym, subst, refl, ℕ, false, cond, inl, List, [], ◌∷◌, ◌++◌, map, Result, Ok, Err, OnOk, OnErr}
-use Rattle.std.proofs.lemmas.{List.{map-append}, Bool.{cond_both}}
+use Rattle.std.proofs.Common.{◌≡◌, ◌∙◌, ap, sym, subst, refl, ℕ, Bool, true, false, ◌&&◌, ◌||◌, cond, inl, inr, List, [], ◌∷◌, ◌++◌, map}
+use Rattle.std.{proofs.Common.{Result, Ok, Err, OnOk, OnErr}, specs.List.{list_any}}
+use Rattle.std.proofs.lemmas.{List.{map-append, Folds.{list_any-append}, Elements.{All-push}}, Bool.{cond_both}}
 use Rattle.title_land.specs.{declared.rectangle.Quarter.{Quarter}, Laws.Members.{in_left, in_right}}
-use Rattle.title_instrument.specs.{declared.{parts.Estate.{Estate}, instrument.Instrument.{Instrument}}, Estates.{names}}
-use Rattle.title_instrument.specs.Parties.{estates_of}
-use Rattle.title_tree.specs.{Plots.{Plot, plot_at, fits}, Pieces.{split_all, Refines, StaysWithin, StaysElsewhere}, Joining.{ApartFromAll}}
+use Rattle.title_instrument.specs.declared.{parts.Estate.{Estate}, instrument.Instrument.{Instrument}}
+use Rattle.title_instrument.specs.{Estates.{names}, Parties.{estates_of}}
+use Rattle.title_tree.specs.{Plots.{Plot, fits}, Pieces.{Apart, split_all, Refines, StaysWithin, StaysElsewhere}, Joining.{ApartFromAll}}
 use Rattle.title_tree.specs.Laws.{Depths.{split_all_fits}, Swaps.{split_all_reaches}, Joined.{elsewhere_split_all}}
-use Rattle.title_tree_store.specs.{declared.forest.Written.{Written}, Spots.{paths_in}, Forests.{put_ways, named_spots}}
+use Rattle.title_tree_store.specs.declared.{forest.{Written.{Written}, Forest.{Forest}}, spots.Home.{Home}}
+use Rattle.title_tree_store.specs.{Spots.{ways_at, reaches, IsHome}, Forests.{put_ways, named_ways, written, was_written}}
+use Rattle.title_tree_store.specs.Forests.{HasNote, IsNoted, AreHomes}
 
--- what was quartered, whole or in part, has the same cells and all nodes
-pub split_refines : {A E : Type 0} (r : Result A E) (ps : List (List Quarter)) (t u : Plot) → OnOk r (u ≡ split_all ps t)
-    → OnErr r (Refines t u) → Refines t u
-split_refines (Ok x) ps t u ok err = subst (Refines t) (sym ok) (split_all_reaches ps t).1
-split_refines (Err f) ps t u ok err = err
+-- what was quartered, whole or in part, has the same cells and all nodes, goes no deeper, and stays where the paths don't lead
+abbrev pub Stays : List (List Quarter) → Plot → Plot → Type 0
+Stays ps t u = Refines t u × StaysWithin ps t u × StaysElsewhere ps t u
 
--- and goes no deeper
-pub split_within : {A E : Type 0} (r : Result A E) (ps : List (List Quarter)) (t u : Plot) → OnOk r (u ≡ split_all ps t)
-    → OnErr r (StaysWithin ps t u) → StaysWithin ps t u
-split_within (Ok x) ps t u ok err n s k = ap (fits n) ok ∙ split_all_fits ps t n s k
-split_within (Err f) ps t u ok err n s k = err n s k
-
--- and stays where the paths don't lead
-pub split_elsewhere : {A E : Type 0} (r : Result A E) (ps : List (List Quarter)) (t u : Plot) → OnOk r (u ≡ split_all ps t)
-    → OnErr r (StaysElsewhere ps t u) → StaysElsewhere ps t u
-split_elsewhere (Ok x) ps t u ok err = subst (StaysElsewhere ps t) (sym ok) (elsewhere_split_all ps t)
-split_elsewhere (Err f) ps t u ok err = err
+pub split_stays : {A E : Type 0} (r : Result A E) (ps : List (List Quarter)) (t u : Plot) → OnOk r (u ≡ split_all ps t)
+    → OnErr r (Refines t u) → OnErr r (StaysWithin ps t u) → OnErr r (StaysElsewhere ps t u) → Stays ps t u
+split_stays (Ok x) ps t u ok _ _ _ = (
+  subst (Refines t) (sym ok) (split_all_reaches ps t).1,
+  λ n s k. ap (fits n) ok ∙ split_all_fits ps t n s k,
+  subst (StaysElsewhere ps t) (sym ok) (elsewhere_split_all ps t),
+)
+split_stays (Err f) ps t u ok refines within elsewhere = (refines, within, elsewhere)
 
 -- what holds anyway holds after a refusal
 pub on_err : {A E : Type 0} (r : Result A E) (P : Type 0) → P → OnErr r P
 on_err (Ok x) P p = tt
 on_err (Err f) P p = p
 
--- what holds anyway holds where all went well
-pub on_ok : {A E : Type 0} (r : Result A E) (P : Type 0) → P → OnOk r P
-on_ok (Ok x) P p = p
-on_ok (Err f) P p = tt
-
 -- the paths of an estate, by whether it is named
 pub named_or : (P : List (List Quarter) → Type 0) (i : Instrument ℕ) (e : Estate) (ps : List (List Quarter)) → P ps
-    → (names (estates_of i) e ≡ false → P []) → P (named_spots i e ps)
+    → (names (estates_of i) e ≡ false → P []) → P (named_ways i e ps)
 named_or P i e ps whole none = cond_both (names (estates_of i) e) ps [] P (λ h. whole) none
 
-pub put_noted : (i : Instrument ℕ) (old between new : List Written) (w : Written) → between ≡ old → new ≡ between ++ w ∷ [] → w.estates
-    ≡ estates_of i → (e : Estate) → map (put_ways e) new ≡ map (put_ways e) old ++ named_spots i e (paths_in w.paths) ∷ []
-put_noted i old between new w same h named e = ap (map (put_ways e)) h ∙ map-append (put_ways e) between (w ∷ [])
-    ∙ (λ j. map (put_ways e) (same j) ++ cond (names (named j) e) (paths_in w.paths) [] ∷ [])
+-- a note adds its paths in each section
+pub ways_noted : {x : Instrument ℕ} {h : Home} {ps : List (List Quarter)} {old new : Forest} → HasNote x h ps old new → (e : Estate)
+    (i j : ℕ) → written e i j new ≡ written e i j old ++ named_ways x e (ways_at h ps i j) ∷ []
+ways_noted {old} note e i j = ap (map (put_ways e i j)) note.pushed ∙ map-append (put_ways e i j) old.written.items (note.last ∷ [])
+    ∙ (λ k. written e i j old ++ cond (names (note.estates k) e) (ways_at (note.home k) (note.ways k) i j) [] ∷ [])
 
--- what is apart from all lists of paths and from one more
-pub apart_pushed : (q : List Quarter) (old : List (List (List Quarter))) (ps : List (List Quarter)) → ApartFromAll q (old ++ ps ∷ [])
-    → ApartFromAll q old × ApartFromAll q (ps ∷ [])
-apart_pushed q old ps a = (λ x i. a x (in_left x old (ps ∷ []) i), λ x i. a x (in_right x old (ps ∷ []) i))
+or_none : (b : Bool) → (b || false) ≡ b
+or_none true = refl
+or_none false = refl
 
--- where one more list of paths is noted, and what is apart from it stays
-pub apart_noted : (q : List Quarter) (old new : List (List (List Quarter))) (ps : List (List Quarter)) (t u : Plot)
-    → new ≡ old ++ ps ∷ [] → StaysElsewhere ps t u → ApartFromAll q new → ApartFromAll q old × (plot_at q u ≡ plot_at q t)
-apart_noted q old new ps t u h stays a =
-    let b = apart_pushed q old ps (subst (ApartFromAll q) h a) in (b.0, stays q (b.1 ps (inl refl)))
+-- and to the townships that were written
+pub was_noted : {x : Instrument ℕ} {h : Home} {ps : List (List Quarter)} {old new : Forest} → HasNote x h ps old new → (e : Estate)
+    (i : ℕ) → was_written e i new ≡ (was_written e i old || (names (estates_of x) e && reaches h i))
+was_noted {x} {h} {old} note e i = ap (list_any (λ (w : Written). names w.estates e && reaches w.home i)) note.pushed
+    ∙ list_any-append (λ (w : Written). names w.estates e && reaches w.home i) old.written.items (note.last ∷ [])
+    ∙ (λ k. was_written e i old || ((names (note.estates k) e && reaches (note.home k) i) || false))
+    ∙ ap (λ (b : Bool). was_written e i old || b) (or_none (names (estates_of x) e && reaches h i))
+
+-- notes of townships and sections that there are
+pub homes_noted : {x : Instrument ℕ} {h : Home} {ps : List (List Quarter)} {old new : Forest} (count : ℕ) → IsNoted x h ps old new
+    → IsHome count h → AreHomes count old.written.items → AreHomes count new.written.items
+homes_noted {old} count noted there all = elim noted [
+  | inl note ↦ subst (AreHomes count) (sym note.pushed) (All-push (λ (w : Written). IsHome count w.home) old.written.items note.last all
+      (subst (IsHome count) (sym note.home) there))
+  | inr same ↦ subst (AreHomes count) (sym same.noted) all
+]
+
+-- what is apart from all that is written now was so before, and is apart from what the note adds
+pub apart_noted : {x : Instrument ℕ} {h : Home} {ps : List (List Quarter)} {old new : Forest} → HasNote x h ps old new → (e : Estate)
+    (i j : ℕ) (q : List Quarter) → ApartFromAll q (written e i j new)
+    → ApartFromAll q (written e i j old) × Apart q (named_ways x e (ways_at h ps i j))
+apart_noted {x} {h} {ps} {old} note e i j q away =
+    let own = named_ways x e (ways_at h ps i j) in
+    let all = subst (ApartFromAll q) (ways_noted note e i j) away in
+    (λ p k. all p (in_left p (written e i j old) (own ∷ []) k), all own (in_right own (written e i j old) (own ∷ []) (inl refl)))

@@ -1,12 +1,17 @@
 -- The trees of a plant as plots, by estate.
-use Rattle.std.specs.Prelude.{◌≡◌, ℕ, Bool, ◌&&◌, List, [], ◌∷◌, ◌++◌, ◌⊎◌, cond, None, map}
+use Rattle.std.specs.Prelude.{◌≡◌, ℕ, Bool, true, false, not, ◌&&◌, ◌||◌, ◌==◌, List, [], ◌∷◌, ◌++◌, ◌⊎◌, cond, Option, None, length, map}
+use Rattle.std.specs.{Prelude.{All}, List.{list_any, list_all}}
 use Rattle.title_land.specs.declared.rectangle.Quarter.{Quarter}
 use Rattle.title_instrument.specs.declared.{parts.{Estate.{Estate, TheVariants.{S, O, M}}, Rule.{Rule}}, instrument.Instrument.{Instrument}}
 use Rattle.title_instrument.specs.{declared.owners.Owners.{Owners}, Effect.{holding_effect}, Estates.{names}, Parties.{estates_of}}
-use Rattle.title_tree.specs.{declared.change.Fault.{Fault}, Changes.{after}, Faults.{Tells}, Joining.{ApartFromAll}, Parts.{piece}}
-use Rattle.title_tree.specs.{Plots.{Plot, value_at, plot_at, is_tidy, tidied_all}, Pieces.{Piece, fresh, refusal_at}, Trees.{plot}}
-use Rattle.title_tree_store.specs.declared.forest.{Forest.{Forest}, Subtrees.{Subtrees}, Parts.{Parts, TheVariants.{Nothing, One, Many}}}
-use Rattle.title_tree_store.specs.{declared.forest.Written.{Written}, Spots.{paths_in}}
+use Rattle.title_tree.specs.{Changes.{after}, Plots.{Plot, value_at}, Parts.{piece}}
+use Rattle.title_tree.specs.Pieces.{Piece, fresh, refusal_at, split_all, swapped, taken}
+use Rattle.title_tree_store.specs.declared.{forest.{Forest.{Forest}, Subtrees.{Subtrees}}, ground.Ground.{Ground}, spots.Home.{Home}}
+use Rattle.title_tree_store.specs.declared.forest.{Parts.{Parts}, Written.{Written}}
+use Rattle.title_tree_store.specs.Grounds.{stands, is_parted, ground_tidy, plot_in, parted_in, closable_in, Everywhere, AreSplit}
+use Rattle.title_tree_store.specs.Spots.{paths_in, ways_at, is_everything, is_township, is_in_township, reaches, IsHome}
+use Rattle.title_tree_store.specs.declared.forest.Parts.TheVariants as parts
+use Rattle.title_tree_store.specs.declared.spots.Home.TheVariants as home
 
 -- a fact of each estate
 pub record Each (P : Estate → Type 0) : Type 0 where
@@ -14,63 +19,152 @@ pub record Each (P : Estate → Type 0) : Type 0 where
   pub o : P O
   pub m : P M
 
--- the plot of each estate
-abbrev pub plots : Forest → Estate → Plot
-plots f S = plot f.s
-plots f O = plot f.o
-plots f M = plot f.m
+-- the townships of each estate
+abbrev pub grounds : Forest → Estate → List Ground
+grounds f S = f.s.items
+grounds f O = f.o.items
+grounds f M = f.m.items
 
--- the paths at which a put wrote an estate
-abbrev pub put_ways : Estate → Written → List (List Quarter)
-put_ways e w = cond (names w.estates e) (paths_in w.paths) []
+-- what stands in each section of an estate: the index of its township, and its own from 0
+abbrev pub plots : Forest → Estate → ℕ → ℕ → Plot
+plots f e = plot_in (grounds f e)
 
--- the paths at which an estate was written since a forest was last tidied, put by put
-abbrev pub written : Estate → Forest → List (List (List Quarter))
-written e f = map (put_ways e) f.written.items
+-- the paths at which a put wrote a section of an estate
+abbrev pub put_ways : Estate → ℕ → ℕ → Written → List (List Quarter)
+put_ways e i j w = cond (names w.estates e) (ways_at w.home (paths_in w.paths) i j) []
 
--- no four quarters of an estate's tree are leaves that have the same division
+-- the paths at which a section was written since a forest was last tidied, put by put
+abbrev pub written : Estate → ℕ → ℕ → Forest → List (List (List Quarter))
+written e i j f = map (put_ways e i j) f.written.items
+
+-- something of a township was written since then
+abbrev pub was_written : Estate → ℕ → Forest → Bool
+was_written e i f = list_any (λ w. names w.estates e && reaches w.home i) f.written.items
+
+-- no four quarters of an estate's trees, and no 36 sections, are leaves that have the same division
 abbrev pub are_joined : Forest → Bool
-are_joined f = is_tidy (plots f S) && is_tidy (plots f O) && is_tidy (plots f M)
+are_joined f = list_all ground_tidy f.s.items && (list_all ground_tidy f.o.items && list_all ground_tidy f.m.items)
 
--- what is apart from all paths that are written now was so before, and is as it was
-abbrev pub StaysApart : Forest → Forest → Type 0
-StaysApart old new = (e : Estate) (q : List Quarter) → ApartFromAll q (written e new)
-    → ApartFromAll q (written e old) × (plot_at q (plots new e) ≡ plot_at q (plots old e))
+-- a whole section's plot as a piece of it
+abbrev pub whole : Plot → Piece
+whole t = record { path = []; plot = t }
 
--- tidied at the paths of each put in turn
-abbrev pub tidied_written : List (List (List Quarter)) → Plot → Plot
-tidied_written [] t = t
-tidied_written (ps ∷ puts) t = tidied_written puts (tidied_all ps t)
+-- the pieces of a section that is known
+abbrev pub squares_in : Parts → List Piece
+squares_in (parts.One part) = piece part ∷ []
+squares_in (parts.Many many) = map piece many.items
+squares_in _ = []
 
-abbrev pub parts_in : Parts → List Piece
-parts_in Nothing = []
-parts_in (One part) = piece part ∷ []
-parts_in (Many parts) = map piece parts.items
+-- those of a section of a township that is known
+abbrev pub sections_in : Parts → ℕ → List Piece
+sections_in (parts.Township g) j = whole (stands g j) ∷ []
+sections_in _ j = []
+
+-- those of a section of a plant
+abbrev pub townships_in : Parts → ℕ → ℕ → List Piece
+townships_in (parts.Plant gs) i j = whole (plot_in gs.items i j) ∷ []
+townships_in _ i j = []
+
+-- the pieces of a section among parts that lie somewhere
+abbrev pub parts_at : Home → Parts → ℕ → ℕ → List Piece
+parts_at home.Everything x i j = townships_in x i j
+parts_at (home.Township t) x i j = cond (t == i) (sections_in x j) []
+parts_at (home.Section t n) x i j = cond (t == i && n == j) (squares_in x) []
+
+-- they are parts of a section, or nothing
+abbrev pub are_squares : Parts → Bool
+are_squares (parts.Township g) = false
+are_squares (parts.Plant gs) = false
+are_squares _ = true
 
 -- the parts of each estate
-abbrev pub pieces : Subtrees → Estate → List Piece
-pieces x S = parts_in x.s
-pieces x O = parts_in x.o
-pieces x M = parts_in x.m
+abbrev pub parts_of : Subtrees → Estate → Parts
+parts_of x S = x.s
+parts_of x O = x.o
+parts_of x M = x.m
 
--- the owners of the cell at a path
-abbrev pub owners_at : (Estate → Plot) → List Quarter → Owners
-owners_at ps c = record { s = value_at (ps S) c; o = value_at (ps O) c; m = value_at (ps M) c }
+abbrev pub pieces : Subtrees → Estate → ℕ → ℕ → List Piece
+pieces x e = parts_at x.home (parts_of x e)
+
+-- there are parts
+abbrev pub is_some_part : Parts → Bool
+is_some_part parts.Nothing = false
+is_some_part _ = true
+
+-- parts of squares want a township whose sections have trees of their own
+abbrev pub wants : Home → Parts → ℕ → Bool
+wants h (parts.One part) i = is_in_township h i
+wants h (parts.Many many) i = is_in_township h i
+wants h _ i = false
+
+-- after they have changed places with what stands there, a township that was so is so
+abbrev pub brings : Home → Parts → ℕ → Bool
+brings h (parts.Township g) i = not (is_township h i) || is_parted g
+brings h (parts.Plant gs) i = not (is_everything h) || parted_in gs.items i
+brings h _ i = true
+
+-- there are as many townships in them as there are
+abbrev pub AreAll : ℕ → Parts → Type 0
+AreAll count (parts.Plant gs) = length gs.items ≡ count
+AreAll count _ = Unit {0}
+
+-- an estate's parts that changed places with what stood where they lie
+pub record IsExchanged (e : Estate) (x y : Subtrees) (old new : Forest) : Type 0 where
+  pub sized : length (grounds new e) ≡ length (grounds old e)
+  pub all : AreAll (length (grounds old e)) (parts_of y e)
+  pub trees : Everywhere (length (grounds old e)) (λ i j. plots new e i j ≡ swapped (pieces x e i j) (plots old e i j))
+  pub parts : Everywhere (length (grounds old e)) (λ i j. pieces y e i j ≡ taken (pieces x e i j) (plots old e i j))
+  pub parted : (i : ℕ) → parted_in (grounds old e) i ≡ true → brings x.home (parts_of x e) i ≡ true → parted_in (grounds new e) i ≡ true
+  pub back : (i : ℕ) → parted_in (grounds old e) i ≡ true → brings y.home (parts_of y e) i ≡ true
+  pub wanted : (i : ℕ) → wants y.home (parts_of y e) i ≡ wants x.home (parts_of x e) i
+  pub elsewhere : (i : ℕ) → (is_some_part (parts_of x e) && reaches x.home i) ≡ false
+      → closable_in (grounds new e) i ≡ closable_in (grounds old e) i
+  pub some : is_some_part (parts_of y e) ≡ is_some_part (parts_of x e)
+
+-- the division of each estate at a path of a section
+abbrev pub owners_at : (Estate → ℕ → ℕ → Plot) → ℕ → ℕ → List Quarter → Owners
+owners_at ps i j c = record { s = value_at (ps S i j) c; o = value_at (ps O i j) c; m = value_at (ps M i j) c }
 
 -- the paths, where the instrument names the estate
-abbrev pub named_spots : Instrument ℕ → Estate → List (List Quarter) → List (List Quarter)
-named_spots i e ps = cond (names (estates_of i) e) ps []
+abbrev pub named_ways : Instrument ℕ → Estate → List (List Quarter) → List (List Quarter)
+named_ways i e ps = cond (names (estates_of i) e) ps []
 
--- the paths are kept as those of the last put, for the estates that the instrument names, or no tree changed
-abbrev pub IsNoted : Instrument ℕ → List (List Quarter) → Forest → Forest → Type 0
-IsNoted i ps old new =
-    ((e : Estate) → written e new ≡ written e old ++ named_spots i e ps ∷ []) ⊎ ((e : Estate) → plots new e ≡ plots old e)
+-- why the first leaf at the paths that refuses the instrument refuses it, where it names the estate
+abbrev pub refusal_in : Instrument ℕ → Estate → List (List Quarter) → Plot → Option Rule
+refusal_in i e ps t = refusal_at (holding_effect i e) (named_ways i e ps) t
 
--- no leaf at the paths refuses the instrument, where it names the estate, and these are the parts after it
+-- none does, and these are the parts after it
 abbrev pub IsChange : Instrument ℕ → Estate → List (List Quarter) → Plot → List Piece → Type 0
-IsChange i e ps t xs = (refusal_at (holding_effect i e) (named_spots i e ps) t ≡ None)
-    × (xs ≡ fresh (after (holding_effect i e)) (named_spots i e ps) t)
+IsChange i e ps t xs = (refusal_in i e ps t ≡ None) × (xs ≡ fresh (after (holding_effect i e)) (named_ways i e ps) t)
 
--- a fault tells the rule by which the first leaf that refuses the instrument refuses it
-abbrev pub IsRefusedIn : Instrument ℕ → Estate → List (List Quarter) → Plot → Fault Rule → Type 0
-IsRefusedIn i e ps t f = Tells f (refusal_at (holding_effect i e) (named_spots i e ps) t)
+-- each put was one of townships and sections that there are
+abbrev pub AreHomes : ℕ → List Written → Type 0
+AreHomes count ws = All (λ w. IsHome count w.home) ws
+
+-- quartered down to the paths of a place, in whole or in part, in the estates that an instrument names
+pub record IsQuartered (x : Instrument ℕ) (h : Home) (ps : List (List Quarter)) (old new : Forest) : Type 0 where
+  pub split : Each (λ e. AreSplit (ways_at h ps) (λ i j. named_ways x e (ways_at h ps i j)) (λ i. names (estates_of x) e && reaches h i)
+      (grounds old e) (grounds new e))
+
+-- down to all of them, so that sections of which a square is named have trees of their own
+pub record IsQuarteredWhole (x : Instrument ℕ) (h : Home) (ps : List (List Quarter)) (old new : Forest) : Type 0 where
+  pub split : (e : Estate) → Everywhere (length (grounds old e)) (λ i j. plots new e i j
+      ≡ split_all (named_ways x e (ways_at h ps i j)) (plots old e i j))
+  pub wanted : (e : Estate) (i : ℕ) → (names (estates_of x) e && is_in_township h i) ≡ true → parted_in (grounds new e) i ≡ true
+
+-- the paths are kept as those of the last put, for the estates that the instrument names
+pub record HasNote (x : Instrument ℕ) (h : Home) (ps : List (List Quarter)) (old new : Forest) : Type 0 where
+  pub last : Written
+  pub pushed : new.written.items ≡ old.written.items ++ last ∷ []
+  pub home : last.home ≡ h
+  pub ways : paths_in last.paths ≡ ps
+  pub estates : last.estates ≡ estates_of x
+
+-- nothing changed
+pub record IsLeft (old new : Forest) : Type 0 where
+  pub townships : Each (λ e. grounds new e ≡ grounds old e)
+  pub noted : new.written.items ≡ old.written.items
+
+-- they are, or nothing changed
+abbrev pub IsNoted : Instrument ℕ → Home → List (List Quarter) → Forest → Forest → Type 0
+IsNoted x h ps old new = HasNote x h ps old new ⊎ IsLeft old new

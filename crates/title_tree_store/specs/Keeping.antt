@@ -1,57 +1,56 @@
 -- What a store of trees keeps.
-use Rattle.std.specs.Prelude.{◌≡◌, ◌≢◌, ℕ, ◌+◌, ◌<◌, ◌≤◌, ◌^◌, Bool, true, false, ◌&&◌, ◌||◌, cond, List, [], ◌∷◌, ◌++◌, length, map}
+use Rattle.std.specs.Prelude.{◌≡◌, ◌≢◌, ℕ, ◌+◌, ◌-◌, ◌<◌, Bool, true, false, ◌&&◌, ◌||◌, cond, List, [], ◌∷◌, ◌++◌, length, map}
 use Rattle.title_land.specs.{Depth.{depth}, declared.{survey.Township.{Township}, rectangle.Quarter.{Quarter}}, Nodes.{same_path}}
 use Rattle.title_land.specs.{Lands.{is_in_plant, is_plant_cell}, Laws.Members.{In}}
 use Rattle.title_share.specs.Division.{Division}
 use Rattle.title_instrument.specs.{declared.{parts.Estate.{Estate, TheVariants.{S, O, M}}, owners.Owners.{Owners}}, Owners.{opening_owners}}
 use Rattle.title_store.specs.{Plants.{Plant, is_cell_of}, Loans.{Loan}}
 use Rattle.title_tree.specs.{Plots.{Plot, value_at, fits}, Pieces.{Piece, Apart, paths, has, held}, Lendings.{Lending, Keeps}}
-use Rattle.title_tree.specs.Joining.{ApartFromAll, JoinedBut}
-use Rattle.title_tree_store.specs.{declared.{lent.Lent.{Lent}, forest.Forest.{Forest}}, Spots.{cell_path, tract_spots}}
-use Rattle.title_tree_store.specs.Forests.{plots, pieces, written, owners_at}
-
--- the levels of a tree from the root down to a cell, where townships lie so many levels below the root
-abbrev pub height : ℕ → ℕ
-height levels = levels + (3 + depth)
+use Rattle.title_tree.specs.{CellWays.{cell_way}, Joining.{ApartFromAll, JoinedBut}}
+use Rattle.title_tree_store.specs.{declared.{lent.Lent.{Lent}, forest.Forest.{Forest}}, Spots.{index_of, home_in, ways_in, reaches}}
+use Rattle.title_tree_store.specs.Forests.{grounds, plots, parts_of, pieces, written, was_written, owners_at, wants, brings, is_some_part}
+use Rattle.title_tree_store.specs.{Forests.{AreAll}, Grounds.{parted_in, closable_in, Everywhere}}
 
 -- what a forest has at each cell of the plant
-abbrev pub content_of : ℕ → List Township → (Estate → Plot) → Plant
-content_of levels ts ps c = cond (is_plant_cell depth ts c) (owners_at ps (cell_path levels ts c)) opening_owners
+abbrev pub content_of : List Township → (Estate → ℕ → ℕ → Plot) → Plant
+content_of ts ps c = cond (is_plant_cell depth ts c)
+    (owners_at ps (index_of ts c.section.township) (c.section.number - 1) (cell_way depth c.row c.column)) opening_owners
 
--- a part of the image has the cell at a path
-abbrev pub lies_in : Estate → Lent → List Quarter → Bool
-lies_in e l p = has (paths (pieces l.trees e)) p
+-- a part of the image has the cell at a path of a section
+abbrev pub lies_in : Estate → Lent → ℕ → ℕ → List Quarter → Bool
+lies_in e l i j p = has (paths (pieces l.trees e i j)) p
 
 -- what a cell held of an estate before the first of some images that has it; what it holds now, where none has
-abbrev pub held_before : Estate → List Lent → List Quarter → Division → Division
-held_before e [] p now = now
-held_before e (l ∷ later) p now = cond (lies_in e l p) (held (pieces l.trees e) p) (held_before e later p now)
+abbrev pub held_before : Estate → List Lent → ℕ → ℕ → List Quarter → Division → Division
+held_before e [] i j p now = now
+held_before e (l ∷ later) i j p now = cond (lies_in e l i j p) (held (pieces l.trees e i j) p) (held_before e later i j p now)
 
 -- the owners that a cell had before them
-abbrev pub owners_before : (Estate → Plot) → List Lent → List Quarter → Owners
-owners_before ps lent p = record {
-  s = held_before S lent p (value_at (ps S) p);
-  o = held_before O lent p (value_at (ps O) p);
-  m = held_before M lent p (value_at (ps M) p);
+abbrev pub owners_before : (Estate → ℕ → ℕ → Plot) → List Lent → ℕ → ℕ → List Quarter → Owners
+owners_before ps lent i j p = record {
+  s = held_before S lent i j p (value_at (ps S i j) p);
+  o = held_before O lent i j p (value_at (ps O i j) p);
+  m = held_before M lent i j p (value_at (ps M i j) p);
 }
 
 -- an image that is out, with those that went out after it, as a loan: what an estate held that it has no parts of is read off
 -- the later ones and the trees
-abbrev pub loan_of : ℕ → List Township → (Estate → Plot) → Lent → List Lent → Loan
-loan_of levels ts ps l later = record {
+abbrev pub loan_of : List Township → (Estate → ℕ → ℕ → Plot) → Lent → List Lent → Loan
+loan_of ts ps l later = record {
   number = l.number;
   land = l.land;
-  held = λ c. cond (is_cell_of depth ts l.land c) (owners_before ps (l ∷ later) (cell_path levels ts c)) opening_owners;
+  held = λ c. cond (is_cell_of depth ts l.land c) (owners_before ps (l ∷ later) (index_of ts c.section.township) (c.section.number - 1)
+      (cell_way depth c.row c.column)) opening_owners;
 }
 
 -- the images that are out, as loans
-abbrev pub loans_of : ℕ → List Township → (Estate → Plot) → List Lent → List Loan
-loans_of levels ts ps [] = []
-loans_of levels ts ps (l ∷ lent) = loan_of levels ts ps l lent ∷ loans_of levels ts ps lent
+abbrev pub loans_of : List Township → (Estate → ℕ → ℕ → Plot) → List Lent → List Loan
+loans_of ts ps [] = []
+loans_of ts ps (l ∷ lent) = loan_of ts ps l lent ∷ loans_of ts ps lent
 
--- an image that is out, as pieces of an estate's tree
-abbrev pub lending : Estate → Lent → Lending
-lending e l = record { number = l.number; pieces = pieces l.trees e }
+-- an image that is out, as pieces of a section of an estate
+abbrev pub lending : Estate → ℕ → ℕ → Lent → Lending
+lending e i j l = record { number = l.number; pieces = pieces l.trees e i j }
 
 -- no image of this number is out
 abbrev pub IsAbsent : ℕ → List Lent → Type 0
@@ -80,26 +79,39 @@ is_whole ps qs = same_ways ps [] || same_ways ps qs
 abbrev pub PiecesFit : ℕ → List Piece → Type 0
 PiecesFit levels xs = (x : Piece) → In x xs → (n : ℕ) → levels ≡ length x.path + n → fits n x.plot ≡ true
 
--- an image has a piece for each node of its tract, or none, of each estate
-pub record IsBacked (levels : ℕ) (ts : List Township) (l : Lent) : Type 0 where
+-- an image has a piece for each square of its tract, or none, of each estate; some where it wants a township's sections to have trees
+pub record IsBacked (ts : List Township) (l : Lent) : Type 0 where
   pub within : is_in_plant ts l.land ≡ true
-  pub at : (e : Estate) → is_whole (paths (pieces l.trees e)) (tract_spots levels ts l.land) ≡ true
-  pub fit : (e : Estate) → PiecesFit (height levels) (pieces l.trees e)
+  pub home : l.trees.home ≡ home_in ts l.land
+  pub all : (e : Estate) → AreAll (length ts) (parts_of l.trees e)
+  pub at : (e : Estate) → Everywhere (length ts) (λ i j. is_whole (paths (pieces l.trees e i j)) (ways_in ts l.land i j) ≡ true)
+  pub fit : (e : Estate) → Everywhere (length ts) (λ i j. PiecesFit depth (pieces l.trees e i j))
+  pub some : (e : Estate) (i : ℕ) → wants l.trees.home (parts_of l.trees e) i ≡ true → ((j : ℕ) → j < 36 → pieces l.trees e i j ≡ []) → ⊥
 
 -- numbers rise
 abbrev pub Rises : List Lent → Type 0
 Rises [] = Unit {0}
 Rises (l ∷ lent) = ((x : Lent) → In x lent → l.number < x.number) × Rises lent
 
--- there is a path for each township, no tree goes deeper than its cells, and each image that is out can go back
-pub record IsKept (levels : ℕ) (ts : List Township) (ps : Estate → Plot) (lent : List Lent) (next : ℕ) : Type 0 where
-  pub room : length ts ≤ 4 ^ levels
-  pub fit : (e : Estate) → fits (height levels) (ps e) ≡ true
-  pub keeps : (e : Estate) → Keeps (ps e) (map (lending e) lent) next
-  pub backed : (l : Lent) → In l lent → IsBacked levels ts l
+-- each township has its place, no tree goes deeper than its cells, and each image that is out can go back: its squares lie in
+-- sections that have trees of their own, and so they will once a later image has gone back
+pub record IsKept (ts : List Township) (f : Forest) (lent : List Lent) (next : ℕ) : Type 0 where
+  pub sized : (e : Estate) → length (grounds f e) ≡ length ts
+  pub fit : (e : Estate) → Everywhere (length ts) (λ i j. fits depth (plots f e i j) ≡ true)
+  pub keeps : (e : Estate) → Everywhere (length ts) (λ i j. Keeps (plots f e i j) (map (lending e i j) lent) next)
+  pub backed : (l : Lent) → In l lent → IsBacked ts l
   pub rises : Rises lent
+  pub wanted : (e : Estate) (i : ℕ) (l : Lent) → In l lent → wants l.trees.home (parts_of l.trees e) i ≡ true
+      → parted_in (grounds f e) i ≡ true
+  pub brought : (e : Estate) (i : ℕ) (x y : Lent) → In x lent → In y lent → x.number < y.number
+      → wants x.trees.home (parts_of x.trees e) i ≡ true → brings y.trees.home (parts_of y.trees e) i ≡ true
 
--- no four quarters are leaves of one division but where something was written, and each image lies where something was
+-- no four quarters, and no 36 sections, are leaves of one division but where something was written, and each image lies where
+-- something was
 pub record AreJoined (f : Forest) (lent : List Lent) : Type 0 where
-  pub joined : (e : Estate) → JoinedBut (written e f) (plots f e)
-  pub lies : (e : Estate) (l : Lent) → In l lent → (q : List Quarter) → ApartFromAll q (written e f) → Apart q (paths (pieces l.trees e))
+  pub joined : (e : Estate) → Everywhere (length (grounds f e)) (λ i j. JoinedBut (written e i j f) (plots f e i j))
+  pub closed : (e : Estate) (i : ℕ) → was_written e i f ≡ false → closable_in (grounds f e) i ≡ false
+  pub lies : (e : Estate) → Everywhere (length (grounds f e)) (λ i j. (l : Lent) → In l lent → (q : List Quarter)
+      → ApartFromAll q (written e i j f) → Apart q (paths (pieces l.trees e i j)))
+  pub marked : (e : Estate) (i : ℕ) (l : Lent) → In l lent → (is_some_part (parts_of l.trees e) && reaches l.trees.home i) ≡ true
+      → was_written e i f ≡ true

@@ -1,4 +1,5 @@
 -- The definitions that the contracts cite.
+pub mod Grounds
 pub mod Spots
 pub mod TownshipTable
 pub mod Forests

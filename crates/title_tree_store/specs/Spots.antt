@@ -1,51 +1,69 @@
--- Where nodes and cells lie in a tree of the plant. Below the root lie the paths of townships, so many levels down; three
--- levels below a township its sections, of whose 64 paths 36 are taken; below a section its squares.
-use Rattle.std.specs.{Prelude.{ℕ, ◌+◌, ◌-◌, cond, List, [], ◌∷◌, ◌++◌, map}, List.{flat_map}}
-use Rattle.title_land.specs.{Depth.{depth}, declared.{survey.{Township.{Township}, Section.{Section}, Cell.{Cell}}, node.Node.{Node}}}
-use Rattle.title_land.specs.declared.{rectangle.Quarter.{Quarter, TheVariants.{Northeast, Northwest, Southwest}}, tract.Land.{Land}}
-use Rattle.title_land.specs.{Survey.{same_township}, Lands.{cover_of}}
+-- Where a tract lies in a store: its townships by their indices, a section counted from 0, and the squares of a section by paths.
+use Rattle.std.specs.{Prelude.{ℕ, ◌+◌, ◌-◌, ◌<◌, ◌==◌, ◌&&◌, Bool, true, false, cond, List, [], ◌∷◌}, List.{flat_map}}
+use Rattle.title_land.specs.{Depth.{depth}, declared.{survey.Township.{Township}, node.Node.{Node}, rectangle.Quarter.{Quarter}}}
+use Rattle.title_land.specs.{declared.tract.Land.{Land}, Survey.{same_township}, Lands.{cover_of}}
+use Rattle.title_tree.specs.Paths.{way}
+use Rattle.title_tree_store.specs.declared.spots.{Paths.{Paths, TheVariants.{Nothing, One, Many}}, Home.{Home}}
 use Rattle.title_land.specs.declared.node.Node.TheVariants as node
-use Rattle.title_tree.specs.{Paths.{way, number_path}, CellWays.{cell_quarters}}
-use Rattle.title_tree_store.specs.declared.spots.Paths.{Paths, TheVariants.{Nothing, One, Many}}
+use Rattle.title_land.specs.declared.tract.Land.TheVariants as land
+use Rattle.title_tree_store.specs.declared.spots.Home.TheVariants as home
 
 -- the index of a township in a list
 abbrev pub index_of : List Township → Township → ℕ
 index_of [] t = 0
 index_of (u ∷ ts) t = cond (same_township t u) 0 (index_of ts t + 1)
 
--- the path of a township, so many levels below the root
-abbrev pub township_path : ℕ → List Township → Township → List Quarter
-township_path levels ts t = number_path levels (index_of ts t)
+-- where a tract lies
+abbrev pub home_in : List Township → Land → Home
+home_in ts land.Everything = home.Everything
+home_in ts (land.Township t) = home.Township (index_of ts t)
+home_in ts (land.Part s g) = home.Section (index_of ts s.township) (s.number - 1)
 
--- the path of a section
-abbrev pub section_path : ℕ → List Township → Section → List Quarter
-section_path levels ts s = township_path levels ts s.township ++ number_path 3 (s.number - 1)
+-- there are such townships and sections
+abbrev pub IsHome : ℕ → Home → Type 0
+IsHome count home.Everything = Unit {0}
+IsHome count (home.Township t) = t < count
+IsHome count (home.Section t n) = (t < count) × (n < 36)
 
--- the path of a square of a section
-abbrev pub square_path : ℕ → List Township → Section → List Quarter → List Quarter
-square_path levels ts s w = section_path levels ts s ++ way w
+-- it is the whole plant
+abbrev pub is_everything : Home → Bool
+is_everything home.Everything = true
+is_everything _ = false
 
--- the path of a cell
-abbrev pub cell_path : ℕ → List Township → Cell → List Quarter
-cell_path levels ts c = square_path levels ts c.section (cell_quarters depth depth [] c.row c.column)
+-- it is this township
+abbrev pub is_township : Home → ℕ → Bool
+is_township (home.Township t) i = t == i
+is_township _ i = false
 
--- the three nodes below a township that have its sections, 16, 16 and 4 of them
-abbrev pub blocks : List (List Quarter)
-blocks = (Northeast ∷ []) ∷ (Northwest ∷ []) ∷ (Southwest ∷ Northeast ∷ []) ∷ []
+-- it is a section of this township
+abbrev pub is_in_township : Home → ℕ → Bool
+is_in_township (home.Section t n) i = t == i
+is_in_township _ i = false
 
--- the paths of the nodes that together have a township's cells
-abbrev pub township_spots : ℕ → List Township → Township → List (List Quarter)
-township_spots levels ts t = map (λ b. township_path levels ts t ++ b) blocks
+-- something of this township lies in it
+abbrev pub reaches : Home → ℕ → Bool
+reaches home.Everything i = true
+reaches (home.Township t) i = t == i
+reaches (home.Section t n) i = t == i
 
--- the paths of the tree's nodes that together have a node's cells
-abbrev pub spots : ℕ → List Township → Node → List (List Quarter)
-spots levels ts node.Everything = flat_map (township_spots levels ts) ts
-spots levels ts (node.Township t) = township_spots levels ts t
-spots levels ts (node.Part s w) = square_path levels ts s w ∷ []
+-- the paths of a section's squares that lie there; the root's where the whole section does
+abbrev pub ways_at : Home → List (List Quarter) → ℕ → ℕ → List (List Quarter)
+ways_at home.Everything ps i j = [] ∷ []
+ways_at (home.Township t) ps i j = cond (t == i) ([] ∷ []) []
+ways_at (home.Section t n) ps i j = cond (t == i && n == j) ps []
 
--- the paths of the tree's nodes that together have a tract's cells
-abbrev pub tract_spots : ℕ → List Township → Land → List (List Quarter)
-tract_spots levels ts land = flat_map (spots levels ts) (cover_of depth land)
+-- the path of a node of a section
+abbrev pub node_ways : Node → List (List Quarter)
+node_ways (node.Part s w) = way w ∷ []
+node_ways _ = []
+
+-- the paths of a tract's squares
+abbrev pub tract_ways : Land → List (List Quarter)
+tract_ways x = flat_map node_ways (cover_of depth x)
+
+-- those of them that lie in a section
+abbrev pub ways_in : List Township → Land → ℕ → ℕ → List (List Quarter)
+ways_in ts x = ways_at (home_in ts x) (tract_ways x)
 
 -- paths that are kept together
 abbrev pub paths_in : Paths → List (List Quarter)

@@ -1,76 +1,118 @@
-//! The trees of a plant, one for each estate.
+//! The townships of a plant, one list for each estate.
 
-ghost use Rattle.std.specs.Prelude.{◌≡◌, ◌++◌, ◌∷◌, [], ◌&&◌, map, IfOk, OnOk, OnErr, IfErr};
+ghost use Rattle.std.specs.Prelude.{◌≡◌, ◌≢◌, ℕ, ◌<◌, ◌≤◌, ◌&&◌, ◌||◌, ◌++◌, ◌∷◌, [], true, false, cond, None, length, map, IfOk, OnOk};
+ghost use Rattle.std.specs.{Prelude.{OnErr, IfErr}, List.{list_all, list_any}};
 ghost use Rattle.title_share.specs.Division.{all_to};
-ghost use Rattle.title_instrument.specs.{Estates.{names}, Parties.{estates_of}};
-ghost use Rattle.title_tree.specs.Pieces.{Disjoint, Ready, Refines, StaysWithin, StaysElsewhere, paths, swapped, taken, split_all};
-ghost use Rattle.title_tree.specs.{Trees.{plot}, Plots.{Same, is_tidy, tidied_all}};
-ghost use Rattle.title_tree_store.specs.{Spots.{paths_in}, Forests.{tidied_written, IsNoted, StaysApart}};
-ghost use Rattle.title_tree_store.specs.Forests.{Each, IsChange, IsRefusedIn, parts_in, pieces, plots, named_spots, put_ways, written};
+ghost use Rattle.title_instrument.specs.{Effect.{holding_effect}, Estates.{names}, Parties.{estates_of}};
+ghost use Rattle.title_tree.specs.{Changes.{after}, Faults.{Tells}, Pieces.{swapped, taken}, Trees.{plot}};
+ghost use Rattle.title_tree.specs.Pieces.{fresh, refusal_at, split_all, Disjoint, Ready, Refines, StaysWithin, StaysElsewhere, paths};
+ghost use Rattle.title_tree.specs.Plots.{Same, plot_at, changed, first_refusal, tidied};
+ghost use Rattle.title_tree_store.specs.Grounds.{is_parted, ground_tidy, plot_in, parted_in, closable_in, Everywhere, IsTidied, AreSplit};
+ghost use Rattle.title_tree_store.specs.{Grounds.{TellsSomewhere}, Spots.{paths_in, ways_at, is_in_township, reaches, IsHome}};
+ghost use Rattle.title_tree_store.specs.Forests.{Each, IsChange, IsExchanged, AreAll, AreHomes, IsQuartered, IsQuarteredWhole, HasNote};
+ghost use Rattle.title_tree_store.specs.Forests.{grounds, plots, pieces, parts_of, parts_at, squares_in, are_squares, is_some_part};
+ghost use Rattle.title_tree_store.specs.Forests.{IsNoted, wants, brings, named_ways, refusal_in, written, was_written, put_ways};
+ghost use Rattle.title_tree_store.specs.Forests.{are_joined};
 
+use crate::ground::Ground;
 use crate::passing::{Moved, Passing};
-use crate::spots::Paths;
+use crate::spots::{Home, Paths};
 use std::alloc::{AllocError, Global};
+use std::mem;
 use std::sync::Arc;
 use title_instrument::{Estate, Estates, Instrument, Rule};
 use title_share::Holding;
-use title_tree::{Fault, Part, Path, Tree, add_changed, exchange_all, split_each, tidy_all};
+use title_tree::{Fault, Part, Path, Tree, add_changed};
 
-/// What a put wrote: the paths down to which it quartered the trees of some estates.
+/// What a put wrote: where, the paths down to which it quartered a section's trees, and the estates.
 #[derive(Drop)]
 pub(crate) struct Written {
+    pub home: Home,
     pub paths: Paths,
     pub estates: Estates,
 }
 
-/// A tree for each estate.
+/// The townships of each estate.
 #[derive(Drop)]
 pub(crate) struct Forest {
-    pub s: Tree,
-    pub o: Tree,
-    pub m: Tree,
+    pub s: Vec<Ground>,
+    pub o: Vec<Ground>,
+    pub m: Vec<Ground>,
     // What was written since the trees were last joined, put by put.
     pub written: Vec<Written>,
 }
 
-/// Parts of an estate's tree: one alone takes no list.
+/// Parts of an estate: of a section, where one alone takes no list, or a township, or all of them.
 #[derive(Drop)]
 pub(crate) enum Parts {
     Nothing,
     One(Part),
     Many(Vec<Part>),
+    Township(Ground),
+    Plant(Vec<Ground>),
 }
 
-/// Parts of each estate's tree.
+/// Parts of each estate, and where they lie.
 #[derive(Drop)]
 pub(crate) struct Subtrees {
+    pub home: Home,
     pub s: Parts,
     pub o: Parts,
     pub m: Parts,
 }
 
 impl Parts {
-    // Each part changes places with what stands at its path. Takes no memory.
-    fn exchange(&mut self, tree: &mut Tree)
-        requires disjoint { Disjoint (paths (parts_in self.old)) }
-        requires ready { Ready (paths (parts_in self.old)) (plot tree.old) }
-        ensures tree { plot tree.new ≡ swapped (parts_in self.old) (plot tree.old) }
-        ensures parts { parts_in self.new ≡ taken (parts_in self.old) (plot tree.old) }
+    // Each part changes places with what stands where it lies. Takes no memory.
+    #[tactic(auto, using(crate::proofs::GroundLawsPlaces::township_tests))]
+    fn exchange(&mut self, grounds: &mut Vec<Ground>, home: Home)
+        requires there { IsHome (length grounds.old.items) home }
+        requires all { AreAll (length grounds.old.items) self.old }
+        requires wanted { (i : ℕ) → wants home self.old i ≡ true → parted_in grounds.old.items i ≡ true }
+        requires goes { Everywhere (length grounds.old.items) (λ i j. Disjoint (paths (parts_at home self.old i j))
+            × Ready (paths (parts_at home self.old i j)) (plot_in grounds.old.items i j)) }
+        ensures sized { length grounds.new.items ≡ length grounds.old.items }
+        ensures all { AreAll (length grounds.old.items) self.new }
+        ensures grounds { Everywhere (length grounds.old.items) (λ i j. plot_in grounds.new.items i j
+            ≡ swapped (parts_at home self.old i j) (plot_in grounds.old.items i j)) }
+        ensures parts { Everywhere (length grounds.old.items) (λ i j. parts_at home self.new i j
+            ≡ taken (parts_at home self.old i j) (plot_in grounds.old.items i j)) }
+        ensures parted { (i : ℕ) → parted_in grounds.old.items i ≡ true → brings home self.old i ≡ true
+            → parted_in grounds.new.items i ≡ true }
+        ensures brings { (i : ℕ) → parted_in grounds.old.items i ≡ true → brings home self.new i ≡ true }
+        ensures wants { (i : ℕ) → wants home self.new i ≡ wants home self.old i }
+        ensures elsewhere { (i : ℕ) → (is_some_part self.old && reaches home i) ≡ false
+            → closable_in grounds.new.items i ≡ closable_in grounds.old.items i }
+        ensures some { is_some_part self.new ≡ is_some_part self.old }
     {
-        match self {
-            Parts::Nothing => {}
-            Parts::One(part) => part.exchange(tree),
-            Parts::Many(parts) => exchange_all(tree, parts),
+        match home {
+            Home::Everything => if let Parts::Plant(all) = self {
+                mem::swap(all, grounds);
+            },
+            Home::Township(township) => if let Parts::Township(ground) = self {
+                mem::swap(ground, &mut grounds[township]);
+            },
+            Home::Section(township, index) => match self {
+                Parts::One(part) => grounds[township].exchange(index, part),
+                Parts::Many(parts) => grounds[township].exchange_all(index, parts),
+                _ => {}
+            },
         }
     }
 }
 
-// A tree in which party 0 has the whole of each cell.
-fn opening_tree(alloc: Global) -> Result<Tree, AllocError>
-    ensures opening { IfOk result (λ t. plot t ≡ Same (all_to 0)) }
+// So many townships in which party 0 has the whole of each cell.
+fn opening(alloc: Global, count: usize) -> Result<Vec<Ground>, AllocError>
+    ensures sized { IfOk result (λ gs. length gs.items ≡ count) }
+    ensures opening { IfOk result (λ gs. Everywhere count (λ i j. plot_in gs.items i j ≡ Same (all_to 0))) }
+    ensures closed { IfOk result (λ gs. (i : ℕ) → closable_in gs.items i ≡ false) }
 {
     let held = Arc::new(alloc, Holding::whole(alloc, 0)?)?;
-    Ok(Tree::Leaf(held))
+    let mut grounds = Vec::with_capacity(alloc, count)?;
+    while grounds.len() < count {
+        let tree = Tree::Leaf(held.clone()?);
+        grounds.push_reserved(Ground::Whole(tree));
+    }
+    Ok(grounds)
 }
 
 /// Whether an instrument names an estate.
@@ -80,81 +122,226 @@ pub(crate) fn names(instrument: &Instrument, estate: Estate) -> bool
     instrument.estates().has(estate)
 }
 
-// What stands at some paths of a tree, after an instrument; nothing where it doesn't name the estate. Refused as the first
-// leaf that refuses. A list is made once nothing refuses at the first path, where there are more. What was made last is kept.
-fn changed(
+// What stands at some paths of a section's tree, after an instrument. Refused as the first leaf that refuses. A list is made once
+// nothing refuses at the first path, where there are more.
+fn changed_at(
     alloc: Global,
     tree: &Tree,
     paths: &[Path],
-    instrument: &Instrument,
-    estate: Estate,
-    last: &mut Option<Moved>,
+    passing: &mut Passing,
 ) -> Result<Parts, Fault<Rule>>
-    ensures change { IfOk result (λ parts. IsChange instrument.now estate paths.now (plot tree.now) (parts_in parts)) }
-    ensures why { IfErr result (IsRefusedIn instrument.now estate paths.now (plot tree.now)) }
+    ensures none { OnOk result (refusal_at (holding_effect passing.old.instrument passing.old.estate) paths.now (plot tree.now) ≡ None) }
+    ensures new { IfOk result (λ parts. squares_in parts
+        ≡ fresh (after (holding_effect passing.old.instrument passing.old.estate)) paths.now (plot tree.now)) }
+    ensures squares { IfOk result (λ parts. are_squares parts ≡ true) }
+    ensures some { IfOk result (λ parts. is_some_part parts ≡ true → paths.now ≢ []) }
+    ensures why { IfErr result (λ f. Tells f (refusal_at (holding_effect passing.old.instrument passing.old.estate) paths.now
+        (plot tree.now))) }
 {
-    if !names(instrument, estate) {
-        return Ok(Parts::Nothing);
-    }
     let Some((first, rest)) = paths.split_first() else {
         return Ok(Parts::Nothing);
     };
-    let mut passing = Passing {
-        instrument: *instrument,
-        estate,
-        last: last.take(),
-    };
-    let changed = tree.at(*first).changed(alloc, &mut passing)?;
+    let changed = tree.at(*first).changed(alloc, passing)?;
     let part = Part {
         path: *first,
         tree: changed,
     };
     if rest.is_empty() {
-        *last = passing.last.take();
         return Ok(Parts::One(part));
     }
     let mut parts = Vec::with_capacity(alloc, paths.len())?;
     parts.push_reserved(part);
-    add_changed(alloc, tree, rest, &mut passing, &mut parts)?;
-    *last = passing.last.take();
+    add_changed(alloc, tree, rest, passing, &mut parts)?;
     Ok(Parts::Many(parts))
 }
 
-// Quarters an estate's tree down to each path, where an instrument names the estate.
-#[tactic(auto, using(crate::proofs::Steps::split_refines, crate::proofs::Steps::split_within, crate::proofs::Steps::split_elsewhere))]
-fn split_named(
-    tree: &mut Tree,
+// All townships after an instrument. Refused with the reason of some leaf.
+fn changed_all(
     alloc: Global,
+    grounds: &[Ground],
+    passing: &mut Passing,
+) -> Result<Vec<Ground>, Fault<Rule>>
+    ensures sized { IfOk result (λ gs. length gs.items ≡ length grounds.now) }
+    ensures none { OnOk result (Everywhere (length grounds.now) (λ i j. first_refusal
+        (holding_effect passing.old.instrument passing.old.estate) (plot_in grounds.now i j) ≡ None)) }
+    ensures new { IfOk result (λ gs. Everywhere (length grounds.now) (λ i j. plot_in gs.items i j
+        ≡ changed (after (holding_effect passing.old.instrument passing.old.estate)) (plot_in grounds.now i j))) }
+    ensures parted { IfOk result (λ gs. (i : ℕ) → parted_in gs.items i ≡ parted_in grounds.now i) }
+    ensures why { IfErr result (λ f. TellsSomewhere f (length grounds.now) (λ i j. first_refusal
+        (holding_effect passing.old.instrument passing.old.estate) (plot_in grounds.now i j))) }
+{
+    let mut made = Vec::with_capacity(alloc, grounds.len())?;
+    for ground in grounds {
+        let changed = ground.changed(alloc, passing)?;
+        made.push_reserved(changed);
+    }
+    Ok(made)
+}
+
+// What stands somewhere, after an instrument. Refused with the reason of some leaf.
+fn changed_there(
+    alloc: Global,
+    grounds: &[Ground],
+    home: Home,
+    paths: &[Path],
+    passing: &mut Passing,
+) -> Result<Parts, Fault<Rule>>
+    requires there { IsHome (length grounds.now) home }
+    ensures none { OnOk result (Everywhere (length grounds.now) (λ i j. refusal_at
+        (holding_effect passing.old.instrument passing.old.estate) (ways_at home paths.now i j) (plot_in grounds.now i j) ≡ None)) }
+    ensures new { IfOk result (λ parts. Everywhere (length grounds.now) (λ i j. parts_at home parts i j
+        ≡ fresh (after (holding_effect passing.old.instrument passing.old.estate)) (ways_at home paths.now i j)
+        (plot_in grounds.now i j))) }
+    ensures all { IfOk result (AreAll (length grounds.now)) }
+    ensures some { IfOk result (λ parts. (i : ℕ) → wants home parts i ≡ true → paths.now ≢ []) }
+    ensures brings { IfOk result (λ parts. (i : ℕ) → parted_in grounds.now i ≡ true → brings home parts i ≡ true) }
+    ensures why { IfErr result (λ f. TellsSomewhere f (length grounds.now) (λ i j. refusal_at
+        (holding_effect passing.old.instrument passing.old.estate) (ways_at home paths.now i j) (plot_in grounds.now i j))) }
+{
+    match home {
+        Home::Everything => Ok(Parts::Plant(changed_all(alloc, grounds, passing)?)),
+        Home::Township(index) => Ok(Parts::Township(grounds[index].changed(alloc, passing)?)),
+        Home::Section(township, index) => {
+            changed_at(alloc, grounds[township].section(index), paths, passing)
+        }
+    }
+}
+
+// The same, where it names the estate; else nothing. What was made last is kept.
+fn changed(
+    alloc: Global,
+    grounds: &[Ground],
+    home: Home,
+    paths: &[Path],
+    instrument: &Instrument,
+    estate: Estate,
+    last: &mut Option<Moved>,
+) -> Result<Parts, Fault<Rule>>
+    requires there { IsHome (length grounds.now) home }
+    ensures change { IfOk result (λ parts. Everywhere (length grounds.now) (λ i j. IsChange instrument.now estate
+        (ways_at home paths.now i j) (plot_in grounds.now i j) (parts_at home parts i j))) }
+    ensures all { IfOk result (AreAll (length grounds.now)) }
+    ensures named { IfOk result (λ parts. is_some_part parts ≡ true → names (estates_of instrument.now) estate ≡ true) }
+    ensures some { IfOk result (λ parts. (i : ℕ) → wants home parts i ≡ true → paths.now ≢ []) }
+    ensures brings { IfOk result (λ parts. (i : ℕ) → parted_in grounds.now i ≡ true → brings home parts i ≡ true) }
+    ensures why { IfErr result (λ f. TellsSomewhere f (length grounds.now) (λ i j. refusal_in instrument.now estate
+        (ways_at home paths.now i j) (plot_in grounds.now i j))) }
+{
+    if !names(instrument, estate) {
+        return Ok(Parts::Nothing);
+    }
+    let mut passing = Passing {
+        instrument: *instrument,
+        estate,
+        last: last.take(),
+    };
+    let parts = changed_there(alloc, grounds, home, paths, &mut passing)?;
+    *last = passing.last.take();
+    Ok(parts)
+}
+
+// Quarters trees down to each path, where an instrument names the estate. After `Err` they may be quartered down to some.
+#[tactic(auto, using(crate::proofs::GroundLawsPlaces::township_tests))]
+fn split_named(
+    grounds: &mut Vec<Ground>,
+    alloc: Global,
+    home: Home,
     paths: &[Path],
     instrument: &Instrument,
     estate: Estate,
 ) -> Result<(), AllocError>
-    ensures ok { OnOk result (plot tree.new ≡ split_all (named_spots instrument.now estate paths.now) (plot tree.old)) }
-    ensures refines { Refines (plot tree.old) (plot tree.new) }
-    ensures within { StaysWithin paths.now (plot tree.old) (plot tree.new) }
-    ensures elsewhere { StaysElsewhere (named_spots instrument.now estate paths.now) (plot tree.old) (plot tree.new) }
+    requires there { IsHome (length grounds.old.items) home }
+    ensures ok { OnOk result (Everywhere (length grounds.old.items) (λ i j. plot_in grounds.new.items i j
+        ≡ split_all (named_ways instrument.now estate (ways_at home paths.now i j)) (plot_in grounds.old.items i j))) }
+    ensures wanted { OnOk result ((i : ℕ) → (names (estates_of instrument.now) estate && is_in_township home i) ≡ true
+        → parted_in grounds.new.items i ≡ true) }
+    ensures split { AreSplit (ways_at home paths.now) (λ i j. named_ways instrument.now estate (ways_at home paths.now i j))
+        (λ i. names (estates_of instrument.now) estate && reaches home i) grounds.old.items grounds.new.items }
 {
     if !names(instrument, estate) {
         return Ok(());
     }
-    split_each(tree, alloc, paths)
+    match home {
+        Home::Everything | Home::Township(_) => Ok(()),
+        Home::Section(township, index) => grounds[township].split(alloc, index, paths),
+    }
+}
+
+// Joins quarters below and above the paths of a put, and sections, where it wrote the estate.
+#[tactic(auto, using(crate::proofs::GroundLawsPlaces::township_tests))]
+fn tidy_put(grounds: &mut [Ground], put: &Written, estate: Estate)
+    requires there { IsHome (length grounds.old) put.now.home }
+    ensures tidied { Everywhere (length grounds.old) (λ i j. IsTidied (put_ways estate i j put.now ∷ [])
+        (plot_in grounds.old i j) (plot_in grounds.new i j)) }
+    ensures closed { (i : ℕ) → (names put.now.estates estate && reaches put.now.home i) ≡ true → closable_in grounds.new i ≡ false }
+    ensures others { (i : ℕ) → (names put.now.estates estate && reaches put.now.home i) ≡ false
+        → closable_in grounds.new i ≡ closable_in grounds.old i }
+    ensures sized { length grounds.new ≡ length grounds.old }
+{
+    if !put.estates.has(estate) {
+        return;
+    }
+    match put.home {
+        Home::Everything => tidy_each(grounds),
+        Home::Township(index) => grounds[index].tidy(),
+        Home::Section(township, index) => grounds[township].tidy_at(index, put.paths.as_slice()),
+    }
+}
+
+// Joins what can be joined in each township.
+fn tidy_each(grounds: &mut [Ground])
+    ensures tidied { Everywhere (length grounds.old) (λ i j. plot_in grounds.new i j ≡ tidied (plot_in grounds.old i j)) }
+    ensures closed { (i : ℕ) → closable_in grounds.new i ≡ false }
+    ensures sized { length grounds.new ≡ length grounds.old }
+{
+    if let Some((first, rest)) = grounds.split_first_mut() {
+        first.tidy();
+        tidy_each(rest);
+    }
+}
+
+// Joins quarters below and above the paths of each put that wrote the estate, and sections.
+fn tidy_written(grounds: &mut [Ground], written: &[Written], estate: Estate)
+    requires there { AreHomes (length grounds.old) written.now }
+    ensures tidied { Everywhere (length grounds.old) (λ i j. IsTidied (map (put_ways estate i j) written.now)
+        (plot_in grounds.old i j) (plot_in grounds.new i j)) }
+    ensures closed { (i : ℕ) → list_any (λ w. names w.estates estate && reaches w.home i) written.now ≡ true
+        → closable_in grounds.new i ≡ false }
+    ensures others { (i : ℕ) → list_any (λ w. names w.estates estate && reaches w.home i) written.now ≡ false
+        → closable_in grounds.new i ≡ closable_in grounds.old i }
+    ensures sized { length grounds.new ≡ length grounds.old }
+{
+    if let Some((put, rest)) = written.split_first() {
+        tidy_put(grounds, put, estate);
+        tidy_written(grounds, rest, estate);
+    }
+}
+
+// Whether no township could be joined to fewer nodes.
+fn are_tidy(grounds: &[Ground]) -> bool
+    ensures tidy { result ≡ list_all ground_tidy grounds.now }
+{
+    grounds.iter().all(|ground| ground.is_tidy())
 }
 
 impl Forest {
-    /// The trees before any instrument.
-    pub(crate) fn open(alloc: Global) -> Result<Forest, AllocError>
-        ensures opening { Each (λ e. IfOk result (λ f. plots f e ≡ Same (all_to 0))) }
+    /// So many townships before any instrument.
+    pub(crate) fn open(alloc: Global, count: usize) -> Result<Forest, AllocError>
+        ensures sized { Each (λ e. IfOk result (λ f. length (grounds f e) ≡ count)) }
+        ensures opening { Each (λ e. IfOk result (λ f. Everywhere count (λ i j. plots f e i j ≡ Same (all_to 0)))) }
+        ensures closed { Each (λ e. IfOk result (λ f. (i : ℕ) → closable_in (grounds f e) i ≡ false)) }
+        ensures written { IfOk result (λ f. f.written.items ≡ []) }
     {
-        let s = opening_tree(alloc)?;
-        let o = opening_tree(alloc)?;
-        let m = opening_tree(alloc)?;
+        let s = opening(alloc, count)?;
+        let o = opening(alloc, count)?;
+        let m = opening(alloc, count)?;
         let written = Vec::new(alloc);
         Ok(Forest { s, o, m, written })
     }
 
-    /// The tree of an estate.
-    pub(crate) fn of(&self, estate: Estate) -> &Tree
-        ensures of { plot result.now ≡ plots self.now estate }
+    /// The townships of an estate.
+    pub(crate) fn of(&self, estate: Estate) -> &[Ground]
+        ensures of { result.now ≡ grounds self.now estate }
     {
         match estate {
             Estate::S => &self.s,
@@ -163,33 +350,49 @@ impl Forest {
         }
     }
 
-    /// Each part changes places with what stands at its path. Takes no memory.
+    /// Each part changes places with what stands where it lies. Takes no memory.
     pub(crate) fn exchange(&mut self, parts: &mut Subtrees)
-        requires goes { Each (λ e. Disjoint (paths (pieces parts.old e)) × Ready (paths (pieces parts.old e)) (plots self.old e)) }
-        ensures trees { Each (λ e. plots self.new e ≡ swapped (pieces parts.old e) (plots self.old e)) }
-        ensures parts { Each (λ e. pieces parts.new e ≡ taken (pieces parts.old e) (plots self.old e)) }
+        requires there { Each (λ e. IsHome (length (grounds self.old e)) parts.old.home) }
+        requires all { Each (λ e. AreAll (length (grounds self.old e)) (parts_of parts.old e)) }
+        requires wanted { Each (λ e. (i : ℕ) → wants parts.old.home (parts_of parts.old e) i ≡ true
+            → parted_in (grounds self.old e) i ≡ true) }
+        requires goes { Each (λ e. Everywhere (length (grounds self.old e)) (λ i j. Disjoint (paths (pieces parts.old e i j))
+            × Ready (paths (pieces parts.old e i j)) (plots self.old e i j))) }
+        ensures exchanged { Each (λ e. IsExchanged e parts.old parts.new self.old self.new) }
+        ensures home { parts.new.home ≡ parts.old.home }
         ensures written { self.new.written ≡ self.old.written }
     {
-        parts.s.exchange(&mut self.s);
-        parts.o.exchange(&mut self.o);
-        parts.m.exchange(&mut self.m);
+        let home = parts.home;
+        parts.s.exchange(&mut self.s, home);
+        parts.o.exchange(&mut self.o, home);
+        parts.m.exchange(&mut self.m, home);
     }
 
-    /// What stands at some paths of the trees, after an instrument; nothing changes. Refused by a rule of some leaf.
+    /// What stands somewhere, after an instrument; nothing changes. Refused by a rule of some leaf.
     pub(crate) fn changed(
         &self,
         alloc: Global,
+        home: Home,
         paths: &[Path],
         instrument: &Instrument,
     ) -> Result<Subtrees, Fault<Rule>>
-        ensures change { Each (λ e. IfOk result (λ x. IsChange instrument.now e paths.now (plots self.now e) (pieces x e))) }
-        ensures why { IfErr result (λ f. (e : Estate) × IsRefusedIn instrument.now e paths.now (plots self.now e) f) }
+        requires there { Each (λ e. IsHome (length (grounds self.now e)) home) }
+        ensures change { Each (λ e. IfOk result (λ x. Everywhere (length (grounds self.now e)) (λ i j. IsChange instrument.now e
+            (ways_at home paths.now i j) (plots self.now e i j) (pieces x e i j)))) }
+        ensures all { Each (λ e. IfOk result (λ x. AreAll (length (grounds self.now e)) (parts_of x e))) }
+        ensures named { Each (λ e. IfOk result (λ x. is_some_part (parts_of x e) ≡ true → names (estates_of instrument.now) e ≡ true)) }
+        ensures some { Each (λ e. IfOk result (λ x. (i : ℕ) → wants x.home (parts_of x e) i ≡ true → paths.now ≢ [])) }
+        ensures brings { Each (λ e. IfOk result (λ x. (i : ℕ) → parted_in (grounds self.now e) i ≡ true
+            → brings x.home (parts_of x e) i ≡ true)) }
+        ensures home { IfOk result (λ x. x.home ≡ home) }
+        ensures why { IfErr result (λ f. (e : Estate) × TellsSomewhere f (length (grounds self.now e)) (λ i j. refusal_in instrument.now e
+            (ways_at home paths.now i j) (plots self.now e i j))) }
     {
-        let mut last = None;
-        let s = changed(alloc, &self.s, paths, instrument, Estate::S, &mut last)?;
-        let o = changed(alloc, &self.o, paths, instrument, Estate::O, &mut last)?;
-        let m = changed(alloc, &self.m, paths, instrument, Estate::M, &mut last)?;
-        Ok(Subtrees { s, o, m })
+        let last = &mut None;
+        let s = changed(alloc, &self.s, home, paths, instrument, Estate::S, last)?;
+        let o = changed(alloc, &self.o, home, paths, instrument, Estate::O, last)?;
+        let m = changed(alloc, &self.m, home, paths, instrument, Estate::M, last)?;
+        Ok(Subtrees { home, s, o, m })
     }
 
     // Quarters the trees of the estates that an instrument names down to each path. After `Err` they may be quartered down
@@ -197,80 +400,68 @@ impl Forest {
     fn split_each(
         &mut self,
         alloc: Global,
+        home: Home,
         paths: &[Path],
         instrument: &Instrument,
     ) -> Result<(), AllocError>
-        ensures ok { Each (λ e. OnOk result
-            (plots self.new e ≡ split_all (named_spots instrument.now e paths.now) (plots self.old e))) }
-        ensures refines { Each (λ e. Refines (plots self.old e) (plots self.new e)) }
-        ensures within { Each (λ e. StaysWithin paths.now (plots self.old e) (plots self.new e)) }
-        ensures elsewhere { Each (λ e. StaysElsewhere (named_spots instrument.now e paths.now) (plots self.old e) (plots self.new e)) }
+        requires there { Each (λ e. IsHome (length (grounds self.old e)) home) }
+        ensures split { IsQuartered instrument.now home paths.now self.old self.new }
+        ensures ok { OnOk result (IsQuarteredWhole instrument.now home paths.now self.old self.new) }
         ensures written { self.new.written ≡ self.old.written }
     {
-        split_named(&mut self.s, alloc, paths, instrument, Estate::S)?;
-        split_named(&mut self.o, alloc, paths, instrument, Estate::O)?;
-        split_named(&mut self.m, alloc, paths, instrument, Estate::M)
+        split_named(&mut self.s, alloc, home, paths, instrument, Estate::S)?;
+        split_named(&mut self.o, alloc, home, paths, instrument, Estate::O)?;
+        split_named(&mut self.m, alloc, home, paths, instrument, Estate::M)
     }
 
-    /// Quarters the trees of the estates that an instrument names down to each path, and keeps the paths and the estates for
+    /// Quarters the trees of the estates that an instrument names down to each path, and keeps where, the paths and the estates for
     /// `tidy`. After `Err` they may be quartered down to some.
     pub(crate) fn quarter(
         &mut self,
         alloc: Global,
+        home: Home,
         paths: Paths,
         instrument: &Instrument,
     ) -> Result<(), AllocError>
-        ensures ok { Each (λ e. OnOk result
-            (plots self.new e ≡ split_all (named_spots instrument.now e (paths_in paths)) (plots self.old e))) }
-        ensures refines { Each (λ e. Refines (plots self.old e) (plots self.new e)) }
-        ensures within { Each (λ e. StaysWithin (paths_in paths) (plots self.old e) (plots self.new e)) }
-        ensures noted { OnOk result ((e : Estate)
-            → written e self.new ≡ written e self.old ++ named_spots instrument.now e (paths_in paths) ∷ []) }
-        ensures err_noted { OnErr result (IsNoted instrument.now (paths_in paths) self.old self.new) }
-        ensures apart { StaysApart self.old self.new }
+        requires there { Each (λ e. IsHome (length (grounds self.old e)) home) }
+        ensures split { IsQuartered instrument.now home (paths_in paths) self.old self.new }
+        ensures ok { OnOk result (IsQuarteredWhole instrument.now home (paths_in paths) self.old self.new) }
+        ensures noted { OnOk result (HasNote instrument.now home (paths_in paths) self.old self.new) }
+        ensures err_noted { OnErr result (IsNoted instrument.now home (paths_in paths) self.old self.new) }
     {
         self.written.reserve(1)?;
         let estates = instrument.estates();
-        let quartered = self.split_each(alloc, paths.as_slice(), instrument);
-        self.written.push_reserved(Written { paths, estates });
+        let quartered = self.split_each(alloc, home, paths.as_slice(), instrument);
+        self.written.push_reserved(Written {
+            home,
+            paths,
+            estates,
+        });
         quartered
     }
 
     /// Whether no tree could be joined to fewer nodes.
     pub(crate) fn is_tidy(&self) -> bool
-        ensures tidy { result ≡ (is_tidy (plot self.now.s) && is_tidy (plot self.now.o) && is_tidy (plot self.now.m)) }
+        ensures tidy { result ≡ are_joined self.now }
     {
-        self.s.is_tidy() && self.o.is_tidy() && self.m.is_tidy()
+        are_tidy(&self.s) && are_tidy(&self.o) && are_tidy(&self.m)
     }
 
-    /// Joins quarters that are leaves of the same holding, below and above each path written since this was last done, in
-    /// the trees of the estates that were written. Takes no memory.
+    /// Joins quarters that are leaves of the same holding, below and above each path written since this was last done, and sections,
+    /// in the estates that were written. Takes no memory.
     pub(crate) fn tidy(&mut self)
-        ensures tidied { Each (λ e. plots self.new e ≡ tidied_written (written e self.old) (plots self.old e)) }
-        ensures written { (e : Estate) → written e self.new ≡ [] }
+        requires there { Each (λ e. AreHomes (length (grounds self.old e)) self.old.written.items) }
+        ensures tidied { Each (λ e. Everywhere (length (grounds self.old e)) (λ i j. IsTidied (written e i j self.old)
+            (plots self.old e i j) (plots self.new e i j))) }
+        ensures closed { Each (λ e. (i : ℕ) → was_written e i self.old ≡ true → closable_in (grounds self.new e) i ≡ false) }
+        ensures others { Each (λ e. (i : ℕ) → was_written e i self.old ≡ false
+            → closable_in (grounds self.new e) i ≡ closable_in (grounds self.old e) i) }
+        ensures sized { Each (λ e. length (grounds self.new e) ≡ length (grounds self.old e)) }
+        ensures written { self.new.written.items ≡ [] }
     {
         tidy_written(&mut self.s, &self.written, Estate::S);
         tidy_written(&mut self.o, &self.written, Estate::O);
         tidy_written(&mut self.m, &self.written, Estate::M);
         self.written.clear();
-    }
-}
-
-// Joins quarters below and above the paths of a put, where it wrote the estate.
-fn tidy_put(tree: &mut Tree, put: &Written, estate: Estate)
-    ensures tidied { plot tree.new ≡ tidied_all (put_ways estate put.now) (plot tree.old) }
-{
-    if put.estates.has(estate) {
-        tidy_all(tree, put.paths.as_slice());
-    }
-}
-
-// Joins quarters below and above the paths of each put that wrote the estate.
-fn tidy_written(tree: &mut Tree, written: &[Written], estate: Estate)
-    ensures tidied { plot tree.new ≡ tidied_written (map (put_ways estate) written.now) (plot tree.old) }
-{
-    if let Some((put, rest)) = written.split_first() {
-        tidy_put(tree, put, estate);
-        tidy_written(tree, rest, estate);
     }
 }

@@ -3,9 +3,11 @@
 #![tactic(auto)]
 
 mod forest;
+mod ground;
 mod lent;
 mod passing;
 mod refusals;
+mod sections;
 mod sheets;
 mod spots;
 mod townships;

@@ -1,17 +1,16 @@
 //! The first cell of a tract that refuses an instrument.
 
-ghost use Rattle.std.specs.{Prelude.{◌≡◌, ◌+◌, ◌∷◌, [], ◌||◌, ◌==◌, Some, length, true}, List.{flat_map}};
-ghost use Rattle.title_land.specs.{Depth.{depth}, CellLists.{cells_below, section_cells, township_cells, cells_of, part_cells}};
-ghost use Rattle.title_land.specs.Lands.{cover_of, is_in_plant};
+ghost use Rattle.std.specs.{Prelude.{◌≡◌, ◌+◌, ◌∷◌, [], ◌||◌, ◌==◌, Some, length, true}, List.{flat_map, list_any}};
+ghost use Rattle.title_land.specs.{Depth.{depth}, CellLists.{cells_below, township_cells, cells_of, part_cells}};
+ghost use Rattle.title_land.specs.{Lands.{cover_of, is_in_plant}, Survey.{same_township}};
 ghost use Rattle.title_instrument.specs.Effect.{cell_effect};
 ghost use Rattle.title_tree.specs.{Plots.{value_at, plot_at}, Trees.{plot}};
-ghost use Rattle.title_tree_store.specs.{Spots.{township_path, square_path}, Forests.{Each}, Refusing.{first_cell_of}};
-ghost use Rattle.title_tree_store.specs.Refusing.{why_holding, why_first, is_settled, are_settled, refused_at, stand, StandsAt, first_for};
+ghost use Rattle.title_tree_store.specs.{Forests.{Each}, Refusing.{first_for, first_cell_of}};
+ghost use Rattle.title_tree_store.specs.Refusing.{why_holding, why_first, is_settled, are_settled, refused_at, stand, StandsAt, AreSized};
 
 use crate::forest::{Forest, names};
-use crate::spots::SECTION_LEVELS;
 use crate::townships::Townships;
-use crate::walks::{numbered, township_tree};
+use crate::walks::section_tree;
 use title_instrument::{Estate, Instrument, Rule};
 use title_land::{Cell, DEPTH, Land, Node, Quarter, Section, Township, Tract, Within};
 use title_tree::Tree;
@@ -65,7 +64,6 @@ impl<'a> Trees<'a> {
     }
 
     // Why the square's first cell refuses an instrument: the rule and the first estate.
-    #[tactic(auto, unfolding(title_instrument::specs::Effect::cell_effect))]
     fn why(&self, instrument: &Instrument) -> Option<(Rule, Estate)>
         ensures why { result ≡ why_first instrument.now self.now }
     {
@@ -102,7 +100,6 @@ fn first_cell(section: Section, below: u8, within: Within) -> Cell
 /// cover. No cell after it is looked at, and a square whose cells it treats alike is judged once. Takes no memory.
 #[derive(Clone, Copy)]
 pub(crate) struct Search<'a> {
-    pub levels: usize,
     pub townships: &'a Townships,
     pub forest: &'a Forest,
     pub tract: &'a Tract,
@@ -110,36 +107,24 @@ pub(crate) struct Search<'a> {
 }
 
 impl<'a> Search<'a> {
-    // What stands in a township.
-    fn township_trees(&self, township: Township) -> Trees<'a>
-        ensures stands { StandsAt self.now (township_path self.now.levels self.now.townships.now township) result }
+    // What stands in a section.
+    fn section_trees(&self, section: Section) -> Trees<'a>
+        requires sized { AreSized self.now }
+        requires of { list_any (same_township section.township) self.now.townships.now ≡ true }
+        ensures stands { StandsAt self.now section [] result }
     {
-        let (levels, townships) = (self.levels, self.townships);
         Trees {
-            s: township_tree(&self.forest.s, levels, townships, township),
-            o: township_tree(&self.forest.o, levels, townships, township),
-            m: township_tree(&self.forest.m, levels, townships, township),
-        }
-    }
-
-    // What stands in a section, from what stands in its township.
-    fn section_trees(&self, township: &Trees<'a>, section: Section) -> Trees<'a>
-        requires here { StandsAt self.now (township_path self.now.levels self.now.townships.now section.township) township.now }
-        ensures stands { StandsAt self.now (square_path self.now.levels self.now.townships.now section []) result }
-    {
-        let number = usize::from(section.number - 1);
-        Trees {
-            s: numbered(township.s, SECTION_LEVELS, number),
-            o: numbered(township.o, SECTION_LEVELS, number),
-            m: numbered(township.m, SECTION_LEVELS, number),
+            s: section_tree(&self.forest.s, self.townships, section),
+            o: section_tree(&self.forest.o, self.townships, section),
+            m: section_tree(&self.forest.m, self.townships, section),
         }
     }
 
     // What stands in a square, from what stands in its section, and how many levels the square has below it.
     #[tactic(auto, using(title_land::specs::Laws::Sides::depth_is))]
     fn square_trees(&self, trees: &Trees<'a>, section: Section, within: Within) -> (Trees<'a>, u8)
-        requires here { StandsAt self.now (square_path self.now.levels self.now.townships.now section []) trees.now }
-        ensures stands { StandsAt self.now (square_path self.now.levels self.now.townships.now section within) result.0 }
+        requires here { StandsAt self.now section [] trees.now }
+        ensures stands { StandsAt self.now section within result.0 }
         ensures below { result.1 + length within ≡ depth }
     {
         let Some(parts) = within.split() else {
@@ -174,7 +159,7 @@ impl<'a> Search<'a> {
         within: Within,
     ) -> Option<(Rule, Estate, Cell)>
         requires below { below + length within ≡ depth }
-        requires here { StandsAt self.now (square_path self.now.levels self.now.townships.now section within) trees.now }
+        requires here { StandsAt self.now section within trees.now }
         ensures first { result ≡ first_for self.now (cells_below depth section below within) }
     {
         if trees.are_alike(self.instrument, below) {
@@ -194,20 +179,6 @@ impl<'a> Search<'a> {
         None
     }
 
-    // The first cell that refuses of a section, from what stands in its township.
-    #[tactic(auto, using(title_land::specs::Laws::Sides::depth_is))]
-    fn first_in_section(
-        &self,
-        township: &Trees<'a>,
-        section: Section,
-    ) -> Option<(Rule, Estate, Cell)>
-        requires here { StandsAt self.now (township_path self.now.levels self.now.townships.now section.township) township.now }
-        ensures first { result ≡ first_for self.now (section_cells depth section) }
-    {
-        let trees = self.section_trees(township, section);
-        self.first_in_square(&trees, section, DEPTH, Within::section())
-    }
-
     // The first cell that refuses of a node in a section, from what stands in the section.
     fn first_in_node(
         &self,
@@ -215,7 +186,7 @@ impl<'a> Search<'a> {
         section: Section,
         node: &Node,
     ) -> Option<(Rule, Estate, Cell)>
-        requires here { StandsAt self.now (square_path self.now.levels self.now.townships.now section []) trees.now }
+        requires here { StandsAt self.now section [] trees.now }
         ensures first { result ≡ first_for self.now (part_cells depth section node.now) }
     {
         let Node::Part(_, within) = node else {
@@ -227,9 +198,11 @@ impl<'a> Search<'a> {
 
     // The first cell that refuses of the nodes of the tract's cover, which lie in a section.
     fn first_in_cover(&self, section: Section) -> Option<(Rule, Estate, Cell)>
+        requires sized { AreSized self.now }
+        requires of { list_any (same_township section.township) self.now.townships.now ≡ true }
         ensures first { result ≡ first_for self.now (flat_map (part_cells depth section) (cover_of depth self.now.tract.now)) }
     {
-        let trees = self.section_trees(&self.township_trees(section.township), section);
+        let trees = self.section_trees(section);
         let cover = self.tract.cover();
         for node in cover {
             let found = self.first_in_node(&trees, section, node);
@@ -242,11 +215,13 @@ impl<'a> Search<'a> {
 
     // The first cell that refuses of a township, section by section.
     fn first_in_township(&self, township: Township) -> Option<(Rule, Estate, Cell)>
+        requires sized { AreSized self.now }
+        requires of { list_any (same_township township) self.now.townships.now ≡ true }
         ensures first { result ≡ first_for self.now (township_cells depth township) }
     {
-        let trees = self.township_trees(township);
         for section in township.sections() {
-            let found = self.first_in_section(&trees, section);
+            let trees = self.section_trees(section);
+            let found = self.first_in_node(&trees, section, &section.node());
             if found.is_some() {
                 return found;
             }
@@ -256,6 +231,7 @@ impl<'a> Search<'a> {
 
     // The first cell that refuses of the plant, township by township.
     fn first_in_plant(&self) -> Option<(Rule, Estate, Cell)>
+        requires sized { AreSized self.now }
         ensures first { result ≡ first_for self.now (flat_map (township_cells depth) self.now.townships.now) }
     {
         let list = self.townships.list();
@@ -272,6 +248,7 @@ impl<'a> Search<'a> {
     /// township or section than the tract's.
     #[tactic(auto, using(crate::proofs::Firsts::plant_found, crate::proofs::Firsts::township_found, crate::proofs::Firsts::part_found))]
     pub(crate) fn first(&self) -> Option<(Rule, Estate, Cell)>
+        requires sized { AreSized self.now }
         requires within { is_in_plant self.now.townships.now self.now.tract.now ≡ true }
         ensures first { result ≡ first_for self.now (cells_of depth self.now.townships.now self.now.tract.now) }
     {

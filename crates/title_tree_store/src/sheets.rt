@@ -1,46 +1,38 @@
-//! Rows of sheets, read off a tree.
+//! Rows of sheets, read off trees.
 
-ghost use Rattle.std.specs.{Prelude.{◌≡◌, ◌+◌, ◌++◌, ◌∷◌, [], OnOk, IfOk}, List.{flat_map}, Option.{option_map}};
-ghost use Rattle.title_land.specs.{Depth.{depth}, Lands.{cover_of}};
-ghost use Rattle.title_tree.specs.{Pieces.{uniform_at}, Plots.{agreed, uniform}, Trees.{plot}};
-ghost use Rattle.title_land.specs.declared.node.Node.TheVariants as node;
-ghost use Rattle.title_store.specs.Sheets.{holding_rows, rows_or};
-ghost use Rattle.title_tree_store.specs.{Spots.{blocks, spots}, TreeSheets.{tree_sheet}};
+ghost use Rattle.std.specs.{Prelude.{◌≡◌, ◌+◌, ◌++◌, ◌∷◌, [], true, length, OnOk, IfOk}, List.{flat_map}, Option.{option_map}};
+ghost use Rattle.title_land.specs.{Depth.{depth}, Lands.{cover_of, is_in_plant}};
+ghost use Rattle.title_tree.specs.{Plots.{agreed, uniform}, Trees.{plot}};
+ghost use Rattle.title_store.specs.{Sheets.{holding_rows, rows_or}, Plants.{IsEachOnce}};
+ghost use Rattle.title_tree_store.specs.{Grounds.{grounds_uniform}, TreeSheets.{tree_sheet}, SquareSheets.{townships_sheet}};
 ghost use Rattle.title_tree_store.specs.SquareSheets.{part_sheet, plant_sheet, section_sheet, square_sheet, township_sheet};
+ghost use Rattle.title_land.specs.declared.node.Node.TheVariants as node;
 
-use crate::spots::{Paths, SECTION_LEVELS, add_spots};
+use crate::ground::Ground;
 use crate::townships::Townships;
-use crate::walks::{numbered, section_tree, square_tree, township_tree};
-use std::alloc::{AllocError, Global};
+use crate::walks::{ground_of, section_tree, square_tree};
+use std::alloc::AllocError;
 use title_instrument::Estate;
 use title_land::{Node, Quarter, Section, Township, Tract, Within};
 use title_share::Holding;
 use title_store::SheetRow;
-use title_tree::{Tree, is_same, uniform_at};
+use title_tree::{Tree, is_same};
 
-// The one holding of a township's cells, where they have one. The last four sections are the ninth of 16 squares.
-fn township_holding(tree: &Tree) -> Option<&Holding>
-    ensures holding { option_map (λ held. held.now) result ≡ uniform_at blocks (plot tree.now) }
+// The one holding of townships that all have it.
+fn holding_of(grounds: &[Ground]) -> Option<&Holding>
+    ensures holding { option_map (λ held. held.now) result ≡ grounds_uniform grounds.now }
 {
-    let held = tree.quarter(Quarter::Northeast).uniform()?;
-    let second = tree.quarter(Quarter::Northwest).uniform()?;
-    let third = numbered(tree, 2, 8).uniform()?;
-    (is_same(second, third) && is_same(held, second)).then_some(held)
-}
-
-// The one holding of the plant's cells, where they have one.
-fn plant_holding<'a>(
-    alloc: Global,
-    tree: &'a Tree,
-    levels: usize,
-    townships: &Townships,
-) -> Result<Option<&'a Holding>, AllocError>
-    ensures holding { IfOk result (λ o. option_map (λ held. held.now) o
-        ≡ uniform_at (spots levels townships.now node.Everything) (plot tree.now)) }
-{
-    let mut paths = Paths::Nothing;
-    add_spots(alloc, levels, townships, Node::Everything, &mut paths)?;
-    Ok(uniform_at(tree, paths.as_slice()))
+    let (first, rest) = grounds.split_first()?;
+    let held = first.uniform()?;
+    if rest.is_empty() {
+        return Some(held);
+    }
+    let other = holding_of(rest)?;
+    if is_same(held, other) {
+        Some(held)
+    } else {
+        None
+    }
 }
 
 // Adds one row for each entry of a holding.
@@ -169,86 +161,95 @@ fn add_parts(
     Ok(())
 }
 
-// Adds the sheet of a section from what stands in its township.
+// Adds the sheet of a section.
 fn add_section(
-    tree: &Tree,
+    ground: &Ground,
     section: Section,
     estate: Estate,
     rows: &mut Vec<SheetRow>,
 ) -> Result<(), AllocError>
-    ensures rows { OnOk result (rows.new.items ≡ rows.old.items ++ section_sheet (plot tree.now) estate section) }
+    ensures rows { OnOk result (rows.new.items ≡ rows.old.items ++ section_sheet ground.now estate section) }
 {
-    let stands = numbered(tree, SECTION_LEVELS, usize::from(section.number - 1));
+    let stands = ground.section(usize::from(section.number - 1));
     add_square(stands, section, Within::section(), estate, rows)?;
     Ok(())
 }
 
-// Adds the sheet of a township from what stands there.
+// Adds the sheet of a township.
 fn add_township(
-    tree: &Tree,
+    ground: &Ground,
     township: Township,
     estate: Estate,
     rows: &mut Vec<SheetRow>,
 ) -> Result<(), AllocError>
-    ensures rows { OnOk result (rows.new.items ≡ rows.old.items ++ township_sheet (plot tree.now) estate township) }
+    ensures rows { OnOk result (rows.new.items ≡ rows.old.items ++ township_sheet ground.now estate township) }
 {
-    if let Some(held) = township_holding(tree) {
+    if let Some(held) = ground.uniform() {
         return add_entries(&Node::Township(township), estate, held, rows);
     }
     for section in township.sections() {
-        add_section(tree, section, estate, rows)?;
+        add_section(ground, section, estate, rows)?;
     }
     Ok(())
 }
 
+// Adds the sheets of townships.
+fn add_townships(
+    grounds: &[Ground],
+    townships: &[Township],
+    estate: Estate,
+    rows: &mut Vec<SheetRow>,
+) -> Result<(), AllocError>
+    ensures rows { OnOk result (rows.new.items ≡ rows.old.items ++ townships_sheet grounds.now estate townships.now) }
+{
+    let (Some((ground, grounds)), Some((township, townships))) = (
+        grounds.split_first(),
+        townships.split_first(),
+    ) else {
+        return Ok(());
+    };
+    add_township(ground, *township, estate, rows)?;
+    add_townships(grounds, townships, estate, rows)
+}
+
 // Adds the sheet of the whole plant.
 fn add_plant(
-    alloc: Global,
-    tree: &Tree,
-    levels: usize,
+    grounds: &[Ground],
     townships: &Townships,
     estate: Estate,
     rows: &mut Vec<SheetRow>,
 ) -> Result<(), AllocError>
-    ensures rows { OnOk result (rows.new.items ≡ rows.old.items ++ plant_sheet levels townships.now (plot tree.now) estate) }
+    ensures rows { OnOk result (rows.new.items ≡ rows.old.items ++ plant_sheet grounds.now estate townships.now) }
 {
-    let held = plant_holding(alloc, tree, levels, townships)?;
-    if let Some(held) = held {
+    if let Some(held) = holding_of(grounds) {
         return add_entries(&Node::Everything, estate, held, rows);
     }
-    let list = townships.list();
-    for township in list {
-        let stands = township_tree(tree, levels, townships, *township);
-        add_township(stands, *township, estate, rows)?;
-    }
-    Ok(())
+    add_townships(grounds, townships.list(), estate, rows)
 }
 
 /// Adds the sheet of a tract for one estate: the sheets of its cover's nodes in order. The nodes of a part of a section are
 /// walked to from the section, which is found once.
 pub(crate) fn add_estate(
-    alloc: Global,
-    tree: &Tree,
-    levels: usize,
+    grounds: &[Ground],
     townships: &Townships,
     estate: Estate,
     tract: &Tract,
     rows: &mut Vec<SheetRow>,
 ) -> Result<(), AllocError>
+    requires once { IsEachOnce townships.now }
+    requires sized { length grounds.now ≡ length townships.now }
+    requires within { is_in_plant townships.now tract.now ≡ true }
     ensures rows { OnOk result (rows.new.items ≡ rows.old.items
-        ++ flat_map (tree_sheet (depth + 2) levels townships.now (plot tree.now) estate) (cover_of depth tract.now)) }
+        ++ flat_map (tree_sheet (depth + 2) townships.now grounds.now estate) (cover_of depth tract.now)) }
 {
-    let Some((first, _)) = tract.cover().split_first() else {
-        return Ok(());
-    };
-    match first {
-        Node::Everything => add_plant(alloc, tree, levels, townships, estate, rows),
+    match tract.home() {
+        Node::Everything => add_plant(grounds, townships, estate, rows),
         Node::Township(township) => {
-            let stands = township_tree(tree, levels, townships, *township);
-            add_township(stands, *township, estate, rows)
+            let ground = ground_of(grounds, townships, township);
+            add_township(ground, township, estate, rows)
         }
         Node::Part(section, _) => {
-            let stands = section_tree(tree, levels, townships, *section);
+            let stands = section_tree(grounds, townships, section);
             add_parts(stands, tract.cover(), estate, rows)
         }
     }

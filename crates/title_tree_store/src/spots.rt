@@ -1,16 +1,22 @@
-//! Where nodes and cells lie in a tree of the plant.
+//! Where tracts lie in a store.
 
-ghost use Rattle.std.specs.Prelude.{◌≡◌, ◌++◌, ◌∷◌, [], OnOk, IfOk};
-ghost use Rattle.title_tree_store.specs.Spots.{township_path, square_path, township_spots, spots, tract_spots, paths_in};
+ghost use Rattle.std.specs.Prelude.{◌≡◌, ◌<◌, ◌-◌, ◌++◌, ◌∷◌, [], true, length, OnOk, IfOk};
+ghost use Rattle.title_land.specs.Lands.{is_in_plant};
+ghost use Rattle.title_tree_store.specs.Spots.{home_in, node_ways, tract_ways, paths_in, IsHome};
 
 use crate::townships::Townships;
 use std::alloc::{AllocError, Global};
 use std::slice;
-use title_land::{Node, Quarter, Section, Township, Tract, Within};
+use title_land::{Node, Section, Tract};
 use title_tree::Path;
 
-/// The levels from a township down to its sections.
-pub(crate) const SECTION_LEVELS: usize = 3;
+/// Where a tract lies: in all townships, in that of an index, or in a section of that one, counted from 0.
+#[derive(Clone, Copy)]
+pub(crate) enum Home {
+    Everything,
+    Township(usize),
+    Section(usize, usize),
+}
 
 /// Paths of nodes: one alone takes no memory.
 #[derive(Drop)]
@@ -56,95 +62,49 @@ impl Paths {
     }
 }
 
-// The path of a square of a section.
-#[tactic(auto, using(crate::proofs::Squares::square_from_inside))]
-fn square_path(
-    levels: usize,
-    townships: &Townships,
-    section: Section,
-    square: Within,
-) -> Result<Path, AllocError>
-    ensures path { IfOk result (λ p. p ≡ square_path levels townships.now section square) }
+// The index of a section in its township.
+fn section_index(section: Section) -> usize
+    ensures index { result ≡ section.number - 1 }
+    ensures below { result < 36 }
 {
-    let within = Path::root().inside_square(square)?;
-    let below = within.inside_number(SECTION_LEVELS, usize::from(section.number - 1))?;
-    let path = below.inside_number(levels, townships.index_of(section.township))?;
-    Ok(path)
+    usize::from(section.number - 1)
 }
 
-// Adds the path of a part of a township, by that from the township.
-fn add_block(
-    alloc: Global,
-    levels: usize,
-    townships: &Townships,
-    township: Township,
-    block: Path,
-    paths: &mut Paths,
-) -> Result<(), AllocError>
-    ensures paths { OnOk result (paths_in paths.new
-        ≡ paths_in paths.old ++ (township_path levels townships.now township ++ block) ∷ []) }
+/// Where a tract lies.
+#[tactic(auto, using(crate::proofs::CellPaths::index_below))]
+pub(crate) fn home_of(townships: &Townships, tract: &Tract) -> Home
+    requires within { is_in_plant townships.now tract.now ≡ true }
+    ensures home { result ≡ home_in townships.now tract.now }
+    ensures there { IsHome (length townships.now) result }
 {
-    let path = block.inside_number(levels, townships.index_of(township))?;
-    paths.add(alloc, path)
-}
-
-// Adds the paths of the three nodes that have a township's 36 sections.
-fn add_township(
-    alloc: Global,
-    levels: usize,
-    townships: &Townships,
-    township: Township,
-    paths: &mut Paths,
-) -> Result<(), AllocError>
-    ensures paths { OnOk result (paths_in paths.new ≡ paths_in paths.old ++ township_spots levels townships.now township) }
-{
-    let northeast = Path::root().inside(Quarter::Northeast)?;
-    let northwest = Path::root().inside(Quarter::Northwest)?;
-    let third = northeast.inside(Quarter::Southwest)?;
-    add_block(alloc, levels, townships, township, northeast, paths)?;
-    add_block(alloc, levels, townships, township, northwest, paths)?;
-    add_block(alloc, levels, townships, township, third, paths)
-}
-
-/// Adds the paths of the tree's nodes that together have a node's cells.
-pub(crate) fn add_spots(
-    alloc: Global,
-    levels: usize,
-    townships: &Townships,
-    node: Node,
-    paths: &mut Paths,
-) -> Result<(), AllocError>
-    ensures paths { OnOk result (paths_in paths.new ≡ paths_in paths.old ++ spots levels townships.now node) }
-{
-    match node {
-        Node::Everything => {
-            let list = townships.list();
-            for township in list {
-                add_township(alloc, levels, townships, *township, paths)?;
-            }
-            Ok(())
-        }
-        Node::Township(township) => add_township(alloc, levels, townships, township, paths),
-        Node::Part(section, within) => {
-            let path = square_path(levels, townships, section, within)?;
-            paths.add(alloc, path)
+    match tract.home() {
+        Node::Everything => Home::Everything,
+        Node::Township(township) => Home::Township(townships.index_of(township)),
+        Node::Part(section, _) => {
+            Home::Section(townships.index_of(section.township), section_index(section))
         }
     }
 }
 
-/// The paths of the tree's nodes that together have a tract's cells.
-pub(crate) fn tract_spots(
-    alloc: Global,
-    levels: usize,
-    townships: &Townships,
-    tract: &Tract,
-) -> Result<Paths, AllocError>
-    ensures paths { IfOk result (λ paths. paths_in paths ≡ tract_spots levels townships.now tract.now) }
+// Adds the path of a square from its section.
+fn add_way(alloc: Global, node: &Node, paths: &mut Paths) -> Result<(), AllocError>
+    ensures paths { OnOk result (paths_in paths.new ≡ paths_in paths.old ++ node_ways node.now) }
+{
+    if let Node::Part(_, within) = node {
+        let path = Path::root().inside_square(*within)?;
+        paths.add(alloc, path)?;
+    }
+    Ok(())
+}
+
+/// The paths of a tract's squares from their section.
+pub(crate) fn ways(alloc: Global, tract: &Tract) -> Result<Paths, AllocError>
+    ensures ways { IfOk result (λ paths. paths_in paths ≡ tract_ways tract.now) }
 {
     let mut paths = Paths::Nothing;
     let cover = tract.cover();
     for node in cover {
-        add_spots(alloc, levels, townships, *node, &mut paths)?;
+        add_way(alloc, node, &mut paths)?;
     }
     Ok(paths)
 }

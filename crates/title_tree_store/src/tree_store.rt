@@ -1,15 +1,15 @@
 //! The plant as trees of quarters, one for each estate.
 
-ghost use Rattle.std.specs.Prelude.{◌≡◌, ◌≤◌, ◌^◌};
+ghost use Rattle.std.specs.Prelude.{length};
 ghost use Rattle.title_store.specs.Plants.{IsEachOnce};
-ghost use Rattle.title_tree_store.specs.{Forests.{plots, are_joined}, Keeping.{content_of, loans_of, IsKept, AreJoined}, Out.{images}};
-ghost use Rattle.title_tree_store.specs.Propositions.{once_prop, kept_prop, joined_prop};
+ghost use Rattle.title_tree_store.specs.{Forests.{plots, are_joined, AreHomes}, Keeping.{content_of, loans_of, IsKept, AreJoined}};
+ghost use Rattle.title_tree_store.specs.{Out.{images}, Propositions.{once_prop, kept_prop, joined_prop, home_prop}};
 
 use crate::forest::Forest;
 use crate::lent::Images;
 use crate::refusals::Search;
 use crate::sheets::add_estate;
-use crate::spots::tract_spots;
+use crate::spots::{home_of, ways};
 use crate::townships::Townships;
 use crate::walks::section_tree;
 use std::alloc::{AllocError, Global};
@@ -30,24 +30,12 @@ pub struct Image {
 pub struct TreeStore {
     alloc: Global,
     townships: Townships,
-    // The levels from the root down to a township.
-    levels: usize,
     forest: Forest,
     lent: Images,
     ghost once: { IsEachOnce townships } by { Prim.hlevel once_prop },
-    ghost kept: { IsKept levels townships (plots forest) (images lent) lent.next } by { kept_prop _ _ _ _ _ },
+    ghost kept: { IsKept townships forest (images lent) lent.next } by { kept_prop _ _ _ _ },
     ghost joined: { AreJoined forest (images lent) } by { joined_prop _ _ },
-}
-
-// How many levels have a path for each of so many townships.
-fn levels_for(count: usize) -> usize
-    ensures room { count ≤ 4 ^ result }
-    ensures bound { result ≤ count }
-{
-    if count <= 1 {
-        return 0;
-    }
-    levels_for(count / 4 + 1) + 1
+    ghost noted: { AreHomes (length townships) forest.written.items } by { Prim.hlevel home_prop },
 }
 
 impl TreeStore {
@@ -60,24 +48,22 @@ impl TreeStore {
 impl Store for TreeStore {
     type Image = Image;
 
-    ghost content = { λ s. content_of s.levels s.townships (plots s.forest) };
+    ghost content = { λ s. content_of s.townships (plots s.forest) };
 
     ghost declared = { λ s. s.townships };
 
-    ghost out = { λ s. loans_of s.levels s.townships (plots s.forest) (images s.lent) };
+    ghost out = { λ s. loans_of s.townships (plots s.forest) (images s.lent) };
 
     ghost number = { λ i. i.number };
 
     ghost is_joined = { λ s. are_joined s.forest };
 
     fn open(alloc: Global, townships: &[Township]) -> Result<TreeStore, AllocError> {
-        let levels = levels_for(townships.len());
-        let forest = Forest::open(alloc)?;
+        let forest = Forest::open(alloc, townships.len())?;
         let townships = Townships::new(alloc, townships)?;
         Ok(TreeStore {
             alloc,
             townships,
-            levels,
             forest,
             lent: Images::new(alloc),
         })
@@ -92,15 +78,16 @@ impl Store for TreeStore {
     }
 
     fn put(&mut self, tract: &Tract, instrument: &Instrument) -> Result<Put<Image>, AllocError> {
-        let paths = tract_spots(self.alloc, self.levels, &self.townships, tract)?;
+        let home = home_of(&self.townships, tract);
+        let paths = ways(self.alloc, tract)?;
         match self
             .forest
-            .changed(self.alloc, paths.as_slice(), instrument)
+            .changed(self.alloc, home, paths.as_slice(), instrument)
         {
             Ok(mut trees) => {
                 let land = tract.copy(self.alloc)?;
                 self.lent.reserve()?;
-                self.forest.quarter(self.alloc, paths, instrument)?;
+                self.forest.quarter(self.alloc, home, paths, instrument)?;
                 self.forest.exchange(&mut trees);
                 let number = self.lent.add(land, trees);
                 Ok(Put::Done(Image { number }))
@@ -108,7 +95,6 @@ impl Store for TreeStore {
             Err(Fault::Memory) => Err(AllocError),
             Err(Fault::Refused(_)) => {
                 let search = Search {
-                    levels: self.levels,
                     townships: &self.townships,
                     forest: &self.forest,
                     tract,
@@ -136,9 +122,8 @@ impl Store for TreeStore {
         let mut rows = Vec::new(alloc);
         for estate in [Estate::S, Estate::O, Estate::M] {
             let tree = self.forest.of(estate);
-            let levels = self.levels;
             let townships = &self.townships;
-            add_estate(alloc, tree, levels, townships, estate, tract, &mut rows)?;
+            add_estate(tree, townships, estate, tract, &mut rows)?;
         }
         Ok(rows)
     }
@@ -151,15 +136,14 @@ impl Store for TreeStore {
     ) -> Result<Vec<SheetRow>, AllocError> {
         let mut rows = Vec::new(alloc);
         let tree = self.forest.of(estate);
-        let levels = self.levels;
         let townships = &self.townships;
-        add_estate(alloc, tree, levels, townships, estate, tract, &mut rows)?;
+        add_estate(tree, townships, estate, tract, &mut rows)?;
         Ok(rows)
     }
 
     fn is_one(&self, _alloc: Global, estate: Estate, section: Section) -> Result<bool, AllocError> {
         let tree = self.forest.of(estate);
-        let stands = section_tree(tree, self.levels, &self.townships, section);
+        let stands = section_tree(tree, &self.townships, section);
         Ok(stands.uniform().is_some())
     }
 

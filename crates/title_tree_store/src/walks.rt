@@ -1,50 +1,41 @@
-//! Walks down a tree to what stands in a square. None takes memory.
+//! What stands in a section or in a square of it. Nothing takes memory.
 
-ghost use Rattle.std.specs.Prelude.{◌≡◌, IfOk};
-ghost use Rattle.title_tree.specs.{Paths.{way, number_path}, Plots.{plot_at}, Trees.{plot}};
-ghost use Rattle.title_tree_store.specs.Spots.{township_path, section_path};
+ghost use Rattle.std.specs.{Prelude.{◌≡◌, ◌-◌, true, length, IfOk}, List.{list_any}};
+ghost use Rattle.title_land.specs.Survey.{same_township};
+ghost use Rattle.title_tree.specs.{Paths.{way}, Plots.{plot_at}, Trees.{plot}};
+ghost use Rattle.title_tree_store.specs.{Grounds.{plot_in}, Spots.{index_of}, SquareSheets.{IsAt}};
 
-use crate::spots::SECTION_LEVELS;
+use crate::ground::Ground;
 use crate::townships::Townships;
 use std::alloc::AllocError;
-use title_land::{Quarter, Section, Township, Within};
+use title_land::{Section, Township, Within};
 use title_tree::{Path, Tree};
 
-/// What stands in the square of this number among those that lie so many levels below.
-pub(crate) fn numbered(tree: &Tree, levels: usize, number: usize) -> &Tree
-    ensures stands { plot result.now ≡ plot_at (number_path levels number) (plot tree.now) }
-{
-    if levels == 0 {
-        return tree;
-    }
-    let outer = numbered(tree, levels - 1, number / 4);
-    outer.quarter(Quarter::numbered(number % 4))
-}
-
 /// What stands in a township.
-pub(crate) fn township_tree<'a>(
-    tree: &'a Tree,
-    levels: usize,
+#[tactic(auto, using(crate::proofs::CellPaths::index_below))]
+pub(crate) fn ground_of<'a>(
+    grounds: &'a [Ground],
     townships: &Townships,
     township: Township,
-) -> &'a Tree
-    ensures stands { plot result.now ≡ plot_at (township_path levels townships.now township) (plot tree.now) }
+) -> &'a Ground
+    requires sized { length grounds.now ≡ length townships.now }
+    requires of { list_any (same_township township) townships.now ≡ true }
+    ensures at { IsAt grounds.now (index_of townships.now township) result.now }
 {
-    numbered(tree, levels, townships.index_of(township))
+    &grounds[townships.index_of(township)]
 }
 
 /// What stands in a section.
-#[tactic(auto, using(crate::proofs::Standing::join_down))]
 pub(crate) fn section_tree<'a>(
-    tree: &'a Tree,
-    levels: usize,
+    grounds: &'a [Ground],
     townships: &Townships,
     section: Section,
 ) -> &'a Tree
-    ensures stands { plot result.now ≡ plot_at (section_path levels townships.now section) (plot tree.now) }
+    requires sized { length grounds.now ≡ length townships.now }
+    requires of { list_any (same_township section.township) townships.now ≡ true }
+    ensures stands { plot result.now ≡ plot_in grounds.now (index_of townships.now section.township) (section.number - 1) }
 {
-    let township = township_tree(tree, levels, townships, section.township);
-    numbered(township, SECTION_LEVELS, usize::from(section.number - 1))
+    ground_of(grounds, townships, section.township).section(usize::from(section.number - 1))
 }
 
 /// What stands in a square of a section, from what stands in the section.

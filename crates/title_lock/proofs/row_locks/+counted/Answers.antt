@@ -1,8 +1,8 @@
 -- One row more is one examiner's.
 use Rattle.std.proofs.Common.{◌≡◌, ◌≤◌, ◌+◌, ◌++◌, ◌∷◌, [], ℕ, Option, List, reverse, subst, sym, ap, ◌∙◌, arith}
 use Rattle.title_land.specs.{Depth.{depth}, Lands.{cover_of}}
-use Rattle.title_lock.specs.{declared.{guards.Entry.{Entry}, modes.Mode.{Mode}}, Modes.{bound}, Asking.{mode_at}, Counts.{IsCount}, Holders.{own_part, count_in}}
-use Rattle.title_lock.proofs.{CountLaws.{own_counted, count_few}, RowLaws.{row_counted}}
+use Rattle.title_lock.specs.{declared.{guards.Entry.{Entry}, modes.Mode.{Mode}}, Modes.{bound}, Asking.{mode_at}, Counts.{IsCount}}
+use Rattle.title_lock.{specs.Holders.{own_part, count_in}, proofs.{CountLaws.{own_counted, count_few}, RowLaws.{row_counted}}}
 use Rattle.title_lock.proofs.row_locks.+counted.Goals as goal
 
 pub moved-requires-clause-counted : goal.moved-requires-clause-counted
@@ -22,6 +22,7 @@ moved-requires-clause-fits t c m =
 pub returns-clause-counted : goal.returns-clause-counted
 returns-clause-counted t c m =
     row_counted depth c.args.rows.now c.in-Some.older.now c.entry-entry.result.now c.args.node.now m (count_in c.counted-counts.result m)
-    (count_in c.moved.result m) c.mode_in-had.result c.bound.result (c.in-Some.ensures.cases.0 ∙ ap (λ (x : Entry). c.in-Some.older.now ++ x ∷ []) (sym c.entry-entry.ensures.entry)) c.mode_in-had.ensures.mode
-    (c.bound.ensures.bound ∙ ap (λ (o : Option Mode). bound o c.mode_in-had.result) c.mode_by.ensures.mode)
+    (count_in c.moved.result m) c.mode_in-had.result c.bound.result
+    (c.in-Some.ensures.cases.0 ∙ ap (λ (x : Entry). c.in-Some.older.now ++ x ∷ []) (sym c.entry-entry.ensures.entry))
+    c.mode_in-had.ensures.mode (c.bound.ensures.bound ∙ ap (λ (o : Option Mode). bound o c.mode_in-had.result) c.mode_by.ensures.mode)
     (c.counted-counts.ensures.counted m) (c.moved.ensures.moved m)

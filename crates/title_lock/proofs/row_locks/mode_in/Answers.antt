@@ -12,7 +12,8 @@ loop-row-preserved c =
     let n = c.args.node.now in
     let x = c.entry.result.now in
     let before = reverse (take c.loop-row.row-index c.args.rows.now) in
-    let turned = ap (λ (z : Entry). z ∷ before) (c.entry.ensures.entry ∙ c.row-item.is) ∙ sym (turned_more c.args.rows.now c.loop-row.row-index c.row-item.result low) in
+    let turned = ap (λ (z : Entry). z ∷ before) (c.entry.ensures.entry ∙ c.row-item.is)
+    ∙ sym (turned_more c.args.rows.now c.loop-row.row-index c.row-item.result low) in
     c.bound-mode.ensures.bound
     ∙ ap (λ (m : Option Mode). bound m c.loop-row.mode) c.mode_by.ensures.mode
     ∙ ap (bound (cond (eqb e x.examiner) (asked (is_post x.access) (cover_of depth x.tract) n) None)) c.loop-row.invariant

@@ -27,8 +27,8 @@ loop-row-preserved c =
           let elsewhere : c.is_elsewhere.result ≡ true = grind (arith, w.if-not-is_elsewhere.false) in
           subst (λ (o : Option ℕ). Stands (x ∷ before) e land p o) (sym w.way'-is)
           (passed_over x before e land p c.loop-row.way
-          (ap (is_elsewhere (home_number x.tract)) (sym c.home_number-home.ensures.number) ∙ sym c.is_elsewhere.ensures.elsewhere ∙ elsewhere)
-          c.loop-row.invariant)
+          (ap (is_elsewhere (home_number x.tract)) (sym c.home_number-home.ensures.number)
+          ∙ sym c.is_elsewhere.ensures.elsewhere ∙ elsewhere) c.loop-row.invariant)
     ])
 
 pub returns : goal.returns

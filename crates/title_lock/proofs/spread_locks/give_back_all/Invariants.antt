@@ -2,7 +2,7 @@
 -- nobody more is idle.
 use Rattle.std.{proofs.Common.{◌≡◌, ℕ, None, ◌&&◌, cond, eqb, length}, specs.List.{list_any}}
 use Rattle.title_land.specs.{Depth.{depth}, declared.node.Node.{Node}}
-use Rattle.title_lock.specs.{Overlaps.{without}, Tables.{table_mode, is_asked_by, NoMoreIdle, TableUsed, on_all}}
+use Rattle.title_lock.specs.{Overlaps.{without}, Tables.{table_mode, is_asked_by, NoMoreIdle, AllUsed, on_all}}
 use Rattle.title_lock.proofs.spread_locks.give_back_all.Given as goal
 
 abbrev pub invariant-loop-entry : goal.invariant-loop-entry
@@ -12,7 +12,7 @@ invariant-loop-entry l = record {
       (table_mode (on_all l.table) f n)
       ≡ cond (eqb f l.examiner && list_any (is_asked_by depth l.examiner n) l.initial.book) None (table_mode (on_all l.initial.table) f n);
   idle : NoMoreIdle (on_all l.initial.table) (on_all l.table);
-  used : TableUsed l.initial.table → TableUsed l.table;
+  used : AllUsed (on_all l.initial.table) → AllUsed (on_all l.table);
 }
 
 abbrev pub decreases-loop-entry : goal.decreases-loop-entry

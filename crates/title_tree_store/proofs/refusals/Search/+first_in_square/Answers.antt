@@ -1,7 +1,7 @@
 -- The quarters come in their order; none of a square that doesn't refuse.
-use Rattle.std.proofs.Common.{◌∙◌, List, length, ap, sym, arith, refl}
+use Rattle.std.proofs.Common.{◌∙◌, List, length, ap, sym, arith}
 use Rattle.title_land.specs.declared.rectangle.Quarter.{Quarter}
-use Rattle.title_tree_store.{specs.Refusing.{first_for}, proofs.Firsts.{first_join, quarter_here, quarter_later}}
+use Rattle.title_tree_store.{specs.Refusing.{first_for}, proofs.Firsts.{square_cells, quarter_here, quarter_later}}
 use Rattle.title_tree_store.proofs.Standing.{alike_square, has_levels, stands_down}
 use Rattle.title_tree_store.proofs.refusals.Search.+first_in_square.Goals as goal
 
@@ -13,7 +13,9 @@ returns-then-are_alike t c = record {
 }
 
 pub loop-which-init : goal.loop-which-init
-loop-which-init t c = (has_levels c.args.below _ (sym c.are_alike.ensures.alike ∙ c.if-are_alike.false), refl)
+loop-which-init t c =
+    let more = has_levels c.args.below _ (sym c.are_alike.ensures.alike ∙ c.if-are_alike.false) in
+    (more, ap (first_for c.args.self.now) (square_cells c.args.section c.args.below c.args.within more))
 
 pub first_in_square-found-requires : goal.first_in_square-found-requires
 first_in_square-found-requires t c =
@@ -28,17 +30,16 @@ first_in_square-found-requires t c =
 
 pub returns-then-is_some : goal.returns-then-is_some
 returns-then-is_some t c = record {
-  first = quarter_here (first_for c.args.self.now) (first_join c.args.self.now) c.args.section c.args.below c.args.within
-      c.quarter-in-loop-which.result c.loop-which.which-index c.loop-which-test.true c.quarter-in-loop-which.ensures.quarter
-      c.first_in_square-found.result c.first_in_square-found.ensures.first (sym c.is_some.ensures ∙ c.if-is_some.true)
-      c.loop-which.invariant.0 c.loop-which.invariant.1;
+  first = quarter_here c.args.self.now c.args.section c.args.below c.args.within c.quarter-in-loop-which.result c.loop-which.which-index
+      c.loop-which-test.true c.quarter-in-loop-which.ensures.quarter c.first_in_square-found.result c.first_in_square-found.ensures.first
+      (sym c.is_some.ensures ∙ c.if-is_some.true) ∙ sym c.loop-which.invariant.1;
 }
 
 pub loop-which-preserved : goal.loop-which-preserved
 loop-which-preserved t c = (
   c.loop-which.invariant.0,
   c.loop-which.invariant.1
-      ∙ quarter_later (first_for c.args.self.now) (first_join c.args.self.now) c.args.section c.args.below c.args.within
-      c.quarter-in-loop-which.result c.loop-which.which-index c.loop-which-test.true c.quarter-in-loop-which.ensures.quarter
-      c.first_in_square-found.result c.first_in_square-found.ensures.first (sym c.is_some.ensures ∙ c.if-is_some.false),
+      ∙ quarter_later c.args.self.now c.args.section c.args.below c.args.within c.quarter-in-loop-which.result c.loop-which.which-index
+      c.loop-which-test.true c.quarter-in-loop-which.ensures.quarter c.first_in_square-found.result c.first_in_square-found.ensures.first
+      (sym c.is_some.ensures ∙ c.if-is_some.false),
 )

@@ -9,6 +9,6 @@ returns c =
     let store = c.args.self.now in
     record {
       one = one_test (λ held. held.now) c.uniform.result c.is_some.result _ c.is_some.ensures (c.uniform.ensures.uniform
-          ∙ section_one store.kept c.args.estate c.args.section (plot c.section_tree-stands.result.now) c.requires.within
+          ∙ section_one store.kept store.once c.args.estate c.args.section (plot c.section_tree-stands.result.now) c.requires.within
           (rw c.of-tree.ensures.of at c.section_tree-stands.ensures.stands));
     }
