@@ -1,6 +1,6 @@
 -- Entries of one examiner alone.
 use Rattle.std.proofs.lemmas.{Bool.{Decides.{nat_tests}, ne_eqb}, List.Elements.{All-head, All-tail, All-same, All-filter}}
-use Rattle.std.proofs.Common.{◌≡◌, ◌≢◌, ℕ, Bool, false, not, List, [], ◌∷◌, Option, Some, None, eqb, refl, sym, ap, subst, ◌∙◌, arith}
+use Rattle.std.proofs.Common.{◌≡◌, ◌≢◌, ℕ, Bool, false, not, List, [], ◌∷◌, None, eqb, refl, sym, ap, subst, ◌∙◌, arith}
 use Rattle.title_land.specs.declared.{node.Node.{Node}, tract.Land.{Land}}
 use Rattle.title_lock.specs.{declared.{guards.Entry.{Entry}, modes.Mode.{Mode}}, Asking.{mode_at}, Counts.{IsCount}, Holders.{own_part}}
 use Rattle.title_lock.specs.{Overlaps.{against, Stands, without}, declared.node_locks.Layout.{Layout, TheVariants.{Alone}}}

@@ -1,6 +1,6 @@
 -- What is done at one node, and along one part of a walk and then another, is done along both.
-use Rattle.std.proofs.Common.{◌≡◌, ℕ, Bool, true, false, cond, not, ◌&&◌, ◌||◌, List, [], ◌∷◌, ◌++◌, Option, Some, None, eqb, refl, sym, ap}
-use Rattle.std.proofs.{Common.{subst, ◌∙◌, true≢false, append_assoc, append-nil}, lemmas.Bool.{or_left, or_right}}
+use Rattle.std.proofs.Common.{◌≡◌, ℕ, Bool, true, cond, not, ◌&&◌, ◌||◌, List, [], ◌∷◌, ◌++◌, Option, Some, None, eqb, refl, sym, ap}
+use Rattle.std.proofs.{Common.{subst, ◌∙◌, append_assoc, append-nil}, lemmas.Bool.{or_left, or_right}}
 use Rattle.std.proofs.{Common.{arith}, lemmas.List.Folds.{list_any-append}}
 use mathlib.Core.Bool.{or-false}
 use Rattle.title_land.specs.{declared.node.Node.{Node}, Nodes.{same_node}, Laws.SameNode.{same_node-self, same_node-to}}

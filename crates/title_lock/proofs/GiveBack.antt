@@ -1,8 +1,8 @@
 -- Tables and entries after an entry more, and after an examiner's are given back.
-use Rattle.std.proofs.Common.{◌≡◌, ℕ, Bool, true, false, cond, not, ◌&&◌, ◌||◌, List, [], ◌∷◌, ◌++◌, Option, None, eqb, refl, sym, ap, ◌∙◌}
-use Rattle.std.proofs.{Common.{arith}, lemmas.List.{Elements.{All-cons, All-filter, All-weaker, filter_passes}, Folds.{list_any_none}}}
-use Rattle.std.{proofs.lemmas.Bool.{or_parts, ne_eqb, eq-eqb, and_left, both_ways, not-true, Decides.{nat_tests}}, specs.List.{list_any}}
-use Rattle.title_lock.specs.{declared.{modes.Mode.{Mode}, table.Table.{Table}, guards.Entry.{Entry}}, Modes.{bound, allows}}
+use Rattle.std.proofs.Common.{◌≡◌, ℕ, Bool, false, cond, not, ◌&&◌, ◌||◌, List, [], ◌∷◌, ◌++◌, Option, None, eqb, refl, sym, ap, ◌∙◌}
+use Rattle.std.proofs.{Common.{arith}, lemmas.List.{Elements.{All-cons, All-filter}}}
+use Rattle.std.{proofs.lemmas.Bool.{Decides.{nat_tests}}, specs.List.{list_any}}
+use Rattle.title_lock.specs.{declared.{modes.Mode.{Mode}, table.Table.{Table}, guards.Entry.{Entry}}, Modes.{bound}}
 use Rattle.title_lock.{specs.{Overlaps.{Stands, is_post, without}, Asking.{asked, mode_at}, Books.{IsNewest}}, proofs.ModeLaws.{bound_turn}}
 use Rattle.title_lock.{specs.Tables.{on_all, table_mode, is_asked, is_asked_by, TableIs}, proofs.WalkLaws.{asked_some, none_some}}
 use Rattle.title_lock.proofs.Overlap.{MeetByCovers, Apart, apart_more, entries_stand}

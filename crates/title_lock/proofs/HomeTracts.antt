@@ -1,10 +1,9 @@
 -- Tracts of different sections share no cell, so an entry of another section is passed over.
 use Rattle.std.proofs.{Common.{◌≡◌, ap, ℕ, Bool, true, false, ◌&&◌, List, ◌∷◌, Option, arith}, lemmas.Bool.Decides.{nat_tests}}
 use Rattle.title_land.specs.{declared.{survey.Section.{Section}, grid.Grid.{Grid}, tract.Land.{Land}}, Survey.{same_section}, Lands.{meets}}
-use Rattle.title_land.specs.{Grids.{grids_meet}, NodeNumbers.{node_number}, Laws.SameLand.{same_section-is}}
-use Rattle.title_lock.specs.{declared.guards.Entry.{Entry}, Homes.{home_number, is_elsewhere}, Overlaps.{is_post, against, overlap, Stands}}
+use Rattle.title_land.specs.{Grids.{grids_meet}, Laws.SameLand.{same_section-is}}
+use Rattle.title_lock.specs.{declared.guards.Entry.{Entry}, Homes.{home_number, is_elsewhere}, Overlaps.{against, Stands}}
 use Rattle.title_lock.proofs.LeastLaws.{least_same}
-use Rattle.title_land.specs.declared.node.Node.TheVariants as node
 use Rattle.title_land.specs.declared.tract.Land.TheVariants as land
 
 parts_apart : (s u : Section) (g k : Grid) → same_section s u ≡ false → meets (land.Part s g) (land.Part u k) ≡ false

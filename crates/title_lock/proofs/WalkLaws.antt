@@ -1,7 +1,7 @@
 -- What a walk asks is what its access asks for, and what is done along its parts is done along the whole.
-use Rattle.std.proofs.Common.{◌≡◌, ℕ, Bool, true, false, cond, not, ◌&&◌, ◌||◌, List, [], ◌∷◌, ◌++◌, Option, Some, None, is_some, refl, sym}
+use Rattle.std.proofs.Common.{◌≡◌, Bool, true, false, cond, not, ◌&&◌, ◌||◌, List, [], ◌∷◌, ◌++◌, Option, Some, None, is_some, refl, sym}
 use Rattle.std.proofs.Common.{ap, ◌∙◌, true≢false, ◌<◌, length, arith}
-use Rattle.std.{proofs.lemmas.{Bool.{or_left, or_right, or_parts}, List.Folds.{list_any-append}}, specs.List.{list_any}}
+use Rattle.std.{proofs.lemmas.{Bool.{or_left, or_right, or_parts}}, specs.List.{list_any}}
 use Rattle.title_land.specs.{declared.node.Node.{Node}, Nodes.{same_node, parent_of, above, is_above}}
 use Rattle.title_land.specs.Laws.{NodeSharing.{above_is_transitive}, SameNode.{same_node-self, same_node-to}}
 use Rattle.title_lock.specs.{declared.modes.Mode.{Mode}, Modes.{bound}, Asking.{own_mode, above_mode, asked}, Holders.{clashes}}
@@ -121,5 +121,5 @@ clear_in p held (a ∷ l) fit =
     grind (arith, k.0 a.0, same_node-self a.0, clear_in p held l k.1)
 
 -- less is left after a walk's next node
-pub walk_shorter : (left : List Asked) (a : Asked) (rest : List Asked) → left ≡ a ∷ rest → length rest < length left
-walk_shorter left a rest parts = let long = ap (λ (z : List Asked). length z) parts in omega (arith, long)
+pub walk_shorter : {left : List Asked} {a : Asked} {rest : List Asked} → left ≡ a ∷ rest → length rest < length left
+walk_shorter parts = let long = ap (λ (z : List Asked). length z) parts in omega (arith, long)

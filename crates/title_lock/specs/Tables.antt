@@ -1,9 +1,8 @@
 -- What a table of locks says: who holds each node, and who has room there.
-use Rattle.std.specs.{Prelude.{ℕ, ◌≡◌, ◌≢◌, ◌==◌, Bool, true, false, ◌&&◌, ◌||◌, not, List, [], ◌∷◌, length}, List.{list_any}}
-use Rattle.std.specs.{Prelude.{Option, Some, None, is_some, IfSome}, Ordering.{nat_cmp}, BTreeMap.{BTreeMap, get}}
-use Rattle.title_land.specs.{declared.node.Node.{Node}, Nodes.{same_node, above_in, is_above}, Lands.{cover_of}}
-use Rattle.title_land.specs.NodeNumbers.{node_number, section_number}
-use Rattle.title_land.specs.declared.node.Node.TheVariants as node
+use Rattle.std.specs.{Prelude.{ℕ, ◌≡◌, ◌≢◌, ◌==◌, Bool, true, false, ◌&&◌, ◌||◌, not, List}, List.{list_any}}
+use Rattle.std.specs.{Prelude.{Option, Some, None}, Ordering.{nat_cmp}, BTreeMap.{BTreeMap, get}}
+use Rattle.title_land.specs.{declared.node.Node.{Node}, Nodes.{same_node, is_above}, Lands.{cover_of}}
+use Rattle.title_land.specs.NodeNumbers.{node_number}
 use Rattle.title_lock.specs.{declared.{modes.Mode.{Mode}, table.Table.{Table}, guards.Entry.{Entry}}, Modes.{allows}}
 use Rattle.title_lock.specs.{Asking.{mode_at, AreSized}, Holders.{Modes, holder_mode, has_room, idles, is_free}}
 

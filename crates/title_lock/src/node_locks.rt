@@ -15,10 +15,11 @@ use std::alloc::{AllocError, Global};
 use std::marker::Model;
 use title_land::{Node, Tract};
 
-// How many accesses may be listed once a second examiner has any, and to how many of them a tract may be held: one that lies in
-// another section costs only a look at a number. To go through so many costs a step no more than the nodes do.
+// How many accesses may be listed once a second examiner has any. To go through so many costs a step no more than the nodes do,
+// since one that lies in another section costs only a look at a number.
 const LISTED: usize = 512;
 
+// To how many of them an access may be held that is refused, which the nodes tell sooner.
 const CROWD: usize = 64;
 
 /// Where accesses stand.
@@ -188,7 +189,7 @@ impl Guards for NodeLocks {
         }
         if let Layout::Listed = self.layout {
             let (way, met) = way(self.listed.rows(), examiner, tract, access);
-            if self.listed.rows().len() < LISTED && met < CROWD {
+            if self.listed.rows().len() < LISTED && (met < CROWD || way.is_none()) {
                 return self.listed.prepare_knowing(way, examiner, tract, access);
             }
             if spread_out(self.alloc, &mut self.listed, &mut self.spread).is_err() {

@@ -108,7 +108,7 @@ impl Tree {
         }
     }
 
-    /// The same tree once more.
+    /// The same tree once more, over the same holdings. `Err` where memory is short; then nothing is kept of it.
     pub fn copy(&self, alloc: Global) -> Result<Tree, AllocError>
         ensures copy { IfOk result (λ t. plot t ≡ plot self.now) }
     {

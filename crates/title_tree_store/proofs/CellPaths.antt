@@ -191,7 +191,7 @@ each_ways : (P : List (List Quarter) → Type 0) (ps : List (List Quarter)) → 
     → P (ways_at h ps i j)
 each_ways P ps root none own home.Everything i j = root
 each_ways P ps root none own (home.Township t) i j = cond_both (t == i) ([] ∷ []) [] P (λ _. root) (λ _. none)
-each_ways P ps root none own (home.Section t n) i j = cond_both (t == i && n == j) ps [] P (λ _. own) (λ _. none)
+each_ways P ps root none own (home.Section n t) i j = cond_both (t == i && n == j) ps [] P (λ _. own) (λ _. none)
 
 -- no path of a tract goes deeper than a cell
 pub tract_short : (ts : List Township) (x : Land) (i j : ℕ) → Short (ways_in ts x i j) depth

@@ -17,7 +17,7 @@ ground_row : IsSend ground.the_row
 ground_row = search (ground_send, knot.crosses, std.crosses, sendable) depth 60 fits 20000
 
 parts_send : IsSend (parts.the_field).row
-parts_send = search (ground_send, ground_row, knot.crosses, std.crosses, sendable) depth 60 fits 20000
+parts_send = search (ground_row, knot.crosses, std.crosses, sendable) depth 60 fits 20000
 
 lent_send : IsSend lent.the_row
 lent_send = search (parts_send, knot.crosses, std.crosses, sendable) depth 60 fits 20000

@@ -1,7 +1,7 @@
 -- What stands in a township's sections and in the townships of a plant, one after another.
-use Rattle.std.proofs.Common.{◌≡◌, ◌≢◌, ◌∙◌, ap, sym, subst, refl, ℕ, zero, suc, ◌+◌, ◌<◌, arith, List, [], ◌∷◌, ◌++◌, length, map, get_or}
-use Rattle.std.proofs.{Common.{take, set, true}, lemmas.{List.{length-set, Folds.{list_all-map}}, Bool.{and_parts, false≢true}}}
-use Rattle.std.specs.List.{list_all}
+use Rattle.std.proofs.Common.{◌≡◌, ◌≢◌, ◌∙◌, ap, sym, refl, ℕ, zero, suc, ◌+◌, ◌<◌, arith, List, [], ◌∷◌, ◌++◌, length, map, get_or, take}
+use Rattle.std.{proofs.{Common.{set, true}, lemmas.List.{length-set, Folds.{list_all-map}}}, specs.List.{list_all}}
+use Rattle.std.proofs.lemmas.Bool.{and_parts, false≢true}
 use Rattle.std.proofs.lemmas.List.{get_or-map, length-map, map-append, map-set, take-map, take_more, get_or-set_same, get_or-set_other}
 use Rattle.title_tree.specs.{declared.tree.Tree.{Tree}, Plots.{Plot, Same, Four, same_leaf}, Trees.{plot}, Laws.SameDivisions.{same_is}}
 use Rattle.title_tree_store.specs.Grounds.{nothing, are_one}
@@ -21,10 +21,6 @@ set_at f xs i y d h =
 pub set_other : {X Y : Type 0} (f : X → Y) (xs : List X) (i j : ℕ) (y : X) (d : Y) → j ≢ i
     → get_or (map f (set xs i y)) j d ≡ get_or (map f xs) j d
 set_other f xs i j y d ne = ap (λ zs. get_or zs j d) (map-set f xs i y) ∙ get_or-set_other (map f xs) i j (f y) d ne
-
--- a relation of two plots, carried to equal ones
-pub carried : (P : Plot → Plot → Type 0) (a b c d : Plot) → a ≡ b → c ≡ d → P a c → P b d
-carried P a b c d e f h = subst (λ y. P b y) f (subst (λ x. P x c) e h)
 
 -- leaves of one division are the same plot
 leaf_is : (t u : Plot) → same_leaf t u ≡ true → u ≡ t

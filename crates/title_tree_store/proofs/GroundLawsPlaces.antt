@@ -1,11 +1,11 @@
 -- One township of a plant, or one section, and all the others.
-use Rattle.std.proofs.Common.{◌≡◌, ◌≢◌, ◌∙◌, ap, refl, sym, subst, ⊎_elim, ℕ, zero, suc, ◌+◌, ◌<◌, arith, Bool, true, false, ◌&&◌, cond}
+use Rattle.std.proofs.Common.{◌≡◌, ◌≢◌, ◌∙◌, ap, refl, sym, subst, ⊎_elim, ℕ, zero, suc, ◌<◌, arith, Bool, true, false, ◌&&◌, cond}
 use Rattle.std.{proofs.{Common.{List, [], ◌∷◌, ◌++◌, length, map, get_or, set, Option}, lemmas.List.{get_or-map}}, specs.Prelude.{◌==◌}}
 use Rattle.std.proofs.lemmas.Bool.{cases_Bool, cond-true, and_from, eqb-true, eqb-false, eq-eqb}
 use Rattle.title_tree.specs.{declared.change.Fault.{Fault}, Faults.{Tells}, Plots.{Plot}, Pieces.{Piece, Disjoint, Ready, paths}}
 use Rattle.title_tree_store.specs.{declared.{ground.Ground.{Ground}, spots.Home.{Home}, forest.Parts.{Parts}}, Spots.{IsHome}}
 use Rattle.title_tree_store.specs.Grounds.{nothing, stands, is_parted, plot_in, Everywhere, TellsSomewhere}
-use Rattle.title_tree_store.{specs.Forests.{parts_at, squares_in}, proofs.GroundLaws.{read_at, set_at, set_other, carried}}
+use Rattle.title_tree_store.{specs.Forests.{parts_at, squares_in}, proofs.GroundLaws.{read_at, set_at, set_other}}
 use Rattle.title_tree.specs.declared.change.Fault.TheVariants as fault
 use Rattle.title_tree_store.specs.declared.spots.Home.TheVariants as home
 
@@ -25,20 +25,14 @@ module _ (gs : List Ground) (t : ℕ) (old new : Ground) (below : t < length gs)
   pub was_here : (j : ℕ) → plot_in gs t j ≡ stands old j
   was_here j = read_at (λ (g : Ground). stands g j) gs t old nothing below at
 
-  put_here : (j : ℕ) → plot_in (set gs t new) t j ≡ stands new j
-  put_here j = set_at (λ (g : Ground). stands g j) gs t new nothing below
-
-  put_there : (i j : ℕ) → (t ≡ i → ⊥) → plot_in (set gs t new) i j ≡ plot_in gs i j
-  put_there i j ne = set_other (λ (g : Ground). stands g j) gs t i new nothing (λ e. ne (sym e))
-
   -- a relation of what stands in each section before and after
   pub in_township : {A : Type 0} (R : List A → Plot → Plot → Type 0) (xs : ℕ → List A)
       → ((j : ℕ) → j < 36 → R (xs j) (stands old j) (stands new j)) → ((u : Plot) → R [] u u)
       → Everywhere (length gs) (λ i j. R (cond (t == i) (xs j) []) (plot_in gs i j) (plot_in (set gs t new) i j))
   in_township R xs here there i j _ within =
       at_township t (λ (b : Bool) (i : ℕ). R (cond b (xs j) []) (plot_in gs i j) (plot_in (set gs t new) i j))
-      (carried (R (xs j)) _ _ _ _ (sym (was_here j)) (sym (put_here j)) (here j within))
-      (λ i ne. subst (R [] (plot_in gs i j)) (sym (put_there i j ne)) (there (plot_in gs i j))) i
+      (rw (was_here j, set_at (λ (g : Ground). stands g j) gs t new nothing below) (here j within))
+      (λ i ne. rw (set_other (λ (g : Ground). stands g j) gs t i new nothing (λ e. ne (sym e))) (there (plot_in gs i j))) i
 
   -- the same, where one section of the township has the list
   pub in_section : {A : Type 0} (R : List A → Plot → Plot → Type 0) (n : ℕ) (xs : List A) → R xs (stands old n) (stands new n)
@@ -51,7 +45,7 @@ module _ (gs : List Ground) (t : ℕ) (old new : Ground) (below : t < length gs)
       (λ j ne within. others j within (λ e. ne (sym e))) j) there i j lt within)
 
 -- the pieces that lie in a section are those that go there
-pub goes_here : (gs : List Ground) (h : Home) (x : Parts) (t n : ℕ) (old : Ground) → h ≡ home.Section t n → IsHome (length gs) h
+pub goes_here : (gs : List Ground) (h : Home) (x : Parts) (t n : ℕ) (old : Ground) → h ≡ home.Section n t → IsHome (length gs) h
     → old ≡ get_or gs t old
     → Everywhere (length gs) (λ i j. Disjoint (paths (parts_at h x i j)) × Ready (paths (parts_at h x i j)) (plot_in gs i j))
     → Disjoint (paths (squares_in x)) × Ready (paths (squares_in x)) (stands old n)
@@ -66,8 +60,8 @@ goes_here gs h x t n old is there at goes =
 
 -- a fact of each township by its index, and of one township more
 pub pushed_each : {X : Type 0} (f : Ground → X) (d : X) (P : ℕ → X → Type 0) (gs : List Ground) (g : Ground) → P (length gs) (f g)
-    → ((i : ℕ) → i < length gs → P i (get_or (map f gs) i d))
-    → (i : ℕ) → i < length (gs ++ g ∷ []) → P i (get_or (map f (gs ++ g ∷ [])) i d)
+    → ((i : ℕ) → i < length gs → P i (get_or (map f gs) i d)) → (i : ℕ) → i < length (gs ++ g ∷ [])
+    → P i (get_or (map f (gs ++ g ∷ [])) i d)
 pushed_each f d P [] g here before zero lt = here
 pushed_each f d P [] g here before (suc i) lt = absurd (omega (arith, lt))
 pushed_each f d P (x ∷ gs) g here before zero lt = before zero (omega arith)

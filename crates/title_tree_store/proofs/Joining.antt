@@ -4,7 +4,7 @@ use Rattle.std.proofs.{Common.{◌++◌, length, map, append-nil}, lemmas.{Bool.
 use Rattle.std.proofs.lemmas.Bool.{not_from_false, and_from, and_parts, cases_Bool, or_parts, or_left, or_right, both_ways}
 use Rattle.std.{proofs.lemmas.List.Sums.{list_all-from_AllPass}, specs.{List.{list_any, list_all}, Global.{Vec}}}
 use Rattle.title_share.specs.Division.{all_to}
-use Rattle.title_land.specs.{declared.{survey.Township.{Township}, rectangle.Quarter.{Quarter}, tract.Land.{Land}}, Laws.Members.{In}}
+use Rattle.title_land.specs.{declared.{survey.Township.{Township}, rectangle.Quarter.{Quarter}}, Laws.Members.{In}}
 use Rattle.title_instrument.specs.declared.{parts.Estate.{Estate, TheVariants.{S, O, M}}, instrument.Instrument.{Instrument}}
 use Rattle.title_instrument.specs.{Estates.{names}, Parties.{estates_of}}
 use Rattle.title_tree.specs.{Joins.{is_joinable}, Joining.{ApartFromAll, JoinedBut}, Plots.{Plot, Same, plot_at, is_tidy}, Trees.{plot}}
@@ -12,11 +12,11 @@ use Rattle.title_tree.specs.Pieces.{Piece, Apart, paths}
 use Rattle.title_tree.specs.Laws.Joined.{elsewhere_split_all, elsewhere_swapped, joined_but_none, joined_but_tidy}
 use Rattle.title_tree_store.specs.declared.{forest.{Forest.{Forest}, Subtrees.{Subtrees}, Written.{Written}}, lent.Lent.{Lent}}
 use Rattle.title_tree_store.specs.{declared.{spots.Home.{Home}, ground.Ground.{Ground, TheVariants.{Whole, Parted}}}, Grounds.{closable_in}}
-use Rattle.title_tree_store.specs.Grounds.{Everywhere, IsTidied, nothing, stands, section_plots, are_one, is_closable, ground_tidy, plot_in}
-use Rattle.title_tree_store.specs.{Keeping.{IsTakenOut, AreJoined}, Forests.{put_ways, written, was_written, are_joined}}
-use Rattle.title_tree_store.specs.Forests.{named_ways, IsNoted, IsQuartered, IsExchanged, grounds, plots, pieces, parts_of, is_some_part}
-use Rattle.title_tree_store.{specs.Spots.{home_in, ways_in, reaches}, proofs.{Contents.{each, everywhere}, Keeps.{left_in, out_in}}}
-use Rattle.title_tree_store.proofs.{Images.{pushed}, Puts.{IsPut, IsDone, put_paths}, Steps.{apart_noted, was_noted}}
+use Rattle.title_tree_store.specs.Grounds.{Everywhere, nothing, stands, section_plots, are_one, is_closable, ground_tidy, plot_in}
+use Rattle.title_tree_store.specs.Forests.{put_ways, written, writes, was_written, are_joined, AreTidied, named_ways, IsNoted, IsQuartered}
+use Rattle.title_tree_store.specs.{Forests.{IsExchanged, grounds, plots, pieces, parts_of, is_some_part}, Spots.{home_in, ways_in, reaches}}
+use Rattle.title_tree_store.{specs.Keeping.{IsTakenOut, lent_pieces, AreJoined}, proofs.{Contents.{everywhere}, Keeps.{left_in, out_in}}}
+use Rattle.title_tree_store.proofs.{Contents.{each}, Images.{pushed}, Puts.{IsPut, IsDone, put_paths}, Steps.{apart_noted, was_noted}}
 
 -- ---- the test of all estates
 
@@ -46,8 +46,8 @@ all_joined f h = and_from (list_all ground_tidy f.s.items) (list_all ground_tidy
     (all_tidy f.o.items (h.tidy O) (h.closed O)) (all_tidy f.m.items (h.tidy M) (h.closed M)))
 
 -- where no image is out
-pub joined_none : (f : Forest) (lent : List Lent) → lent ≡ [] → IsTidy f → AreJoined f lent
-joined_none f lent none h = record {
+pub joined_none : (ts : List Township) (f : Forest) (lent : List Lent) → lent ≡ [] → IsTidy f → AreJoined ts f lent
+joined_none ts f lent none h = record {
   joined = λ e i j a b. joined_but_none (written e i j f) (plots f e i j) (h.tidy e i j a b);
   closed = λ e i m. h.closed e i;
   lies = λ e i j a b l m. absurd (subst (λ (z : List Lent). In l z) none m);
@@ -66,8 +66,8 @@ opened_tidy f sized opening closed = record {
 -- ---- a put
 
 -- quartering that stopped for want of memory
-pub joined_stopped : {x : Instrument ℕ} {h : Home} {ps : List (List Quarter)} {old new : Forest} {lent : List Lent}
-    → IsQuartered x h ps old new → IsNoted x h ps old new → AreJoined old lent → AreJoined new lent
+pub joined_stopped : {ts : List Township} {x : Instrument ℕ} {h : Home} {ps : List (List Quarter)} {old new : Forest} {lent : List Lent}
+    → IsQuartered x h ps old new → IsNoted x h ps old new → AreJoined ts old lent → AreJoined ts new lent
 joined_stopped {x} {h} {old} {new} q noted k = record {
   joined = λ e. everywhere (sym (each q.split e).sized) (λ i j a b p m.
       let s = apart e i j a b p m in ap is_joinable s.1 ∙ k.joined e i j a b p s.0);
@@ -76,13 +76,13 @@ joined_stopped {x} {h} {old} {new} q noted k = record {
         let parts = or_parts (was_written e i old) (names (estates_of x) e && reaches h i) (sym (was_noted note e i) ∙ none) in
         (each q.split e).closed i parts.1 ∙ k.closed e i parts.0
     | inr same ↦ ap (λ (gs : List Ground). closable_in gs i) (each same.townships e)
-        ∙ k.closed e i (sym (ap (list_any (λ (w : Written). names w.estates e && reaches w.home i)) same.noted) ∙ none)
+        ∙ k.closed e i (sym (ap (list_any (writes e i)) same.noted) ∙ none)
   ];
   lies = λ e. everywhere (sym (each q.split e).sized) (λ i j a b l m p n. k.lies e i j a b l m p (apart e i j a b p n).0);
   marked = λ e i l m some. elim noted [
     | inl note ↦ was_noted note e i
         ∙ or_left (was_written e i old) (names (estates_of x) e && reaches h i) (k.marked e i l m some)
-    | inr same ↦ ap (list_any (λ (w : Written). names w.estates e && reaches w.home i)) same.noted ∙ k.marked e i l m some
+    | inr same ↦ ap (list_any (writes e i)) same.noted ∙ k.marked e i l m some
   ];
 }
   where
@@ -108,10 +108,10 @@ pub not_reached : (some named reached : Bool) → (some ≡ true → named ≡ t
 not_reached true named reached f h = ap (λ (b : Bool). b && reached) (sym (f refl)) ∙ h
 not_reached false named reached f h = refl
 
-pub joined_put : {i : Instrument ℕ} {ts : List Township} {x : Land} {old new : Forest} {lent : List Lent} (l : Lent)
-    → ((e : Estate) → length (grounds old e) ≡ length ts) → IsDone ts x i old new l.trees → AreJoined old lent
-    → AreJoined new (lent ++ l ∷ [])
-joined_put {i} {ts} {x} {old} {new} {lent} l sized done k = record {
+pub joined_put : {i : Instrument ℕ} {ts : List Township} {old new : Forest} {lent : List Lent} (l : Lent)
+    → ((e : Estate) → length (grounds old e) ≡ length ts) → IsDone ts l.land i old new l.trees → AreJoined ts old lent
+    → AreJoined ts new (lent ++ l ∷ [])
+joined_put {i} {ts} {old} {new} {lent} l sized done k = record {
   joined = λ e. everywhere (sym (done.sized e)) (λ a b c d q m.
       let s = apart_noted done.noted e a b q m in ap is_joinable (put_elsewhere (put e a b c d) q s.1) ∙ k.joined e a b c d q s.0);
   closed = λ e t none.
@@ -119,32 +119,34 @@ joined_put {i} {ts} {x} {old} {new} {lent} l sized done k = record {
       done.closed e t parts.1 ∙ k.closed e t parts.0;
   lies = λ e. everywhere (sym (done.sized e)) (λ a b c d y m q n.
       let s = apart_noted done.noted e a b q n in
-      pushed (λ z. Apart q (paths (pieces z.trees e a b))) lent l (λ z o. k.lies e a b c d z o q s.0)
+      pushed (λ z. Apart q (paths (lent_pieces ts z e a b))) lent l (λ z o. k.lies e a b c d z o q s.0)
       (subst (Apart q) (sym (put_paths (put e a b c d)).1) s.1) y m);
-  marked = λ e t. pushed (λ z. (is_some_part (parts_of z.trees e) && reaches z.trees.home t) ≡ true → was_written e t new ≡ true) lent l
+  marked = λ e t. pushed (λ z. (is_some_part (parts_of z.trees e) && reaches (home_in ts z.land) t) ≡ true → was_written e t new ≡ true)
+      lent l
       (λ y o some. was_noted done.noted e t ∙ or_left (was_written e t old) (now e t) (k.marked e t y o some))
       (λ some.
-      let own = and_parts (is_some_part (parts_of l.trees e)) (reaches l.trees.home t) some in
+      let own = and_parts (is_some_part (parts_of l.trees e)) (reaches (home_in ts l.land) t) some in
       was_noted done.noted e t ∙ or_right (was_written e t old) (now e t) (and_from (names (estates_of i) e)
-      (reaches (home_in ts x) t) (done.named e own.0) (subst (λ (z : Home). reaches z t ≡ true) done.home own.1)));
+      (reaches (home_in ts l.land) t) (done.named e own.0) own.1));
 }
   where
     now : Estate → ℕ → Bool
-    now e t = names (estates_of i) e && reaches (home_in ts x) t
+    now e t = names (estates_of i) e && reaches (home_in ts l.land) t
 
-    put : (e : Estate) → Everywhere (length (grounds old e)) (λ a b. IsPut i (ways_in ts x a b) e (plots old e a b)
-        (plots done.mid e a b) (plots new e a b) (pieces done.made e a b) (pieces l.trees e a b))
+    put : (e : Estate) → Everywhere (length (grounds old e)) (λ a b. IsPut i (ways_in ts l.land a b) e (plots old e a b)
+        (plots done.mid e a b) (plots new e a b) (pieces (home_in ts l.land) done.made e a b) (lent_pieces ts l e a b))
     put e = everywhere (sym (sized e)) (done.put e)
 
 -- ---- an image that goes back or is let go
 
-pub joined_restored : {old new : Forest} {lent less : List Lent} {n : ℕ} {l : Lent} {back : Subtrees} → IsTakenOut n l lent less
-    → new.written ≡ old.written → ((e : Estate) → IsExchanged e l.trees back old new) → AreJoined old lent → AreJoined new less
-joined_restored {old} {new} {lent} {less} {n} {l} out noted swap k = record {
+pub joined_restored : {ts : List Township} {old new : Forest} {lent less : List Lent} {n : ℕ} {l : Lent} {back : Subtrees}
+    → IsTakenOut n l lent less → new.written ≡ old.written → ((e : Estate) → IsExchanged e (home_in ts l.land) l.trees back old new)
+    → AreJoined ts old lent → AreJoined ts new less
+joined_restored {ts} {old} {new} {lent} {less} {n} {l} out noted swap k = record {
   joined = λ e. everywhere (sym (swap e).sized) (λ i j a b q m.
       let s = subst (ApartFromAll q) (same_ways e i j) m in
       ap is_joinable (ap (plot_at q) ((swap e).trees i j a b)
-      ∙ elsewhere_swapped (pieces l.trees e i j) (plots old e i j) q (k.lies e i j a b l (out_in out) q s)) ∙ k.joined e i j a b q s);
+      ∙ elsewhere_swapped (lent_pieces ts l e i j) (plots old e i j) q (k.lies e i j a b l (out_in out) q s)) ∙ k.joined e i j a b q s);
   closed = λ e i none.
       let before : was_written e i old ≡ false = sym (same_marks e i) ∙ none in
       (swap e).elsewhere i (false_from_ne_true _ (λ some. both_ways (was_written e i old) before (k.marked e i l (out_in out) some)))
@@ -158,9 +160,10 @@ joined_restored {old} {new} {lent} {less} {n} {l} out noted swap k = record {
     same_ways e i j = ap (λ (ws : Vec Written). map (put_ways e i j) ws.items) noted
 
     same_marks : (e : Estate) (i : ℕ) → was_written e i new ≡ was_written e i old
-    same_marks e i = ap (λ (ws : Vec Written). list_any (λ w. names w.estates e && reaches w.home i) ws.items) noted
+    same_marks e i = ap (λ (ws : Vec Written). list_any (writes e i) ws.items) noted
 
-pub joined_less : {f : Forest} {lent less : List Lent} {n : ℕ} {l : Lent} → IsTakenOut n l lent less → AreJoined f lent → AreJoined f less
+pub joined_less : {ts : List Township} {f : Forest} {lent less : List Lent} {n : ℕ} {l : Lent} → IsTakenOut n l lent less
+    → AreJoined ts f lent → AreJoined ts f less
 joined_less out k = record {
   joined = k.joined;
   closed = k.closed;
@@ -171,14 +174,11 @@ joined_less out k = record {
 -- ---- tidying
 
 -- what is joined but where it was written is tidy once that is tidied
-pub joined_tidied : {old : Forest} (new : Forest) {lent : List Lent} → ((e : Estate) → length (grounds new e) ≡ length (grounds old e))
-    → ((e : Estate) → Everywhere (length (grounds old e)) (λ i j. IsTidied (written e i j old) (plots old e i j) (plots new e i j)))
-    → ((e : Estate) (i : ℕ) → was_written e i old ≡ true → closable_in (grounds new e) i ≡ false)
-    → ((e : Estate) (i : ℕ) → was_written e i old ≡ false → closable_in (grounds new e) i ≡ closable_in (grounds old e) i)
-    → AreJoined old lent → IsTidy new
-joined_tidied {old} new sized tidied closed others k = record {
-  tidy = λ e. everywhere (sym (sized e)) (λ i j a b. joined_but_tidy (plots new e i j) ((tidied e i j a b).joined []
+pub joined_tidied : {ts : List Township} {old : Forest} (new : Forest) {lent : List Lent}
+    → ((e : Estate) → AreTidied e old.written.items (grounds old e) (grounds new e)) → AreJoined ts old lent → IsTidy new
+joined_tidied {old} new done k = record {
+  tidy = λ e. everywhere (sym (done e).sized) (λ i j a b. joined_but_tidy (plots new e i j) (((done e).tidied i j a b).joined []
       (subst (λ (puts : List (List (List Quarter))). JoinedBut puts (plots old e i j)) (sym (append-nil (written e i j old)))
       (k.joined e i j a b))));
-  closed = λ e i. elim (cases_Bool (was_written e i old)) [ inl w ↦ closed e i w | inr w ↦ others e i w ∙ k.closed e i w ];
+  closed = λ e i. elim (cases_Bool (was_written e i old)) [ inl w ↦ (done e).closed i w | inr w ↦ (done e).others i w ∙ k.closed e i w ];
 }

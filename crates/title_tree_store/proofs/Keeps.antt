@@ -14,12 +14,11 @@ use Rattle.title_tree_store.specs.declared.{lent.Lent.{Lent}, forest.{Forest.{Fo
 use Rattle.title_tree_store.{specs.{declared.spots.Home.{Home}, Grounds.{Everywhere, parted_in}}, proofs.Contents.{each, everywhere}}
 use Rattle.title_tree_store.{specs.Spots.{home_in, tract_ways, ways_in, is_in_township, IsHome}, proofs.Images.{rises_less}}
 use Rattle.title_tree_store.specs.Forests.{grounds, plots, parts_of, wants, brings, is_some_part, IsQuartered, IsQuarteredWhole}
-use Rattle.title_tree_store.specs.Keeping.{lending, loans_of, same_ways, PiecesFit, IsBacked, IsKept, Rises, IsTakenOut}
+use Rattle.title_tree_store.specs.Keeping.{lent_pieces, lending, loans_of, same_ways, PiecesFit, IsBacked, IsKept, Rises, IsTakenOut}
 use Rattle.title_tree_store.proofs.CellPaths.{index_below, cell_at, tract_short, whole, length-whole, has_whole, tract_has_at}
 use Rattle.title_land.specs.declared.tract.Land.TheVariants as land
 use Rattle.title_tree_store.specs.declared.forest.Parts.TheVariants as parts
 use Rattle.title_tree_store.specs.declared.spots.Home.TheVariants as home
-use Rattle.title_tree_store.specs.Forests as forests
 
 pub same_ways-is : (ps qs : List (List Quarter)) → same_ways ps qs ≡ true → ps ≡ qs
 same_ways-is [] [] h = refl
@@ -35,9 +34,9 @@ same_ways-self (p ∷ ps) = and_from (same_path p p) (same_ways ps ps) (same_pat
 
 -- a path of an image is one of its tract's
 pub in_ways : {ts : List Township} {l : Lent} → IsBacked ts l → (e : Estate) → Everywhere (length ts) (λ i j. (p : List Quarter)
-    → In p (paths (forests.pieces l.trees e i j)) → In p (ways_in ts l.land i j))
+    → In p (paths (lent_pieces ts l e i j)) → In p (ways_in ts l.land i j))
 in_ways {ts} {l} backed e i j a b p m =
-    let own = paths (forests.pieces l.trees e i j) in
+    let own = paths (lent_pieces ts l e i j) in
     elim (or_cases (same_ways own []) (same_ways own (ways_in ts l.land i j)) (backed.at e i j a b)) [
       | inl h ↦ absurd (subst (λ (z : List (List Quarter)). In p z) (same_ways-is _ _ h) m)
       | inr h ↦ subst (λ (z : List (List Quarter)). In p z) (same_ways-is _ _ h) m
@@ -60,16 +59,14 @@ wants_parts h _ i w = absurd cc
 
 -- what is wanted is where a put quartered
 pub quartered_there : {i : Instrument ℕ} {h : Home} {ps : List (List Quarter)} {old new : Forest} {x : Subtrees}
-    → IsQuarteredWhole i h ps old new → x.home ≡ h
-    → ((e : Estate) → is_some_part (parts_of x e) ≡ true → names (estates_of i) e ≡ true)
-    → (e : Estate) (t : ℕ) → wants x.home (parts_of x e) t ≡ true → parted_in (grounds new e) t ≡ true
-quartered_there {i} {h} {x} whole home named e t w =
-    let k = wants_parts x.home (parts_of x e) t w in
-    whole.wanted e t (and_from (names (estates_of i) e) (is_in_township h t) (named e k.0)
-    (subst (λ (z : Home). is_in_township z t ≡ true) home k.1))
+    → IsQuarteredWhole i h ps old new → ((e : Estate) → is_some_part (parts_of x e) ≡ true → names (estates_of i) e ≡ true)
+    → (e : Estate) (t : ℕ) → wants h (parts_of x e) t ≡ true → parted_in (grounds new e) t ≡ true
+quartered_there {i} {h} {x} whole named e t w =
+    let k = wants_parts h (parts_of x e) t w in
+    whole.wanted e t (and_from (names (estates_of i) e) (is_in_township h t) (named e k.0) k.1)
 
 pub in_township_below : (count : ℕ) (h : Home) (i : ℕ) → IsHome count h → is_in_township h i ≡ true → i < count
-in_township_below count (home.Section t n) i there h = subst (λ (k : ℕ). k < count) (eqb-true t i h) there.0
+in_township_below count (home.Section n t) i there h = subst (λ (k : ℕ). k < count) (eqb-true t i h) there.0
 in_township_below count _ i there h = absurd cc
 
 -- ---- depth
@@ -114,7 +111,7 @@ pub kept_stopped : {ts : List Township} {old new : Forest} {lent : List Lent} {n
 kept_stopped {ts} {old} {new} {lent} {n} x q k = record {
   sized = λ e. (each q.split e).sized ∙ k.sized e;
   fit = λ e i j a b. everywhere (k.sized e) ((each q.split e).within) i j a b depth (tract_short ts x i j) (k.fit e i j a b);
-  keeps = λ e i j a b. keeps_refined (plots old e i j) (plots new e i j) (map (lending e i j) lent) n
+  keeps = λ e i j a b. keeps_refined (plots old e i j) (plots new e i j) (map (lending ts e i j) lent) n
       (everywhere (k.sized e) ((each q.split e).refines) i j a b) (k.keeps e i j a b);
   backed = k.backed;
   rises = k.rises;
@@ -132,18 +129,18 @@ pub left_in : {n : ℕ} {l : Lent} {old new : List Lent} → IsTakenOut n l old 
 left_in {l} out x i = subst (λ (z : List Lent). In x z) (sym out.old_is)
     (in_more x l out.before out.later (subst (λ (z : List Lent). In x z) out.new_is i))
 
-pub lendings_in : {n : ℕ} {l : Lent} {old new : List Lent} → IsTakenOut n l old new → (e : Estate) (i j : ℕ) (x : Lending)
-    → In x (map (lending e i j) new) → In x (map (lending e i j) old)
-lendings_in {old} {new} out e i j x m =
-    let k = in_mapped (lending e i j) x new m in
-    subst (λ (z : Lending). In z (map (lending e i j) old)) (sym k.2) (in_map (lending e i j) k.0 old (left_in out k.0 k.1))
+pub lendings_in : (ts : List Township) {n : ℕ} {l : Lent} {old new : List Lent} → IsTakenOut n l old new → (e : Estate) (i j : ℕ)
+    (x : Lending) → In x (map (lending ts e i j) new) → In x (map (lending ts e i j) old)
+lendings_in ts {old} {new} out e i j x m =
+    let k = in_mapped (lending ts e i j) x new m in
+    subst (λ (z : Lending). In z (map (lending ts e i j) old)) (sym k.2) (in_map (lending ts e i j) k.0 old (left_in out k.0 k.1))
 
 pub kept_less : {ts : List Township} {f : Forest} {old new : List Lent} {next n : ℕ} {l : Lent} → IsTakenOut n l old new
     → IsKept ts f old next → IsKept ts f new next
-kept_less {f} {old} {new} {next} {l} out k = record {
+kept_less {ts} {f} {old} {new} {next} {l} out k = record {
   sized = k.sized;
   fit = k.fit;
-  keeps = λ e i j a b. keeps_less (plots f e i j) (map (lending e i j) old) (map (lending e i j) new) next (lendings_in out e i j)
+  keeps = λ e i j a b. keeps_less (plots f e i j) (map (lending ts e i j) old) (map (lending ts e i j) new) next (lendings_in ts out e i j)
       (k.keeps e i j a b);
   backed = λ x m. k.backed x (left_in out x m);
   rises = subst Rises (sym out.new_is) (rises_less l out.before out.later (subst Rises out.old_is k.rises));
@@ -153,12 +150,12 @@ kept_less {f} {old} {new} {next} {l} out k = record {
 
 -- the pieces of an image that goes back have nodes of their own in the trees
 pub goes_back : {ts : List Township} {f : Forest} {old new : List Lent} {next n : ℕ} {l : Lent} → IsTakenOut n l old new
-    → IsKept ts f old next → (e : Estate) → Everywhere (length ts) (λ i j. Disjoint (paths (forests.pieces l.trees e i j))
-    × Ready (paths (forests.pieces l.trees e i j)) (plots f e i j))
-goes_back {old} {l} out k e i j a b =
-    let m = in_map (lending e i j) l old (out_in out) in
+    → IsKept ts f old next → (e : Estate) → Everywhere (length ts) (λ i j. Disjoint (paths (lent_pieces ts l e i j))
+    × Ready (paths (lent_pieces ts l e i j)) (plots f e i j))
+goes_back {ts} {old} {l} out k e i j a b =
+    let m = in_map (lending ts e i j) l old (out_in out) in
     let keeps = k.keeps e i j a b in
-    (keeps.apart (lending e i j l) m, keeps.ready (lending e i j l) m)
+    (keeps.apart (lending ts e i j l) m, keeps.ready (lending ts e i j l) m)
 
 -- where two tracts share no cell no path of one begins a path of the other
 pub tracts_clear : (ts : List Township) (x y : Land) (i j : ℕ) → IsEachOnce ts → i < length ts → j < 36 → is_in_plant ts x ≡ true

@@ -9,27 +9,27 @@ use Rattle.title_instrument.specs.{declared.parts.Estate.{Estate}, Owners.{openi
 use Rattle.title_store.specs.{Plants.{is_cell_of}, Loans.{Loan, IsAmong, IsLentAs, IsLast, IsFirst, without}}
 use Rattle.title_tree.specs.{Plots.{Plot, value_at}, Pieces.{paths, held, Refines}, Laws.PathLists.{has_from, has_in}}
 use Rattle.title_tree.specs.Laws.CellSquares.{cell_ways_are_whole}
-use Rattle.title_tree_store.specs.{declared.{lent.Lent.{Lent}, forest.Forest.{Forest}}, Grounds.{Everywhere}, Spots.{ways_in}}
-use Rattle.title_tree_store.specs.{Forests.{plots}, Keeping.{Rises, lies_in, held_before, loan_of, loans_of, IsBacked, IsKept, IsTakenOut}}
+use Rattle.title_tree_store.specs.{declared.{lent.Lent.{Lent}, forest.Forest.{Forest}}, Forests.{plots}}
+use Rattle.title_tree_store.specs.{Grounds.{Everywhere}, Spots.{ways_in}}
+use Rattle.title_tree_store.specs.Keeping.{Rises, lent_pieces, lies_in, held_before, loan_of, loans_of, IsBacked, IsKept, IsTakenOut}
 use Rattle.title_tree_store.proofs.{CellPaths.{tract_has}, Images.{less_before, more_later}, Keeps.{in_ways, out_in, left_in}}
 use Rattle.title_tree_store.proofs.Contents.{owners, owners_same, cond_same, in_township, in_section, in_square, at_cell, now}
-use Rattle.title_tree_store.specs.Forests as forests
 
 -- ---- what a cell held before some images
 
 -- where none of the images has a cell, it held what it holds
-none_holds : (e : Estate) (lent : List Lent) (i j : ℕ) (p : List Quarter) (now : Division)
-    → ((x : Lent) → In x lent → lies_in e x i j p ≡ false) → held_before e lent i j p now ≡ now
-none_holds e [] i j p now h = refl
-none_holds e (x ∷ lent) i j p now h =
-    ap (λ (b : Bool). cond b (held (forests.pieces x.trees e i j) p) (held_before e lent i j p now)) (h x (inl refl))
-    ∙ none_holds e lent i j p now (λ y m. h y (inr m))
+none_holds : (ts : List Township) (e : Estate) (lent : List Lent) (i j : ℕ) (p : List Quarter) (now : Division)
+    → ((x : Lent) → In x lent → lies_in ts e x i j p ≡ false) → held_before ts e lent i j p now ≡ now
+none_holds ts e [] i j p now h = refl
+none_holds ts e (x ∷ lent) i j p now h =
+    ap (λ (b : Bool). cond b (held (lent_pieces ts x e i j) p) (held_before ts e lent i j p now)) (h x (inl refl))
+    ∙ none_holds ts e lent i j p now (λ y m. h y (inr m))
 
-held_join : (e : Estate) (lent later : List Lent) (i j : ℕ) (p : List Quarter) (now : Division)
-    → held_before e (lent ++ later) i j p now ≡ held_before e lent i j p (held_before e later i j p now)
-held_join e [] later i j p now = refl
-held_join e (x ∷ lent) later i j p now =
-    ap (cond (lies_in e x i j p) (held (forests.pieces x.trees e i j) p)) (held_join e lent later i j p now)
+held_join : (ts : List Township) (e : Estate) (lent later : List Lent) (i j : ℕ) (p : List Quarter) (now : Division)
+    → held_before ts e (lent ++ later) i j p now ≡ held_before ts e lent i j p (held_before ts e later i j p now)
+held_join ts e [] later i j p now = refl
+held_join ts e (x ∷ lent) later i j p now =
+    ap (cond (lies_in ts e x i j p) (held (lent_pieces ts x e i j) p)) (held_join ts e lent later i j p now)
 
 -- two tracts that share no cell
 never : (x y : Land) (c : Cell) → meets x y ≡ false → has x c ≡ true → has y c ≡ true → ⊥
@@ -42,18 +42,18 @@ AreApart Test number out = (b x : Loan) → IsLentAs b number out → IsAmong x 
 module _ (ts : List Township) where
   -- what a cell held of an estate before some images, where it holds something now
   abbrev pub before_now : List Lent → Cell → Estate → Division → Division
-  before_now lent c e now = held_before e lent (in_township ts c) (in_section c) (in_square c) now
+  before_now lent c e now = held_before ts e lent (in_township ts c) (in_section c) (in_square c) now
 
   abbrev pub was : (Estate → ℕ → ℕ → Plot) → List Lent → Cell → Estate → Division
   was ps lent c e = before_now lent c e (now ts ps c e)
 
   -- a part of an image has the cell
   abbrev pub lies : Estate → Lent → Cell → Bool
-  lies e l c = lies_in e l (in_township ts c) (in_section c) (in_square c)
+  lies e l c = lies_in ts e l (in_township ts c) (in_section c) (in_square c)
 
   -- what an image holds of it
   abbrev pub kept_of : Estate → Lent → Cell → Division
-  kept_of e l c = held (forests.pieces l.trees e (in_township ts c) (in_section c)) (in_square c)
+  kept_of e l c = held (lent_pieces ts l e (in_township ts c) (in_section c)) (in_square c)
 
   -- it holds of each cell of an image's tract in the plant, and of each estate
   abbrev pub EachOf : Lent → (Cell → Estate → Type 0) → Type 0
@@ -86,11 +86,11 @@ module _ (ts : List Township) where
   -- what is out after a put: its image holds what its cells held, so each image before it holds what it held
   pub loans_push : (ps qs : Estate → ℕ → ℕ → Plot) (lent : List Lent) (l : Lent)
       → ((e : Estate) → Everywhere (length ts) (λ i j. (p : List Quarter) → length p ≡ depth
-      → held_before e (l ∷ []) i j p (value_at (qs e i j) p) ≡ value_at (ps e i j) p))
+      → held_before ts e (l ∷ []) i j p (value_at (qs e i j) p) ≡ value_at (ps e i j) p))
       → loans_of ts qs (lent ++ l ∷ []) ≡ loans_of ts ps lent ++ loan_of ts qs l [] ∷ []
   loans_push ps qs [] l f = refl
   loans_push ps qs (x ∷ lent) l f = λ i. loan_same ps qs x lent (lent ++ l ∷ []) (λ c plant h e.
-      held_join e (x ∷ lent) (l ∷ []) (in_township ts c) (in_section c) (in_square c) (now ts qs c e)
+      held_join ts e (x ∷ lent) (l ∷ []) (in_township ts c) (in_section c) (in_square c) (now ts qs c e)
       ∙ ap (before_now (x ∷ lent) c e) (at_cell ts c (f e) plant (in_square c) (cell_ways_are_whole depth c.row c.column))) i
       ∷ loans_push ps qs lent l f i
 
@@ -153,9 +153,9 @@ module _ (ts : List Township) where
     | inl e ↦ absurd (let h = r.0 l (in_middle l before later) in let k = eqb-true l.number y.number e in omega (arith, h, k))
     | inr e ↦ rw e (λ i.
         loan_same ps qs y (before ++ l ∷ later) (before ++ later) (λ c plant h x.
-        held_join x (y ∷ before) later (in_township ts c) (in_section c) (in_square c) (now ts qs c x)
+        held_join ts x (y ∷ before) later (in_township ts c) (in_section c) (in_square c) (now ts qs c x)
         ∙ ap (before_now (y ∷ before) c x) (f y (inl refl) c plant h x)
-        ∙ sym (held_join x (y ∷ before) (l ∷ later) (in_township ts c) (in_section c) (in_square c) (now ts ps c x))) i
+        ∙ sym (held_join ts x (y ∷ before) (l ∷ later) (in_township ts c) (in_section c) (in_square c) (now ts ps c x))) i
         ∷ loans_gone ps qs before later l r.1 (λ x j. f x (inr j)) g i)
   ]
 
@@ -165,7 +165,7 @@ module _ (ts : List Township) where
   pub lies_has : (l : Lent) (e : Estate) (c : Cell) → IsBacked ts l → is_plant_cell depth ts c ≡ true → lies e l c ≡ true
       → has l.land c ≡ true
   lies_has l e c backed plant f =
-      let p = has_in (paths (forests.pieces l.trees e (in_township ts c) (in_section c))) (in_square c) f in
+      let p = has_in (paths (lent_pieces ts l e (in_township ts c) (in_section c))) (in_square c) f in
       sym (tract_has ts l.land c backed.within plant)
       ∙ has_from (ways_in ts l.land (in_township ts c) (in_section c)) p.0 (in_square c) (at_cell ts c (in_ways backed e) plant p.0 p.1) p.2
 
@@ -193,7 +193,7 @@ module _ (ts : List Township) where
     -- no later image has a cell of the last one's tract
     pub none_later : IsLast n (loans_of ts (plots forest) lent) → (c : Cell) → is_plant_cell depth ts c ≡ true
         → has l.land c ≡ true → (e : Estate) (now : Division) → before_now out.later c e now ≡ now
-    none_later last c plant h e now = none_holds e out.later (in_township ts c) (in_section c) (in_square c) now (λ x m.
+    none_later last c plant h e now = none_holds ts e out.later (in_township ts c) (in_section c) (in_square c) now (λ x m.
         lies_not x e c (kept.backed x (later_in x m)) plant (never l.land x.land c (later_apart last x m) h))
 
     -- a later image's cells are not the last one's

@@ -13,15 +13,14 @@ use Rattle.title_tree.specs.Lendings.{Lending, Keeps, Clear, LaterClear}
 use Rattle.title_tree_store.specs.{declared.{lent.Lent.{Lent}, forest.{Forest.{Forest}, Parts.{Parts}}}, Grounds.{Everywhere, is_parted}}
 use Rattle.title_tree_store.specs.{declared.forest.Subtrees.{Subtrees}, Forests.{plots, parts_of, wants, brings, IsExchanged}}
 use Rattle.title_tree_store.{specs.declared.spots.Home.{Home}, proofs.{CellPaths.{tract_short, is_there}, Contents.{in_section, in_square}}}
-use Rattle.title_tree_store.{specs.Spots.{ways_at, ways_in, tract_ways, IsHome}, proofs.Keeps.{tracts_clear, wants_parts}}
+use Rattle.title_tree_store.{specs.Spots.{home_in, ways_at, ways_in, tract_ways}, proofs.Keeps.{tracts_clear, wants_parts}}
 use Rattle.title_tree_store.proofs.{Images.{rises_apart}, Loans.{image_apart, lies_has, lies_not, own_backed, own_rises, none_later}}
-use Rattle.title_tree_store.specs.Keeping.{content_of, lending, loans_of, IsAbsent, IsTakenOut, IsKept, IsBacked}
+use Rattle.title_tree_store.specs.Keeping.{content_of, lent_pieces, lending, loans_of, IsAbsent, IsTakenOut, IsKept, IsBacked}
 use Rattle.title_tree_store.proofs.Loans.{later_not, before_not, was, lies, kept_of, before_now, among_lent, loan_under, loans_gone}
 use Rattle.title_tree_store.proofs.Keeps.{in_township_below, in_ways, goes_back, kept_less, out_in, left_in, lendings_in, fits_swapped}
 use Rattle.title_tree_store.proofs.Contents.{at_cell, everywhere, now, owners, owners_same, content_changes, cond_same, in_township}
 use Rattle.title_tree_store.specs.declared.forest.Parts.TheVariants as parts
 use Rattle.title_tree_store.specs.declared.spots.Home.TheVariants as home
-use Rattle.title_tree_store.specs.Forests as forests
 
 -- the plant of trees in which party 0 has the whole of each cell
 pub opens : (ts : List Township) (ps : Estate → ℕ → ℕ → Plot) → ((e : Estate) → Everywhere (length ts) (λ i j. ps e i j ≡ Same (all_to 0)))
@@ -51,7 +50,8 @@ out_of false x y f h = refl
 -- what doesn't bring back a township whose sections have trees of their own is all of the township
 covers : (x : Parts) (h : Home) (i j : ℕ) (ps : List (List Quarter)) → brings h x i ≡ false → ways_at h ps i j ≡ [] ∷ []
 covers (parts.Township g) (home.Township t) i j ps b =
-    ap (λ (y : Bool). cond y ([] ∷ []) []) (true_from_ne_false (t == i) (λ e. both_ways _ b (ap (λ (y : Bool). not y || is_parted g) e)))
+    ap (λ (y : Bool). cond y ([] ∷ []) [])
+    (true_from_ne_false (t == i) (λ e. both_ways _ b (ap (λ (y : Bool). not y || is_parted g.value) e)))
 covers (parts.Plant gs) home.Everything i j ps b = refl
 covers _ _ i j ps b = absurd cc
 
@@ -61,14 +61,14 @@ no_pieces (x ∷ xs) none = absurd (none x.path (inl refl))
 
 module _ {ts : List Township} {old : Forest} (new : Forest) {lent less : List Lent} {next n : ℕ} {l : Lent}
     (out : IsTakenOut n l lent less) (last : IsLast n (loans_of ts (plots old) lent)) (kept : IsKept ts old lent next)
-    {back : Subtrees} (swap : (e : Estate) → IsExchanged e l.trees back old new) where
-  trees : (e : Estate) → Everywhere (length ts) (λ i j. plots new e i j ≡ swapped (forests.pieces l.trees e i j) (plots old e i j))
+    {back : Subtrees} (swap : (e : Estate) → IsExchanged e (home_in ts l.land) l.trees back old new) where
+  trees : (e : Estate) → Everywhere (length ts) (λ i j. plots new e i j ≡ swapped (lent_pieces ts l e i j) (plots old e i j))
   trees e = everywhere (kept.sized e) (swap e).trees
 
   mine : IsBacked ts l
   mine = own_backed ts old out kept
 
-  short : (e : Estate) → Everywhere (length ts) (λ i j. Short (paths (forests.pieces l.trees e i j)) depth)
+  short : (e : Estate) → Everywhere (length ts) (λ i j. Short (paths (lent_pieces ts l e i j)) depth)
   short e i j a b p m = tract_short ts l.land i j p (in_ways mine e i j a b p m)
 
   -- what a cell has after an image has gone back
@@ -78,7 +78,7 @@ module _ {ts : List Township} {old : Forest} (new : Forest) {lent less : List Le
       let j = in_section c in
       let goes = at_cell ts c (goes_back out kept e) plant in
       ap (λ (t : Plot). value_at t (in_square c)) (at_cell ts c (trees e) plant)
-      ∙ value_swapped (forests.pieces l.trees e i j) (plots old e i j) (in_square c) goes.0 goes.1
+      ∙ value_swapped (lent_pieces ts l e i j) (plots old e i j) (in_square c) goes.0 goes.1
       (λ q k. subst (λ (n : ℕ). length q ≤ n) (sym (cell_ways_are_whole depth c.row c.column)) (at_cell ts c (short e) plant q k))
 
   pub restored_out : loans_of ts (plots new) less ≡ without n (loans_of ts (plots old) lent)
@@ -113,42 +113,40 @@ module _ {ts : List Township} {old : Forest} (new : Forest) {lent less : List Le
   apart : (x : Lent) → In x less → x.number ≢ l.number
   apart x m = rises_apart l out.before out.later (own_rises ts old out kept) x (subst (λ (z : List Lent). In x z) out.new_is m)
 
-  others : (e : Estate) (i j : ℕ) (x : Lending) → In x (map (lending e i j) less)
-      → In x (map (lending e i j) lent) × (x.number ≢ (lending e i j l).number)
+  others : (e : Estate) (i j : ℕ) (x : Lending) → In x (map (lending ts e i j) less)
+      → In x (map (lending ts e i j) lent) × (x.number ≢ (lending ts e i j l).number)
   others e i j x m =
-      let y = in_mapped (lending e i j) x less m in
-      (lendings_in out e i j x m, λ f. apart y.0 y.1 (ap (λ (z : Lending). z.number) (sym y.2) ∙ f))
+      let y = in_mapped (lending ts e i j) x less m in
+      (lendings_in ts out e i j x m, λ f. apart y.0 y.1 (ap (λ (z : Lending). z.number) (sym y.2) ∙ f))
 
   module _ (once : IsEachOnce ts) where
     -- no later image has a path that one of this one's begins
     clear : (e : Estate) (x : Lent) → In x lent → n < x.number → Everywhere (length ts) (λ i j. Clear (ways_in ts l.land i j)
-        (paths (forests.pieces x.trees e i j)))
+        (paths (lent_pieces ts x e i j)))
     clear e x m more i j a b p q s t =
         let of = kept.backed x m in
         tracts_clear ts l.land x.land i j once a b mine.within of.within
         (image_apart ts (λ z. n < z) (plots old) lent n l x last (out_in out) out.number_is m more) p q s (in_ways of e i j a b q t)
 
-    later_clear : (e : Estate) → Everywhere (length ts) (λ i j. LaterClear (lending e i j l) (map (lending e i j) lent))
+    later_clear : (e : Estate) → Everywhere (length ts) (λ i j. LaterClear (lending ts e i j l) (map (lending ts e i j) lent))
     later_clear e i j a b x m later p q s t =
-        let y = in_mapped (lending e i j) x lent m in
+        let y = in_mapped (lending ts e i j) x lent m in
         let more : n < y.0.number = omega (arith, later, ap (λ (z : Lending). z.number) y.2, out.number_is) in
         clear e y.0 y.1 more i j a b p q (in_ways mine e i j a b p s) (subst (λ (z : Lending). In q (paths z.pieces)) y.2 t)
 
     -- a township that an image wants parted is still so after this one has gone back
-    brought : (e : Estate) (i : ℕ) (x : Lent) → In x less → wants x.trees.home (parts_of x.trees e) i ≡ true
-        → brings l.trees.home (parts_of l.trees e) i ≡ true
+    brought : (e : Estate) (i : ℕ) (x : Lent) → In x less → wants (home_in ts x.land) (parts_of x.trees e) i ≡ true
+        → brings (home_in ts l.land) (parts_of l.trees e) i ≡ true
     brought e i x m w = elim (cases_lt x.number l.number) [
       | inl before ↦ kept.brought e i x l (left_in out x m) (out_in out) before w
       | inr after ↦ true_from_ne_false _ (λ whole.
           let of = kept.backed x (left_in out x m) in
-          let there = in_township_below (length ts) x.trees.home i
-          (subst (IsHome (length ts)) (sym of.home) (is_there ts x.land of.within))
-          (wants_parts x.trees.home (parts_of x.trees e) i w).1 in
+          let there = in_township_below (length ts) (home_in ts x.land) i (is_there ts x.land of.within)
+          (wants_parts (home_in ts x.land) (parts_of x.trees e) i w).1 in
           let more : n < x.number = omega (arith, after, apart x m, out.number_is) in
-          of.some e i w (λ j b. no_pieces (forests.pieces x.trees e i j) (λ p s.
+          of.some e i w (λ j b. no_pieces (lent_pieces ts x e i j) (λ p s.
           let root : [] ∷ [] ≡ ways_in ts l.land i j =
-          sym (covers (parts_of l.trees e) l.trees.home i j (tract_ways l.land) whole)
-          ∙ ap (λ (h : Home). ways_at h (tract_ways l.land) i j) mine.home in
+          sym (covers (parts_of l.trees e) (home_in ts l.land) i j (tract_ways l.land) whole) in
           both_ways (begins [] p) (clear e x (left_in out x m) more i j there b [] p
           (subst (λ (z : List (List Quarter)). In [] z) root (inl refl)) s) refl)))
     ]
@@ -158,11 +156,11 @@ module _ {ts : List Township} {old : Forest} (new : Forest) {lent less : List Le
         let left = kept_less out kept in
         record {
           sized = λ e. (swap e).sized ∙ kept.sized e;
-          fit = λ e i j a b. ap (fits depth) (trees e i j a b) ∙ (fits_swapped depth (forests.pieces l.trees e i j) (plots old e i j)
+          fit = λ e i j a b. ap (fits depth) (trees e i j a b) ∙ (fits_swapped depth (lent_pieces ts l e i j) (plots old e i j)
               (short e i j a b) (mine.fit e i j a b) (kept.fit e i j a b)).0;
-          keeps = λ e i j a b. subst (λ (t : Plot). Keeps t (map (lending e i j) less) next) (sym (trees e i j a b))
-              (keeps_restored (plots old e i j) (map (lending e i j) lent) (map (lending e i j) less) next (lending e i j l)
-              (in_map (lending e i j) l lent (out_in out)) (later_clear e i j a b) (others e i j) (kept.keeps e i j a b));
+          keeps = λ e i j a b. subst (λ (t : Plot). Keeps t (map (lending ts e i j) less) next) (sym (trees e i j a b))
+              (keeps_restored (plots old e i j) (map (lending ts e i j) lent) (map (lending ts e i j) less) next (lending ts e i j l)
+              (in_map (lending ts e i j) l lent (out_in out)) (later_clear e i j a b) (others e i j) (kept.keeps e i j a b));
           backed = left.backed;
           rises = left.rises;
           wanted = λ e i x m w. (swap e).parted i (left.wanted e i x m w) (brought e i x m w);

@@ -16,7 +16,7 @@ use Rattle.title_tree.specs.Pieces.{Piece, Disjoint, Ready, Short, paths, held, 
 use Rattle.title_tree.specs.Laws.{Swaps.{paths_taken, paths_fresh}, Refusals.{none_refuses_at, some_refuses_at}}
 use Rattle.title_tree.specs.Laws.{CellSquares.{cell_ways_are_whole}, Images.{put_ready, put_keeps, put_content, put_held}}
 use Rattle.title_tree.specs.Laws.Depths.{fits_plot_at, fits_changed, split_all_fits}
-use Rattle.title_tree_store.specs.declared.{lent.Lent.{Lent}, forest.{Forest.{Forest}, Subtrees.{Subtrees}}, spots.Home.{Home}}
+use Rattle.title_tree_store.specs.declared.{lent.Lent.{Lent}, forest.{Forest.{Forest}, Subtrees.{Subtrees}}}
 use Rattle.title_tree_store.{specs.{Grounds.{Everywhere, parted_in, closable_in}, Keeping.{IsBacked, IsKept}}, proofs.Images.{rises_more}}
 use Rattle.title_tree_store.{specs.Spots.{index_of, ways_in, home_in, tract_ways, is_in_township, reaches}, proofs.Steps.{named_or}}
 use Rattle.title_tree_store.specs.Forests.{grounds, plots, parts_of, named_ways, wants, brings, is_some_part, AreAll, IsChange, HasNote}
@@ -90,14 +90,13 @@ pub record IsDone (ts : List Township) (x : Land) (i : Instrument ℕ) (old new 
   pub mid : Forest
   pub sized : (e : Estate) → length (grounds new e) ≡ length (grounds old e)
   pub put : (e : Estate) → Everywhere (length ts) (λ a b. IsPut i (ways_in ts x a b) e (plots old e a b) (plots mid e a b)
-      (plots new e a b) (forests.pieces made e a b) (forests.pieces trees e a b))
-  pub home : trees.home ≡ home_in ts x
+      (plots new e a b) (forests.pieces (home_in ts x) made e a b) (forests.pieces (home_in ts x) trees e a b))
   pub all : (e : Estate) → AreAll (length ts) (parts_of trees e)
   pub named : (e : Estate) → is_some_part (parts_of trees e) ≡ true → names (estates_of i) e ≡ true
-  pub some : (e : Estate) (t : ℕ) → wants trees.home (parts_of trees e) t ≡ true → tract_ways x ≢ []
+  pub some : (e : Estate) (t : ℕ) → wants (home_in ts x) (parts_of trees e) t ≡ true → tract_ways x ≢ []
   pub parted : (e : Estate) (t : ℕ) → parted_in (grounds old e) t ≡ true → parted_in (grounds new e) t ≡ true
-  pub wanted : (e : Estate) (t : ℕ) → wants trees.home (parts_of trees e) t ≡ true → parted_in (grounds new e) t ≡ true
-  pub back : (e : Estate) (t : ℕ) → parted_in (grounds old e) t ≡ true → brings trees.home (parts_of trees e) t ≡ true
+  pub wanted : (e : Estate) (t : ℕ) → wants (home_in ts x) (parts_of trees e) t ≡ true → parted_in (grounds new e) t ≡ true
+  pub back : (e : Estate) (t : ℕ) → parted_in (grounds old e) t ≡ true → brings (home_in ts x) (parts_of trees e) t ≡ true
   pub noted : HasNote i (home_in ts x) (tract_ways x) old new
   pub closed : (e : Estate) (t : ℕ) → (names (estates_of i) e && reaches (home_in ts x) t) ≡ false
       → closable_in (grounds new e) t ≡ closable_in (grounds old e) t
@@ -125,7 +124,7 @@ module _ {ts : List Township} {old : Forest} {lent : List Lent} {n : ℕ} (kept 
 
   -- the images that are out have lower numbers
   below : (y : Lent) → In y lent → y.number < n
-  below y m = (kept.keeps S 0 0 (some_township ts x of) (omega arith)).below (lending S 0 0 y) (in_map (lending S 0 0) y lent m)
+  below y m = (kept.keeps S 0 0 (some_township ts x of) (omega arith)).below (lending ts S 0 0 y) (in_map (lending ts S 0 0) y lent m)
 
   module _ {new : Forest} {trees : Subtrees} (done : IsDone ts x i old new trees) where
     abbrev image : Lent
@@ -134,29 +133,28 @@ module _ {ts : List Township} {old : Forest} {lent : List Lent} {n : ℕ} (kept 
     -- ---- what is kept
 
     swapped_fit : (e : Estate) → Everywhere (length ts) (λ a b.
-        (fits depth (swapped (forests.pieces done.made e a b) (plots done.mid e a b)) ≡ true)
-        × PiecesFit depth (taken (forests.pieces done.made e a b) (plots done.mid e a b)))
+        (fits depth (swapped (forests.pieces (home_in ts x) done.made e a b) (plots done.mid e a b)) ≡ true)
+        × PiecesFit depth (taken (forests.pieces (home_in ts x) done.made e a b) (plots done.mid e a b)))
     swapped_fit e a b c d =
         let p = done.put e a b c d in
-        fits_swapped depth (forests.pieces done.made e a b) (plots done.mid e a b)
+        fits_swapped depth (forests.pieces (home_in ts x) done.made e a b) (plots done.mid e a b)
         (subst (λ (z : List (List Quarter)). Short z depth) (sym (put_paths p).0) (short e a b))
         (subst (PiecesFit depth) (sym p.made.1) (fresh_fit depth (change e) (ways e a b) (plots old e a b) (kept.fit e a b c d)))
         (ap (fits depth) p.split ∙ split_all_fits (ways e a b) (plots old e a b) depth (short e a b) (kept.fit e a b c d))
 
-    some_piece : (e : Estate) (t : ℕ) → wants trees.home (parts_of trees e) t ≡ true
-        → ((j : ℕ) → j < 36 → forests.pieces trees e t j ≡ []) → ⊥
+    some_piece : (e : Estate) (t : ℕ) → wants (home_in ts x) (parts_of trees e) t ≡ true
+        → ((j : ℕ) → j < 36 → forests.pieces (home_in ts x) trees e t j ≡ []) → ⊥
     some_piece e t w none =
-        let inside = subst (λ (h : Home). is_in_township h t ≡ true) done.home (wants_parts trees.home (parts_of trees e) t w).1 in
+        let inside = (wants_parts (home_in ts x) (parts_of trees e) t w).1 in
         let there = in_township_below (length ts) (home_in ts x) t (is_there ts x of) inside in
         let at = ways_there ts x t inside in
         done.some e t w (sym at.2
-        ∙ sym (ap (λ (b : Bool). cond b (ways_in ts x t at.0) []) (done.named e (wants_parts trees.home (parts_of trees e) t w).0))
+        ∙ sym (ap (λ (b : Bool). cond b (ways_in ts x t at.0) []) (done.named e (wants_parts (home_in ts x) (parts_of trees e) t w).0))
         ∙ sym (put_paths (done.put e t at.0 there at.1)).1 ∙ ap paths (none at.0 at.1))
 
     image_backed : IsBacked ts image
     image_backed = record {
       within = of;
-      home = done.home;
       all = done.all;
       at = λ e a b c d. ap (λ (z : List (List Quarter)). is_whole z (ways_in ts x a b)) ((put_paths (done.put e a b c d)).1)
           ∙ named_or (λ qs. is_whole qs (ways_in ts x a b) ≡ true) i e (ways_in ts x a b)
@@ -175,17 +173,17 @@ module _ {ts : List Township} {old : Forest} {lent : List Lent} {n : ℕ} (kept 
       fit = λ e a b c d. ap (fits depth) (done.put e a b c d).exchanged ∙ (swapped_fit e a b c d).0;
       keeps = λ e a b c d.
           let p = done.put e a b c d in
-          subst (λ (out : List Lending). Keeps (plots new e a b) out (suc n)) (sym (map_push (lending e a b) lent image))
-          (put_keeps (change e) (ways e a b) (plots old e a b) (plots done.mid e a b) (plots new e a b) (forests.pieces done.made e a b)
-          (forests.pieces trees e a b) (map (lending e a b) lent) n (apart ts x i e a b) p.made.1 p.split p.exchanged p.image
-          (kept.keeps e a b c d));
+          subst (λ (out : List Lending). Keeps (plots new e a b) out (suc n)) (sym (map_push (lending ts e a b) lent image))
+          (put_keeps (change e) (ways e a b) (plots old e a b) (plots done.mid e a b) (plots new e a b)
+          (forests.pieces (home_in ts x) done.made e a b) (forests.pieces (home_in ts x) trees e a b) (map (lending ts e a b) lent) n
+          (apart ts x i e a b) p.made.1 p.split p.exchanged p.image (kept.keeps e a b c d));
       backed = pushed (IsBacked ts) lent image kept.backed image_backed;
       rises = rises_more lent image kept.rises below;
-      wanted = λ e t. pushed (λ y. wants y.trees.home (parts_of y.trees e) t ≡ true → parted_in (grounds new e) t ≡ true) lent image
+      wanted = λ e t. pushed (λ y. wants (home_in ts y.land) (parts_of y.trees e) t ≡ true → parted_in (grounds new e) t ≡ true) lent image
           (λ y m w. done.parted e t (kept.wanted e t y m w)) (done.wanted e t);
-      brought = λ e t x z m o. pushed (λ y. y.number < z.number → wants y.trees.home (parts_of y.trees e) t ≡ true
-          → brings z.trees.home (parts_of z.trees e) t ≡ true) lent image
-          (λ y p less w. pushed (λ z. y.number < z.number → brings z.trees.home (parts_of z.trees e) t ≡ true) lent image
+      brought = λ e t x z m o. pushed (λ y. y.number < z.number → wants (home_in ts y.land) (parts_of y.trees e) t ≡ true
+          → brings (home_in ts z.land) (parts_of z.trees e) t ≡ true) lent image
+          (λ y p less w. pushed (λ z. y.number < z.number → brings (home_in ts z.land) (parts_of z.trees e) t ≡ true) lent image
           (λ z q less. kept.brought e t y z p q less w) (λ less. done.back e t (kept.wanted e t y p w)) z o less)
           (λ less w. let f = at_most z o in absurd (omega (arith, f, less))) x m;
     }
@@ -249,22 +247,20 @@ module _ {ts : List Township} {old : Forest} {lent : List Lent} {n : ℕ} (kept 
 
     -- what a cell held before a put is what the image has of it, or what the cell still holds
     before_put : (e : Estate) → Everywhere (length ts) (λ a b. (p : List Quarter) → length p ≡ depth
-        → held_before e (image ∷ []) a b p (value_at (plots new e a b) p) ≡ value_at (plots old e a b) p)
-    before_put e a b c d p long = go (lies_in e image a b p) refl
+        → held_before ts e (image ∷ []) a b p (value_at (plots new e a b) p) ≡ value_at (plots old e a b) p)
+    before_put e a b c d p long = go (lies_in ts e image a b p) refl
       where
-        k : IsPut i (ways_in ts x a b) e (plots old e a b) (plots done.mid e a b) (plots new e a b) (forests.pieces done.made e a b)
-            (forests.pieces trees e a b)
+        k : IsPut i (ways_in ts x a b) e (plots old e a b) (plots done.mid e a b) (plots new e a b)
+            (forests.pieces (home_in ts x) done.made e a b) (forests.pieces (home_in ts x) trees e a b)
         k = done.put e a b c d
 
-        at : pieces.has (ways e a b) p ≡ lies_in e image a b p
+        at : pieces.has (ways e a b) p ≡ lies_in ts e image a b p
         at = ap (λ (z : List (List Quarter)). pieces.has z p) (sym ((put_paths k).1))
 
-        go : (y : Bool) → lies_in e image a b p ≡ y
-            → cond y (held (forests.pieces trees e a b) p) (value_at (plots new e a b) p) ≡ value_at (plots old e a b) p
-        go true h = ap (λ (z : List Piece). held z p) (k.image ∙ ap (λ (z : List Piece). taken z (plots done.mid e a b)) k.made.1
-            ∙ ap (taken (fresh (change e) (ways e a b) (plots old e a b))) k.split)
-            ∙ put_held (change e) (ways e a b) (plots old e a b) p (apart ts x i e a b)
-            (subst (Short (ways e a b)) (sym long) (short e a b)) (at ∙ h)
+        go : (y : Bool) → lies_in ts e image a b p ≡ y
+            → cond y (held (forests.pieces (home_in ts x) trees e a b) p) (value_at (plots new e a b) p) ≡ value_at (plots old e a b) p
+        go true h = rw (k.image, k.made.1, k.split) (put_held (change e) (ways e a b) (plots old e a b) p (apart ts x i e a b)
+            (subst (Short (ways e a b)) (sym long) (short e a b)) (at ∙ h))
         go false h = put_at e a b c d p long
             ∙ ap (λ (y : Bool). cond y (change e (value_at (plots old e a b) p)) (value_at (plots old e a b) p)) (at ∙ h)
 

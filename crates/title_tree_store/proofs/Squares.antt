@@ -73,7 +73,7 @@ module _ (ts : List Township) (gs : List Ground) (e : Estate) where
       ∙ ap (λ (u : Township). plot_in gs (index_of ts u) (s.number - 1)) (sym (sections_of-in t s j))))
       ∙ sym (flat_map-map (sheet m) (λ s. node.Part s []) (sections_of t))) i)
 
-  -- of townships that are each what it is
+  -- the sheets of townships of which each has its node's
   townships_are : (m : ℕ) (hs : List Ground) (us : List Township) → length hs ≡ length us
       → ((i : ℕ) (h : Ground) (u : Township) → i < length us → h ≡ get_or hs i h → u ≡ get_or us i u
       → township_sheet h e u ≡ sheet m (node.Township u))

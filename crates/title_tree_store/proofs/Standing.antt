@@ -127,13 +127,13 @@ first_alike i plant (c ∷ cells) o f = one c (cell_effect i (plant c)) o (first
     (first_alike i plant cells o (λ z j. f z (inr j)))
 
 -- what refuses in a square whose cells are treated alike
-pub alike_square : (x : Search) (s : Section) (below : ℕ) (w : List Quarter) (t : Trees) → below + length w ≡ depth → StandsAt x s w t
-    → (below == 0 || are_settled x.instrument.now t) ≡ true → refused_at (why_first x.instrument.now t)
-    (first_cell_of (cells_below depth s below w)) ≡ first_for x (cells_below depth s below w)
-alike_square x s below w t l h same =
+pub alike_square : (x : Search) (s : Section) (below : ℕ) (w : List Quarter) (t : Trees) {o : Option (Rule × Estate)}
+    → below + length w ≡ depth → StandsAt x s w t → (below == 0 || are_settled x.instrument.now t) ≡ true → o ≡ why_first x.instrument.now t
+    → refused_at o (first_cell_of (cells_below depth s below w)) ≡ first_for x (cells_below depth s below w)
+alike_square x s below w t {o} l h same why =
     first_alike x.instrument.now (λ c. owners_at (plots x.forest.now) (index_of x.townships.now c.section.township)
-    (c.section.number - 1) (cell_way depth c.row c.column)) (cells_below depth s below w) (why_first x.instrument.now t)
-    (λ c j. alike x s below w t c l h same j)
+    (c.section.number - 1) (cell_way depth c.row c.column)) (cells_below depth s below w) o
+    (λ c j. alike x s below w t c l h same j ∙ sym why)
 
 -- where cells aren't treated alike there are levels below
 pub has_levels : (below : ℕ) (b : Bool) → (below == 0 || b) ≡ false → 0 < below

@@ -8,7 +8,7 @@ use Rattle.title_instrument.specs.{Estates.{names}, Parties.{estates_of}}
 use Rattle.title_tree.specs.{Plots.{Plot, fits}, Pieces.{Apart, split_all, Refines, StaysWithin, StaysElsewhere}, Joining.{ApartFromAll}}
 use Rattle.title_tree.specs.Laws.{Depths.{split_all_fits}, Swaps.{split_all_reaches}, Joined.{elsewhere_split_all}}
 use Rattle.title_tree_store.specs.declared.{forest.{Written.{Written}, Forest.{Forest}}, spots.Home.{Home}}
-use Rattle.title_tree_store.specs.{Spots.{ways_at, reaches, IsHome}, Forests.{put_ways, named_ways, written, was_written}}
+use Rattle.title_tree_store.specs.{Spots.{ways_at, reaches, IsHome}, Forests.{put_ways, named_ways, written, writes, was_written}}
 use Rattle.title_tree_store.specs.Forests.{HasNote, IsNoted, AreHomes}
 
 -- what was quartered, whole or in part, has the same cells and all nodes, goes no deeper, and stays where the paths don't lead
@@ -47,8 +47,8 @@ or_none false = refl
 -- and to the townships that were written
 pub was_noted : {x : Instrument ℕ} {h : Home} {ps : List (List Quarter)} {old new : Forest} → HasNote x h ps old new → (e : Estate)
     (i : ℕ) → was_written e i new ≡ (was_written e i old || (names (estates_of x) e && reaches h i))
-was_noted {x} {h} {old} note e i = ap (list_any (λ (w : Written). names w.estates e && reaches w.home i)) note.pushed
-    ∙ list_any-append (λ (w : Written). names w.estates e && reaches w.home i) old.written.items (note.last ∷ [])
+was_noted {x} {h} {old} note e i = ap (list_any (writes e i)) note.pushed
+    ∙ list_any-append (writes e i) old.written.items (note.last ∷ [])
     ∙ (λ k. was_written e i old || ((names (note.estates k) e && reaches (note.home k) i) || false))
     ∙ ap (λ (b : Bool). was_written e i old || b) (or_none (names (estates_of x) e && reaches h i))
 

@@ -8,7 +8,7 @@ use Rattle.title_tree.specs.{Changes.{after}, Plots.{Plot, value_at}, Parts.{pie
 use Rattle.title_tree.specs.Pieces.{Piece, fresh, refusal_at, split_all, swapped, taken}
 use Rattle.title_tree_store.specs.declared.{forest.{Forest.{Forest}, Subtrees.{Subtrees}}, ground.Ground.{Ground}, spots.Home.{Home}}
 use Rattle.title_tree_store.specs.declared.forest.{Parts.{Parts}, Written.{Written}}
-use Rattle.title_tree_store.specs.Grounds.{stands, is_parted, ground_tidy, plot_in, parted_in, closable_in, Everywhere, AreSplit}
+use Rattle.title_tree_store.specs.Grounds.{stands, is_parted, ground_tidy, plot_in, parted_in, closable_in, Everywhere, AreSplit, IsTidied}
 use Rattle.title_tree_store.specs.Spots.{paths_in, ways_at, is_everything, is_township, is_in_township, reaches, IsHome}
 use Rattle.title_tree_store.specs.declared.forest.Parts.TheVariants as parts
 use Rattle.title_tree_store.specs.declared.spots.Home.TheVariants as home
@@ -37,9 +37,20 @@ put_ways e i j w = cond (names w.estates e) (ways_at w.home (paths_in w.paths) i
 abbrev pub written : Estate → ℕ → ℕ → Forest → List (List (List Quarter))
 written e i j f = map (put_ways e i j) f.written.items
 
--- something of a township was written since then
+-- a put wrote something of a township
+abbrev pub writes : Estate → ℕ → Written → Bool
+writes e i w = names w.estates e && reaches w.home i
+
+-- something of it was written since then
 abbrev pub was_written : Estate → ℕ → Forest → Bool
-was_written e i f = list_any (λ w. names w.estates e && reaches w.home i) f.written.items
+was_written e i f = list_any (writes e i) f.written.items
+
+-- the townships of an estate, joined where some puts wrote it
+pub record AreTidied (e : Estate) (puts : List Written) (old new : List Ground) : Type 0 where
+  pub tidied : Everywhere (length old) (λ i j. IsTidied (map (put_ways e i j) puts) (plot_in old i j) (plot_in new i j))
+  pub closed : (i : ℕ) → list_any (writes e i) puts ≡ true → closable_in new i ≡ false
+  pub others : (i : ℕ) → list_any (writes e i) puts ≡ false → closable_in new i ≡ closable_in old i
+  pub sized : length new ≡ length old
 
 -- no four quarters of an estate's trees, and no 36 sections, are leaves that have the same division
 abbrev pub are_joined : Forest → Bool
@@ -57,7 +68,7 @@ squares_in _ = []
 
 -- those of a section of a township that is known
 abbrev pub sections_in : Parts → ℕ → List Piece
-sections_in (parts.Township g) j = whole (stands g j) ∷ []
+sections_in (parts.Township g) j = whole (stands g.value j) ∷ []
 sections_in _ j = []
 
 -- those of a section of a plant
@@ -69,7 +80,7 @@ townships_in _ i j = []
 abbrev pub parts_at : Home → Parts → ℕ → ℕ → List Piece
 parts_at home.Everything x i j = townships_in x i j
 parts_at (home.Township t) x i j = cond (t == i) (sections_in x j) []
-parts_at (home.Section t n) x i j = cond (t == i && n == j) (squares_in x) []
+parts_at (home.Section n t) x i j = cond (t == i && n == j) (squares_in x) []
 
 -- they are parts of a section, or nothing
 abbrev pub are_squares : Parts → Bool
@@ -83,8 +94,8 @@ parts_of x S = x.s
 parts_of x O = x.o
 parts_of x M = x.m
 
-abbrev pub pieces : Subtrees → Estate → ℕ → ℕ → List Piece
-pieces x e = parts_at x.home (parts_of x e)
+abbrev pub pieces : Home → Subtrees → Estate → ℕ → ℕ → List Piece
+pieces h x e = parts_at h (parts_of x e)
 
 -- there are parts
 abbrev pub is_some_part : Parts → Bool
@@ -99,7 +110,7 @@ wants h _ i = false
 
 -- after they have changed places with what stands there, a township that was so is so
 abbrev pub brings : Home → Parts → ℕ → Bool
-brings h (parts.Township g) i = not (is_township h i) || is_parted g
+brings h (parts.Township g) i = not (is_township h i) || is_parted g.value
 brings h (parts.Plant gs) i = not (is_everything h) || parted_in gs.items i
 brings h _ i = true
 
@@ -109,15 +120,15 @@ AreAll count (parts.Plant gs) = length gs.items ≡ count
 AreAll count _ = Unit {0}
 
 -- an estate's parts that changed places with what stood where they lie
-pub record IsExchanged (e : Estate) (x y : Subtrees) (old new : Forest) : Type 0 where
+pub record IsExchanged (e : Estate) (h : Home) (x y : Subtrees) (old new : Forest) : Type 0 where
   pub sized : length (grounds new e) ≡ length (grounds old e)
   pub all : AreAll (length (grounds old e)) (parts_of y e)
-  pub trees : Everywhere (length (grounds old e)) (λ i j. plots new e i j ≡ swapped (pieces x e i j) (plots old e i j))
-  pub parts : Everywhere (length (grounds old e)) (λ i j. pieces y e i j ≡ taken (pieces x e i j) (plots old e i j))
-  pub parted : (i : ℕ) → parted_in (grounds old e) i ≡ true → brings x.home (parts_of x e) i ≡ true → parted_in (grounds new e) i ≡ true
-  pub back : (i : ℕ) → parted_in (grounds old e) i ≡ true → brings y.home (parts_of y e) i ≡ true
-  pub wanted : (i : ℕ) → wants y.home (parts_of y e) i ≡ wants x.home (parts_of x e) i
-  pub elsewhere : (i : ℕ) → (is_some_part (parts_of x e) && reaches x.home i) ≡ false
+  pub trees : Everywhere (length (grounds old e)) (λ i j. plots new e i j ≡ swapped (pieces h x e i j) (plots old e i j))
+  pub parts : Everywhere (length (grounds old e)) (λ i j. pieces h y e i j ≡ taken (pieces h x e i j) (plots old e i j))
+  pub parted : (i : ℕ) → parted_in (grounds old e) i ≡ true → brings h (parts_of x e) i ≡ true → parted_in (grounds new e) i ≡ true
+  pub back : (i : ℕ) → parted_in (grounds old e) i ≡ true → brings h (parts_of y e) i ≡ true
+  pub wanted : (i : ℕ) → wants h (parts_of y e) i ≡ wants h (parts_of x e) i
+  pub elsewhere : (i : ℕ) → (is_some_part (parts_of x e) && reaches h i) ≡ false
       → closable_in (grounds new e) i ≡ closable_in (grounds old e) i
   pub some : is_some_part (parts_of y e) ≡ is_some_part (parts_of x e)
 

@@ -16,21 +16,25 @@ abbrev pub content_of : List Township → (Estate → ℕ → ℕ → Plot) → 
 content_of ts ps c = cond (is_plant_cell depth ts c)
     (owners_at ps (index_of ts c.section.township) (c.section.number - 1) (cell_way depth c.row c.column)) opening_owners
 
+-- the pieces of a section that an image has: they lie where its tract does
+abbrev pub lent_pieces : List Township → Lent → Estate → ℕ → ℕ → List Piece
+lent_pieces ts l = pieces (home_in ts l.land) l.trees
+
 -- a part of the image has the cell at a path of a section
-abbrev pub lies_in : Estate → Lent → ℕ → ℕ → List Quarter → Bool
-lies_in e l i j p = has (paths (pieces l.trees e i j)) p
+abbrev pub lies_in : List Township → Estate → Lent → ℕ → ℕ → List Quarter → Bool
+lies_in ts e l i j p = has (paths (lent_pieces ts l e i j)) p
 
 -- what a cell held of an estate before the first of some images that has it; what it holds now, where none has
-abbrev pub held_before : Estate → List Lent → ℕ → ℕ → List Quarter → Division → Division
-held_before e [] i j p now = now
-held_before e (l ∷ later) i j p now = cond (lies_in e l i j p) (held (pieces l.trees e i j) p) (held_before e later i j p now)
+abbrev pub held_before : List Township → Estate → List Lent → ℕ → ℕ → List Quarter → Division → Division
+held_before ts e [] i j p now = now
+held_before ts e (l ∷ later) i j p now = cond (lies_in ts e l i j p) (held (lent_pieces ts l e i j) p) (held_before ts e later i j p now)
 
 -- the owners that a cell had before them
-abbrev pub owners_before : (Estate → ℕ → ℕ → Plot) → List Lent → ℕ → ℕ → List Quarter → Owners
-owners_before ps lent i j p = record {
-  s = held_before S lent i j p (value_at (ps S i j) p);
-  o = held_before O lent i j p (value_at (ps O i j) p);
-  m = held_before M lent i j p (value_at (ps M i j) p);
+abbrev pub owners_before : List Township → (Estate → ℕ → ℕ → Plot) → List Lent → ℕ → ℕ → List Quarter → Owners
+owners_before ts ps lent i j p = record {
+  s = held_before ts S lent i j p (value_at (ps S i j) p);
+  o = held_before ts O lent i j p (value_at (ps O i j) p);
+  m = held_before ts M lent i j p (value_at (ps M i j) p);
 }
 
 -- an image that is out, with those that went out after it, as a loan: what an estate held that it has no parts of is read off
@@ -39,7 +43,7 @@ abbrev pub loan_of : List Township → (Estate → ℕ → ℕ → Plot) → Len
 loan_of ts ps l later = record {
   number = l.number;
   land = l.land;
-  held = λ c. cond (is_cell_of depth ts l.land c) (owners_before ps (l ∷ later) (index_of ts c.section.township) (c.section.number - 1)
+  held = λ c. cond (is_cell_of depth ts l.land c) (owners_before ts ps (l ∷ later) (index_of ts c.section.township) (c.section.number - 1)
       (cell_way depth c.row c.column)) opening_owners;
 }
 
@@ -49,8 +53,8 @@ loans_of ts ps [] = []
 loans_of ts ps (l ∷ lent) = loan_of ts ps l lent ∷ loans_of ts ps lent
 
 -- an image that is out, as pieces of a section of an estate
-abbrev pub lending : Estate → ℕ → ℕ → Lent → Lending
-lending e i j l = record { number = l.number; pieces = pieces l.trees e i j }
+abbrev pub lending : List Township → Estate → ℕ → ℕ → Lent → Lending
+lending ts e i j l = record { number = l.number; pieces = lent_pieces ts l e i j }
 
 -- no image of this number is out
 abbrev pub IsAbsent : ℕ → List Lent → Type 0
@@ -82,11 +86,11 @@ PiecesFit levels xs = (x : Piece) → In x xs → (n : ℕ) → levels ≡ lengt
 -- an image has a piece for each square of its tract, or none, of each estate; some where it wants a township's sections to have trees
 pub record IsBacked (ts : List Township) (l : Lent) : Type 0 where
   pub within : is_in_plant ts l.land ≡ true
-  pub home : l.trees.home ≡ home_in ts l.land
   pub all : (e : Estate) → AreAll (length ts) (parts_of l.trees e)
-  pub at : (e : Estate) → Everywhere (length ts) (λ i j. is_whole (paths (pieces l.trees e i j)) (ways_in ts l.land i j) ≡ true)
-  pub fit : (e : Estate) → Everywhere (length ts) (λ i j. PiecesFit depth (pieces l.trees e i j))
-  pub some : (e : Estate) (i : ℕ) → wants l.trees.home (parts_of l.trees e) i ≡ true → ((j : ℕ) → j < 36 → pieces l.trees e i j ≡ []) → ⊥
+  pub at : (e : Estate) → Everywhere (length ts) (λ i j. is_whole (paths (lent_pieces ts l e i j)) (ways_in ts l.land i j) ≡ true)
+  pub fit : (e : Estate) → Everywhere (length ts) (λ i j. PiecesFit depth (lent_pieces ts l e i j))
+  pub some : (e : Estate) (i : ℕ) → wants (home_in ts l.land) (parts_of l.trees e) i ≡ true
+      → ((j : ℕ) → j < 36 → lent_pieces ts l e i j ≡ []) → ⊥
 
 -- numbers rise
 abbrev pub Rises : List Lent → Type 0
@@ -98,20 +102,20 @@ Rises (l ∷ lent) = ((x : Lent) → In x lent → l.number < x.number) × Rises
 pub record IsKept (ts : List Township) (f : Forest) (lent : List Lent) (next : ℕ) : Type 0 where
   pub sized : (e : Estate) → length (grounds f e) ≡ length ts
   pub fit : (e : Estate) → Everywhere (length ts) (λ i j. fits depth (plots f e i j) ≡ true)
-  pub keeps : (e : Estate) → Everywhere (length ts) (λ i j. Keeps (plots f e i j) (map (lending e i j) lent) next)
+  pub keeps : (e : Estate) → Everywhere (length ts) (λ i j. Keeps (plots f e i j) (map (lending ts e i j) lent) next)
   pub backed : (l : Lent) → In l lent → IsBacked ts l
   pub rises : Rises lent
-  pub wanted : (e : Estate) (i : ℕ) (l : Lent) → In l lent → wants l.trees.home (parts_of l.trees e) i ≡ true
+  pub wanted : (e : Estate) (i : ℕ) (l : Lent) → In l lent → wants (home_in ts l.land) (parts_of l.trees e) i ≡ true
       → parted_in (grounds f e) i ≡ true
   pub brought : (e : Estate) (i : ℕ) (x y : Lent) → In x lent → In y lent → x.number < y.number
-      → wants x.trees.home (parts_of x.trees e) i ≡ true → brings y.trees.home (parts_of y.trees e) i ≡ true
+      → wants (home_in ts x.land) (parts_of x.trees e) i ≡ true → brings (home_in ts y.land) (parts_of y.trees e) i ≡ true
 
 -- no four quarters, and no 36 sections, are leaves of one division but where something was written, and each image lies where
 -- something was
-pub record AreJoined (f : Forest) (lent : List Lent) : Type 0 where
+pub record AreJoined (ts : List Township) (f : Forest) (lent : List Lent) : Type 0 where
   pub joined : (e : Estate) → Everywhere (length (grounds f e)) (λ i j. JoinedBut (written e i j f) (plots f e i j))
   pub closed : (e : Estate) (i : ℕ) → was_written e i f ≡ false → closable_in (grounds f e) i ≡ false
   pub lies : (e : Estate) → Everywhere (length (grounds f e)) (λ i j. (l : Lent) → In l lent → (q : List Quarter)
-      → ApartFromAll q (written e i j f) → Apart q (paths (pieces l.trees e i j)))
-  pub marked : (e : Estate) (i : ℕ) (l : Lent) → In l lent → (is_some_part (parts_of l.trees e) && reaches l.trees.home i) ≡ true
+      → ApartFromAll q (written e i j f) → Apart q (paths (lent_pieces ts l e i j)))
+  pub marked : (e : Estate) (i : ℕ) (l : Lent) → In l lent → (is_some_part (parts_of l.trees e) && reaches (home_in ts l.land) i) ≡ true
       → was_written e i f ≡ true

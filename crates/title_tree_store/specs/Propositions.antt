@@ -1,5 +1,5 @@
 -- What a store keeps are facts: each holds in one way.
-use Rattle.std.{proofs.{Math.{Bool.{Bool-set}, Bridge.{le_prop}, Nat.{ℕ_set}}, Props.{props}}, specs.Prelude.{ℕ, List, [], ◌∷◌}}
+use Rattle.std.{proofs.{Math.{Bool.{Bool-set}, Bridge.{le_prop}, Nat.{ℕ_set}}}, specs.Prelude.{ℕ, List, [], ◌∷◌}}
 use Rattle.title_land.specs.declared.{survey.Township.{Township}, rectangle.Quarter.{Quarter}}
 use Rattle.title_store.specs.Plants.{IsEachOnce}
 use Rattle.title_tree.specs.{Pieces.{Disjoint}}
@@ -20,13 +20,10 @@ pub rises_prop : (lent : List Lent) → IsProp (Rises lent)
 rises_prop [] = hlevel le_prop
 rises_prop (l ∷ lent) = hlevel (le_prop, rises_prop lent)
 
-pub home_set : IsSet Home
-home_set = hlevel props
-
 pub home_prop : (count : ℕ) (h : Home) → IsProp (IsHome count h)
 home_prop count home.Everything = hlevel
 home_prop count (home.Township t) = hlevel le_prop
-home_prop count (home.Section t n) = hlevel le_prop
+home_prop count (home.Section n t) = hlevel le_prop
 
 pub all_prop : (count : ℕ) (x : Parts) → IsProp (AreAll count x)
 all_prop count parts.Nothing = hlevel
@@ -36,7 +33,7 @@ all_prop count (parts.Township g) = hlevel
 all_prop count (parts.Plant gs) = hlevel ℕ_set
 
 pub kept_prop : (ts : List Township) (f : Forest) (lent : List Lent) (next : ℕ) → IsProp (IsKept ts f lent next)
-kept_prop ts f lent next = hlevel (Bool-set, le_prop, ℕ_set, home_set, all_prop, disjoint_prop, rises_prop)
+kept_prop ts f lent next = hlevel (Bool-set, le_prop, ℕ_set, all_prop, disjoint_prop, rises_prop)
 
-pub joined_prop : (f : Forest) (lent : List Lent) → IsProp (AreJoined f lent)
-joined_prop f lent = hlevel Bool-set
+pub joined_prop : (ts : List Township) (f : Forest) (lent : List Lent) → IsProp (AreJoined ts f lent)
+joined_prop ts f lent = hlevel Bool-set

@@ -17,13 +17,13 @@ index_of (u ∷ ts) t = cond (same_township t u) 0 (index_of ts t + 1)
 abbrev pub home_in : List Township → Land → Home
 home_in ts land.Everything = home.Everything
 home_in ts (land.Township t) = home.Township (index_of ts t)
-home_in ts (land.Part s g) = home.Section (index_of ts s.township) (s.number - 1)
+home_in ts (land.Part s g) = home.Section (s.number - 1) (index_of ts s.township)
 
 -- there are such townships and sections
 abbrev pub IsHome : ℕ → Home → Type 0
 IsHome count home.Everything = Unit {0}
 IsHome count (home.Township t) = t < count
-IsHome count (home.Section t n) = (t < count) × (n < 36)
+IsHome count (home.Section n t) = (t < count) × (n < 36)
 
 -- it is the whole plant
 abbrev pub is_everything : Home → Bool
@@ -37,20 +37,20 @@ is_township _ i = false
 
 -- it is a section of this township
 abbrev pub is_in_township : Home → ℕ → Bool
-is_in_township (home.Section t n) i = t == i
+is_in_township (home.Section n t) i = t == i
 is_in_township _ i = false
 
 -- something of this township lies in it
 abbrev pub reaches : Home → ℕ → Bool
 reaches home.Everything i = true
 reaches (home.Township t) i = t == i
-reaches (home.Section t n) i = t == i
+reaches (home.Section n t) i = t == i
 
 -- the paths of a section's squares that lie there; the root's where the whole section does
 abbrev pub ways_at : Home → List (List Quarter) → ℕ → ℕ → List (List Quarter)
 ways_at home.Everything ps i j = [] ∷ []
 ways_at (home.Township t) ps i j = cond (t == i) ([] ∷ []) []
-ways_at (home.Section t n) ps i j = cond (t == i && n == j) ps []
+ways_at (home.Section n t) ps i j = cond (t == i && n == j) ps []
 
 -- the path of a node of a section
 abbrev pub node_ways : Node → List (List Quarter)

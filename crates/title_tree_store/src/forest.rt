@@ -11,8 +11,7 @@ ghost use Rattle.title_tree_store.specs.Grounds.{is_parted, ground_tidy, plot_in
 ghost use Rattle.title_tree_store.specs.{Grounds.{TellsSomewhere}, Spots.{paths_in, ways_at, is_in_township, reaches, IsHome}};
 ghost use Rattle.title_tree_store.specs.Forests.{Each, IsChange, IsExchanged, AreAll, AreHomes, IsQuartered, IsQuarteredWhole, HasNote};
 ghost use Rattle.title_tree_store.specs.Forests.{grounds, plots, pieces, parts_of, parts_at, squares_in, are_squares, is_some_part};
-ghost use Rattle.title_tree_store.specs.Forests.{IsNoted, wants, brings, named_ways, refusal_in, written, was_written, put_ways};
-ghost use Rattle.title_tree_store.specs.Forests.{are_joined};
+ghost use Rattle.title_tree_store.specs.Forests.{IsNoted, AreTidied, wants, brings, named_ways, refusal_in, writes, put_ways, are_joined};
 
 use crate::ground::Ground;
 use crate::passing::{Moved, Passing};
@@ -28,8 +27,8 @@ use title_tree::{Fault, Part, Path, Tree, add_changed};
 #[derive(Drop)]
 pub(crate) struct Written {
     pub home: Home,
-    pub paths: Paths,
     pub estates: Estates,
+    pub paths: Paths,
 }
 
 /// The townships of each estate.
@@ -48,14 +47,13 @@ pub(crate) enum Parts {
     Nothing,
     One(Part),
     Many(Vec<Part>),
-    Township(Ground),
+    Township(Box<Ground>),
     Plant(Vec<Ground>),
 }
 
-/// Parts of each estate, and where they lie.
+/// Parts of each estate, which lie in one place.
 #[derive(Drop)]
 pub(crate) struct Subtrees {
-    pub home: Home,
     pub s: Parts,
     pub o: Parts,
     pub m: Parts,
@@ -89,11 +87,14 @@ impl Parts {
                 mem::swap(all, grounds);
             },
             Home::Township(township) => if let Parts::Township(ground) = self {
-                mem::swap(ground, &mut grounds[township]);
+                mem::swap(ground.as_mut(), &mut grounds[township as usize]);
             },
-            Home::Section(township, index) => match self {
-                Parts::One(part) => grounds[township].exchange(index, part),
-                Parts::Many(parts) => grounds[township].exchange_all(index, parts),
+            Home::Section(index, township) => match self {
+                Parts::One(part) => grounds[township as usize].exchange(index as usize, part),
+                Parts::Many(parts) => grounds[township as usize].exchange_all(
+                    index as usize,
+                    parts,
+                ),
                 _ => {}
             },
         }
@@ -200,9 +201,16 @@ fn changed_there(
 {
     match home {
         Home::Everything => Ok(Parts::Plant(changed_all(alloc, grounds, passing)?)),
-        Home::Township(index) => Ok(Parts::Township(grounds[index].changed(alloc, passing)?)),
-        Home::Section(township, index) => {
-            changed_at(alloc, grounds[township].section(index), paths, passing)
+        Home::Township(index) => {
+            let ground = grounds[index as usize].changed(alloc, passing)?;
+            match Box::new(alloc, ground) {
+                Ok(ground) => Ok(Parts::Township(ground)),
+                Err(_) => Err(Fault::Memory),
+            }
+        }
+        Home::Section(index, township) => {
+            let tree = grounds[township as usize].section(index as usize);
+            changed_at(alloc, tree, paths, passing)
         }
     }
 }
@@ -263,7 +271,9 @@ fn split_named(
     }
     match home {
         Home::Everything | Home::Township(_) => Ok(()),
-        Home::Section(township, index) => grounds[township].split(alloc, index, paths),
+        Home::Section(index, township) => {
+            grounds[township as usize].split(alloc, index as usize, paths)
+        }
     }
 }
 
@@ -273,9 +283,8 @@ fn tidy_put(grounds: &mut [Ground], put: &Written, estate: Estate)
     requires there { IsHome (length grounds.old) put.now.home }
     ensures tidied { Everywhere (length grounds.old) (λ i j. IsTidied (put_ways estate i j put.now ∷ [])
         (plot_in grounds.old i j) (plot_in grounds.new i j)) }
-    ensures closed { (i : ℕ) → (names put.now.estates estate && reaches put.now.home i) ≡ true → closable_in grounds.new i ≡ false }
-    ensures others { (i : ℕ) → (names put.now.estates estate && reaches put.now.home i) ≡ false
-        → closable_in grounds.new i ≡ closable_in grounds.old i }
+    ensures closed { (i : ℕ) → writes estate i put.now ≡ true → closable_in grounds.new i ≡ false }
+    ensures others { (i : ℕ) → writes estate i put.now ≡ false → closable_in grounds.new i ≡ closable_in grounds.old i }
     ensures sized { length grounds.new ≡ length grounds.old }
 {
     if !put.estates.has(estate) {
@@ -283,8 +292,10 @@ fn tidy_put(grounds: &mut [Ground], put: &Written, estate: Estate)
     }
     match put.home {
         Home::Everything => tidy_each(grounds),
-        Home::Township(index) => grounds[index].tidy(),
-        Home::Section(township, index) => grounds[township].tidy_at(index, put.paths.as_slice()),
+        Home::Township(index) => grounds[index as usize].tidy(),
+        Home::Section(index, township) => {
+            grounds[township as usize].tidy_at(index as usize, put.paths.as_slice())
+        }
     }
 }
 
@@ -303,17 +314,10 @@ fn tidy_each(grounds: &mut [Ground])
 // Joins quarters below and above the paths of each put that wrote the estate, and sections.
 fn tidy_written(grounds: &mut [Ground], written: &[Written], estate: Estate)
     requires there { AreHomes (length grounds.old) written.now }
-    ensures tidied { Everywhere (length grounds.old) (λ i j. IsTidied (map (put_ways estate i j) written.now)
-        (plot_in grounds.old i j) (plot_in grounds.new i j)) }
-    ensures closed { (i : ℕ) → list_any (λ w. names w.estates estate && reaches w.home i) written.now ≡ true
-        → closable_in grounds.new i ≡ false }
-    ensures others { (i : ℕ) → list_any (λ w. names w.estates estate && reaches w.home i) written.now ≡ false
-        → closable_in grounds.new i ≡ closable_in grounds.old i }
-    ensures sized { length grounds.new ≡ length grounds.old }
+    ensures tidied { AreTidied estate written.now grounds.old grounds.new }
 {
-    if let Some((put, rest)) = written.split_first() {
+    for put in written {
         tidy_put(grounds, put, estate);
-        tidy_written(grounds, rest, estate);
     }
 }
 
@@ -351,18 +355,16 @@ impl Forest {
     }
 
     /// Each part changes places with what stands where it lies. Takes no memory.
-    pub(crate) fn exchange(&mut self, parts: &mut Subtrees)
-        requires there { Each (λ e. IsHome (length (grounds self.old e)) parts.old.home) }
+    pub(crate) fn exchange(&mut self, home: Home, parts: &mut Subtrees)
+        requires there { Each (λ e. IsHome (length (grounds self.old e)) home) }
         requires all { Each (λ e. AreAll (length (grounds self.old e)) (parts_of parts.old e)) }
-        requires wanted { Each (λ e. (i : ℕ) → wants parts.old.home (parts_of parts.old e) i ≡ true
+        requires wanted { Each (λ e. (i : ℕ) → wants home (parts_of parts.old e) i ≡ true
             → parted_in (grounds self.old e) i ≡ true) }
-        requires goes { Each (λ e. Everywhere (length (grounds self.old e)) (λ i j. Disjoint (paths (pieces parts.old e i j))
-            × Ready (paths (pieces parts.old e i j)) (plots self.old e i j))) }
-        ensures exchanged { Each (λ e. IsExchanged e parts.old parts.new self.old self.new) }
-        ensures home { parts.new.home ≡ parts.old.home }
+        requires goes { Each (λ e. Everywhere (length (grounds self.old e)) (λ i j. Disjoint (paths (pieces home parts.old e i j))
+            × Ready (paths (pieces home parts.old e i j)) (plots self.old e i j))) }
+        ensures exchanged { Each (λ e. IsExchanged e home parts.old parts.new self.old self.new) }
         ensures written { self.new.written ≡ self.old.written }
     {
-        let home = parts.home;
         parts.s.exchange(&mut self.s, home);
         parts.o.exchange(&mut self.o, home);
         parts.m.exchange(&mut self.m, home);
@@ -378,13 +380,12 @@ impl Forest {
     ) -> Result<Subtrees, Fault<Rule>>
         requires there { Each (λ e. IsHome (length (grounds self.now e)) home) }
         ensures change { Each (λ e. IfOk result (λ x. Everywhere (length (grounds self.now e)) (λ i j. IsChange instrument.now e
-            (ways_at home paths.now i j) (plots self.now e i j) (pieces x e i j)))) }
+            (ways_at home paths.now i j) (plots self.now e i j) (pieces home x e i j)))) }
         ensures all { Each (λ e. IfOk result (λ x. AreAll (length (grounds self.now e)) (parts_of x e))) }
         ensures named { Each (λ e. IfOk result (λ x. is_some_part (parts_of x e) ≡ true → names (estates_of instrument.now) e ≡ true)) }
-        ensures some { Each (λ e. IfOk result (λ x. (i : ℕ) → wants x.home (parts_of x e) i ≡ true → paths.now ≢ [])) }
+        ensures some { Each (λ e. IfOk result (λ x. (i : ℕ) → wants home (parts_of x e) i ≡ true → paths.now ≢ [])) }
         ensures brings { Each (λ e. IfOk result (λ x. (i : ℕ) → parted_in (grounds self.now e) i ≡ true
-            → brings x.home (parts_of x e) i ≡ true)) }
-        ensures home { IfOk result (λ x. x.home ≡ home) }
+            → brings home (parts_of x e) i ≡ true)) }
         ensures why { IfErr result (λ f. (e : Estate) × TellsSomewhere f (length (grounds self.now e)) (λ i j. refusal_in instrument.now e
             (ways_at home paths.now i j) (plots self.now e i j))) }
     {
@@ -392,7 +393,7 @@ impl Forest {
         let s = changed(alloc, &self.s, home, paths, instrument, Estate::S, last)?;
         let o = changed(alloc, &self.o, home, paths, instrument, Estate::O, last)?;
         let m = changed(alloc, &self.m, home, paths, instrument, Estate::M, last)?;
-        Ok(Subtrees { home, s, o, m })
+        Ok(Subtrees { s, o, m })
     }
 
     // Quarters the trees of the estates that an instrument names down to each path. After `Err` they may be quartered down
@@ -434,8 +435,8 @@ impl Forest {
         let quartered = self.split_each(alloc, home, paths.as_slice(), instrument);
         self.written.push_reserved(Written {
             home,
-            paths,
             estates,
+            paths,
         });
         quartered
     }
@@ -451,12 +452,7 @@ impl Forest {
     /// in the estates that were written. Takes no memory.
     pub(crate) fn tidy(&mut self)
         requires there { Each (λ e. AreHomes (length (grounds self.old e)) self.old.written.items) }
-        ensures tidied { Each (λ e. Everywhere (length (grounds self.old e)) (λ i j. IsTidied (written e i j self.old)
-            (plots self.old e i j) (plots self.new e i j))) }
-        ensures closed { Each (λ e. (i : ℕ) → was_written e i self.old ≡ true → closable_in (grounds self.new e) i ≡ false) }
-        ensures others { Each (λ e. (i : ℕ) → was_written e i self.old ≡ false
-            → closable_in (grounds self.new e) i ≡ closable_in (grounds self.old e) i) }
-        ensures sized { Each (λ e. length (grounds self.new e) ≡ length (grounds self.old e)) }
+        ensures tidied { Each (λ e. AreTidied e self.old.written.items (grounds self.old e) (grounds self.new e)) }
         ensures written { self.new.written.items ≡ [] }
     {
         tidy_written(&mut self.s, &self.written, Estate::S);

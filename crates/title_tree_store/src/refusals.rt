@@ -3,10 +3,9 @@
 ghost use Rattle.std.specs.{Prelude.{◌≡◌, ◌+◌, ◌∷◌, [], ◌||◌, ◌==◌, Some, length, true}, List.{flat_map, list_any}};
 ghost use Rattle.title_land.specs.{Depth.{depth}, CellLists.{cells_below, township_cells, cells_of, part_cells}};
 ghost use Rattle.title_land.specs.{Lands.{cover_of, is_in_plant}, Survey.{same_township}};
-ghost use Rattle.title_instrument.specs.Effect.{cell_effect};
 ghost use Rattle.title_tree.specs.{Plots.{value_at, plot_at}, Trees.{plot}};
 ghost use Rattle.title_tree_store.specs.{Forests.{Each}, Refusing.{first_for, first_cell_of}};
-ghost use Rattle.title_tree_store.specs.Refusing.{why_holding, why_first, is_settled, are_settled, refused_at, stand, StandsAt, AreSized};
+ghost use Rattle.title_tree_store.specs.Refusing.{why_holding, why_first, is_settled, are_settled, stand, StandsAt, AreSized};
 
 use crate::forest::{Forest, names};
 use crate::townships::Townships;
@@ -134,23 +133,7 @@ impl<'a> Search<'a> {
         (around.quarter(parts.0), below - 1)
     }
 
-    // What refuses in a square whose cells are treated as its first one: that one.
-    fn first_alike(
-        &self,
-        trees: &Trees<'a>,
-        section: Section,
-        below: u8,
-        within: Within,
-    ) -> Option<(Rule, Estate, Cell)>
-        requires below { below + length within ≡ depth }
-        ensures first { result ≡ refused_at (why_first self.now.instrument.now trees.now)
-            (first_cell_of (cells_below depth section below within)) }
-    {
-        let (rule, estate) = trees.why(self.instrument)?;
-        Some((rule, estate, first_cell(section, below, within)))
-    }
-
-    // The first cell that refuses of a square with so many levels below it.
+    // The first cell that refuses of a square with so many levels below it: where its cells are treated alike, its first one.
     fn first_in_square(
         &self,
         trees: &Trees<'a>,
@@ -163,7 +146,8 @@ impl<'a> Search<'a> {
         ensures first { result ≡ first_for self.now (cells_below depth section below within) }
     {
         if trees.are_alike(self.instrument, below) {
-            return self.first_alike(trees, section, below, within);
+            let (rule, estate) = trees.why(self.instrument)?;
+            return Some((rule, estate, first_cell(section, below, within)));
         }
         for which in Quarter::ALL {
             let found = self.first_in_square(

@@ -1,22 +1,22 @@
 //! Rows of sheets, read off trees.
 
-ghost use Rattle.std.specs.{Prelude.{◌≡◌, ◌+◌, ◌++◌, ◌∷◌, [], true, length, OnOk, IfOk}, List.{flat_map}, Option.{option_map}};
+ghost use Rattle.std.specs.{Prelude.{◌≡◌, ◌+◌, ◌++◌, [], true, length, OnOk, IfOk}, List.{flat_map}, Option.{option_map}};
 ghost use Rattle.title_land.specs.{Depth.{depth}, Lands.{cover_of, is_in_plant}};
 ghost use Rattle.title_tree.specs.{Plots.{agreed, uniform}, Trees.{plot}};
 ghost use Rattle.title_store.specs.{Sheets.{holding_rows, rows_or}, Plants.{IsEachOnce}};
 ghost use Rattle.title_tree_store.specs.{Grounds.{grounds_uniform}, TreeSheets.{tree_sheet}, SquareSheets.{townships_sheet}};
-ghost use Rattle.title_tree_store.specs.SquareSheets.{part_sheet, plant_sheet, section_sheet, square_sheet, township_sheet};
+ghost use Rattle.title_tree_store.specs.SquareSheets.{part_sheet, plant_sheet, square_sheet, township_sheet};
 ghost use Rattle.title_land.specs.declared.node.Node.TheVariants as node;
 
 use crate::ground::Ground;
 use crate::townships::Townships;
-use crate::walks::{ground_of, section_tree, square_tree};
+use crate::walks::{ground_of, section_tree};
 use std::alloc::AllocError;
 use title_instrument::Estate;
 use title_land::{Node, Quarter, Section, Township, Tract, Within};
 use title_share::Holding;
 use title_store::SheetRow;
-use title_tree::{Tree, is_same};
+use title_tree::{Path, Tree, is_same};
 
 // The one holding of townships that all have it.
 fn holding_of(grounds: &[Ground]) -> Option<&Holding>
@@ -130,22 +130,6 @@ fn add_square<'a>(
     Ok(Some(held))
 }
 
-// Adds the sheet of a node of a section from what stands in the section.
-fn add_part(
-    tree: &Tree,
-    node: &Node,
-    estate: Estate,
-    rows: &mut Vec<SheetRow>,
-) -> Result<(), AllocError>
-    ensures rows { OnOk result (rows.new.items ≡ rows.old.items ++ part_sheet (plot tree.now) estate node.now) }
-{
-    if let Node::Part(section, within) = node {
-        let stands = square_tree(tree, *within)?;
-        add_square(stands, *section, *within, estate, rows)?;
-    }
-    Ok(())
-}
-
 // Adds the sheets of nodes of a section from what stands in the section.
 fn add_parts(
     tree: &Tree,
@@ -156,22 +140,11 @@ fn add_parts(
     ensures rows { OnOk result (rows.new.items ≡ rows.old.items ++ flat_map (part_sheet (plot tree.now) estate) nodes.now) }
 {
     for node in nodes {
-        add_part(tree, node, estate, rows)?;
+        if let Node::Part(section, within) = node {
+            let path = Path::root().inside_square(*within)?;
+            add_square(tree.at(path), *section, *within, estate, rows)?;
+        }
     }
-    Ok(())
-}
-
-// Adds the sheet of a section.
-fn add_section(
-    ground: &Ground,
-    section: Section,
-    estate: Estate,
-    rows: &mut Vec<SheetRow>,
-) -> Result<(), AllocError>
-    ensures rows { OnOk result (rows.new.items ≡ rows.old.items ++ section_sheet ground.now estate section) }
-{
-    let stands = ground.section(usize::from(section.number - 1));
-    add_square(stands, section, Within::section(), estate, rows)?;
     Ok(())
 }
 
@@ -188,7 +161,8 @@ fn add_township(
         return add_entries(&Node::Township(township), estate, held, rows);
     }
     for section in township.sections() {
-        add_section(ground, section, estate, rows)?;
+        let stands = ground.section(usize::from(section.number - 1));
+        add_square(stands, section, Within::section(), estate, rows)?;
     }
     Ok(())
 }

@@ -1,21 +1,21 @@
 //! Where tracts lie in a store.
 
-ghost use Rattle.std.specs.Prelude.{◌≡◌, ◌<◌, ◌-◌, ◌++◌, ◌∷◌, [], true, length, OnOk, IfOk};
+ghost use Rattle.std.specs.Prelude.{◌≡◌, ◌++◌, ◌∷◌, [], true, length, OnOk, IfOk};
 ghost use Rattle.title_land.specs.Lands.{is_in_plant};
-ghost use Rattle.title_tree_store.specs.Spots.{home_in, node_ways, tract_ways, paths_in, IsHome};
+ghost use Rattle.title_tree_store.specs.Spots.{home_in, tract_ways, paths_in, IsHome};
 
 use crate::townships::Townships;
 use std::alloc::{AllocError, Global};
 use std::slice;
-use title_land::{Node, Section, Tract};
+use title_land::{Node, Tract};
 use title_tree::Path;
 
-/// Where a tract lies: in all townships, in that of an index, or in a section of that one, counted from 0.
+/// Where a tract lies: in all townships, in that of an index, or in a section, counted from 0, of that one. It takes four bytes.
 #[derive(Clone, Copy)]
 pub(crate) enum Home {
     Everything,
-    Township(usize),
-    Section(usize, usize),
+    Township(u16),
+    Section(u8, u16),
 }
 
 /// Paths of nodes: one alone takes no memory.
@@ -62,14 +62,6 @@ impl Paths {
     }
 }
 
-// The index of a section in its township.
-fn section_index(section: Section) -> usize
-    ensures index { result ≡ section.number - 1 }
-    ensures below { result < 36 }
-{
-    usize::from(section.number - 1)
-}
-
 /// Where a tract lies.
 #[tactic(auto, using(crate::proofs::CellPaths::index_below))]
 pub(crate) fn home_of(townships: &Townships, tract: &Tract) -> Home
@@ -80,21 +72,11 @@ pub(crate) fn home_of(townships: &Townships, tract: &Tract) -> Home
     match tract.home() {
         Node::Everything => Home::Everything,
         Node::Township(township) => Home::Township(townships.index_of(township)),
-        Node::Part(section, _) => {
-            Home::Section(townships.index_of(section.township), section_index(section))
-        }
+        Node::Part(section, _) => Home::Section(
+            section.number - 1,
+            townships.index_of(section.township),
+        ),
     }
-}
-
-// Adds the path of a square from its section.
-fn add_way(alloc: Global, node: &Node, paths: &mut Paths) -> Result<(), AllocError>
-    ensures paths { OnOk result (paths_in paths.new ≡ paths_in paths.old ++ node_ways node.now) }
-{
-    if let Node::Part(_, within) = node {
-        let path = Path::root().inside_square(*within)?;
-        paths.add(alloc, path)?;
-    }
-    Ok(())
 }
 
 /// The paths of a tract's squares from their section.
@@ -104,7 +86,10 @@ pub(crate) fn ways(alloc: Global, tract: &Tract) -> Result<Paths, AllocError>
     let mut paths = Paths::Nothing;
     let cover = tract.cover();
     for node in cover {
-        add_way(alloc, node, &mut paths)?;
+        if let Node::Part(_, within) = node {
+            let path = Path::root().inside_square(*within)?;
+            paths.add(alloc, path)?;
+        }
     }
     Ok(paths)
 }

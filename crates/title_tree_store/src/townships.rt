@@ -89,10 +89,10 @@ impl Townships {
     }
 
     /// The index of a township; how many there are where it isn't one of them. Found by its number.
-    pub(crate) fn index_of(&self, township: Township) -> usize
+    pub(crate) fn index_of(&self, township: Township) -> u16
         ensures index { result ≡ index_of self.now township }
     {
-        usize::from(self.indices[number_of(township)])
+        self.indices[number_of(township)]
     }
 
     /// Whether a township is one of them. Found by its number.
@@ -100,6 +100,6 @@ impl Townships {
     pub(crate) fn holds(&self, township: Township) -> bool
         ensures holds { result ≡ list_any (same_township township) self.now }
     {
-        self.index_of(township) < self.list.len()
+        (self.index_of(township) as usize) < self.list.len()
     }
 }

@@ -34,7 +34,7 @@ pub struct TreeStore {
     lent: Images,
     ghost once: { IsEachOnce townships } by { Prim.hlevel once_prop },
     ghost kept: { IsKept townships forest (images lent) lent.next } by { kept_prop _ _ _ _ },
-    ghost joined: { AreJoined forest (images lent) } by { joined_prop _ _ },
+    ghost joined: { AreJoined townships forest (images lent) } by { joined_prop _ _ _ },
     ghost noted: { AreHomes (length townships) forest.written.items } by { Prim.hlevel home_prop },
 }
 
@@ -88,7 +88,7 @@ impl Store for TreeStore {
                 let land = tract.copy(self.alloc)?;
                 self.lent.reserve()?;
                 self.forest.quarter(self.alloc, home, paths, instrument)?;
-                self.forest.exchange(&mut trees);
+                self.forest.exchange(home, &mut trees);
                 let number = self.lent.add(land, trees);
                 Ok(Put::Done(Image { number }))
             }
@@ -111,7 +111,8 @@ impl Store for TreeStore {
 
     fn restore(&mut self, image: Image) {
         let mut lent = self.lent.take(image.number).unwrap();
-        self.forest.exchange(&mut lent.trees);
+        let home = home_of(&self.townships, &lent.land);
+        self.forest.exchange(home, &mut lent.trees);
     }
 
     fn forget(&mut self, image: Image) {

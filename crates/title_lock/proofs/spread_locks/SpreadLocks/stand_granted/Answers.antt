@@ -9,11 +9,9 @@ pub returns : goal.returns
 returns c =
     let entries = granted c.self.inside.prepared c.self.inside.book in
     let are = kept_table depth c.self.inside.prepared c.self.inside.book c.self.inside.table c.self.invariant.kept in
-    let view = ap (λ (l : Locks). l.entries) c.self.view_is in
-    let sized = are.sized in
     let granted_all = apart_granted depth entries (λ e f o n. are.apart e f o n) in
-    record {
-      free = subst (λ (es : List Entry). StandFree es) view (granted_free depth meet_by_covers entries sized granted_all);
-      granted = subst (λ (es : List Entry). AllGranted depth es) view granted_all;
-      sized = subst (λ (es : List Entry). AreSized depth es) view sized;
-    }
+    rw (← c.self.view_is) (record {
+      free = granted_free depth meet_by_covers entries are.sized granted_all;
+      granted = granted_all;
+      sized = are.sized;
+    })

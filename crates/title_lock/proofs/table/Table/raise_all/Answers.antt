@@ -42,8 +42,7 @@ loop-climb-preserved c =
     }
 
 pub loop-climb-smaller : goal.loop-climb-smaller
-loop-climb-smaller c = let at = c.in-Some.climb in
-    walk_shorter (walk_left c.loop-climb.walk) (at.spot.is.node, at.is_own) (walk_left c.next.new.self) c.in-Some.ensures.next
+loop-climb-smaller c = walk_shorter c.in-Some.ensures.next
 
 pub returns : goal.returns
 returns c =

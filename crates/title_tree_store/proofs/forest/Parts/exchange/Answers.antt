@@ -1,5 +1,5 @@
 -- Parts of one township, or of one section, change places with what stands there, and all others stay.
-use Rattle.std.proofs.Common.{arith, ◌≡◌, ap, refl, inl, List, [], ◌∷◌, map}
+use Rattle.std.proofs.Common.{arith, ◌≡◌, ◌∙◌, ap, refl, inl, List, [], ◌∷◌, map}
 use Rattle.title_tree.specs.{Plots.{Plot}, Parts.{piece}, Pieces.{Piece, swapped}}
 use Rattle.title_tree_store.specs.{declared.ground.Ground.{Ground}, Grounds.{stands}, Forests.{whole}}
 use Rattle.title_tree_store.proofs.GroundLawsPlaces.{in_township, in_section, goes_here, township_tests}
@@ -34,8 +34,8 @@ returns-in-Township-self-clause-grounds c =
     let there = rw c.in-Township.is at c.requires.there in
     rw (c.in-Township.is, c.in-Township-self.is) (in_township c.args.grounds.now.items c.in-Township.township _
     c.swap-in-Township-self.new.y there c.index_mut.ensures.value (λ (xs : List Piece) (t u : Plot). u ≡ swapped xs t)
-    (λ j. whole (stands c.in-Township-self.ground j) ∷ [])
-    (λ j _. ap (λ (g : Ground). stands g j) c.swap-in-Township-self.ensures.y_after) (λ u. refl))
+    (λ j. whole (stands c.in-Township-self.ground.value j) ∷ [])
+    (λ j _. ap (λ (g : Ground). stands g j) (c.swap-in-Township-self.ensures.y_after ∙ c.as_mut.ensures.value)) (λ u. refl))
 
 pub returns-in-One-clause-grounds : goal.returns-in-One-clause-grounds
 returns-in-One-clause-grounds c =

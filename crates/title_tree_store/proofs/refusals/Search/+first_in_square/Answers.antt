@@ -1,15 +1,21 @@
 -- The quarters come in their order; none of a square that doesn't refuse.
-use Rattle.std.proofs.Common.{◌∙◌, List, length, ap, sym, arith}
+use Rattle.std.proofs.Common.{◌∙◌, List, Some, length, ap, sym, arith}
 use Rattle.title_land.specs.declared.rectangle.Quarter.{Quarter}
-use Rattle.title_tree_store.{specs.Refusing.{first_for}, proofs.Firsts.{square_cells, quarter_here, quarter_later}}
+use Rattle.title_tree_store.{specs.Refusing.{first_for, refused_at}, proofs.Firsts.{square_cells, quarter_here, quarter_later}}
 use Rattle.title_tree_store.proofs.Standing.{alike_square, has_levels, stands_down}
 use Rattle.title_tree_store.proofs.refusals.Search.+first_in_square.Goals as goal
 
+pub returns-in_err-rule : goal.returns-in_err-rule
+returns-in_err-rule t c = record {
+  first = c.from_residual.ensures ∙ alike_square c.args.self.now c.args.section c.args.below c.args.within c.args.trees.now
+      c.requires.below c.requires.here (sym c.are_alike.ensures.alike ∙ c.if-are_alike.true) c.in_err-rule.ensures.why;
+}
+
 pub returns-then-are_alike : goal.returns-then-are_alike
 returns-then-are_alike t c = record {
-  first = c.first_alike.ensures.first
-      ∙ alike_square c.args.self.now c.args.section c.args.below c.args.within c.args.trees.now c.requires.below
-      c.requires.here (sym c.are_alike.ensures.alike ∙ c.if-are_alike.true);
+  first = ap (refused_at (Some (c.in_ok-rule.rule, c.in_ok-rule.estate))) c.first_cell.ensures.first
+      ∙ alike_square c.args.self.now c.args.section c.args.below c.args.within c.args.trees.now
+      c.requires.below c.requires.here (sym c.are_alike.ensures.alike ∙ c.if-are_alike.true) c.in_ok-rule.ensures.why;
 }
 
 pub loop-which-init : goal.loop-which-init

@@ -17,7 +17,7 @@ invariant_of-result c =
       once = rw c.in_ok-townships.ensures.list c.requires.once;
       kept = rw c.new-2.ensures.images (kept_none _ (λ e. each made.sized e ∙ size)
           (λ e. everywhere size (λ i j a b. ap (fits depth) (each made.opening e i j a b))));
-      joined = joined_none f (images c.new-2.result) c.new-2.ensures.images
+      joined = joined_none ts f (images c.new-2.result) c.new-2.ensures.images
           (opened_tidy f (each made.sized) (each made.opening) (each made.closed));
       noted = subst (AreHomes (length ts)) (sym made.written) (All-nil (λ (w : Written). IsHome (length ts) w.home));
     }

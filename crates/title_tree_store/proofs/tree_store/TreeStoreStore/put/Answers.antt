@@ -1,10 +1,10 @@
 -- A put that is refused leaves all as it was; one that is done lends what the tract's cells held.
-use Rattle.std.proofs.Common.{◌≡◌, ◌∙◌, ◌++◌, ◌∷◌, [], ℕ, suc, ◌<◌, ap, sym, refl, subst, inl, arith, ◌&&◌, length, Option}
+use Rattle.std.proofs.Common.{◌≡◌, ◌∙◌, ◌++◌, ◌∷◌, [], ℕ, suc, ◌<◌, ap, sym, refl, subst, inl, arith, length, Option}
 use Rattle.std.specs.{Prelude.{unwrap_or}, Global.{Vec}}
 use Rattle.title_land.specs.declared.node.Node.{Node}
-use Rattle.title_instrument.specs.{Estates.{names}, Parties.{estates_of}}
+use Rattle.title_instrument.specs.{declared.parts.Estate.{Estate}, Estates.{names}, Parties.{estates_of}}
 use Rattle.title_store.specs.Laws.{MapLaws.{refused_content}, Puts.{refused_put}}
-use Rattle.title_tree_store.specs.{declared.{lent.Lent.{Lent}, forest.Written.{Written}, spots.Home.{Home}}, Spots.{reaches}, Out.{images}}
+use Rattle.title_tree_store.specs.{declared.{lent.Lent.{Lent}, forest.Written.{Written}}, Spots.{home_in, reaches}, Out.{images}}
 use Rattle.title_tree_store.{specs.Forests.{plots, pieces, parts_of, is_some_part}, proofs.{CellPaths.{is_there}, Loans.{loans_refined}}}
 use Rattle.title_tree_store.proofs.{Contents.{each, for_each, everywhere, content_agrees}, Steps.{on_err, homes_noted}}
 use Rattle.title_tree_store.proofs.Puts.{IsDone, put_goes, put_shows, put_takes, kept_put, refused_none, found_failing, some_cell_fails}
@@ -65,14 +65,14 @@ exchange-requires c =
     let split = each c.quarter.ensures.split.split in
     let made = c.in-Ok.ensures in
     record {
-      there = for_each (λ e. rw ((split e).sized ∙ store.kept.sized e, made.home) c.home_of-home.ensures.there);
+      there = for_each (λ e. rw ((split e).sized ∙ store.kept.sized e) c.home_of-home.ensures.there);
       all = for_each (λ e. rw (split e).sized (each made.all e));
-      wanted = for_each (quartered_there c.in_ok-quarter-in-Ok.ensures.ok made.home (each made.named));
-      goes = for_each (λ e. everywhere (sym (split e).sized) (λ a b k l.
+      wanted = for_each (quartered_there c.in_ok-quarter-in-Ok.ensures.ok (each made.named));
+      goes = for_each (λ e. everywhere (sym (split e).sized) (λ a b k l. rw c.home_of-home.ensures.home (
           put_goes store.townships c.args.tract.now c.args.instrument.now e a b (plots store.forest e a b) (plots c.quarter.new.self e a b)
-          (pieces c.in-Ok.trees e a b)
+          (pieces (home_in store.townships c.args.tract.now) c.in-Ok.trees e a b)
           ((rw (c.home_of-home.ensures.home, c.as_slice.ensures.paths ∙ c.in_ok-paths.ensures.ways) at (each made.change e)) a b k l)
-          ((rw (c.home_of-home.ensures.home, c.in_ok-paths.ensures.ways) at (c.in_ok-quarter-in-Ok.ensures.ok.split e)) a b k l)));
+          ((rw (c.home_of-home.ensures.home, c.in_ok-paths.ensures.ways) at (c.in_ok-quarter-in-Ok.ensures.ok.split e)) a b k l))));
     }
 
 done : (c : goal.After-add-number) → IsDone c.args.self.now.townships c.args.tract.now c.args.instrument.now c.args.self.now.forest
@@ -85,7 +85,8 @@ done c =
     let note = c.in_ok-quarter-in-Ok.ensures.noted in
     let home = c.home_of-home.ensures.home in
     let paths = c.in_ok-paths.ensures.ways in
-    let swap = each c.exchange.ensures.exchanged in
+    let swap = λ (e : Estate). rw home at (each c.exchange.ensures.exchanged e) in
+    let there = home_in store.townships c.args.tract.now in
     record {
       made = c.in-Ok.trees;
       mid = c.quarter.new.self;
@@ -96,15 +97,14 @@ done c =
         exchanged = everywhere ((split e).sized ∙ store.kept.sized e) (swap e).trees a b k l;
         image = everywhere ((split e).sized ∙ store.kept.sized e) (swap e).parts a b k l;
       };
-      home = c.exchange.ensures.home ∙ made.home ∙ home;
       all = λ e. rw (← ((split e).sized ∙ store.kept.sized e)) (swap e).all;
       named = λ e some. each made.named e (sym (swap e).some ∙ some);
-      some = λ e t w none. each made.some e t (sym ((swap e).wanted t) ∙ w) (c.as_slice.ensures.paths ∙ paths ∙ none);
-      parted = λ e t p. (swap e).parted t ((split e).kept t p) (each made.brings e t p);
+      some = λ e t w none. (rw home at (each made.some e)) t (sym ((swap e).wanted t) ∙ w) (c.as_slice.ensures.paths ∙ paths ∙ none);
+      parted = λ e t p. (swap e).parted t ((split e).kept t p) ((rw home at (each made.brings e)) t p);
       wanted = λ e t w.
           let before = sym ((swap e).wanted t) ∙ w in
-          (swap e).parted t (quartered_there whole made.home (each made.named) e t before)
-          (wants_parts c.in-Ok.trees.home (parts_of c.in-Ok.trees e) t before).2;
+          (swap e).parted t (quartered_there (rw home at whole) (each made.named) e t before)
+          (wants_parts there (parts_of c.in-Ok.trees e) t before).2;
       back = λ e t p. (swap e).back t ((split e).kept t p);
       noted = record {
         last = note.last;
@@ -114,11 +114,8 @@ done c =
         estates = note.estates;
       };
       closed = λ e t h.
-          let before = ap (λ (z : Home). names (estates_of c.args.instrument.now) e && reaches z t) home ∙ h in
-          (swap e).elsewhere t
-          (ap (λ (z : Home). is_some_part (parts_of c.in-Ok.trees e) && reaches z t) made.home
-          ∙ not_reached (is_some_part (parts_of c.in-Ok.trees e)) (names (estates_of c.args.instrument.now) e)
-          (reaches c.home_of-home.result t) (each made.named e) before) ∙ (split e).closed t before;
+          (swap e).elsewhere t (not_reached (is_some_part (parts_of c.in-Ok.trees e)) (names (estates_of c.args.instrument.now) e)
+          (reaches there t) (each made.named e) h) ∙ (rw home at (split e)).closed t h;
     }
 
 abbrev image : goal.After-add-number → Lent

@@ -18,11 +18,10 @@ invariant_of-self c =
     let none = no_loans store.townships (plots store.forest) (images store.lent) c.requires.none in
     record {
       once = store.once;
-      kept = rw none (kept_none _ (λ e. each c.tidy.ensures.sized e ∙ store.kept.sized e)
-          (λ e i j a b. (everywhere (store.kept.sized e) (each c.tidy.ensures.tidied e) i j a b).within depth (store.kept.fit e i j a b)));
-      joined = joined_none c.tidy.new.self (images store.lent) none
-          (joined_tidied c.tidy.new.self (each c.tidy.ensures.sized) (each c.tidy.ensures.tidied) (each c.tidy.ensures.closed)
-          (each c.tidy.ensures.others) store.joined);
+      kept = rw none (kept_none _ (λ e. (each c.tidy.ensures.tidied e).sized ∙ store.kept.sized e) (λ e i j a b.
+          (everywhere (store.kept.sized e) (each c.tidy.ensures.tidied e).tidied i j a b).within depth (store.kept.fit e i j a b)));
+      joined = joined_none store.townships c.tidy.new.self (images store.lent) none
+          (joined_tidied c.tidy.new.self (each c.tidy.ensures.tidied) store.joined);
       noted = subst (AreHomes (length store.townships)) (sym c.tidy.ensures.written)
           (All-nil (λ (w : Written). IsHome (length store.townships) w.home));
     }
@@ -31,7 +30,7 @@ pub returns-clause-content : goal.returns-clause-content
 returns-clause-content c x =
     let store = c.args.self.now in
     content_agrees store.townships (plots store.forest) (plots c.tidy.new.self)
-    (λ e i j a b p. (everywhere (store.kept.sized e) (each c.tidy.ensures.tidied e) i j a b).content p) x
+    (λ e i j a b p. (everywhere (store.kept.sized e) (each c.tidy.ensures.tidied e).tidied i j a b).content p) x
 
 pub returns-clause-out : goal.returns-clause-out
 returns-clause-out c =
@@ -40,5 +39,4 @@ returns-clause-out c =
     (no_loans store.townships (plots store.forest) (images store.lent) c.requires.none)
 
 pub returns-clause-joined : goal.returns-clause-joined
-returns-clause-joined c = all_joined c.tidy.new.self (joined_tidied c.tidy.new.self (each c.tidy.ensures.sized)
-    (each c.tidy.ensures.tidied) (each c.tidy.ensures.closed) (each c.tidy.ensures.others) c.args.self.now.joined)
+returns-clause-joined c = all_joined c.tidy.new.self (joined_tidied c.tidy.new.self (each c.tidy.ensures.tidied) c.args.self.now.joined)
