@@ -218,6 +218,14 @@ impl<S: Store + Drop> Store for ShownStore<S> {
         Ok(put)
     }
 
+    fn put_alone(&mut self, tract: &Tract, instrument: &Instrument) -> Result<Put<()>, AllocError> {
+        let put = self.store.put_alone(tract, instrument)?;
+        if let Put::Done(_) = put {
+            self.kept.let_go(tract, instrument.estates());
+        }
+        Ok(put)
+    }
+
     fn restore(&mut self, image: S::Image) {
         self.kept.clear();
         self.store.restore(image);

@@ -11,3 +11,4 @@ pub mod Refusals
 pub mod Depths
 pub mod CellSquares
 pub mod Joined
+pub mod Adding

@@ -3,7 +3,7 @@
 ghost use Rattle.std.specs.{Prelude.{◌≡◌, ◌++◌, ◌∷◌, [], true, None, map, OnOk, OnErr, IfErr}, Option.{option_map}};
 ghost use Rattle.title_tree.specs.{Changes.{after}, Faults.{Tells}, Parts.{piece}, Pieces.{split_all, fresh, refusal_at, uniform_at}};
 ghost use Rattle.title_tree.specs.{Pieces.{Disjoint, Ready, Refines, StaysWithin, StaysElsewhere, paths, swapped, taken}, Trees.{plot}};
-ghost use Rattle.title_tree.specs.Plots.{has_path, plot_at, graft, split, tidied_all};
+ghost use Rattle.title_tree.specs.Plots.{has_path, plot_at, graft, tidied_all};
 
 use crate::change::{Change, Fault};
 use crate::path::Path;
@@ -43,25 +43,31 @@ pub fn exchange_all(root: &mut Tree, parts: &mut [Part])
     }
 }
 
-/// Adds what stands at each path, changed, to parts; the tree doesn't change. Refused with the reason of the first leaf
-/// that refuses, and then parts have been added for some paths before it.
+/// Adds what stands at each path, changed, to parts; the tree is quartered down to each, which changes no cell. Refused with the reason of
+/// the first leaf that refuses. After `Err` parts have been added for some paths, and the tree may be quartered down to some: the same
+/// cells hold the same, each node is still there, none lies deeper than the paths, and what shares no cell with them is as it was.
 pub fn add_changed<C: Change>(
     alloc: Global,
-    root: &Tree,
+    root: &mut Tree,
     paths: &[Path],
     change: &mut C,
     parts: &mut Vec<Part>,
 ) -> Result<(), Fault<C::Refusal>>
-    ensures none { OnOk result (refusal_at (C.effect change.old) paths.now (plot root.now) ≡ None) }
+    requires disjoint { Disjoint paths.now }
+    ensures none { OnOk result (refusal_at (C.effect change.old) paths.now (plot root.old) ≡ None) }
     ensures new { OnOk result (map piece parts.new.items ≡ map piece parts.old.items
-        ++ fresh (after (C.effect change.old)) paths.now (plot root.now)) }
-    ensures why { IfErr result (λ fault. Tells fault (refusal_at (C.effect change.old) paths.now (plot root.now))) }
+        ++ fresh (after (C.effect change.old)) paths.now (plot root.old)) }
+    ensures split { OnOk result (plot root.new ≡ split_all paths.now (plot root.old)) }
+    ensures why { IfErr result (λ fault. Tells fault (refusal_at (C.effect change.old) paths.now (plot root.old))) }
+    ensures err { OnErr result (Refines (plot root.old) (plot root.new)) }
+    ensures err_fits { OnErr result (StaysWithin paths.now (plot root.old) (plot root.new)) }
+    ensures err_elsewhere { OnErr result (StaysElsewhere paths.now (plot root.old) (plot root.new)) }
     ensures same { C.effect change.new ≡ C.effect change.old }
 {
     let Some((path, rest)) = paths.split_first() else {
         return Ok(());
     };
-    let tree = root.at(*path).changed(alloc, change)?;
+    let tree = root.changed_at(alloc, *path, change)?;
     push_part(parts, *path, tree)?;
     add_changed(alloc, root, rest, change, parts)
 }
@@ -73,21 +79,6 @@ fn push_part(parts: &mut Vec<Part>, path: Path, tree: Tree) -> Result<(), AllocE
 {
     parts.push(Part { path, tree })?;
     Ok(())
-}
-
-/// Quarters a tree down to each path. After `Err` it may be quartered down to some: the same cells hold the same,
-/// each node is still there, none lies deeper than the paths, and what shares no cell with them is as it was.
-pub fn split_each(root: &mut Tree, alloc: Global, paths: &[Path]) -> Result<(), AllocError>
-    ensures ok { OnOk result (plot root.new ≡ split_all paths.now (plot root.old)) }
-    ensures err { OnErr result (Refines (plot root.old) (plot root.new)) }
-    ensures err_fits { OnErr result (StaysWithin paths.now (plot root.old) (plot root.new)) }
-    ensures err_elsewhere { OnErr result (StaysElsewhere paths.now (plot root.old) (plot root.new)) }
-{
-    let Some((path, rest)) = paths.split_first() else {
-        return Ok(());
-    };
-    root.split(alloc, *path)?;
-    split_each(root, alloc, rest)
 }
 
 /// Joins quarters below and above each path in turn; no cell's holding changes. Takes no memory.

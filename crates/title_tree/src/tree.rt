@@ -153,24 +153,35 @@ impl Tree {
         }
     }
 
-    /// Quarters the tree down to a path; each quarter inherits, so no cell's holding changes. `Err` changes nothing.
-    pub fn split(&mut self, alloc: Global, path: Path) -> Result<(), AllocError>
-        ensures ok { OnOk result (plot self.new ≡ split path (plot self.old)) }
+    /// What stands at a path, with each leaf's holding changed; this tree is quartered down to there, which changes no cell. Refused with
+    /// the reason of the first leaf that refuses; then, and where memory is short, nothing changes.
+    pub fn changed_at<C: Change>(
+        &mut self,
+        alloc: Global,
+        path: Path,
+        change: &mut C,
+    ) -> Result<Tree, Fault<C::Refusal>>
+        ensures none { OnOk result (first_refusal (C.effect change.old) (plot_at path (plot self.old)) ≡ None) }
+        ensures new { IfOk result (λ t. plot t ≡ changed (after (C.effect change.old)) (plot_at path (plot self.old))) }
+        ensures split { OnOk result (plot self.new ≡ split path (plot self.old)) }
+        ensures why { IfErr result (λ fault. Tells fault (first_refusal (C.effect change.old) (plot_at path (plot self.old)))) }
         ensures err { OnErr result (plot self.new ≡ plot self.old) }
+        ensures same { C.effect change.new ≡ C.effect change.old }
     {
         let Some((first, rest)) = path.split() else {
-            return Ok(());
+            return self.changed(alloc, change);
         };
         match self {
             Tree::Leaf(held) => {
+                let new = change.apply(alloc, held)?;
                 *self = Tree::split_leaf(alloc, held, path)?;
-                Ok(())
+                Ok(Tree::Leaf(new))
             }
             Tree::Quarters(four) => match first {
-                Quarter::Northeast => four.northeast.split(alloc, rest),
-                Quarter::Northwest => four.northwest.split(alloc, rest),
-                Quarter::Southwest => four.southwest.split(alloc, rest),
-                Quarter::Southeast => four.southeast.split(alloc, rest),
+                Quarter::Northeast => four.northeast.changed_at(alloc, rest, change),
+                Quarter::Northwest => four.northwest.changed_at(alloc, rest, change),
+                Quarter::Southwest => four.southwest.changed_at(alloc, rest, change),
+                Quarter::Southeast => four.southeast.changed_at(alloc, rest, change),
             },
         }
     }

@@ -279,12 +279,13 @@ one_node s g m n p q i j a b h =
     (sym (node_has_at s g m c.0 i c.2 own) ∙ ap (pieces.has (node_ways m)) c.3 ∙ has_whole (node_ways m) p q a h)
     (sym (node_has_at s g n c.0 j c.2 own) ∙ ap (pieces.has (node_ways n)) c.3 ∙ has_whole (node_ways n) q q b (begins_self q))
 
-own_ways_apart : (x : Land) → Disjoint (tract_ways x)
+-- no two paths of a tract lie one below the other
+pub own_ways_apart : (x : Land) → Disjoint (tract_ways x)
 unfolding cover_of
 own_ways_apart (land.Part s g) =
     ways_apart (cover_of depth (land.Part s g)) (one_node s g) (cover_is_cover depth (land.Part s g)).order
 own_ways_apart _ = tt
 
--- no two paths of a tract lie one below the other
+-- nor two of those that lie in a section
 pub tract_apart : (ts : List Township) (x : Land) (i j : ℕ) → Disjoint (ways_in ts x i j)
 tract_apart ts x i j = each_ways Disjoint (tract_ways x) (λ q i. absurd i, tt) tt (own_ways_apart x) (home_in ts x) i j

@@ -1,8 +1,9 @@
 -- What stands in a township's sections and in the townships of a plant, one after another.
 use Rattle.std.proofs.Common.{◌≡◌, ◌≢◌, ◌∙◌, ap, sym, refl, ℕ, zero, suc, ◌+◌, ◌<◌, arith, List, [], ◌∷◌, ◌++◌, length, map, get_or, take}
-use Rattle.std.{proofs.{Common.{set, true}, lemmas.List.{length-set, Folds.{list_all-map}}}, specs.List.{list_all}}
-use Rattle.std.proofs.lemmas.Bool.{and_parts, false≢true}
+use Rattle.std.{proofs.{Common.{set, replicate, true, false}, lemmas.List.{length-set, Folds.{list_all-map}}}, specs.List.{list_all}}
+use Rattle.std.proofs.lemmas.Bool.{and_parts, false_from_ne_true, false≢true}
 use Rattle.std.proofs.lemmas.List.{get_or-map, length-map, map-append, map-set, take-map, take_more, get_or-set_same, get_or-set_other}
+use Rattle.std.proofs.lemmas.List.{get_or-replicate, length-replicate, set-get_or}
 use Rattle.title_tree.specs.{declared.tree.Tree.{Tree}, Plots.{Plot, Same, Four, same_leaf}, Trees.{plot}, Laws.SameDivisions.{same_is}}
 use Rattle.title_tree_store.specs.Grounds.{nothing, are_one}
 
@@ -38,6 +39,15 @@ first_stands [] h j lt = absurd (omega arith)
 first_stands (t ∷ ts) h zero lt = refl
 first_stands (t ∷ ts) h (suc j) lt = all_are t ts h j (omega arith)
 
+-- where one section is quartered they aren't
+pub quartered_apart : (ts : List Plot) (j : ℕ) (a b c d : Plot) → length ts ≡ 36 → j < 36 → get_or ts j nothing ≡ Four a b c d
+    → are_one ts ≡ false
+quartered_apart [] j a b c d l lt h = absurd (omega (arith, l))
+quartered_apart (t ∷ []) j a b c d l lt h = absurd (omega (arith, l))
+quartered_apart (Four p q r s ∷ u ∷ us) j a b c d l lt h = refl
+quartered_apart (Same held ∷ u ∷ us) j a b c d l lt h = false_from_ne_true _ (λ one.
+    let same : Same held ≡ Four a b c d = sym (first_stands (Same held ∷ u ∷ us) one j (omega (arith, lt, l))) ∙ h in absurd cc)
+
 -- so what stands in one section stands in each
 pub one_stands : (xs : List Tree) (j : ℕ) → are_one (map plot xs) ≡ true → length xs ≡ 36 → j < 36
     → get_or (map plot xs) j nothing ≡ get_or (map plot xs) 35 nothing
@@ -65,6 +75,20 @@ more_plots h xs i lt =
     ap (map h) (sym (take-map plot (i + 1) xs) ∙ take_more (map plot xs) i nothing long)
     ∙ map-append h (take i (map plot xs)) (get_or (map plot xs) i nothing ∷ [])
     ∙ ap (λ ts. map h ts ++ h (get_or (map plot xs) i nothing) ∷ []) (take-map plot i xs)
+
+-- 36 copies of one
+pub long_copies : (xs : List Tree) (t : Plot) (i : ℕ) → map plot xs ≡ replicate 36 t → i < 36 → i < length xs
+long_copies xs t i copies lt =
+    let long : length xs ≡ 36 = sym (length-map xs plot) ∙ ap (λ ts. length ts) copies ∙ length-replicate 36 t in omega (arith, long, lt)
+
+pub each_copy : (xs : List Tree) (t : Plot) (j : ℕ) → map plot xs ≡ replicate 36 t → j < 36 → get_or (map plot xs) j nothing ≡ t
+each_copy xs t j copies lt = ap (λ ts. get_or ts j nothing) copies ∙ get_or-replicate 36 j t nothing lt
+
+-- where one is written that is the same plot all are as they were
+pub same_plots : (xs : List Tree) (i : ℕ) (old new : Tree) → i < length xs → old ≡ get_or xs i old → plot new ≡ plot old
+    → map plot (set xs i new) ≡ map plot xs
+same_plots xs i old new lt at same = map-set plot xs i new ∙ ap (set (map plot xs) i) (same ∙ ap plot at ∙ read_plot xs i old lt)
+    ∙ set-get_or (map plot xs) i nothing
 
 pub ruleset section_trees = (read_plot, set_plot, other_plot, push_plot, more_plots)
 

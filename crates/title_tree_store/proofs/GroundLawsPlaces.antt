@@ -1,10 +1,15 @@
 -- One township of a plant, or one section, and all the others.
 use Rattle.std.proofs.Common.{◌≡◌, ◌≢◌, ◌∙◌, ap, refl, sym, subst, ⊎_elim, ℕ, zero, suc, ◌<◌, arith, Bool, true, false, ◌&&◌, cond}
-use Rattle.std.{proofs.{Common.{List, [], ◌∷◌, ◌++◌, length, map, get_or, set, Option}, lemmas.List.{get_or-map}}, specs.Prelude.{◌==◌}}
+use Rattle.std.proofs.{Common.{List, [], ◌∷◌, ◌++◌, length, map, get_or, set, Option}, lemmas.List.{get_or-map}}
+use Rattle.std.specs.{Prelude.{◌==◌, None}, Option.{option_or}}
 use Rattle.std.proofs.lemmas.Bool.{cases_Bool, cond-true, and_from, eqb-true, eqb-false, eq-eqb}
 use Rattle.title_tree.specs.{declared.change.Fault.{Fault}, Faults.{Tells}, Plots.{Plot}, Pieces.{Piece, Disjoint, Ready, paths}}
 use Rattle.title_tree_store.specs.{declared.{ground.Ground.{Ground}, spots.Home.{Home}, forest.Parts.{Parts}}, Spots.{IsHome}}
-use Rattle.title_tree_store.specs.Grounds.{nothing, stands, is_parted, plot_in, Everywhere, TellsSomewhere}
+use Rattle.title_land.specs.declared.rectangle.Quarter.{Quarter}
+use Rattle.title_tree.specs.Laws.Adding.{stays_refines, stays_within, stays_elsewhere}
+use Rattle.title_tree_store.specs.Grounds.{nothing, stands, is_parted, is_closable, plot_in, closable_in, AreSplit, Everywhere}
+use Rattle.title_tree_store.specs.Grounds.{TellsSomewhere, AreUntouched, IsUntouched}
+use Rattle.title_tree_store.proofs.Steps.{Stays}
 use Rattle.title_tree_store.{specs.Forests.{parts_at, squares_in}, proofs.GroundLaws.{read_at, set_at, set_other}}
 use Rattle.title_tree.specs.declared.change.Fault.TheVariants as fault
 use Rattle.title_tree_store.specs.declared.spots.Home.TheVariants as home
@@ -56,6 +61,34 @@ goes_here gs h x t n old is there at goes =
     subst (λ (u : Plot). Disjoint (paths (squares_in x)) × Ready (paths (squares_in x)) u) (was_here gs t old old below.0 at n)
     (subst (λ (xs : List Piece). Disjoint (paths xs) × Ready (paths xs) (plot_in gs t n)) mine (goes t n below.0 below.1))
 
+-- ---- what stays as it is
+
+pub stays_whole : (t : Plot) → Stays [] t t
+stays_whole t = (stays_refines t, stays_within [] t, stays_elsewhere [] t)
+
+pub not_split : (ways named : ℕ → ℕ → List (List Quarter)) (reached : ℕ → Bool) (gs : List Ground) → AreSplit ways named reached gs gs
+not_split ways named reached gs = record {
+  sized = refl;
+  refines = λ i j a b. stays_refines (plot_in gs i j);
+  within = λ i j a b. stays_within (ways i j) (plot_in gs i j);
+  elsewhere = λ i j a b. stays_elsewhere (named i j) (plot_in gs i j);
+  kept = λ i h. h;
+  closed = λ i h. refl;
+}
+
+pub not_touched : (gs : List Ground) → AreUntouched gs gs
+not_touched gs = record { stays = λ i j a b. refl; closable = λ i. refl }
+
+-- townships of which one is as it was
+pub one_untouched : (gs : List Ground) (t : ℕ) (old new : Ground) → t < length gs → old ≡ get_or gs t old → IsUntouched old new
+    → AreUntouched gs (set gs t new)
+one_untouched gs t old new below at same = record {
+  stays = in_township gs t old new below at (λ (xs : List Unit) (u v : Plot). v ≡ u) (λ j. []) same.stays (λ u. refl);
+  closable = λ i. at_township t (λ (b : Bool) (i : ℕ). closable_in (set gs t new) i ≡ closable_in gs i)
+      (set_at is_closable gs t new false below ∙ same.closable ∙ sym (read_at is_closable gs t old false below at))
+      (λ i ne. set_other is_closable gs t i new false (λ e. ne (sym e))) i;
+}
+
 -- ---- townships one after another
 
 -- a fact of each township by its index, and of one township more
@@ -81,6 +114,11 @@ pub tells_somewhere : {R : Type 0} (f : Fault R) (count : ℕ) (why : ℕ → �
     → (j : ℕ) × (j < 36) × Tells f (why i j) → TellsSomewhere f count why
 tells_somewhere fault.Memory count why i lt told = tt
 tells_somewhere (fault.Refused reason) count why i lt told = (i, told.0, lt, told.1, told.2)
+
+-- where nothing else refuses it tells the same
+pub tells_or : {R : Type 0} (f : Fault R) (o : Option R) → Tells f o → Tells f (option_or o None)
+tells_or fault.Memory o h = tt
+tells_or (fault.Refused reason) o h = ap (λ z. option_or z None) h
 
 -- tests of townships after one was written
 pub test_elsewhere : (f : Ground → Bool) (gs : List Ground) (t i : ℕ) (g : Ground) → (t == i) ≡ false

@@ -65,7 +65,7 @@ opened_tidy f sized opening closed = record {
 
 -- ---- a put
 
--- quartering that stopped for want of memory
+-- quartering that stopped
 pub joined_stopped : {ts : List Township} {x : Instrument ℕ} {h : Home} {ps : List (List Quarter)} {old new : Forest} {lent : List Lent}
     → IsQuartered x h ps old new → IsNoted x h ps old new → AreJoined ts old lent → AreJoined ts new lent
 joined_stopped {x} {h} {old} {new} q noted k = record {
@@ -75,8 +75,7 @@ joined_stopped {x} {h} {old} {new} q noted k = record {
     | inl note ↦
         let parts = or_parts (was_written e i old) (names (estates_of x) e && reaches h i) (sym (was_noted note e i) ∙ none) in
         (each q.split e).closed i parts.1 ∙ k.closed e i parts.0
-    | inr same ↦ ap (λ (gs : List Ground). closable_in gs i) (each same.townships e)
-        ∙ k.closed e i (sym (ap (list_any (writes e i)) same.noted) ∙ none)
+    | inr same ↦ (each same.townships e).closable i ∙ k.closed e i (sym (ap (list_any (writes e i)) same.noted) ∙ none)
   ];
   lies = λ e. everywhere (sym (each q.split e).sized) (λ i j a b l m p n. k.lies e i j a b l m p (apart e i j a b p n).0);
   marked = λ e i l m some. elim noted [
@@ -93,7 +92,7 @@ joined_stopped {x} {h} {old} {new} q noted k = record {
       | inl note ↦ let s = apart_noted note e i j p away in (s.0, (each q.split e).elsewhere i j a b p s.1)
       | inr same ↦ (
         subst (λ (puts : List Written). ApartFromAll p (map (put_ways e i j) puts)) same.noted away,
-        ap (λ (gs : List Ground). plot_at p (plot_in gs i j)) (each same.townships e),
+        ap (plot_at p) ((each same.townships e).stays i j a b),
       )
     ]
 
@@ -102,11 +101,6 @@ put_elsewhere : {i : Instrument ℕ} {ps : List (List Quarter)} {e : Estate} {t 
 put_elsewhere {i} {ps} {e} {t} {u} {xs} put q away = ap (plot_at q) put.exchanged
     ∙ elsewhere_swapped xs u q (subst (Apart q) (sym (put_paths put).0) away)
     ∙ ap (plot_at q) put.split ∙ elsewhere_split_all (named_ways i e ps) t q away
-
--- a township that no part reaches, where parts are only of the estates that an instrument names
-pub not_reached : (some named reached : Bool) → (some ≡ true → named ≡ true) → (named && reached) ≡ false → (some && reached) ≡ false
-not_reached true named reached f h = ap (λ (b : Bool). b && reached) (sym (f refl)) ∙ h
-not_reached false named reached f h = refl
 
 pub joined_put : {i : Instrument ℕ} {ts : List Township} {old new : Forest} {lent : List Lent} (l : Lent)
     → ((e : Estate) → length (grounds old e) ≡ length ts) → IsDone ts l.land i old new l.trees → AreJoined ts old lent

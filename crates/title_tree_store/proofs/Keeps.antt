@@ -4,16 +4,15 @@ use Rattle.std.proofs.lemmas.Bool.{and_from, and_parts, or_cases, both_ways, eqb
 use Rattle.title_land.specs.{Depth.{depth}, declared.{survey.Township.{Township}, rectangle.Quarter.{Quarter}, tract.Land.{Land}}}
 use Rattle.title_land.specs.{Nodes.{same_path}, Lands.{is_in_plant, meets}, Laws.SameNode.{same_path-is, same_path-self}}
 use Rattle.title_land.specs.Laws.{TractSharing.{common_meets}, Members.{In, in_map, in_mapped, in_middle, in_more}}
-use Rattle.title_instrument.specs.{declared.{parts.Estate.{Estate}, instrument.Instrument.{Instrument}}, Estates.{names}}
-use Rattle.title_instrument.specs.Parties.{estates_of}
+use Rattle.title_instrument.specs.{declared.{parts.Estate.{Estate}, instrument.Instrument.{Instrument}}}
 use Rattle.title_store.specs.Plants.{IsEachOnce}
 use Rattle.title_tree.specs.{Paths.{begins}, Plots.{Plot, graft, fits}, Lendings.{Lending, Clear}, Laws.Beginnings.{begins_self}}
 use Rattle.title_tree.specs.{Pieces.{Piece, paths, Disjoint, Ready, Short, swapped, taken}, Laws.Images.{keeps_less, keeps_refined}}
 use Rattle.title_tree.specs.Laws.Depths.{fits_graft, fits_plot_at}
-use Rattle.title_tree_store.specs.declared.{lent.Lent.{Lent}, forest.{Forest.{Forest}, Parts.{Parts}, Subtrees.{Subtrees}}}
-use Rattle.title_tree_store.{specs.{declared.spots.Home.{Home}, Grounds.{Everywhere, parted_in}}, proofs.Contents.{each, everywhere}}
+use Rattle.title_tree_store.specs.declared.{lent.Lent.{Lent}, forest.{Forest.{Forest}, Parts.{Parts}}}
+use Rattle.title_tree_store.{specs.{declared.spots.Home.{Home}, Grounds.{Everywhere}}, proofs.Contents.{each, everywhere}}
 use Rattle.title_tree_store.{specs.Spots.{home_in, tract_ways, ways_in, is_in_township, IsHome}, proofs.Images.{rises_less}}
-use Rattle.title_tree_store.specs.Forests.{grounds, plots, parts_of, wants, brings, is_some_part, IsQuartered, IsQuarteredWhole}
+use Rattle.title_tree_store.specs.Forests.{grounds, plots, wants, brings, is_some_part, IsQuartered}
 use Rattle.title_tree_store.specs.Keeping.{lent_pieces, lending, loans_of, same_ways, PiecesFit, IsBacked, IsKept, Rises, IsTakenOut}
 use Rattle.title_tree_store.proofs.CellPaths.{index_below, cell_at, tract_short, whole, length-whole, has_whole, tract_has_at}
 use Rattle.title_land.specs.declared.tract.Land.TheVariants as land
@@ -56,14 +55,6 @@ pub wants_parts : (h : Home) (x : Parts) (i : ℕ) → wants h x i ≡ true
 wants_parts h (parts.One part) i w = (refl, w, refl)
 wants_parts h (parts.Many many) i w = (refl, w, refl)
 wants_parts h _ i w = absurd cc
-
--- what is wanted is where a put quartered
-pub quartered_there : {i : Instrument ℕ} {h : Home} {ps : List (List Quarter)} {old new : Forest} {x : Subtrees}
-    → IsQuarteredWhole i h ps old new → ((e : Estate) → is_some_part (parts_of x e) ≡ true → names (estates_of i) e ≡ true)
-    → (e : Estate) (t : ℕ) → wants h (parts_of x e) t ≡ true → parted_in (grounds new e) t ≡ true
-quartered_there {i} {h} {x} whole named e t w =
-    let k = wants_parts h (parts_of x e) t w in
-    whole.wanted e t (and_from (names (estates_of i) e) (is_in_township h t) (named e k.0) k.1)
 
 pub in_township_below : (count : ℕ) (h : Home) (i : ℕ) → IsHome count h → is_in_township h i ≡ true → i < count
 in_township_below count (home.Section n t) i there h = subst (λ (k : ℕ). k < count) (eqb-true t i h) there.0

@@ -17,3 +17,5 @@ pub mod Standing
 pub mod Squares
 pub mod Tidying
 pub mod Crossing
+pub mod Stopped
+pub mod Alone

@@ -1,7 +1,7 @@
 -- What a put leaves.
 use Rattle.std.proofs.Common.{◌≡◌, ◌≢◌, ◌∙◌, ap, sym, refl, subst, ℕ, suc, ◌+◌, ◌-◌, ◌<◌, ◌≤◌, arith, Bool, true, false, cond, inl, inr}
 use Rattle.std.proofs.{Common.{List, [], ◌∷◌, ◌++◌, length, map, Option, Some, None, Result, Ok, Err, is_some}, lemmas.List.{map_push}}
-use Rattle.std.{proofs.lemmas.Bool.{and_parts, and_from, or_right, cond_both, eq-eqb}, specs.Prelude.{◌==◌, ◌&&◌}}
+use Rattle.std.{proofs.lemmas.Bool.{and_parts, and_from, or_right, cond_both, eq-eqb}, specs.{Prelude.{◌==◌, ◌&&◌}, Global.{Vec}}}
 use Rattle.title_share.specs.Division.{Division}
 use Rattle.title_land.specs.{Depth.{depth}, declared.{survey.{Township.{Township}, Cell.{Cell}}, rectangle.Quarter.{Quarter}}}
 use Rattle.title_land.specs.{declared.tract.Land.{Land}, Lands.{has, is_in_plant, is_plant_cell}, CellLists.{cells_of}}
@@ -10,20 +10,22 @@ use Rattle.title_instrument.specs.declared.{parts.{Estate.{Estate, TheVariants.{
 use Rattle.title_instrument.specs.{declared.owners.Effect.{Effect, TheVariants.{Done, Refused}}, Owners.{opening_owners}, Estates.{names}}
 use Rattle.title_instrument.specs.{Effect.{holding_effect, cell_effect, joined}, Laws.EffectLaws.{holding_unnamed}, Parties.{estates_of}}
 use Rattle.title_store.specs.Plants.{Plant, Failing, IsEachOnce, is_cell_of, failing_or, first_failing, done_or, plant_effect, refused_in}
-use Rattle.title_store.specs.{Plants.{refusal_of}, Loans.{IsTaken}}
+use Rattle.title_store.specs.{Plants.{Refusal, refusal_of}, Loans.{IsTaken}, Laws.MapLaws.{refused_by}}
 use Rattle.title_tree.specs.{Changes.{why_of, new_or, after}, Plots.{Plot, value_at, plot_at, fits}, Lendings.{Lending, Keeps}}
 use Rattle.title_tree.specs.Pieces.{Piece, Disjoint, Ready, Short, paths, held, swapped, taken, split_all, fresh, refusal_at}
 use Rattle.title_tree.specs.Laws.{Swaps.{paths_taken, paths_fresh}, Refusals.{none_refuses_at, some_refuses_at}}
 use Rattle.title_tree.specs.Laws.{CellSquares.{cell_ways_are_whole}, Images.{put_ready, put_keeps, put_content, put_held}}
 use Rattle.title_tree.specs.Laws.Depths.{fits_plot_at, fits_changed, split_all_fits}
-use Rattle.title_tree_store.specs.declared.{lent.Lent.{Lent}, forest.{Forest.{Forest}, Subtrees.{Subtrees}}}
+use Rattle.title_tree_store.specs.declared.{lent.Lent.{Lent}, forest.{Forest.{Forest}, Subtrees.{Subtrees}, Written.{Written}}}
 use Rattle.title_tree_store.{specs.{Grounds.{Everywhere, parted_in, closable_in}, Keeping.{IsBacked, IsKept}}, proofs.Images.{rises_more}}
-use Rattle.title_tree_store.{specs.Spots.{index_of, ways_in, home_in, tract_ways, is_in_township, reaches}, proofs.Steps.{named_or}}
+use Rattle.title_tree_store.specs.Spots.{index_of, ways_in, home_in, tract_ways, is_in_township, reaches}
+use Rattle.title_tree_store.proofs.Steps.{named_or, not_reached}
 use Rattle.title_tree_store.specs.Forests.{grounds, plots, parts_of, named_ways, wants, brings, is_some_part, AreAll, IsChange, HasNote}
+use Rattle.title_tree_store.specs.Forests.{IsMade, IsQuartered, IsExchanged}
 use Rattle.title_tree_store.specs.Keeping.{content_of, lending, lies_in, held_before, loan_of, loans_of, same_ways, is_whole, PiecesFit}
 use Rattle.title_tree_store.proofs.CellPaths.{cell_at, tract_has, tract_has_at, tract_short, tract_apart, is_there, section_below}
 use Rattle.title_tree_store.proofs.Keeps.{same_ways-self, fits_swapped, some_township, wants_parts, in_township_below}
-use Rattle.title_tree_store.{specs.Refusing.{why_cell, first_in, triple}, proofs.Contents.{at_cell, now}}
+use Rattle.title_tree_store.{specs.Refusing.{why_cell, first_in, triple}, proofs.Contents.{at_cell, each, everywhere, now}}
 use Rattle.title_tree_store.proofs.Contents.{owners, owners_same, cond_same, content_changes, in_township, in_section, in_square}
 use Rattle.title_tree_store.proofs.{Images.{pushed}, Loans.{was, among_lent, loans_push}}
 use Rattle.title_land.specs.declared.tract.Land.TheVariants as land
@@ -101,6 +103,40 @@ pub record IsDone (ts : List Township) (x : Land) (i : Instrument ℕ) (old new 
   pub closed : (e : Estate) (t : ℕ) → (names (estates_of i) e && reaches (home_in ts x) t) ≡ false
       → closable_in (grounds new e) t ≡ closable_in (grounds old e) t
 
+-- what was made changes places with what stands in the quartered trees
+pub done_from : {ts : List Township} {x : Land} {i : Instrument ℕ} {old mid new : Forest} {made trees : Subtrees}
+    → ((e : Estate) → length (grounds old e) ≡ length ts) → IsMade i (home_in ts x) (tract_ways x) old mid made
+    → IsQuartered i (home_in ts x) (tract_ways x) old mid → HasNote i (home_in ts x) (tract_ways x) old mid → new.written ≡ mid.written
+    → ((e : Estate) → IsExchanged e (home_in ts x) made trees mid new) → IsDone ts x i old new trees
+done_from {ts} {x} {i} {old} {mid} {new} {made} {trees} sized m q note noted swap = record {
+  made = made;
+  mid = mid;
+  sized = λ e. (swap e).sized ∙ (each q.split e).sized;
+  put = λ e a b k l. record {
+    made = everywhere (sized e) (m.change e) a b k l;
+    split = everywhere (sized e) (m.split e) a b k l;
+    exchanged = everywhere ((each q.split e).sized ∙ sized e) (swap e).trees a b k l;
+    image = everywhere ((each q.split e).sized ∙ sized e) (swap e).parts a b k l;
+  };
+  all = λ e. subst (λ (n : ℕ). AreAll n (parts_of trees e)) ((each q.split e).sized ∙ sized e) (swap e).all;
+  named = λ e some. m.named e (sym (swap e).some ∙ some);
+  some = λ e t w. m.some e t (sym ((swap e).wanted t) ∙ w);
+  parted = λ e t p. (swap e).parted t ((each q.split e).kept t p) (m.brings e t p);
+  wanted = λ e t w.
+      let before = sym ((swap e).wanted t) ∙ w in
+      (swap e).parted t (m.wanted e t before) (wants_parts (home_in ts x) (parts_of made e) t before).2;
+  back = λ e t p. (swap e).back t ((each q.split e).kept t p);
+  noted = record {
+    last = note.last;
+    pushed = ap (λ (ws : Vec Written). ws.items) noted ∙ note.pushed;
+    home = note.home;
+    ways = note.ways;
+    estates = note.estates;
+  };
+  closed = λ e t h. (swap e).elsewhere t (not_reached (is_some_part (parts_of made e)) (names (estates_of i) e) (reaches (home_in ts x) t)
+      (m.named e) h) ∙ (each q.split e).closed t h;
+}
+
 apart : (ts : List Township) (x : Land) (i : Instrument ℕ) (e : Estate) (a b : ℕ) → Disjoint (named_ways i e (ways_in ts x a b))
 apart ts x i e a b = named_or Disjoint i e (ways_in ts x a b) (tract_apart ts x a b) (λ none. tt)
 
@@ -109,6 +145,13 @@ pub put_goes : (ts : List Township) (x : Land) (i : Instrument ℕ) (e : Estate)
     → IsChange i e (ways_in ts x a b) t xs → u ≡ split_all (named_ways i e (ways_in ts x a b)) t → Disjoint (paths xs) × Ready (paths xs) u
 put_goes ts x i e a b t u xs made split =
     put_ready (after (holding_effect i e)) (named_ways i e (ways_in ts x a b)) t u xs (apart ts x i e a b) made.1 split
+
+pub made_goes : (ts : List Township) (x : Land) (i : Instrument ℕ) {old mid : Forest} {made : Subtrees}
+    → ((e : Estate) → length (grounds old e) ≡ length ts) → IsMade i (home_in ts x) (tract_ways x) old mid made → (e : Estate)
+    → Everywhere (length ts) (λ a b. Disjoint (paths (forests.pieces (home_in ts x) made e a b))
+    × Ready (paths (forests.pieces (home_in ts x) made e a b)) (plots mid e a b))
+made_goes ts x i sized m e a b k l =
+    put_goes ts x i e a b _ _ _ (everywhere (sized e) (m.change e) a b k l) (everywhere (sized e) (m.split e) a b k l)
 
 module _ {ts : List Township} {old : Forest} {lent : List Lent} {n : ℕ} (kept : IsKept ts old lent n) (x : Land) (i : Instrument ℕ)
     (of : is_in_plant ts x ≡ true) where
@@ -286,6 +329,15 @@ first_same ts i ps [] f = refl
 first_same ts i ps (c ∷ cells) f = λ k.
     failing_or c (cell_effect i (content_plant ts ps c (f c (inl refl)) k)) (first_same ts i ps cells (λ z j. f z (inr j)) k)
 
+tract_first : (ts : List Township) (x : Land) (i : Instrument ℕ) (ps : Estate → ℕ → ℕ → Plot)
+    → first_failing i (content_of ts ps) (cells_of depth ts x) ≡ first_in ts ps i (cells_of depth ts x)
+tract_first ts x i ps =
+    first_same ts i ps (cells_of depth ts x) (λ z j. (and_parts (has x z) (is_plant_cell depth ts z) (of_cells ts x z j)).1)
+
+unrefused : (x : Land) (o : Option Failing) → refusal_of depth x o ≡ None → o ≡ None
+unrefused x None h = refl
+unrefused x (Some f) h = absurd cc
+
 triple_some : (o : Option Failing) (rule : Rule) (e : Estate) (c : Cell) → Some (rule, e, c) ≡ triple o
     → o ≡ Some (record { rule = rule; estate = e; cell = c })
 triple_some None rule e c h = absurd cc
@@ -301,9 +353,7 @@ triple_none (Some f) h = absurd cc
 pub found_failing : (ts : List Township) (x : Land) (i : Instrument ℕ) (ps : Estate → ℕ → ℕ → Plot) (rule : Rule) (e : Estate) (c : Cell)
     → Some (rule, e, c) ≡ triple (first_in ts ps i (cells_of depth ts x))
     → first_failing i (content_of ts ps) (cells_of depth ts x) ≡ Some (record { rule = rule; estate = e; cell = c })
-found_failing ts x i ps rule e c h =
-    first_same ts i ps (cells_of depth ts x) (λ z j. (and_parts (has x z) (is_plant_cell depth ts z) (of_cells ts x z j)).1)
-    ∙ triple_some _ rule e c h
+found_failing ts x i ps rule e c h = tract_first ts x i ps ∙ triple_some _ rule e c h
 
 -- where no cell fails none refuses
 none_fails : (z : Cell) (e : Effect) (later : Option Failing) → failing_or z e later ≡ None → (why_cell e ≡ None) × (later ≡ None)
@@ -351,3 +401,24 @@ some_cell_fails {ts} {f} kept once x i of e rule a b l m refusal none =
     (λ k. why_of (holding_effect i e (value_at (plots f e (y.township_is k) (y.section_is k)) (y.path_is k)))) ∙ c.3 in
     let clash : None ≡ Some rule = sym ok ∙ bad in
     absurd cc
+
+-- so the post is refused
+pub some_refused : {ts : List Township} {f : Forest} {lent : List Lent} {n : ℕ} → IsKept ts f lent n → IsEachOnce ts → (x : Land)
+    (i : Instrument ℕ) → is_in_plant ts x ≡ true → (e : Estate) (rule : Rule) (a b : ℕ) → a < length ts → b < 36
+    → refusal_at (holding_effect i e) (named_ways i e (ways_in ts x a b)) (plots f e a b) ≡ Some rule
+    → refused_in depth ts i (content_of ts (plots f)) x ≢ None
+unfolding refused_in
+some_refused {ts} {f} kept once x i of e rule a b l m refusal none =
+    some_cell_fails kept once x i of e rule a b l m refusal (sym (ap triple (sym (tract_first ts x i (plots f)) ∙ unrefused x _ none)))
+
+-- where no cell is found none is refused
+pub none_refused : (ts : List Township) (x : Land) (i : Instrument ℕ) (ps : Estate → ℕ → ℕ → Plot)
+    → None ≡ triple (first_in ts ps i (cells_of depth ts x)) → refused_in depth ts i (content_of ts ps) x ≡ None
+none_refused ts x i ps h = refused_by i (content_of ts ps) ts x None (tract_first ts x i ps ∙ triple_none _ h)
+
+-- a post that is refused changes nothing
+pub refused_keeps : (ts : List Township) (x : Land) (i : Instrument ℕ) (p : Plant) (r : Refusal) → refused_in depth ts i p x ≡ Some r
+    → (c : Cell) → plant_effect depth ts i p x c ≡ p c
+unfolding plant_effect
+refused_keeps ts x i p r h c = ap (λ (o : Option Refusal). cond (is_some o) (p c)
+    (cond (is_cell_of depth ts x c) (done_or (p c) (cell_effect i (p c))) (p c))) h

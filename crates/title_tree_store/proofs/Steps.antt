@@ -24,11 +24,6 @@ split_stays (Ok x) ps t u ok _ _ _ = (
 )
 split_stays (Err f) ps t u ok refines within elsewhere = (refines, within, elsewhere)
 
--- what holds anyway holds after a refusal
-pub on_err : {A E : Type 0} (r : Result A E) (P : Type 0) → P → OnErr r P
-on_err (Ok x) P p = tt
-on_err (Err f) P p = p
-
 -- the paths of an estate, by whether it is named
 pub named_or : (P : List (List Quarter) → Type 0) (i : Instrument ℕ) (e : Estate) (ps : List (List Quarter)) → P ps
     → (names (estates_of i) e ≡ false → P []) → P (named_ways i e ps)
@@ -61,6 +56,11 @@ homes_noted {old} count noted there all = elim noted [
   | inr same ↦ subst (AreHomes count) (sym same.noted) all
 ]
 
+pub noted_anyway : {A E : Type 0} {x : Instrument ℕ} {h : Home} {ps : List (List Quarter)} {old new : Forest} (r : Result A E)
+    → OnOk r (HasNote x h ps old new) → OnErr r (IsNoted x h ps old new) → IsNoted x h ps old new
+noted_anyway (Ok a) note stopped = inl note
+noted_anyway (Err f) note stopped = stopped
+
 -- what is apart from all that is written now was so before, and is apart from what the note adds
 pub apart_noted : {x : Instrument ℕ} {h : Home} {ps : List (List Quarter)} {old new : Forest} → HasNote x h ps old new → (e : Estate)
     (i j : ℕ) (q : List Quarter) → ApartFromAll q (written e i j new)
@@ -69,3 +69,8 @@ apart_noted {x} {h} {ps} {old} note e i j q away =
     let own = named_ways x e (ways_at h ps i j) in
     let all = subst (ApartFromAll q) (ways_noted note e i j) away in
     (λ p k. all p (in_left p (written e i j old) (own ∷ []) k), all own (in_right own (written e i j old) (own ∷ []) (inl refl)))
+
+-- a township that no part reaches, where parts are only of the estates that an instrument names
+pub not_reached : (some named reached : Bool) → (some ≡ true → named ≡ true) → (named && reached) ≡ false → (some && reached) ≡ false
+not_reached true named reached f h = ap (λ (b : Bool). b && reached) (sym (f refl)) ∙ h
+not_reached false named reached f h = refl

@@ -1,5 +1,6 @@
 -- The trees of a plant as plots, by estate.
-use Rattle.std.specs.Prelude.{◌≡◌, ℕ, Bool, true, false, not, ◌&&◌, ◌||◌, ◌==◌, List, [], ◌∷◌, ◌++◌, ◌⊎◌, cond, Option, None, length, map}
+use Rattle.std.specs.Prelude.{◌≡◌, ◌≢◌, ℕ, Bool, true, false, not, ◌&&◌, ◌||◌, ◌==◌, List, [], ◌∷◌, ◌++◌, ◌⊎◌, cond, Option, None}
+use Rattle.std.specs.Prelude.{length, map}
 use Rattle.std.specs.{Prelude.{All}, List.{list_any, list_all}}
 use Rattle.title_land.specs.declared.rectangle.Quarter.{Quarter}
 use Rattle.title_instrument.specs.declared.{parts.{Estate.{Estate, TheVariants.{S, O, M}}, Rule.{Rule}}, instrument.Instrument.{Instrument}}
@@ -8,7 +9,8 @@ use Rattle.title_tree.specs.{Changes.{after}, Plots.{Plot, value_at}, Parts.{pie
 use Rattle.title_tree.specs.Pieces.{Piece, fresh, refusal_at, split_all, swapped, taken}
 use Rattle.title_tree_store.specs.declared.{forest.{Forest.{Forest}, Subtrees.{Subtrees}}, ground.Ground.{Ground}, spots.Home.{Home}}
 use Rattle.title_tree_store.specs.declared.forest.{Parts.{Parts}, Written.{Written}}
-use Rattle.title_tree_store.specs.Grounds.{stands, is_parted, ground_tidy, plot_in, parted_in, closable_in, Everywhere, AreSplit, IsTidied}
+use Rattle.title_tree_store.specs.Grounds.{stands, is_parted, ground_tidy, plot_in, parted_in, closable_in, Everywhere}
+use Rattle.title_tree_store.specs.Grounds.{AreSplit, AreUntouched, IsTidied}
 use Rattle.title_tree_store.specs.Spots.{paths_in, ways_at, is_everything, is_township, is_in_township, reaches, IsHome}
 use Rattle.title_tree_store.specs.declared.forest.Parts.TheVariants as parts
 use Rattle.title_tree_store.specs.declared.spots.Home.TheVariants as home
@@ -157,11 +159,18 @@ pub record IsQuartered (x : Instrument ℕ) (h : Home) (ps : List (List Quarter)
   pub split : Each (λ e. AreSplit (ways_at h ps) (λ i j. named_ways x e (ways_at h ps i j)) (λ i. names (estates_of x) e && reaches h i)
       (grounds old e) (grounds new e))
 
--- down to all of them, so that sections of which a square is named have trees of their own
-pub record IsQuarteredWhole (x : Instrument ℕ) (h : Home) (ps : List (List Quarter)) (old new : Forest) : Type 0 where
+-- what was made of each estate that an instrument names, and the trees quartered down to all of the paths: a township of which parts
+-- of squares were made has sections with trees of their own
+pub record IsMade (x : Instrument ℕ) (h : Home) (ps : List (List Quarter)) (old new : Forest) (made : Subtrees) : Type 0 where
+  pub change : (e : Estate) → Everywhere (length (grounds old e)) (λ i j. IsChange x e (ways_at h ps i j) (plots old e i j)
+      (pieces h made e i j))
   pub split : (e : Estate) → Everywhere (length (grounds old e)) (λ i j. plots new e i j
       ≡ split_all (named_ways x e (ways_at h ps i j)) (plots old e i j))
-  pub wanted : (e : Estate) (i : ℕ) → (names (estates_of x) e && is_in_township h i) ≡ true → parted_in (grounds new e) i ≡ true
+  pub all : (e : Estate) → AreAll (length (grounds old e)) (parts_of made e)
+  pub named : (e : Estate) → is_some_part (parts_of made e) ≡ true → names (estates_of x) e ≡ true
+  pub some : (e : Estate) (i : ℕ) → wants h (parts_of made e) i ≡ true → ps ≢ []
+  pub brings : (e : Estate) (i : ℕ) → parted_in (grounds old e) i ≡ true → brings h (parts_of made e) i ≡ true
+  pub wanted : (e : Estate) (i : ℕ) → wants h (parts_of made e) i ≡ true → parted_in (grounds new e) i ≡ true
 
 -- the paths are kept as those of the last put, for the estates that the instrument names
 pub record HasNote (x : Instrument ℕ) (h : Home) (ps : List (List Quarter)) (old new : Forest) : Type 0 where
@@ -171,9 +180,9 @@ pub record HasNote (x : Instrument ℕ) (h : Home) (ps : List (List Quarter)) (o
   pub ways : paths_in last.paths ≡ ps
   pub estates : last.estates ≡ estates_of x
 
--- nothing changed
+-- no township has changed
 pub record IsLeft (old new : Forest) : Type 0 where
-  pub townships : Each (λ e. grounds new e ≡ grounds old e)
+  pub townships : Each (λ e. AreUntouched (grounds old e) (grounds new e))
   pub noted : new.written.items ≡ old.written.items
 
 -- they are, or nothing changed

@@ -60,6 +60,11 @@ abbrev pub ground_tidy : Ground → Bool
 ground_tidy (Whole tree) = is_tidy (plot tree)
 ground_tidy (Parted x) = list_all is_tidy (section_plots x) && not (are_one (section_plots x))
 
+-- a township's content and its nodes are as they were
+pub record IsUntouched (old new : Ground) : Type 0 where
+  pub stays : (j : ℕ) → j < 36 → stands new j ≡ stands old j
+  pub closable : is_closable new ≡ is_closable old
+
 -- what was joined where some puts wrote it: the same content, no node deeper, and nothing to join but where later puts wrote
 pub record IsTidied (puts : List (List (List Quarter))) (t u : Plot) : Type 0 where
   pub content : (c : List Quarter) → value_at u c ≡ value_at t c
@@ -105,3 +110,8 @@ pub record AreSplit (ways named : ℕ → ℕ → List (List Quarter)) (reached 
   pub elsewhere : Everywhere (length old) (λ i j. StaysElsewhere (named i j) (plot_in old i j) (plot_in new i j))
   pub kept : (i : ℕ) → parted_in old i ≡ true → parted_in new i ≡ true
   pub closed : (i : ℕ) → reached i ≡ false → closable_in new i ≡ closable_in old i
+
+-- townships of which nothing is quartered and no cell has changed
+pub record AreUntouched (old new : List Ground) : Type 0 where
+  pub stays : Everywhere (length old) (λ i j. plot_in new i j ≡ plot_in old i j)
+  pub closable : (i : ℕ) → closable_in new i ≡ closable_in old i

@@ -6,10 +6,11 @@ ghost use Rattle.title_share.specs.Division.{all_to};
 ghost use Rattle.title_instrument.specs.{Effect.{holding_effect}, Estates.{names}, Parties.{estates_of}};
 ghost use Rattle.title_tree.specs.{Changes.{after}, Faults.{Tells}, Pieces.{swapped, taken}, Trees.{plot}};
 ghost use Rattle.title_tree.specs.Pieces.{fresh, refusal_at, split_all, Disjoint, Ready, Refines, StaysWithin, StaysElsewhere, paths};
-ghost use Rattle.title_tree.specs.Plots.{Same, plot_at, changed, first_refusal, tidied};
-ghost use Rattle.title_tree_store.specs.Grounds.{is_parted, ground_tidy, plot_in, parted_in, closable_in, Everywhere, IsTidied, AreSplit};
+ghost use Rattle.title_tree.specs.Plots.{Same, changed, first_refusal, tidied};
+ghost use Rattle.title_tree_store.specs.Grounds.{is_parted, stands, ground_tidy, plot_in, parted_in, closable_in, Everywhere, IsTidied};
+ghost use Rattle.title_tree_store.specs.Grounds.{AreSplit, AreUntouched, IsUntouched};
 ghost use Rattle.title_tree_store.specs.{Grounds.{TellsSomewhere}, Spots.{paths_in, ways_at, is_in_township, reaches, IsHome}};
-ghost use Rattle.title_tree_store.specs.Forests.{Each, IsChange, IsExchanged, AreAll, AreHomes, IsQuartered, IsQuarteredWhole, HasNote};
+ghost use Rattle.title_tree_store.specs.Forests.{Each, IsChange, IsExchanged, AreAll, AreHomes, IsMade, IsQuartered, HasNote};
 ghost use Rattle.title_tree_store.specs.Forests.{grounds, plots, pieces, parts_of, parts_at, squares_in, are_squares, is_some_part};
 ghost use Rattle.title_tree_store.specs.Forests.{IsNoted, AreTidied, wants, brings, named_ways, refusal_in, writes, put_ways, are_joined};
 
@@ -21,7 +22,7 @@ use std::mem;
 use std::sync::Arc;
 use title_instrument::{Estate, Estates, Instrument, Rule};
 use title_share::Holding;
-use title_tree::{Fault, Part, Path, Tree, add_changed};
+use title_tree::{Fault, Part, Path, Tree};
 
 /// What a put wrote: where, the paths down to which it quartered a section's trees, and the estates.
 #[derive(Drop)]
@@ -123,36 +124,49 @@ pub(crate) fn names(instrument: &Instrument, estate: Estate) -> bool
     instrument.estates().has(estate)
 }
 
-// What stands at some paths of a section's tree, after an instrument. Refused as the first leaf that refuses. A list is made once
-// nothing refuses at the first path, where there are more.
+// What stands at some paths of a section's tree, after an instrument; the tree is quartered down to each. Refused as the first leaf that
+// refuses. A list is made once nothing refuses at the first path, where there are more. After `Err` it may be quartered down to some:
+// `quartered` tells whether it may.
 fn changed_at(
     alloc: Global,
-    tree: &Tree,
+    ground: &mut Ground,
+    index: usize,
     paths: &[Path],
     passing: &mut Passing,
+    quartered: &mut bool,
 ) -> Result<Parts, Fault<Rule>>
-    ensures none { OnOk result (refusal_at (holding_effect passing.old.instrument passing.old.estate) paths.now (plot tree.now) ≡ None) }
+    requires section { index < 36 }
+    requires disjoint { Disjoint paths.now }
+    ensures none { OnOk result (refusal_at (holding_effect passing.old.instrument passing.old.estate) paths.now
+        (stands ground.old index) ≡ None) }
     ensures new { IfOk result (λ parts. squares_in parts
-        ≡ fresh (after (holding_effect passing.old.instrument passing.old.estate)) paths.now (plot tree.now)) }
+        ≡ fresh (after (holding_effect passing.old.instrument passing.old.estate)) paths.now (stands ground.old index)) }
     ensures squares { IfOk result (λ parts. are_squares parts ≡ true) }
     ensures some { IfOk result (λ parts. is_some_part parts ≡ true → paths.now ≢ []) }
+    ensures parted { IfOk result (λ parts. is_some_part parts ≡ true → is_parted ground.new ≡ true) }
+    ensures split { OnOk result (stands ground.new index ≡ split_all paths.now (stands ground.old index)) }
     ensures why { IfErr result (λ f. Tells f (refusal_at (holding_effect passing.old.instrument passing.old.estate) paths.now
-        (plot tree.now))) }
+        (stands ground.old index))) }
+    ensures err { OnErr result (Refines (stands ground.old index) (stands ground.new index)) }
+    ensures err_fits { OnErr result (StaysWithin paths.now (stands ground.old index) (stands ground.new index)) }
+    ensures err_elsewhere { OnErr result (StaysElsewhere paths.now (stands ground.old index) (stands ground.new index)) }
+    ensures others { (j : ℕ) → j < 36 → j ≢ index → stands ground.new j ≡ stands ground.old j }
+    ensures kept { is_parted ground.old ≡ true → is_parted ground.new ≡ true }
+    ensures quartered { quartered.old ≡ true → quartered.new ≡ true }
+    ensures left { quartered.new ≡ false → IsUntouched ground.old ground.new }
 {
     let Some((first, rest)) = paths.split_first() else {
         return Ok(Parts::Nothing);
     };
-    let changed = tree.at(*first).changed(alloc, passing)?;
-    let part = Part {
-        path: *first,
-        tree: changed,
-    };
+    let tree = ground.changed_at(alloc, index, *first, passing)?;
+    *quartered = true;
+    let part = Part { path: *first, tree };
     if rest.is_empty() {
         return Ok(Parts::One(part));
     }
     let mut parts = Vec::with_capacity(alloc, paths.len())?;
     parts.push_reserved(part);
-    add_changed(alloc, tree, rest, passing, &mut parts)?;
+    ground.add_changed(alloc, index, rest, passing, &mut parts)?;
     Ok(Parts::Many(parts))
 }
 
@@ -179,25 +193,35 @@ fn changed_all(
     Ok(made)
 }
 
-// What stands somewhere, after an instrument. Refused with the reason of some leaf.
+// What stands somewhere, after an instrument; trees are quartered down to the paths. Refused with the reason of some leaf. After `Err`
+// they may be quartered down to some: `quartered` tells whether they may.
+#[tactic(auto, using(crate::proofs::GroundLawsPlaces::township_tests))]
 fn changed_there(
     alloc: Global,
-    grounds: &[Ground],
+    grounds: &mut Vec<Ground>,
     home: Home,
     paths: &[Path],
     passing: &mut Passing,
+    quartered: &mut bool,
 ) -> Result<Parts, Fault<Rule>>
-    requires there { IsHome (length grounds.now) home }
-    ensures none { OnOk result (Everywhere (length grounds.now) (λ i j. refusal_at
-        (holding_effect passing.old.instrument passing.old.estate) (ways_at home paths.now i j) (plot_in grounds.now i j) ≡ None)) }
-    ensures new { IfOk result (λ parts. Everywhere (length grounds.now) (λ i j. parts_at home parts i j
+    requires there { IsHome (length grounds.old.items) home }
+    requires disjoint { Disjoint paths.now }
+    ensures none { OnOk result (Everywhere (length grounds.old.items) (λ i j. refusal_at
+        (holding_effect passing.old.instrument passing.old.estate) (ways_at home paths.now i j) (plot_in grounds.old.items i j) ≡ None)) }
+    ensures new { IfOk result (λ parts. Everywhere (length grounds.old.items) (λ i j. parts_at home parts i j
         ≡ fresh (after (holding_effect passing.old.instrument passing.old.estate)) (ways_at home paths.now i j)
-        (plot_in grounds.now i j))) }
-    ensures all { IfOk result (AreAll (length grounds.now)) }
+        (plot_in grounds.old.items i j))) }
+    ensures all { IfOk result (AreAll (length grounds.old.items)) }
     ensures some { IfOk result (λ parts. (i : ℕ) → wants home parts i ≡ true → paths.now ≢ []) }
-    ensures brings { IfOk result (λ parts. (i : ℕ) → parted_in grounds.now i ≡ true → brings home parts i ≡ true) }
-    ensures why { IfErr result (λ f. TellsSomewhere f (length grounds.now) (λ i j. refusal_at
-        (holding_effect passing.old.instrument passing.old.estate) (ways_at home paths.now i j) (plot_in grounds.now i j))) }
+    ensures brings { IfOk result (λ parts. (i : ℕ) → parted_in grounds.old.items i ≡ true → brings home parts i ≡ true) }
+    ensures wanted { IfOk result (λ parts. (i : ℕ) → wants home parts i ≡ true → parted_in grounds.new.items i ≡ true) }
+    ensures ok { OnOk result (Everywhere (length grounds.old.items) (λ i j. plot_in grounds.new.items i j
+        ≡ split_all (ways_at home paths.now i j) (plot_in grounds.old.items i j))) }
+    ensures split { AreSplit (ways_at home paths.now) (ways_at home paths.now) (reaches home) grounds.old.items grounds.new.items }
+    ensures why { IfErr result (λ f. TellsSomewhere f (length grounds.old.items) (λ i j. refusal_at
+        (holding_effect passing.old.instrument passing.old.estate) (ways_at home paths.now i j) (plot_in grounds.old.items i j))) }
+    ensures quartered { quartered.old ≡ true → quartered.new ≡ true }
+    ensures left { quartered.new ≡ false → AreUntouched grounds.old.items grounds.new.items }
 {
     match home {
         Home::Everything => Ok(Parts::Plant(changed_all(alloc, grounds, passing)?)),
@@ -208,32 +232,51 @@ fn changed_there(
                 Err(_) => Err(Fault::Memory),
             }
         }
-        Home::Section(index, township) => {
-            let tree = grounds[township as usize].section(index as usize);
-            changed_at(alloc, tree, paths, passing)
-        }
+        Home::Section(index, township) => changed_at(
+            alloc,
+            &mut grounds[township as usize],
+            index as usize,
+            paths,
+            passing,
+            quartered,
+        ),
     }
 }
 
-// The same, where it names the estate; else nothing. What was made last is kept.
+// What goes from estate to estate while a post is made: what was made last, and whether trees were quartered.
+#[derive(Drop)]
+struct Making {
+    last: Option<Moved>,
+    quartered: bool,
+}
+
+// The same, where it names the estate; else nothing.
 fn changed(
     alloc: Global,
-    grounds: &[Ground],
+    grounds: &mut Vec<Ground>,
     home: Home,
     paths: &[Path],
     instrument: &Instrument,
     estate: Estate,
-    last: &mut Option<Moved>,
+    making: &mut Making,
 ) -> Result<Parts, Fault<Rule>>
-    requires there { IsHome (length grounds.now) home }
-    ensures change { IfOk result (λ parts. Everywhere (length grounds.now) (λ i j. IsChange instrument.now estate
-        (ways_at home paths.now i j) (plot_in grounds.now i j) (parts_at home parts i j))) }
-    ensures all { IfOk result (AreAll (length grounds.now)) }
+    requires there { IsHome (length grounds.old.items) home }
+    requires disjoint { Disjoint paths.now }
+    ensures change { IfOk result (λ parts. Everywhere (length grounds.old.items) (λ i j. IsChange instrument.now estate
+        (ways_at home paths.now i j) (plot_in grounds.old.items i j) (parts_at home parts i j))) }
+    ensures all { IfOk result (AreAll (length grounds.old.items)) }
     ensures named { IfOk result (λ parts. is_some_part parts ≡ true → names (estates_of instrument.now) estate ≡ true) }
     ensures some { IfOk result (λ parts. (i : ℕ) → wants home parts i ≡ true → paths.now ≢ []) }
-    ensures brings { IfOk result (λ parts. (i : ℕ) → parted_in grounds.now i ≡ true → brings home parts i ≡ true) }
-    ensures why { IfErr result (λ f. TellsSomewhere f (length grounds.now) (λ i j. refusal_in instrument.now estate
-        (ways_at home paths.now i j) (plot_in grounds.now i j))) }
+    ensures brings { IfOk result (λ parts. (i : ℕ) → parted_in grounds.old.items i ≡ true → brings home parts i ≡ true) }
+    ensures wanted { IfOk result (λ parts. (i : ℕ) → wants home parts i ≡ true → parted_in grounds.new.items i ≡ true) }
+    ensures ok { OnOk result (Everywhere (length grounds.old.items) (λ i j. plot_in grounds.new.items i j
+        ≡ split_all (named_ways instrument.now estate (ways_at home paths.now i j)) (plot_in grounds.old.items i j))) }
+    ensures split { AreSplit (ways_at home paths.now) (λ i j. named_ways instrument.now estate (ways_at home paths.now i j))
+        (λ i. names (estates_of instrument.now) estate && reaches home i) grounds.old.items grounds.new.items }
+    ensures why { IfErr result (λ f. TellsSomewhere f (length grounds.old.items) (λ i j. refusal_in instrument.now estate
+        (ways_at home paths.now i j) (plot_in grounds.old.items i j))) }
+    ensures quartered { making.old.quartered ≡ true → making.new.quartered ≡ true }
+    ensures left { making.new.quartered ≡ false → AreUntouched grounds.old.items grounds.new.items }
 {
     if !names(instrument, estate) {
         return Ok(Parts::Nothing);
@@ -241,40 +284,12 @@ fn changed(
     let mut passing = Passing {
         instrument: *instrument,
         estate,
-        last: last.take(),
+        last: making.last.take(),
     };
-    let parts = changed_there(alloc, grounds, home, paths, &mut passing)?;
-    *last = passing.last.take();
+    let quartered = &mut making.quartered;
+    let parts = changed_there(alloc, grounds, home, paths, &mut passing, quartered)?;
+    making.last = passing.last.take();
     Ok(parts)
-}
-
-// Quarters trees down to each path, where an instrument names the estate. After `Err` they may be quartered down to some.
-#[tactic(auto, using(crate::proofs::GroundLawsPlaces::township_tests))]
-fn split_named(
-    grounds: &mut Vec<Ground>,
-    alloc: Global,
-    home: Home,
-    paths: &[Path],
-    instrument: &Instrument,
-    estate: Estate,
-) -> Result<(), AllocError>
-    requires there { IsHome (length grounds.old.items) home }
-    ensures ok { OnOk result (Everywhere (length grounds.old.items) (λ i j. plot_in grounds.new.items i j
-        ≡ split_all (named_ways instrument.now estate (ways_at home paths.now i j)) (plot_in grounds.old.items i j))) }
-    ensures wanted { OnOk result ((i : ℕ) → (names (estates_of instrument.now) estate && is_in_township home i) ≡ true
-        → parted_in grounds.new.items i ≡ true) }
-    ensures split { AreSplit (ways_at home paths.now) (λ i j. named_ways instrument.now estate (ways_at home paths.now i j))
-        (λ i. names (estates_of instrument.now) estate && reaches home i) grounds.old.items grounds.new.items }
-{
-    if !names(instrument, estate) {
-        return Ok(());
-    }
-    match home {
-        Home::Everything | Home::Township(_) => Ok(()),
-        Home::Section(index, township) => {
-            grounds[township as usize].split(alloc, index as usize, paths)
-        }
-    }
 }
 
 // Joins quarters below and above the paths of a put, and sections, where it wrote the estate.
@@ -370,75 +385,91 @@ impl Forest {
         parts.m.exchange(&mut self.m, home);
     }
 
-    /// What stands somewhere, after an instrument; nothing changes. Refused by a rule of some leaf.
-    pub(crate) fn changed(
-        &self,
-        alloc: Global,
-        home: Home,
-        paths: &[Path],
-        instrument: &Instrument,
-    ) -> Result<Subtrees, Fault<Rule>>
-        requires there { Each (λ e. IsHome (length (grounds self.now e)) home) }
-        ensures change { Each (λ e. IfOk result (λ x. Everywhere (length (grounds self.now e)) (λ i j. IsChange instrument.now e
-            (ways_at home paths.now i j) (plots self.now e i j) (pieces home x e i j)))) }
-        ensures all { Each (λ e. IfOk result (λ x. AreAll (length (grounds self.now e)) (parts_of x e))) }
-        ensures named { Each (λ e. IfOk result (λ x. is_some_part (parts_of x e) ≡ true → names (estates_of instrument.now) e ≡ true)) }
-        ensures some { Each (λ e. IfOk result (λ x. (i : ℕ) → wants home (parts_of x e) i ≡ true → paths.now ≢ [])) }
-        ensures brings { Each (λ e. IfOk result (λ x. (i : ℕ) → parted_in (grounds self.now e) i ≡ true
-            → brings home (parts_of x e) i ≡ true)) }
-        ensures why { IfErr result (λ f. (e : Estate) × TellsSomewhere f (length (grounds self.now e)) (λ i j. refusal_in instrument.now e
-            (ways_at home paths.now i j) (plots self.now e i j))) }
-    {
-        let last = &mut None;
-        let s = changed(alloc, &self.s, home, paths, instrument, Estate::S, last)?;
-        let o = changed(alloc, &self.o, home, paths, instrument, Estate::O, last)?;
-        let m = changed(alloc, &self.m, home, paths, instrument, Estate::M, last)?;
-        Ok(Subtrees { s, o, m })
-    }
-
-    // Quarters the trees of the estates that an instrument names down to each path. After `Err` they may be quartered down
-    // to some.
-    fn split_each(
+    // What stands somewhere, after an instrument; the trees of the estates that it names are quartered down to each path. Refused by a
+    // rule of some leaf. After `Err` they may be quartered down to some.
+    #[inline(always)]
+    fn made(
         &mut self,
         alloc: Global,
         home: Home,
         paths: &[Path],
         instrument: &Instrument,
-    ) -> Result<(), AllocError>
+        making: &mut Making,
+    ) -> Result<Subtrees, Fault<Rule>>
         requires there { Each (λ e. IsHome (length (grounds self.old e)) home) }
+        requires disjoint { Disjoint paths.now }
+        ensures made { IfOk result (IsMade instrument.now home paths.now self.old self.new) }
         ensures split { IsQuartered instrument.now home paths.now self.old self.new }
-        ensures ok { OnOk result (IsQuarteredWhole instrument.now home paths.now self.old self.new) }
+        ensures why { IfErr result (λ f. (e : Estate) × TellsSomewhere f (length (grounds self.old e)) (λ i j. refusal_in instrument.now e
+            (ways_at home paths.now i j) (plots self.old e i j))) }
         ensures written { self.new.written ≡ self.old.written }
+        ensures left { making.new.quartered ≡ false → Each (λ e. AreUntouched (grounds self.old e) (grounds self.new e)) }
     {
-        split_named(&mut self.s, alloc, home, paths, instrument, Estate::S)?;
-        split_named(&mut self.o, alloc, home, paths, instrument, Estate::O)?;
-        split_named(&mut self.m, alloc, home, paths, instrument, Estate::M)
+        let s = changed(
+            alloc,
+            &mut self.s,
+            home,
+            paths,
+            instrument,
+            Estate::S,
+            making,
+        )?;
+        let o = changed(
+            alloc,
+            &mut self.o,
+            home,
+            paths,
+            instrument,
+            Estate::O,
+            making,
+        )?;
+        let m = changed(
+            alloc,
+            &mut self.m,
+            home,
+            paths,
+            instrument,
+            Estate::M,
+            making,
+        )?;
+        Ok(Subtrees { s, o, m })
     }
 
-    /// Quarters the trees of the estates that an instrument names down to each path, and keeps where, the paths and the estates for
-    /// `tidy`. After `Err` they may be quartered down to some.
-    pub(crate) fn quarter(
+    /// What stands somewhere, after an instrument; no cell changes, but the trees of the estates that it names are quartered down to each
+    /// path, and where, the paths and the estates are kept for `tidy`. Refused by a rule of some leaf. After `Err` they may be quartered
+    /// down to some; where none is, nothing is kept.
+    #[inline(always)]
+    pub(crate) fn changed(
         &mut self,
         alloc: Global,
         home: Home,
         paths: Paths,
         instrument: &Instrument,
-    ) -> Result<(), AllocError>
+    ) -> Result<Subtrees, Fault<Rule>>
         requires there { Each (λ e. IsHome (length (grounds self.old e)) home) }
+        requires disjoint { Disjoint (paths_in paths) }
+        ensures made { IfOk result (IsMade instrument.now home (paths_in paths) self.old self.new) }
         ensures split { IsQuartered instrument.now home (paths_in paths) self.old self.new }
-        ensures ok { OnOk result (IsQuarteredWhole instrument.now home (paths_in paths) self.old self.new) }
+        ensures why { IfErr result (λ f. (e : Estate) × TellsSomewhere f (length (grounds self.old e)) (λ i j. refusal_in instrument.now e
+            (ways_at home (paths_in paths) i j) (plots self.old e i j))) }
         ensures noted { OnOk result (HasNote instrument.now home (paths_in paths) self.old self.new) }
         ensures err_noted { OnErr result (IsNoted instrument.now home (paths_in paths) self.old self.new) }
     {
         self.written.reserve(1)?;
         let estates = instrument.estates();
-        let quartered = self.split_each(alloc, home, paths.as_slice(), instrument);
-        self.written.push_reserved(Written {
-            home,
-            estates,
-            paths,
-        });
-        quartered
+        let mut making = Making {
+            last: None,
+            quartered: false,
+        };
+        let made = self.made(alloc, home, paths.as_slice(), instrument, &mut making);
+        if made.is_ok() || making.quartered {
+            self.written.push_reserved(Written {
+                home,
+                estates,
+                paths,
+            });
+        }
+        made
     }
 
     /// Whether no tree could be joined to fewer nodes.

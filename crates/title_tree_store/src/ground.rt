@@ -1,18 +1,20 @@
 //! What an estate has of a township.
 
-ghost use Rattle.std.specs.Prelude.{◌≡◌, ◌≢◌, ℕ, ◌<◌, ◌∷◌, [], true, false, None, OnOk, OnErr, IfOk, IfErr, length, map, get_or, replicate};
+ghost use Rattle.std.specs.Prelude.{◌≡◌, ◌≢◌, ℕ, ◌<◌, ◌++◌, ◌∷◌, [], true, false, None, OnOk, OnErr, IfOk, IfErr, length, map, get_or};
+ghost use Rattle.std.specs.Prelude.{replicate};
 ghost use Rattle.std.specs.{List.{list_all}, Option.{option_map}};
 ghost use Rattle.title_tree.specs.{Changes.{after}, Faults.{Tells}, Parts.{piece}, Trees.{plot}};
-ghost use Rattle.title_tree.specs.Plots.{changed, first_refusal, graft, has_path, is_tidy, plot_at, tidied, tidied_all};
-ghost use Rattle.title_tree.specs.Pieces.{Disjoint, Ready, Refines, StaysElsewhere, StaysWithin, paths, split_all, swapped, taken};
+ghost use Rattle.title_tree.specs.Plots.{changed, first_refusal, graft, has_path, is_tidy, plot_at, split, tidied, tidied_all};
+ghost use Rattle.title_tree.specs.Pieces.{Disjoint, Ready, Refines, StaysElsewhere, StaysWithin, fresh, paths, refusal_at, split_all};
+ghost use Rattle.title_tree.specs.Pieces.{swapped, taken};
 ghost use Rattle.title_tree_store.specs.Grounds.{nothing, stands, is_parted, is_closable, uniform_all, ground_uniform};
-ghost use Rattle.title_tree_store.specs.Grounds.{are_one, ground_tidy, IsTidied};
+ghost use Rattle.title_tree_store.specs.Grounds.{are_one, ground_tidy, IsTidied, IsUntouched};
 
 use crate::sections::Sections;
 use core::mem::replace_with;
 use std::alloc::{AllocError, Global};
 use title_share::Holding;
-use title_tree::{Change, Fault, Part, Path, Tree, exchange_all, is_same, split_each, tidy_all};
+use title_tree::{Change, Fault, Part, Path, Tree, add_changed, exchange_all, is_same, tidy_all};
 
 /// A township of one estate: one tree stands in each section, or each section has its own.
 #[derive(Drop)]
@@ -133,40 +135,70 @@ impl Ground {
         }
     }
 
-    // Gives each section a tree of its own. `Err` changes nothing.
-    fn part(&mut self, alloc: Global) -> Result<(), AllocError>
+    /// What stands at a path of a section, changed; the section's tree is quartered down to there, and where one tree stood in all
+    /// sections each gets its own. Refused with the reason of the first leaf that refuses. `Err` changes nothing.
+    #[tactic(auto, using(crate::proofs::GroundLaws::section_trees))]
+    pub(crate) fn changed_at<C: Change>(
+        &mut self,
+        alloc: Global,
+        index: usize,
+        path: Path,
+        change: &mut C,
+    ) -> Result<Tree, Fault<C::Refusal>>
+        requires section { index < 36 }
+        ensures none { OnOk result (first_refusal (C.effect change.old) (plot_at path (stands self.old index)) ≡ None) }
+        ensures new { IfOk result (λ t. plot t ≡ changed (after (C.effect change.old)) (plot_at path (stands self.old index))) }
+        ensures split { OnOk result (stands self.new index ≡ split path (stands self.old index)) }
         ensures parted { OnOk result (is_parted self.new ≡ true) }
-        ensures stays { (j : ℕ) → j < 36 → stands self.new j ≡ stands self.old j }
+        ensures why { IfErr result (λ fault. Tells fault (first_refusal (C.effect change.old) (plot_at path (stands self.old index)))) }
+        ensures err { OnErr result (IsUntouched self.old self.new) }
+        ensures others { (j : ℕ) → j < 36 → j ≢ index → stands self.new j ≡ stands self.old j }
         ensures kept { is_parted self.old ≡ true → is_parted self.new ≡ true }
+        ensures same { C.effect change.new ≡ C.effect change.old }
     {
-        if let Ground::Whole(tree) = self {
-            let trees = copies(alloc, tree, 36)?;
-            *self = Ground::Parted(Sections { trees });
+        match self {
+            Ground::Whole(tree) => {
+                tree.at(path).changed(alloc, change)?;
+                let mut trees = copies(alloc, tree, 36)?;
+                let made = trees[index].changed_at(alloc, path, change)?;
+                *self = Ground::Parted(Sections { trees });
+                Ok(made)
+            }
+            Ground::Parted(sections) => sections.trees[index].changed_at(alloc, path, change),
         }
-        Ok(())
     }
 
-    /// Quarters a section's tree down to each path. After `Err` it may be quartered down to some.
+    /// Adds what stands at each path of a section, changed, to parts; the section's tree is quartered down to each. Refused with the reason
+    /// of the first leaf that refuses. After `Err` it may be quartered down to some.
     #[tactic(auto, using(crate::proofs::GroundLaws::section_trees))]
-    pub(crate) fn split(
+    pub(crate) fn add_changed<C: Change>(
         &mut self,
         alloc: Global,
         index: usize,
         paths: &[Path],
-    ) -> Result<(), AllocError>
+        change: &mut C,
+        parts: &mut Vec<Part>,
+    ) -> Result<(), Fault<C::Refusal>>
         requires section { index < 36 }
-        ensures parted { OnOk result (is_parted self.new ≡ true) }
-        ensures ok { OnOk result (stands self.new index ≡ split_all paths.now (stands self.old index)) }
+        requires parted { is_parted self.old ≡ true }
+        requires disjoint { Disjoint paths.now }
+        ensures none { OnOk result (refusal_at (C.effect change.old) paths.now (stands self.old index) ≡ None) }
+        ensures new { OnOk result (map piece parts.new.items ≡ map piece parts.old.items
+            ++ fresh (after (C.effect change.old)) paths.now (stands self.old index)) }
+        ensures split { OnOk result (stands self.new index ≡ split_all paths.now (stands self.old index)) }
+        ensures why { IfErr result (λ fault. Tells fault (refusal_at (C.effect change.old) paths.now (stands self.old index))) }
         ensures err { OnErr result (Refines (stands self.old index) (stands self.new index)) }
         ensures err_fits { OnErr result (StaysWithin paths.now (stands self.old index) (stands self.new index)) }
         ensures err_elsewhere { OnErr result (StaysElsewhere paths.now (stands self.old index) (stands self.new index)) }
         ensures others { (j : ℕ) → j < 36 → j ≢ index → stands self.new j ≡ stands self.old j }
-        ensures kept { is_parted self.old ≡ true → is_parted self.new ≡ true }
+        ensures parted { is_parted self.new ≡ true }
+        ensures same { C.effect change.new ≡ C.effect change.old }
     {
-        self.part(alloc)?;
         match self {
             Ground::Whole(_) => unreachable!(),
-            Ground::Parted(sections) => split_each(&mut sections.trees[index], alloc, paths),
+            Ground::Parted(sections) => {
+                add_changed(alloc, &mut sections.trees[index], paths, change, parts)
+            }
         }
     }
 
@@ -274,7 +306,9 @@ impl Ground {
             Ground::Whole(tree) => tree.tidy(),
             Ground::Parted(sections) => {
                 tidy_all(&mut sections.trees[index], paths);
-                self.close();
+                if let Tree::Leaf(_) = &sections.trees[index] {
+                    self.close();
+                }
             }
         }
     }

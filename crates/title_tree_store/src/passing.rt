@@ -93,6 +93,7 @@ impl Change for Passing {
 
     ghost effect = { λ p. holding_effect p.instrument p.estate };
 
+    #[inline(always)]
     fn apply(&mut self, alloc: Global, held: &Arc<Holding>) -> Result<Arc<Holding>, Fault<Rule>> {
         let units = held.units(self.instrument.grantor());
         match self.instrument.passes(self.estate, units) {

@@ -1,7 +1,8 @@
 //! The plant as trees of quarters, one for each estate.
 
-ghost use Rattle.std.specs.Prelude.{length};
-ghost use Rattle.title_store.specs.Plants.{IsEachOnce};
+ghost use Rattle.std.specs.Prelude.{◌≡◌, ◌≢◌, true, None, Some, length};
+ghost use Rattle.title_land.specs.{Depth.{depth}, Lands.{is_in_plant}};
+ghost use Rattle.title_store.specs.Plants.{IsEachOnce, refused_in};
 ghost use Rattle.title_tree_store.specs.{Forests.{plots, are_joined, AreHomes}, Keeping.{content_of, loans_of, IsKept, AreJoined}};
 ghost use Rattle.title_tree_store.specs.{Out.{images}, Propositions.{once_prop, kept_prop, joined_prop, home_prop}};
 
@@ -13,7 +14,7 @@ use crate::spots::{home_of, ways};
 use crate::townships::Townships;
 use crate::walks::section_tree;
 use std::alloc::{AllocError, Global};
-use title_instrument::{Estate, Instrument};
+use title_instrument::{Estate, Instrument, Rule};
 use title_land::{Node, Section, Township, Tract};
 use title_store::{Put, SheetRow, Store};
 use title_tree::Fault;
@@ -42,6 +43,27 @@ impl TreeStore {
     /// Whether its trees have the fewest nodes that can hold the plant: for tests.
     pub fn is_tidy(&self) -> bool {
         self.forest.is_tidy()
+    }
+
+    // The rule and the estate by which the first cell of a tract that refuses an instrument does, and the node in which it lies.
+    fn refusal(&self, tract: &Tract, instrument: &Instrument) -> (Rule, Estate, Node)
+        requires within { is_in_plant self.now.townships tract.now ≡ true }
+        requires fails { refused_in depth self.now.townships instrument.now (content_of self.now.townships (plots self.now.forest))
+            tract.now ≢ None }
+        ensures refused { refused_in depth self.now.townships instrument.now (content_of self.now.townships (plots self.now.forest))
+            tract.now ≡ Some (record { rule = result.0; estate = result.1; node = result.2 }) }
+    {
+        let search = Search {
+            townships: &self.townships,
+            forest: &self.forest,
+            tract,
+            instrument,
+        };
+        let Some((rule, estate, cell)) = search.first() else {
+            unreachable!()
+        };
+        let node = tract.node_of(cell).unwrap_or(Node::Everything);
+        (rule, estate, node)
     }
 }
 
@@ -80,31 +102,40 @@ impl Store for TreeStore {
     fn put(&mut self, tract: &Tract, instrument: &Instrument) -> Result<Put<Image>, AllocError> {
         let home = home_of(&self.townships, tract);
         let paths = ways(self.alloc, tract)?;
-        match self
-            .forest
-            .changed(self.alloc, home, paths.as_slice(), instrument)
-        {
+        let land = tract.copy(self.alloc)?;
+        self.lent.reserve()?;
+        match self.forest.changed(self.alloc, home, paths, instrument) {
             Ok(mut trees) => {
-                let land = tract.copy(self.alloc)?;
-                self.lent.reserve()?;
-                self.forest.quarter(self.alloc, home, paths, instrument)?;
                 self.forest.exchange(home, &mut trees);
                 let number = self.lent.add(land, trees);
                 Ok(Put::Done(Image { number }))
             }
             Err(Fault::Memory) => Err(AllocError),
             Err(Fault::Refused(_)) => {
-                let search = Search {
-                    townships: &self.townships,
-                    forest: &self.forest,
-                    tract,
-                    instrument,
-                };
-                let Some((rule, estate, cell)) = search.first() else {
-                    unreachable!()
-                };
-                let node = tract.node_of(cell).unwrap_or(Node::Everything);
+                let (rule, estate, node) = self.refusal(tract, instrument);
                 Ok(Put::Refused(rule, estate, node))
+            }
+        }
+    }
+
+    fn put_alone(&mut self, tract: &Tract, instrument: &Instrument) -> Result<Put<()>, AllocError> {
+        let home = home_of(&self.townships, tract);
+        let paths = ways(self.alloc, tract)?;
+        match self.forest.changed(self.alloc, home, paths, instrument) {
+            Ok(mut trees) => {
+                self.forest.exchange(home, &mut trees);
+                self.forest.tidy();
+                Ok(Put::Done(()))
+            }
+            Err(fault) => {
+                self.forest.tidy();
+                match fault {
+                    Fault::Memory => Err(AllocError),
+                    Fault::Refused(_) => {
+                        let (rule, estate, node) = self.refusal(tract, instrument);
+                        Ok(Put::Refused(rule, estate, node))
+                    }
+                }
             }
         }
     }

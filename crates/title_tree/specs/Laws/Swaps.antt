@@ -185,6 +185,11 @@ refines_split (Err x) p t u v e h = record {
   paths = λ q k. h.paths q (ap (λ (z : Plot). has_path q z) e ∙ split_keeps p t q k);
 }
 
+-- what holds anyway holds after a refusal
+pub on_err : {A E : Type 0} (r : Result A E) (P : Type 0) → P → OnErr r P
+on_err (Ok x) P p = tt
+on_err (Err x) P p = p
+
 pub split_all_reaches : (ps : List (List Quarter)) (t : Plot) → Ready ps (split_all ps t) × Refines t (split_all ps t)
 split_all_reaches ps t =
     (split_all_ready ps t, record { content = split_all_value ps t; paths = split_all_keeps ps t })
