@@ -11,4 +11,5 @@ pub mod Refusals
 pub mod Depths
 pub mod CellSquares
 pub mod Joined
+pub mod Settled
 pub mod Adding

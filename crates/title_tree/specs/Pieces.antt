@@ -2,7 +2,7 @@
 use Rattle.std.specs.Prelude.{◌≡◌, ℕ, ◌≤◌, Bool, true, false, cond, ◌||◌, List, [], ◌∷◌, ◌++◌, length, Option, Some, None, Result}
 use Rattle.std.specs.Option.{option_or}
 use Rattle.title_share.specs.Division.{Division, all_to}
-use Rattle.title_land.specs.{declared.rectangle.Quarter.{Quarter}, Laws.Members.{In}}
+use Rattle.title_land.specs.{declared.rectangle.Quarter.{Quarter}, CoverSets.{path_before}, Laws.Members.{In}}
 use Rattle.title_tree.specs.Paths.{begins, rest}
 use Rattle.title_tree.specs.Plots.{Plot, value_at, has_path, plot_at, graft, split, changed, first_refusal, same_division, uniform, fits}
 
@@ -58,6 +58,16 @@ Apart p qs = (q : List Quarter) → In q qs → (begins p q ≡ false) × (begin
 abbrev pub Disjoint : List (List Quarter) → Type 0
 Disjoint [] = Unit {0}
 Disjoint (p ∷ ps) = Apart p ps × Disjoint ps
+
+-- each path comes before all after it, as the squares of a tract are listed
+abbrev pub InOrder : List (List Quarter) → Type 0
+InOrder [] = Unit {0}
+InOrder (p ∷ ps) = ((q : List Quarter) → In q ps → path_before p q ≡ true) × InOrder ps
+
+-- the path of the first piece
+abbrev pub first_path : List Piece → Option (List Quarter)
+first_path [] = None
+first_path (x ∷ xs) = Some x.path
 
 -- the plot has a node at each of the paths
 abbrev pub Ready : List (List Quarter) → Plot → Type 0

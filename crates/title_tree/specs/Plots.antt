@@ -3,7 +3,7 @@ use Rattle.std.specs.Prelude.{ℕ, zero, suc, Bool, true, false, cond, ◌&&◌,
 use Rattle.std.specs.Option.{option_or}
 use Rattle.title_share.specs.Division.{Division, rows_of}
 use Rattle.title_land.specs.declared.rectangle.Quarter.{Quarter, TheVariants.{Northeast, Northwest, Southwest, Southeast}}
-use Rattle.title_tree.specs.Changes.{why_of}
+use Rattle.title_tree.specs.{Changes.{why_of}, Paths.{rest_in}}
 
 -- one division in all cells, or the plots of the four quarters in their order
 pub data Plot : Type 0 where
@@ -122,6 +122,20 @@ tidied_at (Northeast ∷ path) (Four a b c d) = joined (Four (tidied_at path a) 
 tidied_at (Northwest ∷ path) (Four a b c d) = joined (Four a (tidied_at path b) c d)
 tidied_at (Southwest ∷ path) (Four a b c d) = joined (Four a b (tidied_at path c) d)
 tidied_at (Southeast ∷ path) (Four a b c d) = joined (Four a b c (tidied_at path d))
+
+-- leaves that have the same division made one, unless another path leads through the node
+abbrev pub joined_unless : Option (List Quarter) → Plot → Plot
+joined_unless None t = joined t
+joined_unless (Some p) t = t
+
+-- tidied at a path, but each node that another path leads through stays
+abbrev pub tidied_until : Option (List Quarter) → List Quarter → Plot → Plot
+tidied_until other [] t = tidied t
+tidied_until other (q ∷ path) (Same held) = Same held
+tidied_until other (Northeast ∷ path) (Four a b c d) = joined_unless other (Four (tidied_until (rest_in Northeast other) path a) b c d)
+tidied_until other (Northwest ∷ path) (Four a b c d) = joined_unless other (Four a (tidied_until (rest_in Northwest other) path b) c d)
+tidied_until other (Southwest ∷ path) (Four a b c d) = joined_unless other (Four a b (tidied_until (rest_in Southwest other) path c) d)
+tidied_until other (Southeast ∷ path) (Four a b c d) = joined_unless other (Four a b c (tidied_until (rest_in Southeast other) path d))
 
 -- tidied at each path in turn
 abbrev pub tidied_all : List (List Quarter) → Plot → Plot

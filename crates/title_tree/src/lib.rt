@@ -9,6 +9,6 @@ pub mod path;
 pub mod tree;
 
 pub use change::{Change, Fault};
-pub use part::{Part, add_changed, exchange_all, tidy_all, uniform_at};
+pub use part::{Part, add_changed, exchange_all, settle_all, tidy_all, uniform_at};
 pub use path::Path;
 pub use tree::{Tree, is_same};

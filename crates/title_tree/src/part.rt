@@ -2,7 +2,8 @@
 
 ghost use Rattle.std.specs.{Prelude.{◌≡◌, ◌++◌, ◌∷◌, [], true, None, map, OnOk, OnErr, IfErr}, Option.{option_map}};
 ghost use Rattle.title_tree.specs.{Changes.{after}, Faults.{Tells}, Parts.{piece}, Pieces.{split_all, fresh, refusal_at, uniform_at}};
-ghost use Rattle.title_tree.specs.{Pieces.{Disjoint, Ready, Refines, StaysWithin, StaysElsewhere, paths, swapped, taken}, Trees.{plot}};
+ghost use Rattle.title_tree.specs.{Pieces.{Disjoint, InOrder, Ready, Refines, StaysWithin, StaysElsewhere, paths}, Trees.{plot}};
+ghost use Rattle.title_tree.specs.Pieces.{first_path, swapped, taken};
 ghost use Rattle.title_tree.specs.Plots.{has_path, plot_at, graft, tidied_all};
 
 use crate::change::{Change, Fault};
@@ -40,6 +41,28 @@ pub fn exchange_all(root: &mut Tree, parts: &mut [Part])
     if let Some((first, rest)) = parts.split_first_mut() {
         first.exchange(root);
         exchange_all(root, rest);
+    }
+}
+
+// The path of the first of some parts.
+fn first_path(parts: &[Part]) -> Option<Path>
+    ensures first { result ≡ first_path (map piece parts.now) }
+{
+    let first = parts.first()?;
+    Some(first.path)
+}
+
+/// The same, for parts in the order of their paths; on the way up quarters that are leaves of one holding are joined, below and above each
+/// path, but for the nodes that the next path leads through. Takes no memory.
+pub fn settle_all(root: &mut Tree, parts: &mut [Part])
+    requires disjoint { Disjoint (paths (map piece parts.old)) }
+    requires ready { Ready (paths (map piece parts.old)) (plot root.old) }
+    requires order { InOrder (paths (map piece parts.old)) }
+    ensures root { plot root.new ≡ tidied_all (paths (map piece parts.old)) (swapped (map piece parts.old) (plot root.old)) }
+{
+    if let Some((first, rest)) = parts.split_first_mut() {
+        root.settle(first.path, first_path(rest), &mut first.tree);
+        settle_all(root, rest);
     }
 }
 

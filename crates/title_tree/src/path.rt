@@ -1,7 +1,7 @@
 //! Paths from a tree's root down, the outermost quarter first.
 
 ghost use Rattle.std.specs.Prelude.{◌≡◌, ◌<◌, ◌++◌, ◌∷◌, [], IfOk, MatchOption};
-ghost use Rattle.title_tree.specs.Paths.{way, number_path};
+ghost use Rattle.title_tree.specs.Paths.{way, number_path, rest_in};
 
 use std::alloc::AllocError;
 use std::marker::Model;
@@ -90,4 +90,12 @@ impl Path {
         let path = inner.inside_square(parts.1)?;
         Ok(path)
     }
+}
+
+// What is left of a path in a quarter; `None` where it doesn't go there, or there is none.
+pub(crate) fn rest_in(path: Option<Path>, quarter: Quarter) -> Option<Path>
+    ensures rest { result ≡ rest_in quarter path }
+{
+    let (first, rest) = path?.split()?;
+    if quarter == first { Some(rest) } else { None }
 }

@@ -3,10 +3,10 @@
 ghost use Rattle.std.specs.{Prelude.{◌≡◌, ◌∷◌, [], true, None, IfOk, IfErr, OnOk, OnErr}, Option.{option_map}, Arc.{arc_value}};
 ghost use Rattle.title_tree.specs.{Changes.{after}, Faults.{Tells}, Joins.{is_joinable}, Trees.{plot}};
 ghost use Rattle.title_tree.specs.Plots.{Same, Four, value_at, has_path, plot_at, graft, split, changed, first_refusal};
-ghost use Rattle.title_tree.specs.Plots.{same_division, uniform, same_leaf, joined, is_tidy, tidied, tidied_at};
+ghost use Rattle.title_tree.specs.Plots.{same_division, uniform, same_leaf, joined, is_tidy, tidied, tidied_at, tidied_until};
 
 use crate::change::{Change, Fault};
-use crate::path::Path;
+use crate::path::{Path, rest_in};
 use core::mem::replace_with;
 use std::alloc::{AllocError, Global};
 use std::mem;
@@ -72,6 +72,33 @@ impl Tree {
                 Quarter::Southwest => four.southwest.exchange(rest, other),
                 Quarter::Southeast => four.southeast.exchange(rest, other),
             },
+        }
+    }
+
+    /// The same; then quarters that are leaves of one holding are joined, below the path and, on the way up, above it, but for the nodes
+    /// that the path `until` leads through. Takes no memory.
+    pub fn settle(&mut self, path: Path, until: Option<Path>, other: &mut Tree)
+        requires there { has_path path (plot self.old) ≡ true }
+        ensures tree { plot self.new ≡ tidied_until until path (graft path (plot other.old) (plot self.old)) }
+        ensures other { plot other.new ≡ plot_at path (plot self.old) }
+    {
+        let Some((first, rest)) = path.split() else {
+            mem::swap(other, self);
+            self.tidy();
+            return;
+        };
+        let below = rest_in(until, first);
+        match self {
+            Tree::Leaf(_) => unreachable!(),
+            Tree::Quarters(four) => match first {
+                Quarter::Northeast => four.northeast.settle(rest, below, other),
+                Quarter::Northwest => four.northwest.settle(rest, below, other),
+                Quarter::Southwest => four.southwest.settle(rest, below, other),
+                Quarter::Southeast => four.southeast.settle(rest, below, other),
+            },
+        }
+        if until.is_none() {
+            self.join();
         }
     }
 

@@ -13,7 +13,7 @@ use Rattle.title_land.specs.{Lands.{has, cover_of, is_in_plant, is_plant_cell}, 
 use Rattle.title_land.specs.Laws.{SameLand.{same_township-is, same_township-self, same_section-self}, Squares.{holds_from, has_corner}}
 use Rattle.title_store.specs.{Plants.{IsEachOnce}, Laws.SheetShows.{cover_apart}}
 use Rattle.title_tree.specs.{Paths.{way, begins}, CellWays.{cell_way}, Laws.CellSquares.{squares_by_paths, cell_ways_are_whole}}
-use Rattle.title_tree.specs.{Pieces.{Disjoint, Short}, Laws.Beginnings.{begins_on, begins_self, begins_whole}}
+use Rattle.title_tree.specs.{Pieces.{Disjoint, InOrder, Short}, Laws.Beginnings.{begins_on, begins_self, begins_whole}}
 use Rattle.title_tree.specs.Laws.{PathLists.{has_flat, has_from, disjoint_join}, Uniform.{corner, length-corner}}
 use Rattle.title_tree_store.specs.{Spots.{index_of, home_in, node_ways, tract_ways, ways_at, ways_in, IsHome}, declared.spots.Home.{Home}}
 use Rattle.title_land.specs.declared.node.Node.TheVariants as node
@@ -289,3 +289,32 @@ own_ways_apart _ = tt
 -- nor two of those that lie in a section
 pub tract_apart : (ts : List Township) (x : Land) (i j : ℕ) → Disjoint (ways_in ts x i j)
 tract_apart ts x i j = each_ways Disjoint (tract_ways x) (λ q i. absurd i, tt) tt (own_ways_apart x) (home_in ts x) i j
+
+-- ---- they stand in order
+
+way_before : (s : Section) (w : List Quarter) (m : Node) (q : List Quarter) → comes_before (node.Part s w) m ≡ true → In q (node_ways m)
+    → path_before (way w) q ≡ true
+way_before s w (node.Part u v) q h (inl e) =
+    ap (path_before (way w)) e ∙ (and_parts (same_section s u) (path_before (reverse w) (reverse v)) h).1
+way_before s w (node.Part u v) q h (inr i) = absurd i
+way_before s w node.Everything q h i = absurd i
+way_before s w (node.Township t) q h i = absurd i
+
+ways_in_order : (ns : List Node) → are_in_order ns ≡ true → InOrder (flat_map node_ways ns)
+ways_in_order [] order = tt
+ways_in_order (node.Part s w ∷ ns) order =
+    let k = and_parts (list_all (comes_before (node.Part s w)) ns) (are_in_order ns) order in (
+      λ q i. let y = in_flat_mapped node_ways ns q i in
+          way_before s w y.0 q (all_at (comes_before (node.Part s w)) ns y.0 k.0 y.1) y.2,
+      ways_in_order ns k.1,
+    )
+ways_in_order (node.Everything ∷ ns) order =
+    ways_in_order ns (and_parts (list_all (comes_before node.Everything) ns) (are_in_order ns) order).1
+ways_in_order (node.Township t ∷ ns) order =
+    ways_in_order ns (and_parts (list_all (comes_before (node.Township t)) ns) (are_in_order ns) order).1
+
+pub own_ways_in_order : (x : Land) → InOrder (tract_ways x)
+unfolding cover_of
+own_ways_in_order (land.Part s g) =
+    ways_in_order (cover_of depth (land.Part s g)) (cover_is_cover depth (land.Part s g)).order
+own_ways_in_order _ = tt

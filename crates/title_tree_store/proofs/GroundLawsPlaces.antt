@@ -3,7 +3,7 @@ use Rattle.std.proofs.Common.{◌≡◌, ◌≢◌, ◌∙◌, ap, refl, sym, su
 use Rattle.std.proofs.{Common.{List, [], ◌∷◌, ◌++◌, length, map, get_or, set, Option}, lemmas.List.{get_or-map}}
 use Rattle.std.specs.{Prelude.{◌==◌, None}, Option.{option_or}}
 use Rattle.std.proofs.lemmas.Bool.{cases_Bool, cond-true, and_from, eqb-true, eqb-false, eq-eqb}
-use Rattle.title_tree.specs.{declared.change.Fault.{Fault}, Faults.{Tells}, Plots.{Plot}, Pieces.{Piece, Disjoint, Ready, paths}}
+use Rattle.title_tree.specs.{declared.change.Fault.{Fault}, Faults.{Tells}, Plots.{Plot}, Pieces.{Piece, Disjoint, InOrder, Ready, paths}}
 use Rattle.title_tree_store.specs.{declared.{ground.Ground.{Ground}, spots.Home.{Home}, forest.Parts.{Parts}}, Spots.{IsHome}}
 use Rattle.title_land.specs.declared.rectangle.Quarter.{Quarter}
 use Rattle.title_tree.specs.Laws.Adding.{stays_refines, stays_within, stays_elsewhere}
@@ -49,17 +49,29 @@ module _ (gs : List Ground) (t : ℕ) (old new : Ground) (below : t < length gs)
       (λ (b : Bool) (j : ℕ). j < 36 → R (cond b xs []) (stands old j) (stands new j)) (λ _. here)
       (λ j ne within. others j within (λ e. ne (sym e))) j) there i j lt within)
 
--- the pieces that lie in a section are those that go there
+-- the pieces that lie in a section
+squares_here : (h : Home) (x : Parts) (t n : ℕ) → h ≡ home.Section n t → parts_at h x t n ≡ squares_in x
+squares_here h x t n is =
+    ap (λ (k : Home). parts_at k x t n) is
+    ∙ cond-true (t == t && n == n) (squares_in x) [] (and_from (t == t) (n == n) (eq-eqb t t refl) (eq-eqb n n refl))
+
+-- they are those that go there
 pub goes_here : (gs : List Ground) (h : Home) (x : Parts) (t n : ℕ) (old : Ground) → h ≡ home.Section n t → IsHome (length gs) h
     → old ≡ get_or gs t old
     → Everywhere (length gs) (λ i j. Disjoint (paths (parts_at h x i j)) × Ready (paths (parts_at h x i j)) (plot_in gs i j))
     → Disjoint (paths (squares_in x)) × Ready (paths (squares_in x)) (stands old n)
 goes_here gs h x t n old is there at goes =
     let below = rw is at there in
-    let mine = ap (λ (k : Home). parts_at k x t n) is
-    ∙ cond-true (t == t && n == n) (squares_in x) [] (and_from (t == t) (n == n) (eq-eqb t t refl) (eq-eqb n n refl)) in
+    let mine = squares_here h x t n is in
     subst (λ (u : Plot). Disjoint (paths (squares_in x)) × Ready (paths (squares_in x)) u) (was_here gs t old old below.0 at n)
     (subst (λ (xs : List Piece). Disjoint (paths xs) × Ready (paths xs) (plot_in gs t n)) mine (goes t n below.0 below.1))
+
+-- and stand in order where those do
+pub order_here : (gs : List Ground) (h : Home) (x : Parts) (t n : ℕ) → h ≡ home.Section n t → IsHome (length gs) h
+    → Everywhere (length gs) (λ i j. InOrder (paths (parts_at h x i j))) → InOrder (paths (squares_in x))
+order_here gs h x t n is there order =
+    let below = rw is at there in
+    subst (λ (xs : List Piece). InOrder (paths xs)) (squares_here h x t n is) (order t n below.0 below.1)
 
 -- ---- what stays as it is
 

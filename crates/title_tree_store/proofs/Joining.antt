@@ -1,6 +1,8 @@
 -- Where the trees of a store are joined, through each of its operations.
-use Rattle.std.proofs.Common.{◌≡◌, ◌∙◌, ap, sym, refl, subst, ℕ, suc, ◌<◌, arith, Bool, true, false, ◌&&◌, not, inl, inr, List, [], ◌∷◌}
-use Rattle.std.proofs.{Common.{◌++◌, length, map, append-nil}, lemmas.{Bool.{false_from_ne_true}, List.{length-map, get_or_default}}}
+use Rattle.std.proofs.Common.{◌≡◌, ◌∙◌, ap, sym, refl, subst, ℕ, zero, suc, ◌<◌, arith, Bool, true, false, ◌&&◌, not, inl, inr, List}
+use Rattle.std.proofs.Common.{[], ◌∷◌}
+use Rattle.std.proofs.Common.{◌++◌, length, map, get_or, append-nil}
+use Rattle.std.proofs.lemmas.{Bool.{false_from_ne_true}, List.{length-map, get_or_default}}
 use Rattle.std.proofs.lemmas.Bool.{not_from_false, and_from, and_parts, cases_Bool, or_parts, or_left, or_right, both_ways}
 use Rattle.std.{proofs.lemmas.List.Sums.{list_all-from_AllPass}, specs.{List.{list_any, list_all}, Global.{Vec}}}
 use Rattle.title_share.specs.Division.{all_to}
@@ -13,7 +15,8 @@ use Rattle.title_tree.specs.Laws.Joined.{elsewhere_split_all, elsewhere_swapped,
 use Rattle.title_tree_store.specs.declared.{forest.{Forest.{Forest}, Subtrees.{Subtrees}, Written.{Written}}, lent.Lent.{Lent}}
 use Rattle.title_tree_store.specs.{declared.{spots.Home.{Home}, ground.Ground.{Ground, TheVariants.{Whole, Parted}}}, Grounds.{closable_in}}
 use Rattle.title_tree_store.specs.Grounds.{Everywhere, nothing, stands, section_plots, are_one, is_closable, ground_tidy, plot_in}
-use Rattle.title_tree_store.specs.Forests.{put_ways, written, writes, was_written, are_joined, AreTidied, named_ways, IsNoted, IsQuartered}
+use Rattle.title_tree_store.specs.Forests.{put_ways, written, writes, was_written, are_joined, AreTidied, named_ways, IsNoted}
+use Rattle.title_tree_store.specs.Forests.{IsQuartered, IsTidy}
 use Rattle.title_tree_store.specs.{Forests.{IsExchanged, grounds, plots, pieces, parts_of, is_some_part}, Spots.{home_in, ways_in, reaches}}
 use Rattle.title_tree_store.{specs.Keeping.{IsTakenOut, lent_pieces, AreJoined}, proofs.{Contents.{everywhere}, Keeps.{left_in, out_in}}}
 use Rattle.title_tree_store.proofs.{Contents.{each}, Images.{pushed}, Puts.{IsPut, IsDone, put_paths}, Steps.{apart_noted, was_noted}}
@@ -34,16 +37,46 @@ all_tidy [] tidy closed = refl
 all_tidy (g ∷ gs) tidy closed = and_from (ground_tidy g) (list_all ground_tidy gs) (one_tidy g (λ j b. tidy 0 j (omega arith) b) (closed 0))
     (all_tidy gs (λ i j a b. tidy (suc i) j (omega (arith, a)) b) (λ i. closed (suc i)))
 
--- nothing is to be joined
-pub record IsTidy (f : Forest) : Type 0 where
-  pub tidy : (e : Estate) → Everywhere (length (grounds f e)) (λ i j. is_tidy (plots f e i j) ≡ true)
-  pub closed : (e : Estate) (i : ℕ) → closable_in (grounds f e) i ≡ false
-
 pub all_joined : (f : Forest) → IsTidy f → are_joined f ≡ true
 all_joined f h = and_from (list_all ground_tidy f.s.items) (list_all ground_tidy f.o.items && list_all ground_tidy f.m.items)
     (all_tidy f.s.items (h.tidy S) (h.closed S))
     (and_from (list_all ground_tidy f.o.items) (list_all ground_tidy f.m.items)
     (all_tidy f.o.items (h.tidy O) (h.closed O)) (all_tidy f.m.items (h.tidy M) (h.closed M)))
+
+tidy_in : (xs : List Plot) → list_all is_tidy xs ≡ true → (j : ℕ) → is_tidy (get_or xs j nothing) ≡ true
+tidy_in [] h j = refl
+tidy_in (x ∷ xs) h zero = (and_parts (is_tidy x) (list_all is_tidy xs) h).0
+tidy_in (x ∷ xs) h (suc j) = tidy_in xs (and_parts (is_tidy x) (list_all is_tidy xs) h).1 j
+
+false_from_not : (b : Bool) → not b ≡ true → b ≡ false
+false_from_not true h = absurd cc
+false_from_not false h = refl
+
+tidy_sections : (g : Ground) → ground_tidy g ≡ true → ((j : ℕ) → is_tidy (stands g j) ≡ true) × (is_closable g ≡ false)
+tidy_sections (Whole tree) h = (λ j. h, refl)
+tidy_sections (Parted x) h =
+    let k = and_parts (list_all is_tidy (section_plots x)) (not (are_one (section_plots x))) h in
+    (tidy_in (section_plots x) k.0, false_from_not (are_one (section_plots x)) k.1)
+
+tidy_plots : (gs : List Ground) → list_all ground_tidy gs ≡ true → Everywhere (length gs) (λ i j. is_tidy (plot_in gs i j) ≡ true)
+tidy_plots [] h i j a b = absurd (omega (arith, a))
+tidy_plots (g ∷ gs) h zero j a b = (tidy_sections g (and_parts (ground_tidy g) (list_all ground_tidy gs) h).0).0 j
+tidy_plots (g ∷ gs) h (suc i) j a b = tidy_plots gs (and_parts (ground_tidy g) (list_all ground_tidy gs) h).1 i j (omega (arith, a)) b
+
+tidy_closed : (gs : List Ground) → list_all ground_tidy gs ≡ true → (i : ℕ) → closable_in gs i ≡ false
+tidy_closed [] h i = refl
+tidy_closed (g ∷ gs) h zero = (tidy_sections g (and_parts (ground_tidy g) (list_all ground_tidy gs) h).0).1
+tidy_closed (g ∷ gs) h (suc i) = tidy_closed gs (and_parts (ground_tidy g) (list_all ground_tidy gs) h).1 i
+
+-- where the test of all says so, each is
+pub from_joined : (f : Forest) → are_joined f ≡ true → IsTidy f
+from_joined f h =
+    let k = and_parts (list_all ground_tidy f.s.items) (list_all ground_tidy f.o.items && list_all ground_tidy f.m.items) h in
+    let l = and_parts (list_all ground_tidy f.o.items) (list_all ground_tidy f.m.items) k.1 in
+    record {
+      tidy = each (record { s = tidy_plots f.s.items k.0; o = tidy_plots f.o.items l.0; m = tidy_plots f.m.items l.1 });
+      closed = each (record { s = tidy_closed f.s.items k.0; o = tidy_closed f.o.items l.0; m = tidy_closed f.m.items l.1 });
+    }
 
 -- where no image is out
 pub joined_none : (ts : List Township) (f : Forest) (lent : List Lent) → lent ≡ [] → IsTidy f → AreJoined ts f lent

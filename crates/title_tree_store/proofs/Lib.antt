@@ -19,3 +19,4 @@ pub mod Tidying
 pub mod Crossing
 pub mod Stopped
 pub mod Alone
+pub mod Settling

@@ -21,10 +21,10 @@ use Rattle.title_tree_store.{specs.{Grounds.{Everywhere, parted_in, closable_in}
 use Rattle.title_tree_store.specs.Spots.{index_of, ways_in, home_in, tract_ways, is_in_township, reaches}
 use Rattle.title_tree_store.proofs.Steps.{named_or, not_reached}
 use Rattle.title_tree_store.specs.Forests.{grounds, plots, parts_of, named_ways, wants, brings, is_some_part, AreAll, IsChange, HasNote}
-use Rattle.title_tree_store.specs.Forests.{IsMade, IsQuartered, IsExchanged}
+use Rattle.title_tree_store.specs.Forests.{IsMade, IsQuartered, IsExchanged, IsSettled, refusal_in}
 use Rattle.title_tree_store.specs.Keeping.{content_of, lending, lies_in, held_before, loan_of, loans_of, same_ways, is_whole, PiecesFit}
 use Rattle.title_tree_store.proofs.CellPaths.{cell_at, tract_has, tract_has_at, tract_short, tract_apart, is_there, section_below}
-use Rattle.title_tree_store.proofs.Keeps.{same_ways-self, fits_swapped, some_township, wants_parts, in_township_below}
+use Rattle.title_tree_store.proofs.Keeps.{same_ways-self, kept_none, fits_swapped, some_township, wants_parts, in_township_below}
 use Rattle.title_tree_store.{specs.Refusing.{why_cell, first_in, triple}, proofs.Contents.{at_cell, each, everywhere, now}}
 use Rattle.title_tree_store.proofs.Contents.{owners, owners_same, cond_same, content_changes, in_township, in_section, in_square}
 use Rattle.title_tree_store.proofs.{Images.{pushed}, Loans.{was, among_lent, loans_push}}
@@ -169,6 +169,80 @@ module _ {ts : List Township} {old : Forest} {lent : List Lent} {n : ℕ} (kept 
   below : (y : Lent) → In y lent → y.number < n
   below y m = (kept.keeps S 0 0 (some_township ts x of) (omega arith)).below (lending ts S 0 0 y) (in_map (lending ts S 0 0) y lent m)
 
+  -- where no leaf refuses, and each cell of the paths has changed
+  module _ (new : Estate → ℕ → ℕ → Plot)
+      (none : (e : Estate) → Everywhere (length ts) (λ a b. refusal_in i e (ways_in ts x a b) (plots old e a b) ≡ None))
+      (at : (e : Estate) → Everywhere (length ts) (λ a b. (p : List Quarter) → length p ≡ depth → value_at (new e a b) p
+      ≡ cond (pieces.has (ways e a b) p) (change e (value_at (plots old e a b) p)) (value_at (plots old e a b) p))) where
+    -- ---- no cell refuses
+
+    cell_none : (c : Cell) → is_cell_of depth ts x c ≡ true → (e : Estate) → why_of (holding_effect i e (now ts (plots old) c e)) ≡ None
+    cell_none c h e =
+        let k = and_parts (has x c) (is_plant_cell depth ts c) h in
+        let here = ways_in ts x (in_township ts c) (in_section c) in
+        let there = plots old e (in_township ts c) (in_section c) in
+        named_or (λ qs. refusal_at (holding_effect i e) qs there ≡ None → why_of (holding_effect i e (value_at there (in_square c))) ≡ None)
+        i e here (λ g. none_refuses_at (holding_effect i e) here there g (in_square c) (tract_has ts x c of k.1 ∙ k.0))
+        (λ none g. ap why_of (holding_unnamed i e (value_at there (in_square c)) none))
+        (at_cell ts c (none e) k.1)
+
+    cell_done : (c : Cell) → is_cell_of depth ts x c ≡ true → cell_effect i (content_of ts (plots old) c)
+        ≡ Done (owners (λ e. change e (now ts (plots old) c e)))
+    unfolding cell_effect
+    cell_done c h =
+        let ok = λ (e : Estate). ok_from (holding_effect i e (now ts (plots old) c e)) (now ts (plots old) c e) (cell_none c h e) in
+        ap (cell_effect i) (content_plant ts (plots old) c (and_parts (has x c) (is_plant_cell depth ts c) h).1)
+        ∙ (λ k. joined (ok S k) (ok O k) (ok M k))
+
+    none_failing : (cells : List Cell) → ((c : Cell) → In c cells → is_cell_of depth ts x c ≡ true)
+        → first_failing i (content_of ts (plots old)) cells ≡ None
+    none_failing [] f = refl
+    none_failing (c ∷ cells) f =
+        ap (λ (y : Effect). failing_or c y (first_failing i (content_of ts (plots old)) cells)) (cell_done c (f c (inl refl)))
+        ∙ none_failing cells (λ z j. f z (inr j))
+
+    pub none_refuses : refused_in depth ts i (content_of ts (plots old)) x ≡ None
+    unfolding refused_in
+    none_refuses = ap (refusal_of depth x) (none_failing (cells_of depth ts x) (λ c j. of_cells ts x c j))
+
+    -- the plant then
+    pub shows : (c : Cell) → content_of ts new c ≡ plant_effect depth ts i (content_of ts (plots old)) x c
+    unfolding plant_effect
+    shows c = content_changes ts x (plots old) new (λ y e. change e (now ts (plots old) y e)) value c
+        ∙ cond_same (is_cell_of depth ts x c) _ _ (content_of ts (plots old) c)
+        (λ h. sym (ap (done_or (content_of ts (plots old) c)) (cell_done c h)))
+        ∙ sym (ap (λ (o : Option _). cond (is_some o) (content_of ts (plots old) c)
+        (cond (is_cell_of depth ts x c) (done_or (content_of ts (plots old) c) (cell_effect i (content_of ts (plots old) c)))
+        (content_of ts (plots old) c))) none_refuses)
+      where
+        value : (y : Cell) → is_plant_cell depth ts y ≡ true → (e : Estate) → now ts new y e
+            ≡ cond (has x y) (change e (now ts (plots old) y e)) (now ts (plots old) y e)
+        value y plant e = at_cell ts y (at e) plant (in_square y) (cell_ways_are_whole depth y.row y.column)
+            ∙ named_value i e (ways_in ts x (in_township ts y) (in_section y)) (in_square y) (now ts (plots old) y e)
+            ∙ ap (λ (b : Bool). cond b (change e (now ts (plots old) y e)) (now ts (plots old) y e)) (tract_has ts x y of plant)
+
+  -- a post alone, of which what was put in is joined at once
+  module _ (new : Forest) (sized : (e : Estate) → length (grounds new e) ≡ length (grounds old e))
+      (settled : (e : Estate) → Everywhere (length ts) (λ a b. IsSettled i e (ways_in ts x a b) (plots old e a b) (plots new e a b))) where
+    settled_at : (e : Estate) → Everywhere (length ts) (λ a b. (p : List Quarter) → length p ≡ depth → value_at (plots new e a b) p
+        ≡ cond (pieces.has (ways e a b) p) (change e (value_at (plots old e a b) p)) (value_at (plots old e a b) p))
+    settled_at e a b c d p long = (settled e a b c d).tidied.content p
+        ∙ put_content (change e) (ways e a b) (plots old e a b) p (apart ts x i e a b) (subst (Short (ways e a b)) (sym long) (short e a b))
+
+    pub none_settled : refused_in depth ts i (content_of ts (plots old)) x ≡ None
+    none_settled = none_refuses (plots new) (λ e a b c d. (settled e a b c d).none) settled_at
+
+    pub settled_shows : (c : Cell) → content_of ts (plots new) c ≡ plant_effect depth ts i (content_of ts (plots old)) x c
+    settled_shows = shows (plots new) (λ e a b c d. (settled e a b c d).none) settled_at
+
+    pub kept_settled : lent ≡ [] → IsKept ts new lent n
+    kept_settled none = subst (λ (z : List Lent). IsKept ts new z n) (sym none) (kept_none n (λ e. sized e ∙ kept.sized e)
+        (λ e a b c d. (settled e a b c d).tidied.within depth (fits_swapped depth (fresh (change e) (ways e a b) (plots old e a b))
+        (split_all (ways e a b) (plots old e a b))
+        (subst (λ (z : List (List Quarter)). Short z depth) (sym (paths_fresh (change e) (ways e a b) (plots old e a b))) (short e a b))
+        (fresh_fit depth (change e) (ways e a b) (plots old e a b) (kept.fit e a b c d))
+        (split_all_fits (ways e a b) (plots old e a b) depth (short e a b) (kept.fit e a b c d))).0))
+
   module _ {new : Forest} {trees : Subtrees} (done : IsDone ts x i old new trees) where
     abbrev image : Lent
     image = record { number = n; land = x; trees = trees }
@@ -231,37 +305,6 @@ module _ {ts : List Township} {old : Forest} {lent : List Lent} {n : ℕ} (kept 
           (λ less w. let f = at_most z o in absurd (omega (arith, f, less))) x m;
     }
 
-    -- ---- no cell refuses
-
-    cell_none : (c : Cell) → is_cell_of depth ts x c ≡ true → (e : Estate) → why_of (holding_effect i e (now ts (plots old) c e)) ≡ None
-    cell_none c h e =
-        let k = and_parts (has x c) (is_plant_cell depth ts c) h in
-        let here = ways_in ts x (in_township ts c) (in_section c) in
-        let there = plots old e (in_township ts c) (in_section c) in
-        named_or (λ qs. refusal_at (holding_effect i e) qs there ≡ None → why_of (holding_effect i e (value_at there (in_square c))) ≡ None)
-        i e here (λ g. none_refuses_at (holding_effect i e) here there g (in_square c) (tract_has ts x c of k.1 ∙ k.0))
-        (λ none g. ap why_of (holding_unnamed i e (value_at there (in_square c)) none))
-        (at_cell ts c (done.put e) k.1).made.0
-
-    cell_done : (c : Cell) → is_cell_of depth ts x c ≡ true → cell_effect i (content_of ts (plots old) c)
-        ≡ Done (owners (λ e. change e (now ts (plots old) c e)))
-    unfolding cell_effect
-    cell_done c h =
-        let ok = λ (e : Estate). ok_from (holding_effect i e (now ts (plots old) c e)) (now ts (plots old) c e) (cell_none c h e) in
-        ap (cell_effect i) (content_plant ts (plots old) c (and_parts (has x c) (is_plant_cell depth ts c) h).1)
-        ∙ (λ k. joined (ok S k) (ok O k) (ok M k))
-
-    none_failing : (cells : List Cell) → ((c : Cell) → In c cells → is_cell_of depth ts x c ≡ true)
-        → first_failing i (content_of ts (plots old)) cells ≡ None
-    none_failing [] f = refl
-    none_failing (c ∷ cells) f =
-        ap (λ (y : Effect). failing_or c y (first_failing i (content_of ts (plots old)) cells)) (cell_done c (f c (inl refl)))
-        ∙ none_failing cells (λ z j. f z (inr j))
-
-    pub refused_none : refused_in depth ts i (content_of ts (plots old)) x ≡ None
-    unfolding refused_in
-    refused_none = ap (refusal_of depth x) (none_failing (cells_of depth ts x) (λ c j. of_cells ts x c j))
-
     -- ---- what the cells have
 
     -- what a cell has after a put, by the paths of the estate
@@ -272,21 +315,11 @@ module _ {ts : List Township} {old : Forest} {lent : List Lent} {n : ℕ} (kept 
         rw (k.exchanged, k.made.1, k.split) (put_content (change e) (ways e a b) (plots old e a b) p (apart ts x i e a b)
         (subst (Short (ways e a b)) (sym long) (short e a b)))
 
-    -- the plant after a put
+    pub refused_none : refused_in depth ts i (content_of ts (plots old)) x ≡ None
+    refused_none = none_refuses (plots new) (λ e a b c d. (done.put e a b c d).made.0) put_at
+
     pub put_shows : (c : Cell) → content_of ts (plots new) c ≡ plant_effect depth ts i (content_of ts (plots old)) x c
-    unfolding plant_effect
-    put_shows c = content_changes ts x (plots old) (plots new) (λ y e. change e (now ts (plots old) y e)) value c
-        ∙ cond_same (is_cell_of depth ts x c) _ _ (content_of ts (plots old) c)
-        (λ h. sym (ap (done_or (content_of ts (plots old) c)) (cell_done c h)))
-        ∙ sym (ap (λ (o : Option _). cond (is_some o) (content_of ts (plots old) c)
-        (cond (is_cell_of depth ts x c) (done_or (content_of ts (plots old) c) (cell_effect i (content_of ts (plots old) c)))
-        (content_of ts (plots old) c))) refused_none)
-      where
-        value : (y : Cell) → is_plant_cell depth ts y ≡ true → (e : Estate) → now ts (plots new) y e
-            ≡ cond (has x y) (change e (now ts (plots old) y e)) (now ts (plots old) y e)
-        value y plant e = at_cell ts y (put_at e) plant (in_square y) (cell_ways_are_whole depth y.row y.column)
-            ∙ named_value i e (ways_in ts x (in_township ts y) (in_section y)) (in_square y) (now ts (plots old) y e)
-            ∙ ap (λ (b : Bool). cond b (change e (now ts (plots old) y e)) (now ts (plots old) y e)) (tract_has ts x y of plant)
+    put_shows = shows (plots new) (λ e a b c d. (done.put e a b c d).made.0) put_at
 
     -- what a cell held before a put is what the image has of it, or what the cell still holds
     before_put : (e : Estate) → Everywhere (length ts) (λ a b. (p : List Quarter) → length p ≡ depth

@@ -5,8 +5,8 @@ use Rattle.std.specs.{Prelude.{All}, List.{list_any, list_all}}
 use Rattle.title_land.specs.declared.rectangle.Quarter.{Quarter}
 use Rattle.title_instrument.specs.declared.{parts.{Estate.{Estate, TheVariants.{S, O, M}}, Rule.{Rule}}, instrument.Instrument.{Instrument}}
 use Rattle.title_instrument.specs.{declared.owners.Owners.{Owners}, Effect.{holding_effect}, Estates.{names}, Parties.{estates_of}}
-use Rattle.title_tree.specs.{Changes.{after}, Plots.{Plot, value_at}, Parts.{piece}}
-use Rattle.title_tree.specs.Pieces.{Piece, fresh, refusal_at, split_all, swapped, taken}
+use Rattle.title_tree.specs.{Changes.{after}, Plots.{Plot, value_at, is_tidy}, Parts.{piece}}
+use Rattle.title_tree.specs.Pieces.{Piece, Disjoint, InOrder, Ready, StaysWithin, paths, fresh, refusal_at, split_all, swapped, taken}
 use Rattle.title_tree_store.specs.declared.{forest.{Forest.{Forest}, Subtrees.{Subtrees}}, ground.Ground.{Ground}, spots.Home.{Home}}
 use Rattle.title_tree_store.specs.declared.forest.{Parts.{Parts}, Written.{Written}}
 use Rattle.title_tree_store.specs.Grounds.{stands, is_parted, ground_tidy, plot_in, parted_in, closable_in, Everywhere}
@@ -188,3 +188,29 @@ pub record IsLeft (old new : Forest) : Type 0 where
 -- they are, or nothing changed
 abbrev pub IsNoted : Instrument ℕ → Home → List (List Quarter) → Forest → Forest → Type 0
 IsNoted x h ps old new = HasNote x h ps old new ⊎ IsLeft old new
+
+-- nothing is to be joined
+pub record IsTidy (f : Forest) : Type 0 where
+  pub tidy : (e : Estate) → Everywhere (length (grounds f e)) (λ i j. is_tidy (plots f e i j) ≡ true)
+  pub closed : (e : Estate) (i : ℕ) → closable_in (grounds f e) i ≡ false
+
+-- parts that a put made of an estate, each of which may change places with what stands where it lies
+pub record IsMadeFor (put : Written) (e : Estate) (x : Parts) (gs : List Ground) : Type 0 where
+  pub all : AreAll (length gs) x
+  pub wanted : (i : ℕ) → wants put.home x i ≡ true → parted_in gs i ≡ true
+  pub goes : Everywhere (length gs) (λ i j. Disjoint (paths (parts_at put.home x i j))
+      × Ready (paths (parts_at put.home x i j)) (plot_in gs i j))
+  pub own : Everywhere (length gs) (λ i j. paths (parts_at put.home x i j) ≡ put_ways e i j put)
+  pub order : Everywhere (length gs) (λ i j. InOrder (paths (parts_at put.home x i j)))
+  pub named : is_some_part x ≡ true → names put.estates e ≡ true
+
+-- an instrument was put in for good: no leaf refuses it, and a section is what it would be with what was made at the paths, joined
+pub record IsSettled (x : Instrument ℕ) (e : Estate) (ps : List (List Quarter)) (t u : Plot) : Type 0 where
+  pub none : refusal_in x e ps t ≡ None
+  pub tidied : IsTidied (named_ways x e ps ∷ []) (swapped (fresh (after (holding_effect x e)) (named_ways x e ps) t)
+      (split_all (named_ways x e ps) t)) u
+
+-- what was quartered down to the paths, in whole or in part, and joined again: the same content, and no node that is deeper
+pub record IsRejoined (ps : List (List Quarter)) (t u : Plot) : Type 0 where
+  pub content : (c : List Quarter) → value_at u c ≡ value_at t c
+  pub within : StaysWithin ps t u

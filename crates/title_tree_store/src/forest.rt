@@ -4,14 +4,15 @@ ghost use Rattle.std.specs.Prelude.{◌≡◌, ◌≢◌, ℕ, ◌<◌, ◌≤�
 ghost use Rattle.std.specs.{Prelude.{OnErr, IfErr}, List.{list_all, list_any}};
 ghost use Rattle.title_share.specs.Division.{all_to};
 ghost use Rattle.title_instrument.specs.{Effect.{holding_effect}, Estates.{names}, Parties.{estates_of}};
-ghost use Rattle.title_tree.specs.{Changes.{after}, Faults.{Tells}, Pieces.{swapped, taken}, Trees.{plot}};
-ghost use Rattle.title_tree.specs.Pieces.{fresh, refusal_at, split_all, Disjoint, Ready, Refines, StaysWithin, StaysElsewhere, paths};
+ghost use Rattle.title_tree.specs.{Changes.{after}, Faults.{Tells}, Pieces.{paths, swapped, taken}, Trees.{plot}};
+ghost use Rattle.title_tree.specs.Pieces.{fresh, refusal_at, split_all, Disjoint, InOrder, Ready, Refines, StaysWithin, StaysElsewhere};
 ghost use Rattle.title_tree.specs.Plots.{Same, changed, first_refusal, tidied};
 ghost use Rattle.title_tree_store.specs.Grounds.{is_parted, stands, ground_tidy, plot_in, parted_in, closable_in, Everywhere, IsTidied};
 ghost use Rattle.title_tree_store.specs.Grounds.{AreSplit, AreUntouched, IsUntouched};
 ghost use Rattle.title_tree_store.specs.{Grounds.{TellsSomewhere}, Spots.{paths_in, ways_at, is_in_township, reaches, IsHome}};
 ghost use Rattle.title_tree_store.specs.Forests.{Each, IsChange, IsExchanged, AreAll, AreHomes, IsMade, IsQuartered, HasNote};
 ghost use Rattle.title_tree_store.specs.Forests.{grounds, plots, pieces, parts_of, parts_at, squares_in, are_squares, is_some_part};
+ghost use Rattle.title_tree_store.specs.Forests.{IsTidy, IsMadeFor, IsSettled, IsRejoined};
 ghost use Rattle.title_tree_store.specs.Forests.{IsNoted, AreTidied, wants, brings, named_ways, refusal_in, writes, put_ways, are_joined};
 
 use crate::ground::Ground;
@@ -99,6 +100,36 @@ impl Parts {
                 _ => {}
             },
         }
+    }
+}
+
+impl Parts {
+    // The same; then what can be joined there is: parts of a section on the way down to their paths and up again.
+    #[tactic(auto, using(crate::proofs::GroundLawsPlaces::township_tests))]
+    fn settle(&mut self, grounds: &mut Vec<Ground>, put: &Written, estate: Estate)
+        requires there { IsHome (length grounds.old.items) put.now.home }
+        requires made { IsMadeFor put.now estate self.old grounds.old.items }
+        ensures tidied { Everywhere (length grounds.old.items) (λ i j. IsTidied (put_ways estate i j put.now ∷ [])
+            (swapped (parts_at put.now.home self.old i j) (plot_in grounds.old.items i j)) (plot_in grounds.new.items i j)) }
+        ensures closed { (i : ℕ) → writes estate i put.now ≡ true → closable_in grounds.new.items i ≡ false }
+        ensures others { (i : ℕ) → writes estate i put.now ≡ false → closable_in grounds.new.items i ≡ closable_in grounds.old.items i }
+        ensures sized { length grounds.new.items ≡ length grounds.old.items }
+    {
+        if let Home::Section(index, township) = put.home {
+            match self {
+                Parts::One(part) => {
+                    grounds[township as usize].settle(index as usize, part);
+                    return;
+                }
+                Parts::Many(parts) => {
+                    grounds[township as usize].settle_all(index as usize, parts);
+                    return;
+                }
+                _ => {}
+            }
+        }
+        self.exchange(grounds, put.home);
+        tidy_put(grounds, put, estate);
     }
 }
 
@@ -472,6 +503,71 @@ impl Forest {
         made
     }
 
+    // Joins quarters below and above each path of a put, and sections, in the estates that it wrote. Takes no memory.
+    fn tidy_after(&mut self, put: &Written)
+        requires there { Each (λ e. IsHome (length (grounds self.old e)) put.now.home) }
+        ensures tidied { Each (λ e. Everywhere (length (grounds self.old e)) (λ i j. IsTidied (put_ways e i j put.now ∷ [])
+            (plots self.old e i j) (plots self.new e i j))) }
+        ensures closed { Each (λ e. (i : ℕ) → writes e i put.now ≡ true → closable_in (grounds self.new e) i ≡ false) }
+        ensures others { Each (λ e. (i : ℕ) → writes e i put.now ≡ false
+            → closable_in (grounds self.new e) i ≡ closable_in (grounds self.old e) i) }
+        ensures sized { Each (λ e. length (grounds self.new e) ≡ length (grounds self.old e)) }
+        ensures written { self.new.written ≡ self.old.written }
+    {
+        tidy_put(&mut self.s, put, Estate::S);
+        tidy_put(&mut self.o, put, Estate::O);
+        tidy_put(&mut self.m, put, Estate::M);
+    }
+
+    /// An instrument is put in for good: what stands somewhere after it takes the place of what stood there, and what can be joined is.
+    /// Refused by a rule of some leaf. After `Err` no cell has changed, and what was quartered is joined.
+    #[inline(always)]
+    pub(crate) fn put_alone(
+        &mut self,
+        alloc: Global,
+        home: Home,
+        paths: Paths,
+        instrument: &Instrument,
+    ) -> Result<(), Fault<Rule>>
+        requires there { Each (λ e. IsHome (length (grounds self.old e)) home) }
+        requires disjoint { Disjoint (paths_in paths) }
+        requires order { InOrder (paths_in paths) }
+        requires tidy { IsTidy self.old }
+        ensures settled { OnOk result (Each (λ e. Everywhere (length (grounds self.old e)) (λ i j. IsSettled instrument.now e
+            (ways_at home (paths_in paths) i j) (plots self.old e i j) (plots self.new e i j)))) }
+        ensures stopped { OnErr result (Each (λ e. Everywhere (length (grounds self.old e)) (λ i j. IsRejoined
+            (ways_at home (paths_in paths) i j) (plots self.old e i j) (plots self.new e i j)))) }
+        ensures why { IfErr result (λ f. (e : Estate) × TellsSomewhere f (length (grounds self.old e)) (λ i j. refusal_in instrument.now e
+            (ways_at home (paths_in paths) i j) (plots self.old e i j))) }
+        ensures tidy { IsTidy self.new }
+        ensures sized { Each (λ e. length (grounds self.new e) ≡ length (grounds self.old e)) }
+        ensures written { self.new.written ≡ self.old.written }
+    {
+        let put = Written {
+            home,
+            estates: instrument.estates(),
+            paths,
+        };
+        let mut making = Making {
+            last: None,
+            quartered: false,
+        };
+        match self.made(alloc, home, put.paths.as_slice(), instrument, &mut making) {
+            Ok(mut parts) => {
+                parts.s.settle(&mut self.s, &put, Estate::S);
+                parts.o.settle(&mut self.o, &put, Estate::O);
+                parts.m.settle(&mut self.m, &put, Estate::M);
+                Ok(())
+            }
+            Err(fault) => {
+                if making.quartered {
+                    self.tidy_after(&put);
+                }
+                Err(fault)
+            }
+        }
+    }
+
     /// Whether no tree could be joined to fewer nodes.
     pub(crate) fn is_tidy(&self) -> bool
         ensures tidy { result ≡ are_joined self.now }
@@ -486,6 +582,9 @@ impl Forest {
         ensures tidied { Each (λ e. AreTidied e self.old.written.items (grounds self.old e) (grounds self.new e)) }
         ensures written { self.new.written.items ≡ [] }
     {
+        if self.written.is_empty() {
+            return;
+        }
         tidy_written(&mut self.s, &self.written, Estate::S);
         tidy_written(&mut self.o, &self.written, Estate::O);
         tidy_written(&mut self.m, &self.written, Estate::M);

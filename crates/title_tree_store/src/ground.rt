@@ -4,9 +4,9 @@ ghost use Rattle.std.specs.Prelude.{◌≡◌, ◌≢◌, ℕ, ◌<◌, ◌++◌
 ghost use Rattle.std.specs.Prelude.{replicate};
 ghost use Rattle.std.specs.{List.{list_all}, Option.{option_map}};
 ghost use Rattle.title_tree.specs.{Changes.{after}, Faults.{Tells}, Parts.{piece}, Trees.{plot}};
-ghost use Rattle.title_tree.specs.Plots.{changed, first_refusal, graft, has_path, is_tidy, plot_at, split, tidied, tidied_all};
-ghost use Rattle.title_tree.specs.Pieces.{Disjoint, Ready, Refines, StaysElsewhere, StaysWithin, fresh, paths, refusal_at, split_all};
-ghost use Rattle.title_tree.specs.Pieces.{swapped, taken};
+ghost use Rattle.title_tree.specs.Plots.{changed, first_refusal, graft, has_path, is_tidy, plot_at, split, tidied, tidied_all, tidied_at};
+ghost use Rattle.title_tree.specs.Pieces.{Disjoint, InOrder, Ready, Refines, StaysElsewhere, StaysWithin, fresh, paths, refusal_at};
+ghost use Rattle.title_tree.specs.Pieces.{split_all, swapped, taken};
 ghost use Rattle.title_tree_store.specs.Grounds.{nothing, stands, is_parted, is_closable, uniform_all, ground_uniform};
 ghost use Rattle.title_tree_store.specs.Grounds.{are_one, ground_tidy, IsTidied, IsUntouched};
 
@@ -14,7 +14,9 @@ use crate::sections::Sections;
 use core::mem::replace_with;
 use std::alloc::{AllocError, Global};
 use title_share::Holding;
-use title_tree::{Change, Fault, Part, Path, Tree, add_changed, exchange_all, is_same, tidy_all};
+use title_tree::{
+    Change, Fault, Part, Path, Tree, add_changed, exchange_all, is_same, settle_all, tidy_all,
+};
 
 /// A township of one estate: one tree stands in each section, or each section has its own.
 #[derive(Drop)]
@@ -219,6 +221,28 @@ impl Ground {
         }
     }
 
+    /// The same; then quarters are joined below and above the path, and the sections, where they are leaves of one holding.
+    #[tactic(auto, using(crate::proofs::GroundLaws::section_trees, title_tree::specs::Laws::Settled::until_none))]
+    pub(crate) fn settle(&mut self, index: usize, part: &mut Part)
+        requires section { index < 36 }
+        requires parted { is_parted self.old ≡ true }
+        requires there { has_path part.old.path (stands self.old index) ≡ true }
+        ensures stands { stands self.new index
+            ≡ tidied_at part.old.path (graft part.old.path (plot part.old.tree) (stands self.old index)) }
+        ensures others { (j : ℕ) → j < 36 → j ≢ index → stands self.new j ≡ stands self.old j }
+        ensures closed { is_closable self.new ≡ false }
+    {
+        match self {
+            Ground::Whole(_) => unreachable!(),
+            Ground::Parted(sections) => {
+                sections.trees[index].settle(part.path, None, &mut part.tree);
+                if let Tree::Leaf(_) = &sections.trees[index] {
+                    self.close();
+                }
+            }
+        }
+    }
+
     /// Each part in turn changes places with what stands at its path in a section. Takes no memory.
     #[tactic(auto, using(crate::proofs::GroundLaws::section_trees))]
     pub(crate) fn exchange_all(&mut self, index: usize, parts: &mut [Part])
@@ -234,6 +258,31 @@ impl Ground {
         match self {
             Ground::Whole(_) => unreachable!(),
             Ground::Parted(sections) => exchange_all(&mut sections.trees[index], parts),
+        }
+    }
+
+    /// Each part in turn changes places with what stands at its path in a section; quarters are joined below and above the paths on the
+    /// way, and then the sections, where they are leaves of one holding. Takes no memory.
+    #[tactic(auto, using(crate::proofs::GroundLaws::section_trees))]
+    pub(crate) fn settle_all(&mut self, index: usize, parts: &mut [Part])
+        requires section { index < 36 }
+        requires parted { is_parted self.old ≡ true }
+        requires disjoint { Disjoint (paths (map piece parts.old)) }
+        requires ready { Ready (paths (map piece parts.old)) (stands self.old index) }
+        requires order { InOrder (paths (map piece parts.old)) }
+        ensures stands { stands self.new index
+            ≡ tidied_all (paths (map piece parts.old)) (swapped (map piece parts.old) (stands self.old index)) }
+        ensures others { (j : ℕ) → j < 36 → j ≢ index → stands self.new j ≡ stands self.old j }
+        ensures closed { is_closable self.new ≡ false }
+    {
+        match self {
+            Ground::Whole(_) => unreachable!(),
+            Ground::Parted(sections) => {
+                settle_all(&mut sections.trees[index], parts);
+                if let Tree::Leaf(_) = &sections.trees[index] {
+                    self.close();
+                }
+            }
         }
     }
 

@@ -119,23 +119,15 @@ impl Store for TreeStore {
     }
 
     fn put_alone(&mut self, tract: &Tract, instrument: &Instrument) -> Result<Put<()>, AllocError> {
+        self.tidy();
         let home = home_of(&self.townships, tract);
         let paths = ways(self.alloc, tract)?;
-        match self.forest.changed(self.alloc, home, paths, instrument) {
-            Ok(mut trees) => {
-                self.forest.exchange(home, &mut trees);
-                self.forest.tidy();
-                Ok(Put::Done(()))
-            }
-            Err(fault) => {
-                self.forest.tidy();
-                match fault {
-                    Fault::Memory => Err(AllocError),
-                    Fault::Refused(_) => {
-                        let (rule, estate, node) = self.refusal(tract, instrument);
-                        Ok(Put::Refused(rule, estate, node))
-                    }
-                }
+        match self.forest.put_alone(self.alloc, home, paths, instrument) {
+            Ok(()) => Ok(Put::Done(())),
+            Err(Fault::Memory) => Err(AllocError),
+            Err(Fault::Refused(_)) => {
+                let (rule, estate, node) = self.refusal(tract, instrument);
+                Ok(Put::Refused(rule, estate, node))
             }
         }
     }

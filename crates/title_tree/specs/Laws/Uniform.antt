@@ -13,7 +13,7 @@ four_all true true false d h = absurd cc
 four_all true false c d h = absurd cc
 four_all false b c d h = absurd cc
 
-three_all : (a b c : Bool) → (a && b && c) ≡ true → (a ≡ true) × (b ≡ true) × (c ≡ true)
+pub three_all : (a b c : Bool) → (a && b && c) ≡ true → (a ≡ true) × (b ≡ true) × (c ≡ true)
 three_all true true true h = (refl, refl, refl)
 three_all true true false h = absurd cc
 three_all true false c h = absurd cc

@@ -1,7 +1,7 @@
 -- What is made at the first path, and then at the others, is what would be made at all.
-use Rattle.std.proofs.{Common.{ap, subst, ◌≡◌, ◌∙◌, sym, None, Option}, lemmas.Result.{on_ok_weaker}}
+use Rattle.std.proofs.{Common.{subst, ◌≡◌, None, Option}, lemmas.Result.{on_ok_weaker}}
 use Rattle.std.specs.Prelude.{IfErr, OnOk}
-use Rattle.title_tree.specs.{Faults.{Tells}, Pieces.{Disjoint}, Plots.{changed}}
+use Rattle.title_tree.specs.{Faults.{Tells}, Pieces.{Disjoint}}
 use Rattle.title_tree.specs.Laws.{Depths.{within_split}, Joined.{elsewhere_more}, Swaps.{on_err, refines_split}}
 use Rattle.title_tree.specs.Laws.Adding.{stays_refines, stays_within, stays_elsewhere, refusal_more, fresh_more}
 use Rattle.title_tree.proofs.part.+add_changed.Goals as goal

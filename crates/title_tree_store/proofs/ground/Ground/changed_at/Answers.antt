@@ -11,7 +11,8 @@ use Rattle.title_tree_store.proofs.ground.Ground.changed_at.Goals as goal
 copied : (xs : List Tree) (ground : Ground) (tree t : Tree) (i : ℕ) → map plot xs ≡ replicate 36 (plot tree) → ground ≡ Whole tree → i < 36
     → t ≡ get_or xs i t → plot t ≡ stands ground i
 copied xs ground tree t i copies whole lt at =
-    ap plot at ∙ read_plot xs i t (long_copies xs (plot tree) i copies lt) ∙ each_copy xs (plot tree) i copies lt ∙ ap (λ (g : Ground). stands g i) (sym whole)
+    ap plot at ∙ read_plot xs i t (long_copies xs (plot tree) i copies lt) ∙ each_copy xs (plot tree) i copies lt ∙ ap (λ (g : Ground).
+    stands g i) (sym whole)
 
 pub returns-in_err-made-in-Whole-clause-why : goal.returns-in_err-made-in-Whole-clause-why
 returns-in_err-made-in-Whole-clause-why g c =

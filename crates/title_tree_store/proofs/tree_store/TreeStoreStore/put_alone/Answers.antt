@@ -1,194 +1,117 @@
--- A post alone: what was put in is joined at once.
-use Rattle.std.proofs.{Common.{◌∙◌, ℕ, ap, sym, subst, inl, length}, lemmas.List.Elements.{All-nil}}
-use Rattle.title_store.specs.Plants.{Plant}
-use Rattle.title_tree_store.specs.{declared.forest.Written.{Written}, Out.{images}, Forests.{plots, AreHomes}, Keeping.{loans_of}}
-use Rattle.title_tree_store.specs.Spots.{IsHome}
-use Rattle.title_tree_store.proofs.Alone.{kept_alone, tidy_alone, joined_alone, shows_alone, kept_left, joined_left, same_left}
-use Rattle.title_tree_store.proofs.CellPaths.{own_ways_apart}
-use Rattle.title_tree_store.proofs.{Contents.{each, for_each, everywhere}, Joining.{all_joined}}
-use Rattle.title_tree_store.proofs.Keeps.{no_loans}
-use Rattle.title_tree_store.proofs.{Puts.{done_from, made_goes, refused_none}, Steps.{homes_noted}}
+-- A post alone: the trees are joined first, then what was put in is at once, and nothing of it can go back.
+use Rattle.std.proofs.Common.{◌≡◌, ◌∙◌, ap, subst, sym, true, List}
+use Rattle.title_land.specs.{Depth.{depth}, declared.survey.Township.{Township}, Lands.{is_in_plant}}
+use Rattle.title_store.specs.Plants.{plant_effect, refused_in}
+use Rattle.title_tree_store.specs.{Out.{images}, Forests.{plots}, Keeping.{loans_of}}
+use Rattle.title_tree_store.proofs.{CellPaths.{own_ways_apart, own_ways_in_order}, Contents.{for_each}, Keeps.{no_loans}}
 use Rattle.title_tree_store.proofs.Stopped.{fails, refused, refused_plant}
+use Rattle.title_tree_store.proofs.{Joining.{all_joined, from_joined, joined_none}, Alone.{done_none, done_shows, stopped_same, kept_alone}}
 use Rattle.title_tree_store.proofs.tree_store.TreeStoreStore.put_alone.Goals as goal
 
-pub changed-requires : goal.changed-requires
-changed-requires c = record {
-  there = for_each (λ e. rw (c.args.self.now.kept.sized e) c.home_of-home.ensures.there);
+pub put_alone-requires : goal.put_alone-requires
+put_alone-requires c = record {
+  there = for_each (λ e. rw (c.tidy.new.self.kept.sized e) c.home_of-home.ensures.there);
   disjoint = rw c.in_ok-paths.ensures.ways (own_ways_apart c.args.tract.now);
+  order = rw c.in_ok-paths.ensures.ways (own_ways_in_order c.args.tract.now);
+  tidy = from_joined c.tidy.new.self.forest c.tidy.ensures.joined;
 }
 
-pub exchange-requires : goal.exchange-requires
-exchange-requires c =
-    let store = c.args.self.now in
-    let split = each c.changed.ensures.split.split in
-    let made = c.in-Ok.ensures.made in
+pub invariant_of-self : goal.invariant_of-self
+invariant_of-self c =
+    let store = c.tidy.new.self in
+    let none = no_loans store.townships (plots store.forest) (images store.lent) c.tidy.ensures.out in
+    let within = subst (λ (ts : List Township). is_in_plant ts c.args.tract.now ≡ true) (sym c.tidy.ensures.declared) c.requires.within in
     record {
-      there = for_each (λ e. rw ((split e).sized ∙ store.kept.sized e) c.home_of-home.ensures.there);
-      all = for_each (λ e. rw (split e).sized (made.all e));
-      wanted = for_each (λ e. made.wanted e);
-      goes = for_each (λ e. rw c.home_of-home.ensures.home (everywhere (sym ((split e).sized ∙ store.kept.sized e)) (made_goes
-          store.townships c.args.tract.now
-          c.args.instrument.now store.kept.sized
-          (rw (c.home_of-home.ensures.home, c.in_ok-paths.ensures.ways) at made) e)));
+      once = store.once;
+      kept = kept_alone store.townships store.forest c.put_alone.new.self (images store.lent) _ store.kept none c.args.tract.now
+          c.args.instrument.now within c.put_alone.ensures.sized c.put_alone.result
+          (rw (c.home_of-home.ensures.home, c.in_ok-paths.ensures.ways) at c.put_alone.ensures.settled)
+          (rw (c.home_of-home.ensures.home, c.in_ok-paths.ensures.ways) at c.put_alone.ensures.stopped);
+      joined = joined_none store.townships c.put_alone.new.self (images store.lent) none c.put_alone.ensures.tidy;
+      noted = rw c.put_alone.ensures.written store.noted;
     }
 
 -- ---- a post that is done
 
-pub tidy-requires : goal.tidy-requires
-tidy-requires c =
-    let store = c.args.self.now in
-    let split = each c.changed.ensures.split.split in
-    let noted = homes_noted (length store.townships) (inl c.in-Ok.ensures.noted) c.home_of-home.ensures.there store.noted in
-    record {
-      there = for_each (λ e. subst (λ (n : ℕ). AreHomes n c.exchange.new.self.written.items)
-          (sym ((each c.exchange.ensures.exchanged e).sized ∙ (split e).sized ∙ store.kept.sized e))
-          (rw c.exchange.ensures.written noted));
-    }
-
-pub invariant_of-self : goal.invariant_of-self
-invariant_of-self c =
-    let store = c.args.self.now in
-    let place = c.home_of-home.ensures.home in
-    let ways = c.in_ok-paths.ensures.ways in
-    let none = no_loans store.townships (plots store.forest) (images store.lent) c.requires.none in
-    let done = done_from store.kept.sized (rw (place, ways) at c.in-Ok.ensures.made) (rw (place, ways) at c.changed.ensures.split)
-    (rw (place, ways) at c.in-Ok.ensures.noted) c.exchange.ensures.written (λ e. rw place at (each c.exchange.ensures.exchanged e)) in
-    record {
-      once = store.once;
-      kept = kept_alone store.townships store.forest c.exchange.new.self c.tidy.new.self (images store.lent) _ store.kept store.joined
-          none c.args.tract.now
-          c.args.instrument.now c.requires.within c.exchange.new.parts done (each c.tidy.ensures.tidied);
-      joined = joined_alone store.townships store.forest c.exchange.new.self c.tidy.new.self (images store.lent) _ store.kept store.joined
-          none c.args.tract.now
-          c.args.instrument.now c.requires.within c.exchange.new.parts done (each c.tidy.ensures.tidied);
-      noted = subst (AreHomes (length store.townships)) (sym c.tidy.ensures.written)
-          (All-nil (λ (w : Written). IsHome (length store.townships) w.home));
-    }
-
 pub returns-in-Ok-clause-put : goal.returns-in-Ok-clause-put
 returns-in-Ok-clause-put c =
-    let store = c.args.self.now in
-    let place = c.home_of-home.ensures.home in
-    let ways = c.in_ok-paths.ensures.ways in
-    let none = no_loans store.townships (plots store.forest) (images store.lent) c.requires.none in
-    let done = done_from store.kept.sized (rw (place, ways) at c.in-Ok.ensures.made) (rw (place, ways) at c.changed.ensures.split)
-    (rw (place, ways) at c.in-Ok.ensures.noted) c.exchange.ensures.written (λ e. rw place at (each c.exchange.ensures.exchanged e)) in (
-      refused_none store.kept c.args.tract.now c.args.instrument.now c.requires.within done,
-      all_joined c.tidy.new.self (tidy_alone store.townships store.forest c.exchange.new.self c.tidy.new.self (images store.lent) _
-          store.kept store.joined none c.args.tract.now
-          c.args.instrument.now c.requires.within c.exchange.new.parts done (each c.tidy.ensures.tidied)),
+    let store = c.tidy.new.self in
+    let none = no_loans store.townships (plots store.forest) (images store.lent) c.tidy.ensures.out in
+    let within = subst (λ (ts : List Township). is_in_plant ts c.args.tract.now ≡ true) (sym c.tidy.ensures.declared) c.requires.within in (
+      sym (λ k. refused_in depth (c.tidy.ensures.declared k) c.args.instrument.now (λ z. c.tidy.ensures.content z k) c.args.tract.now)
+          ∙ done_none store.townships store.forest c.put_alone.new.self (images store.lent) _ store.kept none c.args.tract.now
+          c.args.instrument.now within c.put_alone.ensures.sized
+          (rw (c.home_of-home.ensures.home, c.in_ok-paths.ensures.ways) at c.in-Ok.ensures.settled),
+      all_joined c.put_alone.new.self c.put_alone.ensures.tidy,
     )
 
 pub returns-in-Ok-clause-content : goal.returns-in-Ok-clause-content
 returns-in-Ok-clause-content c x =
-    let store = c.args.self.now in
-    let place = c.home_of-home.ensures.home in
-    let ways = c.in_ok-paths.ensures.ways in
-    let none = no_loans store.townships (plots store.forest) (images store.lent) c.requires.none in
-    let done = done_from store.kept.sized (rw (place, ways) at c.in-Ok.ensures.made) (rw (place, ways) at c.changed.ensures.split)
-    (rw (place, ways) at c.in-Ok.ensures.noted) c.exchange.ensures.written (λ e. rw place at (each c.exchange.ensures.exchanged e)) in
-    shows_alone store.townships store.forest c.exchange.new.self c.tidy.new.self (images store.lent) _ store.kept store.joined none
-    c.args.tract.now
-    c.args.instrument.now c.requires.within c.exchange.new.parts done (each c.tidy.ensures.tidied) x
+    let store = c.tidy.new.self in
+    let none = no_loans store.townships (plots store.forest) (images store.lent) c.tidy.ensures.out in
+    let within = subst (λ (ts : List Township). is_in_plant ts c.args.tract.now ≡ true) (sym c.tidy.ensures.declared) c.requires.within in
+    done_shows store.townships store.forest c.put_alone.new.self (images store.lent) _ store.kept none c.args.tract.now
+    c.args.instrument.now within c.put_alone.ensures.sized
+    (rw (c.home_of-home.ensures.home, c.in_ok-paths.ensures.ways) at c.in-Ok.ensures.settled) x
+    ∙ (λ k. plant_effect depth (c.tidy.ensures.declared k) c.args.instrument.now (λ z. c.tidy.ensures.content z k) c.args.tract.now x)
 
 pub returns-in-Ok-clause-out : goal.returns-in-Ok-clause-out
-returns-in-Ok-clause-out c =
-    let store = c.args.self.now in
-    ap (loans_of store.townships (plots c.tidy.new.self)) (no_loans store.townships (plots store.forest) (images store.lent)
-    c.requires.none)
+returns-in-Ok-clause-out c = ap (loans_of c.tidy.new.self.townships (plots c.put_alone.new.self))
+    (no_loans c.tidy.new.self.townships (plots c.tidy.new.self.forest) (images c.tidy.new.self.lent) c.tidy.ensures.out)
 
 -- ---- one that stopped
 
-pub tidy-requires-in-Err : goal.tidy-requires-in-Err
-tidy-requires-in-Err c =
-    let store = c.args.self.now in
-    let noted = homes_noted (length store.townships) c.in-Err.ensures.err_noted c.home_of-home.ensures.there store.noted in
-    record {
-      there = for_each (λ e. subst (λ (n : ℕ). AreHomes n c.changed.new.self.written.items)
-          (sym ((each c.changed.ensures.split.split e).sized ∙ store.kept.sized e)) noted);
-    }
+pub returns-in-Err-Memory-clause-out : goal.returns-in-Err-Memory-clause-out
+returns-in-Err-Memory-clause-out c = ap (loans_of c.tidy.new.self.townships (plots c.put_alone.new.self))
+    (no_loans c.tidy.new.self.townships (plots c.tidy.new.self.forest) (images c.tidy.new.self.lent) c.tidy.ensures.out)
 
-pub invariant_of-self-in-Err : goal.invariant_of-self-in-Err
-invariant_of-self-in-Err c =
-    let store = c.args.self.now in
-    let place = c.home_of-home.ensures.home in
-    let ways = c.in_ok-paths.ensures.ways in
-    let none = no_loans store.townships (plots store.forest) (images store.lent) c.requires.none in
-    record {
-      once = store.once;
-      kept = kept_left store.townships store.forest c.changed.new.self c.tidy-in-Err.new.self (images store.lent) _ store.kept
-          store.joined none
-          c.args.tract.now c.args.instrument.now (rw (place, ways) at c.changed.ensures.split) (rw (place, ways) at
-          c.in-Err.ensures.err_noted)
-          (each c.tidy-in-Err.ensures.tidied);
-      joined = joined_left store.townships store.forest c.changed.new.self c.tidy-in-Err.new.self (images store.lent) _ store.kept
-          store.joined none
-          c.args.tract.now c.args.instrument.now (rw (place, ways) at c.changed.ensures.split) (rw (place, ways) at
-          c.in-Err.ensures.err_noted)
-          (each c.tidy-in-Err.ensures.tidied);
-      noted = subst (AreHomes (length store.townships)) (sym c.tidy-in-Err.ensures.written)
-          (All-nil (λ (w : Written). IsHome (length store.townships) w.home));
-    }
-
-pub returns-in-Memory-clause-out : goal.returns-in-Memory-clause-out
-returns-in-Memory-clause-out c =
-    let store = c.args.self.now in
-    ap (loans_of store.townships (plots c.tidy-in-Err.new.self)) (no_loans store.townships (plots store.forest) (images store.lent)
-    c.requires.none)
-
-pub returns-in-Memory-clause-err_content : goal.returns-in-Memory-clause-err_content
-returns-in-Memory-clause-err_content c x =
-    let store = c.args.self.now in
-    let place = c.home_of-home.ensures.home in
-    let ways = c.in_ok-paths.ensures.ways in
-    let none = no_loans store.townships (plots store.forest) (images store.lent) c.requires.none in
-    ap (λ (p : Plant). p x) (same_left store.townships store.forest c.changed.new.self c.tidy-in-Err.new.self (images store.lent) _
-    store.kept store.joined none
-    c.args.tract.now c.args.instrument.now (rw (place, ways) at c.changed.ensures.split) (rw (place, ways) at c.in-Err.ensures.err_noted)
-    (each c.tidy-in-Err.ensures.tidied))
+pub returns-in-Err-Memory-clause-err_content : goal.returns-in-Err-Memory-clause-err_content
+returns-in-Err-Memory-clause-err_content c x =
+    let store = c.tidy.new.self in
+    let none = no_loans store.townships (plots store.forest) (images store.lent) c.tidy.ensures.out in
+    let within = subst (λ (ts : List Township). is_in_plant ts c.args.tract.now ≡ true) (sym c.tidy.ensures.declared) c.requires.within in
+    (λ k. stopped_same store.townships store.forest c.put_alone.new.self (images store.lent) _ store.kept none c.args.tract.now
+    c.args.instrument.now within c.put_alone.ensures.sized
+    (rw (c.home_of-home.ensures.home, c.in_ok-paths.ensures.ways) at c.in-Err-Memory.ensures.stopped) k x) ∙ c.tidy.ensures.content x
 
 pub refusal-rule-requires-clause-fails : goal.refusal-rule-requires-clause-fails
 refusal-rule-requires-clause-fails c =
-    let store = c.args.self.now in
-    let place = c.home_of-home.ensures.home in
-    let ways = c.in_ok-paths.ensures.ways in
-    let none = no_loans store.townships (plots store.forest) (images store.lent) c.requires.none in
-    let why = c.in-Err.ensures.why in
-    fails store.townships store.forest c.tidy-in-Err.new.self c.args.tract.now c.args.instrument.now
-    (same_left store.townships store.forest c.changed.new.self c.tidy-in-Err.new.self (images store.lent) _ store.kept store.joined none
-    c.args.tract.now c.args.instrument.now (rw (place, ways) at c.changed.ensures.split) (rw (place, ways) at c.in-Err.ensures.err_noted)
-    (each c.tidy-in-Err.ensures.tidied))
-    store.kept store.once c.requires.within why.0 _ (rw (c.in-Refused.is, place, ways) at why.1)
+    let store = c.tidy.new.self in
+    let none = no_loans store.townships (plots store.forest) (images store.lent) c.tidy.ensures.out in
+    let within = subst (λ (ts : List Township). is_in_plant ts c.args.tract.now ≡ true) (sym c.tidy.ensures.declared) c.requires.within in
+    let same = stopped_same store.townships store.forest c.put_alone.new.self (images store.lent) _ store.kept none c.args.tract.now
+    c.args.instrument.now within c.put_alone.ensures.sized
+    (rw (c.home_of-home.ensures.home, c.in_ok-paths.ensures.ways) at c.in-Err-Refused.ensures.stopped) in
+    let why = c.in-Err-Refused.ensures.why in
+    fails store.townships store.forest c.put_alone.new.self c.args.tract.now c.args.instrument.now same store.kept store.once within why.0 _
+    (rw (c.in-Err-Refused.field-0-is, c.home_of-home.ensures.home, c.in_ok-paths.ensures.ways) at why.1)
 
-pub returns-in-Refused-clause-put : goal.returns-in-Refused-clause-put
-returns-in-Refused-clause-put c =
-    let store = c.args.self.now in
-    let place = c.home_of-home.ensures.home in
-    let ways = c.in_ok-paths.ensures.ways in
-    let none = no_loans store.townships (plots store.forest) (images store.lent) c.requires.none in
-    let same = same_left store.townships store.forest c.changed.new.self c.tidy-in-Err.new.self (images store.lent) _ store.kept
-    store.joined none
-    c.args.tract.now c.args.instrument.now (rw (place, ways) at c.changed.ensures.split) (rw (place, ways) at c.in-Err.ensures.err_noted)
-    (each c.tidy-in-Err.ensures.tidied) in (
-      refused store.townships store.forest c.tidy-in-Err.new.self c.args.tract.now c.args.instrument.now same _
+pub returns-in-Err-Refused-clause-put : goal.returns-in-Err-Refused-clause-put
+returns-in-Err-Refused-clause-put c =
+    let store = c.tidy.new.self in
+    let none = no_loans store.townships (plots store.forest) (images store.lent) c.tidy.ensures.out in
+    let within = subst (λ (ts : List Township). is_in_plant ts c.args.tract.now ≡ true) (sym c.tidy.ensures.declared) c.requires.within in
+    let same = stopped_same store.townships store.forest c.put_alone.new.self (images store.lent) _ store.kept none c.args.tract.now
+    c.args.instrument.now within c.put_alone.ensures.sized
+    (rw (c.home_of-home.ensures.home, c.in_ok-paths.ensures.ways) at c.in-Err-Refused.ensures.stopped) in (
+      sym (λ k. refused_in depth (c.tidy.ensures.declared k) c.args.instrument.now (λ z. c.tidy.ensures.content z k) c.args.tract.now)
+          ∙ refused store.townships store.forest c.put_alone.new.self c.args.tract.now c.args.instrument.now same _
           c.refusal-rule.ensures.refused,
-      λ x. ap (λ (p : Plant). p x) same,
+      λ x. (λ k. same k x) ∙ c.tidy.ensures.content x,
     )
 
-pub returns-in-Refused-clause-content : goal.returns-in-Refused-clause-content
-returns-in-Refused-clause-content c =
-    let store = c.args.self.now in
-    let place = c.home_of-home.ensures.home in
-    let ways = c.in_ok-paths.ensures.ways in
-    let none = no_loans store.townships (plots store.forest) (images store.lent) c.requires.none in
-    refused_plant store.townships store.forest c.tidy-in-Err.new.self c.args.tract.now c.args.instrument.now
-    (same_left store.townships store.forest c.changed.new.self c.tidy-in-Err.new.self (images store.lent) _ store.kept store.joined none
-    c.args.tract.now c.args.instrument.now (rw (place, ways) at c.changed.ensures.split) (rw (place, ways) at c.in-Err.ensures.err_noted)
-    (each c.tidy-in-Err.ensures.tidied))
-    _ c.refusal-rule.ensures.refused
+pub returns-in-Err-Refused-clause-content : goal.returns-in-Err-Refused-clause-content
+returns-in-Err-Refused-clause-content c x =
+    let store = c.tidy.new.self in
+    let none = no_loans store.townships (plots store.forest) (images store.lent) c.tidy.ensures.out in
+    let within = subst (λ (ts : List Township). is_in_plant ts c.args.tract.now ≡ true) (sym c.tidy.ensures.declared) c.requires.within in
+    let same = stopped_same store.townships store.forest c.put_alone.new.self (images store.lent) _ store.kept none c.args.tract.now
+    c.args.instrument.now within c.put_alone.ensures.sized
+    (rw (c.home_of-home.ensures.home, c.in_ok-paths.ensures.ways) at c.in-Err-Refused.ensures.stopped) in
+    refused_plant store.townships store.forest c.put_alone.new.self c.args.tract.now c.args.instrument.now same _
+    c.refusal-rule.ensures.refused x
+    ∙ (λ k. plant_effect depth (c.tidy.ensures.declared k) c.args.instrument.now (λ z. c.tidy.ensures.content z k) c.args.tract.now x)
 
-pub returns-in-Refused-clause-out : goal.returns-in-Refused-clause-out
-returns-in-Refused-clause-out c =
-    let store = c.args.self.now in
-    ap (loans_of store.townships (plots c.tidy-in-Err.new.self)) (no_loans store.townships (plots store.forest) (images store.lent)
-    c.requires.none)
+pub returns-in-Err-Refused-clause-out : goal.returns-in-Err-Refused-clause-out
+returns-in-Err-Refused-clause-out c = ap (loans_of c.tidy.new.self.townships (plots c.put_alone.new.self))
+    (no_loans c.tidy.new.self.townships (plots c.tidy.new.self.forest) (images c.tidy.new.self.lent) c.tidy.ensures.out)
