@@ -6,3 +6,4 @@ mod KeptWords
 mod DeskWord
 mod LookWords
 mod KeptOfficeWords
+mod Built

@@ -1,9 +1,11 @@
 //! The program's command, as `clap` is told it, with its help.
 
-ghost use Rattle.std.specs.Prelude.{◌≡◌, ◌∷◌, IfOk, false, true, []};
-ghost use Rattle.clap.specs.{Words.{app_of, new_app, rule_of}, declared.builder.command.Command.TheViews.{out-Command}};
+ghost use Rattle.std.specs.Prelude.{◌≡◌, IfOk, false, true, []};
+ghost use Rattle.clap.specs.{Words.{app_of, new_app, rule_of}, Simple.{App, Shape, with_rule, with_subcommand}, Walk.{Rule}};
+ghost use Rattle.clap.specs.declared.builder.command.Command.TheViews.{out-Command};
+ghost use Rattle.title_command.specs.Building.{IsApp, leaf_of};
 ghost use Rattle.title_command.specs.CommandLine.{after_rule, alone, check, command, desk, file_rule, look_rule, number_rule, office};
-ghost use Rattle.title_command.specs.CommandLine.{plant_rule, run, script_rule, serving, text_rule, titleplant, tract};
+ghost use Rattle.title_command.specs.CommandLine.{plant_rule, script_rule, serving, text_rule, titleplant, tract};
 
 use clap::builder::ValueParser;
 use clap::error::ErrorKind;
@@ -414,54 +416,70 @@ fn number_option<'a>(alloc: Global, option: NumberOption<'a>) -> Arg<'a>
         .help(option.help)
 }
 
-fn office_command<'a>(alloc: Global) -> Result<Command<'a>, AllocError>
-    ensures app { IfOk result (λ c. app_of c ≡ record { top = office; subs = [] }) }
-    ensures local { IfOk result (λ c. (out-Command c).has_globals ≡ false) }
+// A command with one argument more, where there was memory for it so far.
+fn with_argument<'a>(
+    command: Result<Command<'a>, AllocError>,
+    argument: Arg<'a>,
+) -> Result<Command<'a>, AllocError>
+    requires local { argument.global ≡ false }
+    ensures app { (a : App) → (r : Rule) → rule_of argument.entry ≡ r → IsApp a command.entry → IsApp (with_rule a r) result }
 {
-    let with_examiners = named(alloc, "office", OFFICE).arg(number_option(alloc, EXAMINERS))?;
-    let with_tries = with_examiners.arg(number_option(alloc, TRIES))?;
-    let with_plant = with_tries.arg(plant_option(alloc))?;
-    with_plant.arg(after_option(alloc))
+    command?.arg(argument)
+}
+
+// A command with the options by which a script is kept in a plant's file.
+fn with_file<'a>(
+    alloc: Global,
+    command: Result<Command<'a>, AllocError>,
+) -> Result<Command<'a>, AllocError>
+    ensures app { (a : App) → IsApp a command.entry → IsApp (with_rule (with_rule a plant_rule) after_rule) result }
+{
+    let with_plant = with_argument(command, plant_option(alloc));
+    with_argument(with_plant, after_option(alloc))
+}
+
+fn office_command<'a>(alloc: Global) -> Result<Command<'a>, AllocError>
+    ensures app { IsApp (leaf_of office) result }
+{
+    let with_examiners = with_argument(
+        Ok(named(alloc, "office", OFFICE)),
+        number_option(alloc, EXAMINERS),
+    );
+    let with_tries = with_argument(with_examiners, number_option(alloc, TRIES));
+    with_file(alloc, with_tries)
 }
 
 // A command that a script may be kept by.
 fn work_command<'a>(alloc: Global, name: &'a str, help: Help<'a>) -> Result<Command<'a>, AllocError>
-    ensures app { IfOk result (λ c. app_of c ≡ record { top = serving name.entry.now; subs = [] }) }
-    ensures local { IfOk result (λ c. (out-Command c).has_globals ≡ false) }
+    ensures app { IsApp (leaf_of (serving name.entry.now)) result }
 {
-    let with_plant = named(alloc, name, help).arg(plant_option(alloc))?;
-    with_plant.arg(after_option(alloc))
+    with_file(alloc, Ok(named(alloc, name, help)))
 }
 
 fn alone_command<'a>(alloc: Global) -> Result<Command<'a>, AllocError>
-    ensures app { IfOk result (λ c. app_of c ≡ record { top = alone; subs = [] }) }
-    ensures local { IfOk result (λ c. (out-Command c).has_globals ≡ false) }
+    ensures app { IsApp (leaf_of alone) result }
 {
-    let with_work = work_command(alloc, "alone", ALONE)?;
-    with_work.arg(look_option(alloc))
+    with_argument(work_command(alloc, "alone", ALONE), look_option(alloc))
 }
 
 fn desk_command<'a>(alloc: Global) -> Result<Command<'a>, AllocError>
-    ensures app { IfOk result (λ c. app_of c ≡ record { top = desk; subs = [] }) }
-    ensures local { IfOk result (λ c. (out-Command c).has_globals ≡ false) }
+    ensures app { IsApp (leaf_of desk) result }
 {
-    let with_plant = named(alloc, "desk", DESK).arg(plant_option(alloc))?;
-    with_plant.arg(look_option(alloc))
+    let with_plant = with_argument(Ok(named(alloc, "desk", DESK)), plant_option(alloc));
+    with_argument(with_plant, look_option(alloc))
 }
 
 fn check_command<'a>(alloc: Global) -> Result<Command<'a>, AllocError>
-    ensures app { IfOk result (λ c. app_of c ≡ record { top = check; subs = [] }) }
-    ensures local { IfOk result (λ c. (out-Command c).has_globals ≡ false) }
+    ensures app { IsApp (leaf_of check) result }
 {
-    let with_file = named(alloc, "check", CHECK).arg(file_argument(alloc))?;
-    with_file.arg(script_option(alloc))
+    let with_file = with_argument(Ok(named(alloc, "check", CHECK)), file_argument(alloc));
+    with_argument(with_file, script_option(alloc))
 }
 
 fn tract_command<'a>(alloc: Global) -> Result<Command<'a>, AllocError>
-    ensures app { IfOk result (λ c. app_of c ≡ record { top = tract; subs = [] }) }
-    ensures local { IfOk result (λ c. (out-Command c).has_globals ≡ false) }
+    ensures app { IsApp (leaf_of tract) result }
 {
-    named(alloc, "tract", TRACT).arg(text_argument(alloc))
+    with_argument(Ok(named(alloc, "tract", TRACT)), text_argument(alloc))
 }
 
 fn top<'a>(alloc: Global) -> Command<'a>
@@ -474,33 +492,26 @@ fn top<'a>(alloc: Global) -> Command<'a>
         .disable_help_subcommand(true)
 }
 
-// The program's command with the subcommands that serve a script at one desk.
-fn script_commands<'a>(alloc: Global) -> Result<Command<'a>, AllocError>
-    ensures app { IfOk result (λ c. app_of c ≡ record { top = titleplant; subs = run ∷ alone ∷ [] }) }
-    ensures local { IfOk result (λ c. (out-Command c).has_globals ≡ false) }
+// A command with one subcommand more, where there was memory for both.
+fn with_command<'a>(
+    command: Result<Command<'a>, AllocError>,
+    added: Result<Command<'a>, AllocError>,
+) -> Result<Command<'a>, AllocError>
+    ensures app { (a : App) → (s : Shape) → IsApp a command.entry → IsApp (leaf_of s) added.entry → IsApp (with_subcommand a s) result }
 {
-    let run = work_command(alloc, "run", RUN)?;
-    let with_run = top(alloc).subcommand(run)?;
-    with_run.subcommand(alone_command(alloc)?)
-}
-
-// The same with those that serve it in an office, and rows.
-fn work_commands<'a>(alloc: Global) -> Result<Command<'a>, AllocError>
-    ensures app { IfOk result (λ c. app_of c ≡ record { top = titleplant; subs = run ∷ alone ∷ office ∷ desk ∷ [] }) }
-    ensures local { IfOk result (λ c. (out-Command c).has_globals ≡ false) }
-{
-    let with_scripts = script_commands(alloc)?;
-    let with_office = with_scripts.subcommand(office_command(alloc)?)?;
-    with_office.subcommand(desk_command(alloc)?)
+    command?.subcommand(added?)
 }
 
 /// The command of the program `titleplant`, with each of its subcommands.
 pub fn program<'a>(alloc: Global) -> Result<Command<'a>, AllocError>
     ensures app { IfOk result (λ c. app_of c ≡ command) }
 {
-    let with_work = work_commands(alloc)?;
-    let with_tract = with_work.subcommand(tract_command(alloc)?)?;
-    with_tract.subcommand(check_command(alloc)?)
+    let with_run = with_command(Ok(top(alloc)), work_command(alloc, "run", RUN));
+    let with_alone = with_command(with_run, alone_command(alloc));
+    let with_office = with_command(with_alone, office_command(alloc));
+    let with_desk = with_command(with_office, desk_command(alloc));
+    let with_tract = with_command(with_desk, tract_command(alloc));
+    with_command(with_tract, check_command(alloc))
 }
 
 /// The error of words that expect a last place or ask for a look, and name no plant.

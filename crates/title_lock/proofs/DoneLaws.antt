@@ -1,14 +1,14 @@
--- What is done at one node, and along one part of a walk and then another, is done along both.
-use Rattle.std.proofs.Common.{◌≡◌, ℕ, Bool, true, cond, not, ◌&&◌, ◌||◌, List, [], ◌∷◌, ◌++◌, Option, Some, None, eqb, refl, sym, ap}
-use Rattle.std.proofs.{Common.{subst, ◌∙◌, append_assoc, append-nil}, lemmas.Bool.{or_left, or_right}}
-use Rattle.std.proofs.{Common.{arith}, lemmas.List.Folds.{list_any-append}}
+-- Who is in the way along one part of a walk and then another is in the way along both, and rooms are taken back so.
+use Rattle.std.proofs.Common.{◌≡◌, ◌≢◌, ℕ, Bool, true, false, not, ◌&&◌, ◌||◌, List, [], ◌∷◌, ◌++◌, Option, Some, None, eqb, refl, sym}
+use Rattle.std.proofs.{Common.{ap, subst, ◌∙◌, append_assoc, append-nil}, lemmas.Bool.{or_left, or_right, or_from}}
+use Rattle.std.{proofs.{Common.{arith}, lemmas.List.Folds.{list_any-append}}, specs.List.{list_any}}
 use mathlib.Core.Bool.{or-false}
-use Rattle.title_land.specs.{declared.node.Node.{Node}, Nodes.{same_node}, Laws.SameNode.{same_node-self, same_node-to}}
-use Rattle.title_lock.specs.{declared.modes.Mode.{Mode}, Modes.{bound}, Holders.{clashes}, Overlaps.{IsLeast, least}}
-use Rattle.title_lock.specs.Tables.{HeldAt, table_mode, table_room, is_idle, KeepsRoom, HasRoom, IdleMore, IdleLess}
-use Rattle.title_lock.specs.Walks.{Asked, mode_for, asked_in, asks_in, clashes_in, Roomed, Raised, TakenOut}
-use Rattle.title_lock.proofs.IdleLaws.{less_same, less_join, more_same, more_wider}
-use Rattle.title_lock.proofs.{ModeLaws.{bound_assoc, bound_none}, LeastLaws.{least_join, least_same}}
+use Rattle.title_land.specs.{declared.node.Node.{Node}, Nodes.{same_node, above}, Laws.SameNode.{same_node-self}}
+use Rattle.title_lock.specs.{declared.modes.Mode.{Mode}, Modes.{allows, intention, is_enough}, Asking.{above_mode}, Holders.{clashes}}
+use Rattle.title_lock.specs.{Overlaps.{IsLeast, least}, Tables.{HeldAt, table_mode, is_idle, IdleLess, IsRooted}}
+use Rattle.title_lock.specs.Walks.{Asked, mode_for, asks_above, asks_in, clashes_in}
+use Rattle.title_lock.proofs.{IdleLaws.{less_join}, LeastLaws.{least_join, least_same}}
+use Rattle.title_lock.proofs.Intentions.{self_asked, enough_above, enough_allows}
 
 -- one test in place of another that passes the same nodes
 pub less_is : (t u : HeldAt) (e : ℕ) (p r : Node → Bool) → ((n : Node) → p n ≡ r n) → IdleLess t u e p → IdleLess t u e r
@@ -16,10 +16,11 @@ less_is t u e p r same h = record {
   less = λ f n. h.less f n ∙ ap (λ (z : Bool). is_idle t f n && not (eqb f e && z)) (same n);
 }
 
-pub more_is : (t u : HeldAt) (e : ℕ) (p r : Node → Bool) → ((n : Node) → p n ≡ r n) → IdleMore t u e p → IdleMore t u e r
-more_is t u e p r same h = more_wider t u e p r (λ n asks. sym (same n) ∙ asks) h
-
 -- ---- the least in the way
+
+least_none : (a : Option ℕ) → least a None ≡ a
+least_none None = refl
+least_none (Some x) = refl
 
 -- nobody is in the way of nothing
 pub way_none : (p : Bool) (held : ℕ → Node → Option Mode) (e : ℕ) → IsLeast (λ f. clashes_in p (held f) []) e None
@@ -38,71 +39,47 @@ way_join p held e l r v w first then =
     (λ f other. sym (list_any-append (λ (a : Asked). clashes (mode_for p a.1) (held f a.0)) l r))
     (least_join (λ f. clashes_in p (held f) l) (λ f. clashes_in p (held f) r) e v w first then)
 
--- ---- room
+-- above nodes where nobody is in the way none is asked
+clear_above : (p : Bool) (held : Node → Option Mode) (last : Option Node) (nodes : List Node)
+    → ((n : Node) → list_any (same_node n) nodes ≡ true → clashes (above_mode p) (held n) ≡ false)
+    → clashes_in p held (asks_above last nodes) ≡ false
+clear_above p held last [] clear = refl
+clear_above p held last (m ∷ nodes) clear =
+    grind (
+      arith,
+      clear m (or_left (same_node m m) (list_any (same_node m) nodes) (same_node-self m)),
+      clear_above p held last nodes (λ n at. clear n (or_right (same_node n m) (list_any (same_node n) nodes) at)),
+    )
 
-pub roomed_same : (t : HeldAt) (e : ℕ) (l : List Asked) → Roomed t t e l
-roomed_same t e l = record { modes = λ f n. refl; stays = λ f n room. room; idle = more_same t e (asks_in l) }
+-- what is asked above has the intention of what is asked
+intends_above : (p own : Bool) → intention (mode_for p own) ≡ above_mode p
+intends_above false false = refl
+intends_above false true = refl
+intends_above true false = refl
+intends_above true true = refl
 
-pub raised_none : (t : HeldAt) (e : ℕ) (p : Bool) → Raised t t e p []
-raised_none t e p = record {
-  modes = λ f n. grind (arith, bound_none);
-  stays = λ f n room. room;
-  idle = less_same t e (asks_in []) (λ n. refl);
-}
+beside : (m : Mode) (a b : Option Mode) → is_enough a m ≡ true → allows a b ≡ true → clashes m b ≡ false
+beside m a b enough fits = ap not (enough_allows a b m enough fits)
 
-pub taken_none : (t : HeldAt) (e : ℕ) (m : Bool) → TakenOut t t e m []
-taken_none t e m = record {
-  gone = λ f n. grind arith;
-  idle = less_same t e (asks_in []) (λ n. refl);
-}
+-- where an examiner holds enough of a node, nobody else is in its way there, nor above
+pub clear_held : (t : HeldAt) (e f : ℕ) (p own : Bool) (c : Node) (last : Option Node)
+    → is_enough (table_mode t e c) (mode_for p own) ≡ true → IsRooted t e c
+    → ((n : Node) → allows (table_mode t e n) (table_mode t f n) ≡ true)
+    → clashes_in p (λ n. table_mode t f n) ((c, own) ∷ asks_above last (above c)) ≡ false
+clear_held t e f p own c last enough rooted apart = or_from _ _
+    (beside (mode_for p own) (table_mode t e c) (table_mode t f c) enough (apart c))
+    (clear_above p (λ n. table_mode t f n) last (above c) (λ n up.
+    beside (above_mode p) (table_mode t e n) (table_mode t f n)
+    (ap (is_enough (table_mode t e n)) (sym (intends_above p own))
+    ∙ enough_above (table_mode t e c) (table_mode t e n) (mode_for p own) enough (rooted c (self_asked c) n up)) (apart n)))
 
--- ---- along a walk: what is left of it, a node and then r
+-- ---- rooms along a walk
 
-module _ (t : HeldAt) (e : ℕ) (own : Bool) (c : Node) {left : List Asked} (r : List Asked) (parts : left ≡ (c, own) ∷ r) where
-  asks_parts : (n : Node) → asks_in left n ≡ (same_node n c || asks_in r n)
-  asks_parts n = ap (λ (z : List Asked). asks_in z n) parts
-
-  -- room for what is left is room at the node, and for the rest where room is kept
-  pub room_first : HasRoom t e (asks_in left) → table_room t e c ≡ true
-  room_first room = room c (asks_parts c ∙ or_left (same_node c c) (asks_in r c) (same_node-self c))
-
-  pub room_then : (u : HeldAt) → KeepsRoom t u → HasRoom t e (asks_in left) → HasRoom u e (asks_in r)
-  room_then u keeps room n asks = keeps e n (room n (asks_parts n ∙ or_right (same_node n c) (asks_in r n) asks))
-
-  -- where there is room at the node there is for the whole, once there is for the rest
-  pub rooms_then : (u : HeldAt) (whole : List Asked)
-      → ((v : HeldAt) → KeepsRoom t v → HasRoom v e (asks_in left) → HasRoom v e (asks_in whole))
-      → KeepsRoom t u → table_room u e c ≡ true → (v : HeldAt) → KeepsRoom u v → HasRoom v e (asks_in r) → HasRoom v e (asks_in whole)
-  rooms_then u whole does first here v keeps rest = does v (λ f n room. keeps f n (first f n room))
-      (λ n asks. grind (arith, asks, asks_parts n, same_node-to n c, keeps e c here, rest n))
-
-  -- what is left done is the whole done, and so is the rest after the node
-  pub roomed_then : (first u : HeldAt) (whole : List Asked) → ((v : HeldAt) → Roomed t v e left → Roomed first v e whole)
-      → ((f : ℕ) (n : Node) → table_mode u f n ≡ table_mode t f n) → KeepsRoom t u → IdleMore t u e (λ n. same_node n c)
-      → (v : HeldAt) → Roomed u v e r → Roomed first v e whole
-  roomed_then first u whole does modes stays idle v rest = does v (record {
-    modes = λ f n. rest.modes f n ∙ modes f n;
-    stays = λ f n room. rest.stays f n (stays f n room);
-    idle = record { more = λ f n h. grind (arith, h, idle.more f n, rest.idle.more f n, asks_parts n) };
-  })
-
-  pub raised_then : (first u : HeldAt) (p : Bool) (whole : List Asked) → ((v : HeldAt) → Raised t v e p left → Raised first v e p whole)
-      → ((f : ℕ) (n : Node) → table_mode u f n
-      ≡ bound (table_mode t f n) (cond (eqb f e && same_node n c) (Some (mode_for p own)) None))
-      → KeepsRoom t u → IdleLess t u e (λ n. same_node n c) → (v : HeldAt) → Raised u v e p r → Raised first v e p whole
-  raised_then first u p whole does modes stays idle v rest = does v (record {
-    modes = λ f n. grind (arith, modes f n, rest.modes f n, ap (λ (z : List Asked). asked_in p z n) parts, bound_assoc, bound_none);
-    stays = λ f n room. rest.stays f n (stays f n room);
-    idle = less_join t u v e (λ n. same_node n c) (asks_in r) (asks_in left) (λ n. sym (asks_parts n)) idle rest.idle;
-  })
-
-  pub taken_then : (first u : HeldAt) (m : Bool) (whole : List Asked) → ((v : HeldAt) → TakenOut t v e m left → TakenOut first v e m whole)
-      → ((f : ℕ) (n : Node) → table_mode u f n ≡ cond (m && eqb f e && same_node n c) None (table_mode t f n))
-      → IdleLess t u e (λ n. same_node n c) → (v : HeldAt) → TakenOut u v e m r → TakenOut first v e m whole
-  taken_then first u m whole does gone idle v rest = does v (record {
-    gone = λ f n. grind (arith, gone f n, rest.gone f n, asks_parts n);
-    idle = less_join t u v e (λ n. same_node n c) (asks_in r) (asks_in left) (λ n. sym (asks_parts n)) idle rest.idle;
-  })
+-- rooms are taken back at a node and then at the rest
+pub dropped_then : (t u : HeldAt) (e : ℕ) (own : Bool) (c : Node) {left : List Asked} (r : List Asked) (parts : left ≡ (c, own) ∷ r)
+    → IdleLess t u e (λ n. same_node n c) → (v : HeldAt) → IdleLess u v e (asks_in r) → IdleLess t v e (asks_in left)
+dropped_then t u e own c {left} r parts first v rest = less_join t u v e (λ n. same_node n c) (asks_in r) (asks_in left)
+    (λ n. sym (ap (λ (z : List Asked). asks_in z n) parts)) first rest
 
 -- the least in the way so far, of a whole of which this is left
 pub record IsSoFar (p : Bool) (held : ℕ → Node → Option Mode) (e : ℕ) (whole : List Asked) (left : List Asked) (way : Option ℕ)
@@ -122,6 +99,12 @@ module _ (p : Bool) (held : ℕ → Node → Option Mode) (e : ℕ) (whole : Lis
     parts = far.parts ∙ ap (λ (z : List Asked). far.done ++ z) parts ∙ sym (append_assoc far.done l r);
     is_least = way_join p held e far.done l way next far.is_least step;
   }
+
+  -- nobody is in the way of what is left out
+  pub so_far_skips : {left : List Asked} (l r : List Asked) (way : Option ℕ) → left ≡ l ++ r → IsSoFar p held e whole left way
+      → ((f : ℕ) → f ≢ e → clashes_in p (held f) l ≡ false) → IsSoFar p held e whole r way
+  so_far_skips l r way parts far clear =
+      subst (λ (w : Option ℕ). IsSoFar p held e whole r w) (least_none way) (so_far_goes l r way None parts far clear)
 
   pub so_far_ends : (left : List Asked) (way : Option ℕ) → left ≡ [] → IsSoFar p held e whole left way
       → IsLeast (λ f. clashes_in p (held f) whole) e way

@@ -37,9 +37,14 @@ pub idles_raised : (h g : Modes) (f e : ℕ) (a : Mode) → holder_mode g f ≡ 
 idles_raised h g f e a mode room = grind arith
 
 -- who is taken out isn't idle
-pub idles_taken : (h g : Modes) (f e : ℕ) (m : Bool) → holder_mode g f ≡ cond (m && eqb f e) None (holder_mode h f)
-    → has_room g f ≡ cond (eqb f e) (not m && is_some (holder_mode h f)) (has_room h f) → idles g f ≡ (idles h f && not (eqb f e && true))
-idles_taken h g f e m mode room = grind arith
+pub idles_released : (h g : Modes) (f e : ℕ) → holder_mode g f ≡ cond (eqb f e) None (holder_mode h f)
+    → has_room g f ≡ (not (eqb f e) && has_room h f) → idles g f ≡ true → idles h f ≡ true
+idles_released h g f e mode room idle = grind arith
+
+-- who loses its room isn't idle
+pub idles_dropped : (h g : Modes) (f e : ℕ) → holder_mode g f ≡ holder_mode h f
+    → has_room g f ≡ cond (eqb f e) (is_some (holder_mode h f)) (has_room h f) → idles g f ≡ (idles h f && not (eqb f e && true))
+idles_dropped h g f e mode room = grind arith
 
 -- nobody is idle at a free node
 pub free_idles : (h : Modes) → is_free h ≡ true → (e : ℕ) → idles h e ≡ false

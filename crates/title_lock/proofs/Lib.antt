@@ -1,5 +1,6 @@
 pub mod ModeLaws
 pub mod NodeLaws
+pub mod Intentions
 pub mod Overlap
 pub mod TableLaws
 pub mod IdleLaws
@@ -20,3 +21,4 @@ pub mod KeptLaws
 pub mod HomeTracts
 pub mod RowLaws
 pub mod AloneLaws
+pub mod RootedLaws

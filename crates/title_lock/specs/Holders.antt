@@ -1,9 +1,8 @@
 -- The holders of one node: the mode of each, who has room for one, and how many have each mode.
 use Rattle.std.specs.Prelude.{ℕ, ◌≡◌, ◌<◌, ◌^◌, ◌==◌, nat_le, Bool, true, false, ◌&&◌, ◌||◌, not, if◌then◌else◌, Option, Some, None}
 use Rattle.std.specs.{Prelude.{is_some, List, ◌∷◌, length}, Ordering.{nat_cmp}, Map.{lookup}, BTreeMap.{is_at}}
-use Rattle.title_lock.specs.declared.{modes.Mode.{Mode, TheVariants.{Is, Ix, S, Six, X}}, counts.Counts.{Counts}, holders.Taken.{Taken}}
+use Rattle.title_lock.specs.declared.{modes.Mode.{Mode, TheVariants.{Is, Ix, S, Six, X}}, counts.Counts.{Counts}}
 use Rattle.title_lock.specs.{Modes.{in_row, compat, allows}, Counts.{IsCount}}
-use Rattle.title_lock.specs.declared.holders.Taken.TheVariants as taken
 
 -- the slots among the holders of a node, by examiners, with the mode of each that holds the node
 abbrev pub Modes : Type 0
@@ -28,11 +27,6 @@ idles h e = has_room h e && not (is_some (holder_mode h e))
 -- nobody holds the node, or has room
 abbrev pub is_free : Modes → Bool
 is_free h = length h == 0
-
--- the mode is taken out, too
-abbrev pub is_mode : Taken → Bool
-is_mode taken.Room = false
-is_mode taken.Mode = true
 
 -- what is held doesn't let mode m stand beside it
 abbrev pub clashes : Mode → Option Mode → Bool

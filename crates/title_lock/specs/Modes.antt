@@ -42,3 +42,25 @@ allows (Some a) (Some b) = compat a b
 -- what may stand beside the bound of two modes is what may stand beside both
 abbrev pub BoundStandsBeside : Type 0
 BoundStandsBeside = (a b c : Mode) → compat (sup a b) c ≡ (compat a c && compat b c)
+
+-- what an access that asks for a mode asks of each node above: IX where it may post below, else IS
+abbrev pub intention : Mode → Mode
+intention = in_row Is Ix Is Ix Ix
+
+-- the first mode is as strong as the second
+abbrev pub is_as_strong : Mode → Mode → Bool
+is_as_strong Is = in_row true false false false false
+is_as_strong Ix = in_row true true false false false
+is_as_strong S = in_row true false true false false
+is_as_strong Six = in_row true true true true false
+is_as_strong X = in_row true true true true true
+
+-- what is held is as strong as a mode
+abbrev pub is_enough : Option Mode → Mode → Bool
+is_enough None m = false
+is_enough (Some a) m = is_as_strong a m
+
+-- what is held of a node above is as strong as the intention of what is held below
+abbrev pub intends : Option Mode → Option Mode → Bool
+intends None b = true
+intends (Some a) b = is_enough b (intention a)

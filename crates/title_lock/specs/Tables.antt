@@ -3,7 +3,7 @@ use Rattle.std.specs.{Prelude.{ℕ, ◌≡◌, ◌≢◌, ◌==◌, Bool, true, 
 use Rattle.std.specs.{Prelude.{Option, Some, None}, Ordering.{nat_cmp}, BTreeMap.{BTreeMap, get}}
 use Rattle.title_land.specs.{declared.node.Node.{Node}, Nodes.{same_node, is_above}, Lands.{cover_of}}
 use Rattle.title_land.specs.NodeNumbers.{node_number}
-use Rattle.title_lock.specs.{declared.{modes.Mode.{Mode}, table.Table.{Table}, guards.Entry.{Entry}}, Modes.{allows}}
+use Rattle.title_lock.specs.{declared.{modes.Mode.{Mode}, table.Table.{Table}, guards.Entry.{Entry}}, Modes.{allows, intends}}
 use Rattle.title_lock.specs.{Asking.{mode_at, AreSized}, Holders.{Modes, holder_mode, has_room, idles, is_free}}
 
 -- the holders at n, in a map by the numbers of nodes
@@ -83,6 +83,18 @@ pub record AllUsed (t : HeldAt) : Type 0 where
 -- an access asks for something at n for the node c of its cover
 abbrev pub is_asked : Node → Node → Bool
 is_asked n c = same_node n c || is_above n c
+
+-- whoever holds n, or a node above it, holds the intention of that at each node above
+abbrev pub IsRooted : HeldAt → ℕ → Node → Type 0
+IsRooted t e n = (m : Node) → is_asked m n ≡ true → (k : Node) → is_above k m ≡ true → intends (table_mode t e m) (table_mode t e k) ≡ true
+
+-- whoever has room at n, or at a node above it, has room at each node above
+abbrev pub IsRoomy : HeldAt → ℕ → Node → Type 0
+IsRoomy t e n = (m : Node) → is_asked m n ≡ true → table_room t e m ≡ true → (k : Node) → is_above k m ≡ true → table_room t e k ≡ true
+
+-- whoever doesn't hold n, or a node above it, holds no node above
+abbrev pub IsGone : HeldAt → ℕ → Node → Type 0
+IsGone t e n = (m : Node) → is_asked m n ≡ true → table_mode t e m ≡ None → (k : Node) → is_above k m ≡ true → table_mode t e k ≡ None
 
 -- an entry of examiner e asks for something at n
 abbrev pub is_asked_by : ℕ → ℕ → Node → Entry → Bool

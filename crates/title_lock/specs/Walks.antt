@@ -1,11 +1,10 @@
 -- The walk over what an access asks for: of each node of a cover the node itself, and the nodes above it that don't lie above the
--- node before too. And what is done along it.
-use Rattle.std.specs.Prelude.{ℕ, ◌≡◌, ◌==◌, Bool, true, false, ◌&&◌, if◌then◌else◌, List, [], ◌∷◌, ◌++◌, Option, Some, None}
+-- node before too.
+use Rattle.std.specs.Prelude.{Bool, true, false, if◌then◌else◌, List, [], ◌∷◌, ◌++◌, Option, Some, None}
 use Rattle.std.specs.List.{list_any}
 use Rattle.title_land.specs.{declared.node.Node.{Node}, Nodes.{same_node, above, is_above}}
 use Rattle.title_lock.specs.{declared.{modes.Mode.{Mode}, spots.Spot.{Spot}, walks.{Climb.{Climb}, Walk.{Walk}}}, Modes.{bound}}
 use Rattle.title_lock.specs.{Asking.{own_mode, above_mode}, Holders.{clashes}}
-use Rattle.title_lock.specs.Tables.{HeldAt, table_mode, KeepsRoom, IdleMore, IdleLess}
 
 -- a node that is asked for, and whether it is one of the cover; else it lies above one
 abbrev pub Asked : Type 0
@@ -59,22 +58,3 @@ climb_left (Some c) = (c.spot.is.node, c.is_own) ∷ asks_above (node_of c.last)
 -- what a walk has still to come
 abbrev pub walk_left : Walk → List Asked
 walk_left w = climb_left w.climb ++ walk (node_of w.last) w.nodes.now
-
--- ---- what is done along it
-
--- no mode changes, room is kept, and nobody gets idle but examiner e where it asks
-pub record Roomed (old : HeldAt) (new : HeldAt) (e : ℕ) (asks : List Asked) : Type 0 where
-  pub modes : (f : ℕ) (n : Node) → table_mode new f n ≡ table_mode old f n
-  pub stays : KeepsRoom old new
-  pub idle : IdleMore old new e (asks_in asks)
-
--- examiner e has what is asked, room is kept, and it isn't idle where it asks
-pub record Raised (old : HeldAt) (new : HeldAt) (e : ℕ) (post : Bool) (asks : List Asked) : Type 0 where
-  pub modes : (f : ℕ) (n : Node) → table_mode new f n ≡ bound (table_mode old f n) (if f == e then asked_in post asks n else None)
-  pub stays : KeepsRoom old new
-  pub idle : IdleLess old new e (asks_in asks)
-
--- examiner e isn't idle where it asks, and has no mode there where modes are taken out
-pub record TakenOut (old : HeldAt) (new : HeldAt) (e : ℕ) (modes : Bool) (asks : List Asked) : Type 0 where
-  pub gone : (f : ℕ) (n : Node) → table_mode new f n ≡ (if modes && f == e && asks_in asks n then None else table_mode old f n)
-  pub idle : IdleLess old new e (asks_in asks)

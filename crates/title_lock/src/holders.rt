@@ -1,22 +1,16 @@
 //! The holders of one node.
 
-ghost use Rattle.std.specs.Prelude.{◌≡◌, ℕ, true, not, ◌==◌, ◌&&◌, ◌||◌, ◌≢◌, false, if◌then◌else◌, Some, None, OnOk, is_some, slice_index};
-ghost use Rattle.title_lock.specs.{declared.modes.Mode.{Mode, TheVariants.{Is, Ix, S, Six, X}}, Modes.{bound}, Overlaps.{IsLeast}};
-ghost use Rattle.title_lock.specs.Counts.{IsCount};
-ghost use Rattle.title_lock.specs.Holders.{Modes, holder_mode, has_room, is_free, clashes, is_mode, own_part, leaves, is_clear, AreCounted};
+ghost use Rattle.std.specs.Prelude.{◌≡◌, ℕ, true, not, ◌==◌, ◌&&◌, ◌||◌, ◌≢◌, false, if◌then◌else◌, Some, None, OnOk, IfOk};
+ghost use Rattle.std.specs.Prelude.{is_some, slice_index};
+ghost use Rattle.title_lock.specs.{declared.modes.Mode.{Mode, TheVariants.{Is, Ix, S, Six, X}}, Modes.{bound, is_enough}};
+ghost use Rattle.title_lock.specs.{Overlaps.{IsLeast}, Counts.{IsCount}};
+ghost use Rattle.title_lock.specs.Holders.{Modes, holder_mode, has_room, is_free, clashes, own_part, leaves, is_clear, AreCounted};
 
 use crate::counts::Counts;
 use crate::modes::{Mode, bound, compat};
 use crate::slots::Slots;
 use std::alloc::{AllocError, Global};
 use std::marker::Model;
-
-/// What is taken out of a node's holders: an examiner's mode and room, or its room alone where it holds nothing.
-#[derive(Clone, Copy, Debug, PartialEq, Eq, Drop)]
-pub(crate) enum Taken {
-    Mode,
-    Room,
-}
 
 /// The examiners that hold a node, with the mode of each and how many have each mode. An examiner with `None` has room and
 /// doesn't hold the node.
@@ -102,6 +96,13 @@ impl Holders {
         ]
     }
 
+    /// Whether an examiner came first, and holds enough.
+    pub(crate) fn is_held(&self, examiner: u32, wanted: Mode) -> bool
+        ensures held { result ≡ true → is_enough (holder_mode self.now examiner) wanted ≡ true }
+    {
+        self.slots.is_held(examiner, wanted)
+    }
+
     /// The least other examiner whose mode doesn't stand beside the one wanted. The counts alone tell where
     /// there is none.
     pub(crate) fn way(&self, examiner: u32, wanted: Mode) -> Option<u32>
@@ -118,8 +119,9 @@ impl Holders {
         self.slots.way(examiner, wanted)
     }
 
-    /// Makes room for an examiner. Nobody's mode changes.
-    pub(crate) fn make_room(&mut self, examiner: u32) -> Result<(), AllocError>
+    /// Makes room for an examiner. Nobody's mode changes. `true` where it had room.
+    pub(crate) fn make_room(&mut self, examiner: u32) -> Result<bool, AllocError>
+        ensures had { IfOk result (λ had. had ≡ has_room self.old examiner) }
         ensures modes { (e : ℕ) → holder_mode self.new e ≡ holder_mode self.old e }
         ensures room { OnOk result (has_room self.new examiner ≡ true) }
         ensures stays { (e : ℕ) → has_room self.old e ≡ true → has_room self.new e ≡ true }
@@ -128,28 +130,39 @@ impl Holders {
         self.slots.make_room(examiner)
     }
 
-    /// Gives an examiner one mode more. Takes no memory.
-    pub(crate) fn raise(&mut self, examiner: u32, mode: Mode)
+    /// Gives an examiner one mode more. The result is what it held. Takes no memory.
+    pub(crate) fn raise(&mut self, examiner: u32, mode: Mode) -> Option<Mode>
         requires room { has_room self.old examiner ≡ true }
+        ensures had { result ≡ holder_mode self.old examiner }
         ensures modes { (e : ℕ) → holder_mode self.new e ≡ bound (holder_mode self.old e) (if e == examiner then Some mode else None) }
         ensures rooms { (e : ℕ) → has_room self.new e ≡ has_room self.old e }
     {
         let had = self.slots.raise(examiner, mode);
         let raised = bound(had, Some(mode));
         self.counts = self.counts.moved(had, raised);
+        had
     }
 
-    // Takes an examiner out.
-    fn release(&mut self, examiner: u32)
+    /// Whether nobody holds the node, and nobody has room.
+    pub(crate) fn is_free(&self) -> bool
+        ensures free { result ≡ is_free self.now }
+    {
+        self.slots.is_empty()
+    }
+
+    /// Takes an examiner out. The result is what it held. Takes no memory.
+    pub(crate) fn release(&mut self, examiner: u32) -> Option<Mode>
+        ensures had { result ≡ holder_mode self.old examiner }
         ensures modes { (e : ℕ) → holder_mode self.new e ≡ (if e == examiner then None else holder_mode self.old e) }
         ensures rooms { (e : ℕ) → has_room self.new e ≡ (not (e == examiner) && has_room self.old e) }
     {
         let had = self.slots.erase(examiner);
         self.counts = self.counts.moved(had, None);
+        had
     }
 
-    // Takes an examiner's room back where it doesn't hold the node.
-    fn drop_room(&mut self, examiner: u32)
+    /// Takes an examiner's room back where it doesn't hold the node. Takes no memory.
+    pub(crate) fn drop_room(&mut self, examiner: u32)
         ensures modes { (e : ℕ) → holder_mode self.new e ≡ holder_mode self.old e }
         ensures rooms { (e : ℕ) → has_room self.new e
             ≡ (if e == examiner then is_some (holder_mode self.old e) else has_room self.old e) }
@@ -160,20 +173,5 @@ impl Holders {
                 self.slots.erase(examiner);
             }
         }
-    }
-
-    /// Takes an examiner's mode or room out. The result tells whether the node is then free: nobody holds it, and nobody
-    /// has room.
-    pub(crate) fn take_out(&mut self, examiner: u32, taken: Taken) -> bool
-        ensures modes { (e : ℕ) → holder_mode self.new e ≡ (if is_mode taken && e == examiner then None else holder_mode self.old e) }
-        ensures rooms { (e : ℕ) → has_room self.new e
-            ≡ (if e == examiner then not (is_mode taken) && is_some (holder_mode self.old e) else has_room self.old e) }
-        ensures free { result ≡ is_free self.new }
-    {
-        match taken {
-            Taken::Mode => self.release(examiner),
-            Taken::Room => self.drop_room(examiner),
-        }
-        self.slots.is_empty()
     }
 }

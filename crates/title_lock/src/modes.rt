@@ -1,7 +1,7 @@
 //! The modes of a lock.
 
 ghost use Rattle.std.specs.Prelude.{◌≡◌};
-ghost use Rattle.title_lock.specs.Modes.{compat, sup, bound};
+ghost use Rattle.title_lock.specs.Modes.{compat, sup, bound, intention, is_enough};
 
 /// What an examiner holds of a node: S to read and X to post in all of it, IS and IX to read and post somewhere below
 /// it, SIX for S and IX (Gray and others, 1976).
@@ -47,5 +47,28 @@ pub(crate) fn bound(a: Option<Mode>, b: Option<Mode>) -> Option<Mode>
         (None, _) => b,
         (Some(_), None) => a,
         (Some(a), Some(b)) => Some(sup(a, b)),
+    }
+}
+
+/// What who holds a mode holds at least of each node above: IX where it may post somewhere below, else IS (Gray and others, 1976).
+pub(crate) fn intention(mode: Mode) -> Mode
+    ensures intention { result ≡ intention mode }
+{
+    match mode {
+        Mode::Is | Mode::S => Mode::Is,
+        Mode::Ix | Mode::Six | Mode::X => Mode::Ix,
+    }
+}
+
+/// Whether what is held is as strong as a mode.
+pub(crate) fn is_enough(held: Option<Mode>, mode: Mode) -> bool
+    ensures enough { result ≡ is_enough held mode }
+{
+    match (held, mode) {
+        (None, _) => false,
+        (Some(_), Mode::Is) | (Some(Mode::X | Mode::Six), Mode::Ix | Mode::S) => true,
+        (Some(Mode::Ix), Mode::Ix) | (Some(Mode::S), Mode::S) => true,
+        (Some(Mode::X), _) | (Some(Mode::Six), Mode::Six) => true,
+        _ => false,
     }
 }

@@ -1,10 +1,10 @@
 //! The slots of one node's holders.
 
-ghost use Rattle.std.specs.Prelude.{◌≡◌, ℕ, true, false, not, ◌==◌, ◌&&◌, ◌≢◌, nat_lt, if◌then◌else◌, Some, None, OnOk};
-ghost use Rattle.title_lock.specs.{Modes.{bound}, Overlaps.{IsLeast}};
+ghost use Rattle.std.specs.Prelude.{◌≡◌, ℕ, true, false, not, ◌==◌, ◌&&◌, ◌≢◌, nat_lt, if◌then◌else◌, Some, None, OnOk, IfOk};
+ghost use Rattle.title_lock.specs.{Modes.{bound, is_enough}, Overlaps.{IsLeast}};
 ghost use Rattle.title_lock.specs.Holders.{Modes, holder_mode, has_room, is_free, clashes, listed, first_way, IsApart};
 
-use crate::modes::{Mode, bound, compat};
+use crate::modes::{Mode, bound, compat, is_enough};
 use std::alloc::{AllocError, Global};
 use std::collections::BTreeMap;
 use std::marker::Model;
@@ -80,17 +80,19 @@ fn search_before(
     None
 }
 
-// Makes room for an examiner.
-fn add_room(modes: &mut BTreeMap<u32, Option<Mode>>, examiner: u32) -> Result<(), AllocError>
+// Makes room for an examiner. `true` where it had room.
+fn add_room(modes: &mut BTreeMap<u32, Option<Mode>>, examiner: u32) -> Result<bool, AllocError>
+    ensures had { IfOk result (λ had. had ≡ has_room modes.old.entries examiner) }
     ensures modes { (e : ℕ) → holder_mode modes.new.entries e ≡ holder_mode modes.old.entries e }
     ensures room { OnOk result (has_room modes.new.entries examiner ≡ true) }
     ensures stays { (e : ℕ) → has_room modes.old.entries e ≡ true → has_room modes.new.entries e ≡ true }
     ensures others { (e : ℕ) → e ≢ examiner → has_room modes.new.entries e ≡ has_room modes.old.entries e }
 {
-    if !modes.contains_key(&examiner) {
-        modes.insert(examiner, None)?;
+    if modes.contains_key(&examiner) {
+        return Ok(true);
     }
-    Ok(())
+    modes.insert(examiner, None)?;
+    Ok(false)
 }
 
 // Gives an examiner one mode more where there is room for it. The result is what it held.
@@ -145,6 +147,16 @@ impl Slots {
         }
     }
 
+    /// Whether an examiner is the first, and holds enough. It isn't looked for among the others, which would cost more than to ask.
+    pub(crate) fn is_held(&self, examiner: u32, wanted: Mode) -> bool
+        ensures held { result ≡ true → is_enough (holder_mode self.now examiner) wanted ≡ true }
+    {
+        match self.first {
+            Some((first, held)) => first == examiner && is_enough(held, wanted),
+            None => false,
+        }
+    }
+
     /// The least other examiner whose mode doesn't stand beside the one wanted.
     pub(crate) fn way(&self, examiner: u32, wanted: Mode) -> Option<u32>
         ensures way { IsLeast (λ f. clashes wanted (holder_mode self.now f)) examiner result }
@@ -158,21 +170,23 @@ impl Slots {
         }
     }
 
-    /// Makes room for an examiner. Nobody's mode changes.
-    pub(crate) fn make_room(&mut self, examiner: u32) -> Result<(), AllocError>
+    /// Makes room for an examiner. Nobody's mode changes. `true` where it had room.
+    pub(crate) fn make_room(&mut self, examiner: u32) -> Result<bool, AllocError>
+        ensures had { IfOk result (λ had. had ≡ has_room self.old examiner) }
         ensures modes { (e : ℕ) → holder_mode self.new e ≡ holder_mode self.old e }
         ensures room { OnOk result (has_room self.new examiner ≡ true) }
         ensures stays { (e : ℕ) → has_room self.old e ≡ true → has_room self.new e ≡ true }
         ensures others { (e : ℕ) → e ≢ examiner → has_room self.new e ≡ has_room self.old e }
     {
         let Some((first, _)) = self.first else {
-            if !self.others.contains_key(&examiner) {
-                self.first = Some((examiner, None));
+            if self.others.contains_key(&examiner) {
+                return Ok(true);
             }
-            return Ok(());
+            self.first = Some((examiner, None));
+            return Ok(false);
         };
         if first == examiner {
-            return Ok(());
+            return Ok(true);
         }
         add_room(&mut self.others, examiner)
     }

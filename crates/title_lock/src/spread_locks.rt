@@ -1,16 +1,15 @@
 //! Locks as a table of the holders of each node.
 
-ghost use Rattle.std.specs.Prelude.{◌≡◌, ℕ, List, None, ◌∷◌, ◌==◌, ◌&&◌, if◌then◌else◌, OnOk, OnErr, is_some, not, slice_index};
+ghost use Rattle.std.specs.Prelude.{◌≡◌, ℕ, true, List, None, ◌∷◌, ◌==◌, ◌&&◌, if◌then◌else◌, OnOk, OnErr, is_some, not, slice_index};
 ghost use Rattle.std.specs.List.{list_any};
 ghost use Rattle.title_land.specs.{Depth.{depth}, declared.node.Node.{Node}};
 ghost use Rattle.title_lock.specs.{declared.{guards.Entry.{Entry}, modes.Mode.TheVariants.{Is, Ix, S, Six, X}}, Overlaps.{without}};
 ghost use Rattle.title_lock.specs.{Books.{is_nothing}, Asking.{mode_at, AllGranted, AreSized}, Counts.{IsCount}, Standing.{StandFree}};
-ghost use Rattle.title_lock.specs.Tables.{on_all, table_mode, is_asked, is_asked_by, HasRoom, IdleMore, NoMoreIdle, AllUsed};
+ghost use Rattle.title_lock.specs.Tables.{on_all, table_mode, is_asked, is_asked_by, HasRoom, IsRoomy, IdleMore, NoMoreIdle, AllUsed};
 ghost use Rattle.title_lock.specs.Locks.{Locks, granted, waiting, AreLocks};
 
 use crate::book::Book;
 use crate::guards::{Access, Entry, Guards, LockFault};
-use crate::holders::Taken;
 use crate::modes::Mode;
 use crate::table::Table;
 use std::alloc::{AllocError, Global};
@@ -38,6 +37,7 @@ impl Model for SpreadLocks {
 
 // Makes room for what an entry asks for, and adds it to the book. An error may leave room.
 fn fill(table: &mut Table, book: &mut Book, cover: &[Node], entry: Entry) -> Result<(), AllocError>
+    requires roomy { (n : Node) → IsRoomy (on_all table.old) entry.examiner n }
     ensures modes { (f : ℕ) → (n : Node) → table_mode (on_all table.new) f n ≡ table_mode (on_all table.old) f n }
     ensures room { OnOk result (HasRoom (on_all table.new) entry.examiner (λ n. list_any (is_asked n) cover.now)) }
     ensures idle { IdleMore (on_all table.old) (on_all table.new) entry.examiner (λ n. list_any (is_asked n) cover.now) }
@@ -51,6 +51,7 @@ fn fill(table: &mut Table, book: &mut Book, cover: &[Node], entry: Entry) -> Res
 
 // The same; an error leaves no room that wasn't there.
 fn stage(table: &mut Table, book: &mut Book, cover: &[Node], entry: Entry) -> Result<(), AllocError>
+    requires roomy { (n : Node) → IsRoomy (on_all table.old) entry.examiner n }
     ensures modes { (f : ℕ) → (n : Node) → table_mode (on_all table.new) f n ≡ table_mode (on_all table.old) f n }
     ensures room { OnOk result (HasRoom (on_all table.new) entry.examiner (λ n. list_any (is_asked n) cover.now)) }
     ensures idle { OnOk result (IdleMore (on_all table.old) (on_all table.new) entry.examiner (λ n. list_any (is_asked n) cover.now)) }
@@ -63,12 +64,14 @@ fn stage(table: &mut Table, book: &mut Book, cover: &[Node], entry: Entry) -> Re
     if fill(table, book, cover, entry).is_ok() {
         return Ok(());
     }
-    table.take_out_all(examiner, cover, Taken::Room);
+    table.drop_room_all(examiner, cover);
     Err(AllocError)
 }
 
 // Takes out an examiner's entries, and the examiner out of the holders of all nodes that they ask for.
 fn give_back_all(table: &mut Table, book: &mut Book, examiner: u32)
+    requires held { (n : Node) → list_any (is_asked_by depth examiner n) book.old ≡ true
+        → is_some (table_mode (on_all table.old) examiner n) ≡ true }
     ensures left { book.new ≡ without examiner book.old }
     ensures modes { (f : ℕ) → (n : Node) → table_mode (on_all table.new) f n
         ≡ (if f == examiner && list_any (is_asked_by depth examiner n) book.old then None else table_mode (on_all table.old) f n) }
@@ -76,7 +79,7 @@ fn give_back_all(table: &mut Table, book: &mut Book, examiner: u32)
     ensures used { AllUsed (on_all table.old) → AllUsed (on_all table.new) }
 {
     while let Some(entry) = book.take(examiner) {
-        table.take_out_all(examiner, entry.tract.cover(), Taken::Mode);
+        table.take_out_all(examiner, entry.tract.cover());
     }
 }
 
@@ -119,8 +122,7 @@ impl SpreadLocks {
         };
         self.prepared = None;
         if let Some(entry) = self.book.take(examiner) {
-            self.table
-                .take_out_all(examiner, entry.tract.cover(), Taken::Room);
+            self.table.drop_room_all(examiner, entry.tract.cover());
         }
     }
 }

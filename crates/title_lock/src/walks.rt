@@ -1,6 +1,6 @@
 //! The walk over what an access asks for.
 
-ghost use Rattle.std.specs.Prelude.{◌≡◌, ◌∷◌, [], None, MatchOption};
+ghost use Rattle.std.specs.Prelude.{◌≡◌, ◌∷◌, [], None, MatchOption, IfSome};
 ghost use Rattle.title_land.specs.Nodes.{above};
 ghost use Rattle.title_lock.specs.{Overlaps.{is_post}, Asking.{own_mode, above_mode}};
 ghost use Rattle.title_lock.specs.Walks.{mode_for, is_known, asks_above, walk, node_of, climb_left, walk_left};
@@ -31,8 +31,8 @@ pub(crate) struct Walk<'a> {
     climb: Option<Climb>,
 }
 
-// What an access asks of a node of the cover.
-fn own_mode(access: Access) -> Mode
+/// What an access asks of a node of the cover.
+pub(crate) fn own_mode(access: Access) -> Mode
     ensures own { result ≡ own_mode (is_post access) }
 {
     match access {
@@ -106,6 +106,7 @@ impl<'a> Walk<'a> {
     pub(crate) fn next(&mut self) -> Option<Climb>
         ensures next { MatchOption result (walk_left self.old ≡ [])
             (λ c. walk_left self.old ≡ (c.spot.is.node, c.is_own) ∷ walk_left self.new) }
+        ensures above { IfSome result (λ c. climb_left self.new.climb ≡ asks_above (node_of c.last) (above c.spot.is.node)) }
     {
         let climb = match self.climb {
             Some(climb) => climb,
@@ -123,5 +124,12 @@ impl<'a> Walk<'a> {
         };
         self.climb = climb.above();
         Some(climb)
+    }
+
+    /// Leaves out what is still to come above the node that came last.
+    pub(crate) fn skip(&mut self)
+        ensures skip { walk_left self.new ≡ walk (node_of self.old.last) self.old.nodes.now }
+    {
+        self.climb = None;
     }
 }

@@ -29,9 +29,8 @@ ways_in_order (home.Township t) ps i j o = cond_both _ ([] ∷ []) [] InOrder (�
 ways_in_order (home.Section n t) ps i j o = cond_both _ ps [] InOrder (λ _. o) (λ _. tt)
 
 -- a tidy plot that changed at some paths alone can be joined nowhere else
-elsewhere_joined : (ps : List (List Quarter)) (t u : Plot) → is_tidy t ≡ true → ((q : List Quarter) → Apart q ps → plot_at q u ≡ plot_at q
-    t)
-    → JoinedBut (ps ∷ []) u
+elsewhere_joined : (ps : List (List Quarter)) (t u : Plot) → is_tidy t ≡ true
+    → ((q : List Quarter) → Apart q ps → plot_at q u ≡ plot_at q t) → JoinedBut (ps ∷ []) u
 elsewhere_joined ps t u tidy same q away =
     ap is_joinable (same q (away ps (inl refl))) ∙ joined_but_none [] t tidy q (λ qs m. absurd m)
 

@@ -101,9 +101,7 @@ impl Parts {
             },
         }
     }
-}
 
-impl Parts {
     // The same; then what can be joined there is: parts of a section on the way down to their paths and up again.
     #[tactic(auto, using(crate::proofs::GroundLawsPlaces::township_tests))]
     fn settle(&mut self, grounds: &mut Vec<Ground>, put: &Written, estate: Estate)

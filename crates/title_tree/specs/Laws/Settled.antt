@@ -77,7 +77,7 @@ tidied_next (Southeast ∷ p) (y ∷ o) (Four a b c d) f g =
 
 -- ---- what comes later
 
--- no node of a path is joined while what is tidied at the first one stays as far as another leads
+-- tidied at p, joined only where `other` doesn't lead, a plot keeps every node of q
 abbrev misses : List Quarter → Option (List Quarter) → List Quarter → Bool
 misses [] other q = false
 misses (x ∷ p) None q = false

@@ -16,17 +16,17 @@ invariant_of-self c =
     let taken = prepared_taken depth e book c.take.new.self table x kept c.in-Some-take.ensures.taken in
     let waits = ap (λ (p : Option ℕ). waiting p book) c.in-Some.is ∙ taken.0 in
     record {
-      kept = subst (λ (es : List Entry). TableIs depth es (on_all c.take_out_all.new.self)) (sym taken.1)
-          (table_same depth (granted (Some e) book) table c.take_out_all.new.self c.take_out_all.ensures.modes (kept_table depth
+      kept = subst (λ (es : List Entry). TableIs depth es (on_all c.drop_room_all.new.self)) (sym taken.1)
+          (table_same depth (granted (Some e) book) table c.drop_room_all.new.self c.drop_room_all.ensures.modes (kept_table depth
           (Some e) book table kept));
-      lean = lean_done depth x table c.take_out_all.new.self
+      lean = lean_done depth x table c.drop_room_all.new.self
           (subst (λ (w : Option Entry). IsLean depth w table) waits c.self.invariant.lean)
-          (subst (λ (f : ℕ). IdleLess (on_all table) (on_all c.take_out_all.new.self) f
+          (subst (λ (f : ℕ). IdleLess (on_all table) (on_all c.drop_room_all.new.self) f
           (λ n. list_any (is_asked n) (cover_of depth x.tract))) (sym c.in-Some-take.ensures.own)
-          (subst (λ (t : List Node). IdleLess (on_all table) (on_all c.take_out_all.new.self) e (λ n. list_any (is_asked n) t))
+          (subst (λ (t : List Node). IdleLess (on_all table) (on_all c.drop_room_all.new.self) e (λ n. list_any (is_asked n) t))
           c.cover.ensures.cover
-          c.take_out_all.ensures.idle))
-          c.take_out_all.ensures.used;
+          c.drop_room_all.ensures.idle))
+          c.drop_room_all.ensures.used;
     }
 
 pub returns-in-Some-take-clause-stays : goal.returns-in-Some-take-clause-stays

@@ -1,9 +1,16 @@
 -- The table without an examiner's modes is that of the entries without its own.
 use Rattle.std.proofs.Common.{◌∙◌, sym, ap, subst, List, Option, None, ℕ}
 use Rattle.title_land.specs.Depth.{depth}
-use Rattle.title_lock.{specs.{declared.guards.Entry.{Entry}, Overlaps.{without}, Tables.{TableIs, on_all}}, proofs.GiveBack.{table_fewer}}
-use Rattle.title_lock.{specs.Locks.{Locks, granted, AreLocks}, proofs.KeptLaws.{forgotten, lean_same}}
+use Rattle.title_lock.specs.{declared.guards.Entry.{Entry}, Overlaps.{without}, Tables.{TableIs, on_all}, Locks.{Locks, granted, AreLocks}}
+use Rattle.title_lock.proofs.{GiveBack.{table_fewer, table_held}, KeptLaws.{forgotten, lean_same}}
 use Rattle.title_lock.proofs.spread_locks.SpreadLocksGuards.give_back.Goals as goal
+
+pub give_back_all-requires : goal.give_back_all-requires
+give_back_all-requires c =
+    let i = c.self.inside in
+    let was = forgotten depth i.prepared i.book i.table c.self.invariant
+    (ap (λ (l : Locks). l.prepared) c.self.view_is ∙ c.forget.ensures.none) in
+    record { held = table_held depth i.book (on_all i.table) was.table c.args.examiner }
 
 pub invariant_of-self : goal.invariant_of-self
 invariant_of-self c =

@@ -3,15 +3,21 @@ use Rattle.std.{proofs.Common.{◌∷◌, ◌∙◌, sym, ap, subst, List, Optio
 use Rattle.title_land.specs.{Depth.{depth}, declared.node.Node.{Node}}
 use Rattle.title_lock.specs.{declared.guards.Entry.{Entry}, Modes.{bound}, Overlaps.{is_post}, Asking.{asked}, Tables.{on_all}}
 use Rattle.title_lock.specs.{Tables.{table_mode, is_asked, IdleLess, TableIs}, Locks.{Locks, granted, IsLean}}
-use Rattle.title_lock.proofs.{MeetLaws.{meet_by_covers}, GiveBack.{table_more}, KeptLaws.{kept_table, first_waits, lean_done}}
+use Rattle.title_lock.proofs.{MeetLaws.{meet_by_covers}, GiveBack.{table_more}, RootedLaws.{table_rooted}}
+use Rattle.title_lock.proofs.KeptLaws.{kept_table, first_waits, lean_done}
 use Rattle.title_lock.proofs.spread_locks.SpreadLocksGuards.grant.Goals as goal
 
 pub raise_all-requires : goal.raise_all-requires
 raise_all-requires c =
+    let es = granted c.self.inside.prepared c.self.inside.book in
     let x : Entry = record { examiner = c.args.examiner; tract = c.args.tract.now; access = c.args.access } in
     let first = first_waits depth c.self.inside.prepared c.self.inside.book c.self.inside.table x c.self.invariant.kept
     (ap (λ (l : Locks). l.prepared) c.self.view_is ∙ c.requires.prepared) in
-    record { room = λ n asks. first.1.room n (ap (λ (t : List Node). list_any (is_asked n) t) (sym c.cover.ensures.cover) ∙ asks) }
+    record {
+      room = λ n asks. first.1.room n (ap (λ (t : List Node). list_any (is_asked n) t) (sym c.cover.ensures.cover) ∙ asks);
+      rooted = table_rooted depth es (on_all c.self.inside.table) (kept_table depth c.self.inside.prepared c.self.inside.book
+          c.self.inside.table c.self.invariant.kept) c.args.examiner;
+    }
 
 pub invariant_of-self : goal.invariant_of-self
 invariant_of-self c =

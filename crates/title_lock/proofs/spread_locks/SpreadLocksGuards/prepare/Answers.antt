@@ -2,8 +2,16 @@
 use Rattle.std.{proofs.Common.{◌≡◌, ◌∙◌, ℕ, List, Option, Some, None, refl, sym, ap, subst}, specs.List.{list_any}}
 use Rattle.title_land.specs.{Depth.{depth}, declared.{node.Node.{Node}, tract.Land.{Land}}, Lands.{cover_of, IsLand}}
 use Rattle.title_lock.specs.{declared.guards.Entry.{Entry}, Overlaps.{is_post, Stands}, Tables.{is_asked, HasRoom, IdleMore, on_all}}
-use Rattle.title_lock.{specs.Locks.{Locks, AreLocks}, proofs.KeptLaws.{forgotten, table_same, lean_more, lean_same}}
+use Rattle.title_lock.{specs.Locks.{Locks, AreLocks}, proofs.RootedLaws.{table_roomy}}
+use Rattle.title_lock.proofs.KeptLaws.{forgotten, table_same, lean_more, lean_same}
 use Rattle.title_lock.proofs.spread_locks.SpreadLocksGuards.prepare.Goals as goal
+
+pub stage-requires : goal.stage-requires
+stage-requires c =
+    let i = c.self.inside in
+    let was = forgotten depth i.prepared i.book i.table c.self.invariant
+    (ap (λ (l : Locks). l.prepared) c.self.view_is ∙ c.forget.ensures.none) in
+    record { roomy = table_roomy depth i.book i.table was.table was.lean c.args.examiner }
 
 pub invariant_of-self : goal.invariant_of-self
 invariant_of-self c =

@@ -20,10 +20,12 @@ returns-in-Some c =
     let now = stands m (c.get_mut.follows.lender w) at.number at.is.node (Some w) at.is.numbered
     ((c.get_mut.follows.holds w).3 (is_found _ _ found)).0 in
     record {
+      had = search rules;
       modes = λ f n. same_at f _ (Some w) (was n) (now n) (made.modes f);
       room = search rules;
       stays = λ f n room. grind (arith, was n, now n, made.stays f);
       idle = record { more = λ f n. more_at f (eqb f e) _ (Some w) (was n) (now n) (idles_more h w f e (made.modes f) (made.others f)) };
+      others = λ n other. grind (arith, now n, other);
       used = λ used. record { each = λ n. grind (arith, was n, now n, rooms_used h w made.stays, used.each n) };
     }
 
@@ -40,12 +42,14 @@ returns c =
     let now = stands m n at.number at.is.node (Some v) at.is.numbered
     (subst (λ (z : NodeMap). Writes z n at.number (Some v)) c.get_mut.follows.holds-at-none c.in_ok-insert.ensures.updates.0) in
     record {
+      had = search rules;
       modes = λ f n. grind (arith, was n, now n, made.modes f, h.ensures.free f);
       room = search rules;
       stays = λ f n room. grind (arith, was n, now n);
       idle = record {
         more = λ f n idle. grind (arith, was n, now n, idles_first h.result v f e (h.ensures.rooms f) (made.modes f) (made.others f));
       };
+      others = λ n other. grind (arith, now n, other);
       used = λ used. record { each = λ n. grind (arith, now n, room_used v e c.in_ok-make_room.ensures.room, used.each n) };
     }
 

@@ -1,5 +1,5 @@
 -- One node's holders change, and they keep their room.
-use Rattle.std.proofs.Common.{◌∙◌, Some, eqb, arith}
+use Rattle.std.proofs.Common.{◌∙◌, Some, eqb, arith, rules}
 use Rattle.title_lock.proofs.{TableLaws.{stood, stands, raised_at, less_at, is_found}, IdleLaws.{idles_raised, rooms_used}}
 use Rattle.title_lock.proofs.table.Table.raise.Goals as goal
 
@@ -15,6 +15,7 @@ returns-in-Some c =
     let now = stands m (c.get_mut.follows.lender w) at.number at.is.node (Some w) at.is.numbered
     ((c.get_mut.follows.holds w).3 (is_found _ _ found)).0 in
     record {
+      had = search rules;
       modes = λ f n. raised_at f (eqb f c.args.examiner) c.args.mode _ (Some w) (was n) (now n) (made.modes f);
       stays = λ f n room. grind (arith, was n, now n, made.rooms f);
       idle = record {

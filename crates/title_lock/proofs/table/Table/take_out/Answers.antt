@@ -1,60 +1,47 @@
 -- One node's holders lose an examiner, and are dropped where nobody is left.
-use Rattle.std.proofs.Common.{◌≡◌, ◌&&◌, eqb, ℕ, ◌∙◌, ap, sym, true, false, Some, None, arith}
-use Rattle.title_lock.specs.{Holders.{is_mode, is_free}, Tables.{holders_at}}
-use Rattle.title_lock.proofs.TableLaws.{stood, stands, taken_at, less_at, is_found, rewritten, free_none}
-use Rattle.title_lock.proofs.IdleLaws.{idles_taken, free_idles}
+use Rattle.std.proofs.Common.{◌∙◌, ap, sym, eqb, Some, None, arith, rules}
+use Rattle.title_lock.{specs.Tables.{holders_at}, proofs.{TableLaws.{removed, kept}, IdleLaws.{idles_released}}}
+use Rattle.title_lock.proofs.TableLaws.{Writes, stood, stands, taken_at, no_more_at, is_found, left_of, left_modes, left_idle, left_used}
+use Rattle.title_lock.proofs.table.Table.take_out.Goals.{then-is_free+in-Some-1, then-is_free+in-None-1, else-is_free}
 use Rattle.title_lock.proofs.table.Table.take_out.Goals as goal
 
-pub returns-in_default : goal.returns-in_default
-returns-in_default c =
+pub returns-in_default-clause-modes : goal.returns-in_default-clause-modes
+returns-in_default-clause-modes c f n =
     let at = c.args.spot.now in
     let was = stood c.args.self.now.holders at.number at.is.node None at.is.numbered c.in_default.ensures.value in
-    let now = ap holders_at c.get_mut.follows.holds-at-none in
-    record {
-      modes = λ f n. grind (arith, was n, ap (λ z. z n) now);
-      idle = record { less = λ f n. grind (arith, was n, ap (λ z. z n) now) };
-      used = λ used. record { each = λ n. grind (arith, ap (λ z. z n) now, used.each n) };
-    }
+    grind (arith, was n, ap (λ z. holders_at z n) c.get_mut.follows.holds-at-none)
 
-pub returns-then-take_out : goal.returns-then-take_out
-returns-then-take_out c =
+pub returns-in_default-clause-used : goal.returns-in_default-clause-used
+returns-in_default-clause-used c used = record {
+  each = λ n. grind (arith, ap (λ z. holders_at z n) c.get_mut.follows.holds-at-none, used.each n);
+}
+
+pub returns : goal.returns
+returns c =
     let e = c.args.examiner in
-    let t = is_mode c.args.taken in
     let at = c.args.spot.now in
     let m = c.args.self.now.holders in
     let h = c.in-Some.holders.now in
-    let w = c.take_out.new.self in
-    let taken = c.take_out.ensures in
+    let w = c.release-had.new.self in
+    let taken = c.release-had.ensures in
     let found = c.in-Some.ensures.value in
-    let free : is_free w ≡ true = sym taken.free ∙ c.if-take_out.true in
+    let first = ((c.get_mut.follows.holds w).3 (is_found _ _ found)).0 in
+    let n = c.get_mut.follows.lender w in
+    let left : Writes m c.if-is_free.self.holders at.number (left_of w) = elim c.if-is_free.branch [
+      | then-is_free+in-Some-1 b ↦ rw b.self-is (removed m n b.remove.new.self at.number w
+          (sym c.is_free.ensures.free ∙ b.if-is_free.true) first b.remove.ensures.updates.0)
+      | then-is_free+in-None-1 b ↦ rw b.self-is (removed m n b.remove.new.self at.number w
+          (sym c.is_free.ensures.free ∙ b.if-is_free.true) first b.remove.ensures.updates.0)
+      | else-is_free b ↦ rw b.self-is (kept m n at.number w (sym c.is_free.ensures.free ∙ b.if-is_free.false) first)
+    ] in
     let was = stood m at.number at.is.node (Some h) at.is.numbered found in
-    let now = stands m c.remove.new.self at.number at.is.node None at.is.numbered
-    (rewritten m (c.get_mut.follows.lender w) c.remove.new.self at.number (Some w) None
-    ((c.get_mut.follows.holds w).3 (is_found _ _ found)).0 c.remove.ensures.updates.0) in
-    let idle = λ (f : ℕ). idles_taken h w f e t (taken.modes f) (taken.rooms f) in
+    let now = stands m c.if-is_free.self.holders at.number at.is.node (left_of w) at.is.numbered left in
     record {
-      modes = λ f n. taken_at f (t && eqb f e) _ None (was n) (now n) (sym (free_none w free f) ∙ taken.modes f);
-      idle = record { less = λ f n. less_at f (eqb f e) _ None (was n) (now n) (sym (free_idles w free f) ∙ idle f) };
-      used = λ used. record { each = λ n. grind (arith, now n, used.each n) };
-    }
-
-pub returns-else-take_out : goal.returns-else-take_out
-returns-else-take_out c =
-    let e = c.args.examiner in
-    let t = is_mode c.args.taken in
-    let at = c.args.spot.now in
-    let m = c.args.self.now.holders in
-    let h = c.in-Some.holders.now in
-    let w = c.take_out.new.self in
-    let taken = c.take_out.ensures in
-    let found = c.in-Some.ensures.value in
-    let kept : is_free w ≡ false = sym taken.free ∙ c.if-take_out.false in
-    let was = stood m at.number at.is.node (Some h) at.is.numbered found in
-    let now = stands m (c.get_mut.follows.lender w) at.number at.is.node (Some w) at.is.numbered
-    ((c.get_mut.follows.holds w).3 (is_found _ _ found)).0 in
-    let idle = λ (f : ℕ). idles_taken h w f e t (taken.modes f) (taken.rooms f) in
-    record {
-      modes = λ f n. taken_at f (t && eqb f e) _ (Some w) (was n) (now n) (taken.modes f);
-      idle = record { less = λ f n. less_at f (eqb f e) _ (Some w) (was n) (now n) (idle f) };
-      used = λ used. record { each = λ n. grind (arith, now n, kept, used.each n) };
+      had = search rules;
+      modes = λ f n. taken_at f (eqb f e) _ (left_of w) (was n) (now n) (left_modes w f ∙ taken.modes f);
+      idle = record {
+        same = λ f n. no_more_at f _ (left_of w) (was n) (now n)
+            (λ idle. idles_released h w f e (taken.modes f) (taken.rooms f) (sym (left_idle w f) ∙ idle));
+      };
+      used = λ used. record { each = λ n. grind (arith, now n, left_used w, used.each n) };
     }
