@@ -53,9 +53,9 @@ fn are_in_the_way<G: Guards>(locks: &mut G) -> Result<()> {
 }
 
 // All read.
-fn try_readers<G: Guards>(locks: &mut G) -> Result<()> {
-    ask_all(locks, Access::Read)?;
-    are_in_the_way(locks)
+fn try_readers<G: Guards + Drop>(mut locks: G) -> Result<()> {
+    ask_all(&mut locks, Access::Read)?;
+    are_in_the_way(&mut locks)
 }
 
 // All read: at each node one has S, and those who read below it have IS.
@@ -68,13 +68,13 @@ fn are_counted(locks: &NodeLocks) -> Result<()> {
     is_counted(locks, Parcel::Everything, [341, 0, 0, 0, 0])
 }
 
-fn try_counts(locks: &mut NodeLocks) -> Result<()> {
-    ask_all(locks, Access::Read)?;
-    are_counted(locks)?;
+fn try_counts(mut locks: NodeLocks) -> Result<()> {
+    ask_all(&mut locks, Access::Read)?;
+    are_counted(&locks)?;
     for examiner in 1..=NODES {
         locks.give_back(examiner);
     }
-    is_counted(locks, Parcel::section(1), [0; 5])
+    is_counted(&locks, Parcel::section(1), [0; 5])
 }
 
 // An examiner posts in each cell.
@@ -86,14 +86,14 @@ fn post_all<G: Guards>(locks: &mut G) -> Result<()> {
 }
 
 // All post, and the last reads the section as soon as it is alone.
-fn try_posts<G: Guards>(locks: &mut G) -> Result<()> {
+fn try_posts<G: Guards + Drop>(mut locks: G) -> Result<()> {
     let (section, conflict) = (Parcel::section(1), Err(LockFault::Conflict(1)));
-    post_all(locks)?;
-    asks(locks, 256, section, Access::Read, conflict)?;
+    post_all(&mut locks)?;
+    asks(&mut locks, 256, section, Access::Read, conflict)?;
     for examiner in 1..256u32 {
         locks.give_back(examiner);
     }
-    asks(locks, 256, section, Access::Read, Ok(()))
+    asks(&mut locks, 256, section, Access::Read, Ok(()))
 }
 
 // Each examiner of a script reads a node.
@@ -148,16 +148,16 @@ fn crowded(alloc: Global) -> Result<NodeLocks> {
 
 // Nodes' locks, listed and by node, and rows'.
 fn try_nodes(alloc: Global) -> Result<()> {
-    try_readers(&mut NodeLocks::new(alloc))?;
-    try_readers(&mut crowded(alloc)?)?;
-    try_counts(&mut NodeLocks::new(alloc))?;
-    try_posts(&mut NodeLocks::new(alloc))?;
-    try_posts(&mut crowded(alloc)?)
+    try_readers(NodeLocks::new(alloc))?;
+    try_readers(crowded(alloc)?)?;
+    try_counts(NodeLocks::new(alloc))?;
+    try_posts(NodeLocks::new(alloc))?;
+    try_posts(crowded(alloc)?)
 }
 
 fn try_rows(alloc: Global) -> Result<()> {
-    try_readers(&mut RowLocks::new(alloc))?;
-    try_posts(&mut RowLocks::new(alloc))
+    try_readers(RowLocks::new(alloc))?;
+    try_posts(RowLocks::new(alloc))
 }
 
 fn tried(alloc: Global) -> Result<Tried> {

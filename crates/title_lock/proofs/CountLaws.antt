@@ -5,7 +5,7 @@ use Rattle.std.proofs.lemmas.Bool.{eqb-true, eq-eqb, ne_eqb, false_from_ne_true,
 use Rattle.std.{proofs.lemmas.Bool.{cond-false, or_parts, Decides.{nat_tests}}, specs.List.{AllByRecursion, IsDistinct}}
 use Rattle.std.proofs.lemmas.Map.{Steps.{length-le_from_distinct_below}, Views.{any-filter_same}}
 use Rattle.title_lock.specs.{declared.modes.Mode.{Mode}, Counts.{member, NoRepeat, IsCount}, declared.counts.Counts.{Counts}}
-use Rattle.title_lock.proofs.ModeLaws.{at_each, from_each, same_mode_true}
+use Rattle.title_lock.proofs.ModeLaws.{at_each, same_mode_true}
 use Rattle.title_lock.specs.Holders.{Modes, holder_mode, clashes, same_mode, has_mode, own_part, count_in, leaves, is_clear, AreCounted}
 
 -- ---- modes
@@ -197,13 +197,3 @@ clear_way counts h e own wanted are had clear f other = go (holder_mode h f) ref
       is,
       other,
     )
-
-leaves_more : (counts : Counts) (own : Option Mode) (wanted m : Mode) → leaves counts None wanted m ≡ true
-    → leaves counts own wanted m ≡ true
-leaves_more counts own wanted m h = grind (arith, nat_tests)
-
--- counts that are clear of who holds nothing are clear of anybody
-pub clear_more : (counts : Counts) (own : Option Mode) (wanted : Mode) → is_clear counts None wanted ≡ true
-    → is_clear counts own wanted ≡ true
-clear_more counts own wanted clear = from_each (leaves counts own wanted)
-    (λ m. leaves_more counts own wanted m (at_each (leaves counts None wanted) clear m))

@@ -3,7 +3,7 @@ use Rattle.std.proofs.Common.{◌≡◌, ◌≢◌, ℕ, Bool, true, false, cond
 use Rattle.std.proofs.{Common.{refl, sym, ◌∙◌, true≢false, arith}, lemmas.Bool.{ne_eqb, or_left, Decides.{nat_tests}}}
 use Rattle.title_land.specs.declared.node.Node.{Node}
 use Rattle.title_lock.specs.{declared.modes.Mode.{Mode}, Modes.{bound}, Holders.{Modes, holder_mode, has_room, idles, is_free}}
-use Rattle.title_lock.specs.Tables.{HeldAt, is_idle, IdleMore, IdleLess, NoMoreIdle}
+use Rattle.title_lock.specs.Tables.{HeldAt, is_idle, IdleMore, IdleLess}
 
 -- ---- the holders of one node
 
@@ -79,10 +79,4 @@ pub less_join : (t u v : HeldAt) (e : ℕ) (p q r : Node → Bool) → ((n : Nod
     → IdleLess t v e r
 less_join t u v e p q r parts first then = record {
   less = λ f n. grind (arith, first.less f n, then.less f n, parts n);
-}
-
--- nobody is idle but who was, also after one who was is no more
-pub less_more : (t u v : HeldAt) (e : ℕ) (asks : Node → Bool) → NoMoreIdle t u → IdleLess u v e asks → NoMoreIdle t v
-less_more t u v e asks first then = record {
-  same = λ f n idle. first.same f n (grind (arith, then.less f n));
 }

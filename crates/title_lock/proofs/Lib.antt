@@ -7,6 +7,8 @@ pub mod IdleLaws
 pub mod NumberLaws
 pub mod SpotLaws
 pub mod WalkLaws
+pub mod Climbing
+pub mod Climbed
 pub mod WayLaws
 pub mod DoneLaws
 pub mod BookLaws

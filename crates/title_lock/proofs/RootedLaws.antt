@@ -1,33 +1,13 @@
 -- Where a table tells the modes of entries, whoever holds a node holds its intention at each node above; and where nobody is idle,
 -- whoever has room at a node has it above.
-use Rattle.std.proofs.Common.{◌≡◌, ◌≢◌, ℕ, Bool, true, false, ◌&&◌, ◌||◌, not, cond, eqb, List, [], ◌∷◌, Option, Some, None, is_some}
+use Rattle.std.proofs.Common.{◌≡◌, ◌≢◌, ℕ, Bool, true, false, cond, eqb, List, [], ◌∷◌, Option, Some, None, is_some}
 use Rattle.std.proofs.{Common.{refl, sym, ◌∙◌, arith}, lemmas.Bool.{false≢true, false_from_ne_true}}
 use Rattle.title_land.specs.{declared.node.Node.{Node}, Nodes.{is_above}, Lands.{cover_of}}
 use Rattle.title_land.specs.Laws.{NodeSharing.{above_is_transitive}, SameNode.{same_node-to}}
 use Rattle.title_lock.specs.declared.{modes.Mode.{Mode}, table.Table.{Table}, guards.Entry.{Entry}}
-use Rattle.title_lock.specs.{Modes.{sup, bound, allows, intention, is_as_strong, intends}, Overlaps.{is_post}, Holders.{Modes}}
-use Rattle.title_lock.{specs.{Asking.{asked_for, asked, mode_at}, Locks.{IsLean}}, proofs.ModeLaws.{at_all, at_each}}
+use Rattle.title_lock.specs.{Modes.{allows, intends}, Overlaps.{is_post}, Holders.{Modes}}
+use Rattle.title_lock.{specs.{Asking.{asked_for, asked, mode_at}, Locks.{IsLean}}, proofs.Intentions.{intends_bound}}
 use Rattle.title_lock.specs.Tables.{HeldAt, on_all, table_mode, mode_in, room_in, idle_in, TableIs, IsRooted, IsRoomy}
-
--- ---- intentions
-
--- a test of three modes
-at_three : (test : Mode → Mode → Mode → Bool) → at_all (λ x. at_all (λ y. at_all (test x y))) ≡ true → (a b c : Mode) → test a b c ≡ true
-at_three test h a b c = at_each (test a b) (at_each (λ y. at_all (test a y)) (at_each (λ x. at_all (λ y. at_all (test x y))) h a) b) c
-
--- a mode as strong as another is so with any mode more
-strong_more : (a b c : Mode) → (not (is_as_strong a b) || is_as_strong (sup a c) b && is_as_strong (sup c a) b) ≡ true
-strong_more = at_three (λ a b c. not (is_as_strong a b) || is_as_strong (sup a c) b && is_as_strong (sup c a) b) refl
-
--- and as strong as the intention of a bound where it is as that of both
-strong_both : (a b c : Mode)
-    → (not (is_as_strong a (intention b) && is_as_strong a (intention c)) || is_as_strong a (intention (sup b c))) ≡ true
-strong_both = at_three (λ a b c. not (is_as_strong a (intention b) && is_as_strong a (intention c)) || is_as_strong a (intention (sup b c)))
-    refl
-
--- what is held above two modes is held above their bound
-intends_join : (a b c d : Option Mode) → intends a b ≡ true → intends c d ≡ true → intends (bound a c) (bound b d) ≡ true
-intends_join a b c d h k = grind (arith, h, k, strong_more, strong_both)
 
 -- who holds something holds something above
 intends_some : (a b : Option Mode) → intends a b ≡ true → is_some a ≡ true → is_some b ≡ true
@@ -41,7 +21,7 @@ asked_for_intends p c m k up = grind (arith, up, same_node-to m c, above_is_tran
 
 asked_intends : (p : Bool) (cover : List Node) (m k : Node) → is_above k m ≡ true → intends (asked p cover m) (asked p cover k) ≡ true
 asked_intends p [] m k up = refl
-asked_intends p (c ∷ cover) m k up = intends_join (asked_for p c m) (asked_for p c k) (asked p cover m) (asked p cover k)
+asked_intends p (c ∷ cover) m k up = intends_bound (asked_for p c m) (asked_for p c k) (asked p cover m) (asked p cover k)
     (asked_for_intends p c m k up) (asked_intends p cover m k up)
 
 entries_intend : (depth : ℕ) (es : List Entry) (e : ℕ) (m k : Node) → is_above k m ≡ true
@@ -49,7 +29,7 @@ entries_intend : (depth : ℕ) (es : List Entry) (e : ℕ) (m k : Node) → is_a
 entries_intend depth [] e m k up = refl
 entries_intend depth (x ∷ es) e m k up =
     let asked_of = λ (n : Node). cond (eqb e x.examiner) (asked (is_post x.access) (cover_of depth x.tract) n) None in
-    intends_join (asked_of m) (asked_of k) (mode_at depth es e m) (mode_at depth es e k)
+    intends_bound (asked_of m) (asked_of k) (mode_at depth es e m) (mode_at depth es e k)
     (grind (arith, asked_intends (is_post x.access) (cover_of depth x.tract) m k up)) (entries_intend depth es e m k up)
 
 -- ---- their table

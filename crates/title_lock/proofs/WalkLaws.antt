@@ -21,7 +21,7 @@ asked_append p (a ∷ l) r n = ap (bound (cond (same_node n a.0) (Some (mode_for
 -- ---- nodes above
 
 -- what lies above a known node is known
-known_above : (last : Option Node) (p n : Node) → is_known last p ≡ true → is_above n p ≡ true → is_known last n ≡ true
+pub known_above : (last : Option Node) (p n : Node) → is_known last p ≡ true → is_above n p ≡ true → is_known last n ≡ true
 known_above None p n h up = absurd (true≢false (sym h))
 known_above (Some l) p n h up = above_is_transitive n p l up h
 
@@ -50,10 +50,16 @@ none_above last node.Everything h = refl
 none_above last (node.Township t) h = absurd cc
 none_above last (node.Part s w) h = absurd cc
 
+-- above a node it is asked where it isn't known
+pub above_asks : (last : Option Node) (nodes : List Node) (n : Node)
+    → asks_in (asks_above last nodes) n ≡ (list_any (same_node n) nodes && not (is_known last n))
+above_asks last [] n = refl
+above_asks last (m ∷ nodes) n = grind (arith, above_asks last nodes n, same_node-to n m)
+
 -- ---- the modes that a walk asks
 
 -- above a node the mode for nodes above is asked, where it isn't known
-above_asked : (p : Bool) (last : Option Node) (nodes : List Node) (n : Node)
+pub above_asked : (p : Bool) (last : Option Node) (nodes : List Node) (n : Node)
     → asked_in p (asks_above last nodes) n ≡ cond (list_any (same_node n) nodes && not (is_known last n)) (Some (above_mode p)) None
 above_asked p last [] n = refl
 above_asked p last (m ∷ nodes) n = grind (arith, above_asked p last nodes n, same_node-to n m, sup_self)

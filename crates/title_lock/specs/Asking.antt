@@ -4,7 +4,7 @@
 use Rattle.std.specs.Prelude.{ℕ, ◌≡◌, ◌≢◌, ◌↔◌, ◌==◌, Bool, true, false, if◌then◌else◌, List, [], ◌∷◌, Option, Some, None, is_some, All}
 use Rattle.title_land.specs.{declared.{node.Node.{Node}, tract.Land.{Land}}, Nodes.{same_node, is_above}, Lands.{cover_of, IsLand}}
 use Rattle.title_lock.specs.{declared.{modes.Mode.{Mode, TheVariants.{Is, Ix, S, X}}, guards.Entry.{Entry}}}
-use Rattle.title_lock.specs.Modes.{bound, allows, intention}
+use Rattle.title_lock.specs.Modes.{bound, allows}
 use Rattle.title_lock.specs.Overlaps.{is_post, against, without}
 
 -- what is asked at a node of the cover: S by a read, X by a post
@@ -18,10 +18,6 @@ above_mode post = if post then Ix else Is
 -- what is asked at n for one node c of the cover
 abbrev pub asked_for : Bool → Node → Node → Option Mode
 asked_for post c n = if same_node n c then Some (own_mode post) else (if is_above n c then Some (above_mode post) else None)
-
--- what is asked at n where a mode is asked at a node c, and its intention at each node above
-abbrev pub asked_up : Mode → Node → Node → Option Mode
-asked_up m c n = if same_node n c then Some m else (if is_above n c then Some (intention m) else None)
 
 -- what an access asks at n: the bound over its cover
 abbrev pub asked : Bool → List Node → Node → Option Mode

@@ -1,13 +1,13 @@
 //! The holders of one node.
 
-ghost use Rattle.std.specs.Prelude.{◌≡◌, ℕ, true, not, ◌==◌, ◌&&◌, ◌||◌, ◌≢◌, false, if◌then◌else◌, Some, None, OnOk, IfOk};
+ghost use Rattle.std.specs.Prelude.{◌≡◌, ℕ, true, not, ◌==◌, ◌&&◌, ◌||◌, ◌≢◌, false, if◌then◌else◌, Some, None, OnOk, IfOk, IfSome, IfNone};
 ghost use Rattle.std.specs.Prelude.{is_some, slice_index};
 ghost use Rattle.title_lock.specs.{declared.modes.Mode.{Mode, TheVariants.{Is, Ix, S, Six, X}}, Modes.{bound, is_enough}};
 ghost use Rattle.title_lock.specs.{Overlaps.{IsLeast}, Counts.{IsCount}};
 ghost use Rattle.title_lock.specs.Holders.{Modes, holder_mode, has_room, is_free, clashes, own_part, leaves, is_clear, AreCounted};
 
 use crate::counts::Counts;
-use crate::modes::{Mode, bound, compat};
+use crate::modes::{Mode, bound, compat, is_enough};
 use crate::slots::Slots;
 use std::alloc::{AllocError, Global};
 use std::marker::Model;
@@ -96,27 +96,20 @@ impl Holders {
         ]
     }
 
-    /// Whether an examiner came first, and holds enough.
-    pub(crate) fn is_held(&self, examiner: u32, wanted: Mode) -> bool
-        ensures held { result ≡ true → is_enough (holder_mode self.now examiner) wanted ≡ true }
+    /// The least other examiner whose mode doesn't stand beside the one wanted. `None` in place of that where the examiner holds enough:
+    /// then nobody is in its way. The counts alone tell where nobody else is.
+    pub(crate) fn way(&self, examiner: u32, wanted: Mode) -> Option<Option<u32>>
+        ensures held { IfNone result (is_enough (holder_mode self.now examiner) wanted ≡ true) }
+        ensures way { IfSome result (IsLeast (λ f. clashes wanted (holder_mode self.now f)) examiner) }
     {
-        self.slots.is_held(examiner, wanted)
-    }
-
-    /// The least other examiner whose mode doesn't stand beside the one wanted. The counts alone tell where
-    /// there is none.
-    pub(crate) fn way(&self, examiner: u32, wanted: Mode) -> Option<u32>
-        ensures way { IsLeast (λ f. clashes wanted (holder_mode self.now f)) examiner result }
-    {
-        // Nobody at all is in the way.
-        let is_open = is_clear(self.counts, None, wanted);
-        if is_open {
+        let held = self.mode(examiner);
+        if is_enough(held, wanted) {
             return None;
         }
-        if is_clear(self.counts, self.mode(examiner), wanted) {
-            return None;
+        if is_clear(self.counts, held, wanted) {
+            return Some(None);
         }
-        self.slots.way(examiner, wanted)
+        Some(self.slots.way(examiner, wanted))
     }
 
     /// Makes room for an examiner. Nobody's mode changes. `true` where it had room.

@@ -1,7 +1,7 @@
 //! The modes of a lock.
 
 ghost use Rattle.std.specs.Prelude.{◌≡◌};
-ghost use Rattle.title_lock.specs.Modes.{compat, sup, bound, intention, is_enough};
+ghost use Rattle.title_lock.specs.Modes.{compat, sup, bound, is_enough};
 
 /// What an examiner holds of a node: S to read and X to post in all of it, IS and IX to read and post somewhere below
 /// it, SIX for S and IX (Gray and others, 1976).
@@ -47,16 +47,6 @@ pub(crate) fn bound(a: Option<Mode>, b: Option<Mode>) -> Option<Mode>
         (None, _) => b,
         (Some(_), None) => a,
         (Some(a), Some(b)) => Some(sup(a, b)),
-    }
-}
-
-/// What who holds a mode holds at least of each node above: IX where it may post somewhere below, else IS (Gray and others, 1976).
-pub(crate) fn intention(mode: Mode) -> Mode
-    ensures intention { result ≡ intention mode }
-{
-    match mode {
-        Mode::Is | Mode::S => Mode::Is,
-        Mode::Ix | Mode::Six | Mode::X => Mode::Ix,
     }
 }
 

@@ -1,10 +1,10 @@
 //! The slots of one node's holders.
 
 ghost use Rattle.std.specs.Prelude.{◌≡◌, ℕ, true, false, not, ◌==◌, ◌&&◌, ◌≢◌, nat_lt, if◌then◌else◌, Some, None, OnOk, IfOk};
-ghost use Rattle.title_lock.specs.{Modes.{bound, is_enough}, Overlaps.{IsLeast}};
+ghost use Rattle.title_lock.specs.{Modes.{bound}, Overlaps.{IsLeast}};
 ghost use Rattle.title_lock.specs.Holders.{Modes, holder_mode, has_room, is_free, clashes, listed, first_way, IsApart};
 
-use crate::modes::{Mode, bound, compat, is_enough};
+use crate::modes::{Mode, bound, compat};
 use std::alloc::{AllocError, Global};
 use std::collections::BTreeMap;
 use std::marker::Model;
@@ -144,16 +144,6 @@ impl Slots {
         match self.others.get(&examiner) {
             Some(held) => *held,
             None => None,
-        }
-    }
-
-    /// Whether an examiner is the first, and holds enough. It isn't looked for among the others, which would cost more than to ask.
-    pub(crate) fn is_held(&self, examiner: u32, wanted: Mode) -> bool
-        ensures held { result ≡ true → is_enough (holder_mode self.now examiner) wanted ≡ true }
-    {
-        match self.first {
-            Some((first, held)) => first == examiner && is_enough(held, wanted),
-            None => false,
         }
     }
 

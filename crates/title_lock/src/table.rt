@@ -4,7 +4,7 @@ ghost use Rattle.std.specs.Prelude.{◌≡◌, ◌≢◌, ℕ, true, false, None
 ghost use Rattle.std.specs.{Prelude.{is_some, slice_index}, List.{list_any}};
 ghost use Rattle.title_land.specs.{declared.node.Node.{Node}, Nodes.{same_node}};
 ghost use Rattle.title_lock.specs.{Modes.{allows, bound, is_enough}, Overlaps.{is_post, IsLeast}};
-ghost use Rattle.title_lock.specs.{declared.modes.Mode.TheVariants.{Is, Ix, S, Six, X}, Counts.{IsCount}, Asking.{asked, asked_up}};
+ghost use Rattle.title_lock.specs.{declared.modes.Mode.TheVariants.{Is, Ix, S, Six, X}, Counts.{IsCount}, Asking.{asked}};
 ghost use Rattle.title_lock.specs.{Holders.{clashes}, Walks.{walk, clashes_in}};
 ghost use Rattle.title_lock.specs.Tables.{on_all, table_mode, table_room, KeepsRoom, HasRoom, IsRooted, IsRoomy, IsGone};
 ghost use Rattle.title_lock.specs.Tables.{is_asked, is_idle, IdleMore, IdleLess, NoMoreIdle, AllUsed};
@@ -12,9 +12,9 @@ ghost use Rattle.title_lock.specs.Tables.{is_asked, is_idle, IdleMore, IdleLess,
 use crate::guards::Access;
 use crate::holders::Holders;
 use crate::least::least;
-use crate::modes::{Mode, intention, is_enough};
+use crate::modes::{Mode, is_enough};
 use crate::spots::Spot;
-use crate::walks::{Walk, own_mode};
+use crate::walks::Walk;
 use std::alloc::{AllocError, Global};
 use std::collections::BTreeMap;
 use title_land::Node;
@@ -64,23 +64,20 @@ impl Table {
         }
     }
 
-    // The least other examiner in the way of an access at a node. `None` in place of that where the examiner itself came first there and
-    // holds enough: then nobody is in its way here, nor above.
+    // The least other examiner in the way of an access at a node. `None` in place of that where the examiner itself holds enough: then
+    // nobody is in its way here, nor above.
     fn way_of(&self, examiner: u32, spot: &Spot, mode: Mode) -> Option<Option<u32>>
         ensures held { IfNone result (is_enough (table_mode (on_all self.now) examiner spot.now.is.node) mode ≡ true) }
         ensures way { IfSome result (IsLeast (λ f. clashes mode (table_mode (on_all self.now) f spot.now.is.node)) examiner) }
     {
-        let Some(holders) = self.holders.get(&spot.number) else {
-            return Some(None);
-        };
-        if holders.is_held(examiner, mode) {
-            return None;
+        match self.holders.get(&spot.number) {
+            Some(holders) => holders.way(examiner, mode),
+            None => Some(None),
         }
-        Some(holders.way(examiner, mode))
     }
 
-    /// The least other examiner in the way of an access, by modes. Above a node where the examiner is seen to hold enough none is
-    /// asked. Takes no memory.
+    /// The least other examiner in the way of an access, by modes. Above a node where the examiner holds enough none is asked. Takes no
+    /// memory.
     pub(crate) fn ways(&self, examiner: u32, cover: &[Node], access: Access) -> Option<u32>
         requires rooted { (n : Node) → IsRooted (on_all self.now) examiner n }
         requires apart { (f : ℕ) → f ≢ examiner → (n : Node)
@@ -119,40 +116,22 @@ impl Table {
         Ok(false)
     }
 
-    // Makes room for an examiner at a node, and at those above it up to the first where it has room.
-    fn make_room_up(&mut self, examiner: u32, spot: Spot) -> Result<(), AllocError>
-        requires roomy { IsRoomy (on_all self.old) examiner spot.is.node }
-        ensures modes { (f : ℕ) → (n : Node) → table_mode (on_all self.new) f n ≡ table_mode (on_all self.old) f n }
-        ensures room { OnOk result (HasRoom (on_all self.new) examiner (λ n. is_asked n spot.is.node)) }
-        ensures stays { KeepsRoom (on_all self.old) (on_all self.new) }
-        ensures idle { IdleMore (on_all self.old) (on_all self.new) examiner (λ n. is_asked n spot.is.node) }
-        ensures others { (n : Node) → is_asked n spot.is.node ≡ false
-            → table_room (on_all self.new) examiner n ≡ table_room (on_all self.old) examiner n }
-        ensures used { AllUsed (on_all self.old) → AllUsed (on_all self.new) }
-    {
-        if self.make_room(examiner, &spot)? {
-            return Ok(());
-        }
-        match spot.parent() {
-            Some(parent) => self.make_room_up(examiner, parent),
-            None => Ok(()),
-        }
-    }
-
-    /// Makes room for what an access asks for. No mode changes, also where memory is refused.
+    /// Makes room for what an access asks for: above a node where the examiner has room it has it already. No mode changes, also where
+    /// memory is refused.
     pub(crate) fn make_room_all(&mut self, examiner: u32, cover: &[Node]) -> Result<(), AllocError>
         requires roomy { (n : Node) → IsRoomy (on_all self.old) examiner n }
         ensures modes { (f : ℕ) → (n : Node) → table_mode (on_all self.new) f n ≡ table_mode (on_all self.old) f n }
         ensures room { OnOk result (HasRoom (on_all self.new) examiner (λ n. list_any (is_asked n) cover.now)) }
         ensures idle { IdleMore (on_all self.old) (on_all self.new) examiner (λ n. list_any (is_asked n) cover.now) }
-        ensures stays { KeepsRoom (on_all self.old) (on_all self.new) }
         ensures used { AllUsed (on_all self.old) → AllUsed (on_all self.new) }
     {
-        let Some((first, rest)) = cover.split_first() else {
-            return Ok(());
-        };
-        self.make_room_up(examiner, Spot::of(first))?;
-        self.make_room_all(examiner, rest)
+        let mut walk = Walk::of(cover);
+        while let Some(climb) = walk.next() {
+            if self.make_room(examiner, &climb.spot)? {
+                walk.skip();
+            }
+        }
+        Ok(())
     }
 
     // Gives an examiner one mode more at a node. The result is what it held.
@@ -171,26 +150,8 @@ impl Table {
         }
     }
 
-    // Gives an examiner one mode more at a node, and its intention at those above it up to the first where it held enough.
-    fn raise_up(&mut self, examiner: u32, spot: Spot, mode: Mode)
-        requires room { HasRoom (on_all self.old) examiner (λ n. is_asked n spot.is.node) }
-        requires rooted { IsRooted (on_all self.old) examiner spot.is.node }
-        ensures modes { (f : ℕ) → (n : Node) → table_mode (on_all self.new) f n
-            ≡ bound (table_mode (on_all self.old) f n) (if f == examiner then asked_up mode spot.is.node n else None) }
-        ensures stays { KeepsRoom (on_all self.old) (on_all self.new) }
-        ensures idle { IdleLess (on_all self.old) (on_all self.new) examiner (λ n. is_asked n spot.is.node) }
-        ensures used { AllUsed (on_all self.old) → AllUsed (on_all self.new) }
-    {
-        let had = self.raise(examiner, &spot, mode);
-        if is_enough(had, mode) {
-            return;
-        }
-        if let Some(parent) = spot.parent() {
-            self.raise_up(examiner, parent, intention(mode));
-        }
-    }
-
-    /// Gives an examiner what an access asks for, where there is room for it. Takes no memory.
+    /// Gives an examiner what an access asks for, where there is room for it. Above a node where it held enough it holds enough. Takes no
+    /// memory.
     pub(crate) fn raise_all(&mut self, examiner: u32, cover: &[Node], access: Access)
         requires room { HasRoom (on_all self.old) examiner (λ n. list_any (is_asked n) cover.now) }
         requires rooted { (n : Node) → IsRooted (on_all self.old) examiner n }
@@ -199,11 +160,14 @@ impl Table {
         ensures idle { IdleLess (on_all self.old) (on_all self.new) examiner (λ n. list_any (is_asked n) cover.now) }
         ensures used { AllUsed (on_all self.old) → AllUsed (on_all self.new) }
     {
-        let Some((first, rest)) = cover.split_first() else {
-            return;
-        };
-        self.raise_up(examiner, Spot::of(first), own_mode(access));
-        self.raise_all(examiner, rest, access);
+        let mut walk = Walk::of(cover);
+        while let Some(climb) = walk.next() {
+            let mode = climb.mode(access);
+            let had = self.raise(examiner, &climb.spot, mode);
+            if is_enough(had, mode) {
+                walk.skip();
+            }
+        }
     }
 
     // Takes an examiner out of a node's holders, and the node with the last of them. The result tells whether it held the node.
@@ -224,23 +188,7 @@ impl Table {
         had.is_some()
     }
 
-    // Takes an examiner out of a node, and of those above it up to the first that it doesn't hold.
-    fn take_out_up(&mut self, examiner: u32, spot: Spot)
-        requires gone { IsGone (on_all self.old) examiner spot.is.node }
-        ensures modes { (f : ℕ) → (n : Node) → table_mode (on_all self.new) f n
-            ≡ (if f == examiner && is_asked n spot.is.node then None else table_mode (on_all self.old) f n) }
-        ensures idle { NoMoreIdle (on_all self.old) (on_all self.new) }
-        ensures used { AllUsed (on_all self.old) → AllUsed (on_all self.new) }
-    {
-        if !self.take_out(examiner, &spot) {
-            return;
-        }
-        if let Some(parent) = spot.parent() {
-            self.take_out_up(examiner, parent);
-        }
-    }
-
-    /// Takes an examiner out of the holders of what an access asks for. Takes no memory.
+    /// Takes an examiner out of the holders of what an access asks for: above a node that it doesn't hold it holds none. Takes no memory.
     pub(crate) fn take_out_all(&mut self, examiner: u32, cover: &[Node])
         requires gone { (c : Node) → list_any (same_node c) cover.now ≡ true → IsGone (on_all self.old) examiner c }
         ensures modes { (f : ℕ) → (n : Node) → table_mode (on_all self.new) f n
@@ -248,9 +196,11 @@ impl Table {
         ensures idle { NoMoreIdle (on_all self.old) (on_all self.new) }
         ensures used { AllUsed (on_all self.old) → AllUsed (on_all self.new) }
     {
-        if let Some((first, rest)) = cover.split_first() {
-            self.take_out_up(examiner, Spot::of(first));
-            self.take_out_all(examiner, rest);
+        let mut walk = Walk::of(cover);
+        while let Some(climb) = walk.next() {
+            if !self.take_out(examiner, &climb.spot) {
+                walk.skip();
+            }
         }
     }
 

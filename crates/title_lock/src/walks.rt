@@ -1,6 +1,6 @@
 //! The walk over what an access asks for.
 
-ghost use Rattle.std.specs.Prelude.{◌≡◌, ◌∷◌, [], None, MatchOption, IfSome};
+ghost use Rattle.std.specs.Prelude.{◌≡◌, ◌∷◌, [], Some, None, MatchOption, IfSome, IfNone};
 ghost use Rattle.title_land.specs.Nodes.{above};
 ghost use Rattle.title_lock.specs.{Overlaps.{is_post}, Asking.{own_mode, above_mode}};
 ghost use Rattle.title_lock.specs.Walks.{mode_for, is_known, asks_above, walk, node_of, climb_left, walk_left};
@@ -52,6 +52,7 @@ fn above_mode(access: Access) -> Mode
 }
 
 // Whether a node lies above the one before.
+#[inline(always)]
 fn is_known(last: &Option<Spot>, spot: &Spot) -> bool
     ensures known { result ≡ is_known (node_of last.now) spot.now.is.node }
 {
@@ -75,6 +76,7 @@ impl Climb {
 
     // What comes after it.
     #[tactic(auto, using(crate::proofs::WalkLaws::known_stops, crate::proofs::WalkLaws::unknown_goes, crate::proofs::WalkLaws::none_above))]
+    #[inline(always)]
     fn above(&self) -> Option<Climb>
         ensures above { climb_left result ≡ asks_above (node_of self.now.last) (above self.now.spot.is.node) }
     {
@@ -92,8 +94,11 @@ impl Climb {
 
 impl<'a> Walk<'a> {
     /// The walk over a cover.
+    #[inline(always)]
     pub(crate) fn of(cover: &'a [Node]) -> Walk<'a>
         ensures of { walk_left result ≡ walk None cover.now }
+        ensures climb { result.climb ≡ None }
+        ensures last { result.last ≡ None }
     {
         Walk {
             nodes: cover,
@@ -103,10 +108,15 @@ impl<'a> Walk<'a> {
     }
 
     /// The next node.
+    #[inline(always)]
     pub(crate) fn next(&mut self) -> Option<Climb>
         ensures next { MatchOption result (walk_left self.old ≡ [])
             (λ c. walk_left self.old ≡ (c.spot.is.node, c.is_own) ∷ walk_left self.new) }
         ensures above { IfSome result (λ c. climb_left self.new.climb ≡ asks_above (node_of c.last) (above c.spot.is.node)) }
+        ensures goes { IfSome self.old.climb (λ d. result ≡ Some d) }
+        ensures stays { IfSome self.old.climb (λ d. self.new.last ≡ self.old.last) }
+        ensures begins { IfNone self.old.climb (IfSome result (λ c. c.last ≡ self.old.last)) }
+        ensures last { IfNone self.old.climb (IfSome result (λ c. self.new.last ≡ Some c.spot)) }
     {
         let climb = match self.climb {
             Some(climb) => climb,
@@ -127,8 +137,11 @@ impl<'a> Walk<'a> {
     }
 
     /// Leaves out what is still to come above the node that came last.
+    #[inline(always)]
     pub(crate) fn skip(&mut self)
         ensures skip { walk_left self.new ≡ walk (node_of self.old.last) self.old.nodes.now }
+        ensures climb { self.new.climb ≡ None }
+        ensures last { self.new.last ≡ self.old.last }
     {
         self.climb = None;
     }

@@ -258,6 +258,27 @@ fn is_sheet_due<B: Room>(slip: &Slip<B>, sold: Sold) -> bool {
     }
 }
 
+// Whether the sheet of all land is that after these sales; the slip is given back.
+fn is_slip_due<B: Room, R: Wait + Print>(
+    asker: &Asker<'_, B, R>,
+    slip: Slip<B>,
+    sold: Sold,
+) -> bool {
+    let is_due = is_sheet_due(&slip, sold);
+    asker.office.abort(asker.rt, slip).is_ok() && is_due
+}
+
+// Whether a slip is shown the plant after these sales.
+fn is_shown<B: Room, R: Wait + Print>(
+    asker: &Asker<'_, B, R>,
+    mut slip: Slip<B>,
+    sold: Sold,
+    wanted: &mut Wanted,
+) -> Result<bool> {
+    asker.step(&mut slip, Wish::Sheet(Parcel::Everything), wanted)?;
+    Ok(is_slip_due(asker, slip, sold))
+}
+
 // Whether a seat's examiner is shown the plant after these sales.
 fn is_plant_due<B: Room, R: Wait + Print>(
     asker: &Asker<'_, B, R>,
@@ -265,13 +286,10 @@ fn is_plant_due<B: Room, R: Wait + Print>(
     sold: Sold,
     wanted: &mut Wanted,
 ) -> Result<bool> {
-    let Some(seat) = seat else {
-        return Ok(false);
-    };
-    let mut slip = asker.begin_again(seat, wanted)?;
-    asker.step(&mut slip, Wish::Sheet(Parcel::Everything), wanted)?;
-    let is_due = is_sheet_due(&slip, sold);
-    Ok(is_due && asker.office.abort(asker.rt, slip).is_ok())
+    match seat {
+        Some(seat) => is_shown(asker, asker.begin_again(seat, wanted)?, sold, wanted),
+        None => Ok(false),
+    }
 }
 
 // Tells what came of two workers, and adds their outcomes.

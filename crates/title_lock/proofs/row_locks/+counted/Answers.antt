@@ -1,7 +1,7 @@
 -- One row more is one examiner's.
-use Rattle.std.proofs.Common.{◌≡◌, ◌≤◌, ◌+◌, ◌++◌, ◌∷◌, [], ℕ, Option, List, reverse, subst, sym, ap, ◌∙◌, arith}
-use Rattle.title_land.specs.{Depth.{depth}, Lands.{cover_of}}
-use Rattle.title_lock.specs.{declared.{guards.Entry.{Entry}, modes.Mode.{Mode}}, Modes.{bound}, Asking.{mode_at}, Counts.{IsCount}}
+use Rattle.std.proofs.Common.{◌≤◌, ◌++◌, ◌∷◌, [], ℕ, Option, reverse, subst, sym, ap, ◌∙◌, arith}
+use Rattle.title_land.specs.{Depth.{depth}}
+use Rattle.title_lock.specs.{declared.{guards.Entry.{Entry}, modes.Mode.{Mode}}, Modes.{bound}, Asking.{mode_at}}
 use Rattle.title_lock.{specs.Holders.{own_part, count_in}, proofs.{CountLaws.{own_counted, count_few}, RowLaws.{row_counted}}}
 use Rattle.title_lock.proofs.row_locks.+counted.Goals as goal
 

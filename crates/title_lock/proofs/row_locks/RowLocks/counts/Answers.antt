@@ -1,5 +1,5 @@
 -- The list is what the locks show.
-use Rattle.std.proofs.Common.{◌≡◌, ◌∙◌, ℕ, List, ap, subst, reverse}
+use Rattle.std.proofs.Common.{◌∙◌, List, ap, subst, reverse}
 use Rattle.title_land.specs.Depth.{depth}
 use Rattle.title_lock.specs.{declared.{guards.Entry.{Entry}, modes.Mode.{Mode, TheVariants.{Is, Ix, S, Six, X}}}, Asking.{mode_at}}
 use Rattle.title_lock.specs.{Counts.{IsCount}, Holders.{count_in}, Locks.{Locks}}

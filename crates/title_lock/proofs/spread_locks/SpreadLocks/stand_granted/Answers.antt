@@ -1,7 +1,6 @@
 -- The modes of any two examiners stand beside each other, and so each entry was granted.
-use Rattle.std.proofs.Common.{subst, ap, List}
 use Rattle.title_land.specs.Depth.{depth}
-use Rattle.title_lock.specs.{declared.guards.Entry.{Entry}, Asking.{AllGranted, AreSized}, Standing.{StandFree}, Locks.{Locks, granted}}
+use Rattle.title_lock.specs.{Locks.{granted}}
 use Rattle.title_lock.proofs.{KeptLaws.{kept_table}, Granted.{apart_granted}, MeetLaws.{meet_by_covers}, Standing.{granted_free}}
 use Rattle.title_lock.proofs.spread_locks.SpreadLocks.stand_granted.Goals as goal
 
