@@ -1,7 +1,8 @@
 -- What is done at the nodes of a walk that climbs: room, modes, and places given back.
 use Rattle.std.proofs.Common.{◌≡◌, ℕ, Bool, true, false, cond, not, ◌&&◌, ◌||◌, List, [], ◌∷◌, ◌++◌, Option, Some, None, is_some, eqb}
 use Rattle.std.proofs.Common.{refl, sym, ap, subst, ◌∙◌, inl, inr, arith, true≢false}
-use Rattle.std.proofs.lemmas.{Bool.{eqb-true, eq-eqb, or_left, or_right, or_cases, and_parts, and_from, cases_Bool}, List.Folds.{list_any-append}}
+use Rattle.std.proofs.lemmas.Bool.{eqb-true, eq-eqb, or_left, or_right, or_cases, and_parts, and_from, cases_Bool}
+use Rattle.std.proofs.lemmas.List.Folds.{list_any-append}
 use Rattle.std.specs.List.{list_any}
 use mathlib.Core.Bool.{or-false}
 use Rattle.title_land.specs.{declared.node.Node.{Node}, Nodes.{same_node, above, is_above}}
@@ -54,7 +55,8 @@ raise_closed t e p rooted n k over here = ap (is_enough (table_mode t e k)) (sym
 
 enough_does : (p own s : Bool) (o : Option Mode)
     → is_enough (bound o (cond s (Some (mode_for p own)) None)) (above_mode p) ≡ (is_enough o (above_mode p) || s)
-enough_does p own false o = ap (λ (z : Option Mode). is_enough z (above_mode p)) (bound_none o) ∙ sym (or-false (is_enough o (above_mode p)))
+enough_does p own false o = ap (λ (z : Option Mode). is_enough z (above_mode p)) (bound_none o)
+    ∙ sym (or-false (is_enough o (above_mode p)))
 enough_does p own true o = enough_too o (Some (mode_for p own)) (above_mode p) (own_enough p own)
     ∙ sym (or_right (is_enough o (above_mode p)) true refl)
 
@@ -127,7 +129,8 @@ module _ (u : HeldAt) (e : ℕ) (p : Bool) (climb : Option Climb) (last : Option
 -- ---- places given back
 
 -- what lies above what an access asks for is asked for
-asked_over : (cover : List Node) (n k : Node) → is_above k n ≡ true → list_any (is_asked n) cover ≡ true → list_any (is_asked k) cover ≡ true
+asked_over : (cover : List Node) (n k : Node) → is_above k n ≡ true → list_any (is_asked n) cover ≡ true
+    → list_any (is_asked k) cover ≡ true
 asked_over [] n k over asks = asks
 asked_over (c ∷ cover) n k over asks = elim (or_cases (is_asked n c) (list_any (is_asked n) cover) asks) [
   | inl here ↦ or_left (is_asked k c) (list_any (is_asked k) cover) (over_asked k c (above_all k n c here over))

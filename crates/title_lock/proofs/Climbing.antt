@@ -5,7 +5,8 @@ use Rattle.std.proofs.Common.{IfSome, IfNone, arith, true≢false, inl, inr}
 use Rattle.std.proofs.lemmas.{Bool.{or_left, or_right, or_cases}, Option.{same_Some}, List.Folds.{list_any-append}}
 use Rattle.title_land.specs.{declared.node.Node.{Node}, Nodes.{same_node, above, is_above}}
 use Rattle.title_land.specs.Laws.{NodeSharing.{above_is_transitive}, SameNode.{same_node-self, same_node-to}}
-use Rattle.title_lock.specs.{declared.{spots.Spot.{Spot}, walks.Climb.{Climb}}, Walks.{Asked, is_known, asks_above, asks_in, node_of, climb_left}}
+use Rattle.title_lock.specs.declared.{spots.Spot.{Spot}, walks.Climb.{Climb}}
+use Rattle.title_lock.specs.Walks.{Asked, is_known, asks_above, asks_in, node_of, climb_left}
 use Rattle.title_lock.proofs.{NodeLaws.{above_apart}, WalkLaws.{above_asks, known_above}}
 
 -- what a climb has still to come
@@ -24,7 +25,8 @@ is_high (Some c) last = is_known (node_of last) c.spot.is.node
 
 -- on a walk over a whole, of which this is left: above a node where enough is done it is done too, or still to come on the way up from
 -- a node below that
-pub record IsClimbing (done : Node → Bool) (whole : List Asked) (climb : Option Climb) (last : Option Spot) (left : List Asked) : Type 0 where
+pub record IsClimbing (done : Node → Bool) (whole : List Asked) (climb : Option Climb) (last : Option Spot) (left : List Asked)
+    : Type 0 where
   pub up : (n k : Node) → is_above k n ≡ true → done n ≡ true → (done k || (is_below climb n && to_come climb k)) ≡ true
   pub known : (k : Node) → is_known (node_of last) k ≡ true → (done k || to_come climb k) ≡ true
   pub high : is_high climb last ≡ true

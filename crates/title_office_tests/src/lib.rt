@@ -18,6 +18,8 @@ mod settling;
 #[cfg(test)]
 mod slips;
 #[cfg(test)]
+mod tries;
+#[cfg(test)]
 mod turns;
 #[cfg(test)]
 mod viewers;

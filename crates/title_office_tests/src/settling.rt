@@ -83,7 +83,24 @@ const SWAPPED: [(bool, u64); 2] = [(true, 2), (false, 1)];
 
 const AS_THEY_ARE: [(bool, u64); 2] = [(false, 2), (true, 1)];
 
-const REASONS: [(&[(bool, u64)], Unsettled); 5] = [
+// The least place at fault is told, whichever fault it is.
+const DOUBLED_BEFORE_MISSING: [(bool, u64); 2] = [(true, 1), (true, 1)];
+
+const MISSING_BEFORE_DOUBLED: [(bool, u64); 2] = [(false, 2), (false, 2)];
+
+const DIFFERENT_BEFORE_MISSING: [(bool, u64); 1] = [(false, 1)];
+
+// A place that there isn't is told before all of these, and of two the lesser.
+const UNKNOWN_BEFORE_MISSING: [(bool, u64); 1] = [(true, 3)];
+
+const TWO_UNKNOWN: [(bool, u64); 3] = [(true, 4), (false, 3), (true, 1)];
+
+const REASONS: [(&[(bool, u64)], Unsettled); 10] = [
+    (&DOUBLED_BEFORE_MISSING, Unsettled::Doubled(1)),
+    (&MISSING_BEFORE_DOUBLED, Unsettled::Missing(1)),
+    (&DIFFERENT_BEFORE_MISSING, Unsettled::Different(1)),
+    (&UNKNOWN_BEFORE_MISSING, Unsettled::Unknown(3)),
+    (&TWO_UNKNOWN, Unsettled::Unknown(3)),
     (&FIRST_ALONE, Unsettled::Missing(2)),
     (&FIRST_TWICE, Unsettled::Doubled(1)),
     (&FIRST_AT_THREE, Unsettled::Unknown(3)),

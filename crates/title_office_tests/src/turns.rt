@@ -1,4 +1,5 @@
-//! Workers run beside each other: each waits, between its begin and its next call, until the other has begun too.
+//! Workers run beside each other: none begins before the other has come to its begin, and the first commits only once the second has
+//! made its step.
 
 ghost use Rattle.std.specs.Prelude.{◌≡◌};
 ghost use Rattle.title_office.specs.Offices.{opening_seats};
@@ -15,22 +16,48 @@ use title_chain::Ask;
 use title_land::Township;
 use title_office::{Gate, Ledger, Office, Opened, Room, Script, Seat, Transaction, Worked, work};
 
-/// The most turns that a worker waits for the other.
-const TURNS: u64 = 100_000_000;
+/// The most looks that a worker has for what the other tells.
+const TURNS: u32 = 1_000_000_000;
 
-/// Whether each of two examiners has begun, and whether one has waited in vain.
+/// The first call of a worker whose script has one transaction with one step.
+const BEGIN: u64 = 0;
+
+/// Its second call.
+const STEP: u64 = 1;
+
+/// Its third and last.
+const COMMIT: u64 = 2;
+
+/// What two workers tell each other: each that it has come to its begin, the second that its step is made; and whether one has waited
+/// in vain.
 #[derive(Drop)]
-struct TwoFlags {
+struct Flags {
     first: AtomicBool,
     second: AtomicBool,
+    stepped: AtomicBool,
     in_vain: AtomicBool,
 }
 
-impl TwoFlags {
-    // Waits until the other has begun, but not for ever.
-    fn wait_for(&self, other: &AtomicBool) {
+impl Flags {
+    fn new() -> Flags {
+        Flags {
+            first: AtomicBool::new(false),
+            second: AtomicBool::new(false),
+            stepped: AtomicBool::new(false),
+            in_vain: AtomicBool::new(false),
+        }
+    }
+
+    // Tells that one has come, and waits for the other.
+    fn meet(&self, own: &AtomicBool, other: &AtomicBool) {
+        own.store(true, Ordering::SeqCst);
+        self.wait_for(other);
+    }
+
+    // Looks until the flag is set, but not for ever.
+    fn wait_for(&self, flag: &AtomicBool) {
         for _ in 0..TURNS {
-            if other.load(Ordering::SeqCst) {
+            if flag.load(Ordering::SeqCst) {
                 return;
             }
             yield_now();
@@ -39,19 +66,19 @@ impl TwoFlags {
     }
 }
 
-impl Gate for TwoFlags {
-    fn before<R: Wait>(&self, _rt: &R, _examiner: u32, _call: u64) {}
+impl Gate for Flags {
+    fn before<R: Wait>(&self, _rt: &R, examiner: u32, call: u64) {
+        match (examiner, call) {
+            (1, BEGIN) => self.meet(&self.first, &self.second),
+            (1, COMMIT) => self.wait_for(&self.stepped),
+            (2, BEGIN) => self.meet(&self.second, &self.first),
+            _ => {}
+        }
+    }
 
     fn after<R: Wait>(&self, _rt: &R, examiner: u32, call: u64) {
-        if call != 0 {
-            return;
-        }
-        if examiner == 1 {
-            self.first.store(true, Ordering::SeqCst);
-            self.wait_for(&self.second);
-        } else {
-            self.second.store(true, Ordering::SeqCst);
-            self.wait_for(&self.first);
+        if examiner == 2 && call == STEP {
+            self.stepped.store(true, Ordering::SeqCst);
         }
     }
 }
@@ -74,8 +101,8 @@ fn transactions(rt: &impl Abort, alloc: Global, asks: Vec<Ask>) -> Vec<Transacti
     transactions
 }
 
-// A script of one transaction with one post in this section.
-fn script(rt: &impl Abort, alloc: Global, examiner: u32, number: u8) -> Script
+/// A script of one transaction with one post in this section.
+pub fn script(rt: &impl Abort, alloc: Global, examiner: u32, number: u8) -> Script
     ensures examiner { result.examiner ≡ examiner }
 {
     let asks = asks(rt, alloc, number);
@@ -103,7 +130,7 @@ fn work_at<B: Room + Send + Sync, R: Threads + Wait + Abort + Sync>(
     alloc: Global,
     office: &Office<B>,
     seats: Vec<Seat<B>>,
-    gate: &TwoFlags,
+    gate: &Flags,
 )
     requires seats { seats.items ≡ opening_seats 7 2 }
 {
@@ -129,11 +156,7 @@ fn work_beside<B: Room + Send + Sync, R: Threads + Wait + Abort + Sync>(
 )
     requires seats { seats.items ≡ opening_seats 7 2 }
 {
-    let gate = TwoFlags {
-        first: AtomicBool::new(false),
-        second: AtomicBool::new(false),
-        in_vain: AtomicBool::new(false),
-    };
+    let gate = Flags::new();
     work_at(rt, alloc, office, seats, &gate);
     let is_in_vain = gate.in_vain.load(Ordering::SeqCst);
     must(rt, !is_in_vain, "none waits in vain");

@@ -1,5 +1,5 @@
 //! Tests of devices, rows, whole scripts and a desk, through public calls: limits that take long scripts from both sides, failing
-//! devices, cut scripts.
+//! devices, cut scripts, and the lines of faults.
 #![tactic(auto)]
 
 #[cfg(test)]
@@ -14,6 +14,8 @@ mod device;
 mod fake;
 #[cfg(test)]
 mod lone;
+#[cfg(test)]
+mod office;
 #[cfg(test)]
 mod row;
 #[cfg(test)]

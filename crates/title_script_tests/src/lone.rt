@@ -7,7 +7,7 @@ use std::process::Abort;
 use title_desk::Desk;
 use title_lock::NodeLocks;
 use title_plan::{Plan, Schedule, read_script};
-use title_script::{Served, Unwatched, serve_onto, write_served};
+use title_script::{Unwatched, serve_onto, write_served};
 use title_tree_store::TreeStore;
 
 type TestDesk = Desk<TreeStore, NodeLocks>;
@@ -44,8 +44,10 @@ fn desk_after(rt: &impl Abort, alloc: Global, script: &str) -> TestDesk {
     desk
 }
 
-/// The report of what was served.
-fn report_of(rt: &impl Abort, alloc: Global, served: &Served) -> Vec<u8> {
+/// The report of what a script's steps come to, each alone, at a desk.
+fn report_at(rt: &impl Abort, alloc: Global, desk: &mut TestDesk, script: &str) -> Vec<u8> {
+    let plan = plan_of(rt, alloc, Schedule::Serial, script);
+    let served = serve_onto(alloc, desk, plan, &mut Unwatched).expect(rt, "there is memory");
     let mut sink = FakeSink {
         taken: Vec::new(alloc),
         piece: usize::MAX,
@@ -54,22 +56,22 @@ fn report_of(rt: &impl Abort, alloc: Global, served: &Served) -> Vec<u8> {
     };
     must(
         rt,
-        write_served(alloc, &mut sink, served).is_ok(),
+        write_served(alloc, &mut sink, &served).is_ok(),
         "a sink that takes all",
     );
     sink.taken
 }
 
+fn assert_report(rt: &impl Abort, alloc: Global, desk: &mut TestDesk) {
+    let report = report_at(rt, alloc, desk, ALONE);
+    must(rt, report.as_slice() == REPORT.as_bytes(), "their report");
+}
+
 #[test]
 fn steps_alone_beside_an_open_transaction(rt: HostRuntime) {
     let mut desk = desk_after(&rt, rt.alloc(), OPEN);
-    let plan = plan_of(&rt, rt.alloc(), Schedule::Serial, ALONE);
-    let served = serve_onto(rt.alloc(), &mut desk, plan, &mut Unwatched).expect(
-        &rt,
-        "there is memory",
-    );
-    let report = report_of(&rt, rt.alloc(), &served);
-    must(&rt, report.as_slice() == REPORT.as_bytes(), "their report");
-    must(&rt, desk.records().len() == 1, "one is committed");
-    must(&rt, desk.first_open() == Some(2), "2 is open still");
+    assert_report(&rt, rt.alloc(), &mut desk);
+    let (committed, open) = (desk.records().len(), desk.first_open());
+    must(&rt, committed == 1, "one is committed");
+    must(&rt, open == Some(2), "2 is open still");
 }

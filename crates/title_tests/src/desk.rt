@@ -3,7 +3,7 @@
 
 ghost use Rattle.std.specs.Prelude.{◌≡◌};
 
-use crate::checks::must;
+use crate::checks::{assert_opening, must};
 use crate::survey::{square, township};
 use std::alloc::Global;
 use std::process::Abort;
@@ -12,7 +12,7 @@ use title_desk::{Desk, may_open};
 use title_instrument::{Estates, Instrument, Release};
 use title_land::{Land, Node, Quarter, Township, Tract};
 use title_lock::NodeLocks;
-use title_store::{SheetRow, Store};
+use title_store::Store;
 use title_trace::{Denial, Reply, Request};
 use title_tree_store::TreeStore;
 
@@ -161,15 +161,6 @@ fn assert_filled(rt: &impl Abort, alloc: Global, desk: &mut TestDesk) {
     fill_books(rt, alloc, desk);
     assert_books(rt, desk);
     desk.is_serial();
-}
-
-/// Three rows, each of which has the whole as the United States'.
-fn assert_opening(rt: &impl Abort, rows: &[SheetRow]) {
-    must(rt, rows.len() == 3, "three rows");
-    for row in rows {
-        let is_whole = row.party == 0 && row.units == 4_294_967_296;
-        must(rt, is_whole, "the United States' whole");
-    }
 }
 
 /// Everything is the United States': a sheet of a row for each estate.

@@ -1,4 +1,4 @@
-//! Tests of shares, land, instruments, locks, chains, desks and reports' pages, through their public calls: what no report shows,
+//! Tests of shares, land, instruments, stores, locks, chains, desks and reports' pages, through their public calls: what no report shows,
 //! many calls with ample memory, and where pages end. What a script shows stands with the vectors.
 #![tactic(auto)]
 
@@ -11,6 +11,8 @@ mod checks;
 #[cfg(test)]
 mod desk;
 #[cfg(test)]
+mod images;
+#[cfg(test)]
 mod instrument;
 #[cfg(test)]
 mod land;
@@ -22,3 +24,5 @@ mod pages;
 mod share;
 #[cfg(test)]
 mod survey;
+#[cfg(test)]
+mod tree;

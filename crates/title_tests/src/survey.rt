@@ -1,7 +1,9 @@
-//! Townships, sections and squares for the tests.
+//! Townships, sections, squares and tracts for the tests.
 
+use std::alloc::Global;
 use std::process::Abort;
-use title_land::{Node, Quarter, Section, Township, Within};
+use title_aliquot::read;
+use title_land::{Node, Quarter, Section, Township, Tract, Within};
 
 /// The township of this number north, range 2 west.
 pub fn township(rt: &impl Abort, number: u8) -> Township {
@@ -17,4 +19,9 @@ pub fn section(rt: &impl Abort, number: u8) -> Section {
 pub fn square(rt: &impl Abort, number: u8, quarters: &[Quarter]) -> Node {
     let within = Within::named(quarters).expect(rt, "no more quarters than there are");
     Node::Part(section(rt, number), within)
+}
+
+/// The tract of a description.
+pub fn tract(rt: &impl Abort, alloc: Global, text: &str) -> Tract {
+    read(alloc, text).expect(rt, "it describes land")
 }

@@ -77,7 +77,8 @@ returns-clause-room c n asks =
     ∙ c.loop-climb.invariant.climbing.all n (walk_asks_in c.args.cover.now n ∙ asks)
 
 pub returns-clause-idle : goal.returns-clause-idle
-returns-clause-idle c = more_wider (on_all c.args.self.now) (on_all c.loop-climb.self) c.args.examiner (asks_in (walk None c.args.cover.now))
+returns-clause-idle c =
+    more_wider (on_all c.args.self.now) (on_all c.loop-climb.self) c.args.examiner (asks_in (walk None c.args.cover.now))
     (λ n. list_any (is_asked n) c.args.cover.now) (λ n asks. sym (walk_asks_in c.args.cover.now n) ∙ asks) c.loop-climb.invariant.idle
 
 pub returns-in_err-make_room-clause-idle : goal.returns-in_err-make_room-clause-idle
