@@ -4,7 +4,7 @@
     hostile.py [--program PROGRAM] [--count N] [--seed N] [--jobs N] [TRIAL..]
 
 devices   input closed, a directory, endless, byte by byte; output closed, full, a file or a pipe that takes k bytes and no more;
-          errors closed and full; terminals
+          errors closed and full; words that are no text; terminals
 bytes     a small script with each of the 256 bytes in place of each of its bytes
 cuts      every beginning of each script of examples/, and of small scripts of some kinds of generate.py
 mutated   N scripts (100,000 where nothing is said) with bits turned, rows exchanged, fields left out, quotes unbalanced and the like
@@ -15,8 +15,8 @@ memory    scripts of each command under a limit of the memory that rises until t
 With no trial named, all of them. Each run has to end with status 0 and a report whose last row is `end,K`, or with status 1 and one
 line of a fault that docs/FORMATS.md lists for the command; never by a signal, and with at most one line on standard error (`tract`
 shows a text with its fault: three). Where an output device takes no more, the status is 1 and what it took is the report's beginning.
-The processor's time of a run may be 0.1 s, and 50 microseconds for each byte that it reads and writes (2 milliseconds in `office`, which
-keeps its plant cell by cell). What is wrong is named, and the status is 1 then. The same seed gives the same scripts;
+The processor's time of a run may be 0.1 s, and 50 microseconds for each byte that it reads and writes (2 milliseconds in `office`, whose
+threads begin transactions again and again). What is wrong is named, and the status is 1 then. The same seed gives the same scripts;
 --show K writes the Kth of the mutated ones to standard output.
 """
 
@@ -207,6 +207,12 @@ def bad_outputs(runner, into):
     os.close(unwritten)
 
 
+def bad_words(runner, into):
+    """Words that are no text: bytes that aren't UTF-8, alone and within a word."""
+    for words in (["\udcff"], ["tract", "T3N R2W sec 5 NE\udcbc"], ["alone", "--plant=\udcc3"], ["office", "--examiners", "2\udc80"]):
+        expect(into, f"words {words!a}", runner.run(words), 2, b"", 9)
+
+
 def short_files(runner, into):
     """Files that take k bytes and no more, for each k below the report's length."""
     plain = resource.getrlimit(resource.RLIMIT_FSIZE)
@@ -301,7 +307,7 @@ def terminals(runner, into):
 def devices(asked):
     into = found()
     runner = Runner(asked.program)
-    for part in (bad_inputs, bad_outputs, short_files, short_pipes, terminals):
+    for part in (bad_inputs, bad_outputs, bad_words, short_files, short_pipes, terminals):
         part(runner, into)
     return into
 

@@ -3,7 +3,7 @@
 
 Prints for each load the bytes and rows of its script, the processor's and the clock's seconds, the peak memory in MB, the bytes of the
 report, and how the run ended. A load that has to be refused ends with its fault. With no load named, all of them, some minutes;
-"everything, 99,871" wants 6 GB of memory and 10 GB for its report.
+"everything, 99,871" writes a report of 10 GB.
 """
 
 import argparse

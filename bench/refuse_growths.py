@@ -2,7 +2,7 @@
 """Refuses each allocation of a built program's runs in turn, and judges how each run ends.
 
     refuse_growths.py [--program PROGRAM] [--first N] [--every K] [--most N] [--jobs N] [--from-then-on]
-    refuse_growths.py [..] --command run|alone|office SCRIPT..
+    refuse_growths.py [..] --command run|alone|office|words SCRIPT..
     refuse_growths.py [..] --program PROGRAM --same WORD..
 
 A small library is compiled and loaded before the program; it counts the calls of malloc, calloc, realloc, aligned_alloc, memalign
@@ -146,7 +146,7 @@ SMALL = {
     "run": {"interleaved": 200, "short": 200, "long": 120, "reviewed": 120, "crowd": 120, "refused": 120},
     "office": {"own": 100, "shared": 100},
 }
-# An office keeps its plant cell by cell, and its runs are long: of their allocations so many are refused, where no script is named.
+# An office's runs are long: of their allocations so many are refused, where no script is named.
 FEW = 500
 OFFICE_WORDS = ["office", "--examiners", "3", "--tries", "50"]
 
